@@ -69,7 +69,7 @@ level_from-changes_after level t (suc n) s from upto =
           level_from-append_over t (level t) s xs (change_after level u) (AreChanges-changes_after level t n) (omega (arith, last_time-changes_after level t n))
           ∙ ap (λ v. level_from v (change_after level u) s) (last_from-changes_after level t n)
           ∙ subst (λ (k : ℕ). level_from (level u) (change_after level u) k ≡ level k) last
-            (level_from-unless_same_at changed (suc u) (level u) (level (suc u)) (λ same. eqb-true (level u) (level (suc u)) same))
+          (level_from-unless_same_at changed (suc u) (level u) (level (suc u)) (λ same. eqb-true (level u) (level (suc u)) same))
     ]
 
 -- the changes of two spans, one after the other, are those of both

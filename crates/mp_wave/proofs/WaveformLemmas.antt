@@ -89,14 +89,14 @@ same_changes time level (x ∷ xs) (y ∷ ys) are other same =
     ] in
     let times : y.0 ≡ x.0 = omega arith in
     let levels : y.1 ≡ x.1 =
-        sym (level_from-first time level y ys other) ∙ sym (same y.0 (omega (arith, other.0)))
-        ∙ ap (level_from level (x ∷ xs)) times ∙ level_from-first time level x xs are in
+    sym (level_from-first time level y ys other) ∙ sym (same y.0 (omega (arith, other.0)))
+    ∙ ap (level_from level (x ∷ xs)) times ∙ level_from-first time level x xs are in
     let pairs : y ≡ x = same_pair y.0 x.0 y.1 x.1 times levels in
     let rest : xs ≡ ys = same_changes x.0 x.1 xs ys are.2
-        (subst (λ (p : ℕ × ℕ). AreChanges p.0 p.1 ys) pairs other.2)
-        (λ t le.
-          sym (level_from-rest level t x xs le) ∙ same t (omega (arith, are.0)) ∙ level_from-rest level t y ys (omega arith)
-          ∙ ap (λ v. level_from v ys t) levels) in
+    (subst (λ (p : ℕ × ℕ). AreChanges p.0 p.1 ys) pairs other.2)
+    (λ t le.
+    sym (level_from-rest level t x xs le) ∙ same t (omega (arith, are.0)) ∙ level_from-rest level t y ys (omega arith)
+    ∙ ap (λ v. level_from v ys t) levels) in
     same_cons x y xs ys (sym pairs) rest
 
 same_wave : (v w : ℕ) (xs ys : List (ℕ × ℕ)) → v ≡ w → xs ≡ ys → (let wave : Waveform = record { initial = v; changes = xs } in wave) ≡ record { initial = w; changes = ys }
@@ -106,11 +106,11 @@ same_wave v w xs ys starts rest = cc
 pub same_levels : (one other : Waveform) → IsWaveform one → IsWaveform other → ((t : ℕ) → level_of one t ≡ level_of other t) → one ≡ other
 same_levels one other form other_form same =
     let starts : other.initial ≡ one.initial =
-        sym (level_from-before 0 other.initial 0 other.changes other_form (omega arith)) ∙ sym (same 0)
-        ∙ level_from-before 0 one.initial 0 one.changes form (omega arith) in
+    sym (level_from-before 0 other.initial 0 other.changes other_form (omega arith)) ∙ sym (same 0)
+    ∙ level_from-before 0 one.initial 0 one.changes form (omega arith) in
     let rest : one.changes ≡ other.changes = same_changes 0 one.initial one.changes other.changes form
-        (subst (λ (v : ℕ). AreChanges 0 v other.changes) starts other_form)
-        (λ t le. same t ∙ ap (λ v. level_from v other.changes t) starts) in
+    (subst (λ (v : ℕ). AreChanges 0 v other.changes) starts other_form)
+    (λ t le. same t ∙ ap (λ v. level_from v other.changes t) starts) in
     same_wave one.initial other.initial one.changes other.changes (sym starts) rest
 
 held_later : (same : Bool) (wave : Waveform) (time new t : ℕ) → t < time → level_of (cond same wave (record { initial = wave.initial; changes = wave.changes ++ (time, new) ∷ [] })) t ≡ level_of wave t
@@ -154,9 +154,9 @@ level_from-partitioned level t (suc place) (x ∷ xs) le over later =
     let below : nat_le x.0 t ≡ true = over 0 (0, 0) (omega arith) (omega arith) in
     rw below
     (level_from-partitioned x.1 t place xs (omega arith)
-      (λ k d low high. over (suc k) d (omega arith) (omega arith))
-      (λ k d low high. later (suc k) d (omega arith) (omega arith))
-      ∙ level_before-cons x xs place)
+    (λ k d low high. over (suc k) d (omega arith) (omega arith))
+    (λ k d low high. later (suc k) d (omega arith) (omega arith))
+    ∙ level_before-cons x xs place)
 
 -- changes come by rising time
 times_from : (time level place : ℕ) (d : ℕ × ℕ) (changes : List (ℕ × ℕ)) → AreChanges time level changes → place < length changes → time ≤ (get_or changes place d).0
@@ -176,6 +176,13 @@ pub level_from-point : (level t count : ℕ) (changes : List (ℕ × ℕ)) → A
 level_from-point level t count changes are le partitioned =
     let point = partitioned (IsPartitionedBy-leb (λ (c : ℕ × ℕ). c.0) changes t (IsNonDecreasingBy-changes 0 level changes are)) in
     level_from-partitioned level t count changes le point.0 point.1
+
+-- the same for the wave that these are the level and the changes of
+pub level_before-point : (wave : Waveform) (initial t count : ℕ) (items changes : List (ℕ × ℕ)) → (let made : Waveform = record { initial = initial; changes = items } in made) ≡ wave → changes ≡ items → AreChanges 0 initial items → count ≤ length changes → (IsPartitionedBy (λ (c : ℕ × ℕ). nat_le c.0 t) changes → IsPartitionPoint (λ (c : ℕ × ℕ). nat_le c.0 t ≡ true) (λ (c : ℕ × ℕ). nat_le c.0 t ≡ false) changes count) → level_before initial changes count ≡ level_of wave t
+level_before-point wave initial t count items changes made same are le partitioned =
+    sym (level_from-point initial t count changes (rw same are) le partitioned)
+    ∙ ap (λ xs. level_from initial xs t) same
+    ∙ ap (λ (w : Waveform). level_of w t) made
 
 pub level_before-change : (level count : ℕ) (changes : List (ℕ × ℕ)) → count ≢ 0 → level_before level changes count ≡ (get_or changes (count - 1) (0, 0)).1
 level_before-change level zero changes some = absurd (some refl)
