@@ -1,0 +1,5 @@
+pub mod Levels
+pub mod Histories
+pub mod Waves
+pub mod Laws
+pub mod Replays

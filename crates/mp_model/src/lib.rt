@@ -1,1 +1,4 @@
+//! The meaning of a netlist, and its plain evaluator.
 #![tactic(auto)]
+
+pub mod laws;
