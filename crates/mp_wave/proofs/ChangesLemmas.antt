@@ -1,5 +1,5 @@
 -- Lemmas on the changes of a level over time, and the wave that they make.
-use Rattle.std.proofs.Common.{◌≡◌, ◌≢◌, ℕ, ◌+◌, ◌<◌, ◌≤◌, Bool, true, false, cond, List, [], ◌∷◌, ◌++◌, ◌==◌, zero, suc, refl, ap, sym, subst, ◌∙◌, arith, inl, inr, append_assoc, append-nil, add-zero, add-suc, add-one, zero-add, add_assoc}
+use Rattle.std.proofs.Common.{◌≡◌, ◌≢◌, ℕ, ◌+◌, ◌-◌, ◌<◌, ◌≤◌, Bool, true, false, cond, List, [], ◌∷◌, ◌++◌, ◌==◌, zero, suc, refl, ap, sym, subst, ◌∙◌, arith, inl, inr, append_assoc, append-nil, add-zero, add-suc, add-one, zero-add, add_assoc}
 use Rattle.std.proofs.lemmas.Bool.{eqb-true, eqb-false, cases_lt}
 use Rattle.mp_wave.specs.Waveform.{Waveform, IsWaveform, AreChanges, level_from, level_of, last_from, last_time, held_from, change_after, changes_after, wave_upto}
 use Rattle.mp_wave.proofs.WaveformLemmas.{nat_le-true, nat_le-false, last_from-append, last_time-append, AreChanges-earlier, AreChanges-append, level_from-append_later, level_from-append_over}
@@ -69,7 +69,7 @@ level_from-changes_after level t (suc n) s from upto =
           level_from-append_over t (level t) s xs (change_after level u) (AreChanges-changes_after level t n) (omega (arith, last_time-changes_after level t n))
           ∙ ap (λ v. level_from v (change_after level u) s) (last_from-changes_after level t n)
           ∙ subst (λ (k : ℕ). level_from (level u) (change_after level u) k ≡ level k) last
-            (level_from-unless_same_at changed (suc u) (level u) (level (suc u)) (λ same. eqb-true (level u) (level (suc u)) same))
+          (level_from-unless_same_at changed (suc u) (level u) (level (suc u)) (λ same. eqb-true (level u) (level (suc u)) same))
     ]
 
 -- the changes of two spans, one after the other, are those of both
@@ -106,3 +106,11 @@ pub held : (level : ℕ → ℕ) (n : ℕ) → held_from (wave_upto level n) (n 
 held level n =
     rw (add-one n, last_from-changes_after level 0 n, zero-add n)
     (held_or_not (level n == level (suc n)) (level 0) (suc n) (level (suc n)) (changes_after level 0 n))
+
+-- the same at a time that is written t
+pub held_at : (level : ℕ → ℕ) (t : ℕ) → 0 < t → held_from (wave_upto level (t - 1)) t (level t) ≡ wave_upto level t
+held_at level zero later = absurd (omega arith)
+held_at level (suc n) later =
+    let before : suc n - 1 ≡ n = omega arith in
+    let next : n + 1 ≡ suc n = omega arith in
+    rw before (subst (λ (k : ℕ). held_from (wave_upto level n) k (level k) ≡ wave_upto level k) next (held level n))

@@ -1,10 +1,11 @@
 -- Lemmas on lists of changes and the levels that they give.
-use Rattle.std.proofs.Common.{◌≡◌, ◌≢◌, ℕ, ◌<◌, ◌≤◌, List, [], ◌∷◌, ◌++◌, nat_le, cond, true, false, refl, ap, sym, subst, ◌∙◌, arith, inl, inr, length, zero, suc, get_or}
+use Rattle.std.proofs.Common.{◌≡◌, ◌≢◌, ℕ, ◌<◌, ◌≤◌, List, [], ◌∷◌, ◌++◌, nat_le, cond, true, false, refl, ap, sym, subst, ◌∙◌, arith, inl, inr, length, zero, suc, get_or, ◌-◌, ◌==◌, Bool, append-nil}
 use Rattle.std.proofs.lemmas.Bool.Decides.{nat_tests}
-use Rattle.std.proofs.lemmas.Bool.{cases_lt}
+use Rattle.std.proofs.lemmas.Bool.{cases_lt, eqb-true}
 use Rattle.std.specs.List.{AllWithin}
-use Rattle.std.specs.List.Sorted.{IsNonDecreasingBy}
-use Rattle.mp_wave.specs.Waveform.{Waveform, IsWaveform, AreChanges, level_from, level_of, last_from, last_time}
+use Rattle.std.specs.List.Sorted.{IsNonDecreasingBy, IsPartitionedBy, IsPartitionPoint}
+use Rattle.std.proofs.lemmas.List.Sorted.{IsPartitionedBy-leb}
+use Rattle.mp_wave.specs.Waveform.{Waveform, IsWaveform, AreChanges, level_from, level_of, last_from, last_time, held_from}
 
 pub nat_le-true : (a b : ℕ) → a ≤ b → nat_le a b ≡ true
 nat_le-true a b le = grind (arith, nat_tests)
@@ -63,7 +64,10 @@ level_from-first time level change changes are =
 not_sooner : (time level : ℕ) (x : ℕ × ℕ) (xs ys : List (ℕ × ℕ)) → AreChanges time level (x ∷ xs) → level_from level (x ∷ xs) x.0 ≡ level_from level ys x.0 → level_from level ys x.0 ≢ level
 not_sooner time level x xs ys are same stays = are.1 (sym stays ∙ sym same ∙ level_from-first time level x xs are)
 
-same_pair : (s t v w : ℕ) → s ≡ t → v ≡ w → (s, v) ≡ (t, w)
+abbrev pair_of : ℕ → ℕ → ℕ × ℕ
+pair_of time level = (time, level)
+
+same_pair : (s t v w : ℕ) → s ≡ t → v ≡ w → pair_of s v ≡ pair_of t w
 same_pair s t v w times levels = cc
 
 same_cons : (x y : ℕ × ℕ) (xs ys : List (ℕ × ℕ)) → x ≡ y → xs ≡ ys → x ∷ xs ≡ y ∷ ys
@@ -85,14 +89,14 @@ same_changes time level (x ∷ xs) (y ∷ ys) are other same =
     ] in
     let times : y.0 ≡ x.0 = omega arith in
     let levels : y.1 ≡ x.1 =
-        sym (level_from-first time level y ys other) ∙ sym (same y.0 (omega (arith, other.0)))
-        ∙ ap (level_from level (x ∷ xs)) times ∙ level_from-first time level x xs are in
+    sym (level_from-first time level y ys other) ∙ sym (same y.0 (omega (arith, other.0)))
+    ∙ ap (level_from level (x ∷ xs)) times ∙ level_from-first time level x xs are in
     let pairs : y ≡ x = same_pair y.0 x.0 y.1 x.1 times levels in
     let rest : xs ≡ ys = same_changes x.0 x.1 xs ys are.2
-        (subst (λ (p : ℕ × ℕ). AreChanges p.0 p.1 ys) pairs other.2)
-        (λ t le.
-          sym (level_from-rest level t x xs le) ∙ same t (omega (arith, are.0)) ∙ level_from-rest level t y ys (omega arith)
-          ∙ ap (λ v. level_from v ys t) levels) in
+    (subst (λ (p : ℕ × ℕ). AreChanges p.0 p.1 ys) pairs other.2)
+    (λ t le.
+    sym (level_from-rest level t x xs le) ∙ same t (omega (arith, are.0)) ∙ level_from-rest level t y ys (omega arith)
+    ∙ ap (λ v. level_from v ys t) levels) in
     same_cons x y xs ys (sym pairs) rest
 
 same_wave : (v w : ℕ) (xs ys : List (ℕ × ℕ)) → v ≡ w → xs ≡ ys → (let wave : Waveform = record { initial = v; changes = xs } in wave) ≡ record { initial = w; changes = ys }
@@ -102,12 +106,33 @@ same_wave v w xs ys starts rest = cc
 pub same_levels : (one other : Waveform) → IsWaveform one → IsWaveform other → ((t : ℕ) → level_of one t ≡ level_of other t) → one ≡ other
 same_levels one other form other_form same =
     let starts : other.initial ≡ one.initial =
-        sym (level_from-before 0 other.initial 0 other.changes other_form (omega arith)) ∙ sym (same 0)
-        ∙ level_from-before 0 one.initial 0 one.changes form (omega arith) in
+    sym (level_from-before 0 other.initial 0 other.changes other_form (omega arith)) ∙ sym (same 0)
+    ∙ level_from-before 0 one.initial 0 one.changes form (omega arith) in
     let rest : one.changes ≡ other.changes = same_changes 0 one.initial one.changes other.changes form
-        (subst (λ (v : ℕ). AreChanges 0 v other.changes) starts other_form)
-        (λ t le. same t ∙ ap (λ v. level_from v other.changes t) starts) in
+    (subst (λ (v : ℕ). AreChanges 0 v other.changes) starts other_form)
+    (λ t le. same t ∙ ap (λ v. level_from v other.changes t) starts) in
     same_wave one.initial other.initial one.changes other.changes (sym starts) rest
+
+held_later : (same : Bool) (wave : Waveform) (time new t : ℕ) → t < time → level_of (cond same wave (record { initial = wave.initial; changes = wave.changes ++ (time, new) ∷ [] })) t ≡ level_of wave t
+held_later true wave time new t lt = refl
+held_later false wave time new t lt = level_from-append_later wave.initial t wave.changes ((time, new) ∷ []) (λ v. rw (nat_le-false time t lt) refl)
+
+held_over : (same : Bool) (wave : Waveform) (time new t : ℕ) → (same ≡ true → last_from wave.initial wave.changes ≡ new) → IsWaveform wave → last_time 0 wave.changes < time → time ≤ t → level_of (cond same wave (record { initial = wave.initial; changes = wave.changes ++ (time, new) ∷ [] })) t ≡ new
+held_over true wave time new t means form over le =
+    sym (ap (λ xs. level_from wave.initial xs t) (append-nil wave.changes))
+    ∙ level_from-append_over 0 wave.initial t wave.changes [] form (omega arith) ∙ means refl
+held_over false wave time new t means form over le =
+    level_from-append_over 0 wave.initial t wave.changes ((time, new) ∷ []) form (omega arith)
+    ∙ level_from-rest (last_from wave.initial wave.changes) t (time, new) [] le
+
+-- a level that is held from a time on leaves the levels before it
+pub level_of-held_before : (wave : Waveform) (time new t : ℕ) → t < time → level_of (held_from wave time new) t ≡ level_of wave t
+level_of-held_before wave time new t lt = held_later (last_from wave.initial wave.changes == new) wave time new t lt
+
+-- and is the level from then on
+pub level_of-held_after : (wave : Waveform) (time new t : ℕ) → IsWaveform wave → last_time 0 wave.changes < time → time ≤ t → level_of (held_from wave time new) t ≡ new
+level_of-held_after wave time new t form over le =
+    held_over (last_from wave.initial wave.changes == new) wave time new t (λ same. eqb-true (last_from wave.initial wave.changes) new same) form over le
 
 -- the level before the pair at a place of a list, after a level
 abbrev pub level_before : ℕ → List (ℕ × ℕ) → ℕ → ℕ
@@ -129,9 +154,9 @@ level_from-partitioned level t (suc place) (x ∷ xs) le over later =
     let below : nat_le x.0 t ≡ true = over 0 (0, 0) (omega arith) (omega arith) in
     rw below
     (level_from-partitioned x.1 t place xs (omega arith)
-      (λ k d low high. over (suc k) d (omega arith) (omega arith))
-      (λ k d low high. later (suc k) d (omega arith) (omega arith))
-      ∙ level_before-cons x xs place)
+    (λ k d low high. over (suc k) d (omega arith) (omega arith))
+    (λ k d low high. later (suc k) d (omega arith) (omega arith))
+    ∙ level_before-cons x xs place)
 
 -- changes come by rising time
 times_from : (time level place : ℕ) (d : ℕ × ℕ) (changes : List (ℕ × ℕ)) → AreChanges time level changes → place < length changes → time ≤ (get_or changes place d).0
@@ -145,3 +170,20 @@ IsNonDecreasingBy-changes time level (x ∷ xs) are zero zero d le lt = omega ar
 IsNonDecreasingBy-changes time level (x ∷ xs) are zero (suc j) d le lt = times_from x.0 x.1 j d xs are.2 (omega arith)
 IsNonDecreasingBy-changes time level (x ∷ xs) are (suc i) zero d le lt = absurd (omega arith)
 IsNonDecreasingBy-changes time level (x ∷ xs) are (suc i) (suc j) d le lt = IsNonDecreasingBy-changes x.0 x.1 xs are.2 i j d (omega arith) (omega arith)
+
+-- the level at a time, by the count of the changes that are not later
+pub level_from-point : (level t count : ℕ) (changes : List (ℕ × ℕ)) → AreChanges 0 level changes → count ≤ length changes → (IsPartitionedBy (λ (c : ℕ × ℕ). nat_le c.0 t) changes → IsPartitionPoint (λ (c : ℕ × ℕ). nat_le c.0 t ≡ true) (λ (c : ℕ × ℕ). nat_le c.0 t ≡ false) changes count) → level_from level changes t ≡ level_before level changes count
+level_from-point level t count changes are le partitioned =
+    let point = partitioned (IsPartitionedBy-leb (λ (c : ℕ × ℕ). c.0) changes t (IsNonDecreasingBy-changes 0 level changes are)) in
+    level_from-partitioned level t count changes le point.0 point.1
+
+-- the same for the wave that these are the level and the changes of
+pub level_before-point : (wave : Waveform) (initial t count : ℕ) (items changes : List (ℕ × ℕ)) → (let made : Waveform = record { initial = initial; changes = items } in made) ≡ wave → changes ≡ items → AreChanges 0 initial items → count ≤ length changes → (IsPartitionedBy (λ (c : ℕ × ℕ). nat_le c.0 t) changes → IsPartitionPoint (λ (c : ℕ × ℕ). nat_le c.0 t ≡ true) (λ (c : ℕ × ℕ). nat_le c.0 t ≡ false) changes count) → level_before initial changes count ≡ level_of wave t
+level_before-point wave initial t count items changes made same are le partitioned =
+    sym (level_from-point initial t count changes (rw same are) le partitioned)
+    ∙ ap (λ xs. level_from initial xs t) same
+    ∙ ap (λ (w : Waveform). level_of w t) made
+
+pub level_before-change : (level count : ℕ) (changes : List (ℕ × ℕ)) → count ≢ 0 → level_before level changes count ≡ (get_or changes (count - 1) (0, 0)).1
+level_before-change level zero changes some = absurd (some refl)
+level_before-change level (suc count) changes some = let is : suc count - 1 ≡ count = omega arith in rw is refl

@@ -1,10 +1,15 @@
 -- What holds of all waveforms, and of the waves of a level over time.
-use Rattle.std.specs.Prelude.{◌≡◌, ℕ, ◌+◌, ◌≤◌, ◌++◌}
-use Rattle.mp_wave.specs.Waveform.{Waveform, IsWaveform, level_of, held_from, changes_after, wave_upto}
+use Rattle.std.specs.Prelude.{◌≡◌, ℕ, ◌+◌, ◌<◌, ◌≤◌, ◌++◌}
+use Rattle.mp_wave.specs.Waveform.{Waveform, IsWaveform, level_of, last_time, held_from, changes_after, wave_upto}
 
 -- waveforms with the same level at each time are the same
 abbrev pub SameByLevels : Type 0
 SameByLevels = (one other : Waveform) → IsWaveform one → IsWaveform other → ((t : ℕ) → level_of one t ≡ level_of other t) → one ≡ other
+
+-- a level that is held from a time after all changes is the level from then on, and leaves those before
+abbrev pub HoldsLevel : Type 0
+HoldsLevel = (wave : Waveform) (time new t : ℕ) → IsWaveform wave → last_time 0 wave.changes < time →
+    (t < time → level_of (held_from wave time new) t ≡ level_of wave t) × (time ≤ t → level_of (held_from wave time new) t ≡ new)
 
 -- the wave of a level has that level, up to its last time
 abbrev pub HasLevels : Type 0

@@ -1,14 +1,12 @@
 //! Waveforms: the levels of a wire over time, as lists of changes.
 #![tactic(auto)]
 
+pub mod laws;
+#[cfg(test)]
+mod tests;
 mod wave;
 mod wave_builder;
 mod wave_error;
-
-pub mod laws;
-
-#[cfg(test)]
-mod tests;
 
 pub use wave::Wave;
 pub use wave_builder::WaveBuilder;

@@ -10,7 +10,7 @@ use std::marker::Model;
 
 /// The level of a wire at time 0, and its changes: pairs of a time and the level from then on,
 /// by rising time from 1, each level another than the one before it.
-#[derive(Drop)]
+#[derive(Debug, Drop)]
 pub struct Wave {
     initial: u64,
     changes: Vec<(u32, u64)>,

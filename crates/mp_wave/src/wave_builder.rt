@@ -7,7 +7,7 @@ use std::alloc::{AllocError, Global};
 use std::marker::Model;
 
 /// A wave that is made from its levels by rising time, each held until the next.
-#[derive(Drop)]
+#[derive(Debug, Drop)]
 pub struct WaveBuilder {
     wave: Wave,
     level: u64,
@@ -71,6 +71,7 @@ impl WaveBuilder {
         ensures value { result ≡ self.wave }
         ensures form { IsWaveform result }
     {
-        self.wave
+        let WaveBuilder { wave, .. } = self;
+        wave
     }
 }
