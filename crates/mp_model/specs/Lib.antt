@@ -3,3 +3,5 @@ pub mod Histories
 pub mod Waves
 pub mod Laws
 pub mod Replays
+pub mod Tracks
+pub mod Cells
