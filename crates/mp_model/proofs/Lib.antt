@@ -1,2 +1,5 @@
 pub mod HistoryLemmas
 pub mod BehaviourLemmas
+pub mod SlotLemmas
+pub mod TrackLemmas
+pub mod EvaluationLemmas

@@ -5,3 +5,4 @@ pub mod Laws
 pub mod Replays
 pub mod Tracks
 pub mod Cells
+pub mod Evaluations

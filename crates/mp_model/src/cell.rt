@@ -13,11 +13,11 @@ pub(crate) struct Cell {
 
 impl Cell {
     ghost use Rattle.std.specs.Prelude.{◌≡◌};
-    ghost use Rattle.mp_model.specs.Cells.{answered};
+    ghost use Rattle.mp_model.specs.Cells.{answered, after_answer};
 
     /// The state at a time, where the inputs have these levels. It is kept, and given.
     pub(crate) fn answer(&mut self, time: u32, levels: &[u64]) -> Memory
-        ensures kept { self.new ≡ record { part = self.old.part; memory = answered self.old time levels.now } }
+        ensures kept { self.new ≡ after_answer self.old time levels.now }
         ensures given { result ≡ answered self.old time levels.now }
     {
         let memory = if time == 0 {

@@ -2,6 +2,9 @@
 #![tactic(auto)]
 
 mod cell;
+mod evaluation;
 mod track;
 
 pub mod laws;
+
+pub use evaluation::plain_waves;
