@@ -3,3 +3,6 @@ pub mod BehaviourLemmas
 pub mod SlotLemmas
 pub mod TrackLemmas
 pub mod EvaluationLemmas
+pub mod TracksLemmas
+pub mod CellsLemmas
+pub mod EndsLemmas
