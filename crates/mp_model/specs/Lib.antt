@@ -6,3 +6,4 @@ pub mod Replays
 pub mod Tracks
 pub mod Cells
 pub mod Evaluations
+pub mod Examples

@@ -5,6 +5,7 @@ mod cell;
 mod evaluation;
 mod track;
 
+pub mod examples;
 pub mod laws;
 
 pub use evaluation::plain_waves;
