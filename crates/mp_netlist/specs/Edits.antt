@@ -107,9 +107,11 @@ refusal n (AddWire name width level) = wire_refusal n name width level
 refusal n (AddModule name kind params inputs outputs) = module_refusal n name kind params inputs outputs
 refusal n (SetStimulus name changes) = stimulus_refusal n name changes
 
+abbrev pub with_wire_record : Circuit → WireRecord → Circuit
+with_wire_record n r = record n { wires = n.wires ++ Some r ∷ [] }
+
 abbrev pub with_new_wire : Circuit → List ℕ → ℕ → ℕ → Circuit
-with_new_wire n name width level =
-    record n { wires = n.wires ++ Some (record { name = name; width = width; initial = level; stimulus = None }) ∷ [] }
+with_new_wire n name width level = with_wire_record n (record { name = name; width = width; initial = level; stimulus = None })
 
 -- an output port at the wire that has the name, if any
 abbrev pub output_of : Circuit → OutputName → Output

@@ -5,3 +5,5 @@ pub mod Slots
 pub mod Circuit
 pub mod Drivers
 pub mod Edits
+pub mod Records
+pub mod DriverSearch

@@ -1,7 +1,8 @@
 //! The times and values of a stimulus.
-ghost use Rattle.std.specs.Prelude.{◌≡◌, ◌≤◌, IfOk};
+ghost use Rattle.std.specs.Prelude.{◌≡◌, ◌<◌, ◌^◌, All, IfOk};
 ghost use Rattle.mp_netlist.specs.Stimuli.{is_stimulus, fits_width};
 
+use crate::stimulus::Stimulus;
 use std::alloc::AllocError;
 use std::marker::Model;
 
@@ -55,6 +56,18 @@ impl Changes {
             before = time;
         }
         true
+    }
+
+    /// The same times and values, the times being below 2^32.
+    pub(crate) fn to_stimulus(&self) -> Result<Stimulus, AllocError>
+        requires { All (λ change. change.0 < 2 ^ 32) self.now }
+        ensures { IfOk result (λ stimulus. stimulus ≡ self.now) }
+    {
+        let mut pairs = Vec::new(*self.pairs.allocator());
+        for &(time, value) in self.pairs.as_slice() {
+            pairs.push((time as u32, value))?;
+        }
+        Ok(Stimulus::new(pairs))
     }
 }
 
