@@ -124,7 +124,6 @@ impl Netlist {
         }
     }
 
-    #[tactic(auto, unfolding(crate::specs::Slots::number_named))]
     /// The number of the wire that has this name.
     pub fn wire_named(&self, name: &str) -> Option<WireId>
         ensures { option_map (λ id. id.0) result ≡ wire_named self.now name.now }
@@ -135,7 +134,6 @@ impl Netlist {
         }
     }
 
-    #[tactic(auto, unfolding(crate::specs::Slots::number_named))]
     /// The number of the module that has this name.
     pub fn module_named(&self, name: &str) -> Option<ModuleId>
         ensures { option_map (λ id. id.0) result ≡ module_named self.now name.now }
