@@ -122,11 +122,12 @@ finds_ports n ok m p w drives =
 -- the driver is a port, or the driver of a wire that no port drives
 port_or_other : (k : ℕ) (slots : List (Option ModuleRecord)) (w : ℕ) (other : Driver) → IsPort (driver_from k slots w other) ⊎ (driver_from k slots w other ≡ other)
 port_or_other k [] w other = inr refl
-port_or_other k (slot ∷ slots) w other = by (port_of slot w)
+port_or_other k (slot ∷ slots) w other = by (port_of slot w) (port_or_other (k + 1) slots w other)
   where
-    by : (found : Option ℕ) → IsPort (or_later found k (driver_from (k + 1) slots w other)) ⊎ (or_later found k (driver_from (k + 1) slots w other) ≡ other)
-    by None = port_or_other (k + 1) slots w other
-    by (Some p) = inl (record { 0 = k }, p, refl)
+    by : (found : Option ℕ) → IsPort (driver_from (k + 1) slots w other) ⊎ (driver_from (k + 1) slots w other ≡ other)
+        → IsPort (or_later found k (driver_from (k + 1) slots w other)) ⊎ (or_later found k (driver_from (k + 1) slots w other) ≡ other)
+    by None later = later
+    by (Some p) later = inl (record { 0 = k }, p, refl)
 
 -- the driver of a wire is a port that has it as its output, or by its stimulus alone
 pub driven_by : (n : Circuit) (w : ℕ) → ((m p : ℕ) × Drives n m p w) ⊎ (driver n w ≡ stimulus_driver (stimulus_at n w))
@@ -162,3 +163,12 @@ undriven_is_free n ok w nothing = (
 -- no port drives a wire whose driver is no port
 pub portless_is_undriven : (n : Circuit) → IsCircuit n → (w : ℕ) → is_port (driver n w) ≡ false → (m p : ℕ) → Drives n m p w → ⊥
 portless_is_undriven n ok w none m p drives = let port = ap is_port (finds_ports n ok m p w drives) in cc
+
+-- the driver of a wire without a stimulus is found among the ports
+pub portless_driver : (n : Circuit) (w : ℕ) → is_some (stimulus_at n w) ≡ false → driver_from 0 n.modules w Nothing ≡ driver n w
+unfolding driver
+portless_driver n w unset = by (stimulus_at n w) refl
+  where
+    by : (stimulus : Option (List (ℕ × ℕ))) → stimulus_at n w ≡ stimulus → driver_from 0 n.modules w Nothing ≡ driver_from 0 n.modules w (stimulus_driver (stimulus_at n w))
+    by None e = ap (λ s. driver_from 0 n.modules w (stimulus_driver s)) (sym e)
+    by (Some changes) e = let no = sym (ap is_some e) ∙ unset in cc

@@ -7,3 +7,4 @@ pub mod Drivers
 pub mod Edits
 pub mod Records
 pub mod DriverSearch
+pub mod Laws

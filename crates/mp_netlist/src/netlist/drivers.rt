@@ -19,11 +19,12 @@ impl Netlist {
     pub fn driver_of(&self, wire: WireId) -> Driver
         ensures { result ≡ driver self.now wire.0 }
     {
+        let modules = self.modules.as_slice();
         if self.has_stimulus(wire) {
-            // No port drives such a wire, and texts set one wire many times.
+            // No port drives such a wire, and texts may set one wire many times.
             return Driver::Stimulus;
         }
-        driver_among(self.modules.as_slice(), wire)
+        driver_among(modules, wire)
     }
 
     /// Whether the wire of this number stands and has a stimulus.

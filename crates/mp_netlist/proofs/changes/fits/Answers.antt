@@ -1,5 +1,6 @@
 use Rattle.std.proofs.Common.{◌≡◌, ℕ, ◌<◌, ◌≤◌, ◌^◌, true, sym, ◌∙◌, arith}
 use Rattle.std.proofs.Math.Nat.{pow-le-pow_right}
+use Rattle.std.proofs.lemmas.Bool.{le-leb}
 use Rattle.std.proofs.lemmas.Bool.Decides.{nat_tests}
 use Rattle.mp_netlist.specs.Stimuli.{fits_width}
 use Rattle.mp_netlist.proofs.changes.fits.Goals as goal
@@ -14,5 +15,4 @@ wide width value h fits =
 
 pub returns-then-width-ge64 : goal.returns-then-width-ge64
 returns-then-width-ge64 c =
-    let yes = wide c.args.width c.args.value c.if-width-ge64.true c.ranges.value.fits in
-    ?
+    le-leb 64 c.args.width c.if-width-ge64.true ∙ sym (wide c.args.width c.args.value c.if-width-ge64.true c.ranges.value.fits)

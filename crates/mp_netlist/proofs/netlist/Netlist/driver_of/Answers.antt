@@ -1,12 +1,15 @@
-use Rattle.std.proofs.Common.{◌≡◌, ◌<◌, ◌^◌, ℕ, All, Option, Some, None, slice_index_or, arith, refl}
+use Rattle.std.proofs.Common.{◌≡◌, ◌<◌, ◌^◌, ℕ, All, Option, Some, None, slice_index_or, is_some, true, false, sym, ap, subst, ◌∙◌, arith, refl}
 use Rattle.std.proofs.lemmas.List.{get_or_default}
 use Rattle.mp_modules.specs.declared.kind.Kind.{Kind}
 use Rattle.mp_modules.specs.declared.kind.Kind.TheVariants.{Buf, Not, C}
 use Rattle.mp_modules.specs.Kinds.{output_count}
 use Rattle.mp_netlist.specs.declared.module_record.ModuleRecord.{ModuleRecord}
-use Rattle.mp_netlist.specs.Circuit.{Circuit, IsCircuit, module_at}
+use Rattle.mp_netlist.specs.Circuit.{Circuit, IsCircuit, module_at, stimulus_at}
+use Rattle.mp_netlist.specs.Drivers.{driver}
+use Rattle.mp_netlist.specs.declared.driver.Driver.TheVariants.{Nothing, Stimulus, Port}
 use Rattle.mp_netlist.specs.DriverSearch.{HasFewPorts}
 use Rattle.mp_netlist.specs.Records.{circuit_of}
+use Rattle.mp_netlist.proofs.DriverLemmas.{stimulus_drives, portless_driver}
 use Rattle.mp_netlist.proofs.netlist.Netlist.driver_of.Goals as goal
 
 few_outputs : (kind : Kind) → output_count kind < 2 ^ 32
@@ -23,3 +26,11 @@ all_few n ok k d in_range = few_ports n ok k (slice_index_or n.modules k d) (get
 
 pub driver_among-requires-clause-forms : goal.driver_among-requires-clause-forms
 driver_among-requires-clause-forms c = rw c.as_slice.ensures.value (all_few (circuit_of c.self.inside) c.self.invariant.circuit)
+
+pub returns-then-has_stimulus : goal.returns-then-has_stimulus
+returns-then-has_stimulus c =
+    sym (subst (λ (n : Circuit). is_some (stimulus_at n c.args.wire.0) ≡ true → driver n c.args.wire.0 ≡ Stimulus) c.self.view_is
+    (stimulus_drives (circuit_of c.self.inside) c.self.invariant.circuit c.args.wire.0) (cc))
+
+pub returns : goal.returns
+returns c = ?
