@@ -5,3 +5,4 @@ pub mod CircuitLemmas
 pub mod PortLemmas
 pub mod ModuleLemmas
 pub mod EditLemmas
+pub mod RecordLemmas
