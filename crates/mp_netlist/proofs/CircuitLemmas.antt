@@ -55,8 +55,8 @@ IsModule-keep n m same r ok =
     }
 
 -- what stands is within the slots
-within : {R : Type 0} (slots : List (Option R)) (k : ℕ) → is_some (slice_index_or slots k None) ≡ true → k < length slots
-within slots k is = by (cases_lt k (length slots))
+pub slot_within : {R : Type 0} (slots : List (Option R)) (k : ℕ) → is_some (slice_index_or slots k None) ≡ true → k < length slots
+slot_within slots k is = by (cases_lt k (length slots))
   where
     by : (k < length slots) ⊎ (length slots ≤ k) → k < length slots
     by (inl h) = h
@@ -71,7 +71,7 @@ module _ (n : Circuit) (ok : IsCircuit n) where
     more_keeps : KeepsWidths n more
     more_keeps = record {
       keeps = λ w is.
-          let here = get_or_append_left n.wires (Some r ∷ []) None w (within n.wires w is) in
+          let here = get_or_append_left n.wires (Some r ∷ []) None w (slot_within n.wires w is) in
           (ap is_some here ∙ is, ap width_of here);
     }
 
@@ -108,7 +108,7 @@ module _ (n : Circuit) (ok : IsCircuit n) where
     other = with_wire n id (Some new)
 
     within_id : id < length n.wires
-    within_id = within n.wires id (ap is_some at_id)
+    within_id = slot_within n.wires id (ap is_some at_id)
 
     -- the slot of a number is the new one or the old one
     abbrev RewrittenAt : ℕ → Type 0

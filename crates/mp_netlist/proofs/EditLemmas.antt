@@ -1,10 +1,10 @@
 -- A netlist is still one after each edit that no check refuses.
-use Rattle.std.proofs.Common.{◌≡◌, ℕ, ◌<◌, ◌≤◌, Bool, true, false, not, ◌&&◌, ◌==◌, cond, List, [], ◌∷◌, length, Option, Some, None, option_map, is_some, is_none, refl, sym, ap, subst, ◌∙◌, arith}
+use Rattle.std.proofs.Common.{◌≡◌, ℕ, zero, suc, ◌<◌, ◌≤◌, Bool, true, false, not, ◌&&◌, ◌==◌, cond, List, [], ◌∷◌, length, Option, Some, None, option_map, is_some, is_none, refl, sym, ap, subst, ◌∙◌, arith}
 use Rattle.std.specs.Prelude.{nat_le, nat_lt, slice_set}
 use Rattle.std.proofs.lemmas.Bool.{and_parts, eqb-true, ltb-true, leb-true, not-true}
 use Rattle.mp_modules.specs.declared.kind.Kind.{Kind}
 use Rattle.mp_modules.specs.Kinds.{are_params, input_count, output_count}
-use Rattle.std.specs.List.{list_all}
+use Rattle.std.specs.List.{list_all, All}
 use Rattle.mp_netlist.specs.declared.wire_record.WireRecord.{WireRecord}
 use Rattle.mp_netlist.specs.declared.module_record.ModuleRecord.{ModuleRecord}
 use Rattle.mp_netlist.specs.declared.port_names.OutputName.{OutputName}
@@ -127,3 +127,19 @@ unfolding refusal edited
 edits_keep_netlists n ok (AddWire name width level) none = IsCircuit-with_new_wire n ok name width level none
 edits_keep_netlists n ok (AddModule name kind params inputs outputs) none = IsCircuit-with_new_module n ok name kind params inputs outputs none
 edits_keep_netlists n ok (SetStimulus name changes) none = IsCircuit-stimulated n ok name changes none
+
+-- each time of a stimulus is below the horizon
+is_stimulus-early : (horizon width before : ℕ) (changes : List (ℕ × ℕ)) → is_stimulus horizon width before changes ≡ true → All (λ (change : ℕ × ℕ). change.0 < horizon) changes
+unfolding is_stimulus
+is_stimulus-early horizon width before [] valid k d here = absurd (omega arith)
+is_stimulus-early horizon width before (change ∷ changes) valid zero d here =
+    let parts = and_parts _ _ (and_parts _ _ (and_parts _ _ valid).0).0 in
+    ltb-true change.0 horizon parts.1
+is_stimulus-early horizon width before (change ∷ changes) valid (suc k) d here =
+    is_stimulus-early horizon width change.0 changes (and_parts _ _ valid).1 k d (omega arith)
+
+pub stimulus_early : (n : Circuit) → IsCircuit n → (name : List ℕ) (changes : List (ℕ × ℕ)) → stimulus_refusal n name changes ≡ None
+    → All (λ (change : ℕ × ℕ). change.0 < 4294967296) changes
+stimulus_early n ok name changes none k d here =
+    let early = is_stimulus-early n.horizon (width_named n name) 0 changes (new_stimulus n name changes none).valid k d here in
+    omega (arith, ok.horizon_high)

@@ -3,7 +3,7 @@ ghost use Rattle.std.specs.Prelude.{◌≡◌, ◌<◌, ◌^◌, All, IfOk};
 ghost use Rattle.mp_netlist.specs.Stimuli.{is_stimulus, fits_width};
 
 use crate::stimulus::Stimulus;
-use std::alloc::AllocError;
+use std::alloc::{AllocError, Global};
 use std::marker::Model;
 
 /// Pairs of a time and the value from then on.
@@ -59,11 +59,11 @@ impl Changes {
     }
 
     /// The same times and values, the times being below 2^32.
-    pub(crate) fn to_stimulus(&self) -> Result<Stimulus, AllocError>
+    pub(crate) fn to_stimulus(&self, alloc: Global) -> Result<Stimulus, AllocError>
         requires { All (λ change. change.0 < 2 ^ 32) self.now }
         ensures { IfOk result (λ stimulus. stimulus ≡ self.now) }
     {
-        let mut pairs = Vec::new(*self.pairs.allocator());
+        let mut pairs = Vec::new(alloc);
         for &(time, value) in self.pairs.as_slice() {
             pairs.push((time as u32, value))?;
         }

@@ -61,7 +61,7 @@ impl Netlist {
     fn put_wire(&mut self, key: String, added: WireRecord) -> Result<(), AllocError>
         requires key { string_bytes key ≡ added.name }
         requires free { wire_named self.old added.name ≡ None }
-        requires fits { IsCircuit (with_wire_record self.old added) }
+        requires fits { IsCircuit self.old → IsCircuit (with_wire_record self.old added) }
         ensures ok { OnOk result (self.new ≡ with_wire_record self.old added) }
         ensures err { OnErr result (self.new ≡ self.old) }
     {
@@ -99,7 +99,7 @@ impl Netlist {
     fn put_module(&mut self, key: String, added: ModuleRecord) -> Result<(), AllocError>
         requires key { string_bytes key ≡ added.name }
         requires free { module_named self.old added.name ≡ None }
-        requires fits { IsCircuit (with_new_module self.old added) }
+        requires fits { IsCircuit self.old → IsCircuit (with_new_module self.old added) }
         ensures ok { OnOk result (self.new ≡ with_new_module self.old added) }
         ensures err { OnErr result (self.new ≡ self.old) }
     {
@@ -116,7 +116,7 @@ impl Netlist {
             (option_map (with_stimulus changes.now) (wire_at self.old (wire_id self.old name.now).0))) }
         ensures err { OnErr result (self.new ≡ self.old) }
     {
-        let stimulus = changes.to_stimulus()?;
+        let stimulus = changes.to_stimulus(*self.wires.allocator())?;
         let id = self.id_of(name);
         stimulate(&mut self.wires, id.0 as usize, stimulus);
         Ok(())

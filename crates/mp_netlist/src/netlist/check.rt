@@ -1,8 +1,9 @@
 //! Why an edit is refused.
-ghost use Rattle.std.specs.Prelude.{◌≡◌};
-ghost use Rattle.std.specs.List.{list_any};
-ghost use Rattle.std.specs.Str.{bytes_eq};
-ghost use Rattle.mp_netlist.specs.Edits.{is_delay, are_distinct, driven_names};
+ghost use Rattle.std.specs.Prelude.{◌≡◌, ◌==◌, ◌&&◌, length};
+ghost use Rattle.std.specs.List.{list_all};
+ghost use Rattle.mp_modules.specs.Kinds.{input_count, output_count};
+ghost use Rattle.mp_netlist.specs.declared.port_names.OutputName.{OutputName};
+ghost use Rattle.mp_netlist.specs.Edits.{is_delay};
 
 use crate::changes::{Changes, fits};
 use crate::driver::Driver;
@@ -76,23 +77,23 @@ impl Netlist {
         }
         let inputs = inputs.as_slice();
         let outputs = outputs.as_slice();
-        if inputs.len() != kind.inputs() || outputs.len() != kind.outputs() {
+        if !has_ports(kind, inputs, outputs) {
             return Err(EditError::WrongPorts);
         }
-        if !self.inputs_stand(inputs) || !self.outputs_stand(outputs) {
+        if !self.ports_stand(inputs, outputs) {
             return Err(EditError::NoSuchWire);
         }
         let width = self.new_width(kind, inputs);
-        if !self.inputs_fit(kind, width, inputs) || !self.outputs_fit(kind, width, outputs) {
+        if !self.ports_fit(kind, width, inputs, outputs) {
             return Err(EditError::WidthMismatch);
         }
         if !kind.accepts(width, params.as_slice()) {
             return Err(EditError::BadParam);
         }
-        if !outputs.iter().all(|port| is_delay(port.delay)) {
+        if !are_delays(outputs) {
             return Err(EditError::BadDelay);
         }
-        if !self.outputs_are_undriven(outputs) || !are_distinct(outputs) {
+        if !self.outputs_are_free(outputs) {
             return Err(EditError::AlreadyDriven);
         }
         if self.modules.len() >= MAX_MODULES {
@@ -118,37 +119,18 @@ impl Netlist {
     }
 }
 
-/// Whether a port may have this delay.
-fn is_delay(delay: u64) -> bool
-    ensures { result ≡ is_delay delay }
+/// Whether there are as many inputs and outputs as the kind has.
+fn has_ports(kind: Kind, inputs: &[Name], outputs: &[OutputName]) -> bool
+    ensures { result ≡ (length inputs.now == input_count kind && length outputs.now == output_count kind) }
 {
-    1 <= delay && delay <= MAX_DELAY
+    inputs.len() == kind.inputs() && outputs.len() == kind.outputs()
 }
 
-/// Whether no wire is named by two of the outputs.
-fn are_distinct(outputs: &[OutputName]) -> bool
-    ensures { result ≡ are_distinct (driven_names outputs.now) }
+/// Whether each output has a delay that a port may have.
+fn are_delays(outputs: &[OutputName]) -> bool
+    ensures { result ≡ list_all (λ (port : OutputName). is_delay port.delay) outputs.now }
 {
-    for (port, output) in outputs.iter().enumerate() {
-        if let Some(name) = &output.wire {
-            if is_driven(name, &outputs[port + 1..]) {
-                return false;
-            }
-        }
-    }
-    true
-}
-
-/// Whether one of the outputs names the wire.
-fn is_driven(name: &Name, outputs: &[OutputName]) -> bool
-    ensures { result ≡ list_any (bytes_eq name.now) (driven_names outputs.now) }
-{
-    for output in outputs {
-        if let Some(other) = &output.wire {
-            if name.as_str() == other.as_str() {
-                return true;
-            }
-        }
-    }
-    false
+    outputs
+        .iter()
+        .all(|port| 1 <= port.delay && port.delay <= MAX_DELAY)
 }

@@ -1,4 +1,9 @@
 //! The wires that an edit names as a module's ports.
+ghost use Rattle.std.specs.Prelude.{◌≡◌};
+ghost use Rattle.std.specs.List.{list_any};
+ghost use Rattle.std.specs.Str.{bytes_eq};
+ghost use Rattle.mp_netlist.specs.Edits.{are_distinct, driven_names};
+
 use crate::driver::Driver;
 use crate::ids::WireId;
 use crate::name::Name;
@@ -9,9 +14,9 @@ use mp_modules::Kind;
 use std::alloc::AllocError;
 
 impl Netlist {
-    ghost use Rattle.std.specs.Prelude.{◌≡◌, is_some, map, IfOk, IsTrue};
+    ghost use Rattle.std.specs.Prelude.{◌≡◌, ◌&&◌, is_some, map, IfOk, IsTrue};
     ghost use Rattle.std.specs.List.{list_all};
-    ghost use Rattle.mp_netlist.specs.Edits.{is_delay, output_of, stands, wire_id, width_named, is_undriven, driven_names, new_width, inputs_fit, output_fits, outputs_fit};
+    ghost use Rattle.mp_netlist.specs.Edits.{are_distinct, is_delay, output_of, stands, wire_id, width_named, is_undriven, driven_names, new_width, inputs_fit, output_fits, outputs_fit};
 
     /// Whether a wire of the name stands.
     pub(crate) fn stands(&self, name: &Name) -> bool
@@ -51,14 +56,14 @@ impl Netlist {
     }
 
     /// Whether a wire of each name stands.
-    pub(crate) fn inputs_stand(&self, inputs: &[Name]) -> bool
+    fn inputs_stand(&self, inputs: &[Name]) -> bool
         ensures { result ≡ list_all (stands self.now) inputs.now }
     {
         inputs.iter().all(|name| self.stands(name))
     }
 
     /// Whether the wires that the outputs name stand.
-    pub(crate) fn outputs_stand(&self, outputs: &[OutputName]) -> bool
+    fn outputs_stand(&self, outputs: &[OutputName]) -> bool
         ensures { result ≡ list_all (stands self.now) (driven_names outputs.now) }
     {
         for port in outputs {
@@ -72,7 +77,7 @@ impl Netlist {
     }
 
     /// Whether nothing drives the wires that the outputs name.
-    pub(crate) fn outputs_are_undriven(&self, outputs: &[OutputName]) -> bool
+    fn outputs_are_undriven(&self, outputs: &[OutputName]) -> bool
         ensures { result ≡ list_all (is_undriven self.now) (driven_names outputs.now) }
     {
         for port in outputs {
@@ -99,7 +104,7 @@ impl Netlist {
     }
 
     /// Whether each wire that is to be read has the width of its port.
-    pub(crate) fn inputs_fit(&self, kind: Kind, width: u32, inputs: &[Name]) -> bool
+    fn inputs_fit(&self, kind: Kind, width: u32, inputs: &[Name]) -> bool
         ensures { result ≡ inputs_fit self.now kind width inputs.now }
     {
         for (port, name) in inputs.iter().enumerate() {
@@ -111,7 +116,7 @@ impl Netlist {
     }
 
     /// Whether each wire that is to be driven has the width of its port.
-    pub(crate) fn outputs_fit(&self, kind: Kind, width: u32, outputs: &[OutputName]) -> bool
+    fn outputs_fit(&self, kind: Kind, width: u32, outputs: &[OutputName]) -> bool
         ensures { result ≡ outputs_fit self.now kind width outputs.now }
     {
         for (port, output) in outputs.iter().enumerate() {
@@ -122,6 +127,33 @@ impl Netlist {
             }
         }
         true
+    }
+
+    /// Whether the wires that the ports name stand.
+    pub(crate) fn ports_stand(&self, inputs: &[Name], outputs: &[OutputName]) -> bool
+        ensures { result ≡ (list_all (stands self.now) inputs.now && list_all (stands self.now) (driven_names outputs.now)) }
+    {
+        self.inputs_stand(inputs) && self.outputs_stand(outputs)
+    }
+
+    /// Whether the wires that the ports name have the ports' widths.
+    pub(crate) fn ports_fit(
+        &self,
+        kind: Kind,
+        width: u32,
+        inputs: &[Name],
+        outputs: &[OutputName],
+    ) -> bool
+        ensures { result ≡ (inputs_fit self.now kind width inputs.now && outputs_fit self.now kind width outputs.now) }
+    {
+        self.inputs_fit(kind, width, inputs) && self.outputs_fit(kind, width, outputs)
+    }
+
+    /// Whether nothing drives the wires that the outputs name, and no two name one.
+    pub(crate) fn outputs_are_free(&self, outputs: &[OutputName]) -> bool
+        ensures { result ≡ (list_all (is_undriven self.now) (driven_names outputs.now) && are_distinct (driven_names outputs.now)) }
+    {
+        self.outputs_are_undriven(outputs) && are_distinct(outputs)
     }
 
     /// The numbers of the wires that the inputs name.
@@ -149,4 +181,32 @@ impl Netlist {
         }
         Ok(Outputs::new(ports))
     }
+}
+
+/// Whether no wire is named by two of the outputs.
+fn are_distinct(outputs: &[OutputName]) -> bool
+    ensures { result ≡ are_distinct (driven_names outputs.now) }
+{
+    for (port, output) in outputs.iter().enumerate() {
+        if let Some(name) = &output.wire {
+            if is_driven(name, &outputs[port + 1..]) {
+                return false;
+            }
+        }
+    }
+    true
+}
+
+/// Whether one of the outputs names the wire.
+fn is_driven(name: &Name, outputs: &[OutputName]) -> bool
+    ensures { result ≡ list_any (bytes_eq name.now) (driven_names outputs.now) }
+{
+    for output in outputs {
+        if let Some(other) = &output.wire {
+            if name.as_str() == other.as_str() {
+                return true;
+            }
+        }
+    }
+    false
 }

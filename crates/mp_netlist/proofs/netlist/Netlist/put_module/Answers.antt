@@ -15,9 +15,9 @@ invariant_of-self-2 c =
     let number : c.len-number.result ≡ length old.modules.items = search rules in
     AreRecords-add_module old _ c.self.invariant refl refl refl c.args.added
     (subst (λ (n : Circuit). module_named n c.args.added.name ≡ None) (sym c.self.view_is) c.requires.free)
-    (subst (λ (n : Circuit). IsCircuit (with_new_module n c.args.added)) (sym c.self.view_is) c.requires.fits)
+    (subst (λ (n : Circuit). IsCircuit n → IsCircuit (with_new_module n c.args.added)) (sym c.self.view_is) c.requires.fits c.self.invariant.circuit)
     pushed refl refl
     (λ q.
-      hash_map_updates_text (string_bytes c.args.key) old.module_names c.insert.new.self _ c.in_ok-insert.ensures.updates q
-      ∙ ap (λ n. cond (bytes_eq (string_bytes c.args.key) q) (Some n) (get_by_text old.module_names q)) number
-      ∙ ap (λ name. cond (bytes_eq name q) (Some (length old.modules.items)) (get_by_text old.module_names q)) c.requires.key)
+    hash_map_updates_text (string_bytes c.args.key) old.module_names c.insert.new.self _ c.in_ok-insert.ensures.updates q
+    ∙ ap (λ n. cond (bytes_eq (string_bytes c.args.key) q) (Some n) (get_by_text old.module_names q)) number
+    ∙ ap (λ name. cond (bytes_eq name q) (Some (length old.modules.items)) (get_by_text old.module_names q)) c.requires.key)

@@ -2,7 +2,7 @@ use Rattle.std.proofs.Common.{◌≡◌, drop}
 use Rattle.std.specs.List.{list_any}
 use Rattle.std.specs.Str.{bytes_eq}
 use Rattle.mp_netlist.specs.Edits.{driven_names}
-use Rattle.mp_netlist.proofs.netlist.check.is_driven.Given as goal
+use Rattle.mp_netlist.proofs.netlist.ports.is_driven.Given as goal
 
 -- what is left decides
 abbrev pub invariant-loop-output : goal.invariant-loop-output

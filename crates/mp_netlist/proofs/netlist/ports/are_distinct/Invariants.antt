@@ -1,6 +1,6 @@
 use Rattle.std.proofs.Common.{◌≡◌, drop}
 use Rattle.mp_netlist.specs.Edits.{are_distinct, driven_names}
-use Rattle.mp_netlist.proofs.netlist.check.are_distinct.Given as goal
+use Rattle.mp_netlist.proofs.netlist.ports.are_distinct.Given as goal
 
 -- what is left decides
 abbrev pub invariant-loop-port : goal.invariant-loop-port
