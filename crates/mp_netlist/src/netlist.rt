@@ -50,7 +50,7 @@ impl Model for Netlist {
 }
 
 impl Netlist {
-    ghost use Rattle.std.specs.Prelude.{◌≡◌, ◌≤◌, ◌<◌, ℕ, length, option_map, IfSome, IfOk, IfErr, OnOk, OnErr};
+    ghost use Rattle.std.specs.Prelude.{◌≡◌, ◌≤◌, ◌<◌, ℕ, length, option_map, IfSome, IfOk, IfErr, IsOk, ◌↔◌};
     ghost use Rattle.std.specs.Option.{option_copied};
     ghost use Rattle.mp_netlist.specs.declared.new_error.NewError.TheVariants.{BadHorizon};
     ghost use Rattle.mp_netlist.specs.Circuit.{IsCircuit, IsWire, IsModule, empty_circuit, wire_at, module_at, wire_named, module_named};
@@ -58,9 +58,8 @@ impl Netlist {
     /// A netlist without records that runs for `horizon` units: refused as `BadHorizon` exactly where they are not 1 to 65,536.
     pub fn empty(alloc: Global, horizon: u64) -> Result<Netlist, NewError>
         ensures ok { IfOk result (λ netlist. netlist ≡ empty_circuit horizon) }
-        ensures allowed { OnOk result ((1 ≤ horizon) × (horizon ≤ 65536)) }
+        ensures allowed { IsOk result ↔ ((1 ≤ horizon) × (horizon ≤ 65536)) }
         ensures refused { IfErr result (λ error. error ≡ BadHorizon) }
-        ensures bad { OnErr result ((1 ≤ horizon) × (horizon ≤ 65536) → ⊥) }
     {
         if horizon == 0 || horizon > MAX_HORIZON {
             return Err(NewError::BadHorizon);
