@@ -98,8 +98,8 @@ impl Kind {
     pub fn output_width(self, width: u32, port: usize) -> u32
         ensures { result ≡ output_width self width port }
     {
-        match (self, port) {
-            (Kind::Buf, 0) => width,
+        match self {
+            Kind::Buf if port == 0 => width,
             _ => 1,
         }
     }
