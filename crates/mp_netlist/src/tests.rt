@@ -54,22 +54,52 @@ fn stimulus(alloc: Global, text: &str, changes: &[(u64, u64)]) -> Result<Edit, A
     })
 }
 
-/// Wires `a`, `b`, `y` and `z` of width 1 and `d` of width 8, and a module `m` from `a` to `y`; `b` has a stimulus.
-fn sample(alloc: Global) -> Result<Netlist, Fail> {
-    let mut netlist = Netlist::empty(alloc, 20)?;
-    netlist.apply(&wire(alloc, "a", 1, 0)?)?;
-    netlist.apply(&wire(alloc, "b", 1, 0)?)?;
-    netlist.apply(&wire(alloc, "y", 1, 0)?)?;
-    netlist.apply(&wire(alloc, "z", 1, 0)?)?;
-    netlist.apply(&wire(alloc, "d", 8, 255)?)?;
-    netlist.apply(&module(alloc, "m", Kind::Buf, &[], "a", "y", 5)?)?;
-    netlist.apply(&stimulus(alloc, "b", &[(3, 1), (19, 0)])?)?;
-    Ok(netlist)
+fn add_wires(alloc: Global, net: &mut Netlist) -> Result<(), Fail> {
+    for text in ["a", "b", "y", "z"] {
+        net.apply(&wire(alloc, text, 1, 0)?)?;
+    }
+    net.apply(&wire(alloc, "d", 8, 255)?)?;
+    Ok(())
 }
 
-/// Applies an edit that has to be refused so.
-fn refused(rt: &impl Abort, netlist: &mut Netlist, edit: &Edit, error: EditError) {
-    assert_eq!(rt; netlist.apply(edit).err(), Some(error));
+/// Wires `a`, `b`, `y` and `z` of width 1 and `d` of width 8, and a module `m` from `a` to `y`; `b` has a stimulus.
+fn sample(alloc: Global) -> Result<Netlist, Fail> {
+    let mut net = Netlist::empty(alloc, 20)?;
+    add_wires(alloc, &mut net)?;
+    net.apply(&module(alloc, "m", Kind::Buf, &[], "a", "y", 5)?)?;
+    net.apply(&stimulus(alloc, "b", &[(3, 1), (19, 0)])?)?;
+    Ok(net)
+}
+
+/// The sample refuses the edit so.
+fn refuses(
+    rt: &impl Abort,
+    alloc: Global,
+    edit: Result<Edit, AllocError>,
+    error: EditError,
+) -> Result<(), Fail> {
+    let edit = edit?;
+    let mut net = sample(alloc)?;
+    assert_eq!(rt; net.apply(&edit).err(), Some(error));
+    Ok(())
+}
+
+/// Adds wires until there are 8,192.
+fn fill_wires(alloc: Global, net: &mut Netlist) -> Result<(), Fail> {
+    for number in 5..8192 {
+        let text = format!(in alloc; "w{number}")?;
+        net.apply(&wire(alloc, text.as_str(), 64, u64::MAX)?)?;
+    }
+    Ok(())
+}
+
+/// Adds modules until there are 4,096.
+fn fill_modules(alloc: Global, net: &mut Netlist) -> Result<(), Fail> {
+    for number in 1..4096 {
+        let text = format!(in alloc; "m{number}")?;
+        net.apply(&module(alloc, text.as_str(), Kind::Not, &[], "a", "-", 1)?)?;
+    }
+    Ok(())
 }
 
 #[test]
@@ -89,32 +119,25 @@ fn horizons(rt: HostRuntime) -> Result<(), Fail> {
 #[test]
 fn wires_refused(rt: HostRuntime) -> Result<(), Fail> {
     let alloc = rt.alloc();
+    refuses(&rt, alloc, wire(alloc, "1a", 0, 2), EditError::BadName)?;
+    refuses(&rt, alloc, wire(alloc, "a", 0, 2), EditError::NameTaken)?;
+    refuses(&rt, alloc, wire(alloc, "n", 0, 2), EditError::BadWidth)?;
+    refuses(&rt, alloc, wire(alloc, "n", 65, 0), EditError::BadWidth)?;
+    refuses(&rt, alloc, wire(alloc, "n", 3, 8), EditError::BadLevel)
+}
+
+#[test]
+fn wire_table_full(rt: HostRuntime) -> Result<(), Fail> {
+    let alloc = rt.alloc();
     let mut net = sample(alloc)?;
-    refused(&rt, &mut net, &wire(alloc, "1a", 0, 2)?, EditError::BadName);
-    refused(
-        &rt,
-        &mut net,
-        &wire(alloc, "a", 0, 2)?,
-        EditError::NameTaken,
+    fill_wires(alloc, &mut net)?;
+    assert_eq!(rt;
+        net.apply(&wire(alloc, "n", 3, 8)?).err(),
+        Some(EditError::BadLevel)
     );
-    refused(&rt, &mut net, &wire(alloc, "n", 0, 2)?, EditError::BadWidth);
-    refused(
-        &rt,
-        &mut net,
-        &wire(alloc, "n", 65, 0)?,
-        EditError::BadWidth,
-    );
-    refused(&rt, &mut net, &wire(alloc, "n", 3, 8)?, EditError::BadLevel);
-    for number in 5..8192 {
-        let text = format!(in alloc; "w{number}")?;
-        net.apply(&wire(alloc, text.as_str(), 64, u64::MAX)?)?;
-    }
-    refused(&rt, &mut net, &wire(alloc, "n", 3, 8)?, EditError::BadLevel);
-    refused(
-        &rt,
-        &mut net,
-        &wire(alloc, "n", 3, 7)?,
-        EditError::TableFull,
+    assert_eq!(rt;
+        net.apply(&wire(alloc, "n", 3, 7)?).err(),
+        Some(EditError::TableFull)
     );
     assert_eq!(rt; net.wire_slots(), 8192);
     Ok(())
@@ -123,44 +146,89 @@ fn wires_refused(rt: HostRuntime) -> Result<(), Fail> {
 #[test]
 fn modules_refused(rt: HostRuntime) -> Result<(), Fail> {
     let alloc = rt.alloc();
-    let mut net = sample(alloc)?;
-    let edit = module(alloc, "_m", Kind::C, &[0, 2, 1], "a", "x", 0)?;
-    refused(&rt, &mut net, &edit, EditError::BadName);
-    let edit = module(alloc, "m", Kind::C, &[0, 2, 1], "a", "x", 0)?;
-    refused(&rt, &mut net, &edit, EditError::NameTaken);
-    let edit = module(alloc, "n", Kind::C, &[0, 2, 1], "a", "x", 0)?;
-    refused(&rt, &mut net, &edit, EditError::WrongPorts);
-    let edit = module(alloc, "n", Kind::C, &[0, 2, 1], "d a", "x", 0)?;
-    refused(&rt, &mut net, &edit, EditError::NoSuchWire);
-    let edit = module(alloc, "n", Kind::C, &[0, 2, 1], "a d", "y", 0)?;
-    refused(&rt, &mut net, &edit, EditError::WidthMismatch);
-    let edit = module(alloc, "n", Kind::Buf, &[1], "d", "y", 0)?;
-    refused(&rt, &mut net, &edit, EditError::WidthMismatch);
-    let edit = module(alloc, "n", Kind::C, &[0, 2, 1], "a b", "y", 0)?;
-    refused(&rt, &mut net, &edit, EditError::BadParam);
-    let edit = module(alloc, "n", Kind::C, &[0, 1, 1], "a b", "y", 0)?;
-    refused(&rt, &mut net, &edit, EditError::BadDelay);
-    let edit = module(alloc, "n", Kind::Not, &[], "a", "-", 65_536)?;
-    refused(&rt, &mut net, &edit, EditError::BadDelay);
-    let edit = module(alloc, "n", Kind::Not, &[], "a", "y", 1)?;
-    refused(&rt, &mut net, &edit, EditError::AlreadyDriven);
-    let edit = module(alloc, "n", Kind::Not, &[], "a", "b", 1)?;
-    refused(&rt, &mut net, &edit, EditError::AlreadyDriven);
-    Ok(())
+    let high: &[u64] = &[0, 2, 1];
+    refuses(
+        &rt,
+        alloc,
+        module(alloc, "_m", Kind::C, high, "a", "x", 0),
+        EditError::BadName,
+    )?;
+    refuses(
+        &rt,
+        alloc,
+        module(alloc, "m", Kind::C, high, "a", "x", 0),
+        EditError::NameTaken,
+    )?;
+    refuses(
+        &rt,
+        alloc,
+        module(alloc, "n", Kind::C, high, "a", "x", 0),
+        EditError::WrongPorts,
+    )?;
+    refuses(
+        &rt,
+        alloc,
+        module(alloc, "n", Kind::C, high, "d a", "x", 0),
+        EditError::NoSuchWire,
+    )?;
+    refuses(
+        &rt,
+        alloc,
+        module(alloc, "n", Kind::C, high, "a d", "y", 0),
+        EditError::WidthMismatch,
+    )?;
+    refuses(
+        &rt,
+        alloc,
+        module(alloc, "n", Kind::C, high, "a b", "y", 0),
+        EditError::BadParam,
+    )
+}
+
+#[test]
+fn outputs_refused(rt: HostRuntime) -> Result<(), Fail> {
+    let alloc = rt.alloc();
+    refuses(
+        &rt,
+        alloc,
+        module(alloc, "n", Kind::Buf, &[1], "d", "y", 0),
+        EditError::WidthMismatch,
+    )?;
+    refuses(
+        &rt,
+        alloc,
+        module(alloc, "n", Kind::Not, &[], "a", "y", 0),
+        EditError::BadDelay,
+    )?;
+    refuses(
+        &rt,
+        alloc,
+        module(alloc, "n", Kind::Not, &[], "a", "-", 65_536),
+        EditError::BadDelay,
+    )?;
+    refuses(
+        &rt,
+        alloc,
+        module(alloc, "n", Kind::Not, &[], "a", "y", 1),
+        EditError::AlreadyDriven,
+    )?;
+    refuses(
+        &rt,
+        alloc,
+        module(alloc, "n", Kind::Not, &[], "a", "b", 1),
+        EditError::AlreadyDriven,
+    )
 }
 
 #[test]
 fn module_table_full(rt: HostRuntime) -> Result<(), Fail> {
     let alloc = rt.alloc();
     let mut net = sample(alloc)?;
-    for number in 1..4096 {
-        let text = format!(in alloc; "m{number}")?;
-        net.apply(&module(alloc, text.as_str(), Kind::Not, &[], "a", "-", 1)?)?;
-    }
-    let edit = module(alloc, "n", Kind::Not, &[], "a", "y", 1)?;
-    refused(&rt, &mut net, &edit, EditError::AlreadyDriven);
-    let edit = module(alloc, "n", Kind::Not, &[], "a", "z", 65_535)?;
-    refused(&rt, &mut net, &edit, EditError::TableFull);
+    fill_modules(alloc, &mut net)?;
+    let driven = module(alloc, "n", Kind::Not, &[], "a", "y", 1)?;
+    assert_eq!(rt; net.apply(&driven).err(), Some(EditError::AlreadyDriven));
+    let free = module(alloc, "n", Kind::Not, &[], "a", "z", 65_535)?;
+    assert_eq!(rt; net.apply(&free).err(), Some(EditError::TableFull));
     assert_eq!(rt; net.module_slots(), 4096);
     Ok(())
 }
@@ -168,63 +236,78 @@ fn module_table_full(rt: HostRuntime) -> Result<(), Fail> {
 #[test]
 fn stimuli_refused(rt: HostRuntime) -> Result<(), Fail> {
     let alloc = rt.alloc();
-    let mut net = sample(alloc)?;
-    refused(
+    refuses(
         &rt,
-        &mut net,
-        &stimulus(alloc, "x", &[(0, 2)])?,
+        alloc,
+        stimulus(alloc, "x", &[(0, 2)]),
         EditError::NoSuchWire,
-    );
-    refused(
+    )?;
+    refuses(
         &rt,
-        &mut net,
-        &stimulus(alloc, "y", &[(0, 2)])?,
+        alloc,
+        stimulus(alloc, "y", &[(0, 2)]),
         EditError::AlreadyDriven,
-    );
-    refused(
+    )?;
+    refuses(
         &rt,
-        &mut net,
-        &stimulus(alloc, "a", &[(0, 1)])?,
+        alloc,
+        stimulus(alloc, "a", &[(0, 1)]),
         EditError::BadStimulus,
-    );
-    refused(
+    )?;
+    refuses(
         &rt,
-        &mut net,
-        &stimulus(alloc, "a", &[(20, 1)])?,
+        alloc,
+        stimulus(alloc, "a", &[(20, 1)]),
         EditError::BadStimulus,
-    );
-    refused(
+    )?;
+    refuses(
         &rt,
-        &mut net,
-        &stimulus(alloc, "a", &[(2, 1), (2, 0)])?,
+        alloc,
+        stimulus(alloc, "a", &[(2, 1), (2, 0)]),
         EditError::BadStimulus,
-    );
-    refused(
+    )?;
+    refuses(
         &rt,
-        &mut net,
-        &stimulus(alloc, "d", &[(2, 256)])?,
+        alloc,
+        stimulus(alloc, "d", &[(2, 256)]),
         EditError::BadStimulus,
-    );
-    Ok(())
+    )
 }
 
 #[test]
-fn records_read_back(rt: HostRuntime) -> Result<(), Fail> {
+fn wires_read_back(rt: HostRuntime) -> Result<(), Fail> {
     let net = sample(rt.alloc())?;
     assert_eq!(rt; net.wire_named("d"), Some(WireId(4)));
+    assert_eq!(rt; net.wire_named("m"), None);
+    assert!(rt; net.wire(WireId(5)).is_none());
     let found = net.wire(WireId(4)).ok_or("no wire d")?;
     assert!(rt; found.name.as_str() == "d");
     assert_eq!(rt; found.width, 8);
     assert_eq!(rt; found.initial, 255);
+    Ok(())
+}
+
+#[test]
+fn modules_read_back(rt: HostRuntime) -> Result<(), Fail> {
+    let net = sample(rt.alloc())?;
     assert_eq!(rt; net.module_named("m"), Some(ModuleId(0)));
+    assert_eq!(rt; net.module_named("a"), None);
+    assert!(rt; net.module(ModuleId(1)).is_none());
     let found = net.module(ModuleId(0)).ok_or("no module m")?;
     assert!(rt; found.name.as_str() == "m");
     assert_eq!(rt; found.kind, Kind::Buf);
     assert_eq!(rt; found.delay(0), 5);
     assert!(rt; found.inputs.as_slice() == [WireId(0)].as_slice());
-    assert_eq!(rt; net.driver_of(WireId(2)), Driver::Port(ModuleId(0), 0));
-    assert_eq!(rt; net.driver_of(WireId(1)), Driver::Stimulus);
+    Ok(())
+}
+
+#[test]
+fn drivers(rt: HostRuntime) -> Result<(), Fail> {
+    let net = sample(rt.alloc())?;
     assert_eq!(rt; net.driver_of(WireId(0)), Driver::Nothing);
+    assert_eq!(rt; net.driver_of(WireId(1)), Driver::Stimulus);
+    assert_eq!(rt; net.driver_of(WireId(2)), Driver::Port(ModuleId(0), 0));
+    assert_eq!(rt; net.driver_of(WireId(5)), Driver::Nothing);
     Ok(())
 }
 
@@ -238,16 +321,5 @@ fn stimulus_replaced(rt: HostRuntime) -> Result<(), Fail> {
     let found = net.wire(WireId(1)).ok_or("no wire b")?;
     let set = found.stimulus.as_ref().ok_or("no stimulus")?;
     assert!(rt; set.as_slice() == [(5, 1), (7, 1)].as_slice());
-    Ok(())
-}
-
-#[test]
-fn nothing_found(rt: HostRuntime) -> Result<(), Fail> {
-    let net = sample(rt.alloc())?;
-    assert_eq!(rt; net.wire_named("m"), None);
-    assert_eq!(rt; net.module_named("a"), None);
-    assert!(rt; net.wire(WireId(5)).is_none());
-    assert!(rt; net.module(ModuleId(1)).is_none());
-    assert_eq!(rt; net.driver_of(WireId(5)), Driver::Nothing);
     Ok(())
 }
