@@ -1,0 +1,6 @@
+pub mod TextCodes
+pub mod Lines
+pub mod Words
+pub mod Numbers
+pub mod Reads
+pub mod WaveLines
