@@ -3,4 +3,6 @@ pub mod Lines
 pub mod Words
 pub mod Numbers
 pub mod Reads
+pub mod Statements
+pub mod Texts
 pub mod WaveLines

@@ -2,6 +2,7 @@
 ghost use Rattle.std.specs.Prelude.{◌≡◌, ◌<◌, ◌==◌, length, position, IfOk, IfSome, IsAscii, All};
 ghost use Rattle.mp_text.specs.Words.{words_of, texts, is_gap, statement_part};
 
+use mp_netlist::Name;
 use std::alloc::{AllocError, Global};
 
 /// The words before a comment.
@@ -38,4 +39,15 @@ pub fn place_of(byte: u8, bytes: &[u8]) -> Option<usize>
     ensures within { IfSome result (λ at. at < length bytes.now) }
 {
     bytes.iter().position(|b| *b == byte)
+}
+
+/// A word as a name.
+pub fn name_of(alloc: Global, word: &[u8]) -> Result<Name, AllocError>
+    requires { IsAscii word.now }
+    ensures { IfOk result (λ name. name ≡ word.now) }
+{
+    match str::from_utf8(word) {
+        Ok(text) => Ok(Name::new(String::from_str(alloc, text)?)),
+        Err(_) => unreachable!(),
+    }
 }
