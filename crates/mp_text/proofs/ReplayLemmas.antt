@@ -1,6 +1,6 @@
 -- The netlist of a text is a replay.
-use Rattle.std.proofs.Common.{◌≡◌, ℕ, ◌+◌, Bool, true, false, cond, List, [], ◌∷◌, Option, Some, None, Result, Ok, Err, length, refl, ap, ◌∙◌, sym}
-use Rattle.std.specs.Prelude.{nat_le, if◌then◌else◌}
+use Rattle.std.proofs.Common.{◌≡◌, ℕ, ◌+◌, Bool, true, false, cond, List, [], ◌∷◌, Option, Some, None, Result, Ok, Err, length, refl, ap, ◌∙◌}
+use Rattle.std.specs.Prelude.{nat_le}
 use Rattle.std.specs.Result.{result_map_both}
 use Rattle.std.specs.List.{filter_map, list_all}
 use Rattle.mp_netlist.specs.declared.edit.Edit.{Edit}
@@ -8,14 +8,13 @@ use Rattle.mp_netlist.specs.declared.edit_error.EditError.{EditError}
 use Rattle.mp_netlist.specs.Circuit.{Circuit, empty_circuit}
 use Rattle.mp_netlist.specs.Edits.{after}
 use Rattle.mp_model.specs.Replays.{replay, go_on}
-use Rattle.mp_text.specs.declared.text_code.TextCode.{TextCode}
 use Rattle.mp_text.specs.declared.text_code.TextCode.TheVariants.{NotAscii, Refused}
 use Rattle.mp_text.specs.declared.text_error.TextError.{TextError}
 use Rattle.mp_text.specs.Lines.{lines_of, is_allowed}
 use Rattle.mp_text.specs.Words.{words_of}
 use Rattle.mp_text.specs.Statements.{Statement, Blank, Unknown, Start, Change, statement_of}
-use Rattle.mp_text.specs.Texts.{text_at, after_lines, after_line, after_statement, next_line, finished}
-use Rattle.mp_text.specs.Laws.{horizon_of, edit_of, statements, horizons_of, edits_of, IsReplayed, IsReplay}
+use Rattle.mp_text.specs.Texts.{text_at, after_lines, after_line, after_statement, next_line}
+use Rattle.mp_text.specs.Laws.{horizon_of, edit_of, statements, IsReplay}
 
 -- the lines state no horizon, and lead from one netlist to the other by their edits
 abbrev LeadsOn : List Statement → Circuit → Circuit → Type 0

@@ -1,5 +1,5 @@
 -- Facts about words that are read in turn.
-use Rattle.std.proofs.Common.{◌≡◌, ℕ, ◌+◌, ◌-◌, ◌<◌, ◌≤◌, List, [], ◌∷◌, ◌++◌, Bor, Result, Ok, Err, append_assoc, length, get_or, take, drop, Bool, not, cond, refl, sym, ap, ◌∙◌}
+use Rattle.std.proofs.Common.{◌≡◌, ℕ, ◌+◌, ◌<◌, ◌≤◌, List, [], ◌∷◌, ◌++◌, Bor, Result, Ok, Err, append_assoc, length, get_or, take, drop, Bool, not, cond, refl, sym, ap, ◌∙◌}
 use Rattle.std.proofs.lemmas.List.{at_drop_more, at_drop_all, append-nil, take-map, drop-map}
 use Rattle.std.specs.List.{before_first, after_first, position_or_len}
 use Rattle.mp_text.specs.declared.text_code.TextCode.{TextCode}

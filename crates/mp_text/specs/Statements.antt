@@ -43,11 +43,15 @@ each_word read (word ∷ words) = do
   items ← each_word read words
   Ok (item ∷ items)
 
--- the horizon of the words behind `horizon`
-unfoldable pub stated_horizon : List (List ℕ) → Result ℕ TextCode
-stated_horizon (word ∷ []) = do
+-- a number of units from 1 to 65,536
+unfoldable pub horizon_word : List ℕ → Result ℕ TextCode
+horizon_word word = do
   horizon ← number_word word
   if nat_le 1 horizon && nat_le horizon 65536 then Ok horizon else Err BadNumber
+
+-- the horizon of the words behind `horizon`
+unfoldable pub stated_horizon : List (List ℕ) → Result ℕ TextCode
+stated_horizon (word ∷ []) = horizon_word word
 stated_horizon _ = Err WordCount
 
 -- the edit of the words behind `wire`

@@ -5,7 +5,7 @@ ghost use Rattle.mp_text.specs.declared.text_code.TextCode.TheVariants.{Refused}
 ghost use Rattle.mp_netlist.specs.Edits.{after};
 ghost use Rattle.mp_text.specs.Reads.{Gives};
 ghost use Rattle.mp_text.specs.Words.{texts, AreAscii};
-ghost use Rattle.mp_text.specs.Statements.{stated_horizon, wire_edit, module_edit, stimulus_edit, Start, Change, statement_of};
+ghost use Rattle.mp_text.specs.Statements.{horizon_word, stated_horizon, wire_edit, module_edit, stimulus_edit, Start, Change, statement_of};
 ghost use Rattle.mp_text.specs.Texts.{after_statement, after_line};
 
 use crate::edit_words::{module_edit, stimulus_edit, wire_edit};
@@ -80,9 +80,18 @@ fn horizon(words: &[&[u8]]) -> Result<u64, TextCode>
     ensures said { result ≡ stated_horizon (texts words.now) }
     ensures range { IfOk result (λ horizon. (1 ≤ horizon) × (horizon ≤ 65536)) }
 {
-    let [word] = words else {
-        return Err(TextCode::WordCount);
-    };
+    match words {
+        [word] => horizon_word(word),
+        _ => Err(TextCode::WordCount),
+    }
+}
+
+/// A word as a number of units from 1 to 65,536.
+#[tactic(auto, unfolding(crate::specs::Statements::horizon_word))]
+fn horizon_word(word: &[u8]) -> Result<u64, TextCode>
+    ensures said { result ≡ horizon_word word.now }
+    ensures range { IfOk result (λ horizon. (1 ≤ horizon) × (horizon ≤ 65536)) }
+{
     let horizon = number_word(word)?;
     if horizon < 1 || horizon > 65_536 {
         return Err(TextCode::BadNumber);

@@ -1,6 +1,5 @@
-use Rattle.std.proofs.Common.{◌≡◌, ◌<◌, ℕ, length, Ok, Err, Some, None, sym, ap, ◌∙◌, inl, inr, rules, arith}
-use Rattle.mp_text.specs.Texts.{text_at, after_lines, after_line, next_line, finished}
-use Rattle.mp_text.specs.Lines.{lines_of}
+use Rattle.std.proofs.Common.{◌≡◌, ◌<◌, length, Ok, Err, sym, ap, ◌∙◌, inl, inr, rules, arith}
+use Rattle.mp_text.specs.Texts.{finished}
 use Rattle.mp_text.proofs.TextLemmas.{text_within, text_over, lines_next, lines_end}
 use Rattle.mp_text.proofs.LineLemmas.{rest_falls}
 use Rattle.mp_text.proofs.reading.read_netlist.Goals as goal

@@ -1,4 +1,4 @@
-use Rattle.std.proofs.Common.{◌≡◌, refl, subst, sym, ◌∙◌, rules, tests, ℕ, List, Bor, Vec, Global, Result, Ok, Err, IfOk, IsAscii, All}
+use Rattle.std.proofs.Common.{◌≡◌, refl, ◌∙◌, rules, tests, ℕ, List, Bor, Vec, Global, Result, Ok, Err, IfOk}
 use Rattle.std.proofs.lemmas.Iterator.Splits.{YieldsList-from_slice_split}
 use Rattle.std.proofs.lemmas.Iterator.Consumers.{map_from_collect, YieldsList-from_filter}
 use Rattle.mp_text.specs.Words.{words_of, is_gap, is_word, statement_part, texts, AreAscii}

@@ -1,4 +1,4 @@
-use Rattle.std.proofs.Common.{sym, inl, inr, ℕ, List, [], Bor, IsAscii, arith, rules}
+use Rattle.std.proofs.Common.{inl, inr, ℕ, List, [], Bor, IsAscii, arith}
 use Rattle.std.proofs.lemmas.Result.{err_from_is_err_and}
 use Rattle.std.proofs.lemmas.List.Elements.{All-get_or}
 use Rattle.mp_text.specs.Statements.{output_word}
