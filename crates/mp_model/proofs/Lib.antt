@@ -1,0 +1,8 @@
+pub mod HistoryLemmas
+pub mod BehaviourLemmas
+pub mod SlotLemmas
+pub mod TrackLemmas
+pub mod EvaluationLemmas
+pub mod TracksLemmas
+pub mod CellsLemmas
+pub mod EndsLemmas
