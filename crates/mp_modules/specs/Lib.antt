@@ -1,0 +1,5 @@
+pub mod Kinds
+pub mod Memories
+pub mod Tables
+pub mod Quiet
+pub mod Laws

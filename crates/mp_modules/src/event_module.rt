@@ -1,0 +1,43 @@
+//! What every event module does.
+
+use crate::memory::Memory;
+
+/// What an event module does, a unit of time after the other.
+pub trait EventModule {
+    ghost use Rattle.std.specs.Prelude.{◌≡◌, ℕ, List};
+    ghost use Rattle.mp_modules.specs.declared.memory.Memory.{Memory};
+
+    /// The state before time 0.
+    ghost start_of: { Self → Memory };
+
+    /// The state at time 0, with these input levels.
+    ghost settled: { Self → List ℕ → Memory };
+
+    /// The state after a unit with these input levels.
+    ghost stepped: { Self → Memory → List ℕ → Memory };
+
+    /// The level of an output before its delay.
+    ghost level_out: { Self → Memory → ℕ → ℕ };
+
+    /// The state before time 0.
+    fn start(&self) -> Memory
+        ensures { result ≡ start_of self.now };
+
+    /// The state at time 0, where the input ports have these levels.
+    fn settle(&self, levels: &[u64]) -> Memory
+        ensures { result ≡ settled self.now levels.now };
+
+    /// The state at a time from 1 on, after that of the unit before, where the input ports have these levels.
+    fn step(&self, memory: Memory, levels: &[u64]) -> Memory
+        ensures { result ≡ stepped self.now memory levels.now };
+
+    /// The level of an output in a state, before the output's delay, and 0 where there is no such port.
+    fn out(&self, memory: Memory, port: usize) -> u64
+        ensures { result ≡ level_out self.now memory port };
+
+    /// After time 0 with some levels, a step with the same levels changes nothing.
+    ghost settled_stays: { (part : Self) (levels : List ℕ) → stepped part (settled part levels) levels ≡ settled part levels };
+
+    /// After a step with some levels, a further step with the same levels changes nothing.
+    ghost stepped_stays: { (part : Self) (memory : Memory) (levels : List ℕ) → stepped part (stepped part memory levels) levels ≡ stepped part memory levels };
+}

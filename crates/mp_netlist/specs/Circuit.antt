@@ -1,0 +1,93 @@
+-- A netlist without where it lies in memory.
+use Rattle.std.specs.Prelude.{◌≡◌, ℕ, true, ◌<◌, ◌≤◌, List, [], Option, Some, None, All, IsSome, IfSome, IsNone, IsTrue, length, slice_index_or, if◌then◌else◌, option_and_then}
+use Rattle.mp_modules.specs.Kinds.{input_count, output_count, has_width, input_width, output_width, are_params}
+use Rattle.mp_netlist.specs.declared.ids.WireId.{WireId}
+use Rattle.mp_netlist.specs.declared.wire_record.WireRecord.{WireRecord}
+use Rattle.mp_netlist.specs.declared.module_record.ModuleRecord.{ModuleRecord}
+use Rattle.mp_netlist.specs.declared.bundle_record.BundleRecord.{BundleRecord}
+use Rattle.mp_netlist.specs.declared.ports.Output.{Output}
+use Rattle.mp_netlist.specs.Slots.{slot_at, number_named}
+use Rattle.mp_netlist.specs.Stimuli.{fits_width, is_stimulus}
+
+-- the horizon, and a slot for each number of a wire, a module and a bundle
+pub record Circuit : Type 0 where
+  pub horizon : ℕ
+  pub wires : List (Option WireRecord)
+  pub modules : List (Option ModuleRecord)
+  pub bundles : List (Option BundleRecord)
+
+abbrev pub empty_circuit : ℕ → Circuit
+empty_circuit horizon = record { horizon = horizon; wires = []; modules = []; bundles = [] }
+
+abbrev pub wire_at : Circuit → ℕ → Option WireRecord
+wire_at n w = slot_at n.wires w
+
+abbrev pub module_at : Circuit → ℕ → Option ModuleRecord
+module_at n m = slot_at n.modules m
+
+abbrev pub wire_named : Circuit → List ℕ → Option ℕ
+wire_named n name = number_named (λ (r : WireRecord). r.name) n.wires name
+
+abbrev pub module_named : Circuit → List ℕ → Option ℕ
+module_named n name = number_named (λ (r : ModuleRecord). r.name) n.modules name
+
+-- the width of what stands in a wire's slot, 0 where nothing does
+abbrev pub width_of : Option WireRecord → ℕ
+width_of None = 0
+width_of (Some wire) = wire.width
+
+-- the width of a module: that of the wire at its first input where its kind has ports of any width, and else 1
+abbrev pub module_width : Circuit → ModuleRecord → ℕ
+module_width n r = if has_width r.kind then width_of (wire_at n (slice_index_or r.inputs 0 (record { 0 = 0 })).0) else 1
+
+-- an output port, without a wire where there is no such port
+abbrev pub output_at : ModuleRecord → ℕ → Output
+output_at r p = slice_index_or r.outputs p (record { wire = None; delay = 1 })
+
+abbrev pub delay_of : ModuleRecord → ℕ → ℕ
+delay_of r p = (output_at r p).delay
+
+abbrev pub IsDelay : ℕ → Type 0
+IsDelay d = (0 < d) × (d < 65536)
+
+-- a wire has a width, a level of this width, and a stimulus of this width below the horizon, if any
+pub record IsWire (horizon : ℕ) (r : WireRecord) : Type 0 where
+  pub wide : 1 ≤ r.width
+  pub narrow : r.width ≤ 64
+  pub level : IsTrue (fits_width r.width r.initial)
+  pub stimulus : IfSome r.stimulus (λ changes. IsTrue (is_stimulus horizon r.width 0 changes))
+
+-- a wire of this width stands under the number
+abbrev pub HasWidth : Circuit → ℕ → ℕ → Type 0
+HasWidth n w width = IsSome (wire_at n w) × (width_of (wire_at n w) ≡ width)
+
+-- a module has the ports and parameters of its kind, with delays, and at wires of its ports' widths
+pub record IsModule (n : Circuit) (r : ModuleRecord) : Type 0 where
+  pub inputs : length r.inputs ≡ input_count r.kind
+  pub outputs : length r.outputs ≡ output_count r.kind
+  pub params : IsTrue (are_params r.kind (module_width n r) r.params)
+  pub delays : All (λ o. IsDelay o.delay) r.outputs
+  pub reads : (p : ℕ) (w : WireId) → p < length r.inputs → HasWidth n (slice_index_or r.inputs p w).0 (input_width r.kind (module_width n r) p)
+  pub drives : (p : ℕ) → IfSome (output_at r p).wire (λ w. HasWidth n w.0 (output_width r.kind (module_width n r) p))
+
+-- the port p of the module m has the wire w as its output
+pub record Drives (n : Circuit) (m p w : ℕ) : Type 0 where
+  pub part : ModuleRecord
+  pub stands : module_at n m ≡ Some part
+  pub output : (output_at part p).wire ≡ Some (record { 0 = w })
+
+-- what is set on the wire from outside
+abbrev pub stimulus_at : Circuit → ℕ → Option (List (ℕ × ℕ))
+stimulus_at n w = option_and_then (λ (r : WireRecord). r.stimulus) (wire_at n w)
+
+-- what holds of every netlist
+pub record IsCircuit (n : Circuit) : Type 0 where
+  pub horizon_low : 1 ≤ n.horizon
+  pub horizon_high : n.horizon ≤ 65536
+  pub wires_ok : (w : ℕ) (r : WireRecord) → wire_at n w ≡ Some r → IsWire n.horizon r
+  pub modules_ok : (m : ℕ) (r : ModuleRecord) → module_at n m ≡ Some r → IsModule n r
+  pub one_port : (m p k q w : ℕ) → Drives n m p w → Drives n k q w → (m ≡ k) × (p ≡ q)
+  pub port_or_stimulus : (m p w : ℕ) → Drives n m p w → stimulus_at n w ≡ None
+  pub wires_few : length n.wires ≤ 8192
+  pub modules_few : length n.modules ≤ 4096
+  pub bundles_few : length n.bundles ≤ 1024

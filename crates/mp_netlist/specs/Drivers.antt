@@ -1,0 +1,58 @@
+-- What drives a wire.
+use Rattle.std.specs.Prelude.{◌≡◌, ℕ, ◌+◌, Bool, true, false, List, [], ◌∷◌, Option, Some, None, ◌==◌, if◌then◌else◌, is_some}
+use Rattle.mp_netlist.specs.declared.ids.WireId.{WireId}
+use Rattle.mp_netlist.specs.declared.ids.ModuleId.{ModuleId}
+use Rattle.mp_netlist.specs.declared.module_record.ModuleRecord.{ModuleRecord}
+use Rattle.mp_netlist.specs.declared.ports.Output.{Output}
+use Rattle.mp_netlist.specs.declared.driver.Driver.{Driver}
+use Rattle.mp_netlist.specs.declared.driver.Driver.TheVariants.{Nothing, Stimulus, Port}
+use Rattle.mp_netlist.specs.Circuit.{Circuit, IsCircuit, Drives, stimulus_at}
+
+abbrev pub is_wire : Option WireId → ℕ → Bool
+is_wire None w = false
+is_wire (Some v) w = v.0 == w
+
+-- the first port, counted from p on, that has the wire as its output
+abbrev pub port_from : ℕ → List Output → ℕ → Option ℕ
+port_from p [] w = None
+port_from p (o ∷ os) w = if is_wire o.wire w then Some p else port_from (p + 1) os w
+
+abbrev pub port_of : Option ModuleRecord → ℕ → Option ℕ
+port_of None w = None
+port_of (Some r) w = port_from 0 r.outputs w
+
+abbrev pub or_later : Option ℕ → ℕ → Driver → Driver
+or_later None m later = later
+or_later (Some p) m later = Port (record { 0 = m }) p
+
+-- the first module, counted from m on, with the port that has the wire as its output, or else another driver
+abbrev pub driver_from : ℕ → List (Option ModuleRecord) → ℕ → Driver → Driver
+driver_from m [] w other = other
+driver_from m (slot ∷ slots) w other = or_later (port_of slot w) m (driver_from (m + 1) slots w other)
+
+-- the driver of a wire that no port drives
+abbrev pub stimulus_driver : Option (List (ℕ × ℕ)) → Driver
+stimulus_driver None = Nothing
+stimulus_driver (Some changes) = Stimulus
+
+-- the module and port that have the wire as output, or the wire's stimulus, or nothing
+unfoldable pub driver : Circuit → ℕ → Driver
+driver n w = driver_from 0 n.modules w (stimulus_driver (stimulus_at n w))
+
+abbrev pub is_port : Driver → Bool
+is_port Nothing = false
+is_port Stimulus = false
+is_port (Port m p) = true
+
+abbrev pub is_nothing : Driver → Bool
+is_nothing Nothing = true
+is_nothing Stimulus = false
+is_nothing (Port m p) = false
+
+-- a port that has a wire as its output is the wire's driver
+abbrev pub FindsPorts : Type 0
+FindsPorts = (n : Circuit) → IsCircuit n → (m p w : ℕ) → Drives n m p w → driver n w ≡ Port (record { 0 = m }) p
+
+-- a port that is a wire's driver has it as its output
+abbrev pub FindsOnlyPorts : Type 0
+FindsOnlyPorts = (n : Circuit) (w p : ℕ) (m : ModuleId) → driver n w ≡ Port m p → Drives n m.0 p w

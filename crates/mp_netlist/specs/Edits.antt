@@ -1,0 +1,149 @@
+-- What an edit does to a netlist.
+use Rattle.std.specs.Prelude.{◌≡◌, ◌⊎◌, IsOk, ℕ, ◌+◌, Bool, true, false, not, ◌&&◌, ◌==◌, List, [], ◌∷◌, ◌++◌, length, map, Option, Some, None, is_none, is_some, unwrap_or, option_map, Result, Ok, Err, nat_lt, nat_le, if◌then◌else◌, slice_index_or, slice_set, option_and_then}
+use Rattle.std.specs.List.{list_all, list_any, filter_map, enumerate_from}
+use Rattle.std.specs.Str.{bytes_eq}
+use Rattle.mp_modules.specs.declared.kind.Kind.{Kind}
+use Rattle.mp_modules.specs.Kinds.{input_count, output_count, has_width, input_width, output_width, are_params}
+use Rattle.mp_netlist.specs.declared.ids.WireId.{WireId}
+use Rattle.mp_netlist.specs.declared.wire_record.WireRecord.{WireRecord}
+use Rattle.mp_netlist.specs.declared.module_record.ModuleRecord.{ModuleRecord}
+use Rattle.mp_netlist.specs.declared.ports.Output.{Output}
+use Rattle.mp_netlist.specs.declared.port_names.OutputName.{OutputName}
+use Rattle.mp_netlist.specs.declared.edit.Edit.{Edit}
+use Rattle.mp_netlist.specs.declared.edit.Edit.TheVariants.{AddWire, AddModule, SetStimulus}
+use Rattle.mp_netlist.specs.declared.edit_error.EditError.{EditError}
+use Rattle.mp_netlist.specs.declared.edit_error.EditError.TheVariants.{NameTaken, BadName, NoSuchWire, BadWidth, BadLevel, BadDelay, WrongPorts, BadParam, WidthMismatch, AlreadyDriven, BadStimulus, TableFull, OutOfMemory}
+use Rattle.mp_netlist.specs.Names.{is_name}
+use Rattle.mp_netlist.specs.Stimuli.{is_stimulus, fits_width}
+use Rattle.mp_netlist.specs.Circuit.{Circuit, wire_at, wire_named, module_named, width_of}
+use Rattle.mp_netlist.specs.Drivers.{driver, is_port, is_nothing}
+
+-- the error of the first check that fails
+abbrev pub first_failing : List (Bool × EditError) → Option EditError
+first_failing [] = None
+first_failing (check ∷ checks) = if check.0 then first_failing checks else Some check.1
+
+abbrev pub is_width : ℕ → Bool
+is_width width = nat_le 1 width && nat_le width 64
+
+abbrev pub is_delay : ℕ → Bool
+is_delay delay = nat_le 1 delay && nat_le delay 65535
+
+-- whether a wire of the name stands
+abbrev pub stands : Circuit → List ℕ → Bool
+stands n name = is_some (wire_named n name)
+
+-- the number of the wire that has the name
+abbrev pub wire_id : Circuit → List ℕ → WireId
+wire_id n name = record { 0 = unwrap_or (wire_named n name) 0 }
+
+-- the width of the wire that has the name
+abbrev pub width_named : Circuit → List ℕ → ℕ
+width_named n name = width_of (option_and_then (wire_at n) (wire_named n name))
+
+-- nothing drives the wire that has the name
+abbrev pub is_undriven : Circuit → List ℕ → Bool
+is_undriven n name = is_nothing (driver n (wire_id n name).0)
+
+-- the names of the wires that the outputs drive
+abbrev pub driven_names : List OutputName → List (List ℕ)
+driven_names outputs = filter_map (λ (o : OutputName). o.wire) outputs
+
+-- no two of the names are the same
+abbrev pub are_distinct : List (List ℕ) → Bool
+are_distinct [] = true
+are_distinct (name ∷ names) = not (list_any (bytes_eq name) names) && are_distinct names
+
+-- the width of a module with these inputs: that of the wire at the first where its kind has ports of any width, and else 1
+abbrev pub new_width : Circuit → Kind → List (List ℕ) → ℕ
+new_width n kind inputs = if has_width kind then width_named n (slice_index_or inputs 0 []) else 1
+
+-- each wire that is to be read has the width of its port
+abbrev pub inputs_fit : Circuit → Kind → ℕ → List (List ℕ) → Bool
+inputs_fit n kind width inputs =
+    list_all (λ (port : ℕ × List ℕ). width_named n port.1 == input_width kind width port.0) (enumerate_from 0 inputs)
+
+abbrev pub output_fits : Circuit → Option (List ℕ) → ℕ → Bool
+output_fits n None width = true
+output_fits n (Some name) width = width_named n name == width
+
+-- each wire that is to be driven has the width of its port
+abbrev pub outputs_fit : Circuit → Kind → ℕ → List OutputName → Bool
+outputs_fit n kind width outputs =
+    list_all (λ (port : ℕ × OutputName). output_fits n port.1.wire (output_width kind width port.0)) (enumerate_from 0 outputs)
+
+abbrev pub wire_refusal : Circuit → List ℕ → ℕ → ℕ → Option EditError
+wire_refusal n name width level = first_failing (
+    (is_name name, BadName)
+    ∷ (is_none (wire_named n name), NameTaken)
+    ∷ (is_width width, BadWidth)
+    ∷ (fits_width width level, BadLevel)
+    ∷ (nat_lt (length n.wires) 8192, TableFull)
+    ∷ [])
+
+abbrev pub module_refusal : Circuit → List ℕ → Kind → List ℕ → List (List ℕ) → List OutputName → Option EditError
+module_refusal n name kind params inputs outputs = first_failing (
+    (is_name name, BadName)
+    ∷ (is_none (module_named n name), NameTaken)
+    ∷ (length inputs == input_count kind && length outputs == output_count kind, WrongPorts)
+    ∷ (list_all (stands n) inputs && list_all (stands n) (driven_names outputs), NoSuchWire)
+    ∷ (inputs_fit n kind (new_width n kind inputs) inputs && outputs_fit n kind (new_width n kind inputs) outputs, WidthMismatch)
+    ∷ (are_params kind (new_width n kind inputs) params, BadParam)
+    ∷ (list_all (λ (o : OutputName). is_delay o.delay) outputs, BadDelay)
+    ∷ (list_all (is_undriven n) (driven_names outputs) && are_distinct (driven_names outputs), AlreadyDriven)
+    ∷ (nat_lt (length n.modules) 4096, TableFull)
+    ∷ [])
+
+abbrev pub stimulus_refusal : Circuit → List ℕ → List (ℕ × ℕ) → Option EditError
+stimulus_refusal n name changes = first_failing (
+    (stands n name, NoSuchWire)
+    ∷ (not (is_port (driver n (wire_id n name).0)), AlreadyDriven)
+    ∷ (is_stimulus n.horizon (width_named n name) 0 changes, BadStimulus)
+    ∷ [])
+
+-- the first check that the edit fails
+unfoldable pub refusal : Circuit → Edit → Option EditError
+refusal n (AddWire name width level) = wire_refusal n name width level
+refusal n (AddModule name kind params inputs outputs) = module_refusal n name kind params inputs outputs
+refusal n (SetStimulus name changes) = stimulus_refusal n name changes
+
+abbrev pub with_new_wire : Circuit → List ℕ → ℕ → ℕ → Circuit
+with_new_wire n name width level =
+    record n { wires = n.wires ++ Some (record { name = name; width = width; initial = level; stimulus = None }) ∷ [] }
+
+-- an output port at the wire that has the name, if any
+abbrev pub output_of : Circuit → OutputName → Output
+output_of n o = record { wire = option_map (wire_id n) o.wire; delay = o.delay }
+
+abbrev pub new_module : Circuit → List ℕ → Kind → List ℕ → List (List ℕ) → List OutputName → ModuleRecord
+new_module n name kind params inputs outputs =
+    record { name = name; kind = kind; params = params; inputs = map (wire_id n) inputs; outputs = map (output_of n) outputs }
+
+abbrev pub with_new_module : Circuit → ModuleRecord → Circuit
+with_new_module n r = record n { modules = n.modules ++ Some r ∷ [] }
+
+abbrev pub with_stimulus : List (ℕ × ℕ) → WireRecord → WireRecord
+with_stimulus changes wire = record wire { stimulus = Some changes }
+
+-- the netlist with another record of a wire
+abbrev pub with_wire : Circuit → ℕ → Option WireRecord → Circuit
+with_wire n w wire = record n { wires = slice_set n.wires w wire }
+
+-- the netlist after an edit that no check refuses
+unfoldable pub edited : Circuit → Edit → Circuit
+edited n (AddWire name width level) = with_new_wire n name width level
+edited n (AddModule name kind params inputs outputs) = with_new_module n (new_module n name kind params inputs outputs)
+edited n (SetStimulus name changes) =
+    with_wire n (wire_id n name).0 (option_map (with_stimulus changes) (wire_at n (wire_id n name).0))
+
+abbrev pub unless : Option EditError → Circuit → Result Circuit EditError
+unless None n = Ok n
+unless (Some error) n = Err error
+
+-- the netlist after the edit, or the first check that fails
+abbrev pub after : Circuit → Edit → Result Circuit EditError
+after n edit = unless (refusal n edit) (edited n edit)
+
+-- an edit was refused: by the first check that fails, or for want of memory where none does
+abbrev pub RefusedBy : Result Circuit EditError → EditError → Type 0
+RefusedBy judged error = (judged ≡ Err error) ⊎ ((error ≡ OutOfMemory) × IsOk judged)

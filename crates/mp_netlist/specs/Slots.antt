@@ -1,0 +1,16 @@
+-- Slots: a place for each number of a thing, empty where there is none now.
+use Rattle.std.specs.Prelude.{ℕ, Bool, false, List, Option, Some, None, slice_index_or}
+use Rattle.std.specs.List.{position_from}
+use Rattle.std.specs.Str.{bytes_eq}
+
+abbrev pub slot_at : {R : Type 0} → List (Option R) → ℕ → Option R
+slot_at slots number = slice_index_or slots number None
+
+-- whether a thing with this name stands in the slot
+abbrev pub has_name : {R : Type 0} → (R → List ℕ) → List ℕ → Option R → Bool
+has_name name_of name None = false
+has_name name_of name (Some thing) = bytes_eq name (name_of thing)
+
+-- the number of the thing that has the name
+unfoldable pub number_named : {R : Type 0} → (R → List ℕ) → List (Option R) → List ℕ → Option ℕ
+number_named name_of slots name = position_from (has_name name_of name) 0 slots

@@ -1,0 +1,67 @@
+//! The times and values of a stimulus.
+ghost use Rattle.std.specs.Prelude.{◌≡◌, ◌≤◌, IfOk};
+ghost use Rattle.mp_netlist.specs.Stimuli.{is_stimulus, fits_width};
+
+use std::alloc::AllocError;
+use std::marker::Model;
+
+/// Pairs of a time and the value from then on.
+#[derive(Drop)]
+pub struct Changes {
+    pairs: Vec<(u64, u64)>,
+}
+
+impl Model for Changes {
+    ghost use Rattle.std.specs.Prelude.{List, ℕ};
+
+    ghost Value = { List (ℕ × ℕ) };
+
+    ghost view = { λ changes. changes.pairs.items };
+}
+
+impl Clone for Changes {
+    ghost is_clone = { λ old new. new ≡ old };
+
+    fn clone(&self) -> Result<Self, AllocError> {
+        Ok(Changes {
+            pairs: Vec::from_slice(*self.pairs.allocator(), self.pairs.as_slice())?,
+        })
+    }
+}
+
+impl Changes {
+    pub fn new(pairs: Vec<(u64, u64)>) -> Self
+        ensures { result ≡ pairs.items }
+    {
+        Changes { pairs }
+    }
+
+    pub fn as_slice(&self) -> &[(u64, u64)]
+        ensures { result.now ≡ self.now }
+    {
+        self.pairs.as_slice()
+    }
+
+    #[tactic(auto, unfolding(crate::specs::Stimuli::is_stimulus))]
+    /// Whether the times rise from above 0 to below the horizon, and each value fits the width.
+    pub(crate) fn is_valid(&self, horizon: u64, width: u64) -> bool
+        ensures { result ≡ is_stimulus horizon width 0 self.now }
+    {
+        let mut before = 0;
+        for &(time, value) in self.pairs.as_slice() {
+            if time <= before || time >= horizon || !fits(value, width) {
+                return false;
+            }
+            before = time;
+        }
+        true
+    }
+}
+
+#[tactic(auto, unfolding(crate::specs::Stimuli::fits_width))]
+/// Whether the value has no bit above the width.
+pub(crate) fn fits(value: u64, width: u64) -> bool
+    ensures { result ≡ fits_width width value }
+{
+    width >= 64 || value < 1 << width
+}

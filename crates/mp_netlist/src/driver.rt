@@ -1,0 +1,10 @@
+//! What drives a wire.
+use crate::ids::ModuleId;
+
+/// What drives a wire: nothing, its stimulus, or an output port of a module.
+#[derive(Clone, Copy, Debug, PartialEq, Eq)]
+pub enum Driver {
+    Nothing,
+    Stimulus,
+    Port(ModuleId, u32),
+}

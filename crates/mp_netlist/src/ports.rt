@@ -1,0 +1,95 @@
+//! The ports of a module that stands: wires by number.
+ghost use Rattle.std.specs.Prelude.{◌≡◌};
+
+use crate::ids::WireId;
+use std::alloc::AllocError;
+use std::marker::Model;
+
+/// The wires that a module reads, by port.
+#[derive(Drop)]
+pub struct Inputs {
+    wires: Vec<WireId>,
+}
+
+impl Model for Inputs {
+    ghost use Rattle.std.specs.Prelude.{List};
+    ghost use Rattle.mp_netlist.specs.declared.ids.WireId.{WireId};
+
+    ghost Value = { List WireId };
+
+    ghost view = { λ inputs. inputs.wires.items };
+}
+
+impl Clone for Inputs {
+    ghost is_clone = { λ old new. new ≡ old };
+
+    fn clone(&self) -> Result<Self, AllocError> {
+        Ok(Inputs {
+            wires: Vec::from_slice(*self.wires.allocator(), self.wires.as_slice())?,
+        })
+    }
+}
+
+impl Inputs {
+    /// Inputs of these wires, the first being that of port 0.
+    pub fn new(wires: Vec<WireId>) -> Self
+        ensures { result ≡ wires.items }
+    {
+        Inputs { wires }
+    }
+
+    /// The wires, by port.
+    pub fn as_slice(&self) -> &[WireId]
+        ensures { result.now ≡ self.now }
+    {
+        self.wires.as_slice()
+    }
+}
+
+/// An output port: the wire that it drives, if any, and its transport delay in units.
+#[derive(Clone, Copy, Debug, PartialEq, Eq)]
+pub struct Output {
+    pub wire: Option<WireId>,
+    pub delay: u32,
+}
+
+/// The outputs of a module, by port.
+#[derive(Drop)]
+pub struct Outputs {
+    ports: Vec<Output>,
+}
+
+impl Model for Outputs {
+    ghost use Rattle.std.specs.Prelude.{List};
+    ghost use Rattle.mp_netlist.specs.declared.ports.Output.{Output};
+
+    ghost Value = { List Output };
+
+    ghost view = { λ outputs. outputs.ports.items };
+}
+
+impl Clone for Outputs {
+    ghost is_clone = { λ old new. new ≡ old };
+
+    fn clone(&self) -> Result<Self, AllocError> {
+        Ok(Outputs {
+            ports: Vec::from_slice(*self.ports.allocator(), self.ports.as_slice())?,
+        })
+    }
+}
+
+impl Outputs {
+    /// These output ports, the first being port 0.
+    pub fn new(ports: Vec<Output>) -> Self
+        ensures { result ≡ ports.items }
+    {
+        Outputs { ports }
+    }
+
+    /// The output ports, in order.
+    pub fn as_slice(&self) -> &[Output]
+        ensures { result.now ≡ self.now }
+    {
+        self.ports.as_slice()
+    }
+}
