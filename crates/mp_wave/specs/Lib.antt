@@ -1,0 +1,4 @@
+pub mod Waveform
+pub mod Building
+pub mod Faults
+pub mod Laws

@@ -1,0 +1,3 @@
+pub mod WaveformLemmas
+pub mod ChangesLemmas
+pub mod FaultsLemmas

@@ -1,0 +1,29 @@
+//! What holds of all waveforms.
+
+ghost use Rattle.mp_wave.specs.Laws.{SameByLevels, HoldsLevel, HasLevels, IsInForm, GrowsByHolding, JoinsChanges};
+
+/// Two waves with the same level at each time are the same wave.
+pub fn same_levels()
+    ensures { SameByLevels }
+{}
+
+/// A level that is held from a time on is the wave's level from then on, and leaves the levels before.
+pub fn held_level()
+    ensures { HoldsLevel }
+{}
+
+/// The wave of a level over time has that level at each time up to its last, and is in form.
+pub fn levels_of_wave()
+    ensures levels { HasLevels }
+    ensures form { IsInForm }
+{}
+
+/// A wave that holds the level of each next time is the wave of that level.
+pub fn held()
+    ensures { GrowsByHolding }
+{}
+
+/// The changes of a level over a span are those of its two parts, one after the other.
+pub fn changes_join()
+    ensures { JoinsChanges }
+{}

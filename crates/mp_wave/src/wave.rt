@@ -1,0 +1,128 @@
+//! The levels of a wire over time.
+
+ghost use Rattle.std.specs.Prelude.{◌≡◌, ◌≢◌, ℕ, ◌<◌, ◌^◌, ◌++◌, ◌∷◌, ◌↔◌, [], length, vec_len, IsOk, IfOk, IfErr, IfNone, IfSome, OnOk, OnErr};
+ghost use Rattle.mp_wave.specs.Waveform.{AreChanges};
+ghost use Rattle.mp_wave.specs.Faults.{IsCause, IsChange, IsFirstFault};
+
+use crate::{WaveCause, WaveError};
+use std::alloc::{AllocError, Global};
+use std::marker::Model;
+
+/// The level of a wire at time 0, and its changes: pairs of a time and the level from then on,
+/// by rising time from 1, each level another than the one before it.
+#[derive(Debug, Drop)]
+pub struct Wave {
+    initial: u64,
+    changes: Vec<(u32, u64)>,
+}
+
+impl Model for Wave {
+    ghost use Rattle.mp_wave.specs.Waveform.{Waveform, IsWaveform};
+
+    ghost Value = { Waveform };
+
+    ghost view = { λ wave. record { initial = wave.initial; changes = wave.changes.items } };
+
+    ghost invariant = { λ wave. IsWaveform (record { initial = wave.initial; changes = wave.changes.items }) };
+}
+
+impl Wave {
+    ghost use Rattle.mp_wave.specs.Waveform.{IsWaveform, level_of, last_from, last_time};
+
+    /// The wave with one level at every time.
+    pub fn constant(alloc: Global, initial: u64) -> Self
+        ensures { result ≡ record { initial = initial; changes = [] } }
+    {
+        Wave {
+            initial,
+            changes: Vec::new(alloc),
+        }
+    }
+
+    /// The wave with this level at time 0 and these changes, or the first pair that is no change.
+    pub fn from_changes(initial: u64, changes: Vec<(u32, u64)>) -> Result<Self, WaveError>
+        requires { vec_len changes < 2 ^ 32 }
+        ensures accepted { IsOk result ↔ IsWaveform (record { initial = initial; changes = changes.items }) }
+        ensures value { IfOk result (λ wave. wave ≡ record { initial = initial; changes = changes.items }) }
+        ensures refused { IfErr result (λ error. IsFirstFault initial changes.items error) }
+    {
+        match find_fault(initial, changes.as_slice()) {
+            Some(error) => Err(error),
+            None => Ok(Wave { initial, changes }),
+        }
+    }
+
+    /// The level at time 0.
+    pub fn initial(&self) -> u64
+        ensures value { result ≡ self.now.initial }
+        ensures form { IsWaveform self.now }
+    {
+        self.initial
+    }
+
+    /// The changes after time 0, by rising time.
+    pub fn changes(&self) -> &[(u32, u64)]
+        ensures value { result.now ≡ self.now.changes }
+        ensures form { IsWaveform self.now }
+    {
+        self.changes.as_slice()
+    }
+
+    /// The level at a time: that of the last change which is not later, or the initial one.
+    pub fn level_at(&self, time: u32) -> u64
+        ensures value { result ≡ level_of self.now time }
+        ensures form { IsWaveform self.now }
+    {
+        let changes = self.changes.as_slice();
+        let count = changes.partition_point(|change| change.0 <= time);
+        if count == 0 {
+            return self.initial;
+        }
+        changes[count - 1].1
+    }
+
+    /// One more change at the end.
+    pub(crate) fn push_change(&mut self, time: u32, level: u64) -> Result<(), AllocError>
+        requires later { last_time 0 self.old.changes < time }
+        requires other { last_from self.old.initial self.old.changes ≢ level }
+        ensures ok { OnOk result (self.new ≡ record { initial = self.old.initial; changes = self.old.changes ++ (time, level) ∷ [] }) }
+        ensures err { OnErr result (self.new ≡ self.old) }
+    {
+        self.changes.push((time, level))?;
+        Ok(())
+    }
+}
+
+// What is wrong with a pair after the one before it.
+fn find_cause(before: (u32, u64), pair: (u32, u64)) -> Option<WaveCause>
+    ensures none { IfNone result (IsChange before pair) }
+    ensures some { IfSome result (λ cause. IsCause cause before pair) }
+{
+    if pair.0 == 0 {
+        Some(WaveCause::Time)
+    } else if pair.0 <= before.0 {
+        Some(WaveCause::Order)
+    } else if pair.1 == before.1 {
+        Some(WaveCause::Same)
+    } else {
+        None
+    }
+}
+
+fn find_fault(initial: u64, pairs: &[(u32, u64)]) -> Option<WaveError>
+    requires { length pairs.now < 2 ^ 32 }
+    ensures none { IfNone result (AreChanges 0 initial pairs.now) }
+    ensures some { IfSome result (λ error. IsFirstFault initial pairs.now error) }
+{
+    let mut before = (0, initial);
+    for (place, pair) in pairs.iter().enumerate() {
+        if let Some(cause) = find_cause(before, *pair) {
+            return Some(WaveError {
+                place: place as u32,
+                cause,
+            });
+        }
+        before = *pair;
+    }
+    None
+}

@@ -1,0 +1,77 @@
+//! A wave that grows at its end.
+
+ghost use Rattle.std.specs.Prelude.{◌≡◌, ◌+◌, ◌-◌, ◌^◌, ◌<◌, ◌≤◌, [], OnOk, OnErr};
+
+use crate::Wave;
+use std::alloc::{AllocError, Global};
+use std::marker::Model;
+
+/// A wave that is made from its levels by rising time, each held until the next.
+#[derive(Debug, Drop)]
+pub struct WaveBuilder {
+    wave: Wave,
+    level: u64,
+    next_time: u32,
+}
+
+impl Model for WaveBuilder {
+    ghost use Rattle.std.specs.Prelude.{◌≡◌};
+    ghost use Rattle.mp_wave.specs.Waveform.{last_from};
+    ghost use Rattle.mp_wave.specs.Building.{Building, IsBuilding};
+
+    ghost Value = { Building };
+
+    ghost view = { λ builder. record { wave = builder.wave; next = builder.next_time } };
+
+    ghost invariant = { λ builder. IsBuilding (record { wave = builder.wave; next = builder.next_time }) × (builder.level ≡ last_from builder.wave.initial builder.wave.changes) };
+}
+
+impl WaveBuilder {
+    ghost use Rattle.mp_wave.specs.Waveform.{IsWaveform, held_from};
+    ghost use Rattle.mp_wave.specs.Building.{IsBuilding};
+
+    /// A wave of which the level at time 0 is known, held so far.
+    pub fn new(alloc: Global, initial: u64) -> Self
+        ensures { result ≡ record { wave = record { initial = initial; changes = [] }; next = 1 } }
+    {
+        WaveBuilder {
+            wave: Wave::constant(alloc, initial),
+            level: initial,
+            next_time: 1,
+        }
+    }
+
+    /// From this time on the level is this one; the level that it has already adds no change.
+    pub fn push_level(&mut self, time: u32, level: u64) -> Result<(), AllocError>
+        requires later { self.old.next ≤ time }
+        requires last { time < 2 ^ 32 - 1 }
+        ensures ok { OnOk result (self.new ≡ record { wave = held_from self.old.wave time level; next = time + 1 }) }
+        ensures err { OnErr result (self.new ≡ self.old) }
+    {
+        if self.level == level {
+            self.next_time = time + 1;
+            return Ok(());
+        }
+        self.wave.push_change(time, level)?;
+        self.level = level;
+        self.next_time = time + 1;
+        Ok(())
+    }
+
+    /// The first time whose level may still be given: 1, and then one after the last that was.
+    pub fn next_time(&self) -> u32
+        ensures value { result ≡ self.now.next }
+        ensures form { IsBuilding self.now }
+    {
+        self.next_time
+    }
+
+    /// The wave so far, its last level held.
+    pub fn finish(self) -> Wave
+        ensures value { result ≡ self.wave }
+        ensures form { IsWaveform result }
+    {
+        let WaveBuilder { wave, .. } = self;
+        wave
+    }
+}
