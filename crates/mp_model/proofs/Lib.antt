@@ -1,1 +1,3 @@
+pub mod HistoryLemmas
+pub mod BehaviourLemmas
 pub mod StreamLemmas

@@ -2,6 +2,7 @@
 #![tactic(auto)]
 
 mod failed;
+pub mod laws;
 mod putting;
 mod read_source;
 mod sink;
