@@ -1,0 +1,2 @@
+pub mod OptionLimits
+pub mod RunFaults
