@@ -15,9 +15,21 @@ fn text_fault(line: u32, code: TextCode) -> RunFault {
 fn faults_are_told(rt: HostRuntime) -> Result<(), AllocError> {
     let refused = TextCode::Refused(EditError::BadDelay);
     for (fault, status, line) in [
-        (text_fault(4, TextCode::WordCount), 1, "mpwb: line 4: 3 WordCount"),
-        (text_fault(0, TextCode::TooLong), 1, "mpwb: line 0: 8 TooLong"),
-        (text_fault(12, refused), 1, "mpwb: line 12: 7 Refused: 8 BadDelay"),
+        (
+            text_fault(4, TextCode::WordCount),
+            1,
+            "mpwb: line 4: 3 WordCount",
+        ),
+        (
+            text_fault(0, TextCode::TooLong),
+            1,
+            "mpwb: line 0: 8 TooLong",
+        ),
+        (
+            text_fault(12, refused),
+            1,
+            "mpwb: line 12: 7 Refused: 8 BadDelay",
+        ),
         (RunFault::BadCount, 1, "mpwb: bad count"),
         (RunFault::ReadFailed, 3, "mpwb: read failed"),
         (RunFault::WriteFailed, 3, "mpwb: write failed"),
