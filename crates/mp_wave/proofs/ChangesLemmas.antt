@@ -89,14 +89,6 @@ levels_of_wave level n t le = level_from-changes_after level 0 n t (omega arith)
 pub form_of_wave : (level : ℕ → ℕ) (n : ℕ) → IsWaveform (wave_upto level n)
 form_of_wave level n = AreChanges-changes_after level 0 n
 
--- its changes are over at its last time
-pub last_time_of_wave : (level : ℕ → ℕ) (n : ℕ) → last_time 0 (wave_upto level n).changes ≤ n
-last_time_of_wave level n = omega (arith, last_time-changes_after level 0 n)
-
--- its last level is that of its last time
-pub last_level_of_wave : (level : ℕ → ℕ) (n : ℕ) → last_from (wave_upto level n).initial (wave_upto level n).changes ≡ level n
-last_level_of_wave level n = last_from-changes_after level 0 n ∙ ap level (zero-add n)
-
 held_or_not : (same : Bool) (initial time new : ℕ) (changes : List (ℕ × ℕ)) → cond same (let wave : Waveform = record { initial = initial; changes = changes } in wave) (record { initial = initial; changes = changes ++ (time, new) ∷ [] }) ≡ record { initial = initial; changes = changes ++ unless_same same time new }
 held_or_not true initial time new changes = ap (λ (xs : List (ℕ × ℕ)). let wave : Waveform = record { initial = initial; changes = xs } in wave) (sym (append-nil changes))
 held_or_not false initial time new changes = refl

@@ -1,5 +1,5 @@
 -- Lemmas on the pairs that a list of changes is refused for.
-use Rattle.std.proofs.Common.{◌≡◌, ℕ, ◌<◌, List, [], ◌∷◌, length, zero, suc, sym, arith}
+use Rattle.std.proofs.Common.{ℕ, ◌<◌, List, [], ◌∷◌, length, zero, suc, sym, arith}
 use Rattle.mp_wave.specs.declared.wave_error.WaveCause.{WaveCause}
 use Rattle.mp_wave.specs.declared.wave_error.WaveCause.TheVariants.{Time, Order, Same}
 use Rattle.mp_wave.specs.declared.wave_error.WaveError.{WaveError}

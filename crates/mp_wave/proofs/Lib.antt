@@ -1,3 +1,4 @@
 pub mod WaveformLemmas
 pub mod ChangesLemmas
 pub mod FaultsLemmas
+pub mod BuildingLemmas

@@ -81,11 +81,12 @@ impl Wave {
         changes[count - 1].1
     }
 
-    /// One more change at the end.
+    /// One more change at the end. Where memory runs out, the wave stays as it was.
     pub(crate) fn push_change(&mut self, time: u32, level: u64) -> Result<(), AllocError>
         requires later { last_time 0 self.old.changes < time }
         requires other { last_from self.old.initial self.old.changes ≢ level }
-        ensures ok { OnOk result (self.new ≡ record { initial = self.old.initial; changes = self.old.changes ++ (time, level) ∷ [] }) }
+        ensures ok { OnOk result (self.new ≡
+            record { initial = self.old.initial; changes = self.old.changes ++ (time, level) ∷ [] }) }
         ensures err { OnErr result (self.new ≡ self.old) }
     {
         self.changes.push((time, level))?;

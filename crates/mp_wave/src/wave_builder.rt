@@ -42,6 +42,7 @@ impl WaveBuilder {
     }
 
     /// From this time on the level is this one; the level that it has already adds no change.
+    /// Where memory runs out, the builder stays as it was.
     pub fn push_level(&mut self, time: u32, level: u64) -> Result<(), AllocError>
         requires later { self.old.next ≤ time }
         requires last { time < 2 ^ 32 - 1 }
