@@ -54,9 +54,14 @@ abbrev pub are_distinct : List (List ℕ) → Bool
 are_distinct [] = true
 are_distinct (name ∷ names) = not (list_any (bytes_eq name) names) && are_distinct names
 
+-- the width of the wire at the first input
+abbrev pub first_width : Circuit → List (List ℕ) → ℕ
+first_width n [] = 0
+first_width n (name ∷ names) = width_named n name
+
 -- the width of a module with these inputs: that of the wire at the first where its kind has ports of any width, and else 1
 abbrev pub new_width : Circuit → Kind → List (List ℕ) → ℕ
-new_width n kind inputs = if has_width kind then width_named n (slice_index_or inputs 0 []) else 1
+new_width n kind inputs = if has_width kind then first_width n inputs else 1
 
 -- each wire that is to be read has the width of its port
 abbrev pub inputs_fit : Circuit → Kind → ℕ → List (List ℕ) → Bool
@@ -72,17 +77,22 @@ abbrev pub outputs_fit : Circuit → Kind → ℕ → List OutputName → Bool
 outputs_fit n kind width outputs =
     list_all (λ (port : ℕ × OutputName). output_fits n port.1.wire (output_width kind width port.0)) (enumerate_from 0 outputs)
 
-abbrev pub wire_refusal : Circuit → List ℕ → ℕ → ℕ → Option EditError
-wire_refusal n name width level = first_failing (
+-- the checks of a new wire, in order
+abbrev pub wire_checks : Circuit → List ℕ → ℕ → ℕ → List (Bool × EditError)
+wire_checks n name width level =
     (is_name name, BadName)
     ∷ (is_none (wire_named n name), NameTaken)
     ∷ (is_width width, BadWidth)
     ∷ (fits_width width level, BadLevel)
     ∷ (nat_lt (length n.wires) 8192, TableFull)
-    ∷ [])
+    ∷ []
 
-abbrev pub module_refusal : Circuit → List ℕ → Kind → List ℕ → List (List ℕ) → List OutputName → Option EditError
-module_refusal n name kind params inputs outputs = first_failing (
+abbrev pub wire_refusal : Circuit → List ℕ → ℕ → ℕ → Option EditError
+wire_refusal n name width level = first_failing (wire_checks n name width level)
+
+-- the checks of a new module, in order
+abbrev pub module_checks : Circuit → List ℕ → Kind → List ℕ → List (List ℕ) → List OutputName → List (Bool × EditError)
+module_checks n name kind params inputs outputs =
     (is_name name, BadName)
     ∷ (is_none (module_named n name), NameTaken)
     ∷ (length inputs == input_count kind && length outputs == output_count kind, WrongPorts)
@@ -92,14 +102,21 @@ module_refusal n name kind params inputs outputs = first_failing (
     ∷ (list_all (λ (o : OutputName). is_delay o.delay) outputs, BadDelay)
     ∷ (list_all (is_undriven n) (driven_names outputs) && are_distinct (driven_names outputs), AlreadyDriven)
     ∷ (nat_lt (length n.modules) 4096, TableFull)
-    ∷ [])
+    ∷ []
 
-abbrev pub stimulus_refusal : Circuit → List ℕ → List (ℕ × ℕ) → Option EditError
-stimulus_refusal n name changes = first_failing (
+abbrev pub module_refusal : Circuit → List ℕ → Kind → List ℕ → List (List ℕ) → List OutputName → Option EditError
+module_refusal n name kind params inputs outputs = first_failing (module_checks n name kind params inputs outputs)
+
+-- the checks of a stimulus, in order
+abbrev pub stimulus_checks : Circuit → List ℕ → List (ℕ × ℕ) → List (Bool × EditError)
+stimulus_checks n name changes =
     (stands n name, NoSuchWire)
     ∷ (not (is_port (driver n (wire_id n name).0)), AlreadyDriven)
     ∷ (is_stimulus n.horizon (width_named n name) 0 changes, BadStimulus)
-    ∷ [])
+    ∷ []
+
+abbrev pub stimulus_refusal : Circuit → List ℕ → List (ℕ × ℕ) → Option EditError
+stimulus_refusal n name changes = first_failing (stimulus_checks n name changes)
 
 -- the first check that the edit fails
 unfoldable pub refusal : Circuit → Edit → Option EditError
@@ -107,9 +124,11 @@ refusal n (AddWire name width level) = wire_refusal n name width level
 refusal n (AddModule name kind params inputs outputs) = module_refusal n name kind params inputs outputs
 refusal n (SetStimulus name changes) = stimulus_refusal n name changes
 
+abbrev pub with_wire_record : Circuit → WireRecord → Circuit
+with_wire_record n r = record n { wires = n.wires ++ Some r ∷ [] }
+
 abbrev pub with_new_wire : Circuit → List ℕ → ℕ → ℕ → Circuit
-with_new_wire n name width level =
-    record n { wires = n.wires ++ Some (record { name = name; width = width; initial = level; stimulus = None }) ∷ [] }
+with_new_wire n name width level = with_wire_record n (record { name = name; width = width; initial = level; stimulus = None })
 
 -- an output port at the wire that has the name, if any
 abbrev pub output_of : Circuit → OutputName → Output

@@ -5,3 +5,6 @@ pub mod Slots
 pub mod Circuit
 pub mod Drivers
 pub mod Edits
+pub mod Records
+pub mod DriverSearch
+pub mod Laws

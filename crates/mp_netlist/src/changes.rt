@@ -1,8 +1,9 @@
 //! The times and values of a stimulus.
-ghost use Rattle.std.specs.Prelude.{◌≡◌, ◌≤◌, IfOk};
+ghost use Rattle.std.specs.Prelude.{◌≡◌, ◌<◌, ◌^◌, All, IfOk};
 ghost use Rattle.mp_netlist.specs.Stimuli.{is_stimulus, fits_width};
 
-use std::alloc::AllocError;
+use crate::stimulus::Stimulus;
+use std::alloc::{AllocError, Global};
 use std::marker::Model;
 
 /// Pairs of a time and the value from then on.
@@ -55,6 +56,18 @@ impl Changes {
             before = time;
         }
         true
+    }
+
+    /// The same times and values, the times being below 2^32.
+    pub(crate) fn to_stimulus(&self, alloc: Global) -> Result<Stimulus, AllocError>
+        requires { All (λ change. change.0 < 2 ^ 32) self.now }
+        ensures { IfOk result (λ stimulus. stimulus ≡ self.now) }
+    {
+        let mut pairs = Vec::new(alloc);
+        for &(time, value) in self.pairs.as_slice() {
+            pairs.push((time as u32, value))?;
+        }
+        Ok(Stimulus::new(pairs))
     }
 }
 

@@ -13,3 +13,18 @@ pub struct ModuleRecord {
     pub inputs: Inputs,
     pub outputs: Outputs,
 }
+
+impl ModuleRecord {
+    ghost use Rattle.std.specs.Prelude.{◌≡◌};
+    ghost use Rattle.mp_netlist.specs.Circuit.{delay_of};
+
+    /// The transport delay of an output port in units, 1 where there is no such port.
+    pub fn delay(&self, port: u32) -> u32
+        ensures { result ≡ delay_of self.now port }
+    {
+        match self.outputs.as_slice().get(port as usize) {
+            Some(output) => output.delay,
+            None => 1,
+        }
+    }
+}

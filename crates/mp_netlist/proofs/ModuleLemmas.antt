@@ -1,0 +1,158 @@
+-- A new module that passes the checks of an edit is one of the netlist.
+use Rattle.std.proofs.Common.{◌≡◌, ℕ, zero, suc, ◌+◌, ◌<◌, ◌≤◌, Bool, true, false, ◌==◌, ◌&&◌, cond, List, [], ◌∷◌, length, map, get_or, Option, Some, None, option_map, refl, sym, ap, subst, ◌∙◌, arith, ◌⊎◌, inl, inr}
+use Rattle.std.specs.Bool.{IsTrue}
+use Rattle.std.specs.List.{list_all, enumerate_from, All}
+use Rattle.std.specs.Option.{IfSome, is_some}
+use Rattle.std.specs.Prelude.{slice_index_or, nat_le}
+use Rattle.std.proofs.lemmas.Bool.{and_parts, eqb-true, leb-true, cases_lt}
+use Rattle.std.proofs.lemmas.List.{get_or_past, get_or_default, get_or-map, length-map}
+use Rattle.std.proofs.lemmas.List.FromFn.{get_or-enumerate_from, length-enumerate_from}
+use Rattle.std.proofs.lemmas.List.Recursion.{and_at}
+use Rattle.mp_modules.specs.declared.kind.Kind.{Kind}
+use Rattle.mp_modules.specs.Kinds.{input_count, output_count, has_width, input_width, output_width, are_params}
+use Rattle.mp_netlist.specs.declared.ids.WireId.{WireId}
+use Rattle.mp_netlist.specs.declared.wire_record.WireRecord.{WireRecord}
+use Rattle.mp_netlist.specs.declared.module_record.ModuleRecord.{ModuleRecord}
+use Rattle.mp_netlist.specs.declared.ports.Output.{Output}
+use Rattle.mp_netlist.specs.declared.port_names.OutputName.{OutputName}
+use Rattle.mp_netlist.specs.Circuit.{Circuit, IsCircuit, IsModule, IsDelay, HasWidth, wire_at, width_of, module_width, output_at}
+use Rattle.mp_netlist.specs.Drivers.{driver, is_nothing}
+use Rattle.mp_netlist.specs.Edits.{stands, wire_id, width_named, is_undriven, is_delay, driven_names, are_distinct, first_width, new_width, inputs_fit, output_fits, outputs_fit, output_of, new_module}
+use Rattle.mp_netlist.proofs.NameLemmas.{Stands, stands_from, one_wire}
+use Rattle.mp_netlist.proofs.CircuitLemmas.{some_input}
+use Rattle.mp_netlist.proofs.PortLemmas.{no_name, driven_pass, distinct_ports}
+
+-- a wire that a name finds has the width that the name stands for
+stands_wide : (n : Circuit) (name : List ℕ) → Stands n name → (width : ℕ) → width_named n name ≡ width → HasWidth n (wire_id n name).0 width
+stands_wide n name wire width same = (ap is_some wire.at, ap width_of wire.at ∙ sym wire.width ∙ same)
+
+-- each place of a list that passes a test passes it, counted
+counted_pass : {X : Type 0} (test : ℕ × X → Bool) (xs : List X) (d : X) (k : ℕ) → list_all test (enumerate_from 0 xs) ≡ true → k < length xs → test (k, get_or xs k d) ≡ true
+counted_pass {X = X} test xs d k all here =
+    let long : k < length (enumerate_from 0 xs) = omega (arith, length-enumerate_from 0 xs) in
+    let at = and_at (list_all test) test refl (λ _ _. refl) (enumerate_from 0 xs) k (0, d) long all in
+    subst (λ (pair : ℕ × X). test pair ≡ true) (get_or-enumerate_from 0 xs k (0, d) here ∙ ap (λ i. (i, get_or xs k d)) (omega arith)) at
+
+-- the ports of an edit that passes its checks
+pub record ArePorts (n : Circuit) (kind : Kind) (inputs : List (List ℕ)) (outputs : List OutputName) : Type 0 where
+  pub inputs_count : length inputs ≡ input_count kind
+  pub outputs_count : length outputs ≡ output_count kind
+  pub inputs_stand : list_all (stands n) inputs ≡ true
+  pub outputs_stand : list_all (stands n) (driven_names outputs) ≡ true
+  pub inputs_wide : inputs_fit n kind (new_width n kind inputs) inputs ≡ true
+  pub outputs_wide : outputs_fit n kind (new_width n kind inputs) outputs ≡ true
+  pub delays : list_all (λ (o : OutputName). is_delay o.delay) outputs ≡ true
+  pub undriven : list_all (is_undriven n) (driven_names outputs) ≡ true
+  pub distinct : are_distinct (driven_names outputs) ≡ true
+
+module _ (n : Circuit) (name : List ℕ) (kind : Kind) (params : List ℕ) (inputs : List (List ℕ)) (outputs : List OutputName) (ports : ArePorts n kind inputs outputs) where
+  abbrev new : ModuleRecord
+  new = new_module n name kind params inputs outputs
+
+  input_stands : (p : ℕ) → p < length inputs → Stands n (get_or inputs p [])
+  input_stands p here = stands_from n _ (and_at (list_all (stands n)) (stands n) refl (λ _ _. refl) inputs p [] here ports.inputs_stand)
+
+  first_is : (names : List (List ℕ)) → 0 < length names → first_width n names ≡ width_named n (get_or names 0 [])
+  first_is [] some = absurd (omega arith)
+  first_is (first ∷ rest) some = refl
+
+  width_is : module_width n new ≡ new_width n kind inputs
+  width_is =
+      let some : 0 < length inputs = omega (arith, ports.inputs_count, some_input kind) in
+      let wire = input_stands 0 some in
+      let here = ap (λ (w : WireId). w.0) (get_or-map (wire_id n) inputs 0 [] (record { 0 = 0 }) some) in
+      let same = ap (λ w. width_of (wire_at n w)) here ∙ ap width_of wire.at ∙ sym wire.width ∙ sym (first_is inputs some) in
+      ap (λ width. cond (has_width kind) width 1) same
+
+  reads : (p : ℕ) (w : WireId) → p < length (map (wire_id n) inputs) → HasWidth n (slice_index_or (map (wire_id n) inputs) p w).0 (input_width kind (module_width n new) p)
+  reads p w long =
+      let here : p < length inputs = omega (arith, length-map inputs (wire_id n)) in
+      let fits = eqb-true _ _ (counted_pass (λ (port : ℕ × List ℕ). width_named n port.1 == input_width kind (new_width n kind inputs) port.0) inputs [] p ports.inputs_wide here) in
+      let at = get_or-map (wire_id n) inputs p [] w here in
+      let wide = stands_wide n _ (input_stands p here) _ (fits ∙ ap (λ width. input_width kind width p) (sym width_is)) in
+      subst (λ (v : WireId). HasWidth n v.0 (input_width kind (module_width n new) p)) (sym at) wide
+
+  -- an output port of the new module is that of the edit
+  port_is : (p : ℕ) → output_at new p ≡ output_of n (get_or outputs p no_name)
+  port_is p = by (cases_lt p (length outputs))
+    where
+      by : (p < length outputs) ⊎ (length outputs ≤ p) → output_at new p ≡ output_of n (get_or outputs p no_name)
+      by (inl here) = get_or-map (output_of n) outputs p no_name (record { wire = None; delay = 1 }) here
+      by (inr past) =
+          let long : length (map (output_of n) outputs) ≤ p = omega (arith, length-map outputs (output_of n)) in
+          get_or_past (map (output_of n) outputs) p (record { wire = None; delay = 1 }) long ∙ sym (ap (output_of n) (get_or_past outputs p no_name past))
+
+  wire_is : (p : ℕ) → (output_at new p).wire ≡ option_map (wire_id n) (get_or outputs p no_name).wire
+  wire_is p = ap (λ (o : Output). o.wire) (port_is p)
+
+  -- a port that names a wire is within the ports
+  named_within : (p : ℕ) (q : List ℕ) → (get_or outputs p no_name).wire ≡ Some q → p < length outputs
+  named_within p q at = by (cases_lt p (length outputs))
+    where
+      by : (p < length outputs) ⊎ (length outputs ≤ p) → p < length outputs
+      by (inl here) = here
+      by (inr past) = let none = sym (ap (λ (o : OutputName). o.wire) (get_or_past outputs p no_name past)) ∙ at in cc
+
+  port_stands : (p : ℕ) (q : List ℕ) → (get_or outputs p no_name).wire ≡ Some q → Stands n q
+  port_stands p q at = stands_from n q (driven_pass (stands n) outputs p q ports.outputs_stand at)
+
+  port_wide : (p : ℕ) (q : List ℕ) → (get_or outputs p no_name).wire ≡ Some q → width_named n q ≡ output_width kind (module_width n new) p
+  port_wide p q at =
+      let fits = counted_pass (λ (port : ℕ × OutputName). output_fits n port.1.wire (output_width kind (new_width n kind inputs) port.0)) outputs no_name p ports.outputs_wide (named_within p q at) in
+      let here = subst (λ wire. output_fits n wire (output_width kind (new_width n kind inputs) p) ≡ true) at fits in
+      eqb-true _ _ here ∙ ap (λ width. output_width kind width p) (sym width_is)
+
+  drives : (p : ℕ) → IfSome (output_at new p).wire (λ w. HasWidth n w.0 (output_width kind (module_width n new) p))
+  drives p = subst (λ wire. IfSome wire (λ (w : WireId). HasWidth n w.0 (output_width kind (module_width n new) p))) (sym (wire_is p)) (by (get_or outputs p no_name).wire refl)
+    where
+      by : (wire : Option (List ℕ)) → (get_or outputs p no_name).wire ≡ wire → IfSome (option_map (wire_id n) wire) (λ (w : WireId). HasWidth n w.0 (output_width kind (module_width n new) p))
+      by None at = tt
+      by (Some q) at = stands_wide n q (port_stands p q at) _ (port_wide p q at)
+
+  delay_at : (delay : ℕ) → is_delay delay ≡ true → IsDelay delay
+  delay_at delay is =
+      let parts = and_parts (nat_le 1 delay) (nat_le delay 65535) is in
+      let low = leb-true 1 delay parts.0 in
+      let high = leb-true delay 65535 parts.1 in
+      (omega arith, omega arith)
+
+  delays : All (λ (o : Output). IsDelay o.delay) (map (output_of n) outputs)
+  delays k d long =
+      let here : k < length outputs = omega (arith, length-map outputs (output_of n)) in
+      let is = and_at (list_all (λ (o : OutputName). is_delay o.delay)) (λ (o : OutputName). is_delay o.delay) refl (λ _ _. refl) outputs k no_name here ports.delays in
+      subst (λ (o : Output). IsDelay o.delay) (sym (get_or-map (output_of n) outputs k no_name d here)) (delay_at _ is)
+
+  pub IsModule-new : are_params kind (new_width n kind inputs) params ≡ true → IsModule n new
+  IsModule-new ranged = record {
+    inputs = length-map inputs (wire_id n) ∙ ports.inputs_count;
+    outputs = length-map outputs (output_of n) ∙ ports.outputs_count;
+    params = ap (λ width. are_params kind width params) width_is ∙ ranged;
+    delays = delays;
+    reads = reads;
+    drives = drives;
+  }
+
+  -- the name of the wire that a port of the new module has
+  pub record Named (p w : ℕ) : Type 0 where
+    pub called : List ℕ
+    pub port : (get_or outputs p no_name).wire ≡ Some called
+    pub id : (wire_id n called).0 ≡ w
+
+  port_named : (p w : ℕ) → (output_at new p).wire ≡ Some (record { 0 = w }) → Named p w
+  port_named p w at = by (get_or outputs p no_name).wire refl (sym (wire_is p) ∙ at)
+    where
+      by : (wire : Option (List ℕ)) → (get_or outputs p no_name).wire ≡ wire → option_map (wire_id n) wire ≡ Some (record { 0 = w }) → Named p w
+      by None port is = cc
+      by (Some q) port is = let same : wire_id n q ≡ record { 0 = w } = cc in record { called = q; port = port; id = ap (λ (v : WireId). v.0) same }
+
+  pub new_undriven : (p w : ℕ) → (output_at new p).wire ≡ Some (record { 0 = w }) → is_nothing (driver n w) ≡ true
+  new_undriven p w at =
+      let found = port_named p w at in
+      subst (λ v. is_nothing (driver n v) ≡ true) found.id (driven_pass (is_undriven n) outputs p found.called ports.undriven found.port)
+
+  pub new_distinct : (p q w : ℕ) → (output_at new p).wire ≡ Some (record { 0 = w }) → (output_at new q).wire ≡ Some (record { 0 = w }) → p ≡ q
+  new_distinct p q w first second =
+      let a = port_named p w first in
+      let b = port_named q w second in
+      let same = one_wire n a.called b.called (port_stands p a.called a.port) (port_stands q b.called b.port) (a.id ∙ sym b.id) in
+      distinct_ports outputs p q a.called ports.distinct a.port (b.port ∙ ap Some (sym same))

@@ -1,0 +1,200 @@
+-- The look-up of a name among slots, and what each change of a slot does to the table of names.
+use Rattle.std.proofs.Common.{◌≡◌, ℕ, zero, suc, ◌+◌, ◌-◌, ◌<◌, ◌≤◌, ◌↔◌, Bool, true, false, cond, List, [], ◌∷◌, ◌++◌, length, get_or, Option, None, Some, MatchOption, ◌⊎◌, inl, inr, refl, sym, ap, subst, ◌∙◌, arith, true≢false, String, string_bytes, length-append}
+use Rattle.std.proofs.Math.ListN.{set}
+use Rattle.std.specs.Map.{lookup}
+use Rattle.std.specs.List.{AllZip, position_from}
+use Rattle.std.specs.Str.{bytes_eq}
+use Rattle.std.proofs.lemmas.List.{get_or_past, get_or_push, get_or_append_left, get_or-set_same, get_or-set_other}
+use Rattle.std.proofs.lemmas.Slice.Eq.{bytes_eq-Decides}
+use Rattle.std.proofs.lemmas.Bool.{cases_lt, cases_eq}
+use Rattle.mp_netlist.specs.Slots.{has_name, number_named}
+use Rattle.mp_netlist.specs.Records.{Finds, IsTable}
+
+module _ {X : Type 0} (p : X → Bool) (d : X) (none : p d ≡ false) where
+  -- what the first place that passes is, or that none passes
+  abbrev IsFirst : ℕ → List X → Option ℕ → Type 0
+  IsFirst n xs found = MatchOption found ((i : ℕ) → p (get_or xs i d) ≡ false) (λ k. (n ≤ k) × (p (get_or xs (k - n) d) ≡ true))
+
+  IsFirst-later : (n : ℕ) (x : X) (xs : List X) (r : Option ℕ) → p x ≡ false → IsFirst (n + 1) xs r → IsFirst n (x ∷ xs) r
+  IsFirst-later n x xs None e all = elim [ zero ↦ e | suc i ↦ all i ]
+  IsFirst-later n x xs (Some k) e at =
+      let next : k - n ≡ suc (k - (n + 1)) = omega arith in
+      (omega arith, rw next at.1)
+
+  IsFirst-cons : (n : ℕ) (x : X) (xs : List X) (b : Bool) → p x ≡ b → (r : Option ℕ) → IsFirst (n + 1) xs r → IsFirst n (x ∷ xs) (cond b (Some n) r)
+  IsFirst-cons n x xs true e r first = let here : n - n ≡ 0 = omega arith in (omega arith, rw here e)
+  IsFirst-cons n x xs false e r first = IsFirst-later n x xs r e first
+
+  pub first_place : (n : ℕ) (xs : List X) → IsFirst n xs (position_from p n xs)
+  first_place n [] = λ i. none
+  first_place n (x ∷ xs) = IsFirst-cons n x xs (p x) refl (position_from p (n + 1) xs) (first_place (n + 1) xs)
+
+  -- the place that a search finds passes
+  pub place_passes : (xs : List X) (k : ℕ) → position_from p 0 xs ≡ Some k → p (get_or xs k d) ≡ true
+  place_passes xs k is = by (position_from p 0 xs) is (first_place 0 xs)
+    where
+      by : (r : Option ℕ) → r ≡ Some k → IsFirst 0 xs r → p (get_or xs k d) ≡ true
+      by None e first = cc
+      by (Some j) e first =
+          let same : j - 0 ≡ k = (let this : j ≡ k = cc in omega arith) in
+          subst (λ i. p (get_or xs i d) ≡ true) same first.1
+
+  -- a look-up that gives exactly the places that pass is the search
+  pub search_from_lookup : (xs : List X) (found : Option ℕ) → ((i : ℕ) → (found ≡ Some i) ↔ (p (get_or xs i d) ≡ true)) → found ≡ position_from p 0 xs
+  search_from_lookup xs found same = by found (position_from p 0 xs) same (first_place 0 xs)
+    where
+      by : (f r : Option ℕ) → ((i : ℕ) → (f ≡ Some i) ↔ (p (get_or xs i d) ≡ true)) → IsFirst 0 xs r → f ≡ r
+      by None None same first = refl
+      by (Some i) None same first = let yes = (same i).0 refl in let no = first i in cc
+      by f (Some k) same first = (same k).1 (let e : k - 0 ≡ k = omega arith in subst (λ j. p (get_or xs j d) ≡ true) e first.1)
+
+-- which slot is at a place, after one goes last
+abbrev pub PushedAt : {R : Type 0} → List (Option R) → Option R → ℕ → Type 0
+PushedAt xs x n =
+    ((n < length xs) × (get_or (xs ++ x ∷ []) n None ≡ get_or xs n None))
+    ⊎ (((n ≡ length xs) × (get_or (xs ++ x ∷ []) n None ≡ x)) ⊎ ((length xs ≤ n) × (get_or (xs ++ x ∷ []) n None ≡ None)))
+
+pub pushed_at : {R : Type 0} (xs : List (Option R)) (x : Option R) (n : ℕ) → PushedAt xs x n
+pushed_at xs x n = by (cases_lt n (length xs)) (cases_eq n (length xs))
+  where
+    by : (n < length xs) ⊎ (length xs ≤ n) → (n ≡ length xs) ⊎ (n ≡ length xs → ⊥) → PushedAt xs x n
+    by (inl h) e = inl (h, get_or_append_left xs _ None n h)
+    by (inr h) (inl e) = inr (inl (e, get_or_push xs x None n (sym e)))
+    by (inr h) (inr e) =
+        let long : length (xs ++ x ∷ []) ≤ n = rw length-append (omega (arith, e)) in
+        inr (inr (h, get_or_past _ n None long))
+
+pub same_name : (a b : List ℕ) → bytes_eq a b ≡ true → a ≡ b
+same_name a b = (bytes_eq-Decides a b).0
+
+pub equal_name : (a b : List ℕ) → a ≡ b → bytes_eq a b ≡ true
+equal_name a b = (bytes_eq-Decides a b).1
+
+-- a map whose entries are clones of another's has the same look-ups
+pub lookup-clone : {X Y : Type 0} (es ds : List (String Y × X)) (bs : List ℕ) → AllZip (λ p q. (string_bytes q.0 ≡ string_bytes p.0) × (q.1 ≡ p.1)) es ds
+    → lookup (λ k. bytes_eq bs (string_bytes k)) ds ≡ lookup (λ k. bytes_eq bs (string_bytes k)) es
+lookup-clone [] [] bs all = refl
+lookup-clone [] (d ∷ ds) bs all = absurd all
+lookup-clone (e ∷ es) [] bs all = absurd all
+lookup-clone (e ∷ es) (d ∷ ds) bs all = rw (all.0.0, all.0.1, lookup-clone es ds bs all.1) refl
+
+module _ {R : Type 0} (name_of : R → List ℕ) where
+  -- what has a name is not an empty slot
+  nobody : (q : List ℕ) {A : Type 0} → (slot : Option R) → slot ≡ None → has_name name_of q slot ≡ true → A
+  nobody q slot e h = absurd (true≢false (sym h ∙ ap (has_name name_of q) e))
+
+  -- a place where a thing stands is within the slots
+  pub standing : (name : List ℕ) (slots : List (Option R)) (number : ℕ) → has_name name_of name (get_or slots number None) ≡ true → number < length slots
+  standing name slots number has = by (cases_lt number (length slots))
+    where
+      by : (number < length slots) ⊎ (length slots ≤ number) → number < length slots
+      by (inl h) = h
+      by (inr h) = let e : has_name name_of name None ≡ true = rw get_or_past at has in cc
+
+  -- one thing has one name
+  pub one_name : (a b : List ℕ) (slot : Option R) → has_name name_of a slot ≡ true → has_name name_of b slot ≡ true → a ≡ b
+  one_name a b None has other = absurd (true≢false (sym has))
+  one_name a b (Some thing) has other = same_name a (name_of thing) has ∙ sym (same_name b (name_of thing) other)
+
+  -- the thing that a look-up finds has the name
+  pub named_has : (slots : List (Option R)) (name : List ℕ) (number : ℕ) → number_named name_of slots name ≡ Some number → has_name name_of name (get_or slots number None) ≡ true
+  unfolding number_named
+  named_has slots name number = place_passes (has_name name_of name) None refl slots number
+
+  pub named_within : (slots : List (Option R)) (name : List ℕ) (number : ℕ) → number_named name_of slots name ≡ Some number → number < length slots
+  named_within slots name number found = standing name slots number (named_has slots name number found)
+
+  -- the table answers the look-up of the definition
+  pub looked_up : (slots : List (Option R)) (look : List ℕ → Option ℕ) → IsTable name_of slots look → (name : List ℕ) → look name ≡ number_named name_of slots name
+  unfolding number_named
+  looked_up slots look table name = search_from_lookup (has_name name_of name) None refl slots (look name) (table name)
+
+  Finds-push : (name q : List ℕ) (slots : List (Option R)) (thing : R) (look : List ℕ → Option ℕ) (number : ℕ) → name_of thing ≡ name → look name ≡ None
+      → ((n : ℕ) → Finds name_of slots q (look q) n) → Finds name_of (slots ++ Some thing ∷ []) q (cond (bytes_eq name q) (Some (length slots)) (look q)) number
+  Finds-push name q slots thing look number same free old = by (bytes_eq name q) refl (pushed_at slots (Some thing) number)
+    where
+      by : (b : Bool) → bytes_eq name q ≡ b → PushedAt slots (Some thing) number
+          → Finds name_of (slots ++ Some thing ∷ []) q (cond b (Some (length slots)) (look q)) number
+      by true e at =
+          let is : q ≡ name = sym (same_name name q e) in
+          let none : look q ≡ None = ap look is ∙ free in (
+            λ h. let here : length slots ≡ number = cc in
+                ap (has_name name_of q) (get_or_push slots (Some thing) None number here) ∙ equal_name q (name_of thing) (is ∙ sym same),
+            λ h. elim at [
+              | inl w ↦ let was = (old number).1 (sym (ap (has_name name_of q) w.1) ∙ h) in cc
+              | inr (inl w) ↦ ap Some (sym w.0)
+              | inr (inr w) ↦ nobody q _ w.1 h
+            ],
+          )
+      by false e at = (
+        λ h. let was = (old number).0 h in
+            ap (has_name name_of q) (get_or_append_left slots _ None number (standing q slots number was)) ∙ was,
+        λ h. elim at [
+          | inl w ↦ (old number).1 (sym (ap (has_name name_of q) w.1) ∙ h)
+          | inr (inl w) ↦
+              let is : q ≡ name_of thing = same_name q (name_of thing) (sym (ap (has_name name_of q) w.1) ∙ h) in
+              absurd (true≢false (sym (equal_name name q (sym (is ∙ same))) ∙ e))
+          | inr (inr w) ↦ nobody q _ w.1 h
+        ],
+      )
+
+  Finds-clear : (name q : List ℕ) (slots : List (Option R)) (look : List ℕ → Option ℕ) (i number : ℕ) → look name ≡ Some i
+      → IsTable name_of slots look → Finds name_of (set slots i None) q (cond (bytes_eq name q) None (look q)) number
+  Finds-clear name q slots look i number found old = by (bytes_eq name q) refl (cases_eq number i)
+    where
+      there : has_name name_of name (get_or slots i None) ≡ true
+      there = (old name i).0 found
+
+      within : i < length slots
+      within = standing name slots i there
+
+      by : (b : Bool) → bytes_eq name q ≡ b → (number ≡ i) ⊎ (number ≡ i → ⊥) → Finds name_of (set slots i None) q (cond b None (look q)) number
+      by true e (inl here) = (λ h. cc, λ h. nobody q _ (ap (λ n. get_or (set slots i None) n None) here ∙ get_or-set_same slots i None None within) h)
+      by true e (inr other) =
+          let is : q ≡ name = sym (same_name name q e) in (
+            λ h. cc,
+            λ h. let was = (old q number).1 (sym (ap (has_name name_of q) (get_or-set_other slots i number None None other)) ∙ h) in
+                let first : look q ≡ Some i = ap look is ∙ found in
+                let same : number ≡ i = cc in
+                absurd (other same),
+          )
+      by false e (inl here) = (
+        λ h. let was = ap (λ n. has_name name_of q (get_or slots n None)) (sym here) ∙ (old q number).0 h in
+            absurd (true≢false (sym (equal_name name q (one_name name q (get_or slots i None) there was)) ∙ e)),
+        λ h. nobody q _ (ap (λ n. get_or (set slots i None) n None) here ∙ get_or-set_same slots i None None within) h,
+      )
+      by false e (inr other) =
+          let same = ap (has_name name_of q) (get_or-set_other slots i number None None other) in
+          (λ h. same ∙ (old q number).0 h, λ h. (old q number).1 (sym same ∙ h))
+
+  Finds-rewrite : (q : List ℕ) (slots : List (Option R)) (found : Option ℕ) (i : ℕ) (slot : Option R) (number : ℕ)
+      → i < length slots → has_name name_of q slot ≡ has_name name_of q (get_or slots i None) → Finds name_of slots q found number → Finds name_of (set slots i slot) q found number
+  Finds-rewrite q slots found i slot number within same old = by (cases_eq number i)
+    where
+      by : (number ≡ i) ⊎ (number ≡ i → ⊥) → Finds name_of (set slots i slot) q found number
+      by (inl here) =
+          let at : has_name name_of q (get_or (set slots i slot) number None) ≡ has_name name_of q (get_or slots number None)
+          = ap (λ n. has_name name_of q (get_or (set slots i slot) n None)) here ∙ ap (has_name name_of q) (get_or-set_same slots i slot None within) ∙ same ∙ ap (λ n. has_name name_of q (get_or slots n None)) (sym here) in
+          (λ h. at ∙ old.0 h, λ h. old.1 (sym at ∙ h))
+      by (inr other) =
+          let at = ap (has_name name_of q) (get_or-set_other slots i number slot None other) in
+          (λ h. at ∙ old.0 h, λ h. old.1 (sym at ∙ h))
+
+  -- a thing of a new name goes last, and the table gets the name
+  pub IsTable-push : (name : List ℕ) (slots : List (Option R)) (thing : R) (look new : List ℕ → Option ℕ) → name_of thing ≡ name → look name ≡ None
+      → IsTable name_of slots look → ((q : List ℕ) → new q ≡ cond (bytes_eq name q) (Some (length slots)) (look q)) → IsTable name_of (slots ++ Some thing ∷ []) new
+  IsTable-push name slots thing look new same free table is q number = rw (is q) (Finds-push name q slots thing look number same free (table q))
+
+  -- the thing of a name goes, and the name with it
+  pub IsTable-clear : (name : List ℕ) (slots : List (Option R)) (look new : List ℕ → Option ℕ) (i : ℕ) → look name ≡ Some i
+      → IsTable name_of slots look → ((q : List ℕ) → new q ≡ cond (bytes_eq name q) None (look q)) → IsTable name_of (set slots i None) new
+  IsTable-clear name slots look new i found table is q number = rw (is q) (Finds-clear name q slots look i number found table)
+
+  -- a thing is written over by one of its name
+  pub IsTable-rewrite : (slots : List (Option R)) (look : List ℕ → Option ℕ) (i : ℕ) (slot : Option R) → i < length slots
+      → ((q : List ℕ) → has_name name_of q slot ≡ has_name name_of q (get_or slots i None)) → IsTable name_of slots look → IsTable name_of (set slots i slot) look
+  IsTable-rewrite slots look i slot within same table q number = Finds-rewrite q slots (look q) i slot number within (same q) (table q number)
+
+  -- a table with the same look-ups
+  pub IsTable-copy : (slots : List (Option R)) (look new : List ℕ → Option ℕ) → ((q : List ℕ) → new q ≡ look q) → IsTable name_of slots look → IsTable name_of slots new
+  IsTable-copy slots look new is table q number = rw (is q) (table q number)

@@ -1,0 +1,5 @@
+use Rattle.mp_netlist.proofs.EditLemmas.{edits_keep_netlists}
+use Rattle.mp_netlist.proofs.laws.edits_keep_netlists.Goals as goal
+
+pub returns : goal.returns
+returns c = edits_keep_netlists

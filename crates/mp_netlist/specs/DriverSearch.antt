@@ -1,0 +1,8 @@
+-- What the search for a driver needs.
+use Rattle.std.specs.Prelude.{◌<◌, ◌^◌, length, Option, Some, None}
+use Rattle.mp_netlist.specs.declared.module_record.ModuleRecord.{ModuleRecord}
+
+-- the ports of the module that stands in the slot can be numbered
+abbrev pub HasFewPorts : Option ModuleRecord → Type 0
+HasFewPorts None = Unit {0}
+HasFewPorts (Some r) = length r.outputs < 2 ^ 32

@@ -1,0 +1,145 @@
+//! The netlist: its records in slots, and the tables of their names.
+mod apply;
+mod check;
+mod drivers;
+mod ports;
+
+use crate::bundle_record::BundleRecord;
+use crate::ids::{ModuleId, WireId};
+use crate::module_record::ModuleRecord;
+use crate::new_error::NewError;
+use crate::wire_record::WireRecord;
+use indexmap::IndexMap;
+use std::alloc::Global;
+use std::marker::Model;
+
+/// The longest time that a netlist runs for, in units.
+pub const MAX_HORIZON: u64 = 65536;
+
+/// How many wires may ever be added to a netlist.
+pub const MAX_WIRES: usize = 8192;
+
+/// How many modules may ever be added to a netlist.
+pub const MAX_MODULES: usize = 4096;
+
+/// The longest delay of an output port, in units.
+pub const MAX_DELAY: u64 = 65535;
+
+/// Wires, modules and bundles by number, and for how many units they run.
+#[derive(Drop)]
+pub struct Netlist {
+    horizon: u32,
+    wires: Vec<Option<WireRecord>>,
+    modules: Vec<Option<ModuleRecord>>,
+    bundles: Vec<Option<BundleRecord>>,
+    wire_names: IndexMap<String, u32>,
+    module_names: IndexMap<String, u32>,
+    bundle_names: IndexMap<String, u32>,
+}
+
+impl Model for Netlist {
+    ghost use Rattle.mp_netlist.specs.Circuit.{Circuit};
+
+    ghost Value = { Circuit };
+
+    ghost use Rattle.mp_netlist.specs.Records.{circuit_of, AreRecords};
+
+    ghost view = { circuit_of };
+
+    ghost invariant = { AreRecords };
+}
+
+impl Netlist {
+    ghost use Rattle.std.specs.Prelude.{◌≡◌, ◌≤◌, ◌<◌, ℕ, length, option_map, IfSome, IfOk, IfErr, IsOk, ◌↔◌};
+    ghost use Rattle.std.specs.Option.{option_copied};
+    ghost use Rattle.mp_netlist.specs.declared.new_error.NewError.TheVariants.{BadHorizon};
+    ghost use Rattle.mp_netlist.specs.Circuit.{IsCircuit, IsWire, IsModule, empty_circuit, wire_at, module_at, wire_named, module_named};
+
+    /// A netlist without records that runs for `horizon` units: refused as `BadHorizon` exactly where they are not 1 to 65,536.
+    pub fn empty(alloc: Global, horizon: u64) -> Result<Netlist, NewError>
+        ensures ok { IfOk result (λ netlist. netlist ≡ empty_circuit horizon) }
+        ensures allowed { IsOk result ↔ ((1 ≤ horizon) × (horizon ≤ 65536)) }
+        ensures refused { IfErr result (λ error. error ≡ BadHorizon) }
+    {
+        if horizon == 0 || horizon > MAX_HORIZON {
+            return Err(NewError::BadHorizon);
+        }
+        Ok(Netlist {
+            horizon: horizon as u32,
+            wires: Vec::new(alloc),
+            modules: Vec::new(alloc),
+            bundles: Vec::new(alloc),
+            wire_names: IndexMap::new(alloc),
+            module_names: IndexMap::new(alloc),
+            bundle_names: IndexMap::new(alloc),
+        })
+    }
+
+    /// For how many units it runs: times are from 0 to one below.
+    pub fn horizon(&self) -> u32
+        ensures value { result ≡ self.now.horizon }
+        ensures low { 1 ≤ result }
+        ensures high { result ≤ 65536 }
+        ensures form { IsCircuit self.now }
+    {
+        self.horizon
+    }
+
+    /// How many wires were ever added. Their numbers are below.
+    pub fn wire_slots(&self) -> u32
+        ensures value { result ≡ length self.now.wires }
+        ensures few { result ≤ 8192 }
+    {
+        self.wires.len() as u32
+    }
+
+    /// How many modules were ever added. Their numbers are below.
+    pub fn module_slots(&self) -> u32
+        ensures value { result ≡ length self.now.modules }
+        ensures few { result ≤ 4096 }
+    {
+        self.modules.len() as u32
+    }
+
+    /// The wire of this number, where it stands.
+    pub fn wire(&self, id: WireId) -> Option<&WireRecord>
+        ensures value { option_copied result ≡ wire_at self.now id.0 }
+        ensures form { IfSome result (λ found. IsWire self.now.horizon found.now) }
+    {
+        match self.wires.get(id.0 as usize) {
+            Some(Some(found)) => Some(found),
+            _ => None,
+        }
+    }
+
+    /// The module of this number, where it stands.
+    pub fn module(&self, id: ModuleId) -> Option<&ModuleRecord>
+        ensures value { option_copied result ≡ module_at self.now id.0 }
+        ensures form { IfSome result (λ found. IsModule self.now found.now) }
+    {
+        match self.modules.get(id.0 as usize) {
+            Some(Some(found)) => Some(found),
+            _ => None,
+        }
+    }
+
+    /// The number of the wire that has this name.
+    pub fn wire_named(&self, name: &str) -> Option<WireId>
+        ensures { option_map (λ id. id.0) result ≡ wire_named self.now name.now }
+    {
+        match self.wire_names.get(name) {
+            Some(number) => Some(WireId(*number)),
+            None => None,
+        }
+    }
+
+    /// The number of the module that has this name.
+    pub fn module_named(&self, name: &str) -> Option<ModuleId>
+        ensures { option_map (λ id. id.0) result ≡ module_named self.now name.now }
+    {
+        match self.module_names.get(name) {
+            Some(number) => Some(ModuleId(*number)),
+            None => None,
+        }
+    }
+}

@@ -1,0 +1,136 @@
+//! Why an edit is refused.
+ghost use Rattle.std.specs.Prelude.{◌≡◌, ◌==◌, ◌&&◌, length};
+ghost use Rattle.std.specs.List.{list_all};
+ghost use Rattle.mp_modules.specs.Kinds.{input_count, output_count};
+ghost use Rattle.mp_netlist.specs.declared.port_names.OutputName.{OutputName};
+ghost use Rattle.mp_netlist.specs.Edits.{is_delay};
+
+use crate::changes::{Changes, fits};
+use crate::driver::Driver;
+use crate::edit::Edit;
+use crate::edit_error::EditError;
+use crate::name::Name;
+use crate::netlist::{MAX_DELAY, MAX_MODULES, MAX_WIRES, Netlist};
+use crate::params::Params;
+use crate::port_names::{InputNames, OutputName, OutputNames};
+use mp_modules::Kind;
+
+impl Netlist {
+    ghost use Rattle.std.specs.Prelude.{◌≡◌};
+    ghost use Rattle.std.specs.Result.{result_err};
+    ghost use Rattle.mp_netlist.specs.Edits.{refusal, wire_refusal, module_refusal, stimulus_refusal};
+
+    #[tactic(auto, unfolding(crate::specs::Edits::refusal))]
+    /// The first check that the edit fails, in the order of its kind, where it is not want of memory.
+    pub fn check(&self, edit: &Edit) -> Result<(), EditError>
+        ensures { result_err result ≡ refusal self.now edit.now }
+    {
+        match edit {
+            Edit::AddWire { name, width, level } => self.check_wire(name, *width, *level),
+            Edit::AddModule {
+                name,
+                kind,
+                params,
+                inputs,
+                outputs,
+            } => self.check_module(name, *kind, params, inputs, outputs),
+            Edit::SetStimulus { wire, changes } => self.check_stimulus(wire, changes),
+        }
+    }
+
+    fn check_wire(&self, name: &Name, width: u64, level: u64) -> Result<(), EditError>
+        ensures { result_err result ≡ wire_refusal self.now name.now width level }
+    {
+        if !name.is_valid() {
+            return Err(EditError::BadName);
+        }
+        if self.wire_named(name.as_str()).is_some() {
+            return Err(EditError::NameTaken);
+        }
+        if width < 1 || width > 64 {
+            return Err(EditError::BadWidth);
+        }
+        if !fits(level, width) {
+            return Err(EditError::BadLevel);
+        }
+        if self.wires.len() >= MAX_WIRES {
+            return Err(EditError::TableFull);
+        }
+        Ok(())
+    }
+
+    fn check_module(
+        &self,
+        name: &Name,
+        kind: Kind,
+        params: &Params,
+        inputs: &InputNames,
+        outputs: &OutputNames,
+    ) -> Result<(), EditError>
+        ensures { result_err result ≡ module_refusal self.now name.now kind params.now inputs.now outputs.now }
+    {
+        if !name.is_valid() {
+            return Err(EditError::BadName);
+        }
+        if self.module_named(name.as_str()).is_some() {
+            return Err(EditError::NameTaken);
+        }
+        let inputs = inputs.as_slice();
+        let outputs = outputs.as_slice();
+        if !has_ports(kind, inputs, outputs) {
+            return Err(EditError::WrongPorts);
+        }
+        if !self.ports_stand(inputs, outputs) {
+            return Err(EditError::NoSuchWire);
+        }
+        let width = self.new_width(kind, inputs);
+        if !self.ports_fit(kind, width, inputs, outputs) {
+            return Err(EditError::WidthMismatch);
+        }
+        if !kind.accepts(width, params.as_slice()) {
+            return Err(EditError::BadParam);
+        }
+        if !are_delays(outputs) {
+            return Err(EditError::BadDelay);
+        }
+        if !self.outputs_are_free(outputs) {
+            return Err(EditError::AlreadyDriven);
+        }
+        if self.modules.len() >= MAX_MODULES {
+            return Err(EditError::TableFull);
+        }
+        Ok(())
+    }
+
+    fn check_stimulus(&self, wire: &Name, changes: &Changes) -> Result<(), EditError>
+        ensures { result_err result ≡ stimulus_refusal self.now wire.now changes.now }
+    {
+        if !self.stands(wire) {
+            return Err(EditError::NoSuchWire);
+        }
+        if let Driver::Port(_, _) = self.driver_of(self.id_of(wire)) {
+            return Err(EditError::AlreadyDriven);
+        }
+        let width = self.width_of(wire);
+        if !changes.is_valid(u64::from(self.horizon), u64::from(width)) {
+            return Err(EditError::BadStimulus);
+        }
+        Ok(())
+    }
+}
+
+/// Whether there are as many inputs and outputs as the kind has.
+fn has_ports(kind: Kind, inputs: &[Name], outputs: &[OutputName]) -> bool
+    ensures { result ≡ (length inputs.now == input_count kind && length outputs.now == output_count kind) }
+{
+    inputs.len() == kind.inputs() && outputs.len() == kind.outputs()
+}
+
+/// Whether each output has a delay that a port may have.
+fn are_delays(outputs: &[OutputName]) -> bool
+    ensures { result ≡ list_all (λ (port : OutputName). is_delay port.delay) outputs.now }
+{
+    outputs
+        .iter()
+        .all(|port| 1 <= port.delay && port.delay <= MAX_DELAY)
+}

@@ -1,0 +1,70 @@
+//! What drives a wire of a netlist.
+ghost use Rattle.std.specs.Prelude.{◌≡◌, ◌<◌, ◌^◌, All, length};
+ghost use Rattle.mp_netlist.specs.declared.driver.Driver.TheVariants.{Nothing};
+ghost use Rattle.mp_netlist.specs.Drivers.{port_from, driver_from};
+ghost use Rattle.mp_netlist.specs.DriverSearch.{HasFewPorts};
+
+use crate::driver::Driver;
+use crate::ids::{ModuleId, WireId};
+use crate::module_record::ModuleRecord;
+use crate::netlist::Netlist;
+use crate::ports::Output;
+
+impl Netlist {
+    ghost use Rattle.std.specs.Prelude.{◌≡◌, is_some};
+    ghost use Rattle.mp_netlist.specs.Circuit.{stimulus_at};
+    ghost use Rattle.mp_netlist.specs.Drivers.{driver};
+
+    /// What drives the wire of this number: nothing where none stands.
+    pub fn driver_of(&self, wire: WireId) -> Driver
+        ensures { result ≡ driver self.now wire.0 }
+    {
+        let modules = self.modules.as_slice();
+        if self.has_stimulus(wire) {
+            // No port drives such a wire, and texts may set one wire many times.
+            return Driver::Stimulus;
+        }
+        driver_among(modules, wire)
+    }
+
+    /// Whether the wire of this number stands and has a stimulus.
+    fn has_stimulus(&self, wire: WireId) -> bool
+        ensures { result ≡ is_some (stimulus_at self.now wire.0) }
+    {
+        match self.wire(wire) {
+            Some(found) => found.stimulus.is_some(),
+            None => false,
+        }
+    }
+}
+
+/// The module and port that have the wire as output, or else nothing.
+fn driver_among(modules: &[Option<ModuleRecord>], wire: WireId) -> Driver
+    requires few { length modules.now < 2 ^ 32 }
+    requires forms { All HasFewPorts modules.now }
+    ensures { result ≡ driver_from 0 modules.now wire.0 Nothing }
+{
+    for (m, slot) in modules.iter().enumerate() {
+        if let Some(found) = slot {
+            if let Some(port) = port_among(found.outputs.as_slice(), wire) {
+                return Driver::Port(ModuleId(m as u32), port);
+            }
+        }
+    }
+    Driver::Nothing
+}
+
+/// The port that has the wire as its output.
+fn port_among(ports: &[Output], wire: WireId) -> Option<u32>
+    requires { length ports.now < 2 ^ 32 }
+    ensures { result ≡ port_from 0 ports.now wire.0 }
+{
+    for (p, port) in ports.iter().enumerate() {
+        if let Some(named) = port.wire {
+            if named.0 == wire.0 {
+                return Some(p as u32);
+            }
+        }
+    }
+    None
+}

@@ -1,0 +1,212 @@
+//! The wires that an edit names as a module's ports.
+ghost use Rattle.std.specs.Prelude.{◌≡◌};
+ghost use Rattle.std.specs.List.{list_any};
+ghost use Rattle.std.specs.Str.{bytes_eq};
+ghost use Rattle.mp_netlist.specs.Edits.{are_distinct, driven_names};
+
+use crate::driver::Driver;
+use crate::ids::WireId;
+use crate::name::Name;
+use crate::netlist::Netlist;
+use crate::port_names::{InputNames, OutputName, OutputNames};
+use crate::ports::{Inputs, Output, Outputs};
+use mp_modules::Kind;
+use std::alloc::AllocError;
+
+impl Netlist {
+    ghost use Rattle.std.specs.Prelude.{◌≡◌, ◌&&◌, is_some, map, IfOk, IsTrue};
+    ghost use Rattle.std.specs.List.{list_all};
+    ghost use Rattle.mp_netlist.specs.Edits.{are_distinct, is_delay, output_of, stands, wire_id, width_named, is_undriven, driven_names, new_width, inputs_fit, output_fits, outputs_fit};
+
+    /// Whether a wire of the name stands.
+    pub(crate) fn stands(&self, name: &Name) -> bool
+        ensures { result ≡ stands self.now name.now }
+    {
+        self.wire_named(name.as_str()).is_some()
+    }
+
+    /// The number of the wire that has the name, 0 where none has.
+    pub(crate) fn id_of(&self, name: &Name) -> WireId
+        ensures { result ≡ wire_id self.now name.now }
+    {
+        match self.wire_named(name.as_str()) {
+            Some(id) => id,
+            None => WireId(0),
+        }
+    }
+
+    /// The width of the wire that has the name, 0 where none has.
+    pub(crate) fn width_of(&self, name: &Name) -> u32
+        ensures { result ≡ width_named self.now name.now }
+    {
+        let Some(id) = self.wire_named(name.as_str()) else {
+            return 0;
+        };
+        match self.wire(id) {
+            Some(found) => found.width,
+            None => 0,
+        }
+    }
+
+    /// Whether nothing drives the wire that has the name.
+    fn is_undriven(&self, name: &Name) -> bool
+        ensures { result ≡ is_undriven self.now name.now }
+    {
+        matches!(self.driver_of(self.id_of(name)), Driver::Nothing)
+    }
+
+    /// Whether a wire of each name stands.
+    fn inputs_stand(&self, inputs: &[Name]) -> bool
+        ensures { result ≡ list_all (stands self.now) inputs.now }
+    {
+        inputs.iter().all(|name| self.stands(name))
+    }
+
+    /// Whether the wires that the outputs name stand.
+    fn outputs_stand(&self, outputs: &[OutputName]) -> bool
+        ensures { result ≡ list_all (stands self.now) (driven_names outputs.now) }
+    {
+        for port in outputs {
+            if let Some(name) = &port.wire {
+                if !self.stands(name) {
+                    return false;
+                }
+            }
+        }
+        true
+    }
+
+    /// Whether nothing drives the wires that the outputs name.
+    fn outputs_are_undriven(&self, outputs: &[OutputName]) -> bool
+        ensures { result ≡ list_all (is_undriven self.now) (driven_names outputs.now) }
+    {
+        for port in outputs {
+            if let Some(name) = &port.wire {
+                if !self.is_undriven(name) {
+                    return false;
+                }
+            }
+        }
+        true
+    }
+
+    /// The width of a module of this kind with these inputs.
+    pub(crate) fn new_width(&self, kind: Kind, inputs: &[Name]) -> u32
+        ensures { result ≡ new_width self.now kind inputs.now }
+    {
+        if !kind.has_width() {
+            return 1;
+        }
+        match inputs {
+            [first, ..] => self.width_of(first),
+            [] => 0,
+        }
+    }
+
+    /// Whether each wire that is to be read has the width of its port.
+    fn inputs_fit(&self, kind: Kind, width: u32, inputs: &[Name]) -> bool
+        ensures { result ≡ inputs_fit self.now kind width inputs.now }
+    {
+        for (port, name) in inputs.iter().enumerate() {
+            if self.width_of(name) != kind.input_width(width, port) {
+                return false;
+            }
+        }
+        true
+    }
+
+    /// Whether each wire that is to be driven has the width of its port.
+    fn outputs_fit(&self, kind: Kind, width: u32, outputs: &[OutputName]) -> bool
+        ensures { result ≡ outputs_fit self.now kind width outputs.now }
+    {
+        for (port, output) in outputs.iter().enumerate() {
+            if let Some(name) = &output.wire {
+                if self.width_of(name) != kind.output_width(width, port) {
+                    return false;
+                }
+            }
+        }
+        true
+    }
+
+    /// Whether the wires that the ports name stand.
+    pub(crate) fn ports_stand(&self, inputs: &[Name], outputs: &[OutputName]) -> bool
+        ensures { result ≡ (list_all (stands self.now) inputs.now && list_all (stands self.now) (driven_names outputs.now)) }
+    {
+        self.inputs_stand(inputs) && self.outputs_stand(outputs)
+    }
+
+    /// Whether the wires that the ports name have the ports' widths.
+    pub(crate) fn ports_fit(
+        &self,
+        kind: Kind,
+        width: u32,
+        inputs: &[Name],
+        outputs: &[OutputName],
+    ) -> bool
+        ensures { result ≡ (inputs_fit self.now kind width inputs.now && outputs_fit self.now kind width outputs.now) }
+    {
+        self.inputs_fit(kind, width, inputs) && self.outputs_fit(kind, width, outputs)
+    }
+
+    /// Whether nothing drives the wires that the outputs name, and no two name one.
+    pub(crate) fn outputs_are_free(&self, outputs: &[OutputName]) -> bool
+        ensures { result ≡ (list_all (is_undriven self.now) (driven_names outputs.now) && are_distinct (driven_names outputs.now)) }
+    {
+        self.outputs_are_undriven(outputs) && are_distinct(outputs)
+    }
+
+    /// The numbers of the wires that the inputs name.
+    pub(crate) fn inputs_of(&self, inputs: &InputNames) -> Result<Inputs, AllocError>
+        ensures { IfOk result (λ wires. wires ≡ map (wire_id self.now) inputs.now) }
+    {
+        let mut wires = Vec::new(*self.modules.allocator());
+        for name in inputs.as_slice() {
+            wires.push(self.id_of(name))?;
+        }
+        Ok(Inputs::new(wires))
+    }
+
+    /// The output ports, at the wires that the outputs name.
+    pub(crate) fn outputs_of(&self, outputs: &OutputNames) -> Result<Outputs, AllocError>
+        requires { IsTrue (list_all (λ o. is_delay o.delay) outputs.now) }
+        ensures { IfOk result (λ ports. ports ≡ map (output_of self.now) outputs.now) }
+    {
+        let mut ports = Vec::new(*self.modules.allocator());
+        for port in outputs.as_slice() {
+            ports.push(Output {
+                wire: port.wire.as_ref().map(|name| self.id_of(name)),
+                delay: port.delay as u32,
+            })?;
+        }
+        Ok(Outputs::new(ports))
+    }
+}
+
+/// Whether no wire is named by two of the outputs.
+fn are_distinct(outputs: &[OutputName]) -> bool
+    ensures { result ≡ are_distinct (driven_names outputs.now) }
+{
+    for (port, output) in outputs.iter().enumerate() {
+        if let Some(name) = &output.wire {
+            if is_driven(name, &outputs[port + 1..]) {
+                return false;
+            }
+        }
+    }
+    true
+}
+
+/// Whether one of the outputs names the wire.
+fn is_driven(name: &Name, outputs: &[OutputName]) -> bool
+    ensures { result ≡ list_any (bytes_eq name.now) (driven_names outputs.now) }
+{
+    for output in outputs {
+        if let Some(other) = &output.wire {
+            if name.as_str() == other.as_str() {
+                return true;
+            }
+        }
+    }
+    false
+}
