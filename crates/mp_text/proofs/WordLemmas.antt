@@ -1,10 +1,12 @@
 -- Facts about words.
-use Rattle.std.proofs.Common.{ℕ, ◌<◌, Bool, ◌==◌, true, false, cond, List, [], ◌∷◌, IsAscii, All}
+use Rattle.std.proofs.Common.{ℕ, ◌<◌, Bool, ◌==◌, true, false, cond, List, [], ◌∷◌, ◌-◌, ◌≡◌, Bor, length, drop, take, IsAscii, All, sym, subst}
 use Rattle.std.specs.List.{slice_split, onto_first, position_or_len}
 use Rattle.std.proofs.lemmas.List.Elements.{All-cons, All-nil, All-head, All-tail, All-filter}
 use Rattle.std.proofs.lemmas.Str.Ascii.{IsAscii-nil, IsAscii-cons, All-from_ascii}
 use Rattle.std.proofs.lemmas.Str.{IsAscii-take}
-use Rattle.mp_text.specs.Words.{words_of, is_word, is_gap, statement_part}
+use Rattle.mp_text.specs.Words.{words_of, is_word, is_gap, statement_part, texts, AreAscii}
+use Rattle.std.proofs.lemmas.List.{take_rest}
+use Rattle.std.proofs.lemmas.List.Elements.{All-drop}
 
 All-onto_first : (b : ℕ) (parts : List (List ℕ)) → b < 128 → All IsAscii parts → All IsAscii (onto_first b parts)
 All-onto_first b [] low all = All-cons IsAscii (b ∷ []) [] (IsAscii-cons b [] low IsAscii-nil) (All-nil IsAscii)
@@ -26,3 +28,15 @@ words_ascii line ascii =
     let part = statement_part line in
     let low : IsAscii part = IsAscii-take line (position_or_len (λ byte. byte == 35) line) ascii in
     All-filter is_word IsAscii (slice_split is_gap part) (All-slice_split is_gap part (All-from_ascii part low))
+
+All-texts : (ws : List (Bor (List ℕ))) → All IsAscii (texts ws) → AreAscii ws
+All-texts [] all = All-nil (λ w. IsAscii w.now)
+All-texts (w ∷ ws) all = All-cons (λ w. IsAscii w.now) w ws (All-head IsAscii w.now (texts ws) all) (All-texts ws (All-tail IsAscii w.now (texts ws) all))
+
+-- words that are those of a line of ASCII bytes
+pub texts_ascii : (ws : List (Bor (List ℕ))) (line : List ℕ) → texts ws ≡ words_of line → IsAscii line → AreAscii ws
+texts_ascii ws line same ascii = All-texts ws (subst (All IsAscii) (sym same) (words_ascii line ascii))
+
+-- the words behind the first k
+pub rest_ascii : (ws : List (Bor (List ℕ))) (k : ℕ) → AreAscii ws → AreAscii (take (length ws - k) (drop k ws))
+rest_ascii ws k all = rw (take_rest ws k) (All-drop (λ w. IsAscii w.now) k ws all)

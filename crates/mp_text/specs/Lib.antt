@@ -5,4 +5,5 @@ pub mod Numbers
 pub mod Reads
 pub mod Statements
 pub mod Texts
+pub mod Laws
 pub mod WaveLines

@@ -43,24 +43,24 @@ each_word read (word ∷ words) = do
   items ← each_word read words
   Ok (item ∷ items)
 
--- the words behind `horizon`
-unfoldable pub horizon_said : List (List ℕ) → Result ℕ TextCode
-horizon_said (word ∷ []) = do
+-- the horizon of the words behind `horizon`
+unfoldable pub stated_horizon : List (List ℕ) → Result ℕ TextCode
+stated_horizon (word ∷ []) = do
   horizon ← number_word word
   if nat_le 1 horizon && nat_le horizon 65536 then Ok horizon else Err BadNumber
-horizon_said _ = Err WordCount
+stated_horizon _ = Err WordCount
 
--- the words behind `wire`
-unfoldable pub wire_said : List (List ℕ) → Result Edit TextCode
-wire_said (name ∷ width ∷ level ∷ []) = do
+-- the edit of the words behind `wire`
+unfoldable pub wire_edit : List (List ℕ) → Result Edit TextCode
+wire_edit (name ∷ width ∷ level ∷ []) = do
   w ← number_word width
   l ← number_word level
   Ok (AddWire name w l)
-wire_said _ = Err WordCount
+wire_edit _ = Err WordCount
 
--- the parts of the words behind `module`
-unfoldable pub ports_said : List ℕ → List ℕ → List (List ℕ) → List (List ℕ) → List (List ℕ) → Result Edit TextCode
-ports_said name kind params inputs outputs =
+-- the edit of the parts of the words behind `module`, where there is an input and an output
+unfoldable pub parts_edit : List ℕ → List ℕ → List (List ℕ) → List (List ℕ) → List (List ℕ) → Result Edit TextCode
+parts_edit name kind params inputs outputs =
     if length inputs == 0 || length outputs == 0 then Err WordCount
     else (do
       k ← kind_word kind
@@ -68,23 +68,22 @@ ports_said name kind params inputs outputs =
       ports ← each_word output_word outputs
       Ok (AddModule name k numbers inputs ports))
 
-abbrev pub is_colon : List ℕ → Bool
-is_colon word = bytes_eq word (codes ":")
+-- a word of one byte alone
+abbrev pub is_mark : ℕ → List ℕ → Bool
+is_mark mark word = bytes_eq word (mark ∷ [])
 
-abbrev pub is_arrow : List ℕ → Bool
-is_arrow word = bytes_eq word (codes ">")
+-- the edit of the words behind `module`: the first `:` behind the kind and the first `>` behind it divide them
+-- (where one of these is missing there are no outputs)
+unfoldable pub module_edit : List (List ℕ) → Result Edit TextCode
+module_edit (name ∷ kind ∷ words) =
+    let ports = after_first (is_mark 58) words in
+    parts_edit name kind (before_first (is_mark 58) words) (before_first (is_mark 62) ports) (after_first (is_mark 62) ports)
+module_edit _ = Err WordCount
 
--- the words behind `module`: the first `:` behind the kind and the first `>` behind it divide them, and where one is missing so are the outputs
-unfoldable pub module_said : List (List ℕ) → Result Edit TextCode
-module_said (name ∷ kind ∷ words) =
-    let ports = after_first is_colon words in
-    ports_said name kind (before_first is_colon words) (before_first is_arrow ports) (after_first is_arrow ports)
-module_said _ = Err WordCount
-
--- the words behind `stim`
-unfoldable pub stimulus_said : List (List ℕ) → Result Edit TextCode
-stimulus_said [] = Err WordCount
-stimulus_said (wire ∷ words) = do
+-- the edit of the words behind `stim`
+unfoldable pub stimulus_edit : List (List ℕ) → Result Edit TextCode
+stimulus_edit [] = Err WordCount
+stimulus_edit (wire ∷ words) = do
   changes ← each_word change_word words
   Ok (SetStimulus wire changes)
 
@@ -99,8 +98,8 @@ pub data Statement : Type 0 where
 unfoldable pub statement_of : List (List ℕ) → Statement
 statement_of [] = Blank
 statement_of (word ∷ words) =
-    if bytes_eq word (codes "horizon") then Start (horizon_said words)
-    else (if bytes_eq word (codes "wire") then Change (wire_said words)
-    else (if bytes_eq word (codes "module") then Change (module_said words)
-    else (if bytes_eq word (codes "stim") then Change (stimulus_said words)
+    if bytes_eq word (codes "horizon") then Start (stated_horizon words)
+    else (if bytes_eq word (codes "wire") then Change (wire_edit words)
+    else (if bytes_eq word (codes "module") then Change (module_edit words)
+    else (if bytes_eq word (codes "stim") then Change (stimulus_edit words)
     else Unknown)))

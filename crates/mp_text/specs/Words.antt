@@ -1,5 +1,5 @@
 -- The words of a line.
-use Rattle.std.specs.Prelude.{ℕ, Bool, not, ◌||◌, ◌==◌, List, length, filter, map}
+use Rattle.std.specs.Prelude.{ℕ, Bool, not, ◌||◌, ◌==◌, List, length, filter, map, All, IsAscii}
 use Rattle.std.specs.Borrow.{Bor}
 use Rattle.std.specs.List.{slice_split, before_first}
 
@@ -21,3 +21,7 @@ words_of line = filter is_word (slice_split is_gap (statement_part line))
 -- words without where they lie in memory
 abbrev pub texts : List (Bor (List ℕ)) → List (List ℕ)
 texts words = map (λ word. word.now) words
+
+-- each word is ASCII, and so text
+abbrev pub AreAscii : List (Bor (List ℕ)) → Type 0
+AreAscii words = All (λ word. IsAscii word.now) words

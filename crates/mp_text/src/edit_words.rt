@@ -1,9 +1,9 @@
 //! The edits that statements are.
-ghost use Rattle.std.specs.Prelude.{◌≡◌, IsAscii, All};
+ghost use Rattle.std.specs.Prelude.{◌≡◌, ◌<◌, IsAscii, IfSome, length, position};
 ghost use Rattle.std.specs.List.{before_first, after_first};
 ghost use Rattle.mp_text.specs.Reads.{Gives};
-ghost use Rattle.mp_text.specs.Words.{texts};
-ghost use Rattle.mp_text.specs.Statements.{wire_said, ports_said, module_said, stimulus_said, kind_word, is_colon, is_arrow};
+ghost use Rattle.mp_text.specs.Words.{texts, AreAscii};
+ghost use Rattle.mp_text.specs.Statements.{wire_edit, parts_edit, module_edit, stimulus_edit, kind_word, is_mark};
 
 use crate::text_code::TextCode;
 use crate::word::name_of;
@@ -13,10 +13,10 @@ use mp_netlist::{Changes, Edit, InputNames, OutputNames, Params};
 use std::alloc::Global;
 
 /// The edit of the words behind `wire`.
-#[tactic(auto, unfolding(crate::specs::Statements::wire_said))]
+#[tactic(auto, unfolding(crate::specs::Statements::wire_edit))]
 pub fn wire_edit(alloc: Global, words: &[&[u8]]) -> Result<Edit, TextCode>
-    requires { All IsAscii (texts words.now) }
-    ensures { Gives (λ edit. edit) result (wire_said (texts words.now)) }
+    requires { AreAscii words.now }
+    ensures { Gives (λ edit. edit) result (wire_edit (texts words.now)) }
 {
     let [name, width, level] = words else {
         return Err(TextCode::WordCount);
@@ -31,10 +31,10 @@ pub fn wire_edit(alloc: Global, words: &[&[u8]]) -> Result<Edit, TextCode>
 }
 
 /// The edit of the words behind `stim`.
-#[tactic(auto, unfolding(crate::specs::Statements::stimulus_said))]
+#[tactic(auto, unfolding(crate::specs::Statements::stimulus_edit))]
 pub fn stimulus_edit(alloc: Global, words: &[&[u8]]) -> Result<Edit, TextCode>
-    requires { All IsAscii (texts words.now) }
-    ensures { Gives (λ edit. edit) result (stimulus_said (texts words.now)) }
+    requires { AreAscii words.now }
+    ensures { Gives (λ edit. edit) result (stimulus_edit (texts words.now)) }
 {
     let [wire, others @ ..] = words else {
         return Err(TextCode::WordCount);
@@ -47,22 +47,22 @@ pub fn stimulus_edit(alloc: Global, words: &[&[u8]]) -> Result<Edit, TextCode>
 }
 
 /// The edit of the words behind `module`.
-#[tactic(auto, unfolding(crate::specs::Statements::module_said))]
+#[tactic(auto, unfolding(crate::specs::Statements::module_edit))]
 pub fn module_edit(alloc: Global, words: &[&[u8]]) -> Result<Edit, TextCode>
-    requires { All IsAscii (texts words.now) }
-    ensures { Gives (λ edit. edit) result (module_said (texts words.now)) }
+    requires { AreAscii words.now }
+    ensures { Gives (λ edit. edit) result (module_edit (texts words.now)) }
 {
     let [name, kind, others @ ..] = words else {
         return Err(TextCode::WordCount);
     };
-    let (params, ports) = at_colon(others);
-    let (inputs, outputs) = at_arrow(ports);
-    ports_edit(alloc, name, kind, params, inputs, outputs)
+    let (params, ports) = divided(b':', others);
+    let (inputs, outputs) = divided(b'>', ports);
+    parts_edit(alloc, name, kind, params, inputs, outputs)
 }
 
 /// The edit of the parts of the words behind `module`.
-#[tactic(auto, unfolding(crate::specs::Statements::ports_said))]
-fn ports_edit(
+#[tactic(auto, unfolding(crate::specs::Statements::parts_edit))]
+fn parts_edit(
     alloc: Global,
     name: &[u8],
     kind: &[u8],
@@ -71,9 +71,9 @@ fn ports_edit(
     outs: &[&[u8]],
 ) -> Result<Edit, TextCode>
     requires name { IsAscii name.now }
-    requires inputs { All IsAscii (texts inputs.now) }
-    requires outputs { All IsAscii (texts outs.now) }
-    ensures { Gives (λ edit. edit) result (ports_said name.now kind.now (texts params.now) (texts inputs.now) (texts outs.now)) }
+    requires inputs { AreAscii inputs.now }
+    requires outputs { AreAscii outs.now }
+    ensures { Gives (λ edit. edit) result (parts_edit name.now kind.now (texts params.now) (texts inputs.now) (texts outs.now)) }
 {
     if inputs.is_empty() || outs.is_empty() {
         return Err(TextCode::WordCount);
@@ -97,24 +97,36 @@ fn kind_word(word: &[u8]) -> Result<Kind, TextCode>
     Kind::from_word(word).ok_or(TextCode::UnknownStatement)
 }
 
-/// The words before and behind the first `:`, all and none where there is none.
-fn at_colon<'a, 'b>(words: &'a [&'b [u8]]) -> (&'a [&'b [u8]], &'a [&'b [u8]])
-    ensures front { texts result.0.now ≡ before_first is_colon (texts words.now) }
-    ensures back { texts result.1.now ≡ after_first is_colon (texts words.now) }
+/// The words before and behind the first that is this byte alone: all and none where there is none.
+fn divided<'a, 'b>(mark: u8, words: &'a [&'b [u8]]) -> (&'a [&'b [u8]], &'a [&'b [u8]])
+    requires { AreAscii words.now }
+    ensures front { texts result.0.now ≡ before_first (is_mark mark) (texts words.now) }
+    ensures back { texts result.1.now ≡ after_first (is_mark mark) (texts words.now) }
+    ensures front_ascii { AreAscii result.0.now }
+    ensures back_ascii { AreAscii result.1.now }
 {
-    match words.iter().position(|word| *word == b":".as_slice()) {
+    split_at_mark(mark, words)
+}
+
+fn split_at_mark<'a, 'b>(mark: u8, words: &'a [&'b [u8]]) -> (&'a [&'b [u8]], &'a [&'b [u8]])
+    ensures front { result.0.now ≡ before_first (λ word. is_mark mark word.now) words.now }
+    ensures back { result.1.now ≡ after_first (λ word. is_mark mark word.now) words.now }
+{
+    match place_of_mark(mark, words) {
         Some(at) => (&words[..at], &words[at + 1..]),
-        None => (words, &[]),
+        None => (words, &words[words.len()..]),
     }
 }
 
-/// The words before and behind the first `>`, all and none where there is none.
-fn at_arrow<'a, 'b>(words: &'a [&'b [u8]]) -> (&'a [&'b [u8]], &'a [&'b [u8]])
-    ensures front { texts result.0.now ≡ before_first is_arrow (texts words.now) }
-    ensures back { texts result.1.now ≡ after_first is_arrow (texts words.now) }
+fn place_of_mark(mark: u8, words: &[&[u8]]) -> Option<usize>
+    ensures place { result ≡ position (λ word. is_mark mark word.now) words.now }
+    ensures within { IfSome result (λ at. at < length words.now) }
 {
-    match words.iter().position(|word| *word == b">".as_slice()) {
-        Some(at) => (&words[..at], &words[at + 1..]),
-        None => (words, &[]),
-    }
+    words.iter().position(|word| is_mark(mark, word))
+}
+
+fn is_mark(mark: u8, word: &[u8]) -> bool
+    ensures { result ≡ is_mark mark word.now }
+{
+    word == [mark].as_slice()
 }

@@ -2,6 +2,7 @@
 #![tactic(auto)]
 
 mod edit_words;
+pub mod laws;
 mod line;
 mod number;
 mod reading;

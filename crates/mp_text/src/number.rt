@@ -1,5 +1,5 @@
 //! Decimal numbers, and pairs that hold them.
-ghost use Rattle.std.specs.Prelude.{◌≡◌, ◌+◌, not, length, option_map};
+ghost use Rattle.std.specs.Prelude.{◌≡◌, ◌+◌, not, length, option_map, IfSome, IsAscii};
 ghost use Rattle.std.specs.List.{suffix_len};
 ghost use Rattle.mp_text.specs.Numbers.{number_from, spelled_number, parts_at_equals, time_and_value, is_slash, parts_at_slash, name_and_number};
 
@@ -53,7 +53,8 @@ fn at_equals(word: &[u8]) -> Option<(&[u8], &[u8])>
 /// A name and a number, as in `y/3`.
 #[tactic(auto, unfolding(crate::specs::Numbers::name_and_number))]
 pub fn name_and_number(word: &[u8]) -> Option<(&[u8], u64)>
-    ensures { option_map (λ pair. (pair.0.now, pair.1)) result ≡ name_and_number word.now }
+    ensures pair { option_map (λ pair. (pair.0.now, pair.1)) result ≡ name_and_number word.now }
+    ensures ascii { IsAscii word.now → IfSome result (λ pair. IsAscii pair.0.now) }
 {
     let (name, back) = at_slash(word)?;
     let number = number(back)?;
@@ -63,7 +64,8 @@ pub fn name_and_number(word: &[u8]) -> Option<(&[u8], u64)>
 /// What stands before and behind the last `/`, where there is something before it.
 #[tactic(auto, unfolding(crate::specs::Numbers::parts_at_slash))]
 fn at_slash(word: &[u8]) -> Option<(&[u8], &[u8])>
-    ensures { option_map (λ parts. (parts.0.now, parts.1.now)) result ≡ parts_at_slash word.now }
+    ensures parts { option_map (λ parts. (parts.0.now, parts.1.now)) result ≡ parts_at_slash word.now }
+    ensures ascii { IsAscii word.now → IfSome result (λ parts. IsAscii parts.0.now) }
 {
     let from = behind_slash(word);
     if from < 2 {

@@ -4,9 +4,9 @@ ghost use Rattle.mp_text.specs.Texts.{text_at};
 
 use crate::line::first_line;
 use crate::statement::line;
+use mp_netlist::Netlist;
 use crate::text_code::TextCode;
 use crate::text_error::TextError;
-use mp_netlist::Netlist;
 use std::alloc::Global;
 
 /// How many bytes a text may have.

@@ -1,11 +1,11 @@
 //! What a line makes of a netlist.
-ghost use Rattle.std.specs.Prelude.{◌≡◌, IsAscii, All, Some};
+ghost use Rattle.std.specs.Prelude.{◌≡◌, ◌≤◌, IfOk, Some};
 ghost use Rattle.std.specs.Result.{result_map_both};
 ghost use Rattle.mp_text.specs.declared.text_code.TextCode.TheVariants.{Refused};
 ghost use Rattle.mp_netlist.specs.Edits.{after};
 ghost use Rattle.mp_text.specs.Reads.{Gives};
-ghost use Rattle.mp_text.specs.Words.{texts};
-ghost use Rattle.mp_text.specs.Statements.{horizon_said, wire_said, module_said, stimulus_said, Start, Change, statement_of};
+ghost use Rattle.mp_text.specs.Words.{texts, AreAscii};
+ghost use Rattle.mp_text.specs.Statements.{stated_horizon, wire_edit, module_edit, stimulus_edit, Start, Change, statement_of};
 ghost use Rattle.mp_text.specs.Texts.{after_statement, after_line};
 
 use crate::edit_words::{module_edit, stimulus_edit, wire_edit};
@@ -35,7 +35,7 @@ fn statement(
     state: Option<Netlist>,
     words: &[&[u8]],
 ) -> Result<Option<Netlist>, TextCode>
-    requires { All IsAscii (texts words.now) }
+    requires { AreAscii words.now }
     ensures { Gives (λ state. state) result (after_statement state (statement_of (texts words.now))) }
 {
     let [word, others @ ..] = words else {
@@ -61,7 +61,7 @@ fn start(
     state: Option<Netlist>,
     words: &[&[u8]],
 ) -> Result<Option<Netlist>, TextCode>
-    ensures { Gives (λ state. state) result (after_statement state (Start (horizon_said (texts words.now)))) }
+    ensures { Gives (λ state. state) result (after_statement state (Start (stated_horizon (texts words.now)))) }
 {
     if state.is_some() {
         return Err(TextCode::SecondHorizon);
@@ -75,9 +75,10 @@ fn start(
 }
 
 /// The number of the words behind `horizon`.
-#[tactic(auto, unfolding(crate::specs::Statements::horizon_said))]
+#[tactic(auto, unfolding(crate::specs::Statements::stated_horizon))]
 fn horizon(words: &[&[u8]]) -> Result<u64, TextCode>
-    ensures { result ≡ horizon_said (texts words.now) }
+    ensures said { result ≡ stated_horizon (texts words.now) }
+    ensures range { IfOk result (λ horizon. (1 ≤ horizon) × (horizon ≤ 65536)) }
 {
     let [word] = words else {
         return Err(TextCode::WordCount);
@@ -95,8 +96,8 @@ fn add_wire(
     state: Option<Netlist>,
     words: &[&[u8]],
 ) -> Result<Option<Netlist>, TextCode>
-    requires { All IsAscii (texts words.now) }
-    ensures { Gives (λ state. state) result (after_statement state (Change (wire_said (texts words.now)))) }
+    requires { AreAscii words.now }
+    ensures { Gives (λ state. state) result (after_statement state (Change (wire_edit (texts words.now)))) }
 {
     let Some(netlist) = state else {
         return Err(TextCode::NoHorizon);
@@ -111,8 +112,8 @@ fn add_module(
     state: Option<Netlist>,
     words: &[&[u8]],
 ) -> Result<Option<Netlist>, TextCode>
-    requires { All IsAscii (texts words.now) }
-    ensures { Gives (λ state. state) result (after_statement state (Change (module_said (texts words.now)))) }
+    requires { AreAscii words.now }
+    ensures { Gives (λ state. state) result (after_statement state (Change (module_edit (texts words.now)))) }
 {
     let Some(netlist) = state else {
         return Err(TextCode::NoHorizon);
@@ -127,8 +128,8 @@ fn set_stimulus(
     state: Option<Netlist>,
     words: &[&[u8]],
 ) -> Result<Option<Netlist>, TextCode>
-    requires { All IsAscii (texts words.now) }
-    ensures { Gives (λ state. state) result (after_statement state (Change (stimulus_said (texts words.now)))) }
+    requires { AreAscii words.now }
+    ensures { Gives (λ state. state) result (after_statement state (Change (stimulus_edit (texts words.now)))) }
 {
     let Some(netlist) = state else {
         return Err(TextCode::NoHorizon);

@@ -1,6 +1,6 @@
 //! The words of a line.
-ghost use Rattle.std.specs.Prelude.{◌≡◌, ◌<◌, ◌==◌, length, position, IfOk, IfSome, IsAscii, All};
-ghost use Rattle.mp_text.specs.Words.{words_of, texts, is_gap, statement_part};
+ghost use Rattle.std.specs.Prelude.{◌≡◌, ◌<◌, ◌==◌, length, position, IfOk, IfSome, IsAscii};
+ghost use Rattle.mp_text.specs.Words.{words_of, texts, is_gap, statement_part, AreAscii};
 
 use mp_netlist::Name;
 use std::alloc::{AllocError, Global};
@@ -10,7 +10,7 @@ use std::alloc::{AllocError, Global};
 pub fn words<'a>(alloc: Global, line: &'a [u8]) -> Result<Vec<&'a [u8]>, AllocError>
     requires { IsAscii line.now }
     ensures words { IfOk result (λ words. texts words.items ≡ words_of line.now) }
-    ensures ascii { IfOk result (λ words. All IsAscii (texts words.items)) }
+    ensures ascii { IfOk result (λ words. AreAscii words.items) }
 {
     before_comment(line)
         .split(|byte| is_gap(*byte))

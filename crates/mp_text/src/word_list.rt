@@ -1,7 +1,7 @@
 //! What each of several words says.
-ghost use Rattle.std.specs.Prelude.{◌≡◌, IfOk, IsAscii, All};
+ghost use Rattle.std.specs.Prelude.{◌≡◌, IfOk, IsAscii};
 ghost use Rattle.mp_text.specs.Reads.{Gives};
-ghost use Rattle.mp_text.specs.Words.{texts};
+ghost use Rattle.mp_text.specs.Words.{texts, AreAscii};
 ghost use Rattle.mp_text.specs.Statements.{number_word, change_word, wire_or_none, output_word, each_word};
 
 use crate::number::{name_and_number, number, time_and_value};
@@ -81,7 +81,7 @@ pub fn changes(alloc: Global, words: &[&[u8]]) -> Result<Vec<(u64, u64)>, TextCo
 
 /// The words as outputs with their delays.
 pub fn outputs(alloc: Global, words: &[&[u8]]) -> Result<Vec<OutputName>, TextCode>
-    requires { All IsAscii (texts words.now) }
+    requires { AreAscii words.now }
     ensures { Gives (λ outputs. outputs.items) result (each_word output_word (texts words.now)) }
 {
     let mut outputs = Vec::new(alloc);
@@ -94,7 +94,7 @@ pub fn outputs(alloc: Global, words: &[&[u8]]) -> Result<Vec<OutputName>, TextCo
 
 /// The words as names.
 pub fn names(alloc: Global, words: &[&[u8]]) -> Result<Vec<Name>, AllocError>
-    requires { All IsAscii (texts words.now) }
+    requires { AreAscii words.now }
     ensures { IfOk result (λ names. names.items ≡ texts words.now) }
 {
     let mut names = Vec::new(alloc);

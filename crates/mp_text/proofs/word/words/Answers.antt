@@ -1,9 +1,9 @@
 use Rattle.std.proofs.Common.{◌≡◌, refl, subst, sym, ◌∙◌, rules, tests, ℕ, List, Bor, Vec, Global, Result, Ok, Err, IfOk, IsAscii, All}
 use Rattle.std.proofs.lemmas.Iterator.Splits.{YieldsList-from_slice_split}
 use Rattle.std.proofs.lemmas.Iterator.Consumers.{map_from_collect, YieldsList-from_filter}
-use Rattle.mp_text.specs.Words.{words_of, is_gap, is_word, statement_part, texts}
+use Rattle.mp_text.specs.Words.{words_of, is_gap, is_word, statement_part, texts, AreAscii}
 use Rattle.std.specs.declared.alloc.AllocError.{AllocError}
-use Rattle.mp_text.proofs.WordLemmas.{words_ascii}
+use Rattle.mp_text.proofs.WordLemmas.{texts_ascii}
 use Rattle.mp_text.proofs.word.words.Goals as goal
 
 pub returns-clause-words : goal.returns-clause-words
@@ -17,6 +17,6 @@ returns-clause-words c =
 pub returns-clause-ascii : goal.returns-clause-ascii
 returns-clause-ascii c = by c.collect.result (returns-clause-words c)
   where
-    by : (r : Result (Vec (Bor (List ℕ)) Global) AllocError) → IfOk r (λ words. texts words.items ≡ words_of c.args.line.now) → IfOk r (λ words. All IsAscii (texts words.items))
-    by (Ok words) same = subst (All IsAscii) (sym same) (words_ascii c.args.line.now c.requires)
+    by : (r : Result (Vec (Bor (List ℕ)) Global) AllocError) → IfOk r (λ words. texts words.items ≡ words_of c.args.line.now) → IfOk r (λ words. AreAscii words.items)
+    by (Ok words) same = texts_ascii words.items c.args.line.now same c.requires
     by (Err e) same = tt
