@@ -3,6 +3,9 @@ pub mod Histories
 pub mod Waves
 pub mod Laws
 pub mod Replays
+pub mod Tracks
+pub mod Cells
+pub mod Evaluations
 pub mod StreamBytes
 pub mod StreamFaults
 pub mod TakeErrors

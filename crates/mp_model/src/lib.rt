@@ -1,6 +1,8 @@
 //! What netlists mean, how that is computed unit by unit, and where bytes go to and come from.
 #![tactic(auto)]
 
+mod cell;
+mod evaluation;
 mod failed;
 pub mod laws;
 mod putting;
@@ -9,10 +11,10 @@ mod sink;
 mod source;
 mod take_error;
 mod taking;
-#[cfg(test)]
-mod tests;
+mod track;
 mod write_sink;
 
+pub use evaluation::plain_waves;
 pub use failed::Failed;
 pub use putting::put_all;
 pub use read_source::ReadSource;
@@ -21,3 +23,6 @@ pub use source::Source;
 pub use take_error::TakeError;
 pub use taking::take_all;
 pub use write_sink::WriteSink;
+
+#[cfg(test)]
+mod tests;

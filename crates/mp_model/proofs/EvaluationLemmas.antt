@@ -1,0 +1,121 @@
+-- What one unit of time, and one delivery, does to the track of a wire.
+use Rattle.std.proofs.Common.{◌≡◌, ◌≢◌, ℕ, ◌+◌, ◌-◌, ◌<◌, ◌≤◌, Bool, true, false, cond, List, [], ◌∷◌, ◌++◌, ◌==◌, nat_lt, Option, Some, None, unwrap_or, IsSome, length, slice_index_or, zero, suc, refl, ap, sym, subst, ◌∙◌, arith, inl, inr, ◌⊎◌}
+use Rattle.std.proofs.lemmas.Bool.{eqb-true, eqb-false, cases_Bool, cases_lt, lt-ltb, le-ltb, cases_eq}
+use Rattle.std.proofs.lemmas.Bool.Decides.{nat_tests}
+use Rattle.std.proofs.lemmas.List.{get_or_past}
+use Rattle.mp_wave.specs.Waveform.{Waveform, level_from, last_from, last_time, held_from, wave_upto}
+use Rattle.mp_wave.proofs.ChangesLemmas.{held}
+use Rattle.mp_modules.specs.declared.memory.Memory.{Memory}
+use Rattle.mp_modules.specs.Memories.{output_of}
+use Rattle.mp_modules.specs.declared.kind.Kind.{Kind}
+use Rattle.mp_modules.specs.declared.kind.Kind.TheVariants as kinds
+use Rattle.mp_modules.specs.Kinds.{are_params}
+use Rattle.mp_netlist.specs.declared.ids.ModuleId.{ModuleId}
+use Rattle.mp_netlist.specs.declared.module_record.ModuleRecord.{ModuleRecord}
+use Rattle.mp_netlist.specs.declared.wire_record.WireRecord.{WireRecord}
+use Rattle.mp_netlist.specs.declared.driver.Driver.{Driver}
+use Rattle.mp_netlist.specs.declared.driver.Driver.TheVariants.{Nothing, Stimulus, Port}
+use Rattle.mp_netlist.specs.Circuit.{Circuit, IsCircuit, IsModule, Drives, wire_at, module_at, output_at, delay_of}
+use Rattle.mp_netlist.specs.Drivers.{driver}
+use Rattle.mp_netlist.proofs.DriverLemmas.{finds_ports, finds_only_ports}
+use Rattle.mp_model.specs.Levels.{level_by, port_level, initial_of, driven_level}
+use Rattle.mp_model.specs.Tracks.{Progress, next_level, advanced, expecting, due_level, rest_after}
+use Rattle.mp_model.specs.Evaluations.{AreRising, IsReached, IsLatest, IsOnTrack, delay_in, delivered}
+use Rattle.mp_model.specs.Waves.{level, state}
+use Rattle.mp_model.proofs.HistoryLemmas.{late}
+use Rattle.mp_model.proofs.BehaviourLemmas.{satisfies}
+use Rattle.mp_model.proofs.TrackLemmas as tracks
+
+-- the parameters that a kind accepts don't rest on its width
+pub are_params-any_width : (kind : Kind) (w v : ℕ) (params : List ℕ) → are_params kind w params ≡ are_params kind v params
+unfolding are_params
+are_params-any_width kinds.Buf w v params = refl
+are_params-any_width kinds.Not w v params = refl
+are_params-any_width kinds.C w v params = refl
+
+-- who has delivered
+pub delivered_done : (t done p m q : ℕ) → m < done → delivered t done p m q ≡ t + 1
+delivered_done t done p m q less = grind (arith, nat_tests)
+
+pub delivered_port : (t m p q : ℕ) → q < p → delivered t m p m q ≡ t + 1
+delivered_port t m p q less = grind (arith, nat_tests)
+
+pub delivered_not_yet : (t m p q : ℕ) → p ≤ q → delivered t m p m q ≡ t
+delivered_not_yet t m p q le = grind (arith, nat_tests)
+
+pub delivered_later : (t done p m q : ℕ) → done < m → delivered t done p m q ≡ t
+delivered_later t done p m q less = grind (arith, nat_tests)
+
+-- what is reached when as much has been delivered by the driver
+reached_same : (n : Circuit) (known new : ℕ → ℕ → ℕ) (d : Driver) (u : ℕ) → ((m : ModuleId) (p : ℕ) → d ≡ Port m p → known m.0 p ≡ new m.0 p) → IsReached n new d u → IsReached n known d u
+reached_same n known new Nothing u same reached = tt
+reached_same n known new Stimulus u same reached = tt
+reached_same n known new (Port m p) u same reached = let e = same m p refl in omega (arith, e, reached)
+
+latest_same : (n : Circuit) (known new : ℕ → ℕ → ℕ) (d : Driver) (t : ℕ) (track : Progress) → ((m : ModuleId) (p : ℕ) → d ≡ Port m p → known m.0 p ≡ new m.0 p) → IsLatest n known d t track → IsLatest n new d t track
+latest_same n known new Nothing t track same latest = tt
+latest_same n known new Stimulus t track same latest = tt
+latest_same n known new (Port m p) t track same latest = let e = same m p refl in (latest.0, omega (arith, e, latest.1))
+
+-- a track stands as it did where its driver has delivered no more
+pub known_same : (n : Circuit) (known new : ℕ → ℕ → ℕ) (t w : ℕ) (track : Progress) → ((m : ModuleId) (p : ℕ) → driver n w ≡ Port m p → known m.0 p ≡ new m.0 p) → IsOnTrack n known t w track → IsOnTrack n new t w track
+known_same n known new t w track same on = record {
+  wave = on.wave;
+  next = on.next;
+  present = on.present;
+  rising = on.rising;
+  ahead = λ u le reached. on.ahead u le (reached_same n known new (driver n w) u same reached);
+  latest = latest_same n known new (driver n w) t track same on.latest;
+}
+
+-- each delay is at least 1
+pub delay_positive : (n : Circuit) → IsCircuit n → (m p : ℕ) → 0 < delay_in (module_at n m) p
+delay_positive n ok m p = by (module_at n m) (λ r at. late n r p (ok.modules_ok m r at))
+  where
+    by : (slot : Option ModuleRecord) → ((r : ModuleRecord) → slot ≡ Some r → 0 < delay_of r p) → 0 < delay_in slot p
+    by None positive = omega arith
+    by (Some r) positive = positive r refl
+
+-- where all have delivered the states up to a time, the next level is reached
+next_reached : (n : Circuit) → IsCircuit n → (t : ℕ) (d : Driver) → IsReached n (λ m p. t + 1) d (t + 1)
+next_reached n ok t Nothing = tt
+next_reached n ok t Stimulus = tt
+next_reached n ok t (Port m p) = omega (arith, delay_positive n ok m.0 p)
+
+next_latest : (n : Circuit) → IsCircuit n → (t : ℕ) (d : Driver) (track : Progress) → track.next ≡ t + 1 → IsLatest n (λ m p. t + 1) d t track → IsLatest n (λ m p. t + 1) d (t + 1) (advanced track)
+next_latest n ok t Nothing track next latest = tt
+next_latest n ok t Stimulus track next latest = tt
+next_latest n ok t (Port m p) track next latest = (
+  latest.0 ∙ sym (tracks.last_from-due track.present track.next track.ahead),
+  rw next (tracks.last_time-rest t (t + 1) (t + 1 + delay_in (module_at n m.0) p) track.ahead latest.1 (omega (arith, delay_positive n ok m.0 p))),
+)
+
+-- a unit later the track has the levels up to the next time
+pub on_track_advanced : (n : Circuit) → IsCircuit n → (t w : ℕ) (track : Progress) → IsOnTrack n (λ m p. t + 1) t w track → IsOnTrack n (λ m p. t + 1) (t + 1) w (advanced track)
+on_track_advanced n ok t w track on =
+    let due : (u : ℕ) → t + 1 ≤ u → level_from (next_level track) (rest_after track.ahead track.next) u ≡ level_from track.present track.ahead u
+    = λ u le. tracks.level_from-due track.present track.next u track.ahead (omega (arith, on.next, le)) in
+    let rising : AreRising (t + 1) (rest_after track.ahead track.next) = rw on.next (tracks.AreRising-rest t track.ahead on.rising) in
+    let present : next_level track ≡ level n w (t + 1)
+    = sym (tracks.level_from-now (next_level track) (t + 1) (t + 1) (rest_after track.ahead track.next) rising (omega arith))
+    ∙ due (t + 1) (omega arith) ∙ on.ahead (t + 1) (omega arith) (next_reached n ok t (driver n w)) in
+    let hold : Waveform → ℕ → ℕ → Waveform = held_from in
+    record {
+      wave = ap (λ v. hold v track.next (next_level track)) on.wave ∙ ap (λ u. hold (wave_upto (level n w) t) u (next_level track)) on.next ∙ ap (hold (wave_upto (level n w) t) (t + 1)) present ∙ held (level n w) t;
+      next = ap (λ u. u + 1) on.next;
+      present = present;
+      rising = rising;
+      ahead = λ u le reached. due u le ∙ on.ahead u (omega arith) reached;
+      latest = next_latest n ok t (driver n w) track on.next on.latest;
+    }
+
+-- the level of a wire that a port drives, its delay after a state
+pub port_level_is : (n : Circuit) → IsCircuit n → (m p w t : ℕ) (r : ModuleRecord) → module_at n m ≡ Some r → driver n w ≡ Port (record { 0 = m }) p → level n w (t + delay_of r p) ≡ output_of (state n m t) p
+port_level_is n ok m p w t r at drives =
+    let back : t + delay_of r p - delay_of r p ≡ t = omega arith in
+    let over : nat_lt (t + delay_of r p) (delay_of r p) ≡ false = le-ltb (t + delay_of r p) (delay_of r p) (omega arith) in
+    (satisfies n ok).levels w (t + delay_of r p)
+    ∙ ap (λ d. driven_level d n (state n) w (t + delay_of r p)) drives
+    ∙ ap (λ slot. port_level (state n) slot m p (initial_of (wire_at n w)) (t + delay_of r p)) at
+    ∙ ap (λ (b : Bool). cond b (initial_of (wire_at n w)) (output_of (state n m (t + delay_of r p - delay_of r p)) p)) over
+    ∙ ap (λ u. output_of (state n m u) p) back

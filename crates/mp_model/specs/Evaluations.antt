@@ -1,0 +1,104 @@
+-- A netlist's evaluation, unit by unit: the tracks of its wires and the cells of its modules.
+use Rattle.std.specs.Prelude.{◌≡◌, ℕ, ◌+◌, ◌-◌, ◌^◌, ◌<◌, ◌≤◌, List, [], ◌∷◌, ◌||◌, ◌&&◌, ◌==◌, Option, Some, None, option_map, length, nat_lt, if◌then◌else◌, slice_set}
+use Rattle.std.specs.Option.{option_map_or}
+use Rattle.mp_wave.specs.Waveform.{wave_upto, level_from, last_from, last_time}
+use Rattle.mp_modules.specs.declared.memory.Memory.{Memory}
+use Rattle.mp_modules.specs.Tables.{start}
+use Rattle.mp_netlist.specs.declared.wire_record.WireRecord.{WireRecord}
+use Rattle.mp_netlist.specs.declared.module_record.ModuleRecord.{ModuleRecord}
+use Rattle.mp_netlist.specs.declared.driver.Driver.{Driver}
+use Rattle.mp_netlist.specs.declared.driver.Driver.TheVariants.{Nothing, Stimulus, Port}
+use Rattle.mp_netlist.specs.Slots.{slot_at}
+use Rattle.mp_netlist.specs.Circuit.{Circuit, wire_at, module_at, delay_of}
+use Rattle.mp_netlist.specs.Drivers.{driver}
+use Rattle.mp_model.specs.Levels.{built}
+use Rattle.mp_model.specs.Tracks.{Progress, expecting}
+use Rattle.mp_model.specs.Cells.{answered, after_answer}
+use Rattle.mp_model.specs.Waves.{level, state}
+use Rattle.mp_model.specs.declared.cell.Cell.{Cell}
+
+abbrev pub delay_in : Option ModuleRecord → ℕ → ℕ
+delay_in None p = 1
+delay_in (Some r) p = delay_of r p
+
+-- the times rise strictly, from after a time
+abbrev pub AreRising : ℕ → List (ℕ × ℕ) → Type 0
+AreRising time [] = Unit {0}
+AreRising time (change ∷ changes) = (time < change.0) × AreRising change.0 changes
+
+-- where known tells of how many units each port has delivered its state, the level at a time rests on states that were delivered
+abbrev pub IsReached : Circuit → (ℕ → ℕ → ℕ) → Driver → ℕ → Type 0
+IsReached n known Nothing time = Unit {0}
+IsReached n known Stimulus time = Unit {0}
+IsReached n known (Port m p) time = time < known m.0 p + delay_in (module_at n m.0) p
+
+-- of a wire that a port drives the last level ahead is noted, and is of a time that is reached
+abbrev pub IsLatest : Circuit → (ℕ → ℕ → ℕ) → Driver → ℕ → Progress → Type 0
+IsLatest n known Nothing t track = Unit {0}
+IsLatest n known Stimulus t track = Unit {0}
+IsLatest n known (Port m p) t track =
+    (track.latest ≡ last_from track.present track.ahead) × (last_time t track.ahead < known m.0 p + delay_in (module_at n m.0) p)
+
+-- the track has its wire's levels up to the present time t, and ahead as far as they are reached
+pub record IsOnTrack (n : Circuit) (known : ℕ → ℕ → ℕ) (t w : ℕ) (track : Progress) : Type 0 where
+  pub wave : track.wave ≡ wave_upto (level n w) t
+  pub next : track.next ≡ t + 1
+  pub present : track.present ≡ level n w t
+  pub rising : AreRising t track.ahead
+  pub ahead : (u : ℕ) → t ≤ u → IsReached n known (driver n w) u → level_from track.present track.ahead u ≡ level n w u
+  pub latest : IsLatest n known (driver n w) t track
+
+abbrev pub IsTrackOf : Circuit → (ℕ → ℕ → ℕ) → ℕ → ℕ → Option WireRecord → Option Progress → Type 0
+IsTrackOf n known t w None None = Unit {0}
+IsTrackOf n known t w None (Some track) = ⊥
+IsTrackOf n known t w (Some r) None = ⊥
+IsTrackOf n known t w (Some r) (Some track) = IsOnTrack n known t w track
+
+-- a track for each wire that stands
+pub record AreTracks (n : Circuit) (known : ℕ → ℕ → ℕ) (t : ℕ) (tracks : List (Option Progress)) : Type 0 where
+  pub places : length tracks ≡ length n.wires
+  pub each : (w : ℕ) → IsTrackOf n known t w (wire_at n w) (slot_at tracks w)
+
+-- the cell has its module's state after k units
+pub record IsInState (n : Circuit) (m k : ℕ) (r : ModuleRecord) (cell : Cell) : Type 0 where
+  pub part : cell.part ≡ built r
+  pub memory : (u : ℕ) → u + 1 ≡ k → cell.memory ≡ state n m u
+
+abbrev pub IsCellOf : Circuit → ℕ → ℕ → Option ModuleRecord → Option Cell → Type 0
+IsCellOf n m k None None = Unit {0}
+IsCellOf n m k None (Some cell) = ⊥
+IsCellOf n m k (Some r) None = ⊥
+IsCellOf n m k (Some r) (Some cell) = IsInState n m k r cell
+
+-- after the modules below done have answered at the time t, and their ports and those below p of the module done have delivered
+abbrev pub delivered : ℕ → ℕ → ℕ → ℕ → ℕ → ℕ
+delivered t done p m q = if nat_lt m done || (m == done && nat_lt q p) then t + 1 else t
+
+-- a cell for each module that stands, of which those below done have answered at the time t
+pub record AreCells (n : Circuit) (t done : ℕ) (cells : List (Option Cell)) : Type 0 where
+  pub places : length cells ≡ length n.modules
+  pub each : (m : ℕ) → IsCellOf n m (delivered t done 0 m 0) (module_at n m) (slot_at cells m)
+
+-- the level of a wire now, 0 where none stands
+abbrev pub present_at : List (Option Progress) → ℕ → ℕ
+present_at tracks w = option_map_or (λ (track : Progress). track.present) (slot_at tracks w) 0
+
+-- the tracks after another level of a wire is known
+abbrev pub with_expected : List (Option Progress) → ℕ → ℕ → ℕ → List (Option Progress)
+with_expected tracks w time level = slice_set tracks w (option_map (λ track. expecting track time level) (slot_at tracks w))
+
+-- the state of a module at a time, and the cells with it
+abbrev pub answer_at : List (Option Cell) → ℕ → ℕ → List ℕ → Option Memory
+answer_at cells m time levels = option_map (λ cell. answered cell time levels) (slot_at cells m)
+
+abbrev pub with_answer : List (Option Cell) → ℕ → ℕ → List ℕ → List (Option Cell)
+with_answer cells m time levels = slice_set cells m (option_map (λ cell. after_answer cell time levels) (slot_at cells m))
+
+-- the track can still go on
+abbrev pub IsEarly : Option Progress → Type 0
+IsEarly None = Unit {0}
+IsEarly (Some track) = track.next < 2 ^ 32 - 1
+
+-- a module before time 0
+abbrev pub first_cell : ModuleRecord → Cell
+first_cell r = record { part = built r; memory = start (built r) }

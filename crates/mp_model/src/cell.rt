@@ -1,0 +1,31 @@
+//! One module while time passes.
+ghost use Rattle.std.specs.Prelude.{◌≡◌};
+
+use mp_modules::{CoreModule, EventModule, Memory};
+use mp_netlist::ModuleRecord;
+
+/// A module and its present state.
+#[derive(Clone, Copy)]
+pub(crate) struct Cell {
+    pub part: CoreModule,
+    pub memory: Memory,
+}
+
+impl Cell {
+    ghost use Rattle.std.specs.Prelude.{◌≡◌};
+    ghost use Rattle.mp_model.specs.Cells.{answered, after_answer};
+
+    /// The state at a time, where the inputs have these levels. It is kept, and given.
+    pub(crate) fn answer(&mut self, time: u32, levels: &[u64]) -> Memory
+        ensures kept { self.new ≡ after_answer self.old time levels.now }
+        ensures given { result ≡ answered self.old time levels.now }
+    {
+        let memory = if time == 0 {
+            self.part.settle(levels)
+        } else {
+            self.part.step(self.memory, levels)
+        };
+        self.memory = memory;
+        memory
+    }
+}

@@ -1,0 +1,253 @@
+//! The plain evaluator: unit by unit from time zero, on one thread.
+ghost use Rattle.std.specs.Prelude.{◌≡◌, ◌+◌, ◌-◌, ◌^◌, ◌<◌, ◌≤◌, All, length, map, take, option_map, IfOk, OnOk, IsTrue, ℕ};
+ghost use Rattle.mp_netlist.specs.declared.ids.WireId.{WireId as Wire};
+ghost use Rattle.mp_netlist.specs.Slots.{slot_at};
+ghost use Rattle.mp_netlist.specs.Circuit.{IsCircuit};
+ghost use Rattle.mp_modules.specs.Kinds.{are_params};
+ghost use Rattle.mp_model.specs.Levels.{built};
+ghost use Rattle.mp_model.specs.Tracks.{Progress, first_progress, advanced, expecting};
+ghost use Rattle.mp_model.specs.Evaluations.{AreTracks, AreCells, delivered, present_at, with_expected, with_answer, answer_at, IsEarly, first_cell};
+ghost use Rattle.mp_model.specs.Cells.{answered, after_answer};
+ghost use Rattle.mp_model.specs.Waves.{state, waves};
+
+use crate::cell::Cell;
+use crate::track::Track;
+use mp_modules::{CoreModule, EventModule, MOST_INPUTS, Memory};
+use mp_netlist::{ModuleId, ModuleRecord, Netlist, WireId};
+use mp_wave::Wave;
+use std::alloc::{AllocError, Global};
+
+/// The wave of each wire up to the horizon, one place per wire number and none for a removed wire: each level is the one that the
+/// netlist and its stimuli give, computed unit by unit from time 0.
+pub fn plain_waves(alloc: Global, netlist: &Netlist) -> Result<Vec<Option<Wave>>, AllocError>
+    ensures { IfOk result (λ found. found.items ≡ waves netlist.now) }
+{
+    let mut tracks = first_tracks(alloc, netlist)?;
+    let mut cells = first_cells(alloc, netlist)?;
+    answer_all(netlist, &mut tracks, &mut cells, 0)?;
+    for time in 1..netlist.horizon() {
+        advance_all(&mut tracks)?;
+        answer_all(netlist, &mut tracks, &mut cells, time)?;
+    }
+    finished(alloc, tracks)
+}
+
+fn first_tracks(alloc: Global, netlist: &Netlist) -> Result<Vec<Option<Track>>, AllocError>
+    ensures { IfOk result (λ tracks. tracks.items ≡ map (option_map first_progress) netlist.now.wires) }
+{
+    let mut tracks = Vec::new(alloc);
+    for w in 0..netlist.wire_slots() {
+        tracks.push(first_track(alloc, netlist, WireId(w))?)?;
+    }
+    Ok(tracks)
+}
+
+fn first_track(alloc: Global, netlist: &Netlist, wire: WireId) -> Result<Option<Track>, AllocError>
+    ensures { IfOk result (λ track. track ≡ option_map first_progress (slot_at netlist.now.wires wire.0)) }
+{
+    match netlist.wire(wire) {
+        Some(record) => Ok(Some(Track::new(alloc, record)?)),
+        None => Ok(None),
+    }
+}
+
+fn first_cells(alloc: Global, netlist: &Netlist) -> Result<Vec<Option<Cell>>, AllocError>
+    ensures { IfOk result (λ cells. cells.items ≡ map (option_map first_cell) netlist.now.modules) }
+{
+    let mut cells = Vec::new(alloc);
+    for m in 0..netlist.module_slots() {
+        cells.push(first_cell_at(netlist, ModuleId(m)))?;
+    }
+    Ok(cells)
+}
+
+fn first_cell_at(netlist: &Netlist, id: ModuleId) -> Option<Cell>
+    ensures { result ≡ option_map first_cell (slot_at netlist.now.modules id.0) }
+{
+    let record = netlist.module(id)?;
+    let part = built(record);
+    Some(Cell {
+        part,
+        memory: part.start(),
+    })
+}
+
+/// The event module that a record stands for.
+fn built(record: &ModuleRecord) -> CoreModule
+    requires { IsTrue (are_params record.now.kind 1 record.now.params) }
+    ensures { result ≡ built record.now }
+{
+    match CoreModule::of(record.kind, record.params.as_slice()) {
+        Some(part) => part,
+        None => unreachable!(),
+    }
+}
+
+/// Each wire goes on to the next unit of time.
+fn advance_all(tracks: &mut Vec<Option<Track>>) -> Result<(), AllocError>
+    requires { All IsEarly tracks.old.items }
+    ensures { OnOk result (tracks.new.items ≡ map (option_map advanced) tracks.old.items) }
+{
+    for slot in tracks.iter_mut() {
+        advance(slot)?;
+    }
+    Ok(())
+}
+
+fn advance(slot: &mut Option<Track>) -> Result<(), AllocError>
+    requires { IsEarly slot.old }
+    ensures { OnOk result (slot.new ≡ option_map advanced slot.old) }
+{
+    match slot {
+        Some(track) => track.advance(),
+        None => Ok(()),
+    }
+}
+
+/// Each module answers at a time.
+fn answer_all(
+    netlist: &Netlist,
+    tracks: &mut Vec<Option<Track>>,
+    cells: &mut Vec<Option<Cell>>,
+    time: u32,
+) -> Result<(), AllocError>
+    requires time { time < netlist.now.horizon }
+    requires tracks { AreTracks netlist.now (delivered time 0 0) time tracks.old.items }
+    requires cells { AreCells netlist.now time 0 cells.old.items }
+    ensures tracks { OnOk result (AreTracks netlist.now (delivered time (length netlist.now.modules) 0) time tracks.new.items) }
+    ensures cells { OnOk result (AreCells netlist.now time (length netlist.now.modules) cells.new.items) }
+{
+    for m in 0..netlist.module_slots() {
+        answer(netlist, tracks, cells, ModuleId(m), time)?;
+    }
+    Ok(())
+}
+
+/// One module answers at a time: its next state, from the levels at its inputs now, gives the levels of its outputs later.
+fn answer(
+    netlist: &Netlist,
+    tracks: &mut Vec<Option<Track>>,
+    cells: &mut Vec<Option<Cell>>,
+    id: ModuleId,
+    time: u32,
+) -> Result<(), AllocError>
+    requires time { time < netlist.now.horizon }
+    requires tracks { AreTracks netlist.now (delivered time id.0 0) time tracks.old.items }
+    requires cells { AreCells netlist.now time id.0 cells.old.items }
+    ensures tracks { OnOk result (AreTracks netlist.now (delivered time (id.0 + 1) 0) time tracks.new.items) }
+    ensures cells { OnOk result (AreCells netlist.now time (id.0 + 1) cells.new.items) }
+{
+    let Some(record) = netlist.module(id) else {
+        return Ok(());
+    };
+    let inputs = record.inputs.as_slice();
+    let levels = present_levels(tracks.as_slice(), inputs);
+    match answer_of(cells, id, time, &levels[..inputs.len()]) {
+        Some(memory) => deliver(netlist, tracks, id, memory, time),
+        None => Ok(()),
+    }
+}
+
+/// A module's next state, from the levels at its inputs. It is kept, and given.
+fn answer_of(
+    cells: &mut Vec<Option<Cell>>,
+    id: ModuleId,
+    time: u32,
+    levels: &[u64],
+) -> Option<Memory>
+    ensures kept { cells.new.items ≡ with_answer cells.old.items id.0 time levels.now }
+    ensures given { result ≡ answer_at cells.old.items id.0 time levels.now }
+{
+    match cells.get_mut(id.0 as usize) {
+        Some(slot) => answer_in(slot, time, levels),
+        None => None,
+    }
+}
+
+fn answer_in(slot: &mut Option<Cell>, time: u32, levels: &[u64]) -> Option<Memory>
+    ensures kept { slot.new ≡ option_map (λ cell. after_answer cell time levels.now) slot.old }
+    ensures given { result ≡ option_map (λ cell. answered cell time levels.now) slot.old }
+{
+    match slot {
+        Some(cell) => Some(cell.answer(time, levels)),
+        None => None,
+    }
+}
+
+/// The levels now of the wires that a module reads, by port.
+fn present_levels(tracks: &[Option<Track>], inputs: &[WireId]) -> [u64; MOST_INPUTS]
+    requires { length inputs.now ≤ MOST_INPUTS }
+    ensures { take (length inputs.now) result ≡ map (λ (wire : Wire). present_at tracks.now wire.0) inputs.now }
+{
+    let mut levels = [0; MOST_INPUTS];
+    for (p, wire) in inputs.iter().enumerate() {
+        levels[p] = present_level(tracks, *wire);
+    }
+    levels
+}
+
+fn present_level(tracks: &[Option<Track>], wire: WireId) -> u64
+    ensures { result ≡ present_at tracks.now wire.0 }
+{
+    match tracks.get(wire.0 as usize) {
+        Some(Some(track)) => track.present(),
+        _ => 0,
+    }
+}
+
+/// A module's outputs give their wires the levels that its state at a time has, each after its delay.
+fn deliver(
+    netlist: &Netlist,
+    tracks: &mut Vec<Option<Track>>,
+    id: ModuleId,
+    memory: Memory,
+    time: u32,
+) -> Result<(), AllocError>
+    requires time { time < netlist.now.horizon }
+    requires memory { memory ≡ state netlist.now id.0 time }
+    requires tracks { AreTracks netlist.now (delivered time id.0 0) time tracks.old.items }
+    ensures { OnOk result (AreTracks netlist.now (delivered time (id.0 + 1) 0) time tracks.new.items) }
+{
+    let Some(record) = netlist.module(id) else {
+        return Ok(());
+    };
+    for (p, output) in record.outputs.as_slice().iter().enumerate() {
+        if let Some(wire) = output.wire {
+            expect(tracks, wire, time + output.delay, memory.output(p))?;
+        }
+    }
+    Ok(())
+}
+
+/// From a time on the level of a wire is known to be this one.
+fn expect(
+    tracks: &mut Vec<Option<Track>>,
+    wire: WireId,
+    time: u32,
+    level: u64,
+) -> Result<(), AllocError>
+    ensures { OnOk result (tracks.new.items ≡ with_expected tracks.old.items wire.0 time level) }
+{
+    match tracks.get_mut(wire.0 as usize) {
+        Some(slot) => expect_in(slot, time, level),
+        None => Ok(()),
+    }
+}
+
+fn expect_in(slot: &mut Option<Track>, time: u32, level: u64) -> Result<(), AllocError>
+    ensures { OnOk result (slot.new ≡ option_map (λ track. expecting track time level) slot.old) }
+{
+    match slot {
+        Some(track) => track.expect(time, level),
+        None => Ok(()),
+    }
+}
+
+fn finished(alloc: Global, tracks: Vec<Option<Track>>) -> Result<Vec<Option<Wave>>, AllocError>
+    ensures { IfOk result (λ found. found.items ≡ map (option_map (λ (track : Progress). track.wave)) tracks.items) }
+{
+    tracks
+        .into_iter()
+        .map(|slot| slot.map(|track| track.finish()))
+        .collect(alloc)
+}
