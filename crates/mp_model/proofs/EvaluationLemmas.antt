@@ -1,6 +1,6 @@
 -- What one unit of time, and one delivery, does to the track of a wire.
 use Rattle.std.proofs.Common.{◌≡◌, ◌≢◌, ℕ, ◌+◌, ◌-◌, ◌<◌, ◌≤◌, Bool, true, false, cond, List, [], ◌∷◌, ◌++◌, ◌==◌, nat_lt, Option, Some, None, unwrap_or, IsSome, length, slice_index_or, zero, suc, refl, ap, sym, subst, ◌∙◌, arith, inl, inr, ◌⊎◌}
-use Rattle.std.proofs.lemmas.Bool.{eqb-true, eqb-false, cases_Bool, cases_lt, lt-ltb, le-ltb, cases_eq}
+use Rattle.std.proofs.lemmas.Bool.{eqb-true, eqb-false, cases_Bool, cases_lt, lt-ltb, le-ltb, cases_eq, cases_order}
 use Rattle.std.proofs.lemmas.Bool.Decides.{nat_tests}
 use Rattle.std.proofs.lemmas.List.{get_or_past}
 use Rattle.mp_wave.specs.Waveform.{Waveform, level_from, last_from, last_time, held_from, wave_upto}
@@ -37,14 +37,40 @@ are_params-any_width kinds.C w v params = refl
 pub delivered_done : (t done p m q : ℕ) → m < done → delivered t done p m q ≡ t + 1
 delivered_done t done p m q less = grind (arith, nat_tests)
 
-pub delivered_port : (t m p q : ℕ) → q < p → delivered t m p m q ≡ t + 1
-delivered_port t m p q less = grind (arith, nat_tests)
+pub delivered_port : (t done p m q : ℕ) → m ≡ done → q < p → delivered t done p m q ≡ t + 1
+delivered_port t done p m q same less = grind (arith, nat_tests)
 
-pub delivered_not_yet : (t m p q : ℕ) → p ≤ q → delivered t m p m q ≡ t
-delivered_not_yet t m p q le = grind (arith, nat_tests)
+pub delivered_not_yet : (t done p m q : ℕ) → m ≡ done → p ≤ q → delivered t done p m q ≡ t
+delivered_not_yet t done p m q same le = grind (arith, nat_tests)
 
 pub delivered_later : (t done p m q : ℕ) → done < m → delivered t done p m q ≡ t
 delivered_later t done p m q less = grind (arith, nat_tests)
+
+pub delivered_none : (t m q : ℕ) → delivered t 0 0 m q ≡ t
+delivered_none t m q = grind (arith, nat_tests)
+
+-- one port more changes nothing for the others
+pub delivered_step : (t done p m q : ℕ) → (m ≡ done → q ≡ p → ⊥) → delivered t done p m q ≡ delivered t done (p + 1) m q
+delivered_step t done p m q other = by (cases_order m done) (cases_lt q p)
+  where
+    by : (m ≡ done) ⊎ ((m < done) ⊎ (done < m)) → (q < p) ⊎ (p ≤ q) → delivered t done p m q ≡ delivered t done (p + 1) m q
+    by (inl same) (inl less) = delivered_port t done p m q same less ∙ sym (delivered_port t done (p + 1) m q same (omega arith))
+    by (inl same) (inr more) = let no = other same in delivered_not_yet t done p m q same more ∙ sym (delivered_not_yet t done (p + 1) m q same (omega (arith, no)))
+    by (inr (inl before)) lies = delivered_done t done p m q before ∙ sym (delivered_done t done (p + 1) m q before)
+    by (inr (inr after)) lies = delivered_later t done p m q after ∙ sym (delivered_later t done (p + 1) m q after)
+
+-- when all its ports have delivered a module is done
+pub delivered_next : (t done p m q : ℕ) → (m ≡ done → q < p) → delivered t done p m q ≡ delivered t (done + 1) 0 m q
+delivered_next t done p m q all = by (cases_order m done)
+  where
+    by : (m ≡ done) ⊎ ((m < done) ⊎ (done < m)) → delivered t done p m q ≡ delivered t (done + 1) 0 m q
+    by (inl same) = delivered_port t done p m q same (all same) ∙ sym (delivered_done t (done + 1) 0 m q (omega arith))
+    by (inr (inl before)) = delivered_done t done p m q before ∙ sym (delivered_done t (done + 1) 0 m q (omega arith))
+    by (inr (inr after)) = delivered_later t done p m q after ∙ sym (by_next (cases_eq m (done + 1)))
+      where
+        by_next : (m ≡ done + 1) ⊎ (m ≡ done + 1 → ⊥) → delivered t (done + 1) 0 m q ≡ t
+        by_next (inl same) = delivered_not_yet t (done + 1) 0 m q same (omega arith)
+        by_next (inr other) = delivered_later t (done + 1) 0 m q (omega (arith, other))
 
 -- what is reached when as much has been delivered by the driver
 reached_same : (n : Circuit) (known new : ℕ → ℕ → ℕ) (d : Driver) (u : ℕ) → ((m : ModuleId) (p : ℕ) → d ≡ Port m p → known m.0 p ≡ new m.0 p) → IsReached n new d u → IsReached n known d u
@@ -119,3 +145,55 @@ port_level_is n ok m p w t r at drives =
     ∙ ap (λ slot. port_level (state n) slot m p (initial_of (wire_at n w)) (t + delay_of r p)) at
     ∙ ap (λ (b : Bool). cond b (initial_of (wire_at n w)) (output_of (state n m (t + delay_of r p - delay_of r p)) p)) over
     ∙ ap (λ u. output_of (state n m u) p) back
+
+-- what is expected at a later time
+abbrev pub delivering : Circuit → ℕ → ℕ → ℕ → ModuleRecord → Progress → Progress
+delivering n m p t r track = expecting track (t + delay_of r p) (output_of (state n m t) p)
+
+-- a port of a module that has answered gives its wire one more level
+pub on_track_delivered : (n : Circuit) → IsCircuit n → (known new : ℕ → ℕ → ℕ) (t m p w : ℕ) (r : ModuleRecord) (track : Progress) → module_at n m ≡ Some r → driver n w ≡ Port (record { 0 = m }) p
+    → known m p ≡ t → new m p ≡ t + 1 → IsOnTrack n known t w track → IsOnTrack n new t w (delivering n m p t r track)
+on_track_delivered n ok known new t m p w r track at drives was is on =
+    let d = delay_of r p in
+    let v = output_of (state n m t) p in
+    let positive : 0 < d = late n r p (ok.modules_ok m r at) in
+    let latest_on : IsLatest n known (Port (record { 0 = m }) p) t track = subst (λ k. IsLatest n known k t track) drives on.latest in
+    let latest_in : last_time t track.ahead < known m p + d = subst (λ slot. last_time t track.ahead < known m p + delay_in slot p) at latest_on.1 in
+    let below : last_time t track.ahead < t + d = omega (arith, latest_in, was) in
+    let value : level n w (t + d) ≡ v = port_level_is n ok m p w t r at drives in
+    let reach : (u : ℕ) → u < t + d → IsReached n known (driver n w) u
+    = λ u less. subst (λ k. IsReached n known k u) (sym drives) (subst (λ slot. u < known m p + delay_in slot p) (sym at) (omega (arith, less, was))) in
+    let reached : (u : ℕ) → IsReached n new (driver n w) u → u < t + 1 + d
+    = λ u h. let port : IsReached n new (Port (record { 0 = m }) p) u = subst (λ k. IsReached n new k u) drives h in
+        let in_slot : u < new m p + d = subst (λ slot. u < new m p + delay_in slot p) at port in omega (arith, in_slot, is) in
+    let over : last_time t track.ahead < t + 1 + d = omega (arith, below) in
+    let latest_new : (x : Progress) → x.latest ≡ last_from x.present x.ahead → last_time t x.ahead < t + 1 + d → IsLatest n new (driver n w) t x
+    = λ x same last. subst (λ k. IsLatest n new k t x) (sym drives) (same, subst (λ slot. last_time t x.ahead < new m p + delay_in slot p) (sym at) (omega (arith, last, is))) in
+    elim (cases_Bool (track.latest == v)) as (λ _. IsOnTrack n new t w (delivering n m p t r track)) [
+      | inl same ↦ rw same record {
+          wave = on.wave;
+          next = on.next;
+          present = on.present;
+          rising = on.rising;
+          ahead = λ u le h. elim (cases_lt u (t + d)) as (λ _. level_from track.present track.ahead u ≡ level n w u) [
+            | inl less ↦ on.ahead u le (reach u less)
+            | inr more ↦
+                let e : t + d ≡ u = omega (arith, reached u h, more) in
+                subst (λ x. level_from track.present track.ahead x ≡ level n w x) e (tracks.level_from-last track.present t (t + d) track.ahead on.rising (omega (arith, below)) ∙ sym latest_on.0 ∙ eqb-true track.latest v same ∙ sym value)
+          ];
+          latest = latest_new track latest_on.0 over;
+        }
+      | inr other ↦ rw other record {
+          wave = on.wave;
+          next = on.next;
+          present = on.present;
+          rising = tracks.AreRising-push t (t + d) v track.ahead on.rising below;
+          ahead = λ u le h. elim (cases_lt u (t + d)) as (λ _. level_from track.present (track.ahead ++ (t + d, v) ∷ []) u ≡ level n w u) [
+            | inl less ↦ tracks.level_from-before_push track.present u (t + d) v track.ahead less ∙ on.ahead u le (reach u less)
+            | inr more ↦
+                let e : t + d ≡ u = omega (arith, reached u h, more) in
+                subst (λ x. level_from track.present (track.ahead ++ (t + d, v) ∷ []) x ≡ level n w x) e (tracks.level_from-push track.present t (t + d) (t + d) v track.ahead on.rising below (omega arith) ∙ sym value)
+          ];
+          latest = latest_new (record track { latest = v; ahead = track.ahead ++ (t + d, v) ∷ [] }) (sym (tracks.last_from-push track.present (t + d) v track.ahead)) (let last = tracks.last_time-push t (t + d) v track.ahead in omega (arith, last));
+        }
+    ]

@@ -3,4 +3,7 @@ pub mod BehaviourLemmas
 pub mod SlotLemmas
 pub mod TrackLemmas
 pub mod EvaluationLemmas
+pub mod TracksLemmas
+pub mod CellsLemmas
+pub mod EndsLemmas
 pub mod StreamLemmas

@@ -6,6 +6,7 @@ pub mod Replays
 pub mod Tracks
 pub mod Cells
 pub mod Evaluations
+pub mod Examples
 pub mod StreamBytes
 pub mod StreamFaults
 pub mod TakeErrors

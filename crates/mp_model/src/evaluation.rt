@@ -22,10 +22,11 @@ use std::alloc::{AllocError, Global};
 pub fn plain_waves(alloc: Global, netlist: &Netlist) -> Result<Vec<Option<Wave>>, AllocError>
     ensures { IfOk result (λ found. found.items ≡ waves netlist.now) }
 {
+    let horizon = netlist.horizon();
     let mut tracks = first_tracks(alloc, netlist)?;
     let mut cells = first_cells(alloc, netlist)?;
     answer_all(netlist, &mut tracks, &mut cells, 0)?;
-    for time in 1..netlist.horizon() {
+    for time in 1..horizon {
         advance_all(&mut tracks)?;
         answer_all(netlist, &mut tracks, &mut cells, time)?;
     }
@@ -111,6 +112,7 @@ fn answer_all(
     cells: &mut Vec<Option<Cell>>,
     time: u32,
 ) -> Result<(), AllocError>
+    requires form { IsCircuit netlist.now }
     requires time { time < netlist.now.horizon }
     requires tracks { AreTracks netlist.now (delivered time 0 0) time tracks.old.items }
     requires cells { AreCells netlist.now time 0 cells.old.items }
@@ -131,6 +133,7 @@ fn answer(
     id: ModuleId,
     time: u32,
 ) -> Result<(), AllocError>
+    requires form { IsCircuit netlist.now }
     requires time { time < netlist.now.horizon }
     requires tracks { AreTracks netlist.now (delivered time id.0 0) time tracks.old.items }
     requires cells { AreCells netlist.now time id.0 cells.old.items }
@@ -203,6 +206,7 @@ fn deliver(
     memory: Memory,
     time: u32,
 ) -> Result<(), AllocError>
+    requires form { IsCircuit netlist.now }
     requires time { time < netlist.now.horizon }
     requires memory { memory ≡ state netlist.now id.0 time }
     requires tracks { AreTracks netlist.now (delivered time id.0 0) time tracks.old.items }

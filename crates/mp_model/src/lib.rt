@@ -4,7 +4,6 @@
 mod cell;
 mod evaluation;
 mod failed;
-pub mod laws;
 mod putting;
 mod read_source;
 mod sink;
@@ -13,6 +12,9 @@ mod take_error;
 mod taking;
 mod track;
 mod write_sink;
+
+pub mod examples;
+pub mod laws;
 
 pub use evaluation::plain_waves;
 pub use failed::Failed;

@@ -1,0 +1,52 @@
+use Rattle.std.proofs.Common.{◌≡◌, ◌+◌, ℕ, Option, Some, Result, Ok, Err, OnOk, List, length, take, map, ap, sym, subst, ◌∙◌}
+use Rattle.mp_netlist.specs.declared.ids.WireId.{WireId}
+use Rattle.mp_netlist.specs.declared.module_record.ModuleRecord.{ModuleRecord}
+use Rattle.mp_netlist.specs.Circuit.{Circuit, IsCircuit, module_at}
+use Rattle.mp_model.specs.Levels.{inputs_by}
+use Rattle.mp_model.specs.Tracks.{Progress}
+use Rattle.mp_model.specs.Evaluations.{AreTracks, AreCells, delivered, present_at}
+use Rattle.mp_model.specs.Waves.{level}
+use Rattle.mp_model.proofs.TracksLemmas.{tracks_without_module}
+use Rattle.mp_model.proofs.CellsLemmas.{cells_answered, cells_without_module, inputs_are, answer_is, answer_some}
+use Rattle.mp_model.proofs.evaluation.answer.Goals as goal
+
+pub returns-in_default-clause-tracks : goal.returns-in_default-clause-tracks
+returns-in_default-clause-tracks c =
+    tracks_without_module c.args.netlist.now c.args.time c.args.id.0 c.args.tracks.now.items (sym c.in_default.ensures.value) c.requires.tracks
+
+pub returns-in_default-clause-cells : goal.returns-in_default-clause-cells
+returns-in_default-clause-cells c =
+    cells_without_module c.args.netlist.now c.args.id.0 c.args.time c.args.cells.now.items (sym c.in_default.ensures.value) c.requires.cells
+
+on_ok : {T E : Type 0} (r : Result T E) (P : Type 0) → P → OnOk r P
+on_ok (Ok value) P holds = holds
+on_ok (Err error) P holds = tt
+
+-- the levels that were read are those of the inputs
+inputs_read : (n : Circuit) → IsCircuit n → (known : ℕ → ℕ → ℕ) (m t : ℕ) (r : ModuleRecord) (tracks slice : List (Option Progress)) (inputs : List WireId) (levels : List ℕ) → module_at n m ≡ Some r → AreTracks n known t tracks
+    → slice ≡ tracks → inputs ≡ r.inputs → levels ≡ map (λ (wire : WireId). present_at slice wire.0) inputs → levels ≡ inputs_by n (level n) r t
+inputs_read n ok known m t r tracks slice inputs levels at are same_tracks same_inputs read =
+    read ∙ ap (λ ts. map (λ (wire : WireId). present_at ts wire.0) inputs) same_tracks ∙ ap (map (λ (wire : WireId). present_at tracks wire.0)) same_inputs
+    ∙ inputs_are n ok known m t r tracks at are
+
+pub returns-in-None : goal.returns-in-None
+returns-in-None c =
+    let n = c.args.netlist.now in
+    let r = c.in-Some.record.now in
+    absurd (answer_some n c.args.id.0 c.args.time r c.args.cells.now.items (take (length c.as_slice-inputs.result.now) c.present_levels-levels.result) (sym c.in-Some.ensures.value) c.requires.cells c.in-None.ensures.given)
+
+pub deliver-requires-clause-memory : goal.deliver-requires-clause-memory
+deliver-requires-clause-memory c =
+    let n = c.args.netlist.now in
+    let r = c.in-Some.record.now in
+    let at : module_at n c.args.id.0 ≡ Some r = sym c.in-Some.ensures.value in
+    let read = inputs_read n c.requires.form (delivered c.args.time c.args.id.0 0) c.args.id.0 c.args.time r c.args.tracks.now.items c.as_slice.result.now c.as_slice-inputs.result.now _ at c.requires.tracks c.as_slice.ensures.value c.as_slice-inputs.ensures c.present_levels-levels.ensures in
+    answer_is n c.requires.form c.args.id.0 c.args.time r c.args.cells.now.items _ c.in-Some-answer_of.memory at read c.requires.cells c.in-Some-answer_of.ensures.given
+
+pub returns-in-Some-answer_of-clause-cells : goal.returns-in-Some-answer_of-clause-cells
+returns-in-Some-answer_of-clause-cells c =
+    let n = c.args.netlist.now in
+    let r = c.in-Some.record.now in
+    let at : module_at n c.args.id.0 ≡ Some r = sym c.in-Some.ensures.value in
+    let read = inputs_read n c.requires.form (delivered c.args.time c.args.id.0 0) c.args.id.0 c.args.time r c.args.tracks.now.items c.as_slice.result.now c.as_slice-inputs.result.now _ at c.requires.tracks c.as_slice.ensures.value c.as_slice-inputs.ensures c.present_levels-levels.ensures in
+    on_ok c.deliver.result _ (subst (AreCells n c.args.time (c.args.id.0 + 1)) (sym c.in-Some-answer_of.ensures.kept) (cells_answered n c.requires.form c.args.id.0 c.args.time r c.args.cells.now.items _ at read c.requires.cells))

@@ -1,0 +1,9 @@
+use Rattle.std.proofs.Common.{refl}
+use Rattle.mp_netlist.specs.Drivers.{driver}
+use Rattle.mp_model.specs.Histories.{history}
+use Rattle.mp_model.specs.Waves.{level}
+use Rattle.mp_model.proofs.examples.two_stage_control.Goals as goal
+
+pub returns : goal.returns
+unfolding driver history level
+returns c = refl
