@@ -1,7 +1,7 @@
 -- What a line's words say.
 use Rattle.std.specs.Prelude.{ℕ, ◌&&◌, ◌||◌, Bool, ◌==◌, List, [], ◌∷◌, length, Option, Some, None, Result, Ok, Err, nat_le, if◌then◌else◌, codes, option_map}
 use Rattle.std.specs.Option.{ok_or}
-use Rattle.std.specs.Str.{bytes_eq}
+use Rattle.std.specs.Str.{byte, bytes_eq}
 use Rattle.std.specs.List.{before_first, after_first}
 use Rattle.mp_modules.specs.declared.kind.Kind.{Kind}
 use Rattle.mp_modules.specs.Kinds.{kind_named}
@@ -76,8 +76,8 @@ is_mark mark word = bytes_eq word (mark ∷ [])
 -- (where one of these is missing there are no outputs)
 unfoldable pub module_edit : List (List ℕ) → Result Edit TextCode
 module_edit (name ∷ kind ∷ words) =
-    let ports = after_first (is_mark 58) words in
-    parts_edit name kind (before_first (is_mark 58) words) (before_first (is_mark 62) ports) (after_first (is_mark 62) ports)
+    let ports = after_first (is_mark (byte ":")) words in
+    parts_edit name kind (before_first (is_mark (byte ":")) words) (before_first (is_mark (byte ">")) ports) (after_first (is_mark (byte ">")) ports)
 module_edit _ = Err WordCount
 
 -- the edit of the words behind `stim`
