@@ -29,9 +29,9 @@ text_at-take limit input same = by (cases_lt (length input) limit)
 
 -- what holds of the output of the bytes that were read holds of that of the whole input
 pub for_input : (P : Result (List ℕ) RunFault → Type 0) (left : Option (List ℕ)) (text : List ℕ) (options : Options) (limit : ℕ)
-    → limit ≡ 4194305 → IfSome left (λ bytes. text ≡ take limit bytes) → P (waves_output text options) → IfSome left (λ input. P (waves_output input options))
-for_input P None text options limit same front holds = tt
-for_input P (Some input) text options limit same front holds =
+    → IfSome left (λ bytes. text ≡ take limit bytes) → limit ≡ 4194305 → P (waves_output text options) → IfSome left (λ input. P (waves_output input options))
+for_input P None text options limit front same holds = tt
+for_input P (Some input) text options limit front same holds =
     let read : text_at text ≡ text_at input = ap text_at front ∙ text_at-take limit input same in
     subst P (ap (λ t. output_of waves_text t (has_valid_crew options)) read) holds
 

@@ -11,7 +11,7 @@ returns-in_err-netlist-clause-written g c =
     let r = c.from_residual-in_err-netlist.result in
     let p = err_from_is_err_and r c.from_residual-in_err-netlist.ensures.1 in
     let refused = rw c.as_slice.ensures.value at c.in_err-netlist.ensures.refused in
-    for_input (λ o. Wrote r o known known) _ c.in_ok-input.input.items c.args.options.now _ refl c.in_ok-input.ensures.front
+    for_input (λ o. Wrote r o known known) _ c.in_ok-input.input.items c.args.options.now _ c.in_ok-input.ensures.front refl
     (Wrote-refused r p.0 _ known p.1 (rw p.2 refused))
 
 pub returns-clause-written : goal.returns-clause-written
@@ -20,5 +20,5 @@ returns-clause-written g c =
     let new = g.T.Sink.taken c.write_waves.new.sink in
     let r = c.write_waves.result in
     let output = rw c.as_slice.ensures.value at c.in_ok-netlist.ensures.text in
-    for_input (λ o. Wrote r o old new) _ c.in_ok-input.input.items c.args.options.now _ refl c.in_ok-input.ensures.front
+    for_input (λ o. Wrote r o old new) _ c.in_ok-input.input.items c.args.options.now _ c.in_ok-input.ensures.front refl
     (rw output c.write_waves.ensures.written)
