@@ -1,5 +1,5 @@
 -- The ends of a run.
-use Rattle.std.proofs.Common.{◌≡◌, ℕ, ◌<◌, ◌≤◌, ◌⊎◌, inl, inr, IfSome, List, take, length, Option, Some, None, Result, Ok, Err, refl, sym, ap, subst, ◌∙◌, arith}
+use Rattle.std.proofs.Common.{◌≡◌, ℕ, ◌<◌, ◌≤◌, ◌⊎◌, inl, inr, true, false, IfSome, IfErr, List, take, length, Option, Some, None, Result, Ok, Err, refl, sym, ap, subst, ◌∙◌, arith}
 use Rattle.std.proofs.lemmas.Bool.{cases_lt, lt-leb}
 use Rattle.std.proofs.lemmas.List.{take_all, length-take-le}
 use Rattle.std.proofs.KnownBytes.{Appends-nil, Keeps-refl}
@@ -10,7 +10,8 @@ use Rattle.mpwb.specs.declared.run_fault.RunFault.{RunFault}
 use Rattle.mpwb.specs.declared.run_fault.RunFault.TheVariants.{Text, BadCount, ReadFailed, WriteFailed, OutOfMemory, NoPlace}
 use Rattle.mpwb.specs.OptionLimits.{has_valid_crew}
 use Rattle.mpwb.specs.Outputs.{output_of, waves_text, waves_output}
-use Rattle.mpwb.specs.Runs.{Wrote, Refuses}
+use Rattle.mpwb.specs.RunFaults.{counted_reads}
+use Rattle.mpwb.specs.Runs.{Wrote, Refuses, comes_first}
 
 -- ---- one byte more than a text may have is enough to read
 
@@ -48,3 +49,15 @@ refused_by T NoPlace output known h = absurd h
 pub Wrote-refused : {T : Type 0} (r : Result T RunFault) (fault : RunFault) (output : Result (List ℕ) RunFault) (known : Option (List ℕ))
     → r ≡ Err fault → Refuses output fault → Wrote r output known known
 Wrote-refused {T} r fault output known e h = subst (λ x. Wrote x output known known) (sym e) (refused_by T fault output known h)
+
+-- ---- a run that began to write
+
+-- the source had no fault
+pub counted_reads-started : {T : Type 0} (r : Result T RunFault) (n : ℕ) → IfErr r (λ fault. comes_first fault ≡ false) → counted_reads r n ≡ n
+counted_reads-started (Ok done) n h = refl
+counted_reads-started (Err (Text error)) n h = refl
+counted_reads-started (Err BadCount) n h = refl
+counted_reads-started (Err ReadFailed) n h = let bad : true ≡ false = h in cc bad
+counted_reads-started (Err WriteFailed) n h = refl
+counted_reads-started (Err OutOfMemory) n h = refl
+counted_reads-started (Err NoPlace) n h = refl
