@@ -265,21 +265,25 @@ fn refuses_more(rt: &impl Abort, alloc: Global, net: &mut Netlist) -> Result<(),
     )
 }
 
-// One test has the netlist, since each function that has one takes long to check.
+fn tries_edits(rt: &impl Abort, alloc: Global, net: &mut Netlist) -> Result<(), Fail> {
+    build(alloc, net)?;
+    refuses_wires(rt, alloc, net)?;
+    refuses_modules(rt, alloc, net)?;
+    refuses_outputs(rt, alloc, net)?;
+    refuses_stimuli(rt, alloc, net)?;
+    reads_back_wires(rt, net)?;
+    reads_back_modules(rt, net)?;
+    finds_drivers(rt, net);
+    fill(alloc, net)?;
+    refuses_more(rt, alloc, net)
+}
+
+// One test owns a netlist, since each function that does takes long to check.
 #[test]
 fn edits(rt: HostRuntime) -> Result<(), Fail> {
     let alloc = rt.alloc();
     let mut net = Netlist::empty(alloc, 20)?;
-    build(alloc, &mut net)?;
-    refuses_wires(&rt, alloc, &mut net)?;
-    refuses_modules(&rt, alloc, &mut net)?;
-    refuses_outputs(&rt, alloc, &mut net)?;
-    refuses_stimuli(&rt, alloc, &mut net)?;
-    reads_back_wires(&rt, &net)?;
-    reads_back_modules(&rt, &net)?;
-    finds_drivers(&rt, &net);
-    fill(alloc, &mut net)?;
-    refuses_more(&rt, alloc, &mut net)
+    tries_edits(&rt, alloc, &mut net)
 }
 
 /// The horizon of a new netlist, or why there is none.
