@@ -74,11 +74,11 @@ fn first_cell_at(netlist: &Netlist, id: ModuleId) -> Option<Cell>
 }
 
 /// The event module that a record stands for.
-fn built(record: &ModuleRecord) -> CoreModule
-    requires { IsTrue (are_params record.now.kind 1 record.now.params) }
-    ensures { result ≡ built record.now }
+fn built(found: &ModuleRecord) -> CoreModule
+    requires { IsTrue (are_params found.now.kind 1 found.now.params) }
+    ensures { result ≡ built found.now }
 {
-    match CoreModule::of(record.kind, record.params.as_slice()) {
+    match CoreModule::of(found.kind, found.params.as_slice()) {
         Some(part) => part,
         None => unreachable!(),
     }
