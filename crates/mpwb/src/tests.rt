@@ -126,46 +126,93 @@ const CREW: Options = Options {
 
 const BUF: &str = "horizon 20\nwire a 1 0\nwire y 1 0\nmodule b BUF : a > y/3\nstim a 2=1 5=0\n";
 
+/// What `waves` writes for a text. Memory is ample here, so a run that always answers that memory ran out fails each row.
+fn written(alloc: Global, text: &[u8]) -> Result<Vec<u8>, RunFault> {
+    let mut source = ReadSource::new(text);
+    let mut sink = WriteSink::new(Vec::new(alloc));
+    run_waves(alloc, &mut source, &mut sink, &CREW)?;
+    Ok(sink.into_inner())
+}
+
 #[test]
-fn waves_are_written(rt: HostRuntime) -> Result<(), RunFault> {
-    for (text, lines) in [
-        ("horizon 1", ""),
-        (BUF, "a 0 2=1 5=0\ny 0 5=1 8=0\n"),
-        (
-            "horizon 5\nwire y 1 0\nwire z 1 0\nmodule n NOT : y > y/1\nmodule b BUF : y > z/3\n",
-            "y 0 1=1 2=0 3=1 4=0\nz 0 4=1\n",
-        ),
-        (
-            "horizon 20\nwire a 1 0\nwire b 1 0\nwire y 1 0\nmodule c C 0 0 0 : a b > y/2\nstim a 3=1\nstim b 7=1\n",
-            "a 0 3=1\nb 0 7=1\ny 0 9=1\n",
-        ),
-    ] {
-        let mut source = ReadSource::new(text.as_bytes());
-        let mut sink = WriteSink::new(Vec::new(rt.alloc()));
-        run_waves(rt.alloc(), &mut source, &mut sink, &CREW)?;
-        assert_eq!(rt; sink.into_inner().as_slice(), lines.as_bytes(), "{text}");
-    }
+fn no_wires(rt: HostRuntime) -> Result<(), RunFault> {
+    let lines = written(rt.alloc(), b"horizon 1")?;
+    assert!(rt; lines.is_empty());
     Ok(())
 }
 
 #[test]
-fn a_refused_text_comes_before_a_bad_count(rt: HostRuntime) {
+fn buf(rt: HostRuntime) -> Result<(), RunFault> {
+    let lines = written(rt.alloc(), BUF.as_bytes())?;
+    assert_eq!(rt; lines.as_slice(), b"a 0 2=1 5=0\ny 0 5=1 8=0\n".as_slice());
+    Ok(())
+}
+
+#[test]
+fn self_loop(rt: HostRuntime) -> Result<(), RunFault> {
+    let text =
+        b"horizon 5\nwire y 1 0\nwire z 1 0\nmodule n NOT : y > y/1\nmodule b BUF : y > z/3\n";
+    let lines = written(rt.alloc(), text)?;
+    assert_eq!(rt;
+        lines.as_slice(),
+        b"y 0 1=1 2=0 3=1 4=0\nz 0 4=1\n".as_slice()
+    );
+    Ok(())
+}
+
+#[test]
+fn c_element(rt: HostRuntime) -> Result<(), RunFault> {
+    let text =
+        b"horizon 20\nwire a 1 0\nwire b 1 0\nwire y 1 0\nmodule c C 0 0 0 : a b > y/2\nstim a 3=1\nstim b 7=1\n";
+    let lines = written(rt.alloc(), text)?;
+    assert_eq!(rt; lines.as_slice(), b"a 0 3=1\nb 0 7=1\ny 0 9=1\n".as_slice());
+    Ok(())
+}
+
+#[test]
+fn two_stage_control(rt: HostRuntime) -> Result<(), RunFault> {
+    let text =
+        b"horizon 20\nwire r 1 0\nwire ack 1 0\nwire q1 1 0\nwire q2 1 0\nmodule c1 C 0 0 1 : r q2 > q1/2\nmodule c2 C 0 0 1 : q1 ack > q2/2\nstim r 1=1 4=0\nstim ack 10=1\n";
+    let lines = written(rt.alloc(), text)?;
+    assert_eq!(rt;
+        lines.as_slice(),
+        b"r 0 1=1 4=0\nack 0 10=1\nq1 0 3=1 7=0\nq2 0 5=1 12=0\n".as_slice()
+    );
+    Ok(())
+}
+
+#[test]
+fn delay_past_horizon(rt: HostRuntime) -> Result<(), RunFault> {
+    let text = b"horizon 20\nwire a 1 0\nwire y 1 0\nmodule b BUF : a > y/65535\nstim a 2=1 5=0\n";
+    let lines = written(rt.alloc(), text)?;
+    assert_eq!(rt; lines.as_slice(), b"a 0 2=1 5=0\ny 0\n".as_slice());
+    Ok(())
+}
+
+#[test]
+fn bad_texts(rt: HostRuntime) {
     let none = Options { workers: 0, ..CREW };
-    for (text, fault) in [
+    let texts: [(&[u8], RunFault); 6] = [
         (
-            "horizon 20\nwire a 1 0\nwire y 1 0\nmodule b BUF : a >\n",
+            b"horizon 20\nwire a 1 0\nwire y 1 0\nmodule b BUF : a >\n",
             text_fault(4, TextCode::WordCount),
         ),
-        ("", text_fault(0, TextCode::NoHorizon)),
-        (BUF, RunFault::BadCount),
-    ] {
-        let mut source = ReadSource::new(text.as_bytes());
+        (
+            b"horizon 20\nwire \xc8 1 0\n",
+            text_fault(2, TextCode::NotAscii),
+        ),
+        (b"wire a 1 0", text_fault(1, TextCode::NoHorizon)),
+        (b"", text_fault(0, TextCode::NoHorizon)),
+        (b"horizon 0", text_fault(1, TextCode::BadNumber)),
+        // A count out of its range is told after every fault of the text.
+        (b"horizon 1", RunFault::BadCount),
+    ];
+    for (text, fault) in texts {
+        let mut source = ReadSource::new(text);
         let mut sink = WriteSink::new(Vec::new(rt.alloc()));
-        assert_eq!(rt;
-            run_waves(rt.alloc(), &mut source, &mut sink, &none),
-            Err(fault)
-        );
-        assert!(rt; sink.into_inner().is_empty(), "{text}");
+        let ended = run_waves(rt.alloc(), &mut source, &mut sink, &none);
+        assert_eq!(rt; ended, Err(fault));
+        assert!(rt; sink.into_inner().is_empty());
     }
 }
 
