@@ -18,7 +18,7 @@ pub unchanged : (n : ℕ) → not (n == n) ≡ false
 unchanged n = ap not (eq-eqb n n refl)
 
 -- where the test decides again, the choice is made again
-again : (b : Bool) (a former : ℕ) → cond b a (cond b a former) ≡ cond b a former
+pub again : (b : Bool) (a former : ℕ) → cond b a (cond b a former) ≡ cond b a former
 again true a former = refl
 again false a former = refl
 

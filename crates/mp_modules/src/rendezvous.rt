@@ -15,7 +15,7 @@ pub struct Rendezvous {
 
 impl Rendezvous {
     /// A C-element from its parameters.
-    pub(crate) fn from_params(params: &[u64]) -> Rendezvous
+    pub fn from_params(params: &[u64]) -> Rendezvous
         ensures { result ≡ rendezvous params.now }
     {
         Rendezvous {
