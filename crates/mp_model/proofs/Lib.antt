@@ -6,3 +6,4 @@ pub mod EvaluationLemmas
 pub mod TracksLemmas
 pub mod CellsLemmas
 pub mod EndsLemmas
+pub mod StreamLemmas

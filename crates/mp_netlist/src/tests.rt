@@ -4,6 +4,7 @@ use crate::{
 };
 use mp_modules::Kind;
 use std::alloc::{AllocError, Global};
+use std::process::Abort;
 use std::test::Fail;
 
 fn name(alloc: Global, text: &str) -> Result<Name, AllocError> {
@@ -18,37 +19,31 @@ fn wire(alloc: Global, text: &str, width: u64, level: u64) -> Result<Edit, Alloc
     })
 }
 
-/// A module with these parameters, inputs and outputs, an output `-` being one without a wire.
+/// A module with inputs divided by spaces, and one output with its delay, `-` being one without a wire.
 fn module(
     alloc: Global,
     text: &str,
     kind: Kind,
     params: &[u64],
-    inputs: &[&str],
-    outputs: &[(&str, u64)],
+    inputs: &str,
+    output: &str,
+    delay: u64,
 ) -> Result<Edit, AllocError> {
     let mut names = Vec::new(alloc);
-    for input in inputs {
+    for input in inputs.split(' ') {
         names.push(name(alloc, input)?)?;
     }
-    let mut ports = Vec::new(alloc);
-    for (output, delay) in outputs {
-        let wire = if *output == "-" {
-            None
-        } else {
-            Some(name(alloc, output)?)
-        };
-        ports.push(OutputName {
-            wire,
-            delay: *delay,
-        })?;
-    }
+    let wire = if output == "-" {
+        None
+    } else {
+        Some(name(alloc, output)?)
+    };
     Ok(Edit::AddModule {
         name: name(alloc, text)?,
         kind,
         params: Params::new(params.to_vec(alloc)?),
         inputs: InputNames::new(names),
-        outputs: OutputNames::new(ports),
+        outputs: OutputNames::new(vec![in alloc; OutputName { wire, delay }]?),
     })
 }
 
@@ -59,16 +54,52 @@ fn stimulus(alloc: Global, text: &str, changes: &[(u64, u64)]) -> Result<Edit, A
     })
 }
 
+fn add_wires(alloc: Global, net: &mut Netlist) -> Result<(), Fail> {
+    for text in ["a", "b", "y", "z"] {
+        net.apply(&wire(alloc, text, 1, 0)?)?;
+    }
+    net.apply(&wire(alloc, "d", 8, 255)?)?;
+    Ok(())
+}
+
 /// Wires `a`, `b`, `y` and `z` of width 1 and `d` of width 8, and a module `m` from `a` to `y`; `b` has a stimulus.
 fn sample(alloc: Global) -> Result<Netlist, Fail> {
-    let mut netlist = Netlist::empty(alloc, 20)?;
-    for text in ["a", "b", "y", "z"] {
-        netlist.apply(&wire(alloc, text, 1, 0)?)?;
+    let mut net = Netlist::empty(alloc, 20)?;
+    add_wires(alloc, &mut net)?;
+    net.apply(&module(alloc, "m", Kind::Buf, &[], "a", "y", 5)?)?;
+    net.apply(&stimulus(alloc, "b", &[(3, 1), (19, 0)])?)?;
+    Ok(net)
+}
+
+/// The sample refuses the edit so.
+fn refuses(
+    rt: &impl Abort,
+    alloc: Global,
+    edit: Result<Edit, AllocError>,
+    error: EditError,
+) -> Result<(), Fail> {
+    let edit = edit?;
+    let mut net = sample(alloc)?;
+    assert_eq!(rt; net.apply(&edit).err(), Some(error));
+    Ok(())
+}
+
+/// Adds wires until there are 8,192.
+fn fill_wires(alloc: Global, net: &mut Netlist) -> Result<(), Fail> {
+    for number in 5..8192 {
+        let text = format!(in alloc; "w{number}")?;
+        net.apply(&wire(alloc, text.as_str(), 64, u64::MAX)?)?;
     }
-    netlist.apply(&wire(alloc, "d", 8, 255)?)?;
-    netlist.apply(&module(alloc, "m", Kind::Buf, &[], &["a"], &[("y", 5)])?)?;
-    netlist.apply(&stimulus(alloc, "b", &[(3, 1), (19, 0)])?)?;
-    Ok(netlist)
+    Ok(())
+}
+
+/// Adds modules until there are 4,096.
+fn fill_modules(alloc: Global, net: &mut Netlist) -> Result<(), Fail> {
+    for number in 1..4096 {
+        let text = format!(in alloc; "m{number}")?;
+        net.apply(&module(alloc, text.as_str(), Kind::Not, &[], "a", "-", 1)?)?;
+    }
+    Ok(())
 }
 
 #[test]
@@ -88,224 +119,207 @@ fn horizons(rt: HostRuntime) -> Result<(), Fail> {
 #[test]
 fn wires_refused(rt: HostRuntime) -> Result<(), Fail> {
     let alloc = rt.alloc();
-    let mut netlist = sample(alloc)?;
-    for (text, width, level, error) in [
-        ("1a", 0, 2, EditError::BadName),
-        ("a", 0, 2, EditError::NameTaken),
-        ("n", 0, 2, EditError::BadWidth),
-        ("n", 65, 0, EditError::BadWidth),
-        ("n", 3, 8, EditError::BadLevel),
-    ] {
-        assert_eq!(rt;
-            netlist.apply(&wire(alloc, text, width, level)?).err(),
-            Some(error)
-        );
-    }
-    for number in 5..8192 {
-        netlist.apply(&wire(
-            alloc,
-            format!(in alloc; "w{number}")?.as_str(),
-            64,
-            u64::MAX,
-        )?)?;
-    }
+    refuses(&rt, alloc, wire(alloc, "1a", 0, 2), EditError::BadName)?;
+    refuses(&rt, alloc, wire(alloc, "a", 0, 2), EditError::NameTaken)?;
+    refuses(&rt, alloc, wire(alloc, "n", 0, 2), EditError::BadWidth)?;
+    refuses(&rt, alloc, wire(alloc, "n", 65, 0), EditError::BadWidth)?;
+    refuses(&rt, alloc, wire(alloc, "n", 3, 8), EditError::BadLevel)
+}
+
+#[test]
+fn wire_table_full(rt: HostRuntime) -> Result<(), Fail> {
+    let alloc = rt.alloc();
+    let mut net = sample(alloc)?;
+    fill_wires(alloc, &mut net)?;
     assert_eq!(rt;
-        netlist.apply(&wire(alloc, "n", 3, 8)?).err(),
+        net.apply(&wire(alloc, "n", 3, 8)?).err(),
         Some(EditError::BadLevel)
     );
     assert_eq!(rt;
-        netlist.apply(&wire(alloc, "n", 3, 7)?).err(),
+        net.apply(&wire(alloc, "n", 3, 7)?).err(),
         Some(EditError::TableFull)
     );
-    assert_eq!(rt; netlist.wire_slots(), 8192);
+    assert_eq!(rt; net.wire_slots(), 8192);
     Ok(())
 }
 
 #[test]
 fn modules_refused(rt: HostRuntime) -> Result<(), Fail> {
     let alloc = rt.alloc();
-    let mut netlist = sample(alloc)?;
-    let none: &[u64] = &[];
-    let free: &[u64] = &[0, 1, 1];
     let high: &[u64] = &[0, 2, 1];
-    for (text, kind, params, inputs, outputs, error) in [
-        (
-            "_m",
-            Kind::C,
-            high,
-            ["a", "x"].as_slice(),
-            [("d", 0)].as_slice(),
-            EditError::BadName,
-        ),
-        (
-            "m",
-            Kind::C,
-            high,
-            ["a"].as_slice(),
-            [("x", 0)].as_slice(),
-            EditError::NameTaken,
-        ),
-        (
-            "n",
-            Kind::C,
-            high,
-            ["a"].as_slice(),
-            [("x", 0)].as_slice(),
-            EditError::WrongPorts,
-        ),
-        (
-            "n",
-            Kind::C,
-            high,
-            ["d", "x"].as_slice(),
-            [("y", 0)].as_slice(),
-            EditError::NoSuchWire,
-        ),
-        (
-            "n",
-            Kind::C,
-            high,
-            ["d", "a"].as_slice(),
-            [("x", 0)].as_slice(),
-            EditError::NoSuchWire,
-        ),
-        (
-            "n",
-            Kind::C,
-            high,
-            ["a", "d"].as_slice(),
-            [("y", 0)].as_slice(),
-            EditError::WidthMismatch,
-        ),
-        (
-            "n",
-            Kind::Buf,
-            free,
-            ["d"].as_slice(),
-            [("y", 0)].as_slice(),
-            EditError::WidthMismatch,
-        ),
-        (
-            "n",
-            Kind::C,
-            high,
-            ["a", "b"].as_slice(),
-            [("y", 0)].as_slice(),
-            EditError::BadParam,
-        ),
-        (
-            "n",
-            Kind::C,
-            none,
-            ["a", "b"].as_slice(),
-            [("y", 0)].as_slice(),
-            EditError::BadParam,
-        ),
-        (
-            "n",
-            Kind::C,
-            free,
-            ["a", "b"].as_slice(),
-            [("y", 0)].as_slice(),
-            EditError::BadDelay,
-        ),
-        (
-            "n",
-            Kind::Not,
-            none,
-            ["a"].as_slice(),
-            [("-", 65_536)].as_slice(),
-            EditError::BadDelay,
-        ),
-        (
-            "n",
-            Kind::Not,
-            none,
-            ["a"].as_slice(),
-            [("y", 1)].as_slice(),
-            EditError::AlreadyDriven,
-        ),
-        (
-            "n",
-            Kind::Not,
-            none,
-            ["a"].as_slice(),
-            [("b", 1)].as_slice(),
-            EditError::AlreadyDriven,
-        ),
-    ] {
-        let edit = module(alloc, text, kind, params, inputs, outputs)?;
-        assert_eq!(rt; netlist.apply(&edit).err(), Some(error));
-    }
-    for number in 1..4096 {
-        let text = format!(in alloc; "m{number}")?;
-        netlist.apply(&module(alloc, text.as_str(), Kind::Not, none, &["a"], &[("-", 1)])?)?;
-    }
-    let late = module(alloc, "n", Kind::Not, none, &["a"], &[("y", 1)])?;
-    assert_eq!(rt; netlist.apply(&late).err(), Some(EditError::AlreadyDriven));
-    let last = module(alloc, "n", Kind::Not, none, &["a"], &[("z", 65_535)])?;
-    assert_eq!(rt; netlist.apply(&last).err(), Some(EditError::TableFull));
-    assert_eq!(rt; netlist.module_slots(), 4096);
+    refuses(
+        &rt,
+        alloc,
+        module(alloc, "_m", Kind::C, high, "a", "x", 0),
+        EditError::BadName,
+    )?;
+    refuses(
+        &rt,
+        alloc,
+        module(alloc, "m", Kind::C, high, "a", "x", 0),
+        EditError::NameTaken,
+    )?;
+    refuses(
+        &rt,
+        alloc,
+        module(alloc, "n", Kind::C, high, "a", "x", 0),
+        EditError::WrongPorts,
+    )?;
+    refuses(
+        &rt,
+        alloc,
+        module(alloc, "n", Kind::C, high, "d a", "x", 0),
+        EditError::NoSuchWire,
+    )?;
+    refuses(
+        &rt,
+        alloc,
+        module(alloc, "n", Kind::C, high, "a d", "y", 0),
+        EditError::WidthMismatch,
+    )?;
+    refuses(
+        &rt,
+        alloc,
+        module(alloc, "n", Kind::C, high, "a b", "y", 0),
+        EditError::BadParam,
+    )
+}
+
+#[test]
+fn outputs_refused(rt: HostRuntime) -> Result<(), Fail> {
+    let alloc = rt.alloc();
+    refuses(
+        &rt,
+        alloc,
+        module(alloc, "n", Kind::Buf, &[1], "d", "y", 0),
+        EditError::WidthMismatch,
+    )?;
+    refuses(
+        &rt,
+        alloc,
+        module(alloc, "n", Kind::Not, &[], "a", "y", 0),
+        EditError::BadDelay,
+    )?;
+    refuses(
+        &rt,
+        alloc,
+        module(alloc, "n", Kind::Not, &[], "a", "-", 65_536),
+        EditError::BadDelay,
+    )?;
+    refuses(
+        &rt,
+        alloc,
+        module(alloc, "n", Kind::Not, &[], "a", "y", 1),
+        EditError::AlreadyDriven,
+    )?;
+    refuses(
+        &rt,
+        alloc,
+        module(alloc, "n", Kind::Not, &[], "a", "b", 1),
+        EditError::AlreadyDriven,
+    )
+}
+
+#[test]
+fn module_table_full(rt: HostRuntime) -> Result<(), Fail> {
+    let alloc = rt.alloc();
+    let mut net = sample(alloc)?;
+    fill_modules(alloc, &mut net)?;
+    let driven = module(alloc, "n", Kind::Not, &[], "a", "y", 1)?;
+    assert_eq!(rt; net.apply(&driven).err(), Some(EditError::AlreadyDriven));
+    let free = module(alloc, "n", Kind::Not, &[], "a", "z", 65_535)?;
+    assert_eq!(rt; net.apply(&free).err(), Some(EditError::TableFull));
+    assert_eq!(rt; net.module_slots(), 4096);
     Ok(())
 }
 
 #[test]
 fn stimuli_refused(rt: HostRuntime) -> Result<(), Fail> {
     let alloc = rt.alloc();
-    let mut netlist = sample(alloc)?;
-    for (text, changes, error) in [
-        ("x", [(0, 2)].as_slice(), EditError::NoSuchWire),
-        ("y", [(0, 2)].as_slice(), EditError::AlreadyDriven),
-        ("a", [(0, 1)].as_slice(), EditError::BadStimulus),
-        ("a", [(20, 1)].as_slice(), EditError::BadStimulus),
-        ("a", [(2, 1), (2, 0)].as_slice(), EditError::BadStimulus),
-        ("a", [(2, 2)].as_slice(), EditError::BadStimulus),
-        ("d", [(2, 256)].as_slice(), EditError::BadStimulus),
-    ] {
-        assert_eq!(rt;
-            netlist.apply(&stimulus(alloc, text, changes)?).err(),
-            Some(error)
-        );
-    }
+    refuses(
+        &rt,
+        alloc,
+        stimulus(alloc, "x", &[(0, 2)]),
+        EditError::NoSuchWire,
+    )?;
+    refuses(
+        &rt,
+        alloc,
+        stimulus(alloc, "y", &[(0, 2)]),
+        EditError::AlreadyDriven,
+    )?;
+    refuses(
+        &rt,
+        alloc,
+        stimulus(alloc, "a", &[(0, 1)]),
+        EditError::BadStimulus,
+    )?;
+    refuses(
+        &rt,
+        alloc,
+        stimulus(alloc, "a", &[(20, 1)]),
+        EditError::BadStimulus,
+    )?;
+    refuses(
+        &rt,
+        alloc,
+        stimulus(alloc, "a", &[(2, 1), (2, 0)]),
+        EditError::BadStimulus,
+    )?;
+    refuses(
+        &rt,
+        alloc,
+        stimulus(alloc, "d", &[(2, 256)]),
+        EditError::BadStimulus,
+    )
+}
+
+#[test]
+fn wires_read_back(rt: HostRuntime) -> Result<(), Fail> {
+    let net = sample(rt.alloc())?;
+    assert_eq!(rt; net.wire_named("d"), Some(WireId(4)));
+    assert_eq!(rt; net.wire_named("m"), None);
+    assert!(rt; net.wire(WireId(5)).is_none());
+    let found = net.wire(WireId(4)).ok_or("no wire d")?;
+    assert!(rt; found.name.as_str() == "d");
+    assert_eq!(rt; found.width, 8);
+    assert_eq!(rt; found.initial, 255);
     Ok(())
 }
 
 #[test]
-fn edits_read_back(rt: HostRuntime) -> Result<(), Fail> {
-    let alloc = rt.alloc();
-    let mut netlist = sample(alloc)?;
-    let d = netlist.wire_named("d").ok_or("no d")?;
-    let found = netlist.wire(d).ok_or("no wire d")?;
-    assert_eq!(rt;
-        (d, found.name.as_str(), found.width, found.initial),
-        (WireId(4), "d", 8, 255)
-    );
-    let m = netlist.module_named("m").ok_or("no m")?;
-    let found = netlist.module(m).ok_or("no module m")?;
-    assert_eq!(rt;
-        (m, found.name.as_str(), found.kind, found.delay(0)),
-        (ModuleId(0), "m", Kind::Buf, 5)
-    );
+fn modules_read_back(rt: HostRuntime) -> Result<(), Fail> {
+    let net = sample(rt.alloc())?;
+    assert_eq!(rt; net.module_named("m"), Some(ModuleId(0)));
+    assert_eq!(rt; net.module_named("a"), None);
+    assert!(rt; net.module(ModuleId(1)).is_none());
+    let found = net.module(ModuleId(0)).ok_or("no module m")?;
+    assert!(rt; found.name.as_str() == "m");
+    assert_eq!(rt; found.kind, Kind::Buf);
+    assert_eq!(rt; found.delay(0), 5);
     assert!(rt; found.inputs.as_slice() == [WireId(0)].as_slice());
-    assert_eq!(rt; netlist.driver_of(WireId(2)), Driver::Port(ModuleId(0), 0));
-    assert_eq!(rt; netlist.driver_of(WireId(1)), Driver::Stimulus);
-    assert_eq!(rt; netlist.driver_of(WireId(0)), Driver::Nothing);
+    Ok(())
+}
+
+#[test]
+fn drivers(rt: HostRuntime) -> Result<(), Fail> {
+    let net = sample(rt.alloc())?;
+    assert_eq!(rt; net.driver_of(WireId(0)), Driver::Nothing);
+    assert_eq!(rt; net.driver_of(WireId(1)), Driver::Stimulus);
+    assert_eq!(rt; net.driver_of(WireId(2)), Driver::Port(ModuleId(0), 0));
+    assert_eq!(rt; net.driver_of(WireId(5)), Driver::Nothing);
+    Ok(())
+}
+
+#[test]
+fn stimulus_replaced(rt: HostRuntime) -> Result<(), Fail> {
+    let alloc = rt.alloc();
+    let mut net = sample(alloc)?;
     let edit = stimulus(alloc, "b", &[(5, 1), (7, 1)])?;
-    assert_eq!(rt; netlist.check(&edit).err(), None);
-    netlist.apply(&edit)?;
-    let found = netlist.wire(WireId(1)).ok_or("no wire b")?;
+    assert_eq!(rt; net.check(&edit).err(), None);
+    net.apply(&edit)?;
+    let found = net.wire(WireId(1)).ok_or("no wire b")?;
     let set = found.stimulus.as_ref().ok_or("no stimulus")?;
     assert!(rt; set.as_slice() == [(5, 1), (7, 1)].as_slice());
-    Ok(())
-}
-
-#[test]
-fn nothing_found(rt: HostRuntime) -> Result<(), Fail> {
-    let netlist = sample(rt.alloc())?;
-    assert_eq!(rt; netlist.wire_named("m"), None);
-    assert_eq!(rt; netlist.module_named("a"), None);
-    assert!(rt; netlist.wire(WireId(5)).is_none());
-    assert!(rt; netlist.module(ModuleId(1)).is_none());
-    assert_eq!(rt; netlist.driver_of(WireId(5)), Driver::Nothing);
     Ok(())
 }

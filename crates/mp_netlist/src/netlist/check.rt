@@ -12,7 +12,7 @@ use crate::edit_error::EditError;
 use crate::name::Name;
 use crate::netlist::{MAX_DELAY, MAX_MODULES, MAX_WIRES, Netlist};
 use crate::params::Params;
-use crate::port_names::{InputNames, OutputName, OutputNames};
+use crate::port_names::{InputNames, OutputNames};
 use mp_modules::Kind;
 
 impl Netlist {
@@ -75,8 +75,6 @@ impl Netlist {
         if self.module_named(name.as_str()).is_some() {
             return Err(EditError::NameTaken);
         }
-        let inputs = inputs.as_slice();
-        let outputs = outputs.as_slice();
         if !has_ports(kind, inputs, outputs) {
             return Err(EditError::WrongPorts);
         }
@@ -120,17 +118,18 @@ impl Netlist {
 }
 
 /// Whether there are as many inputs and outputs as the kind has.
-fn has_ports(kind: Kind, inputs: &[Name], outputs: &[OutputName]) -> bool
+fn has_ports(kind: Kind, inputs: &InputNames, outputs: &OutputNames) -> bool
     ensures { result ≡ (length inputs.now == input_count kind && length outputs.now == output_count kind) }
 {
-    inputs.len() == kind.inputs() && outputs.len() == kind.outputs()
+    inputs.as_slice().len() == kind.inputs() && outputs.as_slice().len() == kind.outputs()
 }
 
 /// Whether each output has a delay that a port may have.
-fn are_delays(outputs: &[OutputName]) -> bool
+fn are_delays(outputs: &OutputNames) -> bool
     ensures { result ≡ list_all (λ (port : OutputName). is_delay port.delay) outputs.now }
 {
     outputs
+        .as_slice()
         .iter()
         .all(|port| 1 <= port.delay && port.delay <= MAX_DELAY)
 }

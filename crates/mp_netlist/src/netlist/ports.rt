@@ -91,13 +91,13 @@ impl Netlist {
     }
 
     /// The width of a module of this kind with these inputs.
-    pub(crate) fn new_width(&self, kind: Kind, inputs: &[Name]) -> u32
+    pub(crate) fn new_width(&self, kind: Kind, inputs: &InputNames) -> u32
         ensures { result ≡ new_width self.now kind inputs.now }
     {
         if !kind.has_width() {
             return 1;
         }
-        match inputs {
+        match inputs.as_slice() {
             [first, ..] => self.width_of(first),
             [] => 0,
         }
@@ -130,10 +130,10 @@ impl Netlist {
     }
 
     /// Whether the wires that the ports name stand.
-    pub(crate) fn ports_stand(&self, inputs: &[Name], outputs: &[OutputName]) -> bool
+    pub(crate) fn ports_stand(&self, inputs: &InputNames, outputs: &OutputNames) -> bool
         ensures { result ≡ (list_all (stands self.now) inputs.now && list_all (stands self.now) (driven_names outputs.now)) }
     {
-        self.inputs_stand(inputs) && self.outputs_stand(outputs)
+        self.inputs_stand(inputs.as_slice()) && self.outputs_stand(outputs.as_slice())
     }
 
     /// Whether the wires that the ports name have the ports' widths.
@@ -141,19 +141,20 @@ impl Netlist {
         &self,
         kind: Kind,
         width: u32,
-        inputs: &[Name],
-        outputs: &[OutputName],
+        inputs: &InputNames,
+        outputs: &OutputNames,
     ) -> bool
         ensures { result ≡ (inputs_fit self.now kind width inputs.now && outputs_fit self.now kind width outputs.now) }
     {
-        self.inputs_fit(kind, width, inputs) && self.outputs_fit(kind, width, outputs)
+        self.inputs_fit(kind, width, inputs.as_slice())
+            && self.outputs_fit(kind, width, outputs.as_slice())
     }
 
     /// Whether nothing drives the wires that the outputs name, and no two name one.
-    pub(crate) fn outputs_are_free(&self, outputs: &[OutputName]) -> bool
+    pub(crate) fn outputs_are_free(&self, outputs: &OutputNames) -> bool
         ensures { result ≡ (list_all (is_undriven self.now) (driven_names outputs.now) && are_distinct (driven_names outputs.now)) }
     {
-        self.outputs_are_undriven(outputs) && are_distinct(outputs)
+        self.outputs_are_undriven(outputs.as_slice()) && are_distinct(outputs.as_slice())
     }
 
     /// The numbers of the wires that the inputs name.

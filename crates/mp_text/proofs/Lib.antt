@@ -1,0 +1,6 @@
+pub mod DigitLemmas
+pub mod LineLemmas
+pub mod ReplayLemmas
+pub mod TextLemmas
+pub mod WordLemmas
+pub mod WordListLemmas

@@ -1,0 +1,14 @@
+use Rattle.std.proofs.Common.{◌≡◌, ◌+◌, ◌≤◌, length, None}
+use Rattle.mp_text.specs.Lines.{lines_of}
+use Rattle.mp_text.specs.Texts.{after_lines}
+use Rattle.mp_text.proofs.reading.read_netlist.Given as goal
+
+-- the lines that are left go on from the netlist so far
+abbrev pub invariant-loop-rest : goal.invariant-loop-rest
+invariant-loop-rest l = record {
+  within : l.number + length l.rest ≤ 4194304;
+  same : after_lines l.number l.state (lines_of l.rest) ≡ after_lines 0 None (lines_of l.text);
+}
+
+abbrev pub decreases-loop-rest : goal.decreases-loop-rest
+decreases-loop-rest l = length l.rest

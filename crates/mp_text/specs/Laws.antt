@@ -1,0 +1,44 @@
+-- What the netlist of a text is made of.
+use Rattle.std.specs.Prelude.{◌≡◌, ℕ, List, [], ◌∷◌, Option, Some, None, Ok, Err, map}
+use Rattle.std.specs.List.{filter_map}
+use Rattle.mp_netlist.specs.declared.edit.Edit.{Edit}
+use Rattle.mp_netlist.specs.Circuit.{Circuit, empty_circuit}
+use Rattle.mp_model.specs.Replays.{replay}
+use Rattle.mp_text.specs.Lines.{lines_of}
+use Rattle.mp_text.specs.Words.{words_of}
+use Rattle.mp_text.specs.Statements.{Statement, Blank, Unknown, Start, Change, statement_of}
+use Rattle.mp_text.specs.Texts.{text_at}
+
+abbrev pub horizon_of : Statement → Option ℕ
+horizon_of Blank = None
+horizon_of Unknown = None
+horizon_of (Start (Ok horizon)) = Some horizon
+horizon_of (Start (Err code)) = None
+horizon_of (Change edit) = None
+
+abbrev pub edit_of : Statement → Option Edit
+edit_of Blank = None
+edit_of Unknown = None
+edit_of (Start horizon) = None
+edit_of (Change (Ok edit)) = Some edit
+edit_of (Change (Err code)) = None
+
+-- the statement of each line
+abbrev pub statements : List (List ℕ) → List Statement
+statements lines = map (λ line. statement_of (words_of line)) lines
+
+-- the horizons that the lines state
+abbrev pub horizons_of : List (List ℕ) → List ℕ
+horizons_of lines = filter_map horizon_of (statements lines)
+
+-- the edits that the lines state, in order
+abbrev pub edits_of : List (List ℕ) → List Edit
+edits_of lines = filter_map edit_of (statements lines)
+
+-- the lines state one horizon, and the netlist is the replay of their edits on its empty netlist
+abbrev pub IsReplayed : List (List ℕ) → Circuit → Type 0
+IsReplayed lines n = (h : ℕ) × ((horizons_of lines ≡ h ∷ []) × (replay (empty_circuit h) (edits_of lines) ≡ Ok n))
+
+-- each text that is read is replayed
+abbrev pub IsReplay : Type 0
+IsReplay = (text : List ℕ) (n : Circuit) → text_at text ≡ Ok n → IsReplayed (lines_of text) n

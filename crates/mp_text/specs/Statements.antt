@@ -1,0 +1,109 @@
+-- What a line's words say.
+use Rattle.std.specs.Prelude.{ℕ, ◌&&◌, ◌||◌, Bool, ◌==◌, List, [], ◌∷◌, length, Option, Some, None, Result, Ok, Err, nat_le, if◌then◌else◌, codes, option_map}
+use Rattle.std.specs.Option.{ok_or}
+use Rattle.std.specs.Str.{byte, bytes_eq}
+use Rattle.std.specs.List.{before_first, after_first}
+use Rattle.mp_modules.specs.declared.kind.Kind.{Kind}
+use Rattle.mp_modules.specs.Kinds.{kind_named}
+use Rattle.mp_netlist.specs.declared.port_names.OutputName.{OutputName}
+use Rattle.mp_netlist.specs.declared.edit.Edit.{Edit}
+use Rattle.mp_netlist.specs.declared.edit.Edit.TheVariants.{AddWire, AddModule, SetStimulus}
+use Rattle.mp_text.specs.declared.text_code.TextCode.{TextCode}
+use Rattle.mp_text.specs.declared.text_code.TextCode.TheVariants.{UnknownStatement, WordCount, BadNumber}
+use Rattle.mp_text.specs.Numbers.{spelled_number, time_and_value, name_and_number}
+use Rattle.mp_text.specs.Reads.{◌>>=◌}
+
+abbrev pub number_word : List ℕ → Result ℕ TextCode
+number_word word = ok_or (spelled_number word) BadNumber
+
+abbrev pub change_word : List ℕ → Result (ℕ × ℕ) TextCode
+change_word word = ok_or (time_and_value word) BadNumber
+
+abbrev pub kind_word : List ℕ → Result Kind TextCode
+kind_word word = ok_or (kind_named word) UnknownStatement
+
+-- the wire that is named, where `-` names none
+abbrev pub wire_or_none : List ℕ → Option (List ℕ)
+wire_or_none name = if bytes_eq name (codes "-") then None else Some name
+
+abbrev pub output_to : List ℕ × ℕ → OutputName
+output_to pair = record { wire = wire_or_none pair.0; delay = pair.1 }
+
+-- an output with its delay, as `y/3`, or `-` for one without a wire
+unfoldable pub output_word : List ℕ → Result OutputName TextCode
+output_word word =
+    if bytes_eq word (codes "-") then Ok (output_to (word, 1))
+    else ok_or (option_map output_to (name_and_number word)) BadNumber
+
+-- what each of the words says, or the code of the first that cannot be read
+unfoldable pub each_word : {A : Type 0} → (List ℕ → Result A TextCode) → List (List ℕ) → Result (List A) TextCode
+each_word read [] = Ok []
+each_word read (word ∷ words) = do
+  item ← read word
+  items ← each_word read words
+  Ok (item ∷ items)
+
+-- a number of units from 1 to 65,536
+unfoldable pub horizon_word : List ℕ → Result ℕ TextCode
+horizon_word word = do
+  horizon ← number_word word
+  if nat_le 1 horizon && nat_le horizon 65536 then Ok horizon else Err BadNumber
+
+-- the horizon of the words behind `horizon`
+unfoldable pub stated_horizon : List (List ℕ) → Result ℕ TextCode
+stated_horizon (word ∷ []) = horizon_word word
+stated_horizon _ = Err WordCount
+
+-- the edit of the words behind `wire`
+unfoldable pub wire_edit : List (List ℕ) → Result Edit TextCode
+wire_edit (name ∷ width ∷ level ∷ []) = do
+  w ← number_word width
+  l ← number_word level
+  Ok (AddWire name w l)
+wire_edit _ = Err WordCount
+
+-- the edit of the parts of the words behind `module`, where there is an input and an output
+unfoldable pub parts_edit : List ℕ → List ℕ → List (List ℕ) → List (List ℕ) → List (List ℕ) → Result Edit TextCode
+parts_edit name kind params inputs outputs =
+    if length inputs == 0 || length outputs == 0 then Err WordCount
+    else (do
+      k ← kind_word kind
+      numbers ← each_word number_word params
+      ports ← each_word output_word outputs
+      Ok (AddModule name k numbers inputs ports))
+
+-- a word of one byte alone
+abbrev pub is_mark : ℕ → List ℕ → Bool
+is_mark mark word = bytes_eq word (mark ∷ [])
+
+-- the edit of the words behind `module`: the first `:` behind the kind and the first `>` behind it divide them
+-- (where one of these is missing there are no outputs)
+unfoldable pub module_edit : List (List ℕ) → Result Edit TextCode
+module_edit (name ∷ kind ∷ words) =
+    let ports = after_first (is_mark (byte ":")) words in
+    parts_edit name kind (before_first (is_mark (byte ":")) words) (before_first (is_mark (byte ">")) ports) (after_first (is_mark (byte ">")) ports)
+module_edit _ = Err WordCount
+
+-- the edit of the words behind `stim`
+unfoldable pub stimulus_edit : List (List ℕ) → Result Edit TextCode
+stimulus_edit [] = Err WordCount
+stimulus_edit (wire ∷ words) = do
+  changes ← each_word change_word words
+  Ok (SetStimulus wire changes)
+
+-- a line without words, one that begins with another word, the horizon that begins a text, or an edit
+pub data Statement : Type 0 where
+  Blank : Statement
+  Unknown : Statement
+  Start : Result ℕ TextCode → Statement
+  Change : Result Edit TextCode → Statement
+
+-- the statement of a line's words
+unfoldable pub statement_of : List (List ℕ) → Statement
+statement_of [] = Blank
+statement_of (word ∷ words) =
+    if bytes_eq word (codes "horizon") then Start (stated_horizon words)
+    else (if bytes_eq word (codes "wire") then Change (wire_edit words)
+    else (if bytes_eq word (codes "module") then Change (module_edit words)
+    else (if bytes_eq word (codes "stim") then Change (stimulus_edit words)
+    else Unknown)))

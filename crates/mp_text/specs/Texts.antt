@@ -1,0 +1,48 @@
+-- What a netlist's text means.
+use Rattle.std.specs.Prelude.{ℕ, ◌+◌, List, [], ◌∷◌, length, Option, Some, None, Result, Ok, Err, nat_le, if◌then◌else◌}
+use Rattle.std.specs.Result.{result_map_both}
+use Rattle.std.specs.List.{list_all}
+use Rattle.mp_netlist.specs.Circuit.{Circuit, empty_circuit}
+use Rattle.mp_netlist.specs.Edits.{after}
+use Rattle.mp_text.specs.declared.text_code.TextCode.{TextCode}
+use Rattle.mp_text.specs.declared.text_code.TextCode.TheVariants.{NotAscii, UnknownStatement, NoHorizon, SecondHorizon, Refused, TooLong}
+use Rattle.mp_text.specs.declared.text_error.TextError.{TextError}
+use Rattle.mp_text.specs.Lines.{lines_of, is_allowed}
+use Rattle.mp_text.specs.Words.{words_of}
+use Rattle.mp_text.specs.Statements.{Statement, Blank, Unknown, Start, Change, statement_of}
+use Rattle.mp_text.specs.Reads.{◌>>=◌}
+
+-- the netlist after a statement: none stands before the horizon
+unfoldable pub after_statement : Option Circuit → Statement → Result (Option Circuit) TextCode
+after_statement state Blank = Ok state
+after_statement state Unknown = Err UnknownStatement
+after_statement None (Start horizon) = do
+  h ← horizon
+  Ok (Some (empty_circuit h))
+after_statement (Some n) (Start horizon) = Err SecondHorizon
+after_statement None (Change edit) = Err NoHorizon
+after_statement (Some n) (Change edit) = do
+  e ← edit
+  result_map_both Some Refused (after n e)
+
+-- the netlist after a line
+unfoldable pub after_line : Option Circuit → List ℕ → Result (Option Circuit) TextCode
+after_line state line = if list_all is_allowed line then after_statement state (statement_of (words_of line)) else Err NotAscii
+
+abbrev pub finished : ℕ → Option Circuit → Result Circuit TextError
+finished n None = Err (record { line = n; code = NoHorizon })
+finished n (Some net) = Ok net
+
+-- goes on where the line, the one after n, was read
+abbrev pub next_line : ℕ → (Option Circuit → Result Circuit TextError) → Result (Option Circuit) TextCode → Result Circuit TextError
+next_line n go (Ok state) = go state
+next_line n go (Err code) = Err (record { line = n + 1; code = code })
+
+-- the netlist after the lines, of which n came before
+unfoldable pub after_lines : ℕ → Option Circuit → List (List ℕ) → Result Circuit TextError
+after_lines n state [] = finished n state
+after_lines n state (line ∷ lines) = next_line n (λ after. after_lines (n + 1) after lines) (after_line state line)
+
+-- the netlist of a text, or the first line that fails
+unfoldable pub text_at : List ℕ → Result Circuit TextError
+text_at text = if nat_le (length text) 4194304 then after_lines 0 None (lines_of text) else Err (record { line = 0; code = TooLong })

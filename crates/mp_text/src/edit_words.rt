@@ -1,0 +1,132 @@
+//! The edits that statements are.
+ghost use Rattle.std.specs.Prelude.{◌≡◌, ◌<◌, IsAscii, IfSome, length, position};
+ghost use Rattle.std.specs.List.{before_first, after_first};
+ghost use Rattle.mp_text.specs.Reads.{Gives};
+ghost use Rattle.mp_text.specs.Words.{texts, AreAscii};
+ghost use Rattle.mp_text.specs.Statements.{wire_edit, parts_edit, module_edit, stimulus_edit, kind_word, is_mark};
+
+use crate::text_code::TextCode;
+use crate::word::name_of;
+use crate::word_list::{changes, names, number_word, numbers, outputs};
+use mp_modules::Kind;
+use mp_netlist::{Changes, Edit, InputNames, OutputNames, Params};
+use std::alloc::Global;
+
+/// The edit of the words behind `wire`.
+#[tactic(auto, unfolding(crate::specs::Statements::wire_edit))]
+pub fn wire_edit(alloc: Global, words: &[&[u8]]) -> Result<Edit, TextCode>
+    requires { AreAscii words.now }
+    ensures { Gives (λ edit. edit) result (wire_edit (texts words.now)) }
+{
+    let [name, width, level] = words else {
+        return Err(TextCode::WordCount);
+    };
+    let width = number_word(width)?;
+    let level = number_word(level)?;
+    Ok(Edit::AddWire {
+        name: name_of(alloc, name)?,
+        width,
+        level,
+    })
+}
+
+/// The edit of the words behind `stim`.
+#[tactic(auto, unfolding(crate::specs::Statements::stimulus_edit))]
+pub fn stimulus_edit(alloc: Global, words: &[&[u8]]) -> Result<Edit, TextCode>
+    requires { AreAscii words.now }
+    ensures { Gives (λ edit. edit) result (stimulus_edit (texts words.now)) }
+{
+    let [wire, others @ ..] = words else {
+        return Err(TextCode::WordCount);
+    };
+    let changes = changes(alloc, others)?;
+    Ok(Edit::SetStimulus {
+        wire: name_of(alloc, wire)?,
+        changes: Changes::new(changes),
+    })
+}
+
+/// The edit of the words behind `module`.
+#[tactic(auto, unfolding(crate::specs::Statements::module_edit))]
+pub fn module_edit(alloc: Global, words: &[&[u8]]) -> Result<Edit, TextCode>
+    requires { AreAscii words.now }
+    ensures { Gives (λ edit. edit) result (module_edit (texts words.now)) }
+{
+    let [name, kind, others @ ..] = words else {
+        return Err(TextCode::WordCount);
+    };
+    let (params, ports) = divided(b':', others);
+    let (inputs, outputs) = divided(b'>', ports);
+    parts_edit(alloc, name, kind, params, inputs, outputs)
+}
+
+/// The edit of the parts of the words behind `module`.
+#[tactic(auto, unfolding(crate::specs::Statements::parts_edit))]
+fn parts_edit(
+    alloc: Global,
+    name: &[u8],
+    kind: &[u8],
+    params: &[&[u8]],
+    inputs: &[&[u8]],
+    outs: &[&[u8]],
+) -> Result<Edit, TextCode>
+    requires name { IsAscii name.now }
+    requires inputs { AreAscii inputs.now }
+    requires outputs { AreAscii outs.now }
+    ensures { Gives (λ edit. edit) result (parts_edit name.now kind.now (texts params.now) (texts inputs.now) (texts outs.now)) }
+{
+    if inputs.is_empty() || outs.is_empty() {
+        return Err(TextCode::WordCount);
+    }
+    let kind = kind_word(kind)?;
+    let params = numbers(alloc, params)?;
+    let outputs = outputs(alloc, outs)?;
+    let inputs = names(alloc, inputs)?;
+    Ok(Edit::AddModule {
+        name: name_of(alloc, name)?,
+        kind,
+        params: Params::new(params),
+        inputs: InputNames::new(inputs),
+        outputs: OutputNames::new(outputs),
+    })
+}
+
+fn kind_word(word: &[u8]) -> Result<Kind, TextCode>
+    ensures { result ≡ kind_word word.now }
+{
+    Kind::from_word(word).ok_or(TextCode::UnknownStatement)
+}
+
+/// The words before and behind the first that is this byte alone: all and none where there is none.
+fn divided<'a, 'b>(mark: u8, words: &'a [&'b [u8]]) -> (&'a [&'b [u8]], &'a [&'b [u8]])
+    requires { AreAscii words.now }
+    ensures front { texts result.0.now ≡ before_first (is_mark mark) (texts words.now) }
+    ensures back { texts result.1.now ≡ after_first (is_mark mark) (texts words.now) }
+    ensures front_ascii { AreAscii result.0.now }
+    ensures back_ascii { AreAscii result.1.now }
+{
+    split_at_mark(mark, words)
+}
+
+fn split_at_mark<'a, 'b>(mark: u8, words: &'a [&'b [u8]]) -> (&'a [&'b [u8]], &'a [&'b [u8]])
+    ensures front { result.0.now ≡ before_first (λ word. is_mark mark word.now) words.now }
+    ensures back { result.1.now ≡ after_first (λ word. is_mark mark word.now) words.now }
+{
+    match place_of_mark(mark, words) {
+        Some(at) => (&words[..at], &words[at + 1..]),
+        None => (words, &words[words.len()..]),
+    }
+}
+
+fn place_of_mark(mark: u8, words: &[&[u8]]) -> Option<usize>
+    ensures place { result ≡ position (λ word. is_mark mark word.now) words.now }
+    ensures within { IfSome result (λ at. at < length words.now) }
+{
+    words.iter().position(|word| is_mark(mark, word))
+}
+
+fn is_mark(mark: u8, word: &[u8]) -> bool
+    ensures { result ≡ is_mark mark word.now }
+{
+    word == [mark].as_slice()
+}

@@ -1,0 +1,54 @@
+//! Reading a netlist's text.
+ghost use Rattle.mp_text.specs.Reads.{GivesText};
+ghost use Rattle.mp_text.specs.Texts.{text_at};
+
+use crate::line::first_line;
+use crate::statement::line;
+use crate::text_code::TextCode;
+use crate::text_error::TextError;
+use mp_netlist::Netlist;
+use std::alloc::Global;
+
+/// How many bytes a text may have.
+const MAX_TEXT: usize = 4_194_304;
+
+/// The netlist of a text of `horizon`, `wire`, `module` and `stim` statements, one a line: the
+/// empty netlist of the horizon after the edits of the others in turn.
+///
+/// Else the first line that fails, counted from 1, with its first fault: a byte that is not
+/// allowed, also in a comment (`NotAscii`); a first word that is no statement
+/// (`UnknownStatement`); a second `horizon` (`SecondHorizon`) or another statement before it
+/// (`NoHorizon`); the number or shape of the words (`WordCount`); a kind that is none
+/// (`UnknownStatement`); a word that is not the number or pair that it should be, or a horizon not
+/// 1 to 65,536 (`BadNumber`); an edit that is refused (`Refused`). `TooLong` with line 0 is a text
+/// over 4,194,304 bytes, and `NoHorizon` with the number of lines one without a horizon.
+/// `OutOfMemory` comes with the line at which memory was wanting.
+pub fn read_netlist(alloc: Global, text: &[u8]) -> Result<Netlist, TextError>
+    ensures { GivesText result (text_at text.now) }
+{
+    if text.len() > MAX_TEXT {
+        return Err(TextError {
+            line: 0,
+            code: TextCode::TooLong,
+        });
+    }
+    let mut state = None;
+    let mut number = 0;
+    let mut rest = text;
+    while !rest.is_empty() {
+        let (front, others) = first_line(rest);
+        number += 1;
+        match line(alloc, state, front) {
+            Ok(next) => state = next,
+            Err(code) => return Err(TextError { line: number, code }),
+        }
+        rest = others;
+    }
+    match state {
+        Some(netlist) => Ok(netlist),
+        None => Err(TextError {
+            line: number,
+            code: TextCode::NoHorizon,
+        }),
+    }
+}

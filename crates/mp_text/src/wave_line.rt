@@ -1,0 +1,51 @@
+//! Lines of waves.
+ghost use Rattle.std.specs.Prelude.{◌≡◌, ◌∷◌, [], ◌++◌, OnOk};
+ghost use Rattle.std.specs.Fmt.{decimal};
+ghost use Rattle.mp_text.specs.WaveLines.{change_text, changes_text, wave_line};
+
+use std::alloc::AllocError;
+
+/// Puts a wire's line behind the text: its name, its first level, ` T=V` for each change, and a
+/// line feed. Where memory is wanting, a part of the line may stand behind the text.
+pub fn push_wave_line(
+    text: &mut Vec<u8>,
+    name: &str,
+    initial: u64,
+    changes: &[(u32, u64)],
+) -> Result<(), AllocError>
+    ensures { OnOk result (text.new.items ≡ text.old.items ++ wave_line name.now initial changes.now) }
+{
+    text.extend_from_slice(name.as_bytes())?;
+    text.push(b' ')?;
+    push_number(text, initial)?;
+    push_changes(text, changes)?;
+    text.push(b'\n')?;
+    Ok(())
+}
+
+/// Puts ` T=V` behind the text for each change.
+fn push_changes(text: &mut Vec<u8>, changes: &[(u32, u64)]) -> Result<(), AllocError>
+    ensures { OnOk result (text.new.items ≡ text.old.items ++ changes_text changes.now) }
+{
+    for &(time, value) in changes {
+        push_change(text, time, value)?;
+    }
+    Ok(())
+}
+
+fn push_change(text: &mut Vec<u8>, time: u32, value: u64) -> Result<(), AllocError>
+    ensures { OnOk result (text.new.items ≡ text.old.items ++ change_text (time, value)) }
+{
+    text.push(b' ')?;
+    push_number(text, u64::from(time))?;
+    text.push(b'=')?;
+    push_number(text, value)
+}
+
+/// Puts the number in decimal digits behind the text.
+fn push_number(text: &mut Vec<u8>, number: u64) -> Result<(), AllocError>
+    ensures { OnOk result (text.new.items ≡ text.old.items ++ decimal number) }
+{
+    let digits = number.to_string(*text.allocator())?;
+    text.extend_from_slice(digits.as_bytes())
+}

@@ -1,0 +1,50 @@
+-- The ends of a run.
+use Rattle.std.proofs.Common.{◌≡◌, ℕ, ◌<◌, ◌≤◌, ◌⊎◌, inl, inr, IfSome, List, take, length, Option, Some, None, Result, Ok, Err, refl, sym, ap, subst, ◌∙◌, arith}
+use Rattle.std.proofs.lemmas.Bool.{cases_lt, lt-leb}
+use Rattle.std.proofs.lemmas.List.{take_all, length-take-le}
+use Rattle.std.proofs.KnownBytes.{Appends-nil, Keeps-refl}
+use Rattle.mp_text.specs.declared.text_code.TextCode.TheVariants as texts
+use Rattle.mp_text.specs.Texts.{text_at}
+use Rattle.mpwb.specs.declared.options.Options.{Options}
+use Rattle.mpwb.specs.declared.run_fault.RunFault.{RunFault}
+use Rattle.mpwb.specs.declared.run_fault.RunFault.TheVariants.{Text, BadCount, ReadFailed, WriteFailed, OutOfMemory, NoPlace}
+use Rattle.mpwb.specs.OptionLimits.{has_valid_crew}
+use Rattle.mpwb.specs.Outputs.{output_of, waves_text, waves_output}
+use Rattle.mpwb.specs.Runs.{Wrote, Refuses}
+
+-- ---- one byte more than a text may have is enough to read
+
+text_at-long : (text : List ℕ) → 4194304 < length text → text_at text ≡ Err (record { line = 0; code = texts.TooLong })
+unfolding text_at
+text_at-long text long = rw (lt-leb (length text) 4194304 long) refl
+
+text_at-take : (limit : ℕ) (input : List ℕ) → limit ≡ 4194305 → text_at (take limit input) ≡ text_at input
+text_at-take limit input same = by (cases_lt (length input) limit)
+  where
+    by : (length input < limit) ⊎ (limit ≤ length input) → text_at (take limit input) ≡ text_at input
+    by (inl less) = ap text_at (take_all limit input (omega arith))
+    by (inr more) =
+        let cut : length (take limit input) ≡ limit = length-take-le limit input more in
+        text_at-long (take limit input) (omega arith) ∙ sym (text_at-long input (omega arith))
+
+-- what holds of the output of the bytes that were read holds of that of the whole input
+pub for_input : (P : Result (List ℕ) RunFault → Type 0) (left : Option (List ℕ)) (text : List ℕ) (options : Options) (limit : ℕ)
+    → limit ≡ 4194305 → IfSome left (λ bytes. text ≡ take limit bytes) → P (waves_output text options) → IfSome left (λ input. P (waves_output input options))
+for_input P None text options limit same front holds = tt
+for_input P (Some input) text options limit same front holds =
+    let read : text_at text ≡ text_at input = ap text_at front ∙ text_at-take limit input same in
+    subst P (ap (λ t. output_of waves_text t (has_valid_crew options)) read) holds
+
+-- ---- a run that writes nothing
+
+refused_by : (T : Type 0) (fault : RunFault) (output : Result (List ℕ) RunFault) (known : Option (List ℕ)) → Refuses output fault → Wrote {T = T} (Err fault) output known known
+refused_by T (Text error) output known h = (h, Keeps-refl known)
+refused_by T BadCount output known h = (h, Keeps-refl known)
+refused_by T ReadFailed output known h = absurd h
+refused_by T WriteFailed output known h = absurd h
+refused_by T OutOfMemory output known h = (0, Appends-nil known)
+refused_by T NoPlace output known h = absurd h
+
+pub Wrote-refused : {T : Type 0} (r : Result T RunFault) (fault : RunFault) (output : Result (List ℕ) RunFault) (known : Option (List ℕ))
+    → r ≡ Err fault → Refuses output fault → Wrote r output known known
+Wrote-refused {T} r fault output known e h = subst (λ x. Wrote x output known known) (sym e) (refused_by T fault output known h)

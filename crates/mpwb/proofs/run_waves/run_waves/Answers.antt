@@ -1,0 +1,24 @@
+use Rattle.std.proofs.Common.{◌≡◌, refl, Err, rules}
+use Rattle.std.proofs.lemmas.Result.{err_from_is_err_and}
+use Rattle.mpwb.specs.Outputs.{waves_output}
+use Rattle.mpwb.specs.Runs.{Wrote, Refuses}
+use Rattle.mpwb.proofs.RunLemmas.{for_input, Wrote-refused}
+use Rattle.mpwb.proofs.run_waves.run_waves.Goals as goal
+
+pub returns-in_err-netlist-clause-written : goal.returns-in_err-netlist-clause-written
+returns-in_err-netlist-clause-written g c =
+    let known = g.T.Sink.taken c.args.sink.now in
+    let r = c.from_residual-in_err-netlist.result in
+    let p = err_from_is_err_and r c.from_residual-in_err-netlist.ensures.1 in
+    let refused = rw c.as_slice.ensures.value at c.in_err-netlist.ensures.refused in
+    for_input (λ o. Wrote r o known known) _ c.in_ok-input.input.items c.args.options.now _ refl c.in_ok-input.ensures.front
+    (Wrote-refused r p.0 _ known p.1 (rw p.2 refused))
+
+pub returns-clause-written : goal.returns-clause-written
+returns-clause-written g c =
+    let old = g.T.Sink.taken c.args.sink.now in
+    let new = g.T.Sink.taken c.write_waves.new.sink in
+    let r = c.write_waves.result in
+    let output = rw c.as_slice.ensures.value at c.in_ok-netlist.ensures.text in
+    for_input (λ o. Wrote r o old new) _ c.in_ok-input.input.items c.args.options.now _ refl c.in_ok-input.ensures.front
+    (rw output c.write_waves.ensures.written)

@@ -1,0 +1,5 @@
+pub mod OptionLimits
+pub mod RunFaults
+pub mod Outputs
+pub mod Runs
+pub mod WordErrors

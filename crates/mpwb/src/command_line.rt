@@ -1,0 +1,115 @@
+//! The words of the command line.
+ghost use Rattle.std.specs.Prelude.{◌≡◌, IfOk, Err};
+ghost use Rattle.mpwb.specs.declared.run_fault.RunFault.TheVariants as faults;
+ghost use Rattle.clap.specs.Values.{kind_of};
+ghost use Rattle.mpwb.specs.WordErrors.{status_of_kind};
+ghost use Rattle.clap.specs.declared.error.kind.ErrorKind.TheVariants as kinds;
+
+use crate::options::Options;
+use crate::request::{Command, Request};
+use crate::run_fault::RunFault;
+use clap::error::ErrorKind;
+use clap::{Arg, ArgMatches, Command as Parser, Error, value_parser};
+use std::alloc::{AllocError, Global};
+use std::io;
+
+const ABOUT: &str =
+    "A workbench for micropipelines: netlists of event modules, in transition signalling.";
+
+const STATUS: &str = "\
+Exit status:
+  0  all was written
+  1  the text or a number was refused
+  2  the command line was refused
+  3  a read or a write failed
+  4  memory was wanting";
+
+const WAVES: &str = "Writes the wave of each wire of a netlist";
+
+const WAVES_LONG: &str = "\
+Reads a netlist's text of at most 4194304 bytes from standard input: a line `horizon H`, with H from \
+1 to 65536, and then the lines `wire NAME WIDTH LEVEL`, `module NAME KIND PARAM .. : IN .. > \
+OUT/DELAY ..` and `stim WIRE T=V ..`.
+
+Writes a line for each wire, by number, on standard output: `NAME INITIAL T=V ..`, with its level at \
+time 0 and its level V from each time T on at which it changes below the horizon.
+
+A text that is refused is told on standard error as `mpwb: line N: CODE NAME`.";
+
+/// The request that the words make, of which the first is the program's name, or what is told in
+/// its place: help, the version, what is wrong with the words, or want of memory.
+pub fn read_words<'a>(alloc: Global, words: &'a [String]) -> Result<Request, Error> {
+    let matches = parser(alloc)?.try_get_matches_from(words)?;
+    Ok(match matches.subcommand() {
+        Some((_, found)) => request(Command::Waves, found),
+        None => request(Command::Waves, &matches),
+    })
+}
+
+/// Tells what is told in place of a run, and returns the status with which the program ends: help
+/// and the version on standard output with 0, what is wrong with the words on standard error with 2.
+/// Want of memory is a fault of its own, and so is a standard output that takes no help.
+pub fn tell<R: Print + Eprint>(rt: &R, error: &Error) -> Result<u8, RunFault>
+    ensures memory { kind_of error.now ≡ kinds.OutOfMemory → result ≡ Err faults.OutOfMemory }
+    ensures status { IfOk result (λ status. status ≡ status_of_kind (kind_of error.now)) }
+{
+    if matches!(error.kind(), ErrorKind::OutOfMemory) {
+        return Err(RunFault::OutOfMemory);
+    }
+    let printed = error.print(rt);
+    if error.use_stderr() {
+        return Ok(2);
+    }
+    match printed {
+        Ok(()) => Ok(0),
+        Err(_) => Err(RunFault::WriteFailed),
+    }
+}
+
+fn request(command: Command, found: &ArgMatches<'_>) -> Request {
+    Request {
+        command,
+        options: Options {
+            workers: found.get_one::<u32>("workers").unwrap_or(2),
+            least: found.get_one::<u32>("least").unwrap_or(64),
+            viewers: 2,
+        },
+    }
+}
+
+fn parser<'a>(alloc: Global) -> Result<Parser<'a>, AllocError> {
+    Parser::new(alloc, "mpwb")
+        .bin_name("mpwb")?
+        .version("0.1.0")
+        .about(ABOUT)
+        .after_help(STATUS)
+        .subcommand_required(true)
+        .subcommand(waves(alloc)?)
+}
+
+fn waves<'a>(alloc: Global) -> Result<Parser<'a>, AllocError> {
+    let command = Parser::new(alloc, "waves")
+        .about(WAVES)
+        .long_about(WAVES_LONG)
+        .after_help(STATUS);
+    with_crew(alloc, command)
+}
+
+/// The command with the options of a crew.
+fn with_crew<'a>(alloc: Global, command: Parser<'a>) -> Result<Parser<'a>, AllocError> {
+    let workers = number(alloc, "workers")
+        .default_value("2")
+        .help("How many workers there are, 1 to 16");
+    let least = number(alloc, "least").default_value("64").help(
+        "With fewer tasks than these the workers are not called on, 1 to 4096",
+    );
+    command.arg(workers)?.arg(least)
+}
+
+/// An option that takes a number.
+fn number<'a>(alloc: Global, name: &'static str) -> Arg<'a> {
+    Arg::new(alloc, name)
+        .long(name)
+        .value_name("N")
+        .value_parser(value_parser!(u32))
+}

@@ -1,0 +1,18 @@
+//! What the program is asked for.
+use crate::options::Options;
+
+/// What the program can do.
+#[derive(Clone, Copy, Debug, PartialEq, Eq)]
+pub enum Command {
+    /// Write the waves of a netlist's text.
+    Waves,
+}
+
+/// A command with its options.
+#[derive(Clone, Copy, Debug, PartialEq, Eq)]
+pub struct Request {
+    /// What is to be done.
+    pub command: Command,
+    /// How it is to be done.
+    pub options: Options,
+}
