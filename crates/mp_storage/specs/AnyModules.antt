@@ -7,6 +7,7 @@ use Rattle.mp_modules.specs.declared.memory.Memory.{Memory}
 use Rattle.mp_modules.specs.declared.finding_set.FindingSet.{FindingSet}
 use Rattle.mp_modules.specs.Kinds.{has_width}
 use Rattle.mp_modules.specs.Tables as tables
+use Rattle.mp_storage.specs.Widths.{highest_level}
 use Rattle.mp_storage.specs.Reg as reg
 use Rattle.mp_storage.specs.AddC as add_c
 use Rattle.mp_storage.specs.XorC as xor_c
@@ -30,9 +31,9 @@ any_part_of kinds.Select params width = parts.Core core.Select
 any_part_of kinds.Call params width = parts.Core core.Call
 any_part_of kinds.Arbiter params width = parts.Core core.Arbiter
 any_part_of kinds.Reg params width = parts.Reg (record { initial = slice_index params 0 })
-any_part_of kinds.AddC params width = parts.AddC (record { addend = slice_index params 0; width = width })
+any_part_of kinds.AddC params width = parts.AddC (record { addend = slice_index params 0; highest = highest_level width })
 any_part_of kinds.XorC params width = parts.XorC (record { mask = slice_index params 0 })
-any_part_of kinds.Sum params width = parts.Sum (record { width = width })
+any_part_of kinds.Sum params width = parts.Sum (record { highest = highest_level width })
 any_part_of kinds.Bit params width = parts.Bit (record { place = slice_index params 0 })
 
 -- the state before time 0

@@ -1,3 +1,4 @@
+pub mod Widths
 pub mod Reg
 pub mod AddC
 pub mod XorC

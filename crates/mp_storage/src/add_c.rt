@@ -1,12 +1,12 @@
 //! ADDC adds a constant.
-use crate::width::Width;
+use crate::widths::wrapping_sum;
 use mp_modules::{EventModule, FindingSet, Memory, level_at};
 
-/// An adder of a constant, modulo two to the power of its width.
+/// An adder of a constant, modulo two to the power of its width, which the greatest level of this width stands for.
 #[derive(Clone, Copy, Debug, PartialEq, Eq)]
 pub struct AddC {
     pub addend: u64,
-    pub width: Width,
+    pub highest: u64,
 }
 
 impl AddC {
@@ -17,7 +17,7 @@ impl AddC {
     pub fn output(self, levels: &[u64]) -> u64
         ensures { result ≡ output self levels.now }
     {
-        self.width.sum(level_at(levels, 0), self.addend)
+        wrapping_sum(level_at(levels, 0), self.addend, self.highest)
     }
 }
 

@@ -6,7 +6,7 @@ use crate::add_c::AddC;
 use crate::bit::Bit;
 use crate::reg::Reg;
 use crate::sum::Sum;
-use crate::width::Width;
+use crate::widths::highest_level;
 use crate::xor_c::XorC;
 use mp_modules::{CoreModule, EventModule, FindingSet, Kind, Memory, Rendezvous, level_at};
 
@@ -33,7 +33,7 @@ impl AnyModule {
         ensures made { IsSome result ↔ IsTrue (is_width_of kind width && are_params kind width params.now) }
         ensures part { IfSome result (λ part. part ≡ any_part_of kind params.now width) }
     {
-        let bits = Width::new(width)?;
+        let highest = highest_level(width)?;
         if !is_width_of(kind, width) || !kind.accepts(width, params) {
             return None;
         }
@@ -50,10 +50,10 @@ impl AnyModule {
             Kind::Reg => AnyModule::Reg(Reg { initial: first }),
             Kind::AddC => AnyModule::AddC(AddC {
                 addend: first,
-                width: bits,
+                highest,
             }),
             Kind::XorC => AnyModule::XorC(XorC { mask: first }),
-            Kind::Sum => AnyModule::Sum(Sum { width: bits }),
+            Kind::Sum => AnyModule::Sum(Sum { highest }),
             Kind::Bit => AnyModule::Bit(Bit { place: first }),
         })
     }

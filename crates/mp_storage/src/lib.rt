@@ -4,11 +4,12 @@
 mod add_c;
 mod any_module;
 mod bit;
+pub mod laws;
 mod reg;
 mod sum;
 #[cfg(test)]
 mod tests;
-mod width;
+mod widths;
 mod xor_c;
 
 pub use add_c::AddC;
@@ -16,5 +17,4 @@ pub use any_module::AnyModule;
 pub use bit::Bit;
 pub use reg::Reg;
 pub use sum::Sum;
-pub use width::Width;
 pub use xor_c::XorC;

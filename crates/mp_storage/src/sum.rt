@@ -1,11 +1,11 @@
 //! SUM adds two inputs.
-use crate::width::Width;
+use crate::widths::wrapping_sum;
 use mp_modules::{EventModule, FindingSet, Memory, level_at};
 
-/// An adder of two inputs, modulo two to the power of its width.
+/// An adder of two inputs, modulo two to the power of its width, which the greatest level of this width stands for.
 #[derive(Clone, Copy, Debug, PartialEq, Eq)]
 pub struct Sum {
-    pub width: Width,
+    pub highest: u64,
 }
 
 impl Sum {
@@ -16,7 +16,7 @@ impl Sum {
     pub fn output(self, levels: &[u64]) -> u64
         ensures { result ≡ output self levels.now }
     {
-        self.width.sum(level_at(levels, 0), level_at(levels, 1))
+        wrapping_sum(level_at(levels, 0), level_at(levels, 1), self.highest)
     }
 }
 
