@@ -32,10 +32,10 @@ answered_is n ok m (suc u) r cell levels at in_state inputs =
     let e : u + 1 ≡ suc u = omega arith in
     let next : step (built n r) (state n m u) (inputs_by n (level n) r (suc u)) ≡ state n m (suc u) = rw e at (sym ((satisfies n ok).stepped m u r at)) in
     rw later (
-      ap (λ part. step part cell.memory levels) in_state.part
-      ∙ ap (λ (memory : Memory). step (built n r) memory levels) (in_state.memory u e)
-      ∙ ap (step (built n r) (state n m u)) inputs
-      ∙ next)
+    ap (λ part. step part cell.memory levels) in_state.part
+    ∙ ap (λ (memory : Memory). step (built n r) memory levels) (in_state.memory u e)
+    ∙ ap (step (built n r) (state n m u)) inputs
+    ∙ next)
 
 -- the level now of a wire that stands
 present_is : (n : Circuit) (known : ℕ → ℕ → ℕ) (t w : ℕ) (wire : Option WireRecord) (slot : Option Progress) → IsTrackOf n known t w wire slot → IsSome wire → option_map_or (λ (track : Progress). track.present) slot 0 ≡ level n w t

@@ -155,35 +155,35 @@ on_track_delivered n ok known new t m p w r track at drives was is on =
     = λ u less. subst (λ k. IsReached n known k u) (sym drives) (subst (λ slot. u < known m p + delay_in slot p) (sym at) (omega (arith, less, was))) in
     let reached : (u : ℕ) → IsReached n new (driver n w) u → u < t + 1 + d
     = λ u h. let port : IsReached n new (Port (record { 0 = m }) p) u = subst (λ k. IsReached n new k u) drives h in
-        let in_slot : u < new m p + d = subst (λ slot. u < new m p + delay_in slot p) at port in omega (arith, in_slot, is) in
+    let in_slot : u < new m p + d = subst (λ slot. u < new m p + delay_in slot p) at port in omega (arith, in_slot, is) in
     let over : last_time t track.ahead < t + 1 + d = omega (arith, below) in
     let latest_new : (x : Progress) → x.latest ≡ last_from x.present x.ahead → last_time t x.ahead < t + 1 + d → IsLatest n new (driver n w) t x
     = λ x same last. subst (λ k. IsLatest n new k t x) (sym drives) (same, subst (λ slot. last_time t x.ahead < new m p + delay_in slot p) (sym at) (omega (arith, last, is))) in
     elim (cases_Bool (track.latest == v)) as (λ _. IsOnTrack n new t w (delivering n m p t r track)) [
       | inl same ↦ rw same record {
-          wave = on.wave;
-          next = on.next;
-          present = on.present;
-          rising = on.rising;
-          ahead = λ u le h. elim (cases_lt u (t + d)) as (λ _. level_from track.present track.ahead u ≡ level n w u) [
-            | inl less ↦ on.ahead u le (reach u less)
-            | inr more ↦
-                let e : t + d ≡ u = omega (arith, reached u h, more) in
-                subst (λ x. level_from track.present track.ahead x ≡ level n w x) e (tracks.level_from-last track.present t (t + d) track.ahead on.rising (omega (arith, below)) ∙ sym latest_on.0 ∙ eqb-true track.latest v same ∙ sym value)
-          ];
-          latest = latest_new track latest_on.0 over;
-        }
+        wave = on.wave;
+        next = on.next;
+        present = on.present;
+        rising = on.rising;
+        ahead = λ u le h. elim (cases_lt u (t + d)) as (λ _. level_from track.present track.ahead u ≡ level n w u) [
+          | inl less ↦ on.ahead u le (reach u less)
+          | inr more ↦
+              let e : t + d ≡ u = omega (arith, reached u h, more) in
+              subst (λ x. level_from track.present track.ahead x ≡ level n w x) e (tracks.level_from-last track.present t (t + d) track.ahead on.rising (omega (arith, below)) ∙ sym latest_on.0 ∙ eqb-true track.latest v same ∙ sym value)
+        ];
+        latest = latest_new track latest_on.0 over;
+      }
       | inr other ↦ rw other record {
-          wave = on.wave;
-          next = on.next;
-          present = on.present;
-          rising = tracks.AreRising-push t (t + d) v track.ahead on.rising below;
-          ahead = λ u le h. elim (cases_lt u (t + d)) as (λ _. level_from track.present (track.ahead ++ (t + d, v) ∷ []) u ≡ level n w u) [
-            | inl less ↦ tracks.level_from-before_push track.present u (t + d) v track.ahead less ∙ on.ahead u le (reach u less)
-            | inr more ↦
-                let e : t + d ≡ u = omega (arith, reached u h, more) in
-                subst (λ x. level_from track.present (track.ahead ++ (t + d, v) ∷ []) x ≡ level n w x) e (tracks.level_from-push track.present t (t + d) (t + d) v track.ahead on.rising below (omega arith) ∙ sym value)
-          ];
-          latest = latest_new (record track { latest = v; ahead = track.ahead ++ (t + d, v) ∷ [] }) (sym (tracks.last_from-push track.present (t + d) v track.ahead)) (let last = tracks.last_time-push t (t + d) v track.ahead in omega (arith, last));
-        }
+        wave = on.wave;
+        next = on.next;
+        present = on.present;
+        rising = tracks.AreRising-push t (t + d) v track.ahead on.rising below;
+        ahead = λ u le h. elim (cases_lt u (t + d)) as (λ _. level_from track.present (track.ahead ++ (t + d, v) ∷ []) u ≡ level n w u) [
+          | inl less ↦ tracks.level_from-before_push track.present u (t + d) v track.ahead less ∙ on.ahead u le (reach u less)
+          | inr more ↦
+              let e : t + d ≡ u = omega (arith, reached u h, more) in
+              subst (λ x. level_from track.present (track.ahead ++ (t + d, v) ∷ []) x ≡ level n w x) e (tracks.level_from-push track.present t (t + d) (t + d) v track.ahead on.rising below (omega arith) ∙ sym value)
+        ];
+        latest = latest_new (record track { latest = v; ahead = track.ahead ++ (t + d, v) ∷ [] }) (sym (tracks.last_from-push track.present (t + d) v track.ahead)) (let last = tracks.last_time-push t (t + d) v track.ahead in omega (arith, last));
+      }
     ]

@@ -85,4 +85,3 @@ unfolding level
 level_in_longer n ok s w t within =
     level_by_same n ok (λ m u. state_in (history n s) m u) (λ m u. state_in (history n t) m u) w t
     (λ m u r below at. ap (λ (xs : List Memory). slice_index_or xs m blank) (histories_agree n s t within u below))
-

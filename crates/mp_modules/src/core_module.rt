@@ -130,7 +130,10 @@ impl EventModule for CoreModule {
                     is_done_without_call(memory, levels),
                 ),
             CoreModule::Arbiter => none
-                .with_if(FindingCode::RepeatRequest, is_repeat_request(memory, levels))
+                .with_if(
+                    FindingCode::RepeatRequest,
+                    is_repeat_request(memory, levels),
+                )
                 .with_if(
                     FindingCode::DoneWithoutGrant,
                     is_done_without_grant(memory, levels),

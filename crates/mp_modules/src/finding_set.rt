@@ -35,7 +35,8 @@ impl FindingSet {
     pub fn with(mut self, code: FindingCode) -> Self
         ensures { result ≡ with_code code self }
     {
-        self.present[code.number() as usize - 1] = true;
+        let place = code.number() as usize - 1;
+        self.present[place] = true;
         self
     }
 

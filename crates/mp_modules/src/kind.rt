@@ -46,7 +46,14 @@ impl Kind {
         ensures few { result ≤ MOST_OUTPUTS }
     {
         match self {
-            Kind::Buf | Kind::Not | Kind::Xor | Kind::C | Kind::AddC | Kind::XorC | Kind::Sum | Kind::Bit => 1,
+            Kind::Buf
+            | Kind::Not
+            | Kind::Xor
+            | Kind::C
+            | Kind::AddC
+            | Kind::XorC
+            | Kind::Sum
+            | Kind::Bit => 1,
             Kind::Toggle | Kind::Select | Kind::Arbiter => 2,
             Kind::Call | Kind::Reg => 3,
         }
@@ -57,7 +64,14 @@ impl Kind {
         ensures { result ≡ param_count self }
     {
         match self {
-            Kind::Buf | Kind::Not | Kind::Xor | Kind::Toggle | Kind::Select | Kind::Call | Kind::Arbiter | Kind::Sum => 0,
+            Kind::Buf
+            | Kind::Not
+            | Kind::Xor
+            | Kind::Toggle
+            | Kind::Select
+            | Kind::Call
+            | Kind::Arbiter
+            | Kind::Sum => 0,
             Kind::C => 3,
             Kind::Reg | Kind::AddC | Kind::XorC | Kind::Bit => 1,
         }
@@ -126,7 +140,13 @@ impl Kind {
     {
         match self {
             Kind::Buf | Kind::Reg | Kind::AddC | Kind::XorC | Kind::Sum | Kind::Bit => true,
-            Kind::Not | Kind::Xor | Kind::C | Kind::Toggle | Kind::Select | Kind::Call | Kind::Arbiter => false,
+            Kind::Not
+            | Kind::Xor
+            | Kind::C
+            | Kind::Toggle
+            | Kind::Select
+            | Kind::Call
+            | Kind::Arbiter => false,
         }
     }
 
@@ -149,7 +169,13 @@ impl Kind {
     {
         match self {
             Kind::Buf | Kind::Reg | Kind::AddC | Kind::XorC | Kind::Bit => 1,
-            Kind::Not | Kind::Xor | Kind::C | Kind::Toggle | Kind::Select | Kind::Call | Kind::Arbiter => 0,
+            Kind::Not
+            | Kind::Xor
+            | Kind::C
+            | Kind::Toggle
+            | Kind::Select
+            | Kind::Call
+            | Kind::Arbiter => 0,
             Kind::Sum => 2,
         }
     }
@@ -159,7 +185,14 @@ impl Kind {
     {
         match self {
             Kind::Buf | Kind::Reg | Kind::AddC | Kind::XorC | Kind::Sum => 1,
-            Kind::Not | Kind::Xor | Kind::C | Kind::Toggle | Kind::Select | Kind::Call | Kind::Arbiter | Kind::Bit => 0,
+            Kind::Not
+            | Kind::Xor
+            | Kind::C
+            | Kind::Toggle
+            | Kind::Select
+            | Kind::Call
+            | Kind::Arbiter
+            | Kind::Bit => 0,
         }
     }
 
