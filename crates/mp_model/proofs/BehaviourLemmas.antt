@@ -3,7 +3,7 @@ use Rattle.std.proofs.Common.{◌≡◌, ℕ, ◌+◌, ◌-◌, ◌<◌, ◌≤�
 use Rattle.std.proofs.lemmas.Bool.Decides.{nat_tests}
 use Rattle.std.proofs.lemmas.Bool.{cases_lt}
 use Rattle.mp_modules.specs.declared.memory.Memory.{Memory}
-use Rattle.mp_modules.specs.Tables.{settle, step}
+use Rattle.mp_storage.specs.AnyModules.{settle, step}
 use Rattle.mp_modules.specs.Memories.{blank}
 use Rattle.mp_netlist.specs.declared.module_record.ModuleRecord.{ModuleRecord}
 use Rattle.mp_netlist.specs.declared.ids.WireId.{WireId}
@@ -49,22 +49,22 @@ inputs_same n f g r t same = map_same (λ w. f w t) (λ w. g w t) r.inputs (λ w
 inputs_are : (n : Circuit) → IsCircuit n → (r : ModuleRecord) (t : ℕ) → inputs_in n (history n t) r t ≡ inputs_by n (level n) r t
 inputs_are n ok r t = inputs_same n (λ w u. level_in n (history n t) w u) (level n) r t (λ w u within. level_in_longer n ok t w u within)
 
-settled : (n : Circuit) → IsCircuit n → (m : ℕ) (r : ModuleRecord) → module_at n m ≡ Some r → state n m 0 ≡ settle (built r) (inputs_by n (level n) r 0)
-settled n ok m r at = state_is n m 0 r at ∙ ap (settle (built r)) (inputs_are n ok r 0)
+settled : (n : Circuit) → IsCircuit n → (m : ℕ) (r : ModuleRecord) → module_at n m ≡ Some r → state n m 0 ≡ settle (built n r) (inputs_by n (level n) r 0)
+settled n ok m r at = state_is n m 0 r at ∙ ap (settle (built n r)) (inputs_are n ok r 0)
 
-next_later : (n : Circuit) (past : List (List Memory)) (t m : ℕ) (r : ModuleRecord) → next_state n past (t + 1) m r ≡ step (built r) (state_in past m t) (inputs_in n past r (t + 1))
+next_later : (n : Circuit) (past : List (List Memory)) (t m : ℕ) (r : ModuleRecord) → next_state n past (t + 1) m r ≡ step (built n r) (state_in past m t) (inputs_in n past r (t + 1))
 next_later n past t m r =
     let later : (t + 1 == 0) ≡ false = grind (arith, nat_tests) in
     let before : t + 1 - 1 ≡ t = omega arith in
     rw (later, before) refl
 
-stepped : (n : Circuit) → IsCircuit n → (m t : ℕ) (r : ModuleRecord) → module_at n m ≡ Some r → state n m (t + 1) ≡ step (built r) (state n m t) (inputs_by n (level n) r (t + 1))
+stepped : (n : Circuit) → IsCircuit n → (m t : ℕ) (r : ModuleRecord) → module_at n m ≡ Some r → state n m (t + 1) ≡ step (built n r) (state n m t) (inputs_by n (level n) r (t + 1))
 stepped n ok m t r at =
     let x = inputs_in n (history n (t + 1)) r (t + 1) in
     state_is n m (t + 1) r at
     ∙ next_later n (history n (t + 1)) t m r
-    ∙ ap (λ (s : Memory). step (built r) s x) (state_in_is n m t (t + 1) (omega arith))
-    ∙ ap (step (built r) (state n m t)) (inputs_are n ok r (t + 1))
+    ∙ ap (λ (s : Memory). step (built n r) s x) (state_in_is n m t (t + 1) (omega arith))
+    ∙ ap (step (built n r) (state n m t)) (inputs_are n ok r (t + 1))
 
 pub satisfies : Satisfies
 satisfies n ok = record { levels = level_is n ok; settled = settled n ok; stepped = stepped n ok }
@@ -76,14 +76,14 @@ levels_at n ok f g s u a b t same w k within =
 
 states_at : (n : Circuit) → IsCircuit n → (f g : ℕ → ℕ → ℕ) (s u : ℕ → ℕ → Memory) → IsBehaviour n f s → IsBehaviour n g u → (t : ℕ) → SameBelow n t s u → (m : ℕ) (r : ModuleRecord) → module_at n m ≡ Some r → s m t ≡ u m t
 states_at n ok f g s u a b zero same m r at =
-    a.settled m r at ∙ ap (settle (built r)) (inputs_same n f g r 0 (levels_at n ok f g s u a b 0 same)) ∙ sym (b.settled m r at)
+    a.settled m r at ∙ ap (settle (built n r)) (inputs_same n f g r 0 (levels_at n ok f g s u a b 0 same)) ∙ sym (b.settled m r at)
 states_at n ok f g s u a b (suc t) same m r at =
     let e : t + 1 ≡ suc t = omega arith in
     let earlier : SameBelow n (t + 1) s u = λ k j q below stands. same k j q (omega arith) stands in
     let next : s m (t + 1) ≡ u m (t + 1) =
     a.stepped m t r at
-    ∙ ap (step (built r) (s m t)) (inputs_same n f g r (t + 1) (levels_at n ok f g s u a b (t + 1) earlier))
-    ∙ ap (λ (x : Memory). step (built r) x (inputs_by n g r (t + 1))) (same m t r (omega arith) at)
+    ∙ ap (step (built n r) (s m t)) (inputs_same n f g r (t + 1) (levels_at n ok f g s u a b (t + 1) earlier))
+    ∙ ap (λ (x : Memory). step (built n r) x (inputs_by n g r (t + 1))) (same m t r (omega arith) at)
     ∙ sym (b.stepped m t r at)
     in rw e at next
 

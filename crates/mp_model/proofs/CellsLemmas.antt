@@ -6,7 +6,7 @@ use Rattle.std.proofs.lemmas.Bool.Decides.{nat_tests}
 use Rattle.std.proofs.lemmas.List.{get_or-set_same, get_or-set_other, length-map}
 use Rattle.std.proofs.Math.ListN.{length-set}
 use Rattle.mp_modules.specs.declared.memory.Memory.{Memory}
-use Rattle.mp_modules.specs.Tables.{settle, step}
+use Rattle.mp_storage.specs.AnyModules.{settle, step}
 use Rattle.mp_netlist.specs.declared.ids.WireId.{WireId}
 use Rattle.mp_netlist.specs.declared.module_record.ModuleRecord.{ModuleRecord}
 use Rattle.mp_netlist.specs.declared.wire_record.WireRecord.{WireRecord}
@@ -26,15 +26,15 @@ use Rattle.mp_model.proofs.EvaluationLemmas as units
 pub answered_is : (n : Circuit) → IsCircuit n → (m t : ℕ) (r : ModuleRecord) (cell : Cell) (levels : List ℕ) → module_at n m ≡ Some r → IsInState n m t r cell
     → levels ≡ inputs_by n (level n) r t → answered cell t levels ≡ state n m t
 answered_is n ok m zero r cell levels at in_state inputs =
-    ap (λ part. settle part levels) in_state.part ∙ ap (settle (built r)) inputs ∙ sym ((satisfies n ok).settled m r at)
+    ap (λ part. settle part levels) in_state.part ∙ ap (settle (built n r)) inputs ∙ sym ((satisfies n ok).settled m r at)
 answered_is n ok m (suc u) r cell levels at in_state inputs =
     let later : (suc u == 0) ≡ false = grind (arith, nat_tests) in
     let e : u + 1 ≡ suc u = omega arith in
-    let next : step (built r) (state n m u) (inputs_by n (level n) r (suc u)) ≡ state n m (suc u) = rw e at (sym ((satisfies n ok).stepped m u r at)) in
+    let next : step (built n r) (state n m u) (inputs_by n (level n) r (suc u)) ≡ state n m (suc u) = rw e at (sym ((satisfies n ok).stepped m u r at)) in
     rw later (
     ap (λ part. step part cell.memory levels) in_state.part
-    ∙ ap (λ (memory : Memory). step (built r) memory levels) (in_state.memory u e)
-    ∙ ap (step (built r) (state n m u)) inputs
+    ∙ ap (λ (memory : Memory). step (built n r) memory levels) (in_state.memory u e)
+    ∙ ap (step (built n r) (state n m u)) inputs
     ∙ next)
 
 -- the level now of a wire that stands
@@ -127,13 +127,13 @@ cells_next n t cells are = record { places = are.places; each = λ m. by m (modu
     by m (Some r) at is = IsCellOf-same n m (delivered t (length n.modules) 0 m 0) (delivered (t + 1) 0 0 m 0) (module_at n m) (slot_at cells m) (units.delivered_done t (length n.modules) 0 m 0 (slot_within n.modules m r at) ∙ sym (units.delivered_none (t + 1) m 0)) is
 
 -- before time 0
-pub first_cells_are : (n : Circuit) → AreCells n 0 0 (map (option_map first_cell) n.modules)
+pub first_cells_are : (n : Circuit) → AreCells n 0 0 (map (option_map (first_cell n)) n.modules)
 first_cells_are n = record {
-  places = length-map n.modules (option_map first_cell);
-  each = λ m. subst (IsCellOf n m (delivered 0 0 0 m 0) (module_at n m)) (sym (slot_at-map first_cell n.modules m)) (by m (module_at n m));
+  places = length-map n.modules (option_map (first_cell n));
+  each = λ m. subst (IsCellOf n m (delivered 0 0 0 m 0) (module_at n m)) (sym (slot_at-map (first_cell n) n.modules m)) (by m (module_at n m));
 }
   where
-    by : (m : ℕ) (slot : Option ModuleRecord) → IsCellOf n m (delivered 0 0 0 m 0) slot (option_map first_cell slot)
+    by : (m : ℕ) (slot : Option ModuleRecord) → IsCellOf n m (delivered 0 0 0 m 0) slot (option_map (first_cell n) slot)
     by m None = tt
     by m (Some r) = record { part = refl; memory = λ u e. let none = units.delivered_none 0 m 0 in absurd (omega (arith, e, none)) }
 

@@ -5,9 +5,6 @@ use Rattle.std.proofs.lemmas.Bool.Decides.{nat_tests}
 use Rattle.mp_wave.specs.Waveform.{Waveform, level_from, last_from, last_time, held_from, wave_upto}
 use Rattle.mp_wave.proofs.ChangesLemmas.{held}
 use Rattle.mp_modules.specs.Memories.{output_of}
-use Rattle.mp_modules.specs.declared.kind.Kind.{Kind}
-use Rattle.mp_modules.specs.declared.kind.Kind.TheVariants as kinds
-use Rattle.mp_modules.specs.Kinds.{are_params}
 use Rattle.mp_netlist.specs.declared.ids.ModuleId.{ModuleId}
 use Rattle.mp_netlist.specs.declared.module_record.ModuleRecord.{ModuleRecord}
 use Rattle.mp_netlist.specs.declared.driver.Driver.{Driver}
@@ -21,13 +18,6 @@ use Rattle.mp_model.specs.Waves.{level, state}
 use Rattle.mp_model.proofs.HistoryLemmas.{late}
 use Rattle.mp_model.proofs.BehaviourLemmas.{satisfies}
 use Rattle.mp_model.proofs.TrackLemmas as tracks
-
--- the parameters that a kind accepts don't rest on its width
-pub are_params-any_width : (kind : Kind) (w v : ℕ) (params : List ℕ) → are_params kind w params ≡ are_params kind v params
-unfolding are_params
-are_params-any_width kinds.Buf w v params = refl
-are_params-any_width kinds.Not w v params = refl
-are_params-any_width kinds.C w v params = refl
 
 -- who has delivered
 pub delivered_done : (t done p m q : ℕ) → m < done → delivered t done p m q ≡ t + 1

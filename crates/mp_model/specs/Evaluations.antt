@@ -3,7 +3,7 @@ use Rattle.std.specs.Prelude.{◌≡◌, ℕ, ◌+◌, ◌-◌, ◌^◌, ◌<◌
 use Rattle.std.specs.Option.{option_map_or}
 use Rattle.mp_wave.specs.Waveform.{wave_upto, level_from, last_from, last_time}
 use Rattle.mp_modules.specs.declared.memory.Memory.{Memory}
-use Rattle.mp_modules.specs.Tables.{start}
+use Rattle.mp_storage.specs.AnyModules.{start}
 use Rattle.mp_netlist.specs.declared.wire_record.WireRecord.{WireRecord}
 use Rattle.mp_netlist.specs.declared.module_record.ModuleRecord.{ModuleRecord}
 use Rattle.mp_netlist.specs.declared.driver.Driver.{Driver}
@@ -61,7 +61,7 @@ pub record AreTracks (n : Circuit) (known : ℕ → ℕ → ℕ) (t : ℕ) (trac
 
 -- the cell has its module's state after k units
 pub record IsInState (n : Circuit) (m k : ℕ) (r : ModuleRecord) (cell : Cell) : Type 0 where
-  pub part : cell.part ≡ built r
+  pub part : cell.part ≡ built n r
   pub memory : (u : ℕ) → u + 1 ≡ k → cell.memory ≡ state n m u
 
 abbrev pub IsCellOf : Circuit → ℕ → ℕ → Option ModuleRecord → Option Cell → Type 0
@@ -100,5 +100,5 @@ IsEarly None = Unit {0}
 IsEarly (Some track) = track.next < 2 ^ 32 - 1
 
 -- a module before time 0
-abbrev pub first_cell : ModuleRecord → Cell
-first_cell r = record { part = built r; memory = start (built r) }
+abbrev pub first_cell : Circuit → ModuleRecord → Cell
+first_cell n r = record { part = built n r; memory = start (built n r) }

@@ -2,7 +2,7 @@
 use Rattle.std.specs.Prelude.{ℕ, ◌+◌, ◌-◌, List, [], ◌∷◌, ◌++◌, Option, Some, None, slice_index_or, ◌==◌, if◌then◌else◌, zero, suc}
 use Rattle.mp_modules.specs.declared.memory.Memory.{Memory}
 use Rattle.mp_modules.specs.Memories.{blank}
-use Rattle.mp_modules.specs.Tables.{settle, step}
+use Rattle.mp_storage.specs.AnyModules.{settle, step}
 use Rattle.mp_netlist.specs.declared.module_record.ModuleRecord.{ModuleRecord}
 use Rattle.mp_netlist.specs.Circuit.{Circuit}
 use Rattle.mp_model.specs.Levels.{level_by, inputs_by, built}
@@ -19,8 +19,8 @@ inputs_in n history r t = inputs_by n (λ w u. level_in n history w u) r t
 -- the state of a module at a time, after the states of all modules before
 abbrev pub next_state : Circuit → List (List Memory) → ℕ → ℕ → ModuleRecord → Memory
 next_state n history t m r =
-    if t == 0 then settle (built r) (inputs_in n history r t)
-    else step (built r) (state_in history m (t - 1)) (inputs_in n history r t)
+    if t == 0 then settle (built n r) (inputs_in n history r t)
+    else step (built n r) (state_in history m (t - 1)) (inputs_in n history r t)
 
 abbrev pub slot_state : Circuit → List (List Memory) → ℕ → ℕ → Option ModuleRecord → Memory
 slot_state n history t m None = blank

@@ -1,20 +1,20 @@
 -- What the levels, inputs and states of a netlist are, each in terms of the others.
 use Rattle.std.specs.Prelude.{◌≡◌, ℕ, ◌+◌, ◌-◌, List, map, Option, Some, None, nat_lt, if◌then◌else◌}
 use Rattle.mp_wave.specs.Waveform.{level_from}
-use Rattle.mp_modules.specs.declared.core_module.CoreModule.{CoreModule}
 use Rattle.mp_modules.specs.declared.memory.Memory.{Memory}
 use Rattle.mp_modules.specs.Memories.{output_of}
-use Rattle.mp_modules.specs.Tables.{part_of, settle, step}
+use Rattle.mp_storage.specs.declared.any_module.AnyModule.{AnyModule}
+use Rattle.mp_storage.specs.AnyModules.{any_part_of, settle, step}
 use Rattle.mp_netlist.specs.declared.wire_record.WireRecord.{WireRecord}
 use Rattle.mp_netlist.specs.declared.module_record.ModuleRecord.{ModuleRecord}
 use Rattle.mp_netlist.specs.declared.driver.Driver.{Driver}
 use Rattle.mp_netlist.specs.declared.driver.Driver.TheVariants.{Nothing, Stimulus, Port}
-use Rattle.mp_netlist.specs.Circuit.{Circuit, wire_at, module_at, stimulus_at, delay_of}
+use Rattle.mp_netlist.specs.Circuit.{Circuit, wire_at, module_at, module_width, stimulus_at, delay_of}
 use Rattle.mp_netlist.specs.Drivers.{driver}
 
--- the event module that a record stands for
-abbrev pub built : ModuleRecord → CoreModule
-built r = part_of r.kind r.params
+-- the event module that a record stands for, of the width that the module has
+abbrev pub built : Circuit → ModuleRecord → AnyModule
+built n r = any_part_of r.kind r.params (module_width n r)
 
 abbrev pub initial_of : Option WireRecord → ℕ
 initial_of None = 0
@@ -47,5 +47,5 @@ inputs_by n level r t = map (λ w. level w.0 t) r.inputs
 -- levels and states that satisfy the equations
 pub record IsBehaviour (n : Circuit) (level : ℕ → ℕ → ℕ) (state : ℕ → ℕ → Memory) : Type 0 where
   pub levels : (w t : ℕ) → level w t ≡ level_by n state w t
-  pub settled : (m : ℕ) (r : ModuleRecord) → module_at n m ≡ Some r → state m 0 ≡ settle (built r) (inputs_by n level r 0)
-  pub stepped : (m t : ℕ) (r : ModuleRecord) → module_at n m ≡ Some r → state m (t + 1) ≡ step (built r) (state m t) (inputs_by n level r (t + 1))
+  pub settled : (m : ℕ) (r : ModuleRecord) → module_at n m ≡ Some r → state m 0 ≡ settle (built n r) (inputs_by n level r 0)
+  pub stepped : (m t : ℕ) (r : ModuleRecord) → module_at n m ≡ Some r → state m (t + 1) ≡ step (built n r) (state m t) (inputs_by n level r (t + 1))

@@ -1,13 +1,13 @@
 //! One module while time passes.
 ghost use Rattle.std.specs.Prelude.{◌≡◌};
 
-use mp_modules::{CoreModule, EventModule, Memory};
-use mp_netlist::ModuleRecord;
+use mp_modules::{EventModule, Memory};
+use mp_storage::AnyModule;
 
 /// A module and its present state.
 #[derive(Clone, Copy)]
 pub(crate) struct Cell {
-    pub part: CoreModule,
+    pub part: AnyModule,
     pub memory: Memory,
 }
 

@@ -1,9 +1,10 @@
 //! The plain evaluator: unit by unit from time zero, on one thread.
-ghost use Rattle.std.specs.Prelude.{◌≡◌, ◌+◌, ◌-◌, ◌^◌, ◌<◌, ◌≤◌, All, length, map, take, option_map, IfOk, OnOk, IsTrue, ℕ};
+ghost use Rattle.std.specs.Prelude.{◌≡◌, ◌+◌, ◌-◌, ◌^◌, ◌<◌, ◌≤◌, All, length, map, take, slice_index_or, option_map, IfOk, OnOk, IsTrue, ℕ};
 ghost use Rattle.mp_netlist.specs.declared.ids.WireId.{WireId as Wire};
 ghost use Rattle.mp_netlist.specs.Slots.{slot_at};
-ghost use Rattle.mp_netlist.specs.Circuit.{IsCircuit};
+ghost use Rattle.mp_netlist.specs.Circuit.{IsCircuit, module_width};
 ghost use Rattle.mp_modules.specs.Kinds.{are_params};
+ghost use Rattle.mp_storage.specs.AnyModules.{is_width_of};
 ghost use Rattle.mp_model.specs.Levels.{built};
 ghost use Rattle.mp_model.specs.Tracks.{Progress, first_progress, advanced, expecting};
 ghost use Rattle.mp_model.specs.Evaluations.{AreTracks, AreCells, delivered, present_at, with_expected, with_answer, answer_at, IsEarly, first_cell};
@@ -12,8 +13,9 @@ ghost use Rattle.mp_model.specs.Waves.{state, waves};
 
 use crate::cell::Cell;
 use crate::track::Track;
-use mp_modules::{CoreModule, EventModule, MOST_INPUTS, Memory};
+use mp_modules::{EventModule, MOST_INPUTS, Memory};
 use mp_netlist::{ModuleId, ModuleRecord, Netlist, WireId};
+use mp_storage::AnyModule;
 use mp_wave::Wave;
 use std::alloc::{AllocError, Global};
 
@@ -53,7 +55,8 @@ fn first_track(alloc: Global, netlist: &Netlist, wire: WireId) -> Result<Option<
 }
 
 fn first_cells(alloc: Global, netlist: &Netlist) -> Result<Vec<Option<Cell>>, AllocError>
-    ensures { IfOk result (λ cells. cells.items ≡ map (option_map first_cell) netlist.now.modules) }
+    requires { IsCircuit netlist.now }
+    ensures { IfOk result (λ cells. cells.items ≡ map (option_map (first_cell netlist.now)) netlist.now.modules) }
 {
     let mut cells = Vec::new(alloc);
     for m in 0..netlist.module_slots() {
@@ -63,10 +66,11 @@ fn first_cells(alloc: Global, netlist: &Netlist) -> Result<Vec<Option<Cell>>, Al
 }
 
 fn first_cell_at(netlist: &Netlist, id: ModuleId) -> Option<Cell>
-    ensures { result ≡ option_map first_cell (slot_at netlist.now.modules id.0) }
+    requires { IsCircuit netlist.now }
+    ensures { result ≡ option_map (first_cell netlist.now) (slot_at netlist.now.modules id.0) }
 {
     let record = netlist.module(id)?;
-    let part = built(record);
+    let part = built(netlist, record);
     Some(Cell {
         part,
         memory: part.start(),
@@ -74,13 +78,38 @@ fn first_cell_at(netlist: &Netlist, id: ModuleId) -> Option<Cell>
 }
 
 /// The event module that a record stands for.
-fn built(found: &ModuleRecord) -> CoreModule
-    requires { IsTrue (are_params found.now.kind 1 found.now.params) }
-    ensures { result ≡ built found.now }
+fn built(netlist: &Netlist, found: &ModuleRecord) -> AnyModule
+    requires width { IsTrue (is_width_of found.now.kind (module_width netlist.now found.now)) }
+    requires params { IsTrue (are_params found.now.kind (module_width netlist.now found.now) found.now.params) }
+    ensures { result ≡ built netlist.now found.now }
 {
-    match CoreModule::of(found.kind, found.params.as_slice()) {
+    let width = module_width(netlist, found);
+    match AnyModule::of(found.kind, found.params.as_slice(), width) {
         Some(part) => part,
         None => unreachable!(),
+    }
+}
+
+/// The width of a module: that of the wire at its first input where its kind has ports of any width, and else 1.
+fn module_width(netlist: &Netlist, record: &ModuleRecord) -> u32
+    ensures { result ≡ module_width netlist.now record.now }
+{
+    if !record.kind.has_width() {
+        return 1;
+    }
+    let first = first_wire(record.inputs.as_slice());
+    match netlist.wire(first) {
+        Some(wire) => wire.width,
+        None => 0,
+    }
+}
+
+fn first_wire(wires: &[WireId]) -> WireId
+    ensures { result ≡ slice_index_or wires.now 0 (record { 0 = 0 }) }
+{
+    match wires {
+        [first, ..] => *first,
+        [] => WireId(0),
     }
 }
 

@@ -1,5 +1,15 @@
 pub mod Kinds
 pub mod Memories
+pub mod Clients
+pub mod Findings
+pub mod Merge
+pub mod CElement
+pub mod Toggle
+pub mod Select
+pub mod Call
+pub mod Arbiter
 pub mod Tables
 pub mod Quiet
+pub mod QuietArbiter
+pub mod QuietModules
 pub mod Laws

@@ -1,73 +1,69 @@
 //! The modules that hold no data.
-ghost use Rattle.std.specs.Prelude.{◌≡◌, ◌↔◌, IsSome, IfSome, IsTrue};
+ghost use Rattle.std.specs.Prelude.{◌≡◌, None, if◌then◌else◌};
 ghost use Rattle.mp_modules.specs.Kinds.{are_params};
-ghost use Rattle.mp_modules.specs.Tables.{first_output, next_output, part_of, rendezvous};
+ghost use Rattle.mp_modules.specs.Tables.{first_output, part_of};
 
+use crate::arbiter::{arbiter_step, is_done_without_grant, is_repeat_request};
+use crate::call::{call_step, is_done_without_call, is_overlap};
 use crate::event_module::EventModule;
+use crate::finding_code::FindingCode;
+use crate::finding_set::FindingSet;
 use crate::kind::Kind;
 use crate::memory::{Memory, level_at};
+use crate::merge::{is_collision, merged};
 use crate::rendezvous::Rendezvous;
+use crate::select::{is_unstable, select_step};
+use crate::toggle::toggle_step;
 
-/// An event module with its parameters.
+/// An event module without data, with its parameters.
 #[derive(Clone, Copy, Debug, PartialEq, Eq)]
 pub enum CoreModule {
     Buf,
     Not,
+    Xor,
     C(Rendezvous),
+    Toggle,
+    Select,
+    Call,
+    Arbiter,
 }
 
 impl CoreModule {
-    /// The module of a kind with these parameters, and nothing where the kind doesn't accept them.
+    /// The module of a kind with these parameters, and nothing where the kind doesn't accept them or holds data.
     pub fn of(kind: Kind, params: &[u64]) -> Option<CoreModule>
-        ensures made { IsSome result ↔ IsTrue (are_params kind 1 params.now) }
-        ensures part { IfSome result (λ part. part ≡ part_of kind params.now) }
+        ensures { result ≡ (if are_params kind 1 params.now then part_of kind params.now else None) }
     {
         if !kind.accepts(1, params) {
             return None;
         }
-        Some(match kind {
-            Kind::Buf => CoreModule::Buf,
-            Kind::Not => CoreModule::Not,
-            Kind::C => CoreModule::C(rendezvous(params)),
-        })
+        match kind {
+            Kind::Buf => Some(CoreModule::Buf),
+            Kind::Not => Some(CoreModule::Not),
+            Kind::Xor => Some(CoreModule::Xor),
+            Kind::C => Some(CoreModule::C(Rendezvous::from_params(params))),
+            Kind::Toggle => Some(CoreModule::Toggle),
+            Kind::Select => Some(CoreModule::Select),
+            Kind::Call => Some(CoreModule::Call),
+            Kind::Arbiter => Some(CoreModule::Arbiter),
+            Kind::Reg | Kind::AddC | Kind::XorC | Kind::Sum | Kind::Bit => None,
+        }
     }
 
     fn first_output(self) -> u64
         ensures { result ≡ first_output self }
     {
         match self {
-            CoreModule::Buf => 0,
             CoreModule::Not => 1,
             CoreModule::C(c) => u64::from(c.initial),
+            _ => 0,
         }
-    }
-
-    fn next_output(self, former: u64, levels: &[u64]) -> u64
-        ensures { result ≡ next_output self former levels.now }
-    {
-        match self {
-            CoreModule::Buf => level_at(levels, 0),
-            CoreModule::Not => 1u64.saturating_sub(level_at(levels, 0)),
-            CoreModule::C(c) => c.join(former, levels),
-        }
-    }
-}
-
-/// A C-element from its parameters.
-fn rendezvous(params: &[u64]) -> Rendezvous
-    ensures { result ≡ rendezvous params.now }
-{
-    Rendezvous {
-        initial: level_at(params, 0) == 1,
-        bubble_a: level_at(params, 1) == 1,
-        bubble_b: level_at(params, 2) == 1,
     }
 }
 
 impl EventModule for CoreModule {
     ghost use Rattle.mp_modules.specs.Tables as tables;
     ghost use Rattle.mp_modules.specs.Memories.{output_of};
-    ghost use Rattle.mp_modules.specs.Quiet as quiet;
+    ghost use Rattle.mp_modules.specs.QuietModules as quiet;
 
     ghost start_of = { tables.start };
 
@@ -77,23 +73,71 @@ impl EventModule for CoreModule {
 
     ghost level_out = { λ part. output_of };
 
+    ghost found = { tables.found };
+
     ghost settled_stays = { quiet.settled_stays };
 
     ghost stepped_stays = { quiet.stepped_stays };
+
+    ghost settled_quiet = { quiet.settled_quiet };
+
+    ghost stepped_quiet = { quiet.stepped_quiet };
 
     fn start(&self) -> Memory {
         Memory::with_one_output(&[], self.first_output())
     }
 
     fn settle(&self, levels: &[u64]) -> Memory {
-        Memory::with_one_output(levels, self.next_output(self.first_output(), levels))
+        self.step(self.start().seen(levels), levels)
     }
 
     fn step(&self, memory: Memory, levels: &[u64]) -> Memory {
-        Memory::with_one_output(levels, self.next_output(memory.output(0), levels))
+        match *self {
+            CoreModule::Buf => Memory::with_one_output(levels, level_at(levels, 0)),
+            CoreModule::Not => {
+                Memory::with_one_output(levels, 1u64.saturating_sub(level_at(levels, 0)))
+            }
+            CoreModule::Xor => Memory::with_one_output(levels, merged(levels)),
+            CoreModule::C(c) => Memory::with_one_output(levels, c.join(memory.output(0), levels)),
+            CoreModule::Toggle => toggle_step(memory, levels),
+            CoreModule::Select => select_step(memory, levels),
+            CoreModule::Call => call_step(memory, levels),
+            CoreModule::Arbiter => arbiter_step(memory, levels),
+        }
     }
 
     fn out(&self, memory: Memory, port: usize) -> u64 {
         memory.output(port)
+    }
+
+    fn findings(&self, memory: Memory, levels: &[u64]) -> FindingSet {
+        let none = FindingSet::empty();
+        match *self {
+            CoreModule::Buf | CoreModule::Not | CoreModule::Toggle => none,
+            CoreModule::Xor => {
+                none.with_if(FindingCode::MergeCollision, is_collision(memory, levels))
+            }
+            CoreModule::C(c) => {
+                none.with_if(FindingCode::Withdrawn, c.is_withdrawn(memory, levels))
+            }
+            CoreModule::Select => {
+                none.with_if(FindingCode::SelectUnstable, is_unstable(memory, levels))
+            }
+            CoreModule::Call => none
+                .with_if(FindingCode::CallOverlap, is_overlap(memory, levels))
+                .with_if(
+                    FindingCode::DoneWithoutCall,
+                    is_done_without_call(memory, levels),
+                ),
+            CoreModule::Arbiter => none
+                .with_if(
+                    FindingCode::RepeatRequest,
+                    is_repeat_request(memory, levels),
+                )
+                .with_if(
+                    FindingCode::DoneWithoutGrant,
+                    is_done_without_grant(memory, levels),
+                ),
+        }
     }
 }

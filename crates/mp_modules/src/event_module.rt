@@ -1,11 +1,14 @@
 //! What every event module does.
 
+use crate::finding_set::FindingSet;
 use crate::memory::Memory;
 
 /// What an event module does, a unit of time after the other.
 pub trait EventModule {
     ghost use Rattle.std.specs.Prelude.{◌≡◌, ℕ, List};
     ghost use Rattle.mp_modules.specs.declared.memory.Memory.{Memory};
+    ghost use Rattle.mp_modules.specs.declared.finding_set.FindingSet.{FindingSet};
+    ghost use Rattle.mp_modules.specs.Findings.{no_findings};
 
     /// The state before time 0.
     ghost start_of: { Self → Memory };
@@ -18,6 +21,9 @@ pub trait EventModule {
 
     /// The level of an output before its delay.
     ghost level_out: { Self → Memory → ℕ → ℕ };
+
+    /// What is found at a unit with these input levels.
+    ghost found: { Self → Memory → List ℕ → FindingSet };
 
     /// The state before time 0.
     fn start(&self) -> Memory
@@ -35,9 +41,19 @@ pub trait EventModule {
     fn out(&self, memory: Memory, port: usize) -> u64
         ensures { result ≡ level_out self.now memory port };
 
+    /// What is found at a time from 1 on, after the state of the unit before, where the input ports have these levels.
+    fn findings(&self, memory: Memory, levels: &[u64]) -> FindingSet
+        ensures { result ≡ found self.now memory levels.now };
+
     /// After time 0 with some levels, a step with the same levels changes nothing.
     ghost settled_stays: { (part : Self) (levels : List ℕ) → stepped part (settled part levels) levels ≡ settled part levels };
 
     /// After a step with some levels, a further step with the same levels changes nothing.
     ghost stepped_stays: { (part : Self) (memory : Memory) (levels : List ℕ) → stepped part (stepped part memory levels) levels ≡ stepped part memory levels };
+
+    /// After time 0 with some levels, nothing is found at a step with the same levels.
+    ghost settled_quiet: { (part : Self) (levels : List ℕ) → found part (settled part levels) levels ≡ no_findings };
+
+    /// After a step with some levels, nothing is found at a further step with the same levels.
+    ghost stepped_quiet: { (part : Self) (memory : Memory) (levels : List ℕ) → found part (stepped part memory levels) levels ≡ no_findings };
 }

@@ -1,18 +1,29 @@
 //! The kinds of event module.
-ghost use Rattle.std.specs.Prelude.{◌≡◌, ◌≤◌, nat_lt};
+ghost use Rattle.std.specs.Prelude.{◌≡◌, ◌≤◌, ◌^◌, nat_lt};
 ghost use Rattle.std.specs.List.{list_all};
-ghost use Rattle.mp_modules.specs.Kinds.{input_count, output_count, param_count, word_of, kind_named, has_width, input_width, output_width, param_bound, are_params};
+ghost use Rattle.mp_modules.specs.Kinds.{input_count, output_count, param_count, word_of, kind_named, wide_inputs, wide_outputs, has_width, input_width, output_width, param_bound, are_params};
 
 use crate::memory::{MOST_INPUTS, MOST_OUTPUTS};
 
-/// A kind of event module (Sutherland 1989: BUF is a delay, NOT an inverter, C the rendezvous of two events).
+/// A kind of event module (Sutherland 1989). BUF is a delay, NOT an inverter, XOR the merge of two events, C their rendezvous; TOGGLE,
+/// SELECT, CALL and ARBITER steer events; REG holds data from a capture to a pass; ADDC, XORC, SUM and BIT compute on data.
 ///
 /// The width of a module is that of the wire at its first input, where its kind has ports of any width, and else 1.
 #[derive(Clone, Copy, Debug, PartialEq, Eq)]
 pub enum Kind {
     Buf,
     Not,
+    Xor,
     C,
+    Toggle,
+    Select,
+    Call,
+    Arbiter,
+    Reg,
+    AddC,
+    XorC,
+    Sum,
+    Bit,
 }
 
 impl Kind {
@@ -22,8 +33,10 @@ impl Kind {
         ensures few { result ≤ MOST_INPUTS }
     {
         match self {
-            Kind::Buf | Kind::Not => 1,
-            Kind::C => 2,
+            Kind::Buf | Kind::Not | Kind::Toggle | Kind::AddC | Kind::XorC | Kind::Bit => 1,
+            Kind::Xor | Kind::C | Kind::Select | Kind::Sum => 2,
+            Kind::Call | Kind::Reg => 3,
+            Kind::Arbiter => 4,
         }
     }
 
@@ -33,7 +46,16 @@ impl Kind {
         ensures few { result ≤ MOST_OUTPUTS }
     {
         match self {
-            Kind::Buf | Kind::Not | Kind::C => 1,
+            Kind::Buf
+            | Kind::Not
+            | Kind::Xor
+            | Kind::C
+            | Kind::AddC
+            | Kind::XorC
+            | Kind::Sum
+            | Kind::Bit => 1,
+            Kind::Toggle | Kind::Select | Kind::Arbiter => 2,
+            Kind::Call | Kind::Reg => 3,
         }
     }
 
@@ -42,8 +64,16 @@ impl Kind {
         ensures { result ≡ param_count self }
     {
         match self {
-            Kind::Buf | Kind::Not => 0,
+            Kind::Buf
+            | Kind::Not
+            | Kind::Xor
+            | Kind::Toggle
+            | Kind::Select
+            | Kind::Call
+            | Kind::Arbiter
+            | Kind::Sum => 0,
             Kind::C => 3,
+            Kind::Reg | Kind::AddC | Kind::XorC | Kind::Bit => 1,
         }
     }
 
@@ -54,7 +84,17 @@ impl Kind {
         match self {
             Kind::Buf => "BUF",
             Kind::Not => "NOT",
+            Kind::Xor => "XOR",
             Kind::C => "C",
+            Kind::Toggle => "TOGGLE",
+            Kind::Select => "SELECT",
+            Kind::Call => "CALL",
+            Kind::Arbiter => "ARBITER",
+            Kind::Reg => "REG",
+            Kind::AddC => "ADDC",
+            Kind::XorC => "XORC",
+            Kind::Sum => "SUM",
+            Kind::Bit => "BIT",
         }
     }
 
@@ -67,8 +107,28 @@ impl Kind {
             Some(Kind::Buf)
         } else if word == b"NOT".as_slice() {
             Some(Kind::Not)
+        } else if word == b"XOR".as_slice() {
+            Some(Kind::Xor)
         } else if word == b"C".as_slice() {
             Some(Kind::C)
+        } else if word == b"TOGGLE".as_slice() {
+            Some(Kind::Toggle)
+        } else if word == b"SELECT".as_slice() {
+            Some(Kind::Select)
+        } else if word == b"CALL".as_slice() {
+            Some(Kind::Call)
+        } else if word == b"ARBITER".as_slice() {
+            Some(Kind::Arbiter)
+        } else if word == b"REG".as_slice() {
+            Some(Kind::Reg)
+        } else if word == b"ADDC".as_slice() {
+            Some(Kind::AddC)
+        } else if word == b"XORC".as_slice() {
+            Some(Kind::XorC)
+        } else if word == b"SUM".as_slice() {
+            Some(Kind::Sum)
+        } else if word == b"BIT".as_slice() {
+            Some(Kind::Bit)
         } else {
             None
         }
@@ -79,8 +139,14 @@ impl Kind {
         ensures { result ≡ has_width self }
     {
         match self {
-            Kind::Buf => true,
-            Kind::Not | Kind::C => false,
+            Kind::Buf | Kind::Reg | Kind::AddC | Kind::XorC | Kind::Sum | Kind::Bit => true,
+            Kind::Not
+            | Kind::Xor
+            | Kind::C
+            | Kind::Toggle
+            | Kind::Select
+            | Kind::Call
+            | Kind::Arbiter => false,
         }
     }
 
@@ -88,19 +154,45 @@ impl Kind {
     pub fn input_width(self, width: u32, port: usize) -> u32
         ensures { result ≡ input_width self width port }
     {
-        match (self, port) {
-            (Kind::Buf, 0) => width,
-            _ => 1,
-        }
+        if port < self.wide_inputs() { width } else { 1 }
     }
 
     /// The width of an output port of a module of this kind and width.
     pub fn output_width(self, width: u32, port: usize) -> u32
         ensures { result ≡ output_width self width port }
     {
+        if port < self.wide_outputs() { width } else { 1 }
+    }
+
+    fn wide_inputs(self) -> usize
+        ensures { result ≡ wide_inputs self }
+    {
         match self {
-            Kind::Buf if port == 0 => width,
-            _ => 1,
+            Kind::Buf | Kind::Reg | Kind::AddC | Kind::XorC | Kind::Bit => 1,
+            Kind::Not
+            | Kind::Xor
+            | Kind::C
+            | Kind::Toggle
+            | Kind::Select
+            | Kind::Call
+            | Kind::Arbiter => 0,
+            Kind::Sum => 2,
+        }
+    }
+
+    fn wide_outputs(self) -> usize
+        ensures { result ≡ wide_outputs self }
+    {
+        match self {
+            Kind::Buf | Kind::Reg | Kind::AddC | Kind::XorC | Kind::Sum => 1,
+            Kind::Not
+            | Kind::Xor
+            | Kind::C
+            | Kind::Toggle
+            | Kind::Select
+            | Kind::Call
+            | Kind::Arbiter
+            | Kind::Bit => 0,
         }
     }
 
@@ -115,17 +207,25 @@ impl Kind {
     fn are_in_range(self, width: u32, params: &[u64]) -> bool
         ensures { result ≡ list_all (λ param. nat_lt param (param_bound self width)) params.now }
     {
-        let bound = self.param_bound(width);
-        params.iter().all(|param| *param < bound)
+        params.iter().all(|param| self.is_in_range(width, *param))
     }
 
-    /// What each parameter is below.
-    fn param_bound(self, _width: u32) -> u64
-        ensures { result ≡ param_bound self _width }
+    /// Whether the number is below what each parameter is below.
+    fn is_in_range(self, width: u32, param: u64) -> bool
+        ensures { result ≡ nat_lt param (param_bound self width) }
     {
         match self {
-            Kind::Buf | Kind::Not => 0,
-            Kind::C => 2,
+            Kind::C => param < 2,
+            Kind::Reg | Kind::AddC | Kind::XorC => is_level(width, param),
+            Kind::Bit => param < u64::from(width),
+            _ => false,
         }
     }
+}
+
+/// Whether the number is a level of the width.
+fn is_level(width: u32, number: u64) -> bool
+    ensures { result ≡ nat_lt number (2 ^ width) }
+{
+    width >= 64 || number < 1 << width
 }

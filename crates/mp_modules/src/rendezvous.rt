@@ -1,8 +1,9 @@
 //! The Muller C-element.
 ghost use Rattle.std.specs.Prelude.{◌≡◌};
-ghost use Rattle.mp_modules.specs.Tables.{joined, bubbled};
+ghost use Rattle.mp_modules.specs.CElement.{joined, bubbled, is_withdrawn_at, is_withdrawn};
+ghost use Rattle.mp_modules.specs.Tables.{rendezvous};
 
-use crate::memory::level_at;
+use crate::memory::{Memory, level_at};
 
 /// What a C-element is made from: its output before time 0, and which of its inputs have a bubble, which inverts them.
 #[derive(Clone, Copy, Debug, PartialEq, Eq)]
@@ -13,6 +14,17 @@ pub struct Rendezvous {
 }
 
 impl Rendezvous {
+    /// A C-element from its parameters.
+    pub fn from_params(params: &[u64]) -> Rendezvous
+        ensures { result ≡ rendezvous params.now }
+    {
+        Rendezvous {
+            initial: level_at(params, 0) == 1,
+            bubble_a: level_at(params, 1) == 1,
+            bubble_b: level_at(params, 2) == 1,
+        }
+    }
+
     /// The level of the inputs, behind their bubbles, where they agree, and else the former output.
     pub(crate) fn join(self, former: u64, levels: &[u64]) -> u64
         ensures { result ≡ joined self former levels.now }
@@ -20,6 +32,14 @@ impl Rendezvous {
         let a = bubbled(self.bubble_a, level_at(levels, 0));
         let b = bubbled(self.bubble_b, level_at(levels, 1));
         if a == b { a } else { former }
+    }
+
+    /// Whether an input changes that waited for the other.
+    pub(crate) fn is_withdrawn(self, memory: Memory, levels: &[u64]) -> bool
+        ensures { result ≡ is_withdrawn self memory levels.now }
+    {
+        is_withdrawn_at(self.bubble_a, memory, levels, 0)
+            || is_withdrawn_at(self.bubble_b, memory, levels, 1)
     }
 }
 
@@ -32,4 +52,11 @@ fn bubbled(bubble: bool, level: u64) -> u64
     } else {
         level
     }
+}
+
+fn is_withdrawn_at(bubble: bool, memory: Memory, levels: &[u64], port: usize) -> bool
+    ensures { result ≡ is_withdrawn_at bubble memory levels.now port }
+{
+    let before = bubbled(bubble, level_at(&memory.inputs, port));
+    memory.is_event(levels, port) && before != memory.output(0)
 }

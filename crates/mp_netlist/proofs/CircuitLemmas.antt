@@ -8,7 +8,7 @@ use Rattle.std.proofs.lemmas.Option.{IfSome_then}
 use Rattle.std.proofs.lemmas.Bool.{cases_lt, cases_eq}
 use Rattle.std.specs.Prelude.{slice_index_or}
 use Rattle.mp_modules.specs.declared.kind.Kind.{Kind}
-use Rattle.mp_modules.specs.declared.kind.Kind.TheVariants.{Buf, Not, C}
+use Rattle.mp_modules.specs.declared.kind.Kind.TheVariants as kinds
 use Rattle.mp_modules.specs.Kinds.{input_count, has_width, input_width, output_width, are_params}
 use Rattle.mp_netlist.specs.declared.wire_record.WireRecord.{WireRecord}
 use Rattle.mp_netlist.specs.declared.module_record.ModuleRecord.{ModuleRecord}
@@ -20,9 +20,19 @@ use Rattle.mp_netlist.proofs.DriverLemmas.{undriven_is_free}
 
 -- each kind has an input port
 pub some_input : (kind : Kind) → 0 < input_count kind
-some_input Buf = omega arith
-some_input Not = omega arith
-some_input C = omega arith
+some_input kinds.Buf = omega arith
+some_input kinds.Not = omega arith
+some_input kinds.Xor = omega arith
+some_input kinds.C = omega arith
+some_input kinds.Toggle = omega arith
+some_input kinds.Select = omega arith
+some_input kinds.Call = omega arith
+some_input kinds.Arbiter = omega arith
+some_input kinds.Reg = omega arith
+some_input kinds.AddC = omega arith
+some_input kinds.XorC = omega arith
+some_input kinds.Sum = omega arith
+some_input kinds.Bit = omega arith
 
 -- each wire of the first stands in the second with its width
 pub record KeepsWidths (n m : Circuit) : Type 0 where

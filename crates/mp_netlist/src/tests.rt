@@ -19,6 +19,14 @@ fn wire(alloc: Global, text: &str, width: u64, level: u64) -> Result<Edit, Alloc
     })
 }
 
+fn names(alloc: Global, texts: &str) -> Result<InputNames, AllocError> {
+    let mut names = Vec::new(alloc);
+    for text in texts.split(' ') {
+        names.push(name(alloc, text)?)?;
+    }
+    Ok(InputNames::new(names))
+}
+
 /// A module with inputs divided by spaces, and one output with its delay, `-` being one without a wire.
 fn module(
     alloc: Global,
@@ -29,10 +37,6 @@ fn module(
     output: &str,
     delay: u64,
 ) -> Result<Edit, AllocError> {
-    let mut names = Vec::new(alloc);
-    for input in inputs.split(' ') {
-        names.push(name(alloc, input)?)?;
-    }
     let wire = if output == "-" {
         None
     } else {
@@ -42,8 +46,26 @@ fn module(
         name: name(alloc, text)?,
         kind,
         params: Params::new(params.to_vec(alloc)?),
-        inputs: InputNames::new(names),
+        inputs: names(alloc, inputs)?,
         outputs: OutputNames::new(vec![in alloc; OutputName { wire, delay }]?),
+    })
+}
+
+/// A register with inputs divided by spaces, and no wires at its outputs.
+fn register(alloc: Global, initial: u64, inputs: &str) -> Result<Edit, AllocError> {
+    let mut outputs = Vec::new(alloc);
+    for _ in 0..3 {
+        outputs.push(OutputName {
+            wire: None,
+            delay: 1,
+        })?;
+    }
+    Ok(Edit::AddModule {
+        name: name(alloc, "n")?,
+        kind: Kind::Reg,
+        params: Params::new(vec![in alloc; initial]?),
+        inputs: names(alloc, inputs)?,
+        outputs: OutputNames::new(outputs),
     })
 }
 
@@ -160,6 +182,34 @@ fn refuses_outputs(rt: &impl Abort, alloc: Global, net: &mut Netlist) -> Result<
     )
 }
 
+fn refuses_kinds_of_data(rt: &impl Abort, alloc: Global, net: &mut Netlist) -> Result<(), Fail> {
+    let wide = EditError::WidthMismatch;
+    let param = EditError::BadParam;
+    for (kind, params, inputs, output, error) in [
+        (Kind::Xor, [].as_slice(), "a d", "y", wide),
+        (Kind::Toggle, [].as_slice(), "a", "y", EditError::WrongPorts),
+        (Kind::AddC, [1].as_slice(), "d", "y", wide),
+        (Kind::AddC, [256].as_slice(), "d", "-", param),
+        (Kind::XorC, [].as_slice(), "d", "-", param),
+        (Kind::Sum, [].as_slice(), "d a", "-", wide),
+        (Kind::Sum, [1].as_slice(), "d d", "-", param),
+        (Kind::Bit, [7].as_slice(), "d", "d", wide),
+        (Kind::Bit, [8].as_slice(), "d", "z", param),
+        (
+            Kind::Bit,
+            [7].as_slice(),
+            "d",
+            "y",
+            EditError::AlreadyDriven,
+        ),
+    ] {
+        let edit = module(alloc, "n", kind, params, inputs, output, 1);
+        refuses(rt, net, edit, error)?;
+    }
+    refuses(rt, net, register(alloc, 0, "d a d"), wide)?;
+    refuses(rt, net, register(alloc, 256, "d a a"), param)
+}
+
 fn refuses_stimuli(rt: &impl Abort, alloc: Global, net: &mut Netlist) -> Result<(), Fail> {
     refuses(
         rt,
@@ -270,6 +320,7 @@ fn tries_edits(rt: &impl Abort, alloc: Global, net: &mut Netlist) -> Result<(), 
     refuses_wires(rt, alloc, net)?;
     refuses_modules(rt, alloc, net)?;
     refuses_outputs(rt, alloc, net)?;
+    refuses_kinds_of_data(rt, alloc, net)?;
     refuses_stimuli(rt, alloc, net)?;
     reads_back_wires(rt, net)?;
     reads_back_modules(rt, net)?;

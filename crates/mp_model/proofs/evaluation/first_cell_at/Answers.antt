@@ -1,10 +1,8 @@
-use Rattle.std.proofs.Common.{subst}
-use Rattle.std.specs.Bool.{IsTrue}
-use Rattle.mp_netlist.specs.Circuit.{module_width}
-use Rattle.mp_model.proofs.EvaluationLemmas.{are_params-any_width}
+use Rattle.mp_model.proofs.BuiltLemmas.{width_of_module}
 use Rattle.mp_model.proofs.evaluation.first_cell_at.Goals as goal
 
-pub built-part-requires : goal.built-part-requires
-built-part-requires c =
-    let r = c.in_ok-record.record.now in
-    subst IsTrue (are_params-any_width r.kind (module_width c.args.netlist.now r) 1 r.params) c.in_ok-record.ensures.form.params
+pub built-part-requires-clause-width : goal.built-part-requires-clause-width
+built-part-requires-clause-width c = width_of_module c.args.netlist.now c.requires c.in_ok-record.record.now c.in_ok-record.ensures.form
+
+pub built-part-requires-clause-params : goal.built-part-requires-clause-params
+built-part-requires-clause-params c = c.in_ok-record.ensures.form.params

@@ -1,0 +1,84 @@
+//! What may be found at a module or a bundle.
+ghost use Rattle.std.specs.Prelude.{◌≡◌, ◌≤◌};
+ghost use Rattle.mp_modules.specs.Findings.{code_number, code_word};
+
+/// What may be found at a module, or at a bundle of a request, an acknowledge and a data wire, at a unit of time from 1 on.
+#[derive(Clone, Copy, Debug, PartialEq, Eq)]
+pub enum FindingCode {
+    /// Both inputs of a XOR change.
+    MergeCollision,
+    /// An input of a C changes that waited for the other: behind its bubble it differed from the output one unit before.
+    Withdrawn,
+    /// The diamond and the first input of a SELECT change.
+    SelectUnstable,
+    /// A request event of a CALL was ignored.
+    CallOverlap,
+    /// A done event of a CALL was ignored.
+    DoneWithoutCall,
+    /// A request event of an ARBITER was ignored.
+    RepeatRequest,
+    /// A done event of an ARBITER was ignored.
+    DoneWithoutGrant,
+    /// The capture input of a REG changes that was held one unit before.
+    CaptureWhileHeld,
+    /// The pass input of a REG changes that was open one unit before.
+    PassWhileOpen,
+    /// The data of a REG changes that was open one unit before and is held now.
+    DataAtCapture,
+    /// The data of a bundle changes that was busy one unit before.
+    DataWhileBusy,
+    /// The data of a bundle changes no longer than its setup time before a request event, or with it.
+    Setup,
+    /// A request event of a bundle that was busy one unit before.
+    RequestWhileBusy,
+    /// An acknowledge event of a bundle that was not busy one unit before.
+    AckWhileIdle,
+}
+
+impl FindingCode {
+    /// Its number, 1 to 14.
+    pub fn number(self) -> u32
+        ensures value { result ≡ code_number self }
+        ensures low { 1 ≤ result }
+        ensures high { result ≤ 14 }
+    {
+        match self {
+            FindingCode::MergeCollision => 1,
+            FindingCode::Withdrawn => 2,
+            FindingCode::SelectUnstable => 3,
+            FindingCode::CallOverlap => 4,
+            FindingCode::DoneWithoutCall => 5,
+            FindingCode::RepeatRequest => 6,
+            FindingCode::DoneWithoutGrant => 7,
+            FindingCode::CaptureWhileHeld => 8,
+            FindingCode::PassWhileOpen => 9,
+            FindingCode::DataAtCapture => 10,
+            FindingCode::DataWhileBusy => 11,
+            FindingCode::Setup => 12,
+            FindingCode::RequestWhileBusy => 13,
+            FindingCode::AckWhileIdle => 14,
+        }
+    }
+
+    /// Its word in reports.
+    pub fn word(self) -> &'static str
+        ensures { result.now ≡ code_word self }
+    {
+        match self {
+            FindingCode::MergeCollision => "merge-collision",
+            FindingCode::Withdrawn => "withdrawn",
+            FindingCode::SelectUnstable => "select-unstable",
+            FindingCode::CallOverlap => "call-overlap",
+            FindingCode::DoneWithoutCall => "done-without-call",
+            FindingCode::RepeatRequest => "repeat-request",
+            FindingCode::DoneWithoutGrant => "done-without-grant",
+            FindingCode::CaptureWhileHeld => "capture-while-held",
+            FindingCode::PassWhileOpen => "pass-while-open",
+            FindingCode::DataAtCapture => "data-at-capture",
+            FindingCode::DataWhileBusy => "data-while-busy",
+            FindingCode::Setup => "setup",
+            FindingCode::RequestWhileBusy => "request-while-busy",
+            FindingCode::AckWhileIdle => "ack-while-idle",
+        }
+    }
+}

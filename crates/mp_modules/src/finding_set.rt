@@ -1,0 +1,49 @@
+//! A set of what was found.
+
+use crate::finding_code::FindingCode;
+
+/// How many codes there are.
+pub const CODES: usize = 14;
+
+/// A set of codes: for each, by its number less 1, whether it is present.
+#[derive(Clone, Copy, Debug, PartialEq, Eq)]
+pub struct FindingSet {
+    pub present: [bool; CODES],
+}
+
+impl FindingSet {
+    ghost use Rattle.std.specs.Prelude.{◌≡◌};
+    ghost use Rattle.mp_modules.specs.Findings.{no_findings, has_code, with_code, with_code_if};
+
+    /// No code.
+    pub fn empty() -> Self
+        ensures { result ≡ no_findings }
+    {
+        FindingSet {
+            present: [false; CODES],
+        }
+    }
+
+    /// Whether the code is present.
+    pub fn contains(self, code: FindingCode) -> bool
+        ensures { result ≡ has_code self code }
+    {
+        self.present[code.number() as usize - 1]
+    }
+
+    /// The set with the code too.
+    pub fn with(mut self, code: FindingCode) -> Self
+        ensures { result ≡ with_code code self }
+    {
+        let place = code.number() as usize - 1;
+        self.present[place] = true;
+        self
+    }
+
+    /// The set, with the code too where it is found.
+    pub fn with_if(self, code: FindingCode, found: bool) -> Self
+        ensures { result ≡ with_code_if code found self }
+    {
+        if found { self.with(code) } else { self }
+    }
+}

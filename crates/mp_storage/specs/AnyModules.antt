@@ -1,0 +1,73 @@
+-- What each kind of module does, all kinds as one type.
+use Rattle.std.specs.Prelude.{ℕ, Bool, List, ◌&&◌, ◌==◌, nat_le, slice_index, if◌then◌else◌}
+use Rattle.mp_modules.specs.declared.kind.Kind.{Kind}
+use Rattle.mp_modules.specs.declared.kind.Kind.TheVariants as kinds
+use Rattle.mp_modules.specs.declared.core_module.CoreModule.TheVariants as core
+use Rattle.mp_modules.specs.declared.memory.Memory.{Memory}
+use Rattle.mp_modules.specs.declared.finding_set.FindingSet.{FindingSet}
+use Rattle.mp_modules.specs.Kinds.{has_width}
+use Rattle.mp_modules.specs.Tables as tables
+use Rattle.mp_storage.specs.Widths.{highest_level}
+use Rattle.mp_storage.specs.Reg as reg
+use Rattle.mp_storage.specs.AddC as add_c
+use Rattle.mp_storage.specs.XorC as xor_c
+use Rattle.mp_storage.specs.Sum as sum
+use Rattle.mp_storage.specs.Bit as bit
+use Rattle.mp_storage.specs.declared.any_module.AnyModule.{AnyModule}
+use Rattle.mp_storage.specs.declared.any_module.AnyModule.TheVariants as parts
+
+-- a module of the kind can have this width
+abbrev pub is_width_of : Kind → ℕ → Bool
+is_width_of kind width = if has_width kind then nat_le 1 width && nat_le width 64 else width == 1
+
+-- the module of a kind with these parameters and this width
+unfoldable pub any_part_of : Kind → List ℕ → ℕ → AnyModule
+any_part_of kinds.Buf params width = parts.Core core.Buf
+any_part_of kinds.Not params width = parts.Core core.Not
+any_part_of kinds.Xor params width = parts.Core core.Xor
+any_part_of kinds.C params width = parts.Core (core.C (tables.rendezvous params))
+any_part_of kinds.Toggle params width = parts.Core core.Toggle
+any_part_of kinds.Select params width = parts.Core core.Select
+any_part_of kinds.Call params width = parts.Core core.Call
+any_part_of kinds.Arbiter params width = parts.Core core.Arbiter
+any_part_of kinds.Reg params width = parts.Reg (record { initial = slice_index params 0 })
+any_part_of kinds.AddC params width = parts.AddC (record { addend = slice_index params 0; highest = highest_level width })
+any_part_of kinds.XorC params width = parts.XorC (record { mask = slice_index params 0 })
+any_part_of kinds.Sum params width = parts.Sum (record { highest = highest_level width })
+any_part_of kinds.Bit params width = parts.Bit (record { place = slice_index params 0 })
+
+-- the state before time 0
+unfoldable pub start : AnyModule → Memory
+start (parts.Core part) = tables.start part
+start (parts.Reg part) = reg.start part
+start (parts.AddC part) = add_c.start part
+start (parts.XorC part) = xor_c.start part
+start (parts.Sum part) = sum.start part
+start (parts.Bit part) = bit.start part
+
+-- the state at time 0
+unfoldable pub settle : AnyModule → List ℕ → Memory
+settle (parts.Core part) x = tables.settle part x
+settle (parts.Reg part) x = reg.settle part x
+settle (parts.AddC part) x = add_c.settle part x
+settle (parts.XorC part) x = xor_c.settle part x
+settle (parts.Sum part) x = sum.settle part x
+settle (parts.Bit part) x = bit.settle part x
+
+-- the state at a time from 1 on, after that of the unit before
+unfoldable pub step : AnyModule → Memory → List ℕ → Memory
+step (parts.Core part) memory x = tables.step part memory x
+step (parts.Reg part) memory x = reg.step part memory x
+step (parts.AddC part) memory x = add_c.step part memory x
+step (parts.XorC part) memory x = xor_c.step part memory x
+step (parts.Sum part) memory x = sum.step part memory x
+step (parts.Bit part) memory x = bit.step part memory x
+
+-- what is found at a time from 1 on, after the state of the unit before
+unfoldable pub found : AnyModule → Memory → List ℕ → FindingSet
+found (parts.Core part) memory x = tables.found part memory x
+found (parts.Reg part) memory x = reg.found part memory x
+found (parts.AddC part) memory x = add_c.found part memory x
+found (parts.XorC part) memory x = xor_c.found part memory x
+found (parts.Sum part) memory x = sum.found part memory x
+found (parts.Bit part) memory x = bit.found part memory x

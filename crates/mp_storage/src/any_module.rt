@@ -1,0 +1,147 @@
+//! Each kind of module, as one type.
+ghost use Rattle.std.specs.Prelude.{◌≡◌};
+ghost use Rattle.mp_storage.specs.AnyModules.{is_width_of};
+
+use crate::add_c::AddC;
+use crate::bit::Bit;
+use crate::reg::Reg;
+use crate::sum::Sum;
+use crate::widths::highest_level;
+use crate::xor_c::XorC;
+use mp_modules::{CoreModule, EventModule, FindingSet, Kind, Memory, Rendezvous, level_at};
+
+/// An event module of any kind, with its parameters and its width.
+#[derive(Clone, Copy, Debug, PartialEq, Eq)]
+pub enum AnyModule {
+    Core(CoreModule),
+    Reg(Reg),
+    AddC(AddC),
+    XorC(XorC),
+    Sum(Sum),
+    Bit(Bit),
+}
+
+impl AnyModule {
+    ghost use Rattle.std.specs.Prelude.{◌≡◌, ◌↔◌, ◌&&◌, IsSome, IfSome, IsTrue};
+    ghost use Rattle.mp_modules.specs.Kinds.{are_params};
+    ghost use Rattle.mp_storage.specs.AnyModules.{is_width_of, any_part_of};
+
+    #[tactic(auto, unfolding(crate::specs::AnyModules::any_part_of))]
+    /// The module of a kind with these parameters and this width. Nothing where the kind doesn't accept the parameters, or the width is
+    /// not 1 to 64, and 1 for a kind without ports of any width.
+    pub fn of(kind: Kind, params: &[u64], width: u32) -> Option<AnyModule>
+        ensures made { IsSome result ↔ IsTrue (is_width_of kind width && are_params kind width params.now) }
+        ensures part { IfSome result (λ part. part ≡ any_part_of kind params.now width) }
+    {
+        let highest = highest_level(width)?;
+        if !is_width_of(kind, width) || !kind.accepts(width, params) {
+            return None;
+        }
+        let first = level_at(params, 0);
+        Some(match kind {
+            Kind::Buf => AnyModule::Core(CoreModule::Buf),
+            Kind::Not => AnyModule::Core(CoreModule::Not),
+            Kind::Xor => AnyModule::Core(CoreModule::Xor),
+            Kind::C => AnyModule::Core(CoreModule::C(Rendezvous::from_params(params))),
+            Kind::Toggle => AnyModule::Core(CoreModule::Toggle),
+            Kind::Select => AnyModule::Core(CoreModule::Select),
+            Kind::Call => AnyModule::Core(CoreModule::Call),
+            Kind::Arbiter => AnyModule::Core(CoreModule::Arbiter),
+            Kind::Reg => AnyModule::Reg(Reg { initial: first }),
+            Kind::AddC => AnyModule::AddC(AddC {
+                addend: first,
+                highest,
+            }),
+            Kind::XorC => AnyModule::XorC(XorC { mask: first }),
+            Kind::Sum => AnyModule::Sum(Sum { highest }),
+            Kind::Bit => AnyModule::Bit(Bit { place: first }),
+        })
+    }
+}
+
+/// Whether a module of the kind can have this width.
+fn is_width_of(kind: Kind, width: u32) -> bool
+    ensures { result ≡ is_width_of kind width }
+{
+    if kind.has_width() {
+        1 <= width && width <= 64
+    } else {
+        width == 1
+    }
+}
+
+impl EventModule for AnyModule {
+    ghost use Rattle.mp_storage.specs.AnyModules as any;
+    ghost use Rattle.mp_modules.specs.Memories.{output_of};
+    ghost use Rattle.mp_storage.specs.QuietAny as quiet;
+
+    ghost start_of = { any.start };
+
+    ghost settled = { any.settle };
+
+    ghost stepped = { any.step };
+
+    ghost level_out = { λ part. output_of };
+
+    ghost found = { any.found };
+
+    ghost settled_stays = { quiet.settled_stays };
+
+    ghost stepped_stays = { quiet.stepped_stays };
+
+    ghost settled_quiet = { quiet.settled_quiet };
+
+    ghost stepped_quiet = { quiet.stepped_quiet };
+
+    #[tactic(auto, unfolding(crate::specs::AnyModules::start))]
+    fn start(&self) -> Memory {
+        match self {
+            AnyModule::Core(part) => part.start(),
+            AnyModule::Reg(part) => part.start(),
+            AnyModule::AddC(part) => part.start(),
+            AnyModule::XorC(part) => part.start(),
+            AnyModule::Sum(part) => part.start(),
+            AnyModule::Bit(part) => part.start(),
+        }
+    }
+
+    #[tactic(auto, unfolding(crate::specs::AnyModules::settle))]
+    fn settle(&self, levels: &[u64]) -> Memory {
+        match self {
+            AnyModule::Core(part) => part.settle(levels),
+            AnyModule::Reg(part) => part.settle(levels),
+            AnyModule::AddC(part) => part.settle(levels),
+            AnyModule::XorC(part) => part.settle(levels),
+            AnyModule::Sum(part) => part.settle(levels),
+            AnyModule::Bit(part) => part.settle(levels),
+        }
+    }
+
+    #[tactic(auto, unfolding(crate::specs::AnyModules::step))]
+    fn step(&self, memory: Memory, levels: &[u64]) -> Memory {
+        match self {
+            AnyModule::Core(part) => part.step(memory, levels),
+            AnyModule::Reg(part) => part.step(memory, levels),
+            AnyModule::AddC(part) => part.step(memory, levels),
+            AnyModule::XorC(part) => part.step(memory, levels),
+            AnyModule::Sum(part) => part.step(memory, levels),
+            AnyModule::Bit(part) => part.step(memory, levels),
+        }
+    }
+
+    fn out(&self, memory: Memory, port: usize) -> u64 {
+        memory.output(port)
+    }
+
+    #[tactic(auto, unfolding(crate::specs::AnyModules::found))]
+    fn findings(&self, memory: Memory, levels: &[u64]) -> FindingSet {
+        match self {
+            AnyModule::Core(part) => part.findings(memory, levels),
+            AnyModule::Reg(part) => part.findings(memory, levels),
+            AnyModule::AddC(part) => part.findings(memory, levels),
+            AnyModule::XorC(part) => part.findings(memory, levels),
+            AnyModule::Sum(part) => part.findings(memory, levels),
+            AnyModule::Bit(part) => part.findings(memory, levels),
+        }
+    }
+}

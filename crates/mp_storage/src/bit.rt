@@ -1,0 +1,76 @@
+//! BIT gives one bit.
+use mp_modules::{EventModule, FindingSet, Memory, level_at};
+
+/// One bit of its input: the one at this place, the least bit's place being 0.
+#[derive(Clone, Copy, Debug, PartialEq, Eq)]
+pub struct Bit {
+    pub place: u64,
+}
+
+impl Bit {
+    ghost use Rattle.std.specs.Prelude.{◌≡◌};
+    ghost use Rattle.mp_storage.specs.Bit.{output};
+
+    /// The output, at these input levels.
+    pub fn output(self, levels: &[u64]) -> u64
+        ensures { result ≡ output self levels.now }
+    {
+        bit_at(level_at(levels, 0), self.place)
+    }
+}
+
+impl EventModule for Bit {
+    ghost use Rattle.std.specs.Prelude.{refl};
+    ghost use Rattle.mp_storage.specs.Bit as part;
+    ghost use Rattle.mp_modules.specs.Memories.{output_of};
+
+    ghost start_of = { part.start };
+
+    ghost settled = { part.settle };
+
+    ghost stepped = { part.step };
+
+    ghost level_out = { λ it. output_of };
+
+    ghost found = { part.found };
+
+    ghost settled_stays = { λ it levels. refl };
+
+    ghost stepped_stays = { λ it memory levels. refl };
+
+    ghost settled_quiet = { λ it levels. refl };
+
+    ghost stepped_quiet = { λ it memory levels. refl };
+
+    fn start(&self) -> Memory {
+        Memory::with_one_output(&[], 0)
+    }
+
+    fn settle(&self, levels: &[u64]) -> Memory {
+        self.step(self.start().seen(levels), levels)
+    }
+
+    fn step(&self, _memory: Memory, levels: &[u64]) -> Memory {
+        Memory::with_one_output(levels, self.output(levels))
+    }
+
+    fn out(&self, memory: Memory, port: usize) -> u64 {
+        memory.output(port)
+    }
+
+    fn findings(&self, _memory: Memory, _levels: &[u64]) -> FindingSet {
+        FindingSet::empty()
+    }
+}
+
+ghost use Rattle.std.specs.Prelude.{◌≡◌, ◌/◌, ◌%◌, ◌^◌};
+
+/// The bit at a place.
+fn bit_at(level: u64, place: u64) -> u64
+    ensures { result ≡ level / 2 ^ place % 2 }
+{
+    if place >= 64 {
+        return 0;
+    }
+    (level >> place) % 2
+}
