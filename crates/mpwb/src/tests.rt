@@ -10,6 +10,7 @@ use mp_text::{TextCode, TextError};
 use std::alloc::{AllocError, Global};
 use std::io;
 use std::io::{Read, Write};
+use std::process::Abort;
 
 fn text_fault(line: u32, code: TextCode) -> RunFault {
     RunFault::Text(TextError { line, code })
@@ -135,21 +136,22 @@ fn written(alloc: Global, text: &[u8]) -> Result<Vec<u8>, RunFault> {
 }
 
 /// `waves` writes these lines for the text.
-fn writes(rt: &HostRuntime, text: &[u8], lines: &[u8]) -> Result<(), RunFault> {
-    let found = written(rt.alloc(), text)?;
+fn writes(rt: &impl Abort, alloc: Global, text: &[u8], lines: &[u8]) -> Result<(), RunFault> {
+    let found = written(alloc, text)?;
     assert_eq!(rt; found.as_slice(), lines);
     Ok(())
 }
 
 #[test]
 fn no_wires(rt: HostRuntime) -> Result<(), RunFault> {
-    writes(&rt, b"horizon 1\n", b"")
+    writes(&rt, rt.alloc(), b"horizon 1\n", b"")
 }
 
 #[test]
 fn buf(rt: HostRuntime) -> Result<(), RunFault> {
     writes(
         &rt,
+        rt.alloc(),
         b"horizon 20\nwire a 1 0\nwire y 1 0\nmodule b BUF : a > y/3\nstim a 2=1 5=0\n",
         b"a 0 2=1 5=0\ny 0 5=1 8=0\n",
     )
@@ -159,6 +161,7 @@ fn buf(rt: HostRuntime) -> Result<(), RunFault> {
 fn self_loop(rt: HostRuntime) -> Result<(), RunFault> {
     writes(
         &rt,
+        rt.alloc(),
         b"horizon 5\nwire y 1 0\nwire z 1 0\nmodule n NOT : y > y/1\nmodule b BUF : y > z/3\n",
         b"y 0 1=1 2=0 3=1 4=0\nz 0 4=1\n",
     )
@@ -168,6 +171,7 @@ fn self_loop(rt: HostRuntime) -> Result<(), RunFault> {
 fn c_element(rt: HostRuntime) -> Result<(), RunFault> {
     writes(
         &rt,
+        rt.alloc(),
         b"horizon 20\nwire a 1 0\nwire b 1 0\nwire y 1 0\nmodule c C 0 0 0 : a b > y/2\nstim a 3=1\nstim b 7=1\n",
         b"a 0 3=1\nb 0 7=1\ny 0 9=1\n",
     )
@@ -177,6 +181,7 @@ fn c_element(rt: HostRuntime) -> Result<(), RunFault> {
 fn two_stage_control(rt: HostRuntime) -> Result<(), RunFault> {
     writes(
         &rt,
+        rt.alloc(),
         b"horizon 20\nwire r 1 0\nwire ack 1 0\nwire q1 1 0\nwire q2 1 0\nmodule c1 C 0 0 1 : r q2 > q1/2\nmodule c2 C 0 0 1 : q1 ack > q2/2\nstim r 1=1 4=0\nstim ack 10=1\n",
         b"r 0 1=1 4=0\nack 0 10=1\nq1 0 3=1 7=0\nq2 0 5=1 12=0\n",
     )
@@ -186,6 +191,7 @@ fn two_stage_control(rt: HostRuntime) -> Result<(), RunFault> {
 fn delay_past_horizon(rt: HostRuntime) -> Result<(), RunFault> {
     writes(
         &rt,
+        rt.alloc(),
         b"horizon 20\nwire a 1 0\nwire y 1 0\nmodule b BUF : a > y/65535\nstim a 2=1 5=0\n",
         b"a 0 2=1 5=0\ny 0\n",
     )
@@ -195,6 +201,7 @@ fn delay_past_horizon(rt: HostRuntime) -> Result<(), RunFault> {
 fn merge_collision(rt: HostRuntime) -> Result<(), RunFault> {
     writes(
         &rt,
+        rt.alloc(),
         b"horizon 10\nwire a 1 0\nwire b 1 0\nwire y 1 0\nmodule x XOR : a b > y/1\nstim a 4=1\nstim b 4=1\n",
         b"a 0 4=1\nb 0 4=1\ny 0\n",
     )
@@ -204,6 +211,7 @@ fn merge_collision(rt: HostRuntime) -> Result<(), RunFault> {
 fn toggle(rt: HostRuntime) -> Result<(), RunFault> {
     writes(
         &rt,
+        rt.alloc(),
         b"horizon 10\nwire a 1 0\nwire p 1 0\nwire q 1 0\nmodule t TOGGLE : a > p/1 q/1\nstim a 1=1 2=0 3=1\n",
         b"a 0 1=1 2=0 3=1\np 0 2=1 4=0\nq 0 3=1\n",
     )
@@ -213,6 +221,7 @@ fn toggle(rt: HostRuntime) -> Result<(), RunFault> {
 fn arbiter(rt: HostRuntime) -> Result<(), RunFault> {
     writes(
         &rt,
+        rt.alloc(),
         b"horizon 20\nwire r1 1 0\nwire r2 1 0\nwire d1 1 0\nwire d2 1 0\nwire g1 1 0\nwire g2 1 0\nmodule m ARBITER : r1 r2 d1 d2 > g1/2 g2/2\nstim r1 5=1\nstim r2 5=1\nstim d1 10=1\n",
         b"r1 0 5=1\nr2 0 5=1\nd1 0 10=1\nd2 0\ng1 0 7=1\ng2 0 12=1\n",
     )
@@ -222,6 +231,7 @@ fn arbiter(rt: HostRuntime) -> Result<(), RunFault> {
 fn register_capture(rt: HostRuntime) -> Result<(), RunFault> {
     writes(
         &rt,
+        rt.alloc(),
         b"horizon 20\nwire d 8 3\nwire c 1 0\nwire p 1 0\nwire q 8 0\nmodule g REG 0 : d c p > q/1 - -\nstim c 5=1\nstim d 5=9\n",
         b"d 3 5=9\nc 0 5=1\np 0\nq 0 1=3\n",
     )
@@ -231,6 +241,7 @@ fn register_capture(rt: HostRuntime) -> Result<(), RunFault> {
 fn register_pass(rt: HostRuntime) -> Result<(), RunFault> {
     writes(
         &rt,
+        rt.alloc(),
         b"horizon 20\nwire d 8 3\nwire c 1 0\nwire p 1 0\nwire q 8 0\nmodule g REG 0 : d c p > q/1 - -\nstim c 5=1\nstim d 5=9\nstim p 9=1 12=0\n",
         b"d 3 5=9\nc 0 5=1\np 0 9=1 12=0\nq 0 1=3 10=9\n",
     )
@@ -240,6 +251,7 @@ fn register_pass(rt: HostRuntime) -> Result<(), RunFault> {
 fn call_overlap(rt: HostRuntime) -> Result<(), RunFault> {
     writes(
         &rt,
+        rt.alloc(),
         b"horizon 20\nwire a 1 0\nwire b 1 0\nwire d 1 0\nwire r 1 0\nwire e 1 0\nwire f 1 0\nmodule k CALL : a b d > r/1 e/1 f/1\nstim a 2=1\nstim b 2=1\nstim d 6=1 8=0\n",
         b"a 0 2=1\nb 0 2=1\nd 0 6=1 8=0\nr 0 3=1\ne 0 7=1\nf 0\n",
     )
@@ -249,6 +261,7 @@ fn call_overlap(rt: HostRuntime) -> Result<(), RunFault> {
 fn arithmetic(rt: HostRuntime) -> Result<(), RunFault> {
     writes(
         &rt,
+        rt.alloc(),
         b"horizon 5\nwire d 8 250\nwire s 8 0\nwire x 8 0\nwire m 1 0\nmodule p ADDC 10 : d > s/1\nmodule u XORC 255 : d > x/1\nmodule v BIT 7 : d > m/1\n",
         b"d 250\ns 0 1=4\nx 0 1=5\nm 0 1=1\n",
     )
@@ -258,6 +271,7 @@ fn arithmetic(rt: HostRuntime) -> Result<(), RunFault> {
 fn select(rt: HostRuntime) -> Result<(), RunFault> {
     writes(
         &rt,
+        rt.alloc(),
         b"horizon 10\nwire a 1 0\nwire s 1 0\nwire p 1 0\nwire q 1 0\nmodule x SELECT : a s > p/1 q/1\nstim a 2=1 4=0\nstim s 4=1\n",
         b"a 0 2=1 4=0\ns 0 4=1\np 0 5=1\nq 0 3=1\n",
     )
