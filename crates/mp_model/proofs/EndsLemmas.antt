@@ -1,26 +1,23 @@
 -- The tracks at time 0 and at the horizon.
-use Rattle.std.proofs.Common.{◌≡◌, ◌≢◌, ℕ, ◌+◌, ◌-◌, ◌^◌, ◌<◌, ◌≤◌, Bool, true, false, cond, nat_lt, List, [], ◌∷◌, Option, Some, None, is_some, IfSome, unwrap_or, option_map, map, length, slice_index_or, zero, suc, refl, ap, sym, subst, ◌∙◌, arith, inl, inr, ◌⊎◌}
+use Rattle.std.proofs.Common.{◌≡◌, ℕ, ◌+◌, ◌-◌, ◌<◌, true, nat_lt, List, [], ◌∷◌, Option, Some, None, is_some, IfSome, unwrap_or, option_map, map, length, slice_index_or, suc, refl, ap, sym, subst, ◌∙◌, arith}
 use Rattle.std.specs.Prelude.{option_and_then, ◌&&◌}
 use Rattle.std.specs.Bool.{IsTrue}
-use Rattle.std.proofs.lemmas.Bool.{cases_lt, lt-ltb, and_parts, ltb-true}
+use Rattle.std.proofs.lemmas.Bool.{lt-ltb, and_parts, ltb-true}
 use Rattle.std.proofs.lemmas.List.{length-map, get_or_default}
-use Rattle.mp_wave.specs.Waveform.{Waveform, level_from, last_from, last_time, wave_upto}
-use Rattle.mp_modules.specs.declared.memory.Memory.{Memory}
-use Rattle.mp_modules.specs.Memories.{output_of}
-use Rattle.mp_netlist.specs.declared.ids.ModuleId.{ModuleId}
+use Rattle.mp_wave.specs.Waveform.{Waveform, level_from, wave_upto}
 use Rattle.mp_netlist.specs.declared.module_record.ModuleRecord.{ModuleRecord}
 use Rattle.mp_netlist.specs.declared.wire_record.WireRecord.{WireRecord}
 use Rattle.mp_netlist.specs.declared.driver.Driver.{Driver}
 use Rattle.mp_netlist.specs.declared.driver.Driver.TheVariants.{Nothing, Stimulus, Port}
 use Rattle.mp_netlist.specs.Slots.{slot_at}
 use Rattle.mp_netlist.specs.Stimuli.{is_stimulus, fits_width}
-use Rattle.mp_netlist.specs.Circuit.{Circuit, IsCircuit, wire_at, module_at, stimulus_at, delay_of}
+use Rattle.mp_netlist.specs.Circuit.{Circuit, IsCircuit, wire_at, module_at, delay_of}
 use Rattle.mp_netlist.specs.Drivers.{driver}
 use Rattle.mp_netlist.proofs.DriverLemmas.{stimulus_drives}
 use Rattle.mp_model.specs.Levels.{initial_of, stimulus_level, port_level, driven_level}
 use Rattle.mp_model.specs.Tracks.{Progress, first_progress}
 use Rattle.mp_model.specs.Evaluations.{AreRising, IsReached, IsLatest, IsOnTrack, IsTrackOf, AreTracks, IsEarly, delay_in, delivered}
-use Rattle.mp_model.specs.Waves.{level, state, wave, slot_wave, waves_from, waves}
+use Rattle.mp_model.specs.Waves.{level, state, slot_wave, waves_from, waves}
 use Rattle.mp_model.proofs.BehaviourLemmas.{satisfies}
 use Rattle.mp_model.proofs.SlotLemmas.{slot_at-map}
 use Rattle.mp_model.proofs.TrackLemmas.{level_from-now}

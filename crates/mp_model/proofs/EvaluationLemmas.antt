@@ -1,22 +1,18 @@
 -- What one unit of time, and one delivery, does to the track of a wire.
-use Rattle.std.proofs.Common.{◌≡◌, ◌≢◌, ℕ, ◌+◌, ◌-◌, ◌<◌, ◌≤◌, Bool, true, false, cond, List, [], ◌∷◌, ◌++◌, ◌==◌, nat_lt, Option, Some, None, unwrap_or, IsSome, length, slice_index_or, zero, suc, refl, ap, sym, subst, ◌∙◌, arith, inl, inr, ◌⊎◌}
-use Rattle.std.proofs.lemmas.Bool.{eqb-true, eqb-false, cases_Bool, cases_lt, lt-ltb, le-ltb, cases_eq, cases_order}
+use Rattle.std.proofs.Common.{◌≡◌, ℕ, ◌+◌, ◌-◌, ◌<◌, ◌≤◌, Bool, false, cond, List, [], ◌∷◌, ◌++◌, ◌==◌, nat_lt, Option, Some, None, refl, ap, sym, subst, ◌∙◌, arith, inl, inr, ◌⊎◌}
+use Rattle.std.proofs.lemmas.Bool.{eqb-true, cases_Bool, cases_lt, le-ltb, cases_eq, cases_order}
 use Rattle.std.proofs.lemmas.Bool.Decides.{nat_tests}
-use Rattle.std.proofs.lemmas.List.{get_or_past}
 use Rattle.mp_wave.specs.Waveform.{Waveform, level_from, last_from, last_time, held_from, wave_upto}
 use Rattle.mp_wave.proofs.ChangesLemmas.{held}
-use Rattle.mp_modules.specs.declared.memory.Memory.{Memory}
 use Rattle.mp_modules.specs.Memories.{output_of}
 use Rattle.mp_netlist.specs.declared.ids.ModuleId.{ModuleId}
 use Rattle.mp_netlist.specs.declared.module_record.ModuleRecord.{ModuleRecord}
-use Rattle.mp_netlist.specs.declared.wire_record.WireRecord.{WireRecord}
 use Rattle.mp_netlist.specs.declared.driver.Driver.{Driver}
 use Rattle.mp_netlist.specs.declared.driver.Driver.TheVariants.{Nothing, Stimulus, Port}
-use Rattle.mp_netlist.specs.Circuit.{Circuit, IsCircuit, IsModule, Drives, wire_at, module_at, output_at, delay_of}
+use Rattle.mp_netlist.specs.Circuit.{Circuit, IsCircuit, wire_at, module_at, delay_of}
 use Rattle.mp_netlist.specs.Drivers.{driver}
-use Rattle.mp_netlist.proofs.DriverLemmas.{finds_ports, finds_only_ports}
-use Rattle.mp_model.specs.Levels.{level_by, port_level, initial_of, driven_level}
-use Rattle.mp_model.specs.Tracks.{Progress, next_level, advanced, expecting, due_level, rest_after}
+use Rattle.mp_model.specs.Levels.{port_level, initial_of, driven_level}
+use Rattle.mp_model.specs.Tracks.{Progress, next_level, advanced, expecting, rest_after}
 use Rattle.mp_model.specs.Evaluations.{AreRising, IsReached, IsLatest, IsOnTrack, delay_in, delivered}
 use Rattle.mp_model.specs.Waves.{level, state}
 use Rattle.mp_model.proofs.HistoryLemmas.{late}

@@ -1,5 +1,5 @@
 -- Lists of slots, mapped and written.
-use Rattle.std.proofs.Common.{◌≡◌, ℕ, ◌+◌, ◌<◌, List, [], ◌∷◌, ◌++◌, Option, Some, None, IsSome, option_map, map, take, drop, length, slice_index_or, slice_set, zero, suc, refl, ap, ◌∙◌, arith, inl, inr}
+use Rattle.std.proofs.Common.{◌≡◌, ℕ, ◌+◌, ◌<◌, List, [], ◌∷◌, ◌++◌, Option, Some, None, IsSome, option_map, map, take, drop, length, slice_index_or, slice_set, zero, suc, refl, ap, arith, inl, inr}
 use Rattle.std.proofs.lemmas.Bool.{cases_lt}
 use Rattle.std.proofs.lemmas.List.{get_or_past}
 use Rattle.mp_netlist.specs.Slots.{slot_at}

@@ -1,5 +1,5 @@
 -- The tracks of all wires, while modules answer one after the other.
-use Rattle.std.proofs.Common.{◌≡◌, ◌≢◌, ℕ, ◌+◌, ◌<◌, ◌≤◌, List, Option, Some, None, IsSome, IfSome, option_map, map, length, slice_index_or, slice_set, refl, ap, sym, subst, ◌∙◌, arith, inl, inr, ◌⊎◌}
+use Rattle.std.proofs.Common.{◌≡◌, ℕ, ◌+◌, ◌<◌, List, Option, Some, None, IfSome, option_map, map, length, slice_set, refl, ap, sym, subst, ◌∙◌, arith, inl, inr}
 use Rattle.std.proofs.lemmas.Bool.{cases_lt, cases_eq}
 use Rattle.std.proofs.lemmas.List.{get_or_past, get_or-set_same, get_or-set_other, length-map}
 use Rattle.std.proofs.Math.ListN.{length-set}
@@ -12,10 +12,10 @@ use Rattle.mp_netlist.specs.declared.module_record.ModuleRecord.{ModuleRecord}
 use Rattle.mp_netlist.specs.declared.wire_record.WireRecord.{WireRecord}
 use Rattle.mp_netlist.specs.declared.driver.Driver.TheVariants.{Port}
 use Rattle.mp_netlist.specs.Slots.{slot_at}
-use Rattle.mp_netlist.specs.Circuit.{Circuit, IsCircuit, IsModule, Drives, HasWidth, module_width, wire_at, module_at, output_at, delay_of}
+use Rattle.mp_netlist.specs.Circuit.{Circuit, IsCircuit, Drives, HasWidth, module_width, wire_at, module_at, output_at, delay_of}
 use Rattle.mp_netlist.specs.Drivers.{driver}
 use Rattle.mp_netlist.proofs.DriverLemmas.{finds_ports, finds_only_ports}
-use Rattle.mp_model.specs.Tracks.{Progress, advanced, expecting}
+use Rattle.mp_model.specs.Tracks.{Progress, advanced}
 use Rattle.mp_model.specs.Evaluations.{IsOnTrack, IsTrackOf, AreTracks, delivered, with_expected}
 use Rattle.mp_model.specs.Waves.{state}
 use Rattle.mp_model.proofs.SlotLemmas.{slot_at-map, slot_within, some_within}

@@ -1,5 +1,5 @@
 -- What the levels, states and waves of a netlist satisfy.
-use Rattle.std.specs.Prelude.{◌≡◌, ℕ, ◌+◌, ◌<◌, ◌≤◌, Some}
+use Rattle.std.specs.Prelude.{◌≡◌, ℕ, ◌<◌, Some}
 use Rattle.mp_wave.specs.Waveform.{level_of}
 use Rattle.mp_modules.specs.declared.memory.Memory.{Memory}
 use Rattle.mp_netlist.specs.declared.module_record.ModuleRecord.{ModuleRecord}

@@ -78,26 +78,26 @@ fn first_cell_at(netlist: &Netlist, id: ModuleId) -> Option<Cell>
 }
 
 /// The event module that a record stands for.
-fn built(netlist: &Netlist, record: &ModuleRecord) -> AnyModule
-    requires width { IsTrue (is_width_of record.now.kind (module_width netlist.now record.now)) }
-    requires params { IsTrue (are_params record.now.kind (module_width netlist.now record.now) record.now.params) }
-    ensures { result ≡ built netlist.now record.now }
+fn built(netlist: &Netlist, found: &ModuleRecord) -> AnyModule
+    requires width { IsTrue (is_width_of found.now.kind (module_width netlist.now found.now)) }
+    requires params { IsTrue (are_params found.now.kind (module_width netlist.now found.now) found.now.params) }
+    ensures { result ≡ built netlist.now found.now }
 {
-    let width = module_width(netlist, record);
-    match AnyModule::of(record.kind, record.params.as_slice(), width) {
+    let width = module_width(netlist, found);
+    match AnyModule::of(found.kind, found.params.as_slice(), width) {
         Some(part) => part,
         None => unreachable!(),
     }
 }
 
 /// The width of a module: that of the wire at its first input where its kind has ports of any width, and else 1.
-fn module_width(netlist: &Netlist, record: &ModuleRecord) -> u32
-    ensures { result ≡ module_width netlist.now record.now }
+fn module_width(netlist: &Netlist, found: &ModuleRecord) -> u32
+    ensures { result ≡ module_width netlist.now found.now }
 {
-    if !record.kind.has_width() {
+    if !found.kind.has_width() {
         return 1;
     }
-    let first = first_wire(record.inputs.as_slice());
+    let first = first_wire(found.inputs.as_slice());
     match netlist.wire(first) {
         Some(wire) => wire.width,
         None => 0,

@@ -1,21 +1,17 @@
 -- A netlist is still one after each edit that no check refuses.
-use Rattle.std.proofs.Common.{◌≡◌, ℕ, zero, suc, ◌<◌, ◌≤◌, Bool, true, false, not, ◌&&◌, ◌==◌, cond, List, [], ◌∷◌, length, Option, Some, None, option_map, is_some, is_none, refl, sym, ap, subst, ◌∙◌, arith}
-use Rattle.std.specs.Prelude.{nat_le, nat_lt, slice_set}
+use Rattle.std.proofs.Common.{◌≡◌, ℕ, zero, suc, ◌<◌, ◌≤◌, Bool, true, false, ◌==◌, cond, List, [], ◌∷◌, length, Some, None, option_map, is_none, refl, sym, ap, subst, ◌∙◌, arith}
+use Rattle.std.specs.Prelude.{nat_le}
 use Rattle.std.proofs.lemmas.Bool.{and_parts, eqb-true, ltb-true, leb-true, not-true}
 use Rattle.mp_modules.specs.declared.kind.Kind.{Kind}
 use Rattle.mp_modules.specs.Kinds.{are_params, input_count, output_count}
 use Rattle.std.specs.List.{list_all, All}
-use Rattle.mp_netlist.specs.declared.wire_record.WireRecord.{WireRecord}
-use Rattle.mp_netlist.specs.declared.module_record.ModuleRecord.{ModuleRecord}
 use Rattle.mp_netlist.specs.declared.port_names.OutputName.{OutputName}
-use Rattle.mp_netlist.specs.declared.edit.Edit.{Edit}
 use Rattle.mp_netlist.specs.declared.edit.Edit.TheVariants.{AddWire, AddModule, SetStimulus}
 use Rattle.mp_netlist.specs.declared.edit_error.EditError.{EditError}
-use Rattle.mp_netlist.specs.Names.{is_name}
 use Rattle.mp_netlist.specs.Stimuli.{is_stimulus, fits_width}
-use Rattle.mp_netlist.specs.Circuit.{Circuit, IsCircuit, IsWire, wire_at, wire_named, module_named, Drives}
+use Rattle.mp_netlist.specs.Circuit.{Circuit, IsCircuit, wire_at, wire_named, module_named}
 use Rattle.mp_netlist.specs.Drivers.{driver, is_port}
-use Rattle.mp_netlist.specs.Edits.{first_failing, stands, wire_id, width_named, is_width, is_delay, driven_names, are_distinct, is_undriven, new_width, inputs_fit, outputs_fit, wire_checks, module_checks, stimulus_checks, wire_refusal, module_refusal, stimulus_refusal, refusal, edited, new_module, with_new_wire, with_new_module, with_stimulus, with_wire}
+use Rattle.mp_netlist.specs.Edits.{first_failing, stands, wire_id, width_named, driven_names, are_distinct, is_undriven, new_width, inputs_fit, outputs_fit, wire_checks, module_checks, stimulus_checks, wire_refusal, module_refusal, stimulus_refusal, refusal, edited, new_module, with_new_wire, with_new_module, with_stimulus, with_wire}
 use Rattle.mp_netlist.specs.Laws.{EditsKeepNetlists}
 use Rattle.mp_netlist.proofs.NameLemmas.{Stands, stands_from}
 use Rattle.mp_netlist.proofs.DriverLemmas.{portless_is_undriven}

@@ -1,21 +1,19 @@
 -- A new module that passes the checks of an edit is one of the netlist.
-use Rattle.std.proofs.Common.{◌≡◌, ℕ, zero, suc, ◌+◌, ◌<◌, ◌≤◌, Bool, true, false, ◌==◌, ◌&&◌, cond, List, [], ◌∷◌, length, map, get_or, Option, Some, None, option_map, refl, sym, ap, subst, ◌∙◌, arith, ◌⊎◌, inl, inr}
-use Rattle.std.specs.Bool.{IsTrue}
+use Rattle.std.proofs.Common.{◌≡◌, ℕ, ◌<◌, ◌≤◌, Bool, true, ◌==◌, cond, List, [], ◌∷◌, length, map, get_or, Option, Some, None, option_map, refl, sym, ap, subst, ◌∙◌, arith, ◌⊎◌, inl, inr}
 use Rattle.std.specs.List.{list_all, enumerate_from, All}
 use Rattle.std.specs.Option.{IfSome, is_some}
 use Rattle.std.specs.Prelude.{slice_index_or, nat_le}
 use Rattle.std.proofs.lemmas.Bool.{and_parts, eqb-true, leb-true, cases_lt}
-use Rattle.std.proofs.lemmas.List.{get_or_past, get_or_default, get_or-map, length-map}
+use Rattle.std.proofs.lemmas.List.{get_or_past, get_or-map, length-map}
 use Rattle.std.proofs.lemmas.List.FromFn.{get_or-enumerate_from, length-enumerate_from}
 use Rattle.std.proofs.lemmas.List.Recursion.{and_at}
 use Rattle.mp_modules.specs.declared.kind.Kind.{Kind}
 use Rattle.mp_modules.specs.Kinds.{input_count, output_count, has_width, input_width, output_width, are_params}
 use Rattle.mp_netlist.specs.declared.ids.WireId.{WireId}
-use Rattle.mp_netlist.specs.declared.wire_record.WireRecord.{WireRecord}
 use Rattle.mp_netlist.specs.declared.module_record.ModuleRecord.{ModuleRecord}
 use Rattle.mp_netlist.specs.declared.ports.Output.{Output}
 use Rattle.mp_netlist.specs.declared.port_names.OutputName.{OutputName}
-use Rattle.mp_netlist.specs.Circuit.{Circuit, IsCircuit, IsModule, IsDelay, HasWidth, wire_at, width_of, module_width, output_at}
+use Rattle.mp_netlist.specs.Circuit.{Circuit, IsModule, IsDelay, HasWidth, wire_at, width_of, module_width, output_at}
 use Rattle.mp_netlist.specs.Drivers.{driver, is_nothing}
 use Rattle.mp_netlist.specs.Edits.{stands, wire_id, width_named, is_undriven, is_delay, driven_names, are_distinct, first_width, new_width, inputs_fit, output_fits, outputs_fit, output_of, new_module}
 use Rattle.mp_netlist.proofs.NameLemmas.{Stands, stands_from, one_wire}

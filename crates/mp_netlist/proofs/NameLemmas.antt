@@ -1,5 +1,5 @@
 -- The wire that a name finds stands, and no other has the name.
-use Rattle.std.proofs.Common.{◌≡◌, ℕ, Bool, true, false, List, Option, Some, None, is_some, unwrap_or, refl, sym, ap, ◌∙◌, true≢false}
+use Rattle.std.proofs.Common.{◌≡◌, ℕ, true, List, Option, Some, None, is_some, unwrap_or, refl, sym, ap, ◌∙◌, true≢false}
 use Rattle.std.specs.Option.{option_and_then}
 use Rattle.mp_netlist.specs.declared.wire_record.WireRecord.{WireRecord}
 use Rattle.mp_netlist.specs.Slots.{has_name}

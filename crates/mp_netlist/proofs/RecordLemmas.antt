@@ -1,14 +1,13 @@
 -- The tables still have the names after a slot is added or written over.
-use Rattle.std.proofs.Common.{◌≡◌, ℕ, ◌<◌, Bool, cond, List, [], ◌∷◌, ◌++◌, length, Option, Some, None, is_none, get_or, refl, sym, ap, subst, ◌∙◌, option_map}
+use Rattle.std.proofs.Common.{◌≡◌, ℕ, ◌<◌, cond, List, [], ◌∷◌, ◌++◌, length, Option, Some, None, get_or, refl, ◌∙◌, option_map}
 use Rattle.std.proofs.Math.ListN.{set}
 use Rattle.std.specs.Str.{bytes_eq}
-use Rattle.std.specs.Map.{lookup}
 use Rattle.indexmap.specs.IndexMap.{get_by_text}
 use Rattle.mp_netlist.specs.declared.wire_record.WireRecord.{WireRecord}
 use Rattle.mp_netlist.specs.declared.module_record.ModuleRecord.{ModuleRecord}
 use Rattle.mp_netlist.specs.declared.netlist.Netlist.TheInside.{Inside}
 use Rattle.mp_netlist.specs.Slots.{has_name}
-use Rattle.mp_netlist.specs.Circuit.{Circuit, IsCircuit, wire_named, module_named, wire_at}
+use Rattle.mp_netlist.specs.Circuit.{IsCircuit, wire_named, module_named}
 use Rattle.mp_netlist.specs.Edits.{with_wire_record, with_new_module, with_wire, with_stimulus}
 use Rattle.mp_netlist.specs.Records.{circuit_of, AreRecords}
 use Rattle.mp_netlist.proofs.TableLemmas.{looked_up, IsTable-push, IsTable-rewrite}

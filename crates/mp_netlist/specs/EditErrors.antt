@@ -1,5 +1,5 @@
 -- The number and the name of each refusal.
-use Rattle.std.specs.Prelude.{ℕ, ◌-◌, ◌==◌, if◌then◌else◌, None, List, ◌∷◌, [], Option, Some, codes, slice_get}
+use Rattle.std.specs.Prelude.{ℕ, ◌-◌, ◌==◌, if◌then◌else◌, None, List, ◌∷◌, [], Option, codes, slice_get}
 use Rattle.mp_netlist.specs.declared.edit_error.EditError.{EditError}
 use Rattle.mp_netlist.specs.declared.new_error.NewError.{NewError}
 use Rattle.mp_netlist.specs.declared.new_error.NewError.TheVariants as new_errors

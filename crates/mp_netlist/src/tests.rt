@@ -76,175 +76,114 @@ fn stimulus(alloc: Global, text: &str, changes: &[(u64, u64)]) -> Result<Edit, A
     })
 }
 
-fn add_wires(alloc: Global, net: &mut Netlist) -> Result<(), Fail> {
+/// Wires `a`, `b`, `y` and `z` of width 1 and `d` of width 8, and a module `m` from `a` to `y`; `b` has a stimulus.
+fn build(alloc: Global, net: &mut Netlist) -> Result<(), Fail> {
     for text in ["a", "b", "y", "z"] {
         net.apply(&wire(alloc, text, 1, 0)?)?;
     }
     net.apply(&wire(alloc, "d", 8, 255)?)?;
+    net.apply(&module(alloc, "m", Kind::Buf, &[], "a", "y", 5)?)?;
+    net.apply(&stimulus(alloc, "b", &[(3, 1), (19, 0)])?)?;
     Ok(())
 }
 
-/// Wires `a`, `b`, `y` and `z` of width 1 and `d` of width 8, and a module `m` from `a` to `y`; `b` has a stimulus.
-fn sample(alloc: Global) -> Result<Netlist, Fail> {
-    let mut net = Netlist::empty(alloc, 20)?;
-    add_wires(alloc, &mut net)?;
-    net.apply(&module(alloc, "m", Kind::Buf, &[], "a", "y", 5)?)?;
-    net.apply(&stimulus(alloc, "b", &[(3, 1), (19, 0)])?)?;
-    Ok(net)
-}
-
-/// The sample refuses the edit so.
+/// The netlist refuses the edit so, and says so before.
 fn refuses(
     rt: &impl Abort,
-    alloc: Global,
+    net: &mut Netlist,
     edit: Result<Edit, AllocError>,
     error: EditError,
 ) -> Result<(), Fail> {
     let edit = edit?;
-    let mut net = sample(alloc)?;
+    assert_eq!(rt; net.check(&edit).err(), Some(error));
     assert_eq!(rt; net.apply(&edit).err(), Some(error));
     Ok(())
 }
 
-/// Adds wires until there are 8,192.
-fn fill_wires(alloc: Global, net: &mut Netlist) -> Result<(), Fail> {
-    for number in 5..8192 {
-        let text = format!(in alloc; "w{number}")?;
-        net.apply(&wire(alloc, text.as_str(), 64, u64::MAX)?)?;
-    }
-    Ok(())
+fn refuses_wires(rt: &impl Abort, alloc: Global, net: &mut Netlist) -> Result<(), Fail> {
+    refuses(rt, net, wire(alloc, "1a", 0, 2), EditError::BadName)?;
+    refuses(rt, net, wire(alloc, "a", 0, 2), EditError::NameTaken)?;
+    refuses(rt, net, wire(alloc, "n", 0, 2), EditError::BadWidth)?;
+    refuses(rt, net, wire(alloc, "n", 65, 0), EditError::BadWidth)?;
+    refuses(rt, net, wire(alloc, "n", 3, 8), EditError::BadLevel)
 }
 
-/// Adds modules until there are 4,096.
-fn fill_modules(alloc: Global, net: &mut Netlist) -> Result<(), Fail> {
-    for number in 1..4096 {
-        let text = format!(in alloc; "m{number}")?;
-        net.apply(&module(alloc, text.as_str(), Kind::Not, &[], "a", "-", 1)?)?;
-    }
-    Ok(())
-}
-
-#[test]
-fn horizons(rt: HostRuntime) -> Result<(), Fail> {
-    let alloc = rt.alloc();
-    assert_eq!(rt; Netlist::empty(alloc, 0).err(), Some(NewError::BadHorizon));
-    assert_eq!(rt;
-        Netlist::empty(alloc, 65_537).err(),
-        Some(NewError::BadHorizon)
-    );
-    assert_eq!(rt; Netlist::empty(alloc, 65_536)?.horizon(), 65_536);
-    assert_eq!(rt; NewError::BadHorizon.number(), 1);
-    assert_eq!(rt; NewError::OutOfMemory.number(), 2);
-    Ok(())
-}
-
-#[test]
-fn wires_refused(rt: HostRuntime) -> Result<(), Fail> {
-    let alloc = rt.alloc();
-    refuses(&rt, alloc, wire(alloc, "1a", 0, 2), EditError::BadName)?;
-    refuses(&rt, alloc, wire(alloc, "a", 0, 2), EditError::NameTaken)?;
-    refuses(&rt, alloc, wire(alloc, "n", 0, 2), EditError::BadWidth)?;
-    refuses(&rt, alloc, wire(alloc, "n", 65, 0), EditError::BadWidth)?;
-    refuses(&rt, alloc, wire(alloc, "n", 3, 8), EditError::BadLevel)
-}
-
-#[test]
-fn wire_table_full(rt: HostRuntime) -> Result<(), Fail> {
-    let alloc = rt.alloc();
-    let mut net = sample(alloc)?;
-    fill_wires(alloc, &mut net)?;
-    assert_eq!(rt;
-        net.apply(&wire(alloc, "n", 3, 8)?).err(),
-        Some(EditError::BadLevel)
-    );
-    assert_eq!(rt;
-        net.apply(&wire(alloc, "n", 3, 7)?).err(),
-        Some(EditError::TableFull)
-    );
-    assert_eq!(rt; net.wire_slots(), 8192);
-    Ok(())
-}
-
-#[test]
-fn modules_refused(rt: HostRuntime) -> Result<(), Fail> {
-    let alloc = rt.alloc();
+fn refuses_modules(rt: &impl Abort, alloc: Global, net: &mut Netlist) -> Result<(), Fail> {
     let high: &[u64] = &[0, 2, 1];
     refuses(
-        &rt,
-        alloc,
+        rt,
+        net,
         module(alloc, "_m", Kind::C, high, "a", "x", 0),
         EditError::BadName,
     )?;
     refuses(
-        &rt,
-        alloc,
+        rt,
+        net,
         module(alloc, "m", Kind::C, high, "a", "x", 0),
         EditError::NameTaken,
     )?;
     refuses(
-        &rt,
-        alloc,
+        rt,
+        net,
         module(alloc, "n", Kind::C, high, "a", "x", 0),
         EditError::WrongPorts,
     )?;
     refuses(
-        &rt,
-        alloc,
+        rt,
+        net,
         module(alloc, "n", Kind::C, high, "d a", "x", 0),
         EditError::NoSuchWire,
     )?;
     refuses(
-        &rt,
-        alloc,
+        rt,
+        net,
         module(alloc, "n", Kind::C, high, "a d", "y", 0),
         EditError::WidthMismatch,
     )?;
     refuses(
-        &rt,
-        alloc,
+        rt,
+        net,
         module(alloc, "n", Kind::C, high, "a b", "y", 0),
         EditError::BadParam,
     )
 }
 
-#[test]
-fn outputs_refused(rt: HostRuntime) -> Result<(), Fail> {
-    let alloc = rt.alloc();
+fn refuses_outputs(rt: &impl Abort, alloc: Global, net: &mut Netlist) -> Result<(), Fail> {
+    let none: &[u64] = &[];
     refuses(
-        &rt,
-        alloc,
+        rt,
+        net,
         module(alloc, "n", Kind::Buf, &[1], "d", "y", 0),
         EditError::WidthMismatch,
     )?;
     refuses(
-        &rt,
-        alloc,
-        module(alloc, "n", Kind::Not, &[], "a", "y", 0),
+        rt,
+        net,
+        module(alloc, "n", Kind::Not, none, "a", "y", 0),
         EditError::BadDelay,
     )?;
     refuses(
-        &rt,
-        alloc,
-        module(alloc, "n", Kind::Not, &[], "a", "-", 65_536),
+        rt,
+        net,
+        module(alloc, "n", Kind::Not, none, "a", "-", 65_536),
         EditError::BadDelay,
     )?;
     refuses(
-        &rt,
-        alloc,
-        module(alloc, "n", Kind::Not, &[], "a", "y", 1),
+        rt,
+        net,
+        module(alloc, "n", Kind::Not, none, "a", "y", 1),
         EditError::AlreadyDriven,
     )?;
     refuses(
-        &rt,
-        alloc,
-        module(alloc, "n", Kind::Not, &[], "a", "b", 1),
+        rt,
+        net,
+        module(alloc, "n", Kind::Not, none, "a", "b", 1),
         EditError::AlreadyDriven,
     )
 }
 
-#[test]
-fn kinds_of_data_refused(rt: HostRuntime) -> Result<(), Fail> {
-    let alloc = rt.alloc();
+/// Kinds with data, of widths and parameters that are not theirs.
+fn refuses_data(rt: &impl Abort, alloc: Global, net: &mut Netlist) -> Result<(), Fail> {
     let wide = EditError::WidthMismatch;
     let param = EditError::BadParam;
     for (kind, params, inputs, output, error) in [
@@ -257,82 +196,58 @@ fn kinds_of_data_refused(rt: HostRuntime) -> Result<(), Fail> {
         (Kind::Sum, [1].as_slice(), "d d", "-", param),
         (Kind::Bit, [7].as_slice(), "d", "d", wide),
         (Kind::Bit, [8].as_slice(), "d", "y", param),
-        (
-            Kind::Bit,
-            [7].as_slice(),
-            "d",
-            "y",
-            EditError::AlreadyDriven,
-        ),
+        (Kind::Bit, [7].as_slice(), "d", "y", EditError::AlreadyDriven),
     ] {
         let edit = module(alloc, "n", kind, params, inputs, output, 1);
-        refuses(&rt, alloc, edit, error)?;
+        refuses(rt, net, edit, error)?;
     }
-    refuses(&rt, alloc, register(alloc, 0, "d a d"), wide)?;
-    refuses(&rt, alloc, register(alloc, 256, "d a a"), param)?;
-    let mut net = sample(alloc)?;
-    net.apply(&register(alloc, 255, "d a a")?)?;
-    assert_eq!(rt; net.module_slots(), 2);
+    refuses(rt, net, register(alloc, 0, "d a d"), wide)?;
+    refuses(rt, net, register(alloc, 256, "d a a"), param)?;
+    let kept = register(alloc, 255, "d a a")?;
+    assert_eq!(rt; net.check(&kept).err(), None);
     Ok(())
 }
 
-#[test]
-fn module_table_full(rt: HostRuntime) -> Result<(), Fail> {
-    let alloc = rt.alloc();
-    let mut net = sample(alloc)?;
-    fill_modules(alloc, &mut net)?;
-    let driven = module(alloc, "n", Kind::Not, &[], "a", "y", 1)?;
-    assert_eq!(rt; net.apply(&driven).err(), Some(EditError::AlreadyDriven));
-    let free = module(alloc, "n", Kind::Not, &[], "a", "z", 65_535)?;
-    assert_eq!(rt; net.apply(&free).err(), Some(EditError::TableFull));
-    assert_eq!(rt; net.module_slots(), 4096);
-    Ok(())
-}
-
-#[test]
-fn stimuli_refused(rt: HostRuntime) -> Result<(), Fail> {
-    let alloc = rt.alloc();
+fn refuses_stimuli(rt: &impl Abort, alloc: Global, net: &mut Netlist) -> Result<(), Fail> {
     refuses(
-        &rt,
-        alloc,
+        rt,
+        net,
         stimulus(alloc, "x", &[(0, 2)]),
         EditError::NoSuchWire,
     )?;
     refuses(
-        &rt,
-        alloc,
+        rt,
+        net,
         stimulus(alloc, "y", &[(0, 2)]),
         EditError::AlreadyDriven,
     )?;
     refuses(
-        &rt,
-        alloc,
+        rt,
+        net,
         stimulus(alloc, "a", &[(0, 1)]),
         EditError::BadStimulus,
     )?;
     refuses(
-        &rt,
-        alloc,
+        rt,
+        net,
         stimulus(alloc, "a", &[(20, 1)]),
         EditError::BadStimulus,
     )?;
     refuses(
-        &rt,
-        alloc,
+        rt,
+        net,
         stimulus(alloc, "a", &[(2, 1), (2, 0)]),
         EditError::BadStimulus,
     )?;
     refuses(
-        &rt,
-        alloc,
+        rt,
+        net,
         stimulus(alloc, "d", &[(2, 256)]),
         EditError::BadStimulus,
     )
 }
 
-#[test]
-fn wires_read_back(rt: HostRuntime) -> Result<(), Fail> {
-    let net = sample(rt.alloc())?;
+fn reads_back_wires(rt: &impl Abort, net: &Netlist) -> Result<(), Fail> {
     assert_eq!(rt; net.wire_named("d"), Some(WireId(4)));
     assert_eq!(rt; net.wire_named("m"), None);
     assert!(rt; net.wire(WireId(5)).is_none());
@@ -340,12 +255,13 @@ fn wires_read_back(rt: HostRuntime) -> Result<(), Fail> {
     assert!(rt; found.name.as_str() == "d");
     assert_eq!(rt; found.width, 8);
     assert_eq!(rt; found.initial, 255);
+    let found = net.wire(WireId(1)).ok_or("no wire b")?;
+    let set = found.stimulus.as_ref().ok_or("no stimulus")?;
+    assert!(rt; set.as_slice() == [(3, 1), (19, 0)].as_slice());
     Ok(())
 }
 
-#[test]
-fn modules_read_back(rt: HostRuntime) -> Result<(), Fail> {
-    let net = sample(rt.alloc())?;
+fn reads_back_modules(rt: &impl Abort, net: &Netlist) -> Result<(), Fail> {
     assert_eq!(rt; net.module_named("m"), Some(ModuleId(0)));
     assert_eq!(rt; net.module_named("a"), None);
     assert!(rt; net.module(ModuleId(1)).is_none());
@@ -357,25 +273,82 @@ fn modules_read_back(rt: HostRuntime) -> Result<(), Fail> {
     Ok(())
 }
 
-#[test]
-fn drivers(rt: HostRuntime) -> Result<(), Fail> {
-    let net = sample(rt.alloc())?;
+fn finds_drivers(rt: &impl Abort, net: &Netlist) {
     assert_eq!(rt; net.driver_of(WireId(0)), Driver::Nothing);
     assert_eq!(rt; net.driver_of(WireId(1)), Driver::Stimulus);
     assert_eq!(rt; net.driver_of(WireId(2)), Driver::Port(ModuleId(0), 0));
     assert_eq!(rt; net.driver_of(WireId(5)), Driver::Nothing);
+}
+
+/// Adds wires and modules until no more can be added.
+fn fill(alloc: Global, net: &mut Netlist) -> Result<(), Fail> {
+    for number in 5..8192 {
+        let text = format!(in alloc; "w{number}")?;
+        net.apply(&wire(alloc, text.as_str(), 64, u64::MAX)?)?;
+    }
+    for number in 1..4096 {
+        let text = format!(in alloc; "m{number}")?;
+        net.apply(&module(alloc, text.as_str(), Kind::Not, &[], "a", "-", 1)?)?;
+    }
     Ok(())
 }
 
+fn refuses_more(rt: &impl Abort, alloc: Global, net: &mut Netlist) -> Result<(), Fail> {
+    assert_eq!(rt; net.wire_slots(), 8192);
+    assert_eq!(rt; net.module_slots(), 4096);
+    let none: &[u64] = &[];
+    refuses(rt, net, wire(alloc, "n", 3, 8), EditError::BadLevel)?;
+    refuses(rt, net, wire(alloc, "n", 3, 7), EditError::TableFull)?;
+    refuses(
+        rt,
+        net,
+        module(alloc, "n", Kind::Not, none, "a", "y", 1),
+        EditError::AlreadyDriven,
+    )?;
+    refuses(
+        rt,
+        net,
+        module(alloc, "n", Kind::Not, none, "a", "z", 65_535),
+        EditError::TableFull,
+    )
+}
+
+fn tries_edits(rt: &impl Abort, alloc: Global, net: &mut Netlist) -> Result<(), Fail> {
+    build(alloc, net)?;
+    refuses_wires(rt, alloc, net)?;
+    refuses_modules(rt, alloc, net)?;
+    refuses_outputs(rt, alloc, net)?;
+    refuses_data(rt, alloc, net)?;
+    refuses_stimuli(rt, alloc, net)?;
+    reads_back_wires(rt, net)?;
+    reads_back_modules(rt, net)?;
+    finds_drivers(rt, net);
+    fill(alloc, net)?;
+    refuses_more(rt, alloc, net)
+}
+
+// One test owns a netlist, since each function that does takes long to check.
 #[test]
-fn stimulus_replaced(rt: HostRuntime) -> Result<(), Fail> {
+fn edits(rt: HostRuntime) -> Result<(), Fail> {
     let alloc = rt.alloc();
-    let mut net = sample(alloc)?;
-    let edit = stimulus(alloc, "b", &[(5, 1), (7, 1)])?;
-    assert_eq!(rt; net.check(&edit).err(), None);
-    net.apply(&edit)?;
-    let found = net.wire(WireId(1)).ok_or("no wire b")?;
-    let set = found.stimulus.as_ref().ok_or("no stimulus")?;
-    assert!(rt; set.as_slice() == [(5, 1), (7, 1)].as_slice());
-    Ok(())
+    let mut net = Netlist::empty(alloc, 20)?;
+    tries_edits(&rt, alloc, &mut net)
+}
+
+/// The horizon of a new netlist, or why there is none.
+fn new_horizon(alloc: Global, horizon: u64) -> Result<u32, NewError> {
+    match Netlist::empty(alloc, horizon) {
+        Ok(net) => Ok(net.horizon()),
+        Err(error) => Err(error),
+    }
+}
+
+#[test]
+fn horizons(rt: HostRuntime) {
+    let alloc = rt.alloc();
+    assert_eq!(rt; new_horizon(alloc, 0), Err(NewError::BadHorizon));
+    assert_eq!(rt; new_horizon(alloc, 65_537), Err(NewError::BadHorizon));
+    assert_eq!(rt; new_horizon(alloc, 65_536), Ok(65_536));
+    assert_eq!(rt; NewError::BadHorizon.number(), 1);
+    assert_eq!(rt; NewError::OutOfMemory.number(), 2);
 }

@@ -3,6 +3,7 @@ ghost use Rattle.std.specs.Prelude.{◌≡◌, ◌∷◌, [], ◌++◌, OnOk};
 ghost use Rattle.std.specs.Fmt.{decimal};
 ghost use Rattle.mp_text.specs.WaveLines.{change_text, changes_text, wave_line};
 
+use itoa::Buffer;
 use std::alloc::AllocError;
 
 /// Puts a wire's line behind the text: its name, its first level, ` T=V` for each change, and a
@@ -46,6 +47,6 @@ fn push_change(text: &mut Vec<u8>, time: u32, value: u64) -> Result<(), AllocErr
 fn push_number(text: &mut Vec<u8>, number: u64) -> Result<(), AllocError>
     ensures { OnOk result (text.new.items ≡ text.old.items ++ decimal number) }
 {
-    let digits = number.to_string(*text.allocator())?;
-    text.extend_from_slice(digits.as_bytes())
+    let mut buffer = Buffer::new();
+    text.extend_from_slice(buffer.format(number).as_bytes())
 }

@@ -1,5 +1,5 @@
 -- The ends of a run.
-use Rattle.std.proofs.Common.{◌≡◌, ℕ, ◌<◌, ◌≤◌, ◌⊎◌, inl, inr, IfSome, List, take, length, Option, Some, None, Result, Ok, Err, refl, sym, ap, subst, ◌∙◌, arith}
+use Rattle.std.proofs.Common.{◌≡◌, ℕ, ◌<◌, ◌≤◌, ◌⊎◌, inl, inr, true, false, IfSome, IfErr, List, take, length, Option, Some, None, Result, Ok, Err, refl, sym, ap, subst, ◌∙◌, arith}
 use Rattle.std.proofs.lemmas.Bool.{cases_lt, lt-leb}
 use Rattle.std.proofs.lemmas.List.{take_all, length-take-le}
 use Rattle.std.proofs.KnownBytes.{Appends-nil, Keeps-refl}
@@ -10,7 +10,8 @@ use Rattle.mpwb.specs.declared.run_fault.RunFault.{RunFault}
 use Rattle.mpwb.specs.declared.run_fault.RunFault.TheVariants.{Text, BadCount, ReadFailed, WriteFailed, OutOfMemory, NoPlace}
 use Rattle.mpwb.specs.OptionLimits.{has_valid_crew}
 use Rattle.mpwb.specs.Outputs.{output_of, waves_text, waves_output}
-use Rattle.mpwb.specs.Runs.{Wrote, Refuses}
+use Rattle.mpwb.specs.RunFaults.{counted_reads}
+use Rattle.mpwb.specs.Runs.{Wrote, Refuses, comes_first}
 
 -- ---- one byte more than a text may have is enough to read
 
@@ -29,9 +30,9 @@ text_at-take limit input same = by (cases_lt (length input) limit)
 
 -- what holds of the output of the bytes that were read holds of that of the whole input
 pub for_input : (P : Result (List ℕ) RunFault → Type 0) (left : Option (List ℕ)) (text : List ℕ) (options : Options) (limit : ℕ)
-    → limit ≡ 4194305 → IfSome left (λ bytes. text ≡ take limit bytes) → P (waves_output text options) → IfSome left (λ input. P (waves_output input options))
-for_input P None text options limit same front holds = tt
-for_input P (Some input) text options limit same front holds =
+    → IfSome left (λ bytes. text ≡ take limit bytes) → limit ≡ 4194305 → P (waves_output text options) → IfSome left (λ input. P (waves_output input options))
+for_input P None text options limit front same holds = tt
+for_input P (Some input) text options limit front same holds =
     let read : text_at text ≡ text_at input = ap text_at front ∙ text_at-take limit input same in
     subst P (ap (λ t. output_of waves_text t (has_valid_crew options)) read) holds
 
@@ -48,3 +49,15 @@ refused_by T NoPlace output known h = absurd h
 pub Wrote-refused : {T : Type 0} (r : Result T RunFault) (fault : RunFault) (output : Result (List ℕ) RunFault) (known : Option (List ℕ))
     → r ≡ Err fault → Refuses output fault → Wrote r output known known
 Wrote-refused {T} r fault output known e h = subst (λ x. Wrote x output known known) (sym e) (refused_by T fault output known h)
+
+-- ---- a run that began to write
+
+-- the source had no fault
+pub counted_reads-started : {T : Type 0} (r : Result T RunFault) (n : ℕ) → IfErr r (λ fault. comes_first fault ≡ false) → counted_reads r n ≡ n
+counted_reads-started (Ok done) n h = refl
+counted_reads-started (Err (Text error)) n h = refl
+counted_reads-started (Err BadCount) n h = refl
+counted_reads-started (Err ReadFailed) n h = let bad : true ≡ false = h in cc bad
+counted_reads-started (Err WriteFailed) n h = refl
+counted_reads-started (Err OutOfMemory) n h = refl
+counted_reads-started (Err NoPlace) n h = refl

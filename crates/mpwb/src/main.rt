@@ -6,7 +6,6 @@ mod options;
 mod request;
 mod run_fault;
 mod run_waves;
-mod stand_in;
 #[cfg(test)]
 mod tests;
 mod wave_lines;

@@ -7,9 +7,10 @@ ghost use Rattle.mpwb.specs.Runs.{Wrote, Refuses, comes_first};
 
 use crate::options::Options;
 use crate::run_fault::RunFault;
-use crate::stand_in::{Netlist, plain_waves, read_netlist};
 use crate::wave_lines::write_waves;
-use mp_model::{Sink, Source, take_all};
+use mp_model::{Sink, Source, plain_waves, take_all};
+use mp_netlist::Netlist;
+use mp_text::read_netlist;
 use mp_wave::Wave;
 use std::alloc::Global;
 

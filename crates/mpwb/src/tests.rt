@@ -3,9 +3,13 @@ use crate::command_line::read_words;
 use crate::options::Options;
 use crate::request::{Command, Request};
 use crate::run_fault::{RunFault, exit_status, fault_line};
+use crate::run_waves::run_waves;
+use mp_model::{ReadSource, Sink, Source, WriteSink};
 use mp_netlist::EditError;
 use mp_text::{TextCode, TextError};
 use std::alloc::{AllocError, Global};
+use std::io;
+use std::io::{Read, Write};
 
 fn text_fault(line: u32, code: TextCode) -> RunFault {
     RunFault::Text(TextError { line, code })
@@ -112,4 +116,161 @@ fn other_words_make_none(rt: HostRuntime) -> Result<(), AllocError> {
         }
     }
     Ok(())
+}
+
+const CREW: Options = Options {
+    workers: 2,
+    least: 64,
+    viewers: 2,
+};
+
+const BUF: &str = "horizon 20\nwire a 1 0\nwire y 1 0\nmodule b BUF : a > y/3\nstim a 2=1 5=0\n";
+
+/// What `waves` writes for a text. Memory is ample here, so a run that always answers that memory ran out fails each row.
+fn written(alloc: Global, text: &[u8]) -> Result<Vec<u8>, RunFault> {
+    let mut source = ReadSource::new(text);
+    let mut sink = WriteSink::new(Vec::new(alloc));
+    run_waves(alloc, &mut source, &mut sink, &CREW)?;
+    Ok(sink.into_inner())
+}
+
+#[test]
+fn no_wires(rt: HostRuntime) -> Result<(), RunFault> {
+    let lines = written(rt.alloc(), b"horizon 1")?;
+    assert!(rt; lines.is_empty());
+    Ok(())
+}
+
+#[test]
+fn buf(rt: HostRuntime) -> Result<(), RunFault> {
+    let lines = written(rt.alloc(), BUF.as_bytes())?;
+    assert_eq!(rt; lines.as_slice(), b"a 0 2=1 5=0\ny 0 5=1 8=0\n".as_slice());
+    Ok(())
+}
+
+#[test]
+fn self_loop(rt: HostRuntime) -> Result<(), RunFault> {
+    let text =
+        b"horizon 5\nwire y 1 0\nwire z 1 0\nmodule n NOT : y > y/1\nmodule b BUF : y > z/3\n";
+    let lines = written(rt.alloc(), text)?;
+    assert_eq!(rt;
+        lines.as_slice(),
+        b"y 0 1=1 2=0 3=1 4=0\nz 0 4=1\n".as_slice()
+    );
+    Ok(())
+}
+
+#[test]
+fn c_element(rt: HostRuntime) -> Result<(), RunFault> {
+    let text =
+        b"horizon 20\nwire a 1 0\nwire b 1 0\nwire y 1 0\nmodule c C 0 0 0 : a b > y/2\nstim a 3=1\nstim b 7=1\n";
+    let lines = written(rt.alloc(), text)?;
+    assert_eq!(rt; lines.as_slice(), b"a 0 3=1\nb 0 7=1\ny 0 9=1\n".as_slice());
+    Ok(())
+}
+
+#[test]
+fn two_stage_control(rt: HostRuntime) -> Result<(), RunFault> {
+    let text =
+        b"horizon 20\nwire r 1 0\nwire ack 1 0\nwire q1 1 0\nwire q2 1 0\nmodule c1 C 0 0 1 : r q2 > q1/2\nmodule c2 C 0 0 1 : q1 ack > q2/2\nstim r 1=1 4=0\nstim ack 10=1\n";
+    let lines = written(rt.alloc(), text)?;
+    assert_eq!(rt;
+        lines.as_slice(),
+        b"r 0 1=1 4=0\nack 0 10=1\nq1 0 3=1 7=0\nq2 0 5=1 12=0\n".as_slice()
+    );
+    Ok(())
+}
+
+#[test]
+fn delay_past_horizon(rt: HostRuntime) -> Result<(), RunFault> {
+    let text = b"horizon 20\nwire a 1 0\nwire y 1 0\nmodule b BUF : a > y/65535\nstim a 2=1 5=0\n";
+    let lines = written(rt.alloc(), text)?;
+    assert_eq!(rt; lines.as_slice(), b"a 0 2=1 5=0\ny 0\n".as_slice());
+    Ok(())
+}
+
+#[test]
+fn bad_texts(rt: HostRuntime) {
+    let none = Options { workers: 0, ..CREW };
+    let texts: [(&[u8], RunFault); 6] = [
+        (
+            b"horizon 20\nwire a 1 0\nwire y 1 0\nmodule b BUF : a >\n",
+            text_fault(4, TextCode::WordCount),
+        ),
+        (
+            b"horizon 20\nwire \xc8 1 0\n",
+            text_fault(2, TextCode::NotAscii),
+        ),
+        (b"wire a 1 0", text_fault(1, TextCode::NoHorizon)),
+        (b"", text_fault(0, TextCode::NoHorizon)),
+        (b"horizon 0", text_fault(1, TextCode::BadNumber)),
+        // A count out of its range is told after every fault of the text.
+        (b"horizon 1", RunFault::BadCount),
+    ];
+    for (text, fault) in texts {
+        let mut source = ReadSource::new(text);
+        let mut sink = WriteSink::new(Vec::new(rt.alloc()));
+        let ended = run_waves(rt.alloc(), &mut source, &mut sink, &none);
+        assert_eq!(rt; ended, Err(fault));
+        assert!(rt; sink.into_inner().is_empty());
+    }
+}
+
+/// Takes a few bytes, and gives a few, and then fails.
+#[derive(Drop)]
+struct Weak {
+    bytes: Vec<u8>,
+    left: usize,
+}
+
+impl Write for Weak {
+    fn write(&mut self, bytes: &[u8]) -> io::Result<usize> {
+        if self.left == 0 {
+            return Err(io::Error::other("worn out"));
+        }
+        let count = bytes.len().min(self.left);
+        self.bytes.extend_from_slice(&bytes[..count])?;
+        self.left -= count;
+        Ok(count)
+    }
+
+    fn flush(&mut self) -> io::Result<()> {
+        Ok(())
+    }
+}
+
+impl Read for Weak {
+    fn read(&mut self, room: &mut [u8]) -> io::Result<usize> {
+        if self.left == 0 || room.is_empty() {
+            return Err(io::Error::other("worn out"));
+        }
+        self.left -= 1;
+        room[0] = b'#';
+        Ok(1)
+    }
+}
+
+#[test]
+fn devices_fail(rt: HostRuntime) {
+    let mut source = ReadSource::new(BUF.as_bytes());
+    let mut sink = WriteSink::new(Weak {
+        bytes: Vec::new(rt.alloc()),
+        left: 14,
+    });
+    let ended = run_waves(rt.alloc(), &mut source, &mut sink, &CREW);
+    assert_eq!(rt; ended, Err(RunFault::WriteFailed));
+    assert_eq!(rt; sink.faults(), 1);
+    assert_eq!(rt;
+        sink.into_inner().bytes.as_slice(),
+        b"a 0 2=1 5=0\ny ".as_slice()
+    );
+    let mut source = ReadSource::new(Weak {
+        bytes: Vec::new(rt.alloc()),
+        left: 3,
+    });
+    let mut sink = WriteSink::new(Vec::new(rt.alloc()));
+    let ended = run_waves(rt.alloc(), &mut source, &mut sink, &CREW);
+    assert_eq!(rt; ended, Err(RunFault::ReadFailed));
+    assert_eq!(rt; source.faults(), 1);
+    assert!(rt; sink.into_inner().is_empty());
 }

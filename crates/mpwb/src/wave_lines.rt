@@ -9,9 +9,8 @@ ghost use Rattle.mpwb.specs.RunFaults.{counted_writes};
 ghost use Rattle.mpwb.specs.Runs.{Wrote, comes_first};
 
 use crate::run_fault::RunFault;
-use crate::stand_in::Netlist;
 use mp_model::{Failed, Sink, put_all};
-use mp_netlist::WireId;
+use mp_netlist::{Netlist, WireId};
 use mp_text::push_wave_line;
 use mp_wave::Wave;
 use std::alloc::{AllocError, Global};

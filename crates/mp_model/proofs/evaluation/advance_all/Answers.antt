@@ -1,4 +1,4 @@
-use Rattle.std.proofs.Common.{◌≡◌, ◌++◌, Option, map, take, drop, option_map, slice_index_or, slice_set, ap, ◌∙◌, length, ◌<◌, arith}
+use Rattle.std.proofs.Common.{◌++◌, Option, map, take, drop, option_map, slice_index_or, slice_set, ap, ◌∙◌, length, ◌<◌}
 use Rattle.mp_model.specs.Tracks.{Progress, advanced}
 use Rattle.mp_model.proofs.SlotLemmas.{index-mapped, set-mapped}
 use Rattle.mp_model.proofs.evaluation.advance_all.Goals as goal

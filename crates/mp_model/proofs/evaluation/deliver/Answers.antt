@@ -1,7 +1,6 @@
-use Rattle.std.proofs.Common.{◌≡◌, ◌+◌, ◌<◌, ◌≤◌, ℕ, Option, Some, None, List, length, get_or, ap, sym, subst, ◌∙◌, arith}
+use Rattle.std.proofs.Common.{◌≡◌, ◌+◌, ◌<◌, ℕ, Option, Some, None, List, length, get_or, ap, sym, subst, ◌∙◌, arith}
 use Rattle.std.proofs.lemmas.List.{get_or_default}
 use Rattle.mp_modules.specs.Memories.{output_of}
-use Rattle.mp_netlist.specs.declared.ids.WireId.{WireId}
 use Rattle.mp_netlist.specs.declared.ports.Output.{Output}
 use Rattle.mp_netlist.specs.Circuit.{module_at, output_at, delay_of}
 use Rattle.mp_model.specs.Tracks.{Progress}

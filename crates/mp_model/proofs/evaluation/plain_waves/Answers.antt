@@ -1,5 +1,5 @@
-use Rattle.std.proofs.Common.{◌≡◌, ◌+◌, ◌-◌, ℕ, IfOk, length, map, option_map, ap, sym, subst, ◌∙◌, arith}
-use Rattle.mp_model.specs.Tracks.{Progress, advanced}
+use Rattle.std.proofs.Common.{◌≡◌, ◌+◌, ◌-◌, IfOk, length, map, option_map, sym, subst, arith}
+use Rattle.mp_model.specs.Tracks.{advanced}
 use Rattle.mp_model.specs.Evaluations.{AreTracks, AreCells, delivered}
 use Rattle.mp_model.proofs.TracksLemmas.{tracks_advanced}
 use Rattle.mp_model.proofs.CellsLemmas.{first_cells_are, cells_next}

@@ -1,8 +1,7 @@
-use Rattle.std.proofs.Common.{◌≡◌, refl, Err, rules}
+use Rattle.std.proofs.Common.{refl, sym, ◌∙◌}
 use Rattle.std.proofs.lemmas.Result.{err_from_is_err_and}
-use Rattle.mpwb.specs.Outputs.{waves_output}
-use Rattle.mpwb.specs.Runs.{Wrote, Refuses}
-use Rattle.mpwb.proofs.RunLemmas.{for_input, Wrote-refused}
+use Rattle.mpwb.specs.Runs.{Wrote}
+use Rattle.mpwb.proofs.RunLemmas.{for_input, Wrote-refused, counted_reads-started}
 use Rattle.mpwb.proofs.run_waves.run_waves.Goals as goal
 
 pub returns-in_err-netlist-clause-written : goal.returns-in_err-netlist-clause-written
@@ -11,7 +10,7 @@ returns-in_err-netlist-clause-written g c =
     let r = c.from_residual-in_err-netlist.result in
     let p = err_from_is_err_and r c.from_residual-in_err-netlist.ensures.1 in
     let refused = rw c.as_slice.ensures.value at c.in_err-netlist.ensures.refused in
-    for_input (λ o. Wrote r o known known) _ c.in_ok-input.input.items c.args.options.now _ refl c.in_ok-input.ensures.front
+    for_input (λ o. Wrote r o known known) _ c.in_ok-input.input.items c.args.options.now _ c.in_ok-input.ensures.front refl
     (Wrote-refused r p.0 _ known p.1 (rw p.2 refused))
 
 pub returns-clause-written : goal.returns-clause-written
@@ -20,5 +19,8 @@ returns-clause-written g c =
     let new = g.T.Sink.taken c.write_waves.new.sink in
     let r = c.write_waves.result in
     let output = rw c.as_slice.ensures.value at c.in_ok-netlist.ensures.text in
-    for_input (λ o. Wrote r o old new) _ c.in_ok-input.input.items c.args.options.now _ refl c.in_ok-input.ensures.front
+    for_input (λ o. Wrote r o old new) _ c.in_ok-input.input.items c.args.options.now _ c.in_ok-input.ensures.front refl
     (rw output c.write_waves.ensures.written)
+
+pub returns-clause-read_faults : goal.returns-clause-read_faults
+returns-clause-read_faults g c = c.in_ok-input.ensures.faults ∙ sym (counted_reads-started c.write_waves.result _ c.write_waves.ensures.started)

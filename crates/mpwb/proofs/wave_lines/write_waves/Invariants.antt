@@ -1,4 +1,4 @@
-use Rattle.std.proofs.Common.{◌≡◌, ◌≤◌, length}
+use Rattle.std.proofs.Common.{◌≡◌}
 use Rattle.std.specs.Io.KnownBytes.{Appends}
 use Rattle.mpwb.specs.Outputs.{lines_below}
 use Rattle.mpwb.proofs.wave_lines.write_waves.Given as goal

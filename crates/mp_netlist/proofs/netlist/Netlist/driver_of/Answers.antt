@@ -1,4 +1,4 @@
-use Rattle.std.proofs.Common.{◌≡◌, ◌<◌, ◌^◌, ℕ, All, Option, Some, None, slice_index_or, is_some, true, false, sym, ap, subst, ◌∙◌, arith, refl}
+use Rattle.std.proofs.Common.{◌≡◌, ◌<◌, ◌^◌, ℕ, All, Option, Some, None, slice_index_or, is_some, true, false, sym, ap, subst, ◌∙◌, arith}
 use Rattle.std.proofs.lemmas.List.{get_or_default}
 use Rattle.mp_modules.specs.declared.kind.Kind.{Kind}
 use Rattle.mp_modules.specs.declared.kind.Kind.TheVariants as kinds
@@ -6,7 +6,7 @@ use Rattle.mp_modules.specs.Kinds.{output_count}
 use Rattle.mp_netlist.specs.declared.module_record.ModuleRecord.{ModuleRecord}
 use Rattle.mp_netlist.specs.Circuit.{Circuit, IsCircuit, module_at, stimulus_at}
 use Rattle.mp_netlist.specs.Drivers.{driver, driver_from}
-use Rattle.mp_netlist.specs.declared.driver.Driver.TheVariants.{Nothing, Stimulus, Port}
+use Rattle.mp_netlist.specs.declared.driver.Driver.TheVariants.{Nothing, Stimulus}
 use Rattle.mp_netlist.specs.DriverSearch.{HasFewPorts}
 use Rattle.mp_netlist.specs.Records.{circuit_of}
 use Rattle.mp_netlist.proofs.DriverLemmas.{stimulus_drives, portless_driver}

@@ -4,7 +4,6 @@ use Rattle.std.specs.Str.{bytes_eq}
 use Rattle.indexmap.specs.IndexMap.{get_by_text}
 use Rattle.mp_netlist.specs.Circuit.{Circuit, IsCircuit, module_named}
 use Rattle.mp_netlist.specs.Edits.{with_new_module}
-use Rattle.mp_netlist.specs.Records.{circuit_of}
 use Rattle.mp_netlist.proofs.RecordLemmas.{AreRecords-add_module}
 use Rattle.mp_netlist.proofs.netlist.Netlist.put_module.Goals as goal
 

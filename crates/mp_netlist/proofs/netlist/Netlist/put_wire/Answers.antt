@@ -4,7 +4,6 @@ use Rattle.std.specs.Str.{bytes_eq}
 use Rattle.indexmap.specs.IndexMap.{get_by_text}
 use Rattle.mp_netlist.specs.Circuit.{Circuit, IsCircuit, wire_named}
 use Rattle.mp_netlist.specs.Edits.{with_wire_record}
-use Rattle.mp_netlist.specs.Records.{circuit_of}
 use Rattle.mp_netlist.proofs.RecordLemmas.{AreRecords-add_wire}
 use Rattle.mp_netlist.proofs.netlist.Netlist.put_wire.Goals as goal
 
