@@ -91,13 +91,13 @@ fn built(netlist: &Netlist, found: &ModuleRecord) -> AnyModule
 }
 
 /// The width of a module: that of the wire at its first input where its kind has ports of any width, and else 1.
-fn module_width(netlist: &Netlist, record: &ModuleRecord) -> u32
-    ensures { result ≡ module_width netlist.now record.now }
+fn module_width(netlist: &Netlist, found: &ModuleRecord) -> u32
+    ensures { result ≡ module_width netlist.now found.now }
 {
-    if !record.kind.has_width() {
+    if !found.kind.has_width() {
         return 1;
     }
-    let first = first_wire(record.inputs.as_slice());
+    let first = first_wire(found.inputs.as_slice());
     match netlist.wire(first) {
         Some(wire) => wire.width,
         None => 0,

@@ -10,8 +10,9 @@ use Rattle.mp_storage.specs.declared.add_c.AddC.{AddC}
 abbrev pub output : AddC → List ℕ → ℕ
 output part x = wrapped part.highest (slice_index x 0 + part.addend)
 
+-- before time 0 the levels of the inputs are 0
 abbrev pub start : AddC → Memory
-start part = with_one_output [] 0
+start part = with_one_output [] (output part [])
 
 abbrev pub step : AddC → Memory → List ℕ → Memory
 step part memory x = with_one_output x (output part x)

@@ -9,8 +9,9 @@ use Rattle.mp_storage.specs.declared.bit.Bit.{Bit}
 abbrev pub output : Bit → List ℕ → ℕ
 output part x = slice_index x 0 / 2 ^ part.place % 2
 
+-- before time 0 the levels of the inputs are 0
 abbrev pub start : Bit → Memory
-start part = with_one_output [] 0
+start part = with_one_output [] (output part [])
 
 abbrev pub step : Bit → Memory → List ℕ → Memory
 step part memory x = with_one_output x (output part x)

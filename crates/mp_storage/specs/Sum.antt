@@ -10,8 +10,9 @@ use Rattle.mp_storage.specs.declared.sum.Sum.{Sum}
 abbrev pub output : Sum → List ℕ → ℕ
 output part x = wrapped part.highest (slice_index x 0 + slice_index x 1)
 
+-- before time 0 the levels of the inputs are 0
 abbrev pub start : Sum → Memory
-start part = with_one_output [] 0
+start part = with_one_output [] (output part [])
 
 abbrev pub step : Sum → Memory → List ℕ → Memory
 step part memory x = with_one_output x (output part x)

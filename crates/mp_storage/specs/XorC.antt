@@ -9,8 +9,9 @@ use Rattle.mp_storage.specs.declared.xor_c.XorC.{XorC}
 abbrev pub output : XorC → List ℕ → ℕ
 output part x = bit_xor (slice_index x 0) part.mask
 
+-- before time 0 the levels of the inputs are 0
 abbrev pub start : XorC → Memory
-start part = with_one_output [] 0
+start part = with_one_output [] (output part [])
 
 abbrev pub step : XorC → Memory → List ℕ → Memory
 step part memory x = with_one_output x (output part x)

@@ -43,7 +43,7 @@ impl EventModule for Bit {
     ghost stepped_quiet = { λ it memory levels. refl };
 
     fn start(&self) -> Memory {
-        Memory::with_one_output(&[], 0)
+        Memory::with_one_output(&[], self.output(&[]))
     }
 
     fn settle(&self, levels: &[u64]) -> Memory {
