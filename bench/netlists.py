@@ -27,6 +27,45 @@ def oscillators(modules, horizon):
     return "\n".join(lines) + "\n"
 
 
+def data_pipeline(stages, horizon):
+    """A pipeline of registers of 32 bits with its control; behind each register 1 is added to the data."""
+    wires = ["r"] + [f"q{i}" for i in range(1, stages + 1)] + ["ack"]
+    lines = [f"horizon {horizon}"] + [f"wire {name} 1 0" for name in wires]
+    lines += [f"wire d{i} 32 0" for i in range(stages + 1)] + [f"wire x{i} 32 0" for i in range(1, stages + 1)]
+    lines += ["module source NOT : q1 > r/1", "module sink BUF : q%d > ack/3" % stages]
+    for i in range(1, stages + 1):
+        before, here, after = wires[i - 1], wires[i], wires[i + 1]
+        lines.append(f"module c{i} C 0 0 1 : {before} {after} > {here}/4")
+        lines.append(f"module g{i} REG 0 : d{i - 1} {here} {after} > x{i}/1 - -")
+        lines.append(f"module a{i} ADDC 1 : x{i} > d{i}/2")
+    lines.append("module first ADDC 3 : d0 > d0/7")
+    return "\n".join(lines) + "\n"
+
+
+def arbiter_tree(levels, horizon):
+    """Oscillators as clients of a tree of arbiters: what a node grants is a request of the node above it."""
+    lines, modules = [], 0
+
+    def client(name, delay):
+        lines.append(f"wire {name} 1 0")
+        lines.append(f"module o{name} NOT : {name} > {name}/{delay}")
+
+    for i in range(2 ** levels):
+        client(f"r{levels}_{i}", 7 + i % 11)
+        modules += 1
+    for level in range(levels - 1, -1, -1):
+        for i in range(2 ** level):
+            below = [f"r{level + 1}_{2 * i}", f"r{level + 1}_{2 * i + 1}"]
+            node = f"{level}_{i}"
+            lines += [f"wire {name}{node} 1 0" for name in ("g", "h", "d", "e", "r")]
+            lines.append(f"module m{node} ARBITER : {below[0]} {below[1]} d{node} e{node} > g{node}/2 h{node}/2")
+            lines.append(f"module x{node} BUF : g{node} > d{node}/5")
+            lines.append(f"module y{node} BUF : h{node} > e{node}/5")
+            lines.append(f"module z{node} XOR : g{node} h{node} > r{node}/1")
+            modules += 4
+    return "\n".join([f"horizon {horizon}"] + lines) + "\n", modules
+
+
 def long_text(size):
     """A text of this many bytes: the full number of wires and modules, stimuli, and comments."""
     lines = ["horizon 2"] + [f"wire w{i} 1 0" for i in range(8192)]
