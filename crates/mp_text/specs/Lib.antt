@@ -7,3 +7,4 @@ pub mod Statements
 pub mod Texts
 pub mod Laws
 pub mod WaveLines
+pub mod Divisions

@@ -1,6 +1,7 @@
 //! The texts of netlists, and the lines of waves.
 #![tactic(auto)]
 
+mod division;
 mod edit_words;
 pub mod laws;
 mod line;
@@ -13,6 +14,8 @@ mod wave_line;
 mod word;
 mod word_list;
 
+pub use division::divided;
+pub use line::first_line;
 pub use reading::read_netlist;
 pub use text_code::TextCode;
 pub use text_error::TextError;

@@ -1,12 +1,20 @@
 //! The lines of a text.
-ghost use Rattle.std.specs.Prelude.{◌≡◌, IsAscii, IsTrue};
+ghost use Rattle.std.specs.Prelude.{◌≡◌, ◌∷◌, ◌<◌, length, IsAscii, IsTrue};
 ghost use Rattle.std.specs.List.{before_first, after_first, list_all};
-ghost use Rattle.mp_text.specs.Lines.{is_line_feed, is_allowed};
+ghost use Rattle.mp_text.specs.Lines.{is_line_feed, lines_of, is_allowed};
 
 use crate::word::place_of;
 
 /// The first line of the text, and what is behind its line feed.
 pub fn first_line(text: &[u8]) -> (&[u8], &[u8])
+    ensures line { result.0.now ≡ before_first is_line_feed text.now }
+    ensures rest { result.1.now ≡ after_first is_line_feed text.now }
+    ensures lines { 0 < length text.now → lines_of text.now ≡ result.0.now ∷ lines_of result.1.now }
+{
+    at_line_feed(text)
+}
+
+fn at_line_feed(text: &[u8]) -> (&[u8], &[u8])
     ensures line { result.0.now ≡ before_first is_line_feed text.now }
     ensures rest { result.1.now ≡ after_first is_line_feed text.now }
 {

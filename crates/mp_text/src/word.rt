@@ -8,9 +8,8 @@ use std::alloc::{AllocError, Global};
 /// The words before a comment.
 #[tactic(auto, unfolding(crate::specs::Words::words_of))]
 pub fn words<'a>(alloc: Global, line: &'a [u8]) -> Result<Vec<&'a [u8]>, AllocError>
-    requires { IsAscii line.now }
     ensures words { IfOk result (λ words. texts words.items ≡ words_of line.now) }
-    ensures ascii { IfOk result (λ words. AreAscii words.items) }
+    ensures ascii { IsAscii line.now → IfOk result (λ words. AreAscii words.items) }
 {
     before_comment(line)
         .split(|byte| is_gap(*byte))

@@ -1,8 +1,9 @@
 //! Why a run ends early.
-ghost use Rattle.std.specs.Prelude.{◌≡◌, ◌++◌, IfOk, string_bytes};
+ghost use Rattle.std.specs.Prelude.{◌≡◌, IfOk};
 ghost use Rattle.mpwb.specs.declared.run_fault.RunFault.TheVariants.{OutOfMemory};
-ghost use Rattle.mpwb.specs.RunFaults.{status_of, line_of, text_line, numbered, fault_of_text, fault_of_take};
+ghost use Rattle.mpwb.specs.RunFaults.{status_of, line_of, text_line, fault_of_text, fault_of_take};
 
+use crate::numbered::push_numbered;
 use mp_model::TakeError;
 use mp_netlist::EditError;
 use mp_text::{TextCode, TextError};
@@ -109,14 +110,4 @@ fn text_line(alloc: Global, line: u32, code: TextCode) -> Result<Vec<u8>, AllocE
         push_numbered(&mut text, number, EditError::name_of(number).unwrap_or(""))?;
     }
     Ok(text)
-}
-
-/// Puts the number, a space and the name behind the text.
-fn push_numbered(text: &mut Vec<u8>, number: u32, name: &str) -> Result<(), AllocError>
-    ensures { IfOk result (λ _. text.new.items ≡ text.old.items ++ numbered number name.now) }
-{
-    let digits = number.to_string(*text.allocator())?;
-    text.extend_from_slice(digits.as_bytes())?;
-    text.push(b' ')?;
-    text.extend_from_slice(name.as_bytes())
 }

@@ -15,8 +15,8 @@ returns-clause-words c =
     c.filter.ensures.closure (λ x b q k. search (rules, tests)))
 
 pub returns-clause-ascii : goal.returns-clause-ascii
-returns-clause-ascii c = by c.collect.result (returns-clause-words c)
+returns-clause-ascii c ascii = by c.collect.result (returns-clause-words c)
   where
     by : (r : Result (Vec (Bor (List ℕ)) Global) AllocError) → IfOk r (λ words. texts words.items ≡ words_of c.args.line.now) → IfOk r (λ words. AreAscii words.items)
-    by (Ok words) same = texts_ascii words.items c.args.line.now same c.requires
+    by (Ok words) same = texts_ascii words.items c.args.line.now same ascii
     by (Err e) same = tt
