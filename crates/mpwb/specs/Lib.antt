@@ -2,7 +2,4 @@ pub mod OptionLimits
 pub mod RunFaults
 pub mod Outputs
 pub mod Runs
-pub mod Keepers
-pub mod Replies
-pub mod Plays
 pub mod WordErrors

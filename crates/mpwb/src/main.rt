@@ -2,14 +2,11 @@
 #![tactic(auto)]
 
 mod command_line;
-mod keeper;
 mod numbered;
 mod options;
 mod request;
 mod put_text;
-mod replies;
 mod run_fault;
-mod run_play;
 mod run_waves;
 #[cfg(test)]
 mod tests;

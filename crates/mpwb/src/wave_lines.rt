@@ -43,7 +43,8 @@ pub fn push_slot_line(
     let Some(wave) = wave_at(waves, id) else {
         return Ok(());
     };
-    push_wave_line(text, wire.name.as_str(), wave.initial(), wave.changes())
+    push_wave_line(text, wire.name.as_str(), wave.initial(), wave.changes())?;
+    Ok(())
 }
 
 fn wave_at(waves: &[Option<Wave>], id: WireId) -> Option<&Wave>
