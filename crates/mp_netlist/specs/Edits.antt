@@ -216,5 +216,5 @@ abbrev pub after : Circuit → Edit → Result Circuit EditError
 after n edit = unless (refusal n edit) (edited n edit)
 
 -- an edit was refused: by the first check that fails, or for want of memory where none does
-abbrev pub RefusedBy : {T : Type 0} → Result T EditError → EditError → Type 0
+abbrev pub RefusedBy : Result Circuit EditError → EditError → Type 0
 RefusedBy judged error = (judged ≡ Err error) ⊎ ((error ≡ OutOfMemory) × IsOk judged)

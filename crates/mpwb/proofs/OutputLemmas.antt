@@ -1,18 +1,12 @@
 -- The lines of waves, one after the other.
 use Rattle.std.proofs.Common.{◌≡◌, ℕ, ◌+◌, ◌-◌, ◌<◌, ◌≤◌, List, [], ◌∷◌, ◌++◌, length, length-append, take, Option, Some, zero, suc, refl, sym, ap, subst, ◌∙◌, append_assoc, add-one, add-zero, add-suc, arith}
-use Rattle.std.proofs.lemmas.List.{append-nil, take-append-le}
-use Rattle.std.proofs.Math.Seq.{take-append_seam, take-append-add}
-use Rattle.std.proofs.KnownBytes.{Appends-trans}
-use Rattle.std.specs.Io.KnownBytes.{Appends}
 use Rattle.mp_wave.specs.Waveform.{Waveform}
 use Rattle.mp_netlist.specs.declared.wire_record.WireRecord.{WireRecord}
 use Rattle.mp_netlist.specs.Circuit.{Circuit, wire_at}
 use Rattle.mp_netlist.specs.Slots.{slot_at}
-use Rattle.mp_model.specs.StreamBytes.{AppendsPrefix}
 use Rattle.mp_model.specs.Waves.{wave, waves, waves_from, slot_wave}
 use Rattle.mp_text.specs.WaveLines.{wave_line}
 use Rattle.mpwb.specs.Outputs.{slot_line, lines_below, waves_text}
-use Rattle.mpwb.specs.Runs.{AppendsPart}
 
 -- ---- the wave of a wire that stands
 
@@ -47,44 +41,3 @@ lines_below-suc n w = refl
 
 pub lines_below-next : (n : Circuit) (w : ℕ) → lines_below n (w + 1) ≡ lines_below n w ++ slot_line (wire_at n w) (wave n w)
 lines_below-next n w = rw add-one (lines_below-suc n w)
-
-lines_below-add : (n : Circuit) (k d : ℕ) → (rest : List ℕ) × (lines_below n (k + d) ≡ lines_below n k ++ rest)
-lines_below-add n k zero = ([], ap (lines_below n) (add-zero k) ∙ sym (append-nil (lines_below n k)))
-lines_below-add n k (suc d) =
-    let before = lines_below-add n k d in
-    let line = slot_line (wire_at n (k + d)) (wave n (k + d)) in
-    (before.0 ++ line, ap (lines_below n) (add-suc k d) ∙ lines_below-suc n (k + d) ∙ ap (λ l. l ++ line) before.1 ∙ append_assoc (lines_below n k) before.0 line)
-
--- the lines below a number are the front of all
-pub lines_below-front : (n : Circuit) (k : ℕ) → k ≤ length n.wires → (rest : List ℕ) × (waves_text n ≡ lines_below n k ++ rest)
-lines_below-front n k within =
-    let over = lines_below-add n k (length n.wires - k) in
-    let all : k + (length n.wires - k) ≡ length n.wires = omega arith in
-    (over.0, ap (lines_below n) (sym all) ∙ over.1)
-
--- what was written up to a wire is a part of the output
-pub part_written : (n : Circuit) (k : ℕ) (old new : Option (List ℕ)) → k ≤ length n.wires → Appends old new (lines_below n k) → AppendsPart old new (waves_text n)
-part_written n k old new within written =
-    let front = lines_below-front n k within in
-    let same : take (length (lines_below n k)) (waves_text n) ≡ lines_below n k =
-    ap (take (length (lines_below n k))) front.1 ∙ take-append_seam (lines_below n k) front.0 in
-    (length (lines_below n k), subst (Appends old new) (sym same) written)
-
--- where a line is written in part, so is the output
-pub prefix_written : (n : Circuit) (k : ℕ) (old mid new : Option (List ℕ)) (line : List ℕ) → k < length n.wires
-    → line ≡ slot_line (wire_at n k) (wave n k) → Appends old mid (lines_below n k) → AppendsPrefix mid new line → AppendsPrefix old new (waves_text n)
-prefix_written n k old mid new line within same written part =
-    let before = lines_below n k in
-    let front = lines_below-front n (k + 1) (omega arith) in
-    let rest = front.0 in
-    let whole : waves_text n ≡ before ++ (line ++ rest) =
-    front.1 ∙ ap (λ l. l ++ rest) (lines_below-next n k ∙ ap (λ l. before ++ l) (sym same)) ∙ append_assoc before line rest in
-    let p = part.0 in
-    let less : p < length line = part.1 in
-    let at_most : p ≤ length line = omega arith in
-    let q = length before + p in
-    let cut : take q (waves_text n) ≡ before ++ take p line =
-    ap (take q) whole ∙ take-append-add before (line ++ rest) p ∙ ap (λ l. before ++ l) (take-append-le p line rest at_most) in
-    let long : length (waves_text n) ≡ length before + (length line + length rest) =
-    ap length whole ∙ length-append before (line ++ rest) ∙ ap (λ m. length before + m) (length-append line rest) in
-    (q, omega arith, subst (Appends old new) (sym cut) (Appends-trans old mid new before (take p line) written part.2))

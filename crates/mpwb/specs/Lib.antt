@@ -2,4 +2,5 @@ pub mod OptionLimits
 pub mod RunFaults
 pub mod Outputs
 pub mod Runs
+pub mod Keepers
 pub mod WordErrors

@@ -2,6 +2,7 @@
 #![tactic(auto)]
 
 mod command_line;
+mod keeper;
 mod numbered;
 mod options;
 mod request;

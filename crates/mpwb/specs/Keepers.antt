@@ -1,0 +1,29 @@
+-- A netlist that a script edits.
+use Rattle.std.specs.Prelude.{◌≡◌, ◌⊎◌, IsOk, ℕ, ◌+◌, Result, Ok, Err, nat_lt, if◌then◌else◌}
+use Rattle.mp_netlist.specs.declared.edit.Edit.{Edit}
+use Rattle.mp_netlist.specs.declared.edit_error.EditError.{EditError}
+use Rattle.mp_netlist.specs.declared.edit_error.EditError.TheVariants.{HistoryFull, OutOfMemory}
+use Rattle.mp_netlist.specs.Circuit.{Circuit}
+use Rattle.mp_netlist.specs.Edits.{after}
+
+-- a netlist, and how many edits led to it
+pub record Kept : Type 0 where
+  pub netlist : Circuit
+  pub accepted : ℕ
+
+-- a netlist before the first edit
+abbrev pub opened : Circuit → Kept
+opened n = record { netlist = n; accepted = 0 }
+
+-- one more edit is accepted, where there are fewer than 4,096
+abbrev pub counted_edit : ℕ → Result Circuit EditError → Result Kept EditError
+counted_edit accepted (Err error) = Err error
+counted_edit accepted (Ok n) = if nat_lt accepted 4096 then Ok (record { netlist = n; accepted = accepted + 1 }) else Err HistoryFull
+
+-- what is kept after an edit, or why the edit is refused
+abbrev pub kept_after : Kept → Edit → Result Kept EditError
+kept_after kept edit = counted_edit kept.accepted (after kept.netlist edit)
+
+-- an edit was refused: for its first fault, or for want of memory where it has none
+abbrev pub IsRefused : Result Kept EditError → EditError → Type 0
+IsRefused judged error = (judged ≡ Err error) ⊎ ((error ≡ OutOfMemory) × IsOk judged)
