@@ -4,3 +4,4 @@ pub mod ReplayLemmas
 pub mod TextLemmas
 pub mod WordLemmas
 pub mod WordListLemmas
+pub mod WriteLemmas

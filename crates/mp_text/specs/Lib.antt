@@ -9,3 +9,4 @@ pub mod Texts
 pub mod ScriptLines
 pub mod Laws
 pub mod WaveLines
+pub mod Written

@@ -17,6 +17,8 @@ mod text_error;
 mod wave_line;
 mod word;
 mod word_list;
+mod writing;
+mod written_line;
 
 pub use line_error::LineError;
 pub use reading::read_netlist;
@@ -25,6 +27,11 @@ pub use stated_line::read_line;
 pub use text_code::TextCode;
 pub use text_error::TextError;
 pub use wave_line::push_wave_line;
+pub use writing::write_netlist;
 
 #[cfg(test)]
+mod script_tests;
+#[cfg(test)]
 mod tests;
+#[cfg(test)]
+mod writing_tests;
