@@ -1,21 +1,23 @@
--- A netlist is still one after a wire, a module or another record of a wire is put in.
-use Rattle.std.proofs.Common.{◌≡◌, ℕ, ◌<◌, ◌≤◌, true, cond, List, [], ◌∷◌, length, Option, Some, None, is_some, ◌⊎◌, inl, inr, refl, sym, ap, subst, ◌∙◌, arith}
+-- A netlist is still one after a wire or a module is added, or a slot of one is written over.
+use Rattle.std.proofs.Common.{◌≡◌, ℕ, ◌<◌, Bool, true, cond, [], ◌∷◌, length, Option, Some, None, is_some, ◌⊎◌, inl, inr, refl, sym, ap, subst, ◌∙◌, arith}
 use Rattle.std.specs.Bool.{IsTrue}
-use Rattle.std.specs.Option.{IfSome, option_and_then}
+use Rattle.std.specs.Option.{IfSome}
 use Rattle.std.proofs.Math.ListN.{length-set}
-use Rattle.std.proofs.lemmas.List.{get_or_past, get_or_append_left, get_or-set_same, get_or-set_other, length_push}
-use Rattle.std.proofs.lemmas.Option.{IfSome_then}
-use Rattle.std.proofs.lemmas.Bool.{cases_lt, cases_eq}
+use Rattle.std.proofs.lemmas.List.{get_or_append_left, length_push}
 use Rattle.std.specs.Prelude.{slice_index_or}
 use Rattle.mp_modules.specs.declared.kind.Kind.{Kind}
 use Rattle.mp_modules.specs.declared.kind.Kind.TheVariants as kinds
 use Rattle.mp_modules.specs.Kinds.{input_count, has_width, input_width, output_width, are_params}
+use Rattle.mp_netlist.specs.declared.ids.WireId.{WireId}
 use Rattle.mp_netlist.specs.declared.wire_record.WireRecord.{WireRecord}
 use Rattle.mp_netlist.specs.declared.module_record.ModuleRecord.{ModuleRecord}
-use Rattle.mp_netlist.specs.Circuit.{Circuit, IsCircuit, IsWire, IsModule, HasWidth, Drives, wire_at, module_at, width_of, module_width, output_at, stimulus_at}
+use Rattle.mp_netlist.specs.declared.bundle_record.BundleRecord.{BundleRecord}
+use Rattle.mp_netlist.specs.Circuit.{Circuit, IsCircuit, IsWire, IsModule, IsBundle, HasWidth, Drives, wire_at, module_at, width_of, module_width, output_at, stimulus_in, stimulus_at}
 use Rattle.mp_netlist.specs.Drivers.{driver, is_nothing}
-use Rattle.mp_netlist.specs.Edits.{with_wire_record, with_new_module, with_wire}
-use Rattle.mp_netlist.proofs.TableLemmas.{PushedAt, pushed_at}
+use Rattle.mp_netlist.specs.Uses.{module_names, bundle_names, is_used}
+use Rattle.mp_netlist.specs.Edits.{with_wire_record, with_new_module, with_wire, with_module}
+use Rattle.mp_netlist.proofs.TableLemmas.{PushedAt, pushed_at, RewrittenAt, rewritten_at, slot_within}
+use Rattle.mp_netlist.proofs.UseLemmas.{input_is_named, output_is_named, used_by_module, used_by_bundle, request_is_named, acknowledge_is_named, payload_is_named}
 use Rattle.mp_netlist.proofs.DriverLemmas.{undriven_is_free}
 
 -- each kind has an input port
@@ -34,22 +36,38 @@ some_input kinds.XorC = omega arith
 some_input kinds.Sum = omega arith
 some_input kinds.Bit = omega arith
 
--- each wire of the first stands in the second with its width
-pub record KeepsWidths (n m : Circuit) : Type 0 where
-  pub keeps : (w : ℕ) → is_some (wire_at n w) ≡ true → (is_some (wire_at m w) ≡ true) × (width_of (wire_at m w) ≡ width_of (wire_at n w))
+-- each wire of the first that passes the test stands in the second with its width
+pub record KeepsWidths (test : ℕ → Bool) (n m : Circuit) : Type 0 where
+  pub keeps : (w : ℕ) → test w ≡ true → is_some (wire_at n w) ≡ true → (is_some (wire_at m w) ≡ true) × (width_of (wire_at m w) ≡ width_of (wire_at n w))
 
-HasWidth-keep : (n m : Circuit) → KeepsWidths n m → (w width : ℕ) → HasWidth n w width → HasWidth m w width
-HasWidth-keep n m same w width has = let kept = same.keeps w has.0 in (kept.0, kept.1 ∙ has.1)
+HasWidth-keep : (test : ℕ → Bool) (n m : Circuit) → KeepsWidths test n m → (w width : ℕ) → test w ≡ true → HasWidth n w width → HasWidth m w width
+HasWidth-keep test n m same w width passes has = let kept = same.keeps w passes has.0 in (kept.0, kept.1 ∙ has.1)
 
-module_width-keep : (n m : Circuit) → KeepsWidths n m → (r : ModuleRecord) → IsModule n r → module_width m r ≡ module_width n r
-module_width-keep n m same r ok =
+-- the wires that a module names
+abbrev of_module : ModuleRecord → ℕ → Bool
+of_module r w = module_names w r
+
+-- the wires that a bundle names
+abbrev of_bundle : BundleRecord → ℕ → Bool
+of_bundle r w = bundle_names w r
+
+module_width-keep : (n m : Circuit) (r : ModuleRecord) → KeepsWidths (of_module r) n m → IsModule n r → module_width m r ≡ module_width n r
+module_width-keep n m r same ok =
     let some : 0 < length r.inputs = omega (arith, ok.inputs, some_input r.kind) in
     let first = ok.reads 0 (record { 0 = 0 }) some in
-    ap (λ width. cond (has_width r.kind) width 1) (same.keeps _ first.0).1
+    ap (λ width. cond (has_width r.kind) width 1) (same.keeps _ (input_is_named r 0 (record { 0 = 0 }) some) first.0).1
 
-pub IsModule-keep : (n m : Circuit) → KeepsWidths n m → (r : ModuleRecord) → IsModule n r → IsModule m r
-IsModule-keep n m same r ok =
-    let width = sym (module_width-keep n m same r ok) in
+drives-keep : (n m : Circuit) (r : ModuleRecord) (p width : ℕ) → KeepsWidths (of_module r) n m → IfSome (output_at r p).wire (λ w. HasWidth n w.0 width)
+    → IfSome (output_at r p).wire (λ w. HasWidth m w.0 width)
+drives-keep n m r p width same has = by (output_at r p).wire refl has
+  where
+    by : (wire : Option WireId) → (output_at r p).wire ≡ wire → IfSome wire (λ w. HasWidth n w.0 width) → IfSome wire (λ w. HasWidth m w.0 width)
+    by None at has = tt
+    by (Some w) at has = HasWidth-keep (of_module r) n m same w.0 width (output_is_named r p w at) has
+
+pub IsModule-keep : (n m : Circuit) (r : ModuleRecord) → KeepsWidths (of_module r) n m → IsModule n r → IsModule m r
+IsModule-keep n m r same ok =
+    let width = sym (module_width-keep n m r same ok) in
     record {
       inputs = ok.inputs;
       outputs = ok.outputs;
@@ -57,29 +75,46 @@ IsModule-keep n m same r ok =
       delays = ok.delays;
       reads = λ p w within.
           subst (λ k. HasWidth m (slice_index_or r.inputs p w).0 (input_width r.kind k p)) width
-          (HasWidth-keep n m same _ _ (ok.reads p w within));
+          (HasWidth-keep (of_module r) n m same _ _ (input_is_named r p w within) (ok.reads p w within));
       drives = λ p.
           subst (λ k. IfSome (output_at r p).wire (λ w. HasWidth m w.0 (output_width r.kind k p))) width
-          (IfSome_then (output_at r p).wire (ok.drives p) (λ w has. HasWidth-keep n m same w.0 _ has));
+          (drives-keep n m r p _ same (ok.drives p));
     }
 
--- what stands is within the slots
-pub slot_within : {R : Type 0} (slots : List (Option R)) (k : ℕ) → is_some (slice_index_or slots k None) ≡ true → k < length slots
-slot_within slots k is = by (cases_lt k (length slots))
-  where
-    by : (k < length slots) ⊎ (length slots ≤ k) → k < length slots
-    by (inl h) = h
-    by (inr h) = let none = ap is_some (get_or_past slots k None h) in cc
+pub IsBundle-keep : (n m : Circuit) (r : BundleRecord) → KeepsWidths (of_bundle r) n m → IsBundle n r → IsBundle m r
+IsBundle-keep n m r same ok = record {
+  request = HasWidth-keep (of_bundle r) n m same _ _ (request_is_named r) ok.request;
+  acknowledge = HasWidth-keep (of_bundle r) n m same _ _ (acknowledge_is_named r) ok.acknowledge;
+  payload = (same.keeps _ (payload_is_named r) ok.payload).0;
+  setup = ok.setup;
+}
+
+-- what drives a wire at the outputs of a module, in the place of what has this number
+pub record DrivesAlone (n : Circuit) (id : ℕ) (r : ModuleRecord) : Type 0 where
+  pub distinct : (p q w : ℕ) → (output_at r p).wire ≡ Some (record { 0 = w }) → (output_at r q).wire ≡ Some (record { 0 = w }) → p ≡ q
+  pub alone : (p w k q : ℕ) → (output_at r p).wire ≡ Some (record { 0 = w }) → Drives n k q w → k ≡ id
+  pub unset : (p w : ℕ) → (output_at r p).wire ≡ Some (record { 0 = w }) → stimulus_at n w ≡ None
 
 module _ (n : Circuit) (ok : IsCircuit n) where
+  -- a module with the outputs of the one that stands there
+  pub DrivesAlone-same : (id : ℕ) (r s : ModuleRecord) → module_at n id ≡ Some r → ((p : ℕ) → (output_at s p).wire ≡ (output_at r p).wire) → DrivesAlone n id s
+  DrivesAlone-same id r s at same = record {
+    distinct = λ p q w a b. (ok.one_port id p id q w (old p w a) (old q w b)).1;
+    alone = λ p w k q a other. (ok.one_port k q id p w other (old p w a)).0;
+    unset = λ p w a. ok.port_or_stimulus id p w (old p w a);
+  }
+    where
+      old : (p w : ℕ) → (output_at s p).wire ≡ Some (record { 0 = w }) → Drives n id p w
+      old p w a = record { part = r; stands = at; output = sym (same p) ∙ a }
+
   -- one more wire
   module _ (r : WireRecord) (is_wire : IsWire n.horizon r) (free : r.stimulus ≡ None) (room : length n.wires < 8192) where
     abbrev more : Circuit
     more = with_wire_record n r
 
-    more_keeps : KeepsWidths n more
-    more_keeps = record {
-      keeps = λ w is.
+    more_keeps : (test : ℕ → Bool) → KeepsWidths test n more
+    more_keeps test = record {
+      keeps = λ w passes is.
           let here = get_or_append_left n.wires (Some r ∷ []) None w (slot_within n.wires w is) in
           (ap is_some here ∙ is, ap width_of here);
     }
@@ -90,9 +125,9 @@ module _ (n : Circuit) (ok : IsCircuit n) where
     more_wires w s (inr (inr none)) at = let no = sym none.1 ∙ at in cc
 
     more_free : (m p w : ℕ) → Drives n m p w → PushedAt n.wires (Some r) w → stimulus_at more w ≡ None
-    more_free m p w drives (inl old) = ap (option_and_then (λ (s : WireRecord). s.stimulus)) old.1 ∙ ok.port_or_stimulus m p w drives
-    more_free m p w drives (inr (inl new)) = ap (option_and_then (λ (s : WireRecord). s.stimulus)) new.1 ∙ free
-    more_free m p w drives (inr (inr none)) = ap (option_and_then (λ (s : WireRecord). s.stimulus)) none.1
+    more_free m p w drives (inl old) = ap stimulus_in old.1 ∙ ok.port_or_stimulus m p w drives
+    more_free m p w drives (inr (inl new)) = ap stimulus_in new.1 ∙ free
+    more_free m p w drives (inr (inr none)) = ap stimulus_in none.1
 
     back : (m p w : ℕ) → Drives more m p w → Drives n m p w
     back m p w drives = record { part = drives.part; stands = drives.stands; output = drives.output }
@@ -102,7 +137,8 @@ module _ (n : Circuit) (ok : IsCircuit n) where
       horizon_low = ok.horizon_low;
       horizon_high = ok.horizon_high;
       wires_ok = λ w s at. more_wires w s (pushed_at n.wires (Some r) w) at;
-      modules_ok = λ m s at. IsModule-keep n more more_keeps s (ok.modules_ok m s at);
+      modules_ok = λ m s at. IsModule-keep n more s (more_keeps (of_module s)) (ok.modules_ok m s at);
+      bundles_ok = λ b s at. IsBundle-keep n more s (more_keeps (of_bundle s)) (ok.bundles_ok b s at);
       one_port = λ m p k q w a b. ok.one_port m p k q w (back m p w a) (back k q w b);
       port_or_stimulus = λ m p w drives. more_free m p w (back m p w drives) (pushed_at n.wires (Some r) w);
       wires_few = omega (arith, length_push n.wires (Some r));
@@ -110,37 +146,29 @@ module _ (n : Circuit) (ok : IsCircuit n) where
       bundles_few = ok.bundles_few;
     }
 
-  -- another record of a wire
-  module _ (id : ℕ) (old new : WireRecord) (at_id : wire_at n id ≡ Some old) (same_width : new.width ≡ old.width) (is_wire : IsWire n.horizon new)
-      (free : (m p : ℕ) → Drives n m p id → new.stimulus ≡ None) where
+  -- something else in a wire's slot, of the same width where the wire is used
+  module _ (id : ℕ) (slot : Option WireRecord) (within : id < length n.wires) (is_wire : (s : WireRecord) → slot ≡ Some s → IsWire n.horizon s)
+      (same_width : is_used n id ≡ true → (is_some slot ≡ true) × (width_of slot ≡ width_of (wire_at n id)))
+      (free : (m p : ℕ) → Drives n m p id → stimulus_in slot ≡ None) where
     abbrev other : Circuit
-    other = with_wire n id (Some new)
+    other = with_wire n id slot
 
-    within_id : id < length n.wires
-    within_id = slot_within n.wires id (ap is_some at_id)
+    now : (w : ℕ) → RewrittenAt n.wires id slot w
+    now = rewritten_at n.wires id slot within
 
-    -- the slot of a number is the new one or the old one
-    abbrev RewrittenAt : ℕ → Type 0
-    RewrittenAt w = ((w ≡ id) × (wire_at other w ≡ Some new)) ⊎ (wire_at other w ≡ wire_at n w)
+    kept_at : (w : ℕ) → is_used n w ≡ true → RewrittenAt n.wires id slot w → is_some (wire_at n w) ≡ true → (is_some (wire_at other w) ≡ true) × (width_of (wire_at other w) ≡ width_of (wire_at n w))
+    kept_at w used (inl new) is =
+        let kept = same_width (ap (is_used n) (sym new.0) ∙ used) in
+        (ap is_some new.1 ∙ kept.0, ap width_of new.1 ∙ kept.1 ∙ ap (λ k. width_of (wire_at n k)) (sym new.0))
+    kept_at w used (inr old) is = (ap is_some old.1 ∙ is, ap width_of old.1)
 
-    rewritten_at : (w : ℕ) → RewrittenAt w
-    rewritten_at w = by (cases_eq w id)
-      where
-        by : (w ≡ id) ⊎ (w ≡ id → ⊥) → RewrittenAt w
-        by (inl same) = inl (same, ap (wire_at other) same ∙ get_or-set_same n.wires id (Some new) None within_id)
-        by (inr not) = inr (get_or-set_other n.wires id w (Some new) None not)
+    other_wires : (w : ℕ) (s : WireRecord) → RewrittenAt n.wires id slot w → wire_at other w ≡ Some s → IsWire n.horizon s
+    other_wires w s (inl new) at = is_wire s (sym new.1 ∙ at)
+    other_wires w s (inr old) at = ok.wires_ok w s (sym old.1 ∙ at)
 
-    other_keeps_at : (w : ℕ) → RewrittenAt w → is_some (wire_at n w) ≡ true → (is_some (wire_at other w) ≡ true) × (width_of (wire_at other w) ≡ width_of (wire_at n w))
-    other_keeps_at w (inl new_one) is = (ap is_some new_one.1, ap width_of new_one.1 ∙ same_width ∙ sym (ap width_of (ap (wire_at n) new_one.0 ∙ at_id)))
-    other_keeps_at w (inr old_one) is = (ap is_some old_one ∙ is, ap width_of old_one)
-
-    other_wires : (w : ℕ) (s : WireRecord) → RewrittenAt w → wire_at other w ≡ Some s → IsWire n.horizon s
-    other_wires w s (inl new_one) at = let same : new ≡ s = (let both = sym new_one.1 ∙ at in cc) in subst (IsWire n.horizon) same is_wire
-    other_wires w s (inr old_one) at = ok.wires_ok w s (sym old_one ∙ at)
-
-    other_free : (m p w : ℕ) → Drives n m p w → RewrittenAt w → stimulus_at other w ≡ None
-    other_free m p w drives (inl new_one) = ap (option_and_then (λ (s : WireRecord). s.stimulus)) new_one.1 ∙ free m p (subst (Drives n m p) new_one.0 drives)
-    other_free m p w drives (inr old_one) = ap (option_and_then (λ (s : WireRecord). s.stimulus)) old_one ∙ ok.port_or_stimulus m p w drives
+    other_free : (m p w : ℕ) → Drives n m p w → RewrittenAt n.wires id slot w → stimulus_at other w ≡ None
+    other_free m p w drives (inl new) = ap stimulus_in new.1 ∙ free m p (subst (Drives n m p) new.0 drives)
+    other_free m p w drives (inr old) = ap stimulus_in old.1 ∙ ok.port_or_stimulus m p w drives
 
     other_back : (m p w : ℕ) → Drives other m p w → Drives n m p w
     other_back m p w drives = record { part = drives.part; stands = drives.stands; output = drives.output }
@@ -149,11 +177,12 @@ module _ (n : Circuit) (ok : IsCircuit n) where
     IsCircuit-rewrite_wire = record {
       horizon_low = ok.horizon_low;
       horizon_high = ok.horizon_high;
-      wires_ok = λ w s at. other_wires w s (rewritten_at w) at;
-      modules_ok = λ m s at. IsModule-keep n other (record { keeps = λ w is. other_keeps_at w (rewritten_at w) is }) s (ok.modules_ok m s at);
+      wires_ok = λ w s at. other_wires w s (now w) at;
+      modules_ok = λ m s at. IsModule-keep n other s (record { keeps = λ w named is. kept_at w (used_by_module n m s w at named) (now w) is }) (ok.modules_ok m s at);
+      bundles_ok = λ b s at. IsBundle-keep n other s (record { keeps = λ w named is. kept_at w (used_by_bundle n b s w at named) (now w) is }) (ok.bundles_ok b s at);
       one_port = λ m p k q w a b. ok.one_port m p k q w (other_back m p w a) (other_back k q w b);
-      port_or_stimulus = λ m p w drives. other_free m p w (other_back m p w drives) (rewritten_at w);
-      wires_few = omega (arith, length-set n.wires id (Some new), ok.wires_few);
+      port_or_stimulus = λ m p w drives. other_free m p w (other_back m p w drives) (now w);
+      wires_few = omega (arith, length-set n.wires id slot, ok.wires_few);
       modules_few = ok.modules_few;
       bundles_few = ok.bundles_few;
     }
@@ -165,8 +194,8 @@ module _ (n : Circuit) (ok : IsCircuit n) where
     abbrev grown : Circuit
     grown = with_new_module n r
 
-    grown_keeps : KeepsWidths n grown
-    grown_keeps = record { keeps = λ w is. (is, refl) }
+    grown_keeps : (test : ℕ → Bool) → KeepsWidths test n grown
+    grown_keeps test = record { keeps = λ w passes is. (is, refl) }
 
     grown_modules : (m : ℕ) (s : ModuleRecord) → PushedAt n.modules (Some r) m → module_at grown m ≡ Some s → IsModule n s
     grown_modules m s (inl old) at = ok.modules_ok m s (sym old.1 ∙ at)
@@ -184,8 +213,8 @@ module _ (n : Circuit) (ok : IsCircuit n) where
         inr (new.0, subst (λ (s : ModuleRecord). (output_at s p).wire ≡ Some (record { 0 = w })) same drives.output)
     drives_now m p w drives (inr (inr none)) = let no = sym none.1 ∙ drives.stands in cc
 
-    now : (m p w : ℕ) → Drives grown m p w → DrivesNow m p w
-    now m p w drives = drives_now m p w drives (pushed_at n.modules (Some r) m)
+    grown_drives : (m p w : ℕ) → Drives grown m p w → DrivesNow m p w
+    grown_drives m p w drives = drives_now m p w drives (pushed_at n.modules (Some r) m)
 
     grown_one_port : (m p k q w : ℕ) → DrivesNow m p w → DrivesNow k q w → (m ≡ k) × (p ≡ q)
     grown_one_port m p k q w (inl a) (inl b) = ok.one_port m p k q w a b
@@ -202,10 +231,64 @@ module _ (n : Circuit) (ok : IsCircuit n) where
       horizon_low = ok.horizon_low;
       horizon_high = ok.horizon_high;
       wires_ok = λ w s at. ok.wires_ok w s at;
-      modules_ok = λ m s at. IsModule-keep n grown grown_keeps s (grown_modules m s (pushed_at n.modules (Some r) m) at);
-      one_port = λ m p k q w a b. grown_one_port m p k q w (now m p w a) (now k q w b);
-      port_or_stimulus = λ m p w drives. grown_free m p w (now m p w drives);
+      modules_ok = λ m s at. IsModule-keep n grown s (grown_keeps (of_module s)) (grown_modules m s (pushed_at n.modules (Some r) m) at);
+      bundles_ok = λ b s at. IsBundle-keep n grown s (grown_keeps (of_bundle s)) (ok.bundles_ok b s at);
+      one_port = λ m p k q w a b. grown_one_port m p k q w (grown_drives m p w a) (grown_drives k q w b);
+      port_or_stimulus = λ m p w drives. grown_free m p w (grown_drives m p w drives);
       wires_few = ok.wires_few;
       modules_few = omega (arith, length_push n.modules (Some r));
+      bundles_few = ok.bundles_few;
+    }
+
+  -- something else in a module's slot, whose outputs are at different wires that nothing else drives
+  module _ (id : ℕ) (slot : Option ModuleRecord) (within : id < length n.modules) (is_module : (s : ModuleRecord) → slot ≡ Some s → IsModule n s)
+      (drives_alone : (s : ModuleRecord) → slot ≡ Some s → DrivesAlone n id s) where
+    abbrev changed : Circuit
+    changed = with_module n id slot
+
+    changed_keeps : (test : ℕ → Bool) → KeepsWidths test n changed
+    changed_keeps test = record { keeps = λ w passes is. (is, refl) }
+
+    changed_modules : (m : ℕ) (s : ModuleRecord) → RewrittenAt n.modules id slot m → module_at changed m ≡ Some s → IsModule n s
+    changed_modules m s (inl new) at = is_module s (sym new.1 ∙ at)
+    changed_modules m s (inr old) at = ok.modules_ok m s (sym old.1 ∙ at)
+
+    -- a port of the new netlist is an old one, or one of what is in the slot now
+    abbrev ChangedDrives : ℕ → ℕ → ℕ → Type 0
+    ChangedDrives m p w =
+        ((m ≡ id → ⊥) × Drives n m p w)
+        ⊎ ((m ≡ id) × ((s : ModuleRecord) × (slot ≡ Some s) × ((output_at s p).wire ≡ Some (record { 0 = w }))))
+
+    changed_drives_at : (m p w : ℕ) → Drives changed m p w → RewrittenAt n.modules id slot m → ChangedDrives m p w
+    changed_drives_at m p w drives (inl new) = inr (new.0, (drives.part, sym new.1 ∙ drives.stands, drives.output))
+    changed_drives_at m p w drives (inr old) = inl (old.0, record { part = drives.part; stands = sym old.1 ∙ drives.stands; output = drives.output })
+
+    changed_drives : (m p w : ℕ) → Drives changed m p w → ChangedDrives m p w
+    changed_drives m p w drives = changed_drives_at m p w drives (rewritten_at n.modules id slot within m)
+
+    changed_one_port : (m p k q w : ℕ) → ChangedDrives m p w → ChangedDrives k q w → (m ≡ k) × (p ≡ q)
+    changed_one_port m p k q w (inl a) (inl b) = ok.one_port m p k q w a.1 b.1
+    changed_one_port m p k q w (inl a) (inr b) = absurd (a.0 ((drives_alone b.1.0 b.1.1).alone q w m p b.1.2 a.1))
+    changed_one_port m p k q w (inr a) (inl b) = absurd (b.0 ((drives_alone a.1.0 a.1.1).alone p w k q a.1.2 b.1))
+    changed_one_port m p k q w (inr a) (inr b) =
+        let same : b.1.0 ≡ a.1.0 = (let both = sym b.1.1 ∙ a.1.1 in cc) in
+        let other = subst (λ (s : ModuleRecord). (output_at s q).wire ≡ Some (record { 0 = w })) same b.1.2 in
+        (a.0 ∙ sym b.0, (drives_alone a.1.0 a.1.1).distinct p q w a.1.2 other)
+
+    changed_free : (m p w : ℕ) → ChangedDrives m p w → stimulus_at n w ≡ None
+    changed_free m p w (inl a) = ok.port_or_stimulus m p w a.1
+    changed_free m p w (inr a) = (drives_alone a.1.0 a.1.1).unset p w a.1.2
+
+    pub IsCircuit-rewrite_module : IsCircuit changed
+    IsCircuit-rewrite_module = record {
+      horizon_low = ok.horizon_low;
+      horizon_high = ok.horizon_high;
+      wires_ok = λ w s at. ok.wires_ok w s at;
+      modules_ok = λ m s at. IsModule-keep n changed s (changed_keeps (of_module s)) (changed_modules m s (rewritten_at n.modules id slot within m) at);
+      bundles_ok = λ b s at. IsBundle-keep n changed s (changed_keeps (of_bundle s)) (ok.bundles_ok b s at);
+      one_port = λ m p k q w a b. changed_one_port m p k q w (changed_drives m p w a) (changed_drives k q w b);
+      port_or_stimulus = λ m p w drives. changed_free m p w (changed_drives m p w drives);
+      wires_few = ok.wires_few;
+      modules_few = omega (arith, length-set n.modules id slot, ok.modules_few);
       bundles_few = ok.bundles_few;
     }

@@ -1,8 +1,10 @@
 pub mod TableLemmas
 pub mod DriverLemmas
 pub mod NameLemmas
+pub mod UseLemmas
 pub mod CircuitLemmas
 pub mod PortLemmas
+pub mod PortEditLemmas
 pub mod ModuleLemmas
 pub mod EditLemmas
 pub mod RecordLemmas

@@ -2,8 +2,8 @@
 use Rattle.std.proofs.Common.{◌≡◌, ℕ, ◌<◌, ◌≤◌, Bool, true, ◌==◌, cond, List, [], ◌∷◌, length, map, get_or, Option, Some, None, option_map, refl, sym, ap, subst, ◌∙◌, arith, ◌⊎◌, inl, inr}
 use Rattle.std.specs.List.{list_all, enumerate_from, All}
 use Rattle.std.specs.Option.{IfSome, is_some}
-use Rattle.std.specs.Prelude.{slice_index_or, nat_le}
-use Rattle.std.proofs.lemmas.Bool.{and_parts, eqb-true, leb-true, cases_lt}
+use Rattle.std.specs.Prelude.{slice_index_or}
+use Rattle.std.proofs.lemmas.Bool.{eqb-true, cases_lt}
 use Rattle.std.proofs.lemmas.List.{get_or_past, get_or-map, length-map}
 use Rattle.std.proofs.lemmas.List.FromFn.{get_or-enumerate_from, length-enumerate_from}
 use Rattle.std.proofs.lemmas.List.Recursion.{and_at}
@@ -19,6 +19,7 @@ use Rattle.mp_netlist.specs.Edits.{stands, wire_id, width_named, is_undriven, is
 use Rattle.mp_netlist.proofs.NameLemmas.{Stands, stands_from, one_wire}
 use Rattle.mp_netlist.proofs.CircuitLemmas.{some_input}
 use Rattle.mp_netlist.proofs.PortLemmas.{no_name, driven_pass, distinct_ports}
+use Rattle.mp_netlist.proofs.PortEditLemmas.{delay_at}
 
 -- a wire that a name finds has the width that the name stands for
 stands_wide : (n : Circuit) (name : List ℕ) → Stands n name → (width : ℕ) → width_named n name ≡ width → HasWidth n (wire_id n name).0 width
@@ -106,13 +107,6 @@ module _ (n : Circuit) (name : List ℕ) (kind : Kind) (params : List ℕ) (inpu
       by : (wire : Option (List ℕ)) → (get_or outputs p no_name).wire ≡ wire → IfSome (option_map (wire_id n) wire) (λ (w : WireId). HasWidth n w.0 (output_width kind (module_width n new) p))
       by None at = tt
       by (Some q) at = stands_wide n q (port_stands p q at) _ (port_wide p q at)
-
-  delay_at : (delay : ℕ) → is_delay delay ≡ true → IsDelay delay
-  delay_at delay is =
-      let parts = and_parts (nat_le 1 delay) (nat_le delay 65535) is in
-      let low = leb-true 1 delay parts.0 in
-      let high = leb-true delay 65535 parts.1 in
-      (omega arith, omega arith)
 
   delays : All (λ (o : Output). IsDelay o.delay) (map (output_of n) outputs)
   delays k d long =

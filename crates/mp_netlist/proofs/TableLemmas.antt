@@ -1,9 +1,10 @@
 -- The look-up of a name among slots, and what each change of a slot does to the table of names.
-use Rattle.std.proofs.Common.{◌≡◌, ℕ, zero, suc, ◌+◌, ◌-◌, ◌<◌, ◌≤◌, ◌↔◌, Bool, true, false, cond, List, [], ◌∷◌, ◌++◌, length, get_or, Option, None, Some, MatchOption, ◌⊎◌, inl, inr, refl, sym, ap, subst, ◌∙◌, arith, true≢false, String, string_bytes, length-append}
+use Rattle.std.proofs.Common.{◌≡◌, ℕ, zero, suc, ◌+◌, ◌-◌, ◌<◌, ◌≤◌, ◌↔◌, Bool, true, false, cond, List, [], ◌∷◌, ◌++◌, length, get_or, Option, None, Some, MatchOption, is_some, unwrap_or, ◌⊎◌, inl, inr, refl, sym, ap, subst, ◌∙◌, arith, true≢false, String, string_bytes, length-append}
 use Rattle.std.proofs.Math.ListN.{set}
 use Rattle.std.specs.Map.{lookup}
 use Rattle.std.specs.List.{AllZip, position_from}
 use Rattle.std.specs.Str.{bytes_eq}
+use Rattle.std.specs.Option.{option_and_then}
 use Rattle.std.proofs.lemmas.List.{get_or_past, get_or_push, get_or_append_left, get_or-set_same, get_or-set_other}
 use Rattle.std.proofs.lemmas.Slice.Eq.{bytes_eq-Decides}
 use Rattle.std.proofs.lemmas.Bool.{cases_lt, cases_eq}
@@ -64,6 +65,26 @@ pushed_at xs x n = by (cases_lt n (length xs)) (cases_eq n (length xs))
         let long : length (xs ++ x ∷ []) ≤ n = rw length-append (omega (arith, e)) in
         inr (inr (h, get_or_past _ n None long))
 
+-- which slot is at a place, after one is written over
+abbrev pub RewrittenAt : {R : Type 0} → List (Option R) → ℕ → Option R → ℕ → Type 0
+RewrittenAt xs i x n =
+    ((n ≡ i) × (get_or (set xs i x) n None ≡ x)) ⊎ ((n ≡ i → ⊥) × (get_or (set xs i x) n None ≡ get_or xs n None))
+
+pub rewritten_at : {R : Type 0} (xs : List (Option R)) (i : ℕ) (x : Option R) → i < length xs → (n : ℕ) → RewrittenAt xs i x n
+rewritten_at xs i x within n = by (cases_eq n i)
+  where
+    by : (n ≡ i) ⊎ (n ≡ i → ⊥) → RewrittenAt xs i x n
+    by (inl same) = inl (same, ap (λ k. get_or (set xs i x) k None) same ∙ get_or-set_same xs i x None within)
+    by (inr other) = inr (other, get_or-set_other xs i n x None other)
+
+-- what stands is within the slots
+pub slot_within : {R : Type 0} (slots : List (Option R)) (k : ℕ) → is_some (get_or slots k None) ≡ true → k < length slots
+slot_within slots k is = by (cases_lt k (length slots))
+  where
+    by : (k < length slots) ⊎ (length slots ≤ k) → k < length slots
+    by (inl h) = h
+    by (inr h) = let none = ap is_some (get_or_past slots k None h) in cc
+
 pub same_name : (a b : List ℕ) → bytes_eq a b ≡ true → a ≡ b
 same_name a b = (bytes_eq-Decides a b).0
 
@@ -108,6 +129,31 @@ module _ {R : Type 0} (name_of : R → List ℕ) where
   pub looked_up : (slots : List (Option R)) (look : List ℕ → Option ℕ) → IsTable name_of slots look → (name : List ℕ) → look name ≡ number_named name_of slots name
   unfolding number_named
   looked_up slots look table name = search_from_lookup (has_name name_of name) None refl slots (look name) (table name)
+
+  -- what is known of a thing that a name finds
+  pub record IsNamed (slots : List (Option R)) (name : List ℕ) : Type 0 where
+    pub thing : R
+    pub named : number_named name_of slots name ≡ Some (unwrap_or (number_named name_of slots name) 0)
+    pub at : get_or slots (unwrap_or (number_named name_of slots name) 0) None ≡ Some thing
+    pub found : option_and_then (λ k. get_or slots k None) (number_named name_of slots name) ≡ Some thing
+
+  named_at : (slots : List (Option R)) (name : List ℕ) (k : ℕ) (slot : Option R) → number_named name_of slots name ≡ Some k → get_or slots k None ≡ slot → IsNamed slots name
+  named_at slots name k None is at = absurd (true≢false (sym (named_has slots name k is) ∙ ap (has_name name_of name) at))
+  named_at slots name k (Some thing) is at =
+      let same : unwrap_or (number_named name_of slots name) 0 ≡ k = ap (λ f. unwrap_or f 0) is in
+      record {
+        thing = thing;
+        named = is ∙ ap Some (sym same);
+        at = ap (λ i. get_or slots i None) same ∙ at;
+        found = ap (option_and_then (λ i. get_or slots i None)) is ∙ at;
+      }
+
+  pub is_named : (slots : List (Option R)) (name : List ℕ) → is_some (number_named name_of slots name) ≡ true → IsNamed slots name
+  is_named slots name is = by (number_named name_of slots name) refl
+    where
+      by : (found : Option ℕ) → number_named name_of slots name ≡ found → IsNamed slots name
+      by None found = absurd (true≢false (sym is ∙ ap is_some found))
+      by (Some k) found = named_at slots name k (get_or slots k None) found refl
 
   Finds-push : (name q : List ℕ) (slots : List (Option R)) (thing : R) (look : List ℕ → Option ℕ) (number : ℕ) → name_of thing ≡ name → look name ≡ None
       → ((n : ℕ) → Finds name_of slots q (look q) n) → Finds name_of (slots ++ Some thing ∷ []) q (cond (bytes_eq name q) (Some (length slots)) (look q)) number

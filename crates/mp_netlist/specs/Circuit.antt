@@ -25,11 +25,17 @@ wire_at n w = slot_at n.wires w
 abbrev pub module_at : Circuit → ℕ → Option ModuleRecord
 module_at n m = slot_at n.modules m
 
+abbrev pub bundle_at : Circuit → ℕ → Option BundleRecord
+bundle_at n b = slot_at n.bundles b
+
 abbrev pub wire_named : Circuit → List ℕ → Option ℕ
 wire_named n name = number_named (λ (r : WireRecord). r.name) n.wires name
 
 abbrev pub module_named : Circuit → List ℕ → Option ℕ
 module_named n name = number_named (λ (r : ModuleRecord). r.name) n.modules name
+
+abbrev pub bundle_named : Circuit → List ℕ → Option ℕ
+bundle_named n name = number_named (λ (r : BundleRecord). r.name) n.bundles name
 
 -- the width of what stands in a wire's slot, 0 where nothing does
 abbrev pub width_of : Option WireRecord → ℕ
@@ -41,8 +47,11 @@ abbrev pub module_width : Circuit → ModuleRecord → ℕ
 module_width n r = if has_width r.kind then width_of (wire_at n (slice_index_or r.inputs 0 (record { 0 = 0 })).0) else 1
 
 -- an output port, without a wire where there is no such port
+abbrev pub output_in : List Output → ℕ → Output
+output_in outputs p = slice_index_or outputs p (record { wire = None; delay = 1 })
+
 abbrev pub output_at : ModuleRecord → ℕ → Output
-output_at r p = slice_index_or r.outputs p (record { wire = None; delay = 1 })
+output_at r p = output_in r.outputs p
 
 abbrev pub delay_of : ModuleRecord → ℕ → ℕ
 delay_of r p = (output_at r p).delay
@@ -70,15 +79,26 @@ pub record IsModule (n : Circuit) (r : ModuleRecord) : Type 0 where
   pub reads : (p : ℕ) (w : WireId) → p < length r.inputs → HasWidth n (slice_index_or r.inputs p w).0 (input_width r.kind (module_width n r) p)
   pub drives : (p : ℕ) → IfSome (output_at r p).wire (λ w. HasWidth n w.0 (output_width r.kind (module_width n r) p))
 
+-- a bundle has request and acknowledge wires of width 1, a payload of any width, and a setup that a bundle may have
+pub record IsBundle (n : Circuit) (r : BundleRecord) : Type 0 where
+  pub request : HasWidth n r.request.0 1
+  pub acknowledge : HasWidth n r.acknowledge.0 1
+  pub payload : IsSome (wire_at n r.payload.0)
+  pub setup : r.setup < 65536
+
 -- the port p of the module m has the wire w as its output
 pub record Drives (n : Circuit) (m p w : ℕ) : Type 0 where
   pub part : ModuleRecord
   pub stands : module_at n m ≡ Some part
   pub output : (output_at part p).wire ≡ Some (record { 0 = w })
 
+-- what is set from outside on what stands in a wire's slot
+abbrev pub stimulus_in : Option WireRecord → Option (List (ℕ × ℕ))
+stimulus_in slot = option_and_then (λ (r : WireRecord). r.stimulus) slot
+
 -- what is set on the wire from outside
 abbrev pub stimulus_at : Circuit → ℕ → Option (List (ℕ × ℕ))
-stimulus_at n w = option_and_then (λ (r : WireRecord). r.stimulus) (wire_at n w)
+stimulus_at n w = stimulus_in (wire_at n w)
 
 -- what holds of every netlist
 pub record IsCircuit (n : Circuit) : Type 0 where
@@ -86,6 +106,7 @@ pub record IsCircuit (n : Circuit) : Type 0 where
   pub horizon_high : n.horizon ≤ 65536
   pub wires_ok : (w : ℕ) (r : WireRecord) → wire_at n w ≡ Some r → IsWire n.horizon r
   pub modules_ok : (m : ℕ) (r : ModuleRecord) → module_at n m ≡ Some r → IsModule n r
+  pub bundles_ok : (b : ℕ) (r : BundleRecord) → bundle_at n b ≡ Some r → IsBundle n r
   pub one_port : (m p k q w : ℕ) → Drives n m p w → Drives n k q w → (m ≡ k) × (p ≡ q)
   pub port_or_stimulus : (m p w : ℕ) → Drives n m p w → stimulus_at n w ≡ None
   pub wires_few : length n.wires ≤ 8192

@@ -5,18 +5,20 @@ use Rattle.std.specs.Str.{bytes_eq}
 use Rattle.mp_modules.specs.declared.kind.Kind.{Kind}
 use Rattle.mp_modules.specs.Kinds.{input_count, output_count, has_width, input_width, output_width, are_params}
 use Rattle.mp_netlist.specs.declared.ids.WireId.{WireId}
+use Rattle.mp_netlist.specs.declared.ids.ModuleId.{ModuleId}
 use Rattle.mp_netlist.specs.declared.wire_record.WireRecord.{WireRecord}
 use Rattle.mp_netlist.specs.declared.module_record.ModuleRecord.{ModuleRecord}
 use Rattle.mp_netlist.specs.declared.ports.Output.{Output}
 use Rattle.mp_netlist.specs.declared.port_names.OutputName.{OutputName}
 use Rattle.mp_netlist.specs.declared.edit.Edit.{Edit}
-use Rattle.mp_netlist.specs.declared.edit.Edit.TheVariants.{AddWire, AddModule, SetStimulus}
+use Rattle.mp_netlist.specs.declared.edit.Edit.TheVariants.{AddWire, RemoveWire, AddModule, SetDelay, SetStimulus}
 use Rattle.mp_netlist.specs.declared.edit_error.EditError.{EditError}
-use Rattle.mp_netlist.specs.declared.edit_error.EditError.TheVariants.{NameTaken, BadName, NoSuchWire, BadWidth, BadLevel, BadDelay, WrongPorts, BadParam, WidthMismatch, AlreadyDriven, BadStimulus, TableFull, OutOfMemory}
+use Rattle.mp_netlist.specs.declared.edit_error.EditError.TheVariants.{NameTaken, BadName, NoSuchWire, NoSuchModule, BadWidth, BadLevel, BadDelay, BadPort, WrongPorts, BadParam, WidthMismatch, AlreadyDriven, StillUsed, BadStimulus, TableFull, OutOfMemory}
 use Rattle.mp_netlist.specs.Names.{is_name}
 use Rattle.mp_netlist.specs.Stimuli.{is_stimulus, fits_width}
-use Rattle.mp_netlist.specs.Circuit.{Circuit, wire_at, wire_named, module_named, width_of}
+use Rattle.mp_netlist.specs.Circuit.{Circuit, wire_at, module_at, wire_named, module_named, width_of, output_at}
 use Rattle.mp_netlist.specs.Drivers.{driver, is_port, is_nothing}
+use Rattle.mp_netlist.specs.Uses.{is_used}
 
 -- the error of the first check that fails
 abbrev pub first_failing : List (Bool × EditError) → Option EditError
@@ -36,6 +38,23 @@ stands n name = is_some (wire_named n name)
 -- the number of the wire that has the name
 abbrev pub wire_id : Circuit → List ℕ → WireId
 wire_id n name = record { 0 = unwrap_or (wire_named n name) 0 }
+
+-- whether a module of the name stands
+abbrev pub module_stands : Circuit → List ℕ → Bool
+module_stands n name = is_some (module_named n name)
+
+-- the number of the module that has the name
+abbrev pub module_id : Circuit → List ℕ → ModuleId
+module_id n name = record { 0 = unwrap_or (module_named n name) 0 }
+
+-- the module that has the name
+abbrev pub module_of : Circuit → List ℕ → Option ModuleRecord
+module_of n name = option_and_then (module_at n) (module_named n name)
+
+-- how many output ports a module has
+abbrev pub output_ports : Option ModuleRecord → ℕ
+output_ports None = 0
+output_ports (Some r) = length r.outputs
 
 -- the width of the wire that has the name
 abbrev pub width_named : Circuit → List ℕ → ℕ
@@ -90,6 +109,16 @@ wire_checks n name width level =
 abbrev pub wire_refusal : Circuit → List ℕ → ℕ → ℕ → Option EditError
 wire_refusal n name width level = first_failing (wire_checks n name width level)
 
+-- the checks before a wire goes, in order
+abbrev pub wire_removal_checks : Circuit → List ℕ → List (Bool × EditError)
+wire_removal_checks n name =
+    (stands n name, NoSuchWire)
+    ∷ (not (is_used n (wire_id n name).0), StillUsed)
+    ∷ []
+
+abbrev pub wire_removal_refusal : Circuit → List ℕ → Option EditError
+wire_removal_refusal n name = first_failing (wire_removal_checks n name)
+
 -- the checks of a new module, in order
 abbrev pub module_checks : Circuit → List ℕ → Kind → List ℕ → List (List ℕ) → List OutputName → List (Bool × EditError)
 module_checks n name kind params inputs outputs =
@@ -107,6 +136,17 @@ module_checks n name kind params inputs outputs =
 abbrev pub module_refusal : Circuit → List ℕ → Kind → List ℕ → List (List ℕ) → List OutputName → Option EditError
 module_refusal n name kind params inputs outputs = first_failing (module_checks n name kind params inputs outputs)
 
+-- the checks of a port's new delay, in order
+abbrev pub delay_checks : Circuit → List ℕ → ℕ → ℕ → List (Bool × EditError)
+delay_checks n name port delay =
+    (module_stands n name, NoSuchModule)
+    ∷ (nat_lt port (output_ports (module_of n name)), BadPort)
+    ∷ (is_delay delay, BadDelay)
+    ∷ []
+
+abbrev pub delay_refusal : Circuit → List ℕ → ℕ → ℕ → Option EditError
+delay_refusal n name port delay = first_failing (delay_checks n name port delay)
+
 -- the checks of a stimulus, in order
 abbrev pub stimulus_checks : Circuit → List ℕ → List (ℕ × ℕ) → List (Bool × EditError)
 stimulus_checks n name changes =
@@ -121,7 +161,9 @@ stimulus_refusal n name changes = first_failing (stimulus_checks n name changes)
 -- the first check that the edit fails
 unfoldable pub refusal : Circuit → Edit → Option EditError
 refusal n (AddWire name width level) = wire_refusal n name width level
+refusal n (RemoveWire name) = wire_removal_refusal n name
 refusal n (AddModule name kind params inputs outputs) = module_refusal n name kind params inputs outputs
+refusal n (SetDelay name port delay) = delay_refusal n name port delay
 refusal n (SetStimulus name changes) = stimulus_refusal n name changes
 
 abbrev pub with_wire_record : Circuit → WireRecord → Circuit
@@ -144,14 +186,24 @@ with_new_module n r = record n { modules = n.modules ++ Some r ∷ [] }
 abbrev pub with_stimulus : List (ℕ × ℕ) → WireRecord → WireRecord
 with_stimulus changes wire = record wire { stimulus = Some changes }
 
--- the netlist with another record of a wire
+-- the netlist with something else in a wire's slot
 abbrev pub with_wire : Circuit → ℕ → Option WireRecord → Circuit
 with_wire n w wire = record n { wires = slice_set n.wires w wire }
+
+abbrev pub with_delay : ℕ → ℕ → ModuleRecord → ModuleRecord
+with_delay port delay r = record r { outputs = slice_set r.outputs port (record (output_at r port) { delay = delay }) }
+
+-- the netlist with something else in a module's slot
+abbrev pub with_module : Circuit → ℕ → Option ModuleRecord → Circuit
+with_module n m part = record n { modules = slice_set n.modules m part }
 
 -- the netlist after an edit that no check refuses
 unfoldable pub edited : Circuit → Edit → Circuit
 edited n (AddWire name width level) = with_new_wire n name width level
+edited n (RemoveWire name) = with_wire n (wire_id n name).0 None
 edited n (AddModule name kind params inputs outputs) = with_new_module n (new_module n name kind params inputs outputs)
+edited n (SetDelay name port delay) =
+    with_module n (module_id n name).0 (option_map (with_delay port delay) (module_at n (module_id n name).0))
 edited n (SetStimulus name changes) =
     with_wire n (wire_id n name).0 (option_map (with_stimulus changes) (wire_at n (wire_id n name).0))
 

@@ -4,6 +4,7 @@ pub mod EditErrors
 pub mod Slots
 pub mod Circuit
 pub mod Drivers
+pub mod Uses
 pub mod Edits
 pub mod Records
 pub mod DriverSearch

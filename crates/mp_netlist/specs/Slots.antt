@@ -6,6 +6,11 @@ use Rattle.std.specs.Str.{bytes_eq}
 abbrev pub slot_at : {R : Type 0} → List (Option R) → ℕ → Option R
 slot_at slots number = slice_index_or slots number None
 
+-- whether a thing that passes the test stands in the slot
+abbrev pub stands_and : {R : Type 0} → (R → Bool) → Option R → Bool
+stands_and test None = false
+stands_and test (Some thing) = test thing
+
 -- whether a thing with this name stands in the slot
 abbrev pub has_name : {R : Type 0} → (R → List ℕ) → List ℕ → Option R → Bool
 has_name name_of name None = false

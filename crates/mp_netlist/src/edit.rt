@@ -1,9 +1,12 @@
 //! The edits of a netlist.
+ghost use Rattle.std.specs.Prelude.{◌≡◌, IfOk};
+
 use crate::changes::Changes;
 use crate::name::Name;
 use crate::params::Params;
 use crate::port_names::{InputNames, OutputNames};
 use mp_modules::Kind;
+use std::alloc::AllocError;
 
 /// A change of a netlist. It names things by their present names, and its numbers may be out of range: the edit is refused then.
 #[derive(Clone, Drop)]
@@ -14,6 +17,10 @@ pub enum Edit {
         width: u64,
         level: u64,
     },
+    /// Removes a wire that no module and no bundle names, with what was set on it. Its name may be given again, its number never is.
+    RemoveWire {
+        wire: Name,
+    },
     /// Adds a module of a new name, whose ports are at wires that stand.
     AddModule {
         name: Name,
@@ -22,9 +29,24 @@ pub enum Edit {
         inputs: InputNames,
         outputs: OutputNames,
     },
+    /// Sets the transport delay of an output port, in units.
+    SetDelay {
+        module: Name,
+        port: u64,
+        delay: u64,
+    },
     /// Sets a wire from outside, in place of what was set on it before.
     SetStimulus {
         wire: Name,
         changes: Changes,
     },
+}
+
+impl Edit {
+    /// The same edit once more.
+    pub fn copy(&self) -> Result<Edit, AllocError>
+        ensures { IfOk result (λ edit. edit ≡ self.now) }
+    {
+        self.clone()
+    }
 }

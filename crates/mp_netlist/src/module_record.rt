@@ -1,7 +1,14 @@
 //! What a netlist keeps of a module.
+ghost use Rattle.std.specs.Prelude.{◌≡◌, ◌==◌};
+ghost use Rattle.std.specs.List.{list_any};
+ghost use Rattle.mp_netlist.specs.declared.ids.WireId.{WireId};
+ghost use Rattle.mp_netlist.specs.declared.ports.Output.{Output};
+ghost use Rattle.mp_netlist.specs.Drivers.{is_wire};
+
+use crate::ids::WireId;
 use crate::name::Name;
 use crate::params::Params;
-use crate::ports::{Inputs, Outputs};
+use crate::ports::{Inputs, Output, Outputs};
 use mp_modules::Kind;
 
 /// A module: its name, its kind with the parameters, the wires that it reads and its output ports.
@@ -17,6 +24,8 @@ pub struct ModuleRecord {
 impl ModuleRecord {
     ghost use Rattle.std.specs.Prelude.{◌≡◌};
     ghost use Rattle.mp_netlist.specs.Circuit.{delay_of};
+    ghost use Rattle.mp_netlist.specs.Uses.{module_names};
+    ghost use Rattle.mp_netlist.specs.Edits.{with_delay};
 
     /// The transport delay of an output port in units, 1 where there is no such port.
     pub fn delay(&self, port: u32) -> u32
@@ -26,5 +35,42 @@ impl ModuleRecord {
             Some(output) => output.delay,
             None => 1,
         }
+    }
+
+    /// Whether an input or an output is at the wire.
+    pub(crate) fn names(&self, wire: WireId) -> bool
+        ensures { result ≡ module_names wire.0 self.now }
+    {
+        reads(self.inputs.as_slice(), wire) || drives(self.outputs.as_slice(), wire)
+    }
+
+    /// Sets the delay of an output port, where there is such a port.
+    pub(crate) fn set_delay(&mut self, port: usize, delay: u32)
+        ensures { self.new ≡ with_delay port delay self.old }
+    {
+        self.outputs.set_delay(port, delay);
+    }
+}
+
+/// Whether one of the inputs is at the wire.
+fn reads(inputs: &[WireId], wire: WireId) -> bool
+    ensures { result ≡ list_any (λ (v : WireId). v.0 == wire.0) inputs.now }
+{
+    inputs.iter().any(|read| read.0 == wire.0)
+}
+
+/// Whether one of the outputs is at the wire.
+fn drives(outputs: &[Output], wire: WireId) -> bool
+    ensures { result ≡ list_any (λ (o : Output). is_wire o.wire wire.0) outputs.now }
+{
+    outputs.iter().any(|port| is_wire(port.wire, wire))
+}
+
+fn is_wire(named: Option<WireId>, wire: WireId) -> bool
+    ensures { result ≡ is_wire named wire.0 }
+{
+    match named {
+        Some(id) => id.0 == wire.0,
+        None => false,
     }
 }

@@ -1,8 +1,11 @@
 //! The netlist: its records in slots, and the tables of their names.
 mod apply;
 mod check;
+mod copies;
 mod drivers;
+mod names;
 mod ports;
+mod uses;
 
 use crate::bundle_record::BundleRecord;
 use crate::ids::{ModuleId, WireId};

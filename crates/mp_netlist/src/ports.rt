@@ -79,6 +79,9 @@ impl Clone for Outputs {
 }
 
 impl Outputs {
+    ghost use Rattle.std.specs.Prelude.{slice_set};
+    ghost use Rattle.mp_netlist.specs.Circuit.{output_in};
+
     /// These output ports, the first being port 0.
     pub fn new(ports: Vec<Output>) -> Self
         ensures { result ≡ ports.items }
@@ -91,5 +94,14 @@ impl Outputs {
         ensures { result.now ≡ self.now }
     {
         self.ports.as_slice()
+    }
+
+    /// Sets the delay of a port, where there is such a port.
+    pub(crate) fn set_delay(&mut self, port: usize, delay: u32)
+        ensures { self.new ≡ slice_set self.old port (record (output_in self.old port) { delay = delay }) }
+    {
+        if port < self.ports.len() {
+            self.ports[port].delay = delay;
+        }
     }
 }

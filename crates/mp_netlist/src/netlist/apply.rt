@@ -1,6 +1,6 @@
 //! What an edit does to a netlist.
 ghost use Rattle.std.specs.Prelude.{◌≡◌, ◌<◌, None, option_map, slice_index_or, slice_set, vec_len};
-ghost use Rattle.mp_netlist.specs.Edits.{with_stimulus};
+ghost use Rattle.mp_netlist.specs.Edits.{with_stimulus, with_delay};
 
 use crate::changes::Changes;
 use crate::edit::Edit;
@@ -17,8 +17,8 @@ use std::alloc::AllocError;
 
 impl Netlist {
     ghost use Rattle.std.specs.Prelude.{◌≡◌, ◌<◌, [], ◌∷◌, ◌++◌, Ok, None, Some, length, IfOk, IfErr, OnOk, OnErr, option_map, string_bytes};
-    ghost use Rattle.mp_netlist.specs.Circuit.{IsCircuit, wire_at, wire_named, module_named};
-    ghost use Rattle.mp_netlist.specs.Edits.{after, RefusedBy, wire_refusal, module_refusal, stimulus_refusal, with_wire_record, with_new_wire, new_module, with_new_module, with_stimulus, with_wire, wire_id};
+    ghost use Rattle.mp_netlist.specs.Circuit.{IsCircuit, wire_at, module_at, wire_named, module_named};
+    ghost use Rattle.mp_netlist.specs.Edits.{after, RefusedBy, wire_refusal, wire_removal_refusal, module_refusal, delay_refusal, stimulus_refusal, with_wire_record, with_new_wire, new_module, with_new_module, with_stimulus, with_wire, with_delay, with_module, wire_id, module_id};
 
     #[tactic(auto, unfolding(crate::specs::Edits::edited, crate::specs::Edits::refusal))]
     /// Makes the edit, or says which check fails first. A refusal leaves the netlist as it was.
@@ -30,6 +30,7 @@ impl Netlist {
         self.check(edit)?;
         match edit {
             Edit::AddWire { name, width, level } => self.add_wire(name, *width, *level)?,
+            Edit::RemoveWire { wire } => self.remove_wire(wire),
             Edit::AddModule {
                 name,
                 kind,
@@ -37,6 +38,11 @@ impl Netlist {
                 inputs,
                 outputs,
             } => self.add_module(name, *kind, params, inputs, outputs)?,
+            Edit::SetDelay {
+                module,
+                port,
+                delay,
+            } => self.set_delay(module, *port, *delay),
             Edit::SetStimulus { wire, changes } => self.set_stimulus(wire, changes)?,
         }
         Ok(())
@@ -70,6 +76,15 @@ impl Netlist {
         self.wire_names.insert(key, number)?;
         self.wires.push(Some(added)).unwrap();
         Ok(())
+    }
+
+    fn remove_wire(&mut self, name: &Name)
+        requires { wire_removal_refusal self.old name.now ≡ None }
+        ensures { self.new ≡ with_wire self.old (wire_id self.old name.now).0 None }
+    {
+        let id = self.id_of(name);
+        let _ = self.wire_names.swap_remove(name.as_str());
+        clear_wire(&mut self.wires, id.0 as usize);
     }
 
     fn add_module(
@@ -110,6 +125,20 @@ impl Netlist {
         Ok(())
     }
 
+    fn set_delay(&mut self, name: &Name, port: u64, delay: u64)
+        requires { delay_refusal self.old name.now port delay ≡ None }
+        ensures { self.new ≡ with_module self.old (module_id self.old name.now).0
+            (option_map (with_delay port delay) (module_at self.old (module_id self.old name.now).0)) }
+    {
+        let id = self.module_id(name);
+        delay_port(
+            &mut self.modules,
+            id.0 as usize,
+            port as usize,
+            delay as u32,
+        );
+    }
+
     fn set_stimulus(&mut self, name: &Name, changes: &Changes) -> Result<(), AllocError>
         requires { stimulus_refusal self.old name.now changes.now ≡ None }
         ensures ok { OnOk result (self.new ≡ with_wire self.old (wire_id self.old name.now).0
@@ -120,6 +149,25 @@ impl Netlist {
         let id = self.id_of(name);
         stimulate(&mut self.wires, id.0 as usize, stimulus);
         Ok(())
+    }
+}
+
+/// Takes the wire of this number away.
+fn clear_wire(wires: &mut Vec<Option<WireRecord>>, number: usize)
+    requires { number < vec_len wires.old }
+    ensures { wires.new.items ≡ slice_set wires.old.items number None }
+{
+    wires[number] = None;
+}
+
+/// Sets the delay of a port of the module of this number, where it stands.
+fn delay_port(modules: &mut Vec<Option<ModuleRecord>>, number: usize, port: usize, delay: u32)
+    requires { number < vec_len modules.old }
+    ensures { modules.new.items ≡ slice_set modules.old.items number
+        (option_map (with_delay port delay) (slice_index_or modules.old.items number None)) }
+{
+    if let Some(found) = &mut modules[number] {
+        found.set_delay(port, delay);
     }
 }
 

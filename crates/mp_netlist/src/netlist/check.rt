@@ -18,7 +18,7 @@ use mp_modules::Kind;
 impl Netlist {
     ghost use Rattle.std.specs.Prelude.{◌≡◌};
     ghost use Rattle.std.specs.Result.{result_err};
-    ghost use Rattle.mp_netlist.specs.Edits.{refusal, wire_refusal, module_refusal, stimulus_refusal};
+    ghost use Rattle.mp_netlist.specs.Edits.{refusal, wire_refusal, wire_removal_refusal, module_refusal, delay_refusal, stimulus_refusal};
 
     #[tactic(auto, unfolding(crate::specs::Edits::refusal))]
     /// The first check that the edit fails, in the order of its kind, where it is not want of memory.
@@ -27,6 +27,7 @@ impl Netlist {
     {
         match edit {
             Edit::AddWire { name, width, level } => self.check_wire(name, *width, *level),
+            Edit::RemoveWire { wire } => self.check_wire_removal(wire),
             Edit::AddModule {
                 name,
                 kind,
@@ -34,6 +35,11 @@ impl Netlist {
                 inputs,
                 outputs,
             } => self.check_module(name, *kind, params, inputs, outputs),
+            Edit::SetDelay {
+                module,
+                port,
+                delay,
+            } => self.check_delay(module, *port, *delay),
             Edit::SetStimulus { wire, changes } => self.check_stimulus(wire, changes),
         }
     }
@@ -55,6 +61,18 @@ impl Netlist {
         }
         if self.wires.len() >= MAX_WIRES {
             return Err(EditError::TableFull);
+        }
+        Ok(())
+    }
+
+    fn check_wire_removal(&self, name: &Name) -> Result<(), EditError>
+        ensures { result_err result ≡ wire_removal_refusal self.now name.now }
+    {
+        if !self.stands(name) {
+            return Err(EditError::NoSuchWire);
+        }
+        if self.is_used(self.id_of(name)) {
+            return Err(EditError::StillUsed);
         }
         Ok(())
     }
@@ -100,6 +118,21 @@ impl Netlist {
         Ok(())
     }
 
+    fn check_delay(&self, name: &Name, port: u64, delay: u64) -> Result<(), EditError>
+        ensures { result_err result ≡ delay_refusal self.now name.now port delay }
+    {
+        if !self.module_stands(name) {
+            return Err(EditError::NoSuchModule);
+        }
+        if port >= self.output_ports(name) {
+            return Err(EditError::BadPort);
+        }
+        if !is_delay(delay) {
+            return Err(EditError::BadDelay);
+        }
+        Ok(())
+    }
+
     fn check_stimulus(&self, wire: &Name, changes: &Changes) -> Result<(), EditError>
         ensures { result_err result ≡ stimulus_refusal self.now wire.now changes.now }
     {
@@ -128,8 +161,12 @@ fn has_ports(kind: Kind, inputs: &InputNames, outputs: &OutputNames) -> bool
 fn are_delays(outputs: &OutputNames) -> bool
     ensures { result ≡ list_all (λ (port : OutputName). is_delay port.delay) outputs.now }
 {
-    outputs
-        .as_slice()
-        .iter()
-        .all(|port| 1 <= port.delay && port.delay <= MAX_DELAY)
+    outputs.as_slice().iter().all(|port| is_delay(port.delay))
+}
+
+/// Whether an output port may have the delay.
+fn is_delay(delay: u64) -> bool
+    ensures { result ≡ is_delay delay }
+{
+    1 <= delay && delay <= MAX_DELAY
 }

@@ -3,9 +3,11 @@ use Rattle.mp_netlist.specs.declared.ids.WireId.{WireId}
 use Rattle.mp_netlist.specs.Circuit.{Circuit, IsCircuit, wire_at}
 use Rattle.mp_netlist.specs.Edits.{wire_id, with_wire, with_stimulus, stimulus_refusal}
 use Rattle.mp_netlist.specs.Records.{circuit_of}
-use Rattle.mp_netlist.proofs.CircuitLemmas.{slot_within}
+use Rattle.mp_netlist.proofs.TableLemmas.{slot_within}
 use Rattle.mp_netlist.proofs.EditLemmas.{new_stimulus, stimulus_early, IsCircuit-stimulated}
-use Rattle.mp_netlist.proofs.RecordLemmas.{AreRecords-rewrite_wire, has_name-with_stimulus}
+use Rattle.mp_netlist.proofs.NameLemmas.{wire_name}
+use Rattle.mp_netlist.proofs.TableLemmas.{IsTable-rewrite}
+use Rattle.mp_netlist.proofs.RecordLemmas.{AreRecords-wires, has_name-with_stimulus}
 use Rattle.mp_netlist.proofs.netlist.Netlist.set_stimulus.Goals as goal
 
 pub to_stimulus-requires : goal.to_stimulus-requires
@@ -32,5 +34,6 @@ invariant_of-self c =
     let within : c.id_of-id.result.0 < length n.wires = omega (arith, here, id) in
     let kept = subst (λ i. IsCircuit (with_wire n i (option_map (with_stimulus changes) (wire_at n i)))) (sym id) (IsCircuit-stimulated n c.self.invariant.circuit c.args.name.now changes none) in
     let fits = subst (λ s. IsCircuit (with_wire n c.id_of-id.result.0 (option_map (with_stimulus s) (wire_at n c.id_of-id.result.0)))) (sym c.in_ok-stimulus.ensures) kept in
-    AreRecords-rewrite_wire c.self.inside _ c.self.invariant refl refl refl c.id_of-id.result.0 _ within
-    (λ q. has_name-with_stimulus q _ _) fits c.stimulate.ensures refl refl refl
+    AreRecords-wires c.self.inside _ c.self.invariant refl refl refl _ c.stimulate.ensures fits
+    (IsTable-rewrite wire_name n.wires _ c.id_of-id.result.0 _ within (λ q. has_name-with_stimulus q _ _) c.self.invariant.wire_table)
+    refl refl

@@ -1,0 +1,56 @@
+-- A wire that a module or a bundle names is used.
+use Rattle.std.proofs.Common.{◌≡◌, ℕ, ◌<◌, ◌≤◌, true, false, ◌==◌, ◌||◌, length, Option, Some, None, is_some, refl, ap, sym, ◌∙◌, ◌⊎◌, inl, inr}
+use Rattle.std.specs.Prelude.{slice_index_or}
+use Rattle.std.specs.List.{list_any}
+use Rattle.std.proofs.lemmas.Bool.{or_left, or_right, eq-eqb, cases_lt, both_ways}
+use Rattle.std.proofs.lemmas.List.{get_or_past}
+use Rattle.std.proofs.lemmas.List.Folds.{list_any_at}
+use Rattle.mp_netlist.specs.declared.ids.WireId.{WireId}
+use Rattle.mp_netlist.specs.declared.module_record.ModuleRecord.{ModuleRecord}
+use Rattle.mp_netlist.specs.declared.bundle_record.BundleRecord.{BundleRecord}
+use Rattle.mp_netlist.specs.declared.ports.Output.{Output}
+use Rattle.mp_netlist.specs.Slots.{stands_and}
+use Rattle.mp_netlist.specs.Circuit.{Circuit, module_at, bundle_at, output_at}
+use Rattle.mp_netlist.specs.Drivers.{is_wire}
+use Rattle.mp_netlist.specs.Uses.{module_names, bundle_names, is_used}
+use Rattle.mp_netlist.proofs.TableLemmas.{slot_within}
+
+pub input_is_named : (r : ModuleRecord) (p : ℕ) (v : WireId) → p < length r.inputs → module_names (slice_index_or r.inputs p v).0 r ≡ true
+input_is_named r p v within =
+    let w = (slice_index_or r.inputs p v).0 in
+    or_left (list_any (λ (v : WireId). v.0 == w) r.inputs) _ (list_any_at (λ (v : WireId). v.0 == w) r.inputs p v within (eq-eqb w w refl))
+
+-- a port that has a wire is within the ports
+pub output_within : (r : ModuleRecord) (p : ℕ) (v : WireId) → (output_at r p).wire ≡ Some v → p < length r.outputs
+output_within r p v at = by (cases_lt p (length r.outputs))
+  where
+    by : (p < length r.outputs) ⊎ (length r.outputs ≤ p) → p < length r.outputs
+    by (inl within) = within
+    by (inr past) = let none = ap (λ (o : Output). o.wire) (get_or_past r.outputs p (record { wire = None; delay = 1 }) past) in cc
+
+pub output_is_named : (r : ModuleRecord) (p : ℕ) (v : WireId) → (output_at r p).wire ≡ Some v → module_names v.0 r ≡ true
+output_is_named r p v at =
+    or_right (list_any (λ (u : WireId). u.0 == v.0) r.inputs) _
+    (list_any_at (λ (o : Output). is_wire o.wire v.0) r.outputs p (record { wire = None; delay = 1 }) (output_within r p v at)
+    (ap (λ named. is_wire named v.0) at ∙ eq-eqb v.0 v.0 refl))
+
+pub used_by_module : (n : Circuit) (m : ℕ) (r : ModuleRecord) (w : ℕ) → module_at n m ≡ Some r → module_names w r ≡ true → is_used n w ≡ true
+unfolding is_used
+used_by_module n m r w at names =
+    or_left (list_any (stands_and (module_names w)) n.modules) _
+    (list_any_at (stands_and (module_names w)) n.modules m None (slot_within n.modules m (ap is_some at)) (ap (stands_and (module_names w)) at ∙ names))
+
+pub used_by_bundle : (n : Circuit) (b : ℕ) (r : BundleRecord) (w : ℕ) → bundle_at n b ≡ Some r → bundle_names w r ≡ true → is_used n w ≡ true
+unfolding is_used
+used_by_bundle n b r w at names =
+    or_right (list_any (stands_and (module_names w)) n.modules) _
+    (list_any_at (stands_and (bundle_names w)) n.bundles b None (slot_within n.bundles b (ap is_some at)) (ap (stands_and (bundle_names w)) at ∙ names))
+
+pub request_is_named : (r : BundleRecord) → bundle_names r.request.0 r ≡ true
+request_is_named r = let w = r.request.0 in or_left (w == w || r.acknowledge.0 == w) _ (or_left (w == w) _ (eq-eqb w w refl))
+
+pub acknowledge_is_named : (r : BundleRecord) → bundle_names r.acknowledge.0 r ≡ true
+acknowledge_is_named r = let w = r.acknowledge.0 in or_left (r.request.0 == w || w == w) _ (or_right (r.request.0 == w) _ (eq-eqb w w refl))
+
+pub payload_is_named : (r : BundleRecord) → bundle_names r.payload.0 r ≡ true
+payload_is_named r = let w = r.payload.0 in or_right (r.request.0 == w || r.acknowledge.0 == w) _ (eq-eqb w w refl)

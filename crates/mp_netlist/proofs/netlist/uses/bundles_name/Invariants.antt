@@ -1,0 +1,10 @@
+use Rattle.std.proofs.Common.{◌≡◌, drop}
+use Rattle.std.specs.List.{list_any}
+use Rattle.mp_netlist.specs.Slots.{stands_and}
+use Rattle.mp_netlist.specs.Uses.{bundle_names}
+use Rattle.mp_netlist.proofs.netlist.uses.bundles_name.Given as goal
+
+-- what is left decides
+abbrev pub invariant-loop-slot : goal.invariant-loop-slot
+invariant-loop-slot l =
+    list_any (stands_and (bundle_names l.wire.0)) (drop l.slot-index l.bundles) ≡ list_any (stands_and (bundle_names l.wire.0)) l.bundles
