@@ -8,6 +8,7 @@ mod line_error;
 mod line_word;
 mod number;
 mod reading;
+mod script_edit;
 mod script_line;
 mod stated_edit;
 mod stated_line;

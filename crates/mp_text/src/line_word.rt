@@ -6,6 +6,10 @@ use crate::edit_word::EditWord;
 pub enum LineWord {
     /// That of an edit that texts have too.
     Stated(EditWord),
+    /// `remove`
+    Remove,
+    /// `delay`
+    Delay,
     /// `wave`
     Wave,
     /// `waves`
@@ -20,7 +24,11 @@ impl LineWord {
     pub fn from_word(word: &[u8]) -> Option<LineWord>
         ensures { result ≡ line_word word.now }
     {
-        if word == b"wave".as_slice() {
+        if word == b"remove".as_slice() {
+            Some(LineWord::Remove)
+        } else if word == b"delay".as_slice() {
+            Some(LineWord::Delay)
+        } else if word == b"wave".as_slice() {
             Some(LineWord::Wave)
         } else if word == b"waves".as_slice() {
             Some(LineWord::Waves)

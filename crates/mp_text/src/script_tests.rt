@@ -9,7 +9,7 @@ fn fault_of(rt: &HostRuntime, line: &[u8]) -> Option<LineError> {
 
 #[test]
 fn bad_lines(rt: HostRuntime) {
-    let lines: [(&[u8], LineError); 14] = [
+    let lines: [(&[u8], LineError); 20] = [
         (b"wire \xc8 1 0", LineError::NotAscii),
         (b"waves\n", LineError::NotAscii),
         (b"waves # \x7f", LineError::NotAscii),
@@ -21,6 +21,12 @@ fn bad_lines(rt: HostRuntime) {
         (b"wave", LineError::WordCount),
         (b"waves a", LineError::WordCount),
         (b"stim", LineError::WordCount),
+        (b"remove flip", LineError::WordCount),
+        (b"remove flip a", LineError::UnknownStatement),
+        (b"delay b x", LineError::WordCount),
+        (b"delay b x 1", LineError::BadNumber),
+        (b"delay b 0 -1", LineError::BadNumber),
+        (b"delay b 18446744073709551616 1", LineError::BadNumber),
         (b"module m FOO a > y/1", LineError::WordCount),
         (b"module m FOO x : a > y", LineError::UnknownStatement),
         (b"module m BUF x : a > y/1", LineError::BadNumber),
@@ -78,5 +84,28 @@ fn stated_edits(rt: HostRuntime) -> Result<(), Fail> {
     };
     assert_eq!(rt; wire.as_str(), "a");
     assert!(rt; changes.as_slice() == [(0, 1), (0, 2)].as_slice());
+    Ok(())
+}
+
+#[test]
+fn script_edits(rt: HostRuntime) -> Result<(), Fail> {
+    let Ok(Line::Change(Edit::RemoveWire { wire })) = read_line(rt.alloc(), b"remove wire a") else {
+        return Err("remove wire".into());
+    };
+    assert_eq!(rt; wire.as_str(), "a");
+    let Ok(
+        Line::Change(
+            Edit::SetDelay {
+                module,
+                port,
+                delay,
+            },
+        ),
+    ) = read_line(rt.alloc(), b"delay b 00 7#")
+    else {
+        return Err("delay".into());
+    };
+    assert_eq!(rt; module.as_str(), "b");
+    assert_eq!(rt; (port, delay), (0, 7));
     Ok(())
 }
