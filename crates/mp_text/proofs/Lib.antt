@@ -5,3 +5,4 @@ pub mod TextLemmas
 pub mod WordLemmas
 pub mod WordListLemmas
 pub mod DivisionLemmas
+pub mod WriteLemmas

@@ -8,7 +8,10 @@ use Rattle.mp_netlist.specs.declared.edit_error.EditError.{EditError}
 use Rattle.mp_netlist.specs.Circuit.{Circuit, empty_circuit}
 use Rattle.mp_netlist.specs.Edits.{after}
 use Rattle.mp_model.specs.Replays.{replay, go_on}
-use Rattle.mp_text.specs.declared.text_code.TextCode.TheVariants.{NotAscii, Refused}
+use Rattle.mp_text.specs.declared.line_error.LineError.TheVariants.{NotAscii}
+use Rattle.mp_text.specs.declared.text_code.TextCode.TheVariants.{Refused}
+use Rattle.mp_text.specs.LineErrors.{in_text}
+use Rattle.mp_text.specs.Reads.{◌>>=◌}
 use Rattle.mp_text.specs.declared.text_error.TextError.{TextError}
 use Rattle.mp_text.specs.Lines.{lines_of, is_allowed}
 use Rattle.mp_text.specs.Words.{words_of}
@@ -36,15 +39,15 @@ module _ (k : ℕ) (n c : Circuit) (ss : List Statement) (go : Option Circuit �
   on_statement (Change (Ok e)) h = on_edit e (after n e) refl h
   on_statement (Change (Err code)) h = cc
 
-  on_line : (b : Bool) (s : Statement) → next_line k go (cond b (after_statement (Some n) s) (Err NotAscii)) ≡ Ok c → LeadsOn (s ∷ ss) n c
-  on_line true s h = on_statement s h
-  on_line false s h = cc
+  on_line : (b : Bool) (ws : List (List ℕ)) → next_line k go (in_text (cond b (Ok ws) (Err NotAscii)) >>= λ words. after_statement (Some n) (statement_of words)) ≡ Ok c → LeadsOn (statement_of ws ∷ ss) n c
+  on_line true ws h = on_statement (statement_of ws) h
+  on_line false ws h = cc
 
 leads_on : (k : ℕ) (n c : Circuit) (lines : List (List ℕ)) → after_lines k (Some n) lines ≡ Ok c → LeadsOn (statements lines) n c
 unfolding after_lines after_line
 leads_on k n c [] h = let same : n ≡ c = cc in (refl, ap Ok same)
 leads_on k n c (line ∷ lines) h =
-    on_line k n c (statements lines) (λ after. after_lines (k + 1) after lines) (λ m. leads_on (k + 1) m c lines) (list_all is_allowed line) (statement_of (words_of line)) h
+    on_line k n c (statements lines) (λ after. after_lines (k + 1) after lines) (λ m. leads_on (k + 1) m c lines) (list_all is_allowed line) (words_of line) h
 
 -- the lines state one horizon, and lead from its empty netlist to the other by their edits
 abbrev Opens : List Statement → Circuit → Type 0
@@ -60,15 +63,15 @@ module _ (k : ℕ) (c : Circuit) (ss : List Statement) (go : Option Circuit → 
   opens_statement (Start (Err code)) h = cc
   opens_statement (Change edit) h = cc
 
-  opens_line : (b : Bool) (s : Statement) → next_line k go (cond b (after_statement None s) (Err NotAscii)) ≡ Ok c → Opens (s ∷ ss) c
-  opens_line true s h = opens_statement s h
-  opens_line false s h = cc
+  opens_line : (b : Bool) (ws : List (List ℕ)) → next_line k go (in_text (cond b (Ok ws) (Err NotAscii)) >>= λ words. after_statement None (statement_of words)) ≡ Ok c → Opens (statement_of ws ∷ ss) c
+  opens_line true ws h = opens_statement (statement_of ws) h
+  opens_line false ws h = cc
 
 opens : (k : ℕ) (c : Circuit) (lines : List (List ℕ)) → after_lines k None lines ≡ Ok c → Opens (statements lines) c
 unfolding after_lines after_line
 opens k c [] h = cc
 opens k c (line ∷ lines) h =
-    opens_line k c (statements lines) (λ after. after_lines (k + 1) after lines) (opens (k + 1) c lines) (λ m. leads_on (k + 1) m c lines) (list_all is_allowed line) (statement_of (words_of line)) h
+    opens_line k c (statements lines) (λ after. after_lines (k + 1) after lines) (opens (k + 1) c lines) (λ m. leads_on (k + 1) m c lines) (list_all is_allowed line) (words_of line) h
 
 of_length : (b : Bool) (lines : Result Circuit TextError) (c : Circuit) (e : TextError) → cond b lines (Err e) ≡ Ok c → lines ≡ Ok c
 of_length true lines c e h = h

@@ -1,12 +1,13 @@
 -- Facts about texts as a whole.
-use Rattle.std.proofs.Common.{◌≡◌, ℕ, ◌+◌, ◌<◌, ◌≤◌, List, [], ◌∷◌, length, Option, None, Result, Err, refl, arith}
+use Rattle.std.proofs.Common.{◌≡◌, ℕ, ◌+◌, ◌<◌, ◌≤◌, List, [], ◌∷◌, length, Option, None, Some, Result, Ok, Err, refl, sym, ap, subst, arith}
 use Rattle.std.specs.List.{before_first, after_first}
 use Rattle.std.proofs.lemmas.Bool.Decides.{nat_tests}
 use Rattle.mp_netlist.specs.Circuit.{Circuit}
+use Rattle.mp_text.specs.declared.text_error.TextError.{TextError}
 use Rattle.mp_text.specs.declared.text_code.TextCode.{TextCode}
 use Rattle.mp_text.specs.declared.text_code.TextCode.TheVariants.{TooLong}
 use Rattle.mp_text.specs.Lines.{is_line_feed, lines_of}
-use Rattle.mp_text.specs.Texts.{text_at, after_lines, after_line, next_line, finished}
+use Rattle.mp_text.specs.Texts.{text_at, after_lines, after_line, next_line, finished, last_line}
 use Rattle.mp_text.proofs.LineLemmas.{lines_of-cons}
 
 -- a text that is not too long is its lines
@@ -29,3 +30,45 @@ pub lines_end : (n : ℕ) (state : Option Circuit) (rest : List ℕ) → length 
 unfolding after_lines lines_of
 lines_end n state [] none = refl
 lines_end n state (b ∷ bs) none = absurd (omega (arith, none))
+
+-- where lines that begin behind line n end
+abbrev end_behind : ℕ → List (List ℕ) → Result Circuit TextError → ℕ
+end_behind n lines (Ok net) = n + length lines
+end_behind n lines (Err error) = error.line
+
+end_next : (n : ℕ) (line : List ℕ) (lines : List (List ℕ)) → ((state : Option Circuit) → n + 1 ≤ end_behind (n + 1) lines (after_lines (n + 1) state lines))
+    → (read : Result (Option Circuit) TextCode) → n + 1 ≤ end_behind n (line ∷ lines) (next_line n (λ after. after_lines (n + 1) after lines) read)
+end_next n line lines low (Ok state) = by (after_lines (n + 1) state lines) (low state)
+  where
+    by : (r : Result Circuit TextError) → n + 1 ≤ end_behind (n + 1) lines r → n + 1 ≤ end_behind n (line ∷ lines) r
+    by (Ok net) low = omega arith
+    by (Err error) low = low
+end_next n line lines low (Err code) = omega arith
+
+end_low : (n : ℕ) (lines : List (List ℕ)) (state : Option Circuit) → n ≤ end_behind n lines (after_lines n state lines)
+unfolding after_lines
+end_low n [] None = omega arith
+end_low n [] (Some net) = omega arith
+end_low n (line ∷ lines) state =
+    let next = end_next n line lines (end_low (n + 1) lines) (after_line state line) in
+    omega (arith, next)
+
+-- no line before the next is the last
+pub line_reached : (n : ℕ) (state : Option Circuit) (rest text : List ℕ) → 0 < length rest → n + length (lines_of rest) ≡ length (lines_of text)
+    → (read : Result Circuit TextError) → after_lines n state (lines_of rest) ≡ read → n + 1 ≤ last_line text read
+unfolding after_lines
+line_reached n state rest text some counted read same =
+    let lines = lines_of (after_first is_line_feed rest) in
+    let line = before_first is_line_feed rest in
+    let cons = lines_of-cons rest some in
+    let low : n + 1 ≤ end_behind n (line ∷ lines) (after_lines n state (line ∷ lines)) = end_next n line lines (end_low (n + 1) lines) (after_line state line) in
+    by read (subst (λ ls. n + 1 ≤ end_behind n ls (after_lines n state ls)) (sym cons) low) same
+  where
+    by : (r : Result Circuit TextError) → n + 1 ≤ end_behind n (lines_of rest) (after_lines n state (lines_of rest)) → after_lines n state (lines_of rest) ≡ r → n + 1 ≤ last_line text r
+    by (Ok net) low same = let at = subst (λ r. n + 1 ≤ end_behind n (lines_of rest) r) same low in omega (arith, at, counted)
+    by (Err error) low same = subst (λ r. n + 1 ≤ end_behind n (lines_of rest) r) same low
+
+-- a line is taken off the count
+pub lines_counted : (rest text : List ℕ) (n : ℕ) → 0 < length rest → n + length (lines_of rest) ≡ length (lines_of text)
+    → n + 1 + length (lines_of (after_first is_line_feed rest)) ≡ length (lines_of text)
+lines_counted rest text n some counted = let cons = ap length (lines_of-cons rest some) in omega (arith, cons, counted)

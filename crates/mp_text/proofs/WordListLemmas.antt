@@ -2,12 +2,12 @@
 use Rattle.std.proofs.Common.{◌≡◌, ℕ, ◌+◌, ◌<◌, ◌≤◌, List, [], ◌∷◌, ◌++◌, Bor, Result, Ok, Err, append_assoc, length, get_or, take, drop, Bool, not, cond, refl, sym, ap, ◌∙◌}
 use Rattle.std.proofs.lemmas.List.{at_drop_more, at_drop_all, append-nil, take-map, drop-map}
 use Rattle.std.specs.List.{before_first, after_first, position_or_len}
-use Rattle.mp_text.specs.declared.text_code.TextCode.{TextCode}
+use Rattle.mp_text.specs.declared.line_error.LineError.{LineError}
 use Rattle.mp_text.specs.Reads.{with_front, ◌>>=◌}
 use Rattle.mp_text.specs.Words.{texts}
 use Rattle.mp_text.specs.Statements.{each_word}
 
-module _ {A : Type 0} (read : List ℕ → Result A TextCode) (ws : List (Bor (List ℕ))) (i : ℕ) (d : Bor (List ℕ)) (front : List A) where
+module _ {A : Type 0} (read : List ℕ → Result A LineError) (ws : List (Bor (List ℕ))) (i : ℕ) (d : Bor (List ℕ)) (front : List A) where
   abbrev Goes : Type 0
   Goes = with_front front (each_word read (texts (drop i ws))) ≡ each_word read (texts ws)
 
@@ -15,7 +15,7 @@ module _ {A : Type 0} (read : List ℕ → Result A TextCode) (ws : List (Bor (L
   each_next within = at_drop_more (λ xs. each_word read (texts xs)) ws i d within
 
   -- a word that cannot be read fails them all
-  pub each_err : (e : TextCode) → i < length ws → Goes → read (get_or ws i d).now ≡ Err e → each_word read (texts ws) ≡ Err e
+  pub each_err : (e : LineError) → i < length ws → Goes → read (get_or ws i d).now ≡ Err e → each_word read (texts ws) ≡ Err e
   unfolding each_word
   each_err e within goes failed = sym goes ∙ rw (each_next within, failed) refl
 
@@ -25,7 +25,7 @@ module _ {A : Type 0} (read : List ℕ → Result A TextCode) (ws : List (Bor (L
   unfolding each_word
   each_ok item within goes was = by (each_word read (texts (drop (i + 1) ws))) (sym goes ∙ rw (each_next within, was) refl)
     where
-      by : (rest : Result (List A) TextCode) → each_word read (texts ws) ≡ with_front front (rest >>= λ items. Ok (item ∷ items)) → with_front (front ++ item ∷ []) rest ≡ each_word read (texts ws)
+      by : (rest : Result (List A) LineError) → each_word read (texts ws) ≡ with_front front (rest >>= λ items. Ok (item ∷ items)) → with_front (front ++ item ∷ []) rest ≡ each_word read (texts ws)
       by (Ok items) e = ap Ok (append_assoc front (item ∷ []) items) ∙ sym e
       by (Err code) e = sym e
 

@@ -8,18 +8,20 @@ use Rattle.mp_modules.specs.Kinds.{kind_named}
 use Rattle.mp_netlist.specs.declared.port_names.OutputName.{OutputName}
 use Rattle.mp_netlist.specs.declared.edit.Edit.{Edit}
 use Rattle.mp_netlist.specs.declared.edit.Edit.TheVariants.{AddWire, AddModule, SetStimulus}
-use Rattle.mp_text.specs.declared.text_code.TextCode.{TextCode}
-use Rattle.mp_text.specs.declared.text_code.TextCode.TheVariants.{UnknownStatement, WordCount, BadNumber}
+use Rattle.mp_text.specs.declared.line_error.LineError.{LineError}
+use Rattle.mp_text.specs.declared.line_error.LineError.TheVariants.{UnknownStatement, WordCount, BadNumber}
+use Rattle.mp_text.specs.declared.edit_word.EditWord.{EditWord}
+use Rattle.mp_text.specs.declared.edit_word.EditWord.TheVariants.{Wire, Module, Stimulus}
 use Rattle.mp_text.specs.Numbers.{spelled_number, time_and_value, name_and_number}
 use Rattle.mp_text.specs.Reads.{◌>>=◌}
 
-abbrev pub number_word : List ℕ → Result ℕ TextCode
+abbrev pub number_word : List ℕ → Result ℕ LineError
 number_word word = ok_or (spelled_number word) BadNumber
 
-abbrev pub change_word : List ℕ → Result (ℕ × ℕ) TextCode
+abbrev pub change_word : List ℕ → Result (ℕ × ℕ) LineError
 change_word word = ok_or (time_and_value word) BadNumber
 
-abbrev pub kind_word : List ℕ → Result Kind TextCode
+abbrev pub kind_word : List ℕ → Result Kind LineError
 kind_word word = ok_or (kind_named word) UnknownStatement
 
 -- the wire that is named, where `-` names none
@@ -30,13 +32,13 @@ abbrev pub output_to : List ℕ × ℕ → OutputName
 output_to pair = record { wire = wire_or_none pair.0; delay = pair.1 }
 
 -- an output with its delay, as `y/3`, or `-` for one without a wire
-unfoldable pub output_word : List ℕ → Result OutputName TextCode
+unfoldable pub output_word : List ℕ → Result OutputName LineError
 output_word word =
     if bytes_eq word (codes "-") then Ok (output_to (word, 1))
     else ok_or (option_map output_to (name_and_number word)) BadNumber
 
 -- what each of the words says, or the code of the first that cannot be read
-unfoldable pub each_word : {A : Type 0} → (List ℕ → Result A TextCode) → List (List ℕ) → Result (List A) TextCode
+unfoldable pub each_word : {A : Type 0} → (List ℕ → Result A LineError) → List (List ℕ) → Result (List A) LineError
 each_word read [] = Ok []
 each_word read (word ∷ words) = do
   item ← read word
@@ -44,18 +46,18 @@ each_word read (word ∷ words) = do
   Ok (item ∷ items)
 
 -- a number of units from 1 to 65,536
-unfoldable pub horizon_word : List ℕ → Result ℕ TextCode
+unfoldable pub horizon_word : List ℕ → Result ℕ LineError
 horizon_word word = do
   horizon ← number_word word
   if nat_le 1 horizon && nat_le horizon 65536 then Ok horizon else Err BadNumber
 
 -- the horizon of the words behind `horizon`
-unfoldable pub stated_horizon : List (List ℕ) → Result ℕ TextCode
+unfoldable pub stated_horizon : List (List ℕ) → Result ℕ LineError
 stated_horizon (word ∷ []) = horizon_word word
 stated_horizon _ = Err WordCount
 
 -- the edit of the words behind `wire`
-unfoldable pub wire_edit : List (List ℕ) → Result Edit TextCode
+unfoldable pub wire_edit : List (List ℕ) → Result Edit LineError
 wire_edit (name ∷ width ∷ level ∷ []) = do
   w ← number_word width
   l ← number_word level
@@ -63,7 +65,7 @@ wire_edit (name ∷ width ∷ level ∷ []) = do
 wire_edit _ = Err WordCount
 
 -- the edit of the parts of the words behind `module`, where there is an input and an output
-unfoldable pub parts_edit : List ℕ → List ℕ → List (List ℕ) → List (List ℕ) → List (List ℕ) → Result Edit TextCode
+unfoldable pub parts_edit : List ℕ → List ℕ → List (List ℕ) → List (List ℕ) → List (List ℕ) → Result Edit LineError
 parts_edit name kind params inputs outputs =
     if length inputs == 0 || length outputs == 0 then Err WordCount
     else (do
@@ -78,32 +80,47 @@ is_mark mark word = bytes_eq word (mark ∷ [])
 
 -- the edit of the words behind `module`: the first `:` behind the kind and the first `>` behind it divide them
 -- (where one of these is missing there are no outputs)
-unfoldable pub module_edit : List (List ℕ) → Result Edit TextCode
+unfoldable pub module_edit : List (List ℕ) → Result Edit LineError
 module_edit (name ∷ kind ∷ words) =
     let ports = after_first (is_mark (byte ":")) words in
     parts_edit name kind (before_first (is_mark (byte ":")) words) (before_first (is_mark (byte ">")) ports) (after_first (is_mark (byte ">")) ports)
 module_edit _ = Err WordCount
 
 -- the edit of the words behind `stim`
-unfoldable pub stimulus_edit : List (List ℕ) → Result Edit TextCode
+unfoldable pub stimulus_edit : List (List ℕ) → Result Edit LineError
 stimulus_edit [] = Err WordCount
 stimulus_edit (wire ∷ words) = do
   changes ← each_word change_word words
   Ok (SetStimulus wire changes)
 
+-- the first word of an edit that texts and scripts have
+abbrev pub edit_word : List ℕ → Option EditWord
+edit_word word =
+    if bytes_eq word (codes "wire") then Some Wire
+    else (if bytes_eq word (codes "module") then Some Module
+    else (if bytes_eq word (codes "stim") then Some Stimulus
+    else None))
+
+-- the edit of the words behind that word
+unfoldable pub stated_edit : EditWord → List (List ℕ) → Result Edit LineError
+stated_edit Wire words = wire_edit words
+stated_edit Module words = module_edit words
+stated_edit Stimulus words = stimulus_edit words
+
 -- a line without words, one that begins with another word, the horizon that begins a text, or an edit
 pub data Statement : Type 0 where
   Blank : Statement
   Unknown : Statement
-  Start : Result ℕ TextCode → Statement
-  Change : Result Edit TextCode → Statement
+  Start : Result ℕ LineError → Statement
+  Change : Result Edit LineError → Statement
 
--- the statement of a line's words
+abbrev pub change_of : List (List ℕ) → Option EditWord → Statement
+change_of words None = Unknown
+change_of words (Some word) = Change (stated_edit word words)
+
+-- the statement of a text's line by its words
 unfoldable pub statement_of : List (List ℕ) → Statement
 statement_of [] = Blank
 statement_of (word ∷ words) =
     if bytes_eq word (codes "horizon") then Start (stated_horizon words)
-    else (if bytes_eq word (codes "wire") then Change (wire_edit words)
-    else (if bytes_eq word (codes "module") then Change (module_edit words)
-    else (if bytes_eq word (codes "stim") then Change (stimulus_edit words)
-    else Unknown)))
+    else change_of words (edit_word word)

@@ -1,5 +1,5 @@
 //! Inputs of several parts, which lines `---` divide.
-ghost use Rattle.std.specs.Prelude.{◌≡◌, IfOk};
+ghost use Rattle.std.specs.Prelude.{◌≡◌, ◌≤◌, length, IfOk};
 ghost use Rattle.mp_text.specs.Lines.{lines_of};
 ghost use Rattle.mp_text.specs.Words.{texts};
 ghost use Rattle.mp_text.specs.Divisions.{is_division, are_division, first_part, later_parts};
@@ -11,6 +11,7 @@ use std::alloc::{AllocError, Global};
 /// The part of an input before the first line whose one word is `---`, and what is behind that
 /// line: all and nothing where there is no such line.
 pub fn divided(alloc: Global, input: &[u8]) -> Result<(&[u8], &[u8]), AllocError>
+    ensures short { IfOk result (λ parts. length parts.0.now ≤ length input.now) }
     ensures front { IfOk result (λ parts. lines_of parts.0.now ≡ first_part (lines_of input.now)) }
     ensures back { IfOk result (λ parts. lines_of parts.1.now ≡ later_parts (lines_of input.now)) }
 {

@@ -1,9 +1,14 @@
 //! The lines of a text.
-ghost use Rattle.std.specs.Prelude.{◌≡◌, ◌∷◌, ◌<◌, length, IsAscii, IsTrue};
+ghost use Rattle.std.specs.Prelude.{◌≡◌, ◌∷◌, ◌<◌, length, IfOk, IsAscii, IsTrue};
 ghost use Rattle.std.specs.List.{before_first, after_first, list_all};
-ghost use Rattle.mp_text.specs.Lines.{is_line_feed, lines_of, is_allowed};
+ghost use Rattle.mp_text.specs.declared.line_error.LineError.TheVariants.{OutOfMemory};
+ghost use Rattle.mp_text.specs.Lines.{is_line_feed, lines_of, is_allowed, line_words};
+ghost use Rattle.mp_text.specs.Reads.{Gives};
+ghost use Rattle.mp_text.specs.Words.{texts, AreAscii};
 
-use crate::word::place_of;
+use crate::line_error::LineError;
+use crate::word::{place_of, words};
+use std::alloc::Global;
 
 /// The first line of the text, and what is behind its line feed.
 pub fn first_line(text: &[u8]) -> (&[u8], &[u8])
@@ -24,8 +29,19 @@ fn at_line_feed(text: &[u8]) -> (&[u8], &[u8])
     }
 }
 
-/// Whether each byte may stand in a text, in a comment too.
-pub fn is_plain(line: &[u8]) -> bool
+/// The words of a line, whose bytes are all allowed, in a comment too.
+pub fn line_words<'a>(alloc: Global, line: &'a [u8]) -> Result<Vec<&'a [u8]>, LineError>
+    ensures words { Gives OutOfMemory (λ words. texts words.items) result (line_words line.now) }
+    ensures ascii { IfOk result (λ words. AreAscii words.items) }
+{
+    if !is_plain(line) {
+        return Err(LineError::NotAscii);
+    }
+    Ok(words(alloc, line)?)
+}
+
+/// Whether each byte may stand in a line, in a comment too.
+fn is_plain(line: &[u8]) -> bool
     ensures value { result ≡ list_all is_allowed line.now }
     ensures ascii { IsTrue result → IsAscii line.now }
 {
@@ -35,5 +51,5 @@ pub fn is_plain(line: &[u8]) -> bool
 fn is_allowed(byte: u8) -> bool
     ensures { result ≡ is_allowed byte }
 {
-    matches!(byte, b'\t' | b'\n' | b'\r' | 32..=126)
+    matches!(byte, b'\t' | b'\r' | 32..=126)
 }

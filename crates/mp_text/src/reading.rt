@@ -1,6 +1,7 @@
 //! Reading a netlist's text.
+ghost use Rattle.std.specs.Prelude.{IfErr};
 ghost use Rattle.mp_text.specs.Reads.{GivesText};
-ghost use Rattle.mp_text.specs.Texts.{text_at};
+ghost use Rattle.mp_text.specs.Texts.{text_at, IsReached};
 
 use crate::line::first_line;
 use crate::statement::line;
@@ -22,9 +23,10 @@ const MAX_TEXT: usize = 4_194_304;
 /// (`UnknownStatement`); a word that is not the number or pair that it should be, or a horizon not
 /// 1 to 65,536 (`BadNumber`); an edit that is refused (`Refused`). `TooLong` with line 0 is a text
 /// over 4,194,304 bytes, and `NoHorizon` with the number of lines one without a horizon.
-/// `OutOfMemory` comes with the line at which memory was wanting.
+/// `OutOfMemory` comes with the line at which memory was wanting, none behind the first that fails.
 pub fn read_netlist(alloc: Global, text: &[u8]) -> Result<Netlist, TextError>
-    ensures { GivesText result (text_at text.now) }
+    ensures read { GivesText result (text_at text.now) }
+    ensures reached { IfErr result (IsReached text.now) }
 {
     if text.len() > MAX_TEXT {
         return Err(TextError {

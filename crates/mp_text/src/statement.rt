@@ -1,17 +1,18 @@
 //! What a line makes of a netlist.
 ghost use Rattle.std.specs.Prelude.{◌≡◌, ◌≤◌, IfOk, Some};
 ghost use Rattle.std.specs.Result.{result_map_both};
-ghost use Rattle.mp_text.specs.declared.text_code.TextCode.TheVariants.{Refused};
+ghost use Rattle.mp_text.specs.declared.text_code.TextCode.TheVariants.{OutOfMemory, Refused};
 ghost use Rattle.mp_netlist.specs.Edits.{after};
 ghost use Rattle.mp_text.specs.Reads.{Gives};
 ghost use Rattle.mp_text.specs.Words.{texts, AreAscii};
-ghost use Rattle.mp_text.specs.Statements.{horizon_word, stated_horizon, wire_edit, module_edit, stimulus_edit, Start, Change, statement_of};
+ghost use Rattle.mp_text.specs.Statements.{horizon_word, stated_horizon, stated_edit, Start, Change, statement_of};
 ghost use Rattle.mp_text.specs.Texts.{after_statement, after_line};
 
-use crate::edit_words::{module_edit, stimulus_edit, wire_edit};
-use crate::line::is_plain;
+use crate::edit_word::EditWord;
+use crate::line::line_words;
+use crate::line_error::LineError;
+use crate::stated_edit::stated_edit;
 use crate::text_code::TextCode;
-use crate::word::words;
 use crate::word_list::number_word;
 use mp_netlist::{Edit, EditError, Netlist, NewError};
 use std::alloc::Global;
@@ -19,12 +20,9 @@ use std::alloc::Global;
 /// The netlist after a line.
 #[tactic(auto, unfolding(crate::specs::Texts::after_line))]
 pub fn line(alloc: Global, state: Option<Netlist>, line: &[u8]) -> Result<Option<Netlist>, TextCode>
-    ensures { Gives (λ state. state) result (after_line state line.now) }
+    ensures { Gives OutOfMemory (λ state. state) result (after_line state line.now) }
 {
-    if !is_plain(line) {
-        return Err(TextCode::NotAscii);
-    }
-    let words = words(alloc, line)?;
+    let words = line_words(alloc, line)?;
     statement(alloc, state, words.as_slice())
 }
 
@@ -36,22 +34,18 @@ fn statement(
     words: &[&[u8]],
 ) -> Result<Option<Netlist>, TextCode>
     requires { AreAscii words.now }
-    ensures { Gives (λ state. state) result (after_statement state (statement_of (texts words.now))) }
+    ensures { Gives OutOfMemory (λ state. state) result (after_statement state (statement_of (texts words.now))) }
 {
     let [word, others @ ..] = words else {
         return Ok(state);
     };
     let word: &[u8] = word;
     if word == b"horizon".as_slice() {
-        start(alloc, state, others)
-    } else if word == b"wire".as_slice() {
-        add_wire(alloc, state, others)
-    } else if word == b"module".as_slice() {
-        add_module(alloc, state, others)
-    } else if word == b"stim".as_slice() {
-        set_stimulus(alloc, state, others)
-    } else {
-        Err(TextCode::UnknownStatement)
+        return start(alloc, state, others);
+    }
+    match EditWord::from_word(word) {
+        Some(first) => change(alloc, state, first, others),
+        None => Err(TextCode::UnknownStatement),
     }
 }
 
@@ -61,7 +55,7 @@ fn start(
     state: Option<Netlist>,
     words: &[&[u8]],
 ) -> Result<Option<Netlist>, TextCode>
-    ensures { Gives (λ state. state) result (after_statement state (Start (stated_horizon (texts words.now)))) }
+    ensures { Gives OutOfMemory (λ state. state) result (after_statement state (Start (stated_horizon (texts words.now)))) }
 {
     if state.is_some() {
         return Err(TextCode::SecondHorizon);
@@ -76,80 +70,49 @@ fn start(
 
 /// The number of the words behind `horizon`.
 #[tactic(auto, unfolding(crate::specs::Statements::stated_horizon))]
-fn horizon(words: &[&[u8]]) -> Result<u64, TextCode>
+fn horizon(words: &[&[u8]]) -> Result<u64, LineError>
     ensures said { result ≡ stated_horizon (texts words.now) }
     ensures range { IfOk result (λ horizon. (1 ≤ horizon) × (horizon ≤ 65536)) }
 {
     match words {
         [word] => horizon_word(word),
-        _ => Err(TextCode::WordCount),
+        _ => Err(LineError::WordCount),
     }
 }
 
 /// A word as a number of units from 1 to 65,536.
 #[tactic(auto, unfolding(crate::specs::Statements::horizon_word))]
-fn horizon_word(word: &[u8]) -> Result<u64, TextCode>
+fn horizon_word(word: &[u8]) -> Result<u64, LineError>
     ensures said { result ≡ horizon_word word.now }
     ensures range { IfOk result (λ horizon. (1 ≤ horizon) × (horizon ≤ 65536)) }
 {
     let horizon = number_word(word)?;
     if horizon < 1 || horizon > 65_536 {
-        return Err(TextCode::BadNumber);
+        return Err(LineError::BadNumber);
     }
     Ok(horizon)
 }
 
 #[tactic(auto, unfolding(crate::specs::Texts::after_statement))]
-fn add_wire(
+fn change(
     alloc: Global,
     state: Option<Netlist>,
+    first: EditWord,
     words: &[&[u8]],
 ) -> Result<Option<Netlist>, TextCode>
     requires { AreAscii words.now }
-    ensures { Gives (λ state. state) result (after_statement state (Change (wire_edit (texts words.now)))) }
+    ensures { Gives OutOfMemory (λ state. state) result (after_statement state (Change (stated_edit first (texts words.now)))) }
 {
     let Some(netlist) = state else {
         return Err(TextCode::NoHorizon);
     };
-    let edit = wire_edit(alloc, words)?;
-    edited(netlist, &edit)
-}
-
-#[tactic(auto, unfolding(crate::specs::Texts::after_statement))]
-fn add_module(
-    alloc: Global,
-    state: Option<Netlist>,
-    words: &[&[u8]],
-) -> Result<Option<Netlist>, TextCode>
-    requires { AreAscii words.now }
-    ensures { Gives (λ state. state) result (after_statement state (Change (module_edit (texts words.now)))) }
-{
-    let Some(netlist) = state else {
-        return Err(TextCode::NoHorizon);
-    };
-    let edit = module_edit(alloc, words)?;
-    edited(netlist, &edit)
-}
-
-#[tactic(auto, unfolding(crate::specs::Texts::after_statement))]
-fn set_stimulus(
-    alloc: Global,
-    state: Option<Netlist>,
-    words: &[&[u8]],
-) -> Result<Option<Netlist>, TextCode>
-    requires { AreAscii words.now }
-    ensures { Gives (λ state. state) result (after_statement state (Change (stimulus_edit (texts words.now)))) }
-{
-    let Some(netlist) = state else {
-        return Err(TextCode::NoHorizon);
-    };
-    let edit = stimulus_edit(alloc, words)?;
+    let edit = stated_edit(alloc, first, words)?;
     edited(netlist, &edit)
 }
 
 /// The netlist after the edit.
 fn edited(mut netlist: Netlist, edit: &Edit) -> Result<Option<Netlist>, TextCode>
-    ensures { Gives (λ state. state) result (result_map_both Some Refused (after netlist edit.now)) }
+    ensures { Gives OutOfMemory (λ state. state) result (result_map_both Some Refused (after netlist edit.now)) }
 {
     match netlist.apply(edit) {
         Ok(()) => Ok(Some(netlist)),

@@ -25,7 +25,7 @@ pub fn push_wave_line(
 }
 
 /// Puts ` T=V` behind the text for each change.
-fn push_changes(text: &mut Vec<u8>, changes: &[(u32, u64)]) -> Result<(), AllocError>
+pub fn push_changes(text: &mut Vec<u8>, changes: &[(u32, u64)]) -> Result<(), AllocError>
     ensures { OnOk result (text.new.items ≡ text.old.items ++ changes_text changes.now) }
 {
     for &(time, value) in changes {
@@ -44,7 +44,7 @@ fn push_change(text: &mut Vec<u8>, time: u32, value: u64) -> Result<(), AllocErr
 }
 
 /// Puts the number in decimal digits behind the text.
-fn push_number(text: &mut Vec<u8>, number: u64) -> Result<(), AllocError>
+pub fn push_number(text: &mut Vec<u8>, number: u64) -> Result<(), AllocError>
     ensures { OnOk result (text.new.items ≡ text.old.items ++ decimal number) }
 {
     let mut buffer = Buffer::new();

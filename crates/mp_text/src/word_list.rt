@@ -1,26 +1,27 @@
 //! What each of several words says.
 ghost use Rattle.std.specs.Prelude.{◌≡◌, IfOk, IsAscii};
+ghost use Rattle.mp_text.specs.declared.line_error.LineError.TheVariants.{OutOfMemory};
 ghost use Rattle.mp_text.specs.Reads.{Gives};
 ghost use Rattle.mp_text.specs.Words.{texts, AreAscii};
 ghost use Rattle.mp_text.specs.Statements.{number_word, change_word, wire_or_none, output_word, each_word};
 
+use crate::line_error::LineError;
 use crate::number::{name_and_number, number, time_and_value};
-use crate::text_code::TextCode;
 use crate::word::name_of;
 use mp_netlist::{Name, OutputName};
 use std::alloc::{AllocError, Global};
 
 /// A word as a number.
-pub fn number_word(word: &[u8]) -> Result<u64, TextCode>
+pub fn number_word(word: &[u8]) -> Result<u64, LineError>
     ensures { result ≡ number_word word.now }
 {
-    number(word).ok_or(TextCode::BadNumber)
+    number(word).ok_or(LineError::BadNumber)
 }
 
-fn change_word(word: &[u8]) -> Result<(u64, u64), TextCode>
+fn change_word(word: &[u8]) -> Result<(u64, u64), LineError>
     ensures { result ≡ change_word word.now }
 {
-    time_and_value(word).ok_or(TextCode::BadNumber)
+    time_and_value(word).ok_or(LineError::BadNumber)
 }
 
 /// The wire that is named, where `-` names none.
@@ -36,9 +37,9 @@ fn wire_or_none(alloc: Global, name: &[u8]) -> Result<Option<Name>, AllocError>
 
 /// An output with its delay, or `-` for one without a wire.
 #[tactic(auto, unfolding(crate::specs::Statements::output_word))]
-fn output_word(alloc: Global, word: &[u8]) -> Result<OutputName, TextCode>
+fn output_word(alloc: Global, word: &[u8]) -> Result<OutputName, LineError>
     requires { IsAscii word.now }
-    ensures { Gives (λ output. output) result (output_word word.now) }
+    ensures { Gives OutOfMemory (λ output. output) result (output_word word.now) }
 {
     if word == b"-".as_slice() {
         return Ok(OutputName {
@@ -47,7 +48,7 @@ fn output_word(alloc: Global, word: &[u8]) -> Result<OutputName, TextCode>
         });
     }
     let Some((name, delay)) = name_and_number(word) else {
-        return Err(TextCode::BadNumber);
+        return Err(LineError::BadNumber);
     };
     Ok(OutputName {
         wire: wire_or_none(alloc, name)?,
@@ -56,8 +57,8 @@ fn output_word(alloc: Global, word: &[u8]) -> Result<OutputName, TextCode>
 }
 
 /// The words as numbers.
-pub fn numbers(alloc: Global, words: &[&[u8]]) -> Result<Vec<u64>, TextCode>
-    ensures { Gives (λ numbers. numbers.items) result (each_word number_word (texts words.now)) }
+pub fn numbers(alloc: Global, words: &[&[u8]]) -> Result<Vec<u64>, LineError>
+    ensures { Gives OutOfMemory (λ numbers. numbers.items) result (each_word number_word (texts words.now)) }
 {
     let mut numbers = Vec::new(alloc);
     for word in words {
@@ -68,8 +69,8 @@ pub fn numbers(alloc: Global, words: &[&[u8]]) -> Result<Vec<u64>, TextCode>
 }
 
 /// The words as pairs of a time and a value.
-pub fn changes(alloc: Global, words: &[&[u8]]) -> Result<Vec<(u64, u64)>, TextCode>
-    ensures { Gives (λ changes. changes.items) result (each_word change_word (texts words.now)) }
+pub fn changes(alloc: Global, words: &[&[u8]]) -> Result<Vec<(u64, u64)>, LineError>
+    ensures { Gives OutOfMemory (λ changes. changes.items) result (each_word change_word (texts words.now)) }
 {
     let mut changes = Vec::new(alloc);
     for word in words {
@@ -80,9 +81,9 @@ pub fn changes(alloc: Global, words: &[&[u8]]) -> Result<Vec<(u64, u64)>, TextCo
 }
 
 /// The words as outputs with their delays.
-pub fn outputs(alloc: Global, words: &[&[u8]]) -> Result<Vec<OutputName>, TextCode>
+pub fn outputs(alloc: Global, words: &[&[u8]]) -> Result<Vec<OutputName>, LineError>
     requires { AreAscii words.now }
-    ensures { Gives (λ outputs. outputs.items) result (each_word output_word (texts words.now)) }
+    ensures { Gives OutOfMemory (λ outputs. outputs.items) result (each_word output_word (texts words.now)) }
 {
     let mut outputs = Vec::new(alloc);
     for word in words {

@@ -1,14 +1,14 @@
 use Rattle.std.proofs.Common.{◌≡◌, ◌<◌, length, Ok, Err, sym, ap, ◌∙◌, inl, inr, rules, arith}
-use Rattle.mp_text.specs.Texts.{finished}
-use Rattle.mp_text.proofs.TextLemmas.{text_within, text_over, lines_next, lines_end}
+use Rattle.mp_text.specs.Texts.{finished, text_at}
+use Rattle.mp_text.proofs.TextLemmas.{text_within, text_over, lines_next, lines_end, lines_counted, line_reached}
 use Rattle.mp_text.proofs.LineLemmas.{rest_falls}
 use Rattle.mp_text.proofs.reading.read_netlist.Goals as goal
 
-pub returns-then-text-gt-MAX_TEXT : goal.returns-then-text-gt-MAX_TEXT
-returns-then-text-gt-MAX_TEXT c = inr (text_over c.args.text.now (omega arith))
+pub returns-then-text-gt-MAX_TEXT-clause-read : goal.returns-then-text-gt-MAX_TEXT-clause-read
+returns-then-text-gt-MAX_TEXT-clause-read c = inr (text_over c.args.text.now (omega arith))
 
-pub returns-in-Err : goal.returns-in-Err
-returns-in-Err c =
+pub returns-in-Err-clause-read : goal.returns-in-Err-clause-read
+returns-in-Err-clause-read c =
     let some : 0 < length c.loop-rest.rest.now = search rules in
     let all = text_within c.args.text.now (omega arith) in
     elim (rw c.first_line.ensures.line at c.in-Err.ensures) [
@@ -16,23 +16,31 @@ returns-in-Err c =
       | inr failed ↦ inr (all ∙ sym c.loop-rest.invariant.same ∙ lines_next c.loop-rest.number c.loop-rest.state c.loop-rest.rest.now (Err c.in-Err.code) some failed)
     ]
 
+pub returns-in-Err-clause-reached : goal.returns-in-Err-clause-reached
+returns-in-Err-clause-reached c memory =
+    let some : 0 < length c.loop-rest.rest.now = search rules in
+    let all = text_within c.args.text.now (omega arith) in
+    let reached = line_reached c.loop-rest.number c.loop-rest.state c.loop-rest.rest.now c.args.text.now some c.loop-rest.invariant.counted (text_at c.args.text.now) (c.loop-rest.invariant.same ∙ sym all) in
+    (omega arith, omega (arith, reached))
+
 pub loop-rest-preserved : goal.loop-rest-preserved
 loop-rest-preserved c =
     let some : 0 < length c.loop-rest.rest.now = search rules in
     let falls = rest_falls c.loop-rest.rest.now some in
     record {
       within = rw c.first_line.ensures.rest (omega (arith, falls));
+      counted = rw c.first_line.ensures.rest (lines_counted c.loop-rest.rest.now c.args.text.now c.loop-rest.number some c.loop-rest.invariant.counted);
       same = rw c.first_line.ensures.rest (sym (lines_next c.loop-rest.number c.loop-rest.state c.loop-rest.rest.now (Ok c.in-Ok.next) some (rw c.first_line.ensures.line at c.in-Ok.ensures)) ∙ c.loop-rest.invariant.same);
     }
 
-pub returns-in-Some : goal.returns-in-Some
-returns-in-Some c =
+pub returns-in-Some-clause-read : goal.returns-in-Some-clause-read
+returns-in-Some-clause-read c =
     let none : length c.loop-rest.rest.now ≡ 0 = search rules in
     text_within c.args.text.now (omega arith) ∙ sym c.loop-rest.invariant.same ∙ lines_end c.loop-rest.number c.loop-rest.state c.loop-rest.rest.now none
     ∙ ap (finished c.loop-rest.number) c.in-Some.is
 
-pub returns-in-None : goal.returns-in-None
-returns-in-None c =
+pub returns-in-None-clause-read : goal.returns-in-None-clause-read
+returns-in-None-clause-read c =
     let none : length c.loop-rest.rest.now ≡ 0 = search rules in
     inr (text_within c.args.text.now (omega arith) ∙ sym c.loop-rest.invariant.same ∙ lines_end c.loop-rest.number c.loop-rest.state c.loop-rest.rest.now none
     ∙ ap (finished c.loop-rest.number) c.in-None.is)

@@ -7,6 +7,7 @@ use Rattle.mp_text.proofs.reading.read_netlist.Given as goal
 abbrev pub invariant-loop-rest : goal.invariant-loop-rest
 invariant-loop-rest l = record {
   within : l.number + length l.rest ≤ 4194304;
+  counted : l.number + length (lines_of l.rest) ≡ length (lines_of l.text);
   same : after_lines l.number l.state (lines_of l.rest) ≡ after_lines 0 None (lines_of l.text);
 }
 

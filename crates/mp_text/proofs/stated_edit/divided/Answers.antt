@@ -3,7 +3,7 @@ use Rattle.std.proofs.lemmas.List.Elements.{All-take, All-drop}
 use Rattle.mp_text.specs.Words.{texts}
 use Rattle.mp_text.specs.Statements.{is_mark}
 use Rattle.mp_text.proofs.WordListLemmas.{texts-before_first, texts-after_first}
-use Rattle.mp_text.proofs.edit_words.divided.Goals as goal
+use Rattle.mp_text.proofs.stated_edit.divided.Goals as goal
 
 pub returns-clause-front : goal.returns-clause-front
 returns-clause-front c = ap texts c.split_at_mark.ensures.front ∙ texts-before_first (is_mark c.args.mark) c.args.words.now

@@ -1,25 +1,40 @@
-//! The edits that statements are.
+//! The edits of statements.
 ghost use Rattle.std.specs.Prelude.{◌≡◌, ◌<◌, IsAscii, IfSome, length, position};
 ghost use Rattle.std.specs.List.{before_first, after_first};
+ghost use Rattle.mp_text.specs.declared.line_error.LineError.TheVariants.{OutOfMemory};
 ghost use Rattle.mp_text.specs.Reads.{Gives};
 ghost use Rattle.mp_text.specs.Words.{texts, AreAscii};
-ghost use Rattle.mp_text.specs.Statements.{wire_edit, parts_edit, module_edit, stimulus_edit, kind_word, is_mark};
+ghost use Rattle.mp_text.specs.Statements.{stated_edit, wire_edit, parts_edit, module_edit, stimulus_edit, kind_word, is_mark};
 
-use crate::text_code::TextCode;
+use crate::edit_word::EditWord;
+use crate::line_error::LineError;
 use crate::word::name_of;
 use crate::word_list::{changes, names, number_word, numbers, outputs};
 use mp_modules::Kind;
 use mp_netlist::{Changes, Edit, InputNames, OutputNames, Params};
 use std::alloc::Global;
 
+/// The edit of a first word and the words behind it.
+#[tactic(auto, unfolding(crate::specs::Statements::stated_edit))]
+pub fn stated_edit(alloc: Global, word: EditWord, words: &[&[u8]]) -> Result<Edit, LineError>
+    requires { AreAscii words.now }
+    ensures { Gives OutOfMemory (λ edit. edit) result (stated_edit word (texts words.now)) }
+{
+    match word {
+        EditWord::Wire => wire_edit(alloc, words),
+        EditWord::Module => module_edit(alloc, words),
+        EditWord::Stimulus => stimulus_edit(alloc, words),
+    }
+}
+
 /// The edit of the words behind `wire`.
 #[tactic(auto, unfolding(crate::specs::Statements::wire_edit))]
-pub fn wire_edit(alloc: Global, words: &[&[u8]]) -> Result<Edit, TextCode>
+fn wire_edit(alloc: Global, words: &[&[u8]]) -> Result<Edit, LineError>
     requires { AreAscii words.now }
-    ensures { Gives (λ edit. edit) result (wire_edit (texts words.now)) }
+    ensures { Gives OutOfMemory (λ edit. edit) result (wire_edit (texts words.now)) }
 {
     let [name, width, level] = words else {
-        return Err(TextCode::WordCount);
+        return Err(LineError::WordCount);
     };
     let width = number_word(width)?;
     let level = number_word(level)?;
@@ -32,12 +47,12 @@ pub fn wire_edit(alloc: Global, words: &[&[u8]]) -> Result<Edit, TextCode>
 
 /// The edit of the words behind `stim`.
 #[tactic(auto, unfolding(crate::specs::Statements::stimulus_edit))]
-pub fn stimulus_edit(alloc: Global, words: &[&[u8]]) -> Result<Edit, TextCode>
+fn stimulus_edit(alloc: Global, words: &[&[u8]]) -> Result<Edit, LineError>
     requires { AreAscii words.now }
-    ensures { Gives (λ edit. edit) result (stimulus_edit (texts words.now)) }
+    ensures { Gives OutOfMemory (λ edit. edit) result (stimulus_edit (texts words.now)) }
 {
     let [wire, others @ ..] = words else {
-        return Err(TextCode::WordCount);
+        return Err(LineError::WordCount);
     };
     let changes = changes(alloc, others)?;
     Ok(Edit::SetStimulus {
@@ -48,12 +63,12 @@ pub fn stimulus_edit(alloc: Global, words: &[&[u8]]) -> Result<Edit, TextCode>
 
 /// The edit of the words behind `module`.
 #[tactic(auto, unfolding(crate::specs::Statements::module_edit))]
-pub fn module_edit(alloc: Global, words: &[&[u8]]) -> Result<Edit, TextCode>
+fn module_edit(alloc: Global, words: &[&[u8]]) -> Result<Edit, LineError>
     requires { AreAscii words.now }
-    ensures { Gives (λ edit. edit) result (module_edit (texts words.now)) }
+    ensures { Gives OutOfMemory (λ edit. edit) result (module_edit (texts words.now)) }
 {
     let [name, kind, others @ ..] = words else {
-        return Err(TextCode::WordCount);
+        return Err(LineError::WordCount);
     };
     let (params, ports) = divided(b':', others);
     let (inputs, outputs) = divided(b'>', ports);
@@ -69,14 +84,14 @@ fn parts_edit(
     params: &[&[u8]],
     inputs: &[&[u8]],
     outs: &[&[u8]],
-) -> Result<Edit, TextCode>
+) -> Result<Edit, LineError>
     requires name { IsAscii name.now }
     requires inputs { AreAscii inputs.now }
     requires outputs { AreAscii outs.now }
-    ensures { Gives (λ edit. edit) result (parts_edit name.now kind.now (texts params.now) (texts inputs.now) (texts outs.now)) }
+    ensures { Gives OutOfMemory (λ edit. edit) result (parts_edit name.now kind.now (texts params.now) (texts inputs.now) (texts outs.now)) }
 {
     if inputs.is_empty() || outs.is_empty() {
-        return Err(TextCode::WordCount);
+        return Err(LineError::WordCount);
     }
     let kind = kind_word(kind)?;
     let params = numbers(alloc, params)?;
@@ -91,10 +106,10 @@ fn parts_edit(
     })
 }
 
-fn kind_word(word: &[u8]) -> Result<Kind, TextCode>
+fn kind_word(word: &[u8]) -> Result<Kind, LineError>
     ensures { result ≡ kind_word word.now }
 {
-    Kind::from_word(word).ok_or(TextCode::UnknownStatement)
+    Kind::from_word(word).ok_or(LineError::UnknownStatement)
 }
 
 /// The words before and behind the first that is this byte alone: all and none where there is none.

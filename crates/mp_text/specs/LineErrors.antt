@@ -1,0 +1,27 @@
+-- What is wrong with a line by itself.
+use Rattle.std.specs.Prelude.{ℕ, List, Result, Ok, Err}
+use Rattle.mp_text.specs.declared.line_error.LineError.{LineError}
+use Rattle.mp_text.specs.declared.line_error.LineError.TheVariants as line
+use Rattle.mp_text.specs.declared.text_code.TextCode.{TextCode}
+use Rattle.mp_text.specs.declared.text_code.TextCode.TheVariants.{NotAscii, UnknownStatement, WordCount, BadNumber, OutOfMemory}
+use Rattle.mp_text.specs.TextCodes.{number_of, name_of}
+
+-- the fault of a text that has the same name
+abbrev pub code_of : LineError → TextCode
+code_of line.NotAscii = NotAscii
+code_of line.UnknownStatement = UnknownStatement
+code_of line.WordCount = WordCount
+code_of line.BadNumber = BadNumber
+code_of line.OutOfMemory = OutOfMemory
+
+-- a line's fault has the number and the name that it has in a text
+abbrev pub line_number_of : LineError → ℕ
+line_number_of error = number_of (code_of error)
+
+abbrev pub line_name_of : LineError → List ℕ
+line_name_of error = name_of (code_of error)
+
+-- what a line says, as a part of a text
+abbrev pub in_text : {A : Type 0} → Result A LineError → Result A TextCode
+in_text (Ok x) = Ok x
+in_text (Err error) = Err (code_of error)

@@ -1,0 +1,70 @@
+-- How a netlist is written.
+use Rattle.std.specs.Prelude.{ℕ, List, [], ◌∷◌, ◌++◌, map, Option, Some, None, codes}
+use Rattle.std.specs.List.{flat_map}
+use Rattle.std.specs.Fmt.{decimal}
+use Rattle.mp_modules.specs.Kinds.{word_of}
+use Rattle.mp_netlist.specs.declared.ids.WireId.{WireId}
+use Rattle.mp_netlist.specs.declared.wire_record.WireRecord.{WireRecord}
+use Rattle.mp_netlist.specs.declared.module_record.ModuleRecord.{ModuleRecord}
+use Rattle.mp_netlist.specs.declared.ports.Output.{Output}
+use Rattle.mp_netlist.specs.Circuit.{Circuit, wire_at}
+
+-- words, each behind a space
+abbrev pub spaced : List (List ℕ) → List ℕ
+spaced words = flat_map (λ word. 32 ∷ word) words
+
+-- a first word, the words behind it, and a line feed
+abbrev pub written_line : List ℕ → List (List ℕ) → List ℕ
+written_line first words = first ++ (spaced words ++ (10 ∷ []))
+
+abbrev pub horizon_line : ℕ → List ℕ
+horizon_line horizon = written_line (codes "horizon") (decimal horizon ∷ [])
+
+-- the line of what stands in a wire's slot, and none where nothing does
+abbrev pub wire_line : Option WireRecord → List ℕ
+wire_line None = []
+wire_line (Some r) = written_line (codes "wire") (r.name ∷ decimal r.width ∷ decimal r.initial ∷ [])
+
+abbrev pub name_in : Option WireRecord → List ℕ
+name_in None = []
+name_in (Some r) = r.name
+
+-- the name of the wire of this number
+abbrev pub wire_name : Circuit → WireId → List ℕ
+wire_name n wire = name_in (wire_at n wire.0)
+
+-- the name of the wire at an output, `-` where there is none
+abbrev pub output_name : Circuit → Option WireId → List ℕ
+output_name n None = codes "-"
+output_name n (Some wire) = wire_name n wire
+
+-- an output with its delay, as `y/3`
+abbrev pub output_text : Circuit → Output → List ℕ
+output_text n output = output_name n output.wire ++ (47 ∷ decimal output.delay)
+
+abbrev pub module_line : Circuit → Option ModuleRecord → List ℕ
+module_line n None = []
+module_line n (Some r) =
+    written_line (codes "module") (r.name ∷ word_of r.kind
+    ∷ (map decimal r.params ++ (codes ":" ∷ (map (wire_name n) r.inputs ++ (codes ">" ∷ map (output_text n) r.outputs)))))
+
+-- a time and a value, as `5=1`
+abbrev pub pair_text : ℕ × ℕ → List ℕ
+pair_text change = decimal change.0 ++ (61 ∷ decimal change.1)
+
+abbrev pub stimulus_words : List ℕ → Option (List (ℕ × ℕ)) → List ℕ
+stimulus_words name None = []
+stimulus_words name (Some changes) = written_line (codes "stim") (name ∷ map pair_text changes)
+
+-- the line of the stimulus of what stands in a wire's slot, if any
+abbrev pub stimulus_line : Option WireRecord → List ℕ
+stimulus_line None = []
+stimulus_line (Some r) = stimulus_words r.name r.stimulus
+
+-- the horizon, the wires, the modules and the stimuli, each by number
+unfoldable pub written : Circuit → List ℕ
+written n =
+    horizon_line n.horizon
+    ++ (flat_map wire_line n.wires
+    ++ (flat_map (module_line n) n.modules
+    ++ flat_map stimulus_line n.wires))

@@ -1,0 +1,32 @@
+//! First words of statements that are edits.
+
+/// The first word of an edit that texts and scripts have.
+#[derive(Clone, Copy, Debug, PartialEq, Eq)]
+pub enum EditWord {
+    /// `wire`
+    Wire,
+    /// `module`
+    Module,
+    /// `stim`
+    Stimulus,
+}
+
+impl EditWord {
+    ghost use Rattle.std.specs.Prelude.{◌≡◌};
+    ghost use Rattle.mp_text.specs.Statements.{edit_word};
+
+    /// What the word is as such a first word, where it is one.
+    pub fn from_word(word: &[u8]) -> Option<EditWord>
+        ensures { result ≡ edit_word word.now }
+    {
+        if word == b"wire".as_slice() {
+            Some(EditWord::Wire)
+        } else if word == b"module".as_slice() {
+            Some(EditWord::Module)
+        } else if word == b"stim".as_slice() {
+            Some(EditWord::Stimulus)
+        } else {
+            None
+        }
+    }
+}

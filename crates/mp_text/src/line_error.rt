@@ -1,0 +1,72 @@
+//! What is wrong with a line by itself.
+ghost use Rattle.std.specs.Prelude.{◌≡◌};
+ghost use Rattle.mp_text.specs.declared.line_error.LineError.TheVariants.{OutOfMemory};
+
+use crate::text_code::TextCode;
+use std::alloc::{AllocError, AllocFailed};
+use thiserror::Error;
+
+/// Why a line is not read. Its number and name are those of the `TextCode` of the same name.
+#[derive(Clone, Copy, Debug, PartialEq, Eq, Error)]
+pub enum LineError {
+    #[error("a byte that is not allowed")]
+    NotAscii,
+    #[error("not a statement, or not a kind of module")]
+    UnknownStatement,
+    #[error("not the words of this statement")]
+    WordCount,
+    #[error("a word is not the number, or the pair with a number, that it should be")]
+    BadNumber,
+    #[error("out of memory")]
+    OutOfMemory,
+}
+
+impl From<AllocError> for LineError {
+    ghost from_gives = { λ _ error. error ≡ OutOfMemory };
+
+    fn from(_error: AllocError) -> LineError {
+        LineError::OutOfMemory
+    }
+}
+
+impl<T: Drop> From<AllocFailed<T>> for LineError {
+    ghost from_gives = { λ _ error. error ≡ OutOfMemory };
+
+    fn from(_error: AllocFailed<T>) -> LineError {
+        LineError::OutOfMemory
+    }
+}
+
+impl From<LineError> for TextCode {
+    ghost use Rattle.mp_text.specs.LineErrors.{code_of};
+
+    ghost from_gives = { λ error code. code ≡ code_of error };
+
+    fn from(error: LineError) -> TextCode {
+        match error {
+            LineError::NotAscii => TextCode::NotAscii,
+            LineError::UnknownStatement => TextCode::UnknownStatement,
+            LineError::WordCount => TextCode::WordCount,
+            LineError::BadNumber => TextCode::BadNumber,
+            LineError::OutOfMemory => TextCode::OutOfMemory,
+        }
+    }
+}
+
+impl LineError {
+    ghost use Rattle.mp_text.specs.LineErrors.{line_number_of, line_name_of};
+
+    /// The number by which programs know the fault: 1 to 4, or 9.
+    pub fn number(self) -> u32
+        ensures { result ≡ line_number_of self }
+    {
+        TextCode::from(self).number()
+    }
+
+    /// The fault's name.
+    pub fn name(self) -> &'static str
+        ensures { result.now ≡ line_name_of self }
+    {
+        TextCode::from(self).name()
+    }
+}

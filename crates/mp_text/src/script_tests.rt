@@ -1,0 +1,111 @@
+use crate::{Line, LineError, Question, read_line};
+use mp_netlist::Edit;
+use std::test::Fail;
+
+/// What is wrong with the line.
+fn fault_of(rt: &HostRuntime, line: &[u8]) -> Option<LineError> {
+    read_line(rt.alloc(), line).err()
+}
+
+#[test]
+fn bad_lines(rt: HostRuntime) {
+    let lines: [(&[u8], LineError); 20] = [
+        (b"wire \xc8 1 0", LineError::NotAscii),
+        (b"waves\n", LineError::NotAscii),
+        (b"waves # \x7f", LineError::NotAscii),
+        (b"flip \x01", LineError::NotAscii),
+        (b"flip y", LineError::UnknownStatement),
+        (b"horizon 5", LineError::UnknownStatement),
+        (b"---", LineError::UnknownStatement),
+        (b"Wave a", LineError::UnknownStatement),
+        (b"wave", LineError::WordCount),
+        (b"waves a", LineError::WordCount),
+        (b"stim", LineError::WordCount),
+        (b"remove flip", LineError::WordCount),
+        (b"remove flip a", LineError::UnknownStatement),
+        (b"delay b x", LineError::WordCount),
+        (b"delay b x 1", LineError::BadNumber),
+        (b"delay b 0 -1", LineError::BadNumber),
+        (b"delay b 18446744073709551616 1", LineError::BadNumber),
+        (b"module m FOO a > y/1", LineError::WordCount),
+        (b"module m FOO x : a > y", LineError::UnknownStatement),
+        (b"module m BUF x : a > y/1", LineError::BadNumber),
+    ];
+    for (line, error) in lines {
+        assert_eq!(rt; fault_of(&rt, line), Some(error), "{error}");
+    }
+}
+
+#[test]
+fn error_numbers_and_names(rt: HostRuntime) {
+    let errors = [
+        (LineError::NotAscii, 1, "NotAscii"),
+        (LineError::UnknownStatement, 2, "UnknownStatement"),
+        (LineError::WordCount, 3, "WordCount"),
+        (LineError::BadNumber, 4, "BadNumber"),
+        (LineError::OutOfMemory, 9, "OutOfMemory"),
+    ];
+    for (error, number, name) in errors {
+        assert_eq!(rt; error.number(), number);
+        assert_eq!(rt; error.name(), name);
+    }
+}
+
+#[test]
+fn questions(rt: HostRuntime) -> Result<(), Fail> {
+    let Ok(Line::Empty) = read_line(rt.alloc(), b"\t # none\r") else {
+        return Err("empty".into());
+    };
+    let Ok(Line::Ask(Question::Waves)) = read_line(rt.alloc(), b" waves#") else {
+        return Err("waves".into());
+    };
+    let Ok(Line::Ask(Question::Wave(wire))) = read_line(rt.alloc(), b"wave -") else {
+        return Err("wave".into());
+    };
+    assert_eq!(rt; wire.as_str(), "-");
+    Ok(())
+}
+
+#[test]
+fn stated_edits(rt: HostRuntime) -> Result<(), Fail> {
+    let Ok(Line::Change(Edit::AddWire { name, width, level })) = read_line(
+        rt.alloc(),
+        b"wire a 065 18446744073709551615",
+    ) else {
+        return Err("wire".into());
+    };
+    assert_eq!(rt; name.as_str(), "a");
+    assert_eq!(rt; (width, level), (65, u64::MAX));
+    let Ok(Line::Change(Edit::SetStimulus { wire, changes })) = read_line(
+        rt.alloc(),
+        b"stim a 0=1 0=2",
+    ) else {
+        return Err("stim".into());
+    };
+    assert_eq!(rt; wire.as_str(), "a");
+    assert!(rt; changes.as_slice() == [(0, 1), (0, 2)].as_slice());
+    Ok(())
+}
+
+#[test]
+fn script_edits(rt: HostRuntime) -> Result<(), Fail> {
+    let Ok(Line::Change(Edit::RemoveWire { wire })) = read_line(rt.alloc(), b"remove wire a") else {
+        return Err("remove wire".into());
+    };
+    assert_eq!(rt; wire.as_str(), "a");
+    let Ok(
+        Line::Change(
+            Edit::SetDelay {
+                module,
+                port,
+                delay,
+            },
+        ),
+    ) = read_line(rt.alloc(), b"delay b 00 7#")
+    else {
+        return Err("delay".into());
+    };
+    assert_eq!(rt; module.as_str(), "b");
+    assert_eq!(rt; (port, delay), (0, 7));
+    Ok(())
+}
