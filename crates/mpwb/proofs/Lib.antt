@@ -1,2 +1,4 @@
 pub mod OutputLemmas
 pub mod RunLemmas
+pub mod PlayLemmas
+pub mod ReplyLemmas

@@ -1,5 +1,5 @@
 -- The ends of a run.
-use Rattle.std.proofs.Common.{◌≡◌, ℕ, ◌<◌, ◌≤◌, ◌⊎◌, inl, inr, true, false, IfSome, IfErr, List, take, length, Option, Some, None, Result, Ok, Err, refl, sym, ap, subst, ◌∙◌, arith}
+use Rattle.std.proofs.Common.{◌≡◌, ℕ, ◌<◌, ◌≤◌, ◌⊎◌, inl, inr, true, false, IfSome, IfErr, List, take, length, Option, Some, None, Result, Ok, Err, refl, sym, ap, subst, ◌∙◌, true≢false, arith}
 use Rattle.std.proofs.lemmas.Bool.{cases_lt, lt-leb}
 use Rattle.std.proofs.lemmas.List.{take_all, length-take-le}
 use Rattle.std.proofs.KnownBytes.{Appends-nil, Keeps-refl}
@@ -61,3 +61,8 @@ counted_reads-started (Err ReadFailed) n h = let bad : true ≡ false = h in cc 
 counted_reads-started (Err WriteFailed) n h = refl
 counted_reads-started (Err OutOfMemory) n h = refl
 counted_reads-started (Err NoPlace) n h = refl
+
+-- what holds where a fault comes first holds after a run that began to write
+pub nothing-started : {T : Type 0} (r : Result T RunFault) (X : Type 0) → IfErr r (λ fault. comes_first fault ≡ false) → IfErr r (λ fault. comes_first fault ≡ true → X)
+nothing-started (Ok done) X h = tt
+nothing-started (Err fault) X h = λ first. absurd (true≢false (sym first ∙ h))

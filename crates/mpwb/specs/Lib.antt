@@ -3,4 +3,6 @@ pub mod RunFaults
 pub mod Outputs
 pub mod Runs
 pub mod Keepers
+pub mod Replies
+pub mod Plays
 pub mod WordErrors

@@ -36,11 +36,25 @@ time 0 and its level V from each time T on at which it changes below the horizon
 
 A text that is refused is told on standard error as `mpwb: line N: CODE NAME`.";
 
+const PLAY: &str = "Edits a netlist by a script, and answers its questions";
+
+const PLAY_LONG: &str = "\
+Reads from standard input, at most 4194304 bytes, a netlist's text as `waves` does, then a line \
+`---`, and behind it a script. Its lines are edits, `wire`, `module` and `stim` as in a text, \
+`remove wire NAME` and `delay MODULE PORT D`, and the questions `wave WIRE` and `waves`.
+
+Answers each line in turn on standard output: an edit by `accepted N`, with how many edits were \
+accepted so far, or `refused CODE NAME`, which changes nothing; a question by the lines that \
+`waves` writes; and a line that is not read by `unread CODE NAME`.
+
+A netlist's text that is refused is told on standard error as `mpwb: line N: CODE NAME`.";
+
 /// The request that the words make, of which the first is the program's name, or what is told in
 /// its place: help, the version, what is wrong with the words, or want of memory.
 pub fn read_words<'a>(alloc: Global, words: &'a [String]) -> Result<Request, Error> {
     let matches = parser(alloc)?.try_get_matches_from(words)?;
     Ok(match matches.subcommand() {
+        Some(("play", found)) => request(Command::Play, found),
         Some((_, found)) => request(Command::Waves, found),
         None => request(Command::Waves, &matches),
     })
@@ -84,13 +98,20 @@ fn parser<'a>(alloc: Global) -> Result<Parser<'a>, AllocError> {
         .about(ABOUT)
         .after_help(STATUS)
         .subcommand_required(true)
-        .subcommand(waves(alloc)?)
+        .subcommand(command(alloc, "waves", WAVES, WAVES_LONG)?)?
+        .subcommand(command(alloc, "play", PLAY, PLAY_LONG)?)
 }
 
-fn waves<'a>(alloc: Global) -> Result<Parser<'a>, AllocError> {
-    let command = Parser::new(alloc, "waves")
-        .about(WAVES)
-        .long_about(WAVES_LONG)
+/// A command that works with a crew.
+fn command<'a>(
+    alloc: Global,
+    name: &'static str,
+    about: &'static str,
+    long_about: &'static str,
+) -> Result<Parser<'a>, AllocError> {
+    let command = Parser::new(alloc, name)
+        .about(about)
+        .long_about(long_about)
         .after_help(STATUS);
     with_crew(alloc, command)
 }

@@ -22,15 +22,16 @@ pub struct Keeper {
 }
 
 impl Model for Keeper {
-    ghost use Rattle.std.specs.Prelude.{◌≡◌};
-    ghost use Rattle.mp_model.specs.Waves.{waves};
     ghost use Rattle.mpwb.specs.Keepers.{Kept};
 
     ghost Value = { Kept };
 
+    ghost use Rattle.std.specs.Prelude.{◌≡◌};
+    ghost use Rattle.mp_model.specs.Waves.{waves as waves_of};
+
     ghost view = { λ keeper. record { netlist = keeper.netlist; accepted = keeper.accepted } };
 
-    ghost invariant = { λ keeper. keeper.waves.items ≡ waves keeper.netlist };
+    ghost invariant = { λ keeper. keeper.waves.items ≡ waves_of keeper.netlist };
 }
 
 impl Keeper {

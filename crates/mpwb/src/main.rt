@@ -5,9 +5,13 @@ mod command_line;
 mod keeper;
 mod numbered;
 mod options;
-mod request;
+#[cfg(test)]
+mod play_tests;
 mod put_text;
+mod replies;
+mod request;
 mod run_fault;
+mod run_play;
 mod run_waves;
 #[cfg(test)]
 mod tests;
@@ -17,6 +21,7 @@ use command_line::{read_words, tell};
 use mp_model::{ReadSource, WriteSink};
 use request::{Command, Request};
 use run_fault::{RunFault, exit_status, fault_line};
+use run_play::run_play;
 use run_waves::run_waves;
 use std::io::ErrorKind;
 use std::process::ExitCode;
@@ -58,6 +63,7 @@ fn run<R: Input + Print + AllocGlobal>(rt: &R, request: &Request) -> Result<(), 
     let mut sink = WriteSink::new(io::writer(rt));
     match request.command {
         Command::Waves => run_waves(rt.alloc(), &mut source, &mut sink, &request.options),
+        Command::Play => run_play(rt.alloc(), &mut source, &mut sink, &request.options),
     }
 }
 

@@ -6,6 +6,8 @@ use crate::options::Options;
 pub enum Command {
     /// Write the waves of a netlist's text.
     Waves,
+    /// Edit a netlist by a script, and answer its questions.
+    Play,
 }
 
 /// A command with its options.
