@@ -1,7 +1,13 @@
+pub mod DecimalLemmas
 pub mod DigitLemmas
 pub mod LineLemmas
 pub mod ReplayLemmas
+pub mod StatementBackLemmas
 pub mod TextLemmas
 pub mod WordLemmas
 pub mod WordListLemmas
 pub mod WriteLemmas
+pub mod DividedLemmas
+pub mod PlainLemmas
+pub mod ReadBackLemmas
+pub mod WrittenLineLemmas
