@@ -3,6 +3,7 @@ pub mod DigitLemmas
 pub mod LineLemmas
 pub mod ReplayLemmas
 pub mod StatementBackLemmas
+pub mod TextBackLemmas
 pub mod TextLemmas
 pub mod WordLemmas
 pub mod WordListLemmas

@@ -10,3 +10,4 @@ pub mod ScriptLines
 pub mod Laws
 pub mod WaveLines
 pub mod Written
+pub mod RoundTrips
