@@ -1,4 +1,4 @@
--- A netlist is still one after a wire or a module is added, or a slot of one is written over.
+-- A netlist is still one after something is added, or a slot is written over.
 use Rattle.std.proofs.Common.{◌≡◌, ℕ, ◌<◌, Bool, true, cond, [], ◌∷◌, length, Option, Some, None, is_some, ◌⊎◌, inl, inr, refl, sym, ap, subst, ◌∙◌, arith}
 use Rattle.std.specs.Bool.{IsTrue}
 use Rattle.std.specs.Option.{IfSome}
@@ -12,10 +12,10 @@ use Rattle.mp_netlist.specs.declared.ids.WireId.{WireId}
 use Rattle.mp_netlist.specs.declared.wire_record.WireRecord.{WireRecord}
 use Rattle.mp_netlist.specs.declared.module_record.ModuleRecord.{ModuleRecord}
 use Rattle.mp_netlist.specs.declared.bundle_record.BundleRecord.{BundleRecord}
-use Rattle.mp_netlist.specs.Circuit.{Circuit, IsCircuit, IsWire, IsModule, IsBundle, HasWidth, Drives, wire_at, module_at, width_of, module_width, output_at, stimulus_in, stimulus_at}
+use Rattle.mp_netlist.specs.Circuit.{Circuit, IsCircuit, IsWire, IsModule, IsBundle, HasWidth, Drives, wire_at, module_at, bundle_at, width_of, module_width, output_at, stimulus_in, stimulus_at}
 use Rattle.mp_netlist.specs.Drivers.{driver, is_nothing}
 use Rattle.mp_netlist.specs.Uses.{module_names, bundle_names, is_used}
-use Rattle.mp_netlist.specs.Edits.{with_wire_record, with_new_module, with_wire, with_module}
+use Rattle.mp_netlist.specs.Edits.{with_wire_record, with_new_module, with_new_bundle, with_wire, with_module, with_bundle}
 use Rattle.mp_netlist.proofs.TableLemmas.{PushedAt, pushed_at, RewrittenAt, rewritten_at, slot_within}
 use Rattle.mp_netlist.proofs.UseLemmas.{input_is_named, output_is_named, used_by_module, used_by_bundle, request_is_named, acknowledge_is_named, payload_is_named}
 use Rattle.mp_netlist.proofs.DriverLemmas.{undriven_is_free}
@@ -291,4 +291,63 @@ module _ (n : Circuit) (ok : IsCircuit n) where
       wires_few = ok.wires_few;
       modules_few = omega (arith, length-set n.modules id slot, ok.modules_few);
       bundles_few = ok.bundles_few;
+    }
+
+  -- one more bundle
+  module _ (r : BundleRecord) (is_bundle : IsBundle n r) (room : length n.bundles < 1024) where
+    abbrev bundled : Circuit
+    bundled = with_new_bundle n r
+
+    bundled_keeps : (test : ℕ → Bool) → KeepsWidths test n bundled
+    bundled_keeps test = record { keeps = λ w passes is. (is, refl) }
+
+    bundled_bundles : (b : ℕ) (s : BundleRecord) → PushedAt n.bundles (Some r) b → bundle_at bundled b ≡ Some s → IsBundle n s
+    bundled_bundles b s (inl old) at = ok.bundles_ok b s (sym old.1 ∙ at)
+    bundled_bundles b s (inr (inl new)) at = let same : r ≡ s = (let both = sym new.1 ∙ at in cc) in subst (IsBundle n) same is_bundle
+    bundled_bundles b s (inr (inr none)) at = let no = sym none.1 ∙ at in cc
+
+    bundled_back : (m p w : ℕ) → Drives bundled m p w → Drives n m p w
+    bundled_back m p w drives = record { part = drives.part; stands = drives.stands; output = drives.output }
+
+    pub IsCircuit-add_bundle : IsCircuit bundled
+    IsCircuit-add_bundle = record {
+      horizon_low = ok.horizon_low;
+      horizon_high = ok.horizon_high;
+      wires_ok = λ w s at. ok.wires_ok w s at;
+      modules_ok = λ m s at. IsModule-keep n bundled s (bundled_keeps (of_module s)) (ok.modules_ok m s at);
+      bundles_ok = λ b s at. IsBundle-keep n bundled s (bundled_keeps (of_bundle s)) (bundled_bundles b s (pushed_at n.bundles (Some r) b) at);
+      one_port = λ m p k q w a b. ok.one_port m p k q w (bundled_back m p w a) (bundled_back k q w b);
+      port_or_stimulus = λ m p w drives. ok.port_or_stimulus m p w (bundled_back m p w drives);
+      wires_few = ok.wires_few;
+      modules_few = ok.modules_few;
+      bundles_few = omega (arith, length_push n.bundles (Some r));
+    }
+
+  -- a bundle goes
+  module _ (id : ℕ) (within : id < length n.bundles) where
+    abbrev unbundled : Circuit
+    unbundled = with_bundle n id None
+
+    unbundled_keeps : (test : ℕ → Bool) → KeepsWidths test n unbundled
+    unbundled_keeps test = record { keeps = λ w passes is. (is, refl) }
+
+    unbundled_bundles : (b : ℕ) (s : BundleRecord) → RewrittenAt n.bundles id None b → bundle_at unbundled b ≡ Some s → IsBundle n s
+    unbundled_bundles b s (inl new) at = let no = sym new.1 ∙ at in cc
+    unbundled_bundles b s (inr old) at = ok.bundles_ok b s (sym old.1 ∙ at)
+
+    unbundled_back : (m p w : ℕ) → Drives unbundled m p w → Drives n m p w
+    unbundled_back m p w drives = record { part = drives.part; stands = drives.stands; output = drives.output }
+
+    pub IsCircuit-remove_bundle : IsCircuit unbundled
+    IsCircuit-remove_bundle = record {
+      horizon_low = ok.horizon_low;
+      horizon_high = ok.horizon_high;
+      wires_ok = λ w s at. ok.wires_ok w s at;
+      modules_ok = λ m s at. IsModule-keep n unbundled s (unbundled_keeps (of_module s)) (ok.modules_ok m s at);
+      bundles_ok = λ b s at. IsBundle-keep n unbundled s (unbundled_keeps (of_bundle s)) (unbundled_bundles b s (rewritten_at n.bundles id None within b) at);
+      one_port = λ m p k q w a b. ok.one_port m p k q w (unbundled_back m p w a) (unbundled_back k q w b);
+      port_or_stimulus = λ m p w drives. ok.port_or_stimulus m p w (unbundled_back m p w drives);
+      wires_few = ok.wires_few;
+      modules_few = ok.modules_few;
+      bundles_few = omega (arith, length-set n.bundles id None, ok.bundles_few);
     }

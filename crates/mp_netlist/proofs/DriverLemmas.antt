@@ -1,6 +1,6 @@
 -- The search for a driver finds the port that has a wire as its output.
-use Rattle.std.proofs.Common.{◌≡◌, ◌≢◌, ℕ, ◌+◌, Bool, true, false, cond, List, [], ◌∷◌, Option, Some, None, slice_index_or, is_some, zero, suc, refl, ap, sym, subst, ◌∙◌, arith, inl, inr, ◌⊎◌}
-use Rattle.std.proofs.lemmas.Bool.{eqb-true, eq-eqb}
+use Rattle.std.proofs.Common.{◌≡◌, ◌≢◌, ℕ, ◌+◌, ◌==◌, Bool, true, false, cond, List, [], ◌∷◌, Option, Some, None, slice_index_or, is_some, zero, suc, refl, ap, sym, subst, ◌∙◌, arith, inl, inr, ◌⊎◌}
+use Rattle.std.proofs.lemmas.Bool.{and_parts, eqb-true, eq-eqb}
 use Rattle.mp_netlist.specs.declared.ids.WireId.{WireId}
 use Rattle.mp_netlist.specs.declared.ids.ModuleId.{ModuleId}
 use Rattle.mp_netlist.specs.declared.module_record.ModuleRecord.{ModuleRecord}
@@ -8,7 +8,7 @@ use Rattle.mp_netlist.specs.declared.ports.Output.{Output}
 use Rattle.mp_netlist.specs.declared.driver.Driver.{Driver}
 use Rattle.mp_netlist.specs.declared.driver.Driver.TheVariants.{Nothing, Stimulus, Port}
 use Rattle.mp_netlist.specs.Circuit.{Circuit, IsCircuit, Drives, stimulus_at, output_at}
-use Rattle.mp_netlist.specs.Drivers.{is_wire, port_from, port_of, or_later, driver, driver_from, stimulus_driver, is_port, is_nothing, FindsPorts, FindsOnlyPorts}
+use Rattle.mp_netlist.specs.Drivers.{is_wire, port_from, port_of, or_later, driver, driver_from, stimulus_driver, is_port, is_nothing, is_free_for, FindsPorts, FindsOnlyPorts}
 
 abbrev no_output : Output
 no_output = record { wire = None; delay = 1 }
@@ -172,3 +172,16 @@ portless_driver n w unset = by (stimulus_at n w) refl
     by : (stimulus : Option (List (ℕ × ℕ))) → stimulus_at n w ≡ stimulus → driver_from 0 n.modules w Nothing ≡ driver_from 0 n.modules w (stimulus_driver (stimulus_at n w))
     by None e = ap (λ s. driver_from 0 n.modules w (stimulus_driver s)) (sym e)
     by (Some changes) e = let no = sym (ap is_some e) ∙ unset in cc
+
+-- where nothing but one port drives a wire, no other does, and nothing is set on it
+pub free_for : (n : Circuit) → IsCircuit n → (w m p : ℕ) → is_free_for m p (driver n w) ≡ true → ((k q : ℕ) → Drives n k q w → (k ≡ m) × (q ≡ p)) × (stimulus_at n w ≡ None)
+free_for n ok w m p free = (
+  λ k q drives.
+      let parts = and_parts (k == m) (q == p) (sym (ap (is_free_for m p) (finds_ports n ok k q w drives)) ∙ free) in
+      (eqb-true k m parts.0, eqb-true q p parts.1),
+  by (stimulus_at n w) refl,
+)
+  where
+    by : (stimulus : Option (List (ℕ × ℕ))) → stimulus_at n w ≡ stimulus → stimulus_at n w ≡ None
+    by None e = e
+    by (Some changes) e = let no = sym (ap (is_free_for m p) (stimulus_drives n ok w (ap is_some e))) ∙ free in cc

@@ -1,25 +1,28 @@
 -- A netlist is still one after each edit that no check refuses.
-use Rattle.std.proofs.Common.{◌≡◌, ℕ, zero, suc, ◌<◌, ◌≤◌, Bool, true, false, ◌==◌, cond, List, [], ◌∷◌, length, Option, Some, None, option_map, is_none, refl, sym, ap, subst, ◌∙◌, arith}
+use Rattle.std.proofs.Common.{◌≡◌, ℕ, zero, suc, ◌<◌, ◌≤◌, Bool, true, false, ◌==◌, cond, List, [], ◌∷◌, length, Option, Some, None, option_map, is_none, is_some, ◌&&◌, refl, sym, ap, subst, ◌∙◌, arith}
 use Rattle.std.specs.Prelude.{nat_le}
 use Rattle.std.proofs.lemmas.Bool.{and_parts, eqb-true, ltb-true, leb-true, not-true, both_ways}
 use Rattle.mp_modules.specs.declared.kind.Kind.{Kind}
-use Rattle.mp_modules.specs.Kinds.{are_params, input_count, output_count}
+use Rattle.mp_modules.specs.Kinds.{are_params, input_count, output_count, input_width, output_width}
 use Rattle.std.specs.List.{list_all, All}
+use Rattle.std.specs.Option.{IfSome}
 use Rattle.mp_netlist.specs.declared.port_names.OutputName.{OutputName}
-use Rattle.mp_netlist.specs.declared.edit.Edit.TheVariants.{AddWire, RemoveWire, AddModule, SetDelay, SetStimulus}
+use Rattle.mp_netlist.specs.declared.edit.Edit.TheVariants.{AddWire, RemoveWire, AddModule, RemoveModule, AddBundle, RemoveBundle, RewireInput, RewireOutput, SetDelay, SetStimulus, ClearStimulus}
 use Rattle.mp_netlist.specs.declared.edit_error.EditError.{EditError}
 use Rattle.mp_netlist.specs.Stimuli.{is_stimulus, fits_width}
+use Rattle.mp_netlist.specs.declared.ids.WireId.{WireId}
+use Rattle.mp_netlist.specs.declared.wire_record.WireRecord.{WireRecord}
 use Rattle.mp_netlist.specs.declared.module_record.ModuleRecord.{ModuleRecord}
-use Rattle.mp_netlist.specs.Circuit.{Circuit, IsCircuit, IsWire, IsModule, wire_at, module_at, wire_named, module_named, width_of}
-use Rattle.mp_netlist.specs.Drivers.{driver, is_port}
+use Rattle.mp_netlist.specs.Circuit.{Circuit, IsCircuit, IsWire, IsModule, HasWidth, Drives, wire_at, module_at, bundle_at, wire_named, module_named, bundle_named, width_of, module_width, stimulus_at}
+use Rattle.mp_netlist.specs.Drivers.{driver, is_port, is_free_for}
 use Rattle.mp_netlist.specs.Uses.{is_used}
-use Rattle.mp_netlist.specs.Edits.{first_failing, stands, wire_id, module_stands, module_id, module_of, output_ports, is_delay, width_named, driven_names, are_distinct, is_undriven, new_width, inputs_fit, outputs_fit, wire_checks, wire_removal_checks, module_checks, delay_checks, stimulus_checks, wire_refusal, wire_removal_refusal, module_refusal, delay_refusal, stimulus_refusal, refusal, edited, new_module, with_new_wire, with_new_module, with_delay, with_module, with_stimulus, with_wire}
+use Rattle.mp_netlist.specs.Edits.{first_failing, stands, wire_id, module_stands, module_id, module_of, bundle_id, input_ports, output_ports, input_width_of, output_width_of, output_stands, output_fits, output_is_free, is_delay, width_named, driven_names, are_distinct, is_undriven, new_width, inputs_fit, outputs_fit, wire_checks, wire_removal_checks, module_checks, module_removal_checks, bundle_checks, bundle_removal_checks, input_checks, output_checks, delay_checks, stimulus_checks, clearing_checks, wire_refusal, wire_removal_refusal, module_refusal, module_removal_refusal, bundle_refusal, bundle_removal_refusal, input_refusal, output_refusal, delay_refusal, stimulus_refusal, clearing_refusal, refusal, edited, new_module, with_new_wire, with_new_module, new_bundle, with_new_bundle, with_bundle, with_input, with_output, with_delay, with_module, with_stimulus, without_stimulus, with_wire}
 use Rattle.mp_netlist.specs.Laws.{EditsKeepNetlists}
-use Rattle.mp_netlist.proofs.NameLemmas.{Stands, stands_from, stands_within, ModuleStands, module_stands_from, module_within}
+use Rattle.mp_netlist.proofs.NameLemmas.{Stands, stands_from, stands_within, ModuleStands, module_stands_from, module_within, BundleStands, bundle_stands_from, bundle_within}
 use Rattle.mp_netlist.proofs.DriverLemmas.{portless_is_undriven}
-use Rattle.mp_netlist.proofs.CircuitLemmas.{DrivesAlone, DrivesAlone-same, IsCircuit-add_wire, IsCircuit-add_module, IsCircuit-rewrite_wire, IsCircuit-rewrite_module}
-use Rattle.mp_netlist.proofs.PortEditLemmas.{delay_at, wires-with_delay, IsModule-with_delay}
-use Rattle.mp_netlist.proofs.ModuleLemmas.{ArePorts, IsModule-new, new_undriven, new_distinct}
+use Rattle.mp_netlist.proofs.CircuitLemmas.{DrivesAlone, DrivesAlone-same, IsCircuit-add_wire, IsCircuit-add_module, IsCircuit-rewrite_wire, IsCircuit-rewrite_module, IsCircuit-add_bundle, IsCircuit-remove_bundle}
+use Rattle.mp_netlist.proofs.PortEditLemmas.{delay_at, wires-with_delay, IsModule-with_delay, IsModule-with_input, IsModule-with_output, DrivesAlone-with_output}
+use Rattle.mp_netlist.proofs.ModuleLemmas.{stands_wide, ArePorts, IsModule-new, new_undriven, new_distinct}
 
 -- each check passes
 abbrev AllPass : List (Bool × EditError) → Type 0
@@ -115,6 +118,136 @@ IsCircuit-with_new_module n ok name kind params inputs outputs none =
     IsCircuit-add_module n ok _ (IsModule-new n name kind params inputs outputs new.ports new.ranged)
     (new_distinct n name kind params inputs outputs new.ports) (new_undriven n name kind params inputs outputs new.ports) new.room
 
+pub IsCircuit-without_module : (n : Circuit) → IsCircuit n → (name : List ℕ) → ModuleStands n name → IsCircuit (with_module n (module_id n name).0 None)
+IsCircuit-without_module n ok name part =
+    IsCircuit-rewrite_module n ok (module_id n name).0 None (module_within n name part) (λ s is. (cc)) (λ s is. (cc))
+
+pub going_module : (n : Circuit) (name : List ℕ) → module_removal_refusal n name ≡ None → ModuleStands n name
+going_module n name none = module_stands_from n name (all_pass (module_removal_checks n name) none).0
+
+-- what the checks of a new bundle tell
+pub record IsNewBundle (n : Circuit) (name request acknowledge payload : List ℕ) (setup : ℕ) : Type 0 where
+  pub free : is_none (bundle_named n name) ≡ true
+  pub requests : Stands n request
+  pub acknowledges : Stands n acknowledge
+  pub pays : Stands n payload
+  pub request_wide : width_named n request ≡ 1
+  pub acknowledge_wide : width_named n acknowledge ≡ 1
+  pub early : setup ≤ 65535
+  pub room : length n.bundles < 1024
+
+pub is_new_bundle : (n : Circuit) (name request acknowledge payload : List ℕ) (setup : ℕ) → bundle_refusal n name request acknowledge payload setup ≡ None
+    → IsNewBundle n name request acknowledge payload setup
+is_new_bundle n name request acknowledge payload setup none =
+    let all = all_pass (bundle_checks n name request acknowledge payload setup) none in
+    let stand = and_parts (stands n request && stands n acknowledge) (stands n payload) all.1.1.0 in
+    let both = and_parts (stands n request) (stands n acknowledge) stand.0 in
+    let wide = and_parts (width_named n request == 1) (width_named n acknowledge == 1) all.1.1.1.0 in
+    record {
+      free = all.1.0;
+      requests = stands_from n request both.0;
+      acknowledges = stands_from n acknowledge both.1;
+      pays = stands_from n payload stand.1;
+      request_wide = eqb-true _ _ wide.0;
+      acknowledge_wide = eqb-true _ _ wide.1;
+      early = leb-true setup 65535 all.1.1.1.1.0;
+      room = ltb-true (length n.bundles) 1024 all.1.1.1.1.1.0;
+    }
+
+pub IsCircuit-with_new_bundle : (n : Circuit) → IsCircuit n → (name request acknowledge payload : List ℕ) (setup : ℕ) → bundle_refusal n name request acknowledge payload setup ≡ None
+    → IsCircuit (with_new_bundle n (new_bundle n name request acknowledge payload setup))
+IsCircuit-with_new_bundle n ok name request acknowledge payload setup none =
+    let new = is_new_bundle n name request acknowledge payload setup none in
+    let early = new.early in
+    IsCircuit-add_bundle n ok (new_bundle n name request acknowledge payload setup)
+    (record {
+      request = stands_wide n request new.requests 1 new.request_wide;
+      acknowledge = stands_wide n acknowledge new.acknowledges 1 new.acknowledge_wide;
+      payload = ap is_some new.pays.at;
+      setup = omega arith;
+    })
+    new.room
+
+pub going_bundle : (n : Circuit) (name : List ℕ) → bundle_removal_refusal n name ≡ None → BundleStands n name
+going_bundle n name none = bundle_stands_from n name (all_pass (bundle_removal_checks n name) none).0
+
+-- what the checks of an input's new wire tell
+pub record IsNewInput (n : Circuit) (name : List ℕ) (port : ℕ) (wire : List ℕ) : Type 0 where
+  pub part : ModuleStands n name
+  pub within : port < length part.thing.inputs
+  pub wide : HasWidth n (wire_id n wire).0 (input_width part.thing.kind (module_width n part.thing) port)
+
+pub new_input : (n : Circuit) (name : List ℕ) (port : ℕ) (wire : List ℕ) → input_refusal n name port wire ≡ None → IsNewInput n name port wire
+new_input n name port wire none =
+    let all = all_pass (input_checks n name port wire) none in
+    let part = module_stands_from n name all.0 in
+    let within = ltb-true port (input_ports (module_of n name)) all.1.0 in
+    let same = eqb-true (width_named n wire) (input_width_of n (module_of n name) port) all.1.1.1.0 in
+    record {
+      part = part;
+      within = subst (λ (slot : Option ModuleRecord). port < input_ports slot) part.found within;
+      wide = stands_wide n wire (stands_from n wire all.1.1.0) _ (same ∙ ap (λ (slot : Option ModuleRecord). input_width_of n slot port) part.found);
+    }
+
+abbrev reread : Circuit → List ℕ → ℕ → List ℕ → Circuit
+reread n name port wire = with_module n (module_id n name).0 (option_map (with_input port (wire_id n wire)) (module_at n (module_id n name).0))
+
+pub IsCircuit-reread : (n : Circuit) → IsCircuit n → (name : List ℕ) (port : ℕ) (wire : List ℕ) → input_refusal n name port wire ≡ None → IsCircuit (reread n name port wire)
+IsCircuit-reread n ok name port wire none =
+    let new = new_input n name port wire none in
+    let id = (module_id n name).0 in
+    let old = new.part.thing in
+    let is = IsModule-with_input n old port (wire_id n wire) new.within new.wide (ok.modules_ok id old new.part.at) in
+    let alone = DrivesAlone-same n ok id old (with_input port (wire_id n wire) old) new.part.at (λ p. refl) in
+    subst (λ slot. IsCircuit (with_module n id (option_map (with_input port (wire_id n wire)) slot))) (sym new.part.at)
+    (IsCircuit-rewrite_module n ok id (Some (with_input port (wire_id n wire) old)) (module_within n name new.part) (only (IsModule n) is) (only (DrivesAlone n id) alone))
+
+-- what the checks of an output's new wire tell
+pub record IsNewOutput (n : Circuit) (name : List ℕ) (port : ℕ) (wire : Option (List ℕ)) : Type 0 where
+  pub part : ModuleStands n name
+  pub within : port < length part.thing.outputs
+  pub wide : IfSome (option_map (wire_id n) wire) (λ (w : WireId). HasWidth n w.0 (output_width part.thing.kind (module_width n part.thing) port))
+  pub free : (w : ℕ) → option_map (wire_id n) wire ≡ Some (record { 0 = w }) → is_free_for (module_id n name).0 port (driver n w) ≡ true
+
+output_wide : (n : Circuit) (wire : Option (List ℕ)) (width : ℕ) → output_stands n wire ≡ true → output_fits n wire width ≡ true
+    → IfSome (option_map (wire_id n) wire) (λ (w : WireId). HasWidth n w.0 width)
+output_wide n None width stand fits = tt
+output_wide n (Some name) width stand fits = stands_wide n name (stands_from n name stand) width (eqb-true _ _ fits)
+
+output_free : (n : Circuit) (id port : ℕ) (wire : Option (List ℕ)) → output_is_free n id port wire ≡ true
+    → (w : ℕ) → option_map (wire_id n) wire ≡ Some (record { 0 = w }) → is_free_for id port (driver n w) ≡ true
+output_free n id port None free w is = cc
+output_free n id port (Some name) free w is =
+    let same : (wire_id n name).0 ≡ w = (let ids : wire_id n name ≡ record { 0 = w } = cc in ap (λ (v : WireId). v.0) ids) in
+    subst (λ k. is_free_for id port (driver n k) ≡ true) same free
+
+pub new_output : (n : Circuit) (name : List ℕ) (port : ℕ) (wire : Option (List ℕ)) → output_refusal n name port wire ≡ None → IsNewOutput n name port wire
+new_output n name port wire none =
+    let all = all_pass (output_checks n name port wire) none in
+    let part = module_stands_from n name all.0 in
+    let within = ltb-true port (output_ports (module_of n name)) all.1.0 in
+    let fits = subst (λ (slot : Option ModuleRecord). output_fits n wire (output_width_of n slot port) ≡ true) part.found all.1.1.1.0 in
+    record {
+      part = part;
+      within = subst (λ (slot : Option ModuleRecord). port < output_ports slot) part.found within;
+      wide = output_wide n wire _ all.1.1.0 fits;
+      free = output_free n (module_id n name).0 port wire all.1.1.1.1.0;
+    }
+
+abbrev redirected : Circuit → List ℕ → ℕ → Option (List ℕ) → Circuit
+redirected n name port wire = with_module n (module_id n name).0 (option_map (with_output port (option_map (wire_id n) wire)) (module_at n (module_id n name).0))
+
+pub IsCircuit-redirected : (n : Circuit) → IsCircuit n → (name : List ℕ) (port : ℕ) (wire : Option (List ℕ)) → output_refusal n name port wire ≡ None → IsCircuit (redirected n name port wire)
+IsCircuit-redirected n ok name port wire none =
+    let new = new_output n name port wire none in
+    let id = (module_id n name).0 in
+    let old = new.part.thing in
+    let ids = option_map (wire_id n) wire in
+    let is = IsModule-with_output n old port ids new.within new.wide (ok.modules_ok id old new.part.at) in
+    let alone = DrivesAlone-with_output n old port ids new.within ok id new.part.at new.free in
+    subst (λ slot. IsCircuit (with_module n id (option_map (with_output port ids) slot))) (sym new.part.at)
+    (IsCircuit-rewrite_module n ok id (Some (with_output port ids old)) (module_within n name new.part) (only (IsModule n) is) (only (DrivesAlone n id) alone))
+
 -- what the checks of a port's new delay tell
 pub record IsNewDelay (n : Circuit) (name : List ℕ) (port delay : ℕ) : Type 0 where
   pub part : ModuleStands n name
@@ -168,13 +301,36 @@ IsCircuit-stimulated n ok name changes none =
     (λ used. (refl, sym (ap width_of new.wire.at)))
     (λ m p drives. absurd (portless_is_undriven n ok id new.portless m p drives)))
 
+-- what the checks before a stimulus goes tell
+pub clearing : (n : Circuit) (name : List ℕ) → clearing_refusal n name ≡ None → Stands n name
+clearing n name none = stands_from n name (all_pass (clearing_checks n name) none).0
+
+abbrev cleared : Circuit → List ℕ → Circuit
+cleared n name = with_wire n (wire_id n name).0 (option_map without_stimulus (wire_at n (wire_id n name).0))
+
+pub IsCircuit-cleared : (n : Circuit) → IsCircuit n → (name : List ℕ) → clearing_refusal n name ≡ None → IsCircuit (cleared n name)
+IsCircuit-cleared n ok name none =
+    let wire = clearing n name none in
+    let id = (wire_id n name).0 in
+    let was = ok.wires_ok id wire.wire wire.at in
+    subst (λ slot. IsCircuit (with_wire n id (option_map without_stimulus slot))) (sym wire.at)
+    (IsCircuit-rewrite_wire n ok id (Some (without_stimulus wire.wire)) (stands_within n name wire)
+    (only (IsWire n.horizon) (record { wide = was.wide; narrow = was.narrow; level = was.level; stimulus = tt }))
+    (λ used. (refl, sym (ap width_of wire.at))) (λ m p drives. refl))
+
 pub edits_keep_netlists : EditsKeepNetlists
 unfolding refusal edited
 edits_keep_netlists n ok (AddWire name width level) none = IsCircuit-with_new_wire n ok name width level none
 edits_keep_netlists n ok (RemoveWire name) none = IsCircuit-without_wire n ok name none
 edits_keep_netlists n ok (AddModule name kind params inputs outputs) none = IsCircuit-with_new_module n ok name kind params inputs outputs none
+edits_keep_netlists n ok (RemoveModule name) none = IsCircuit-without_module n ok name (going_module n name none)
+edits_keep_netlists n ok (AddBundle name request acknowledge payload setup) none = IsCircuit-with_new_bundle n ok name request acknowledge payload setup none
+edits_keep_netlists n ok (RemoveBundle name) none = IsCircuit-remove_bundle n ok (bundle_id n name).0 (bundle_within n name (going_bundle n name none))
+edits_keep_netlists n ok (RewireInput name port wire) none = IsCircuit-reread n ok name port wire none
+edits_keep_netlists n ok (RewireOutput name port wire) none = IsCircuit-redirected n ok name port wire none
 edits_keep_netlists n ok (SetDelay name port delay) none = IsCircuit-delayed n ok name port delay none
 edits_keep_netlists n ok (SetStimulus name changes) none = IsCircuit-stimulated n ok name changes none
+edits_keep_netlists n ok (ClearStimulus name) none = IsCircuit-cleared n ok name none
 
 -- each time of a stimulus is below the horizon
 is_stimulus-early : (horizon width before : ℕ) (changes : List (ℕ × ℕ)) → is_stimulus horizon width before changes ≡ true → All (λ (change : ℕ × ℕ). change.0 < horizon) changes

@@ -22,7 +22,7 @@ use Rattle.mp_netlist.proofs.PortLemmas.{no_name, driven_pass, distinct_ports}
 use Rattle.mp_netlist.proofs.PortEditLemmas.{delay_at}
 
 -- a wire that a name finds has the width that the name stands for
-stands_wide : (n : Circuit) (name : List ℕ) → Stands n name → (width : ℕ) → width_named n name ≡ width → HasWidth n (wire_id n name).0 width
+pub stands_wide : (n : Circuit) (name : List ℕ) → Stands n name → (width : ℕ) → width_named n name ≡ width → HasWidth n (wire_id n name).0 width
 stands_wide n name wire width same = (ap is_some wire.at, ap width_of wire.at ∙ sym wire.width ∙ same)
 
 -- each place of a list that passes a test passes it, counted

@@ -1,11 +1,11 @@
--- The wire or module that a name finds stands, and no other has the name.
+-- What a name finds stands, and nothing else of its sort has the name.
 use Rattle.std.proofs.Common.{◌≡◌, ℕ, ◌<◌, length, true, List, Option, Some, None, is_some, unwrap_or, refl, sym, ap, ◌∙◌}
 use Rattle.std.specs.Option.{option_and_then}
 use Rattle.mp_netlist.specs.declared.wire_record.WireRecord.{WireRecord}
 use Rattle.mp_netlist.specs.declared.module_record.ModuleRecord.{ModuleRecord}
 use Rattle.mp_netlist.specs.declared.bundle_record.BundleRecord.{BundleRecord}
 use Rattle.mp_netlist.specs.Circuit.{Circuit, wire_at, wire_named, width_of}
-use Rattle.mp_netlist.specs.Edits.{stands, wire_id, width_named, module_stands, module_id}
+use Rattle.mp_netlist.specs.Edits.{stands, wire_id, width_named, module_stands, module_id, bundle_stands, bundle_id}
 use Rattle.mp_netlist.proofs.TableLemmas.{named_has, one_name, IsNamed, is_named, slot_within}
 
 abbrev pub wire_name : WireRecord → List ℕ
@@ -48,3 +48,13 @@ module_stands_from n name is = is_named module_name n.modules name is
 
 pub module_within : (n : Circuit) (name : List ℕ) → ModuleStands n name → (module_id n name).0 < length n.modules
 module_within n name part = slot_within n.modules (module_id n name).0 (ap is_some part.at)
+
+-- what is known of a bundle that a name finds
+abbrev pub BundleStands : Circuit → List ℕ → Type 0
+BundleStands n name = IsNamed bundle_name n.bundles name
+
+pub bundle_stands_from : (n : Circuit) (name : List ℕ) → bundle_stands n name ≡ true → BundleStands n name
+bundle_stands_from n name is = is_named bundle_name n.bundles name is
+
+pub bundle_within : (n : Circuit) (name : List ℕ) → BundleStands n name → (bundle_id n name).0 < length n.bundles
+bundle_within n name bundle = slot_within n.bundles (bundle_id n name).0 (ap is_some bundle.at)

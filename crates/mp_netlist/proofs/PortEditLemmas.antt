@@ -1,17 +1,23 @@
 -- A module with another delay or wire at a port is one of the netlist.
-use Rattle.std.proofs.Common.{◌≡◌, ℕ, ◌<◌, List, length, get_or, None, true, refl, sym, ap, subst, ◌∙◌, arith, ◌⊎◌, inl, inr}
+use Rattle.std.proofs.Common.{◌≡◌, ℕ, ◌<◌, Bool, true, false, cond, List, length, get_or, Option, Some, None, refl, sym, ap, subst, ◌∙◌, arith, ◌⊎◌, inl, inr}
+use Rattle.std.specs.Bool.{IsTrue}
 use Rattle.std.specs.List.{All}
 use Rattle.std.specs.Option.{IfSome}
-use Rattle.std.specs.Prelude.{nat_le}
+use Rattle.std.specs.Prelude.{nat_le, slice_index_or}
 use Rattle.std.proofs.Math.ListN.{set, length-set}
 use Rattle.std.proofs.lemmas.Bool.{and_parts, leb-true, cases_eq}
 use Rattle.std.proofs.lemmas.List.{get_or-set_same, get_or-set_other}
-use Rattle.mp_modules.specs.Kinds.{output_width}
+use Rattle.mp_modules.specs.declared.kind.Kind.{Kind}
+use Rattle.mp_modules.specs.declared.kind.Kind.TheVariants as kinds
+use Rattle.mp_modules.specs.Kinds.{has_width, input_width, output_width, are_params}
 use Rattle.mp_netlist.specs.declared.ids.WireId.{WireId}
 use Rattle.mp_netlist.specs.declared.module_record.ModuleRecord.{ModuleRecord}
 use Rattle.mp_netlist.specs.declared.ports.Output.{Output}
-use Rattle.mp_netlist.specs.Circuit.{Circuit, IsModule, IsDelay, HasWidth, module_width, output_at}
-use Rattle.mp_netlist.specs.Edits.{is_delay, with_delay}
+use Rattle.mp_netlist.specs.Circuit.{Circuit, IsCircuit, IsModule, IsDelay, HasWidth, Drives, wire_at, module_at, width_of, module_width, output_at, stimulus_at}
+use Rattle.mp_netlist.specs.Drivers.{driver, is_free_for}
+use Rattle.mp_netlist.specs.Edits.{is_delay, with_input, with_output, with_delay}
+use Rattle.mp_netlist.proofs.DriverLemmas.{free_for}
+use Rattle.mp_netlist.proofs.CircuitLemmas.{DrivesAlone}
 
 pub delay_at : (delay : ℕ) → is_delay delay ≡ true → IsDelay delay
 delay_at delay is =
@@ -53,3 +59,138 @@ IsModule-with_delay n r port delay within is ok = record {
   reads = ok.reads;
   drives = λ p. subst (λ wire. IfSome wire (λ (w : WireId). HasWidth n w.0 (output_width r.kind (module_width n r) p))) (sym (wires-with_delay port delay r within p)) (ok.drives p);
 }
+
+-- a kind with ports of any width has the module's width at its first input
+first_is_wide : (kind : Kind) (width : ℕ) → has_width kind ≡ true → input_width kind width 0 ≡ width
+first_is_wide kinds.Buf width wide = refl
+first_is_wide kinds.Not width wide = cc
+first_is_wide kinds.Xor width wide = cc
+first_is_wide kinds.C width wide = cc
+first_is_wide kinds.Toggle width wide = cc
+first_is_wide kinds.Select width wide = cc
+first_is_wide kinds.Call width wide = cc
+first_is_wide kinds.Arbiter width wide = cc
+first_is_wide kinds.Reg width wide = refl
+first_is_wide kinds.AddC width wide = refl
+first_is_wide kinds.XorC width wide = refl
+first_is_wide kinds.Sum width wide = refl
+first_is_wide kinds.Bit width wide = refl
+
+-- a module that reads another wire of the port's width
+module _ (n : Circuit) (r : ModuleRecord) (port : ℕ) (wire : WireId) (within : port < length r.inputs) (wide : HasWidth n wire.0 (input_width r.kind (module_width n r) port)) where
+  abbrev reading : ModuleRecord
+  reading = with_input port wire r
+
+  abbrev first_of : ModuleRecord → ℕ
+  first_of s = width_of (wire_at n (slice_index_or s.inputs 0 (record { 0 = 0 })).0)
+
+  first_is : has_width r.kind ≡ true → first_of reading ≡ first_of r
+  first_is has = by (cases_eq 0 port)
+    where
+      by : (0 ≡ port) ⊎ (0 ≡ port → ⊥) → first_of reading ≡ first_of r
+      by (inl same) =
+          let at : slice_index_or (set r.inputs port wire) 0 (record { 0 = 0 }) ≡ wire =
+          ap (λ k. slice_index_or (set r.inputs port wire) k (record { 0 = 0 })) same ∙ get_or-set_same r.inputs port wire (record { 0 = 0 }) within in
+          ap (λ (v : WireId). width_of (wire_at n v.0)) at ∙ wide.1 ∙ ap (input_width r.kind (module_width n r)) (sym same)
+          ∙ first_is_wide r.kind (module_width n r) has ∙ ap (λ b. cond b (first_of r) 1) has
+      by (inr other) = ap (λ (v : WireId). width_of (wire_at n v.0)) (get_or-set_other r.inputs port 0 wire (record { 0 = 0 }) other)
+
+  width_is : module_width n reading ≡ module_width n r
+  width_is = by (has_width r.kind) refl
+    where
+      by : (has : Bool) → has_width r.kind ≡ has → cond has (first_of reading) 1 ≡ cond has (first_of r) 1
+      by true has = first_is has
+      by false has = refl
+
+  reads_at : (p : ℕ) (v : WireId) → p < length r.inputs → IsModule n r → HasWidth n (slice_index_or (set r.inputs port wire) p v).0 (input_width r.kind (module_width n r) p)
+  reads_at p v here ok = by (cases_eq p port)
+    where
+      by : (p ≡ port) ⊎ (p ≡ port → ⊥) → HasWidth n (slice_index_or (set r.inputs port wire) p v).0 (input_width r.kind (module_width n r) p)
+      by (inl same) =
+          let at : slice_index_or (set r.inputs port wire) p v ≡ wire = ap (λ k. slice_index_or (set r.inputs port wire) k v) same ∙ get_or-set_same r.inputs port wire v within in
+          subst (λ (u : WireId). HasWidth n u.0 (input_width r.kind (module_width n r) p)) (sym at)
+          (subst (λ k. HasWidth n wire.0 (input_width r.kind (module_width n r) k)) (sym same) wide)
+      by (inr other) =
+          subst (λ (u : WireId). HasWidth n u.0 (input_width r.kind (module_width n r) p)) (sym (get_or-set_other r.inputs port p wire v other)) (ok.reads p v here)
+
+  pub IsModule-with_input : IsModule n r → IsModule n reading
+  IsModule-with_input ok =
+      let width = sym width_is in
+      record {
+        inputs = length-set r.inputs port wire ∙ ok.inputs;
+        outputs = ok.outputs;
+        params = subst (λ k. IsTrue (are_params r.kind k r.params)) width ok.params;
+        delays = ok.delays;
+        reads = λ p v here.
+            let old : p < length r.inputs = omega (arith, length-set r.inputs port wire) in
+            subst (λ k. HasWidth n (slice_index_or (set r.inputs port wire) p v).0 (input_width r.kind k p)) width (reads_at p v old ok);
+        drives = λ p. subst (λ k. IfSome (output_at r p).wire (λ (w : WireId). HasWidth n w.0 (output_width r.kind k p))) width (ok.drives p);
+      }
+
+-- a module that drives another wire of the port's width, or none
+module _ (n : Circuit) (r : ModuleRecord) (port : ℕ) (wire : Option WireId) (within : port < length r.outputs) where
+  abbrev driving : ModuleRecord
+  driving = with_output port wire r
+
+  abbrev new_port : Output
+  new_port = record (output_at r port) { wire = wire }
+
+  abbrev none : Output
+  none = record { wire = None; delay = 1 }
+
+  -- a port has the new wire, or the one that it had
+  abbrev DrivesAt : ℕ → Type 0
+  DrivesAt p = ((p ≡ port) × ((output_at driving p).wire ≡ wire)) ⊎ ((output_at driving p).wire ≡ (output_at r p).wire)
+
+  drives_at : (p : ℕ) → DrivesAt p
+  drives_at p = by (cases_eq p port)
+    where
+      by : (p ≡ port) ⊎ (p ≡ port → ⊥) → DrivesAt p
+      by (inl same) = inl (same, ap (λ k. (output_at driving k).wire) same ∙ ap (λ (o : Output). o.wire) (get_or-set_same r.outputs port new_port none within))
+      by (inr other) = inr (ap (λ (o : Output). o.wire) (get_or-set_other r.outputs port p new_port none other))
+
+  pub IsModule-with_output : IfSome wire (λ (w : WireId). HasWidth n w.0 (output_width r.kind (module_width n r) port)) → IsModule n r → IsModule n driving
+  IsModule-with_output wide ok = record {
+    inputs = ok.inputs;
+    outputs = length-set r.outputs port new_port ∙ ok.outputs;
+    params = ok.params;
+    delays = All-set (λ (o : Output). IsDelay o.delay) r.outputs port new_port (ok.delays port none within) ok.delays;
+    reads = ok.reads;
+    drives = λ p. by p (drives_at p);
+  }
+    where
+      by : (p : ℕ) → DrivesAt p → IfSome (output_at driving p).wire (λ (w : WireId). HasWidth n w.0 (output_width r.kind (module_width n r) p))
+      by p (inl new) =
+          subst (λ w. IfSome w (λ (v : WireId). HasWidth n v.0 (output_width r.kind (module_width n r) p))) (sym new.1)
+          (subst (λ k. IfSome wire (λ (v : WireId). HasWidth n v.0 (output_width r.kind (module_width n r) k))) (sym new.0) wide)
+      by p (inr old) = subst (λ w. IfSome w (λ (v : WireId). HasWidth n v.0 (output_width r.kind (module_width n r) p))) (sym old) (ok.drives p)
+
+  -- the new wire, if any, has no driver but this port
+  module _ (ok : IsCircuit n) (id : ℕ) (at : module_at n id ≡ Some r) (free : (w : ℕ) → wire ≡ Some (record { 0 = w }) → is_free_for id port (driver n w) ≡ true) where
+    abbrev DrivesNow : ℕ → ℕ → Type 0
+    DrivesNow p w = ((p ≡ port) × (is_free_for id port (driver n w) ≡ true)) ⊎ Drives n id p w
+
+    drives_now : (p w : ℕ) → (output_at driving p).wire ≡ Some (record { 0 = w }) → DrivesAt p → DrivesNow p w
+    drives_now p w has (inl new) = inl (new.0, free w (sym new.1 ∙ has))
+    drives_now p w has (inr old) = inr (record { part = r; stands = at; output = sym old ∙ has })
+
+    one : (p q w : ℕ) → DrivesNow p w → DrivesNow q w → p ≡ q
+    one p q w (inl a) (inl b) = a.0 ∙ sym b.0
+    one p q w (inl a) (inr b) = a.0 ∙ sym ((free_for n ok w id port a.1).0 id q b).1
+    one p q w (inr a) (inl b) = ((free_for n ok w id port b.1).0 id p a).1 ∙ sym b.0
+    one p q w (inr a) (inr b) = (ok.one_port id p id q w a b).1
+
+    alone : (p w k q : ℕ) → DrivesNow p w → Drives n k q w → k ≡ id
+    alone p w k q (inl a) other = ((free_for n ok w id port a.1).0 k q other).0
+    alone p w k q (inr a) other = (ok.one_port k q id p w other a).0
+
+    unset : (p w : ℕ) → DrivesNow p w → stimulus_at n w ≡ None
+    unset p w (inl a) = (free_for n ok w id port a.1).1
+    unset p w (inr a) = ok.port_or_stimulus id p w a
+
+    pub DrivesAlone-with_output : DrivesAlone n id driving
+    DrivesAlone-with_output = record {
+      distinct = λ p q w a b. one p q w (drives_now p w a (drives_at p)) (drives_now q w b (drives_at q));
+      alone = λ p w k q a other. alone p w k q (drives_now p w a (drives_at p)) other;
+      unset = λ p w a. unset p w (drives_now p w a (drives_at p));
+    }

@@ -1,5 +1,5 @@
 -- What drives a wire.
-use Rattle.std.specs.Prelude.{◌≡◌, ℕ, ◌+◌, Bool, true, false, List, [], ◌∷◌, Option, Some, None, ◌==◌, if◌then◌else◌}
+use Rattle.std.specs.Prelude.{◌≡◌, ℕ, ◌+◌, Bool, true, false, ◌&&◌, List, [], ◌∷◌, Option, Some, None, ◌==◌, if◌then◌else◌}
 use Rattle.mp_netlist.specs.declared.ids.WireId.{WireId}
 use Rattle.mp_netlist.specs.declared.ids.ModuleId.{ModuleId}
 use Rattle.mp_netlist.specs.declared.module_record.ModuleRecord.{ModuleRecord}
@@ -48,6 +48,12 @@ abbrev pub is_nothing : Driver → Bool
 is_nothing Nothing = true
 is_nothing Stimulus = false
 is_nothing (Port m p) = false
+
+-- nothing drives the wire, or just that port of that module
+abbrev pub is_free_for : ℕ → ℕ → Driver → Bool
+is_free_for m p Nothing = true
+is_free_for m p Stimulus = false
+is_free_for m p (Port k q) = k.0 == m && q == p
 
 -- a port that has a wire as its output is the wire's driver
 abbrev pub FindsPorts : Type 0

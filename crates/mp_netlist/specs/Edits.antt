@@ -6,18 +6,20 @@ use Rattle.mp_modules.specs.declared.kind.Kind.{Kind}
 use Rattle.mp_modules.specs.Kinds.{input_count, output_count, has_width, input_width, output_width, are_params}
 use Rattle.mp_netlist.specs.declared.ids.WireId.{WireId}
 use Rattle.mp_netlist.specs.declared.ids.ModuleId.{ModuleId}
+use Rattle.mp_netlist.specs.declared.ids.BundleId.{BundleId}
 use Rattle.mp_netlist.specs.declared.wire_record.WireRecord.{WireRecord}
 use Rattle.mp_netlist.specs.declared.module_record.ModuleRecord.{ModuleRecord}
+use Rattle.mp_netlist.specs.declared.bundle_record.BundleRecord.{BundleRecord}
 use Rattle.mp_netlist.specs.declared.ports.Output.{Output}
 use Rattle.mp_netlist.specs.declared.port_names.OutputName.{OutputName}
 use Rattle.mp_netlist.specs.declared.edit.Edit.{Edit}
-use Rattle.mp_netlist.specs.declared.edit.Edit.TheVariants.{AddWire, RemoveWire, AddModule, SetDelay, SetStimulus}
+use Rattle.mp_netlist.specs.declared.edit.Edit.TheVariants.{AddWire, RemoveWire, AddModule, RemoveModule, AddBundle, RemoveBundle, RewireInput, RewireOutput, SetDelay, SetStimulus, ClearStimulus}
 use Rattle.mp_netlist.specs.declared.edit_error.EditError.{EditError}
-use Rattle.mp_netlist.specs.declared.edit_error.EditError.TheVariants.{NameTaken, BadName, NoSuchWire, NoSuchModule, BadWidth, BadLevel, BadDelay, BadPort, WrongPorts, BadParam, WidthMismatch, AlreadyDriven, StillUsed, BadStimulus, TableFull, OutOfMemory}
+use Rattle.mp_netlist.specs.declared.edit_error.EditError.TheVariants.{NameTaken, BadName, NoSuchWire, NoSuchModule, NoSuchBundle, BadWidth, BadLevel, BadDelay, BadPort, WrongPorts, BadParam, WidthMismatch, AlreadyDriven, StillUsed, BadStimulus, NoStimulus, TableFull, OutOfMemory}
 use Rattle.mp_netlist.specs.Names.{is_name}
 use Rattle.mp_netlist.specs.Stimuli.{is_stimulus, fits_width}
-use Rattle.mp_netlist.specs.Circuit.{Circuit, wire_at, module_at, wire_named, module_named, width_of, output_at}
-use Rattle.mp_netlist.specs.Drivers.{driver, is_port, is_nothing}
+use Rattle.mp_netlist.specs.Circuit.{Circuit, wire_at, module_at, wire_named, module_named, bundle_named, width_of, module_width, output_at, stimulus_at}
+use Rattle.mp_netlist.specs.Drivers.{driver, is_port, is_nothing, is_free_for}
 use Rattle.mp_netlist.specs.Uses.{is_used}
 
 -- the error of the first check that fails
@@ -51,10 +53,33 @@ module_id n name = record { 0 = unwrap_or (module_named n name) 0 }
 abbrev pub module_of : Circuit → List ℕ → Option ModuleRecord
 module_of n name = option_and_then (module_at n) (module_named n name)
 
+-- whether a bundle of the name stands
+abbrev pub bundle_stands : Circuit → List ℕ → Bool
+bundle_stands n name = is_some (bundle_named n name)
+
+-- the number of the bundle that has the name
+abbrev pub bundle_id : Circuit → List ℕ → BundleId
+bundle_id n name = record { 0 = unwrap_or (bundle_named n name) 0 }
+
+-- how many input ports a module has
+abbrev pub input_ports : Option ModuleRecord → ℕ
+input_ports None = 0
+input_ports (Some r) = length r.inputs
+
 -- how many output ports a module has
 abbrev pub output_ports : Option ModuleRecord → ℕ
 output_ports None = 0
 output_ports (Some r) = length r.outputs
+
+-- the width of an input port of a module
+abbrev pub input_width_of : Circuit → Option ModuleRecord → ℕ → ℕ
+input_width_of n None port = 0
+input_width_of n (Some r) port = input_width r.kind (module_width n r) port
+
+-- the width of an output port of a module
+abbrev pub output_width_of : Circuit → Option ModuleRecord → ℕ → ℕ
+output_width_of n None port = 0
+output_width_of n (Some r) port = output_width r.kind (module_width n r) port
 
 -- the width of the wire that has the name
 abbrev pub width_named : Circuit → List ℕ → ℕ
@@ -63,6 +88,16 @@ width_named n name = width_of (option_and_then (wire_at n) (wire_named n name))
 -- nothing drives the wire that has the name
 abbrev pub is_undriven : Circuit → List ℕ → Bool
 is_undriven n name = is_nothing (driver n (wire_id n name).0)
+
+-- a wire that is to be driven stands, if any is named
+abbrev pub output_stands : Circuit → Option (List ℕ) → Bool
+output_stands n None = true
+output_stands n (Some name) = stands n name
+
+-- a wire that is to be driven by this port of this module has no other driver, if any is named
+abbrev pub output_is_free : Circuit → ℕ → ℕ → Option (List ℕ) → Bool
+output_is_free n m port None = true
+output_is_free n m port (Some name) = is_free_for m port (driver n (wire_id n name).0)
 
 -- the names of the wires that the outputs drive
 abbrev pub driven_names : List OutputName → List (List ℕ)
@@ -136,6 +171,59 @@ module_checks n name kind params inputs outputs =
 abbrev pub module_refusal : Circuit → List ℕ → Kind → List ℕ → List (List ℕ) → List OutputName → Option EditError
 module_refusal n name kind params inputs outputs = first_failing (module_checks n name kind params inputs outputs)
 
+-- the checks before a module goes
+abbrev pub module_removal_checks : Circuit → List ℕ → List (Bool × EditError)
+module_removal_checks n name = (module_stands n name, NoSuchModule) ∷ []
+
+abbrev pub module_removal_refusal : Circuit → List ℕ → Option EditError
+module_removal_refusal n name = first_failing (module_removal_checks n name)
+
+-- the checks of a new bundle, in order
+abbrev pub bundle_checks : Circuit → List ℕ → List ℕ → List ℕ → List ℕ → ℕ → List (Bool × EditError)
+bundle_checks n name request acknowledge payload setup =
+    (is_name name, BadName)
+    ∷ (is_none (bundle_named n name), NameTaken)
+    ∷ (stands n request && stands n acknowledge && stands n payload, NoSuchWire)
+    ∷ (width_named n request == 1 && width_named n acknowledge == 1, WidthMismatch)
+    ∷ (nat_le setup 65535, BadParam)
+    ∷ (nat_lt (length n.bundles) 1024, TableFull)
+    ∷ []
+
+abbrev pub bundle_refusal : Circuit → List ℕ → List ℕ → List ℕ → List ℕ → ℕ → Option EditError
+bundle_refusal n name request acknowledge payload setup = first_failing (bundle_checks n name request acknowledge payload setup)
+
+-- the checks before a bundle goes
+abbrev pub bundle_removal_checks : Circuit → List ℕ → List (Bool × EditError)
+bundle_removal_checks n name = (bundle_stands n name, NoSuchBundle) ∷ []
+
+abbrev pub bundle_removal_refusal : Circuit → List ℕ → Option EditError
+bundle_removal_refusal n name = first_failing (bundle_removal_checks n name)
+
+-- the checks of an input's new wire, in order
+abbrev pub input_checks : Circuit → List ℕ → ℕ → List ℕ → List (Bool × EditError)
+input_checks n name port wire =
+    (module_stands n name, NoSuchModule)
+    ∷ (nat_lt port (input_ports (module_of n name)), BadPort)
+    ∷ (stands n wire, NoSuchWire)
+    ∷ (width_named n wire == input_width_of n (module_of n name) port, WidthMismatch)
+    ∷ []
+
+abbrev pub input_refusal : Circuit → List ℕ → ℕ → List ℕ → Option EditError
+input_refusal n name port wire = first_failing (input_checks n name port wire)
+
+-- the checks of an output's new wire, in order
+abbrev pub output_checks : Circuit → List ℕ → ℕ → Option (List ℕ) → List (Bool × EditError)
+output_checks n name port wire =
+    (module_stands n name, NoSuchModule)
+    ∷ (nat_lt port (output_ports (module_of n name)), BadPort)
+    ∷ (output_stands n wire, NoSuchWire)
+    ∷ (output_fits n wire (output_width_of n (module_of n name) port), WidthMismatch)
+    ∷ (output_is_free n (module_id n name).0 port wire, AlreadyDriven)
+    ∷ []
+
+abbrev pub output_refusal : Circuit → List ℕ → ℕ → Option (List ℕ) → Option EditError
+output_refusal n name port wire = first_failing (output_checks n name port wire)
+
 -- the checks of a port's new delay, in order
 abbrev pub delay_checks : Circuit → List ℕ → ℕ → ℕ → List (Bool × EditError)
 delay_checks n name port delay =
@@ -158,13 +246,29 @@ stimulus_checks n name changes =
 abbrev pub stimulus_refusal : Circuit → List ℕ → List (ℕ × ℕ) → Option EditError
 stimulus_refusal n name changes = first_failing (stimulus_checks n name changes)
 
+-- the checks before a stimulus goes, in order
+abbrev pub clearing_checks : Circuit → List ℕ → List (Bool × EditError)
+clearing_checks n name =
+    (stands n name, NoSuchWire)
+    ∷ (is_some (stimulus_at n (wire_id n name).0), NoStimulus)
+    ∷ []
+
+abbrev pub clearing_refusal : Circuit → List ℕ → Option EditError
+clearing_refusal n name = first_failing (clearing_checks n name)
+
 -- the first check that the edit fails
 unfoldable pub refusal : Circuit → Edit → Option EditError
 refusal n (AddWire name width level) = wire_refusal n name width level
 refusal n (RemoveWire name) = wire_removal_refusal n name
 refusal n (AddModule name kind params inputs outputs) = module_refusal n name kind params inputs outputs
+refusal n (RemoveModule name) = module_removal_refusal n name
+refusal n (AddBundle name request acknowledge payload setup) = bundle_refusal n name request acknowledge payload setup
+refusal n (RemoveBundle name) = bundle_removal_refusal n name
+refusal n (RewireInput name port wire) = input_refusal n name port wire
+refusal n (RewireOutput name port wire) = output_refusal n name port wire
 refusal n (SetDelay name port delay) = delay_refusal n name port delay
 refusal n (SetStimulus name changes) = stimulus_refusal n name changes
+refusal n (ClearStimulus name) = clearing_refusal n name
 
 abbrev pub with_wire_record : Circuit → WireRecord → Circuit
 with_wire_record n r = record n { wires = n.wires ++ Some r ∷ [] }
@@ -186,10 +290,33 @@ with_new_module n r = record n { modules = n.modules ++ Some r ∷ [] }
 abbrev pub with_stimulus : List (ℕ × ℕ) → WireRecord → WireRecord
 with_stimulus changes wire = record wire { stimulus = Some changes }
 
+abbrev pub without_stimulus : WireRecord → WireRecord
+without_stimulus wire = record wire { stimulus = None }
+
 -- the netlist with something else in a wire's slot
 abbrev pub with_wire : Circuit → ℕ → Option WireRecord → Circuit
 with_wire n w wire = record n { wires = slice_set n.wires w wire }
 
+abbrev pub new_bundle : Circuit → List ℕ → List ℕ → List ℕ → List ℕ → ℕ → BundleRecord
+new_bundle n name request acknowledge payload setup =
+    record { name = name; request = wire_id n request; acknowledge = wire_id n acknowledge; payload = wire_id n payload; setup = setup }
+
+abbrev pub with_new_bundle : Circuit → BundleRecord → Circuit
+with_new_bundle n r = record n { bundles = n.bundles ++ Some r ∷ [] }
+
+-- the netlist with something else in a bundle's slot
+abbrev pub with_bundle : Circuit → ℕ → Option BundleRecord → Circuit
+with_bundle n b bundle = record n { bundles = slice_set n.bundles b bundle }
+
+-- a module that reads another wire at a port
+abbrev pub with_input : ℕ → WireId → ModuleRecord → ModuleRecord
+with_input port wire r = record r { inputs = slice_set r.inputs port wire }
+
+-- a module that drives another wire at a port, or none, with the port's delay
+abbrev pub with_output : ℕ → Option WireId → ModuleRecord → ModuleRecord
+with_output port wire r = record r { outputs = slice_set r.outputs port (record (output_at r port) { wire = wire }) }
+
+-- a module with another delay at a port
 abbrev pub with_delay : ℕ → ℕ → ModuleRecord → ModuleRecord
 with_delay port delay r = record r { outputs = slice_set r.outputs port (record (output_at r port) { delay = delay }) }
 
@@ -202,10 +329,19 @@ unfoldable pub edited : Circuit → Edit → Circuit
 edited n (AddWire name width level) = with_new_wire n name width level
 edited n (RemoveWire name) = with_wire n (wire_id n name).0 None
 edited n (AddModule name kind params inputs outputs) = with_new_module n (new_module n name kind params inputs outputs)
+edited n (RemoveModule name) = with_module n (module_id n name).0 None
+edited n (AddBundle name request acknowledge payload setup) = with_new_bundle n (new_bundle n name request acknowledge payload setup)
+edited n (RemoveBundle name) = with_bundle n (bundle_id n name).0 None
+edited n (RewireInput name port wire) =
+    with_module n (module_id n name).0 (option_map (with_input port (wire_id n wire)) (module_at n (module_id n name).0))
+edited n (RewireOutput name port wire) =
+    with_module n (module_id n name).0 (option_map (with_output port (option_map (wire_id n) wire)) (module_at n (module_id n name).0))
 edited n (SetDelay name port delay) =
     with_module n (module_id n name).0 (option_map (with_delay port delay) (module_at n (module_id n name).0))
 edited n (SetStimulus name changes) =
     with_wire n (wire_id n name).0 (option_map (with_stimulus changes) (wire_at n (wire_id n name).0))
+edited n (ClearStimulus name) =
+    with_wire n (wire_id n name).0 (option_map without_stimulus (wire_at n (wire_id n name).0))
 
 abbrev pub unless : Option EditError → Circuit → Result Circuit EditError
 unless None n = Ok n

@@ -29,6 +29,34 @@ pub enum Edit {
         inputs: InputNames,
         outputs: OutputNames,
     },
+    /// Removes a module. The wires that it drove have no driver then.
+    RemoveModule {
+        module: Name,
+    },
+    /// Adds a bundle of a new name, with its setup in units.
+    AddBundle {
+        name: Name,
+        request: Name,
+        acknowledge: Name,
+        payload: Name,
+        setup: u64,
+    },
+    /// Removes a bundle.
+    RemoveBundle {
+        bundle: Name,
+    },
+    /// Lets an input port read another wire, of the port's width.
+    RewireInput {
+        module: Name,
+        port: u64,
+        wire: Name,
+    },
+    /// Lets an output port drive another wire of its width, or none. The port keeps its delay.
+    RewireOutput {
+        module: Name,
+        port: u64,
+        wire: Option<Name>,
+    },
     /// Sets the transport delay of an output port, in units.
     SetDelay {
         module: Name,
@@ -39,6 +67,10 @@ pub enum Edit {
     SetStimulus {
         wire: Name,
         changes: Changes,
+    },
+    /// Takes away what was set on a wire from outside.
+    ClearStimulus {
+        wire: Name,
     },
 }
 

@@ -28,7 +28,9 @@ pub use edit_error::EditError;
 pub use ids::{BundleId, ModuleId, WireId};
 pub use module_record::ModuleRecord;
 pub use name::Name;
-pub use netlist::{MAX_DELAY, MAX_HORIZON, MAX_MODULES, MAX_WIRES, Netlist};
+pub use netlist::{
+    MAX_BUNDLES, MAX_DELAY, MAX_HORIZON, MAX_MODULES, MAX_SETUP, MAX_WIRES, Netlist,
+};
 pub use new_error::NewError;
 pub use params::Params;
 pub use port_names::{InputNames, OutputName, OutputNames};

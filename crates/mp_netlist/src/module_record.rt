@@ -25,7 +25,7 @@ impl ModuleRecord {
     ghost use Rattle.std.specs.Prelude.{◌≡◌};
     ghost use Rattle.mp_netlist.specs.Circuit.{delay_of};
     ghost use Rattle.mp_netlist.specs.Uses.{module_names};
-    ghost use Rattle.mp_netlist.specs.Edits.{with_delay};
+    ghost use Rattle.mp_netlist.specs.Edits.{with_input, with_output, with_delay};
 
     /// The transport delay of an output port in units, 1 where there is no such port.
     pub fn delay(&self, port: u32) -> u32
@@ -42,6 +42,20 @@ impl ModuleRecord {
         ensures { result ≡ module_names wire.0 self.now }
     {
         reads(self.inputs.as_slice(), wire) || drives(self.outputs.as_slice(), wire)
+    }
+
+    /// Sets the wire of an input port, where there is such a port.
+    pub(crate) fn set_input(&mut self, port: usize, wire: WireId)
+        ensures { self.new ≡ with_input port wire self.old }
+    {
+        self.inputs.set_wire(port, wire);
+    }
+
+    /// Sets the wire of an output port, where there is such a port.
+    pub(crate) fn set_output(&mut self, port: usize, wire: Option<WireId>)
+        ensures { self.new ≡ with_output port wire self.old }
+    {
+        self.outputs.set_wire(port, wire);
     }
 
     /// Sets the delay of an output port, where there is such a port.

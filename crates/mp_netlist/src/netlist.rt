@@ -8,7 +8,7 @@ mod ports;
 mod uses;
 
 use crate::bundle_record::BundleRecord;
-use crate::ids::{ModuleId, WireId};
+use crate::ids::{BundleId, ModuleId, WireId};
 use crate::module_record::ModuleRecord;
 use crate::new_error::NewError;
 use crate::wire_record::WireRecord;
@@ -25,8 +25,14 @@ pub const MAX_WIRES: usize = 8192;
 /// How many modules may ever be added to a netlist.
 pub const MAX_MODULES: usize = 4096;
 
+/// How many bundles may ever be added to a netlist.
+pub const MAX_BUNDLES: usize = 1024;
+
 /// The longest delay of an output port, in units.
 pub const MAX_DELAY: u64 = 65535;
+
+/// The longest setup of a bundle, in units.
+pub const MAX_SETUP: u64 = 65535;
 
 /// Wires, modules and bundles by number, and for how many units they run.
 #[derive(Drop)]
@@ -56,7 +62,7 @@ impl Netlist {
     ghost use Rattle.std.specs.Prelude.{◌≡◌, ◌≤◌, ◌<◌, ℕ, length, option_map, IfSome, IfOk, IfErr, IsOk, ◌↔◌};
     ghost use Rattle.std.specs.Option.{option_copied};
     ghost use Rattle.mp_netlist.specs.declared.new_error.NewError.TheVariants.{BadHorizon};
-    ghost use Rattle.mp_netlist.specs.Circuit.{IsCircuit, IsWire, IsModule, empty_circuit, wire_at, module_at, wire_named, module_named};
+    ghost use Rattle.mp_netlist.specs.Circuit.{IsCircuit, IsWire, IsModule, IsBundle, empty_circuit, wire_at, module_at, bundle_at, wire_named, module_named, bundle_named};
 
     /// A netlist without records that runs for `horizon` units: refused as `BadHorizon` exactly where they are not 1 to 65,536.
     pub fn empty(alloc: Global, horizon: u64) -> Result<Netlist, NewError>
@@ -104,6 +110,14 @@ impl Netlist {
         self.modules.len() as u32
     }
 
+    /// How many bundles were ever added. Their numbers are below.
+    pub fn bundle_slots(&self) -> u32
+        ensures value { result ≡ length self.now.bundles }
+        ensures few { result ≤ 1024 }
+    {
+        self.bundles.len() as u32
+    }
+
     /// The wire of this number, where it stands.
     pub fn wire(&self, id: WireId) -> Option<&WireRecord>
         ensures value { option_copied result ≡ wire_at self.now id.0 }
@@ -126,6 +140,17 @@ impl Netlist {
         }
     }
 
+    /// The bundle of this number, where it stands.
+    pub fn bundle(&self, id: BundleId) -> Option<&BundleRecord>
+        ensures value { option_copied result ≡ bundle_at self.now id.0 }
+        ensures form { IfSome result (λ found. IsBundle self.now found.now) }
+    {
+        match self.bundles.get(id.0 as usize) {
+            Some(Some(found)) => Some(found),
+            _ => None,
+        }
+    }
+
     /// The number of the wire that has this name.
     pub fn wire_named(&self, name: &str) -> Option<WireId>
         ensures { option_map (λ id. id.0) result ≡ wire_named self.now name.now }
@@ -142,6 +167,16 @@ impl Netlist {
     {
         match self.module_names.get(name) {
             Some(number) => Some(ModuleId(*number)),
+            None => None,
+        }
+    }
+
+    /// The number of the bundle that has this name.
+    pub fn bundle_named(&self, name: &str) -> Option<BundleId>
+        ensures { option_map (λ id. id.0) result ≡ bundle_named self.now name.now }
+    {
+        match self.bundle_names.get(name) {
+            Some(number) => Some(BundleId(*number)),
             None => None,
         }
     }

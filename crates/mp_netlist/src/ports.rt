@@ -1,5 +1,5 @@
 //! The ports of a module that stands: wires by number.
-ghost use Rattle.std.specs.Prelude.{◌≡◌};
+ghost use Rattle.std.specs.Prelude.{◌≡◌, slice_set};
 
 use crate::ids::WireId;
 use std::alloc::AllocError;
@@ -44,6 +44,15 @@ impl Inputs {
     {
         self.wires.as_slice()
     }
+
+    /// Sets the wire of a port, where there is such a port.
+    pub(crate) fn set_wire(&mut self, port: usize, wire: WireId)
+        ensures { self.new ≡ slice_set self.old port wire }
+    {
+        if port < self.wires.len() {
+            self.wires[port] = wire;
+        }
+    }
 }
 
 /// An output port: the wire that it drives, if any, and its transport delay in units.
@@ -79,7 +88,6 @@ impl Clone for Outputs {
 }
 
 impl Outputs {
-    ghost use Rattle.std.specs.Prelude.{slice_set};
     ghost use Rattle.mp_netlist.specs.Circuit.{output_in};
 
     /// These output ports, the first being port 0.
@@ -94,6 +102,15 @@ impl Outputs {
         ensures { result.now ≡ self.now }
     {
         self.ports.as_slice()
+    }
+
+    /// Sets the wire of a port, where there is such a port.
+    pub(crate) fn set_wire(&mut self, port: usize, wire: Option<WireId>)
+        ensures { self.new ≡ slice_set self.old port (record (output_in self.old port) { wire = wire }) }
+    {
+        if port < self.ports.len() {
+            self.ports[port].wire = wire;
+        }
     }
 
     /// Sets the delay of a port, where there is such a port.

@@ -1,8 +1,15 @@
+pub mod DecimalLemmas
 pub mod DigitLemmas
 pub mod LineLemmas
 pub mod ReplayLemmas
+pub mod StatementBackLemmas
+pub mod TextBackLemmas
 pub mod TextLemmas
 pub mod WordLemmas
 pub mod WordListLemmas
 pub mod DivisionLemmas
 pub mod WriteLemmas
+pub mod DividedLemmas
+pub mod PlainLemmas
+pub mod ReadBackLemmas
+pub mod WrittenLineLemmas

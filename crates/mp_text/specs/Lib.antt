@@ -11,3 +11,4 @@ pub mod Laws
 pub mod WaveLines
 pub mod Divisions
 pub mod Written
+pub mod RoundTrips

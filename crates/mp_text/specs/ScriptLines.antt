@@ -3,23 +3,41 @@ use Rattle.std.specs.Prelude.{ℕ, List, [], ◌∷◌, Option, Some, Result, Ok
 use Rattle.std.specs.Option.{ok_or}
 use Rattle.std.specs.Str.{bytes_eq}
 use Rattle.mp_netlist.specs.declared.edit.Edit.{Edit}
-use Rattle.mp_netlist.specs.declared.edit.Edit.TheVariants.{RemoveWire, SetDelay}
+use Rattle.mp_netlist.specs.declared.edit.Edit.TheVariants.{RemoveWire, RemoveModule, RemoveBundle, RewireInput, RewireOutput, SetDelay, ClearStimulus}
 use Rattle.mp_text.specs.declared.line_error.LineError.{LineError}
 use Rattle.mp_text.specs.declared.line_error.LineError.TheVariants.{UnknownStatement, WordCount}
 use Rattle.mp_text.specs.declared.line_word.LineWord.{LineWord}
-use Rattle.mp_text.specs.declared.line_word.LineWord.TheVariants.{Stated, Remove, Delay, Wave, Waves}
+use Rattle.mp_text.specs.declared.line_word.LineWord.TheVariants.{Stated, Remove, Input, Output, Delay, Clear, Wave, Waves, Text}
 use Rattle.mp_text.specs.declared.script_line.Line.{Line}
 use Rattle.mp_text.specs.declared.script_line.Line.TheVariants.{Empty, Change, Ask}
 use Rattle.mp_text.specs.declared.script_line.Question.{Question}
 use Rattle.mp_text.specs.declared.script_line.Question.TheVariants as questions
 use Rattle.mp_text.specs.Lines.{line_words}
-use Rattle.mp_text.specs.Statements.{number_word, edit_word, stated_edit}
+use Rattle.mp_text.specs.Statements.{number_word, wire_or_none, edit_word, stated_edit}
 use Rattle.mp_text.specs.Reads.{◌>>=◌}
 
 -- the edit of the words behind `remove`
 unfoldable pub removal : List (List ℕ) → Result Edit LineError
-removal (thing ∷ name ∷ []) = if bytes_eq thing (codes "wire") then Ok (RemoveWire name) else Err UnknownStatement
+removal (thing ∷ name ∷ []) =
+    if bytes_eq thing (codes "wire") then Ok (RemoveWire name)
+    else (if bytes_eq thing (codes "module") then Ok (RemoveModule name)
+    else (if bytes_eq thing (codes "bundle") then Ok (RemoveBundle name)
+    else Err UnknownStatement))
 removal _ = Err WordCount
+
+-- the edit of the words behind `input`
+unfoldable pub input_edit : List (List ℕ) → Result Edit LineError
+input_edit (part ∷ port ∷ wire ∷ []) = do
+  p ← number_word port
+  Ok (RewireInput part p wire)
+input_edit _ = Err WordCount
+
+-- the edit of the words behind `output`, where `-` is no wire
+unfoldable pub output_edit : List (List ℕ) → Result Edit LineError
+output_edit (part ∷ port ∷ wire ∷ []) = do
+  p ← number_word port
+  Ok (RewireOutput part p (wire_or_none wire))
+output_edit _ = Err WordCount
 
 -- the edit of the words behind `delay`
 unfoldable pub delay_edit : List (List ℕ) → Result Edit LineError
@@ -28,6 +46,11 @@ delay_edit (part ∷ port ∷ delay ∷ []) = do
   d ← number_word delay
   Ok (SetDelay part p d)
 delay_edit _ = Err WordCount
+
+-- the edit of the words behind `clear`
+unfoldable pub clearing : List (List ℕ) → Result Edit LineError
+clearing (wire ∷ []) = Ok (ClearStimulus wire)
+clearing _ = Err WordCount
 
 -- the question of the words behind `wave`
 unfoldable pub wave_question : List (List ℕ) → Result Question LineError
@@ -51,18 +74,26 @@ question_line (Err error) = Err error
 abbrev pub line_word : List ℕ → Option LineWord
 line_word word =
     if bytes_eq word (codes "remove") then Some Remove
+    else (if bytes_eq word (codes "input") then Some Input
+    else (if bytes_eq word (codes "output") then Some Output
     else (if bytes_eq word (codes "delay") then Some Delay
+    else (if bytes_eq word (codes "clear") then Some Clear
     else (if bytes_eq word (codes "wave") then Some Wave
     else (if bytes_eq word (codes "waves") then Some Waves
-    else option_map Stated (edit_word word))))
+    else (if bytes_eq word (codes "text") then Some Text
+    else option_map Stated (edit_word word))))))))
 
 -- the line of that word and the words behind it
 unfoldable pub stated_line : LineWord → List (List ℕ) → Result Line LineError
 stated_line (Stated word) words = change_line (stated_edit word words)
 stated_line Remove words = change_line (removal words)
+stated_line Input words = change_line (input_edit words)
+stated_line Output words = change_line (output_edit words)
 stated_line Delay words = change_line (delay_edit words)
+stated_line Clear words = change_line (clearing words)
 stated_line Wave words = question_line (wave_question words)
 stated_line Waves words = question_line (bare_question questions.Waves words)
+stated_line Text words = question_line (bare_question questions.Text words)
 
 -- the line of its words
 unfoldable pub line_of : List (List ℕ) → Result Line LineError

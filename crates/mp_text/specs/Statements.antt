@@ -7,11 +7,11 @@ use Rattle.mp_modules.specs.declared.kind.Kind.{Kind}
 use Rattle.mp_modules.specs.Kinds.{kind_named}
 use Rattle.mp_netlist.specs.declared.port_names.OutputName.{OutputName}
 use Rattle.mp_netlist.specs.declared.edit.Edit.{Edit}
-use Rattle.mp_netlist.specs.declared.edit.Edit.TheVariants.{AddWire, AddModule, SetStimulus}
+use Rattle.mp_netlist.specs.declared.edit.Edit.TheVariants.{AddWire, AddModule, AddBundle, SetStimulus}
 use Rattle.mp_text.specs.declared.line_error.LineError.{LineError}
 use Rattle.mp_text.specs.declared.line_error.LineError.TheVariants.{UnknownStatement, WordCount, BadNumber}
 use Rattle.mp_text.specs.declared.edit_word.EditWord.{EditWord}
-use Rattle.mp_text.specs.declared.edit_word.EditWord.TheVariants.{Wire, Module, Stimulus}
+use Rattle.mp_text.specs.declared.edit_word.EditWord.TheVariants.{Wire, Module, Stimulus, Bundle}
 use Rattle.mp_text.specs.Numbers.{spelled_number, time_and_value, name_and_number}
 use Rattle.mp_text.specs.Reads.{◌>>=◌}
 
@@ -93,19 +93,28 @@ stimulus_edit (wire ∷ words) = do
   changes ← each_word change_word words
   Ok (SetStimulus wire changes)
 
+-- the edit of the words behind `bundle`
+unfoldable pub bundle_edit : List (List ℕ) → Result Edit LineError
+bundle_edit (name ∷ request ∷ acknowledge ∷ payload ∷ setup ∷ []) = do
+  s ← number_word setup
+  Ok (AddBundle name request acknowledge payload s)
+bundle_edit _ = Err WordCount
+
 -- the first word of an edit that texts and scripts have
 abbrev pub edit_word : List ℕ → Option EditWord
 edit_word word =
     if bytes_eq word (codes "wire") then Some Wire
     else (if bytes_eq word (codes "module") then Some Module
     else (if bytes_eq word (codes "stim") then Some Stimulus
-    else None))
+    else (if bytes_eq word (codes "bundle") then Some Bundle
+    else None)))
 
 -- the edit of the words behind that word
 unfoldable pub stated_edit : EditWord → List (List ℕ) → Result Edit LineError
 stated_edit Wire words = wire_edit words
 stated_edit Module words = module_edit words
 stated_edit Stimulus words = stimulus_edit words
+stated_edit Bundle words = bundle_edit words
 
 -- a line without words, one that begins with another word, the horizon that begins a text, or an edit
 pub data Statement : Type 0 where

@@ -6,6 +6,7 @@ use Rattle.mp_modules.specs.Kinds.{word_of}
 use Rattle.mp_netlist.specs.declared.ids.WireId.{WireId}
 use Rattle.mp_netlist.specs.declared.wire_record.WireRecord.{WireRecord}
 use Rattle.mp_netlist.specs.declared.module_record.ModuleRecord.{ModuleRecord}
+use Rattle.mp_netlist.specs.declared.bundle_record.BundleRecord.{BundleRecord}
 use Rattle.mp_netlist.specs.declared.ports.Output.{Output}
 use Rattle.mp_netlist.specs.Circuit.{Circuit, wire_at}
 
@@ -61,10 +62,16 @@ abbrev pub stimulus_line : Option WireRecord → List ℕ
 stimulus_line None = []
 stimulus_line (Some r) = stimulus_words r.name r.stimulus
 
--- the horizon, the wires, the modules and the stimuli, each by number
+abbrev pub bundle_line : Circuit → Option BundleRecord → List ℕ
+bundle_line n None = []
+bundle_line n (Some r) =
+    written_line (codes "bundle") (r.name ∷ wire_name n r.request ∷ wire_name n r.acknowledge ∷ wire_name n r.payload ∷ decimal r.setup ∷ [])
+
+-- the horizon, the wires, the modules, the stimuli by wire and the bundles, each by number
 unfoldable pub written : Circuit → List ℕ
 written n =
     horizon_line n.horizon
     ++ (flat_map wire_line n.wires
     ++ (flat_map (module_line n) n.modules
-    ++ flat_map stimulus_line n.wires))
+    ++ (flat_map stimulus_line n.wires
+    ++ flat_map (bundle_line n) n.bundles)))

@@ -9,6 +9,8 @@ pub enum EditWord {
     Module,
     /// `stim`
     Stimulus,
+    /// `bundle`
+    Bundle,
 }
 
 impl EditWord {
@@ -25,6 +27,8 @@ impl EditWord {
             Some(EditWord::Module)
         } else if word == b"stim".as_slice() {
             Some(EditWord::Stimulus)
+        } else if word == b"bundle".as_slice() {
+            Some(EditWord::Bundle)
         } else {
             None
         }

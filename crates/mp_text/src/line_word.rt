@@ -8,12 +8,20 @@ pub enum LineWord {
     Stated(EditWord),
     /// `remove`
     Remove,
+    /// `input`
+    Input,
+    /// `output`
+    Output,
     /// `delay`
     Delay,
+    /// `clear`
+    Clear,
     /// `wave`
     Wave,
     /// `waves`
     Waves,
+    /// `text`
+    Text,
 }
 
 impl LineWord {
@@ -26,12 +34,20 @@ impl LineWord {
     {
         if word == b"remove".as_slice() {
             Some(LineWord::Remove)
+        } else if word == b"input".as_slice() {
+            Some(LineWord::Input)
+        } else if word == b"output".as_slice() {
+            Some(LineWord::Output)
         } else if word == b"delay".as_slice() {
             Some(LineWord::Delay)
+        } else if word == b"clear".as_slice() {
+            Some(LineWord::Clear)
         } else if word == b"wave".as_slice() {
             Some(LineWord::Wave)
         } else if word == b"waves".as_slice() {
             Some(LineWord::Waves)
+        } else if word == b"text".as_slice() {
+            Some(LineWord::Text)
         } else {
             Some(LineWord::Stated(EditWord::from_word(word)?))
         }

@@ -2,11 +2,11 @@
 ghost use Rattle.mp_text.specs.declared.line_error.LineError.TheVariants.{OutOfMemory};
 ghost use Rattle.mp_text.specs.Reads.{Gives};
 ghost use Rattle.mp_text.specs.Words.{texts, AreAscii};
-ghost use Rattle.mp_text.specs.ScriptLines.{removal, delay_edit};
+ghost use Rattle.mp_text.specs.ScriptLines.{removal, input_edit, output_edit, delay_edit, clearing};
 
 use crate::line_error::LineError;
 use crate::word::name_of;
-use crate::word_list::number_word;
+use crate::word_list::{number_word, wire_or_none};
 use mp_netlist::Edit;
 use std::alloc::Global;
 
@@ -24,9 +24,51 @@ pub fn removal(alloc: Global, words: &[&[u8]]) -> Result<Edit, LineError>
         Ok(Edit::RemoveWire {
             wire: name_of(alloc, name)?,
         })
+    } else if thing == b"module".as_slice() {
+        Ok(Edit::RemoveModule {
+            module: name_of(alloc, name)?,
+        })
+    } else if thing == b"bundle".as_slice() {
+        Ok(Edit::RemoveBundle {
+            bundle: name_of(alloc, name)?,
+        })
     } else {
         Err(LineError::UnknownStatement)
     }
+}
+
+/// The edit of the words behind `input`.
+#[tactic(auto, unfolding(crate::specs::ScriptLines::input_edit))]
+pub fn input_edit(alloc: Global, words: &[&[u8]]) -> Result<Edit, LineError>
+    requires { AreAscii words.now }
+    ensures { Gives OutOfMemory (λ edit. edit) result (input_edit (texts words.now)) }
+{
+    let [part, port, wire] = words else {
+        return Err(LineError::WordCount);
+    };
+    let port = number_word(port)?;
+    Ok(Edit::RewireInput {
+        module: name_of(alloc, part)?,
+        port,
+        wire: name_of(alloc, wire)?,
+    })
+}
+
+/// The edit of the words behind `output`, where `-` is no wire.
+#[tactic(auto, unfolding(crate::specs::ScriptLines::output_edit))]
+pub fn output_edit(alloc: Global, words: &[&[u8]]) -> Result<Edit, LineError>
+    requires { AreAscii words.now }
+    ensures { Gives OutOfMemory (λ edit. edit) result (output_edit (texts words.now)) }
+{
+    let [part, port, wire] = words else {
+        return Err(LineError::WordCount);
+    };
+    let port = number_word(port)?;
+    Ok(Edit::RewireOutput {
+        module: name_of(alloc, part)?,
+        port,
+        wire: wire_or_none(alloc, wire)?,
+    })
 }
 
 /// The edit of the words behind `delay`.
@@ -44,5 +86,19 @@ pub fn delay_edit(alloc: Global, words: &[&[u8]]) -> Result<Edit, LineError>
         module: name_of(alloc, part)?,
         port,
         delay,
+    })
+}
+
+/// The edit of the words behind `clear`.
+#[tactic(auto, unfolding(crate::specs::ScriptLines::clearing))]
+pub fn clearing(alloc: Global, words: &[&[u8]]) -> Result<Edit, LineError>
+    requires { AreAscii words.now }
+    ensures { Gives OutOfMemory (λ edit. edit) result (clearing (texts words.now)) }
+{
+    let [wire] = words else {
+        return Err(LineError::WordCount);
+    };
+    Ok(Edit::ClearStimulus {
+        wire: name_of(alloc, wire)?,
     })
 }

@@ -19,4 +19,6 @@ pub enum Question {
     Wave(Name),
     /// The waves of all wires.
     Waves,
+    /// The netlist's text.
+    Text,
 }

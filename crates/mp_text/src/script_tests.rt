@@ -9,7 +9,7 @@ fn fault_of(rt: &HostRuntime, line: &[u8]) -> Option<LineError> {
 
 #[test]
 fn bad_lines(rt: HostRuntime) {
-    let lines: [(&[u8], LineError); 20] = [
+    let lines: [(&[u8], LineError); 28] = [
         (b"wire \xc8 1 0", LineError::NotAscii),
         (b"waves\n", LineError::NotAscii),
         (b"waves # \x7f", LineError::NotAscii),
@@ -23,6 +23,14 @@ fn bad_lines(rt: HostRuntime) {
         (b"stim", LineError::WordCount),
         (b"remove flip", LineError::WordCount),
         (b"remove flip a", LineError::UnknownStatement),
+        (b"report", LineError::UnknownStatement),
+        (b"dump", LineError::UnknownStatement),
+        (b"work", LineError::UnknownStatement),
+        (b"text a", LineError::WordCount),
+        (b"clear", LineError::WordCount),
+        (b"input b 0", LineError::WordCount),
+        (b"output b x -", LineError::BadNumber),
+        (b"bundle p r k d s", LineError::BadNumber),
         (b"delay b x", LineError::WordCount),
         (b"delay b x 1", LineError::BadNumber),
         (b"delay b 0 -1", LineError::BadNumber),
@@ -58,6 +66,9 @@ fn questions(rt: HostRuntime) -> Result<(), Fail> {
     };
     let Ok(Line::Ask(Question::Waves)) = read_line(rt.alloc(), b" waves#") else {
         return Err("waves".into());
+    };
+    let Ok(Line::Ask(Question::Text)) = read_line(rt.alloc(), b"text") else {
+        return Err("text".into());
     };
     let Ok(Line::Ask(Question::Wave(wire))) = read_line(rt.alloc(), b"wave -") else {
         return Err("wave".into());
@@ -107,5 +118,85 @@ fn script_edits(rt: HostRuntime) -> Result<(), Fail> {
     };
     assert_eq!(rt; module.as_str(), "b");
     assert_eq!(rt; (port, delay), (0, 7));
+    Ok(())
+}
+
+#[test]
+fn removals(rt: HostRuntime) -> Result<(), Fail> {
+    let Ok(Line::Change(Edit::RemoveModule { module })) = read_line(
+        rt.alloc(),
+        b"remove module wire",
+    ) else {
+        return Err("remove module".into());
+    };
+    assert_eq!(rt; module.as_str(), "wire");
+    let Ok(Line::Change(Edit::RemoveBundle { bundle })) = read_line(rt.alloc(), b"remove bundle p")
+    else {
+        return Err("remove bundle".into());
+    };
+    assert_eq!(rt; bundle.as_str(), "p");
+    let Ok(Line::Change(Edit::ClearStimulus { wire })) = read_line(rt.alloc(), b"clear a") else {
+        return Err("clear".into());
+    };
+    assert_eq!(rt; wire.as_str(), "a");
+    Ok(())
+}
+
+#[test]
+fn rewires(rt: HostRuntime) -> Result<(), Fail> {
+    let Ok(Line::Change(Edit::RewireInput { module, port, wire })) = read_line(
+        rt.alloc(),
+        b"input m 1 -",
+    ) else {
+        return Err("input".into());
+    };
+    assert_eq!(rt; (module.as_str(), port, wire.as_str()), ("m", 1, "-"));
+    let Ok(
+        Line::Change(
+            Edit::RewireOutput {
+                module,
+                port,
+                wire: None,
+            },
+        ),
+    ) = read_line(rt.alloc(), b"output m 2 -")
+    else {
+        return Err("output".into());
+    };
+    assert_eq!(rt; (module.as_str(), port), ("m", 2));
+    let Ok(
+        Line::Change(
+            Edit::RewireOutput {
+                wire: Some(wire),
+                ..
+            },
+        ),
+    ) = read_line(rt.alloc(), b"output m 2 -/3")
+    else {
+        return Err("output with a name".into());
+    };
+    assert_eq!(rt; wire.as_str(), "-/3");
+    Ok(())
+}
+
+#[test]
+fn bundles(rt: HostRuntime) -> Result<(), Fail> {
+    let Ok(
+        Line::Change(
+            Edit::AddBundle {
+                name,
+                request,
+                acknowledge,
+                payload,
+                setup,
+            },
+        ),
+    ) = read_line(rt.alloc(), b"bundle p r k d 65536")
+    else {
+        return Err("bundle".into());
+    };
+    assert_eq!(rt; (name.as_str(), request.as_str()), ("p", "r"));
+    assert_eq!(rt; (acknowledge.as_str(), payload.as_str()), ("k", "d"));
+    assert_eq!(rt; setup, 65536);
     Ok(())
 }

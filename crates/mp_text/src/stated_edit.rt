@@ -4,7 +4,7 @@ ghost use Rattle.std.specs.List.{before_first, after_first};
 ghost use Rattle.mp_text.specs.declared.line_error.LineError.TheVariants.{OutOfMemory};
 ghost use Rattle.mp_text.specs.Reads.{Gives};
 ghost use Rattle.mp_text.specs.Words.{texts, AreAscii};
-ghost use Rattle.mp_text.specs.Statements.{stated_edit, wire_edit, parts_edit, module_edit, stimulus_edit, kind_word, is_mark};
+ghost use Rattle.mp_text.specs.Statements.{stated_edit, wire_edit, parts_edit, module_edit, stimulus_edit, bundle_edit, kind_word, is_mark};
 
 use crate::edit_word::EditWord;
 use crate::line_error::LineError;
@@ -24,6 +24,7 @@ pub fn stated_edit(alloc: Global, word: EditWord, words: &[&[u8]]) -> Result<Edi
         EditWord::Wire => wire_edit(alloc, words),
         EditWord::Module => module_edit(alloc, words),
         EditWord::Stimulus => stimulus_edit(alloc, words),
+        EditWord::Bundle => bundle_edit(alloc, words),
     }
 }
 
@@ -58,6 +59,25 @@ fn stimulus_edit(alloc: Global, words: &[&[u8]]) -> Result<Edit, LineError>
     Ok(Edit::SetStimulus {
         wire: name_of(alloc, wire)?,
         changes: Changes::new(changes),
+    })
+}
+
+/// The edit of the words behind `bundle`.
+#[tactic(auto, unfolding(crate::specs::Statements::bundle_edit))]
+fn bundle_edit(alloc: Global, words: &[&[u8]]) -> Result<Edit, LineError>
+    requires { AreAscii words.now }
+    ensures { Gives OutOfMemory (λ edit. edit) result (bundle_edit (texts words.now)) }
+{
+    let [name, request, acknowledge, payload, setup] = words else {
+        return Err(LineError::WordCount);
+    };
+    let setup = number_word(setup)?;
+    Ok(Edit::AddBundle {
+        name: name_of(alloc, name)?,
+        request: name_of(alloc, request)?,
+        acknowledge: name_of(alloc, acknowledge)?,
+        payload: name_of(alloc, payload)?,
+        setup,
     })
 }
 

@@ -8,7 +8,7 @@ ghost use Rattle.mp_text.specs.ScriptLines.{line_at, line_of, stated_line, wave_
 use crate::line::line_words;
 use crate::line_error::LineError;
 use crate::line_word::LineWord;
-use crate::script_edit::{delay_edit, removal};
+use crate::script_edit::{clearing, delay_edit, input_edit, output_edit, removal};
 use crate::script_line::{Line, Question};
 use crate::stated_edit::stated_edit;
 use crate::word::name_of;
@@ -54,9 +54,13 @@ fn stated_line(alloc: Global, first: LineWord, words: &[&[u8]]) -> Result<Line, 
     match first {
         LineWord::Stated(word) => Ok(Line::Change(stated_edit(alloc, word, words)?)),
         LineWord::Remove => Ok(Line::Change(removal(alloc, words)?)),
+        LineWord::Input => Ok(Line::Change(input_edit(alloc, words)?)),
+        LineWord::Output => Ok(Line::Change(output_edit(alloc, words)?)),
         LineWord::Delay => Ok(Line::Change(delay_edit(alloc, words)?)),
+        LineWord::Clear => Ok(Line::Change(clearing(alloc, words)?)),
         LineWord::Wave => Ok(Line::Ask(wave_question(alloc, words)?)),
         LineWord::Waves => Ok(Line::Ask(bare_question(Question::Waves, words)?)),
+        LineWord::Text => Ok(Line::Ask(bare_question(Question::Text, words)?)),
     }
 }
 

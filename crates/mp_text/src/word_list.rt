@@ -25,7 +25,7 @@ fn change_word(word: &[u8]) -> Result<(u64, u64), LineError>
 }
 
 /// The wire that is named, where `-` names none.
-fn wire_or_none(alloc: Global, name: &[u8]) -> Result<Option<Name>, AllocError>
+pub fn wire_or_none(alloc: Global, name: &[u8]) -> Result<Option<Name>, AllocError>
     requires { IsAscii name.now }
     ensures { IfOk result (λ wire. wire ≡ wire_or_none name.now) }
 {

@@ -1,11 +1,11 @@
 //! Writing a netlist's text.
 ghost use Rattle.std.specs.Prelude.{◌≡◌, ◌++◌, IfOk, OnOk, Some, map};
 ghost use Rattle.std.specs.List.{flat_map};
-ghost use Rattle.mp_netlist.specs.Circuit.{wire_at, module_at};
-ghost use Rattle.mp_text.specs.Written.{written, horizon_line, wire_line, module_line, stimulus_line};
+ghost use Rattle.mp_netlist.specs.Circuit.{wire_at, module_at, bundle_at};
+ghost use Rattle.mp_text.specs.Written.{written, horizon_line, wire_line, module_line, stimulus_line, bundle_line};
 
-use crate::written_line::{push_horizon, push_module, push_stimulus, push_wire};
-use mp_netlist::{ModuleId, Netlist, WireId};
+use crate::written_line::{push_bundle, push_horizon, push_module, push_stimulus, push_wire};
+use mp_netlist::{BundleId, ModuleId, Netlist, WireId};
 use std::alloc::{AllocError, Global};
 
 /// The text of a netlist: its horizon, then its wires, modules, stimuli (by wire) and bundles, each
@@ -20,6 +20,7 @@ pub fn write_netlist(alloc: Global, netlist: &Netlist) -> Result<Vec<u8>, AllocE
     push_wires(&mut text, netlist)?;
     push_modules(&mut text, netlist)?;
     push_stimuli(&mut text, netlist)?;
+    push_bundles(&mut text, netlist)?;
     Ok(text)
 }
 
@@ -73,6 +74,24 @@ fn push_stimulus_slot(text: &mut Vec<u8>, netlist: &Netlist, number: u32) -> Res
 {
     if let Some(wire) = netlist.wire(WireId(number)) {
         push_stimulus(text, wire)?;
+    }
+    Ok(())
+}
+
+fn push_bundles(text: &mut Vec<u8>, netlist: &Netlist) -> Result<(), AllocError>
+    ensures { OnOk result (text.new.items ≡ text.old.items ++ flat_map (bundle_line netlist.now) netlist.now.bundles) }
+{
+    for number in 0..netlist.bundle_slots() {
+        push_bundle_slot(text, netlist, number)?;
+    }
+    Ok(())
+}
+
+fn push_bundle_slot(text: &mut Vec<u8>, netlist: &Netlist, number: u32) -> Result<(), AllocError>
+    ensures { OnOk result (text.new.items ≡ text.old.items ++ bundle_line netlist.now (bundle_at netlist.now number)) }
+{
+    if let Some(bundle) = netlist.bundle(BundleId(number)) {
+        push_bundle(text, netlist, bundle)?;
     }
     Ok(())
 }

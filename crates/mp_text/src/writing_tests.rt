@@ -1,4 +1,5 @@
-use crate::{read_netlist, write_netlist};
+use crate::{TextCode, TextError, read_netlist, write_netlist};
+use mp_netlist::{Edit, Name};
 use std::test::Fail;
 
 /// Whether the text is written as it was read.
@@ -37,4 +38,60 @@ fn empty_stimulus(rt: HostRuntime) -> Result<(), Fail> {
     )?;
     assert!(rt; same);
     Ok(())
+}
+
+/// A text of all statements, as it is written.
+const ALL: &str =
+    "horizon 20\nwire r 1 0\nwire k 1 1\nwire d 8 200\nwire q 8 0\nwire y 1 0\nmodule b BUF : r > y/3\nmodule g REG 17 : d r k > q/65535 -/1 -/2\nmodule c C 1 0 1 : r k > -/7\nstim r\nstim d 2=1 3=255\nbundle p r k d 2\n";
+
+#[test]
+fn all_statements(rt: HostRuntime) -> Result<(), Fail> {
+    let same = comes_back(&rt, ALL)?;
+    assert!(rt; same);
+    Ok(())
+}
+
+#[test]
+fn removed_things(rt: HostRuntime) -> Result<(), Fail> {
+    let read = "horizon 5\nwire a 1 0\nwire b 1 0";
+    let mut netlist = read_netlist(rt.alloc(), read.as_bytes())?;
+    netlist.apply(&Edit::RemoveWire {
+        wire: Name::new(String::from_str(rt.alloc(), "a")?),
+    })?;
+    netlist.apply(&Edit::AddWire {
+        name: Name::new(String::from_str(rt.alloc(), "a")?),
+        width: 1,
+        level: 1,
+    })?;
+    let written = write_netlist(rt.alloc(), &netlist)?;
+    assert!(rt; written.as_slice() == b"horizon 5\nwire b 1 0\nwire a 1 1\n".as_slice());
+    Ok(())
+}
+
+/// Whether a text of which the front is read was cut as its last line shows: whole, or at a fault of this line alone.
+fn ends_well(error: &TextError, lines: u32) -> bool {
+    let known = matches!(
+        error.code,
+        TextCode::UnknownStatement
+            | TextCode::WordCount
+            | TextCode::BadNumber
+            | TextCode::NoHorizon
+            | TextCode::Refused(_)
+    );
+    known && error.line == lines
+}
+
+#[test]
+fn prefixes(rt: HostRuntime) {
+    let text = ALL.as_bytes();
+    let mut lines = 0u32;
+    for end in 0..text.len() {
+        if end > 0 && (end == 1 || text[end - 2] == b'\n') {
+            lines = lines.wrapping_add(1);
+        }
+        match read_netlist(rt.alloc(), &text[..end]) {
+            Ok(netlist) => assert_eq!(rt; netlist.horizon() == 20, end >= 10, "{end}"),
+            Err(error) => assert!(rt; ends_well(&error, lines), "{end}"),
+        }
+    }
 }

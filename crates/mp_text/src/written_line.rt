@@ -1,10 +1,10 @@
 //! Writing the lines of a netlist's text.
 ghost use Rattle.std.specs.Prelude.{◌≡◌, ◌∷◌, [], ◌++◌, OnOk, Some, map};
 ghost use Rattle.std.specs.Fmt.{decimal};
-ghost use Rattle.mp_text.specs.Written.{spaced, horizon_line, wire_line, wire_name, output_name, output_text, module_line, stimulus_words, stimulus_line};
+ghost use Rattle.mp_text.specs.Written.{spaced, horizon_line, wire_line, wire_name, output_name, output_text, module_line, stimulus_words, stimulus_line, bundle_line};
 
 use crate::wave_line::{push_changes, push_number};
-use mp_netlist::{ModuleRecord, Netlist, Output, Stimulus, WireId, WireRecord};
+use mp_netlist::{BundleRecord, ModuleRecord, Netlist, Output, Stimulus, WireId, WireRecord};
 use std::alloc::AllocError;
 
 /// Puts the line of the horizon behind the text.
@@ -62,8 +62,7 @@ fn push_inputs(text: &mut Vec<u8>, netlist: &Netlist, inputs: &[WireId]) -> Resu
     ensures { OnOk result (text.new.items ≡ text.old.items ++ spaced (map (wire_name netlist.now) inputs.now)) }
 {
     for wire in inputs {
-        text.push(b' ')?;
-        push_name(text, netlist, *wire)?;
+        push_name_word(text, netlist, *wire)?;
     }
     Ok(())
 }
@@ -110,6 +109,32 @@ pub fn push_stimulus(text: &mut Vec<u8>, wire: &WireRecord) -> Result<(), AllocE
         text.push(b'\n')?;
     }
     Ok(())
+}
+
+/// Puts the line of a bundle of the netlist behind the text.
+pub fn push_bundle(
+    text: &mut Vec<u8>,
+    netlist: &Netlist,
+    bundle: &BundleRecord,
+) -> Result<(), AllocError>
+    ensures { OnOk result (text.new.items ≡ text.old.items ++ bundle_line netlist.now (Some bundle.now)) }
+{
+    text.extend_from_slice(b"bundle")?;
+    push_word(text, bundle.name.as_str())?;
+    push_name_word(text, netlist, bundle.request)?;
+    push_name_word(text, netlist, bundle.acknowledge)?;
+    push_name_word(text, netlist, bundle.payload)?;
+    push_number_word(text, u64::from(bundle.setup))?;
+    text.push(b'\n')?;
+    Ok(())
+}
+
+/// Puts a space and the name of the wire of this number behind the text.
+fn push_name_word(text: &mut Vec<u8>, netlist: &Netlist, wire: WireId) -> Result<(), AllocError>
+    ensures { OnOk result (text.new.items ≡ text.old.items ++ (32 ∷ wire_name netlist.now wire)) }
+{
+    text.push(b' ')?;
+    push_name(text, netlist, wire)
 }
 
 /// Puts a space and the word behind the text.

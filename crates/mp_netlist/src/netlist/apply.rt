@@ -1,10 +1,12 @@
 //! What an edit does to a netlist.
 ghost use Rattle.std.specs.Prelude.{◌≡◌, ◌<◌, None, option_map, slice_index_or, slice_set, vec_len};
-ghost use Rattle.mp_netlist.specs.Edits.{with_stimulus, with_delay};
+ghost use Rattle.mp_netlist.specs.Edits.{with_stimulus, without_stimulus, with_input, with_output, with_delay};
 
+use crate::bundle_record::BundleRecord;
 use crate::changes::Changes;
 use crate::edit::Edit;
 use crate::edit_error::EditError;
+use crate::ids::WireId;
 use crate::module_record::ModuleRecord;
 use crate::name::Name;
 use crate::netlist::Netlist;
@@ -17,8 +19,8 @@ use std::alloc::AllocError;
 
 impl Netlist {
     ghost use Rattle.std.specs.Prelude.{◌≡◌, ◌<◌, [], ◌∷◌, ◌++◌, Ok, None, Some, length, IfOk, IfErr, OnOk, OnErr, option_map, string_bytes};
-    ghost use Rattle.mp_netlist.specs.Circuit.{IsCircuit, wire_at, module_at, wire_named, module_named};
-    ghost use Rattle.mp_netlist.specs.Edits.{after, RefusedBy, wire_refusal, wire_removal_refusal, module_refusal, delay_refusal, stimulus_refusal, with_wire_record, with_new_wire, new_module, with_new_module, with_stimulus, with_wire, with_delay, with_module, wire_id, module_id};
+    ghost use Rattle.mp_netlist.specs.Circuit.{IsCircuit, wire_at, module_at, wire_named, module_named, bundle_named};
+    ghost use Rattle.mp_netlist.specs.Edits.{after, RefusedBy, wire_refusal, wire_removal_refusal, module_refusal, module_removal_refusal, bundle_refusal, bundle_removal_refusal, input_refusal, output_refusal, delay_refusal, stimulus_refusal, clearing_refusal, with_wire_record, with_new_wire, new_module, with_new_module, new_bundle, with_new_bundle, with_bundle, with_stimulus, without_stimulus, with_wire, with_input, with_output, with_delay, with_module, wire_id, module_id, bundle_id};
 
     #[tactic(auto, unfolding(crate::specs::Edits::edited, crate::specs::Edits::refusal))]
     /// Makes the edit, or says which check fails first. A refusal leaves the netlist as it was.
@@ -38,12 +40,24 @@ impl Netlist {
                 inputs,
                 outputs,
             } => self.add_module(name, *kind, params, inputs, outputs)?,
+            Edit::RemoveModule { module } => self.remove_module(module),
+            Edit::AddBundle {
+                name,
+                request,
+                acknowledge,
+                payload,
+                setup,
+            } => self.add_bundle(name, request, acknowledge, payload, *setup)?,
+            Edit::RemoveBundle { bundle } => self.remove_bundle(bundle),
+            Edit::RewireInput { module, port, wire } => self.rewire_input(module, *port, wire),
+            Edit::RewireOutput { module, port, wire } => self.rewire_output(module, *port, wire),
             Edit::SetDelay {
                 module,
                 port,
                 delay,
             } => self.set_delay(module, *port, *delay),
             Edit::SetStimulus { wire, changes } => self.set_stimulus(wire, changes)?,
+            Edit::ClearStimulus { wire } => self.clear_stimulus(wire),
         }
         Ok(())
     }
@@ -84,7 +98,7 @@ impl Netlist {
     {
         let id = self.id_of(name);
         let _ = self.wire_names.swap_remove(name.as_str());
-        clear_wire(&mut self.wires, id.0 as usize);
+        clear(&mut self.wires, id.0 as usize);
     }
 
     fn add_module(
@@ -125,6 +139,82 @@ impl Netlist {
         Ok(())
     }
 
+    fn remove_module(&mut self, name: &Name)
+        requires { module_removal_refusal self.old name.now ≡ None }
+        ensures { self.new ≡ with_module self.old (module_id self.old name.now).0 None }
+    {
+        let id = self.module_id(name);
+        let _ = self.module_names.swap_remove(name.as_str());
+        clear(&mut self.modules, id.0 as usize);
+    }
+
+    fn add_bundle(
+        &mut self,
+        name: &Name,
+        request: &Name,
+        acknowledge: &Name,
+        payload: &Name,
+        setup: u64,
+    ) -> Result<(), AllocError>
+        requires { bundle_refusal self.old name.now request.now acknowledge.now payload.now setup ≡ None }
+        ensures ok { OnOk result (self.new ≡ with_new_bundle self.old (new_bundle self.old name.now request.now acknowledge.now payload.now setup)) }
+        ensures err { OnErr result (self.new ≡ self.old) }
+    {
+        let added = BundleRecord {
+            name: name.clone()?,
+            request: self.id_of(request),
+            acknowledge: self.id_of(acknowledge),
+            payload: self.id_of(payload),
+            setup: setup as u32,
+        };
+        let key = name.clone()?.into_string();
+        self.put_bundle(key, added)?;
+        Ok(())
+    }
+
+    fn put_bundle(&mut self, key: String, added: BundleRecord) -> Result<(), AllocError>
+        requires key { string_bytes key ≡ added.name }
+        requires free { bundle_named self.old added.name ≡ None }
+        requires fits { IsCircuit self.old → IsCircuit (with_new_bundle self.old added) }
+        ensures ok { OnOk result (self.new ≡ with_new_bundle self.old added) }
+        ensures err { OnErr result (self.new ≡ self.old) }
+    {
+        let number = self.bundles.len() as u32;
+        self.bundles.reserve(1)?;
+        self.bundle_names.insert(key, number)?;
+        self.bundles.push(Some(added)).unwrap();
+        Ok(())
+    }
+
+    fn remove_bundle(&mut self, name: &Name)
+        requires { bundle_removal_refusal self.old name.now ≡ None }
+        ensures { self.new ≡ with_bundle self.old (bundle_id self.old name.now).0 None }
+    {
+        let id = self.bundle_id(name);
+        let _ = self.bundle_names.swap_remove(name.as_str());
+        clear(&mut self.bundles, id.0 as usize);
+    }
+
+    fn rewire_input(&mut self, name: &Name, port: u64, wire: &Name)
+        requires { input_refusal self.old name.now port wire.now ≡ None }
+        ensures { self.new ≡ with_module self.old (module_id self.old name.now).0
+            (option_map (with_input port (wire_id self.old wire.now)) (module_at self.old (module_id self.old name.now).0)) }
+    {
+        let id = self.module_id(name);
+        let read = self.id_of(wire);
+        rewire_port(&mut self.modules, id.0 as usize, port as usize, read);
+    }
+
+    fn rewire_output(&mut self, name: &Name, port: u64, wire: &Option<Name>)
+        requires { output_refusal self.old name.now port wire.now ≡ None }
+        ensures { self.new ≡ with_module self.old (module_id self.old name.now).0
+            (option_map (with_output port (option_map (wire_id self.old) wire.now)) (module_at self.old (module_id self.old name.now).0)) }
+    {
+        let id = self.module_id(name);
+        let driven = self.driven_id(wire);
+        redirect_port(&mut self.modules, id.0 as usize, port as usize, driven);
+    }
+
     fn set_delay(&mut self, name: &Name, port: u64, delay: u64)
         requires { delay_refusal self.old name.now port delay ≡ None }
         ensures { self.new ≡ with_module self.old (module_id self.old name.now).0
@@ -150,14 +240,50 @@ impl Netlist {
         stimulate(&mut self.wires, id.0 as usize, stimulus);
         Ok(())
     }
+
+    fn clear_stimulus(&mut self, name: &Name)
+        requires { clearing_refusal self.old name.now ≡ None }
+        ensures { self.new ≡ with_wire self.old (wire_id self.old name.now).0
+            (option_map without_stimulus (wire_at self.old (wire_id self.old name.now).0)) }
+    {
+        let id = self.id_of(name);
+        calm(&mut self.wires, id.0 as usize);
+    }
 }
 
-/// Takes the wire of this number away.
-fn clear_wire(wires: &mut Vec<Option<WireRecord>>, number: usize)
-    requires { number < vec_len wires.old }
-    ensures { wires.new.items ≡ slice_set wires.old.items number None }
+/// Takes away what stands in the slot of this number.
+fn clear<T: Drop>(slots: &mut Vec<Option<T>>, number: usize)
+    requires { number < vec_len slots.old }
+    ensures { slots.new.items ≡ slice_set slots.old.items number None }
 {
-    wires[number] = None;
+    slots[number] = None;
+}
+
+/// Sets the wire of an input port of the module of this number, where it stands.
+fn rewire_port(modules: &mut Vec<Option<ModuleRecord>>, number: usize, port: usize, wire: WireId)
+    requires { number < vec_len modules.old }
+    ensures { modules.new.items ≡ slice_set modules.old.items number
+        (option_map (with_input port wire) (slice_index_or modules.old.items number None)) }
+{
+    if let Some(found) = &mut modules[number] {
+        found.set_input(port, wire);
+    }
+}
+
+/// Sets the wire of an output port of the module of this number, where it stands.
+fn redirect_port(
+    modules: &mut Vec<Option<ModuleRecord>>,
+    number: usize,
+    port: usize,
+    wire: Option<WireId>,
+)
+    requires { number < vec_len modules.old }
+    ensures { modules.new.items ≡ slice_set modules.old.items number
+        (option_map (with_output port wire) (slice_index_or modules.old.items number None)) }
+{
+    if let Some(found) = &mut modules[number] {
+        found.set_output(port, wire);
+    }
 }
 
 /// Sets the delay of a port of the module of this number, where it stands.
@@ -179,5 +305,16 @@ fn stimulate(wires: &mut Vec<Option<WireRecord>>, number: usize, stimulus: Stimu
 {
     if let Some(wire) = &mut wires[number] {
         wire.stimulus = Some(stimulus);
+    }
+}
+
+/// Takes the stimulus of the wire of this number away, where it stands.
+fn calm(wires: &mut Vec<Option<WireRecord>>, number: usize)
+    requires { number < vec_len wires.old }
+    ensures { wires.new.items ≡ slice_set wires.old.items number
+        (option_map without_stimulus (slice_index_or wires.old.items number None)) }
+{
+    if let Some(wire) = &mut wires[number] {
+        wire.stimulus = None;
     }
 }

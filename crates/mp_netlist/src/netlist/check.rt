@@ -10,7 +10,7 @@ use crate::driver::Driver;
 use crate::edit::Edit;
 use crate::edit_error::EditError;
 use crate::name::Name;
-use crate::netlist::{MAX_DELAY, MAX_MODULES, MAX_WIRES, Netlist};
+use crate::netlist::{MAX_BUNDLES, MAX_DELAY, MAX_MODULES, MAX_SETUP, MAX_WIRES, Netlist};
 use crate::params::Params;
 use crate::port_names::{InputNames, OutputNames};
 use mp_modules::Kind;
@@ -18,7 +18,7 @@ use mp_modules::Kind;
 impl Netlist {
     ghost use Rattle.std.specs.Prelude.{◌≡◌};
     ghost use Rattle.std.specs.Result.{result_err};
-    ghost use Rattle.mp_netlist.specs.Edits.{refusal, wire_refusal, wire_removal_refusal, module_refusal, delay_refusal, stimulus_refusal};
+    ghost use Rattle.mp_netlist.specs.Edits.{refusal, wire_refusal, wire_removal_refusal, module_refusal, module_removal_refusal, bundle_refusal, bundle_removal_refusal, input_refusal, output_refusal, delay_refusal, stimulus_refusal, clearing_refusal};
 
     #[tactic(auto, unfolding(crate::specs::Edits::refusal))]
     /// The first check that the edit fails, in the order of its kind, where it is not want of memory.
@@ -35,12 +35,24 @@ impl Netlist {
                 inputs,
                 outputs,
             } => self.check_module(name, *kind, params, inputs, outputs),
+            Edit::RemoveModule { module } => self.check_module_removal(module),
+            Edit::AddBundle {
+                name,
+                request,
+                acknowledge,
+                payload,
+                setup,
+            } => self.check_bundle(name, request, acknowledge, payload, *setup),
+            Edit::RemoveBundle { bundle } => self.check_bundle_removal(bundle),
+            Edit::RewireInput { module, port, wire } => self.check_input(module, *port, wire),
+            Edit::RewireOutput { module, port, wire } => self.check_output(module, *port, wire),
             Edit::SetDelay {
                 module,
                 port,
                 delay,
             } => self.check_delay(module, *port, *delay),
             Edit::SetStimulus { wire, changes } => self.check_stimulus(wire, changes),
+            Edit::ClearStimulus { wire } => self.check_clearing(wire),
         }
     }
 
@@ -118,6 +130,94 @@ impl Netlist {
         Ok(())
     }
 
+    fn check_module_removal(&self, name: &Name) -> Result<(), EditError>
+        ensures { result_err result ≡ module_removal_refusal self.now name.now }
+    {
+        if !self.module_stands(name) {
+            return Err(EditError::NoSuchModule);
+        }
+        Ok(())
+    }
+
+    fn check_bundle(
+        &self,
+        name: &Name,
+        request: &Name,
+        acknowledge: &Name,
+        payload: &Name,
+        setup: u64,
+    ) -> Result<(), EditError>
+        ensures { result_err result ≡ bundle_refusal self.now name.now request.now acknowledge.now payload.now setup }
+    {
+        if !name.is_valid() {
+            return Err(EditError::BadName);
+        }
+        if self.bundle_stands(name) {
+            return Err(EditError::NameTaken);
+        }
+        if !(self.stands(request) && self.stands(acknowledge) && self.stands(payload)) {
+            return Err(EditError::NoSuchWire);
+        }
+        if self.width_of(request) != 1 || self.width_of(acknowledge) != 1 {
+            return Err(EditError::WidthMismatch);
+        }
+        if setup > MAX_SETUP {
+            return Err(EditError::BadParam);
+        }
+        if self.bundles.len() >= MAX_BUNDLES {
+            return Err(EditError::TableFull);
+        }
+        Ok(())
+    }
+
+    fn check_bundle_removal(&self, name: &Name) -> Result<(), EditError>
+        ensures { result_err result ≡ bundle_removal_refusal self.now name.now }
+    {
+        if !self.bundle_stands(name) {
+            return Err(EditError::NoSuchBundle);
+        }
+        Ok(())
+    }
+
+    fn check_input(&self, name: &Name, port: u64, wire: &Name) -> Result<(), EditError>
+        ensures { result_err result ≡ input_refusal self.now name.now port wire.now }
+    {
+        if !self.module_stands(name) {
+            return Err(EditError::NoSuchModule);
+        }
+        if port >= self.input_ports(name) {
+            return Err(EditError::BadPort);
+        }
+        if !self.stands(wire) {
+            return Err(EditError::NoSuchWire);
+        }
+        if self.width_of(wire) != self.input_width(name, port) {
+            return Err(EditError::WidthMismatch);
+        }
+        Ok(())
+    }
+
+    fn check_output(&self, name: &Name, port: u64, wire: &Option<Name>) -> Result<(), EditError>
+        ensures { result_err result ≡ output_refusal self.now name.now port wire.now }
+    {
+        if !self.module_stands(name) {
+            return Err(EditError::NoSuchModule);
+        }
+        if port >= self.output_ports(name) {
+            return Err(EditError::BadPort);
+        }
+        if !self.output_stands(wire) {
+            return Err(EditError::NoSuchWire);
+        }
+        if !self.output_fits(wire, self.output_width(name, port)) {
+            return Err(EditError::WidthMismatch);
+        }
+        if !self.output_is_free(self.module_id(name), port, wire) {
+            return Err(EditError::AlreadyDriven);
+        }
+        Ok(())
+    }
+
     fn check_delay(&self, name: &Name, port: u64, delay: u64) -> Result<(), EditError>
         ensures { result_err result ≡ delay_refusal self.now name.now port delay }
     {
@@ -145,6 +245,18 @@ impl Netlist {
         let width = self.width_of(wire);
         if !changes.is_valid(u64::from(self.horizon), u64::from(width)) {
             return Err(EditError::BadStimulus);
+        }
+        Ok(())
+    }
+
+    fn check_clearing(&self, wire: &Name) -> Result<(), EditError>
+        ensures { result_err result ≡ clearing_refusal self.now wire.now }
+    {
+        if !self.stands(wire) {
+            return Err(EditError::NoSuchWire);
+        }
+        if !self.has_stimulus(self.id_of(wire)) {
+            return Err(EditError::NoStimulus);
         }
         Ok(())
     }

@@ -28,7 +28,7 @@ impl Netlist {
     }
 
     /// Whether the wire of this number stands and has a stimulus.
-    fn has_stimulus(&self, wire: WireId) -> bool
+    pub(crate) fn has_stimulus(&self, wire: WireId) -> bool
         ensures { result ≡ is_some (stimulus_at self.now wire.0) }
     {
         match self.wire(wire) {

@@ -1,11 +1,16 @@
-//! The modules that an edit names.
-use crate::ids::ModuleId;
+//! The modules and bundles that an edit names.
+ghost use Rattle.std.specs.Prelude.{◌≡◌, slice_index_or};
+
+use crate::ids::{BundleId, ModuleId, WireId};
+use crate::module_record::ModuleRecord;
 use crate::name::Name;
 use crate::netlist::Netlist;
 
 impl Netlist {
     ghost use Rattle.std.specs.Prelude.{◌≡◌};
-    ghost use Rattle.mp_netlist.specs.Edits.{module_stands, module_id, module_of, output_ports};
+    ghost use Rattle.std.specs.Option.{option_copied};
+    ghost use Rattle.mp_netlist.specs.Circuit.{module_width};
+    ghost use Rattle.mp_netlist.specs.Edits.{module_stands, module_id, module_of, bundle_stands, bundle_id, input_ports, output_ports, input_width_of, output_width_of};
 
     /// Whether a module of the name stands.
     pub(crate) fn module_stands(&self, name: &Name) -> bool
@@ -24,16 +29,97 @@ impl Netlist {
         }
     }
 
+    /// Whether a bundle of the name stands.
+    pub(crate) fn bundle_stands(&self, name: &Name) -> bool
+        ensures { result ≡ bundle_stands self.now name.now }
+    {
+        self.bundle_named(name.as_str()).is_some()
+    }
+
+    /// The number of the bundle that has the name, 0 where none has.
+    pub(crate) fn bundle_id(&self, name: &Name) -> BundleId
+        ensures { result ≡ bundle_id self.now name.now }
+    {
+        match self.bundle_named(name.as_str()) {
+            Some(id) => id,
+            None => BundleId(0),
+        }
+    }
+
+    /// The module that has the name.
+    fn module_of(&self, name: &Name) -> Option<&ModuleRecord>
+        ensures { option_copied result ≡ module_of self.now name.now }
+    {
+        match self.module_named(name.as_str()) {
+            Some(id) => self.module(id),
+            None => None,
+        }
+    }
+
+    /// How many input ports the module has that has the name, 0 where none has.
+    pub(crate) fn input_ports(&self, name: &Name) -> u64
+        ensures { result ≡ input_ports (module_of self.now name.now) }
+    {
+        match self.module_of(name) {
+            Some(found) => found.inputs.as_slice().len() as u64,
+            None => 0,
+        }
+    }
+
     /// How many output ports the module has that has the name, 0 where none has.
     pub(crate) fn output_ports(&self, name: &Name) -> u64
         ensures { result ≡ output_ports (module_of self.now name.now) }
     {
-        let Some(id) = self.module_named(name.as_str()) else {
-            return 0;
-        };
-        match self.module(id) {
+        match self.module_of(name) {
             Some(found) => found.outputs.as_slice().len() as u64,
             None => 0,
         }
+    }
+
+    /// The width of an input port of the module that has the name, 0 where none has.
+    pub(crate) fn input_width(&self, name: &Name, port: u64) -> u32
+        ensures { result ≡ input_width_of self.now (module_of self.now name.now) port }
+    {
+        match self.module_of(name) {
+            Some(found) => found
+                .kind
+                .input_width(self.module_width(found), port as usize),
+            None => 0,
+        }
+    }
+
+    /// The width of an output port of the module that has the name, 0 where none has.
+    pub(crate) fn output_width(&self, name: &Name, port: u64) -> u32
+        ensures { result ≡ output_width_of self.now (module_of self.now name.now) port }
+    {
+        match self.module_of(name) {
+            Some(found) => found
+                .kind
+                .output_width(self.module_width(found), port as usize),
+            None => 0,
+        }
+    }
+
+    /// The width of a module: that of the wire at its first input where its kind has ports of any width, and else 1.
+    fn module_width(&self, found: &ModuleRecord) -> u32
+        ensures { result ≡ module_width self.now found.now }
+    {
+        if !found.kind.has_width() {
+            return 1;
+        }
+        let first = first_wire(found.inputs.as_slice());
+        match self.wire(first) {
+            Some(wire) => wire.width,
+            None => 0,
+        }
+    }
+}
+
+fn first_wire(wires: &[WireId]) -> WireId
+    ensures { result ≡ slice_index_or wires.now 0 (record { 0 = 0 }) }
+{
+    match wires {
+        [first, ..] => *first,
+        [] => WireId(0),
     }
 }

@@ -2,10 +2,11 @@
 ghost use Rattle.std.specs.Prelude.{◌≡◌};
 ghost use Rattle.std.specs.List.{list_any};
 ghost use Rattle.std.specs.Str.{bytes_eq};
+ghost use Rattle.mp_netlist.specs.Drivers.{is_free_for};
 ghost use Rattle.mp_netlist.specs.Edits.{are_distinct, driven_names};
 
 use crate::driver::Driver;
-use crate::ids::WireId;
+use crate::ids::{ModuleId, WireId};
 use crate::name::Name;
 use crate::netlist::Netlist;
 use crate::port_names::{InputNames, OutputName, OutputNames};
@@ -14,9 +15,9 @@ use mp_modules::Kind;
 use std::alloc::AllocError;
 
 impl Netlist {
-    ghost use Rattle.std.specs.Prelude.{◌≡◌, ◌&&◌, is_some, map, IfOk, IsTrue};
+    ghost use Rattle.std.specs.Prelude.{◌≡◌, ◌&&◌, is_some, map, option_map, IfOk, IsTrue};
     ghost use Rattle.std.specs.List.{list_all};
-    ghost use Rattle.mp_netlist.specs.Edits.{are_distinct, is_delay, output_of, stands, wire_id, width_named, is_undriven, driven_names, new_width, inputs_fit, output_fits, outputs_fit};
+    ghost use Rattle.mp_netlist.specs.Edits.{are_distinct, is_delay, output_of, stands, wire_id, width_named, is_undriven, driven_names, new_width, inputs_fit, output_fits, outputs_fit, output_stands, output_is_free};
 
     /// Whether a wire of the name stands.
     pub(crate) fn stands(&self, name: &Name) -> bool
@@ -32,6 +33,16 @@ impl Netlist {
         match self.wire_named(name.as_str()) {
             Some(id) => id,
             None => WireId(0),
+        }
+    }
+
+    /// The number of the wire that is to be driven, if any is named.
+    pub(crate) fn driven_id(&self, wire: &Option<Name>) -> Option<WireId>
+        ensures { result ≡ option_map (wire_id self.now) wire.now }
+    {
+        match wire {
+            Some(name) => Some(self.id_of(name)),
+            None => None,
         }
     }
 
@@ -53,6 +64,36 @@ impl Netlist {
         ensures { result ≡ is_undriven self.now name.now }
     {
         matches!(self.driver_of(self.id_of(name)), Driver::Nothing)
+    }
+
+    /// Whether a wire that is to be driven stands, if any is named.
+    pub(crate) fn output_stands(&self, wire: &Option<Name>) -> bool
+        ensures { result ≡ output_stands self.now wire.now }
+    {
+        match wire {
+            Some(name) => self.stands(name),
+            None => true,
+        }
+    }
+
+    /// Whether a wire that is to be driven has the width, if any is named.
+    pub(crate) fn output_fits(&self, wire: &Option<Name>, width: u32) -> bool
+        ensures { result ≡ output_fits self.now wire.now width }
+    {
+        match wire {
+            Some(name) => self.width_of(name) == width,
+            None => true,
+        }
+    }
+
+    /// Whether a wire that is to be driven by this port has no other driver, if any is named.
+    pub(crate) fn output_is_free(&self, id: ModuleId, port: u64, wire: &Option<Name>) -> bool
+        ensures { result ≡ output_is_free self.now id.0 port wire.now }
+    {
+        match wire {
+            Some(name) => is_free_for(id, port, self.driver_of(self.id_of(name))),
+            None => true,
+        }
     }
 
     /// Whether a wire of each name stands.
@@ -181,6 +222,17 @@ impl Netlist {
             })?;
         }
         Ok(Outputs::new(ports))
+    }
+}
+
+/// Whether the driver is nothing, or just that port of that module.
+fn is_free_for(id: ModuleId, port: u64, driver: Driver) -> bool
+    ensures { result ≡ is_free_for id.0 port driver }
+{
+    match driver {
+        Driver::Nothing => true,
+        Driver::Stimulus => false,
+        Driver::Port(other, output) => other.0 == id.0 && u64::from(output) == port,
     }
 }
 

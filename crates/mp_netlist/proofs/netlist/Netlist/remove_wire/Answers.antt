@@ -11,8 +11,8 @@ use Rattle.mp_netlist.proofs.EditLemmas.{free_wire, IsCircuit-without_wire}
 use Rattle.mp_netlist.proofs.RecordLemmas.{AreRecords-wires}
 use Rattle.mp_netlist.proofs.netlist.Netlist.remove_wire.Goals as goal
 
-pub clear_wire-requires : goal.clear_wire-requires
-clear_wire-requires c =
+pub clear-requires : goal.clear-requires
+clear-requires c =
     let n = circuit_of c.self.inside in
     let none = subst (λ (m : Circuit). wire_removal_refusal m c.args.name.now ≡ None) (sym c.self.view_is) c.requires in
     let id = subst (λ (m : Circuit). c.id_of-id.result ≡ wire_id m c.args.name.now) (sym c.self.view_is) c.id_of-id.ensures in
@@ -31,7 +31,7 @@ invariant_of-self c =
     let fits = subst (λ i. IsCircuit (with_wire n i None)) (sym id) (IsCircuit-without_wire n c.self.invariant.circuit name none) in
     let found : get_by_text old.wire_names c.as_str.result.now ≡ Some c.id_of-id.result.0 =
     ap (get_by_text old.wire_names) c.as_str.ensures ∙ looked_up wire_name n.wires (get_by_text old.wire_names) c.self.invariant.wire_table name ∙ free.wire.named ∙ ap Some (sym id) in
-    AreRecords-wires old _ c.self.invariant refl refl refl _ c.clear_wire.ensures fits
+    AreRecords-wires old _ c.self.invariant refl refl refl _ c.clear.ensures fits
     (IsTable-clear wire_name c.as_str.result.now n.wires (get_by_text old.wire_names) _ c.id_of-id.result.0 found c.self.invariant.wire_table
     (hash_map_updates_text c.as_str.result.now old.wire_names c.swap_remove.new.self _ c.swap_remove.ensures.updates))
     refl refl

@@ -1,0 +1,125 @@
+-- Statements that are written are read again.
+use Rattle.std.proofs.Common.{◌≡◌, ℕ, ◌+◌, ◌^◌, ◌<◌, ◌≤◌, Bool, true, false, not, ◌==◌, ◌&&◌, List, [], ◌∷◌, ◌++◌, length, map, All, Option, Some, None, Result, Ok, Err, decimal, refl, sym, ap, ◌∙◌, rules, arith}
+use Rattle.std.specs.Prelude.{codes, nat_le, suc}
+use Rattle.std.specs.Option.{ok_or}
+use Rattle.std.specs.Char.{is_ascii_digit, is_ascii_alphabetic}
+use Rattle.std.specs.Str.{bytes_eq}
+use Rattle.std.specs.List.{list_all}
+use Rattle.std.proofs.lemmas.Bool.Decides.{nat_tests}
+use Rattle.std.proofs.lemmas.Fmt.{decimal_nonempty}
+use Rattle.std.proofs.lemmas.List.{map-id}
+use Rattle.std.proofs.lemmas.List.Elements.{All-map, All-cons, All-nil, All-head, All-tail}
+use Rattle.mp_modules.specs.declared.kind.Kind.{Kind}
+use Rattle.mp_modules.specs.declared.kind.Kind.TheVariants as kinds
+use Rattle.mp_modules.specs.Kinds.{word_of, kind_named}
+use Rattle.mp_netlist.specs.declared.port_names.OutputName.{OutputName}
+use Rattle.mp_netlist.specs.declared.edit.Edit.TheVariants.{AddWire, AddModule, AddBundle, SetStimulus}
+use Rattle.mp_netlist.specs.Names.{is_name, is_name_byte, begins_with_letter}
+use Rattle.mp_text.specs.declared.line_error.LineError.TheVariants.{BadNumber, UnknownStatement}
+use Rattle.mp_text.specs.Statements.{number_word, change_word, output_word, each_word, kind_word, is_mark, Start, Change, horizon_word, stated_horizon, wire_edit, module_edit, parts_edit, stimulus_edit, bundle_edit, stated_edit, statement_of}
+use Rattle.mp_text.specs.Reads.{◌>>=◌}
+use Rattle.mp_text.specs.Written.{pair_text}
+use Rattle.mp_text.proofs.DecimalLemmas.{decimal_digits}
+use Rattle.mp_text.proofs.DividedLemmas.{before_first-append, after_first-append}
+use Rattle.mp_text.proofs.PlainLemmas.{both}
+use Rattle.mp_text.proofs.ReadBackLemmas.{number_back, change_back, each_back}
+
+pub horizon_stated : (h : ℕ) → 1 ≤ h → h ≤ 65536 → statement_of (codes "horizon" ∷ decimal h ∷ []) ≡ Start (Ok h)
+unfolding statement_of stated_horizon horizon_word
+horizon_stated h low high =
+    let number = number_back h (omega (arith, high)) in
+    let one : nat_le 1 h ≡ true = grind (arith, nat_tests) in
+    let most : nat_le h 65536 ≡ true = grind (arith, nat_tests) in
+    rw number (rw (one, most) refl)
+
+pub wire_stated : (name : List ℕ) (width level : ℕ) → width < 2 ^ 64 → level < 2 ^ 64
+    → statement_of (codes "wire" ∷ name ∷ decimal width ∷ decimal level ∷ []) ≡ Change (Ok (AddWire name width level))
+unfolding statement_of stated_edit wire_edit
+wire_stated name width level narrow low =
+    let w = number_back width narrow in
+    let l = number_back level low in
+    rw (w, l) refl
+
+pub bundle_stated : (name request acknowledge payload : List ℕ) (setup : ℕ) → setup < 2 ^ 64
+    → statement_of (codes "bundle" ∷ name ∷ request ∷ acknowledge ∷ payload ∷ decimal setup ∷ []) ≡ Change (Ok (AddBundle name request acknowledge payload setup))
+unfolding statement_of stated_edit bundle_edit
+bundle_stated name request acknowledge payload setup low = let s = number_back setup low in rw s refl
+
+pub stimulus_stated : (name : List ℕ) (changes : List (ℕ × ℕ)) → All (λ change. change_word (pair_text change) ≡ Ok change) changes
+    → statement_of (codes "stim" ∷ name ∷ map pair_text changes) ≡ Change (Ok (SetStimulus name changes))
+unfolding statement_of stated_edit stimulus_edit
+stimulus_stated name changes all =
+    let read = each_back change_word pair_text (λ change. change) changes all in
+    let same = map-id changes in
+    rw read (rw same refl)
+
+by_word : (kind : Kind) → kind_named (word_of kind) ≡ Some kind
+unfolding kind_named
+by_word kinds.Buf = refl
+by_word kinds.Not = refl
+by_word kinds.Xor = refl
+by_word kinds.C = refl
+by_word kinds.Toggle = refl
+by_word kinds.Select = refl
+by_word kinds.Call = refl
+by_word kinds.Arbiter = refl
+by_word kinds.Reg = refl
+by_word kinds.AddC = refl
+by_word kinds.XorC = refl
+by_word kinds.Sum = refl
+by_word kinds.Bit = refl
+
+-- a word that begins with a byte other than the mark
+other_byte : (mark b : ℕ) (bs : List ℕ) → (b == mark) ≡ false → is_mark mark (b ∷ bs) ≡ false
+other_byte mark b bs other = rw other refl
+
+digit_no_colon : (b : ℕ) → is_ascii_digit b ≡ true → (b == 58) ≡ false
+digit_no_colon b digit = grind (arith, nat_tests)
+
+digits_no_colon : (ds : List ℕ) → list_all is_ascii_digit ds ≡ true → is_mark 58 ds ≡ false
+digits_no_colon [] all = refl
+digits_no_colon (b ∷ bs) all = other_byte 58 b bs (digit_no_colon b (both (is_ascii_digit b) (list_all is_ascii_digit bs) all).0)
+
+pub number_no_colon : (n : ℕ) → n < 2 ^ 64 → is_mark 58 (decimal n) ≡ false
+number_no_colon n fits = digits_no_colon (decimal n) (decimal_digits n fits)
+
+letter_no_greater : (b : ℕ) → is_ascii_alphabetic b ≡ true → (b == 62) ≡ false
+letter_no_greater b letter = grind (arith, nat_tests)
+
+pub name_no_greater : (name : List ℕ) → is_name name ≡ true → is_mark 62 name ≡ false
+unfolding is_name
+name_no_greater [] valid = refl
+name_no_greater (b ∷ bs) valid =
+    let head = both (begins_with_letter (b ∷ bs) && nat_le (length (b ∷ bs)) 32) (list_all is_name_byte (b ∷ bs)) valid in
+    other_byte 62 b bs (letter_no_greater b (both (begins_with_letter (b ∷ bs)) (nat_le (length (b ∷ bs)) 32) head.0).0)
+
+some_words : {A : Type 0} (write : A → List ℕ) (xs : List A) → 0 < length xs → (length (map write xs) == 0) ≡ false
+some_words write [] some = absurd (omega (arith, some))
+some_words write (x ∷ xs) some = let no : (suc (length (map write xs)) == 0) ≡ false = grind (arith, nat_tests) in no
+
+All-weaken : {X : Type 0} (P Q : X → Type 0) → ((x : X) → P x → Q x) → (xs : List X) → All P xs → All Q xs
+All-weaken P Q each [] all = All-nil Q
+All-weaken P Q each (x ∷ xs) all = All-cons Q x xs (each x (All-head P x xs all)) (All-weaken P Q each xs (All-tail P x xs all))
+
+module _ {I O : Type 0} (name : List ℕ) (kind : Kind) (params : List ℕ) (inputs : List I) (outputs : List O)
+    (input : I → List ℕ) (output : O → List ℕ) (see : O → OutputName)
+    (low : All (λ p. p < 2 ^ 64) params) (names : All (λ i. is_name (input i) ≡ true) inputs) (reads : All (λ o. output_word (output o) ≡ Ok (see o)) outputs)
+    (some_inputs : 0 < length inputs) (some_outputs : 0 < length outputs) where
+  abbrev back : List (List ℕ)
+  back = map input inputs ++ (codes ">" ∷ map output outputs)
+
+  pub module_stated : statement_of (codes "module" ∷ name ∷ word_of kind ∷ (map decimal params ++ (codes ":" ∷ back))) ≡ Change (Ok (AddModule name kind params (map input inputs) (map see outputs)))
+  unfolding statement_of stated_edit module_edit parts_edit
+  module_stated =
+      let no_colon = All-map (λ w. is_mark 58 w ≡ false) decimal params (All-weaken (λ p. p < 2 ^ 64) (λ p. is_mark 58 (decimal p) ≡ false) number_no_colon params low) in
+      let no_greater = All-map (λ w. is_mark 62 w ≡ false) input inputs (All-weaken (λ i. is_name (input i) ≡ true) (λ i. is_mark 62 (input i) ≡ false) (λ i. name_no_greater (input i)) inputs names) in
+      let front = before_first-append (is_mark 58) (codes ":") back refl (map decimal params) no_colon in
+      let ports = after_first-append (is_mark 58) (codes ":") back refl (map decimal params) no_colon in
+      let ins = before_first-append (is_mark 62) (codes ">") (map output outputs) refl (map input inputs) no_greater in
+      let outs = after_first-append (is_mark 62) (codes ">") (map output outputs) refl (map input inputs) no_greater in
+      let i = some_words input inputs some_inputs in
+      let o = some_words output outputs some_outputs in
+      let k = by_word kind in
+      let numbers = each_back number_word decimal (λ p. p) params (All-weaken (λ p. p < 2 ^ 64) (λ p. number_word (decimal p) ≡ Ok p) number_back params low) ∙ ap Ok (map-id params) in
+      let read = each_back output_word output see outputs reads in
+      rw (front, ports) (rw (ins, outs) (rw (i, o) (rw k (rw numbers (rw read refl)))))

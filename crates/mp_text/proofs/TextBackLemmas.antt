@@ -1,0 +1,69 @@
+-- Lines that are written lead from netlist to netlist as their edits do.
+use Rattle.std.proofs.Common.{◌≡◌, ℕ, ◌+◌, ◌<◌, ◌≤◌, List, [], ◌∷◌, ◌++◌, append_assoc, All, Option, Some, None, Result, Ok, Err, refl, sym, ap, subst, ◌∙◌, arith}
+use Rattle.std.specs.List.{flat_map}
+use Rattle.std.specs.Result.{result_map_both}
+use Rattle.std.proofs.lemmas.List.Elements.{All-head, All-tail}
+use Rattle.mp_netlist.specs.declared.edit.Edit.{Edit}
+use Rattle.mp_netlist.specs.declared.edit_error.EditError.{EditError}
+use Rattle.mp_netlist.specs.Circuit.{Circuit}
+use Rattle.mp_netlist.specs.Edits.{after}
+use Rattle.mp_model.specs.Replays.{replay, go_on}
+use Rattle.mp_text.specs.declared.text_code.TextCode.{TextCode}
+use Rattle.mp_text.specs.declared.text_code.TextCode.TheVariants.{Refused}
+use Rattle.mp_text.specs.declared.text_error.TextError.{TextError}
+use Rattle.mp_text.specs.LineErrors.{in_text}
+use Rattle.mp_text.specs.Lines.{lines_of}
+use Rattle.mp_text.specs.Reads.{◌>>=◌}
+use Rattle.mp_text.specs.Statements.{Statement, Change, statement_of}
+use Rattle.mp_text.specs.Texts.{after_statement, after_line, after_lines, next_line}
+use Rattle.mp_text.specs.Written.{spaced, written_line}
+use Rattle.mp_text.proofs.PlainLemmas.{IsPlain}
+use Rattle.mp_text.proofs.WrittenLineLemmas.{lines_of-written, line_words-spaced}
+
+-- the lines of the bytes lead where the edits lead
+pub record Leads (bytes : List ℕ) (edits : List Edit) : Type 0 where
+  pub each : (k : ℕ) (c d : Circuit) → replay c edits ≡ Ok d → after_lines k (Some c) (lines_of bytes) ≡ Ok d
+
+pub leads_nowhere : Leads [] []
+unfolding after_lines lines_of
+leads_nowhere = record { each = λ k c d same. let e : c ≡ d = cc same in ap Ok e }
+
+-- a written line is read as its statement
+pub line_stated : (state : Option Circuit) (first : List ℕ) (words : List (List ℕ)) → IsPlain first → All IsPlain words
+    → after_line state (first ++ spaced words) ≡ after_statement state (statement_of (first ∷ words))
+unfolding after_line
+line_stated state first words plain all =
+    ap (λ read. in_text read >>= λ words. after_statement state (statement_of words)) (line_words-spaced first words plain all)
+
+module _ (edit : Edit) (bytes : List ℕ) (edits : List Edit) (rest : Leads bytes edits) (k : ℕ) (d : Circuit) where
+  on_edited : (r : Result Circuit EditError) → go_on (λ next. replay next edits) r ≡ Ok d
+      → next_line k (λ after. after_lines (k + 1) after (lines_of bytes)) (result_map_both Some Refused r) ≡ Ok d
+  on_edited (Ok c) h = rest.each (k + 1) c d h
+  on_edited (Err error) h = cc
+
+module _ (first : List ℕ) (words : List (List ℕ)) (edit : Edit) (plain : IsPlain first) (all : All IsPlain words) (stated : statement_of (first ∷ words) ≡ Change (Ok edit)) where
+  -- a written line in front of others
+  pub leads_line : (bytes : List ℕ) (edits : List Edit) → Leads bytes edits → Leads (written_line first words ++ bytes) (edit ∷ edits)
+  unfolding after_lines after_statement
+  leads_line bytes edits rest = record { each = λ k c d h. by k c d h }
+    where
+      by : (k : ℕ) (c d : Circuit) → replay c (edit ∷ edits) ≡ Ok d → after_lines k (Some c) (lines_of (written_line first words ++ bytes)) ≡ Ok d
+      by k c d h =
+          let line = line_stated (Some c) first words plain all ∙ ap (after_statement (Some c)) stated in
+          ap (after_lines k (Some c)) (lines_of-written first words bytes plain all)
+          ∙ ap (next_line k (λ after. after_lines (k + 1) after (lines_of bytes))) line
+          ∙ on_edited edit bytes edits rest k d (after c edit) h
+
+-- the line of a slot leads where its edit leads
+pub record SlotLeads {R : Type 0} (line : Option R → List ℕ) (change : Option R → List Edit) (slot : Option R) : Type 0 where
+  pub each : (bytes : List ℕ) (edits : List Edit) → Leads bytes edits → Leads (line slot ++ bytes) (change slot ++ edits)
+
+-- the lines of slots in front of others
+pub leads_slots : {R : Type 0} (line : Option R → List ℕ) (change : Option R → List Edit) (slots : List (Option R)) (bytes : List ℕ) (edits : List Edit)
+    → All (SlotLeads line change) slots → Leads bytes edits → Leads (flat_map line slots ++ bytes) (flat_map change slots ++ edits)
+leads_slots line change [] bytes edits all rest = rest
+leads_slots line change (slot ∷ slots) bytes edits all rest =
+    let later = leads_slots line change slots bytes edits (All-tail (SlotLeads line change) slot slots all) rest in
+    let here = (All-head (SlotLeads line change) slot slots all).each (flat_map line slots ++ bytes) (flat_map change slots ++ edits) later in
+    subst (λ bs. Leads bs ((change slot ++ flat_map change slots) ++ edits)) (sym (append_assoc (line slot) (flat_map line slots) bytes))
+    (subst (λ es. Leads (line slot ++ (flat_map line slots ++ bytes)) es) (sym (append_assoc (change slot) (flat_map change slots) edits)) here)

@@ -1,0 +1,57 @@
+-- What is written is read again.
+use Rattle.std.specs.Prelude.{◌≡◌, ℕ, ◌≤◌, true, List, [], ◌∷◌, ◌++◌, length, map, Option, Some, None, Ok, option_map}
+use Rattle.std.specs.List.{flat_map}
+use Rattle.mp_netlist.specs.declared.wire_record.WireRecord.{WireRecord}
+use Rattle.mp_netlist.specs.declared.module_record.ModuleRecord.{ModuleRecord}
+use Rattle.mp_netlist.specs.declared.bundle_record.BundleRecord.{BundleRecord}
+use Rattle.mp_netlist.specs.declared.ports.Output.{Output}
+use Rattle.mp_netlist.specs.declared.port_names.OutputName.{OutputName}
+use Rattle.mp_netlist.specs.declared.edit.Edit.{Edit}
+use Rattle.mp_netlist.specs.declared.edit.Edit.TheVariants.{AddWire, AddModule, AddBundle, SetStimulus}
+use Rattle.mp_netlist.specs.Names.{is_name}
+use Rattle.mp_netlist.specs.Circuit.{Circuit, IsCircuit, empty_circuit, wire_at, module_at, bundle_at}
+use Rattle.mp_model.specs.Replays.{replay}
+use Rattle.mp_text.specs.Texts.{text_at}
+use Rattle.mp_text.specs.Written.{written, wire_name}
+
+-- the edit that adds what stands in a wire's slot, and none where nothing does
+abbrev pub wire_edits : Option WireRecord → List Edit
+wire_edits None = []
+wire_edits (Some r) = AddWire r.name r.width r.initial ∷ []
+
+-- an output with its wire's name
+abbrev pub output_by_name : Circuit → Output → OutputName
+output_by_name n output = record { wire = option_map (wire_name n) output.wire; delay = output.delay }
+
+abbrev pub module_edits : Circuit → Option ModuleRecord → List Edit
+module_edits n None = []
+module_edits n (Some r) = AddModule r.name r.kind r.params (map (wire_name n) r.inputs) (map (output_by_name n) r.outputs) ∷ []
+
+abbrev pub set_edits : List ℕ → Option (List (ℕ × ℕ)) → List Edit
+set_edits name None = []
+set_edits name (Some changes) = SetStimulus name changes ∷ []
+
+-- the edit that sets the stimulus of what stands in a wire's slot, if any
+abbrev pub stimulus_edits : Option WireRecord → List Edit
+stimulus_edits None = []
+stimulus_edits (Some r) = set_edits r.name r.stimulus
+
+abbrev pub bundle_edits : Circuit → Option BundleRecord → List Edit
+bundle_edits n None = []
+bundle_edits n (Some r) = AddBundle r.name (wire_name n r.request) (wire_name n r.acknowledge) (wire_name n r.payload) r.setup ∷ []
+
+-- the edits that add the records of a netlist by name: wires, modules, stimuli by wire and bundles, each by number
+abbrev pub edits_by_name : Circuit → List Edit
+edits_by_name n = flat_map wire_edits n.wires ++ (flat_map (module_edits n) n.modules ++ (flat_map stimulus_edits n.wires ++ flat_map (bundle_edits n) n.bundles))
+
+-- what stands has a name
+pub record HasNames (n : Circuit) : Type 0 where
+  pub wires : (w : ℕ) (r : WireRecord) → wire_at n w ≡ Some r → is_name r.name ≡ true
+  pub modules : (m : ℕ) (r : ModuleRecord) → module_at n m ≡ Some r → is_name r.name ≡ true
+  pub bundles : (b : ℕ) (r : BundleRecord) → bundle_at n b ≡ Some r → is_name r.name ≡ true
+
+-- the text of a netlist is read as what the edits of its records give on the empty netlist of its horizon
+abbrev pub IsReadAsWritten : Type 0
+IsReadAsWritten =
+    (n : Circuit) → IsCircuit n → HasNames n → length (written n) ≤ 4194304
+    → (m : Circuit) → replay (empty_circuit n.horizon) (edits_by_name n) ≡ Ok m → text_at (written n) ≡ Ok m
