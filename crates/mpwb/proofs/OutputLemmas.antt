@@ -1,12 +1,12 @@
 -- The lines of waves, one after the other.
-use Rattle.std.proofs.Common.{◌≡◌, ℕ, ◌+◌, ◌-◌, ◌<◌, ◌≤◌, List, [], ◌∷◌, ◌++◌, length, length-append, take, Option, Some, zero, suc, refl, sym, ap, subst, ◌∙◌, append_assoc, add-one, add-zero, add-suc, arith}
+use Rattle.std.proofs.Common.{◌≡◌, ℕ, ◌+◌, List, [], ◌∷◌, ◌++◌, Option, Some, zero, suc, refl, sym, ap, ◌∙◌, add-one, add-zero, arith}
 use Rattle.mp_wave.specs.Waveform.{Waveform}
 use Rattle.mp_netlist.specs.declared.wire_record.WireRecord.{WireRecord}
 use Rattle.mp_netlist.specs.Circuit.{Circuit, wire_at}
 use Rattle.mp_netlist.specs.Slots.{slot_at}
 use Rattle.mp_model.specs.Waves.{wave, waves, waves_from, slot_wave}
 use Rattle.mp_text.specs.WaveLines.{wave_line}
-use Rattle.mpwb.specs.Outputs.{slot_line, lines_below, waves_text}
+use Rattle.mpwb.specs.Outputs.{slot_line, lines_below}
 
 -- ---- the wave of a wire that stands
 

@@ -12,9 +12,10 @@ use Rattle.mp_text.specs.declared.line_error.LineError.TheVariants as lines
 use Rattle.mp_text.specs.declared.script_line.Line.{Line}
 use Rattle.mp_text.specs.declared.script_line.Line.TheVariants.{Empty, Change, Ask}
 use Rattle.mp_text.specs.declared.script_line.Question.{Question}
-use Rattle.mp_text.specs.declared.script_line.Question.TheVariants.{Wave, Waves}
+use Rattle.mp_text.specs.declared.script_line.Question.TheVariants.{Wave, Waves, Text}
 use Rattle.mp_text.specs.LineErrors.{line_number_of, line_name_of}
 use Rattle.mp_text.specs.ScriptLines.{line_at}
+use Rattle.mp_text.specs.Written.{written}
 use Rattle.mpwb.specs.RunFaults.{numbered}
 use Rattle.mpwb.specs.Outputs.{slot_line, waves_text}
 use Rattle.mpwb.specs.Keepers.{Kept, kept_after}
@@ -55,6 +56,7 @@ wire_text n (Some w) = slot_line (wire_at n w) (wave n w)
 abbrev pub answer_text : Circuit → Question → List ℕ
 answer_text n (Wave name) = wire_text n (wire_named n name)
 answer_text n Waves = waves_text n
+answer_text n Text = written n
 
 -- the reply to a line that was read or not: a line without words has none
 abbrev pub reply_to : Bool → Kept → Result Line LineError → List ℕ

@@ -29,7 +29,7 @@ const WAVES: &str = "Writes the wave of each wire of a netlist";
 const WAVES_LONG: &str = "\
 Reads a netlist's text of at most 4194304 bytes from standard input: a line `horizon H`, with H from \
 1 to 65536, and then the lines `wire NAME WIDTH LEVEL`, `module NAME KIND PARAM .. : IN .. > \
-OUT/DELAY ..` and `stim WIRE T=V ..`.
+OUT/DELAY ..`, `stim WIRE T=V ..` and `bundle NAME REQ ACK DATA SETUP`.
 
 Writes a line for each wire, by number, on standard output: `NAME INITIAL T=V ..`, with its level at \
 time 0 and its level V from each time T on at which it changes below the horizon.
@@ -40,12 +40,14 @@ const PLAY: &str = "Edits a netlist by a script, and answers its questions";
 
 const PLAY_LONG: &str = "\
 Reads from standard input, at most 4194304 bytes, a netlist's text as `waves` does, then a line \
-`---`, and behind it a script. Its lines are edits, `wire`, `module` and `stim` as in a text, \
-`remove wire NAME` and `delay MODULE PORT D`, and the questions `wave WIRE` and `waves`.
+`---`, and behind it a script. Its lines are edits: `wire`, `module`, `stim` and `bundle` as in a \
+text, `remove wire NAME`, `remove module NAME`, `remove bundle NAME`, `input MODULE PORT WIRE`, \
+`output MODULE PORT WIRE` (or `-` for no wire), `delay MODULE PORT D` and `clear WIRE`; and \
+questions: `wave WIRE`, `waves` and `text`.
 
 Answers each line in turn on standard output: an edit by `accepted N`, with how many edits were \
-accepted so far, or `refused CODE NAME`, which changes nothing; a question by the lines that \
-`waves` writes; and a line that is not read by `unread CODE NAME`.
+accepted so far, or `refused CODE NAME`, which changes nothing; a question by the wire's line, the \
+lines of all wires, or the present netlist's text; and a line that is not read by `unread CODE NAME`.
 
 A netlist's text that is refused is told on standard error as `mpwb: line N: CODE NAME`.";
 

@@ -69,12 +69,22 @@ fn unread_lines(rt: HostRuntime) -> Result<(), RunFault> {
 }
 
 #[test]
+fn play_unread(rt: HostRuntime) -> Result<(), RunFault> {
+    answers(
+        &rt,
+        rt.alloc(),
+        b"horizon 20\nwire a 1 0\nwire y 1 0\nmodule b BUF : a > y/3\nstim a 2=1 5=0\n---\nflip y\nwave nobody\nwire a 1 0\nremove wire y\nreport\ntext\n",
+        b"unread 2 UnknownStatement\nrefused 3 NoSuchWire\nrefused 1 NameTaken\nrefused 14 StillUsed\nunread 2 UnknownStatement\nhorizon 20\nwire a 1 0\nwire y 1 0\nmodule b BUF : a > y/3\nstim a 2=1 5=0\n",
+    )
+}
+
+#[test]
 fn removed_names_come_again(rt: HostRuntime) -> Result<(), RunFault> {
     answers(
         &rt,
         rt.alloc(),
-        b"horizon 5\nwire a 1 0\nwire b 1 0\n---\nremove wire a\nwire a 1 1\nwaves\n",
-        b"accepted 1\naccepted 2\nb 0\na 1\n",
+        b"horizon 5\nwire a 1 0\nwire b 1 0\n---\nremove wire a\nwire a 1 1\nwaves\ntext\n",
+        b"accepted 1\naccepted 2\nb 0\na 1\nhorizon 5\nwire b 1 0\nwire a 1 1\n",
     )
 }
 

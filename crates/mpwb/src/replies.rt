@@ -9,7 +9,7 @@ use crate::numbered::push_numbered;
 use crate::run_fault::RunFault;
 use crate::wave_lines::{push_slot_line, waves_text};
 use mp_netlist::{Edit, EditError, Name};
-use mp_text::{Line, LineError, Question, read_line};
+use mp_text::{Line, LineError, Question, read_line, write_netlist};
 use std::alloc::{AllocError, Global};
 
 /// The reply to a line of a script, after its edit, if it is one. A line without words has none.
@@ -41,6 +41,7 @@ fn answer_text(alloc: Global, keeper: &Keeper, question: &Question) -> Result<Ve
     match question {
         Question::Wave(name) => wire_text(alloc, keeper, name),
         Question::Waves => waves_text(alloc, keeper.netlist(), keeper.waves()),
+        Question::Text => write_netlist(alloc, keeper.netlist()),
     }
 }
 

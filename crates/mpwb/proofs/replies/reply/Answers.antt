@@ -1,4 +1,4 @@
-use Rattle.std.proofs.Common.{refl, false, Ok, Err, ap, ◌∙◌}
+use Rattle.std.proofs.Common.{refl, false, Ok, ap, ◌∙◌}
 use Rattle.mp_text.specs.declared.script_line.Line.TheVariants.{Empty, Change, Ask}
 use Rattle.mpwb.proofs.ReplyLemmas.{answered, unread}
 use Rattle.mpwb.proofs.replies.reply.Goals as goal

@@ -1,4 +1,4 @@
-use Rattle.std.proofs.Common.{◌≡◌, ◌≤◌, [], true, false, length, Ok, refl, sym, ap, ◌∙◌, rules, arith}
+use Rattle.std.proofs.Common.{◌≡◌, ◌≤◌, [], false, length, Ok, refl, sym, ap, ◌∙◌, rules, arith}
 use Rattle.std.proofs.lemmas.Result.{err_from_is_err_and}
 use Rattle.mpwb.specs.OptionLimits.{has_valid_crew}
 use Rattle.mpwb.specs.Outputs.{output_of}
@@ -17,7 +17,7 @@ returns-in_err-netlist-clause-refused c =
     let within : length input ≤ 4194304 = omega arith in
     let same = first_netlist-of input c.in_ok-front.front.now within c.in_ok-front.ensures.short c.in_ok-front.ensures.front in
     let p = err_from_is_err_and c.from_residual-in_err-netlist.result c.from_residual-in_err-netlist.ensures.1 in
-    rw (p.1, p.2) (refused_read (script_text [] input) (first_netlist input) (has_valid_crew c.args.options.now) c.in_err-netlist.field-0 (rw (sym same) at c.in_err-netlist.ensures.read))
+    rw (p.1, p.2) (refused_read (script_text [] input) (first_netlist input) (has_valid_crew c.args.options.now) c.in_err-netlist.field-0.0 (rw (sym same) at c.in_err-netlist.ensures.read))
 
 pub returns-then-not-has_valid_crew-clause-refused : goal.returns-then-not-has_valid_crew-clause-refused
 returns-then-not-has_valid_crew-clause-refused c =

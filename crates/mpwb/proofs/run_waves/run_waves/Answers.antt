@@ -20,4 +20,4 @@ returns-clause-written g c =
     let r = c.put_text.result in
     let output = rw c.as_slice.ensures.value at c.in_ok-text.ensures.output in
     for_input (λ o. Wrote r o old new) _ c.in_ok-input.input.items c.args.options.now _ c.in_ok-input.ensures.front refl
-    (rw (output, c.as_slice-2.ensures.value) c.put_text.ensures.written)
+    (rw output (rw c.as_slice-2.ensures.value at c.put_text.ensures.written))
