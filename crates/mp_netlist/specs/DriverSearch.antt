@@ -1,8 +1,13 @@
--- What the search for a driver needs.
+-- What a search among the modules needs.
 use Rattle.std.specs.Prelude.{◌<◌, ◌^◌, length, Option, Some, None}
 use Rattle.mp_netlist.specs.declared.module_record.ModuleRecord.{ModuleRecord}
 
--- the ports of the module that stands in the slot can be numbered
+-- the outputs of the module that stands in the slot can be numbered
 abbrev pub HasFewPorts : Option ModuleRecord → Type 0
 HasFewPorts None = Unit {0}
 HasFewPorts (Some r) = length r.outputs < 2 ^ 32
+
+-- the inputs of the module that stands in the slot can be numbered
+abbrev pub HasFewInputs : Option ModuleRecord → Type 0
+HasFewInputs None = Unit {0}
+HasFewInputs (Some r) = length r.inputs < 2 ^ 32

@@ -5,6 +5,8 @@ pub mod Slots
 pub mod Circuit
 pub mod Drivers
 pub mod Uses
+pub mod Readers
+pub mod Delays
 pub mod Edits
 pub mod Records
 pub mod DriverSearch

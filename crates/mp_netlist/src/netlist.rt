@@ -2,9 +2,11 @@
 mod apply;
 mod check;
 mod copies;
+mod delays;
 mod drivers;
 mod names;
 mod ports;
+mod readers;
 mod uses;
 
 use crate::bundle_record::BundleRecord;

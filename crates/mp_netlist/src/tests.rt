@@ -1,3 +1,5 @@
+mod changes;
+
 use crate::{
     Changes, Driver, Edit, EditError, InputNames, ModuleId, Name, Netlist, NewError, OutputName,
     OutputNames, Params, WireId,
@@ -84,6 +86,12 @@ fn build(alloc: Global, net: &mut Netlist) -> Result<(), Fail> {
     net.apply(&wire(alloc, "d", 8, 255)?)?;
     net.apply(&module(alloc, "m", Kind::Buf, &[], "a", "y", 5)?)?;
     net.apply(&stimulus(alloc, "b", &[(3, 1), (19, 0)])?)?;
+    Ok(())
+}
+
+/// The netlist takes the edit.
+fn applies(net: &mut Netlist, edit: Result<Edit, AllocError>) -> Result<(), Fail> {
+    net.apply(&edit?)?;
     Ok(())
 }
 
