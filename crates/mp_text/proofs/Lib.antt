@@ -1,6 +1,7 @@
 pub mod DecimalLemmas
 pub mod DigitLemmas
 pub mod LineLemmas
+pub mod RecordBackLemmas
 pub mod ReplayLemmas
 pub mod StatementBackLemmas
 pub mod TextBackLemmas
@@ -9,6 +10,7 @@ pub mod WordLemmas
 pub mod WordListLemmas
 pub mod WriteLemmas
 pub mod DividedLemmas
+pub mod ModuleBackLemmas
 pub mod PlainLemmas
 pub mod ReadBackLemmas
 pub mod WrittenLineLemmas
