@@ -3,6 +3,7 @@ pub mod DigitLemmas
 pub mod LineLemmas
 pub mod RecordBackLemmas
 pub mod ReplayLemmas
+pub mod RoundTripLemmas
 pub mod StatementBackLemmas
 pub mod TextBackLemmas
 pub mod TextLemmas

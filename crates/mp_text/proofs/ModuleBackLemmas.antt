@@ -1,5 +1,5 @@
 -- The lines of modules lead where the edits of the modules lead.
-use Rattle.std.proofs.Common.{◌≡◌, ℕ, ◌+◌, ◌^◌, ◌<◌, ◌≤◌, Bool, true, false, cond, ◌&&◌, ◌==◌, List, [], ◌∷◌, ◌++◌, length, map, All, Option, Some, None, Ok, decimal, refl, sym, ap, subst, ◌∙◌, rules, arith}
+use Rattle.std.proofs.Common.{◌≡◌, ℕ, ◌^◌, ◌<◌, ◌≤◌, Bool, true, false, cond, ◌==◌, List, [], ◌∷◌, ◌++◌, length, map, All, Option, Some, None, Ok, decimal, refl, sym, subst, arith}
 use Rattle.std.specs.Prelude.{codes, nat_lt, IsTrue, IsSome, IfSome, slice_index_or, option_map}
 use Rattle.std.specs.List.{list_all}
 use Rattle.std.proofs.Math.Nat.{pow-le-pow_right}
@@ -147,7 +147,7 @@ module _ (n : Circuit) (circuit : IsCircuit n) (named : HasNames n) where
         let numbers = All-map IsPlain decimal r.params (weaken (λ p. p < 2 ^ 64) (λ p. IsPlain (decimal p)) IsPlain-decimal r.params params_ok) in
         let back = All-append IsPlain input_words (codes ">" ∷ output_words) ins (All-cons IsPlain (codes ">") output_words (record { some = omega arith; plain = refl }) outs) in
         let rest = All-append IsPlain params_words (codes ":" ∷ (input_words ++ (codes ">" ∷ output_words))) numbers
-            (All-cons IsPlain (codes ":") (input_words ++ (codes ">" ∷ output_words)) (record { some = omega arith; plain = refl }) back) in
+        (All-cons IsPlain (codes ":") (input_words ++ (codes ">" ∷ output_words)) (record { some = omega arith; plain = refl }) back) in
         All-cons IsPlain r.name (word_of r.kind ∷ (params_words ++ (codes ":" ∷ (input_words ++ (codes ">" ∷ output_words))))) (IsPlain-name r.name (named.modules m r at))
         (All-cons IsPlain (word_of r.kind) (params_words ++ (codes ":" ∷ (input_words ++ (codes ">" ∷ output_words)))) (IsPlain-kind r.kind) rest)
 
@@ -158,8 +158,10 @@ module _ (n : Circuit) (circuit : IsCircuit n) (named : HasNames n) where
         let some_outputs : 0 < length r.outputs = subst (λ k. 0 < k) (sym ok.outputs) (outputs_some r.kind) in
         let stated = module_stated r.name r.kind r.params r.inputs r.outputs (wire_name n) (output_text n) (output_by_name n) params_ok inputs_ok outs some_inputs some_outputs in
         let first : IsPlain (codes "module") = record { some = omega arith; plain = refl } in
-        record { each = leads_line (codes "module") (r.name ∷ word_of r.kind ∷ (params_words ++ (codes ":" ∷ (input_words ++ (codes ">" ∷ output_words)))))
-            (AddModule r.name r.kind r.params input_words (map (output_by_name n) r.outputs)) first plain_words stated }
+        record {
+          each = leads_line (codes "module") (r.name ∷ word_of r.kind ∷ (params_words ++ (codes ":" ∷ (input_words ++ (codes ">" ∷ output_words)))))
+              (AddModule r.name r.kind r.params input_words (map (output_by_name n) r.outputs)) first plain_words stated;
+        }
 
   module_slot : (m : ℕ) (slot : Option ModuleRecord) → module_at n m ≡ slot → SlotLeads (module_line n) (module_edits n) slot
   module_slot m None at = record { each = λ bytes edits rest. rest }

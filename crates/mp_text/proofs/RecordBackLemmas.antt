@@ -1,26 +1,23 @@
 -- The lines of records lead where the edits of the records lead.
-use Rattle.std.proofs.Common.{◌≡◌, ℕ, ◌+◌, ◌^◌, ◌<◌, ◌≤◌, Bool, true, false, cond, ◌&&◌, ◌==◌, List, [], ◌∷◌, ◌++◌, length, map, get_or, All, Option, Some, None, Ok, decimal, refl, sym, ap, subst, ◌∙◌, rules, arith}
-use Rattle.std.specs.Prelude.{codes, nat_lt, IsTrue, IsSome, IfSome, slice_index_or}
-use Rattle.std.specs.List.{list_all}
+use Rattle.std.proofs.Common.{◌≡◌, ℕ, ◌^◌, ◌<◌, ◌≤◌, Bool, true, ◌&&◌, List, [], ◌∷◌, ◌++◌, map, All, Option, Some, None, Ok, decimal, refl, arith}
+use Rattle.std.specs.Prelude.{codes, nat_lt, IsTrue, IsSome, IfSome}
 use Rattle.std.proofs.Math.Nat.{pow-le-pow_right}
 use Rattle.std.proofs.lemmas.Bool.Decides.{nat_tests}
-use Rattle.std.proofs.lemmas.List.Elements.{All-cons, All-nil, All-head, All-tail, All-map, All-append, All-from_get_or}
+use Rattle.std.proofs.lemmas.List.Elements.{All-cons, All-nil, All-head, All-tail, All-map, All-from_get_or}
 use Rattle.mp_netlist.specs.declared.ids.WireId.{WireId}
 use Rattle.mp_netlist.specs.declared.wire_record.WireRecord.{WireRecord}
-use Rattle.mp_netlist.specs.declared.module_record.ModuleRecord.{ModuleRecord}
 use Rattle.mp_netlist.specs.declared.bundle_record.BundleRecord.{BundleRecord}
-use Rattle.mp_netlist.specs.declared.ports.Output.{Output}
 use Rattle.mp_netlist.specs.declared.edit.Edit.{Edit}
-use Rattle.mp_netlist.specs.declared.edit.Edit.TheVariants.{AddWire, AddModule, AddBundle, SetStimulus}
+use Rattle.mp_netlist.specs.declared.edit.Edit.TheVariants.{AddWire, AddBundle, SetStimulus}
 use Rattle.mp_netlist.specs.Names.{is_name}
 use Rattle.mp_netlist.specs.Stimuli.{fits_width, is_stimulus}
-use Rattle.mp_netlist.specs.Circuit.{Circuit, IsCircuit, IsWire, IsModule, IsBundle, IsDelay, HasWidth, wire_at, module_at, bundle_at, width_of, module_width, output_at}
-use Rattle.mp_text.specs.Statements.{change_word, output_word}
-use Rattle.mp_text.specs.Written.{wire_line, module_line, stimulus_line, bundle_line, stimulus_words, pair_text, name_in, wire_name, output_name, output_text}
-use Rattle.mp_text.specs.RoundTrips.{HasNames, wire_edits, module_edits, stimulus_edits, set_edits, bundle_edits, output_by_name}
-use Rattle.mp_text.proofs.PlainLemmas.{IsPlain, IsPlain-append, IsPlain-decimal, IsPlain-name, IsPlain-kind, both}
-use Rattle.mp_text.proofs.ReadBackLemmas.{change_back, no_wire_back, wire_back}
-use Rattle.mp_text.proofs.StatementBackLemmas.{wire_stated, module_stated, stimulus_stated, bundle_stated}
+use Rattle.mp_netlist.specs.Circuit.{Circuit, IsCircuit, wire_at, bundle_at}
+use Rattle.mp_text.specs.Statements.{change_word}
+use Rattle.mp_text.specs.Written.{wire_line, stimulus_line, bundle_line, stimulus_words, pair_text, name_in, wire_name}
+use Rattle.mp_text.specs.RoundTrips.{HasNames, wire_edits, stimulus_edits, set_edits, bundle_edits}
+use Rattle.mp_text.proofs.PlainLemmas.{IsPlain, IsPlain-append, IsPlain-decimal, IsPlain-name, both}
+use Rattle.mp_text.proofs.ReadBackLemmas.{change_back}
+use Rattle.mp_text.proofs.StatementBackLemmas.{wire_stated, stimulus_stated, bundle_stated}
 use Rattle.mp_text.proofs.TextBackLemmas.{Leads, SlotLeads, leads_line}
 
 -- a level of a width that a wire may have
@@ -42,8 +39,8 @@ module _ (n : Circuit) (circuit : IsCircuit n) (named : HasNames n) where
       let width : r.width < 2 ^ 64 = omega (arith, ok.narrow) in
       let level = fits_low r.width r.initial ok.narrow ok.level in
       let plain : All IsPlain (r.name ∷ decimal r.width ∷ decimal r.initial ∷ [])
-          = All-cons IsPlain r.name (decimal r.width ∷ decimal r.initial ∷ []) (IsPlain-name r.name (named.wires w r at))
-            (All-cons IsPlain (decimal r.width) (decimal r.initial ∷ []) (IsPlain-decimal r.width width) (All-cons IsPlain (decimal r.initial) [] (IsPlain-decimal r.initial level) (All-nil IsPlain))) in
+      = All-cons IsPlain r.name (decimal r.width ∷ decimal r.initial ∷ []) (IsPlain-name r.name (named.wires w r at))
+      (All-cons IsPlain (decimal r.width) (decimal r.initial ∷ []) (IsPlain-decimal r.width width) (All-cons IsPlain (decimal r.initial) [] (IsPlain-decimal r.initial level) (All-nil IsPlain))) in
       let first : IsPlain (codes "wire") = record { some = omega arith; plain = refl } in
       record { each = leads_line (codes "wire") (r.name ∷ decimal r.width ∷ decimal r.initial ∷ []) (AddWire r.name r.width r.initial) first plain (wire_stated r.name r.width r.initial width level) }
 
@@ -69,13 +66,15 @@ module _ (n : Circuit) (circuit : IsCircuit n) (named : HasNames n) where
       let payload = IsPlain-name (wire_name n r.payload) (wire_named r.payload ok.payload) in
       let words = r.name ∷ wire_name n r.request ∷ wire_name n r.acknowledge ∷ wire_name n r.payload ∷ decimal r.setup ∷ [] in
       let plain : All IsPlain words
-          = All-cons IsPlain r.name (wire_name n r.request ∷ wire_name n r.acknowledge ∷ wire_name n r.payload ∷ decimal r.setup ∷ []) name
-            (All-cons IsPlain (wire_name n r.request) (wire_name n r.acknowledge ∷ wire_name n r.payload ∷ decimal r.setup ∷ []) request
-            (All-cons IsPlain (wire_name n r.acknowledge) (wire_name n r.payload ∷ decimal r.setup ∷ []) acknowledge
-            (All-cons IsPlain (wire_name n r.payload) (decimal r.setup ∷ []) payload (All-cons IsPlain (decimal r.setup) [] (IsPlain-decimal r.setup setup) (All-nil IsPlain))))) in
+      = All-cons IsPlain r.name (wire_name n r.request ∷ wire_name n r.acknowledge ∷ wire_name n r.payload ∷ decimal r.setup ∷ []) name
+      (All-cons IsPlain (wire_name n r.request) (wire_name n r.acknowledge ∷ wire_name n r.payload ∷ decimal r.setup ∷ []) request
+      (All-cons IsPlain (wire_name n r.acknowledge) (wire_name n r.payload ∷ decimal r.setup ∷ []) acknowledge
+      (All-cons IsPlain (wire_name n r.payload) (decimal r.setup ∷ []) payload (All-cons IsPlain (decimal r.setup) [] (IsPlain-decimal r.setup setup) (All-nil IsPlain))))) in
       let first : IsPlain (codes "bundle") = record { some = omega arith; plain = refl } in
-      record { each = leads_line (codes "bundle") words (AddBundle r.name (wire_name n r.request) (wire_name n r.acknowledge) (wire_name n r.payload) r.setup) first plain
-          (bundle_stated r.name (wire_name n r.request) (wire_name n r.acknowledge) (wire_name n r.payload) r.setup setup) }
+      record {
+        each = leads_line (codes "bundle") words (AddBundle r.name (wire_name n r.request) (wire_name n r.acknowledge) (wire_name n r.payload) r.setup) first plain
+            (bundle_stated r.name (wire_name n r.request) (wire_name n r.acknowledge) (wire_name n r.payload) r.setup setup);
+      }
 
   pub bundle_slots : All (SlotLeads (bundle_line n) (bundle_edits n)) n.bundles
   bundle_slots = All-from_get_or (SlotLeads (bundle_line n) (bundle_edits n)) n.bundles None (λ b within. bundle_slot b (bundle_at n b) refl)
