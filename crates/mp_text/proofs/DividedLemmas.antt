@@ -1,5 +1,5 @@
 -- Where lists of bytes and words are divided.
-use Rattle.std.proofs.Common.{◌≡◌, ℕ, ◌+◌, ◌-◌, ◌<◌, ◌≤◌, Bool, true, false, not, cond, suc, zero, List, [], ◌∷◌, ◌++◌, length, take, drop, get_or, All, Option, Some, None, nat_lt, position, refl, sym, ap, ◌∙◌, subst, rules, arith, length-append}
+use Rattle.std.proofs.Common.{◌≡◌, ℕ, ◌+◌, ◌-◌, ◌<◌, ◌≤◌, Bool, true, false, not, suc, zero, List, [], ◌∷◌, ◌++◌, length, take, drop, get_or, All, Some, nat_lt, position, refl, ap, ◌∙◌, arith, length-append}
 use Rattle.std.specs.List.{list_all, position_or_len, before_first, after_first, before_last, after_last, suffix_len}
 use Rattle.std.proofs.lemmas.Bool.Decides.{nat_tests}
 use Rattle.std.proofs.lemmas.List.Elements.{All-head, All-tail}

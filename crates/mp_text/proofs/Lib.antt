@@ -1,7 +1,9 @@
 pub mod DecimalLemmas
 pub mod DigitLemmas
 pub mod LineLemmas
+pub mod RecordBackLemmas
 pub mod ReplayLemmas
+pub mod RoundTripLemmas
 pub mod StatementBackLemmas
 pub mod TextBackLemmas
 pub mod TextLemmas
@@ -10,6 +12,7 @@ pub mod WordListLemmas
 pub mod DivisionLemmas
 pub mod WriteLemmas
 pub mod DividedLemmas
+pub mod ModuleBackLemmas
 pub mod PlainLemmas
 pub mod ReadBackLemmas
 pub mod WrittenLineLemmas

@@ -1,5 +1,5 @@
 -- Words as they are written.
-use Rattle.std.proofs.Common.{◌≡◌, ℕ, ◌^◌, ◌<◌, ◌≤◌, Bool, true, false, not, ◌==◌, ◌&&◌, List, [], ◌∷◌, ◌++◌, length, All, nat_lt, decimal, true≢false, refl, sym, ap, ◌∙◌, subst, rules, arith}
+use Rattle.std.proofs.Common.{◌≡◌, ℕ, ◌^◌, ◌<◌, Bool, true, false, not, ◌==◌, ◌&&◌, List, [], ◌∷◌, ◌++◌, length, All, nat_lt, decimal, true≢false, refl, sym, ◌∙◌, arith}
 use Rattle.std.specs.Prelude.{nat_le}
 use Rattle.std.specs.Char.{is_ascii_digit}
 use Rattle.std.specs.List.{list_all}
@@ -12,7 +12,7 @@ use Rattle.mp_modules.specs.declared.kind.Kind.{Kind}
 use Rattle.mp_modules.specs.declared.kind.Kind.TheVariants as kinds
 use Rattle.mp_modules.specs.Kinds.{word_of}
 use Rattle.mp_netlist.specs.Names.{is_name, is_name_byte, begins_with_letter}
-use Rattle.mp_text.specs.Lines.{is_allowed, is_line_feed}
+use Rattle.mp_text.specs.Lines.{is_allowed}
 use Rattle.mp_text.specs.Words.{is_gap}
 use Rattle.mp_text.proofs.DecimalLemmas.{decimal_digits}
 

@@ -1,5 +1,5 @@
 -- Words that are written are read again.
-use Rattle.std.proofs.Common.{◌≡◌, ℕ, ◌+◌, ◌^◌, ◌<◌, Bool, true, false, not, ◌==◌, ◌&&◌, List, [], ◌∷◌, ◌++◌, length, map, take, drop, All, Option, Some, None, Result, Ok, Err, decimal, refl, sym, ap, ◌∙◌, rules, arith}
+use Rattle.std.proofs.Common.{◌≡◌, ℕ, ◌^◌, ◌<◌, Bool, true, false, not, ◌==◌, ◌&&◌, List, [], ◌∷◌, ◌++◌, length, map, All, Some, None, Result, Ok, decimal, refl, ap, arith}
 use Rattle.std.specs.Prelude.{codes, nat_le}
 use Rattle.std.specs.Option.{ok_or}
 use Rattle.std.specs.Char.{is_ascii_digit, is_ascii_alphabetic}
@@ -8,13 +8,11 @@ use Rattle.std.specs.List.{list_all}
 use Rattle.std.proofs.lemmas.Bool.Decides.{nat_tests}
 use Rattle.std.proofs.lemmas.List.Elements.{All-head, All-tail}
 use Rattle.std.proofs.Math.Seq.{take-append_seam, drop-append-add}
-use Rattle.mp_netlist.specs.declared.port_names.OutputName.{OutputName}
 use Rattle.mp_netlist.specs.Names.{is_name, is_name_byte, begins_with_letter}
 use Rattle.mp_text.specs.declared.line_error.LineError.{LineError}
 use Rattle.mp_text.specs.declared.line_error.LineError.TheVariants.{BadNumber}
-use Rattle.mp_text.specs.Numbers.{spelled_number, time_and_value, parts_at_equals, is_slash, parts_at_slash, name_and_number}
-use Rattle.mp_text.specs.Statements.{number_word, change_word, wire_or_none, output_to, output_word, each_word}
-use Rattle.mp_text.specs.Reads.{◌>>=◌}
+use Rattle.mp_text.specs.Numbers.{time_and_value, parts_at_equals, is_slash, parts_at_slash, name_and_number}
+use Rattle.mp_text.specs.Statements.{number_word, change_word, output_word, each_word}
 use Rattle.mp_text.specs.Written.{pair_text}
 use Rattle.mp_text.proofs.DecimalLemmas.{spelled_number-decimal, decimal_digits}
 use Rattle.mp_text.proofs.DividedLemmas.{position-append, before_last-append, after_last-append}

@@ -1,12 +1,9 @@
 -- Statements that are written are read again.
-use Rattle.std.proofs.Common.{◌≡◌, ℕ, ◌+◌, ◌^◌, ◌<◌, ◌≤◌, Bool, true, false, not, ◌==◌, ◌&&◌, List, [], ◌∷◌, ◌++◌, length, map, All, Option, Some, None, Result, Ok, Err, decimal, refl, sym, ap, ◌∙◌, rules, arith}
+use Rattle.std.proofs.Common.{◌≡◌, ℕ, ◌^◌, ◌<◌, ◌≤◌, true, false, ◌==◌, ◌&&◌, List, [], ◌∷◌, ◌++◌, length, map, All, Some, Ok, decimal, refl, ap, ◌∙◌, arith}
 use Rattle.std.specs.Prelude.{codes, nat_le, suc}
-use Rattle.std.specs.Option.{ok_or}
 use Rattle.std.specs.Char.{is_ascii_digit, is_ascii_alphabetic}
-use Rattle.std.specs.Str.{bytes_eq}
 use Rattle.std.specs.List.{list_all}
 use Rattle.std.proofs.lemmas.Bool.Decides.{nat_tests}
-use Rattle.std.proofs.lemmas.Fmt.{decimal_nonempty}
 use Rattle.std.proofs.lemmas.List.{map-id}
 use Rattle.std.proofs.lemmas.List.Elements.{All-map, All-cons, All-nil, All-head, All-tail}
 use Rattle.mp_modules.specs.declared.kind.Kind.{Kind}
@@ -15,14 +12,12 @@ use Rattle.mp_modules.specs.Kinds.{word_of, kind_named}
 use Rattle.mp_netlist.specs.declared.port_names.OutputName.{OutputName}
 use Rattle.mp_netlist.specs.declared.edit.Edit.TheVariants.{AddWire, AddModule, AddBundle, SetStimulus}
 use Rattle.mp_netlist.specs.Names.{is_name, is_name_byte, begins_with_letter}
-use Rattle.mp_text.specs.declared.line_error.LineError.TheVariants.{BadNumber, UnknownStatement}
-use Rattle.mp_text.specs.Statements.{number_word, change_word, output_word, each_word, kind_word, is_mark, Start, Change, horizon_word, stated_horizon, wire_edit, module_edit, parts_edit, stimulus_edit, bundle_edit, stated_edit, statement_of}
-use Rattle.mp_text.specs.Reads.{◌>>=◌}
+use Rattle.mp_text.specs.Statements.{number_word, change_word, output_word, is_mark, Start, Change, horizon_word, stated_horizon, wire_edit, module_edit, parts_edit, stimulus_edit, bundle_edit, stated_edit, statement_of}
 use Rattle.mp_text.specs.Written.{pair_text}
 use Rattle.mp_text.proofs.DecimalLemmas.{decimal_digits}
 use Rattle.mp_text.proofs.DividedLemmas.{before_first-append, after_first-append}
 use Rattle.mp_text.proofs.PlainLemmas.{both}
-use Rattle.mp_text.proofs.ReadBackLemmas.{number_back, change_back, each_back}
+use Rattle.mp_text.proofs.ReadBackLemmas.{number_back, each_back}
 
 pub horizon_stated : (h : ℕ) → 1 ≤ h → h ≤ 65536 → statement_of (codes "horizon" ∷ decimal h ∷ []) ≡ Start (Ok h)
 unfolding statement_of stated_horizon horizon_word

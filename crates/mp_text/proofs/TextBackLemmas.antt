@@ -1,5 +1,5 @@
 -- Lines that are written lead from netlist to netlist as their edits do.
-use Rattle.std.proofs.Common.{◌≡◌, ℕ, ◌+◌, ◌<◌, ◌≤◌, List, [], ◌∷◌, ◌++◌, append_assoc, All, Option, Some, None, Result, Ok, Err, refl, sym, ap, subst, ◌∙◌, arith}
+use Rattle.std.proofs.Common.{◌≡◌, ℕ, ◌+◌, List, [], ◌∷◌, ◌++◌, append_assoc, All, Option, Some, Result, Ok, Err, sym, ap, subst, ◌∙◌}
 use Rattle.std.specs.List.{flat_map}
 use Rattle.std.specs.Result.{result_map_both}
 use Rattle.std.proofs.lemmas.List.Elements.{All-head, All-tail}
@@ -8,13 +8,11 @@ use Rattle.mp_netlist.specs.declared.edit_error.EditError.{EditError}
 use Rattle.mp_netlist.specs.Circuit.{Circuit}
 use Rattle.mp_netlist.specs.Edits.{after}
 use Rattle.mp_model.specs.Replays.{replay, go_on}
-use Rattle.mp_text.specs.declared.text_code.TextCode.{TextCode}
 use Rattle.mp_text.specs.declared.text_code.TextCode.TheVariants.{Refused}
-use Rattle.mp_text.specs.declared.text_error.TextError.{TextError}
 use Rattle.mp_text.specs.LineErrors.{in_text}
 use Rattle.mp_text.specs.Lines.{lines_of}
 use Rattle.mp_text.specs.Reads.{◌>>=◌}
-use Rattle.mp_text.specs.Statements.{Statement, Change, statement_of}
+use Rattle.mp_text.specs.Statements.{Change, statement_of}
 use Rattle.mp_text.specs.Texts.{after_statement, after_line, after_lines, next_line}
 use Rattle.mp_text.specs.Written.{spaced, written_line}
 use Rattle.mp_text.proofs.PlainLemmas.{IsPlain}

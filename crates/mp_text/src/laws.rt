@@ -1,8 +1,16 @@
 //! What the netlist of a text is made of.
 ghost use Rattle.mp_text.specs.Laws.{IsReplay};
+ghost use Rattle.mp_text.specs.RoundTrips.{IsReadAsWritten};
 
 /// A text that is read states one horizon, and its netlist is the replay of its other statements'
 /// edits, in order, on the empty netlist of that horizon.
 pub fn text_is_replay()
     ensures { IsReplay }
+{}
+
+/// Where the text of a well-formed netlist, whose things have names, is not over 4,194,304 bytes, it
+/// is read as what the edits of the netlist's records, by name, give on the empty netlist of its
+/// horizon, if none of these is refused.
+pub fn written_text_is_read()
+    ensures { IsReadAsWritten }
 {}
