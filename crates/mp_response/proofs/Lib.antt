@@ -1,0 +1,5 @@
+pub mod CursorLemmas
+pub mod FindingLemmas
+pub mod SpanLemmas
+pub mod JoinLemmas
+pub mod OutputLemmas

@@ -1,0 +1,4 @@
+pub mod Pieces
+pub mod Span
+pub mod Cursors
+pub mod Joins
