@@ -3,3 +3,4 @@ pub mod FindingLemmas
 pub mod SpanLemmas
 pub mod JoinLemmas
 pub mod OutputLemmas
+pub mod DelayLemmas

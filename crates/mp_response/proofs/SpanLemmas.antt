@@ -157,7 +157,7 @@ span_quiet part x s a t next piece le lt same span =
           span.findings ∙ ap (findings_in part x s a) more ∙ sym (findings_quiet part x s a k j quiet) ∙ ap (findings_in part x s a) all;
     }
 
-state_none : (part : AnyModule) (x : ℕ → List ℕ) (s : Memory) (a : ℕ) → s ≡ state_after part x s a 0
+pub state_none : (part : AnyModule) (x : ℕ → List ℕ) (s : Memory) (a : ℕ) → state_after part x s a 0 ≡ s
 unfolding state_after
 state_none part x s a = refl
 
@@ -174,7 +174,7 @@ pub span_none : (part : AnyModule) (x : ℕ → List ℕ) (s : Memory) (a : ℕ)
 span_none part x s a piece memory ports outputs findings =
     let none : 0 ≡ a - a = omega arith in
     record {
-      memory = memory ∙ state_none part x s a ∙ ap (state_after part x s a) none;
+      memory = memory ∙ sym (state_none part x s a) ∙ ap (state_after part x s a) none;
       ports = ports;
       outputs = λ p below.
           outputs p ∙ changes_none (λ j. output_of (state_after part x s a j) p) a ∙ ap (λ n. port_changes part x s a n p) none;

@@ -2,3 +2,4 @@ pub mod Pieces
 pub mod Span
 pub mod Cursors
 pub mod Joins
+pub mod Delays

@@ -1,23 +1,5 @@
-use Rattle.std.proofs.Common.{refl}
-use Rattle.mp_modules.specs.declared.kind.Kind.TheVariants.{Buf, Not, Xor, C, Toggle, Select, Call, Arbiter, Reg, AddC, XorC, Sum, Bit}
-use Rattle.mp_storage.specs.AnyModules.{KeepsKind, any_part_of}
+use Rattle.mp_storage.proofs.KindLemmas.{keeps_kind}
 use Rattle.mp_storage.proofs.laws.keeps_kind.Goals as goal
-
-keeps_kind : KeepsKind
-unfolding any_part_of
-keeps_kind Buf params width = refl
-keeps_kind Not params width = refl
-keeps_kind Xor params width = refl
-keeps_kind C params width = refl
-keeps_kind Toggle params width = refl
-keeps_kind Select params width = refl
-keeps_kind Call params width = refl
-keeps_kind Arbiter params width = refl
-keeps_kind Reg params width = refl
-keeps_kind AddC params width = refl
-keeps_kind XorC params width = refl
-keeps_kind Sum params width = refl
-keeps_kind Bit params width = refl
 
 pub returns : goal.returns
 returns c = keeps_kind
