@@ -1,11 +1,12 @@
 -- Lemmas on spans end to end.
-use Rattle.std.proofs.Common.{◌≡◌, ℕ, ◌+◌, ◌-◌, ◌<◌, ◌≤◌, Bool, true, false, cond, List, [], ◌∷◌, ◌++◌, slice_index_or, ◌==◌, zero, suc, refl, ap, sym, ◌∙◌, arith, add-zero, add-suc, add_assoc, append-nil, append_assoc}
+use Rattle.std.proofs.Common.{◌≡◌, ℕ, ◌+◌, ◌-◌, ◌<◌, ◌≤◌, Bool, true, false, cond, List, [], ◌∷◌, ◌++◌, slice_index_or, ◌==◌, zero, suc, refl, ap, sym, ◌∙◌, arith, add-zero, add-suc, add_assoc, append-nil, append_assoc, length}
 use Rattle.mp_modules.specs.Memories.{output_of}
 use Rattle.mp_modules.specs.declared.finding_code.FindingCode.{FindingCode}
 use Rattle.mp_modules.specs.declared.memory.Memory.{Memory}
 use Rattle.mp_storage.specs.declared.any_module.AnyModule.{AnyModule}
 use Rattle.mp_response.specs.Span.{next_state, found_at, state_after, findings_of, findings_in, extended, output_changes, port_changes}
-use Rattle.mp_response.specs.Joins.{JoinsSpans, DependsInside}
+use Rattle.mp_response.specs.Joins.{JoinsSpans, DependsInside, IsOneSpan}
+use Rattle.mp_response.specs.declared.piece.Piece.{Piece}
 
 -- the state after two runs of units
 pub state_join : (part : AnyModule) (x : ℕ → List ℕ) (s : Memory) (a j k : ℕ) → state_after part x s a (j + k) ≡ state_after part x (state_after part x s a j) (a + j) k
@@ -122,3 +123,25 @@ inside_alone part x y s a b piece same span =
           (λ i le. ap (λ (z : Memory). output_of z p) (state_inside part x y s a i (λ h lt. units h (omega arith))));
       findings = span.findings ∙ findings_inside part x y s a k units;
     }
+
+-- as many lists of changes, the same at each place, are the same
+same_ports : (xs ys : List (List (ℕ × ℕ))) → length xs ≡ length ys → ((p : ℕ) → p < length xs → slice_index_or xs p [] ≡ slice_index_or ys p []) → xs ≡ ys
+same_ports [] [] count each = refl
+same_ports [] (y ∷ ys) count each = absurd (omega arith)
+same_ports (x ∷ xs) [] count each = absurd (omega arith)
+same_ports (x ∷ xs) (y ∷ ys) count each =
+    let first : x ≡ y = each 0 (omega arith) in
+    let rest : xs ≡ ys = same_ports xs ys (omega arith) (λ p lt. each (suc p) (omega arith)) in
+    ap (λ (z : List (ℕ × ℕ)). z ∷ xs) first ∙ ap (λ (zs : List (List (ℕ × ℕ))). y ∷ zs) rest
+
+abbrev piece_of : Memory → List (List (ℕ × ℕ)) → List (ℕ × FindingCode) → Piece
+piece_of memory outputs findings = record { memory = memory; outputs = outputs; findings = findings }
+
+pub one_span : IsOneSpan
+one_span part x s a b one other first second =
+    let ports : length one.outputs ≡ length other.outputs = first.ports ∙ sym second.ports in
+    let outputs : one.outputs ≡ other.outputs =
+    same_ports one.outputs other.outputs ports (λ p lt. first.outputs p (omega (arith, first.ports)) ∙ sym (second.outputs p (omega (arith, first.ports)))) in
+    ap (λ (m : Memory). piece_of m one.outputs one.findings) (first.memory ∙ sym second.memory)
+    ∙ ap (λ (os : List (List (ℕ × ℕ))). piece_of other.memory os one.findings) outputs
+    ∙ ap (λ (fs : List (ℕ × FindingCode)). piece_of other.memory other.outputs fs) (first.findings ∙ sym second.findings)

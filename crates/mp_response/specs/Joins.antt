@@ -1,4 +1,4 @@
--- Spans end to end.
+-- Spans end to end, and what they depend on.
 use Rattle.std.specs.Prelude.{◌≡◌, ℕ, ◌<◌, ◌≤◌, List, [], ◌++◌, length, slice_index_or}
 use Rattle.mp_modules.specs.declared.memory.Memory.{Memory}
 use Rattle.mp_storage.specs.declared.any_module.AnyModule.{AnyModule}
@@ -21,3 +21,8 @@ JoinsSpans = (part : AnyModule) (x : ℕ → List ℕ) (s : Memory) (a m b : ℕ
 abbrev pub DependsInside : Type 0
 DependsInside = (part : AnyModule) (x y : ℕ → List ℕ) (s : Memory) (a b : ℕ) (piece : Piece) →
     ((t : ℕ) → a ≤ t → t < b → x t ≡ y t) → IsSpan part x s a b piece → IsSpan part y s a b piece
+
+-- there is one span alone from a state, with the same input levels
+abbrev pub IsOneSpan : Type 0
+IsOneSpan = (part : AnyModule) (x : ℕ → List ℕ) (s : Memory) (a b : ℕ) (one other : Piece) →
+    IsSpan part x s a b one → IsSpan part x s a b other → one ≡ other
