@@ -1,7 +1,8 @@
 -- What each kind of module does, all kinds as one type.
-use Rattle.std.specs.Prelude.{ℕ, Bool, List, ◌&&◌, ◌==◌, nat_le, slice_index, if◌then◌else◌}
+use Rattle.std.specs.Prelude.{◌≡◌, ℕ, Bool, List, ◌&&◌, ◌==◌, nat_le, slice_index, if◌then◌else◌}
 use Rattle.mp_modules.specs.declared.kind.Kind.{Kind}
 use Rattle.mp_modules.specs.declared.kind.Kind.TheVariants as kinds
+use Rattle.mp_modules.specs.declared.core_module.CoreModule.{CoreModule}
 use Rattle.mp_modules.specs.declared.core_module.CoreModule.TheVariants as core
 use Rattle.mp_modules.specs.declared.memory.Memory.{Memory}
 use Rattle.mp_modules.specs.declared.finding_set.FindingSet.{FindingSet}
@@ -35,6 +36,29 @@ any_part_of kinds.AddC params width = parts.AddC (record { addend = slice_index 
 any_part_of kinds.XorC params width = parts.XorC (record { mask = slice_index params 0 })
 any_part_of kinds.Sum params width = parts.Sum (record { highest = highest_level width })
 any_part_of kinds.Bit params width = parts.Bit (record { place = slice_index params 0 })
+
+-- the kind of a module
+abbrev pub core_kind : CoreModule → Kind
+core_kind core.Buf = kinds.Buf
+core_kind core.Not = kinds.Not
+core_kind core.Xor = kinds.Xor
+core_kind (core.C c) = kinds.C
+core_kind core.Toggle = kinds.Toggle
+core_kind core.Select = kinds.Select
+core_kind core.Call = kinds.Call
+core_kind core.Arbiter = kinds.Arbiter
+
+abbrev pub kind_of : AnyModule → Kind
+kind_of (parts.Core part) = core_kind part
+kind_of (parts.Reg part) = kinds.Reg
+kind_of (parts.AddC part) = kinds.AddC
+kind_of (parts.XorC part) = kinds.XorC
+kind_of (parts.Sum part) = kinds.Sum
+kind_of (parts.Bit part) = kinds.Bit
+
+-- a module that is made of a kind has that kind
+abbrev pub KeepsKind : Type 0
+KeepsKind = (kind : Kind) (params : List ℕ) (width : ℕ) → kind_of (any_part_of kind params width) ≡ kind
 
 -- the state before time 0
 unfoldable pub start : AnyModule → Memory

@@ -1,6 +1,6 @@
 //! Each kind of module, as one type.
 ghost use Rattle.std.specs.Prelude.{◌≡◌};
-ghost use Rattle.mp_storage.specs.AnyModules.{is_width_of};
+ghost use Rattle.mp_storage.specs.AnyModules.{is_width_of, core_kind};
 
 use crate::add_c::AddC;
 use crate::bit::Bit;
@@ -24,7 +24,7 @@ pub enum AnyModule {
 impl AnyModule {
     ghost use Rattle.std.specs.Prelude.{◌≡◌, ◌↔◌, ◌&&◌, IsSome, IfSome, IsTrue};
     ghost use Rattle.mp_modules.specs.Kinds.{are_params};
-    ghost use Rattle.mp_storage.specs.AnyModules.{is_width_of, any_part_of};
+    ghost use Rattle.mp_storage.specs.AnyModules.{is_width_of, any_part_of, kind_of};
 
     #[tactic(auto, unfolding(crate::specs::AnyModules::any_part_of))]
     /// The module of a kind with these parameters and this width. Nothing where the kind doesn't accept the parameters, or the width is
@@ -56,6 +56,35 @@ impl AnyModule {
             Kind::Sum => AnyModule::Sum(Sum { highest }),
             Kind::Bit => AnyModule::Bit(Bit { place: first }),
         })
+    }
+
+    /// Its kind.
+    pub fn kind(&self) -> Kind
+        ensures { result ≡ kind_of self.now }
+    {
+        match self {
+            AnyModule::Core(part) => core_kind(*part),
+            AnyModule::Reg(_) => Kind::Reg,
+            AnyModule::AddC(_) => Kind::AddC,
+            AnyModule::XorC(_) => Kind::XorC,
+            AnyModule::Sum(_) => Kind::Sum,
+            AnyModule::Bit(_) => Kind::Bit,
+        }
+    }
+}
+
+fn core_kind(part: CoreModule) -> Kind
+    ensures { result ≡ core_kind part }
+{
+    match part {
+        CoreModule::Buf => Kind::Buf,
+        CoreModule::Not => Kind::Not,
+        CoreModule::Xor => Kind::Xor,
+        CoreModule::C(_) => Kind::C,
+        CoreModule::Toggle => Kind::Toggle,
+        CoreModule::Select => Kind::Select,
+        CoreModule::Call => Kind::Call,
+        CoreModule::Arbiter => Kind::Arbiter,
     }
 }
 

@@ -2,3 +2,5 @@ pub mod WaveformLemmas
 pub mod ChangesLemmas
 pub mod FaultsLemmas
 pub mod BuildingLemmas
+pub mod PrefixLemmas
+pub mod DifferenceLemmas

@@ -52,11 +52,11 @@ level_from-append_over time level t (x ∷ xs) ys are over =
     rw (nat_le-true x.0 t (omega (arith, over, le-last_time x.0 x.1 xs are.2))) (level_from-append_over x.0 x.1 t xs ys are.2 over)
 
 -- at and after a first change, the level is that of the changes after it
-level_from-rest : (level t : ℕ) (change : ℕ × ℕ) (changes : List (ℕ × ℕ)) → change.0 ≤ t → level_from level (change ∷ changes) t ≡ level_from change.1 changes t
+pub level_from-rest : (level t : ℕ) (change : ℕ × ℕ) (changes : List (ℕ × ℕ)) → change.0 ≤ t → level_from level (change ∷ changes) t ≡ level_from change.1 changes t
 level_from-rest level t change changes le = rw (nat_le-true change.0 t le) refl
 
 -- at its first change, the level is that of the change
-level_from-first : (time level : ℕ) (change : ℕ × ℕ) (changes : List (ℕ × ℕ)) → AreChanges time level (change ∷ changes) → level_from level (change ∷ changes) change.0 ≡ change.1
+pub level_from-first : (time level : ℕ) (change : ℕ × ℕ) (changes : List (ℕ × ℕ)) → AreChanges time level (change ∷ changes) → level_from level (change ∷ changes) change.0 ≡ change.1
 level_from-first time level change changes are =
     level_from-rest level change.0 change changes (omega arith) ∙ level_from-before change.0 change.1 change.0 changes are.2 (omega arith)
 

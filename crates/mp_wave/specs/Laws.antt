@@ -1,6 +1,6 @@
 -- What holds of all waveforms, and of the waves of a level over time.
-use Rattle.std.specs.Prelude.{◌≡◌, ℕ, ◌+◌, ◌<◌, ◌≤◌, ◌++◌}
-use Rattle.mp_wave.specs.Waveform.{Waveform, IsWaveform, level_of, last_time, held_from, changes_after, wave_upto}
+use Rattle.std.specs.Prelude.{◌≡◌, ℕ, ◌+◌, ◌-◌, ◌<◌, ◌≤◌, ◌++◌}
+use Rattle.mp_wave.specs.Waveform.{Waveform, IsWaveform, level_from, level_of, last_time, held_from, changes_after, wave_upto, between, kept_before}
 
 -- waveforms with the same level at each time are the same
 abbrev pub SameByLevels : Type 0
@@ -26,3 +26,13 @@ GrowsByHolding = (level : ℕ → ℕ) (n : ℕ) → held_from (wave_upto level 
 -- the changes of two spans, one after the other, are those of both
 abbrev pub JoinsChanges : Type 0
 JoinsChanges = (level : ℕ → ℕ) (t m n : ℕ) → changes_after level t (m + n) ≡ changes_after level t m ++ changes_after level (t + m) n
+
+-- a wave that is kept up to a time has its levels before that time, and then the last of them
+abbrev pub KeepsLevels : Type 0
+KeepsLevels = (wave : Waveform) (upto t : ℕ) → IsWaveform wave → 0 < upto →
+    (t < upto → level_of (kept_before upto wave) t ≡ level_of wave t) × (upto ≤ t → level_of (kept_before upto wave) t ≡ level_of wave (upto - 1))
+
+-- from a level at a time, the changes later than that give the levels up to an end
+abbrev pub CutsLevels : Type 0
+CutsLevels = (wave : Waveform) (from to t : ℕ) → IsWaveform wave → from ≤ t → t < to →
+    level_from (level_of wave from) (between from to wave.changes) t ≡ level_of wave t

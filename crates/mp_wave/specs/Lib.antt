@@ -1,4 +1,5 @@
 pub mod Waveform
 pub mod Building
 pub mod Faults
+pub mod Differences
 pub mod Laws

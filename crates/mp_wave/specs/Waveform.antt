@@ -1,5 +1,6 @@
 -- The levels of a wire over time.
-use Rattle.std.specs.Prelude.{◌≢◌, ℕ, ◌+◌, ◌<◌, List, [], ◌∷◌, ◌++◌, nat_le, ◌==◌, if◌then◌else◌, suc, zero}
+use Rattle.std.specs.Prelude.{◌≢◌, ℕ, ◌+◌, ◌<◌, List, [], ◌∷◌, ◌++◌, nat_le, nat_lt, ◌==◌, if◌then◌else◌, suc, zero}
+use Rattle.std.specs.List.{filter}
 
 -- the level at time 0, and each later change as a time and the level from then on
 pub record Waveform : Type 0 where
@@ -50,3 +51,19 @@ changes_after level time (suc n) = changes_after level time n ++ change_after le
 -- the wave of a level over the times up to the last
 abbrev pub wave_upto : (ℕ → ℕ) → ℕ → Waveform
 wave_upto level last = record { initial = level 0; changes = changes_after level 0 last }
+
+-- the changes later than a time
+abbrev pub later_than : ℕ → List (ℕ × ℕ) → List (ℕ × ℕ)
+later_than time changes = filter (λ change. nat_lt time change.0) changes
+
+-- the changes earlier than a time
+abbrev pub earlier_than : ℕ → List (ℕ × ℕ) → List (ℕ × ℕ)
+earlier_than time changes = filter (λ change. nat_lt change.0 time) changes
+
+-- the changes later than one time and earlier than another
+abbrev pub between : ℕ → ℕ → List (ℕ × ℕ) → List (ℕ × ℕ)
+between from to changes = earlier_than to (later_than from changes)
+
+-- the wave up to a time, its last level before that time held
+abbrev pub kept_before : ℕ → Waveform → Waveform
+kept_before time wave = record { initial = wave.initial; changes = earlier_than time wave.changes }

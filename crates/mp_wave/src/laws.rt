@@ -1,6 +1,6 @@
 //! What holds of all waveforms.
 
-ghost use Rattle.mp_wave.specs.Laws.{SameByLevels, HoldsLevel, HasLevels, IsInForm, GrowsByHolding, JoinsChanges};
+ghost use Rattle.mp_wave.specs.Laws.{SameByLevels, HoldsLevel, HasLevels, IsInForm, GrowsByHolding, JoinsChanges, KeepsLevels, CutsLevels};
 
 /// Two waves with the same level at each time are the same wave.
 pub fn same_levels()
@@ -26,4 +26,14 @@ pub fn held()
 /// The changes of a level over a span are those of its two parts, one after the other.
 pub fn changes_join()
     ensures { JoinsChanges }
+{}
+
+/// A wave that is kept up to a time has its levels before that time, and then the last of them.
+pub fn kept_levels()
+    ensures { KeepsLevels }
+{}
+
+/// From the level at a time, the changes later than that and earlier than an end give the levels up to that end.
+pub fn cut_levels()
+    ensures { CutsLevels }
 {}

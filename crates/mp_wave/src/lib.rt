@@ -2,6 +2,7 @@
 #![tactic(auto)]
 
 pub mod laws;
+mod search;
 #[cfg(test)]
 mod tests;
 mod wave;

@@ -2,6 +2,7 @@ ghost use Rattle.std.specs.Prelude.{◌<◌, ◌^◌, length};
 
 use crate::{Wave, WaveBuilder, WaveCause, WaveError};
 use std::alloc::{AllocError, Global};
+use std::process::Abort;
 use std::test::Fail;
 
 fn refusal(alloc: Global, changes: &[(u32, u64)]) -> Result<Option<WaveError>, AllocError>
@@ -9,6 +10,13 @@ fn refusal(alloc: Global, changes: &[(u32, u64)]) -> Result<Option<WaveError>, A
 {
     let changes = Vec::from_slice(alloc, changes)?;
     Ok(Wave::from_changes(0, changes).err())
+}
+
+fn wave_of(alloc: Global, changes: &[(u32, u64)]) -> Result<Wave, Fail>
+    requires { length changes.now < 2 ^ 32 }
+{
+    let changes = Vec::from_slice(alloc, changes)?;
+    Ok(Wave::from_changes(0, changes).ok().ok_or("refused")?)
 }
 
 #[test]
@@ -37,6 +45,37 @@ fn wave_values(rt: HostRuntime) -> Result<(), Fail> {
             cause: WaveCause::Time
         })
     );
+    differences(&rt)?;
+    prefix(&rt)
+}
+
+fn differences(rt: &(impl Abort + AllocGlobal)) -> Result<(), Fail> {
+    let sooner = wave_of(rt.alloc(), &[(2, 1)])?;
+    let later = wave_of(rt.alloc(), &[(3, 1)])?;
+    assert_eq!(rt; sooner.first_difference(&later, 10), Some(2));
+    assert_eq!(rt; later.first_difference(&sooner, 10), Some(2));
+    assert_eq!(rt; sooner.first_difference(&later, 2), None);
+    let copy = sooner.copy()?;
+    assert_eq!(rt; copy.changes(), [(2, 1)].as_slice());
+    assert_eq!(rt; copy.initial(), 0);
+    assert_eq!(rt; sooner.first_difference(&copy, u32::MAX), None);
+    let steady = Wave::constant(rt.alloc(), 1);
+    assert_eq!(rt; sooner.first_difference(&steady, 5), Some(0));
+    assert_eq!(rt; sooner.first_difference(&steady, 0), None);
+    Ok(())
+}
+
+fn prefix(rt: &(impl Abort + AllocGlobal)) -> Result<(), Fail> {
+    let wave = wave_of(rt.alloc(), &[(2, 1), (5, 0)])?;
+    assert_eq!(rt; wave.changes_between(2, 6), [(5, 0)].as_slice());
+    assert_eq!(rt; wave.changes_between(2, 5), [].as_slice());
+    let mut builder = WaveBuilder::from_prefix(rt.alloc(), &wave, 4)?;
+    assert_eq!(rt; builder.next_time(), 4);
+    builder.push_level(4, 1)?;
+    builder.push_level(6, 0)?;
+    let built = builder.finish();
+    assert_eq!(rt; built.initial(), 0);
+    assert_eq!(rt; built.changes(), [(2, 1), (6, 0)].as_slice());
     Ok(())
 }
 

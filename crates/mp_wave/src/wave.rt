@@ -4,6 +4,7 @@ ghost use Rattle.std.specs.Prelude.{◌≡◌, ◌≢◌, ℕ, ◌<◌, ◌^◌,
 ghost use Rattle.mp_wave.specs.Waveform.{AreChanges};
 ghost use Rattle.mp_wave.specs.Faults.{IsCause, IsChange, IsFirstFault};
 
+use crate::search::{agree_until, earlier_than, later_than};
 use crate::{WaveCause, WaveError};
 use std::alloc::{AllocError, Global};
 use std::marker::Model;
@@ -27,7 +28,8 @@ impl Model for Wave {
 }
 
 impl Wave {
-    ghost use Rattle.mp_wave.specs.Waveform.{IsWaveform, level_of, last_from, last_time};
+    ghost use Rattle.mp_wave.specs.Waveform.{IsWaveform, level_of, last_from, last_time, earlier_than, between};
+    ghost use Rattle.mp_wave.specs.Differences.{AgreeBelow, IsFirstDifference};
 
     /// The wave with one level at every time.
     pub fn constant(alloc: Global, initial: u64) -> Self
@@ -79,6 +81,56 @@ impl Wave {
             return self.initial;
         }
         changes[count - 1].1
+    }
+
+    /// The changes later than one time and earlier than another, found by search.
+    pub fn changes_between(&self, from: u32, to: u32) -> &[(u32, u64)]
+        ensures value { result.now ≡ between from to self.now.changes }
+        ensures form { IsWaveform self.now }
+    {
+        earlier_than(later_than(self.changes.as_slice(), from), to)
+    }
+
+    /// The changes earlier than a time.
+    pub(crate) fn changes_before(&self, time: u32) -> &[(u32, u64)]
+        ensures value { result.now ≡ earlier_than time self.now.changes }
+        ensures form { IsWaveform self.now }
+    {
+        earlier_than(self.changes.as_slice(), time)
+    }
+
+    /// The least time, below an end, at which the two waves have different levels, if any. It takes as long as the changes
+    /// that they have in common.
+    pub fn first_difference(&self, other: &Wave, upto: u32) -> Option<u32>
+        ensures none { IfNone result (AgreeBelow self.now other.now upto) }
+        ensures some { IfSome result (λ time. IsFirstDifference self.now other.now upto time) }
+    {
+        if self.initial != other.initial {
+            return if upto == 0 { None } else { Some(0) };
+        }
+        let ours = self.changes.as_slice();
+        let theirs = other.changes.as_slice();
+        let time = agree_until(self.initial, ours, theirs, upto);
+        if time < upto { Some(time) } else { None }
+    }
+
+    /// The same wave once more.
+    pub fn copy(&self) -> Result<Wave, AllocError>
+        ensures value { IfOk result (λ copy. copy ≡ self.now) }
+        ensures form { IsWaveform self.now }
+    {
+        Ok(Wave {
+            initial: self.initial,
+            changes: self.changes.clone()?,
+        })
+    }
+
+    /// A wave with these changes, of which it is known that they are changes.
+    pub(crate) fn of_changes(initial: u64, changes: Vec<(u32, u64)>) -> Wave
+        requires { IsWaveform (record { initial = initial; changes = changes.items }) }
+        ensures { result ≡ record { initial = initial; changes = changes.items } }
+    {
+        Wave { initial, changes }
     }
 
     /// One more change at the end. Where memory runs out, the wave stays as it was.

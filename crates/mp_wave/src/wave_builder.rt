@@ -1,6 +1,6 @@
 //! A wave that grows at its end.
 
-ghost use Rattle.std.specs.Prelude.{◌≡◌, ◌+◌, ◌-◌, ◌^◌, ◌<◌, ◌≤◌, [], OnOk, OnErr};
+ghost use Rattle.std.specs.Prelude.{◌≡◌, ◌+◌, ◌-◌, ◌^◌, ◌<◌, ◌≤◌, [], IfOk, OnOk, OnErr};
 
 use crate::Wave;
 use std::alloc::{AllocError, Global};
@@ -27,7 +27,7 @@ impl Model for WaveBuilder {
 }
 
 impl WaveBuilder {
-    ghost use Rattle.mp_wave.specs.Waveform.{IsWaveform, held_from};
+    ghost use Rattle.mp_wave.specs.Waveform.{IsWaveform, held_from, kept_before};
     ghost use Rattle.mp_wave.specs.Building.{IsBuilding};
 
     /// A wave of which the level at time 0 is known, held so far.
@@ -39,6 +39,21 @@ impl WaveBuilder {
             level: initial,
             next_time: 1,
         }
+    }
+
+    /// A wave of which the levels before a time are known: those of another wave, the last of them held so far.
+    pub fn from_prefix(alloc: Global, wave: &Wave, upto: u32) -> Result<Self, AllocError>
+        requires { 0 < upto }
+        ensures value { IfOk result (λ builder. builder ≡ record { wave = kept_before upto wave.now; next = upto }) }
+        ensures form { IsWaveform wave.now }
+    {
+        let level = wave.level_at(upto - 1);
+        let changes = Vec::from_slice(alloc, wave.changes_before(upto))?;
+        Ok(WaveBuilder {
+            wave: Wave::of_changes(wave.initial(), changes),
+            level,
+            next_time: upto,
+        })
     }
 
     /// From this time on the level is this one; the level that it has already adds no change.

@@ -1,0 +1,6 @@
+pub mod CursorLemmas
+pub mod FindingLemmas
+pub mod SpanLemmas
+pub mod JoinLemmas
+pub mod OutputLemmas
+pub mod DelayLemmas

@@ -1,0 +1,37 @@
+-- Spans and what a netlist means: its modules' states, and the levels of their outputs after their delays.
+use Rattle.std.specs.Prelude.{◌≡◌, ℕ, ◌+◌, ◌-◌, ◌<◌, ◌≤◌, List, [], Some, map, slice_index_or, zero, suc}
+use Rattle.mp_wave.specs.Waveform.{level_from}
+use Rattle.mp_modules.specs.declared.memory.Memory.{Memory}
+use Rattle.mp_storage.specs.AnyModules.{start}
+use Rattle.mp_storage.specs.declared.any_module.AnyModule.{AnyModule}
+use Rattle.mp_netlist.specs.Circuit.{Circuit, IsCircuit, Drives, module_at, delay_of}
+use Rattle.mp_netlist.specs.declared.module_record.ModuleRecord.{ModuleRecord}
+use Rattle.mp_model.specs.Levels.{IsBehaviour, built, inputs_by}
+use Rattle.mp_response.specs.declared.piece.Piece.{Piece}
+use Rattle.mp_response.specs.Span.{IsSpan}
+
+-- a module's state before a time: its start before time 0, and else its state at the unit before
+abbrev pub state_before : AnyModule → (ℕ → Memory) → ℕ → Memory
+state_before part state zero = start part
+state_before part state (suc t) = state t
+
+-- what a module of a netlist does from the time a to before the time b
+abbrev pub IsSpanOf : Circuit → (ℕ → ℕ → ℕ) → (ℕ → ℕ → Memory) → ℕ → ModuleRecord → ℕ → ℕ → Piece → Type 0
+IsSpanOf n level state m r a b piece = IsSpan (built n r) (inputs_by n level r) (state_before (built n r) (state m) a) a b piece
+
+-- the last state of a span is the module's state before its end
+abbrev pub EndsInState : Type 0
+EndsInState = (n : Circuit) (level : ℕ → ℕ → ℕ) (state : ℕ → ℕ → Memory) → IsBehaviour n level state →
+    (m a b : ℕ) (r : ModuleRecord) (piece : Piece) → module_at n m ≡ Some r → a ≤ b → IsSpanOf n level state m r a b piece →
+    piece.memory ≡ state_before (built n r) (state m) b
+
+-- changes, each so much later
+abbrev pub put_off : ℕ → List (ℕ × ℕ) → List (ℕ × ℕ)
+put_off delay changes = map (λ change. (change.0 + delay, change.1)) changes
+
+-- the changes of an output in a span, put off by its delay, are those of its wire: from the level just before them they give the wire's level at each time of the span, put off likewise
+abbrev pub GivesLevels : Type 0
+GivesLevels = (n : Circuit) (level : ℕ → ℕ → ℕ) (state : ℕ → ℕ → Memory) → IsCircuit n → IsBehaviour n level state →
+    (m p w a b t : ℕ) (drives : Drives n m p w) (piece : Piece) → IsSpanOf n level state m drives.part a b piece →
+    (let delay = delay_of drives.part p in
+    a + delay ≤ t → t < b + delay → level w t ≡ level_from (level w (a + delay - 1)) (put_off delay (slice_index_or piece.outputs p [])) t)

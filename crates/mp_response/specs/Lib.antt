@@ -1,0 +1,5 @@
+pub mod Pieces
+pub mod Span
+pub mod Cursors
+pub mod Joins
+pub mod Delays

@@ -1,0 +1,17 @@
+-- The input levels of a module over a span of time.
+use Rattle.std.specs.Prelude.{ℕ, ◌<◌, List, map}
+use Rattle.mp_wave.specs.Waveform.{AreChanges, level_from, last_time}
+use Rattle.mp_response.specs.declared.in_piece.InPiece.{InPiece}
+
+-- changes after the span's first time and before its end, each to another level than the one before
+pub record IsInPiece (from to : ℕ) (piece : InPiece) : Type 0 where
+  pub form : AreChanges from piece.at_from piece.changes
+  pub within : last_time from piece.changes < to
+
+-- the level of an input at a time
+abbrev pub piece_level : InPiece → ℕ → ℕ
+piece_level piece t = level_from piece.at_from piece.changes t
+
+-- the input levels at a time, by port
+abbrev pub levels_at : List InPiece → ℕ → List ℕ
+levels_at pieces t = map (λ piece. piece_level piece t) pieces

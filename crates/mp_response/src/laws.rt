@@ -1,0 +1,30 @@
+//! What holds of all spans.
+
+ghost use Rattle.mp_response.specs.Delays.{EndsInState, GivesLevels};
+ghost use Rattle.mp_response.specs.Joins.{JoinsSpans, DependsInside, IsOneSpan};
+
+/// A span and the one that goes on from its last state are together one span: the last state is that of the second, and the findings
+/// and the changes of each output are those of the first and then of the second.
+pub fn joined_spans()
+    ensures { JoinsSpans }
+{}
+
+/// A span depends on the input levels inside it alone.
+pub fn inside_alone()
+    ensures { DependsInside }
+{}
+
+/// There is one span alone from a state, with the same input levels.
+pub fn one_span()
+    ensures { IsOneSpan }
+{}
+
+/// In a netlist, the last state of a module's span is the module's state before the span's end.
+pub fn ends_in_state()
+    ensures { EndsInState }
+{}
+
+/// In a netlist, the changes of an output in a span, put off by the output's delay, are those of its wire.
+pub fn gives_levels()
+    ensures { GivesLevels }
+{}

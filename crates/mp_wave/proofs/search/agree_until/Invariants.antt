@@ -1,0 +1,10 @@
+use Rattle.std.proofs.Common.{◌-◌, length}
+use Rattle.mp_wave.proofs.DifferenceLemmas.{BeginAlike}
+use Rattle.mp_wave.proofs.search.agree_until.Given as goal
+
+-- the pairs so far are the same
+abbrev pub invariant-loop-place : goal.invariant-loop-place
+invariant-loop-place l = BeginAlike l.one l.other l.place
+
+abbrev pub decreases-loop-place : goal.decreases-loop-place
+decreases-loop-place l = length l.one - l.place
