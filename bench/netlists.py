@@ -75,3 +75,17 @@ def long_text(size):
     comment = "# " + "x" * 60 + "\n"
     text += comment * ((size - len(text)) // len(comment))
     return text + " " * (size - len(text))
+
+
+def edited_buffers(wires, edits, horizon):
+    """A chain of buffers, and behind it a script that changes its stimulus and its delays in turn."""
+    lines = [f"horizon {horizon}"]
+    lines += [f"wire w{i} 1 0" for i in range(wires)]
+    lines += [f"module b{i} BUF : w{i} > w{i + 1}/1" for i in range(wires - 1)]
+    lines += ["---"]
+    for edit in range(edits):
+        if edit % 2 == 0:
+            lines.append(f"stim w0 {1 + edit % (horizon - 2)}=1 {horizon - 1}=0")
+        else:
+            lines.append(f"delay b{edit % (wires - 1)} 0 {1 + edit % 7}")
+    return "\n".join(lines) + "\n"
