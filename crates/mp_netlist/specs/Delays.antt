@@ -1,9 +1,9 @@
 -- The delays of a netlist.
-use Rattle.std.specs.Prelude.{◌≡◌, ◌≤◌, ◌⊎◌, ℕ, List, [], Option, Some, None, map, filter, fold, is_some, unwrap_or, min}
+use Rattle.std.specs.Prelude.{◌≤◌, ℕ, List, [], Option, Some, None, map, filter, fold, is_some, unwrap_or, min}
 use Rattle.std.specs.List.{flat_map}
 use Rattle.mp_netlist.specs.declared.module_record.ModuleRecord.{ModuleRecord}
 use Rattle.mp_netlist.specs.declared.ports.Output.{Output}
-use Rattle.mp_netlist.specs.Circuit.{Circuit}
+use Rattle.mp_netlist.specs.Circuit.{Circuit, IsCircuit, Drives, delay_of}
 
 -- the delays of the outputs that have a wire
 abbrev pub delays_of : List Output → List ℕ
@@ -21,3 +21,11 @@ lesser (Some least) delay = Some (min least delay)
 -- the least delay over all outputs that have a wire, and the horizon where none has
 unfoldable pub least_delay : Circuit → ℕ
 least_delay n = unwrap_or (fold lesser None (flat_map delays_in n.modules)) n.horizon
+
+-- the least delay is at least 1, and no port that drives a wire has a lesser one
+pub record IsLeastDelay (n : Circuit) (delay : ℕ) : Type 0 where
+  pub positive : 1 ≤ delay
+  pub least : (m p w : ℕ) (drives : Drives n m p w) → delay ≤ delay_of drives.part p
+
+abbrev pub DelaysAreLeast : Type 0
+DelaysAreLeast = (n : Circuit) → IsCircuit n → IsLeastDelay n (least_delay n)
