@@ -1,5 +1,5 @@
 use crate::{Line, LineError, Question, read_line};
-use mp_netlist::Edit;
+use mp_netlist::{Edit, Name};
 use std::test::Fail;
 
 /// What is wrong with the line.
@@ -151,30 +151,24 @@ fn rewires(rt: HostRuntime) -> Result<(), Fail> {
         return Err("input".into());
     };
     assert_eq!(rt; (module.as_str(), port, wire.as_str()), ("m", 1, "-"));
-    let Ok(
-        Line::Change(
-            Edit::RewireOutput {
-                module,
-                port,
-                wire: None,
-            },
-        ),
-    ) = read_line(rt.alloc(), b"output m 2 -")
-    else {
-        return Err("output".into());
-    };
-    assert_eq!(rt; (module.as_str(), port), ("m", 2));
-    let Ok(
-        Line::Change(
-            Edit::RewireOutput {
-                wire: Some(wire),
-                ..
-            },
-        ),
-    ) = read_line(rt.alloc(), b"output m 2 -/3")
-    else {
-        return Err("output with a name".into());
-    };
+    Ok(())
+}
+
+/// The port and the name of the wire that an output is to drive.
+fn output_of(rt: &HostRuntime, line: &[u8]) -> Result<(u64, Option<Name>), Fail> {
+    match read_line(rt.alloc(), line) {
+        Ok(Line::Change(Edit::RewireOutput { port, wire, .. })) => Ok((port, wire)),
+        _ => Err("output".into()),
+    }
+}
+
+#[test]
+fn outputs(rt: HostRuntime) -> Result<(), Fail> {
+    let (port, none) = output_of(&rt, b"output m 2 -")?;
+    assert_eq!(rt; port, 2);
+    assert!(rt; none.is_none());
+    let (_, wire) = output_of(&rt, b"output m 2 -/3")?;
+    let wire = wire.ok_or("a wire")?;
     assert_eq!(rt; wire.as_str(), "-/3");
     Ok(())
 }
