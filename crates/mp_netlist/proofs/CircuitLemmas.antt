@@ -1,5 +1,5 @@
 -- A netlist is still one after something is added, or a slot is written over.
-use Rattle.std.proofs.Common.{◌≡◌, ℕ, ◌<◌, Bool, true, cond, [], ◌∷◌, length, Option, Some, None, is_some, ◌⊎◌, inl, inr, refl, sym, ap, subst, ◌∙◌, arith}
+use Rattle.std.proofs.Common.{◌≡◌, ℕ, ◌<◌, Bool, true, cond, [], ◌∷◌, length, Option, Some, None, is_some, is_none, ◌⊎◌, inl, inr, refl, sym, ap, subst, ◌∙◌, arith}
 use Rattle.std.specs.Bool.{IsTrue}
 use Rattle.std.specs.Option.{IfSome}
 use Rattle.std.proofs.Math.ListN.{length-set}
@@ -12,11 +12,13 @@ use Rattle.mp_netlist.specs.declared.ids.WireId.{WireId}
 use Rattle.mp_netlist.specs.declared.wire_record.WireRecord.{WireRecord}
 use Rattle.mp_netlist.specs.declared.module_record.ModuleRecord.{ModuleRecord}
 use Rattle.mp_netlist.specs.declared.bundle_record.BundleRecord.{BundleRecord}
-use Rattle.mp_netlist.specs.Circuit.{Circuit, IsCircuit, IsWire, IsModule, IsBundle, HasWidth, Drives, wire_at, module_at, bundle_at, width_of, module_width, output_at, stimulus_in, stimulus_at}
+use Rattle.mp_netlist.specs.Circuit.{Circuit, IsCircuit, IsWire, IsModule, IsBundle, HasWidth, Drives, wire_at, module_at, bundle_at, width_of, module_width, output_at, stimulus_in, stimulus_at, wire_named, module_named, bundle_named}
+use Rattle.mp_netlist.specs.Names.{is_name}
 use Rattle.mp_netlist.specs.Drivers.{driver, is_nothing}
 use Rattle.mp_netlist.specs.Uses.{module_names, bundle_names, is_used}
 use Rattle.mp_netlist.specs.Edits.{with_wire_record, with_new_module, with_new_bundle, with_wire, with_module, with_bundle}
-use Rattle.mp_netlist.proofs.TableLemmas.{PushedAt, pushed_at, RewrittenAt, rewritten_at, slot_within}
+use Rattle.mp_netlist.proofs.TableLemmas.{PushedAt, pushed_at, RewrittenAt, rewritten_at, slot_within, IsNamesake}
+use Rattle.mp_netlist.proofs.NameLemmas.{wire_name, module_name, HasNames-add_wire, HasNames-rewrite_wire, HasNames-add_module, HasNames-rewrite_module, HasNames-add_bundle, HasNames-rewrite_bundle}
 use Rattle.mp_netlist.proofs.UseLemmas.{input_is_named, output_is_named, used_by_module, used_by_bundle, request_is_named, acknowledge_is_named, payload_is_named}
 use Rattle.mp_netlist.proofs.DriverLemmas.{undriven_is_free}
 
@@ -108,7 +110,8 @@ module _ (n : Circuit) (ok : IsCircuit n) where
       old p w a = record { part = r; stands = at; output = sym (same p) ∙ a }
 
   -- one more wire
-  module _ (r : WireRecord) (is_wire : IsWire n.horizon r) (free : r.stimulus ≡ None) (room : length n.wires < 8192) where
+  module _ (r : WireRecord) (is_wire : IsWire n.horizon r) (named : is_name r.name ≡ true) (unnamed : is_none (wire_named n r.name) ≡ true)
+      (free : r.stimulus ≡ None) (room : length n.wires < 8192) where
     abbrev more : Circuit
     more = with_wire_record n r
 
@@ -139,6 +142,7 @@ module _ (n : Circuit) (ok : IsCircuit n) where
       wires_ok = λ w s at. more_wires w s (pushed_at n.wires (Some r) w) at;
       modules_ok = λ m s at. IsModule-keep n more s (more_keeps (of_module s)) (ok.modules_ok m s at);
       bundles_ok = λ b s at. IsBundle-keep n more s (more_keeps (of_bundle s)) (ok.bundles_ok b s at);
+      names = HasNames-add_wire n ok.names r named unnamed;
       one_port = λ m p k q w a b. ok.one_port m p k q w (back m p w a) (back k q w b);
       port_or_stimulus = λ m p w drives. more_free m p w (back m p w drives) (pushed_at n.wires (Some r) w);
       wires_few = omega (arith, length_push n.wires (Some r));
@@ -146,8 +150,9 @@ module _ (n : Circuit) (ok : IsCircuit n) where
       bundles_few = ok.bundles_few;
     }
 
-  -- something else in a wire's slot, of the same width where the wire is used
+  -- something else in a wire's slot, of the same name, and of the same width where the wire is used
   module _ (id : ℕ) (slot : Option WireRecord) (within : id < length n.wires) (is_wire : (s : WireRecord) → slot ≡ Some s → IsWire n.horizon s)
+      (namesake : (s : WireRecord) → slot ≡ Some s → IsNamesake wire_name (wire_at n id) s)
       (same_width : is_used n id ≡ true → (is_some slot ≡ true) × (width_of slot ≡ width_of (wire_at n id)))
       (free : (m p : ℕ) → Drives n m p id → stimulus_in slot ≡ None) where
     abbrev other : Circuit
@@ -180,6 +185,7 @@ module _ (n : Circuit) (ok : IsCircuit n) where
       wires_ok = λ w s at. other_wires w s (now w) at;
       modules_ok = λ m s at. IsModule-keep n other s (record { keeps = λ w named is. kept_at w (used_by_module n m s w at named) (now w) is }) (ok.modules_ok m s at);
       bundles_ok = λ b s at. IsBundle-keep n other s (record { keeps = λ w named is. kept_at w (used_by_bundle n b s w at named) (now w) is }) (ok.bundles_ok b s at);
+      names = HasNames-rewrite_wire n ok.names id slot within namesake;
       one_port = λ m p k q w a b. ok.one_port m p k q w (other_back m p w a) (other_back k q w b);
       port_or_stimulus = λ m p w drives. other_free m p w (other_back m p w drives) (now w);
       wires_few = omega (arith, length-set n.wires id slot, ok.wires_few);
@@ -188,7 +194,7 @@ module _ (n : Circuit) (ok : IsCircuit n) where
     }
 
   -- one more module, whose outputs are at different wires that nothing drives
-  module _ (r : ModuleRecord) (is_module : IsModule n r)
+  module _ (r : ModuleRecord) (is_module : IsModule n r) (named : is_name r.name ≡ true) (unnamed : is_none (module_named n r.name) ≡ true)
       (distinct : (p q w : ℕ) → (output_at r p).wire ≡ Some (record { 0 = w }) → (output_at r q).wire ≡ Some (record { 0 = w }) → p ≡ q)
       (undriven : (p w : ℕ) → (output_at r p).wire ≡ Some (record { 0 = w }) → is_nothing (driver n w) ≡ true) (room : length n.modules < 4096) where
     abbrev grown : Circuit
@@ -233,6 +239,7 @@ module _ (n : Circuit) (ok : IsCircuit n) where
       wires_ok = λ w s at. ok.wires_ok w s at;
       modules_ok = λ m s at. IsModule-keep n grown s (grown_keeps (of_module s)) (grown_modules m s (pushed_at n.modules (Some r) m) at);
       bundles_ok = λ b s at. IsBundle-keep n grown s (grown_keeps (of_bundle s)) (ok.bundles_ok b s at);
+      names = HasNames-add_module n ok.names r named unnamed;
       one_port = λ m p k q w a b. grown_one_port m p k q w (grown_drives m p w a) (grown_drives k q w b);
       port_or_stimulus = λ m p w drives. grown_free m p w (grown_drives m p w drives);
       wires_few = ok.wires_few;
@@ -240,8 +247,9 @@ module _ (n : Circuit) (ok : IsCircuit n) where
       bundles_few = ok.bundles_few;
     }
 
-  -- something else in a module's slot, whose outputs are at different wires that nothing else drives
+  -- something else in a module's slot, of the same name, whose outputs are at different wires that nothing else drives
   module _ (id : ℕ) (slot : Option ModuleRecord) (within : id < length n.modules) (is_module : (s : ModuleRecord) → slot ≡ Some s → IsModule n s)
+      (namesake : (s : ModuleRecord) → slot ≡ Some s → IsNamesake module_name (module_at n id) s)
       (drives_alone : (s : ModuleRecord) → slot ≡ Some s → DrivesAlone n id s) where
     abbrev changed : Circuit
     changed = with_module n id slot
@@ -286,6 +294,7 @@ module _ (n : Circuit) (ok : IsCircuit n) where
       wires_ok = λ w s at. ok.wires_ok w s at;
       modules_ok = λ m s at. IsModule-keep n changed s (changed_keeps (of_module s)) (changed_modules m s (rewritten_at n.modules id slot within m) at);
       bundles_ok = λ b s at. IsBundle-keep n changed s (changed_keeps (of_bundle s)) (ok.bundles_ok b s at);
+      names = HasNames-rewrite_module n ok.names id slot within namesake;
       one_port = λ m p k q w a b. changed_one_port m p k q w (changed_drives m p w a) (changed_drives k q w b);
       port_or_stimulus = λ m p w drives. changed_free m p w (changed_drives m p w drives);
       wires_few = ok.wires_few;
@@ -294,7 +303,7 @@ module _ (n : Circuit) (ok : IsCircuit n) where
     }
 
   -- one more bundle
-  module _ (r : BundleRecord) (is_bundle : IsBundle n r) (room : length n.bundles < 1024) where
+  module _ (r : BundleRecord) (is_bundle : IsBundle n r) (named : is_name r.name ≡ true) (unnamed : is_none (bundle_named n r.name) ≡ true) (room : length n.bundles < 1024) where
     abbrev bundled : Circuit
     bundled = with_new_bundle n r
 
@@ -316,6 +325,7 @@ module _ (n : Circuit) (ok : IsCircuit n) where
       wires_ok = λ w s at. ok.wires_ok w s at;
       modules_ok = λ m s at. IsModule-keep n bundled s (bundled_keeps (of_module s)) (ok.modules_ok m s at);
       bundles_ok = λ b s at. IsBundle-keep n bundled s (bundled_keeps (of_bundle s)) (bundled_bundles b s (pushed_at n.bundles (Some r) b) at);
+      names = HasNames-add_bundle n ok.names r named unnamed;
       one_port = λ m p k q w a b. ok.one_port m p k q w (bundled_back m p w a) (bundled_back k q w b);
       port_or_stimulus = λ m p w drives. ok.port_or_stimulus m p w (bundled_back m p w drives);
       wires_few = ok.wires_few;
@@ -345,6 +355,7 @@ module _ (n : Circuit) (ok : IsCircuit n) where
       wires_ok = λ w s at. ok.wires_ok w s at;
       modules_ok = λ m s at. IsModule-keep n unbundled s (unbundled_keeps (of_module s)) (ok.modules_ok m s at);
       bundles_ok = λ b s at. IsBundle-keep n unbundled s (unbundled_keeps (of_bundle s)) (unbundled_bundles b s (rewritten_at n.bundles id None within b) at);
+      names = HasNames-rewrite_bundle n ok.names id None within (λ s is. (cc));
       one_port = λ m p k q w a b. ok.one_port m p k q w (unbundled_back m p w a) (unbundled_back k q w b);
       port_or_stimulus = λ m p w drives. ok.port_or_stimulus m p w (unbundled_back m p w drives);
       wires_few = ok.wires_few;

@@ -11,14 +11,15 @@ use Rattle.mp_netlist.specs.declared.edit.Edit.TheVariants.{AddWire, RemoveWire,
 use Rattle.mp_netlist.specs.declared.edit_error.EditError.{EditError}
 use Rattle.mp_netlist.specs.Stimuli.{is_stimulus, fits_width}
 use Rattle.mp_netlist.specs.declared.ids.WireId.{WireId}
-use Rattle.mp_netlist.specs.declared.wire_record.WireRecord.{WireRecord}
 use Rattle.mp_netlist.specs.declared.module_record.ModuleRecord.{ModuleRecord}
-use Rattle.mp_netlist.specs.Circuit.{Circuit, IsCircuit, IsWire, IsModule, HasWidth, Drives, wire_at, module_at, bundle_at, wire_named, module_named, bundle_named, width_of, module_width, stimulus_at}
+use Rattle.mp_netlist.specs.Circuit.{Circuit, IsCircuit, IsWire, IsModule, HasWidth, wire_at, module_at, wire_named, module_named, bundle_named, width_of, module_width}
 use Rattle.mp_netlist.specs.Drivers.{driver, is_port, is_free_for}
 use Rattle.mp_netlist.specs.Uses.{is_used}
-use Rattle.mp_netlist.specs.Edits.{first_failing, stands, wire_id, module_stands, module_id, module_of, bundle_id, input_ports, output_ports, input_width_of, output_width_of, output_stands, output_fits, output_is_free, is_delay, width_named, driven_names, are_distinct, is_undriven, new_width, inputs_fit, outputs_fit, wire_checks, wire_removal_checks, module_checks, module_removal_checks, bundle_checks, bundle_removal_checks, input_checks, output_checks, delay_checks, stimulus_checks, clearing_checks, wire_refusal, wire_removal_refusal, module_refusal, module_removal_refusal, bundle_refusal, bundle_removal_refusal, input_refusal, output_refusal, delay_refusal, stimulus_refusal, clearing_refusal, refusal, edited, new_module, with_new_wire, with_new_module, new_bundle, with_new_bundle, with_bundle, with_input, with_output, with_delay, with_module, with_stimulus, without_stimulus, with_wire}
+use Rattle.mp_netlist.specs.Edits.{first_failing, stands, wire_id, module_id, module_of, bundle_id, input_ports, output_ports, input_width_of, output_width_of, output_stands, output_fits, output_is_free, is_delay, width_named, driven_names, are_distinct, is_undriven, new_width, inputs_fit, outputs_fit, wire_checks, wire_removal_checks, module_checks, module_removal_checks, bundle_checks, bundle_removal_checks, input_checks, output_checks, delay_checks, stimulus_checks, clearing_checks, wire_refusal, wire_removal_refusal, module_refusal, module_removal_refusal, bundle_refusal, bundle_removal_refusal, input_refusal, output_refusal, delay_refusal, stimulus_refusal, clearing_refusal, refusal, edited, new_module, with_new_wire, with_new_module, new_bundle, with_new_bundle, with_input, with_output, with_delay, with_module, with_stimulus, without_stimulus, with_wire}
 use Rattle.mp_netlist.specs.Laws.{EditsKeepNetlists}
-use Rattle.mp_netlist.proofs.NameLemmas.{Stands, stands_from, stands_within, ModuleStands, module_stands_from, module_within, BundleStands, bundle_stands_from, bundle_within}
+use Rattle.mp_netlist.specs.Names.{is_name}
+use Rattle.mp_netlist.proofs.TableLemmas.{IsNamesake}
+use Rattle.mp_netlist.proofs.NameLemmas.{wire_name, module_name, Stands, stands_from, stands_within, ModuleStands, module_stands_from, module_within, BundleStands, bundle_stands_from, bundle_within}
 use Rattle.mp_netlist.proofs.DriverLemmas.{portless_is_undriven}
 use Rattle.mp_netlist.proofs.CircuitLemmas.{DrivesAlone, DrivesAlone-same, IsCircuit-add_wire, IsCircuit-add_module, IsCircuit-rewrite_wire, IsCircuit-rewrite_module, IsCircuit-add_bundle, IsCircuit-remove_bundle}
 use Rattle.mp_netlist.proofs.PortEditLemmas.{delay_at, wires-with_delay, IsModule-with_delay, IsModule-with_input, IsModule-with_output, DrivesAlone-with_output}
@@ -44,6 +45,7 @@ only P {thing = thing} holds other is = let same : thing ≡ other = cc in subst
 
 -- what the checks of a new wire tell
 pub record IsNewWire (n : Circuit) (name : List ℕ) (width level : ℕ) : Type 0 where
+  pub named : is_name name ≡ true
   pub free : is_none (wire_named n name) ≡ true
   pub low : 1 ≤ width
   pub high : width ≤ 64
@@ -54,12 +56,12 @@ pub new_wire : (n : Circuit) (name : List ℕ) (width level : ℕ) → wire_refu
 new_wire n name width level none =
     let all = all_pass (wire_checks n name width level) none in
     let bounds = and_parts (nat_le 1 width) (nat_le width 64) all.1.1.0 in
-    record { free = all.1.0; low = leb-true 1 width bounds.0; high = leb-true width 64 bounds.1; fits = all.1.1.1.0; room = ltb-true (length n.wires) 8192 all.1.1.1.1.0 }
+    record { named = all.0; free = all.1.0; low = leb-true 1 width bounds.0; high = leb-true width 64 bounds.1; fits = all.1.1.1.0; room = ltb-true (length n.wires) 8192 all.1.1.1.1.0 }
 
 pub IsCircuit-with_new_wire : (n : Circuit) → IsCircuit n → (name : List ℕ) (width level : ℕ) → wire_refusal n name width level ≡ None → IsCircuit (with_new_wire n name width level)
 IsCircuit-with_new_wire n ok name width level none =
     let new = new_wire n name width level none in
-    IsCircuit-add_wire n ok _ (record { wide = new.low; narrow = new.high; level = new.fits; stimulus = tt }) refl new.room
+    IsCircuit-add_wire n ok _ (record { wide = new.low; narrow = new.high; level = new.fits; stimulus = tt }) new.named new.free refl new.room
 
 -- what the checks before a wire goes tell
 pub record IsFreeWire (n : Circuit) (name : List ℕ) : Type 0 where
@@ -74,11 +76,12 @@ free_wire n name none =
 pub IsCircuit-without_wire : (n : Circuit) → IsCircuit n → (name : List ℕ) → wire_removal_refusal n name ≡ None → IsCircuit (with_wire n (wire_id n name).0 None)
 IsCircuit-without_wire n ok name none =
     let free = free_wire n name none in
-    IsCircuit-rewrite_wire n ok (wire_id n name).0 None (stands_within n name free.wire) (λ s is. (cc))
+    IsCircuit-rewrite_wire n ok (wire_id n name).0 None (stands_within n name free.wire) (λ s is. (cc)) (λ s is. (cc))
     (λ used. absurd (both_ways _ free.unused used)) (λ m p drives. refl)
 
 -- what the checks of a new module tell
 pub record IsNewModule (n : Circuit) (name : List ℕ) (kind : Kind) (params : List ℕ) (inputs : List (List ℕ)) (outputs : List OutputName) : Type 0 where
+  pub named : is_name name ≡ true
   pub free : is_none (module_named n name) ≡ true
   pub ports : ArePorts n kind inputs outputs
   pub ranged : are_params kind (new_width n kind inputs) params ≡ true
@@ -95,6 +98,7 @@ is_new_module n name kind params inputs outputs none =
     let rest = all.1.1.1.1.1 in
     let drivers = and_parts (list_all (is_undriven n) (driven_names outputs)) (are_distinct (driven_names outputs)) rest.1.1.0 in
     record {
+      named = all.0;
       free = all.1.0;
       ports = record {
         inputs_count = eqb-true _ _ counts.0;
@@ -115,18 +119,19 @@ pub IsCircuit-with_new_module : (n : Circuit) → IsCircuit n → (name : List �
     → module_refusal n name kind params inputs outputs ≡ None → IsCircuit (with_new_module n (new_module n name kind params inputs outputs))
 IsCircuit-with_new_module n ok name kind params inputs outputs none =
     let new = is_new_module n name kind params inputs outputs none in
-    IsCircuit-add_module n ok _ (IsModule-new n name kind params inputs outputs new.ports new.ranged)
+    IsCircuit-add_module n ok _ (IsModule-new n name kind params inputs outputs new.ports new.ranged) new.named new.free
     (new_distinct n name kind params inputs outputs new.ports) (new_undriven n name kind params inputs outputs new.ports) new.room
 
 pub IsCircuit-without_module : (n : Circuit) → IsCircuit n → (name : List ℕ) → ModuleStands n name → IsCircuit (with_module n (module_id n name).0 None)
 IsCircuit-without_module n ok name part =
-    IsCircuit-rewrite_module n ok (module_id n name).0 None (module_within n name part) (λ s is. (cc)) (λ s is. (cc))
+    IsCircuit-rewrite_module n ok (module_id n name).0 None (module_within n name part) (λ s is. (cc)) (λ s is. (cc)) (λ s is. (cc))
 
 pub going_module : (n : Circuit) (name : List ℕ) → module_removal_refusal n name ≡ None → ModuleStands n name
 going_module n name none = module_stands_from n name (all_pass (module_removal_checks n name) none).0
 
 -- what the checks of a new bundle tell
 pub record IsNewBundle (n : Circuit) (name request acknowledge payload : List ℕ) (setup : ℕ) : Type 0 where
+  pub named : is_name name ≡ true
   pub free : is_none (bundle_named n name) ≡ true
   pub requests : Stands n request
   pub acknowledges : Stands n acknowledge
@@ -144,6 +149,7 @@ is_new_bundle n name request acknowledge payload setup none =
     let both = and_parts (stands n request) (stands n acknowledge) stand.0 in
     let wide = and_parts (width_named n request == 1) (width_named n acknowledge == 1) all.1.1.1.0 in
     record {
+      named = all.0;
       free = all.1.0;
       requests = stands_from n request both.0;
       acknowledges = stands_from n acknowledge both.1;
@@ -166,7 +172,7 @@ IsCircuit-with_new_bundle n ok name request acknowledge payload setup none =
       payload = ap is_some new.pays.at;
       setup = omega arith;
     })
-    new.room
+    new.named new.free new.room
 
 pub going_bundle : (n : Circuit) (name : List ℕ) → bundle_removal_refusal n name ≡ None → BundleStands n name
 going_bundle n name none = bundle_stands_from n name (all_pass (bundle_removal_checks n name) none).0
@@ -200,7 +206,8 @@ IsCircuit-reread n ok name port wire none =
     let is = IsModule-with_input n old port (wire_id n wire) new.within new.wide (ok.modules_ok id old new.part.at) in
     let alone = DrivesAlone-same n ok id old (with_input port (wire_id n wire) old) new.part.at (λ p. refl) in
     subst (λ slot. IsCircuit (with_module n id (option_map (with_input port (wire_id n wire)) slot))) (sym new.part.at)
-    (IsCircuit-rewrite_module n ok id (Some (with_input port (wire_id n wire) old)) (module_within n name new.part) (only (IsModule n) is) (only (DrivesAlone n id) alone))
+    (IsCircuit-rewrite_module n ok id (Some (with_input port (wire_id n wire) old)) (module_within n name new.part) (only (IsModule n) is)
+    (only (IsNamesake module_name (module_at n id)) (record { other = old; stands = new.part.at; same = refl })) (only (DrivesAlone n id) alone))
 
 -- what the checks of an output's new wire tell
 pub record IsNewOutput (n : Circuit) (name : List ℕ) (port : ℕ) (wire : Option (List ℕ)) : Type 0 where
@@ -246,7 +253,8 @@ IsCircuit-redirected n ok name port wire none =
     let is = IsModule-with_output n old port ids new.within new.wide (ok.modules_ok id old new.part.at) in
     let alone = DrivesAlone-with_output n old port ids new.within ok id new.part.at new.free in
     subst (λ slot. IsCircuit (with_module n id (option_map (with_output port ids) slot))) (sym new.part.at)
-    (IsCircuit-rewrite_module n ok id (Some (with_output port ids old)) (module_within n name new.part) (only (IsModule n) is) (only (DrivesAlone n id) alone))
+    (IsCircuit-rewrite_module n ok id (Some (with_output port ids old)) (module_within n name new.part) (only (IsModule n) is)
+    (only (IsNamesake module_name (module_at n id)) (record { other = old; stands = new.part.at; same = refl })) (only (DrivesAlone n id) alone))
 
 -- what the checks of a port's new delay tell
 pub record IsNewDelay (n : Circuit) (name : List ℕ) (port delay : ℕ) : Type 0 where
@@ -272,7 +280,8 @@ IsCircuit-delayed n ok name port delay none =
     let is = IsModule-with_delay n old port delay new.within (delay_at delay new.ranged) (ok.modules_ok id old new.part.at) in
     let alone = DrivesAlone-same n ok id old (with_delay port delay old) new.part.at (wires-with_delay port delay old new.within) in
     subst (λ slot. IsCircuit (with_module n id (option_map (with_delay port delay) slot))) (sym new.part.at)
-    (IsCircuit-rewrite_module n ok id (Some (with_delay port delay old)) (module_within n name new.part) (only (IsModule n) is) (only (DrivesAlone n id) alone))
+    (IsCircuit-rewrite_module n ok id (Some (with_delay port delay old)) (module_within n name new.part) (only (IsModule n) is)
+    (only (IsNamesake module_name (module_at n id)) (record { other = old; stands = new.part.at; same = refl })) (only (DrivesAlone n id) alone))
 
 -- what the checks of a stimulus tell
 pub record IsNewStimulus (n : Circuit) (name : List ℕ) (changes : List (ℕ × ℕ)) : Type 0 where
@@ -298,6 +307,7 @@ IsCircuit-stimulated n ok name changes none =
     subst (λ slot. IsCircuit (with_wire n id (option_map (with_stimulus changes) slot))) (sym new.wire.at)
     (IsCircuit-rewrite_wire n ok id (Some (with_stimulus changes old)) (stands_within n name new.wire)
     (only (IsWire n.horizon) (record { wide = was.wide; narrow = was.narrow; level = was.level; stimulus = valid }))
+    (only (IsNamesake wire_name (wire_at n id)) (record { other = old; stands = new.wire.at; same = refl }))
     (λ used. (refl, sym (ap width_of new.wire.at)))
     (λ m p drives. absurd (portless_is_undriven n ok id new.portless m p drives)))
 
@@ -316,6 +326,7 @@ IsCircuit-cleared n ok name none =
     subst (λ slot. IsCircuit (with_wire n id (option_map without_stimulus slot))) (sym wire.at)
     (IsCircuit-rewrite_wire n ok id (Some (without_stimulus wire.wire)) (stands_within n name wire)
     (only (IsWire n.horizon) (record { wide = was.wide; narrow = was.narrow; level = was.level; stimulus = tt }))
+    (only (IsNamesake wire_name (wire_at n id)) (record { other = wire.wire; stands = wire.at; same = refl }))
     (λ used. (refl, sym (ap width_of wire.at))) (λ m p drives. refl))
 
 pub edits_keep_netlists : EditsKeepNetlists

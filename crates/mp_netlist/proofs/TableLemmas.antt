@@ -1,5 +1,5 @@
--- The look-up of a name among slots, and what each change of a slot does to the table of names.
-use Rattle.std.proofs.Common.{◌≡◌, ℕ, zero, suc, ◌+◌, ◌-◌, ◌<◌, ◌≤◌, ◌↔◌, Bool, true, false, cond, List, [], ◌∷◌, ◌++◌, length, get_or, Option, None, Some, MatchOption, is_some, unwrap_or, ◌⊎◌, inl, inr, refl, sym, ap, subst, ◌∙◌, arith, true≢false, String, string_bytes, length-append}
+-- The look-up of a name among slots, and what each change of a slot does to the names and to their table.
+use Rattle.std.proofs.Common.{◌≡◌, ℕ, zero, suc, ◌+◌, ◌-◌, ◌<◌, ◌≤◌, ◌↔◌, Bool, true, false, cond, List, [], ◌∷◌, ◌++◌, length, get_or, Option, None, Some, MatchOption, is_some, is_none, unwrap_or, ◌⊎◌, inl, inr, refl, sym, ap, subst, ◌∙◌, arith, true≢false, String, string_bytes, length-append}
 use Rattle.std.proofs.Math.ListN.{set}
 use Rattle.std.specs.Map.{lookup}
 use Rattle.std.specs.List.{AllZip, position_from}
@@ -9,6 +9,7 @@ use Rattle.std.proofs.lemmas.List.{get_or_past, get_or_push, get_or_append_left,
 use Rattle.std.proofs.lemmas.Slice.Eq.{bytes_eq-Decides}
 use Rattle.std.proofs.lemmas.Bool.{cases_lt, cases_eq}
 use Rattle.mp_netlist.specs.Slots.{has_name, number_named}
+use Rattle.mp_netlist.specs.Names.{is_name}
 use Rattle.mp_netlist.specs.Records.{Finds, IsTable}
 
 module _ {X : Type 0} (p : X → Bool) (d : X) (none : p d ≡ false) where
@@ -244,3 +245,90 @@ module _ {R : Type 0} (name_of : R → List ℕ) where
   -- a table with the same look-ups
   pub IsTable-copy : (slots : List (Option R)) (look new : List ℕ → Option ℕ) → ((q : List ℕ) → new q ≡ look q) → IsTable name_of slots look → IsTable name_of slots new
   IsTable-copy slots look new is table q number = rw (is q) (table q number)
+
+  -- where a look-up finds nothing no thing has the name
+  pub named_none : (slots : List (Option R)) (name : List ℕ) → is_none (number_named name_of slots name) ≡ true → (i : ℕ) → has_name name_of name (get_or slots i None) ≡ false
+  unfolding number_named
+  named_none slots name free i = by (position_from (has_name name_of name) 0 slots) free (first_place (has_name name_of name) None refl 0 slots)
+    where
+      by : (found : Option ℕ) → is_none found ≡ true → IsFirst (has_name name_of name) None refl 0 slots found → has_name name_of name (get_or slots i None) ≡ false
+      by None none first = first i
+      by (Some k) none first = cc
+
+  -- each thing that stands has a name
+  abbrev pub AreNamed : List (Option R) → Type 0
+  AreNamed slots = (i : ℕ) (r : R) → get_or slots i None ≡ Some r → is_name (name_of r) ≡ true
+
+  -- no two things that stand have one name
+  abbrev pub AreApart : List (Option R) → Type 0
+  AreApart slots = (i j : ℕ) (r s : R) → get_or slots i None ≡ Some r → get_or slots j None ≡ Some s → name_of r ≡ name_of s → i ≡ j
+
+  -- the thing that stands in the slot has the name of this one
+  pub record IsNamesake (slot : Option R) (thing : R) : Type 0 where
+    pub other : R
+    pub stands : slot ≡ Some other
+    pub same : name_of thing ≡ name_of other
+
+  -- what stands now stood before under its number, by its name
+  abbrev KeepNames : List (Option R) → List (Option R) → Type 0
+  KeepNames old new = (i : ℕ) (s : R) → get_or new i None ≡ Some s → IsNamesake (get_or old i None) s
+
+  AreNamed-keep : (old new : List (Option R)) → KeepNames old new → AreNamed old → AreNamed new
+  AreNamed-keep old new kept named i s at = let was = kept i s at in ap is_name was.same ∙ named i was.other was.stands
+
+  AreApart-keep : (old new : List (Option R)) → KeepNames old new → AreApart old → AreApart new
+  AreApart-keep old new kept apart i j r s first second same =
+      let a = kept i r first in
+      let b = kept j s second in
+      apart i j a.other b.other a.stands b.stands (sym a.same ∙ same ∙ b.same)
+
+  module _ (slots : List (Option R)) (i : ℕ) (slot : Option R) (within : i < length slots) (namesake : (s : R) → slot ≡ Some s → IsNamesake (get_or slots i None) s) where
+    rewrite_keeps : KeepNames slots (set slots i slot)
+    rewrite_keeps k s at = by (rewritten_at slots i slot within k)
+      where
+        by : RewrittenAt slots i slot k → IsNamesake (get_or slots k None) s
+        by (inl new) = subst (λ j. IsNamesake (get_or slots j None) s) (sym new.0) (namesake s (sym new.1 ∙ at))
+        by (inr old) = record { other = s; stands = sym old.1 ∙ at; same = refl }
+
+    -- a thing goes, or is written over by one of its name
+    pub AreNamed-rewrite : AreNamed slots → AreNamed (set slots i slot)
+    AreNamed-rewrite = AreNamed-keep slots (set slots i slot) rewrite_keeps
+
+    pub AreApart-rewrite : AreApart slots → AreApart (set slots i slot)
+    AreApart-rewrite = AreApart-keep slots (set slots i slot) rewrite_keeps
+
+  module _ (slots : List (Option R)) (thing : R) where
+    -- what stands after one more thing goes last stood there, or is the new one
+    abbrev StandsNow : ℕ → R → Type 0
+    StandsNow i r = (get_or slots i None ≡ Some r) ⊎ ((i ≡ length slots) × (r ≡ thing))
+
+    stands_now : (i : ℕ) (r : R) → get_or (slots ++ Some thing ∷ []) i None ≡ Some r → StandsNow i r
+    stands_now i r at = by (pushed_at slots (Some thing) i)
+      where
+        by : PushedAt slots (Some thing) i → StandsNow i r
+        by (inl old) = inl (sym old.1 ∙ at)
+        by (inr (inl new)) = let both = sym at ∙ new.1 in inr (new.0, cc)
+        by (inr (inr none)) = let no = sym none.1 ∙ at in cc
+
+    -- a thing that has a name goes last
+    pub AreNamed-push : is_name (name_of thing) ≡ true → AreNamed slots → AreNamed (slots ++ Some thing ∷ [])
+    AreNamed-push is named i r at = by (stands_now i r at)
+      where
+        by : StandsNow i r → is_name (name_of r) ≡ true
+        by (inl old) = named i r old
+        by (inr new) = ap (λ s. is_name (name_of s)) new.1 ∙ is
+
+    -- a thing of a new name goes last
+    pub AreApart-push : is_none (number_named name_of slots (name_of thing)) ≡ true → AreApart slots → AreApart (slots ++ Some thing ∷ [])
+    AreApart-push free apart i j r s first second same = by (stands_now i r first) (stands_now j s second)
+      where
+        taken : {A : Type 0} (k : ℕ) (t : R) → get_or slots k None ≡ Some t → name_of thing ≡ name_of t → A
+        taken k t at is =
+            let has = ap (has_name name_of (name_of thing)) at ∙ equal_name (name_of thing) (name_of t) is in
+            absurd (true≢false (sym has ∙ named_none slots (name_of thing) free k))
+
+        by : StandsNow i r → StandsNow j s → i ≡ j
+        by (inl a) (inl b) = apart i j r s a b same
+        by (inl a) (inr b) = taken i r a (ap name_of (sym b.1) ∙ sym same)
+        by (inr a) (inl b) = taken j s b (ap name_of (sym a.1) ∙ same)
+        by (inr a) (inr b) = a.0 ∙ sym b.0

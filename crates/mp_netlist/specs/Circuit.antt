@@ -1,5 +1,5 @@
 -- A netlist without where it lies in memory.
-use Rattle.std.specs.Prelude.{◌≡◌, ℕ, ◌<◌, ◌≤◌, List, [], Option, Some, None, All, IsSome, IfSome, IsTrue, length, slice_index_or, if◌then◌else◌, option_and_then}
+use Rattle.std.specs.Prelude.{◌≡◌, ℕ, ◌<◌, ◌≤◌, List, [], Option, Some, None, true, All, IsSome, IfSome, IsTrue, length, slice_index_or, if◌then◌else◌, option_and_then}
 use Rattle.mp_modules.specs.Kinds.{input_count, output_count, has_width, input_width, output_width, are_params}
 use Rattle.mp_netlist.specs.declared.ids.WireId.{WireId}
 use Rattle.mp_netlist.specs.declared.wire_record.WireRecord.{WireRecord}
@@ -7,6 +7,7 @@ use Rattle.mp_netlist.specs.declared.module_record.ModuleRecord.{ModuleRecord}
 use Rattle.mp_netlist.specs.declared.bundle_record.BundleRecord.{BundleRecord}
 use Rattle.mp_netlist.specs.declared.ports.Output.{Output}
 use Rattle.mp_netlist.specs.Slots.{slot_at, number_named}
+use Rattle.mp_netlist.specs.Names.{is_name}
 use Rattle.mp_netlist.specs.Stimuli.{fits_width, is_stimulus}
 
 -- the horizon, and a slot for each number of a wire, a module and a bundle
@@ -100,6 +101,15 @@ stimulus_in slot = option_and_then (λ (r : WireRecord). r.stimulus) slot
 abbrev pub stimulus_at : Circuit → ℕ → Option (List (ℕ × ℕ))
 stimulus_at n w = stimulus_in (wire_at n w)
 
+-- what stands has a name, and no two wires have one name, no two modules and no two bundles
+pub record HasNames (n : Circuit) : Type 0 where
+  pub wires : (w : ℕ) (r : WireRecord) → wire_at n w ≡ Some r → is_name r.name ≡ true
+  pub modules : (m : ℕ) (r : ModuleRecord) → module_at n m ≡ Some r → is_name r.name ≡ true
+  pub bundles : (b : ℕ) (r : BundleRecord) → bundle_at n b ≡ Some r → is_name r.name ≡ true
+  pub one_wire : (w v : ℕ) (r s : WireRecord) → wire_at n w ≡ Some r → wire_at n v ≡ Some s → r.name ≡ s.name → w ≡ v
+  pub one_module : (m k : ℕ) (r s : ModuleRecord) → module_at n m ≡ Some r → module_at n k ≡ Some s → r.name ≡ s.name → m ≡ k
+  pub one_bundle : (b c : ℕ) (r s : BundleRecord) → bundle_at n b ≡ Some r → bundle_at n c ≡ Some s → r.name ≡ s.name → b ≡ c
+
 -- what holds of every netlist
 pub record IsCircuit (n : Circuit) : Type 0 where
   pub horizon_low : 1 ≤ n.horizon
@@ -107,6 +117,7 @@ pub record IsCircuit (n : Circuit) : Type 0 where
   pub wires_ok : (w : ℕ) (r : WireRecord) → wire_at n w ≡ Some r → IsWire n.horizon r
   pub modules_ok : (m : ℕ) (r : ModuleRecord) → module_at n m ≡ Some r → IsModule n r
   pub bundles_ok : (b : ℕ) (r : BundleRecord) → bundle_at n b ≡ Some r → IsBundle n r
+  pub names : HasNames n
   pub one_port : (m p k q w : ℕ) → Drives n m p w → Drives n k q w → (m ≡ k) × (p ≡ q)
   pub port_or_stimulus : (m p w : ℕ) → Drives n m p w → stimulus_at n w ≡ None
   pub wires_few : length n.wires ≤ 8192

@@ -1,5 +1,4 @@
-use Rattle.std.proofs.Common.{◌≡◌, ◌<◌, ◌≤◌, ◌^◌, arith}
-use Rattle.mp_netlist.proofs.EditLemmas.{is_new_bundle, IsCircuit-with_new_bundle}
+use Rattle.mp_netlist.proofs.EditLemmas.{IsCircuit-with_new_bundle}
 use Rattle.mp_netlist.proofs.netlist.Netlist.add_bundle.Goals as goal
 
 pub put_bundle-requires-clause-fits : goal.put_bundle-requires-clause-fits

@@ -1,11 +1,11 @@
 use Rattle.std.proofs.Common.{◌≡◌, ◌<◌, length, None, Some, refl, sym, ap, subst, ◌∙◌, arith}
 use Rattle.std.proofs.lemmas.Map.Text.{hash_map_updates_text}
 use Rattle.mp_netlist.specs.declared.ids.WireId.{WireId}
-use Rattle.mp_netlist.specs.Circuit.{Circuit, IsCircuit, wire_at, wire_named}
+use Rattle.mp_netlist.specs.Circuit.{Circuit, IsCircuit}
 use Rattle.indexmap.specs.IndexMap.{get_by_text}
 use Rattle.mp_netlist.specs.Edits.{wire_id, with_wire, wire_removal_refusal}
 use Rattle.mp_netlist.specs.Records.{circuit_of}
-use Rattle.mp_netlist.proofs.NameLemmas.{wire_name, Stands, stands_within}
+use Rattle.mp_netlist.proofs.NameLemmas.{wire_name, stands_within}
 use Rattle.mp_netlist.proofs.TableLemmas.{looked_up, IsTable-clear}
 use Rattle.mp_netlist.proofs.EditLemmas.{free_wire, IsCircuit-without_wire}
 use Rattle.mp_netlist.proofs.RecordLemmas.{AreRecords-wires}
