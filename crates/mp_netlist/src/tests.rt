@@ -81,12 +81,11 @@ fn stimulus(alloc: Global, text: &str, changes: &[(u64, u64)]) -> Result<Edit, A
 /// Wires `a`, `b`, `y` and `z` of width 1 and `d` of width 8, and a module `m` from `a` to `y`; `b` has a stimulus.
 fn build(alloc: Global, net: &mut Netlist) -> Result<(), Fail> {
     for text in ["a", "b", "y", "z"] {
-        net.apply(&wire(alloc, text, 1, 0)?)?;
+        applies(net, wire(alloc, text, 1, 0))?;
     }
-    net.apply(&wire(alloc, "d", 8, 255)?)?;
-    net.apply(&module(alloc, "m", Kind::Buf, &[], "a", "y", 5)?)?;
-    net.apply(&stimulus(alloc, "b", &[(3, 1), (19, 0)])?)?;
-    Ok(())
+    applies(net, wire(alloc, "d", 8, 255))?;
+    applies(net, module(alloc, "m", Kind::Buf, &[], "a", "y", 5))?;
+    applies(net, stimulus(alloc, "b", &[(3, 1), (19, 0)]))
 }
 
 /// The netlist takes the edit.
@@ -294,11 +293,14 @@ fn finds_drivers(rt: &impl Abort, net: &Netlist) {
 fn fill(alloc: Global, net: &mut Netlist) -> Result<(), Fail> {
     for number in 5..8192 {
         let text = format!(in alloc; "w{number}")?;
-        net.apply(&wire(alloc, text.as_str(), 64, u64::MAX)?)?;
+        applies(net, wire(alloc, text.as_str(), 64, u64::MAX))?;
     }
     for number in 1..4096 {
         let text = format!(in alloc; "m{number}")?;
-        net.apply(&module(alloc, text.as_str(), Kind::Not, &[], "a", "-", 1)?)?;
+        applies(
+            net,
+            module(alloc, text.as_str(), Kind::Not, &[], "a", "-", 1),
+        )?;
     }
     Ok(())
 }
