@@ -16,3 +16,5 @@ pub mod ModuleBackLemmas
 pub mod PlainLemmas
 pub mod ReadBackLemmas
 pub mod WrittenLineLemmas
+pub mod SlotLemmas
+pub mod StageLemmas
