@@ -18,3 +18,4 @@ pub mod ReadBackLemmas
 pub mod WrittenLineLemmas
 pub mod SlotLemmas
 pub mod StageLemmas
+pub mod WireStageLemmas

@@ -1,5 +1,3 @@
-use Rattle.mp_text.proofs.SlotLemmas.{parted}
-use Rattle.mp_text.proofs.StageLemmas.{stage}
 use Rattle.mp_text.proofs.RoundTripLemmas.{read_as_written}
 use Rattle.mp_text.proofs.laws.written_text_is_read.Goals as goal
 
