@@ -19,3 +19,4 @@ pub mod WrittenLineLemmas
 pub mod SlotLemmas
 pub mod StageLemmas
 pub mod WireStageLemmas
+pub mod OutputLemmas

@@ -78,6 +78,13 @@ compact_few f [] = omega arith
 compact_few f (None ∷ slots) = omega (arith, compact_few f slots)
 compact_few f (Some r ∷ slots) = omega (arith, compact_few f slots)
 
+pub unequal_name : (a b : List ℕ) → (a ≡ b → ⊥) → bytes_eq a b ≡ false
+unequal_name a b not = by (bytes_eq a b) refl
+  where
+    by : (c : Bool) → bytes_eq a b ≡ c → c ≡ false
+    by true e = absurd (not (same_name a b e))
+    by false e = refl
+
 module _ {R : Type 0} (name_of : R → List ℕ) where
   -- what stands in the slot, if anything, has another name
   abbrev pub Unnamed : List ℕ → Option R → Type 0
@@ -104,13 +111,6 @@ module _ {R : Type 0} (name_of : R → List ℕ) where
   -- other things have other names
   abbrev pub AreDistinct : List (Option R) → Type 0
   AreDistinct slots = (w v : ℕ) (r s : R) → slot_at slots w ≡ Some r → slot_at slots v ≡ Some s → name_of r ≡ name_of s → w ≡ v
-
-  unequal_name : (a b : List ℕ) → (a ≡ b → ⊥) → bytes_eq a b ≡ false
-  unequal_name a b not = by (bytes_eq a b) refl
-    where
-      by : (c : Bool) → bytes_eq a b ≡ c → c ≡ false
-      by true e = absurd (not (same_name a b e))
-      by false e = refl
 
   pub front_unnamed : (slots front back : List (Option R)) (r : R) → AreDistinct slots → slots ≡ front ++ Some r ∷ back → All (Unnamed (name_of r)) front
   front_unnamed slots front back r distinct same = All-from_get_or (Unnamed (name_of r)) front None (λ k within. by k within (get_or front k None) refl)
