@@ -20,3 +20,4 @@ pub mod SlotLemmas
 pub mod StageLemmas
 pub mod WireStageLemmas
 pub mod OutputLemmas
+pub mod ModuleStageLemmas
