@@ -21,3 +21,4 @@ pub mod StageLemmas
 pub mod WireStageLemmas
 pub mod OutputLemmas
 pub mod ModuleStageLemmas
+pub mod StimulusStageLemmas
