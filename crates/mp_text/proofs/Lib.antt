@@ -22,3 +22,5 @@ pub mod WireStageLemmas
 pub mod OutputLemmas
 pub mod ModuleStageLemmas
 pub mod StimulusStageLemmas
+pub mod BundleStageLemmas
+pub mod SameRecordLemmas
