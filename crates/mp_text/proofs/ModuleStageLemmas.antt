@@ -1,29 +1,27 @@
 -- The edits of a netlist's modules, once its wires are added, are not refused.
-use Rattle.std.proofs.Common.{◌≡◌, ℕ, zero, suc, ◌+◌, ◌<◌, ◌≤◌, Bool, true, false, ◌==◌, ◌&&◌, cond, List, [], ◌∷◌, ◌++◌, length, map, get_or, All, Option, Some, None, Ok, option_map, is_none, is_some, refl, sym, ap, subst, ◌∙◌, arith, length-append}
-use Rattle.std.specs.Prelude.{nat_lt, nat_le, IsSome, IfSome, slice_index_or}
+use Rattle.std.proofs.Common.{◌≡◌, ℕ, ◌<◌, ◌≤◌, true, ◌==◌, cond, List, [], ◌∷◌, ◌++◌, length, map, get_or, All, Option, Some, None, Ok, option_map, is_none, refl, sym, ap, subst, ◌∙◌, arith, length-append}
+use Rattle.std.specs.Prelude.{nat_le, IsSome, IfSome, slice_index_or}
 use Rattle.std.specs.List.{flat_map, list_all}
-use Rattle.std.specs.Str.{bytes_eq}
 use Rattle.std.proofs.lemmas.Bool.{eq-eqb, lt-ltb}
 use Rattle.std.proofs.lemmas.Bool.Decides.{nat_tests}
 use Rattle.std.proofs.lemmas.List.{append-nil, get_or_at, get_or_append_left, get_or-map, length-map, length_push}
 use Rattle.std.proofs.lemmas.List.Concat.{flat_map-append}
-use Rattle.std.proofs.lemmas.List.Elements.{All-cons, All-nil, All-head, All-tail, All-get_or, All-map, All-weaker, All-from_get_or}
-use Rattle.mp_modules.specs.declared.kind.Kind.{Kind}
+use Rattle.std.proofs.lemmas.List.Elements.{All-cons, All-nil, All-head, All-tail, All-map, All-weaker, All-from_get_or}
 use Rattle.mp_modules.specs.Kinds.{input_count, output_count, has_width, input_width, output_width, are_params}
 use Rattle.mp_netlist.specs.declared.ids.WireId.{WireId}
 use Rattle.mp_netlist.specs.declared.wire_record.WireRecord.{WireRecord}
 use Rattle.mp_netlist.specs.declared.module_record.ModuleRecord.{ModuleRecord}
 use Rattle.mp_netlist.specs.declared.ports.Output.{Output}
 use Rattle.mp_netlist.specs.declared.port_names.OutputName.{OutputName}
-use Rattle.mp_netlist.specs.Circuit.{Circuit, IsCircuit, IsModule, IsDelay, HasWidth, Drives, wire_at, module_at, width_of, module_width, output_in, output_at, stimulus_at}
+use Rattle.mp_netlist.specs.Circuit.{Circuit, IsCircuit, IsModule, IsDelay, HasWidth, Drives, wire_at, module_at, width_of, module_width, output_in}
 use Rattle.mp_netlist.specs.Edits.{refusal, edited, after, stands, wire_id, width_named, is_undriven, is_delay, driven_names, are_distinct, first_width, new_width, inputs_fit, output_fits, outputs_fit, module_checks, output_of, new_module, without_stimulus}
 use Rattle.mp_netlist.proofs.PortLemmas.{no_name}
 use Rattle.mp_netlist.proofs.CircuitLemmas.{some_input}
-use Rattle.mp_text.specs.Written.{name_in, wire_name}
+use Rattle.mp_text.specs.Written.{wire_name}
 use Rattle.mp_text.specs.RoundTrips.{HasNames, module_edits, output_by_name}
 use Rattle.mp_text.proofs.SlotLemmas.{All-flat_map, All-from_flat_map, list_all_from, Unnamed, named_nowhere, front_unnamed}
 use Rattle.mp_text.proofs.StageLemmas.{none_failing, and_both, is_done, Reaches, Reaches-none, Reaches-one, Steps, stage}
-use Rattle.mp_text.proofs.OutputLemmas.{output_named, IsOutput, is_output, added, DrivesNone, AddsNone, undriven_by_name, drives_none, is_nothing_driven, driven_all, driven_distinct, counted_all}
+use Rattle.mp_text.proofs.OutputLemmas.{output_named, is_output, added, DrivesNone, AddsNone, undriven_by_name, drives_none, is_nothing_driven, driven_all, driven_distinct, counted_all}
 use Rattle.mp_text.proofs.WireStageLemmas.{bare, bare_unset, made, HasWires, HasWires-compact, IsBack, is_back, same_wire}
 
 abbrev module_name : ModuleRecord → List ℕ
@@ -185,8 +183,8 @@ module _ (n : Circuit) (circuit : IsCircuit n) (named : HasNames n) where
     undriven p q has =
         let o = is_output n r.outputs p q has in
         let none = drives_none n q front (λ k j s w within there drives name.
-            let place = (one_name k j (length front) p s r w o.wire (earlier k s within there) drives at o.drives (name ∙ sym o.name)).0 in
-            omega arith) in
+        let place = (one_name k j (length front) p s r w o.wire (earlier k s within there) drives at o.drives (name ∙ sym o.name)).0 in
+        omega arith) in
         let back = is_back n c (has_wires modules) o.wire (drive_stands (length front) p r o.wire at o.drives) in
         let name = subst (λ q. wire_name c (wire_id c q) ≡ q) o.name back.name in
         is_nothing_driven c (wire_id c q).0 (undriven_by_name c (wire_id c q).0 q name (subst (All (DrivesNone q)) (sym same) none)) (bare_unset n.wires (wire_id c q).0)

@@ -50,6 +50,6 @@ unfolding written
 read_as_written n circuit named short =
     let made = made_again n circuit named in
     let read =
-        text_within (horizon_line n.horizon ++ record_lines n circuit named) short ∙ horizon_begins n circuit named (record_lines n circuit named)
-        ∙ (records_lead n circuit named).each 1 (empty_circuit n.horizon) made.again made.replayed in
+    text_within (horizon_line n.horizon ++ record_lines n circuit named) short ∙ horizon_begins n circuit named (record_lines n circuit named)
+    ∙ (records_lead n circuit named).each 1 (empty_circuit n.horizon) made.again made.replayed in
     (made.again, read, made.same)

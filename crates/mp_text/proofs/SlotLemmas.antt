@@ -1,5 +1,5 @@
 -- Slots without the empty ones, and where a name is found among them.
-use Rattle.std.proofs.Common.{◌≡◌, ℕ, zero, suc, ◌+◌, ◌<◌, ◌≤◌, Bool, true, false, cond, List, [], ◌∷◌, ◌++◌, length, get_or, take, drop, map, All, Option, Some, None, is_some, refl, sym, ap, subst, ◌∙◌, arith, true≢false}
+use Rattle.std.proofs.Common.{◌≡◌, ℕ, suc, ◌+◌, ◌<◌, ◌≤◌, Bool, true, false, List, [], ◌∷◌, ◌++◌, length, get_or, take, drop, map, All, Option, Some, None, is_some, refl, sym, ap, subst, ◌∙◌, arith}
 use Rattle.std.specs.List.{flat_map, list_all, list_any, position_from}
 use Rattle.std.specs.Str.{bytes_eq}
 use Rattle.std.proofs.lemmas.List.{append-nil, get_or_at, get_or_append_left, set-get_or, set_split}
@@ -119,10 +119,10 @@ module _ {R : Type 0} (name_of : R → List ℕ) where
       by k within None at = refl
       by k within (Some s) at =
           unequal_name (name_of r) (name_of s) (λ e.
-              let here = ap (λ xs. get_or xs (length front) None) same ∙ get_or_at front (Some r) back None (length front) refl in
-              let there = ap (λ xs. get_or xs k None) same ∙ get_or_append_left front (Some r ∷ back) None k within ∙ at in
-              let place : length front ≡ k = distinct (length front) k r s here there e in
-              omega arith)
+          let here = ap (λ xs. get_or xs (length front) None) same ∙ get_or_at front (Some r) back None (length front) refl in
+          let there = ap (λ xs. get_or xs k None) same ∙ get_or_append_left front (Some r ∷ back) None k within ∙ at in
+          let place : length front ≡ k = distinct (length front) k r s here there e in
+          omega arith)
 
   module _ (change : R → R) (kept : (r : R) → name_of (change r) ≡ name_of r) where
     compact_unnamed_slot : (q : List ℕ) (slot : Option R) → Unnamed q slot → All (Unnamed q) (compact change slot)

@@ -1,5 +1,5 @@
 -- The edits of what is set on a netlist's wires, once its modules are added, are not refused.
-use Rattle.std.proofs.Common.{◌≡◌, ℕ, zero, suc, ◌<◌, Bool, true, not, List, [], ◌∷◌, ◌++◌, append_assoc, length, map, get_or, All, Option, Some, None, Ok, option_map, is_some, unwrap_or, refl, sym, ap, subst, ◌∙◌}
+use Rattle.std.proofs.Common.{◌≡◌, ℕ, ◌<◌, true, not, List, [], ◌∷◌, ◌++◌, append_assoc, length, get_or, All, Option, Some, None, Ok, option_map, is_some, unwrap_or, refl, sym, ap, subst, ◌∙◌}
 use Rattle.std.specs.Prelude.{IsTrue, IfSome, slice_set}
 use Rattle.std.specs.List.{flat_map}
 use Rattle.std.specs.Option.{option_and_then}
@@ -16,7 +16,7 @@ use Rattle.mp_netlist.specs.Drivers.{driver, is_port}
 use Rattle.mp_netlist.specs.Edits.{refusal, edited, after, stands, wire_id, width_named, stimulus_checks, with_stimulus, without_stimulus}
 use Rattle.mp_text.specs.Written.{name_in, wire_name}
 use Rattle.mp_text.specs.RoundTrips.{HasNames, module_edits, set_edits, stimulus_edits}
-use Rattle.mp_text.proofs.SlotLemmas.{compact, compact-none, length-compact, Unnamed, named_behind, front_unnamed, compact_unnamed}
+use Rattle.mp_text.proofs.SlotLemmas.{compact, compact-none, length-compact, named_behind, front_unnamed, compact_unnamed}
 use Rattle.mp_text.proofs.StageLemmas.{none_failing, is_done, Reaches, Reaches-none, Reaches-one, Steps, stage}
 use Rattle.mp_text.proofs.OutputLemmas.{DrivesNone, undriven_by_name, drives_none, is_no_port}
 use Rattle.mp_text.proofs.WireStageLemmas.{name_of, bare, made, same_wire}

@@ -1,6 +1,6 @@
 -- The edits of a netlist's wires, on an empty netlist, are not refused.
-use Rattle.std.proofs.Common.{◌≡◌, ℕ, zero, suc, ◌<◌, ◌≤◌, Bool, true, List, [], ◌∷◌, ◌++◌, length, get_or, Option, Some, None, is_none, is_some, unwrap_or, Ok, refl, sym, ap, subst, ◌∙◌, arith, length-append}
-use Rattle.std.specs.Prelude.{nat_lt, nat_le, IsSome}
+use Rattle.std.proofs.Common.{◌≡◌, ℕ, zero, suc, ◌<◌, true, List, [], ◌∷◌, ◌++◌, length, get_or, Option, Some, None, is_none, is_some, unwrap_or, Ok, refl, sym, ap, subst, ◌∙◌, arith, length-append}
+use Rattle.std.specs.Prelude.{nat_le, IsSome}
 use Rattle.std.specs.List.{flat_map}
 use Rattle.std.specs.Option.{option_and_then}
 use Rattle.std.proofs.lemmas.Bool.{lt-ltb}
@@ -12,11 +12,11 @@ use Rattle.mp_netlist.specs.declared.wire_record.WireRecord.{WireRecord}
 use Rattle.mp_netlist.specs.declared.module_record.ModuleRecord.{ModuleRecord}
 use Rattle.mp_netlist.specs.declared.bundle_record.BundleRecord.{BundleRecord}
 use Rattle.mp_netlist.specs.declared.edit.Edit.TheVariants.{AddWire}
-use Rattle.mp_netlist.specs.Circuit.{Circuit, IsCircuit, wire_at, width_of, stimulus_in, stimulus_at}
+use Rattle.mp_netlist.specs.Circuit.{Circuit, IsCircuit, wire_at, width_of, stimulus_in}
 use Rattle.mp_netlist.specs.Edits.{refusal, edited, after, stands, wire_id, width_named, wire_checks, without_stimulus}
 use Rattle.mp_text.specs.Written.{name_in, wire_name}
 use Rattle.mp_text.specs.RoundTrips.{HasNames, wire_edits}
-use Rattle.mp_text.proofs.SlotLemmas.{compact, compact-none, compact_few, Unnamed, IsAt, IsAt-compact, named_nowhere, front_unnamed, compact_unnamed}
+use Rattle.mp_text.proofs.SlotLemmas.{compact, compact-none, compact_few, IsAt, IsAt-compact, named_nowhere, front_unnamed, compact_unnamed}
 use Rattle.mp_text.proofs.StageLemmas.{none_failing, and_both, is_done, Reaches, Reaches-none, Reaches-one, Steps, stage}
 
 abbrev pub name_of : WireRecord → List ℕ
