@@ -16,3 +16,11 @@ pub mod ModuleBackLemmas
 pub mod PlainLemmas
 pub mod ReadBackLemmas
 pub mod WrittenLineLemmas
+pub mod SlotLemmas
+pub mod StageLemmas
+pub mod WireStageLemmas
+pub mod OutputLemmas
+pub mod ModuleStageLemmas
+pub mod StimulusStageLemmas
+pub mod BundleStageLemmas
+pub mod SameRecordLemmas

@@ -15,6 +15,7 @@ use Rattle.mp_text.proofs.StatementBackLemmas.{horizon_stated}
 use Rattle.mp_text.proofs.TextBackLemmas.{Leads, leads_nowhere, leads_slots, line_stated}
 use Rattle.mp_text.proofs.RecordBackLemmas.{wire_slots, stimulus_slots, bundle_slots}
 use Rattle.mp_text.proofs.ModuleBackLemmas.{module_slots}
+use Rattle.mp_text.proofs.SameRecordLemmas.{made_again}
 use Rattle.mp_text.proofs.TextLemmas.{text_within}
 
 module _ (n : Circuit) (circuit : IsCircuit n) (named : HasNames n) where
@@ -46,6 +47,9 @@ module _ (n : Circuit) (circuit : IsCircuit n) (named : HasNames n) where
 
 pub read_as_written : IsReadAsWritten
 unfolding written
-read_as_written n circuit named short m replayed =
+read_as_written n circuit named short =
+    let made = made_again n circuit named in
+    let read =
     text_within (horizon_line n.horizon ++ record_lines n circuit named) short ∙ horizon_begins n circuit named (record_lines n circuit named)
-    ∙ (records_lead n circuit named).each 1 (empty_circuit n.horizon) m replayed
+    ∙ (records_lead n circuit named).each 1 (empty_circuit n.horizon) made.again made.replayed in
+    (made.again, read, made.same)

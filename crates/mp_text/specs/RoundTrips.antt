@@ -1,6 +1,6 @@
 -- What is written is read again.
 use Rattle.std.specs.Prelude.{◌≡◌, ℕ, ◌≤◌, true, List, [], ◌∷◌, ◌++◌, length, map, Option, Some, None, Ok, option_map}
-use Rattle.std.specs.List.{flat_map}
+use Rattle.std.specs.List.{flat_map, filter_map}
 use Rattle.mp_netlist.specs.declared.wire_record.WireRecord.{WireRecord}
 use Rattle.mp_netlist.specs.declared.module_record.ModuleRecord.{ModuleRecord}
 use Rattle.mp_netlist.specs.declared.bundle_record.BundleRecord.{BundleRecord}
@@ -9,8 +9,7 @@ use Rattle.mp_netlist.specs.declared.port_names.OutputName.{OutputName}
 use Rattle.mp_netlist.specs.declared.edit.Edit.{Edit}
 use Rattle.mp_netlist.specs.declared.edit.Edit.TheVariants.{AddWire, AddModule, AddBundle, SetStimulus}
 use Rattle.mp_netlist.specs.Names.{is_name}
-use Rattle.mp_netlist.specs.Circuit.{Circuit, IsCircuit, empty_circuit, wire_at, module_at, bundle_at}
-use Rattle.mp_model.specs.Replays.{replay}
+use Rattle.mp_netlist.specs.Circuit.{Circuit, IsCircuit, wire_at, module_at, bundle_at}
 use Rattle.mp_text.specs.Texts.{text_at}
 use Rattle.mp_text.specs.Written.{written, wire_name}
 
@@ -44,14 +43,27 @@ bundle_edits n (Some r) = AddBundle r.name (wire_name n r.request) (wire_name n 
 abbrev pub edits_by_name : Circuit → List Edit
 edits_by_name n = flat_map wire_edits n.wires ++ (flat_map (module_edits n) n.modules ++ (flat_map stimulus_edits n.wires ++ flat_map (bundle_edits n) n.bundles))
 
--- what stands has a name
+-- the things that stand, by number
+abbrev pub standing : {R : Type 0} → List (Option R) → List R
+standing slots = filter_map (λ slot. slot) slots
+
+-- the same horizon, the same wires with what is set on them, and the same modules and bundles with the names of their wires, each in order of number
+pub record SameRecords (n m : Circuit) : Type 0 where
+  pub horizon : m.horizon ≡ n.horizon
+  pub wires : standing m.wires ≡ standing n.wires
+  pub modules : flat_map (module_edits m) m.modules ≡ flat_map (module_edits n) n.modules
+  pub bundles : flat_map (bundle_edits m) m.bundles ≡ flat_map (bundle_edits n) n.bundles
+
+-- what stands has a name, and no two wires, modules or bundles have one name
 pub record HasNames (n : Circuit) : Type 0 where
   pub wires : (w : ℕ) (r : WireRecord) → wire_at n w ≡ Some r → is_name r.name ≡ true
   pub modules : (m : ℕ) (r : ModuleRecord) → module_at n m ≡ Some r → is_name r.name ≡ true
   pub bundles : (b : ℕ) (r : BundleRecord) → bundle_at n b ≡ Some r → is_name r.name ≡ true
+  pub one_wire : (w v : ℕ) (r s : WireRecord) → wire_at n w ≡ Some r → wire_at n v ≡ Some s → r.name ≡ s.name → w ≡ v
+  pub one_module : (m k : ℕ) (r s : ModuleRecord) → module_at n m ≡ Some r → module_at n k ≡ Some s → r.name ≡ s.name → m ≡ k
+  pub one_bundle : (b k : ℕ) (r s : BundleRecord) → bundle_at n b ≡ Some r → bundle_at n k ≡ Some s → r.name ≡ s.name → b ≡ k
 
--- the text of a netlist is read as what the edits of its records give on the empty netlist of its horizon
+-- the text of a netlist is read as a netlist with the same records
 abbrev pub IsReadAsWritten : Type 0
 IsReadAsWritten =
-    (n : Circuit) → IsCircuit n → HasNames n → length (written n) ≤ 4194304
-    → (m : Circuit) → replay (empty_circuit n.horizon) (edits_by_name n) ≡ Ok m → text_at (written n) ≡ Ok m
+    (n : Circuit) → IsCircuit n → HasNames n → length (written n) ≤ 4194304 → (m : Circuit) × (text_at (written n) ≡ Ok m) × SameRecords n m

@@ -1,0 +1,260 @@
+-- The edits of a netlist's modules, once its wires are added, are not refused.
+use Rattle.std.proofs.Common.{◌≡◌, ℕ, ◌<◌, ◌≤◌, true, ◌==◌, cond, List, [], ◌∷◌, ◌++◌, length, map, get_or, All, Option, Some, None, Ok, option_map, is_none, refl, sym, ap, subst, ◌∙◌, arith, length-append}
+use Rattle.std.specs.Prelude.{nat_le, IsSome, IfSome, slice_index_or}
+use Rattle.std.specs.List.{flat_map, list_all}
+use Rattle.std.proofs.lemmas.Bool.{eq-eqb, lt-ltb}
+use Rattle.std.proofs.lemmas.Bool.Decides.{nat_tests}
+use Rattle.std.proofs.lemmas.List.{append-nil, get_or_at, get_or_append_left, get_or-map, length-map, length_push}
+use Rattle.std.proofs.lemmas.List.Concat.{flat_map-append}
+use Rattle.std.proofs.lemmas.List.Elements.{All-cons, All-nil, All-head, All-tail, All-map, All-weaker, All-from_get_or}
+use Rattle.mp_modules.specs.Kinds.{input_count, output_count, has_width, input_width, output_width, are_params}
+use Rattle.mp_netlist.specs.declared.ids.WireId.{WireId}
+use Rattle.mp_netlist.specs.declared.wire_record.WireRecord.{WireRecord}
+use Rattle.mp_netlist.specs.declared.module_record.ModuleRecord.{ModuleRecord}
+use Rattle.mp_netlist.specs.declared.ports.Output.{Output}
+use Rattle.mp_netlist.specs.declared.port_names.OutputName.{OutputName}
+use Rattle.mp_netlist.specs.Circuit.{Circuit, IsCircuit, IsModule, IsDelay, HasWidth, Drives, wire_at, module_at, width_of, module_width, output_in}
+use Rattle.mp_netlist.specs.Edits.{refusal, edited, after, stands, wire_id, width_named, is_undriven, is_delay, driven_names, are_distinct, first_width, new_width, inputs_fit, output_fits, outputs_fit, module_checks, output_of, new_module, without_stimulus}
+use Rattle.mp_netlist.proofs.PortLemmas.{no_name}
+use Rattle.mp_netlist.proofs.CircuitLemmas.{some_input}
+use Rattle.mp_text.specs.Written.{wire_name}
+use Rattle.mp_text.specs.RoundTrips.{HasNames, module_edits, output_by_name}
+use Rattle.mp_text.proofs.SlotLemmas.{All-flat_map, All-from_flat_map, list_all_from, Unnamed, named_nowhere, front_unnamed}
+use Rattle.mp_text.proofs.StageLemmas.{none_failing, and_both, is_done, Reaches, Reaches-none, Reaches-one, Steps, stage}
+use Rattle.mp_text.proofs.OutputLemmas.{output_named, is_output, added, DrivesNone, AddsNone, undriven_by_name, drives_none, is_nothing_driven, driven_all, driven_distinct, counted_all}
+use Rattle.mp_text.proofs.WireStageLemmas.{bare, bare_unset, made, HasWires, HasWires-compact, IsBack, is_back, same_wire}
+
+abbrev module_name : ModuleRecord → List ℕ
+module_name r = r.name
+
+-- names that lead to numbers of the same names
+map_back : {X Y Z : Type 0} (g : X → Y) (a : Y → Z) (b : Z → Y) (xs : List X) → All (λ x. b (a (g x)) ≡ g x) xs → map b (map a (map g xs)) ≡ map g xs
+map_back g a b [] all = refl
+map_back g a b (x ∷ xs) all =
+    let head = All-head (λ x. b (a (g x)) ≡ g x) x xs all in
+    let rest = map_back g a b xs (All-tail (λ x. b (a (g x)) ≡ g x) x xs all) in
+    rw (head, rest) refl
+
+is_low_delay : (d : ℕ) → IsDelay d → is_delay d ≡ true
+is_low_delay d low =
+    let some = low.0 in
+    let most = low.1 in
+    let one : nat_le 1 d ≡ true = grind (arith, nat_tests) in
+    let short : nat_le d 65535 ≡ true = grind (arith, nat_tests) in
+    and_both (nat_le 1 d) (nat_le d 65535) one short
+
+-- the wires at the ports of a module are as wide in the other netlist
+module _ (n c : Circuit) (has : HasWires n c) (r : ModuleRecord) (is : IsModule n r) where
+  abbrev pub input_names : List (List ℕ)
+  input_names = map (wire_name n) r.inputs
+
+  abbrev pub output_names : List OutputName
+  output_names = map (output_by_name n) r.outputs
+
+  abbrev first_id : WireId
+  first_id = record { 0 = 0 }
+
+  input_back : (p : ℕ) → p < length r.inputs → IsBack n c (get_or r.inputs p first_id)
+  input_back p within = is_back n c has (get_or r.inputs p first_id) (is.reads p first_id within).0
+
+  width_first : (inputs : List WireId) → 0 < length inputs → (0 < length inputs → IsBack n c (get_or inputs 0 first_id)) → first_width c (map (wire_name n) inputs) ≡ width_of (wire_at n (slice_index_or inputs 0 (record { 0 = 0 })).0)
+  width_first [] some back = absurd (omega (arith, some))
+  width_first (w ∷ ws) some back = (back some).width
+
+  pub width_same : new_width c r.kind input_names ≡ module_width n r
+  width_same =
+      let some : 0 < length r.inputs = omega (arith, is.inputs, some_input r.kind) in
+      ap (λ width. cond (has_width r.kind) width 1) (width_first r.inputs some (input_back 0))
+
+  pub inputs_found : list_all (stands c) input_names ≡ true
+  inputs_found = list_all_from (stands c) input_names (All-map (λ q. stands c q ≡ true) (wire_name n) r.inputs (All-from_get_or (λ w. stands c (wire_name n w) ≡ true) r.inputs first_id (λ p within. (input_back p within).found)))
+
+  pub inputs_wide : inputs_fit c r.kind (new_width c r.kind input_names) input_names ≡ true
+  inputs_wide = counted_all (λ (port : ℕ × List ℕ). width_named c port.1 == input_width r.kind (new_width c r.kind input_names) port.0) input_names [] by
+    where
+      by : (p : ℕ) → p < length input_names → (width_named c (get_or input_names p []) == input_width r.kind (new_width c r.kind input_names) p) ≡ true
+      by p long =
+          let within : p < length r.inputs = omega (arith, long, length-map r.inputs (wire_name n)) in
+          let at = get_or-map (wire_name n) r.inputs p first_id [] within in
+          eq-eqb _ _ (ap (width_named c) at ∙ (input_back p within).width ∙ (is.reads p first_id within).1 ∙ ap (λ width. input_width r.kind width p) (sym width_same))
+
+  pub params_ranged : are_params r.kind (new_width c r.kind input_names) r.params ≡ true
+  params_ranged = ap (λ width. are_params r.kind width r.params) width_same ∙ is.params
+
+  pub output_wires : (p : ℕ) (w : WireId) → (output_in r.outputs p).wire ≡ Some w → HasWidth n w.0 (output_width r.kind (module_width n r) p)
+  output_wires p w at = subst (λ wire. IfSome wire (λ (v : WireId). HasWidth n v.0 (output_width r.kind (module_width n r) p))) at (is.drives p)
+
+  pub outputs_found : list_all (stands c) (driven_names output_names) ≡ true
+  outputs_found = driven_all (stands c) output_names by
+    where
+      by : (p : ℕ) (q : List ℕ) → (get_or output_names p no_name).wire ≡ Some q → stands c q ≡ true
+      by p q at =
+          let o = is_output n r.outputs p q at in
+          subst (λ name. stands c name ≡ true) o.name (is_back n c has o.wire (output_wires p o.wire o.drives).0).found
+
+  output_wide : (p : ℕ) (wire : Option WireId) → (output_in r.outputs p).wire ≡ wire → output_fits c (option_map (wire_name n) wire) (output_width r.kind (new_width c r.kind input_names) p) ≡ true
+  output_wide p None at = refl
+  output_wide p (Some w) at =
+      let wide = output_wires p w at in
+      eq-eqb _ _ ((is_back n c has w wide.0).width ∙ wide.1 ∙ ap (λ width. output_width r.kind width p) (sym width_same))
+
+  pub outputs_wide : outputs_fit c r.kind (new_width c r.kind input_names) output_names ≡ true
+  outputs_wide = counted_all (λ (port : ℕ × OutputName). output_fits c port.1.wire (output_width r.kind (new_width c r.kind input_names) port.0)) output_names no_name by
+    where
+      by : (p : ℕ) → p < length output_names → output_fits c (get_or output_names p no_name).wire (output_width r.kind (new_width c r.kind input_names) p) ≡ true
+      by p long =
+          subst (λ wire. output_fits c wire (output_width r.kind (new_width c r.kind input_names) p) ≡ true) (sym (output_named n r.outputs p)) (output_wide p (output_in r.outputs p).wire refl)
+
+  pub delays_low : list_all (λ (o : OutputName). is_delay o.delay) output_names ≡ true
+  delays_low =
+      list_all_from (λ (o : OutputName). is_delay o.delay) output_names (All-map (λ (o : OutputName). is_delay o.delay ≡ true) (output_by_name n) r.outputs
+      (All-weaker (λ (o : Output). IsDelay o.delay) (λ (o : Output). is_delay o.delay ≡ true) (λ o low. is_low_delay o.delay low) r.outputs is.delays))
+
+  -- the ports of the new module have the names of the old one's
+  inputs_again : map (wire_name c) (map (wire_id c) input_names) ≡ input_names
+  inputs_again = map_back (wire_name n) (wire_id c) (wire_name c) r.inputs (All-from_get_or (λ w. wire_name c (wire_id c (wire_name n w)) ≡ wire_name n w) r.inputs first_id (λ p within. (input_back p within).name))
+
+  abbrev called_as : ℕ → Option (List ℕ) → OutputName
+  called_as delay wire = record { wire = wire; delay = delay }
+
+  output_again : (delay p : ℕ) (wire : Option WireId) → (output_in r.outputs p).wire ≡ wire
+      → called_as delay (option_map (wire_name c) (option_map (wire_id c) (option_map (wire_name n) wire))) ≡ called_as delay (option_map (wire_name n) wire)
+  output_again delay p None at = refl
+  output_again delay p (Some w) at = ap (λ name. called_as delay (Some name)) (is_back n c has w (output_wires p w at).0).name
+
+  outputs_again : map (output_by_name c) (map (output_of c) output_names) ≡ output_names
+  outputs_again =
+      map_back (output_by_name n) (output_of c) (output_by_name c) r.outputs
+      (All-from_get_or (λ o. output_by_name c (output_of c (output_by_name n o)) ≡ output_by_name n o) r.outputs (record { wire = None; delay = 1 })
+      (λ p within. output_again (output_in r.outputs p).delay p (output_in r.outputs p).wire refl))
+
+  pub added_again : added c (new_module c r.name r.kind r.params input_names output_names) ≡ added n r
+  added_again = rw (inputs_again, outputs_again) refl
+
+module _ (n : Circuit) (circuit : IsCircuit n) (named : HasNames n) where
+  -- a wire at an output stands
+  pub drive_stands : (m p : ℕ) (r : ModuleRecord) (w : WireId) → module_at n m ≡ Some r → (output_in r.outputs p).wire ≡ Some w → IsSome (wire_at n w.0)
+  drive_stands m p r w at drives =
+      let is = circuit.modules_ok m r at in
+      let wide = subst (λ wire. IfSome wire (λ (v : WireId). HasWidth n v.0 (output_width r.kind (module_width n r) p))) drives (is.drives p) in
+      wide.0
+
+  -- ports at wires of one name are one port
+  pub one_name : (m p k q : ℕ) (r s : ModuleRecord) (w v : WireId) → module_at n m ≡ Some r → (output_in r.outputs p).wire ≡ Some w → module_at n k ≡ Some s → (output_in s.outputs q).wire ≡ Some v
+      → wire_name n w ≡ wire_name n v → (m ≡ k) × (p ≡ q)
+  one_name m p k q r s w v at drives there other same =
+      let wires = same_wire n named w.0 v.0 (drive_stands m p r w at drives) (drive_stands k q s v there other) same in
+      let first : Drives n m p w.0 = record { part = r; stands = at; output = drives } in
+      let second : Drives n k q v.0 = record { part = s; stands = there; output = other } in
+      circuit.one_port m p k q w.0 first (subst (Drives n k q) (sym wires) second)
+
+  abbrev bares : List (Option WireRecord)
+  bares = flat_map bare n.wires
+
+  -- the netlist with these modules at wires on which nothing is set
+  abbrev pub moduled : List (Option ModuleRecord) → Circuit
+  moduled modules = made n.horizon (flat_map bare n.wires) modules []
+
+  has_wires : (modules : List (Option ModuleRecord)) → HasWires n (moduled modules)
+  has_wires modules = HasWires-compact n circuit named without_stimulus (λ r. refl) (λ r. refl) (moduled modules) refl
+
+  -- the modules of the front are added
+  pub record AtModules (front back : List (Option ModuleRecord)) (c : Circuit) : Type 0 where
+    pub modules : List (Option ModuleRecord)
+    pub is : c ≡ moduled modules
+    pub same : flat_map (module_edits (moduled [])) modules ≡ flat_map (module_edits n) front
+    pub few : length modules ≤ length front
+
+  module _ (front back : List (Option ModuleRecord)) (r : ModuleRecord) (split : n.modules ≡ front ++ Some r ∷ back) (modules : List (Option ModuleRecord))
+      (same : flat_map (module_edits (moduled [])) modules ≡ flat_map (module_edits n) front) (few : length modules ≤ length front) where
+    abbrev c : Circuit
+    c = moduled modules
+
+    at : module_at n (length front) ≡ Some r
+    at = ap (λ xs. get_or xs (length front) None) split ∙ get_or_at front (Some r) back None (length front) refl
+
+    earlier : (k : ℕ) (s : ModuleRecord) → k < length front → get_or front k None ≡ Some s → module_at n k ≡ Some s
+    earlier k s within there = ap (λ xs. get_or xs k None) split ∙ get_or_append_left front (Some r ∷ back) None k within ∙ there
+
+    is : IsModule n r
+    is = circuit.modules_ok (length front) r at
+
+    undriven : (p : ℕ) (q : List ℕ) → (get_or (map (output_by_name n) r.outputs) p no_name).wire ≡ Some q → is_undriven c q ≡ true
+    undriven p q has =
+        let o = is_output n r.outputs p q has in
+        let none = drives_none n q front (λ k j s w within there drives name.
+        let place = (one_name k j (length front) p s r w o.wire (earlier k s within there) drives at o.drives (name ∙ sym o.name)).0 in
+        omega arith) in
+        let back = is_back n c (has_wires modules) o.wire (drive_stands (length front) p r o.wire at o.drives) in
+        let name = subst (λ q. wire_name c (wire_id c q) ≡ q) o.name back.name in
+        is_nothing_driven c (wire_id c q).0 (undriven_by_name c (wire_id c q).0 q name (subst (All (DrivesNone q)) (sym same) none)) (bare_unset n.wires (wire_id c q).0)
+
+    distinct : (p q : ℕ) (name : List ℕ) → (get_or (map (output_by_name n) r.outputs) p no_name).wire ≡ Some name → (get_or (map (output_by_name n) r.outputs) q no_name).wire ≡ Some name → p ≡ q
+    distinct p q name first second =
+        let a = is_output n r.outputs p name first in
+        let b = is_output n r.outputs q name second in
+        (one_name (length front) p (length front) q r r a.wire b.wire at a.drives at b.drives (a.name ∙ sym b.name)).1
+
+    front_adds : (slot : Option ModuleRecord) → Unnamed module_name r.name slot → All (AddsNone r.name) (module_edits n slot)
+    front_adds None none = All-nil (AddsNone r.name)
+    front_adds (Some s) none = All-cons (AddsNone r.name) (added n s) [] none (All-nil (AddsNone r.name))
+
+    slot_adds : (slot : Option ModuleRecord) → All (AddsNone r.name) (module_edits c slot) → Unnamed module_name r.name slot
+    slot_adds None none = refl
+    slot_adds (Some s) none = All-head (AddsNone r.name) (added c s) [] none
+
+    unnamed : All (Unnamed module_name r.name) modules
+    unnamed =
+        let old = front_unnamed module_name n.modules front back r named.one_module split in
+        let adds = All-flat_map (AddsNone r.name) (module_edits n) front (All-weaker (Unnamed module_name r.name) (λ slot. All (AddsNone r.name) (module_edits n slot)) front_adds front old) in
+        let now = subst (All (AddsNone r.name)) (sym same) adds in
+        All-weaker (λ slot. All (AddsNone r.name) (module_edits c slot)) (Unnamed module_name r.name) slot_adds modules (All-from_flat_map (AddsNone r.name) (module_edits c) modules now)
+
+    abbrev new : ModuleRecord
+    new = new_module c r.name r.kind r.params (map (wire_name n) r.inputs) (map (output_by_name n) r.outputs)
+
+    module_done : after c (added n r) ≡ Ok (moduled (modules ++ Some new ∷ []))
+    unfolding refusal edited
+    module_done =
+        let inputs = map (wire_name n) r.inputs in
+        let outputs = map (output_by_name n) r.outputs in
+        let has = has_wires modules in
+        let free = ap is_none (named_nowhere module_name r.name modules unnamed) in
+        let counts = and_both (length inputs == input_count r.kind) (length outputs == output_count r.kind)
+        (eq-eqb _ _ (length-map r.inputs (wire_name n) ∙ is.inputs)) (eq-eqb _ _ (length-map r.outputs (output_by_name n) ∙ is.outputs)) in
+        let found = and_both (list_all (stands c) inputs) (list_all (stands c) (driven_names outputs)) (inputs_found n c has r is) (outputs_found n c has r is) in
+        let width = new_width c r.kind inputs in
+        let wide = and_both (inputs_fit c r.kind width inputs) (outputs_fit c r.kind width outputs) (inputs_wide n c has r is) (outputs_wide n c has r is) in
+        let free_outputs = and_both (list_all (is_undriven c) (driven_names outputs)) (are_distinct (driven_names outputs)) (driven_all (is_undriven c) outputs undriven) (driven_distinct outputs distinct) in
+        let within : length front < 4096 = omega (arith, ap length split, length-append front (Some r ∷ back), circuit.modules_few) in
+        let room = lt-ltb (length modules) 4096 (omega (arith, few)) in
+        is_done c (added n r)
+        (none_failing (module_checks c r.name r.kind r.params inputs outputs)
+        (named.modules (length front) r at, (free, (counts, (found, (wide, (params_ranged n c has r is, (delays_low n c has r is, (free_outputs, (room, tt))))))))))
+
+    same_more : flat_map (module_edits (moduled [])) (modules ++ Some new ∷ []) ≡ flat_map (module_edits n) (front ++ Some r ∷ [])
+    same_more =
+        flat_map-append (module_edits (moduled [])) modules (Some new ∷ [])
+        ∙ ap (λ edits. edits ++ added c new ∷ []) same
+        ∙ ap (λ edit. flat_map (module_edits n) front ++ edit ∷ []) (added_again n c (has_wires modules) r is)
+        ∙ sym (flat_map-append (module_edits n) front (Some r ∷ []))
+
+    module_reached : Reaches (AtModules (front ++ Some r ∷ []) back) c (module_edits n (Some r))
+    module_reached =
+        Reaches-one (AtModules (front ++ Some r ∷ []) back) c (moduled (modules ++ Some new ∷ [])) (added n r) module_done
+        (record { modules = modules ++ Some new ∷ []; is = refl; same = same_more; few = omega (arith, few, length_push modules (Some new), length_push front (Some r)) })
+
+  module_step : Steps n.modules (module_edits n) AtModules
+  module_step front back None split d so =
+      Reaches-none (AtModules (front ++ None ∷ []) back) d (record {
+        modules = so.modules;
+        is = so.is;
+        same = so.same ∙ sym (flat_map-append (module_edits n) front (None ∷ []) ∙ append-nil (flat_map (module_edits n) front));
+        few = (let none : Option ModuleRecord = None in omega (arith, so.few, length_push front none));
+      })
+  module_step front back (Some r) split d so =
+      subst (λ e. Reaches (AtModules (front ++ Some r ∷ []) back) e (module_edits n (Some r))) (sym so.is) (module_reached front back r split so.modules so.same so.few)
+
+  -- the modules are added
+  pub modules_reached : Reaches (AtModules n.modules []) (moduled []) (flat_map (module_edits n) n.modules)
+  modules_reached = stage n.modules (module_edits n) AtModules module_step n.modules [] refl (moduled []) (record { modules = []; is = refl; same = refl; few = omega arith })

@@ -1,0 +1,92 @@
+-- The edits of a netlist's records by name lead to a netlist with the same records.
+use Rattle.std.proofs.Common.{◌≡◌, ℕ, zero, suc, List, [], ◌∷◌, ◌++◌, get_or, Option, Some, None, Ok, refl, sym, ap, subst, ◌∙◌}
+use Rattle.std.specs.List.{flat_map}
+use Rattle.std.proofs.lemmas.List.{append-nil}
+use Rattle.mp_netlist.specs.declared.ids.WireId.{WireId}
+use Rattle.mp_netlist.specs.declared.wire_record.WireRecord.{WireRecord}
+use Rattle.mp_netlist.specs.declared.module_record.ModuleRecord.{ModuleRecord}
+use Rattle.mp_netlist.specs.declared.ports.Output.{Output}
+use Rattle.mp_netlist.specs.declared.port_names.OutputName.{OutputName}
+use Rattle.mp_netlist.specs.Circuit.{Circuit, IsCircuit, empty_circuit}
+use Rattle.mp_model.specs.Replays.{replay}
+use Rattle.mp_text.specs.Written.{name_in, wire_name}
+use Rattle.mp_text.specs.RoundTrips.{HasNames, SameRecords, standing, output_by_name, module_edits, stimulus_edits, bundle_edits, edits_by_name}
+use Rattle.mp_text.proofs.SlotLemmas.{flat_map_agree, map_agree}
+use Rattle.mp_text.proofs.WireStageLemmas.{bare, made, wires_reached}
+use Rattle.mp_text.proofs.ModuleStageLemmas.{modules_reached}
+use Rattle.mp_text.proofs.StimulusStageLemmas.{kept, stimuli_reached}
+use Rattle.mp_text.proofs.BundleStageLemmas.{AtBundles, bundles_reached}
+
+standing-kept : (slots : List (Option WireRecord)) → standing (flat_map kept slots) ≡ standing slots
+standing-kept [] = refl
+standing-kept (None ∷ slots) = standing-kept slots
+standing-kept (Some r ∷ slots) = ap (λ wires. r ∷ wires) (standing-kept slots)
+
+-- what is set on wires leaves their names
+names_kept : (slots : List (Option WireRecord)) (v : ℕ) → name_in (get_or (flat_map kept slots) v None) ≡ name_in (get_or (flat_map bare slots) v None)
+names_kept [] v = refl
+names_kept (None ∷ slots) v = names_kept slots v
+names_kept (Some r ∷ slots) zero = refl
+names_kept (Some r ∷ slots) (suc v) = names_kept slots v
+
+-- modules have the same names of wires in netlists whose wires have the same names
+module _ (c d : Circuit) (names : (w : WireId) → wire_name c w ≡ wire_name d w) where
+  output_agrees : (o : Output) → output_by_name c o ≡ output_by_name d o
+  output_agrees o = by o.delay o.wire
+    where
+      called_as : ℕ → Option (List ℕ) → OutputName
+      called_as delay wire = record { wire = wire; delay = delay }
+
+      by : (delay : ℕ) (wire : Option WireId) → output_by_name c (record { wire = wire; delay = delay }) ≡ output_by_name d (record { wire = wire; delay = delay })
+      by delay None = refl
+      by delay (Some w) = let same = names w in rw same refl
+
+  module_agrees : (slot : Option ModuleRecord) → module_edits c slot ≡ module_edits d slot
+  module_agrees None = refl
+  module_agrees (Some r) =
+      let inputs = map_agree (wire_name c) (wire_name d) names r.inputs in
+      let outputs = map_agree (output_by_name c) (output_by_name d) output_agrees r.outputs in
+      rw (inputs, outputs) refl
+
+-- the edits of the records lead to a netlist with the same records
+pub record IsMadeAgain (n : Circuit) : Type 0 where
+  pub again : Circuit
+  pub replayed : replay (empty_circuit n.horizon) (edits_by_name n) ≡ Ok again
+  pub same : SameRecords n again
+
+module _ (n : Circuit) (circuit : IsCircuit n) (named : HasNames n) (modules : List (Option ModuleRecord))
+    (same : flat_map (module_edits (made n.horizon (flat_map bare n.wires) [] [])) modules ≡ flat_map (module_edits n) n.modules) where
+  -- a netlist of the same wires, modules and bundles by name
+  same_records : (c : Circuit) → AtBundles n circuit named modules n.bundles [] c → SameRecords n c
+  same_records c at = subst (SameRecords n) (sym at.is) (record {
+    horizon = refl;
+    wires = standing-kept n.wires;
+    modules =
+        flat_map_agree (module_edits (made n.horizon (flat_map kept n.wires) modules at.bundles)) (module_edits (made n.horizon (flat_map bare n.wires) [] []))
+        (module_agrees (made n.horizon (flat_map kept n.wires) modules at.bundles) (made n.horizon (flat_map bare n.wires) [] []) (λ w. names_kept n.wires w.0)) modules
+        ∙ same;
+    bundles = at.same;
+  })
+
+pub made_again : (n : Circuit) → IsCircuit n → HasNames n → IsMadeAgain n
+made_again n circuit named =
+    let wires = wires_reached n circuit named in
+    let modules = modules_reached n circuit named in
+    let stimuli = stimuli_reached n circuit named modules.holds.modules modules.holds.same in
+    let bundles = bundles_reached n circuit named modules.holds.modules in
+    let stimulus_changes = flat_map stimulus_edits n.wires in
+    let bundle_changes = flat_map (bundle_edits n) n.bundles in
+    let module_changes = flat_map (module_edits n) n.modules in
+    record {
+      again = bundles.goal;
+      replayed =
+          wires.leads (module_changes ++ (stimulus_changes ++ bundle_changes))
+          ∙ ap (λ c. replay c (module_changes ++ (stimulus_changes ++ bundle_changes))) wires.holds
+          ∙ modules.leads (stimulus_changes ++ bundle_changes)
+          ∙ ap (λ c. replay c (stimulus_changes ++ bundle_changes)) modules.holds.is
+          ∙ stimuli.leads bundle_changes
+          ∙ ap (λ c. replay c bundle_changes) stimuli.holds
+          ∙ ap (replay (made n.horizon (flat_map kept n.wires) modules.holds.modules [])) (sym (append-nil bundle_changes))
+          ∙ bundles.leads [];
+      same = same_records n circuit named modules.holds.modules modules.holds.same bundles.goal bundles.holds;
+    }

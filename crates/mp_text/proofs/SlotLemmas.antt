@@ -1,0 +1,144 @@
+-- Slots without the empty ones, and where a name is found among them.
+use Rattle.std.proofs.Common.{◌≡◌, ℕ, suc, ◌+◌, ◌<◌, ◌≤◌, Bool, true, false, List, [], ◌∷◌, ◌++◌, length, get_or, take, drop, map, All, Option, Some, None, is_some, refl, sym, ap, subst, ◌∙◌, arith}
+use Rattle.std.specs.List.{flat_map, list_all, list_any, position_from}
+use Rattle.std.specs.Str.{bytes_eq}
+use Rattle.std.proofs.lemmas.List.{append-nil, get_or_at, get_or_append_left, set-get_or, set_split}
+use Rattle.std.proofs.lemmas.List.Concat.{flat_map-append}
+use Rattle.std.proofs.lemmas.List.Elements.{All-cons, All-nil, All-head, All-tail, All-append, All-weaker, All-from_get_or}
+use Rattle.mp_netlist.specs.Slots.{slot_at, has_name, number_named}
+use Rattle.mp_netlist.proofs.TableLemmas.{same_name, equal_name, slot_within}
+
+-- a thing that stands, changed, and nothing where none does
+abbrev pub compact : {R : Type 0} → (R → R) → Option R → List (Option R)
+compact change None = []
+compact change (Some r) = Some (change r) ∷ []
+
+-- what holds of each element of lists end to end holds of the elements of each
+pub All-flat_map : {X Y : Type 0} (P : Y → Type 0) (f : X → List Y) (xs : List X) → All (λ x. All P (f x)) xs → All P (flat_map f xs)
+All-flat_map P f [] all = All-nil P
+All-flat_map P f (x ∷ xs) all = All-append P (f x) (flat_map f xs) (All-head (λ x. All P (f x)) x xs all) (All-flat_map P f xs (All-tail (λ x. All P (f x)) x xs all))
+
+All-parts : {Y : Type 0} (P : Y → Type 0) (xs ys : List Y) → All P (xs ++ ys) → All P xs × All P ys
+All-parts P [] ys all = (All-nil P, all)
+All-parts P (x ∷ xs) ys all =
+    let rest = All-parts P xs ys (All-tail P x (xs ++ ys) all) in
+    (All-cons P x xs (All-head P x (xs ++ ys) all) rest.0, rest.1)
+
+pub All-from_flat_map : {X Y : Type 0} (P : Y → Type 0) (f : X → List Y) (xs : List X) → All P (flat_map f xs) → All (λ x. All P (f x)) xs
+All-from_flat_map P f [] all = All-nil (λ x. All P (f x))
+All-from_flat_map P f (x ∷ xs) all =
+    let parts = All-parts P (f x) (flat_map f xs) all in
+    All-cons (λ x. All P (f x)) x xs parts.0 (All-from_flat_map P f xs parts.1)
+
+pub list_all_from : {X : Type 0} (test : X → Bool) (xs : List X) → All (λ x. test x ≡ true) xs → list_all test xs ≡ true
+list_all_from test [] all = refl
+list_all_from test (x ∷ xs) all = rw (All-head (λ x. test x ≡ true) x xs all) (list_all_from test xs (All-tail (λ x. test x ≡ true) x xs all))
+
+pub list_any_none : {X : Type 0} (test : X → Bool) (xs : List X) → All (λ x. test x ≡ false) xs → list_any test xs ≡ false
+list_any_none test [] all = refl
+list_any_none test (x ∷ xs) all = rw (All-head (λ x. test x ≡ false) x xs all) (list_any_none test xs (All-tail (λ x. test x ≡ false) x xs all))
+
+-- lists end to end that are the same each are the same
+pub flat_map_agree : {X Y : Type 0} (f g : X → List Y) → ((x : X) → f x ≡ g x) → (xs : List X) → flat_map f xs ≡ flat_map g xs
+flat_map_agree f g same [] = refl
+flat_map_agree f g same (x ∷ xs) = rw (same x, flat_map_agree f g same xs) refl
+
+pub map_agree : {X Y : Type 0} (f g : X → Y) → ((x : X) → f x ≡ g x) → (xs : List X) → map f xs ≡ map g xs
+map_agree f g same [] = refl
+map_agree f g same (x ∷ xs) = rw (same x, map_agree f g same xs) refl
+
+-- a search passes what fails the test
+position_behind : {X : Type 0} (t : X → Bool) (k : ℕ) (front : List X) (x : X) (back : List X) → All (λ y. t y ≡ false) front → t x ≡ true → position_from t k (front ++ x ∷ back) ≡ Some (k + length front)
+position_behind t k [] x back none here = rw here (ap Some (omega arith))
+position_behind t k (y ∷ ys) x back none here =
+    let later = position_behind t (k + 1) ys x back (All-tail (λ y. t y ≡ false) y ys none) here in
+    let head = All-head (λ y. t y ≡ false) y ys none in
+    rw head (later ∙ ap Some (omega arith))
+
+position_none : {X : Type 0} (t : X → Bool) (k : ℕ) (xs : List X) → All (λ y. t y ≡ false) xs → position_from t k xs ≡ None
+position_none t k [] none = refl
+position_none t k (y ∷ ys) none = let head = All-head (λ y. t y ≡ false) y ys none in rw head (position_none t (k + 1) ys (All-tail (λ y. t y ≡ false) y ys none))
+
+-- a place in a list parts it
+pub parted : {R : Type 0} (slots : List (Option R)) (w : ℕ) (r : R) → slot_at slots w ≡ Some r → slots ≡ take w slots ++ Some r ∷ drop (suc w) slots
+parted slots w r at =
+    let within = slot_within slots w (ap is_some at) in
+    sym (set-get_or slots w None) ∙ set_split slots w (get_or slots w None) within ∙ ap (λ slot. take w slots ++ slot ∷ drop (suc w) slots) at
+
+pub compact-none : {R : Type 0} (change : R → R) (front : List (Option R)) → flat_map (compact change) (front ++ None ∷ []) ≡ flat_map (compact change) front
+compact-none change front = flat_map-append (compact change) front (None ∷ []) ∙ append-nil (flat_map (compact change) front)
+
+pub length-compact : {R : Type 0} (f g : R → R) (slots : List (Option R)) → length (flat_map (compact f) slots) ≡ length (flat_map (compact g) slots)
+length-compact f g [] = refl
+length-compact f g (None ∷ slots) = length-compact f g slots
+length-compact f g (Some r ∷ slots) = ap suc (length-compact f g slots)
+
+pub compact_few : {R : Type 0} (f : R → R) (slots : List (Option R)) → length (flat_map (compact f) slots) ≤ length slots
+compact_few f [] = omega arith
+compact_few f (None ∷ slots) = omega (arith, compact_few f slots)
+compact_few f (Some r ∷ slots) = omega (arith, compact_few f slots)
+
+pub unequal_name : (a b : List ℕ) → (a ≡ b → ⊥) → bytes_eq a b ≡ false
+unequal_name a b not = by (bytes_eq a b) refl
+  where
+    by : (c : Bool) → bytes_eq a b ≡ c → c ≡ false
+    by true e = absurd (not (same_name a b e))
+    by false e = refl
+
+module _ {R : Type 0} (name_of : R → List ℕ) where
+  -- what stands in the slot, if anything, has another name
+  abbrev pub Unnamed : List ℕ → Option R → Type 0
+  Unnamed q slot = has_name name_of q slot ≡ false
+
+  pub named_nowhere : (q : List ℕ) (slots : List (Option R)) → All (Unnamed q) slots → number_named name_of slots q ≡ None
+  unfolding number_named
+  named_nowhere q slots all = position_none (has_name name_of q) 0 slots all
+
+  -- a name finds a thing at a place
+  pub record IsAt (slots : List (Option R)) (q : List ℕ) (thing : R) : Type 0 where
+    pub place : ℕ
+    pub named : number_named name_of slots q ≡ Some place
+    pub at : slot_at slots place ≡ Some thing
+
+  -- a name that nothing in front has finds the thing behind
+  pub named_behind : (front back : List (Option R)) (thing : R) (q : List ℕ) → All (Unnamed q) front → name_of thing ≡ q → number_named name_of (front ++ Some thing ∷ back) q ≡ Some (length front)
+  unfolding number_named
+  named_behind front back thing q all is = position_behind (has_name name_of q) 0 front (Some thing) back all (equal_name q (name_of thing) (sym is)) ∙ ap Some (omega arith)
+
+  pub IsAt-behind : (front back : List (Option R)) (thing : R) (q : List ℕ) → All (Unnamed q) front → name_of thing ≡ q → IsAt (front ++ Some thing ∷ back) q thing
+  IsAt-behind front back thing q all is = record { place = length front; named = named_behind front back thing q all is; at = get_or_at front (Some thing) back None (length front) refl }
+
+  -- other things have other names
+  abbrev pub AreDistinct : List (Option R) → Type 0
+  AreDistinct slots = (w v : ℕ) (r s : R) → slot_at slots w ≡ Some r → slot_at slots v ≡ Some s → name_of r ≡ name_of s → w ≡ v
+
+  pub front_unnamed : (slots front back : List (Option R)) (r : R) → AreDistinct slots → slots ≡ front ++ Some r ∷ back → All (Unnamed (name_of r)) front
+  front_unnamed slots front back r distinct same = All-from_get_or (Unnamed (name_of r)) front None (λ k within. by k within (get_or front k None) refl)
+    where
+      by : (k : ℕ) → k < length front → (slot : Option R) → get_or front k None ≡ slot → Unnamed (name_of r) slot
+      by k within None at = refl
+      by k within (Some s) at =
+          unequal_name (name_of r) (name_of s) (λ e.
+          let here = ap (λ xs. get_or xs (length front) None) same ∙ get_or_at front (Some r) back None (length front) refl in
+          let there = ap (λ xs. get_or xs k None) same ∙ get_or_append_left front (Some r ∷ back) None k within ∙ at in
+          let place : length front ≡ k = distinct (length front) k r s here there e in
+          omega arith)
+
+  module _ (change : R → R) (kept : (r : R) → name_of (change r) ≡ name_of r) where
+    compact_unnamed_slot : (q : List ℕ) (slot : Option R) → Unnamed q slot → All (Unnamed q) (compact change slot)
+    compact_unnamed_slot q None none = All-nil (Unnamed q)
+    compact_unnamed_slot q (Some r) none = All-cons (Unnamed q) (Some (change r)) [] (ap (bytes_eq q) (kept r) ∙ none) (All-nil (Unnamed q))
+
+    pub compact_unnamed : (q : List ℕ) (slots : List (Option R)) → All (Unnamed q) slots → All (Unnamed q) (flat_map (compact change) slots)
+    compact_unnamed q slots all =
+        All-flat_map (Unnamed q) (compact change) slots (All-weaker (Unnamed q) (λ slot. All (Unnamed q) (compact change slot)) (compact_unnamed_slot q) slots all)
+
+    -- each name finds its thing, changed, among those that stand
+    pub IsAt-compact : (slots : List (Option R)) → AreDistinct slots → (w : ℕ) (r : R) → slot_at slots w ≡ Some r → IsAt (flat_map (compact change) slots) (name_of r) (change r)
+    IsAt-compact slots distinct w r at =
+        let front = take w slots in
+        let back = drop (suc w) slots in
+        let same = parted slots w r at in
+        let all = compact_unnamed (name_of r) front (front_unnamed slots front back r distinct same) in
+        subst (λ xs. IsAt xs (name_of r) (change r)) (sym (ap (flat_map (compact change)) same ∙ flat_map-append (compact change) front (Some r ∷ back)))
+        (IsAt-behind (flat_map (compact change) front) (flat_map (compact change) back) (change r) (name_of r) all (kept r))

@@ -1,0 +1,124 @@
+-- The edits of a netlist's wires, on an empty netlist, are not refused.
+use Rattle.std.proofs.Common.{◌≡◌, ℕ, zero, suc, ◌<◌, true, List, [], ◌∷◌, ◌++◌, length, get_or, Option, Some, None, is_none, is_some, unwrap_or, Ok, refl, sym, ap, subst, ◌∙◌, arith, length-append}
+use Rattle.std.specs.Prelude.{nat_le, IsSome}
+use Rattle.std.specs.List.{flat_map}
+use Rattle.std.specs.Option.{option_and_then}
+use Rattle.std.proofs.lemmas.Bool.{lt-ltb}
+use Rattle.std.proofs.lemmas.Bool.Decides.{nat_tests}
+use Rattle.std.proofs.lemmas.List.{get_or_at}
+use Rattle.std.proofs.lemmas.List.Concat.{flat_map-append}
+use Rattle.mp_netlist.specs.declared.ids.WireId.{WireId}
+use Rattle.mp_netlist.specs.declared.wire_record.WireRecord.{WireRecord}
+use Rattle.mp_netlist.specs.declared.module_record.ModuleRecord.{ModuleRecord}
+use Rattle.mp_netlist.specs.declared.bundle_record.BundleRecord.{BundleRecord}
+use Rattle.mp_netlist.specs.declared.edit.Edit.TheVariants.{AddWire}
+use Rattle.mp_netlist.specs.Circuit.{Circuit, IsCircuit, wire_at, width_of, stimulus_in}
+use Rattle.mp_netlist.specs.Edits.{refusal, edited, after, stands, wire_id, width_named, wire_checks, without_stimulus}
+use Rattle.mp_text.specs.Written.{name_in, wire_name}
+use Rattle.mp_text.specs.RoundTrips.{HasNames, wire_edits}
+use Rattle.mp_text.proofs.SlotLemmas.{compact, compact-none, compact_few, IsAt, IsAt-compact, named_nowhere, front_unnamed, compact_unnamed}
+use Rattle.mp_text.proofs.StageLemmas.{none_failing, and_both, is_done, Reaches, Reaches-none, Reaches-one, Steps, stage}
+
+abbrev pub name_of : WireRecord → List ℕ
+name_of r = r.name
+
+-- a wire without what is set on it
+abbrev pub bare : Option WireRecord → List (Option WireRecord)
+bare slot = compact without_stimulus slot
+
+-- a netlist with these records
+abbrev pub made : ℕ → List (Option WireRecord) → List (Option ModuleRecord) → List (Option BundleRecord) → Circuit
+made horizon wires modules bundles = record { horizon = horizon; wires = wires; modules = modules; bundles = bundles }
+
+-- a wire of the one netlist has its name and its width in the other
+pub record IsKept (c : Circuit) (r : WireRecord) : Type 0 where
+  pub thing : WireRecord
+  pub called : thing.name ≡ r.name
+  pub width : thing.width ≡ r.width
+  pub there : IsAt name_of c.wires r.name thing
+
+pub record HasWires (n c : Circuit) : Type 0 where
+  pub each : (w : ℕ) (r : WireRecord) → wire_at n w ≡ Some r → IsKept c r
+
+-- what the name of a wire finds in the other netlist
+pub record IsBack (n c : Circuit) (w : WireId) : Type 0 where
+  pub found : stands c (wire_name n w) ≡ true
+  pub width : width_named c (wire_name n w) ≡ width_of (wire_at n w.0)
+  pub name : wire_name c (wire_id c (wire_name n w)) ≡ wire_name n w
+
+pub is_back : (n c : Circuit) → HasWires n c → (w : WireId) → IsSome (wire_at n w.0) → IsBack n c w
+is_back n c has w some = by (wire_at n w.0) refl some
+  where
+    by : (slot : Option WireRecord) → wire_at n w.0 ≡ slot → IsSome slot → IsBack n c w
+    by None at some = cc
+    by (Some r) at some =
+        let kept = has.each w.0 r at in
+        let same : wire_name n w ≡ r.name = ap name_in at in
+        let number : (wire_id c r.name).0 ≡ kept.there.place = ap (λ (found : Option ℕ). unwrap_or found 0) kept.there.named in
+        record {
+          found = ap (stands c) same ∙ ap is_some kept.there.named;
+          width = ap (width_named c) same ∙ ap (λ (found : Option ℕ). width_of (option_and_then (wire_at c) found)) kept.there.named ∙ ap width_of kept.there.at ∙ kept.width ∙ sym (ap width_of at);
+          name = ap (λ name. wire_name c (wire_id c name)) same ∙ ap (λ place. name_in (wire_at c place)) number ∙ ap name_in kept.there.at ∙ kept.called ∙ sym same;
+        }
+
+-- two wires of one name are one
+pub same_wire : (n : Circuit) → HasNames n → (w v : ℕ) → IsSome (wire_at n w) → IsSome (wire_at n v) → name_in (wire_at n w) ≡ name_in (wire_at n v) → w ≡ v
+same_wire n named w v first second same = by (wire_at n w) (wire_at n v) refl refl first second same
+  where
+    by : (a b : Option WireRecord) → wire_at n w ≡ a → wire_at n v ≡ b → IsSome a → IsSome b → name_in a ≡ name_in b → w ≡ v
+    by None b p q first second same = cc
+    by (Some r) None p q first second same = cc
+    by (Some r) (Some s) p q first second same = named.one_wire w v r s p q same
+
+-- nothing is set on bare wires
+pub bare_unset : (slots : List (Option WireRecord)) (v : ℕ) → stimulus_in (get_or (flat_map bare slots) v None) ≡ None
+bare_unset [] v = refl
+bare_unset (None ∷ slots) v = bare_unset slots v
+bare_unset (Some r ∷ slots) zero = refl
+bare_unset (Some r ∷ slots) (suc v) = bare_unset slots v
+
+module _ (n : Circuit) (circuit : IsCircuit n) (named : HasNames n) where
+  -- the netlist once the wires of the front are added
+  abbrev pub wired : List (Option WireRecord) → Circuit
+  wired front = made n.horizon (flat_map bare front) [] []
+
+  wire_done : (front back : List (Option WireRecord)) (r : WireRecord) → n.wires ≡ front ++ Some r ∷ back → after (wired front) (AddWire r.name r.width r.initial) ≡ Ok (wired (front ++ Some r ∷ []))
+  unfolding refusal edited
+  wire_done front back r same =
+      let at : wire_at n (length front) ≡ Some r = ap (λ xs. get_or xs (length front) None) same ∙ get_or_at front (Some r) back None (length front) refl in
+      let ok = circuit.wires_ok (length front) r at in
+      let free = named_nowhere name_of r.name (flat_map bare front) (compact_unnamed name_of without_stimulus (λ s. refl) r.name front (front_unnamed name_of n.wires front back r named.one_wire same)) in
+      let few : length front < 8192 = omega (arith, ap length same, length-append front (Some r ∷ back), circuit.wires_few) in
+      let low = ok.wide in
+      let high = ok.narrow in
+      let one : nat_le 1 r.width ≡ true = grind (arith, nat_tests) in
+      let most : nat_le r.width 64 ≡ true = grind (arith, nat_tests) in
+      let room = lt-ltb (length (flat_map bare front)) 8192 (omega (arith, compact_few without_stimulus front)) in
+      let none = none_failing (wire_checks (wired front) r.name r.width r.initial) (named.wires (length front) r at, (ap is_none free, (and_both (nat_le 1 r.width) (nat_le r.width 64) one most, (ok.level, (room, tt))))) in
+      is_done (wired front) (AddWire r.name r.width r.initial) none
+      ∙ ap (λ wires. Ok (made n.horizon wires [] [])) (sym (flat_map-append bare front (Some r ∷ [])))
+
+  abbrev AtWires : List (Option WireRecord) → List (Option WireRecord) → Circuit → Type 0
+  AtWires front back c = c ≡ wired front
+
+  wire_step : Steps n.wires wire_edits AtWires
+  wire_step front back None same c at =
+      Reaches-none (λ d. d ≡ wired (front ++ None ∷ [])) c (at ∙ ap (λ wires. made n.horizon wires [] []) (sym (compact-none without_stimulus front)))
+  wire_step front back (Some r) same c at =
+      Reaches-one (λ d. d ≡ wired (front ++ Some r ∷ [])) c (wired (front ++ Some r ∷ [])) (AddWire r.name r.width r.initial) (ap (λ d. after d (AddWire r.name r.width r.initial)) at ∙ wire_done front back r same) refl
+
+  -- the wires are added
+  pub wires_reached : Reaches (λ c. c ≡ wired n.wires) (wired []) (flat_map wire_edits n.wires)
+  wires_reached = stage n.wires wire_edits AtWires wire_step n.wires [] refl (wired []) refl
+
+  -- a netlist with the wires of the other, changed but for names and widths
+  pub HasWires-compact : (change : WireRecord → WireRecord) → ((r : WireRecord) → (change r).name ≡ r.name) → ((r : WireRecord) → (change r).width ≡ r.width)
+      → (c : Circuit) → c.wires ≡ flat_map (compact change) n.wires → HasWires n c
+  HasWires-compact change names widths c same = record {
+    each = λ w r at. record {
+      thing = change r;
+      called = names r;
+      width = widths r;
+      there = subst (λ xs. IsAt name_of xs r.name (change r)) (sym same) (IsAt-compact name_of change names n.wires named.one_wire w r at);
+    };
+  }
