@@ -14,10 +14,10 @@ use Rattle.mp_netlist.specs.declared.module_record.ModuleRecord.{ModuleRecord}
 use Rattle.mp_netlist.specs.declared.ports.Output.{Output}
 use Rattle.mp_netlist.specs.declared.edit.Edit.TheVariants.{AddModule}
 use Rattle.mp_netlist.specs.Names.{is_name}
-use Rattle.mp_netlist.specs.Circuit.{Circuit, IsCircuit, IsModule, IsDelay, HasWidth, wire_at, module_at, width_of, module_width, output_at}
+use Rattle.mp_netlist.specs.Circuit.{Circuit, IsCircuit, IsModule, IsDelay, HasWidth, wire_at, module_at, width_of, module_width, output_at, HasNames}
 use Rattle.mp_text.specs.Statements.{output_word}
 use Rattle.mp_text.specs.Written.{module_line, wire_name, output_name, output_text}
-use Rattle.mp_text.specs.RoundTrips.{HasNames, module_edits, output_by_name}
+use Rattle.mp_text.specs.RoundTrips.{module_edits, output_by_name}
 use Rattle.mp_text.proofs.PlainLemmas.{IsPlain, IsPlain-append, IsPlain-decimal, IsPlain-name, IsPlain-kind, both}
 use Rattle.mp_text.proofs.ReadBackLemmas.{no_wire_back, wire_back}
 use Rattle.mp_text.proofs.StatementBackLemmas.{module_stated}

@@ -4,11 +4,11 @@ use Rattle.std.specs.Prelude.{codes}
 use Rattle.std.specs.List.{flat_map}
 use Rattle.std.proofs.lemmas.List.{append-nil}
 use Rattle.std.proofs.lemmas.List.Elements.{All-cons, All-nil}
-use Rattle.mp_netlist.specs.Circuit.{Circuit, IsCircuit, empty_circuit}
+use Rattle.mp_netlist.specs.Circuit.{Circuit, IsCircuit, empty_circuit, HasNames}
 use Rattle.mp_text.specs.Lines.{lines_of}
 use Rattle.mp_text.specs.Texts.{after_statement, after_lines, next_line}
 use Rattle.mp_text.specs.Written.{written, horizon_line, wire_line, module_line, stimulus_line, bundle_line}
-use Rattle.mp_text.specs.RoundTrips.{HasNames, wire_edits, module_edits, stimulus_edits, bundle_edits, edits_by_name, IsReadAsWritten}
+use Rattle.mp_text.specs.RoundTrips.{wire_edits, module_edits, stimulus_edits, bundle_edits, edits_by_name, IsReadAsWritten}
 use Rattle.mp_text.proofs.PlainLemmas.{IsPlain, IsPlain-decimal}
 use Rattle.mp_text.proofs.WrittenLineLemmas.{lines_of-written}
 use Rattle.mp_text.proofs.StatementBackLemmas.{horizon_stated}
@@ -47,7 +47,8 @@ module _ (n : Circuit) (circuit : IsCircuit n) (named : HasNames n) where
 
 pub read_as_written : IsReadAsWritten
 unfolding written
-read_as_written n circuit named short =
+read_as_written n circuit short =
+    let named = circuit.names in
     let made = made_again n circuit named in
     let read =
     text_within (horizon_line n.horizon ++ record_lines n circuit named) short ∙ horizon_begins n circuit named (record_lines n circuit named)

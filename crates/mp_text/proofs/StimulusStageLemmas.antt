@@ -11,11 +11,11 @@ use Rattle.mp_netlist.specs.declared.module_record.ModuleRecord.{ModuleRecord}
 use Rattle.mp_netlist.specs.declared.edit.Edit.TheVariants.{SetStimulus}
 use Rattle.mp_netlist.specs.Slots.{number_named}
 use Rattle.mp_netlist.specs.Stimuli.{is_stimulus}
-use Rattle.mp_netlist.specs.Circuit.{Circuit, IsCircuit, Drives, wire_at, width_of, output_in, stimulus_in, stimulus_at}
+use Rattle.mp_netlist.specs.Circuit.{Circuit, IsCircuit, Drives, wire_at, width_of, output_in, stimulus_in, stimulus_at, HasNames}
 use Rattle.mp_netlist.specs.Drivers.{driver, is_port}
 use Rattle.mp_netlist.specs.Edits.{refusal, edited, after, stands, wire_id, width_named, stimulus_checks, with_stimulus, without_stimulus}
 use Rattle.mp_text.specs.Written.{name_in, wire_name}
-use Rattle.mp_text.specs.RoundTrips.{HasNames, module_edits, set_edits, stimulus_edits}
+use Rattle.mp_text.specs.RoundTrips.{module_edits, set_edits, stimulus_edits}
 use Rattle.mp_text.proofs.SlotLemmas.{compact, compact-none, length-compact, named_behind, front_unnamed, compact_unnamed}
 use Rattle.mp_text.proofs.StageLemmas.{none_failing, is_done, Reaches, Reaches-none, Reaches-one, Steps, stage}
 use Rattle.mp_text.proofs.OutputLemmas.{DrivesNone, undriven_by_name, drives_none, is_no_port}

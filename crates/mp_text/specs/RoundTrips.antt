@@ -8,7 +8,6 @@ use Rattle.mp_netlist.specs.declared.ports.Output.{Output}
 use Rattle.mp_netlist.specs.declared.port_names.OutputName.{OutputName}
 use Rattle.mp_netlist.specs.declared.edit.Edit.{Edit}
 use Rattle.mp_netlist.specs.declared.edit.Edit.TheVariants.{AddWire, AddModule, AddBundle, SetStimulus}
-use Rattle.mp_netlist.specs.Names.{is_name}
 use Rattle.mp_netlist.specs.Circuit.{Circuit, IsCircuit, wire_at, module_at, bundle_at}
 use Rattle.mp_text.specs.Texts.{text_at}
 use Rattle.mp_text.specs.Written.{written, wire_name}
@@ -54,16 +53,7 @@ pub record SameRecords (n m : Circuit) : Type 0 where
   pub modules : flat_map (module_edits m) m.modules ≡ flat_map (module_edits n) n.modules
   pub bundles : flat_map (bundle_edits m) m.bundles ≡ flat_map (bundle_edits n) n.bundles
 
--- what stands has a name, and no two wires, modules or bundles have one name
-pub record HasNames (n : Circuit) : Type 0 where
-  pub wires : (w : ℕ) (r : WireRecord) → wire_at n w ≡ Some r → is_name r.name ≡ true
-  pub modules : (m : ℕ) (r : ModuleRecord) → module_at n m ≡ Some r → is_name r.name ≡ true
-  pub bundles : (b : ℕ) (r : BundleRecord) → bundle_at n b ≡ Some r → is_name r.name ≡ true
-  pub one_wire : (w v : ℕ) (r s : WireRecord) → wire_at n w ≡ Some r → wire_at n v ≡ Some s → r.name ≡ s.name → w ≡ v
-  pub one_module : (m k : ℕ) (r s : ModuleRecord) → module_at n m ≡ Some r → module_at n k ≡ Some s → r.name ≡ s.name → m ≡ k
-  pub one_bundle : (b k : ℕ) (r s : BundleRecord) → bundle_at n b ≡ Some r → bundle_at n k ≡ Some s → r.name ≡ s.name → b ≡ k
-
 -- the text of a netlist is read as a netlist with the same records
 abbrev pub IsReadAsWritten : Type 0
 IsReadAsWritten =
-    (n : Circuit) → IsCircuit n → HasNames n → length (written n) ≤ 4194304 → (m : Circuit) × (text_at (written n) ≡ Ok m) × SameRecords n m
+    (n : Circuit) → IsCircuit n → length (written n) ≤ 4194304 → (m : Circuit) × (text_at (written n) ≡ Ok m) × SameRecords n m

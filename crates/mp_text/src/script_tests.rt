@@ -1,5 +1,7 @@
 use crate::{Line, LineError, Question, read_line};
-use mp_netlist::{Edit, Name};
+use mp_netlist::Edit;
+use std::alloc::Global;
+use std::process::Abort;
 use std::test::Fail;
 
 /// What is wrong with the line.
@@ -59,138 +61,136 @@ fn error_numbers_and_names(rt: HostRuntime) {
     }
 }
 
-#[test]
-fn questions(rt: HostRuntime) -> Result<(), Fail> {
-    let Ok(Line::Empty) = read_line(rt.alloc(), b"\t # none\r") else {
-        return Err("empty".into());
-    };
-    let Ok(Line::Ask(Question::Waves)) = read_line(rt.alloc(), b" waves#") else {
-        return Err("waves".into());
-    };
-    let Ok(Line::Ask(Question::Text)) = read_line(rt.alloc(), b"text") else {
-        return Err("text".into());
-    };
-    let Ok(Line::Ask(Question::Wave(wire))) = read_line(rt.alloc(), b"wave -") else {
-        return Err("wave".into());
-    };
-    assert_eq!(rt; wire.as_str(), "-");
-    Ok(())
+/// The word of a question, and the wire that it names.
+fn question_parts(question: &Question) -> (&str, &str) {
+    match question {
+        Question::Wave(wire) => ("wave", wire.as_str()),
+        Question::Waves => ("waves", ""),
+        Question::Text => ("text", ""),
+    }
 }
 
-#[test]
-fn stated_edits(rt: HostRuntime) -> Result<(), Fail> {
-    let Ok(Line::Change(Edit::AddWire { name, width, level })) = read_line(
-        rt.alloc(),
-        b"wire a 065 18446744073709551615",
-    ) else {
-        return Err("wire".into());
-    };
-    assert_eq!(rt; name.as_str(), "a");
-    assert_eq!(rt; (width, level), (65, u64::MAX));
-    let Ok(Line::Change(Edit::SetStimulus { wire, changes })) = read_line(
-        rt.alloc(),
-        b"stim a 0=1 0=2",
-    ) else {
-        return Err("stim".into());
-    };
-    assert_eq!(rt; wire.as_str(), "a");
-    assert!(rt; changes.as_slice() == [(0, 1), (0, 2)].as_slice());
-    Ok(())
-}
-
-#[test]
-fn script_edits(rt: HostRuntime) -> Result<(), Fail> {
-    let Ok(Line::Change(Edit::RemoveWire { wire })) = read_line(rt.alloc(), b"remove wire a") else {
-        return Err("remove wire".into());
-    };
-    assert_eq!(rt; wire.as_str(), "a");
-    let Ok(
-        Line::Change(
-            Edit::SetDelay {
-                module,
-                port,
-                delay,
-            },
-        ),
-    ) = read_line(rt.alloc(), b"delay b 00 7#")
-    else {
-        return Err("delay".into());
-    };
-    assert_eq!(rt; module.as_str(), "b");
-    assert_eq!(rt; (port, delay), (0, 7));
-    Ok(())
-}
-
-#[test]
-fn removals(rt: HostRuntime) -> Result<(), Fail> {
-    let Ok(Line::Change(Edit::RemoveModule { module })) = read_line(
-        rt.alloc(),
-        b"remove module wire",
-    ) else {
-        return Err("remove module".into());
-    };
-    assert_eq!(rt; module.as_str(), "wire");
-    let Ok(Line::Change(Edit::RemoveBundle { bundle })) = read_line(rt.alloc(), b"remove bundle p")
-    else {
-        return Err("remove bundle".into());
-    };
-    assert_eq!(rt; bundle.as_str(), "p");
-    let Ok(Line::Change(Edit::ClearStimulus { wire })) = read_line(rt.alloc(), b"clear a") else {
-        return Err("clear".into());
-    };
-    assert_eq!(rt; wire.as_str(), "a");
-    Ok(())
-}
-
-#[test]
-fn rewires(rt: HostRuntime) -> Result<(), Fail> {
-    let Ok(Line::Change(Edit::RewireInput { module, port, wire })) = read_line(
-        rt.alloc(),
-        b"input m 1 -",
-    ) else {
-        return Err("input".into());
-    };
-    assert_eq!(rt; (module.as_str(), port, wire.as_str()), ("m", 1, "-"));
-    Ok(())
-}
-
-/// The port and the name of the wire that an output is to drive.
-fn output_of(rt: &HostRuntime, line: &[u8]) -> Result<(u64, Option<Name>), Fail> {
-    match read_line(rt.alloc(), line) {
-        Ok(Line::Change(Edit::RewireOutput { port, wire, .. })) => Ok((port, wire)),
-        _ => Err("output".into()),
+/// The line asks for this.
+fn asks(rt: &impl Abort, alloc: Global, line: &[u8], parts: (&str, &str)) -> Result<(), Fail> {
+    match read_line(alloc, line) {
+        Ok(Line::Ask(question)) => {
+            assert!(rt; question_parts(&question) == parts);
+            Ok(())
+        }
+        _ => Err("no question".into()),
     }
 }
 
 #[test]
-fn outputs(rt: HostRuntime) -> Result<(), Fail> {
-    let (port, none) = output_of(&rt, b"output m 2 -")?;
-    assert_eq!(rt; port, 2);
-    assert!(rt; none.is_none());
-    let (_, wire) = output_of(&rt, b"output m 2 -/3")?;
-    let wire = wire.ok_or("a wire")?;
-    assert_eq!(rt; wire.as_str(), "-/3");
-    Ok(())
+fn questions(rt: HostRuntime) -> Result<(), Fail> {
+    asks(&rt, rt.alloc(), b" waves#", ("waves", ""))?;
+    asks(&rt, rt.alloc(), b"text", ("text", ""))?;
+    asks(&rt, rt.alloc(), b"wave -", ("wave", "-"))
 }
 
 #[test]
-fn bundles(rt: HostRuntime) -> Result<(), Fail> {
-    let Ok(
-        Line::Change(
-            Edit::AddBundle {
-                name,
-                request,
-                acknowledge,
-                payload,
-                setup,
-            },
+fn a_line_without_words(rt: HostRuntime) {
+    let empty = matches!(read_line(rt.alloc(), b"\t # none\r"), Ok(Line::Empty));
+    assert!(rt; empty);
+}
+
+/// What an edit changes, another name in it, and two of its numbers.
+fn edit_parts(edit: &Edit) -> (&str, &str, u64, u64) {
+    match edit {
+        Edit::AddWire { name, width, level } => (name.as_str(), "", *width, *level),
+        Edit::RemoveWire { wire } => (wire.as_str(), "wire", 0, 0),
+        Edit::AddModule { name, params, .. } => (
+            name.as_str(),
+            "",
+            params.as_slice().len() as u64,
+            0,
         ),
-    ) = read_line(rt.alloc(), b"bundle p r k d 65536")
-    else {
-        return Err("bundle".into());
-    };
-    assert_eq!(rt; (name.as_str(), request.as_str()), ("p", "r"));
-    assert_eq!(rt; (acknowledge.as_str(), payload.as_str()), ("k", "d"));
-    assert_eq!(rt; setup, 65536);
-    Ok(())
+        Edit::RemoveModule { module } => (module.as_str(), "module", 0, 0),
+        Edit::AddBundle {
+            name,
+            payload,
+            setup,
+            ..
+        } => (name.as_str(), payload.as_str(), *setup, 0),
+        Edit::RemoveBundle { bundle } => (bundle.as_str(), "bundle", 0, 0),
+        Edit::RewireInput { module, port, wire } => (module.as_str(), wire.as_str(), *port, 0),
+        Edit::RewireOutput {
+            module,
+            port,
+            wire: Some(wire),
+        } => (module.as_str(), wire.as_str(), *port, 0),
+        Edit::RewireOutput {
+            module,
+            port,
+            wire: None,
+        } => (module.as_str(), "none", *port, 0),
+        Edit::SetDelay {
+            module,
+            port,
+            delay,
+        } => (module.as_str(), "", *port, *delay),
+        Edit::SetStimulus { wire, changes } => (
+            wire.as_str(),
+            "",
+            changes.as_slice().len() as u64,
+            0,
+        ),
+        Edit::ClearStimulus { wire } => (wire.as_str(), "clear", 0, 0),
+    }
+}
+
+/// The line is an edit with these parts.
+fn says(
+    rt: &impl Abort,
+    alloc: Global,
+    line: &[u8],
+    parts: (&str, &str, u64, u64),
+) -> Result<(), Fail> {
+    match read_line(alloc, line) {
+        Ok(Line::Change(edit)) => {
+            assert!(rt; edit_parts(&edit) == parts);
+            Ok(())
+        }
+        _ => Err("no edit".into()),
+    }
+}
+
+#[test]
+fn stated_edits(rt: HostRuntime) -> Result<(), Fail> {
+    says(
+        &rt,
+        rt.alloc(),
+        b"wire a 065 18446744073709551615",
+        ("a", "", 65, u64::MAX),
+    )?;
+    says(&rt, rt.alloc(), b"stim a 0=1 0=2", ("a", "", 2, 0))?;
+    says(
+        &rt,
+        rt.alloc(),
+        b"module m C 0 2 9 : a > -",
+        ("m", "", 3, 0),
+    )?;
+    says(
+        &rt,
+        rt.alloc(),
+        b"bundle p r k d 65536",
+        ("p", "d", 65536, 0),
+    )
+}
+
+#[test]
+fn script_edits(rt: HostRuntime) -> Result<(), Fail> {
+    says(&rt, rt.alloc(), b"remove wire a", ("a", "wire", 0, 0))?;
+    says(
+        &rt,
+        rt.alloc(),
+        b"remove module wire",
+        ("wire", "module", 0, 0),
+    )?;
+    says(&rt, rt.alloc(), b"remove bundle p", ("p", "bundle", 0, 0))?;
+    says(&rt, rt.alloc(), b"input m 1 -", ("m", "-", 1, 0))?;
+    says(&rt, rt.alloc(), b"output m 2 -", ("m", "none", 2, 0))?;
+    says(&rt, rt.alloc(), b"output m 2 -/3", ("m", "-/3", 2, 0))?;
+    says(&rt, rt.alloc(), b"delay b 00 7#", ("b", "", 0, 7))?;
+    says(&rt, rt.alloc(), b"clear a", ("a", "clear", 0, 0))
 }

@@ -1,5 +1,5 @@
 use crate::{TextCode, TextError, read_netlist, write_netlist};
-use mp_netlist::{Edit, Name};
+use mp_netlist::{Edit, Name, Netlist};
 use std::test::Fail;
 
 /// Whether the text is written as it was read.
@@ -51,18 +51,24 @@ fn all_statements(rt: HostRuntime) -> Result<(), Fail> {
     Ok(())
 }
 
+fn applies(netlist: &mut Netlist, edit: Edit) -> Result<(), Fail> {
+    netlist.apply(&edit)?;
+    Ok(())
+}
+
 #[test]
 fn removed_things(rt: HostRuntime) -> Result<(), Fail> {
     let read = "horizon 5\nwire a 1 0\nwire b 1 0";
     let mut netlist = read_netlist(rt.alloc(), read.as_bytes())?;
-    netlist.apply(&Edit::RemoveWire {
-        wire: Name::new(String::from_str(rt.alloc(), "a")?),
-    })?;
-    netlist.apply(&Edit::AddWire {
-        name: Name::new(String::from_str(rt.alloc(), "a")?),
+    let wire = Name::new(String::from_str(rt.alloc(), "a")?);
+    applies(&mut netlist, Edit::RemoveWire { wire })?;
+    let name = Name::new(String::from_str(rt.alloc(), "a")?);
+    let again = Edit::AddWire {
+        name,
         width: 1,
         level: 1,
-    })?;
+    };
+    applies(&mut netlist, again)?;
     let written = write_netlist(rt.alloc(), &netlist)?;
     assert!(rt; written.as_slice() == b"horizon 5\nwire b 1 0\nwire a 1 1\n".as_slice());
     Ok(())
