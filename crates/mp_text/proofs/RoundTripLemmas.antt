@@ -1,5 +1,5 @@
 -- The text of a netlist is read as the edits of its records.
-use Rattle.std.proofs.Common.{◌≡◌, ℕ, ◌+◌, List, [], ◌∷◌, ◌++◌, All, Some, None, decimal, refl, ap, subst, ◌∙◌, arith}
+use Rattle.std.proofs.Common.{◌≡◌, ℕ, ◌+◌, ◌≤◌, List, [], ◌∷◌, ◌++◌, length, All, Some, None, decimal, refl, sym, ap, subst, ◌∙◌, arith}
 use Rattle.std.specs.Prelude.{codes}
 use Rattle.std.specs.List.{flat_map}
 use Rattle.std.proofs.lemmas.List.{append-nil}
@@ -8,7 +8,7 @@ use Rattle.mp_netlist.specs.Circuit.{Circuit, IsCircuit, empty_circuit, HasNames
 use Rattle.mp_text.specs.Lines.{lines_of}
 use Rattle.mp_text.specs.Texts.{after_statement, after_lines, next_line}
 use Rattle.mp_text.specs.Written.{written, horizon_line, wire_line, module_line, stimulus_line, bundle_line}
-use Rattle.mp_text.specs.RoundTrips.{wire_edits, module_edits, stimulus_edits, bundle_edits, edits_by_name, IsReadAsWritten}
+use Rattle.mp_text.specs.RoundTrips.{wire_edits, module_edits, stimulus_edits, bundle_edits, edits_by_name, IsReadAs, IsReadAsWritten}
 use Rattle.mp_text.proofs.PlainLemmas.{IsPlain, IsPlain-decimal}
 use Rattle.mp_text.proofs.WrittenLineLemmas.{lines_of-written}
 use Rattle.mp_text.proofs.StatementBackLemmas.{horizon_stated}
@@ -54,3 +54,6 @@ read_as_written n circuit short =
     text_within (horizon_line n.horizon ++ record_lines n circuit named) short ∙ horizon_begins n circuit named (record_lines n circuit named)
     ∙ (records_lead n circuit named).each 1 (empty_circuit n.horizon) made.again made.replayed in
     (made.again, read, made.same)
+
+pub written_is_read : (n : Circuit) (text : List ℕ) → IsCircuit n → text ≡ written n → length text ≤ 4194304 → IsReadAs text n
+written_is_read n text circuit same short = subst (λ t. IsReadAs t n) (sym same) (read_as_written n circuit (subst (λ t. length t ≤ 4194304) same short))

@@ -1,5 +1,5 @@
 -- What is written is read again.
-use Rattle.std.specs.Prelude.{◌≡◌, ℕ, ◌≤◌, true, List, [], ◌∷◌, ◌++◌, length, map, Option, Some, None, Ok, option_map}
+use Rattle.std.specs.Prelude.{◌≡◌, ℕ, ◌≤◌, List, [], ◌∷◌, ◌++◌, length, map, Option, Some, None, Ok, option_map}
 use Rattle.std.specs.List.{flat_map, filter_map}
 use Rattle.mp_netlist.specs.declared.wire_record.WireRecord.{WireRecord}
 use Rattle.mp_netlist.specs.declared.module_record.ModuleRecord.{ModuleRecord}
@@ -8,7 +8,7 @@ use Rattle.mp_netlist.specs.declared.ports.Output.{Output}
 use Rattle.mp_netlist.specs.declared.port_names.OutputName.{OutputName}
 use Rattle.mp_netlist.specs.declared.edit.Edit.{Edit}
 use Rattle.mp_netlist.specs.declared.edit.Edit.TheVariants.{AddWire, AddModule, AddBundle, SetStimulus}
-use Rattle.mp_netlist.specs.Circuit.{Circuit, IsCircuit, wire_at, module_at, bundle_at}
+use Rattle.mp_netlist.specs.Circuit.{Circuit, IsCircuit}
 use Rattle.mp_text.specs.Texts.{text_at}
 use Rattle.mp_text.specs.Written.{written, wire_name}
 
@@ -53,7 +53,10 @@ pub record SameRecords (n m : Circuit) : Type 0 where
   pub modules : flat_map (module_edits m) m.modules ≡ flat_map (module_edits n) n.modules
   pub bundles : flat_map (bundle_edits m) m.bundles ≡ flat_map (bundle_edits n) n.bundles
 
+-- the text is read as a netlist with the same records
+abbrev pub IsReadAs : List ℕ → Circuit → Type 0
+IsReadAs text n = (m : Circuit) × (text_at text ≡ Ok m) × SameRecords n m
+
 -- the text of a netlist is read as a netlist with the same records
 abbrev pub IsReadAsWritten : Type 0
-IsReadAsWritten =
-    (n : Circuit) → IsCircuit n → length (written n) ≤ 4194304 → (m : Circuit) × (text_at (written n) ≡ Ok m) × SameRecords n m
+IsReadAsWritten = (n : Circuit) → IsCircuit n → length (written n) ≤ 4194304 → IsReadAs (written n) n

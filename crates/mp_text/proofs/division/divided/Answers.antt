@@ -1,7 +1,7 @@
-use Rattle.std.proofs.Common.{◌≡◌, ◌<◌, true, false, length, refl, sym, ap, ◌∙◌, rules, arith}
+use Rattle.std.proofs.Common.{◌≡◌, ◌<◌, true, false, length, refl, sym, ◌∙◌, rules, arith}
 use Rattle.std.proofs.lemmas.List.{take_rest}
 use Rattle.mp_text.specs.Divisions.{is_division}
-use Rattle.mp_text.proofs.DivisionLemmas.{IsNext, front_start, next_line_in, front_next, back_next, front_here, back_here, front_end, back_end}
+use Rattle.mp_text.proofs.DivisionLemmas.{front_start, next_line_in, front_next, back_next, front_here, back_here, front_end, back_end}
 use Rattle.mp_text.proofs.division.divided.Goals as goal
 
 pub loop-at-init : goal.loop-at-init
