@@ -305,7 +305,7 @@ fn fill(alloc: Global, net: &mut Netlist) -> Result<(), Fail> {
     Ok(())
 }
 
-fn refuses_more(rt: &impl Abort, alloc: Global, net: &mut Netlist) -> Result<(), Fail> {
+fn full_tables(rt: &impl Abort, alloc: Global, net: &mut Netlist) -> Result<(), Fail> {
     assert_eq!(rt; net.wire_slots(), 8192);
     assert_eq!(rt; net.module_slots(), 4096);
     let none: &[u64] = &[];
@@ -336,7 +336,7 @@ fn tries_edits(rt: &impl Abort, alloc: Global, net: &mut Netlist) -> Result<(), 
     reads_back_modules(rt, net)?;
     finds_drivers(rt, net);
     fill(alloc, net)?;
-    refuses_more(rt, alloc, net)
+    full_tables(rt, alloc, net)
 }
 
 // One test owns a netlist, since each function that does takes long to check.

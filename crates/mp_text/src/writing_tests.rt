@@ -1,5 +1,6 @@
 use crate::{TextCode, TextError, read_netlist, write_netlist};
-use mp_netlist::{Edit, Name, Netlist};
+use mp_netlist::{Driver, Edit, ModuleId, Name, Netlist, WireId};
+use std::process::Abort;
 use std::test::Fail;
 
 /// Whether the text is written as it was read.
@@ -9,13 +10,24 @@ fn comes_back(rt: &HostRuntime, text: &str) -> Result<bool, Fail> {
     Ok(written.as_slice() == text.as_bytes())
 }
 
+/// Who reads and who drives the wires of the control of two stages, and how fast it is at least.
+fn answers_queries(rt: &impl Abort, netlist: &Netlist) -> Result<(), Fail> {
+    let readers = netlist.readers_of(WireId(3))?;
+    assert!(rt; readers.as_slice() == [(ModuleId(0), 1)].as_slice());
+    assert_eq!(rt; netlist.driver_of(WireId(3)), Driver::Port(ModuleId(1), 0));
+    assert_eq!(rt; netlist.driver_of(WireId(0)), Driver::Stimulus);
+    assert_eq!(rt; netlist.least_delay(), 2);
+    Ok(())
+}
+
 #[test]
-fn two_stage_control(rt: HostRuntime) -> Result<(), Fail> {
+fn netlist_queries(rt: HostRuntime) -> Result<(), Fail> {
     let text =
         "horizon 20\nwire r 1 0\nwire ack 1 0\nwire q1 1 0\nwire q2 1 0\nmodule c1 C 0 0 1 : r q2 > q1/2\nmodule c2 C 0 0 1 : q1 ack > q2/2\nstim r 1=1 4=0\nstim ack 10=1\n";
-    let same = comes_back(&rt, text)?;
-    assert!(rt; same);
-    Ok(())
+    let netlist = read_netlist(rt.alloc(), text.as_bytes())?;
+    let written = write_netlist(rt.alloc(), &netlist)?;
+    assert!(rt; written.as_slice() == text.as_bytes());
+    answers_queries(&rt, &netlist)
 }
 
 #[test]
