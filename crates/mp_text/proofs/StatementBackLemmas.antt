@@ -7,8 +7,8 @@ use Rattle.std.proofs.lemmas.Bool.Decides.{nat_tests}
 use Rattle.std.proofs.lemmas.List.{map-id}
 use Rattle.std.proofs.lemmas.List.Elements.{All-map, All-cons, All-nil, All-head, All-tail}
 use Rattle.mp_modules.specs.declared.kind.Kind.{Kind}
-use Rattle.mp_modules.specs.declared.kind.Kind.TheVariants as kinds
-use Rattle.mp_modules.specs.Kinds.{word_of, kind_named}
+use Rattle.mp_modules.specs.Kinds.{word_of}
+use Rattle.mp_modules.proofs.WordLemmas.{by_word}
 use Rattle.mp_netlist.specs.declared.port_names.OutputName.{OutputName}
 use Rattle.mp_netlist.specs.declared.edit.Edit.TheVariants.{AddWire, AddModule, AddBundle, SetStimulus}
 use Rattle.mp_netlist.specs.Names.{is_name, is_name_byte, begins_with_letter}
@@ -47,22 +47,6 @@ stimulus_stated name changes all =
     let read = each_back change_word pair_text (λ change. change) changes all in
     let same = map-id changes in
     rw read (rw same refl)
-
-by_word : (kind : Kind) → kind_named (word_of kind) ≡ Some kind
-unfolding kind_named
-by_word kinds.Buf = refl
-by_word kinds.Not = refl
-by_word kinds.Xor = refl
-by_word kinds.C = refl
-by_word kinds.Toggle = refl
-by_word kinds.Select = refl
-by_word kinds.Call = refl
-by_word kinds.Arbiter = refl
-by_word kinds.Reg = refl
-by_word kinds.AddC = refl
-by_word kinds.XorC = refl
-by_word kinds.Sum = refl
-by_word kinds.Bit = refl
 
 -- a word that begins with a byte other than the mark
 other_byte : (mark b : ℕ) (bs : List ℕ) → (b == mark) ≡ false → is_mark mark (b ∷ bs) ≡ false
