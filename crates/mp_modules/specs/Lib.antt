@@ -1,3 +1,4 @@
+pub mod Levels
 pub mod Kinds
 pub mod Memories
 pub mod Clients

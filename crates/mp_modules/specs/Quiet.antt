@@ -5,12 +5,12 @@ use Rattle.mp_modules.specs.declared.memory.Memory.{Memory}
 use Rattle.mp_modules.specs.declared.memory.Client.{Client}
 use Rattle.mp_modules.specs.declared.memory.Client.TheVariants.{Nobody, First, Second}
 use Rattle.mp_modules.specs.declared.rendezvous.Rendezvous.{Rendezvous}
-use Rattle.mp_modules.specs.Memories.{seen, is_event}
+use Rattle.mp_modules.specs.Memories.{seen}
 use Rattle.mp_modules.specs.Merge.{is_collision}
 use Rattle.mp_modules.specs.CElement.{joined, bubbled, is_withdrawn}
-use Rattle.mp_modules.specs.Toggle.{toggled, toggle_step}
-use Rattle.mp_modules.specs.Select.{selected, select_step, is_unstable}
-use Rattle.mp_modules.specs.Call.{called, after_first_call, call_step, is_overlap, is_done_without_call}
+use Rattle.mp_modules.specs.Toggle.{toggle_step}
+use Rattle.mp_modules.specs.Select.{select_step, is_unstable}
+use Rattle.mp_modules.specs.Call.{call_step, is_overlap, is_done_without_call}
 use Rattle.mp_modules.specs.Arbiter.{is_done_ignored, is_repeat_request, is_done_without_grant}
 
 -- a level is no event of itself

@@ -3,6 +3,7 @@ ghost use Rattle.std.specs.Prelude.{◌≡◌, ◌≤◌, ◌^◌, nat_lt};
 ghost use Rattle.std.specs.List.{list_all};
 ghost use Rattle.mp_modules.specs.Kinds.{input_count, output_count, param_count, word_of, kind_named, wide_inputs, wide_outputs, has_width, input_width, output_width, param_bound, are_params};
 
+use crate::level::fits_width;
 use crate::memory::{MOST_INPUTS, MOST_OUTPUTS};
 
 /// A kind of event module (Sutherland 1989). BUF is a delay, NOT an inverter, XOR the merge of two events, C their rendezvous; TOGGLE,
@@ -210,22 +211,16 @@ impl Kind {
         params.iter().all(|param| self.is_in_range(width, *param))
     }
 
+    #[tactic(auto, unfolding(crate::specs::Levels::fits_width))]
     /// Whether the number is below what each parameter is below.
     fn is_in_range(self, width: u32, param: u64) -> bool
         ensures { result ≡ nat_lt param (param_bound self width) }
     {
         match self {
             Kind::C => param < 2,
-            Kind::Reg | Kind::AddC | Kind::XorC => is_level(width, param),
+            Kind::Reg | Kind::AddC | Kind::XorC => fits_width(param, u64::from(width)),
             Kind::Bit => param < u64::from(width),
             _ => false,
         }
     }
-}
-
-/// Whether the number is a level of the width.
-fn is_level(width: u32, number: u64) -> bool
-    ensures { result ≡ nat_lt number (2 ^ width) }
-{
-    width >= 64 || number < 1 << width
 }
