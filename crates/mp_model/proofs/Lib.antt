@@ -2,6 +2,7 @@ pub mod HistoryLemmas
 pub mod BehaviourLemmas
 pub mod SlotLemmas
 pub mod TrackLemmas
+pub mod HeldLemmas
 pub mod BuiltLemmas
 pub mod EvaluationLemmas
 pub mod TracksLemmas

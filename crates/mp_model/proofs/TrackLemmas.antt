@@ -1,10 +1,15 @@
 -- The changes that are known ahead of a track, and the levels that they give.
 use Rattle.std.proofs.Common.{◌≡◌, ℕ, ◌+◌, ◌<◌, ◌≤◌, List, [], ◌∷◌, ◌++◌, ◌==◌, unwrap_or, refl, subst, ◌∙◌, arith, inl, inr}
 use Rattle.std.proofs.lemmas.Bool.{eqb-true, eqb-false, cases_Bool}
-use Rattle.mp_wave.specs.Waveform.{level_from, last_from, last_time}
+use Rattle.mp_wave.specs.Waveform.{AreChanges, level_from, last_from, last_time}
 use Rattle.mp_wave.proofs.WaveformLemmas.{nat_le-true, nat_le-false, last_from-append, last_time-append, level_from-append_later}
 use Rattle.mp_model.specs.Tracks.{due_level, rest_after}
 use Rattle.mp_model.specs.Evaluations.{AreRising}
+
+-- changes rise
+pub AreRising-changes : (time level : ℕ) (changes : List (ℕ × ℕ)) → AreChanges time level changes → AreRising time changes
+AreRising-changes time level [] are = tt
+AreRising-changes time level (change ∷ changes) are = (are.0, AreRising-changes change.0 change.1 changes are.2)
 
 -- what is due at a time is the level from then on
 pub level_from-due : (present time u : ℕ) (changes : List (ℕ × ℕ)) → time ≤ u
@@ -29,14 +34,6 @@ AreRising-rest time (change ∷ changes) rising =
       | inr other ↦ let no = eqb-false change.0 (time + 1) other in rw other (omega (arith, rising.0, no), rising.1)
     ]
 
-pub last_from-due : (present time : ℕ) (changes : List (ℕ × ℕ)) → last_from (unwrap_or (due_level changes time) present) (rest_after changes time) ≡ last_from present changes
-last_from-due present time [] = refl
-last_from-due present time (change ∷ changes) =
-    elim (cases_Bool (change.0 == time)) as (λ _. last_from (unwrap_or (due_level (change ∷ changes) time) present) (rest_after (change ∷ changes) time) ≡ last_from present (change ∷ changes)) [
-      | inl here ↦ rw here refl
-      | inr other ↦ rw other refl
-    ]
-
 pub last_time-rest : (start time most : ℕ) (changes : List (ℕ × ℕ)) → last_time start changes < most → time < most → last_time time (rest_after changes time) < most
 last_time-rest start time most [] last less = less
 last_time-rest start time most (change ∷ changes) last less =
@@ -59,7 +56,7 @@ pub AreRising-push : (time next level : ℕ) (changes : List (ℕ × ℕ)) → A
 AreRising-push time next level [] rising less = (less, tt)
 AreRising-push time next level (change ∷ changes) rising less = (rising.0, AreRising-push change.0 next level changes rising.1 less)
 
-pub last_from-push : (start time level : ℕ) (changes : List (ℕ × ℕ)) → last_from start (changes ++ (time, level) ∷ []) ≡ level
+last_from-push : (start time level : ℕ) (changes : List (ℕ × ℕ)) → last_from start (changes ++ (time, level) ∷ []) ≡ level
 last_from-push start time level changes = last_from-append start changes ((time, level) ∷ [])
 
 pub last_time-push : (start time level : ℕ) (changes : List (ℕ × ℕ)) → last_time start (changes ++ (time, level) ∷ []) ≡ time

@@ -1,7 +1,7 @@
 -- A netlist's evaluation, unit by unit: the tracks of its wires and the cells of its modules.
 use Rattle.std.specs.Prelude.{◌≡◌, ℕ, ◌+◌, ◌-◌, ◌^◌, ◌<◌, ◌≤◌, List, [], ◌∷◌, ◌||◌, ◌&&◌, ◌==◌, Option, Some, None, option_map, length, nat_lt, if◌then◌else◌, slice_set}
 use Rattle.std.specs.Option.{option_map_or}
-use Rattle.mp_wave.specs.Waveform.{wave_upto, level_from, last_from, last_time}
+use Rattle.mp_wave.specs.Waveform.{IsWaveform, level_from, level_of, last_time}
 use Rattle.mp_modules.specs.declared.memory.Memory.{Memory}
 use Rattle.mp_storage.specs.AnyModules.{start}
 use Rattle.mp_netlist.specs.declared.wire_record.WireRecord.{WireRecord}
@@ -32,21 +32,23 @@ IsReached n known Nothing time = Unit {0}
 IsReached n known Stimulus time = Unit {0}
 IsReached n known (Port m p) time = time < known m.0 p + delay_in (module_at n m.0) p
 
--- of a wire that a port drives the last level ahead is noted, and is of a time that is reached
-abbrev pub IsLatest : Circuit → (ℕ → ℕ → ℕ) → Driver → ℕ → Progress → Type 0
-IsLatest n known Nothing t track = Unit {0}
-IsLatest n known Stimulus t track = Unit {0}
-IsLatest n known (Port m p) t track =
-    (track.latest ≡ last_from track.present track.ahead) × (last_time t track.ahead < known m.0 p + delay_in (module_at n m.0) p)
+-- of a wire that a port drives, all levels from the first that the port hasn't delivered on may still be given
+abbrev pub IsOpen : Circuit → (ℕ → ℕ → ℕ) → Driver → ℕ → Progress → Type 0
+IsOpen n known Nothing t track = Unit {0}
+IsOpen n known Stimulus t track = Unit {0}
+IsOpen n known (Port m p) t track =
+    (track.next ≤ known m.0 p + delay_in (module_at n m.0) p) × (last_time t track.ahead < known m.0 p + delay_in (module_at n m.0) p)
 
--- the track has its wire's levels up to the present time t, and ahead as far as they are reached
+-- the track has its wire's levels below the horizon as far as they are reached, t is the present time, and the changes later than t are ahead
 pub record IsOnTrack (n : Circuit) (known : ℕ → ℕ → ℕ) (t w : ℕ) (track : Progress) : Type 0 where
-  pub wave : track.wave ≡ wave_upto (level n w) t
-  pub next : track.next ≡ t + 1
+  pub form : IsWaveform track.wave
+  pub over : last_time 0 track.wave.changes < track.next
+  pub within : last_time 0 track.wave.changes < n.horizon
+  pub levels : (u : ℕ) → u < n.horizon → IsReached n known (driver n w) u → level_of track.wave u ≡ level n w u
   pub present : track.present ≡ level n w t
   pub rising : AreRising t track.ahead
-  pub ahead : (u : ℕ) → t ≤ u → IsReached n known (driver n w) u → level_from track.present track.ahead u ≡ level n w u
-  pub latest : IsLatest n known (driver n w) t track
+  pub ahead : (u : ℕ) → t ≤ u → level_from track.present track.ahead u ≡ level_of track.wave u
+  pub free : IsOpen n known (driver n w) t track
 
 abbrev pub IsTrackOf : Circuit → (ℕ → ℕ → ℕ) → ℕ → ℕ → Option WireRecord → Option Progress → Type 0
 IsTrackOf n known t w None None = Unit {0}
@@ -85,7 +87,7 @@ present_at tracks w = option_map_or (λ (track : Progress). track.present) (slot
 
 -- the tracks after another level of a wire is known
 abbrev pub with_expected : List (Option Progress) → ℕ → ℕ → ℕ → List (Option Progress)
-with_expected tracks w time level = slice_set tracks w (option_map (λ track. expecting track time level) (slot_at tracks w))
+with_expected tracks w time level = slice_set tracks w (option_map (expecting time level) (slot_at tracks w))
 
 -- the state of a module at a time, and the cells with it
 abbrev pub answer_at : List (Option Cell) → ℕ → ℕ → List ℕ → Option Memory
@@ -94,10 +96,10 @@ answer_at cells m time levels = option_map (λ cell. answered cell time levels) 
 abbrev pub with_answer : List (Option Cell) → ℕ → ℕ → List ℕ → List (Option Cell)
 with_answer cells m time levels = slice_set cells m (option_map (λ cell. after_answer cell time levels) (slot_at cells m))
 
--- the track can still go on
-abbrev pub IsEarly : Option Progress → Type 0
-IsEarly None = Unit {0}
-IsEarly (Some track) = track.next < 2 ^ 32 - 1
+-- all levels from this time on may still be given to the track
+abbrev pub IsOpenAt : ℕ → Option Progress → Type 0
+IsOpenAt time None = Unit {0}
+IsOpenAt time (Some track) = track.next ≤ time
 
 -- a module before time 0
 abbrev pub first_cell : Circuit → ModuleRecord → Cell

@@ -1,24 +1,43 @@
 -- The wave of one wire while time passes.
-use Rattle.std.specs.Prelude.{ℕ, ◌+◌, List, [], ◌∷◌, ◌++◌, Option, Some, None, unwrap_or, ◌==◌, if◌then◌else◌}
-use Rattle.mp_wave.specs.Waveform.{Waveform, held_from}
+use Rattle.std.specs.Prelude.{ℕ, ◌+◌, ◌≤◌, ◌<◌, List, [], ◌∷◌, ◌++◌, Option, Some, None, unwrap_or, ◌==◌, if◌then◌else◌}
+use Rattle.mp_wave.specs.Waveform.{Waveform, held_from, last_from}
+use Rattle.mp_wave.specs.Building.{Building}
 use Rattle.mp_netlist.specs.declared.wire_record.WireRecord.{WireRecord}
 
--- the wave up to the present time, the next time, the level now, and the changes that are known ahead, with the last level of these
+-- the wave as far as it is known, the first time whose level may still be given, the level now, and the changes after now
 pub record Progress : Type 0 where
   pub wave : Waveform
   pub next : ℕ
   pub present : ℕ
-  pub latest : ℕ
   pub ahead : List (ℕ × ℕ)
+
+-- the times rise strictly, from a first one, and end below another
+abbrev pub AreTimesIn : ℕ → ℕ → List (ℕ × ℕ) → Type 0
+AreTimesIn first end [] = Unit {0}
+AreTimesIn first end (change ∷ changes) = (first ≤ change.0) × (change.0 < end) × AreTimesIn (change.0 + 1) end changes
+
+-- what is built when a level is held from a time on
+abbrev pub held_on : Building → ℕ → ℕ → Building
+held_on built time level = record { wave = held_from built.wave time level; next = time + 1 }
+
+-- what is built when one level after the other is held
+abbrev pub held_all : Building → List (ℕ × ℕ) → Building
+held_all built [] = built
+held_all built (change ∷ changes) = held_all (held_on built change.0 change.1) changes
+
+abbrev pub unchanged : ℕ → Building
+unchanged initial = record { wave = record { initial = initial; changes = [] }; next = 1 }
+
+abbrev pub started : WireRecord → Building
+started wire = held_all (unchanged wire.initial) (unwrap_or wire.stimulus [])
 
 -- a wire at time 0
 abbrev pub first_progress : WireRecord → Progress
 first_progress wire = record {
-  wave = record { initial = wire.initial; changes = [] };
-  next = 1;
+  wave = (started wire).wave;
+  next = (started wire).next;
   present = wire.initial;
-  latest = wire.initial;
-  ahead = unwrap_or wire.stimulus [];
+  ahead = (started wire).wave.changes;
 }
 
 -- the level of a change at this time
@@ -31,20 +50,22 @@ abbrev pub rest_after : List (ℕ × ℕ) → ℕ → List (ℕ × ℕ)
 rest_after [] time = []
 rest_after (change ∷ changes) time = if change.0 == time then changes else change ∷ changes
 
-abbrev pub next_level : Progress → ℕ
-next_level track = unwrap_or (due_level track.ahead track.next) track.present
-
--- a unit of time later
-abbrev pub advanced : Progress → Progress
-advanced track = record {
-  wave = held_from track.wave track.next (next_level track);
-  next = track.next + 1;
-  present = next_level track;
-  latest = track.latest;
-  ahead = rest_after track.ahead track.next;
+-- a unit of time later, at this time
+abbrev pub advanced : ℕ → Progress → Progress
+advanced time track = record track {
+  present = unwrap_or (due_level track.ahead time) track.present;
+  ahead = rest_after track.ahead time;
 }
 
--- from a time on another level is known
-abbrev pub expecting : Progress → ℕ → ℕ → Progress
-expecting track time level =
-    if track.latest == level then track else record track { latest = level; ahead = track.ahead ++ (time, level) ∷ [] }
+-- one more change, where the level is another than the last
+abbrev pub one_more : Waveform → ℕ → ℕ → List (ℕ × ℕ) → List (ℕ × ℕ)
+one_more wave time level changes = if last_from wave.initial wave.changes == level then changes else changes ++ (time, level) ∷ []
+
+-- from a time on the level is known
+abbrev pub expecting : ℕ → ℕ → Progress → Progress
+expecting time level track = record {
+  wave = held_from track.wave time level;
+  next = time + 1;
+  present = track.present;
+  ahead = one_more track.wave time level track.ahead;
+}

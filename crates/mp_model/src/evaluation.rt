@@ -1,13 +1,13 @@
 //! The plain evaluator: unit by unit from time zero, on one thread.
-ghost use Rattle.std.specs.Prelude.{◌≡◌, ◌+◌, ◌-◌, ◌^◌, ◌<◌, ◌≤◌, All, length, map, take, slice_index_or, option_map, IfOk, OnOk, IsTrue, ℕ};
+ghost use Rattle.std.specs.Prelude.{◌≡◌, ◌+◌, ◌-◌, ◌^◌, ◌<◌, ◌≤◌, length, map, take, slice_index_or, option_map, Some, IfOk, OnOk, IsTrue, ℕ};
 ghost use Rattle.mp_netlist.specs.declared.ids.WireId.{WireId as Wire};
 ghost use Rattle.mp_netlist.specs.Slots.{slot_at};
-ghost use Rattle.mp_netlist.specs.Circuit.{IsCircuit, module_width};
+ghost use Rattle.mp_netlist.specs.Circuit.{IsCircuit, IsWire, module_width, module_at};
 ghost use Rattle.mp_modules.specs.Kinds.{are_params};
 ghost use Rattle.mp_storage.specs.AnyModules.{is_width_of};
 ghost use Rattle.mp_model.specs.Levels.{built};
 ghost use Rattle.mp_model.specs.Tracks.{Progress, first_progress, advanced, expecting};
-ghost use Rattle.mp_model.specs.Evaluations.{AreTracks, AreCells, delivered, present_at, with_expected, with_answer, answer_at, IsEarly, first_cell};
+ghost use Rattle.mp_model.specs.Evaluations.{AreTracks, AreCells, delivered, present_at, with_expected, with_answer, answer_at, IsOpenAt, first_cell};
 ghost use Rattle.mp_model.specs.Cells.{answered, after_answer};
 ghost use Rattle.mp_model.specs.Waves.{state, waves};
 
@@ -29,13 +29,14 @@ pub fn plain_waves(alloc: Global, netlist: &Netlist) -> Result<Vec<Option<Wave>>
     let mut cells = first_cells(alloc, netlist)?;
     answer_all(netlist, &mut tracks, &mut cells, 0)?;
     for time in 1..horizon {
-        advance_all(&mut tracks)?;
+        advance_all(&mut tracks, time);
         answer_all(netlist, &mut tracks, &mut cells, time)?;
     }
     finished(alloc, tracks)
 }
 
 fn first_tracks(alloc: Global, netlist: &Netlist) -> Result<Vec<Option<Track>>, AllocError>
+    requires { IsCircuit netlist.now }
     ensures { IfOk result (λ tracks. tracks.items ≡ map (option_map first_progress) netlist.now.wires) }
 {
     let mut tracks = Vec::new(alloc);
@@ -46,6 +47,7 @@ fn first_tracks(alloc: Global, netlist: &Netlist) -> Result<Vec<Option<Track>>, 
 }
 
 fn first_track(alloc: Global, netlist: &Netlist, wire: WireId) -> Result<Option<Track>, AllocError>
+    requires { IsCircuit netlist.now }
     ensures { IfOk result (λ track. track ≡ option_map first_progress (slot_at netlist.now.wires wire.0)) }
 {
     match netlist.wire(wire) {
@@ -113,24 +115,20 @@ fn first_wire(wires: &[WireId]) -> WireId
     }
 }
 
-/// Each wire goes on to the next unit of time.
-fn advance_all(tracks: &mut Vec<Option<Track>>) -> Result<(), AllocError>
-    requires { All IsEarly tracks.old.items }
-    ensures { OnOk result (tracks.new.items ≡ map (option_map advanced) tracks.old.items) }
+/// Each wire goes on to the next unit of time, which is this one.
+fn advance_all(tracks: &mut Vec<Option<Track>>, time: u32)
+    ensures { tracks.new.items ≡ map (option_map (advanced time)) tracks.old.items }
 {
     for slot in tracks.iter_mut() {
-        advance(slot)?;
+        advance(slot, time);
     }
-    Ok(())
 }
 
-fn advance(slot: &mut Option<Track>) -> Result<(), AllocError>
-    requires { IsEarly slot.old }
-    ensures { OnOk result (slot.new ≡ option_map advanced slot.old) }
+fn advance(slot: &mut Option<Track>, time: u32)
+    ensures { slot.new ≡ option_map (advanced time) slot.old }
 {
-    match slot {
-        Some(track) => track.advance(),
-        None => Ok(()),
+    if let Some(track) = slot {
+        track.advance(time);
     }
 }
 
@@ -169,13 +167,13 @@ fn answer(
     ensures tracks { OnOk result (AreTracks netlist.now (delivered time (id.0 + 1) 0) time tracks.new.items) }
     ensures cells { OnOk result (AreCells netlist.now time (id.0 + 1) cells.new.items) }
 {
-    let Some(record) = netlist.module(id) else {
+    let Some(found) = netlist.module(id) else {
         return Ok(());
     };
-    let inputs = record.inputs.as_slice();
+    let inputs = found.inputs.as_slice();
     let levels = present_levels(tracks.as_slice(), inputs);
     match answer_of(cells, id, time, &levels[..inputs.len()]) {
-        Some(memory) => deliver(netlist, tracks, id, memory, time),
+        Some(memory) => deliver(netlist, tracks, id, found, memory, time),
         None => Ok(()),
     }
 }
@@ -227,26 +225,30 @@ fn present_level(tracks: &[Option<Track>], wire: WireId) -> u64
     }
 }
 
-/// A module's outputs give their wires the levels that its state at a time has, each after its delay.
+/// A module's outputs give their wires the levels that its state at a time has, each after its delay. What comes at the horizon or
+/// later is in no wave.
 fn deliver(
     netlist: &Netlist,
     tracks: &mut Vec<Option<Track>>,
     id: ModuleId,
+    found: &ModuleRecord,
     memory: Memory,
     time: u32,
 ) -> Result<(), AllocError>
     requires form { IsCircuit netlist.now }
     requires time { time < netlist.now.horizon }
+    requires found { module_at netlist.now id.0 ≡ Some found.now }
     requires memory { memory ≡ state netlist.now id.0 time }
     requires tracks { AreTracks netlist.now (delivered time id.0 0) time tracks.old.items }
     ensures { OnOk result (AreTracks netlist.now (delivered time (id.0 + 1) 0) time tracks.new.items) }
 {
-    let Some(record) = netlist.module(id) else {
-        return Ok(());
-    };
-    for (p, output) in record.outputs.as_slice().iter().enumerate() {
+    let horizon = netlist.horizon();
+    for (p, output) in found.outputs.as_slice().iter().enumerate() {
+        let later = time + output.delay;
         if let Some(wire) = output.wire {
-            expect(tracks, wire, time + output.delay, memory.output(p))?;
+            if later < horizon {
+                expect(tracks, wire, later, memory.output(p))?;
+            }
         }
     }
     Ok(())
@@ -259,6 +261,8 @@ fn expect(
     time: u32,
     level: u64,
 ) -> Result<(), AllocError>
+    requires free { IsOpenAt time (slot_at tracks.old.items wire.0) }
+    requires time { time < 2 ^ 32 - 1 }
     ensures { OnOk result (tracks.new.items ≡ with_expected tracks.old.items wire.0 time level) }
 {
     match tracks.get_mut(wire.0 as usize) {
@@ -268,7 +272,9 @@ fn expect(
 }
 
 fn expect_in(slot: &mut Option<Track>, time: u32, level: u64) -> Result<(), AllocError>
-    ensures { OnOk result (slot.new ≡ option_map (λ track. expecting track time level) slot.old) }
+    requires free { IsOpenAt time slot.old }
+    requires time { time < 2 ^ 32 - 1 }
+    ensures { OnOk result (slot.new ≡ option_map (expecting time level) slot.old) }
 {
     match slot {
         Some(track) => track.expect(time, level),

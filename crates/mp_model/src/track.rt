@@ -1,45 +1,46 @@
 //! The wave of one wire while time passes.
-ghost use Rattle.std.specs.Prelude.{◌≡◌, ◌-◌, ◌^◌, ◌<◌, IfOk, OnOk, ◌+◌};
+ghost use Rattle.std.specs.Prelude.{◌≡◌, ◌≤◌, ◌-◌, ◌^◌, ◌<◌, IfOk, OnOk, IfSome, ◌+◌};
 
 use mp_netlist::WireRecord;
 use mp_wave::{Wave, WaveBuilder};
 use std::alloc::{AllocError, Global};
-use std::collections::VecDeque;
 use std::marker::Model;
 
-/// A wire's wave up to the present time, its level now, and the changes that are known ahead.
+/// A wire's wave as far as it is known, how many of its changes are past, and its level now.
 #[derive(Drop)]
 pub(crate) struct Track {
     builder: WaveBuilder,
+    past: usize,
     present: u64,
-    latest: u64,
-    ahead: VecDeque<(u32, u64)>,
 }
 
 impl Model for Track {
+    ghost use Rattle.std.specs.Prelude.{◌≤◌, length, drop};
     ghost use Rattle.mp_model.specs.Tracks.{Progress};
 
     ghost Value = { Progress };
 
-    ghost view = { λ track. record { wave = track.builder.wave; next = track.builder.next; present = track.present; latest = track.latest; ahead = track.ahead.items } };
+    ghost view = { λ track. record { wave = track.builder.wave; next = track.builder.next; present = track.present; ahead = drop track.past track.builder.wave.changes } };
+
+    ghost invariant = { λ track. track.past ≤ length track.builder.wave.changes };
 }
 
 impl Track {
-    ghost use Rattle.mp_model.specs.Tracks.{first_progress, advanced, expecting};
+    ghost use Rattle.mp_model.specs.Tracks.{AreTimesIn, first_progress, advanced, expecting};
 
     /// A wire's track at time 0: its stimulus, if any, is known ahead.
     pub(crate) fn new(alloc: Global, wire: &WireRecord) -> Result<Self, AllocError>
+        requires { IfSome wire.now.stimulus (AreTimesIn 1 (2 ^ 32 - 1)) }
         ensures { IfOk result (λ track. track ≡ first_progress wire.now) }
     {
-        let ahead = match &wire.stimulus {
-            Some(stimulus) => Vec::from_slice(alloc, stimulus.as_slice())?,
-            None => Vec::new(alloc),
-        };
+        let mut builder = WaveBuilder::new(alloc, wire.initial);
+        if let Some(stimulus) = &wire.stimulus {
+            hold_all(&mut builder, stimulus.as_slice())?;
+        }
         Ok(Track {
-            builder: WaveBuilder::new(alloc, wire.initial),
+            builder,
+            past: 0,
             present: wire.initial,
-            latest: wire.initial,
-            ahead: VecDeque::from_vec(ahead),
         })
     }
 
@@ -50,32 +51,29 @@ impl Track {
         self.present
     }
 
-    /// Goes on to the next unit of time.
-    pub(crate) fn advance(&mut self) -> Result<(), AllocError>
-        requires { self.old.next < 2 ^ 32 - 1 }
-        ensures { OnOk result (self.new ≡ advanced self.old) }
+    /// Goes on to the next unit of time, which is this one.
+    pub(crate) fn advance(&mut self, time: u32)
+        ensures { self.new ≡ advanced time self.old }
     {
-        let time = self.builder.next_time();
-        if let Some(level) = take_due(&mut self.ahead, time) {
-            self.present = level;
+        match self.builder.wave().changes().get(self.past) {
+            Some(change) if change.0 == time => {
+                self.present = change.1;
+                self.past += 1;
+            }
+            _ => {}
         }
-        self.builder.push_level(time, self.present)?;
-        Ok(())
     }
 
-    /// From a time on, later than all that is known ahead, the level is this one.
+    /// From a time on, which is not earlier than the first whose level may still be given, the level is this one.
     pub(crate) fn expect(&mut self, time: u32, level: u64) -> Result<(), AllocError>
-        ensures { OnOk result (self.new ≡ expecting self.old time level) }
+        requires later { self.old.next ≤ time }
+        requires last { time < 2 ^ 32 - 1 }
+        ensures { OnOk result (self.new ≡ expecting time level self.old) }
     {
-        if self.latest == level {
-            return Ok(());
-        }
-        self.ahead.push_back((time, level))?;
-        self.latest = level;
-        Ok(())
+        self.builder.push_level(time, level)
     }
 
-    /// The wave up to the present time.
+    /// The wave as far as it is known.
     pub(crate) fn finish(self) -> Wave
         ensures { result ≡ self.wave }
     {
@@ -83,19 +81,17 @@ impl Track {
     }
 }
 
-ghost use Rattle.mp_model.specs.Tracks.{due_level, rest_after};
+ghost use Rattle.mp_model.specs.Tracks.{AreTimesIn, held_all};
 
-/// Takes the first change if it comes at this time, and gives its level.
-fn take_due(ahead: &mut VecDeque<(u32, u64)>, time: u32) -> Option<u64>
-    ensures level { result ≡ due_level ahead.old.items time }
-    ensures rest { ahead.new.items ≡ rest_after ahead.old.items time }
+/// Holds the level of each change from its time on.
+fn hold_all(builder: &mut WaveBuilder, changes: &[(u32, u64)]) -> Result<(), AllocError>
+    requires { AreTimesIn builder.old.next (2 ^ 32 - 1) changes.now }
+    ensures { OnOk result (builder.new ≡ held_all builder.old changes.now) }
 {
-    match ahead.front() {
-        Some(change) if change.0 == time => {
-            let level = change.1;
-            let _ = ahead.pop_front();
-            Some(level)
-        }
-        _ => None,
+    let mut rest = changes;
+    while let Some((change, later)) = rest.split_first() {
+        builder.push_level(change.0, change.1)?;
+        rest = later;
     }
+    Ok(())
 }

@@ -1,10 +1,13 @@
 //! Lines of waves.
-ghost use Rattle.std.specs.Prelude.{◌≡◌, ◌∷◌, [], ◌++◌, OnOk};
+ghost use Rattle.std.specs.Prelude.{◌≡◌, ◌≤◌, ◌∷◌, [], ◌++◌, drop, OnOk};
 ghost use Rattle.std.specs.Fmt.{decimal};
 ghost use Rattle.mp_text.specs.WaveLines.{change_text, changes_text, wave_line};
 
-use itoa::Buffer;
+use itoa::{Buffer, write_digits};
 use std::alloc::AllocError;
+
+/// How many bytes a change takes at most: two signs and the digits of its time and its value.
+const MOST_BYTES: usize = 32;
 
 /// Puts a wire's line behind the text: its name, its first level, ` T=V` for each change, and a
 /// line feed. Where memory is wanting, a part of the line may stand behind the text.
@@ -37,10 +40,21 @@ pub fn push_changes(text: &mut Vec<u8>, changes: &[(u32, u64)]) -> Result<(), Al
 fn push_change(text: &mut Vec<u8>, time: u32, value: u64) -> Result<(), AllocError>
     ensures { OnOk result (text.new.items ≡ text.old.items ++ change_text (time, value)) }
 {
-    text.push(b' ')?;
-    push_number(text, u64::from(time))?;
-    text.push(b'=')?;
-    push_number(text, value)
+    let mut bytes = [0; MOST_BYTES];
+    let start = write_change(time, value, &mut bytes);
+    text.extend_from_slice(&bytes[start..])
+}
+
+/// Writes ` T=V` at the end of the bytes, and gives its start: so it is copied behind a text at once.
+fn write_change(time: u32, value: u64, bytes: &mut [u8; MOST_BYTES]) -> usize
+    ensures start { result ≤ MOST_BYTES }
+    ensures written { drop result bytes.new ≡ change_text (time, value) }
+{
+    let value_start = write_digits(value, bytes, MOST_BYTES);
+    bytes[value_start - 1] = b'=';
+    let time_start = write_digits(u64::from(time), bytes, value_start - 1);
+    bytes[time_start - 1] = b' ';
+    time_start - 1
 }
 
 /// Puts the number in decimal digits behind the text.

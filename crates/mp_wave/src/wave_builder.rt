@@ -83,6 +83,14 @@ impl WaveBuilder {
     }
 
     /// The wave so far, its last level held.
+    pub fn wave(&self) -> &Wave
+        ensures value { result.now ≡ self.now.wave }
+        ensures form { IsBuilding self.now }
+    {
+        &self.wave
+    }
+
+    /// The wave so far, its last level held, and no more of it.
     pub fn finish(self) -> Wave
         ensures value { result ≡ self.wave }
         ensures form { IsWaveform result }

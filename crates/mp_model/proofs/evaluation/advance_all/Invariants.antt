@@ -4,4 +4,4 @@ use Rattle.mp_model.proofs.evaluation.advance_all.Given as goal
 
 -- the tracks so far have gone on, and the others stand
 abbrev pub invariant-loop-slot : goal.invariant-loop-slot
-invariant-loop-slot l = l.slot-items ≡ map (option_map advanced) (take l.slot-index l.fn.tracks.items) ++ drop l.slot-index l.fn.tracks.items
+invariant-loop-slot l = l.slot-items ≡ map (option_map (advanced l.time)) (take l.slot-index l.fn.tracks.items) ++ drop l.slot-index l.fn.tracks.items

@@ -32,13 +32,13 @@ inputs_read n ok known m t r tracks slice inputs levels at are same_tracks same_
 pub returns-in-None : goal.returns-in-None
 returns-in-None c =
     let n = c.args.netlist.now in
-    let r = c.in-Some.record.now in
+    let r = c.in-Some.found.now in
     absurd (answer_some n c.args.id.0 c.args.time r c.args.cells.now.items (take (length c.as_slice-inputs.result.now) c.present_levels-levels.result) (sym c.in-Some.ensures.value) c.requires.cells c.in-None.ensures.given)
 
 pub deliver-requires-clause-memory : goal.deliver-requires-clause-memory
 deliver-requires-clause-memory c =
     let n = c.args.netlist.now in
-    let r = c.in-Some.record.now in
+    let r = c.in-Some.found.now in
     let at : module_at n c.args.id.0 ≡ Some r = sym c.in-Some.ensures.value in
     let read = inputs_read n c.requires.form (delivered c.args.time c.args.id.0 0) c.args.id.0 c.args.time r c.args.tracks.now.items c.as_slice.result.now c.as_slice-inputs.result.now _ at c.requires.tracks c.as_slice.ensures.value c.as_slice-inputs.ensures c.present_levels-levels.ensures in
     answer_is n c.requires.form c.args.id.0 c.args.time r c.args.cells.now.items _ c.in-Some-answer_of.memory at read c.requires.cells c.in-Some-answer_of.ensures.given
@@ -46,7 +46,7 @@ deliver-requires-clause-memory c =
 pub returns-in-Some-answer_of-clause-cells : goal.returns-in-Some-answer_of-clause-cells
 returns-in-Some-answer_of-clause-cells c =
     let n = c.args.netlist.now in
-    let r = c.in-Some.record.now in
+    let r = c.in-Some.found.now in
     let at : module_at n c.args.id.0 ≡ Some r = sym c.in-Some.ensures.value in
     let read = inputs_read n c.requires.form (delivered c.args.time c.args.id.0 0) c.args.id.0 c.args.time r c.args.tracks.now.items c.as_slice.result.now c.as_slice-inputs.result.now _ at c.requires.tracks c.as_slice.ensures.value c.as_slice-inputs.ensures c.present_levels-levels.ensures in
     on_ok c.deliver.result _ (subst (AreCells n c.args.time (c.args.id.0 + 1)) (sym c.in-Some-answer_of.ensures.kept) (cells_answered n c.requires.form c.args.id.0 c.args.time r c.args.cells.now.items _ at read c.requires.cells))

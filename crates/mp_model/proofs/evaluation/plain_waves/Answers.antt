@@ -3,7 +3,7 @@ use Rattle.mp_model.specs.Tracks.{advanced}
 use Rattle.mp_model.specs.Evaluations.{AreTracks, AreCells, delivered}
 use Rattle.mp_model.proofs.TracksLemmas.{tracks_advanced}
 use Rattle.mp_model.proofs.CellsLemmas.{first_cells_are, cells_next}
-use Rattle.mp_model.proofs.EndsLemmas.{first_tracks_are, tracks_early, waves_are}
+use Rattle.mp_model.proofs.EndsLemmas.{first_tracks_are, waves_are}
 use Rattle.mp_model.proofs.evaluation.plain_waves.Goals as goal
 
 pub answer_all-requires-clause-tracks : goal.answer_all-requires-clause-tracks
@@ -14,17 +14,13 @@ answer_all-requires-clause-tracks c =
 pub answer_all-requires-clause-cells : goal.answer_all-requires-clause-cells
 answer_all-requires-clause-cells c = subst (AreCells c.args.netlist.now 0 0) (sym c.in_ok-cells.ensures) (first_cells_are c.args.netlist.now)
 
-pub advance_all-requires : goal.advance_all-requires
-advance_all-requires c =
-    tracks_early c.args.netlist.now (delivered (c.loop-time.time - 1) (length c.args.netlist.now.modules) 0) (c.loop-time.time - 1) c.loop-time.tracks.items c.loop-time.invariant.0 (omega arith)
-
 pub answer_all-requires-in-loop-time-clause-tracks : goal.answer_all-requires-in-loop-time-clause-tracks
 answer_all-requires-in-loop-time-clause-tracks c =
     let n = c.args.netlist.now in
     let t = c.loop-time.time in
     let e : t - 1 + 1 ≡ t = omega arith in
-    subst (AreTracks n (delivered t 0 0) t) (sym c.in_ok-advance_all.ensures)
-    (subst (λ u. AreTracks n (delivered u 0 0) u (map (option_map advanced) c.loop-time.tracks.items)) e (tracks_advanced n c.horizon-horizon.ensures.form (t - 1) c.loop-time.tracks.items c.loop-time.invariant.0))
+    subst (AreTracks n (delivered t 0 0) t) (sym c.advance_all.ensures)
+    (subst (λ u. AreTracks n (delivered u 0 0) u (map (option_map (advanced u)) c.loop-time.tracks.items)) e (tracks_advanced n c.horizon-horizon.ensures.form (t - 1) c.loop-time.tracks.items (omega arith) c.loop-time.invariant.0))
 
 pub answer_all-requires-in-loop-time-clause-cells : goal.answer_all-requires-in-loop-time-clause-cells
 answer_all-requires-in-loop-time-clause-cells c =
@@ -37,4 +33,4 @@ pub returns : goal.returns
 returns c =
     let n = c.args.netlist.now in
     let t = c.loop-time.time - 1 in
-    subst (λ found. IfOk c.finished.result (λ waves. waves.items ≡ found)) (waves_are n (delivered t (length n.modules) 0) t c.loop-time.tracks.items (omega arith) c.loop-time.invariant.0) c.finished.ensures
+    subst (λ found. IfOk c.finished.result (λ waves. waves.items ≡ found)) (waves_are n c.horizon-horizon.ensures.form t c.loop-time.tracks.items (omega arith) c.loop-time.invariant.0) c.finished.ensures
