@@ -1,12 +1,13 @@
 -- The lines of waves, one after the other.
-use Rattle.std.proofs.Common.{◌≡◌, ℕ, ◌+◌, List, [], ◌∷◌, ◌++◌, Option, Some, zero, suc, refl, sym, ap, ◌∙◌, add-one, add-zero, arith}
+use Rattle.std.proofs.Common.{◌≡◌, ℕ, ◌+◌, ◌-◌, ◌≤◌, List, [], ◌∷◌, ◌++◌, append_assoc, length, Option, Some, zero, suc, refl, sym, ap, ◌∙◌, add-one, add-zero, add-suc, arith}
+use Rattle.std.proofs.lemmas.List.{append-nil}
 use Rattle.mp_wave.specs.Waveform.{Waveform}
 use Rattle.mp_netlist.specs.declared.wire_record.WireRecord.{WireRecord}
 use Rattle.mp_netlist.specs.Circuit.{Circuit, wire_at}
 use Rattle.mp_netlist.specs.Slots.{slot_at}
 use Rattle.mp_model.specs.Waves.{wave, waves, waves_from, slot_wave}
 use Rattle.mp_text.specs.WaveLines.{wave_line}
-use Rattle.mpwb.specs.Outputs.{slot_line, lines_below}
+use Rattle.mpwb.specs.Outputs.{slot_line, lines_below, waves_text}
 
 -- ---- the wave of a wire that stands
 
@@ -41,3 +42,17 @@ lines_below-suc n w = refl
 
 pub lines_below-next : (n : Circuit) (w : ℕ) → lines_below n (w + 1) ≡ lines_below n w ++ slot_line (wire_at n w) (wave n w)
 lines_below-next n w = rw add-one (lines_below-suc n w)
+
+lines_below-add : (n : Circuit) (k d : ℕ) → (rest : List ℕ) × (lines_below n (k + d) ≡ lines_below n k ++ rest)
+lines_below-add n k zero = ([], ap (lines_below n) (add-zero k) ∙ sym (append-nil (lines_below n k)))
+lines_below-add n k (suc d) =
+    let before = lines_below-add n k d in
+    let line = slot_line (wire_at n (k + d)) (wave n (k + d)) in
+    (before.0 ++ line, ap (lines_below n) (add-suc k d) ∙ lines_below-suc n (k + d) ∙ ap (λ l. l ++ line) before.1 ∙ append_assoc (lines_below n k) before.0 line)
+
+-- the lines below a number are the front of all
+pub lines_below-front : (n : Circuit) (k : ℕ) → k ≤ length n.wires → (rest : List ℕ) × (waves_text n ≡ lines_below n k ++ rest)
+lines_below-front n k within =
+    let over = lines_below-add n k (length n.wires - k) in
+    let all : k + (length n.wires - k) ≡ length n.wires = omega arith in
+    (over.0, ap (lines_below n) (sym all) ∙ over.1)

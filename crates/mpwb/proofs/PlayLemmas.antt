@@ -1,10 +1,8 @@
 -- A script, line after line.
-use Rattle.std.proofs.Common.{◌≡◌, ℕ, ◌+◌, ◌<◌, ◌≤◌, ◌⊎◌, inl, inr, Bool, List, [], ◌∷◌, ◌++◌, append_assoc, length, length-append, take, Option, Some, None, IfSome, Result, Ok, Err, refl, sym, ap, subst, ◌∙◌, arith}
+use Rattle.std.proofs.Common.{◌≡◌, ℕ, ◌<◌, ◌≤◌, ◌⊎◌, inl, inr, Bool, List, [], ◌∷◌, ◌++◌, append_assoc, length, take, Option, Some, None, IfSome, Result, Ok, Err, refl, sym, ap, subst, ◌∙◌, arith}
 use Rattle.std.specs.Io.KnownBytes.{Appends}
 use Rattle.std.proofs.lemmas.Bool.{cases_lt, lt-leb, le-leb}
-use Rattle.std.proofs.lemmas.List.{append-nil, take-append-le, take_all, length-take-le}
-use Rattle.std.proofs.Math.Seq.{take-append_seam, take-append-add}
-use Rattle.std.proofs.KnownBytes.{Appends-trans}
+use Rattle.std.proofs.lemmas.List.{append-nil, take_all, length-take-le}
 use Rattle.mp_netlist.specs.Circuit.{Circuit}
 use Rattle.mp_model.specs.StreamBytes.{AppendsPrefix}
 use Rattle.mp_text.specs.declared.text_code.TextCode.TheVariants as texts
@@ -22,28 +20,8 @@ use Rattle.mpwb.specs.Keepers.{Kept, opened}
 use Rattle.mpwb.specs.Replies.{reply, kept_next}
 use Rattle.mpwb.specs.Plays.{replies, first_netlist, script_text, play_output, Played, PlayedScript, Opens}
 use Rattle.mpwb.specs.RunFaults.{fault_of_text, fault_at}
-use Rattle.mpwb.specs.Runs.{Wrote, AppendsPart, Refuses}
-
--- ---- parts of what is written
-
--- what was written so far is a part of the whole
-pub part_of : (whole done rest : List ℕ) (old new : Option (List ℕ)) → whole ≡ done ++ rest → Appends old new done → AppendsPart old new whole
-part_of whole done rest old new same written =
-    let cut : take (length done) whole ≡ done = ap (take (length done)) same ∙ take-append_seam done rest in
-    (length done, subst (Appends old new) (sym cut) written)
-
--- where the next text is written in part, so is the whole
-pub prefix_of : (whole done text rest : List ℕ) (old mid new : Option (List ℕ)) → whole ≡ done ++ (text ++ rest)
-    → Appends old mid done → AppendsPrefix mid new text → AppendsPrefix old new whole
-prefix_of whole done text rest old mid new same written part =
-    let p = part.0 in
-    let less : p < length text = part.1 in
-    let at_most : p ≤ length text = omega arith in
-    let cut : take (length done + p) whole ≡ done ++ take p text =
-    ap (take (length done + p)) same ∙ take-append-add done (text ++ rest) p ∙ ap (λ l. done ++ l) (take-append-le p text rest at_most) in
-    let long : length whole ≡ length done + (length text + length rest) =
-    ap length same ∙ length-append done (text ++ rest) ∙ ap (λ m. length done + m) (length-append text rest) in
-    (length done + p, omega arith, subst (Appends old new) (sym cut) (Appends-trans old mid new done (take p text) written part.2))
+use Rattle.mpwb.specs.Runs.{Wrote, Refuses}
+use Rattle.mpwb.proofs.RunLemmas.{part_of, prefix_of}
 
 -- ---- the replies so far
 

@@ -1,8 +1,11 @@
 -- The ends of a run.
-use Rattle.std.proofs.Common.{◌≡◌, ℕ, ◌<◌, ◌≤◌, ◌⊎◌, inl, inr, true, false, IfSome, IfErr, List, take, length, Option, Some, None, Result, Ok, Err, refl, sym, ap, subst, ◌∙◌, true≢false, arith}
+use Rattle.std.proofs.Common.{◌≡◌, ℕ, ◌+◌, ◌<◌, ◌≤◌, ◌⊎◌, inl, inr, true, false, IfSome, IfErr, List, ◌++◌, take, length, length-append, Option, Some, None, Result, Ok, Err, refl, sym, ap, subst, ◌∙◌, true≢false, arith}
+use Rattle.std.specs.Io.KnownBytes.{Appends}
 use Rattle.std.proofs.lemmas.Bool.{cases_lt, lt-leb}
-use Rattle.std.proofs.lemmas.List.{take_all, length-take-le}
-use Rattle.std.proofs.KnownBytes.{Appends-nil, Keeps-refl}
+use Rattle.std.proofs.lemmas.List.{take_all, length-take-le, take-append-le}
+use Rattle.std.proofs.Math.Seq.{take-append_seam, take-append-add}
+use Rattle.std.proofs.KnownBytes.{Appends-nil, Appends-trans, Keeps-refl}
+use Rattle.mp_model.specs.StreamBytes.{AppendsPrefix}
 use Rattle.mp_text.specs.declared.text_code.TextCode.TheVariants as texts
 use Rattle.mp_text.specs.Texts.{text_at}
 use Rattle.mpwb.specs.declared.options.Options.{Options}
@@ -11,7 +14,7 @@ use Rattle.mpwb.specs.declared.run_fault.RunFault.TheVariants.{Text, BadCount, R
 use Rattle.mpwb.specs.OptionLimits.{has_valid_crew}
 use Rattle.mpwb.specs.Outputs.{output_of, waves_text, waves_output}
 use Rattle.mpwb.specs.RunFaults.{counted_reads}
-use Rattle.mpwb.specs.Runs.{Wrote, Refuses, comes_first}
+use Rattle.mpwb.specs.Runs.{Wrote, AppendsPart, Refuses, comes_first}
 
 -- ---- one byte more than a text may have is enough to read
 
@@ -35,6 +38,27 @@ for_input P None text options limit front same holds = tt
 for_input P (Some input) text options limit front same holds =
     let read : text_at text ≡ text_at input = ap text_at front ∙ text_at-take limit input same in
     subst P (ap (λ t. output_of waves_text t (has_valid_crew options)) read) holds
+
+-- ---- parts of what is written
+
+-- what was written so far is a part of the whole
+pub part_of : (whole done rest : List ℕ) (old new : Option (List ℕ)) → whole ≡ done ++ rest → Appends old new done → AppendsPart old new whole
+part_of whole done rest old new same written =
+    let cut : take (length done) whole ≡ done = ap (take (length done)) same ∙ take-append_seam done rest in
+    (length done, subst (Appends old new) (sym cut) written)
+
+-- where the next text is written in part, so is the whole
+pub prefix_of : (whole done text rest : List ℕ) (old mid new : Option (List ℕ)) → whole ≡ done ++ (text ++ rest)
+    → Appends old mid done → AppendsPrefix mid new text → AppendsPrefix old new whole
+prefix_of whole done text rest old mid new same written part =
+    let p = part.0 in
+    let less : p < length text = part.1 in
+    let at_most : p ≤ length text = omega arith in
+    let cut : take (length done + p) whole ≡ done ++ take p text =
+    ap (take (length done + p)) same ∙ take-append-add done (text ++ rest) p ∙ ap (λ l. done ++ l) (take-append-le p text rest at_most) in
+    let long : length whole ≡ length done + (length text + length rest) =
+    ap length same ∙ length-append done (text ++ rest) ∙ ap (λ m. length done + m) (length-append text rest) in
+    (length done + p, omega arith, subst (Appends old new) (sym cut) (Appends-trans old mid new done (take p text) written part.2))
 
 -- ---- a run that writes nothing
 

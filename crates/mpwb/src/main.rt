@@ -8,6 +8,7 @@ mod options;
 #[cfg(test)]
 mod play_tests;
 mod put_text;
+mod put_waves;
 mod replies;
 mod request;
 mod run_fault;

@@ -1,15 +1,17 @@
 //! The command `waves`.
 ghost use Rattle.std.specs.Prelude.{◌≡◌, ◌-◌, ◌^◌, ◌<◌, true, Ok, IfOk, IfErr, IfSome};
-ghost use Rattle.mpwb.specs.Outputs.{waves_output};
+ghost use Rattle.mp_model.specs.Waves.{waves as waves_of};
+ghost use Rattle.mpwb.specs.Outputs.{waves_output, waves_text};
 ghost use Rattle.mpwb.specs.RunFaults.{counted_reads, counted_writes};
 ghost use Rattle.mpwb.specs.Runs.{Wrote, Refuses, comes_first};
 
 use crate::options::Options;
-use crate::put_text::put_text;
+use crate::put_waves::put_waves;
 use crate::run_fault::RunFault;
-use crate::wave_lines::waves_text;
 use mp_model::{Sink, Source, plain_waves, take_all};
+use mp_netlist::Netlist;
 use mp_text::read_netlist;
+use mp_wave::Wave;
 use std::alloc::Global;
 
 /// How many bytes an input may have.
@@ -37,13 +39,18 @@ pub fn run_waves<S: Source, T: Sink>(
     ensures write_faults { T.fault_count sink.new ≡ counted_writes result (T.fault_count sink.old) }
 {
     let input = take_all(alloc, source, MAX_INPUT + 1)?;
-    let text = waves_output(alloc, input.as_slice(), options)?;
-    put_text(sink, text.as_slice())
+    let (netlist, waves) = waves_of_text(alloc, input.as_slice(), options)?;
+    put_waves(alloc, sink, &netlist, waves.as_slice())
 }
 
-/// The lines of the waves of a text's netlist.
-fn waves_output(alloc: Global, text: &[u8], options: &Options) -> Result<Vec<u8>, RunFault>
-    ensures output { IfOk result (λ lines. waves_output text.now options.now ≡ Ok lines.items) }
+/// A text's netlist, with the wave of each of its wires by number.
+fn waves_of_text(
+    alloc: Global,
+    text: &[u8],
+    options: &Options,
+) -> Result<(Netlist, Vec<Option<Wave>>), RunFault>
+    ensures output { IfOk result (λ both. waves_output text.now options.now ≡ Ok (waves_text both.0)) }
+    ensures waves { IfOk result (λ both. both.1.items ≡ waves_of both.0) }
     ensures refused { IfErr result (Refuses (waves_output text.now options.now)) }
 {
     let netlist = read_netlist(alloc, text)?;
@@ -51,5 +58,5 @@ fn waves_output(alloc: Global, text: &[u8], options: &Options) -> Result<Vec<u8>
         return Err(RunFault::BadCount);
     }
     let waves = plain_waves(alloc, &netlist)?;
-    Ok(waves_text(alloc, &netlist, waves.as_slice())?)
+    Ok((netlist, waves))
 }
