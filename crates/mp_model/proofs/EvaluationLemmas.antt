@@ -5,11 +5,12 @@ use Rattle.std.proofs.lemmas.Bool.Decides.{nat_tests}
 use Rattle.mp_wave.specs.Waveform.{Waveform, level_from, last_from, last_time, held_from, wave_upto}
 use Rattle.mp_wave.proofs.ChangesLemmas.{held}
 use Rattle.mp_modules.specs.Memories.{output_of}
-use Rattle.mp_netlist.specs.declared.ids.ModuleId.{ModuleId}
-use Rattle.mp_netlist.specs.declared.module_record.ModuleRecord.{ModuleRecord}
+use Rattle.mp_records.specs.declared.ids.ModuleId.{ModuleId}
+use Rattle.mp_records.specs.declared.module_record.ModuleRecord.{ModuleRecord}
+use Rattle.mp_records.specs.Outputs.{delay_of}
 use Rattle.mp_netlist.specs.declared.driver.Driver.{Driver}
 use Rattle.mp_netlist.specs.declared.driver.Driver.TheVariants.{Nothing, Stimulus, Port}
-use Rattle.mp_netlist.specs.Circuit.{Circuit, IsCircuit, wire_at, module_at, delay_of}
+use Rattle.mp_netlist.specs.Circuit.{Circuit, IsCircuit, wire_at, module_at}
 use Rattle.mp_netlist.specs.Drivers.{driver}
 use Rattle.mp_model.specs.Levels.{port_level, initial_of, driven_level}
 use Rattle.mp_model.specs.Tracks.{Progress, next_level, advanced, expecting, rest_after}

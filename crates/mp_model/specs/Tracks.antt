@@ -1,7 +1,7 @@
 -- The wave of one wire while time passes.
 use Rattle.std.specs.Prelude.{ℕ, ◌+◌, List, [], ◌∷◌, ◌++◌, Option, Some, None, unwrap_or, ◌==◌, if◌then◌else◌}
 use Rattle.mp_wave.specs.Waveform.{Waveform, held_from}
-use Rattle.mp_netlist.specs.declared.wire_record.WireRecord.{WireRecord}
+use Rattle.mp_records.specs.declared.wire_record.WireRecord.{WireRecord}
 
 -- the wave up to the present time, the next time, the level now, and the changes that are known ahead, with the last level of these
 pub record Progress : Type 0 where

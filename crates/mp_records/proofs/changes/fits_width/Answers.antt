@@ -2,8 +2,8 @@ use Rattle.std.proofs.Common.{◌≡◌, ℕ, ◌<◌, ◌≤◌, ◌^◌, true,
 use Rattle.std.proofs.Math.Nat.{pow-le-pow_right}
 use Rattle.std.proofs.lemmas.Bool.{le-leb}
 use Rattle.std.proofs.lemmas.Bool.Decides.{nat_tests}
-use Rattle.mp_netlist.specs.Stimuli.{fits_width}
-use Rattle.mp_netlist.proofs.changes.fits.Goals as goal
+use Rattle.mp_records.specs.Stimuli.{fits_width}
+use Rattle.mp_records.proofs.changes.fits_width.Goals as goal
 
 -- each number of 64 bits is below 2 to the power of a width from 64 on
 wide : (width value : ℕ) → 64 ≤ width → value < 2 ^ 64 → fits_width width value ≡ true
