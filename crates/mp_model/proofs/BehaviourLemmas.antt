@@ -5,8 +5,8 @@ use Rattle.std.proofs.lemmas.Bool.{cases_lt}
 use Rattle.mp_modules.specs.declared.memory.Memory.{Memory}
 use Rattle.mp_storage.specs.AnyModules.{settle, step}
 use Rattle.mp_modules.specs.Memories.{blank}
-use Rattle.mp_netlist.specs.declared.module_record.ModuleRecord.{ModuleRecord}
-use Rattle.mp_netlist.specs.declared.ids.WireId.{WireId}
+use Rattle.mp_records.specs.declared.module_record.ModuleRecord.{ModuleRecord}
+use Rattle.mp_records.specs.declared.ids.WireId.{WireId}
 use Rattle.mp_netlist.specs.Circuit.{Circuit, IsCircuit, module_at}
 use Rattle.mp_model.specs.Levels.{IsBehaviour, level_by, inputs_by, built}
 use Rattle.mp_model.specs.Histories.{state_in, level_in, inputs_in, next_state, slot_state, row_from, next_row, history}

@@ -8,13 +8,15 @@ use Rattle.mp_wave.specs.Waveform.{Waveform, IsWaveform, level_from, level_of, l
 use Rattle.mp_wave.specs.Building.{IsBuilding}
 use Rattle.mp_wave.proofs.WaveformLemmas.{same_levels}
 use Rattle.mp_wave.proofs.ChangesLemmas.{last_time-changes_after, levels_of_wave, form_of_wave}
-use Rattle.mp_netlist.specs.declared.module_record.ModuleRecord.{ModuleRecord}
-use Rattle.mp_netlist.specs.declared.wire_record.WireRecord.{WireRecord}
+use Rattle.mp_records.specs.declared.module_record.ModuleRecord.{ModuleRecord}
+use Rattle.mp_records.specs.declared.wire_record.WireRecord.{WireRecord}
 use Rattle.mp_netlist.specs.declared.driver.Driver.{Driver}
 use Rattle.mp_netlist.specs.declared.driver.Driver.TheVariants.{Nothing, Stimulus, Port}
 use Rattle.mp_netlist.specs.Slots.{slot_at}
-use Rattle.mp_netlist.specs.Stimuli.{is_stimulus, fits_width}
-use Rattle.mp_netlist.specs.Circuit.{Circuit, IsCircuit, wire_at, module_at, delay_of}
+use Rattle.mp_records.specs.Stimuli.{is_stimulus}
+use Rattle.mp_modules.specs.Levels.{fits_width}
+use Rattle.mp_netlist.specs.Circuit.{Circuit, IsCircuit, wire_at, module_at}
+use Rattle.mp_records.specs.Outputs.{delay_of}
 use Rattle.mp_netlist.specs.Drivers.{driver}
 use Rattle.mp_netlist.proofs.DriverLemmas.{stimulus_drives}
 use Rattle.mp_model.specs.Levels.{initial_of, stimulus_level, port_level, driven_level}

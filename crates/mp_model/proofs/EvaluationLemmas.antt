@@ -6,11 +6,12 @@ use Rattle.mp_wave.specs.Waveform.{Waveform, IsWaveform, level_from, level_of, l
 use Rattle.mp_wave.proofs.WaveformLemmas.{level_of-held_before, level_of-held_after}
 use Rattle.mp_wave.proofs.BuildingLemmas.{last_time-held, form-held}
 use Rattle.mp_modules.specs.Memories.{output_of}
-use Rattle.mp_netlist.specs.declared.ids.ModuleId.{ModuleId}
-use Rattle.mp_netlist.specs.declared.module_record.ModuleRecord.{ModuleRecord}
+use Rattle.mp_records.specs.declared.ids.ModuleId.{ModuleId}
+use Rattle.mp_records.specs.declared.module_record.ModuleRecord.{ModuleRecord}
+use Rattle.mp_records.specs.Outputs.{delay_of}
 use Rattle.mp_netlist.specs.declared.driver.Driver.{Driver}
 use Rattle.mp_netlist.specs.declared.driver.Driver.TheVariants.{Nothing, Stimulus, Port}
-use Rattle.mp_netlist.specs.Circuit.{Circuit, IsCircuit, wire_at, module_at, delay_of}
+use Rattle.mp_netlist.specs.Circuit.{Circuit, IsCircuit, wire_at, module_at}
 use Rattle.mp_netlist.specs.Drivers.{driver}
 use Rattle.mp_model.specs.Levels.{port_level, initial_of, driven_level}
 use Rattle.mp_model.specs.Tracks.{Progress, advanced, expecting, due_level, rest_after, one_more}

@@ -4,11 +4,12 @@ use Rattle.std.proofs.lemmas.List.{get_or_append_left, get_or_at, length_push, g
 use Rattle.std.proofs.lemmas.Bool.{cases_lt, lt-ltb}
 use Rattle.mp_modules.specs.declared.memory.Memory.{Memory}
 use Rattle.mp_modules.specs.Memories.{blank, output_of}
-use Rattle.mp_netlist.specs.declared.module_record.ModuleRecord.{ModuleRecord}
-use Rattle.mp_netlist.specs.declared.ports.Output.{Output}
+use Rattle.mp_records.specs.declared.module_record.ModuleRecord.{ModuleRecord}
+use Rattle.mp_records.specs.declared.ports.Output.{Output}
+use Rattle.mp_records.specs.Outputs.{delay_of}
 use Rattle.mp_netlist.specs.declared.driver.Driver.{Driver}
 use Rattle.mp_netlist.specs.declared.driver.Driver.TheVariants.{Nothing, Stimulus, Port}
-use Rattle.mp_netlist.specs.Circuit.{Circuit, IsCircuit, IsModule, wire_at, module_at, delay_of}
+use Rattle.mp_netlist.specs.Circuit.{Circuit, IsCircuit, IsModule, wire_at, module_at}
 use Rattle.mp_netlist.specs.Drivers.{driver}
 use Rattle.mp_model.specs.Levels.{initial_of, port_level, driven_level, level_by}
 use Rattle.mp_model.specs.Histories.{state_in, level_in, next_row, history}

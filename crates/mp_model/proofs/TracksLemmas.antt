@@ -5,15 +5,16 @@ use Rattle.std.proofs.lemmas.List.{get_or_past, get_or-set_same, get_or-set_othe
 use Rattle.std.proofs.Math.ListN.{length-set}
 use Rattle.mp_modules.specs.Memories.{output_of}
 use Rattle.mp_modules.specs.Kinds.{output_width}
-use Rattle.mp_netlist.specs.declared.ids.WireId.{WireId}
-use Rattle.mp_netlist.specs.declared.ids.ModuleId.{ModuleId}
-use Rattle.mp_netlist.specs.declared.ports.Output.{Output}
-use Rattle.mp_netlist.specs.declared.module_record.ModuleRecord.{ModuleRecord}
-use Rattle.mp_netlist.specs.declared.wire_record.WireRecord.{WireRecord}
+use Rattle.mp_records.specs.declared.ids.WireId.{WireId}
+use Rattle.mp_records.specs.declared.ids.ModuleId.{ModuleId}
+use Rattle.mp_records.specs.declared.ports.Output.{Output}
+use Rattle.mp_records.specs.declared.module_record.ModuleRecord.{ModuleRecord}
+use Rattle.mp_records.specs.declared.wire_record.WireRecord.{WireRecord}
 use Rattle.mp_netlist.specs.declared.driver.Driver.{Driver}
 use Rattle.mp_netlist.specs.declared.driver.Driver.TheVariants.{Nothing, Stimulus, Port}
 use Rattle.mp_netlist.specs.Slots.{slot_at}
-use Rattle.mp_netlist.specs.Circuit.{Circuit, IsCircuit, Drives, HasWidth, module_width, wire_at, module_at, output_at, delay_of}
+use Rattle.mp_netlist.specs.Circuit.{Circuit, IsCircuit, Drives, HasWidth, module_width, wire_at, module_at}
+use Rattle.mp_records.specs.Outputs.{output_at, delay_of}
 use Rattle.mp_netlist.specs.Drivers.{driver}
 use Rattle.mp_netlist.proofs.DriverLemmas.{finds_ports, finds_only_ports}
 use Rattle.mp_model.specs.Tracks.{Progress, advanced}

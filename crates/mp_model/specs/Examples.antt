@@ -3,10 +3,10 @@ use Rattle.std.specs.Prelude.{◌≡◌, ℕ, List, [], ◌∷◌, Option, Some,
 use Rattle.mp_wave.specs.Waveform.{Waveform}
 use Rattle.mp_modules.specs.declared.kind.Kind.{Kind}
 use Rattle.mp_modules.specs.declared.kind.Kind.TheVariants as kinds
-use Rattle.mp_netlist.specs.declared.wire_record.WireRecord.{WireRecord}
-use Rattle.mp_netlist.specs.declared.module_record.ModuleRecord.{ModuleRecord}
-use Rattle.mp_netlist.specs.declared.ids.WireId.{WireId}
-use Rattle.mp_netlist.specs.declared.ports.Output.{Output}
+use Rattle.mp_records.specs.declared.wire_record.WireRecord.{WireRecord}
+use Rattle.mp_records.specs.declared.module_record.ModuleRecord.{ModuleRecord}
+use Rattle.mp_records.specs.declared.ids.WireId.{WireId}
+use Rattle.mp_records.specs.declared.ports.Output.{Output}
 use Rattle.mp_netlist.specs.Circuit.{Circuit}
 use Rattle.mp_model.specs.Waves.{waves}
 

@@ -5,11 +5,12 @@ use Rattle.mp_modules.specs.declared.memory.Memory.{Memory}
 use Rattle.mp_modules.specs.Memories.{output_of}
 use Rattle.mp_storage.specs.declared.any_module.AnyModule.{AnyModule}
 use Rattle.mp_storage.specs.AnyModules.{any_part_of, settle, step}
-use Rattle.mp_netlist.specs.declared.wire_record.WireRecord.{WireRecord}
-use Rattle.mp_netlist.specs.declared.module_record.ModuleRecord.{ModuleRecord}
+use Rattle.mp_records.specs.declared.wire_record.WireRecord.{WireRecord}
+use Rattle.mp_records.specs.declared.module_record.ModuleRecord.{ModuleRecord}
+use Rattle.mp_records.specs.Outputs.{delay_of}
 use Rattle.mp_netlist.specs.declared.driver.Driver.{Driver}
 use Rattle.mp_netlist.specs.declared.driver.Driver.TheVariants.{Nothing, Stimulus, Port}
-use Rattle.mp_netlist.specs.Circuit.{Circuit, wire_at, module_at, module_width, stimulus_at, delay_of}
+use Rattle.mp_netlist.specs.Circuit.{Circuit, wire_at, module_at, module_width, stimulus_at}
 use Rattle.mp_netlist.specs.Drivers.{driver}
 
 -- the event module that a record stands for, of the width that the module has

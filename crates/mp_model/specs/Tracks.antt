@@ -2,7 +2,7 @@
 use Rattle.std.specs.Prelude.{ℕ, ◌+◌, ◌≤◌, ◌<◌, List, [], ◌∷◌, ◌++◌, Option, Some, None, unwrap_or, ◌==◌, if◌then◌else◌}
 use Rattle.mp_wave.specs.Waveform.{Waveform, held_from, last_from}
 use Rattle.mp_wave.specs.Building.{Building}
-use Rattle.mp_netlist.specs.declared.wire_record.WireRecord.{WireRecord}
+use Rattle.mp_records.specs.declared.wire_record.WireRecord.{WireRecord}
 
 -- the wave as far as it is known, the first time whose level may still be given, the level now, and the changes after now
 pub record Progress : Type 0 where

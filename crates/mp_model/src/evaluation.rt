@@ -1,6 +1,6 @@
 //! The plain evaluator: unit by unit from time zero, on one thread.
 ghost use Rattle.std.specs.Prelude.{◌≡◌, ◌+◌, ◌-◌, ◌^◌, ◌<◌, ◌≤◌, length, map, take, slice_index_or, option_map, Some, IfOk, OnOk, IsTrue, ℕ};
-ghost use Rattle.mp_netlist.specs.declared.ids.WireId.{WireId as Wire};
+ghost use Rattle.mp_records.specs.declared.ids.WireId.{WireId as Wire};
 ghost use Rattle.mp_netlist.specs.Slots.{slot_at};
 ghost use Rattle.mp_netlist.specs.Circuit.{IsCircuit, IsWire, module_width, module_at};
 ghost use Rattle.mp_modules.specs.Kinds.{are_params};

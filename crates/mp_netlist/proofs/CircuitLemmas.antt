@@ -8,14 +8,16 @@ use Rattle.std.specs.Prelude.{slice_index_or}
 use Rattle.mp_modules.specs.declared.kind.Kind.{Kind}
 use Rattle.mp_modules.specs.declared.kind.Kind.TheVariants as kinds
 use Rattle.mp_modules.specs.Kinds.{input_count, has_width, input_width, output_width, are_params}
-use Rattle.mp_netlist.specs.declared.ids.WireId.{WireId}
-use Rattle.mp_netlist.specs.declared.wire_record.WireRecord.{WireRecord}
-use Rattle.mp_netlist.specs.declared.module_record.ModuleRecord.{ModuleRecord}
-use Rattle.mp_netlist.specs.declared.bundle_record.BundleRecord.{BundleRecord}
-use Rattle.mp_netlist.specs.Circuit.{Circuit, IsCircuit, IsWire, IsModule, IsBundle, HasWidth, Drives, wire_at, module_at, bundle_at, width_of, module_width, output_at, stimulus_in, stimulus_at, wire_named, module_named, bundle_named}
-use Rattle.mp_netlist.specs.Names.{is_name}
+use Rattle.mp_records.specs.declared.ids.WireId.{WireId}
+use Rattle.mp_records.specs.declared.wire_record.WireRecord.{WireRecord}
+use Rattle.mp_records.specs.declared.module_record.ModuleRecord.{ModuleRecord}
+use Rattle.mp_records.specs.declared.bundle_record.BundleRecord.{BundleRecord}
+use Rattle.mp_records.specs.Outputs.{output_at}
+use Rattle.mp_records.specs.Names.{is_name}
+use Rattle.mp_records.specs.NamedWires.{module_names, bundle_names}
+use Rattle.mp_netlist.specs.Circuit.{Circuit, IsCircuit, IsWire, IsModule, IsBundle, HasWidth, Drives, wire_at, module_at, bundle_at, width_of, module_width, stimulus_in, stimulus_at, wire_named, module_named, bundle_named}
 use Rattle.mp_netlist.specs.Drivers.{driver, is_nothing}
-use Rattle.mp_netlist.specs.Uses.{module_names, bundle_names, is_used}
+use Rattle.mp_netlist.specs.Uses.{is_used}
 use Rattle.mp_netlist.specs.Edits.{with_wire_record, with_new_module, with_new_bundle, with_wire, with_module, with_bundle}
 use Rattle.mp_netlist.proofs.TableLemmas.{PushedAt, pushed_at, RewrittenAt, rewritten_at, slot_within, IsNamesake}
 use Rattle.mp_netlist.proofs.NameLemmas.{wire_name, module_name, HasNames-add_wire, HasNames-rewrite_wire, HasNames-add_module, HasNames-rewrite_module, HasNames-add_bundle, HasNames-rewrite_bundle}

@@ -3,10 +3,11 @@ use Rattle.std.proofs.Common.{◌≡◌, ℕ, zero, suc, ◌≤◌, Bool, true, 
 use Rattle.std.specs.List.{All, flat_map}
 use Rattle.std.specs.Option.{IfSome}
 use Rattle.std.proofs.lemmas.List.Sums.{fold-append}
-use Rattle.mp_netlist.specs.declared.ids.WireId.{WireId}
-use Rattle.mp_netlist.specs.declared.module_record.ModuleRecord.{ModuleRecord}
-use Rattle.mp_netlist.specs.declared.ports.Output.{Output}
-use Rattle.mp_netlist.specs.Circuit.{Circuit, IsCircuit, IsDelay, module_at, output_in, output_at, delay_of}
+use Rattle.mp_records.specs.declared.ids.WireId.{WireId}
+use Rattle.mp_records.specs.declared.module_record.ModuleRecord.{ModuleRecord}
+use Rattle.mp_records.specs.declared.ports.Output.{Output}
+use Rattle.mp_records.specs.Outputs.{output_in, output_at, delay_of}
+use Rattle.mp_netlist.specs.Circuit.{Circuit, IsCircuit, IsDelay, module_at}
 use Rattle.mp_netlist.specs.Delays.{delays_of, delays_in, lesser, least_delay, DelaysAreLeast}
 
 -- a least delay is known, and it is at most this one

@@ -1,14 +1,16 @@
 -- The search for a driver finds the port that has a wire as its output.
 use Rattle.std.proofs.Common.{◌≡◌, ◌≢◌, ℕ, ◌+◌, ◌==◌, Bool, true, false, cond, List, [], ◌∷◌, Option, Some, None, slice_index_or, is_some, zero, suc, refl, ap, sym, subst, ◌∙◌, arith, inl, inr, ◌⊎◌}
 use Rattle.std.proofs.lemmas.Bool.{and_parts, eqb-true, eq-eqb}
-use Rattle.mp_netlist.specs.declared.ids.WireId.{WireId}
-use Rattle.mp_netlist.specs.declared.ids.ModuleId.{ModuleId}
-use Rattle.mp_netlist.specs.declared.module_record.ModuleRecord.{ModuleRecord}
-use Rattle.mp_netlist.specs.declared.ports.Output.{Output}
+use Rattle.mp_records.specs.declared.ids.WireId.{WireId}
+use Rattle.mp_records.specs.declared.ids.ModuleId.{ModuleId}
+use Rattle.mp_records.specs.declared.module_record.ModuleRecord.{ModuleRecord}
+use Rattle.mp_records.specs.declared.ports.Output.{Output}
+use Rattle.mp_records.specs.Outputs.{output_at}
+use Rattle.mp_records.specs.NamedWires.{is_wire}
 use Rattle.mp_netlist.specs.declared.driver.Driver.{Driver}
 use Rattle.mp_netlist.specs.declared.driver.Driver.TheVariants.{Nothing, Stimulus, Port}
-use Rattle.mp_netlist.specs.Circuit.{Circuit, IsCircuit, Drives, stimulus_at, output_at}
-use Rattle.mp_netlist.specs.Drivers.{is_wire, port_from, port_of, or_later, driver, driver_from, stimulus_driver, is_port, is_nothing, is_free_for, FindsPorts, FindsOnlyPorts}
+use Rattle.mp_netlist.specs.Circuit.{Circuit, IsCircuit, Drives, stimulus_at}
+use Rattle.mp_netlist.specs.Drivers.{port_from, port_of, or_later, driver, driver_from, stimulus_driver, is_port, is_nothing, is_free_for, FindsPorts, FindsOnlyPorts}
 
 abbrev no_output : Output
 no_output = record { wire = None; delay = 1 }

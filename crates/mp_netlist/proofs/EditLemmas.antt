@@ -6,18 +6,20 @@ use Rattle.mp_modules.specs.declared.kind.Kind.{Kind}
 use Rattle.mp_modules.specs.Kinds.{are_params, input_count, output_count, input_width, output_width}
 use Rattle.std.specs.List.{list_all, All}
 use Rattle.std.specs.Option.{IfSome}
-use Rattle.mp_netlist.specs.declared.port_names.OutputName.{OutputName}
-use Rattle.mp_netlist.specs.declared.edit.Edit.TheVariants.{AddWire, RemoveWire, AddModule, RemoveModule, AddBundle, RemoveBundle, RewireInput, RewireOutput, SetDelay, SetStimulus, ClearStimulus}
-use Rattle.mp_netlist.specs.declared.edit_error.EditError.{EditError}
-use Rattle.mp_netlist.specs.Stimuli.{is_stimulus, fits_width}
-use Rattle.mp_netlist.specs.declared.ids.WireId.{WireId}
-use Rattle.mp_netlist.specs.declared.module_record.ModuleRecord.{ModuleRecord}
+use Rattle.mp_records.specs.declared.port_names.OutputName.{OutputName}
+use Rattle.mp_records.specs.declared.edit.Edit.TheVariants.{AddWire, RemoveWire, AddModule, RemoveModule, AddBundle, RemoveBundle, RewireInput, RewireOutput, SetDelay, SetStimulus, ClearStimulus}
+use Rattle.mp_records.specs.declared.edit_error.EditError.{EditError}
+use Rattle.mp_records.specs.Stimuli.{is_stimulus}
+use Rattle.mp_modules.specs.Levels.{fits_width}
+use Rattle.mp_records.specs.declared.ids.WireId.{WireId}
+use Rattle.mp_records.specs.declared.module_record.ModuleRecord.{ModuleRecord}
+use Rattle.mp_records.specs.PortChanges.{with_input, with_output, with_delay}
+use Rattle.mp_records.specs.Names.{is_name}
 use Rattle.mp_netlist.specs.Circuit.{Circuit, IsCircuit, IsWire, IsModule, HasWidth, wire_at, module_at, wire_named, module_named, bundle_named, width_of, module_width}
 use Rattle.mp_netlist.specs.Drivers.{driver, is_port, is_free_for}
 use Rattle.mp_netlist.specs.Uses.{is_used}
-use Rattle.mp_netlist.specs.Edits.{first_failing, stands, wire_id, module_id, module_of, bundle_id, input_ports, output_ports, input_width_of, output_width_of, output_stands, output_fits, output_is_free, is_delay, width_named, driven_names, are_distinct, is_undriven, new_width, inputs_fit, outputs_fit, wire_checks, wire_removal_checks, module_checks, module_removal_checks, bundle_checks, bundle_removal_checks, input_checks, output_checks, delay_checks, stimulus_checks, clearing_checks, wire_refusal, wire_removal_refusal, module_refusal, module_removal_refusal, bundle_refusal, bundle_removal_refusal, input_refusal, output_refusal, delay_refusal, stimulus_refusal, clearing_refusal, refusal, edited, new_module, with_new_wire, with_new_module, new_bundle, with_new_bundle, with_input, with_output, with_delay, with_module, with_stimulus, without_stimulus, with_wire}
+use Rattle.mp_netlist.specs.Edits.{first_failing, stands, wire_id, module_id, module_of, bundle_id, input_ports, output_ports, input_width_of, output_width_of, output_stands, output_fits, output_is_free, is_delay, width_named, driven_names, are_distinct, is_undriven, new_width, inputs_fit, outputs_fit, wire_checks, wire_removal_checks, module_checks, module_removal_checks, bundle_checks, bundle_removal_checks, input_checks, output_checks, delay_checks, stimulus_checks, clearing_checks, wire_refusal, wire_removal_refusal, module_refusal, module_removal_refusal, bundle_refusal, bundle_removal_refusal, input_refusal, output_refusal, delay_refusal, stimulus_refusal, clearing_refusal, refusal, edited, new_module, with_new_wire, with_new_module, new_bundle, with_new_bundle, with_module, with_stimulus, without_stimulus, with_wire}
 use Rattle.mp_netlist.specs.Laws.{EditsKeepNetlists}
-use Rattle.mp_netlist.specs.Names.{is_name}
 use Rattle.mp_netlist.proofs.TableLemmas.{IsNamesake}
 use Rattle.mp_netlist.proofs.NameLemmas.{wire_name, module_name, Stands, stands_from, stands_within, ModuleStands, module_stands_from, module_within, BundleStands, bundle_stands_from, bundle_within}
 use Rattle.mp_netlist.proofs.DriverLemmas.{portless_is_undriven}

@@ -9,11 +9,12 @@ use Rattle.std.proofs.lemmas.List.FromFn.{get_or-enumerate_from, length-enumerat
 use Rattle.std.proofs.lemmas.List.Recursion.{and_at}
 use Rattle.mp_modules.specs.declared.kind.Kind.{Kind}
 use Rattle.mp_modules.specs.Kinds.{input_count, output_count, has_width, input_width, output_width, are_params}
-use Rattle.mp_netlist.specs.declared.ids.WireId.{WireId}
-use Rattle.mp_netlist.specs.declared.module_record.ModuleRecord.{ModuleRecord}
-use Rattle.mp_netlist.specs.declared.ports.Output.{Output}
-use Rattle.mp_netlist.specs.declared.port_names.OutputName.{OutputName}
-use Rattle.mp_netlist.specs.Circuit.{Circuit, IsModule, IsDelay, HasWidth, wire_at, width_of, module_width, output_at}
+use Rattle.mp_records.specs.declared.ids.WireId.{WireId}
+use Rattle.mp_records.specs.declared.module_record.ModuleRecord.{ModuleRecord}
+use Rattle.mp_records.specs.declared.ports.Output.{Output}
+use Rattle.mp_records.specs.declared.port_names.OutputName.{OutputName}
+use Rattle.mp_records.specs.Outputs.{output_at}
+use Rattle.mp_netlist.specs.Circuit.{Circuit, IsModule, IsDelay, HasWidth, wire_at, width_of, module_width}
 use Rattle.mp_netlist.specs.Drivers.{driver, is_nothing}
 use Rattle.mp_netlist.specs.Edits.{stands, wire_id, width_named, is_undriven, is_delay, driven_names, are_distinct, first_width, new_width, inputs_fit, output_fits, outputs_fit, output_of, new_module}
 use Rattle.mp_netlist.proofs.NameLemmas.{Stands, stands_from, one_wire}

@@ -1,10 +1,10 @@
 -- What a name finds stands, nothing else of its sort has the name, and it is so after something is added, goes or is written over.
 use Rattle.std.proofs.Common.{◌≡◌, ℕ, ◌<◌, length, true, List, Option, Some, is_some, is_none, sym, ap, ◌∙◌}
-use Rattle.mp_netlist.specs.declared.wire_record.WireRecord.{WireRecord}
-use Rattle.mp_netlist.specs.declared.module_record.ModuleRecord.{ModuleRecord}
-use Rattle.mp_netlist.specs.declared.bundle_record.BundleRecord.{BundleRecord}
+use Rattle.mp_records.specs.declared.wire_record.WireRecord.{WireRecord}
+use Rattle.mp_records.specs.declared.module_record.ModuleRecord.{ModuleRecord}
+use Rattle.mp_records.specs.declared.bundle_record.BundleRecord.{BundleRecord}
+use Rattle.mp_records.specs.Names.{is_name}
 use Rattle.mp_netlist.specs.Circuit.{Circuit, HasNames, wire_at, module_at, bundle_at, wire_named, module_named, bundle_named, width_of}
-use Rattle.mp_netlist.specs.Names.{is_name}
 use Rattle.mp_netlist.specs.Edits.{stands, wire_id, width_named, module_stands, module_id, bundle_stands, bundle_id, with_wire_record, with_wire, with_new_module, with_module, with_new_bundle, with_bundle}
 use Rattle.mp_netlist.proofs.TableLemmas.{named_has, one_name, IsNamed, is_named, slot_within, IsNamesake, AreNamed-push, AreApart-push, AreNamed-rewrite, AreApart-rewrite}
 

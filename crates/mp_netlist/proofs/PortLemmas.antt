@@ -3,7 +3,7 @@ use Rattle.std.proofs.Common.{◌≡◌, ◌≢◌, ℕ, zero, suc, Bool, true, 
 use Rattle.std.specs.List.{list_all, list_any}
 use Rattle.std.specs.Str.{bytes_eq}
 use Rattle.std.proofs.lemmas.Bool.{and_parts, or_right, or_left, not-true, both_ways}
-use Rattle.mp_netlist.specs.declared.port_names.OutputName.{OutputName}
+use Rattle.mp_records.specs.declared.port_names.OutputName.{OutputName}
 use Rattle.mp_netlist.specs.Edits.{driven_names, are_distinct}
 use Rattle.mp_netlist.proofs.TableLemmas.{equal_name}
 

@@ -1,14 +1,15 @@
 -- The records are still a netlist, and the tables have the names, after the slots and the table of one sort of thing change.
 use Rattle.std.proofs.Common.{◌≡◌, ℕ, List, Option, Some, None, refl, option_map}
 use Rattle.indexmap.specs.IndexMap.{get_by_text}
-use Rattle.mp_netlist.specs.declared.ids.WireId.{WireId}
-use Rattle.mp_netlist.specs.declared.wire_record.WireRecord.{WireRecord}
-use Rattle.mp_netlist.specs.declared.bundle_record.BundleRecord.{BundleRecord}
-use Rattle.mp_netlist.specs.declared.module_record.ModuleRecord.{ModuleRecord}
+use Rattle.mp_records.specs.declared.ids.WireId.{WireId}
+use Rattle.mp_records.specs.declared.wire_record.WireRecord.{WireRecord}
+use Rattle.mp_records.specs.declared.bundle_record.BundleRecord.{BundleRecord}
+use Rattle.mp_records.specs.declared.module_record.ModuleRecord.{ModuleRecord}
+use Rattle.mp_records.specs.PortChanges.{with_input, with_output, with_delay}
 use Rattle.mp_netlist.specs.declared.netlist.Netlist.TheInside.{Inside}
 use Rattle.mp_netlist.specs.Slots.{has_name}
 use Rattle.mp_netlist.specs.Circuit.{IsCircuit}
-use Rattle.mp_netlist.specs.Edits.{with_input, with_output, with_delay, with_stimulus, without_stimulus}
+use Rattle.mp_netlist.specs.Edits.{with_stimulus, without_stimulus}
 use Rattle.mp_netlist.specs.Records.{circuit_of, AreRecords, IsTable}
 use Rattle.mp_netlist.proofs.NameLemmas.{wire_name, module_name, bundle_name}
 use Rattle.mp_netlist.proofs.TableLemmas.{IsTable-copy}

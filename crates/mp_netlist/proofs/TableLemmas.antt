@@ -8,8 +8,8 @@ use Rattle.std.specs.Option.{option_and_then}
 use Rattle.std.proofs.lemmas.List.{get_or_past, get_or_push, get_or_append_left, get_or-set_same, get_or-set_other}
 use Rattle.std.proofs.lemmas.Slice.Eq.{bytes_eq-Decides}
 use Rattle.std.proofs.lemmas.Bool.{cases_lt, cases_eq}
+use Rattle.mp_records.specs.Names.{is_name}
 use Rattle.mp_netlist.specs.Slots.{has_name, number_named}
-use Rattle.mp_netlist.specs.Names.{is_name}
 use Rattle.mp_netlist.specs.Records.{Finds, IsTable}
 
 module _ {X : Type 0} (p : X → Bool) (d : X) (none : p d ≡ false) where

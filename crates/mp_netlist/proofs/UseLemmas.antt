@@ -5,14 +5,16 @@ use Rattle.std.specs.List.{list_any}
 use Rattle.std.proofs.lemmas.Bool.{or_left, or_right, eq-eqb, cases_lt}
 use Rattle.std.proofs.lemmas.List.{get_or_past}
 use Rattle.std.proofs.lemmas.List.Folds.{list_any_at}
-use Rattle.mp_netlist.specs.declared.ids.WireId.{WireId}
-use Rattle.mp_netlist.specs.declared.module_record.ModuleRecord.{ModuleRecord}
-use Rattle.mp_netlist.specs.declared.bundle_record.BundleRecord.{BundleRecord}
-use Rattle.mp_netlist.specs.declared.ports.Output.{Output}
+use Rattle.mp_records.specs.declared.ids.WireId.{WireId}
+use Rattle.mp_records.specs.declared.module_record.ModuleRecord.{ModuleRecord}
+use Rattle.mp_records.specs.declared.bundle_record.BundleRecord.{BundleRecord}
+use Rattle.mp_records.specs.declared.ports.Output.{Output}
+use Rattle.mp_records.specs.Outputs.{output_at}
+use Rattle.mp_records.specs.NamedWires.{is_wire}
+use Rattle.mp_records.specs.NamedWires.{module_names, bundle_names}
 use Rattle.mp_netlist.specs.Slots.{stands_and}
-use Rattle.mp_netlist.specs.Circuit.{Circuit, module_at, bundle_at, output_at}
-use Rattle.mp_netlist.specs.Drivers.{is_wire}
-use Rattle.mp_netlist.specs.Uses.{module_names, bundle_names, is_used}
+use Rattle.mp_netlist.specs.Circuit.{Circuit, module_at, bundle_at}
+use Rattle.mp_netlist.specs.Uses.{is_used}
 use Rattle.mp_netlist.proofs.TableLemmas.{slot_within}
 
 pub input_is_named : (r : ModuleRecord) (p : ℕ) (v : WireId) → p < length r.inputs → module_names (slice_index_or r.inputs p v).0 r ≡ true

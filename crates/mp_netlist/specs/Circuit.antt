@@ -1,14 +1,15 @@
 -- A netlist without where it lies in memory.
 use Rattle.std.specs.Prelude.{◌≡◌, ℕ, ◌<◌, ◌≤◌, List, [], Option, Some, None, true, All, IsSome, IfSome, IsTrue, length, slice_index_or, if◌then◌else◌, option_and_then}
 use Rattle.mp_modules.specs.Kinds.{input_count, output_count, has_width, input_width, output_width, are_params}
-use Rattle.mp_netlist.specs.declared.ids.WireId.{WireId}
-use Rattle.mp_netlist.specs.declared.wire_record.WireRecord.{WireRecord}
-use Rattle.mp_netlist.specs.declared.module_record.ModuleRecord.{ModuleRecord}
-use Rattle.mp_netlist.specs.declared.bundle_record.BundleRecord.{BundleRecord}
-use Rattle.mp_netlist.specs.declared.ports.Output.{Output}
+use Rattle.mp_records.specs.declared.ids.WireId.{WireId}
+use Rattle.mp_records.specs.declared.wire_record.WireRecord.{WireRecord}
+use Rattle.mp_records.specs.declared.module_record.ModuleRecord.{ModuleRecord}
+use Rattle.mp_records.specs.declared.bundle_record.BundleRecord.{BundleRecord}
+use Rattle.mp_records.specs.Outputs.{output_at}
+use Rattle.mp_records.specs.Names.{is_name}
+use Rattle.mp_modules.specs.Levels.{fits_width}
+use Rattle.mp_records.specs.Stimuli.{is_stimulus}
 use Rattle.mp_netlist.specs.Slots.{slot_at, number_named}
-use Rattle.mp_netlist.specs.Names.{is_name}
-use Rattle.mp_netlist.specs.Stimuli.{fits_width, is_stimulus}
 
 -- the horizon, and a slot for each number of a wire, a module and a bundle
 pub record Circuit : Type 0 where
@@ -46,16 +47,6 @@ width_of (Some wire) = wire.width
 -- the width of a module: that of the wire at its first input where its kind has ports of any width, and else 1
 abbrev pub module_width : Circuit → ModuleRecord → ℕ
 module_width n r = if has_width r.kind then width_of (wire_at n (slice_index_or r.inputs 0 (record { 0 = 0 })).0) else 1
-
--- an output port, without a wire where there is no such port
-abbrev pub output_in : List Output → ℕ → Output
-output_in outputs p = slice_index_or outputs p (record { wire = None; delay = 1 })
-
-abbrev pub output_at : ModuleRecord → ℕ → Output
-output_at r p = output_in r.outputs p
-
-abbrev pub delay_of : ModuleRecord → ℕ → ℕ
-delay_of r p = (output_at r p).delay
 
 abbrev pub IsDelay : ℕ → Type 0
 IsDelay d = (0 < d) × (d < 65536)

@@ -1,9 +1,10 @@
 -- The delays of a netlist.
 use Rattle.std.specs.Prelude.{◌≤◌, ℕ, List, [], Option, Some, None, map, filter, fold, is_some, unwrap_or, min}
 use Rattle.std.specs.List.{flat_map}
-use Rattle.mp_netlist.specs.declared.module_record.ModuleRecord.{ModuleRecord}
-use Rattle.mp_netlist.specs.declared.ports.Output.{Output}
-use Rattle.mp_netlist.specs.Circuit.{Circuit, IsCircuit, Drives, delay_of}
+use Rattle.mp_records.specs.declared.module_record.ModuleRecord.{ModuleRecord}
+use Rattle.mp_records.specs.declared.ports.Output.{Output}
+use Rattle.mp_records.specs.Outputs.{delay_of}
+use Rattle.mp_netlist.specs.Circuit.{Circuit, IsCircuit, Drives}
 
 -- the delays of the outputs that have a wire
 abbrev pub delays_of : List Output → List ℕ

@@ -1,6 +1,6 @@
 -- What a search among the modules needs.
 use Rattle.std.specs.Prelude.{◌<◌, ◌^◌, length, Option, Some, None}
-use Rattle.mp_netlist.specs.declared.module_record.ModuleRecord.{ModuleRecord}
+use Rattle.mp_records.specs.declared.module_record.ModuleRecord.{ModuleRecord}
 
 -- the outputs of the module that stands in the slot can be numbered
 abbrev pub HasFewPorts : Option ModuleRecord → Type 0

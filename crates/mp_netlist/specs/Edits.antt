@@ -4,21 +4,23 @@ use Rattle.std.specs.List.{list_all, list_any, filter_map, enumerate_from}
 use Rattle.std.specs.Str.{bytes_eq}
 use Rattle.mp_modules.specs.declared.kind.Kind.{Kind}
 use Rattle.mp_modules.specs.Kinds.{input_count, output_count, has_width, input_width, output_width, are_params}
-use Rattle.mp_netlist.specs.declared.ids.WireId.{WireId}
-use Rattle.mp_netlist.specs.declared.ids.ModuleId.{ModuleId}
-use Rattle.mp_netlist.specs.declared.ids.BundleId.{BundleId}
-use Rattle.mp_netlist.specs.declared.wire_record.WireRecord.{WireRecord}
-use Rattle.mp_netlist.specs.declared.module_record.ModuleRecord.{ModuleRecord}
-use Rattle.mp_netlist.specs.declared.bundle_record.BundleRecord.{BundleRecord}
-use Rattle.mp_netlist.specs.declared.ports.Output.{Output}
-use Rattle.mp_netlist.specs.declared.port_names.OutputName.{OutputName}
-use Rattle.mp_netlist.specs.declared.edit.Edit.{Edit}
-use Rattle.mp_netlist.specs.declared.edit.Edit.TheVariants.{AddWire, RemoveWire, AddModule, RemoveModule, AddBundle, RemoveBundle, RewireInput, RewireOutput, SetDelay, SetStimulus, ClearStimulus}
-use Rattle.mp_netlist.specs.declared.edit_error.EditError.{EditError}
-use Rattle.mp_netlist.specs.declared.edit_error.EditError.TheVariants.{NameTaken, BadName, NoSuchWire, NoSuchModule, NoSuchBundle, BadWidth, BadLevel, BadDelay, BadPort, WrongPorts, BadParam, WidthMismatch, AlreadyDriven, StillUsed, BadStimulus, NoStimulus, TableFull, OutOfMemory}
-use Rattle.mp_netlist.specs.Names.{is_name}
-use Rattle.mp_netlist.specs.Stimuli.{is_stimulus, fits_width}
-use Rattle.mp_netlist.specs.Circuit.{Circuit, wire_at, module_at, wire_named, module_named, bundle_named, width_of, module_width, output_at, stimulus_at}
+use Rattle.mp_records.specs.declared.ids.WireId.{WireId}
+use Rattle.mp_records.specs.declared.ids.ModuleId.{ModuleId}
+use Rattle.mp_records.specs.declared.ids.BundleId.{BundleId}
+use Rattle.mp_records.specs.declared.wire_record.WireRecord.{WireRecord}
+use Rattle.mp_records.specs.declared.module_record.ModuleRecord.{ModuleRecord}
+use Rattle.mp_records.specs.declared.bundle_record.BundleRecord.{BundleRecord}
+use Rattle.mp_records.specs.declared.ports.Output.{Output}
+use Rattle.mp_records.specs.declared.port_names.OutputName.{OutputName}
+use Rattle.mp_records.specs.declared.edit.Edit.{Edit}
+use Rattle.mp_records.specs.declared.edit.Edit.TheVariants.{AddWire, RemoveWire, AddModule, RemoveModule, AddBundle, RemoveBundle, RewireInput, RewireOutput, SetDelay, SetStimulus, ClearStimulus}
+use Rattle.mp_records.specs.declared.edit_error.EditError.{EditError}
+use Rattle.mp_records.specs.declared.edit_error.EditError.TheVariants.{NameTaken, BadName, NoSuchWire, NoSuchModule, NoSuchBundle, BadWidth, BadLevel, BadDelay, BadPort, WrongPorts, BadParam, WidthMismatch, AlreadyDriven, StillUsed, BadStimulus, NoStimulus, TableFull, OutOfMemory}
+use Rattle.mp_records.specs.Names.{is_name}
+use Rattle.mp_records.specs.Stimuli.{is_stimulus}
+use Rattle.mp_modules.specs.Levels.{fits_width}
+use Rattle.mp_records.specs.PortChanges.{with_input, with_output, with_delay}
+use Rattle.mp_netlist.specs.Circuit.{Circuit, wire_at, module_at, wire_named, module_named, bundle_named, width_of, module_width, stimulus_at}
 use Rattle.mp_netlist.specs.Drivers.{driver, is_port, is_nothing, is_free_for}
 use Rattle.mp_netlist.specs.Uses.{is_used}
 
@@ -308,18 +310,6 @@ with_new_bundle n r = record n { bundles = n.bundles ++ Some r ∷ [] }
 abbrev pub with_bundle : Circuit → ℕ → Option BundleRecord → Circuit
 with_bundle n b bundle = record n { bundles = slice_set n.bundles b bundle }
 
--- a module that reads another wire at a port
-abbrev pub with_input : ℕ → WireId → ModuleRecord → ModuleRecord
-with_input port wire r = record r { inputs = slice_set r.inputs port wire }
-
--- a module that drives another wire at a port, or none, with the port's delay
-abbrev pub with_output : ℕ → Option WireId → ModuleRecord → ModuleRecord
-with_output port wire r = record r { outputs = slice_set r.outputs port (record (output_at r port) { wire = wire }) }
-
--- a module with another delay at a port
-abbrev pub with_delay : ℕ → ℕ → ModuleRecord → ModuleRecord
-with_delay port delay r = record r { outputs = slice_set r.outputs port (record (output_at r port) { delay = delay }) }
-
 -- the netlist with something else in a module's slot
 abbrev pub with_module : Circuit → ℕ → Option ModuleRecord → Circuit
 with_module n m part = record n { modules = slice_set n.modules m part }
@@ -352,5 +342,5 @@ abbrev pub after : Circuit → Edit → Result Circuit EditError
 after n edit = unless (refusal n edit) (edited n edit)
 
 -- an edit was refused: by the first check that fails, or for want of memory where none does
-abbrev pub RefusedBy : Result Circuit EditError → EditError → Type 0
+abbrev pub RefusedBy : {T : Type 0} → Result T EditError → EditError → Type 0
 RefusedBy judged error = (judged ≡ Err error) ⊎ ((error ≡ OutOfMemory) × IsOk judged)

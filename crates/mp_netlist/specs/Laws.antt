@@ -1,6 +1,6 @@
 -- What holds of every edit.
 use Rattle.std.specs.Prelude.{◌≡◌, None}
-use Rattle.mp_netlist.specs.declared.edit.Edit.{Edit}
+use Rattle.mp_records.specs.declared.edit.Edit.{Edit}
 use Rattle.mp_netlist.specs.Circuit.{Circuit, IsCircuit}
 use Rattle.mp_netlist.specs.Edits.{refusal, edited}
 

@@ -1,6 +1,4 @@
-pub mod Names
-pub mod Stimuli
-pub mod EditErrors
+pub mod NewErrors
 pub mod Slots
 pub mod Circuit
 pub mod Drivers

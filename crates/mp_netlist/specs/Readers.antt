@@ -1,9 +1,9 @@
 -- Who reads a wire.
 use Rattle.std.specs.Prelude.{ℕ, ◌==◌, List, [], Option, Some, None, map, filter}
 use Rattle.std.specs.List.{flat_map, enumerate_from}
-use Rattle.mp_netlist.specs.declared.ids.WireId.{WireId}
-use Rattle.mp_netlist.specs.declared.ids.ModuleId.{ModuleId}
-use Rattle.mp_netlist.specs.declared.module_record.ModuleRecord.{ModuleRecord}
+use Rattle.mp_records.specs.declared.ids.WireId.{WireId}
+use Rattle.mp_records.specs.declared.ids.ModuleId.{ModuleId}
+use Rattle.mp_records.specs.declared.module_record.ModuleRecord.{ModuleRecord}
 use Rattle.mp_netlist.specs.Circuit.{Circuit}
 
 -- the numbered inputs that are at the wire, as input ports of the module

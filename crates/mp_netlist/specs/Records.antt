@@ -1,9 +1,9 @@
 -- What a netlist keeps of its fields.
 use Rattle.std.specs.Prelude.{◌≡◌, ℕ, ◌↔◌, true, List, Option, Some}
 use Rattle.indexmap.specs.IndexMap.{get_by_text}
-use Rattle.mp_netlist.specs.declared.wire_record.WireRecord.{WireRecord}
-use Rattle.mp_netlist.specs.declared.module_record.ModuleRecord.{ModuleRecord}
-use Rattle.mp_netlist.specs.declared.bundle_record.BundleRecord.{BundleRecord}
+use Rattle.mp_records.specs.declared.wire_record.WireRecord.{WireRecord}
+use Rattle.mp_records.specs.declared.module_record.ModuleRecord.{ModuleRecord}
+use Rattle.mp_records.specs.declared.bundle_record.BundleRecord.{BundleRecord}
 use Rattle.mp_netlist.specs.declared.netlist.Netlist.TheInside.{Inside}
 use Rattle.mp_netlist.specs.Slots.{slot_at, has_name}
 use Rattle.mp_netlist.specs.Circuit.{Circuit, IsCircuit}

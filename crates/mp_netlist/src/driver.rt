@@ -1,5 +1,5 @@
 //! What drives a wire.
-use crate::ids::ModuleId;
+use mp_records::ModuleId;
 
 /// What drives a wire: nothing, its stimulus, or an output port of a module.
 #[derive(Clone, Copy, Debug, PartialEq, Eq)]

@@ -8,13 +8,11 @@ mod names;
 mod ports;
 mod readers;
 mod uses;
+mod widths;
 
-use crate::bundle_record::BundleRecord;
-use crate::ids::{BundleId, ModuleId, WireId};
-use crate::module_record::ModuleRecord;
 use crate::new_error::NewError;
-use crate::wire_record::WireRecord;
 use indexmap::IndexMap;
+use mp_records::{BundleId, BundleRecord, ModuleId, ModuleRecord, WireId, WireRecord};
 use std::alloc::Global;
 use std::marker::Model;
 

@@ -1,6 +1,6 @@
 //! Why no netlist is made.
 ghost use Rattle.std.specs.Prelude.{◌≡◌};
-ghost use Rattle.mp_netlist.specs.EditErrors.{new_number_of};
+ghost use Rattle.mp_netlist.specs.NewErrors.{new_number_of};
 
 use thiserror::Error;
 

@@ -10,11 +10,12 @@ use Rattle.mp_modules.specs.declared.memory.Memory.{Memory}
 use Rattle.mp_storage.specs.AnyModules.{kind_of, step}
 use Rattle.mp_storage.specs.declared.any_module.AnyModule.{AnyModule}
 use Rattle.mp_storage.proofs.KindLemmas.{keeps_kind}
-use Rattle.mp_netlist.specs.Circuit.{Circuit, IsCircuit, Drives, module_at, module_width, wire_at, delay_of}
+use Rattle.mp_records.specs.Outputs.{delay_of}
+use Rattle.mp_records.specs.declared.ids.WireId.{WireId}
+use Rattle.mp_records.specs.declared.module_record.ModuleRecord.{ModuleRecord}
+use Rattle.mp_records.specs.declared.ports.Output.{Output}
+use Rattle.mp_netlist.specs.Circuit.{Circuit, IsCircuit, Drives, module_at, module_width, wire_at}
 use Rattle.mp_netlist.specs.declared.driver.Driver.{Driver}
-use Rattle.mp_netlist.specs.declared.ids.WireId.{WireId}
-use Rattle.mp_netlist.specs.declared.module_record.ModuleRecord.{ModuleRecord}
-use Rattle.mp_netlist.specs.declared.ports.Output.{Output}
 use Rattle.mp_netlist.proofs.DriverLemmas.{finds_ports}
 use Rattle.mp_model.specs.Levels.{IsBehaviour, built, inputs_by, initial_of, driven_level, port_level}
 use Rattle.mp_response.specs.Span.{next_state, state_after, output_changes}

@@ -4,8 +4,9 @@ use Rattle.mp_wave.specs.Waveform.{level_from}
 use Rattle.mp_modules.specs.declared.memory.Memory.{Memory}
 use Rattle.mp_storage.specs.AnyModules.{start}
 use Rattle.mp_storage.specs.declared.any_module.AnyModule.{AnyModule}
-use Rattle.mp_netlist.specs.Circuit.{Circuit, IsCircuit, Drives, module_at, delay_of}
-use Rattle.mp_netlist.specs.declared.module_record.ModuleRecord.{ModuleRecord}
+use Rattle.mp_records.specs.Outputs.{delay_of}
+use Rattle.mp_records.specs.declared.module_record.ModuleRecord.{ModuleRecord}
+use Rattle.mp_netlist.specs.Circuit.{Circuit, IsCircuit, Drives, module_at}
 use Rattle.mp_model.specs.Levels.{IsBehaviour, built, inputs_by}
 use Rattle.mp_response.specs.declared.piece.Piece.{Piece}
 use Rattle.mp_response.specs.Span.{IsSpan}

@@ -8,13 +8,14 @@ use Rattle.std.proofs.lemmas.List.Elements.{All-cons, All-nil, All-map, All-appe
 use Rattle.mp_modules.specs.declared.kind.Kind.{Kind}
 use Rattle.mp_modules.specs.declared.kind.Kind.TheVariants as kinds
 use Rattle.mp_modules.specs.Kinds.{word_of, param_bound, param_count, are_params, has_width, input_count, output_count, output_width}
-use Rattle.mp_netlist.specs.declared.ids.WireId.{WireId}
-use Rattle.mp_netlist.specs.declared.wire_record.WireRecord.{WireRecord}
-use Rattle.mp_netlist.specs.declared.module_record.ModuleRecord.{ModuleRecord}
-use Rattle.mp_netlist.specs.declared.ports.Output.{Output}
-use Rattle.mp_netlist.specs.declared.edit.Edit.TheVariants.{AddModule}
-use Rattle.mp_netlist.specs.Names.{is_name}
-use Rattle.mp_netlist.specs.Circuit.{Circuit, IsCircuit, IsModule, IsDelay, HasWidth, wire_at, module_at, width_of, module_width, output_at, HasNames}
+use Rattle.mp_records.specs.declared.ids.WireId.{WireId}
+use Rattle.mp_records.specs.declared.wire_record.WireRecord.{WireRecord}
+use Rattle.mp_records.specs.declared.module_record.ModuleRecord.{ModuleRecord}
+use Rattle.mp_records.specs.declared.ports.Output.{Output}
+use Rattle.mp_records.specs.declared.edit.Edit.TheVariants.{AddModule}
+use Rattle.mp_records.specs.Names.{is_name}
+use Rattle.mp_records.specs.Outputs.{output_at}
+use Rattle.mp_netlist.specs.Circuit.{Circuit, IsCircuit, IsModule, IsDelay, HasWidth, wire_at, module_at, width_of, module_width, HasNames}
 use Rattle.mp_text.specs.Statements.{output_word}
 use Rattle.mp_text.specs.Written.{module_line, wire_name, output_name, output_text}
 use Rattle.mp_text.specs.RoundTrips.{module_edits, output_by_name}

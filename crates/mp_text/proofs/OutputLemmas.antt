@@ -4,13 +4,14 @@ use Rattle.std.specs.List.{flat_map, list_all, list_any, enumerate_from}
 use Rattle.std.specs.Str.{bytes_eq}
 use Rattle.std.proofs.lemmas.List.FromFn.{get_or-enumerate_from, length-enumerate_from}
 use Rattle.std.proofs.lemmas.List.Elements.{All-cons, All-nil, All-head, All-get_or, All-from_get_or}
-use Rattle.mp_netlist.specs.declared.ids.WireId.{WireId}
-use Rattle.mp_netlist.specs.declared.module_record.ModuleRecord.{ModuleRecord}
-use Rattle.mp_netlist.specs.declared.ports.Output.{Output}
-use Rattle.mp_netlist.specs.declared.port_names.OutputName.{OutputName}
-use Rattle.mp_netlist.specs.declared.edit.Edit.{Edit}
-use Rattle.mp_netlist.specs.declared.edit.Edit.TheVariants.{AddModule}
-use Rattle.mp_netlist.specs.Circuit.{Circuit, Drives, wire_at, output_in, stimulus_at}
+use Rattle.mp_records.specs.declared.ids.WireId.{WireId}
+use Rattle.mp_records.specs.declared.module_record.ModuleRecord.{ModuleRecord}
+use Rattle.mp_records.specs.declared.ports.Output.{Output}
+use Rattle.mp_records.specs.declared.port_names.OutputName.{OutputName}
+use Rattle.mp_records.specs.declared.edit.Edit.{Edit}
+use Rattle.mp_records.specs.declared.edit.Edit.TheVariants.{AddModule}
+use Rattle.mp_records.specs.Outputs.{output_in}
+use Rattle.mp_netlist.specs.Circuit.{Circuit, Drives, wire_at, stimulus_at}
 use Rattle.mp_netlist.specs.Drivers.{driver, is_nothing, is_port, stimulus_driver}
 use Rattle.mp_netlist.specs.Edits.{driven_names, are_distinct}
 use Rattle.mp_netlist.proofs.TableLemmas.{slot_within}

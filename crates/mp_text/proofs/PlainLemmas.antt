@@ -11,7 +11,7 @@ use Rattle.std.proofs.lemmas.List.Folds.{list_all-append}
 use Rattle.mp_modules.specs.declared.kind.Kind.{Kind}
 use Rattle.mp_modules.specs.declared.kind.Kind.TheVariants as kinds
 use Rattle.mp_modules.specs.Kinds.{word_of}
-use Rattle.mp_netlist.specs.Names.{is_name, is_name_byte, begins_with_letter}
+use Rattle.mp_records.specs.Names.{is_name, is_name_byte, begins_with_letter}
 use Rattle.mp_text.specs.Lines.{is_allowed}
 use Rattle.mp_text.specs.Words.{is_gap}
 use Rattle.mp_text.proofs.DecimalLemmas.{decimal_digits}

@@ -4,13 +4,14 @@ use Rattle.std.specs.Prelude.{codes, nat_lt, IsTrue, IsSome, IfSome}
 use Rattle.std.proofs.Math.Nat.{pow-le-pow_right}
 use Rattle.std.proofs.lemmas.Bool.Decides.{nat_tests}
 use Rattle.std.proofs.lemmas.List.Elements.{All-cons, All-nil, All-head, All-tail, All-map, All-from_get_or}
-use Rattle.mp_netlist.specs.declared.ids.WireId.{WireId}
-use Rattle.mp_netlist.specs.declared.wire_record.WireRecord.{WireRecord}
-use Rattle.mp_netlist.specs.declared.bundle_record.BundleRecord.{BundleRecord}
-use Rattle.mp_netlist.specs.declared.edit.Edit.{Edit}
-use Rattle.mp_netlist.specs.declared.edit.Edit.TheVariants.{AddWire, AddBundle, SetStimulus}
-use Rattle.mp_netlist.specs.Names.{is_name}
-use Rattle.mp_netlist.specs.Stimuli.{fits_width, is_stimulus}
+use Rattle.mp_records.specs.declared.ids.WireId.{WireId}
+use Rattle.mp_records.specs.declared.wire_record.WireRecord.{WireRecord}
+use Rattle.mp_records.specs.declared.bundle_record.BundleRecord.{BundleRecord}
+use Rattle.mp_records.specs.declared.edit.Edit.{Edit}
+use Rattle.mp_records.specs.declared.edit.Edit.TheVariants.{AddWire, AddBundle, SetStimulus}
+use Rattle.mp_records.specs.Names.{is_name}
+use Rattle.mp_modules.specs.Levels.{fits_width}
+use Rattle.mp_records.specs.Stimuli.{is_stimulus}
 use Rattle.mp_netlist.specs.Circuit.{Circuit, IsCircuit, wire_at, bundle_at, HasNames}
 use Rattle.mp_text.specs.Statements.{change_word}
 use Rattle.mp_text.specs.Written.{wire_line, stimulus_line, bundle_line, stimulus_words, pair_text, name_in, wire_name}

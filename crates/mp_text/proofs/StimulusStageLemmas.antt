@@ -5,13 +5,14 @@ use Rattle.std.specs.List.{flat_map}
 use Rattle.std.specs.Option.{option_and_then}
 use Rattle.std.proofs.lemmas.List.{append-nil, get_or_at, set_at}
 use Rattle.std.proofs.lemmas.List.Concat.{flat_map-append}
-use Rattle.mp_netlist.specs.declared.ids.WireId.{WireId}
-use Rattle.mp_netlist.specs.declared.wire_record.WireRecord.{WireRecord}
-use Rattle.mp_netlist.specs.declared.module_record.ModuleRecord.{ModuleRecord}
-use Rattle.mp_netlist.specs.declared.edit.Edit.TheVariants.{SetStimulus}
+use Rattle.mp_records.specs.declared.ids.WireId.{WireId}
+use Rattle.mp_records.specs.declared.wire_record.WireRecord.{WireRecord}
+use Rattle.mp_records.specs.declared.module_record.ModuleRecord.{ModuleRecord}
+use Rattle.mp_records.specs.declared.edit.Edit.TheVariants.{SetStimulus}
+use Rattle.mp_records.specs.Stimuli.{is_stimulus}
+use Rattle.mp_records.specs.Outputs.{output_in}
 use Rattle.mp_netlist.specs.Slots.{number_named}
-use Rattle.mp_netlist.specs.Stimuli.{is_stimulus}
-use Rattle.mp_netlist.specs.Circuit.{Circuit, IsCircuit, Drives, wire_at, width_of, output_in, stimulus_in, stimulus_at, HasNames}
+use Rattle.mp_netlist.specs.Circuit.{Circuit, IsCircuit, Drives, wire_at, width_of, stimulus_in, stimulus_at, HasNames}
 use Rattle.mp_netlist.specs.Drivers.{driver, is_port}
 use Rattle.mp_netlist.specs.Edits.{refusal, edited, after, stands, wire_id, width_named, stimulus_checks, with_stimulus, without_stimulus}
 use Rattle.mp_text.specs.Written.{name_in, wire_name}

@@ -1,7 +1,7 @@
 -- What the netlist of a text is made of.
 use Rattle.std.specs.Prelude.{◌≡◌, ℕ, List, [], ◌∷◌, Option, Some, None, Ok, Err, map}
 use Rattle.std.specs.List.{filter_map}
-use Rattle.mp_netlist.specs.declared.edit.Edit.{Edit}
+use Rattle.mp_records.specs.declared.edit.Edit.{Edit}
 use Rattle.mp_netlist.specs.Circuit.{Circuit, empty_circuit}
 use Rattle.mp_model.specs.Replays.{replay}
 use Rattle.mp_text.specs.Lines.{lines_of}

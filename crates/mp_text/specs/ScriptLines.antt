@@ -2,8 +2,8 @@
 use Rattle.std.specs.Prelude.{ℕ, List, [], ◌∷◌, Option, Some, Result, Ok, Err, if◌then◌else◌, codes, option_map}
 use Rattle.std.specs.Option.{ok_or}
 use Rattle.std.specs.Str.{bytes_eq}
-use Rattle.mp_netlist.specs.declared.edit.Edit.{Edit}
-use Rattle.mp_netlist.specs.declared.edit.Edit.TheVariants.{RemoveWire, RemoveModule, RemoveBundle, RewireInput, RewireOutput, SetDelay, ClearStimulus}
+use Rattle.mp_records.specs.declared.edit.Edit.{Edit}
+use Rattle.mp_records.specs.declared.edit.Edit.TheVariants.{RemoveWire, RemoveModule, RemoveBundle, RewireInput, RewireOutput, SetDelay, ClearStimulus}
 use Rattle.mp_text.specs.declared.line_error.LineError.{LineError}
 use Rattle.mp_text.specs.declared.line_error.LineError.TheVariants.{UnknownStatement, WordCount}
 use Rattle.mp_text.specs.declared.line_word.LineWord.{LineWord}

@@ -3,11 +3,11 @@ use Rattle.std.specs.Prelude.{ℕ, List, [], ◌∷◌, ◌++◌, map, Option, S
 use Rattle.std.specs.List.{flat_map}
 use Rattle.std.specs.Fmt.{decimal}
 use Rattle.mp_modules.specs.Kinds.{word_of}
-use Rattle.mp_netlist.specs.declared.ids.WireId.{WireId}
-use Rattle.mp_netlist.specs.declared.wire_record.WireRecord.{WireRecord}
-use Rattle.mp_netlist.specs.declared.module_record.ModuleRecord.{ModuleRecord}
-use Rattle.mp_netlist.specs.declared.bundle_record.BundleRecord.{BundleRecord}
-use Rattle.mp_netlist.specs.declared.ports.Output.{Output}
+use Rattle.mp_records.specs.declared.ids.WireId.{WireId}
+use Rattle.mp_records.specs.declared.wire_record.WireRecord.{WireRecord}
+use Rattle.mp_records.specs.declared.module_record.ModuleRecord.{ModuleRecord}
+use Rattle.mp_records.specs.declared.bundle_record.BundleRecord.{BundleRecord}
+use Rattle.mp_records.specs.declared.ports.Output.{Output}
 use Rattle.mp_netlist.specs.Circuit.{Circuit, wire_at}
 
 -- words, each behind a space

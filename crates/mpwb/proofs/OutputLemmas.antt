@@ -2,7 +2,7 @@
 use Rattle.std.proofs.Common.{◌≡◌, ℕ, ◌+◌, ◌-◌, ◌≤◌, List, [], ◌∷◌, ◌++◌, append_assoc, length, Option, Some, zero, suc, refl, sym, ap, ◌∙◌, add-one, add-zero, add-suc, arith}
 use Rattle.std.proofs.lemmas.List.{append-nil}
 use Rattle.mp_wave.specs.Waveform.{Waveform}
-use Rattle.mp_netlist.specs.declared.wire_record.WireRecord.{WireRecord}
+use Rattle.mp_records.specs.declared.wire_record.WireRecord.{WireRecord}
 use Rattle.mp_netlist.specs.Circuit.{Circuit, wire_at}
 use Rattle.mp_netlist.specs.Slots.{slot_at}
 use Rattle.mp_model.specs.Waves.{wave, waves, waves_from, slot_wave}

@@ -1,7 +1,7 @@
 -- What a run writes for its input.
 use Rattle.std.specs.Prelude.{ℕ, Bool, List, [], ◌++◌, length, Option, Some, None, Result, Ok, Err, if◌then◌else◌, zero, suc}
 use Rattle.mp_wave.specs.Waveform.{Waveform}
-use Rattle.mp_netlist.specs.declared.wire_record.WireRecord.{WireRecord}
+use Rattle.mp_records.specs.declared.wire_record.WireRecord.{WireRecord}
 use Rattle.mp_netlist.specs.Circuit.{Circuit, wire_at}
 use Rattle.mp_model.specs.Waves.{wave}
 use Rattle.mp_text.specs.declared.text_error.TextError.{TextError}

@@ -1,10 +1,10 @@
 -- What the lines of a script are answered.
 use Rattle.std.specs.Prelude.{◌≡◌, ℕ, Bool, true, false, List, [], ◌∷◌, ◌++◌, Option, Some, None, Result, Ok, Err, codes, unwrap_or}
 use Rattle.std.specs.Fmt.{decimal}
-use Rattle.mp_netlist.specs.declared.edit.Edit.{Edit}
-use Rattle.mp_netlist.specs.declared.edit_error.EditError.{EditError}
-use Rattle.mp_netlist.specs.declared.edit_error.EditError.TheVariants.{NoSuchWire, OutOfMemory}
-use Rattle.mp_netlist.specs.EditErrors as edits
+use Rattle.mp_records.specs.declared.edit.Edit.{Edit}
+use Rattle.mp_records.specs.declared.edit_error.EditError.{EditError}
+use Rattle.mp_records.specs.declared.edit_error.EditError.TheVariants.{NoSuchWire, OutOfMemory}
+use Rattle.mp_records.specs.EditErrors as edits
 use Rattle.mp_netlist.specs.Circuit.{Circuit, wire_at, wire_named}
 use Rattle.mp_model.specs.Waves.{wave}
 use Rattle.mp_text.specs.declared.line_error.LineError.{LineError}

@@ -1,6 +1,6 @@
 //! A netlist with its waves, which a script edits.
 ghost use Rattle.std.specs.Prelude.{◌≡◌, Ok, IsOk, IfOk, IfErr};
-ghost use Rattle.mp_netlist.specs.declared.edit_error.EditError.TheVariants.{OutOfMemory};
+ghost use Rattle.mp_records.specs.declared.edit_error.EditError.TheVariants.{OutOfMemory};
 ghost use Rattle.mp_netlist.specs.Edits.{after};
 ghost use Rattle.mp_model.specs.Waves.{waves as waves_of};
 

@@ -1,26 +1,21 @@
 //! What an edit does to a netlist.
 ghost use Rattle.std.specs.Prelude.{◌≡◌, ◌<◌, None, option_map, slice_index_or, slice_set, vec_len};
-ghost use Rattle.mp_netlist.specs.Edits.{with_stimulus, without_stimulus, with_input, with_output, with_delay};
+ghost use Rattle.mp_records.specs.PortChanges.{with_input, with_output, with_delay};
+ghost use Rattle.mp_netlist.specs.Edits.{with_stimulus, without_stimulus};
 
-use crate::bundle_record::BundleRecord;
-use crate::changes::Changes;
-use crate::edit::Edit;
-use crate::edit_error::EditError;
-use crate::ids::WireId;
-use crate::module_record::ModuleRecord;
-use crate::name::Name;
 use crate::netlist::Netlist;
-use crate::params::Params;
-use crate::port_names::{InputNames, OutputNames};
-use crate::stimulus::Stimulus;
-use crate::wire_record::WireRecord;
 use mp_modules::Kind;
+use mp_records::{
+    BundleRecord, Changes, Edit, EditError, InputNames, ModuleRecord, Name, OutputNames, Params,
+    Stimulus, WireId, WireRecord,
+};
 use std::alloc::AllocError;
 
 impl Netlist {
     ghost use Rattle.std.specs.Prelude.{◌≡◌, ◌<◌, [], ◌∷◌, ◌++◌, Ok, None, Some, length, IfOk, IfErr, OnOk, OnErr, option_map, string_bytes};
+    ghost use Rattle.mp_records.specs.PortChanges.{with_input, with_output, with_delay};
     ghost use Rattle.mp_netlist.specs.Circuit.{IsCircuit, wire_at, module_at, wire_named, module_named, bundle_named};
-    ghost use Rattle.mp_netlist.specs.Edits.{after, RefusedBy, wire_refusal, wire_removal_refusal, module_refusal, module_removal_refusal, bundle_refusal, bundle_removal_refusal, input_refusal, output_refusal, delay_refusal, stimulus_refusal, clearing_refusal, with_wire_record, with_new_wire, new_module, with_new_module, new_bundle, with_new_bundle, with_bundle, with_stimulus, without_stimulus, with_wire, with_input, with_output, with_delay, with_module, wire_id, module_id, bundle_id};
+    ghost use Rattle.mp_netlist.specs.Edits.{after, RefusedBy, wire_refusal, wire_removal_refusal, module_refusal, module_removal_refusal, bundle_refusal, bundle_removal_refusal, input_refusal, output_refusal, delay_refusal, stimulus_refusal, clearing_refusal, with_wire_record, with_new_wire, new_module, with_new_module, new_bundle, with_new_bundle, with_bundle, with_stimulus, without_stimulus, with_wire, with_module, wire_id, module_id, bundle_id};
 
     #[tactic(auto, unfolding(crate::specs::Edits::edited, crate::specs::Edits::refusal))]
     /// Makes the edit, or says which check fails first. A refusal leaves the netlist as it was.

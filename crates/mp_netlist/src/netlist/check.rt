@@ -2,18 +2,13 @@
 ghost use Rattle.std.specs.Prelude.{◌≡◌, ◌==◌, ◌&&◌, length};
 ghost use Rattle.std.specs.List.{list_all};
 ghost use Rattle.mp_modules.specs.Kinds.{input_count, output_count};
-ghost use Rattle.mp_netlist.specs.declared.port_names.OutputName.{OutputName};
+ghost use Rattle.mp_records.specs.declared.port_names.OutputName.{OutputName};
 ghost use Rattle.mp_netlist.specs.Edits.{is_delay};
 
-use crate::changes::{Changes, fits};
 use crate::driver::Driver;
-use crate::edit::Edit;
-use crate::edit_error::EditError;
-use crate::name::Name;
 use crate::netlist::{MAX_BUNDLES, MAX_DELAY, MAX_MODULES, MAX_SETUP, MAX_WIRES, Netlist};
-use crate::params::Params;
-use crate::port_names::{InputNames, OutputNames};
-use mp_modules::Kind;
+use mp_modules::{Kind, fits_width};
+use mp_records::{Changes, Edit, EditError, InputNames, Name, OutputNames, Params};
 
 impl Netlist {
     ghost use Rattle.std.specs.Prelude.{◌≡◌};
@@ -68,7 +63,7 @@ impl Netlist {
         if width < 1 || width > 64 {
             return Err(EditError::BadWidth);
         }
-        if !fits(level, width) {
+        if !fits_width(level, width) {
             return Err(EditError::BadLevel);
         }
         if self.wires.len() >= MAX_WIRES {

@@ -1,10 +1,8 @@
 //! Copies of a netlist.
 ghost use Rattle.std.specs.Prelude.{◌≡◌, IfOk};
 
-use crate::bundle_record::BundleRecord;
-use crate::module_record::ModuleRecord;
 use crate::netlist::Netlist;
-use crate::wire_record::WireRecord;
+use mp_records::{BundleRecord, ModuleRecord, WireRecord};
 use std::alloc::AllocError;
 
 impl Netlist {

@@ -3,9 +3,8 @@ ghost use Rattle.std.specs.Prelude.{◌≡◌, None, fold};
 ghost use Rattle.std.specs.List.{flat_map};
 ghost use Rattle.mp_netlist.specs.Delays.{delays_of, delays_in, lesser};
 
-use crate::module_record::ModuleRecord;
 use crate::netlist::Netlist;
-use crate::ports::Output;
+use mp_records::{ModuleRecord, Output};
 
 impl Netlist {
     ghost use Rattle.std.specs.Prelude.{◌≡◌};

@@ -5,10 +5,8 @@ ghost use Rattle.mp_netlist.specs.Drivers.{port_from, driver_from};
 ghost use Rattle.mp_netlist.specs.DriverSearch.{HasFewPorts};
 
 use crate::driver::Driver;
-use crate::ids::{ModuleId, WireId};
-use crate::module_record::ModuleRecord;
 use crate::netlist::Netlist;
-use crate::ports::Output;
+use mp_records::{ModuleId, ModuleRecord, Output, WireId};
 
 impl Netlist {
     ghost use Rattle.std.specs.Prelude.{◌≡◌, is_some};

@@ -1,15 +1,11 @@
 //! The modules and bundles that an edit names.
-ghost use Rattle.std.specs.Prelude.{◌≡◌, slice_index_or};
 
-use crate::ids::{BundleId, ModuleId, WireId};
-use crate::module_record::ModuleRecord;
-use crate::name::Name;
 use crate::netlist::Netlist;
+use mp_records::{BundleId, ModuleId, ModuleRecord, Name};
 
 impl Netlist {
     ghost use Rattle.std.specs.Prelude.{◌≡◌};
     ghost use Rattle.std.specs.Option.{option_copied};
-    ghost use Rattle.mp_netlist.specs.Circuit.{module_width};
     ghost use Rattle.mp_netlist.specs.Edits.{module_stands, module_id, module_of, bundle_stands, bundle_id, input_ports, output_ports, input_width_of, output_width_of};
 
     /// Whether a module of the name stands.
@@ -98,28 +94,5 @@ impl Netlist {
                 .output_width(self.module_width(found), port as usize),
             None => 0,
         }
-    }
-
-    /// The width of a module: that of the wire at its first input where its kind has ports of any width, and else 1.
-    fn module_width(&self, found: &ModuleRecord) -> u32
-        ensures { result ≡ module_width self.now found.now }
-    {
-        if !found.kind.has_width() {
-            return 1;
-        }
-        let first = first_wire(found.inputs.as_slice());
-        match self.wire(first) {
-            Some(wire) => wire.width,
-            None => 0,
-        }
-    }
-}
-
-fn first_wire(wires: &[WireId]) -> WireId
-    ensures { result ≡ slice_index_or wires.now 0 (record { 0 = 0 }) }
-{
-    match wires {
-        [first, ..] => *first,
-        [] => WireId(0),
     }
 }

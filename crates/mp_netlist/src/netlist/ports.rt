@@ -6,12 +6,11 @@ ghost use Rattle.mp_netlist.specs.Drivers.{is_free_for};
 ghost use Rattle.mp_netlist.specs.Edits.{are_distinct, driven_names};
 
 use crate::driver::Driver;
-use crate::ids::{ModuleId, WireId};
-use crate::name::Name;
 use crate::netlist::Netlist;
-use crate::port_names::{InputNames, OutputName, OutputNames};
-use crate::ports::{Inputs, Output, Outputs};
 use mp_modules::Kind;
+use mp_records::{
+    InputNames, Inputs, ModuleId, Name, Output, OutputName, OutputNames, Outputs, WireId,
+};
 use std::alloc::AllocError;
 
 impl Netlist {

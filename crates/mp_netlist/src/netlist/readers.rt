@@ -4,9 +4,8 @@ ghost use Rattle.std.specs.List.{enumerate_from, flat_map};
 ghost use Rattle.mp_netlist.specs.Readers.{ports_at, readers_in};
 ghost use Rattle.mp_netlist.specs.DriverSearch.{HasFewInputs};
 
-use crate::ids::{ModuleId, WireId};
-use crate::module_record::ModuleRecord;
 use crate::netlist::Netlist;
+use mp_records::{ModuleId, ModuleRecord, WireId};
 use std::alloc::AllocError;
 
 impl Netlist {

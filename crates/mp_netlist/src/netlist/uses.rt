@@ -1,13 +1,11 @@
 //! Which wires are named by modules and bundles.
 ghost use Rattle.std.specs.Prelude.{◌≡◌};
 ghost use Rattle.std.specs.List.{list_any};
+ghost use Rattle.mp_records.specs.NamedWires.{module_names, bundle_names};
 ghost use Rattle.mp_netlist.specs.Slots.{stands_and};
-ghost use Rattle.mp_netlist.specs.Uses.{module_names, bundle_names};
 
-use crate::bundle_record::BundleRecord;
-use crate::ids::WireId;
-use crate::module_record::ModuleRecord;
 use crate::netlist::Netlist;
+use mp_records::{BundleRecord, ModuleRecord, WireId};
 
 impl Netlist {
     ghost use Rattle.std.specs.Prelude.{◌≡◌};

@@ -1,6 +1,6 @@
 use Rattle.std.proofs.Common.{◌≡◌, ◌+◌, ℕ, Option, Some, Result, Ok, Err, OnOk, List, length, take, map, ap, sym, subst, ◌∙◌}
-use Rattle.mp_netlist.specs.declared.ids.WireId.{WireId}
-use Rattle.mp_netlist.specs.declared.module_record.ModuleRecord.{ModuleRecord}
+use Rattle.mp_records.specs.declared.ids.WireId.{WireId}
+use Rattle.mp_records.specs.declared.module_record.ModuleRecord.{ModuleRecord}
 use Rattle.mp_netlist.specs.Circuit.{Circuit, IsCircuit, module_at}
 use Rattle.mp_model.specs.Levels.{inputs_by}
 use Rattle.mp_model.specs.Tracks.{Progress}

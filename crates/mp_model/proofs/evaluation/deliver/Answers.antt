@@ -1,9 +1,9 @@
 use Rattle.std.proofs.Common.{◌≡◌, ◌+◌, ◌<◌, ◌≤◌, ℕ, Option, Some, None, List, length, get_or, ap, sym, subst, ◌∙◌, arith}
 use Rattle.std.proofs.lemmas.List.{get_or_default}
 use Rattle.mp_modules.specs.Memories.{output_of}
-use Rattle.mp_netlist.specs.declared.ports.Output.{Output}
+use Rattle.mp_records.specs.declared.ports.Output.{Output}
 use Rattle.mp_netlist.specs.Slots.{slot_at}
-use Rattle.mp_netlist.specs.Circuit.{output_at, delay_of}
+use Rattle.mp_records.specs.Outputs.{output_at, delay_of}
 use Rattle.mp_model.specs.Tracks.{Progress}
 use Rattle.mp_model.specs.Evaluations.{AreTracks, IsOpenAt, delivered, with_expected}
 use Rattle.mp_model.specs.Waves.{state}

@@ -1,5 +1,5 @@
 use Rattle.std.proofs.Common.{◌≡◌, map, take, length}
-use Rattle.mp_netlist.specs.declared.ids.WireId.{WireId}
+use Rattle.mp_records.specs.declared.ids.WireId.{WireId}
 use Rattle.mp_model.specs.Evaluations.{present_at}
 use Rattle.mp_model.proofs.evaluation.present_levels.Given as goal
 

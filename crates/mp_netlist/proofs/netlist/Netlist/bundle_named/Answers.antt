@@ -1,6 +1,6 @@
 use Rattle.std.proofs.Common.{◌∙◌}
+use Rattle.mp_records.specs.declared.bundle_record.BundleRecord.{BundleRecord}
 use Rattle.mp_netlist.proofs.TableLemmas.{looked_up}
-use Rattle.mp_netlist.specs.declared.bundle_record.BundleRecord.{BundleRecord}
 use Rattle.mp_netlist.proofs.netlist.Netlist.bundle_named.Goals as goal
 
 pub returns-in-Some : goal.returns-in-Some

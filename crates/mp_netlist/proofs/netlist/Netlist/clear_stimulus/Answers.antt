@@ -1,5 +1,5 @@
 use Rattle.std.proofs.Common.{◌≡◌, ◌<◌, length, None, option_map, refl, sym, ap, subst, arith}
-use Rattle.mp_netlist.specs.declared.ids.WireId.{WireId}
+use Rattle.mp_records.specs.declared.ids.WireId.{WireId}
 use Rattle.mp_netlist.specs.Circuit.{Circuit, IsCircuit, wire_at}
 use Rattle.mp_netlist.specs.Edits.{wire_id, with_wire, without_stimulus, clearing_refusal}
 use Rattle.mp_netlist.specs.Records.{circuit_of}

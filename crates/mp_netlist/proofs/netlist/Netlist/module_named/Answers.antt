@@ -1,6 +1,6 @@
 use Rattle.std.proofs.Common.{◌∙◌}
+use Rattle.mp_records.specs.declared.module_record.ModuleRecord.{ModuleRecord}
 use Rattle.mp_netlist.proofs.TableLemmas.{looked_up}
-use Rattle.mp_netlist.specs.declared.module_record.ModuleRecord.{ModuleRecord}
 use Rattle.mp_netlist.proofs.netlist.Netlist.module_named.Goals as goal
 
 pub returns-in-Some : goal.returns-in-Some

@@ -1,7 +1,7 @@
 use Rattle.std.proofs.Common.{◌≡◌, ℕ, drop}
 use Rattle.std.specs.List.{list_all, enumerate_from}
 use Rattle.mp_modules.specs.Kinds.{output_width}
-use Rattle.mp_netlist.specs.declared.port_names.OutputName.{OutputName}
+use Rattle.mp_records.specs.declared.port_names.OutputName.{OutputName}
 use Rattle.mp_netlist.specs.Edits.{outputs_fit, output_fits}
 use Rattle.mp_netlist.proofs.netlist.Netlist.outputs_fit.Given as goal
 

@@ -1,7 +1,7 @@
 use Rattle.std.proofs.Common.{◌≡◌, ◌<◌, length, None, Some, refl, sym, ap, subst, ◌∙◌, arith}
 use Rattle.std.proofs.lemmas.Map.Text.{hash_map_updates_text}
 use Rattle.indexmap.specs.IndexMap.{get_by_text}
-use Rattle.mp_netlist.specs.declared.ids.ModuleId.{ModuleId}
+use Rattle.mp_records.specs.declared.ids.ModuleId.{ModuleId}
 use Rattle.mp_netlist.specs.Circuit.{Circuit, IsCircuit}
 use Rattle.mp_netlist.specs.Edits.{module_id, with_module, module_removal_refusal}
 use Rattle.mp_netlist.specs.Records.{circuit_of}

@@ -1,6 +1,6 @@
 use Rattle.std.proofs.Common.{◌≡◌, ◌<◌, length, None, Some, refl, sym, ap, subst, ◌∙◌, arith}
 use Rattle.std.proofs.lemmas.Map.Text.{hash_map_updates_text}
-use Rattle.mp_netlist.specs.declared.ids.WireId.{WireId}
+use Rattle.mp_records.specs.declared.ids.WireId.{WireId}
 use Rattle.mp_netlist.specs.Circuit.{Circuit, IsCircuit}
 use Rattle.indexmap.specs.IndexMap.{get_by_text}
 use Rattle.mp_netlist.specs.Edits.{wire_id, with_wire, wire_removal_refusal}

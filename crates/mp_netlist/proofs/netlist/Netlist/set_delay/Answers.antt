@@ -1,7 +1,8 @@
 use Rattle.std.proofs.Common.{◌≡◌, ◌<◌, length, None, option_map, refl, sym, ap, subst, arith}
-use Rattle.mp_netlist.specs.declared.ids.ModuleId.{ModuleId}
+use Rattle.mp_records.specs.declared.ids.ModuleId.{ModuleId}
+use Rattle.mp_records.specs.PortChanges.{with_delay}
 use Rattle.mp_netlist.specs.Circuit.{Circuit, IsCircuit, module_at}
-use Rattle.mp_netlist.specs.Edits.{module_id, with_module, with_delay, delay_refusal}
+use Rattle.mp_netlist.specs.Edits.{module_id, with_module, delay_refusal}
 use Rattle.mp_netlist.specs.Records.{circuit_of}
 use Rattle.mp_netlist.proofs.NameLemmas.{module_name, module_within}
 use Rattle.mp_netlist.proofs.TableLemmas.{IsTable-rewrite}

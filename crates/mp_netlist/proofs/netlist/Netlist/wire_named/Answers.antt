@@ -1,6 +1,6 @@
 use Rattle.std.proofs.Common.{◌∙◌}
+use Rattle.mp_records.specs.declared.wire_record.WireRecord.{WireRecord}
 use Rattle.mp_netlist.proofs.TableLemmas.{looked_up}
-use Rattle.mp_netlist.specs.declared.wire_record.WireRecord.{WireRecord}
 use Rattle.mp_netlist.proofs.netlist.Netlist.wire_named.Goals as goal
 
 pub returns-in-Some : goal.returns-in-Some

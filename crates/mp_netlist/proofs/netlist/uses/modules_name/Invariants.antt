@@ -1,7 +1,7 @@
 use Rattle.std.proofs.Common.{◌≡◌, drop}
 use Rattle.std.specs.List.{list_any}
+use Rattle.mp_records.specs.NamedWires.{module_names}
 use Rattle.mp_netlist.specs.Slots.{stands_and}
-use Rattle.mp_netlist.specs.Uses.{module_names}
 use Rattle.mp_netlist.proofs.netlist.uses.modules_name.Given as goal
 
 -- what is left decides

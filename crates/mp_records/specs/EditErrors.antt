@@ -1,9 +1,7 @@
 -- The number and the name of each refusal.
 use Rattle.std.specs.Prelude.{ℕ, ◌-◌, ◌==◌, if◌then◌else◌, None, List, ◌∷◌, [], Option, codes, slice_get}
-use Rattle.mp_netlist.specs.declared.edit_error.EditError.{EditError}
-use Rattle.mp_netlist.specs.declared.new_error.NewError.{NewError}
-use Rattle.mp_netlist.specs.declared.new_error.NewError.TheVariants as new_errors
-use Rattle.mp_netlist.specs.declared.edit_error.EditError.TheVariants.{NameTaken, BadName, NoSuchWire, NoSuchModule, NoSuchBundle, BadWidth, BadLevel, BadDelay, BadPort, WrongPorts, BadParam, WidthMismatch, AlreadyDriven, StillUsed, BadStimulus, NoStimulus, TableFull, HistoryFull, OutOfMemory}
+use Rattle.mp_records.specs.declared.edit_error.EditError.{EditError}
+use Rattle.mp_records.specs.declared.edit_error.EditError.TheVariants.{NameTaken, BadName, NoSuchWire, NoSuchModule, NoSuchBundle, BadWidth, BadLevel, BadDelay, BadPort, WrongPorts, BadParam, WidthMismatch, AlreadyDriven, StillUsed, BadStimulus, NoStimulus, TableFull, HistoryFull, OutOfMemory}
 
 abbrev pub number_of : EditError → ℕ
 number_of NameTaken = 1
@@ -53,8 +51,3 @@ names =
 -- the name of a number's refusal, where there is one
 abbrev pub name_of : ℕ → Option (List ℕ)
 name_of number = if number == 0 then None else slice_get names (number - 1)
-
--- the number of a refusal to make a netlist
-abbrev pub new_number_of : NewError → ℕ
-new_number_of new_errors.BadHorizon = 1
-new_number_of new_errors.OutOfMemory = 2

@@ -1,7 +1,7 @@
 //! Why an edit is refused.
 ghost use Rattle.std.specs.Prelude.{◌≡◌, codes, option_map};
-ghost use Rattle.mp_netlist.specs.declared.edit_error.EditError.TheVariants.{OutOfMemory};
-ghost use Rattle.mp_netlist.specs.EditErrors.{number_of, name_of};
+ghost use Rattle.mp_records.specs.declared.edit_error.EditError.TheVariants.{OutOfMemory};
+ghost use Rattle.mp_records.specs.EditErrors.{number_of, name_of};
 
 use std::alloc::{AllocError, AllocFailed};
 use thiserror::Error;

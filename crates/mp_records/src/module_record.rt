@@ -1,9 +1,9 @@
 //! What a netlist keeps of a module.
 ghost use Rattle.std.specs.Prelude.{◌≡◌, ◌==◌};
 ghost use Rattle.std.specs.List.{list_any};
-ghost use Rattle.mp_netlist.specs.declared.ids.WireId.{WireId};
-ghost use Rattle.mp_netlist.specs.declared.ports.Output.{Output};
-ghost use Rattle.mp_netlist.specs.Drivers.{is_wire};
+ghost use Rattle.mp_records.specs.declared.ids.WireId.{WireId};
+ghost use Rattle.mp_records.specs.declared.ports.Output.{Output};
+ghost use Rattle.mp_records.specs.NamedWires.{is_wire};
 
 use crate::ids::WireId;
 use crate::name::Name;
@@ -23,9 +23,9 @@ pub struct ModuleRecord {
 
 impl ModuleRecord {
     ghost use Rattle.std.specs.Prelude.{◌≡◌};
-    ghost use Rattle.mp_netlist.specs.Circuit.{delay_of};
-    ghost use Rattle.mp_netlist.specs.Uses.{module_names};
-    ghost use Rattle.mp_netlist.specs.Edits.{with_input, with_output, with_delay};
+    ghost use Rattle.mp_records.specs.Outputs.{delay_of};
+    ghost use Rattle.mp_records.specs.NamedWires.{module_names};
+    ghost use Rattle.mp_records.specs.PortChanges.{with_input, with_output, with_delay};
 
     /// The transport delay of an output port in units, 1 where there is no such port.
     pub fn delay(&self, port: u32) -> u32
@@ -38,28 +38,28 @@ impl ModuleRecord {
     }
 
     /// Whether an input or an output is at the wire.
-    pub(crate) fn names(&self, wire: WireId) -> bool
+    pub fn names(&self, wire: WireId) -> bool
         ensures { result ≡ module_names wire.0 self.now }
     {
         reads(self.inputs.as_slice(), wire) || drives(self.outputs.as_slice(), wire)
     }
 
     /// Sets the wire of an input port, where there is such a port.
-    pub(crate) fn set_input(&mut self, port: usize, wire: WireId)
+    pub fn set_input(&mut self, port: usize, wire: WireId)
         ensures { self.new ≡ with_input port wire self.old }
     {
         self.inputs.set_wire(port, wire);
     }
 
-    /// Sets the wire of an output port, where there is such a port.
-    pub(crate) fn set_output(&mut self, port: usize, wire: Option<WireId>)
+    /// Sets the wire of an output port, where there is such a port. The port keeps its delay.
+    pub fn set_output(&mut self, port: usize, wire: Option<WireId>)
         ensures { self.new ≡ with_output port wire self.old }
     {
         self.outputs.set_wire(port, wire);
     }
 
     /// Sets the delay of an output port, where there is such a port.
-    pub(crate) fn set_delay(&mut self, port: usize, delay: u32)
+    pub fn set_delay(&mut self, port: usize, delay: u32)
         ensures { self.new ≡ with_delay port delay self.old }
     {
         self.outputs.set_delay(port, delay);

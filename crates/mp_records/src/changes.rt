@@ -1,8 +1,9 @@
 //! The times and values of a stimulus.
 ghost use Rattle.std.specs.Prelude.{◌≡◌, ◌<◌, ◌^◌, All, IfOk};
-ghost use Rattle.mp_netlist.specs.Stimuli.{is_stimulus, fits_width};
+ghost use Rattle.mp_records.specs.Stimuli.{is_stimulus};
 
 use crate::stimulus::Stimulus;
+use mp_modules::fits_width;
 use std::alloc::{AllocError, Global};
 use std::marker::Model;
 
@@ -45,12 +46,12 @@ impl Changes {
 
     #[tactic(auto, unfolding(crate::specs::Stimuli::is_stimulus))]
     /// Whether the times rise from above 0 to below the horizon, and each value fits the width.
-    pub(crate) fn is_valid(&self, horizon: u64, width: u64) -> bool
+    pub fn is_valid(&self, horizon: u64, width: u64) -> bool
         ensures { result ≡ is_stimulus horizon width 0 self.now }
     {
         let mut before = 0;
         for &(time, value) in self.pairs.as_slice() {
-            if time <= before || time >= horizon || !fits(value, width) {
+            if time <= before || time >= horizon || !fits_width(value, width) {
                 return false;
             }
             before = time;
@@ -59,7 +60,7 @@ impl Changes {
     }
 
     /// The same times and values, the times being below 2^32.
-    pub(crate) fn to_stimulus(&self, alloc: Global) -> Result<Stimulus, AllocError>
+    pub fn to_stimulus(&self, alloc: Global) -> Result<Stimulus, AllocError>
         requires { All (λ change. change.0 < 2 ^ 32) self.now }
         ensures { IfOk result (λ stimulus. stimulus ≡ self.now) }
     {
@@ -69,12 +70,4 @@ impl Changes {
         }
         Ok(Stimulus::new(pairs))
     }
-}
-
-#[tactic(auto, unfolding(crate::specs::Stimuli::fits_width))]
-/// Whether the value has no bit above the width.
-pub(crate) fn fits(value: u64, width: u64) -> bool
-    ensures { result ≡ fits_width width value }
-{
-    width >= 64 || value < 1 << width
 }

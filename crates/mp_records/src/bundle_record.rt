@@ -15,10 +15,10 @@ pub struct BundleRecord {
 
 impl BundleRecord {
     ghost use Rattle.std.specs.Prelude.{◌≡◌};
-    ghost use Rattle.mp_netlist.specs.Uses.{bundle_names};
+    ghost use Rattle.mp_records.specs.NamedWires.{bundle_names};
 
     /// Whether the wire is its request, its acknowledge or its payload.
-    pub(crate) fn names(&self, wire: WireId) -> bool
+    pub fn names(&self, wire: WireId) -> bool
         ensures { result ≡ bundle_names wire.0 self.now }
     {
         self.request.0 == wire.0 || self.acknowledge.0 == wire.0 || self.payload.0 == wire.0

@@ -13,7 +13,7 @@ pub struct Inputs {
 
 impl Model for Inputs {
     ghost use Rattle.std.specs.Prelude.{List};
-    ghost use Rattle.mp_netlist.specs.declared.ids.WireId.{WireId};
+    ghost use Rattle.mp_records.specs.declared.ids.WireId.{WireId};
 
     ghost Value = { List WireId };
 
@@ -70,7 +70,7 @@ pub struct Outputs {
 
 impl Model for Outputs {
     ghost use Rattle.std.specs.Prelude.{List};
-    ghost use Rattle.mp_netlist.specs.declared.ports.Output.{Output};
+    ghost use Rattle.mp_records.specs.declared.ports.Output.{Output};
 
     ghost Value = { List Output };
 
@@ -88,7 +88,7 @@ impl Clone for Outputs {
 }
 
 impl Outputs {
-    ghost use Rattle.mp_netlist.specs.Circuit.{output_in};
+    ghost use Rattle.mp_records.specs.Outputs.{output_in};
 
     /// These output ports, the first being port 0.
     pub fn new(ports: Vec<Output>) -> Self

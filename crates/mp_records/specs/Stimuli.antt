@@ -1,9 +1,6 @@
 -- What a stimulus is.
-use Rattle.std.specs.Prelude.{ℕ, Bool, true, ◌&&◌, ◌^◌, List, [], ◌∷◌, nat_lt}
-
--- the value has no bit above the width
-unfoldable pub fits_width : ℕ → ℕ → Bool
-fits_width width value = nat_lt value (2 ^ width)
+use Rattle.std.specs.Prelude.{ℕ, Bool, true, ◌&&◌, List, [], ◌∷◌, nat_lt}
+use Rattle.mp_modules.specs.Levels.{fits_width}
 
 -- the times rise strictly from above the time before, below the horizon, and each value fits the width
 unfoldable pub is_stimulus : ℕ → ℕ → ℕ → List (ℕ × ℕ) → Bool

@@ -1,6 +1,6 @@
 use Rattle.std.proofs.Common.{◌≡◌, drop}
-use Rattle.mp_netlist.specs.Stimuli.{is_stimulus}
-use Rattle.mp_netlist.proofs.changes.Changes.is_valid.Given as goal
+use Rattle.mp_records.specs.Stimuli.{is_stimulus}
+use Rattle.mp_records.proofs.changes.Changes.is_valid.Given as goal
 
 -- what is left of the changes decides
 abbrev pub invariant-loop-time : goal.invariant-loop-time

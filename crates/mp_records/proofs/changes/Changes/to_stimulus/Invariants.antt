@@ -1,5 +1,5 @@
 use Rattle.std.proofs.Common.{◌≡◌, take}
-use Rattle.mp_netlist.proofs.changes.Changes.to_stimulus.Given as goal
+use Rattle.mp_records.proofs.changes.Changes.to_stimulus.Given as goal
 
 -- the pairs so far
 abbrev pub invariant-loop-time : goal.invariant-loop-time

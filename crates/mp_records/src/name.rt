@@ -1,6 +1,6 @@
 //! The text by which a wire is named.
 ghost use Rattle.std.specs.Prelude.{◌≡◌, IfOk, string_bytes};
-ghost use Rattle.mp_netlist.specs.Names.{is_name, is_name_byte, begins_with_letter};
+ghost use Rattle.mp_records.specs.Names.{is_name, is_name_byte, begins_with_letter};
 ghost use Rattle.std.specs.List.{list_all};
 
 use std::alloc::AllocError;

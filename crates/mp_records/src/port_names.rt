@@ -60,7 +60,7 @@ pub struct OutputNames {
 
 impl Model for OutputNames {
     ghost use Rattle.std.specs.Prelude.{List};
-    ghost use Rattle.mp_netlist.specs.declared.port_names.OutputName.{OutputName};
+    ghost use Rattle.mp_records.specs.declared.port_names.OutputName.{OutputName};
 
     ghost Value = { List OutputName };
 

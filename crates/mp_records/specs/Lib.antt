@@ -1,0 +1,6 @@
+pub mod Names
+pub mod Stimuli
+pub mod EditErrors
+pub mod Outputs
+pub mod NamedWires
+pub mod PortChanges

@@ -1,0 +1,28 @@
+//! What a wire, a module, a bundle and an edit are as data.
+#![tactic(auto)]
+
+mod bundle_record;
+mod changes;
+mod edit;
+mod edit_error;
+mod ids;
+mod module_record;
+mod name;
+mod params;
+mod port_names;
+mod ports;
+mod stimulus;
+mod wire_record;
+
+pub use bundle_record::BundleRecord;
+pub use changes::Changes;
+pub use edit::Edit;
+pub use edit_error::EditError;
+pub use ids::{BundleId, ModuleId, WireId};
+pub use module_record::ModuleRecord;
+pub use name::Name;
+pub use params::Params;
+pub use port_names::{InputNames, OutputName, OutputNames};
+pub use ports::{Inputs, Output, Outputs};
+pub use stimulus::Stimulus;
+pub use wire_record::WireRecord;
