@@ -1,5 +1,5 @@
 //! The plain evaluator: unit by unit from time zero, on one thread.
-ghost use Rattle.std.specs.Prelude.{◌≡◌, ◌+◌, ◌-◌, ◌^◌, ◌<◌, ◌≤◌, length, map, take, slice_index_or, option_map, Some, IfOk, OnOk, IsTrue, ℕ};
+ghost use Rattle.std.specs.Prelude.{◌≡◌, ◌+◌, ◌-◌, ◌^◌, ◌<◌, ◌≤◌, length, map, take, option_map, Some, IfOk, OnOk, IsTrue, ℕ};
 ghost use Rattle.mp_records.specs.declared.ids.WireId.{WireId as Wire};
 ghost use Rattle.mp_netlist.specs.Slots.{slot_at};
 ghost use Rattle.mp_netlist.specs.Circuit.{IsCircuit, IsWire, module_width, module_at};
@@ -85,33 +85,10 @@ fn built(netlist: &Netlist, found: &ModuleRecord) -> AnyModule
     requires params { IsTrue (are_params found.now.kind (module_width netlist.now found.now) found.now.params) }
     ensures { result ≡ built netlist.now found.now }
 {
-    let width = module_width(netlist, found);
+    let width = netlist.module_width(found);
     match AnyModule::of(found.kind, found.params.as_slice(), width) {
         Some(part) => part,
         None => unreachable!(),
-    }
-}
-
-/// The width of a module: that of the wire at its first input where its kind has ports of any width, and else 1.
-fn module_width(netlist: &Netlist, found: &ModuleRecord) -> u32
-    ensures { result ≡ module_width netlist.now found.now }
-{
-    if !found.kind.has_width() {
-        return 1;
-    }
-    let first = first_wire(found.inputs.as_slice());
-    match netlist.wire(first) {
-        Some(wire) => wire.width,
-        None => 0,
-    }
-}
-
-fn first_wire(wires: &[WireId]) -> WireId
-    ensures { result ≡ slice_index_or wires.now 0 (record { 0 = 0 }) }
-{
-    match wires {
-        [first, ..] => *first,
-        [] => WireId(0),
     }
 }
 

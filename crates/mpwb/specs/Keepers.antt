@@ -1,8 +1,8 @@
 -- A netlist that a script edits.
-use Rattle.std.specs.Prelude.{◌≡◌, ◌⊎◌, IsOk, ℕ, ◌+◌, Result, Ok, Err, nat_lt, if◌then◌else◌}
+use Rattle.std.specs.Prelude.{ℕ, ◌+◌, Result, Ok, Err, nat_lt, if◌then◌else◌}
 use Rattle.mp_records.specs.declared.edit.Edit.{Edit}
 use Rattle.mp_records.specs.declared.edit_error.EditError.{EditError}
-use Rattle.mp_records.specs.declared.edit_error.EditError.TheVariants.{HistoryFull, OutOfMemory}
+use Rattle.mp_records.specs.declared.edit_error.EditError.TheVariants.{HistoryFull}
 use Rattle.mp_netlist.specs.Circuit.{Circuit}
 use Rattle.mp_netlist.specs.Edits.{after}
 
@@ -23,7 +23,3 @@ counted_edit accepted (Ok n) = if nat_lt accepted 4096 then Ok (record { netlist
 -- what is kept after an edit, or why the edit is refused
 abbrev pub kept_after : Kept → Edit → Result Kept EditError
 kept_after kept edit = counted_edit kept.accepted (after kept.netlist edit)
-
--- an edit was refused: for its first fault, or for want of memory where it has none
-abbrev pub IsRefused : Result Kept EditError → EditError → Type 0
-IsRefused judged error = (judged ≡ Err error) ⊎ ((error ≡ OutOfMemory) × IsOk judged)

@@ -37,7 +37,8 @@ impl Model for Keeper {
 impl Keeper {
     ghost use Rattle.std.specs.Prelude.{◌≡◌, Ok, IfOk, IfErr, OnOk, OnErr};
     ghost use Rattle.mp_model.specs.Waves.{waves as waves_of};
-    ghost use Rattle.mpwb.specs.Keepers.{opened, kept_after, IsRefused};
+    ghost use Rattle.mp_netlist.specs.Edits.{RefusedBy};
+    ghost use Rattle.mpwb.specs.Keepers.{opened, kept_after};
 
     /// The netlist before the first edit.
     pub fn new(alloc: Global, netlist: Netlist) -> Result<Keeper, AllocError>
@@ -70,7 +71,7 @@ impl Keeper {
     pub fn change(&mut self, alloc: Global, edit: &Edit) -> Result<u32, EditError>
         ensures ok { OnOk result (kept_after self.old edit.now ≡ Ok self.new) }
         ensures count { IfOk result (λ accepted. accepted ≡ self.new.accepted) }
-        ensures refused { IfErr result (IsRefused (kept_after self.old edit.now)) }
+        ensures refused { IfErr result (RefusedBy (kept_after self.old edit.now)) }
         ensures err { OnErr result (self.new ≡ self.old) }
     {
         self.netlist.check(edit)?;
