@@ -2,7 +2,7 @@
 ghost use Rattle.std.specs.Prelude.{◌≡◌, ◌+◌, ◌-◌, ◌^◌, ◌<◌, ◌≤◌, length, map, take, option_map, Some, IfOk, OnOk, IsTrue, ℕ};
 ghost use Rattle.mp_records.specs.declared.ids.WireId.{WireId as Wire};
 ghost use Rattle.mp_netlist.specs.Slots.{slot_at};
-ghost use Rattle.mp_netlist.specs.Circuit.{IsCircuit, IsWire, module_width, module_at};
+ghost use Rattle.mp_netlist.specs.Circuit.{IsCircuit, module_width, module_at};
 ghost use Rattle.mp_modules.specs.Kinds.{are_params};
 ghost use Rattle.mp_storage.specs.AnyModules.{is_width_of};
 ghost use Rattle.mp_model.specs.Levels.{built};
