@@ -1,5 +1,5 @@
 -- What one unit of time, and one delivery, does to the track of a wire.
-use Rattle.std.proofs.Common.{◌≡◌, ℕ, ◌+◌, ◌-◌, ◌<◌, ◌≤◌, Bool, false, cond, List, [], ◌∷◌, ◌++◌, ◌==◌, nat_lt, Option, Some, None, unwrap_or, refl, ap, sym, subst, ◌∙◌, arith, inl, inr, ◌⊎◌}
+use Rattle.std.proofs.Common.{◌≡◌, ℕ, ◌+◌, ◌-◌, ◌<◌, ◌≤◌, Bool, false, cond, List, ◌==◌, nat_lt, Option, Some, None, unwrap_or, refl, ap, sym, subst, ◌∙◌, arith, inl, inr, ◌⊎◌}
 use Rattle.std.proofs.lemmas.Bool.{cases_Bool, cases_lt, le-ltb, cases_eq, cases_order}
 use Rattle.std.proofs.lemmas.Bool.Decides.{nat_tests}
 use Rattle.mp_wave.specs.Waveform.{Waveform, IsWaveform, level_from, level_of, last_from, last_time, held_from}
@@ -218,6 +218,6 @@ on_track_delivered n ok known new t m p w r track at drives was is low on =
       free = subst (λ k. IsOpen n new k t (delivering n m p t r track)) (sym drives) (
         subst (λ slot. t + d + 1 ≤ new m p + delay_in slot p) (sym at) (omega (arith, is)),
         subst (λ slot. last_time t (one_more track.wave (t + d) v track.ahead) < new m p + delay_in slot p) (sym at)
-        (last_more track.wave t (t + d) v (new m p + d) track.ahead (omega (arith, opened.1, is)) (omega (arith, is))),
+            (last_more track.wave t (t + d) v (new m p + d) track.ahead (omega (arith, opened.1, is)) (omega (arith, is))),
       );
     }

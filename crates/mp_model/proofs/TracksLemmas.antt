@@ -68,7 +68,7 @@ tracks_advanced n ok t tracks low are =
     let later : AreTracks n all (t + 1) (map (option_map (advanced (t + 1))) tracks) = record {
       places = length-map tracks (option_map (advanced (t + 1))) ∙ are.places;
       each = λ w. subst (IsTrackOf n all (t + 1) w (wire_at n w)) (sym (slot_at-map (advanced (t + 1)) tracks w))
-      (IsTrackOf-map n all all t (t + 1) w (advanced (t + 1)) (wire_at n w) (slot_at tracks w) (λ track. units.on_track_advanced n ok t w track low) (now.each w));
+          (IsTrackOf-map n all all t (t + 1) w (advanced (t + 1)) (wire_at n w) (slot_at tracks w) (λ track. units.on_track_advanced n ok t w track low) (now.each w));
     } in
     tracks_same n all (delivered (t + 1) 0 0) (t + 1) (map (option_map (advanced (t + 1))) tracks) (λ w m p drives. sym (units.delivered_none (t + 1) m.0 p)) later
 

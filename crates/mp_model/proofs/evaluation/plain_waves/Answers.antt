@@ -1,4 +1,4 @@
-use Rattle.std.proofs.Common.{◌≡◌, ◌+◌, ◌-◌, IfOk, length, map, option_map, sym, subst, arith}
+use Rattle.std.proofs.Common.{◌≡◌, ◌+◌, ◌-◌, IfOk, map, option_map, sym, subst, arith}
 use Rattle.mp_model.specs.Tracks.{advanced}
 use Rattle.mp_model.specs.Evaluations.{AreTracks, AreCells, delivered}
 use Rattle.mp_model.proofs.TracksLemmas.{tracks_advanced}
