@@ -13,7 +13,7 @@ use Rattle.mp_text.specs.declared.line_error.LineError.{LineError}
 use Rattle.mp_text.specs.declared.line_error.LineError.TheVariants.{BadNumber}
 use Rattle.mp_text.specs.Numbers.{time_and_value, parts_at_equals, is_slash, parts_at_slash, name_and_number}
 use Rattle.mp_text.specs.Statements.{number_word, change_word, output_word, each_word}
-use Rattle.mp_text.specs.Written.{pair_text}
+use Rattle.mp_text.specs.WaveLines.{pair_text}
 use Rattle.mp_text.proofs.DecimalLemmas.{spelled_number-decimal, decimal_digits}
 use Rattle.mp_text.proofs.DividedLemmas.{position-append, before_last-append, after_last-append}
 use Rattle.mp_text.proofs.PlainLemmas.{All-passing, list_all-passing, both}

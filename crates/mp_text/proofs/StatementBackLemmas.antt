@@ -13,7 +13,7 @@ use Rattle.mp_records.specs.declared.port_names.OutputName.{OutputName}
 use Rattle.mp_records.specs.declared.edit.Edit.TheVariants.{AddWire, AddModule, AddBundle, SetStimulus}
 use Rattle.mp_records.specs.Names.{is_name, is_name_byte, begins_with_letter}
 use Rattle.mp_text.specs.Statements.{number_word, change_word, output_word, is_mark, Start, Change, horizon_word, stated_horizon, wire_edit, module_edit, parts_edit, stimulus_edit, bundle_edit, stated_edit, statement_of}
-use Rattle.mp_text.specs.Written.{pair_text}
+use Rattle.mp_text.specs.WaveLines.{pair_text}
 use Rattle.mp_text.proofs.DecimalLemmas.{decimal_digits}
 use Rattle.mp_text.proofs.DividedLemmas.{before_first-append, after_first-append}
 use Rattle.mp_text.proofs.PlainLemmas.{both}

@@ -9,6 +9,7 @@ use Rattle.mp_records.specs.declared.module_record.ModuleRecord.{ModuleRecord}
 use Rattle.mp_records.specs.declared.bundle_record.BundleRecord.{BundleRecord}
 use Rattle.mp_records.specs.declared.ports.Output.{Output}
 use Rattle.mp_netlist.specs.Circuit.{Circuit, wire_at}
+use Rattle.mp_text.specs.WaveLines.{pair_text}
 
 -- words, each behind a space
 abbrev pub spaced : List (List ℕ) → List ℕ
@@ -48,10 +49,6 @@ module_line n None = []
 module_line n (Some r) =
     written_line (codes "module") (r.name ∷ word_of r.kind
     ∷ (map decimal r.params ++ (codes ":" ∷ (map (wire_name n) r.inputs ++ (codes ">" ∷ map (output_text n) r.outputs)))))
-
--- a time and a value, as `5=1`
-abbrev pub pair_text : ℕ × ℕ → List ℕ
-pair_text change = decimal change.0 ++ (61 ∷ decimal change.1)
 
 abbrev pub stimulus_words : List ℕ → Option (List (ℕ × ℕ)) → List ℕ
 stimulus_words name None = []

@@ -113,6 +113,20 @@ fn edit_parts(edit: &Edit) -> (&str, &str, u64, u64) {
             ..
         } => (name.as_str(), payload.as_str(), *setup, 0),
         Edit::RemoveBundle { bundle } => (bundle.as_str(), "bundle", 0, 0),
+        Edit::SetStimulus { wire, changes } => (
+            wire.as_str(),
+            "",
+            changes.as_slice().len() as u64,
+            0,
+        ),
+        Edit::ClearStimulus { wire } => (wire.as_str(), "clear", 0, 0),
+        _ => port_parts(edit),
+    }
+}
+
+/// The same of an edit at a port.
+fn port_parts(edit: &Edit) -> (&str, &str, u64, u64) {
+    match edit {
         Edit::RewireInput { module, port, wire } => (module.as_str(), wire.as_str(), *port, 0),
         Edit::RewireOutput {
             module,
@@ -129,13 +143,7 @@ fn edit_parts(edit: &Edit) -> (&str, &str, u64, u64) {
             port,
             delay,
         } => (module.as_str(), "", *port, *delay),
-        Edit::SetStimulus { wire, changes } => (
-            wire.as_str(),
-            "",
-            changes.as_slice().len() as u64,
-            0,
-        ),
-        Edit::ClearStimulus { wire } => (wire.as_str(), "clear", 0, 0),
+        _ => ("", "", 0, 0),
     }
 }
 
