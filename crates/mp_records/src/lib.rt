@@ -12,6 +12,8 @@ mod params;
 mod port_names;
 mod ports;
 mod stimulus;
+#[cfg(test)]
+mod tests;
 mod wire_record;
 
 pub use bundle_record::BundleRecord;
