@@ -1,7 +1,4 @@
-use crate::{
-    Changes, Edit, EditError, InputNames, Inputs, ModuleRecord, Name, Output, OutputName,
-    OutputNames, Outputs, Params, WireId,
-};
+use crate::{Changes, EditError, Inputs, ModuleRecord, Name, Output, Outputs, Params, WireId};
 use mp_modules::Kind;
 use std::alloc::{AllocError, Global};
 use std::process::Abort;
@@ -9,43 +6,6 @@ use std::test::Fail;
 
 fn name(alloc: Global, text: &str) -> Result<Name, AllocError> {
     Ok(Name::new(String::from_str(alloc, text)?))
-}
-
-/// An adder from `a` to `b`, 7 units late.
-fn adder(alloc: Global) -> Result<Edit, AllocError> {
-    let output = OutputName {
-        wire: Some(name(alloc, "b")?),
-        delay: 7,
-    };
-    Ok(Edit::AddModule {
-        name: name(alloc, "m")?,
-        kind: Kind::AddC,
-        params: Params::new(vec![in alloc; 3]?),
-        inputs: InputNames::new(vec![in alloc; name(alloc, "a")?]?),
-        outputs: OutputNames::new(vec![in alloc; output]?),
-    })
-}
-
-#[test]
-fn copied_edit(rt: HostRuntime) -> Result<(), Fail> {
-    let alloc = rt.alloc();
-    let edit = adder(alloc)?;
-    let copy = edit.copy()?;
-    let Edit::AddModule {
-        name,
-        params,
-        inputs,
-        outputs,
-        ..
-    } = &copy
-    else {
-        return Err("another edit".into());
-    };
-    assert!(rt; name.as_str() == "m");
-    assert!(rt; params.as_slice() == [3].as_slice());
-    assert_eq!(rt; inputs.as_slice().len(), 1);
-    assert_eq!(rt; outputs.as_slice()[0].delay, 7);
-    Ok(())
 }
 
 #[test]
