@@ -122,9 +122,9 @@ fn command<'a>(
 fn with_crew<'a>(alloc: Global, command: Parser<'a>) -> Result<Parser<'a>, AllocError> {
     let workers = number(alloc, "workers")
         .default_value("2")
-        .help("How many workers there are, 1 to 16");
+        .help("How many workers there are, 1 to 16; no effect yet");
     let least = number(alloc, "least").default_value("64").help(
-        "With fewer tasks than these the workers are not called on, 1 to 4096",
+        "With fewer tasks than these the workers are not called on, 1 to 4096; no effect yet",
     );
     command.arg(workers)?.arg(least)
 }
