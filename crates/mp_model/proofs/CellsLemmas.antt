@@ -56,7 +56,7 @@ pub inputs_are : (n : Circuit) → IsCircuit n → (known : ℕ → ℕ → ℕ)
     → map (λ (wire : WireId). present_at tracks wire.0) r.inputs ≡ inputs_by n (level n) r t
 inputs_are n ok known m t r tracks at are = map_present n known t tracks r.inputs are (λ p d within. ((ok.modules_ok m r at).reads p d within).0)
 
-IsCellOf-same : (n : Circuit) (m k j : ℕ) (slot : Option ModuleRecord) (cell : Option Cell) → k ≡ j → IsCellOf n m k slot cell → IsCellOf n m j slot cell
+pub IsCellOf-same : (n : Circuit) (m k j : ℕ) (slot : Option ModuleRecord) (cell : Option Cell) → k ≡ j → IsCellOf n m k slot cell → IsCellOf n m j slot cell
 IsCellOf-same n m k j None None same is = tt
 IsCellOf-same n m k j None (Some cell) same is = absurd is
 IsCellOf-same n m k j (Some r) None same is = absurd is

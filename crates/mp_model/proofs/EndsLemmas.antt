@@ -25,7 +25,7 @@ use Rattle.mp_model.specs.Evaluations.{AreRising, IsReached, IsOpen, IsOnTrack, 
 use Rattle.mp_model.specs.Waves.{level, state, slot_wave, waves_from, waves}
 use Rattle.mp_model.proofs.BehaviourLemmas.{satisfies}
 use Rattle.mp_model.proofs.SlotLemmas.{slot_at-map}
-use Rattle.mp_model.proofs.TrackLemmas.{AreRising-changes, level_from-now, level_from-last}
+use Rattle.mp_model.proofs.TrackLemmas.{AreRising-changes, level_from-now, stays}
 use Rattle.mp_model.proofs.HeldLemmas.{AreTimesIn-longer, initial-all, building-all, last_time-all, levels-all}
 use Rattle.mp_model.proofs.TracksLemmas.{tracks_same, tracks_all}
 use Rattle.mp_model.proofs.EvaluationLemmas as units
@@ -109,6 +109,7 @@ first_on_track n ok w r at =
       within = last_time-all (unchanged r.initial) n.horizon (set_ahead r) (omega (arith, ok.horizon_low)) times;
       levels = λ u low reached. levels u reached;
       present = sym (level_from-now r.initial 0 0 wave.changes rising (omega arith)) ∙ ahead 0 ∙ levels 0 (none_reached (driver n w));
+      quiet = λ none u e. absurd (omega (arith, e));
       rising = rising;
       ahead = λ u le. ahead u;
       free = none_open (driver n w) refl;
@@ -142,12 +143,6 @@ first_tracks_are n ok = tracks_same n (λ m p. 0) (delivered 0 0 0) 0 (map (opti
       places = length-map n.wires (option_map first_progress);
       each = λ w. subst (IsTrackOf n (λ m p. 0) 0 w (wire_at n w)) (sym (slot_at-map first_progress n.wires w)) (by w (wire_at n w) refl);
     }
-
--- after its last change a wave keeps its level
-stays : (wave : Waveform) (s u : ℕ) → IsWaveform wave → last_time 0 wave.changes ≤ s → s ≤ u → level_of wave u ≡ level_of wave s
-stays wave s u form last le =
-    let rising = AreRising-changes 0 wave.initial wave.changes form in
-    level_from-last wave.initial 0 u wave.changes rising (omega (arith, last, le)) ∙ sym (level_from-last wave.initial 0 s wave.changes rising last)
 
 -- at the horizon a track has the wave
 wave_is : (n : Circuit) → IsCircuit n → (t w : ℕ) (track : Progress) → t ≡ n.horizon - 1 → IsOnTrack n (λ m p. t + 1) t w track → track.wave ≡ wave_upto (level n w) t

@@ -1,5 +1,5 @@
 -- What one unit of time, and one delivery, does to the track of a wire.
-use Rattle.std.proofs.Common.{◌≡◌, ℕ, ◌+◌, ◌-◌, ◌<◌, ◌≤◌, Bool, false, cond, List, ◌==◌, nat_lt, Option, Some, None, unwrap_or, refl, ap, sym, subst, ◌∙◌, arith, inl, inr, ◌⊎◌}
+use Rattle.std.proofs.Common.{◌≡◌, ℕ, ◌+◌, ◌-◌, ◌<◌, ◌≤◌, Bool, false, cond, List, ◌==◌, nat_lt, Option, Some, None, is_some, unwrap_or, refl, ap, sym, subst, ◌∙◌, arith, inl, inr, ◌⊎◌}
 use Rattle.std.proofs.lemmas.Bool.{cases_Bool, cases_lt, le-ltb, cases_eq, cases_order}
 use Rattle.std.proofs.lemmas.Bool.Decides.{nat_tests}
 use Rattle.mp_wave.specs.Waveform.{Waveform, IsWaveform, level_from, level_of, last_from, last_time, held_from}
@@ -83,6 +83,7 @@ known_more n known new t w track more below on = record {
   within = on.within;
   levels = λ u low reached. on.levels u low (below u low reached);
   present = on.present;
+  quiet = on.quiet;
   rising = on.rising;
   ahead = on.ahead;
   free = free_same n known new (driver n w) t track more on.free;
@@ -115,6 +116,10 @@ next_open n ok t (Port m p) track free = (
   tracks.last_time-rest t (t + 1) (t + 1 + delay_in (module_at n m.0) p) track.ahead free.1 (omega (arith, delay_positive n ok m.0 p)),
 )
 
+undue : (due : Option ℕ) (present : ℕ) → is_some due ≡ false → unwrap_or due present ≡ present
+undue None present none = refl
+undue (Some level) present none = let no : ⊥ = cc in absurd no
+
 -- a unit later the track has gone on to the next time
 pub on_track_advanced : (n : Circuit) → IsCircuit n → (t w : ℕ) (track : Progress) → t + 1 < n.horizon → IsOnTrack n (λ m p. t + 1) t w track → IsOnTrack n (λ m p. t + 1) (t + 1) w (advanced (t + 1) track)
 on_track_advanced n ok t w track low on =
@@ -131,6 +136,7 @@ on_track_advanced n ok t w track low on =
       within = on.within;
       levels = on.levels;
       present = present;
+      quiet = λ none u e. let same : t ≡ u = omega (arith, e) in sym present ∙ undue (due_level track.ahead (t + 1)) track.present none ∙ on.present ∙ ap (level n w) same;
       rising = rising;
       ahead = λ u le. due u le ∙ on.ahead u (omega arith);
       free = next_open n ok t (driver n w) track on.free;
@@ -213,6 +219,7 @@ on_track_delivered n ok known new t m p w r track at drives was is low on =
             level_of-held_after track.wave (t + d) v u on.form over more ∙ sym value ∙ ap (level n w) e
       ];
       present = on.present;
+      quiet = on.quiet;
       rising = rising_more track.wave t (t + d) v track.ahead on.rising opened.1;
       ahead = λ u le. levels_more track.wave track.present t (t + d) v u track.ahead on.form over on.rising opened.1 (on.ahead u le);
       free = subst (λ k. IsOpen n new k t (delivering n m p t r track)) (sym drives) (

@@ -1,7 +1,7 @@
 -- The changes that are known ahead of a track, and the levels that they give.
-use Rattle.std.proofs.Common.{◌≡◌, ℕ, ◌+◌, ◌<◌, ◌≤◌, List, [], ◌∷◌, ◌++◌, ◌==◌, unwrap_or, refl, subst, ◌∙◌, arith, inl, inr}
+use Rattle.std.proofs.Common.{◌≡◌, ℕ, ◌+◌, ◌<◌, ◌≤◌, List, [], ◌∷◌, ◌++◌, ◌==◌, unwrap_or, refl, sym, subst, ◌∙◌, arith, inl, inr}
 use Rattle.std.proofs.lemmas.Bool.{eqb-true, eqb-false, cases_Bool}
-use Rattle.mp_wave.specs.Waveform.{AreChanges, level_from, last_from, last_time}
+use Rattle.mp_wave.specs.Waveform.{Waveform, IsWaveform, AreChanges, level_from, level_of, last_from, last_time}
 use Rattle.mp_wave.proofs.WaveformLemmas.{nat_le-true, nat_le-false, last_from-append, last_time-append, level_from-append_later}
 use Rattle.mp_model.specs.Tracks.{due_level, rest_after}
 use Rattle.mp_model.specs.Evaluations.{AreRising}
@@ -74,3 +74,9 @@ level_from-push start from u time level changes rising less le =
     let last = last_time-push from time level changes in
     level_from-last start from u (changes ++ (time, level) ∷ []) (AreRising-push from time level changes rising less) (omega (arith, last, le))
     ∙ last_from-push start time level changes
+
+-- after its last change a wave keeps its level
+pub stays : (wave : Waveform) (s u : ℕ) → IsWaveform wave → last_time 0 wave.changes ≤ s → s ≤ u → level_of wave u ≡ level_of wave s
+stays wave s u form last le =
+    let rising = AreRising-changes 0 wave.initial wave.changes form in
+    level_from-last wave.initial 0 u wave.changes rising (omega (arith, last, le)) ∙ sym (level_from-last wave.initial 0 s wave.changes rising last)

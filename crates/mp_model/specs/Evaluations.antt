@@ -1,5 +1,5 @@
 -- A netlist's evaluation, unit by unit: the tracks of its wires and the cells of its modules.
-use Rattle.std.specs.Prelude.{◌≡◌, ℕ, ◌+◌, ◌<◌, ◌≤◌, List, [], ◌∷◌, ◌||◌, ◌&&◌, ◌==◌, Option, Some, None, option_map, length, nat_lt, if◌then◌else◌, slice_set}
+use Rattle.std.specs.Prelude.{◌≡◌, ℕ, Bool, false, ◌+◌, ◌<◌, ◌≤◌, List, [], ◌∷◌, ◌||◌, ◌&&◌, ◌==◌, Option, Some, None, option_map, length, nat_lt, if◌then◌else◌, slice_set}
 use Rattle.std.specs.Option.{option_map_or}
 use Rattle.mp_wave.specs.Waveform.{IsWaveform, level_from, level_of, last_time}
 use Rattle.mp_modules.specs.declared.memory.Memory.{Memory}
@@ -47,6 +47,7 @@ pub record IsOnTrack (n : Circuit) (known : ℕ → ℕ → ℕ) (t w : ℕ) (tr
   pub within : last_time 0 track.wave.changes < n.horizon
   pub levels : (u : ℕ) → u < n.horizon → IsReached n known (driver n w) u → level_of track.wave u ≡ level n w u
   pub present : track.present ≡ level n w t
+  pub quiet : track.event ≡ false → (u : ℕ) → u + 1 ≡ t → level n w t ≡ level n w u
   pub rising : AreRising t track.ahead
   pub ahead : (u : ℕ) → t ≤ u → level_from track.present track.ahead u ≡ level_of track.wave u
   pub free : IsOpen n known (driver n w) t track
@@ -85,6 +86,10 @@ pub record AreCells (n : Circuit) (t done : ℕ) (cells : List (Option Cell)) : 
 -- the level of a wire now, 0 where none stands
 abbrev pub present_at : List (Option Progress) → ℕ → ℕ
 present_at tracks w = option_map_or (λ (track : Progress). track.present) (slot_at tracks w) 0
+
+-- whether the level of a wire changed now
+abbrev pub event_at : List (Option Progress) → ℕ → Bool
+event_at tracks w = option_map_or (λ (track : Progress). track.event) (slot_at tracks w) false
 
 -- the tracks after another level of a wire is known
 abbrev pub with_expected : List (Option Progress) → ℕ → ℕ → ℕ → List (Option Progress)

@@ -1,14 +1,16 @@
 -- The wave of one wire while time passes.
-use Rattle.std.specs.Prelude.{ℕ, ◌+◌, ◌≤◌, ◌<◌, List, [], ◌∷◌, ◌++◌, Option, Some, None, unwrap_or, ◌==◌, if◌then◌else◌}
+use Rattle.std.specs.Prelude.{ℕ, Bool, false, ◌+◌, ◌≤◌, ◌<◌, List, [], ◌∷◌, ◌++◌, Option, Some, None, is_some, unwrap_or, ◌==◌, if◌then◌else◌}
 use Rattle.mp_wave.specs.Waveform.{Waveform, held_from, last_from}
 use Rattle.mp_wave.specs.Building.{Building}
 use Rattle.mp_records.specs.declared.wire_record.WireRecord.{WireRecord}
 
--- the wave as far as it is known, the first time whose level may still be given, the level now, and the changes after now
+-- the wave as far as it is known, the first time whose level may still be given, the level now, whether it changed now, and the changes
+-- after now
 pub record Progress : Type 0 where
   pub wave : Waveform
   pub next : ℕ
   pub present : ℕ
+  pub event : Bool
   pub ahead : List (ℕ × ℕ)
 
 -- the times rise strictly, from a first one, and end below another
@@ -37,6 +39,7 @@ first_progress wire = record {
   wave = (started wire).wave;
   next = (started wire).next;
   present = wire.initial;
+  event = false;
   ahead = (started wire).wave.changes;
 }
 
@@ -54,6 +57,7 @@ rest_after (change ∷ changes) time = if change.0 == time then changes else cha
 abbrev pub advanced : ℕ → Progress → Progress
 advanced time track = record track {
   present = unwrap_or (due_level track.ahead time) track.present;
+  event = is_some (due_level track.ahead time);
   ahead = rest_after track.ahead time;
 }
 
@@ -67,5 +71,6 @@ expecting time level track = record {
   wave = held_from track.wave time level;
   next = time + 1;
   present = track.present;
+  event = track.event;
   ahead = one_more track.wave time level track.ahead;
 }

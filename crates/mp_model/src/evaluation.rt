@@ -1,5 +1,6 @@
 //! The plain evaluator: unit by unit from time zero, on one thread.
 ghost use Rattle.std.specs.Prelude.{◌≡◌, ◌+◌, ◌-◌, ◌^◌, ◌<◌, ◌≤◌, length, map, take, option_map, Some, IfOk, OnOk, IsTrue, ℕ};
+ghost use Rattle.std.specs.List.{list_any};
 ghost use Rattle.mp_records.specs.declared.ids.WireId.{WireId as Wire};
 ghost use Rattle.mp_netlist.specs.Slots.{slot_at};
 ghost use Rattle.mp_netlist.specs.Circuit.{IsCircuit, module_width, module_at};
@@ -7,7 +8,7 @@ ghost use Rattle.mp_modules.specs.Kinds.{are_params};
 ghost use Rattle.mp_storage.specs.AnyModules.{is_width_of};
 ghost use Rattle.mp_model.specs.Levels.{built};
 ghost use Rattle.mp_model.specs.Tracks.{Progress, first_progress, advanced, expecting};
-ghost use Rattle.mp_model.specs.Evaluations.{AreTracks, AreCells, delivered, present_at, with_expected, with_answer, answer_at, IsOpenAt, first_cell};
+ghost use Rattle.mp_model.specs.Evaluations.{AreTracks, AreCells, delivered, present_at, event_at, with_expected, with_answer, answer_at, IsOpenAt, first_cell};
 ghost use Rattle.mp_model.specs.Cells.{answered, after_answer};
 ghost use Rattle.mp_model.specs.Waves.{state, waves};
 
@@ -129,7 +130,8 @@ fn answer_all(
     Ok(())
 }
 
-/// One module answers at a time: its next state, from the levels at its inputs now, gives the levels of its outputs later.
+/// One module answers at a time: its next state, from the levels at its inputs now, gives the levels of its outputs later. Where no
+/// input has an event both stay as they are.
 fn answer(
     netlist: &Netlist,
     tracks: &mut Vec<Option<Track>>,
@@ -148,10 +150,29 @@ fn answer(
         return Ok(());
     };
     let inputs = found.inputs.as_slice();
+    if time > 0 && !has_event(tracks.as_slice(), inputs) {
+        return Ok(());
+    }
     let levels = present_levels(tracks.as_slice(), inputs);
     match answer_of(cells, id, time, &levels[..inputs.len()]) {
         Some(memory) => deliver(netlist, tracks, id, found, memory, time),
         None => Ok(()),
+    }
+}
+
+/// Whether the level of a wire that a module reads changed now.
+fn has_event(tracks: &[Option<Track>], inputs: &[WireId]) -> bool
+    ensures { result ≡ list_any (λ (wire : Wire). event_at tracks.now wire.0) inputs.now }
+{
+    inputs.iter().any(|wire| is_event(tracks, *wire))
+}
+
+fn is_event(tracks: &[Option<Track>], wire: WireId) -> bool
+    ensures { result ≡ event_at tracks.now wire.0 }
+{
+    match tracks.get(wire.0 as usize) {
+        Some(Some(track)) => track.has_event(),
+        _ => false,
     }
 }
 

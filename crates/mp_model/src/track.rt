@@ -6,12 +6,13 @@ use mp_wave::{Wave, WaveBuilder};
 use std::alloc::{AllocError, Global};
 use std::marker::Model;
 
-/// A wire's wave as far as it is known, how many of its changes are past, and its level now.
+/// A wire's wave as far as it is known, how many of its changes are past, its level now, and whether that is an event.
 #[derive(Drop)]
 pub(crate) struct Track {
     builder: WaveBuilder,
     past: usize,
     present: u64,
+    event: bool,
 }
 
 impl Model for Track {
@@ -20,7 +21,7 @@ impl Model for Track {
 
     ghost Value = { Progress };
 
-    ghost view = { λ track. record { wave = track.builder.wave; next = track.builder.next; present = track.present; ahead = drop track.past track.builder.wave.changes } };
+    ghost view = { λ track. record { wave = track.builder.wave; next = track.builder.next; present = track.present; event = track.event; ahead = drop track.past track.builder.wave.changes } };
 
     ghost invariant = { λ track. track.past ≤ length track.builder.wave.changes };
 }
@@ -41,6 +42,7 @@ impl Track {
             builder,
             past: 0,
             present: wire.initial,
+            event: false,
         })
     }
 
@@ -51,6 +53,13 @@ impl Track {
         self.present
     }
 
+    /// Whether the level is another than one unit before, which is so at no time 0.
+    pub(crate) fn has_event(&self) -> bool
+        ensures { result ≡ self.now.event }
+    {
+        self.event
+    }
+
     /// Goes on to the next unit of time, which is this one.
     pub(crate) fn advance(&mut self, time: u32)
         ensures { self.new ≡ advanced time self.old }
@@ -59,8 +68,9 @@ impl Track {
             Some(change) if change.0 == time => {
                 self.present = change.1;
                 self.past += 1;
+                self.event = true;
             }
-            _ => {}
+            _ => self.event = false,
         }
     }
 

@@ -1,13 +1,15 @@
-use Rattle.std.proofs.Common.{◌≡◌, ◌+◌, ℕ, Option, Some, Result, Ok, Err, OnOk, List, length, take, map, ap, sym, subst, ◌∙◌}
+use Rattle.std.proofs.Common.{◌≡◌, ◌+◌, ◌-◌, ◌<◌, ℕ, false, arith, Option, Some, Result, Ok, Err, OnOk, List, length, take, map, ap, sym, subst, ◌∙◌}
+use Rattle.std.specs.List.{list_any}
 use Rattle.mp_records.specs.declared.ids.WireId.{WireId}
 use Rattle.mp_records.specs.declared.module_record.ModuleRecord.{ModuleRecord}
 use Rattle.mp_netlist.specs.Circuit.{Circuit, IsCircuit, module_at}
 use Rattle.mp_model.specs.Levels.{inputs_by}
 use Rattle.mp_model.specs.Tracks.{Progress}
-use Rattle.mp_model.specs.Evaluations.{AreTracks, AreCells, delivered, present_at}
-use Rattle.mp_model.specs.Waves.{level}
+use Rattle.mp_model.specs.Evaluations.{AreTracks, AreCells, delivered, present_at, event_at}
+use Rattle.mp_model.specs.Waves.{level, state}
 use Rattle.mp_model.proofs.TracksLemmas.{tracks_without_module}
 use Rattle.mp_model.proofs.CellsLemmas.{cells_answered, cells_without_module, inputs_are, answer_is, answer_some}
+use Rattle.mp_model.proofs.QuietLemmas.{state_stays, cells_stay, tracks_stay}
 use Rattle.mp_model.proofs.evaluation.answer.Goals as goal
 
 pub returns-in_default-clause-tracks : goal.returns-in_default-clause-tracks
@@ -29,6 +31,34 @@ inputs_read n ok known m t r tracks slice inputs levels at are same_tracks same_
     read ∙ ap (λ ts. map (λ (wire : WireId). present_at ts wire.0) inputs) same_tracks ∙ ap (map (λ (wire : WireId). present_at tracks wire.0)) same_inputs
     ∙ inputs_are n ok known m t r tracks at are
 
+-- where no input has an event the state is that of the unit before
+kept : (n : Circuit) → IsCircuit n → (known : ℕ → ℕ → ℕ) (m t : ℕ) (r : ModuleRecord) (tracks slice : List (Option Progress)) (inputs : List WireId) → module_at n m ≡ Some r → AreTracks n known t tracks
+    → slice ≡ tracks → inputs ≡ r.inputs → 0 < t → list_any (λ (wire : WireId). event_at slice wire.0) inputs ≡ false → state n m t ≡ state n m (t - 1)
+kept n ok known m t r tracks slice inputs at are same_tracks same_inputs later none =
+    let here : list_any (λ (wire : WireId). event_at tracks wire.0) r.inputs ≡ false
+    = subst (λ ws. list_any (λ (wire : WireId). event_at tracks wire.0) ws ≡ false) same_inputs (subst (λ ts. list_any (λ (wire : WireId). event_at ts wire.0) inputs ≡ false) same_tracks none) in
+    state_stays n ok known m t (t - 1) r tracks at (omega (arith, later)) are here
+
+pub returns-then-not-has_event-clause-tracks : goal.returns-then-not-has_event-clause-tracks
+returns-then-not-has_event-clause-tracks c =
+    let n = c.args.netlist.now in
+    let r = c.in-Some.found.now in
+    let t = c.args.time in
+    let at : module_at n c.args.id.0 ≡ Some r = sym c.in-Some.ensures.value in
+    let later : 0 < t = omega (arith, c.if-time-gt0.true) in
+    let same = kept n c.requires.form (delivered t c.args.id.0 0) c.args.id.0 t r c.args.tracks.now.items c.as_slice.result.now c.as_slice-inputs.result.now at c.requires.tracks c.as_slice.ensures.value c.as_slice-inputs.ensures later (sym c.has_event.ensures ∙ c.if-not-has_event.true) in
+    tracks_stay n c.requires.form t (t - 1) c.args.id.0 r c.args.tracks.now.items (omega (arith, later)) at same c.requires.tracks
+
+pub returns-then-not-has_event-clause-cells : goal.returns-then-not-has_event-clause-cells
+returns-then-not-has_event-clause-cells c =
+    let n = c.args.netlist.now in
+    let r = c.in-Some.found.now in
+    let t = c.args.time in
+    let at : module_at n c.args.id.0 ≡ Some r = sym c.in-Some.ensures.value in
+    let later : 0 < t = omega (arith, c.if-time-gt0.true) in
+    let same = kept n c.requires.form (delivered t c.args.id.0 0) c.args.id.0 t r c.args.tracks.now.items c.as_slice.result.now c.as_slice-inputs.result.now at c.requires.tracks c.as_slice.ensures.value c.as_slice-inputs.ensures later (sym c.has_event.ensures ∙ c.if-not-has_event.true) in
+    cells_stay n c.args.id.0 t (t - 1) c.args.cells.now.items (omega (arith, later)) same c.requires.cells
+
 pub returns-in-None : goal.returns-in-None
 returns-in-None c =
     let n = c.args.netlist.now in
@@ -40,7 +70,7 @@ deliver-requires-clause-memory c =
     let n = c.args.netlist.now in
     let r = c.in-Some.found.now in
     let at : module_at n c.args.id.0 ≡ Some r = sym c.in-Some.ensures.value in
-    let read = inputs_read n c.requires.form (delivered c.args.time c.args.id.0 0) c.args.id.0 c.args.time r c.args.tracks.now.items c.as_slice.result.now c.as_slice-inputs.result.now _ at c.requires.tracks c.as_slice.ensures.value c.as_slice-inputs.ensures c.present_levels-levels.ensures in
+    let read = inputs_read n c.requires.form (delivered c.args.time c.args.id.0 0) c.args.id.0 c.args.time r c.args.tracks.now.items c.as_slice-2.result.now c.as_slice-inputs.result.now _ at c.requires.tracks c.as_slice-2.ensures.value c.as_slice-inputs.ensures c.present_levels-levels.ensures in
     answer_is n c.requires.form c.args.id.0 c.args.time r c.args.cells.now.items _ c.in-Some-answer_of.memory at read c.requires.cells c.in-Some-answer_of.ensures.given
 
 pub returns-in-Some-answer_of-clause-cells : goal.returns-in-Some-answer_of-clause-cells
@@ -48,5 +78,5 @@ returns-in-Some-answer_of-clause-cells c =
     let n = c.args.netlist.now in
     let r = c.in-Some.found.now in
     let at : module_at n c.args.id.0 ≡ Some r = sym c.in-Some.ensures.value in
-    let read = inputs_read n c.requires.form (delivered c.args.time c.args.id.0 0) c.args.id.0 c.args.time r c.args.tracks.now.items c.as_slice.result.now c.as_slice-inputs.result.now _ at c.requires.tracks c.as_slice.ensures.value c.as_slice-inputs.ensures c.present_levels-levels.ensures in
+    let read = inputs_read n c.requires.form (delivered c.args.time c.args.id.0 0) c.args.id.0 c.args.time r c.args.tracks.now.items c.as_slice-2.result.now c.as_slice-inputs.result.now _ at c.requires.tracks c.as_slice-2.ensures.value c.as_slice-inputs.ensures c.present_levels-levels.ensures in
     on_ok c.deliver.result _ (subst (AreCells n c.args.time (c.args.id.0 + 1)) (sym c.in-Some-answer_of.ensures.kept) (cells_answered n c.requires.form c.args.id.0 c.args.time r c.args.cells.now.items _ at read c.requires.cells))
