@@ -90,7 +90,7 @@ impl WaveBuilder {
         &self.wave
     }
 
-    /// The wave so far, its last level held, and no more of it.
+    /// The wave that was built, its last level held for ever.
     pub fn finish(self) -> Wave
         ensures value { result ≡ self.wave }
         ensures form { IsWaveform result }
