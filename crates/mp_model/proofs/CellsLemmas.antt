@@ -16,7 +16,7 @@ use Rattle.mp_model.specs.declared.cell.Cell.{Cell}
 use Rattle.mp_model.specs.Levels.{built, inputs_by}
 use Rattle.mp_model.specs.Cells.{answered, after_answer}
 use Rattle.mp_model.specs.Tracks.{Progress}
-use Rattle.mp_model.specs.Evaluations.{IsTrackOf, AreTracks, IsInState, IsCellOf, AreCells, delivered, with_answer, answer_at, present_at, first_cell}
+use Rattle.mp_model.specs.Evaluations.{IsTrackOf, AreTracks, IsInState, IsCellOf, AreCells, delivered, with_answer, memory_at, present_at, first_cell}
 use Rattle.mp_model.specs.Waves.{level, state}
 use Rattle.mp_model.proofs.BehaviourLemmas.{satisfies}
 use Rattle.mp_model.proofs.SlotLemmas.{slot_at-map, slot_within, no_some}
@@ -137,22 +137,20 @@ first_cells_are n = record {
     by m None = tt
     by m (Some r) = record { part = refl; memory = λ u e. let none = units.delivered_none 0 m 0 in absurd (omega (arith, e, none)) }
 
--- an answer is the module's state
-pub answer_is : (n : Circuit) → IsCircuit n → (m t : ℕ) (r : ModuleRecord) (cells : List (Option Cell)) (levels : List ℕ) (memory : Memory) → module_at n m ≡ Some r → levels ≡ inputs_by n (level n) r t
-    → AreCells n t m cells → Some memory ≡ answer_at cells m t levels → memory ≡ state n m t
-answer_is n ok m t r cells levels memory at inputs are given = by (slot_at cells m) (subst (λ s. IsCellOf n m (delivered t m 0 m 0) s (slot_at cells m)) at (are.each m)) given
+-- the state of a module that has answered
+pub memory_is : (n : Circuit) → IsCircuit n → (m t : ℕ) (r : ModuleRecord) (cells : List (Option Cell)) (memory : Memory) → module_at n m ≡ Some r → AreCells n t (m + 1) cells → memory_at cells m ≡ Some memory → memory ≡ state n m t
+memory_is n ok m t r cells memory at are found = by (slot_at cells m) (subst (λ s. IsCellOf n m (delivered t (m + 1) 0 m 0) s (slot_at cells m)) at (are.each m)) found
   where
-    by : (slot : Option Cell) → IsCellOf n m (delivered t m 0 m 0) (Some r) slot → Some memory ≡ option_map (λ cell. answered cell t levels) slot → memory ≡ state n m t
+    by : (slot : Option Cell) → IsCellOf n m (delivered t (m + 1) 0 m 0) (Some r) slot → option_map (λ (cell : Cell). cell.memory) slot ≡ Some memory → memory ≡ state n m t
     by None is same = absurd is
     by (Some cell) is same =
-        let before : IsInState n m t r cell = IsCellOf-same n m (delivered t m 0 m 0) t (Some r) (Some cell) (units.delivered_not_yet t m 0 m 0 refl (omega arith)) is in
-        let here : memory ≡ answered cell t levels = cc in
-        here ∙ answered_is n ok m t r cell levels at before inputs
+        let here : cell.memory ≡ memory = cc in
+        sym here ∙ is.memory t (sym (units.delivered_done t (m + 1) 0 m 0 (omega arith)))
 
--- a module that stands answers
-pub answer_some : (n : Circuit) (m t : ℕ) (r : ModuleRecord) (cells : List (Option Cell)) (levels : List ℕ) → module_at n m ≡ Some r → AreCells n t m cells → None ≡ answer_at cells m t levels → ⊥
-answer_some n m t r cells levels at are given = by (slot_at cells m) (subst (λ s. IsCellOf n m (delivered t m 0 m 0) s (slot_at cells m)) at (are.each m)) given
+-- a module that stands has a state
+pub memory_some : (n : Circuit) (m t done : ℕ) (r : ModuleRecord) (cells : List (Option Cell)) → module_at n m ≡ Some r → AreCells n t done cells → memory_at cells m ≡ None → ⊥
+memory_some n m t done r cells at are none = by (slot_at cells m) (subst (λ s. IsCellOf n m (delivered t done 0 m 0) s (slot_at cells m)) at (are.each m)) none
   where
-    by : (slot : Option Cell) → IsCellOf n m (delivered t m 0 m 0) (Some r) slot → None ≡ option_map (λ cell. answered cell t levels) slot → ⊥
+    by : (slot : Option Cell) → IsCellOf n m (delivered t done 0 m 0) (Some r) slot → option_map (λ (cell : Cell). cell.memory) slot ≡ None → ⊥
     by None is same = is
     by (Some cell) is same = cc

@@ -14,7 +14,7 @@ use Rattle.mp_netlist.specs.Circuit.{Circuit, wire_at, module_at}
 use Rattle.mp_netlist.specs.Drivers.{driver}
 use Rattle.mp_model.specs.Levels.{built}
 use Rattle.mp_model.specs.Tracks.{Progress, expecting}
-use Rattle.mp_model.specs.Cells.{answered, after_answer}
+use Rattle.mp_model.specs.Cells.{after_answer}
 use Rattle.mp_model.specs.Waves.{level, state}
 use Rattle.mp_model.specs.declared.cell.Cell.{Cell}
 
@@ -95,10 +95,11 @@ event_at tracks w = option_map_or (λ (track : Progress). track.event) (slot_at 
 abbrev pub with_expected : List (Option Progress) → ℕ → ℕ → ℕ → List (Option Progress)
 with_expected tracks w time level = slice_set tracks w (option_map (expecting time level) (slot_at tracks w))
 
--- the state of a module at a time, and the cells with it
-abbrev pub answer_at : List (Option Cell) → ℕ → ℕ → List ℕ → Option Memory
-answer_at cells m time levels = option_map (λ cell. answered cell time levels) (slot_at cells m)
+-- the state of a module
+abbrev pub memory_at : List (Option Cell) → ℕ → Option Memory
+memory_at cells m = option_map (λ (cell : Cell). cell.memory) (slot_at cells m)
 
+-- the cells after a module's answer at a time
 abbrev pub with_answer : List (Option Cell) → ℕ → ℕ → List ℕ → List (Option Cell)
 with_answer cells m time levels = slice_set cells m (option_map (λ cell. after_answer cell time levels) (slot_at cells m))
 

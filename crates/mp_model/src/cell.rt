@@ -13,19 +13,16 @@ pub(crate) struct Cell {
 
 impl Cell {
     ghost use Rattle.std.specs.Prelude.{◌≡◌};
-    ghost use Rattle.mp_model.specs.Cells.{answered, after_answer};
+    ghost use Rattle.mp_model.specs.Cells.{after_answer};
 
-    /// The state at a time, where the inputs have these levels. It is kept, and given.
-    pub(crate) fn answer(&mut self, time: u32, levels: &[u64]) -> Memory
-        ensures kept { self.new ≡ after_answer self.old time levels.now }
-        ensures given { result ≡ answered self.old time levels.now }
+    /// Goes on to the state at a time, where the inputs have these levels.
+    pub(crate) fn answer(&mut self, time: u32, levels: &[u64])
+        ensures { self.new ≡ after_answer self.old time levels.now }
     {
-        let memory = if time == 0 {
+        self.memory = if time == 0 {
             self.part.settle(levels)
         } else {
             self.part.step(self.memory, levels)
         };
-        self.memory = memory;
-        memory
     }
 }

@@ -1,6 +1,7 @@
 //! The plain evaluator: unit by unit from time zero, on one thread.
 ghost use Rattle.std.specs.Prelude.{◌≡◌, ◌+◌, ◌-◌, ◌^◌, ◌<◌, ◌≤◌, length, map, take, option_map, Some, IfOk, OnOk, IsTrue, ℕ};
 ghost use Rattle.std.specs.List.{list_any};
+ghost use Rattle.std.specs.Option.{option_copied};
 ghost use Rattle.mp_records.specs.declared.ids.WireId.{WireId as Wire};
 ghost use Rattle.mp_netlist.specs.Slots.{slot_at};
 ghost use Rattle.mp_netlist.specs.Circuit.{IsCircuit, module_width, module_at};
@@ -8,8 +9,8 @@ ghost use Rattle.mp_modules.specs.Kinds.{are_params};
 ghost use Rattle.mp_storage.specs.AnyModules.{is_width_of};
 ghost use Rattle.mp_model.specs.Levels.{built};
 ghost use Rattle.mp_model.specs.Tracks.{Progress, first_progress, advanced, expecting};
-ghost use Rattle.mp_model.specs.Evaluations.{AreTracks, AreCells, delivered, present_at, event_at, with_expected, with_answer, answer_at, IsOpenAt, first_cell};
-ghost use Rattle.mp_model.specs.Cells.{answered, after_answer};
+ghost use Rattle.mp_model.specs.Evaluations.{AreTracks, AreCells, delivered, present_at, event_at, with_expected, with_answer, memory_at, IsOpenAt, first_cell};
+ghost use Rattle.mp_model.specs.Cells.{after_answer};
 ghost use Rattle.mp_model.specs.Waves.{state, waves};
 
 use crate::cell::Cell;
@@ -153,8 +154,10 @@ fn answer(
     if time > 0 && !has_event(tracks.as_slice(), inputs) {
         return Ok(());
     }
-    let levels = present_levels(tracks.as_slice(), inputs);
-    match answer_of(cells, id, time, &levels[..inputs.len()]) {
+    let mut levels = [0; MOST_INPUTS];
+    read_levels(tracks.as_slice(), inputs, &mut levels);
+    step(cells, id, time, &levels[..inputs.len()]);
+    match memory_of(cells.as_slice(), id) {
         Some(memory) => deliver(netlist, tracks, id, found, memory, time),
         None => Ok(()),
     }
@@ -176,42 +179,42 @@ fn is_event(tracks: &[Option<Track>], wire: WireId) -> bool
     }
 }
 
-/// A module's next state, from the levels at its inputs. It is kept, and given.
-fn answer_of(
-    cells: &mut Vec<Option<Cell>>,
-    id: ModuleId,
-    time: u32,
-    levels: &[u64],
-) -> Option<Memory>
-    ensures kept { cells.new.items ≡ with_answer cells.old.items id.0 time levels.now }
-    ensures given { result ≡ answer_at cells.old.items id.0 time levels.now }
+/// A module's next state, from the levels at its inputs.
+fn step(cells: &mut Vec<Option<Cell>>, id: ModuleId, time: u32, levels: &[u64])
+    ensures { cells.new.items ≡ with_answer cells.old.items id.0 time levels.now }
 {
-    match cells.get_mut(id.0 as usize) {
-        Some(slot) => answer_in(slot, time, levels),
-        None => None,
+    if let Some(slot) = cells.get_mut(id.0 as usize) {
+        step_in(slot, time, levels);
     }
 }
 
-fn answer_in(slot: &mut Option<Cell>, time: u32, levels: &[u64]) -> Option<Memory>
-    ensures kept { slot.new ≡ option_map (λ cell. after_answer cell time levels.now) slot.old }
-    ensures given { result ≡ option_map (λ cell. answered cell time levels.now) slot.old }
+fn step_in(slot: &mut Option<Cell>, time: u32, levels: &[u64])
+    ensures { slot.new ≡ option_map (λ cell. after_answer cell time levels.now) slot.old }
 {
-    match slot {
-        Some(cell) => Some(cell.answer(time, levels)),
-        None => None,
+    if let Some(cell) = slot {
+        cell.answer(time, levels);
     }
 }
 
-/// The levels now of the wires that a module reads, by port.
-fn present_levels(tracks: &[Option<Track>], inputs: &[WireId]) -> [u64; MOST_INPUTS]
+/// A module's state, where one stands.
+fn memory_of(cells: &[Option<Cell>], id: ModuleId) -> Option<&Memory>
+    ensures { option_copied result ≡ memory_at cells.now id.0 }
+{
+    match cells.get(id.0 as usize) {
+        Some(Some(cell)) => Some(&cell.memory),
+        _ => None,
+    }
+}
+
+/// Reads the levels now of a module's inputs, by port, into their places. A level is written where it is read again, since to hand
+/// the places back would be to copy what was written just before.
+fn read_levels(tracks: &[Option<Track>], inputs: &[WireId], levels: &mut [u64; MOST_INPUTS])
     requires { length inputs.now ≤ MOST_INPUTS }
-    ensures { take (length inputs.now) result ≡ map (λ (wire : Wire). present_at tracks.now wire.0) inputs.now }
+    ensures { take (length inputs.now) levels.new ≡ map (λ (wire : Wire). present_at tracks.now wire.0) inputs.now }
 {
-    let mut levels = [0; MOST_INPUTS];
     for (p, wire) in inputs.iter().enumerate() {
         levels[p] = present_level(tracks, *wire);
     }
-    levels
 }
 
 fn present_level(tracks: &[Option<Track>], wire: WireId) -> u64
@@ -230,13 +233,13 @@ fn deliver(
     tracks: &mut Vec<Option<Track>>,
     id: ModuleId,
     found: &ModuleRecord,
-    memory: Memory,
+    memory: &Memory,
     time: u32,
 ) -> Result<(), AllocError>
     requires form { IsCircuit netlist.now }
     requires time { time < netlist.now.horizon }
     requires found { module_at netlist.now id.0 ≡ Some found.now }
-    requires memory { memory ≡ state netlist.now id.0 time }
+    requires memory { memory.now ≡ state netlist.now id.0 time }
     requires tracks { AreTracks netlist.now (delivered time id.0 0) time tracks.old.items }
     ensures { OnOk result (AreTracks netlist.now (delivered time (id.0 + 1) 0) time tracks.new.items) }
 {

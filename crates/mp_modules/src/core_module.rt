@@ -91,6 +91,8 @@ impl EventModule for CoreModule {
         self.step(self.start().seen(levels), levels)
     }
 
+    // Inlined, so that the state is written where it is kept: a copy of what was written just before would have to wait for it.
+    #[inline(always)]
     fn step(&self, memory: Memory, levels: &[u64]) -> Memory {
         match *self {
             CoreModule::Buf => Memory::with_one_output(levels, level_at(levels, 0)),

@@ -146,6 +146,8 @@ impl EventModule for AnyModule {
         }
     }
 
+    // Inlined, as the steps of the modules without data are.
+    #[inline(always)]
     #[tactic(auto, unfolding(crate::specs::AnyModules::step))]
     fn step(&self, memory: Memory, levels: &[u64]) -> Memory {
         match self {

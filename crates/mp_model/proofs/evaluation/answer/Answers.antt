@@ -1,14 +1,15 @@
-use Rattle.std.proofs.Common.{◌≡◌, ◌+◌, ◌-◌, ◌<◌, ℕ, false, arith, Option, Some, Result, Ok, Err, OnOk, List, length, take, map, ap, sym, subst, ◌∙◌}
+use Rattle.std.proofs.Common.{◌≡◌, ◌+◌, ◌-◌, ◌<◌, ℕ, false, arith, Option, Some, Result, Ok, Err, OnOk, List, map, ap, sym, subst, ◌∙◌}
 use Rattle.std.specs.List.{list_any}
 use Rattle.mp_records.specs.declared.ids.WireId.{WireId}
 use Rattle.mp_records.specs.declared.module_record.ModuleRecord.{ModuleRecord}
 use Rattle.mp_netlist.specs.Circuit.{Circuit, IsCircuit, module_at}
 use Rattle.mp_model.specs.Levels.{inputs_by}
+use Rattle.mp_model.specs.declared.cell.Cell.{Cell}
 use Rattle.mp_model.specs.Tracks.{Progress}
-use Rattle.mp_model.specs.Evaluations.{AreTracks, AreCells, delivered, present_at, event_at}
+use Rattle.mp_model.specs.Evaluations.{AreTracks, AreCells, delivered, with_answer, present_at, event_at}
 use Rattle.mp_model.specs.Waves.{level, state}
 use Rattle.mp_model.proofs.TracksLemmas.{tracks_without_module}
-use Rattle.mp_model.proofs.CellsLemmas.{cells_answered, cells_without_module, inputs_are, answer_is, answer_some}
+use Rattle.mp_model.proofs.CellsLemmas.{cells_answered, cells_without_module, inputs_are, memory_is, memory_some}
 use Rattle.mp_model.proofs.QuietLemmas.{state_stays, cells_stay, tracks_stay}
 use Rattle.mp_model.proofs.evaluation.answer.Goals as goal
 
@@ -59,24 +60,38 @@ returns-then-not-has_event-clause-cells c =
     let same = kept n c.requires.form (delivered t c.args.id.0 0) c.args.id.0 t r c.args.tracks.now.items c.as_slice.result.now c.as_slice-inputs.result.now at c.requires.tracks c.as_slice.ensures.value c.as_slice-inputs.ensures later (sym c.has_event.ensures ∙ c.if-not-has_event.true) in
     cells_stay n c.args.id.0 t (t - 1) c.args.cells.now.items (omega (arith, later)) same c.requires.cells
 
-pub returns-in-None : goal.returns-in-None
-returns-in-None c =
-    let n = c.args.netlist.now in
-    let r = c.in-Some.found.now in
-    absurd (answer_some n c.args.id.0 c.args.time r c.args.cells.now.items (take (length c.as_slice-inputs.result.now) c.present_levels-levels.result) (sym c.in-Some.ensures.value) c.requires.cells c.in-None.ensures.given)
+-- the cells once the module has answered
+cells_are : (n : Circuit) → IsCircuit n → (known : ℕ → ℕ → ℕ) (m t : ℕ) (r : ModuleRecord) (tracks slice : List (Option Progress)) (inputs : List WireId) (cells new : List (Option Cell)) (levels : List ℕ) → module_at n m ≡ Some r → AreTracks n known t tracks
+    → slice ≡ tracks → inputs ≡ r.inputs → levels ≡ map (λ (wire : WireId). present_at slice wire.0) inputs → AreCells n t m cells → new ≡ with_answer cells m t levels → AreCells n t (m + 1) new
+cells_are n ok known m t r tracks slice inputs cells new levels at are same_tracks same_inputs read before is =
+    subst (AreCells n t (m + 1)) (sym is) (cells_answered n ok m t r cells levels at (inputs_read n ok known m t r tracks slice inputs levels at are same_tracks same_inputs read) before)
 
 pub deliver-requires-clause-memory : goal.deliver-requires-clause-memory
 deliver-requires-clause-memory c =
     let n = c.args.netlist.now in
+    let m = c.args.id.0 in
+    let t = c.args.time in
     let r = c.in-Some.found.now in
-    let at : module_at n c.args.id.0 ≡ Some r = sym c.in-Some.ensures.value in
-    let read = inputs_read n c.requires.form (delivered c.args.time c.args.id.0 0) c.args.id.0 c.args.time r c.args.tracks.now.items c.as_slice-2.result.now c.as_slice-inputs.result.now _ at c.requires.tracks c.as_slice-2.ensures.value c.as_slice-inputs.ensures c.present_levels-levels.ensures in
-    answer_is n c.requires.form c.args.id.0 c.args.time r c.args.cells.now.items _ c.in-Some-answer_of.memory at read c.requires.cells c.in-Some-answer_of.ensures.given
+    let at : module_at n m ≡ Some r = sym c.in-Some.ensures.value in
+    let are = cells_are n c.requires.form (delivered t m 0) m t r c.args.tracks.now.items c.as_slice-2.result.now c.as_slice-inputs.result.now c.args.cells.now.items c.step.new.cells.items _ at c.requires.tracks c.as_slice-2.ensures.value c.as_slice-inputs.ensures c.read_levels.ensures c.requires.cells c.step.ensures in
+    memory_is n c.requires.form m t r c.as_slice-3.result.now c.in-Some-memory_of.memory.now at (subst (AreCells n t (m + 1)) (sym c.as_slice-3.ensures.value) are) (sym c.in-Some-memory_of.ensures)
 
-pub returns-in-Some-answer_of-clause-cells : goal.returns-in-Some-answer_of-clause-cells
-returns-in-Some-answer_of-clause-cells c =
+pub returns-in-Some-memory_of-clause-cells : goal.returns-in-Some-memory_of-clause-cells
+returns-in-Some-memory_of-clause-cells c =
     let n = c.args.netlist.now in
+    let m = c.args.id.0 in
+    let t = c.args.time in
     let r = c.in-Some.found.now in
-    let at : module_at n c.args.id.0 ≡ Some r = sym c.in-Some.ensures.value in
-    let read = inputs_read n c.requires.form (delivered c.args.time c.args.id.0 0) c.args.id.0 c.args.time r c.args.tracks.now.items c.as_slice-2.result.now c.as_slice-inputs.result.now _ at c.requires.tracks c.as_slice-2.ensures.value c.as_slice-inputs.ensures c.present_levels-levels.ensures in
-    on_ok c.deliver.result _ (subst (AreCells n c.args.time (c.args.id.0 + 1)) (sym c.in-Some-answer_of.ensures.kept) (cells_answered n c.requires.form c.args.id.0 c.args.time r c.args.cells.now.items _ at read c.requires.cells))
+    let at : module_at n m ≡ Some r = sym c.in-Some.ensures.value in
+    on_ok c.deliver.result _
+    (cells_are n c.requires.form (delivered t m 0) m t r c.args.tracks.now.items c.as_slice-2.result.now c.as_slice-inputs.result.now c.args.cells.now.items c.step.new.cells.items _ at c.requires.tracks c.as_slice-2.ensures.value c.as_slice-inputs.ensures c.read_levels.ensures c.requires.cells c.step.ensures)
+
+pub returns-in-None-clause-tracks : goal.returns-in-None-clause-tracks
+returns-in-None-clause-tracks c =
+    let n = c.args.netlist.now in
+    let m = c.args.id.0 in
+    let t = c.args.time in
+    let r = c.in-Some.found.now in
+    let at : module_at n m ≡ Some r = sym c.in-Some.ensures.value in
+    let are = cells_are n c.requires.form (delivered t m 0) m t r c.args.tracks.now.items c.as_slice-2.result.now c.as_slice-inputs.result.now c.args.cells.now.items c.step.new.cells.items _ at c.requires.tracks c.as_slice-2.ensures.value c.as_slice-inputs.ensures c.read_levels.ensures c.requires.cells c.step.ensures in
+    absurd (memory_some n m t (m + 1) r c.as_slice-3.result.now at (subst (AreCells n t (m + 1)) (sym c.as_slice-3.ensures.value) are) (sym c.in-None.ensures))
