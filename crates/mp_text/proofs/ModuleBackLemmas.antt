@@ -16,14 +16,30 @@ use Rattle.mp_records.specs.declared.edit.Edit.TheVariants.{AddModule}
 use Rattle.mp_records.specs.Names.{is_name}
 use Rattle.mp_records.specs.Outputs.{output_at}
 use Rattle.mp_netlist.specs.Circuit.{Circuit, IsCircuit, IsModule, IsDelay, HasWidth, wire_at, module_at, width_of, module_width, HasNames}
-use Rattle.mp_text.specs.Statements.{output_word}
+use Rattle.mp_words.specs.WordLists.{output_word}
 use Rattle.mp_text.specs.Written.{module_line, wire_name, output_name, output_text}
 use Rattle.mp_text.specs.RoundTrips.{module_edits, output_by_name}
-use Rattle.mp_text.proofs.PlainLemmas.{IsPlain, IsPlain-append, IsPlain-decimal, IsPlain-name, IsPlain-kind, both}
-use Rattle.mp_text.proofs.ReadBackLemmas.{no_wire_back, wire_back}
+use Rattle.mp_words.proofs.PlainLemmas.{IsPlain, IsPlain-append, IsPlain-decimal, IsPlain-name, both}
+use Rattle.mp_words.proofs.ReadBackLemmas.{no_wire_back, wire_back}
 use Rattle.mp_text.proofs.StatementBackLemmas.{module_stated}
 use Rattle.mp_text.proofs.TextBackLemmas.{SlotLeads, leads_line}
 use Rattle.mp_text.proofs.RecordBackLemmas.{wire_named, weaken}
+
+-- the word of a kind
+IsPlain-kind : (kind : Kind) → IsPlain (word_of kind)
+IsPlain-kind kinds.Buf = record { some = omega arith; plain = refl }
+IsPlain-kind kinds.Not = record { some = omega arith; plain = refl }
+IsPlain-kind kinds.Xor = record { some = omega arith; plain = refl }
+IsPlain-kind kinds.C = record { some = omega arith; plain = refl }
+IsPlain-kind kinds.Toggle = record { some = omega arith; plain = refl }
+IsPlain-kind kinds.Select = record { some = omega arith; plain = refl }
+IsPlain-kind kinds.Call = record { some = omega arith; plain = refl }
+IsPlain-kind kinds.Arbiter = record { some = omega arith; plain = refl }
+IsPlain-kind kinds.Reg = record { some = omega arith; plain = refl }
+IsPlain-kind kinds.AddC = record { some = omega arith; plain = refl }
+IsPlain-kind kinds.XorC = record { some = omega arith; plain = refl }
+IsPlain-kind kinds.Sum = record { some = omega arith; plain = refl }
+IsPlain-kind kinds.Bit = record { some = omega arith; plain = refl }
 
 -- what a parameter is below
 bound_low : (kind : Kind) (width : ℕ) → width ≤ 64 → param_bound kind width ≤ 2 ^ 64

@@ -13,12 +13,12 @@ use Rattle.mp_records.specs.Names.{is_name}
 use Rattle.mp_modules.specs.Levels.{fits_width}
 use Rattle.mp_records.specs.Stimuli.{is_stimulus}
 use Rattle.mp_netlist.specs.Circuit.{Circuit, IsCircuit, wire_at, bundle_at, HasNames}
-use Rattle.mp_text.specs.Statements.{change_word}
-use Rattle.mp_text.specs.WaveLines.{pair_text}
+use Rattle.mp_words.specs.WordLists.{change_word}
+use Rattle.mp_words.specs.WaveLines.{pair_text}
 use Rattle.mp_text.specs.Written.{wire_line, stimulus_line, bundle_line, stimulus_words, name_in, wire_name}
 use Rattle.mp_text.specs.RoundTrips.{wire_edits, stimulus_edits, set_edits, bundle_edits}
-use Rattle.mp_text.proofs.PlainLemmas.{IsPlain, IsPlain-append, IsPlain-decimal, IsPlain-name, both}
-use Rattle.mp_text.proofs.ReadBackLemmas.{change_back}
+use Rattle.mp_words.proofs.PlainLemmas.{IsPlain, IsPlain-append, IsPlain-decimal, IsPlain-name, both}
+use Rattle.mp_words.proofs.ReadBackLemmas.{change_back}
 use Rattle.mp_text.proofs.StatementBackLemmas.{wire_stated, stimulus_stated, bundle_stated}
 use Rattle.mp_text.proofs.TextBackLemmas.{Leads, SlotLeads, leads_line}
 

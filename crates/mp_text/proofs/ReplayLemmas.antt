@@ -8,13 +8,13 @@ use Rattle.mp_records.specs.declared.edit_error.EditError.{EditError}
 use Rattle.mp_netlist.specs.Circuit.{Circuit, empty_circuit}
 use Rattle.mp_netlist.specs.Edits.{after}
 use Rattle.mp_model.specs.Replays.{replay, go_on}
-use Rattle.mp_text.specs.declared.line_error.LineError.TheVariants.{NotAscii}
+use Rattle.mp_words.specs.declared.line_error.LineError.TheVariants.{NotAscii}
 use Rattle.mp_text.specs.declared.text_code.TextCode.TheVariants.{Refused}
 use Rattle.mp_text.specs.LineErrors.{in_text}
-use Rattle.mp_text.specs.Reads.{◌>>=◌}
+use Rattle.mp_words.specs.Reads.{◌>>=◌}
 use Rattle.mp_text.specs.declared.text_error.TextError.{TextError}
-use Rattle.mp_text.specs.Lines.{lines_of, is_allowed}
-use Rattle.mp_text.specs.Words.{words_of}
+use Rattle.mp_words.specs.Lines.{lines_of, is_allowed}
+use Rattle.mp_words.specs.Words.{words_of}
 use Rattle.mp_text.specs.Statements.{Statement, Blank, Unknown, Start, Change, statement_of}
 use Rattle.mp_text.specs.Texts.{text_at, after_lines, after_line, after_statement, next_line}
 use Rattle.mp_text.specs.Laws.{horizon_of, edit_of, statements, IsReplay}

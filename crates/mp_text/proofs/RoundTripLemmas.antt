@@ -5,11 +5,11 @@ use Rattle.std.specs.List.{flat_map}
 use Rattle.std.proofs.lemmas.List.{append-nil}
 use Rattle.std.proofs.lemmas.List.Elements.{All-cons, All-nil}
 use Rattle.mp_netlist.specs.Circuit.{Circuit, IsCircuit, empty_circuit, HasNames}
-use Rattle.mp_text.specs.Lines.{lines_of}
+use Rattle.mp_words.specs.Lines.{lines_of}
 use Rattle.mp_text.specs.Texts.{after_statement, after_lines, next_line}
 use Rattle.mp_text.specs.Written.{written, horizon_line, wire_line, module_line, stimulus_line, bundle_line}
 use Rattle.mp_text.specs.RoundTrips.{wire_edits, module_edits, stimulus_edits, bundle_edits, edits_by_name, IsReadAs, IsReadAsWritten}
-use Rattle.mp_text.proofs.PlainLemmas.{IsPlain, IsPlain-decimal}
+use Rattle.mp_words.proofs.PlainLemmas.{IsPlain, IsPlain-decimal}
 use Rattle.mp_text.proofs.WrittenLineLemmas.{lines_of-written}
 use Rattle.mp_text.proofs.StatementBackLemmas.{horizon_stated}
 use Rattle.mp_text.proofs.TextBackLemmas.{Leads, leads_nowhere, leads_slots, line_stated}

@@ -1,5 +1,5 @@
 -- Statements that are written are read again.
-use Rattle.std.proofs.Common.{◌≡◌, ℕ, ◌^◌, ◌<◌, ◌≤◌, true, false, ◌==◌, ◌&&◌, List, [], ◌∷◌, ◌++◌, length, map, All, Some, Ok, decimal, refl, ap, ◌∙◌, arith}
+use Rattle.std.proofs.Common.{◌≡◌, ℕ, ◌^◌, ◌<◌, ◌≤◌, true, false, ◌==◌, ◌&&◌, List, [], ◌∷◌, ◌++◌, length, map, All, Ok, decimal, refl, ap, ◌∙◌, arith}
 use Rattle.std.specs.Prelude.{codes, nat_le, suc}
 use Rattle.std.specs.Char.{is_ascii_digit, is_ascii_alphabetic}
 use Rattle.std.specs.List.{list_all}
@@ -12,12 +12,13 @@ use Rattle.mp_modules.proofs.WordLemmas.{by_word}
 use Rattle.mp_records.specs.declared.port_names.OutputName.{OutputName}
 use Rattle.mp_records.specs.declared.edit.Edit.TheVariants.{AddWire, AddModule, AddBundle, SetStimulus}
 use Rattle.mp_records.specs.Names.{is_name, is_name_byte, begins_with_letter}
-use Rattle.mp_text.specs.Statements.{number_word, change_word, output_word, is_mark, Start, Change, horizon_word, stated_horizon, wire_edit, module_edit, parts_edit, stimulus_edit, bundle_edit, stated_edit, statement_of}
-use Rattle.mp_text.specs.WaveLines.{pair_text}
-use Rattle.mp_text.proofs.DecimalLemmas.{decimal_digits}
-use Rattle.mp_text.proofs.DividedLemmas.{before_first-append, after_first-append}
-use Rattle.mp_text.proofs.PlainLemmas.{both}
-use Rattle.mp_text.proofs.ReadBackLemmas.{number_back, each_back}
+use Rattle.mp_words.specs.WordLists.{number_word, change_word, output_word}
+use Rattle.mp_text.specs.Statements.{is_mark, Start, Change, horizon_word, stated_horizon, wire_edit, module_edit, parts_edit, stimulus_edit, bundle_edit, stated_edit, statement_of}
+use Rattle.mp_words.specs.WaveLines.{pair_text}
+use Rattle.mp_words.proofs.DecimalLemmas.{decimal_digits}
+use Rattle.mp_words.proofs.DividedLemmas.{before_first-append, after_first-append}
+use Rattle.mp_words.proofs.PlainLemmas.{both}
+use Rattle.mp_words.proofs.ReadBackLemmas.{number_back, each_back}
 
 pub horizon_stated : (h : ℕ) → 1 ≤ h → h ≤ 65536 → statement_of (codes "horizon" ∷ decimal h ∷ []) ≡ Start (Ok h)
 unfolding statement_of stated_horizon horizon_word

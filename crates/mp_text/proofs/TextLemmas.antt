@@ -6,9 +6,9 @@ use Rattle.mp_netlist.specs.Circuit.{Circuit}
 use Rattle.mp_text.specs.declared.text_error.TextError.{TextError}
 use Rattle.mp_text.specs.declared.text_code.TextCode.{TextCode}
 use Rattle.mp_text.specs.declared.text_code.TextCode.TheVariants.{TooLong}
-use Rattle.mp_text.specs.Lines.{is_line_feed, lines_of}
+use Rattle.mp_words.specs.Lines.{is_line_feed, lines_of}
 use Rattle.mp_text.specs.Texts.{text_at, after_lines, after_line, next_line, finished, last_line}
-use Rattle.mp_text.proofs.LineLemmas.{lines_of-cons}
+use Rattle.mp_words.proofs.LineLemmas.{lines_of-cons}
 
 -- a text that is not too long is its lines
 pub text_within : (text : List ℕ) → length text ≤ 4194304 → text_at text ≡ after_lines 0 None (lines_of text)

@@ -3,7 +3,7 @@ use Rattle.std.proofs.Common.{◌≡◌, ℕ, List, [], ◌∷◌, ◌++◌, Opt
 use Rattle.std.specs.Prelude.{codes}
 use Rattle.std.proofs.lemmas.Grind.{flat_map-append}
 use Rattle.std.proofs.lemmas.List.Folds.{flat_map-map}
-use Rattle.mp_text.specs.WaveLines.{pair_text, changes_text}
+use Rattle.mp_words.specs.WaveLines.{pair_text, changes_text}
 use Rattle.mp_text.specs.Written.{spaced, written_line, stimulus_words}
 
 module_groups : (a m n k p x i y o e : List ℕ)

@@ -1,14 +1,8 @@
 pub mod TextCodes
 pub mod LineErrors
-pub mod Words
-pub mod Lines
-pub mod Numbers
-pub mod Reads
 pub mod Statements
 pub mod Texts
 pub mod ScriptLines
 pub mod Laws
-pub mod WaveLines
-pub mod Divisions
 pub mod Written
 pub mod RoundTrips

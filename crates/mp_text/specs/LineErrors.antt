@@ -1,9 +1,10 @@
--- What is wrong with a line by itself.
-use Rattle.std.specs.Prelude.{ℕ, List, Result, Ok, Err}
-use Rattle.mp_text.specs.declared.line_error.LineError.{LineError}
-use Rattle.mp_text.specs.declared.line_error.LineError.TheVariants as line
+-- What is wrong with a line, as a fault of a text.
+use Rattle.std.specs.Prelude.{◌≡◌, Result, Ok, Err}
+use Rattle.mp_words.specs.declared.line_error.LineError.{LineError}
+use Rattle.mp_words.specs.declared.line_error.LineError.TheVariants as line
 use Rattle.mp_text.specs.declared.text_code.TextCode.{TextCode}
 use Rattle.mp_text.specs.declared.text_code.TextCode.TheVariants.{NotAscii, UnknownStatement, WordCount, BadNumber, OutOfMemory}
+use Rattle.mp_words.specs.LineErrors.{line_number_of, line_name_of}
 use Rattle.mp_text.specs.TextCodes.{number_of, name_of}
 
 -- the fault of a text that has the same name
@@ -15,11 +16,8 @@ code_of line.BadNumber = BadNumber
 code_of line.OutOfMemory = OutOfMemory
 
 -- a line's fault has the number and the name that it has in a text
-abbrev pub line_number_of : LineError → ℕ
-line_number_of error = number_of (code_of error)
-
-abbrev pub line_name_of : LineError → List ℕ
-line_name_of error = name_of (code_of error)
+abbrev pub HaveSameNames : Type 0
+HaveSameNames = (error : LineError) → (line_number_of error ≡ number_of (code_of error)) × (line_name_of error ≡ name_of (code_of error))
 
 -- what a line says, as a part of a text
 abbrev pub in_text : {A : Type 0} → Result A LineError → Result A TextCode

@@ -4,17 +4,18 @@ use Rattle.std.specs.Option.{ok_or}
 use Rattle.std.specs.Str.{bytes_eq}
 use Rattle.mp_records.specs.declared.edit.Edit.{Edit}
 use Rattle.mp_records.specs.declared.edit.Edit.TheVariants.{RemoveWire, RemoveModule, RemoveBundle, RewireInput, RewireOutput, SetDelay, ClearStimulus}
-use Rattle.mp_text.specs.declared.line_error.LineError.{LineError}
-use Rattle.mp_text.specs.declared.line_error.LineError.TheVariants.{UnknownStatement, WordCount}
+use Rattle.mp_words.specs.declared.line_error.LineError.{LineError}
+use Rattle.mp_words.specs.declared.line_error.LineError.TheVariants.{UnknownStatement, WordCount}
 use Rattle.mp_text.specs.declared.line_word.LineWord.{LineWord}
 use Rattle.mp_text.specs.declared.line_word.LineWord.TheVariants.{Stated, Remove, Input, Output, Delay, Clear, Wave, Waves, Text}
 use Rattle.mp_text.specs.declared.script_line.Line.{Line}
 use Rattle.mp_text.specs.declared.script_line.Line.TheVariants.{Empty, Change, Ask}
 use Rattle.mp_text.specs.declared.script_line.Question.{Question}
 use Rattle.mp_text.specs.declared.script_line.Question.TheVariants as questions
-use Rattle.mp_text.specs.Lines.{line_words}
-use Rattle.mp_text.specs.Statements.{number_word, wire_or_none, edit_word, stated_edit}
-use Rattle.mp_text.specs.Reads.{◌>>=◌}
+use Rattle.mp_words.specs.Lines.{line_words}
+use Rattle.mp_words.specs.WordLists.{number_word, wire_or_none}
+use Rattle.mp_text.specs.Statements.{edit_word, stated_edit}
+use Rattle.mp_words.specs.Reads.{◌>>=◌}
 
 -- the edit of the words behind `remove`
 unfoldable pub removal : List (List ℕ) → Result Edit LineError

@@ -1,49 +1,21 @@
 -- What a line's words say.
-use Rattle.std.specs.Prelude.{ℕ, ◌&&◌, ◌||◌, Bool, ◌==◌, List, [], ◌∷◌, length, Option, Some, None, Result, Ok, Err, nat_le, if◌then◌else◌, codes, option_map}
+use Rattle.std.specs.Prelude.{ℕ, ◌&&◌, ◌||◌, Bool, ◌==◌, List, [], ◌∷◌, length, Option, Some, None, Result, Ok, Err, nat_le, if◌then◌else◌, codes}
 use Rattle.std.specs.Option.{ok_or}
 use Rattle.std.specs.Str.{byte, bytes_eq}
 use Rattle.std.specs.List.{before_first, after_first}
 use Rattle.mp_modules.specs.declared.kind.Kind.{Kind}
 use Rattle.mp_modules.specs.Kinds.{kind_named}
-use Rattle.mp_records.specs.declared.port_names.OutputName.{OutputName}
 use Rattle.mp_records.specs.declared.edit.Edit.{Edit}
 use Rattle.mp_records.specs.declared.edit.Edit.TheVariants.{AddWire, AddModule, AddBundle, SetStimulus}
-use Rattle.mp_text.specs.declared.line_error.LineError.{LineError}
-use Rattle.mp_text.specs.declared.line_error.LineError.TheVariants.{UnknownStatement, WordCount, BadNumber}
+use Rattle.mp_words.specs.declared.line_error.LineError.{LineError}
+use Rattle.mp_words.specs.declared.line_error.LineError.TheVariants.{UnknownStatement, WordCount, BadNumber}
 use Rattle.mp_text.specs.declared.edit_word.EditWord.{EditWord}
 use Rattle.mp_text.specs.declared.edit_word.EditWord.TheVariants.{Wire, Module, Stimulus, Bundle}
-use Rattle.mp_text.specs.Numbers.{spelled_number, time_and_value, name_and_number}
-use Rattle.mp_text.specs.Reads.{◌>>=◌}
-
-abbrev pub number_word : List ℕ → Result ℕ LineError
-number_word word = ok_or (spelled_number word) BadNumber
-
-abbrev pub change_word : List ℕ → Result (ℕ × ℕ) LineError
-change_word word = ok_or (time_and_value word) BadNumber
+use Rattle.mp_words.specs.WordLists.{number_word, change_word, output_word, each_word}
+use Rattle.mp_words.specs.Reads.{◌>>=◌}
 
 abbrev pub kind_word : List ℕ → Result Kind LineError
 kind_word word = ok_or (kind_named word) UnknownStatement
-
--- the wire that is named, where `-` names none
-abbrev pub wire_or_none : List ℕ → Option (List ℕ)
-wire_or_none name = if bytes_eq name (codes "-") then None else Some name
-
-abbrev pub output_to : List ℕ × ℕ → OutputName
-output_to pair = record { wire = wire_or_none pair.0; delay = pair.1 }
-
--- an output with its delay, as `y/3`, or `-` for one without a wire
-unfoldable pub output_word : List ℕ → Result OutputName LineError
-output_word word =
-    if bytes_eq word (codes "-") then Ok (output_to (word, 1))
-    else ok_or (option_map output_to (name_and_number word)) BadNumber
-
--- what each of the words says, or the code of the first that cannot be read
-unfoldable pub each_word : {A : Type 0} → (List ℕ → Result A LineError) → List (List ℕ) → Result (List A) LineError
-each_word read [] = Ok []
-each_word read (word ∷ words) = do
-  item ← read word
-  items ← each_word read words
-  Ok (item ∷ items)
 
 -- a number of units from 1 to 65,536
 unfoldable pub horizon_word : List ℕ → Result ℕ LineError

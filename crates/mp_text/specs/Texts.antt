@@ -1,5 +1,5 @@
 -- What a netlist's text means.
-use Rattle.std.specs.Prelude.{◌≡◌, ℕ, ◌+◌, ◌≤◌, List, [], ◌∷◌, length, Option, Some, None, Result, Ok, Err, nat_le, if◌then◌else◌}
+use Rattle.std.specs.Prelude.{◌≡◌, ◌⊎◌, ℕ, ◌+◌, ◌≤◌, List, [], ◌∷◌, length, Option, Some, None, Result, Ok, Err, nat_le, if◌then◌else◌}
 use Rattle.std.specs.Result.{result_map_both}
 use Rattle.mp_netlist.specs.Circuit.{Circuit, empty_circuit}
 use Rattle.mp_netlist.specs.Edits.{after}
@@ -7,9 +7,9 @@ use Rattle.mp_text.specs.declared.text_code.TextCode.{TextCode}
 use Rattle.mp_text.specs.declared.text_code.TextCode.TheVariants.{UnknownStatement, NoHorizon, SecondHorizon, Refused, TooLong, OutOfMemory}
 use Rattle.mp_text.specs.declared.text_error.TextError.{TextError}
 use Rattle.mp_text.specs.LineErrors.{in_text}
-use Rattle.mp_text.specs.Lines.{lines_of, line_words}
+use Rattle.mp_words.specs.Lines.{lines_of, line_words}
 use Rattle.mp_text.specs.Statements.{Statement, Blank, Unknown, Start, Change, statement_of}
-use Rattle.mp_text.specs.Reads.{◌>>=◌}
+use Rattle.mp_words.specs.Reads.{◌>>=◌}
 
 -- the netlist after a statement: none stands before the horizon
 unfoldable pub after_statement : Option Circuit → Statement → Result (Option Circuit) TextCode
@@ -47,6 +47,11 @@ after_lines n state (line ∷ lines) = next_line n (λ after. after_lines (n + 1
 -- the netlist of a text, or the first line that fails
 unfoldable pub text_at : List ℕ → Result Circuit TextError
 text_at text = if nat_le (length text) 4194304 then after_lines 0 None (lines_of text) else Err (record { line = 0; code = TooLong })
+
+-- the whole text was read, or its first fault is told, or memory ran out at some line
+abbrev pub GivesText : {X : Type 0} → Result X TextError → Result X TextError → Type 0
+GivesText (Ok x) read = read ≡ Ok x
+GivesText (Err error) read = (error.code ≡ OutOfMemory) ⊎ (read ≡ Err error)
 
 -- the line at which the reading of a text ends: the first that fails, or the last
 abbrev pub last_line : List ℕ → Result Circuit TextError → ℕ

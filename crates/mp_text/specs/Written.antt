@@ -9,7 +9,7 @@ use Rattle.mp_records.specs.declared.module_record.ModuleRecord.{ModuleRecord}
 use Rattle.mp_records.specs.declared.bundle_record.BundleRecord.{BundleRecord}
 use Rattle.mp_records.specs.declared.ports.Output.{Output}
 use Rattle.mp_netlist.specs.Circuit.{Circuit, wire_at}
-use Rattle.mp_text.specs.WaveLines.{pair_text}
+use Rattle.mp_words.specs.WaveLines.{pair_text}
 
 -- words, each behind a space
 abbrev pub spaced : List (List ℕ) → List ℕ

@@ -1,5 +1,6 @@
-//! What the netlist of a text is made of.
+//! What the netlist of a text is made of, and how faults are numbered.
 ghost use Rattle.mp_text.specs.Laws.{IsReplay};
+ghost use Rattle.mp_text.specs.LineErrors.{HaveSameNames};
 ghost use Rattle.mp_text.specs.RoundTrips.{IsReadAsWritten};
 
 /// A text that is read states one horizon, and its netlist is the replay of its other statements'
@@ -13,4 +14,9 @@ pub fn text_is_replay()
 /// if perhaps under other numbers.
 pub fn written_text_is_read()
     ensures { IsReadAsWritten }
+{}
+
+/// What is wrong with a line has the number and the name of the text's fault that it becomes.
+pub fn faults_have_same_names()
+    ensures { HaveSameNames }
 {}

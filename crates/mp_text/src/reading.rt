@@ -1,13 +1,12 @@
 //! Reading a netlist's text.
 ghost use Rattle.std.specs.Prelude.{IfErr};
-ghost use Rattle.mp_text.specs.Reads.{GivesText};
-ghost use Rattle.mp_text.specs.Texts.{text_at, IsReached};
+ghost use Rattle.mp_text.specs.Texts.{text_at, GivesText, IsReached};
 
-use crate::line::first_line;
 use crate::statement::line;
 use crate::text_code::TextCode;
 use crate::text_error::TextError;
 use mp_netlist::Netlist;
+use mp_words::first_line;
 use std::alloc::Global;
 
 /// How many bytes a text may have.

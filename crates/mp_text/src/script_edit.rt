@@ -1,13 +1,11 @@
 //! The edits that scripts alone have.
-ghost use Rattle.mp_text.specs.declared.line_error.LineError.TheVariants.{OutOfMemory};
-ghost use Rattle.mp_text.specs.Reads.{Gives};
-ghost use Rattle.mp_text.specs.Words.{texts, AreAscii};
+ghost use Rattle.mp_words.specs.declared.line_error.LineError.TheVariants.{OutOfMemory};
+ghost use Rattle.mp_words.specs.Reads.{Gives};
+ghost use Rattle.mp_words.specs.Words.{texts, AreAscii};
 ghost use Rattle.mp_text.specs.ScriptLines.{removal, input_edit, output_edit, delay_edit, clearing};
 
-use crate::line_error::LineError;
-use crate::word::name_of;
-use crate::word_list::{number_word, wire_or_none};
 use mp_netlist::Edit;
+use mp_words::{LineError, name_of, number_word, wire_or_none};
 use std::alloc::Global;
 
 /// The edit of the words behind `remove`.

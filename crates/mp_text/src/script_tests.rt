@@ -46,21 +46,6 @@ fn bad_lines(rt: HostRuntime) {
     }
 }
 
-#[test]
-fn error_numbers_and_names(rt: HostRuntime) {
-    let errors = [
-        (LineError::NotAscii, 1, "NotAscii"),
-        (LineError::UnknownStatement, 2, "UnknownStatement"),
-        (LineError::WordCount, 3, "WordCount"),
-        (LineError::BadNumber, 4, "BadNumber"),
-        (LineError::OutOfMemory, 9, "OutOfMemory"),
-    ];
-    for (error, number, name) in errors {
-        assert_eq!(rt; error.number(), number);
-        assert_eq!(rt; error.name(), name);
-    }
-}
-
 /// The word of a question, and the wire that it names.
 fn question_parts(question: &Question) -> (&str, &str) {
     match question {

@@ -1,17 +1,15 @@
 //! The edits of statements.
 ghost use Rattle.std.specs.Prelude.{◌≡◌, ◌<◌, IsAscii, IfSome, length, position};
 ghost use Rattle.std.specs.List.{before_first, after_first};
-ghost use Rattle.mp_text.specs.declared.line_error.LineError.TheVariants.{OutOfMemory};
-ghost use Rattle.mp_text.specs.Reads.{Gives};
-ghost use Rattle.mp_text.specs.Words.{texts, AreAscii};
+ghost use Rattle.mp_words.specs.declared.line_error.LineError.TheVariants.{OutOfMemory};
+ghost use Rattle.mp_words.specs.Reads.{Gives};
+ghost use Rattle.mp_words.specs.Words.{texts, AreAscii};
 ghost use Rattle.mp_text.specs.Statements.{stated_edit, wire_edit, parts_edit, module_edit, stimulus_edit, bundle_edit, kind_word, is_mark};
 
 use crate::edit_word::EditWord;
-use crate::line_error::LineError;
-use crate::word::name_of;
-use crate::word_list::{changes, names, number_word, numbers, outputs};
 use mp_modules::Kind;
 use mp_netlist::{Changes, Edit, InputNames, OutputNames, Params};
+use mp_words::{LineError, changes, name_of, names, number_word, numbers, outputs};
 use std::alloc::Global;
 
 /// The edit of a first word and the words behind it.

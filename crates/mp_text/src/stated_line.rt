@@ -1,17 +1,15 @@
 //! Reading a script's line.
 ghost use Rattle.std.specs.Prelude.{◌≡◌};
-ghost use Rattle.mp_text.specs.declared.line_error.LineError.TheVariants.{OutOfMemory};
-ghost use Rattle.mp_text.specs.Reads.{Gives};
-ghost use Rattle.mp_text.specs.Words.{texts, AreAscii};
+ghost use Rattle.mp_words.specs.declared.line_error.LineError.TheVariants.{OutOfMemory};
+ghost use Rattle.mp_words.specs.Reads.{Gives};
+ghost use Rattle.mp_words.specs.Words.{texts, AreAscii};
 ghost use Rattle.mp_text.specs.ScriptLines.{line_at, line_of, stated_line, wave_question, bare_question};
 
-use crate::line::line_words;
-use crate::line_error::LineError;
 use crate::line_word::LineWord;
 use crate::script_edit::{clearing, delay_edit, input_edit, output_edit, removal};
 use crate::script_line::{Line, Question};
 use crate::stated_edit::stated_edit;
-use crate::word::name_of;
+use mp_words::{LineError, line_words, name_of};
 use std::alloc::Global;
 
 /// What a line of a script says, which is given without its line feed: an edit, as in a netlist's

@@ -3,18 +3,16 @@ ghost use Rattle.std.specs.Prelude.{◌≡◌, ◌≤◌, IfOk, Some};
 ghost use Rattle.std.specs.Result.{result_map_both};
 ghost use Rattle.mp_text.specs.declared.text_code.TextCode.TheVariants.{OutOfMemory, Refused};
 ghost use Rattle.mp_netlist.specs.Edits.{after};
-ghost use Rattle.mp_text.specs.Reads.{Gives};
-ghost use Rattle.mp_text.specs.Words.{texts, AreAscii};
+ghost use Rattle.mp_words.specs.Reads.{Gives};
+ghost use Rattle.mp_words.specs.Words.{texts, AreAscii};
 ghost use Rattle.mp_text.specs.Statements.{horizon_word, stated_horizon, stated_edit, Start, Change, statement_of};
 ghost use Rattle.mp_text.specs.Texts.{after_statement, after_line};
 
 use crate::edit_word::EditWord;
-use crate::line::line_words;
-use crate::line_error::LineError;
 use crate::stated_edit::stated_edit;
 use crate::text_code::TextCode;
-use crate::word_list::number_word;
 use mp_netlist::{Edit, EditError, Netlist, NewError};
+use mp_words::{LineError, line_words, number_word};
 use std::alloc::Global;
 
 /// The netlist after a line.

@@ -1,15 +1,6 @@
-use crate::{TextCode, push_wave_line, read_netlist};
+use crate::{TextCode, read_netlist};
 use mp_netlist::{EditError, ModuleId, Output, WireId};
 use std::test::Fail;
-
-#[test]
-fn wave_line(rt: HostRuntime) -> Result<(), Fail> {
-    let mut text = Vec::new(rt.alloc());
-    push_wave_line(&mut text, "y", 0, [(5, 1), (8, 0)].as_slice())?;
-    push_wave_line(&mut text, "a", 0, [].as_slice())?;
-    assert!(rt; text.as_slice() == b"y 0 5=1 8=0\na 0\n".as_slice());
-    Ok(())
-}
 
 #[test]
 fn code_numbers_and_names(rt: HostRuntime) {

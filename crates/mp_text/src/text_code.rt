@@ -3,6 +3,7 @@ ghost use Rattle.std.specs.Prelude.{◌≡◌};
 ghost use Rattle.mp_text.specs.declared.text_code.TextCode.TheVariants.{OutOfMemory};
 
 use mp_netlist::EditError;
+use mp_words::LineError;
 use std::alloc::{AllocError, AllocFailed};
 use thiserror::Error;
 
@@ -42,6 +43,22 @@ impl<T: Drop> From<AllocFailed<T>> for TextCode {
 
     fn from(_error: AllocFailed<T>) -> TextCode {
         TextCode::OutOfMemory
+    }
+}
+
+impl From<LineError> for TextCode {
+    ghost use Rattle.mp_text.specs.LineErrors.{code_of};
+
+    ghost from_gives = { λ error code. code ≡ code_of error };
+
+    fn from(error: LineError) -> TextCode {
+        match error {
+            LineError::NotAscii => TextCode::NotAscii,
+            LineError::UnknownStatement => TextCode::UnknownStatement,
+            LineError::WordCount => TextCode::WordCount,
+            LineError::BadNumber => TextCode::BadNumber,
+            LineError::OutOfMemory => TextCode::OutOfMemory,
+        }
     }
 }
 

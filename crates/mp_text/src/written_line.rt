@@ -3,8 +3,8 @@ ghost use Rattle.std.specs.Prelude.{◌≡◌, ◌∷◌, [], ◌++◌, OnOk, So
 ghost use Rattle.std.specs.Fmt.{decimal};
 ghost use Rattle.mp_text.specs.Written.{spaced, horizon_line, wire_line, wire_name, output_name, output_text, module_line, stimulus_words, stimulus_line, bundle_line};
 
-use crate::wave_line::{push_changes, push_number};
 use mp_netlist::{BundleRecord, ModuleRecord, Netlist, Output, Stimulus, WireId, WireRecord};
+use mp_words::{push_changes, push_number};
 use std::alloc::AllocError;
 
 /// Puts the line of the horizon behind the text.

@@ -6,7 +6,7 @@ use Rattle.mp_records.specs.declared.wire_record.WireRecord.{WireRecord}
 use Rattle.mp_netlist.specs.Circuit.{Circuit, wire_at}
 use Rattle.mp_netlist.specs.Slots.{slot_at}
 use Rattle.mp_model.specs.Waves.{wave, waves, waves_from, slot_wave}
-use Rattle.mp_text.specs.WaveLines.{wave_line}
+use Rattle.mp_words.specs.WaveLines.{wave_line}
 use Rattle.mpwb.specs.Outputs.{slot_line, lines_below, waves_text}
 
 -- ---- the wave of a wire that stands

@@ -8,9 +8,9 @@ use Rattle.mp_model.specs.StreamBytes.{AppendsPrefix}
 use Rattle.mp_text.specs.declared.text_code.TextCode.TheVariants as texts
 use Rattle.mp_text.specs.declared.text_code.TextCode.{TextCode}
 use Rattle.mp_text.specs.declared.text_error.TextError.{TextError}
-use Rattle.mp_text.specs.Lines.{lines_of}
+use Rattle.mp_words.specs.Lines.{lines_of}
 use Rattle.mp_text.specs.Texts.{text_at, after_lines}
-use Rattle.mp_text.specs.Divisions.{first_part, later_parts}
+use Rattle.mp_words.specs.Divisions.{first_part, later_parts}
 use Rattle.mpwb.specs.declared.options.Options.{Options}
 use Rattle.mpwb.specs.declared.run_fault.RunFault.{RunFault}
 use Rattle.mpwb.specs.declared.run_fault.RunFault.TheVariants.{Text, WriteFailed, OutOfMemory}

@@ -1,7 +1,7 @@
 -- The reply to a line that was read.
 use Rattle.std.proofs.Common.{◌≡◌, ◌⊎◌, inl, inr, ℕ, Bool, true, false, List, Vec, Global, Result, Ok, Err, IfOk, refl, sym, ap, ◌∙◌, true≢false}
-use Rattle.mp_text.specs.declared.line_error.LineError.{LineError}
-use Rattle.mp_text.specs.declared.line_error.LineError.TheVariants.{OutOfMemory}
+use Rattle.mp_words.specs.declared.line_error.LineError.{LineError}
+use Rattle.mp_words.specs.declared.line_error.LineError.TheVariants.{OutOfMemory}
 use Rattle.mpwb.specs.declared.run_fault.RunFault.{RunFault}
 use Rattle.mp_text.specs.declared.script_line.Line.{Line}
 use Rattle.mp_text.specs.ScriptLines.{line_at}

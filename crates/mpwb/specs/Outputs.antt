@@ -6,7 +6,7 @@ use Rattle.mp_netlist.specs.Circuit.{Circuit, wire_at}
 use Rattle.mp_model.specs.Waves.{wave}
 use Rattle.mp_text.specs.declared.text_error.TextError.{TextError}
 use Rattle.mp_text.specs.Texts.{text_at}
-use Rattle.mp_text.specs.WaveLines.{wave_line}
+use Rattle.mp_words.specs.WaveLines.{wave_line}
 use Rattle.mpwb.specs.declared.options.Options.{Options}
 use Rattle.mpwb.specs.declared.run_fault.RunFault.{RunFault}
 use Rattle.mpwb.specs.declared.run_fault.RunFault.TheVariants.{Text, BadCount}

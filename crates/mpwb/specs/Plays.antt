@@ -3,9 +3,9 @@ use Rattle.std.specs.Prelude.{◌≡◌, ℕ, Bool, true, false, List, [], ◌�
 use Rattle.mp_netlist.specs.Circuit.{Circuit}
 use Rattle.mp_text.specs.declared.text_code.TextCode.TheVariants.{TooLong}
 use Rattle.mp_text.specs.declared.text_error.TextError.{TextError}
-use Rattle.mp_text.specs.Lines.{lines_of}
+use Rattle.mp_words.specs.Lines.{lines_of}
 use Rattle.mp_text.specs.Texts.{after_lines}
-use Rattle.mp_text.specs.Divisions.{first_part, later_parts}
+use Rattle.mp_words.specs.Divisions.{first_part, later_parts}
 use Rattle.mpwb.specs.declared.options.Options.{Options}
 use Rattle.mpwb.specs.declared.run_fault.RunFault.{RunFault}
 use Rattle.mpwb.specs.OptionLimits.{has_valid_crew}

@@ -7,13 +7,13 @@ use Rattle.mp_records.specs.declared.edit_error.EditError.TheVariants.{NoSuchWir
 use Rattle.mp_records.specs.EditErrors as edits
 use Rattle.mp_netlist.specs.Circuit.{Circuit, wire_at, wire_named}
 use Rattle.mp_model.specs.Waves.{wave}
-use Rattle.mp_text.specs.declared.line_error.LineError.{LineError}
-use Rattle.mp_text.specs.declared.line_error.LineError.TheVariants as lines
+use Rattle.mp_words.specs.declared.line_error.LineError.{LineError}
+use Rattle.mp_words.specs.declared.line_error.LineError.TheVariants as lines
 use Rattle.mp_text.specs.declared.script_line.Line.{Line}
 use Rattle.mp_text.specs.declared.script_line.Line.TheVariants.{Empty, Change, Ask}
 use Rattle.mp_text.specs.declared.script_line.Question.{Question}
 use Rattle.mp_text.specs.declared.script_line.Question.TheVariants.{Wave, Waves, Text}
-use Rattle.mp_text.specs.LineErrors.{line_number_of, line_name_of}
+use Rattle.mp_words.specs.LineErrors.{line_number_of, line_name_of}
 use Rattle.mp_text.specs.ScriptLines.{line_at}
 use Rattle.mp_text.specs.Written.{written}
 use Rattle.mpwb.specs.RunFaults.{numbered}

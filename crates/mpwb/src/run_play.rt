@@ -1,6 +1,6 @@
 //! The command `play`.
 ghost use Rattle.std.specs.Prelude.{◌≡◌, ◌-◌, ◌^◌, ◌<◌, true, false, [], IfOk, IfErr, IfSome};
-ghost use Rattle.mp_text.specs.Lines.{lines_of};
+ghost use Rattle.mp_words.specs.Lines.{lines_of};
 ghost use Rattle.mpwb.specs.RunFaults.{counted_reads, counted_writes};
 ghost use Rattle.mpwb.specs.Runs.{Refuses, comes_first};
 ghost use Rattle.mpwb.specs.Plays.{Played, PlayedScript, Opens, play_output};

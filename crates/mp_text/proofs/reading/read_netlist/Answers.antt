@@ -1,7 +1,7 @@
 use Rattle.std.proofs.Common.{◌≡◌, ◌<◌, length, Ok, Err, sym, ap, ◌∙◌, inl, inr, rules, arith}
 use Rattle.mp_text.specs.Texts.{finished, text_at}
 use Rattle.mp_text.proofs.TextLemmas.{text_within, text_over, lines_next, lines_end, lines_counted, line_reached}
-use Rattle.mp_text.proofs.LineLemmas.{rest_falls}
+use Rattle.mp_words.proofs.LineLemmas.{rest_falls}
 use Rattle.mp_text.proofs.reading.read_netlist.Goals as goal
 
 pub returns-then-text-gt-MAX_TEXT-clause-read : goal.returns-then-text-gt-MAX_TEXT-clause-read

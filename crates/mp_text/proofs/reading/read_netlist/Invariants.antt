@@ -1,5 +1,5 @@
 use Rattle.std.proofs.Common.{◌≡◌, ◌+◌, ◌≤◌, length, None}
-use Rattle.mp_text.specs.Lines.{lines_of}
+use Rattle.mp_words.specs.Lines.{lines_of}
 use Rattle.mp_text.specs.Texts.{after_lines}
 use Rattle.mp_text.proofs.reading.read_netlist.Given as goal
 

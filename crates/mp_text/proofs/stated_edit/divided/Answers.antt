@@ -1,8 +1,8 @@
 use Rattle.std.proofs.Common.{IsAscii, ap, ◌∙◌}
 use Rattle.std.proofs.lemmas.List.Elements.{All-take, All-drop}
-use Rattle.mp_text.specs.Words.{texts}
+use Rattle.mp_words.specs.Words.{texts}
 use Rattle.mp_text.specs.Statements.{is_mark}
-use Rattle.mp_text.proofs.WordListLemmas.{texts-before_first, texts-after_first}
+use Rattle.mp_words.proofs.WordListLemmas.{texts-before_first, texts-after_first}
 use Rattle.mp_text.proofs.stated_edit.divided.Goals as goal
 
 pub returns-clause-front : goal.returns-clause-front

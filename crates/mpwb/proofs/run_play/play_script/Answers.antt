@@ -1,7 +1,7 @@
 use Rattle.std.proofs.Common.{◌≡◌, ◌<◌, [], length, ◌++◌, refl, subst, ◌∙◌, rules}
 use Rattle.std.proofs.KnownBytes.{Appends-nil, Appends-trans}
 use Rattle.std.proofs.lemmas.Result.{err_from_is_err_and}
-use Rattle.mp_text.specs.Lines.{lines_of}
+use Rattle.mp_words.specs.Lines.{lines_of}
 use Rattle.mpwb.proofs.PlayLemmas.{ArePlayed, none_played, one_more, played_all, played_part, played_prefix, lines_of-none}
 use Rattle.mpwb.proofs.run_play.play_script.Goals as goal
 

@@ -1,6 +1,6 @@
 use Rattle.std.proofs.Common.{◌≡◌, ℕ, List, length}
 use Rattle.std.specs.Io.KnownBytes.{Appends}
-use Rattle.mp_text.specs.Lines.{lines_of}
+use Rattle.mp_words.specs.Lines.{lines_of}
 use Rattle.mpwb.proofs.PlayLemmas.{ArePlayed}
 use Rattle.mpwb.proofs.run_play.play_script.Given as goal
 

@@ -1,0 +1,74 @@
+-- Numbers as they are written.
+use Rattle.std.proofs.Common.{◌≡◌, ℕ, ◌+◌, ◌-◌, ◌*◌, ◌/◌, ◌%◌, ◌^◌, ◌<◌, ◌≤◌, Bool, true, false, cond, ◌&&◌, List, [], ◌∷◌, ◌++◌, None, Some, decimal, nat_lt, refl, ap, ◌∙◌, arith}
+use Rattle.std.specs.Char.{is_ascii_digit}
+use Rattle.std.specs.List.{list_all}
+use Rattle.std.proofs.lemmas.Fmt.{decimal_by_steps, length-decimal-le, decimal_nonempty}
+use Rattle.std.proofs.lemmas.Bool.Decides.{nat_tests}
+use Rattle.std.proofs.lemmas.List.Folds.{list_all-append}
+use Rattle.mp_words.specs.Numbers.{number_from, spelled_number}
+
+-- one more digit
+number_from-push : (a : ℕ) (ds : List ℕ) (n d : ℕ) → number_from a ds ≡ Some n → d < 10 → n * 10 + d < 2 ^ 64 → number_from a (ds ++ (48 + d) ∷ []) ≡ Some (n * 10 + d)
+unfolding number_from
+number_from-push a [] n d read low fits = by (nat_lt a (2 ^ 64)) refl read
+  where
+    by : (t : Bool) → nat_lt a (2 ^ 64) ≡ t → cond t (Some a) None ≡ Some n → cond (is_ascii_digit (48 + d)) (cond (nat_lt (a * 10 + ((48 + d) - 48)) (2 ^ 64)) (Some (a * 10 + ((48 + d) - 48))) None) None ≡ Some (n * 10 + d)
+    by true e same =
+        let eq : a ≡ n = cc in
+        let digit : is_ascii_digit (48 + d) ≡ true = grind (arith, nat_tests) in
+        let value : a * 10 + ((48 + d) - 48) ≡ n * 10 + d = omega arith in
+        let small : nat_lt (n * 10 + d) (2 ^ 64) ≡ true = grind (arith, nat_tests) in
+        rw (digit, value, small) refl
+    by false e same = cc
+number_from-push a (b ∷ bs) n d read low fits = by (is_ascii_digit b) read (λ h. number_from-push (a * 10 + (b - 48)) bs n d h low fits)
+  where
+    by : (t : Bool) → cond t (number_from (a * 10 + (b - 48)) bs) None ≡ Some n
+        → (number_from (a * 10 + (b - 48)) bs ≡ Some n → number_from (a * 10 + (b - 48)) (bs ++ (48 + d) ∷ []) ≡ Some (n * 10 + d))
+        → cond t (number_from (a * 10 + (b - 48)) (bs ++ (48 + d) ∷ [])) None ≡ Some (n * 10 + d)
+    by true h next = next h
+    by false h next = cc
+
+Reads : ℕ → List ℕ → Type 0
+Reads n ds = n < 2 ^ 64 → number_from 0 ds ≡ Some n
+
+-- a number that is written is read
+number_from-decimal : (n : ℕ) → n < 2 ^ 64 → number_from 0 (decimal n) ≡ Some n
+unfolding Reads number_from
+number_from-decimal n fits = decimal_by_steps Reads one more n fits fits
+  where
+    one : (n : ℕ) → n < 10 → Reads n ((48 + n) ∷ [])
+    one n low _ = let value : 0 * 10 + n ≡ n = omega arith in number_from-push 0 [] 0 n refl low (omega arith) ∙ ap Some value
+
+    more : (n : ℕ) (ds : List ℕ) → 10 ≤ n → Reads (n / 10) ds → Reads n (ds ++ ((48 + n % 10) ∷ []))
+    more n ds high read small =
+        let value : n / 10 * 10 + n % 10 ≡ n = omega arith in
+        let before = read (omega arith) in
+        number_from-push 0 ds (n / 10) (n % 10) before (omega arith) (omega arith) ∙ ap Some value
+
+-- a written number is spelled
+pub spelled_number-decimal : (n : ℕ) → n < 2 ^ 64 → spelled_number (decimal n) ≡ Some n
+unfolding spelled_number
+spelled_number-decimal n fits =
+    let some = decimal_nonempty n fits in
+    let short = length-decimal-le 20 n (omega arith) (omega arith) fits in
+    let read = number_from-decimal n fits in
+    grind (arith, nat_tests)
+
+AreDigits : ℕ → List ℕ → Type 0
+AreDigits n ds = list_all is_ascii_digit ds ≡ true
+
+-- a written number is made of digits
+pub decimal_digits : (n : ℕ) → n < 2 ^ 64 → list_all is_ascii_digit (decimal n) ≡ true
+unfolding AreDigits
+decimal_digits n fits = decimal_by_steps AreDigits one more n fits
+  where
+    digit : (d : ℕ) → d < 10 → is_ascii_digit (48 + d) ≡ true
+    digit d low = grind (arith, nat_tests)
+
+    one : (n : ℕ) → n < 10 → AreDigits n ((48 + n) ∷ [])
+    one n low = ap (λ b. b && true) (digit n low)
+
+    more : (n : ℕ) (ds : List ℕ) → 10 ≤ n → AreDigits (n / 10) ds → AreDigits n (ds ++ ((48 + n % 10) ∷ []))
+    more n ds high before =
+        let last = digit (n % 10) (omega arith) in
+        list_all-append is_ascii_digit ds ((48 + n % 10) ∷ []) ∙ rw (before, last) refl

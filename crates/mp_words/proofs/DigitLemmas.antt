@@ -1,0 +1,31 @@
+-- A step of reading digits.
+use Rattle.std.proofs.Common.{◌≡◌, ℕ, ◌+◌, ◌-◌, ◌*◌, ◌^◌, ◌<◌, ◌≤◌, true, false, cond, List, [], ◌∷◌, length, get_or, drop, None, Some, refl, ap, ◌∙◌, arith}
+use Rattle.std.specs.Char.{is_ascii_digit}
+use Rattle.std.proofs.lemmas.List.{at_drop_more, at_drop_all}
+use Rattle.std.proofs.lemmas.Bool.Decides.{nat_tests}
+use Rattle.mp_words.specs.Numbers.{number_from}
+
+-- a number that is too large stays so
+pub number_from_over : (n : ℕ) (bytes : List ℕ) → 2 ^ 64 ≤ n → number_from n bytes ≡ None
+unfolding number_from
+number_from_over n [] over = grind (arith, nat_tests)
+number_from_over n (byte ∷ bytes) over =
+    let next = number_from_over (n * 10 + (byte - 48)) bytes (omega arith) in
+    elim (is_ascii_digit byte) as (λ b. cond b (number_from (n * 10 + (byte - 48)) bytes) None ≡ None) [ true ↦ next | false ↦ refl ]
+
+-- at a digit
+pub number_from_digit : (word : List ℕ) (i n : ℕ) → i < length word → is_ascii_digit (get_or word i 0) ≡ true → number_from n (drop i word) ≡ number_from (n * 10 + (get_or word i 0 - 48)) (drop (i + 1) word)
+unfolding number_from
+number_from_digit word i n within digit = at_drop_more (number_from n) word i 0 within ∙ ap (λ b. cond b (number_from (n * 10 + (get_or word i 0 - 48)) (drop (i + 1) word)) None) digit
+
+-- at another byte
+pub number_from_other : (word : List ℕ) (i n : ℕ) → i < length word → is_ascii_digit (get_or word i 0) ≡ false → number_from n (drop i word) ≡ None
+unfolding number_from
+number_from_other word i n within other = at_drop_more (number_from n) word i 0 within ∙ ap (λ b. cond b (number_from (n * 10 + (get_or word i 0 - 48)) (drop (i + 1) word)) None) other
+
+-- at the end
+pub number_from_end : (word : List ℕ) (i n : ℕ) → length word ≤ i → n < 2 ^ 64 → number_from n (drop i word) ≡ Some n
+unfolding number_from
+number_from_end word i n over fits =
+    let at = at_drop_all (number_from n) word i over in
+    at ∙ grind (arith, nat_tests)

@@ -1,0 +1,78 @@
+-- Where lists of bytes and words are divided.
+use Rattle.std.proofs.Common.{◌≡◌, ℕ, ◌+◌, ◌-◌, ◌<◌, ◌≤◌, Bool, true, false, not, suc, zero, List, [], ◌∷◌, ◌++◌, length, take, drop, get_or, All, Some, nat_lt, position, refl, ap, ◌∙◌, arith, length-append}
+use Rattle.std.specs.List.{list_all, position_or_len, before_first, after_first, before_last, after_last, suffix_len}
+use Rattle.std.proofs.lemmas.Bool.Decides.{nat_tests}
+use Rattle.std.proofs.lemmas.List.Elements.{All-head, All-tail}
+use Rattle.std.proofs.lemmas.List.Sums.{suffix_len_is}
+use Rattle.mp_words.proofs.PlainLemmas.{both}
+use Rattle.std.proofs.Math.Seq.{take-append_seam, drop-append-add, get_or-append_seam, get_or-append_right}
+
+module _ {A : Type 0} (p : A → Bool) (m : A) (ys : List A) (found : p m ≡ true) where
+  pub first_at : (xs : List A) → All (λ x. p x ≡ false) xs → position_or_len p (xs ++ m ∷ ys) ≡ length xs
+  first_at [] all = rw found refl
+  first_at (x ∷ xs) all =
+      let here = All-head (λ x. p x ≡ false) x xs all in
+      let rest = first_at xs (All-tail (λ x. p x ≡ false) x xs all) in
+      rw (here, rest) (omega arith)
+
+  pub before_first-append : (xs : List A) → All (λ x. p x ≡ false) xs → before_first p (xs ++ m ∷ ys) ≡ xs
+  before_first-append xs all = ap (λ n. take n (xs ++ m ∷ ys)) (first_at xs all) ∙ take-append_seam xs (m ∷ ys)
+
+  pub after_first-append : (xs : List A) → All (λ x. p x ≡ false) xs → after_first p (xs ++ m ∷ ys) ≡ ys
+  after_first-append xs all = ap (λ n. drop (n + 1) (xs ++ m ∷ ys)) (first_at xs all) ∙ drop-append-add xs (m ∷ ys) 1
+
+  pub position-append : (xs : List A) → All (λ x. p x ≡ false) xs → position p (xs ++ m ∷ ys) ≡ Some (length xs)
+  position-append xs all =
+      let at = first_at xs all in
+      let long = length-append xs (m ∷ ys) in
+      let within : nat_lt (length xs) (length (xs ++ m ∷ ys)) ≡ true = grind (arith, nat_tests) in
+      rw (at, within) refl
+
+-- where nothing passes there is no first
+pub before_first-none : {A : Type 0} (p : A → Bool) (xs : List A) → All (λ x. p x ≡ false) xs → before_first p xs ≡ xs
+before_first-none p [] all = refl
+before_first-none p (x ∷ xs) all =
+    let here = All-head (λ x. p x ≡ false) x xs all in
+    let one : 1 + position_or_len p xs ≡ suc (position_or_len p xs) = omega arith in
+    rw (here, one) (ap (λ l. x ∷ l) (before_first-none p xs (All-tail (λ x. p x ≡ false) x xs all)))
+
+at_each : (p : ℕ → Bool) (xs : List ℕ) → list_all p xs ≡ true → (k : ℕ) → k < length xs → p (get_or xs k 0) ≡ true
+at_each p [] all k within = absurd (omega (arith, within))
+at_each p (x ∷ xs) all zero within = (both (p x) (list_all p xs) all).0
+at_each p (x ∷ xs) all (suc k) within = at_each p xs (both (p x) (list_all p xs) all).1 k (omega arith)
+
+-- bytes that do not pass, behind one that does
+module _ (p : ℕ → Bool) (m : ℕ) (ys : List ℕ) (found : p m ≡ true) (none : list_all (λ y. not (p y)) ys ≡ true) (xs : List ℕ) where
+  after_mark : (k : ℕ) → length xs + 1 ≤ k → k < length (xs ++ m ∷ ys) → not (p (get_or (xs ++ m ∷ ys) k 0)) ≡ true
+  after_mark k from within =
+      let long = length-append xs (m ∷ ys) in
+      let at = get_or-append_right xs (m ∷ ys) k 0 (omega (arith, from)) in
+      let next : k - length xs ≡ suc (k - length xs - 1) = omega (arith, from) in
+      let here = at_each (λ y. not (p y)) ys none (k - length xs - 1) (omega (arith, long, from, within)) in
+      ap (λ y. not (p y)) (at ∙ ap (λ j. get_or (m ∷ ys) j 0) next) ∙ here
+
+  at_mark : not (p (get_or (xs ++ m ∷ ys) (length xs + 1 - 1) 0)) ≡ false
+  at_mark =
+      let same : length xs + 1 - 1 ≡ length xs = omega arith in
+      ap (λ j. not (p (get_or (xs ++ m ∷ ys) j 0))) same ∙ ap (λ y. not (p y)) (get_or-append_seam xs m ys 0) ∙ ap not found
+
+  pub behind_last : suffix_len (λ y. not (p y)) (xs ++ m ∷ ys) ≡ length ys
+  behind_last =
+      let long = length-append xs (m ∷ ys) in
+      let each : (k : ℕ) → length xs + 1 ≤ k → k < length (xs ++ m ∷ ys) → not (p (get_or (xs ++ m ∷ ys) k 0)) ≡ true
+      = after_mark in
+      let last : 0 < length xs + 1 → not (p (get_or (xs ++ m ∷ ys) (length xs + 1 - 1) 0)) ≡ false = λ _. at_mark in
+      let all = suffix_len_is (λ y. not (p y)) (xs ++ m ∷ ys) (length xs + 1) 0 (omega (arith, long)) each last in
+      all ∙ omega (arith, long)
+
+  pub before_last-append : before_last p (xs ++ m ∷ ys) ≡ xs
+  before_last-append =
+      let long = length-append xs (m ∷ ys) in
+      let at : length (xs ++ m ∷ ys) - suffix_len (λ y. not (p y)) (xs ++ m ∷ ys) - 1 ≡ length xs = omega (arith, long, behind_last) in
+      ap (λ n. take n (xs ++ m ∷ ys)) at ∙ take-append_seam xs (m ∷ ys)
+
+  pub after_last-append : after_last p (xs ++ m ∷ ys) ≡ ys
+  after_last-append =
+      let long = length-append xs (m ∷ ys) in
+      let at : length (xs ++ m ∷ ys) - suffix_len (λ y. not (p y)) (xs ++ m ∷ ys) ≡ length xs + 1 = omega (arith, long, behind_last) in
+      ap (λ n. drop n (xs ++ m ∷ ys)) at ∙ drop-append-add xs (m ∷ ys) 1

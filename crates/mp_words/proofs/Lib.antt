@@ -1,0 +1,9 @@
+pub mod DecimalLemmas
+pub mod DigitLemmas
+pub mod LineLemmas
+pub mod WordLemmas
+pub mod WordListLemmas
+pub mod DivisionLemmas
+pub mod DividedLemmas
+pub mod PlainLemmas
+pub mod ReadBackLemmas

@@ -1,0 +1,77 @@
+-- Words as they are written.
+use Rattle.std.proofs.Common.{◌≡◌, ℕ, ◌^◌, ◌<◌, Bool, true, false, not, ◌==◌, ◌&&◌, List, [], ◌∷◌, ◌++◌, length, All, nat_lt, decimal, true≢false, refl, sym, ◌∙◌, arith}
+use Rattle.std.specs.Prelude.{nat_le}
+use Rattle.std.specs.Char.{is_ascii_digit}
+use Rattle.std.specs.List.{list_all}
+use Rattle.std.proofs.lemmas.Fmt.{decimal_nonempty}
+use Rattle.std.proofs.lemmas.Bool.Decides.{nat_tests}
+use Rattle.std.proofs.lemmas.List.{length-append}
+use Rattle.std.proofs.lemmas.List.Elements.{All-cons, All-nil}
+use Rattle.std.proofs.lemmas.List.Folds.{list_all-append}
+use Rattle.mp_records.specs.Names.{is_name, is_name_byte, begins_with_letter}
+use Rattle.mp_words.specs.Lines.{is_allowed}
+use Rattle.mp_words.specs.Words.{is_gap}
+use Rattle.mp_words.proofs.DecimalLemmas.{decimal_digits}
+
+-- printed, and neither a space nor `#`
+abbrev pub is_plain_byte : ℕ → Bool
+is_plain_byte b = nat_lt 32 b && (nat_le b 126 && not (b == 35))
+
+-- some bytes without a gap, a line feed or a comment
+pub record IsPlain (word : List ℕ) : Type 0 where
+  pub some : 0 < length word
+  pub plain : list_all is_plain_byte word ≡ true
+
+pub plain_allowed : (b : ℕ) → is_plain_byte b ≡ true → is_allowed b ≡ true
+plain_allowed b plain = grind (arith, nat_tests)
+
+pub plain_no_gap : (b : ℕ) → is_plain_byte b ≡ true → is_gap b ≡ false
+plain_no_gap b plain = grind (arith, nat_tests)
+
+pub plain_no_hash : (b : ℕ) → is_plain_byte b ≡ true → (b == 35) ≡ false
+plain_no_hash b plain = grind (arith, nat_tests)
+
+digit_plain : (b : ℕ) → is_ascii_digit b ≡ true → is_plain_byte b ≡ true
+digit_plain b digit = grind (arith, nat_tests)
+
+name_byte_plain : (b : ℕ) → is_name_byte b ≡ true → is_plain_byte b ≡ true
+name_byte_plain b name = grind (arith, nat_tests)
+
+pub both : (x y : Bool) → (x && y) ≡ true → (x ≡ true) × (y ≡ true)
+both true y h = (refl, h)
+both false y h = absurd (true≢false (sym h))
+
+-- what holds of each byte that passes holds of all
+pub All-passing : (p : ℕ → Bool) (P : ℕ → Type 0) → ((b : ℕ) → p b ≡ true → P b) → (w : List ℕ) → list_all p w ≡ true → All P w
+All-passing p P each [] all = All-nil P
+All-passing p P each (b ∷ w) all =
+    let parts = both (p b) (list_all p w) all in
+    All-cons P b w (each b parts.0) (All-passing p P each w parts.1)
+
+pub list_all-passing : (p q : ℕ → Bool) → ((b : ℕ) → p b ≡ true → q b ≡ true) → (w : List ℕ) → list_all p w ≡ true → list_all q w ≡ true
+list_all-passing p q each [] all = refl
+list_all-passing p q each (b ∷ w) all =
+    let parts = both (p b) (list_all p w) all in
+    let here = each b parts.0 in
+    let rest = list_all-passing p q each w parts.1 in
+    rw (here, rest) refl
+
+pub IsPlain-append : (v w : List ℕ) → IsPlain v → IsPlain w → IsPlain (v ++ w)
+IsPlain-append v w front back = record {
+  some = let n = length-append v w in omega (arith, n, front.some);
+  plain = list_all-append is_plain_byte v w ∙ rw (front.plain, back.plain) refl;
+}
+
+pub IsPlain-decimal : (n : ℕ) → n < 2 ^ 64 → IsPlain (decimal n)
+IsPlain-decimal n fits = record {
+  some = decimal_nonempty n fits;
+  plain = list_all-passing is_ascii_digit is_plain_byte digit_plain (decimal n) (decimal_digits n fits);
+}
+
+pub IsPlain-name : (name : List ℕ) → is_name name ≡ true → IsPlain name
+unfolding is_name
+IsPlain-name [] valid = absurd (true≢false (sym valid))
+IsPlain-name (b ∷ bs) valid = record {
+  some = omega arith;
+  plain = list_all-passing is_name_byte is_plain_byte name_byte_plain (b ∷ bs) ((both (begins_with_letter (b ∷ bs) && nat_le (length (b ∷ bs)) 32) (list_all is_name_byte (b ∷ bs)) valid).1);
+}

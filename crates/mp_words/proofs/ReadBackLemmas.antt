@@ -1,0 +1,108 @@
+-- Words that are written are read again.
+use Rattle.std.proofs.Common.{◌≡◌, ℕ, ◌^◌, ◌<◌, Bool, true, false, not, ◌==◌, ◌&&◌, List, [], ◌∷◌, ◌++◌, length, map, All, Some, None, Result, Ok, decimal, refl, ap, arith}
+use Rattle.std.specs.Prelude.{codes, nat_le}
+use Rattle.std.specs.Option.{ok_or}
+use Rattle.std.specs.Char.{is_ascii_digit, is_ascii_alphabetic}
+use Rattle.std.specs.Str.{bytes_eq}
+use Rattle.std.specs.List.{list_all}
+use Rattle.std.proofs.lemmas.Bool.Decides.{nat_tests}
+use Rattle.std.proofs.lemmas.List.Elements.{All-head, All-tail}
+use Rattle.std.proofs.Math.Seq.{take-append_seam, drop-append-add}
+use Rattle.mp_records.specs.Names.{is_name, is_name_byte, begins_with_letter}
+use Rattle.mp_words.specs.declared.line_error.LineError.{LineError}
+use Rattle.mp_words.specs.declared.line_error.LineError.TheVariants.{BadNumber}
+use Rattle.mp_words.specs.Numbers.{time_and_value, parts_at_equals, is_slash, parts_at_slash, name_and_number}
+use Rattle.mp_words.specs.WordLists.{number_word, change_word, output_word, each_word}
+use Rattle.mp_words.specs.WaveLines.{pair_text}
+use Rattle.mp_words.proofs.DecimalLemmas.{spelled_number-decimal, decimal_digits}
+use Rattle.mp_words.proofs.DividedLemmas.{position-append, before_last-append, after_last-append}
+use Rattle.mp_words.proofs.PlainLemmas.{All-passing, list_all-passing, both}
+
+-- a number
+pub number_back : (n : ℕ) → n < 2 ^ 64 → number_word (decimal n) ≡ Ok n
+number_back n fits = ap (λ o. ok_or o BadNumber) (spelled_number-decimal n fits)
+
+digit_no_equals : (b : ℕ) → is_ascii_digit b ≡ true → (b == 61) ≡ false
+digit_no_equals b digit = grind (arith, nat_tests)
+
+digit_no_slash : (b : ℕ) → is_ascii_digit b ≡ true → not (is_slash b) ≡ true
+digit_no_slash b digit = grind (arith, nat_tests)
+
+-- a time and a value
+pub change_back : (change : ℕ × ℕ) → change.0 < 2 ^ 64 → change.1 < 2 ^ 64 → change_word (pair_text change) ≡ Ok change
+unfolding time_and_value parts_at_equals
+change_back change time value =
+    let front = decimal change.0 in
+    let back = decimal change.1 in
+    let none = All-passing is_ascii_digit (λ b. (b == 61) ≡ false) digit_no_equals front (decimal_digits change.0 time) in
+    let at = position-append (λ b. b == 61) 61 back refl front none in
+    let first = take-append_seam front (61 ∷ back) in
+    let second = drop-append-add front (61 ∷ back) 1 in
+    let t = spelled_number-decimal change.0 time in
+    let v = spelled_number-decimal change.1 value in
+    rw at (rw (first, second) (rw (t, v) refl))
+
+-- a name and a number
+pub name_and_number-back : (name : List ℕ) (n : ℕ) → 0 < length name → n < 2 ^ 64 → name_and_number (name ++ 47 ∷ decimal n) ≡ Some (name, n)
+unfolding name_and_number parts_at_slash
+name_and_number-back name n some fits =
+    let digits = list_all-passing is_ascii_digit (λ b. not (is_slash b)) digit_no_slash (decimal n) (decimal_digits n fits) in
+    let front = before_last-append is_slash 47 (decimal n) refl digits name in
+    let back = after_last-append is_slash 47 (decimal n) refl digits name in
+    let long : (length name == 0) ≡ false = grind (arith, nat_tests) in
+    let value = spelled_number-decimal n fits in
+    rw (front, back) (rw long (rw value refl))
+
+-- what each word says
+pub each_back : {X A : Type 0} (read : List ℕ → Result A LineError) (write : X → List ℕ) (see : X → A) (xs : List X)
+    → All (λ x. read (write x) ≡ Ok (see x)) xs → each_word read (map write xs) ≡ Ok (map see xs)
+unfolding each_word
+each_back read write see [] all = refl
+each_back read write see (x ∷ xs) all =
+    let here = All-head (λ x. read (write x) ≡ Ok (see x)) x xs all in
+    let rest = each_back read write see xs (All-tail (λ x. read (write x) ≡ Ok (see x)) x xs all) in
+    rw (here, rest) refl
+
+-- a word with a slash in it is not `-`
+longer : (name ds : List ℕ) → 0 < length name → bytes_eq (name ++ 47 ∷ ds) (codes "-") ≡ false
+longer [] ds some = absurd (omega (arith, some))
+longer (b ∷ []) ds some = by (b == 45)
+  where
+    by : (t : Bool) → (t && false) ≡ false
+    by true = refl
+    by false = refl
+longer (b ∷ c ∷ name) ds some = by (b == 45)
+  where
+    by : (t : Bool) → (t && false) ≡ false
+    by true = refl
+    by false = refl
+
+-- an output without a wire
+pub no_wire_back : (delay : ℕ) → delay < 2 ^ 64 → output_word (codes "-" ++ (47 ∷ decimal delay)) ≡ Ok (record { wire = None; delay = delay })
+unfolding output_word
+no_wire_back delay fits =
+    let word = longer (codes "-") (decimal delay) (omega arith) in
+    let pair = name_and_number-back (codes "-") delay (omega arith) fits in
+    rw (word, pair) refl
+
+letter_no_dash : (b : ℕ) → is_ascii_alphabetic b ≡ true → (b == 45) ≡ false
+letter_no_dash b letter = grind (arith, nat_tests)
+
+-- a name is not `-`
+name_not_dash : (name : List ℕ) → is_name name ≡ true → bytes_eq name (codes "-") ≡ false
+unfolding is_name
+name_not_dash [] valid = refl
+name_not_dash (b ∷ bs) valid =
+    let head = both (begins_with_letter (b ∷ bs) && nat_le (length (b ∷ bs)) 32) (list_all is_name_byte (b ∷ bs)) valid in
+    let other = letter_no_dash b (both (begins_with_letter (b ∷ bs)) (nat_le (length (b ∷ bs)) 32) head.0).0 in
+    rw other refl
+
+-- an output at a wire
+pub wire_back : (name : List ℕ) (delay : ℕ) → is_name name ≡ true → 0 < length name → delay < 2 ^ 64
+    → output_word (name ++ (47 ∷ decimal delay)) ≡ Ok (record { wire = Some name; delay = delay })
+unfolding output_word
+wire_back name delay valid some fits =
+    let word = longer name (decimal delay) some in
+    let pair = name_and_number-back name delay some fits in
+    let dash = name_not_dash name valid in
+    rw (word, pair) (rw dash refl)

@@ -1,0 +1,36 @@
+-- What words say, alone and in turn.
+use Rattle.std.specs.Prelude.{ℕ, List, [], ◌∷◌, Option, Some, None, Result, Ok, if◌then◌else◌, codes, option_map}
+use Rattle.std.specs.Option.{ok_or}
+use Rattle.std.specs.Str.{bytes_eq}
+use Rattle.mp_records.specs.declared.port_names.OutputName.{OutputName}
+use Rattle.mp_words.specs.declared.line_error.LineError.{LineError}
+use Rattle.mp_words.specs.declared.line_error.LineError.TheVariants.{BadNumber}
+use Rattle.mp_words.specs.Numbers.{spelled_number, time_and_value, name_and_number}
+use Rattle.mp_words.specs.Reads.{◌>>=◌}
+
+abbrev pub number_word : List ℕ → Result ℕ LineError
+number_word word = ok_or (spelled_number word) BadNumber
+
+abbrev pub change_word : List ℕ → Result (ℕ × ℕ) LineError
+change_word word = ok_or (time_and_value word) BadNumber
+
+-- the wire that is named, where `-` names none
+abbrev pub wire_or_none : List ℕ → Option (List ℕ)
+wire_or_none name = if bytes_eq name (codes "-") then None else Some name
+
+abbrev pub output_to : List ℕ × ℕ → OutputName
+output_to pair = record { wire = wire_or_none pair.0; delay = pair.1 }
+
+-- an output with its delay, as `y/3`, or `-` for one without a wire
+unfoldable pub output_word : List ℕ → Result OutputName LineError
+output_word word =
+    if bytes_eq word (codes "-") then Ok (output_to (word, 1))
+    else ok_or (option_map output_to (name_and_number word)) BadNumber
+
+-- what each of the words says, or the code of the first that cannot be read
+unfoldable pub each_word : {A : Type 0} → (List ℕ → Result A LineError) → List (List ℕ) → Result (List A) LineError
+each_word read [] = Ok []
+each_word read (word ∷ words) = do
+  item ← read word
+  items ← each_word read words
+  Ok (item ∷ items)

@@ -1,0 +1,45 @@
+//! Inputs of several parts, which lines `---` divide.
+ghost use Rattle.std.specs.Prelude.{◌≡◌, ◌≤◌, length, IfOk};
+ghost use Rattle.mp_words.specs.Lines.{lines_of};
+ghost use Rattle.mp_words.specs.Words.{texts};
+ghost use Rattle.mp_words.specs.Divisions.{is_division, are_division, first_part, later_parts};
+
+use crate::line::first_line;
+use crate::word::words;
+use std::alloc::{AllocError, Global};
+
+/// The part of an input before the first line whose one word is `---`, and what is behind that
+/// line: all and nothing where there is no such line.
+pub fn divided(alloc: Global, input: &[u8]) -> Result<(&[u8], &[u8]), AllocError>
+    ensures short { IfOk result (λ parts. length parts.0.now ≤ length input.now) }
+    ensures front { IfOk result (λ parts. lines_of parts.0.now ≡ first_part (lines_of input.now)) }
+    ensures back { IfOk result (λ parts. lines_of parts.1.now ≡ later_parts (lines_of input.now)) }
+{
+    let mut at = 0;
+    while at < input.len() {
+        let (line, rest) = first_line(&input[at..]);
+        if is_division(alloc, line)? {
+            return Ok((&input[..at], rest));
+        }
+        at = input.len() - rest.len();
+    }
+    Ok((input, &[]))
+}
+
+/// Whether the line divides an input.
+#[tactic(auto, unfolding(crate::specs::Divisions::is_division))]
+fn is_division(alloc: Global, line: &[u8]) -> Result<bool, AllocError>
+    ensures { IfOk result (λ divides. divides ≡ is_division line.now) }
+{
+    let words = words(alloc, line)?;
+    Ok(are_division(words.as_slice()))
+}
+
+fn are_division(words: &[&[u8]]) -> bool
+    ensures { result ≡ are_division (texts words.now) }
+{
+    match words {
+        [word] => *word == b"---".as_slice(),
+        _ => false,
+    }
+}

@@ -1,0 +1,19 @@
+//! The words, numbers and lines of a text.
+#![tactic(auto)]
+
+mod division;
+mod line;
+mod line_error;
+mod number;
+#[cfg(test)]
+mod tests;
+mod wave_line;
+mod word;
+mod word_list;
+
+pub use division::divided;
+pub use line::{first_line, line_words};
+pub use line_error::LineError;
+pub use wave_line::{push_changes, push_number, push_wave_line};
+pub use word::name_of;
+pub use word_list::{changes, names, number_word, numbers, outputs, wire_or_none};

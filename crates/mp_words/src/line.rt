@@ -1,0 +1,59 @@
+//! The lines of a text.
+ghost use Rattle.std.specs.Prelude.{◌≡◌, ◌∷◌, ◌<◌, length, IfOk, IsAscii, IsTrue};
+ghost use Rattle.std.specs.List.{before_first, after_first, list_all};
+ghost use Rattle.mp_words.specs.declared.line_error.LineError.TheVariants.{OutOfMemory};
+ghost use Rattle.mp_words.specs.Lines.{is_line_feed, lines_of, is_allowed, line_words};
+ghost use Rattle.mp_words.specs.Reads.{Gives};
+ghost use Rattle.mp_words.specs.Words.{texts, AreAscii};
+
+use crate::line_error::LineError;
+use crate::word::{place_of, words};
+use std::alloc::Global;
+
+/// The first line of the text, and what is behind its line feed.
+pub fn first_line(text: &[u8]) -> (&[u8], &[u8])
+    ensures line { result.0.now ≡ before_first is_line_feed text.now }
+    ensures rest { result.1.now ≡ after_first is_line_feed text.now }
+    ensures shorter { 0 < length text.now → length result.1.now < length text.now }
+    ensures lines { 0 < length text.now → lines_of text.now ≡ result.0.now ∷ lines_of result.1.now }
+{
+    at_line_feed(text)
+}
+
+fn at_line_feed(text: &[u8]) -> (&[u8], &[u8])
+    ensures line { result.0.now ≡ before_first is_line_feed text.now }
+    ensures rest { result.1.now ≡ after_first is_line_feed text.now }
+{
+    match place_of(b'\n', text) {
+        Some(at) => (&text[..at], &text[at + 1..]),
+        None => (text, &[]),
+    }
+}
+
+/// The words of a line before its comment, in order.
+///
+/// `NotAscii` comes where a byte of the line, in a comment too, is none that may stand in a line: a
+/// tab, a carriage return, or 32 to 126. `OutOfMemory` says that memory was wanting.
+pub fn line_words<'a>(alloc: Global, line: &'a [u8]) -> Result<Vec<&'a [u8]>, LineError>
+    ensures words { Gives OutOfMemory (λ words. texts words.items) result (line_words line.now) }
+    ensures ascii { IfOk result (λ words. AreAscii words.items) }
+{
+    if !is_plain(line) {
+        return Err(LineError::NotAscii);
+    }
+    Ok(words(alloc, line)?)
+}
+
+/// Whether each byte may stand in a line, in a comment too.
+fn is_plain(line: &[u8]) -> bool
+    ensures value { result ≡ list_all is_allowed line.now }
+    ensures ascii { IsTrue result → IsAscii line.now }
+{
+    line.iter().all(|byte| is_allowed(*byte))
+}
+
+fn is_allowed(byte: u8) -> bool
+    ensures { result ≡ is_allowed byte }
+{
+    matches!(byte, b'\t' | b'\r' | 32..=126)
+}

@@ -1,0 +1,87 @@
+use crate::{
+    LineError, changes, divided, first_line, line_words, names, numbers, outputs, push_wave_line,
+};
+use std::test::Fail;
+
+#[test]
+fn wave_line(rt: HostRuntime) -> Result<(), Fail> {
+    let mut text = Vec::new(rt.alloc());
+    push_wave_line(&mut text, "y", 0, [(5, 1), (8, 0)].as_slice())?;
+    push_wave_line(&mut text, "a", 0, [].as_slice())?;
+    assert!(rt; text.as_slice() == b"y 0 5=1 8=0\na 0\n".as_slice());
+    Ok(())
+}
+
+#[test]
+fn error_numbers_and_names(rt: HostRuntime) {
+    let errors = [
+        (LineError::NotAscii, 1, "NotAscii"),
+        (LineError::UnknownStatement, 2, "UnknownStatement"),
+        (LineError::WordCount, 3, "WordCount"),
+        (LineError::BadNumber, 4, "BadNumber"),
+        (LineError::OutOfMemory, 9, "OutOfMemory"),
+    ];
+    for (error, number, name) in errors {
+        assert_eq!(rt; error.number(), number);
+        assert_eq!(rt; error.name(), name);
+    }
+}
+
+#[test]
+fn first_lines(rt: HostRuntime) {
+    let (line, rest) = first_line(b"wire a\n\nwaves");
+    assert!(rt; line == b"wire a".as_slice());
+    let (line, rest) = first_line(rest);
+    assert!(rt; line.is_empty());
+    let (line, rest) = first_line(rest);
+    assert!(rt; line == b"waves".as_slice());
+    assert!(rt; rest.is_empty());
+}
+
+#[test]
+fn parts(rt: HostRuntime) -> Result<(), Fail> {
+    let (front, back) = divided(rt.alloc(), b"a\n ---\t# here\r\nb\n---\n")?;
+    assert!(rt; front == b"a\n".as_slice());
+    assert!(rt; back == b"b\n---\n".as_slice());
+    let (front, back) = divided(rt.alloc(), b"--- ---\n----")?;
+    assert!(rt; front == b"--- ---\n----".as_slice());
+    assert!(rt; back.is_empty());
+    Ok(())
+}
+
+#[test]
+fn words_of_lines(rt: HostRuntime) -> Result<(), Fail> {
+    let words = line_words(rt.alloc(), b"\ta- 007  5=1\r# b")?;
+    assert_eq!(rt; words.len(), 3);
+    assert!(rt; words[0] == b"a-".as_slice());
+    assert!(rt; words[1] == b"007".as_slice());
+    assert!(rt; words[2] == b"5=1".as_slice());
+    Ok(())
+}
+
+#[test]
+fn read_words(rt: HostRuntime) -> Result<(), Fail> {
+    let words: [&[u8]; 2] = [b"007", b"18446744073709551615"];
+    let read = numbers(rt.alloc(), words.as_slice())?;
+    assert!(rt; read.as_slice() == [7, u64::MAX].as_slice());
+    let words: [&[u8]; 2] = [b"5=1", b"0=00"];
+    let read = changes(rt.alloc(), words.as_slice())?;
+    assert!(rt; read.as_slice() == [(5, 1), (0, 0)].as_slice());
+    let words: [&[u8]; 2] = [b"y", b"-"];
+    let read = names(rt.alloc(), words.as_slice())?;
+    assert_eq!(rt; read.len(), 2);
+    assert_eq!(rt; read[0].as_str(), "y");
+    Ok(())
+}
+
+#[test]
+fn read_outputs(rt: HostRuntime) -> Result<(), Fail> {
+    let words: [&[u8]; 3] = [b"y/3", b"-", b"a/b/20"];
+    let read = outputs(rt.alloc(), words.as_slice())?;
+    let mut delays = Vec::new(rt.alloc());
+    for output in read.iter() {
+        delays.push(output.delay)?;
+    }
+    assert!(rt; delays.as_slice() == [3, 1, 20].as_slice());
+    Ok(())
+}

@@ -1,0 +1,110 @@
+//! What each of several words says.
+ghost use Rattle.std.specs.Prelude.{◌≡◌, IfOk, IsAscii};
+ghost use Rattle.mp_words.specs.declared.line_error.LineError.TheVariants.{OutOfMemory};
+ghost use Rattle.mp_words.specs.Reads.{Gives};
+ghost use Rattle.mp_words.specs.Words.{texts, AreAscii};
+ghost use Rattle.mp_words.specs.WordLists.{number_word, change_word, wire_or_none, output_word, each_word};
+
+use crate::line_error::LineError;
+use crate::number::{name_and_number, number, time_and_value};
+use crate::word::name_of;
+use mp_records::{Name, OutputName};
+use std::alloc::{AllocError, Global};
+
+/// The number below 2^64 that a word of 1 to 20 digits spells, and `BadNumber` for any other word.
+pub fn number_word(word: &[u8]) -> Result<u64, LineError>
+    ensures { result ≡ number_word word.now }
+{
+    number(word).ok_or(LineError::BadNumber)
+}
+
+fn change_word(word: &[u8]) -> Result<(u64, u64), LineError>
+    ensures { result ≡ change_word word.now }
+{
+    time_and_value(word).ok_or(LineError::BadNumber)
+}
+
+/// The wire that is named, where `-` names none. The error comes where memory is wanting.
+pub fn wire_or_none(alloc: Global, name: &[u8]) -> Result<Option<Name>, AllocError>
+    requires { IsAscii name.now }
+    ensures { IfOk result (λ wire. wire ≡ wire_or_none name.now) }
+{
+    if name == b"-".as_slice() {
+        return Ok(None);
+    }
+    Ok(Some(name_of(alloc, name)?))
+}
+
+/// An output with its delay, or `-` for one without a wire.
+#[tactic(auto, unfolding(crate::specs::WordLists::output_word))]
+fn output_word(alloc: Global, word: &[u8]) -> Result<OutputName, LineError>
+    requires { IsAscii word.now }
+    ensures { Gives OutOfMemory (λ output. output) result (output_word word.now) }
+{
+    if word == b"-".as_slice() {
+        return Ok(OutputName {
+            wire: None,
+            delay: 1,
+        });
+    }
+    let Some((name, delay)) = name_and_number(word) else {
+        return Err(LineError::BadNumber);
+    };
+    Ok(OutputName {
+        wire: wire_or_none(alloc, name)?,
+        delay,
+    })
+}
+
+/// The words as numbers, in order. `BadNumber` comes where one of them spells none, and
+/// `OutOfMemory` where memory is wanting.
+pub fn numbers(alloc: Global, words: &[&[u8]]) -> Result<Vec<u64>, LineError>
+    ensures { Gives OutOfMemory (λ numbers. numbers.items) result (each_word number_word (texts words.now)) }
+{
+    let mut numbers = Vec::new(alloc);
+    for word in words {
+        let number = number_word(word)?;
+        numbers.push(number)?;
+    }
+    Ok(numbers)
+}
+
+/// The words as pairs of a time and a value, as in `5=1`, in order. `BadNumber` comes where one of
+/// them is none, and `OutOfMemory` where memory is wanting.
+pub fn changes(alloc: Global, words: &[&[u8]]) -> Result<Vec<(u64, u64)>, LineError>
+    ensures { Gives OutOfMemory (λ changes. changes.items) result (each_word change_word (texts words.now)) }
+{
+    let mut changes = Vec::new(alloc);
+    for word in words {
+        let change = change_word(word)?;
+        changes.push(change)?;
+    }
+    Ok(changes)
+}
+
+/// The words as outputs with their delays, as in `y/3`, in order; `-` is one without a wire.
+/// `BadNumber` comes where a word is none, and `OutOfMemory` where memory is wanting.
+pub fn outputs(alloc: Global, words: &[&[u8]]) -> Result<Vec<OutputName>, LineError>
+    requires { AreAscii words.now }
+    ensures { Gives OutOfMemory (λ outputs. outputs.items) result (each_word output_word (texts words.now)) }
+{
+    let mut outputs = Vec::new(alloc);
+    for word in words {
+        let output = output_word(alloc, word)?;
+        outputs.push(output)?;
+    }
+    Ok(outputs)
+}
+
+/// The words as names, in order. The error comes where memory is wanting.
+pub fn names(alloc: Global, words: &[&[u8]]) -> Result<Vec<Name>, AllocError>
+    requires { AreAscii words.now }
+    ensures { IfOk result (λ names. names.items ≡ texts words.now) }
+{
+    let mut names = Vec::new(alloc);
+    for word in words {
+        let name = name_of(alloc, word)?;
+        names.push(name)?;
+    }
+    Ok(names)
+}
