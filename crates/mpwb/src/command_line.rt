@@ -1,15 +1,14 @@
 //! The words of the command line.
 ghost use Rattle.std.specs.Prelude.{◌≡◌, IfOk, Err};
-ghost use Rattle.mpwb.specs.declared.run_fault.RunFault.TheVariants as faults;
+ghost use Rattle.mp_commands.specs.declared.run_fault.RunFault.TheVariants as faults;
 ghost use Rattle.clap.specs.Values.{kind_of};
 ghost use Rattle.mpwb.specs.WordErrors.{status_of_kind};
 ghost use Rattle.clap.specs.declared.error.kind.ErrorKind.TheVariants as kinds;
 
-use crate::options::Options;
 use crate::request::{Command, Request};
-use crate::run_fault::RunFault;
 use clap::error::ErrorKind;
 use clap::{Arg, ArgMatches, Command as Parser, Error, value_parser};
+use mp_commands::{Options, RunFault};
 use std::alloc::{AllocError, Global};
 use std::io;
 

@@ -2,28 +2,14 @@
 #![tactic(auto)]
 
 mod command_line;
-mod keeper;
-mod numbered;
-mod options;
-#[cfg(test)]
-mod play_tests;
-mod put_text;
-mod put_waves;
-mod replies;
 mod request;
-mod run_fault;
-mod run_play;
-mod run_waves;
 #[cfg(test)]
 mod tests;
-mod wave_lines;
 
 use command_line::{read_words, tell};
+use mp_commands::{RunFault, exit_status, fault_line, run_play, run_waves};
 use mp_model::{ReadSource, WriteSink};
 use request::{Command, Request};
-use run_fault::{RunFault, exit_status, fault_line};
-use run_play::run_play;
-use run_waves::run_waves;
 use std::io::ErrorKind;
 use std::process::ExitCode;
 use std::rt::Runtime;

@@ -1,5 +1,5 @@
 //! What the program is asked for.
-use crate::options::Options;
+use mp_commands::Options;
 
 /// What the program can do.
 #[derive(Clone, Copy, Debug, PartialEq, Eq)]

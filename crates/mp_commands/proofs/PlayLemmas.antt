@@ -1,0 +1,141 @@
+-- A script, line after line.
+use Rattle.std.proofs.Common.{◌≡◌, ℕ, ◌<◌, ◌≤◌, ◌⊎◌, inl, inr, Bool, List, [], ◌∷◌, ◌++◌, append_assoc, length, take, Option, Some, None, IfSome, Result, Ok, Err, refl, sym, ap, subst, ◌∙◌, arith}
+use Rattle.std.specs.Io.KnownBytes.{Appends}
+use Rattle.std.proofs.lemmas.Bool.{cases_lt, lt-leb, le-leb}
+use Rattle.std.proofs.lemmas.List.{append-nil, take_all, length-take-le}
+use Rattle.mp_netlist.specs.Circuit.{Circuit}
+use Rattle.mp_model.specs.StreamBytes.{AppendsPrefix}
+use Rattle.mp_text.specs.declared.text_code.TextCode.TheVariants as texts
+use Rattle.mp_text.specs.declared.text_code.TextCode.{TextCode}
+use Rattle.mp_text.specs.declared.text_error.TextError.{TextError}
+use Rattle.mp_words.specs.Lines.{lines_of}
+use Rattle.mp_text.specs.Texts.{text_at, after_lines}
+use Rattle.mp_words.specs.Divisions.{first_part, later_parts}
+use Rattle.mp_commands.specs.declared.options.Options.{Options}
+use Rattle.mp_commands.specs.declared.run_fault.RunFault.{RunFault}
+use Rattle.mp_commands.specs.declared.run_fault.RunFault.TheVariants.{Text, WriteFailed, OutOfMemory}
+use Rattle.mp_commands.specs.OptionLimits.{has_valid_crew}
+use Rattle.mp_commands.specs.Outputs.{output_of}
+use Rattle.mp_commands.specs.Keepers.{Kept, opened}
+use Rattle.mp_commands.specs.Replies.{reply, kept_next}
+use Rattle.mp_commands.specs.Plays.{replies, first_netlist, script_text, play_output, Played, PlayedScript, Opens}
+use Rattle.mp_commands.specs.RunFaults.{fault_of_text, fault_at}
+use Rattle.mp_commands.specs.Runs.{Wrote, Refuses}
+use Rattle.mp_commands.proofs.RunLemmas.{part_of, prefix_of}
+
+-- ---- the replies so far
+
+-- these bytes are the replies to the lines before the rest
+pub record ArePlayed (first now : Kept) (lines rest : List (List ℕ)) (done : List ℕ) : Type 0 where
+  pub wants : List Bool
+  pub splits : (later : List Bool) → replies (wants ++ later) first lines ≡ done ++ replies later now rest
+
+pub none_played : (kept : Kept) (lines : List (List ℕ)) → ArePlayed kept kept lines lines []
+none_played kept lines = record { wants = []; splits = λ later. refl }
+
+replies-next : (wanting : Bool) (later : List Bool) (kept : Kept) (line : List ℕ) (rest : List (List ℕ))
+    → replies (wanting ∷ later) kept (line ∷ rest) ≡ reply wanting kept line ++ replies later (kept_next wanting kept line) rest
+unfolding replies
+replies-next wanting later kept line rest = refl
+
+replies-end : (wants : List Bool) (kept : Kept) → replies wants kept [] ≡ []
+unfolding replies
+replies-end wants kept = refl
+
+pub one_more : (first now next : Kept) (lines rest : List (List ℕ)) (line done text : List ℕ) (wanting : Bool) → ArePlayed first now lines (line ∷ rest) done
+    → text ≡ reply wanting now line → next ≡ kept_next wanting now line → ArePlayed first next lines rest (done ++ text)
+one_more first now next lines rest line done text wanting played answered kept = record {
+  wants = played.wants ++ wanting ∷ [];
+  splits = λ later.
+      ap (λ wants. replies wants first lines) (append_assoc played.wants (wanting ∷ []) later) ∙ played.splits (wanting ∷ later)
+      ∙ ap (λ l. done ++ l) (replies-next wanting later now line rest ∙ sym (ap (λ l. l ++ replies later (kept_next wanting now line) rest) answered) ∙ sym (ap (λ k. text ++ replies later k rest) kept))
+      ∙ sym (append_assoc done text (replies later next rest));
+}
+
+module _ (first now : Kept) (lines : List (List ℕ)) (done : List ℕ) (old new : Option (List ℕ)) where
+  -- all lines were answered
+  pub played_all : ArePlayed first now lines [] done → Appends old new done → PlayedScript (Ok tt) first lines old new
+  played_all played written =
+      let whole : replies (played.wants ++ []) first lines ≡ done = played.splits [] ∙ ap (λ l. done ++ l) (replies-end [] now) ∙ append-nil done in
+      (played.wants ++ [], subst (Appends old new) (sym whole) written)
+
+  -- memory was wanting
+  pub played_part : (rest : List (List ℕ)) → ArePlayed first now lines rest done → Appends old new done → PlayedScript (Err OutOfMemory) first lines old new
+  played_part rest played written = (played.wants ++ [], part_of _ done (replies [] now rest) old new (played.splits []) written)
+
+  -- a write failed
+  pub played_prefix : (rest : List (List ℕ)) (text : List ℕ) (mid : Option (List ℕ)) → ArePlayed first now lines rest (done ++ text) → Appends old mid done → AppendsPrefix mid new text
+      → PlayedScript (Err WriteFailed) first lines old new
+  played_prefix rest text mid played written part =
+      (played.wants ++ [], prefix_of _ done text (replies [] now rest) old mid new (played.splits [] ∙ append_assoc done text (replies [] now rest)) written part)
+
+-- ---- the input
+
+pub first_netlist-long : (input : List ℕ) → 4194304 < length input → first_netlist input ≡ Err (record { line = 0; code = texts.TooLong })
+unfolding first_netlist
+first_netlist-long input long = rw (lt-leb (length input) 4194304 long) refl
+
+-- the netlist of the first part as a text
+pub first_netlist-of : (input front : List ℕ) → length input ≤ 4194304 → length front ≤ length input → lines_of front ≡ first_part (lines_of input) → first_netlist input ≡ text_at front
+unfolding first_netlist text_at
+first_netlist-of input front within short same =
+    rw (le-leb (length input) 4194304 within, le-leb (length front) 4194304 (omega arith)) (ap (λ lines. after_lines 0 None lines) (sym same))
+
+-- one byte more than an input may have is enough to read
+play_output-take : (limit : ℕ) (input : List ℕ) (wants : List Bool) (options : Options) → limit ≡ 4194305 → play_output wants (take limit input) options ≡ play_output wants input options
+play_output-take limit input wants options same = by (cases_lt (length input) limit)
+  where
+    by : (length input < limit) ⊎ (limit ≤ length input) → play_output wants (take limit input) options ≡ play_output wants input options
+    by (inl less) = ap (λ text. play_output wants text options) (take_all limit input (omega arith))
+    by (inr more) =
+        let cut : length (take limit input) ≡ limit = length-take-le limit input more in
+        ap (λ read. output_of (script_text wants (take limit input)) read (has_valid_crew options)) (first_netlist-long (take limit input) (omega arith))
+        ∙ sym (ap (λ read. output_of (script_text wants input) read (has_valid_crew options)) (first_netlist-long input (omega arith)))
+
+pub for_play : (result : Result (Unit {0}) RunFault) (left : Option (List ℕ)) (text : List ℕ) (options : Options) (limit : ℕ) (old new : Option (List ℕ))
+    → IfSome left (λ bytes. text ≡ take limit bytes) → limit ≡ 4194305 → Played result text options old new → IfSome left (λ input. Played result input options old new)
+for_play result None text options limit old new front same played = tt
+for_play result (Some input) text options limit old new front same played =
+    let output : play_output played.0 text options ≡ play_output played.0 input options =
+    ap (λ t. play_output played.0 t options) front ∙ play_output-take limit input played.0 options same in
+    (played.0, subst (λ o. Wrote result o old new) output played.1)
+
+-- a script behind a netlist
+pub played_script : (result : Result (Unit {0}) RunFault) (input : List ℕ) (options : Options) (kept : Kept) (script : List ℕ) (old new : Option (List ℕ))
+    → Opens input options kept script → PlayedScript result kept (lines_of script) old new → Played result input options old new
+played_script result input options kept script old new opens played =
+    let wants = played.0 in
+    let first : opened kept.netlist ≡ kept = ap (λ (accepted : ℕ). let k : Kept = record { netlist = kept.netlist; accepted = accepted } in k) (sym opens.first) in
+    let output : play_output wants input options ≡ Ok (replies wants kept (lines_of script)) =
+    ap (λ read. output_of (script_text wants input) read (has_valid_crew options)) opens.netlist
+    ∙ ap (λ valid. output_of (script_text wants input) (Ok kept.netlist) valid) opens.crew
+    ∙ ap (λ k. Ok (replies wants k (later_parts (lines_of input)))) first
+    ∙ sym (ap (λ lines. Ok (replies wants kept lines)) opens.lines) in
+    (wants, subst (λ o. Wrote result o old new) (sym output) played.1)
+
+-- ---- ends
+
+pub lines_of-none : (bytes : List ℕ) → length bytes ≡ 0 → lines_of bytes ≡ []
+unfolding lines_of
+lines_of-none [] none = refl
+lines_of-none (b ∷ bytes) none = absurd (omega (arith, none))
+
+-- a netlist that is not read is the run's fault
+pub refused_read : (written : Circuit → List ℕ) (read : Result Circuit TextError) (valid : Bool) (error : TextError)
+    → (error.code ≡ texts.OutOfMemory) ⊎ (read ≡ Err error) → Refuses (output_of written read valid) (fault_of_text error)
+refused_read written read valid error (inl memory) = rw memory tt
+refused_read written read valid error (inr same) = by error.code
+  where
+    told : output_of written read valid ≡ Err (Text error)
+    told = ap (λ r. output_of written r valid) same
+
+    by : (code : TextCode) → Refuses (output_of written read valid) (fault_at error code)
+    by texts.NotAscii = told
+    by texts.UnknownStatement = told
+    by texts.WordCount = told
+    by texts.BadNumber = told
+    by texts.NoHorizon = told
+    by texts.SecondHorizon = told
+    by (texts.Refused cause) = told
+    by texts.TooLong = told
+    by texts.OutOfMemory = tt

@@ -1,0 +1,92 @@
+-- The ends of a run.
+use Rattle.std.proofs.Common.{◌≡◌, ℕ, ◌+◌, ◌<◌, ◌≤◌, ◌⊎◌, inl, inr, true, false, IfSome, IfErr, List, ◌++◌, take, length, length-append, Option, Some, None, Result, Ok, Err, refl, sym, ap, subst, ◌∙◌, true≢false, arith}
+use Rattle.std.specs.Io.KnownBytes.{Appends}
+use Rattle.std.proofs.lemmas.Bool.{cases_lt, lt-leb}
+use Rattle.std.proofs.lemmas.List.{take_all, length-take-le, take-append-le}
+use Rattle.std.proofs.Math.Seq.{take-append_seam, take-append-add}
+use Rattle.std.proofs.KnownBytes.{Appends-nil, Appends-trans, Keeps-refl}
+use Rattle.mp_model.specs.StreamBytes.{AppendsPrefix}
+use Rattle.mp_text.specs.declared.text_code.TextCode.TheVariants as texts
+use Rattle.mp_text.specs.Texts.{text_at}
+use Rattle.mp_commands.specs.declared.options.Options.{Options}
+use Rattle.mp_commands.specs.declared.run_fault.RunFault.{RunFault}
+use Rattle.mp_commands.specs.declared.run_fault.RunFault.TheVariants.{Text, BadCount, ReadFailed, WriteFailed, OutOfMemory, NoPlace}
+use Rattle.mp_commands.specs.OptionLimits.{has_valid_crew}
+use Rattle.mp_commands.specs.Outputs.{output_of, waves_text, waves_output}
+use Rattle.mp_commands.specs.RunFaults.{counted_reads}
+use Rattle.mp_commands.specs.Runs.{Wrote, AppendsPart, Refuses, comes_first}
+
+-- ---- one byte more than a text may have is enough to read
+
+text_at-long : (text : List ℕ) → 4194304 < length text → text_at text ≡ Err (record { line = 0; code = texts.TooLong })
+unfolding text_at
+text_at-long text long = rw (lt-leb (length text) 4194304 long) refl
+
+text_at-take : (limit : ℕ) (input : List ℕ) → limit ≡ 4194305 → text_at (take limit input) ≡ text_at input
+text_at-take limit input same = by (cases_lt (length input) limit)
+  where
+    by : (length input < limit) ⊎ (limit ≤ length input) → text_at (take limit input) ≡ text_at input
+    by (inl less) = ap text_at (take_all limit input (omega arith))
+    by (inr more) =
+        let cut : length (take limit input) ≡ limit = length-take-le limit input more in
+        text_at-long (take limit input) (omega arith) ∙ sym (text_at-long input (omega arith))
+
+-- what holds of the output of the bytes that were read holds of that of the whole input
+pub for_input : (P : Result (List ℕ) RunFault → Type 0) (left : Option (List ℕ)) (text : List ℕ) (options : Options) (limit : ℕ)
+    → IfSome left (λ bytes. text ≡ take limit bytes) → limit ≡ 4194305 → P (waves_output text options) → IfSome left (λ input. P (waves_output input options))
+for_input P None text options limit front same holds = tt
+for_input P (Some input) text options limit front same holds =
+    let read : text_at text ≡ text_at input = ap text_at front ∙ text_at-take limit input same in
+    subst P (ap (λ t. output_of waves_text t (has_valid_crew options)) read) holds
+
+-- ---- parts of what is written
+
+-- what was written so far is a part of the whole
+pub part_of : (whole done rest : List ℕ) (old new : Option (List ℕ)) → whole ≡ done ++ rest → Appends old new done → AppendsPart old new whole
+part_of whole done rest old new same written =
+    let cut : take (length done) whole ≡ done = ap (take (length done)) same ∙ take-append_seam done rest in
+    (length done, subst (Appends old new) (sym cut) written)
+
+-- where the next text is written in part, so is the whole
+pub prefix_of : (whole done text rest : List ℕ) (old mid new : Option (List ℕ)) → whole ≡ done ++ (text ++ rest)
+    → Appends old mid done → AppendsPrefix mid new text → AppendsPrefix old new whole
+prefix_of whole done text rest old mid new same written part =
+    let p = part.0 in
+    let less : p < length text = part.1 in
+    let at_most : p ≤ length text = omega arith in
+    let cut : take (length done + p) whole ≡ done ++ take p text =
+    ap (take (length done + p)) same ∙ take-append-add done (text ++ rest) p ∙ ap (λ l. done ++ l) (take-append-le p text rest at_most) in
+    let long : length whole ≡ length done + (length text + length rest) =
+    ap length same ∙ length-append done (text ++ rest) ∙ ap (λ m. length done + m) (length-append text rest) in
+    (length done + p, omega arith, subst (Appends old new) (sym cut) (Appends-trans old mid new done (take p text) written part.2))
+
+-- ---- a run that writes nothing
+
+refused_by : (T : Type 0) (fault : RunFault) (output : Result (List ℕ) RunFault) (known : Option (List ℕ)) → Refuses output fault → Wrote {T = T} (Err fault) output known known
+refused_by T (Text error) output known h = (h, Keeps-refl known)
+refused_by T BadCount output known h = (h, Keeps-refl known)
+refused_by T ReadFailed output known h = absurd h
+refused_by T WriteFailed output known h = absurd h
+refused_by T OutOfMemory output known h = (0, Appends-nil known)
+refused_by T NoPlace output known h = absurd h
+
+pub Wrote-refused : {T : Type 0} (r : Result T RunFault) (fault : RunFault) (output : Result (List ℕ) RunFault) (known : Option (List ℕ))
+    → r ≡ Err fault → Refuses output fault → Wrote r output known known
+Wrote-refused {T} r fault output known e h = subst (λ x. Wrote x output known known) (sym e) (refused_by T fault output known h)
+
+-- ---- a run that began to write
+
+-- the source had no fault
+pub counted_reads-started : {T : Type 0} (r : Result T RunFault) (n : ℕ) → IfErr r (λ fault. comes_first fault ≡ false) → counted_reads r n ≡ n
+counted_reads-started (Ok done) n h = refl
+counted_reads-started (Err (Text error)) n h = refl
+counted_reads-started (Err BadCount) n h = refl
+counted_reads-started (Err ReadFailed) n h = let bad : true ≡ false = h in cc bad
+counted_reads-started (Err WriteFailed) n h = refl
+counted_reads-started (Err OutOfMemory) n h = refl
+counted_reads-started (Err NoPlace) n h = refl
+
+-- what holds where a fault comes first holds after a run that began to write
+pub nothing-started : {T : Type 0} (r : Result T RunFault) (X : Type 0) → IfErr r (λ fault. comes_first fault ≡ false) → IfErr r (λ fault. comes_first fault ≡ true → X)
+nothing-started (Ok done) X h = tt
+nothing-started (Err fault) X h = λ first. absurd (true≢false (sym first ∙ h))

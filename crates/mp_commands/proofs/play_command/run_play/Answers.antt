@@ -1,0 +1,27 @@
+use Rattle.std.proofs.Common.{[], refl, sym, ◌∙◌}
+use Rattle.std.proofs.lemmas.Result.{err_from_is_err_and}
+use Rattle.mp_commands.proofs.RunLemmas.{Wrote-refused, counted_reads-started, nothing-started}
+use Rattle.mp_commands.proofs.PlayLemmas.{for_play, played_script}
+use Rattle.mp_commands.proofs.play_command.run_play.Goals as goal
+
+pub returns-in_err-keeper-clause-written : goal.returns-in_err-keeper-clause-written
+returns-in_err-keeper-clause-written g c =
+    let known = g.T.Sink.taken c.args.sink.now in
+    let r = c.from_residual-in_err-keeper.result in
+    let p = err_from_is_err_and r c.from_residual-in_err-keeper.ensures.1 in
+    let refused = rw c.as_slice.ensures.value at c.in_err-keeper.ensures.refused in
+    for_play r _ c.in_ok-input.input.items c.args.options.now _ known known c.in_ok-input.ensures.front refl ([], Wrote-refused r p.0 _ known p.1 (rw p.2 refused))
+
+pub returns-clause-written : goal.returns-clause-written
+returns-clause-written g c =
+    let old = g.T.Sink.taken c.args.sink.now in
+    let new = g.T.Sink.taken c.play_script.new.sink in
+    let opens = rw c.as_slice.ensures.value at c.in_ok-keeper.ensures.opened in
+    for_play c.play_script.result _ c.in_ok-input.input.items c.args.options.now _ old new c.in_ok-input.ensures.front refl
+    (played_script c.play_script.result c.in_ok-input.input.items c.args.options.now c.in_ok-keeper.keeper c.in_ok-keeper.script.now old new opens c.play_script.ensures.written)
+
+pub returns-clause-nothing : goal.returns-clause-nothing
+returns-clause-nothing g c = nothing-started c.play_script.result _ c.play_script.ensures.started
+
+pub returns-clause-read_faults : goal.returns-clause-read_faults
+returns-clause-read_faults g c = c.in_ok-input.ensures.faults ∙ sym (counted_reads-started c.play_script.result _ c.play_script.ensures.started)

@@ -1,0 +1,93 @@
+-- What the lines of a script are answered.
+use Rattle.std.specs.Prelude.{◌≡◌, ℕ, Bool, true, false, List, [], ◌∷◌, ◌++◌, Option, Some, None, Result, Ok, Err, codes, unwrap_or}
+use Rattle.std.specs.Fmt.{decimal}
+use Rattle.mp_records.specs.declared.edit.Edit.{Edit}
+use Rattle.mp_records.specs.declared.edit_error.EditError.{EditError}
+use Rattle.mp_records.specs.declared.edit_error.EditError.TheVariants.{NoSuchWire, OutOfMemory}
+use Rattle.mp_records.specs.EditErrors as edits
+use Rattle.mp_netlist.specs.Circuit.{Circuit, wire_at, wire_named}
+use Rattle.mp_model.specs.Waves.{wave}
+use Rattle.mp_words.specs.declared.line_error.LineError.{LineError}
+use Rattle.mp_words.specs.declared.line_error.LineError.TheVariants as lines
+use Rattle.mp_text.specs.declared.script_line.Line.{Line}
+use Rattle.mp_text.specs.declared.script_line.Line.TheVariants.{Empty, Change, Ask}
+use Rattle.mp_text.specs.declared.script_line.Question.{Question}
+use Rattle.mp_text.specs.declared.script_line.Question.TheVariants.{Wave, Waves, Text}
+use Rattle.mp_words.specs.LineErrors.{line_number_of, line_name_of}
+use Rattle.mp_text.specs.ScriptLines.{line_at}
+use Rattle.mp_text.specs.Written.{written}
+use Rattle.mp_commands.specs.RunFaults.{numbered}
+use Rattle.mp_commands.specs.Outputs.{slot_line, waves_text}
+use Rattle.mp_commands.specs.Keepers.{Kept, kept_after}
+
+-- `accepted` and how many edits were
+abbrev pub accepted_text : ℕ → List ℕ
+accepted_text accepted = codes "accepted " ++ (decimal accepted ++ (10 ∷ []))
+
+-- a word with a number and a name
+abbrev pub coded_text : List ℕ → ℕ → List ℕ → List ℕ
+coded_text word number name = word ++ (numbered number name ++ (10 ∷ []))
+
+-- `refused` with the number and name of the refusal
+abbrev pub refused_text : EditError → List ℕ
+refused_text error = coded_text (codes "refused ") (edits.number_of error) (unwrap_or (edits.name_of (edits.number_of error)) [])
+
+-- `unread` with the number and name of the line's fault
+abbrev pub unread_text : LineError → List ℕ
+unread_text error = coded_text (codes "unread ") (line_number_of error) (line_name_of error)
+
+-- a fault of the line itself
+abbrev pub is_fault : LineError → Bool
+is_fault lines.OutOfMemory = false
+is_fault error = true
+
+-- the reply to an edit, where its memory was wanting or not
+abbrev pub edit_text : Bool → Result Kept EditError → List ℕ
+edit_text wanting (Err error) = refused_text error
+edit_text true (Ok kept) = refused_text OutOfMemory
+edit_text false (Ok kept) = accepted_text kept.accepted
+
+-- the line of a wire, where it stands
+abbrev pub wire_text : Circuit → Option ℕ → List ℕ
+wire_text n None = refused_text NoSuchWire
+wire_text n (Some w) = slot_line (wire_at n w) (wave n w)
+
+-- the answer to a question
+abbrev pub answer_text : Circuit → Question → List ℕ
+answer_text n (Wave name) = wire_text n (wire_named n name)
+answer_text n Waves = waves_text n
+answer_text n Text = written n
+
+-- the reply to a line that was read or not: a line without words has none
+abbrev pub reply_to : Bool → Kept → Result Line LineError → List ℕ
+reply_to wanting kept (Ok Empty) = []
+reply_to wanting kept (Ok (Change edit)) = edit_text wanting (kept_after kept edit)
+reply_to wanting kept (Ok (Ask question)) = answer_text kept.netlist question
+reply_to wanting kept (Err error) = unread_text error
+
+-- what is kept after an edit, where its memory was wanting or not
+abbrev pub unless_wanting : Bool → Kept → Result Kept EditError → Kept
+unless_wanting wanting kept (Err error) = kept
+unless_wanting true kept (Ok next) = kept
+unless_wanting false kept (Ok next) = next
+
+-- what is kept after a line: only an edit changes it
+abbrev pub next_kept : Bool → Kept → Result Line LineError → Kept
+next_kept wanting kept (Ok (Change edit)) = unless_wanting wanting kept (kept_after kept edit)
+next_kept wanting kept line = kept
+
+-- the reply to a line, and what is kept after it
+unfoldable pub reply : Bool → Kept → List ℕ → List ℕ
+reply wanting kept line = reply_to wanting kept (line_at line)
+
+unfoldable pub kept_next : Bool → Kept → List ℕ → Kept
+kept_next wanting kept line = next_kept wanting kept (line_at line)
+
+-- an edit was made or refused, and this is the reply to it
+abbrev pub Changed : List ℕ → Kept → Kept → Edit → Type 0
+Changed text old new edit =
+    (wanting : Bool) × (text ≡ edit_text wanting (kept_after old edit)) × (new ≡ unless_wanting wanting old (kept_after old edit))
+
+-- a line was answered by this text
+abbrev pub Answered : List ℕ → Kept → Kept → List ℕ → Type 0
+Answered text old new line = (wanting : Bool) × (text ≡ reply wanting old line) × (new ≡ kept_next wanting old line)

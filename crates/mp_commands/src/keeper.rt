@@ -1,0 +1,104 @@
+//! A netlist with its waves, which a script edits.
+ghost use Rattle.std.specs.Prelude.{◌≡◌, Ok, IsOk, IfOk, IfErr};
+ghost use Rattle.mp_records.specs.declared.edit_error.EditError.TheVariants.{OutOfMemory};
+ghost use Rattle.mp_netlist.specs.Edits.{after};
+ghost use Rattle.mp_model.specs.Waves.{waves as waves_of};
+
+use mp_model::plain_waves;
+use mp_netlist::{Edit, EditError, Netlist};
+use mp_wave::Wave;
+use std::alloc::{AllocError, Global};
+use std::marker::Model;
+
+/// How many edits a script may change its netlist by.
+pub const MAX_EDITS: u32 = 4096;
+
+/// A netlist, the waves of its wires, and how many edits led to it.
+#[derive(Drop)]
+pub struct Keeper {
+    netlist: Netlist,
+    waves: Vec<Option<Wave>>,
+    accepted: u32,
+}
+
+impl Model for Keeper {
+    ghost use Rattle.mp_commands.specs.Keepers.{Kept};
+
+    ghost Value = { Kept };
+
+    ghost use Rattle.std.specs.Prelude.{◌≡◌};
+    ghost use Rattle.mp_model.specs.Waves.{waves as waves_of};
+
+    ghost view = { λ keeper. record { netlist = keeper.netlist; accepted = keeper.accepted } };
+
+    ghost invariant = { λ keeper. keeper.waves.items ≡ waves_of keeper.netlist };
+}
+
+impl Keeper {
+    ghost use Rattle.std.specs.Prelude.{◌≡◌, Ok, IfOk, IfErr, OnOk, OnErr};
+    ghost use Rattle.mp_model.specs.Waves.{waves as waves_of};
+    ghost use Rattle.mp_netlist.specs.Edits.{RefusedBy};
+    ghost use Rattle.mp_commands.specs.Keepers.{opened, kept_after};
+
+    /// The netlist before the first edit.
+    pub fn new(alloc: Global, netlist: Netlist) -> Result<Keeper, AllocError>
+        ensures { IfOk result (λ keeper. keeper ≡ opened netlist) }
+    {
+        let waves = plain_waves(alloc, &netlist)?;
+        Ok(Keeper {
+            netlist,
+            waves,
+            accepted: 0,
+        })
+    }
+
+    /// The netlist after the accepted edits.
+    pub fn netlist(&self) -> &Netlist
+        ensures { result.now ≡ self.now.netlist }
+    {
+        &self.netlist
+    }
+
+    /// The waves of its wires.
+    pub fn waves(&self) -> &[Option<Wave>]
+        ensures { result.now ≡ waves_of self.now.netlist }
+    {
+        self.waves.as_slice()
+    }
+
+    /// Makes the edit, and tells how many were accepted so far. A refused edit, for the first check that it fails, for a full history or for
+    /// want of memory, changes neither the netlist nor its waves.
+    pub fn change(&mut self, alloc: Global, edit: &Edit) -> Result<u32, EditError>
+        ensures ok { OnOk result (kept_after self.old edit.now ≡ Ok self.new) }
+        ensures count { IfOk result (λ accepted. accepted ≡ self.new.accepted) }
+        ensures refused { IfErr result (RefusedBy (kept_after self.old edit.now)) }
+        ensures err { OnErr result (self.new ≡ self.old) }
+    {
+        self.netlist.check(edit)?;
+        if self.accepted >= MAX_EDITS {
+            return Err(EditError::HistoryFull);
+        }
+        let (netlist, waves) = changed(alloc, &self.netlist, edit)?;
+        self.netlist = netlist;
+        self.waves = waves;
+        self.accepted += 1;
+        Ok(self.accepted)
+    }
+}
+
+/// The netlist after an edit that no check refuses, with its waves.
+fn changed(
+    alloc: Global,
+    netlist: &Netlist,
+    edit: &Edit,
+) -> Result<(Netlist, Vec<Option<Wave>>), EditError>
+    requires { IsOk (after netlist.now edit.now) }
+    ensures netlist { IfOk result (λ both. after netlist.now edit.now ≡ Ok both.0) }
+    ensures waves { IfOk result (λ both. both.1.items ≡ waves_of both.0) }
+    ensures memory { IfErr result (λ error. error ≡ OutOfMemory) }
+{
+    let mut next = netlist.copy()?;
+    next.apply(edit)?;
+    let waves = plain_waves(alloc, &next)?;
+    Ok((next, waves))
+}

@@ -1,0 +1,22 @@
+//! What each command reads and writes.
+#![tactic(auto)]
+
+mod keeper;
+mod numbered;
+mod options;
+mod play_command;
+#[cfg(test)]
+mod play_tests;
+mod put_text;
+mod put_waves;
+mod replies;
+mod run_fault;
+#[cfg(test)]
+mod tests;
+mod wave_lines;
+mod waves_command;
+
+pub use options::Options;
+pub use play_command::run_play;
+pub use run_fault::{RunFault, exit_status, fault_line};
+pub use waves_command::run_waves;

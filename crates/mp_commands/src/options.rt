@@ -1,0 +1,25 @@
+//! How a run is made.
+ghost use Rattle.std.specs.Prelude.{◌≡◌};
+
+/// The numbers that a run is given. Any number may be asked for.
+#[derive(Clone, Copy, Debug, PartialEq, Eq)]
+pub struct Options {
+    /// How many workers there are.
+    pub workers: u32,
+    /// With fewer tasks than these the workers are not called on.
+    pub least: u32,
+    /// How many viewers a desk has.
+    pub viewers: u32,
+}
+
+impl Options {
+    ghost use Rattle.mp_commands.specs.OptionLimits.{has_valid_crew};
+
+    /// Whether there are 1 to 16 workers for 1 to 4,096 tasks at least. The viewers are not looked
+    /// at.
+    pub fn has_valid_crew(&self) -> bool
+        ensures { result ≡ has_valid_crew self.now }
+    {
+        1 <= self.workers && self.workers <= 16 && 1 <= self.least && self.least <= 4096
+    }
+}

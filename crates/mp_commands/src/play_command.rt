@@ -1,0 +1,84 @@
+//! The command `play`.
+ghost use Rattle.std.specs.Prelude.{◌≡◌, ◌-◌, ◌^◌, ◌<◌, true, false, [], IfOk, IfErr, IfSome};
+ghost use Rattle.mp_words.specs.Lines.{lines_of};
+ghost use Rattle.mp_commands.specs.RunFaults.{counted_reads, counted_writes};
+ghost use Rattle.mp_commands.specs.Runs.{Refuses, comes_first};
+ghost use Rattle.mp_commands.specs.Plays.{Played, PlayedScript, Opens, play_output};
+
+use crate::keeper::Keeper;
+use crate::options::Options;
+use crate::put_text::put_text;
+use crate::replies::reply;
+use crate::run_fault::RunFault;
+use crate::waves_command::MAX_INPUT;
+use mp_model::{Sink, Source, take_all};
+use mp_text::{TextCode, TextError, divided, first_line, read_netlist};
+use std::alloc::Global;
+
+/// Reads a netlist's text and, behind a line `---`, a script, all of it first. Then each line of the script is answered in turn: an edit by
+/// `accepted N` or `refused CODE NAME`, a question by its answer, and a line that is not read by `unread CODE NAME`.
+///
+/// The faults are those of `run_waves`, in the same order.
+pub fn run_play<S: Source, T: Sink>(
+    alloc: Global,
+    source: &mut S,
+    sink: &mut T,
+    options: &Options,
+) -> Result<(), RunFault>
+    requires source { S.fault_count source.old < 2 ^ 64 - 1 }
+    requires sink { T.fault_count sink.old < 2 ^ 64 - 1 }
+    ensures written { IfSome (S.left source.old)
+        (λ input. Played result input options.now (T.taken sink.old) (T.taken sink.new)) }
+    ensures nothing { IfErr result (λ fault. comes_first fault ≡ true → sink.new ≡ sink.old) }
+    ensures read_faults { S.fault_count source.new ≡ counted_reads result (S.fault_count source.old) }
+    ensures write_faults { T.fault_count sink.new ≡ counted_writes result (T.fault_count sink.old) }
+{
+    let input = take_all(alloc, source, MAX_INPUT + 1)?;
+    let (mut keeper, script) = opened(alloc, input.as_slice(), options)?;
+    play_script(alloc, sink, &mut keeper, script)
+}
+
+/// The netlist of an input's first part, and the script behind it.
+fn opened<'a>(
+    alloc: Global,
+    input: &'a [u8],
+    options: &Options,
+) -> Result<(Keeper, &'a [u8]), RunFault>
+    ensures opened { IfOk result (λ both. Opens input.now options.now both.0 both.1.now) }
+    ensures refused { IfErr result (Refuses (play_output [] input.now options.now)) }
+{
+    if input.len() > MAX_INPUT {
+        return Err(RunFault::Text(TextError {
+            line: 0,
+            code: TextCode::TooLong,
+        }));
+    }
+    let (front, script) = divided(alloc, input)?;
+    let netlist = read_netlist(alloc, front)?;
+    if !options.has_valid_crew() {
+        return Err(RunFault::BadCount);
+    }
+    Ok((Keeper::new(alloc, netlist)?, script))
+}
+
+/// Answers the lines of a script in turn.
+fn play_script<T: Sink>(
+    alloc: Global,
+    sink: &mut T,
+    keeper: &mut Keeper,
+    script: &[u8],
+) -> Result<(), RunFault>
+    requires { T.fault_count sink.old < 2 ^ 64 - 1 }
+    ensures started { IfErr result (λ fault. comes_first fault ≡ false) }
+    ensures written { PlayedScript result keeper.old (lines_of script.now) (T.taken sink.old) (T.taken sink.new) }
+    ensures faults { T.fault_count sink.new ≡ counted_writes result (T.fault_count sink.old) }
+{
+    let mut rest = script;
+    while !rest.is_empty() {
+        let (line, others) = first_line(rest);
+        let text = reply(alloc, keeper, line)?;
+        put_text(sink, text.as_slice())?;
+        rest = others;
+    }
+    Ok(())
+}

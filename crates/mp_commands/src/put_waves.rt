@@ -1,0 +1,36 @@
+//! The lines of a netlist's waves to a sink.
+ghost use Rattle.std.specs.Prelude.{◌≡◌, ◌-◌, ◌^◌, ◌<◌, false, Ok, IfErr};
+ghost use Rattle.mp_model.specs.Waves.{waves as waves_of};
+ghost use Rattle.mp_commands.specs.Outputs.{waves_text};
+ghost use Rattle.mp_commands.specs.RunFaults.{counted_writes};
+ghost use Rattle.mp_commands.specs.Runs.{Wrote, comes_first};
+
+use crate::put_text::put_text;
+use crate::run_fault::RunFault;
+use crate::wave_lines::push_slot_line;
+use mp_model::Sink;
+use mp_netlist::{Netlist, WireId};
+use mp_wave::Wave;
+use std::alloc::Global;
+
+/// Writes the line of each wire that stands, by number. One line is in memory at a time.
+pub fn put_waves<T: Sink>(
+    alloc: Global,
+    sink: &mut T,
+    netlist: &Netlist,
+    waves: &[Option<Wave>],
+) -> Result<(), RunFault>
+    requires countable { T.fault_count sink.old < 2 ^ 64 - 1 }
+    requires waves { waves.now ≡ waves_of netlist.now }
+    ensures started { IfErr result (λ fault. comes_first fault ≡ false) }
+    ensures written { Wrote result (Ok (waves_text netlist.now)) (T.taken sink.old) (T.taken sink.new) }
+    ensures faults { T.fault_count sink.new ≡ counted_writes result (T.fault_count sink.old) }
+{
+    let mut line = Vec::new(alloc);
+    for number in 0..netlist.wire_slots() {
+        line.clear();
+        push_slot_line(&mut line, netlist, waves, WireId(number))?;
+        put_text(sink, line.as_slice())?;
+    }
+    Ok(())
+}

@@ -1,0 +1,113 @@
+//! Why a run ends early.
+ghost use Rattle.std.specs.Prelude.{◌≡◌, IfOk};
+ghost use Rattle.mp_commands.specs.declared.run_fault.RunFault.TheVariants.{OutOfMemory};
+ghost use Rattle.mp_commands.specs.RunFaults.{status_of, line_of, text_line, fault_of_text, fault_of_take};
+
+use crate::numbered::push_numbered;
+use mp_model::TakeError;
+use mp_netlist::EditError;
+use mp_text::{TextCode, TextError};
+use std::alloc::{AllocError, AllocFailed, Global};
+use thiserror::Error;
+
+/// Why a run ends early.
+#[derive(Clone, Copy, Debug, PartialEq, Eq, Error)]
+pub enum RunFault {
+    /// The netlist's text is not read.
+    #[error("{0}")]
+    Text(TextError),
+    /// A number of workers, tasks or viewers is out of its limits.
+    #[error("bad count")]
+    BadCount,
+    /// A read of the input failed.
+    #[error("read failed")]
+    ReadFailed,
+    /// A write of the output failed.
+    #[error("write failed")]
+    WriteFailed,
+    /// Memory was wanting.
+    #[error("out of memory")]
+    OutOfMemory,
+    /// A viewer of a desk found no place.
+    #[error("no place")]
+    NoPlace,
+}
+
+/// Want of memory in a text is told as that of a run.
+impl From<TextError> for RunFault {
+    ghost from_gives = { λ error fault. fault ≡ fault_of_text error };
+
+    fn from(error: TextError) -> RunFault {
+        match error.code {
+            TextCode::OutOfMemory => RunFault::OutOfMemory,
+            _ => RunFault::Text(error),
+        }
+    }
+}
+
+impl From<TakeError> for RunFault {
+    ghost from_gives = { λ error fault. fault ≡ fault_of_take error };
+
+    fn from(error: TakeError) -> RunFault {
+        match error {
+            TakeError::Failed => RunFault::ReadFailed,
+            TakeError::OutOfMemory => RunFault::OutOfMemory,
+        }
+    }
+}
+
+impl From<AllocError> for RunFault {
+    ghost from_gives = { λ _ fault. fault ≡ OutOfMemory };
+
+    fn from(_error: AllocError) -> RunFault {
+        RunFault::OutOfMemory
+    }
+}
+
+impl<T: Drop> From<AllocFailed<T>> for RunFault {
+    ghost from_gives = { λ _ fault. fault ≡ OutOfMemory };
+
+    fn from(_error: AllocFailed<T>) -> RunFault {
+        RunFault::OutOfMemory
+    }
+}
+
+/// The status with which the program ends: 1 for what was asked of it, 3 for a device, 4 for want
+/// of memory or of a place.
+pub fn exit_status(fault: &RunFault) -> u8
+    ensures { result ≡ status_of fault.now }
+{
+    match fault {
+        RunFault::Text(_) | RunFault::BadCount => 1,
+        RunFault::ReadFailed | RunFault::WriteFailed => 3,
+        RunFault::OutOfMemory | RunFault::NoPlace => 4,
+    }
+}
+
+/// The line that tells of the fault, without its line feed.
+pub fn fault_line(alloc: Global, fault: &RunFault) -> Result<Vec<u8>, AllocError>
+    ensures { IfOk result (λ line. line.items ≡ line_of fault.now) }
+{
+    match fault {
+        RunFault::Text(error) => text_line(alloc, error.line, error.code),
+        RunFault::BadCount => Vec::from_slice(alloc, b"mpwb: bad count"),
+        RunFault::ReadFailed => Vec::from_slice(alloc, b"mpwb: read failed"),
+        RunFault::WriteFailed => Vec::from_slice(alloc, b"mpwb: write failed"),
+        RunFault::OutOfMemory => Vec::from_slice(alloc, b"mpwb: out of memory"),
+        RunFault::NoPlace => Vec::from_slice(alloc, b"mpwb: no place"),
+    }
+}
+
+fn text_line(alloc: Global, line: u32, code: TextCode) -> Result<Vec<u8>, AllocError>
+    ensures { IfOk result (λ text. text.items ≡ text_line line code) }
+{
+    let front = format!(in alloc; "mpwb: line {line}: ")?;
+    let mut text = front.into_bytes();
+    push_numbered(&mut text, code.number(), code.name())?;
+    if let TextCode::Refused(cause) = code {
+        text.extend_from_slice(b": ")?;
+        let number = cause.number();
+        push_numbered(&mut text, number, EditError::name_of(number).unwrap_or(""))?;
+    }
+    Ok(text)
+}

@@ -1,0 +1,62 @@
+//! The command `waves`.
+ghost use Rattle.std.specs.Prelude.{◌≡◌, ◌-◌, ◌^◌, ◌<◌, true, Ok, IfOk, IfErr, IfSome};
+ghost use Rattle.mp_model.specs.Waves.{waves as waves_of};
+ghost use Rattle.mp_commands.specs.Outputs.{waves_output, waves_text};
+ghost use Rattle.mp_commands.specs.RunFaults.{counted_reads, counted_writes};
+ghost use Rattle.mp_commands.specs.Runs.{Wrote, Refuses, comes_first};
+
+use crate::options::Options;
+use crate::put_waves::put_waves;
+use crate::run_fault::RunFault;
+use mp_model::{Sink, Source, plain_waves, take_all};
+use mp_netlist::Netlist;
+use mp_text::read_netlist;
+use mp_wave::Wave;
+use std::alloc::Global;
+
+/// How many bytes an input may have.
+pub const MAX_INPUT: usize = 4_194_304;
+
+/// Reads a netlist's text, all of it first, and writes the wave of each wire that stands, a line
+/// each, by number.
+///
+/// `ReadFailed` comes with a fault of the source, `Text` where the text is not read, and `BadCount`
+/// where the options have no valid crew: then nothing is written. `WriteFailed` comes with a fault
+/// of the sink and `OutOfMemory` where memory is wanting, in the text's reading too: then a part of
+/// the output from its front may be written.
+pub fn run_waves<S: Source, T: Sink>(
+    alloc: Global,
+    source: &mut S,
+    sink: &mut T,
+    options: &Options,
+) -> Result<(), RunFault>
+    requires source { S.fault_count source.old < 2 ^ 64 - 1 }
+    requires sink { T.fault_count sink.old < 2 ^ 64 - 1 }
+    ensures written { IfSome (S.left source.old)
+        (λ input. Wrote result (waves_output input options.now) (T.taken sink.old) (T.taken sink.new)) }
+    ensures nothing { IfErr result (λ fault. comes_first fault ≡ true → sink.new ≡ sink.old) }
+    ensures read_faults { S.fault_count source.new ≡ counted_reads result (S.fault_count source.old) }
+    ensures write_faults { T.fault_count sink.new ≡ counted_writes result (T.fault_count sink.old) }
+{
+    let input = take_all(alloc, source, MAX_INPUT + 1)?;
+    let (netlist, waves) = waves_of_text(alloc, input.as_slice(), options)?;
+    put_waves(alloc, sink, &netlist, waves.as_slice())
+}
+
+/// A text's netlist, with the wave of each of its wires by number.
+fn waves_of_text(
+    alloc: Global,
+    text: &[u8],
+    options: &Options,
+) -> Result<(Netlist, Vec<Option<Wave>>), RunFault>
+    ensures output { IfOk result (λ both. waves_output text.now options.now ≡ Ok (waves_text both.0)) }
+    ensures waves { IfOk result (λ both. both.1.items ≡ waves_of both.0) }
+    ensures refused { IfErr result (Refuses (waves_output text.now options.now)) }
+{
+    let netlist = read_netlist(alloc, text)?;
+    if !options.has_valid_crew() {
+        return Err(RunFault::BadCount);
+    }
+    let waves = plain_waves(alloc, &netlist)?;
+    Ok((netlist, waves))
+}
