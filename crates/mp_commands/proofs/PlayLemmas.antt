@@ -3,24 +3,20 @@ use Rattle.std.proofs.Common.{◌≡◌, ℕ, ◌<◌, ◌≤◌, ◌⊎◌, inl
 use Rattle.std.specs.Io.KnownBytes.{Appends}
 use Rattle.std.proofs.lemmas.Bool.{cases_lt, lt-leb, le-leb}
 use Rattle.std.proofs.lemmas.List.{append-nil, take_all, length-take-le}
-use Rattle.mp_netlist.specs.Circuit.{Circuit}
 use Rattle.mp_model.specs.StreamBytes.{AppendsPrefix}
 use Rattle.mp_text.specs.declared.text_code.TextCode.TheVariants as texts
-use Rattle.mp_text.specs.declared.text_code.TextCode.{TextCode}
-use Rattle.mp_text.specs.declared.text_error.TextError.{TextError}
 use Rattle.mp_words.specs.Lines.{lines_of}
 use Rattle.mp_text.specs.Texts.{text_at, after_lines}
 use Rattle.mp_words.specs.Divisions.{first_part, later_parts}
 use Rattle.mp_commands.specs.declared.options.Options.{Options}
 use Rattle.mp_commands.specs.declared.run_fault.RunFault.{RunFault}
-use Rattle.mp_commands.specs.declared.run_fault.RunFault.TheVariants.{Text, WriteFailed, OutOfMemory}
+use Rattle.mp_commands.specs.declared.run_fault.RunFault.TheVariants.{WriteFailed, OutOfMemory}
 use Rattle.mp_commands.specs.OptionLimits.{has_valid_crew}
 use Rattle.mp_commands.specs.Outputs.{output_of}
 use Rattle.mp_commands.specs.Keepers.{Kept, opened}
 use Rattle.mp_commands.specs.Replies.{reply, kept_next}
 use Rattle.mp_commands.specs.Plays.{replies, first_netlist, script_text, play_output, Played, PlayedScript, Opens}
-use Rattle.mp_commands.specs.RunFaults.{fault_of_text, fault_at}
-use Rattle.mp_commands.specs.Runs.{Wrote, Refuses}
+use Rattle.mp_commands.specs.Runs.{Wrote}
 use Rattle.mp_commands.proofs.RunLemmas.{part_of, prefix_of}
 
 -- ---- the replies so far
@@ -119,23 +115,3 @@ pub lines_of-none : (bytes : List ℕ) → length bytes ≡ 0 → lines_of bytes
 unfolding lines_of
 lines_of-none [] none = refl
 lines_of-none (b ∷ bytes) none = absurd (omega (arith, none))
-
--- a netlist that is not read is the run's fault
-pub refused_read : (written : Circuit → List ℕ) (read : Result Circuit TextError) (valid : Bool) (error : TextError)
-    → (error.code ≡ texts.OutOfMemory) ⊎ (read ≡ Err error) → Refuses (output_of written read valid) (fault_of_text error)
-refused_read written read valid error (inl memory) = rw memory tt
-refused_read written read valid error (inr same) = by error.code
-  where
-    told : output_of written read valid ≡ Err (Text error)
-    told = ap (λ r. output_of written r valid) same
-
-    by : (code : TextCode) → Refuses (output_of written read valid) (fault_at error code)
-    by texts.NotAscii = told
-    by texts.UnknownStatement = told
-    by texts.WordCount = told
-    by texts.BadNumber = told
-    by texts.NoHorizon = told
-    by texts.SecondHorizon = told
-    by (texts.Refused cause) = told
-    by texts.TooLong = told
-    by texts.OutOfMemory = tt

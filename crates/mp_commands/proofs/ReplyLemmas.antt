@@ -6,13 +6,19 @@ use Rattle.mp_commands.specs.declared.run_fault.RunFault.{RunFault}
 use Rattle.mp_text.specs.declared.script_line.Line.{Line}
 use Rattle.mp_text.specs.ScriptLines.{line_at}
 use Rattle.mp_commands.specs.Keepers.{Kept}
-use Rattle.mp_commands.specs.Replies.{reply, kept_next, reply_to, next_kept, unread_text, is_fault, Answered}
+use Rattle.mp_commands.specs.Replies.{reply, kept_next, reply_to, next_kept, unread_text, is_fault, Replied, Answered}
 
-pub answered : (wanting : Bool) (text : List ℕ) (old new : Kept) (line : List ℕ) (read : Result Line LineError) → line_at line ≡ read
+answered : (wanting : Bool) (text : List ℕ) (old new : Kept) (line : List ℕ) (read : Result Line LineError) → line_at line ≡ read
     → text ≡ reply_to wanting old read → new ≡ next_kept wanting old read → Answered text old new line
 unfolding reply kept_next
 answered wanting text old new line read same replied kept =
     (wanting, replied ∙ sym (ap (reply_to wanting old) same), kept ∙ sym (ap (next_kept wanting old) same))
+
+-- the reply to a line that was read
+pub replied : (result : Result (Vec ℕ Global) RunFault) (old new : Kept) (line : List ℕ) (read : Line) → line_at line ≡ Ok read
+    → IfOk result (λ text. Replied text.items old new read) → IfOk result (λ text. Answered text.items old new line)
+replied (Ok text) old new line read same h = answered h.0 text.items old new line (Ok read) same h.1 h.2
+replied (Err e) old new line read same h = tt
 
 -- the reply to a line that was not read
 pub unread : (result : Result (Vec ℕ Global) RunFault) (kept : Kept) (line : List ℕ) (error : LineError) → (error ≡ OutOfMemory) ⊎ (line_at line ≡ Err error)

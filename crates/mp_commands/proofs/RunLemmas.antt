@@ -1,19 +1,22 @@
 -- The ends of a run.
-use Rattle.std.proofs.Common.{◌≡◌, ℕ, ◌+◌, ◌<◌, ◌≤◌, ◌⊎◌, inl, inr, true, false, IfSome, IfErr, List, ◌++◌, take, length, length-append, Option, Some, None, Result, Ok, Err, refl, sym, ap, subst, ◌∙◌, true≢false, arith}
+use Rattle.std.proofs.Common.{◌≡◌, ℕ, ◌+◌, ◌<◌, ◌≤◌, ◌⊎◌, inl, inr, Bool, true, false, IfSome, IfErr, List, ◌++◌, take, length, length-append, Option, Some, None, Result, Ok, Err, refl, sym, ap, subst, ◌∙◌, true≢false, arith}
 use Rattle.std.specs.Io.KnownBytes.{Appends}
 use Rattle.std.proofs.lemmas.Bool.{cases_lt, lt-leb}
 use Rattle.std.proofs.lemmas.List.{take_all, length-take-le, take-append-le}
 use Rattle.std.proofs.Math.Seq.{take-append_seam, take-append-add}
 use Rattle.std.proofs.KnownBytes.{Appends-nil, Appends-trans, Keeps-refl}
+use Rattle.mp_netlist.specs.Circuit.{Circuit}
 use Rattle.mp_model.specs.StreamBytes.{AppendsPrefix}
+use Rattle.mp_text.specs.declared.text_code.TextCode.{TextCode}
 use Rattle.mp_text.specs.declared.text_code.TextCode.TheVariants as texts
+use Rattle.mp_text.specs.declared.text_error.TextError.{TextError}
 use Rattle.mp_text.specs.Texts.{text_at}
 use Rattle.mp_commands.specs.declared.options.Options.{Options}
 use Rattle.mp_commands.specs.declared.run_fault.RunFault.{RunFault}
 use Rattle.mp_commands.specs.declared.run_fault.RunFault.TheVariants.{Text, BadCount, ReadFailed, WriteFailed, OutOfMemory, NoPlace}
 use Rattle.mp_commands.specs.OptionLimits.{has_valid_crew}
 use Rattle.mp_commands.specs.Outputs.{output_of, waves_text, waves_output}
-use Rattle.mp_commands.specs.RunFaults.{counted_reads}
+use Rattle.mp_commands.specs.RunFaults.{fault_of_text, fault_at, counted_reads}
 use Rattle.mp_commands.specs.Runs.{Wrote, AppendsPart, Refuses, comes_first}
 
 -- ---- one byte more than a text may have is enough to read
@@ -73,6 +76,26 @@ refused_by T NoPlace output known h = absurd h
 pub Wrote-refused : {T : Type 0} (r : Result T RunFault) (fault : RunFault) (output : Result (List ℕ) RunFault) (known : Option (List ℕ))
     → r ≡ Err fault → Refuses output fault → Wrote r output known known
 Wrote-refused {T} r fault output known e h = subst (λ x. Wrote x output known known) (sym e) (refused_by T fault output known h)
+
+-- a netlist that is not read is the run's fault
+pub refused_read : (written : Circuit → List ℕ) (read : Result Circuit TextError) (valid : Bool) (error : TextError)
+    → (error.code ≡ texts.OutOfMemory) ⊎ (read ≡ Err error) → Refuses (output_of written read valid) (fault_of_text error)
+refused_read written read valid error (inl memory) = rw memory tt
+refused_read written read valid error (inr same) = by error.code
+  where
+    told : output_of written read valid ≡ Err (Text error)
+    told = ap (λ r. output_of written r valid) same
+
+    by : (code : TextCode) → Refuses (output_of written read valid) (fault_at error code)
+    by texts.NotAscii = told
+    by texts.UnknownStatement = told
+    by texts.WordCount = told
+    by texts.BadNumber = told
+    by texts.NoHorizon = told
+    by texts.SecondHorizon = told
+    by (texts.Refused cause) = told
+    by texts.TooLong = told
+    by texts.OutOfMemory = tt
 
 -- ---- a run that began to write
 

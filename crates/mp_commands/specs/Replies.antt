@@ -88,6 +88,11 @@ abbrev pub Changed : List ℕ → Kept → Kept → Edit → Type 0
 Changed text old new edit =
     (wanting : Bool) × (text ≡ edit_text wanting (kept_after old edit)) × (new ≡ unless_wanting wanting old (kept_after old edit))
 
+-- a line that was read was answered by this text
+abbrev pub Replied : List ℕ → Kept → Kept → Line → Type 0
+Replied text old new line =
+    (wanting : Bool) × (text ≡ reply_to wanting old (Ok line)) × (new ≡ next_kept wanting old (Ok line))
+
 -- a line was answered by this text
 abbrev pub Answered : List ℕ → Kept → Kept → List ℕ → Type 0
 Answered text old new line = (wanting : Bool) × (text ≡ reply wanting old line) × (new ≡ kept_next wanting old line)

@@ -2,7 +2,6 @@
 ghost use Rattle.std.specs.Prelude.{◌≡◌, Ok, IsOk, IfOk, IfErr};
 ghost use Rattle.mp_records.specs.declared.edit_error.EditError.TheVariants.{OutOfMemory};
 ghost use Rattle.mp_netlist.specs.Edits.{after};
-ghost use Rattle.mp_model.specs.Waves.{waves as waves_of};
 
 use mp_model::plain_waves;
 use mp_netlist::{Edit, EditError, Netlist};
@@ -78,27 +77,21 @@ impl Keeper {
         if self.accepted >= MAX_EDITS {
             return Err(EditError::HistoryFull);
         }
-        let (netlist, waves) = changed(alloc, &self.netlist, edit)?;
-        self.netlist = netlist;
-        self.waves = waves;
+        let next = Keeper::new(alloc, edited(&self.netlist, edit)?)?;
+        self.netlist = next.netlist;
+        self.waves = next.waves;
         self.accepted += 1;
         Ok(self.accepted)
     }
 }
 
-/// The netlist after an edit that no check refuses, with its waves.
-fn changed(
-    alloc: Global,
-    netlist: &Netlist,
-    edit: &Edit,
-) -> Result<(Netlist, Vec<Option<Wave>>), EditError>
+/// The netlist after an edit that no check refuses.
+fn edited(netlist: &Netlist, edit: &Edit) -> Result<Netlist, EditError>
     requires { IsOk (after netlist.now edit.now) }
-    ensures netlist { IfOk result (λ both. after netlist.now edit.now ≡ Ok both.0) }
-    ensures waves { IfOk result (λ both. both.1.items ≡ waves_of both.0) }
+    ensures next { IfOk result (λ next. after netlist.now edit.now ≡ Ok next) }
     ensures memory { IfErr result (λ error. error ≡ OutOfMemory) }
 {
     let mut next = netlist.copy()?;
     next.apply(edit)?;
-    let waves = plain_waves(alloc, &next)?;
-    Ok((next, waves))
+    Ok(next)
 }

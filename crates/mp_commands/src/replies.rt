@@ -2,7 +2,7 @@
 ghost use Rattle.std.specs.Prelude.{◌≡◌, true, IfOk, IfErr};
 ghost use Rattle.mp_commands.specs.declared.run_fault.RunFault.TheVariants.{OutOfMemory};
 ghost use Rattle.mp_netlist.specs.Circuit.{wire_named};
-ghost use Rattle.mp_commands.specs.Replies.{accepted_text, refused_text, unread_text, coded_text, wire_text, answer_text, is_fault, Changed, Answered};
+ghost use Rattle.mp_commands.specs.Replies.{accepted_text, refused_text, unread_text, coded_text, wire_text, answer_text, is_fault, Changed, Replied, Answered};
 
 use crate::keeper::Keeper;
 use crate::numbered::push_numbered;
@@ -18,10 +18,20 @@ pub fn reply(alloc: Global, keeper: &mut Keeper, line: &[u8]) -> Result<Vec<u8>,
     ensures memory { IfErr result (λ fault. fault ≡ OutOfMemory) }
 {
     match read_line(alloc, line) {
-        Ok(Line::Empty) => Ok(Vec::new(alloc)),
-        Ok(Line::Change(edit)) => Ok(edit_text(alloc, keeper, &edit)?),
-        Ok(Line::Ask(question)) => Ok(answer_text(alloc, keeper, &question)?),
+        Ok(read) => line_text(alloc, keeper, &read),
         Err(error) => unread_text(alloc, error),
+    }
+}
+
+/// The reply to a line that was read, after its edit, if it is one.
+fn line_text(alloc: Global, keeper: &mut Keeper, line: &Line) -> Result<Vec<u8>, RunFault>
+    ensures replied { IfOk result (λ text. Replied text.items keeper.old keeper.new line.now) }
+    ensures memory { IfErr result (λ fault. fault ≡ OutOfMemory) }
+{
+    match line {
+        Line::Empty => Ok(Vec::new(alloc)),
+        Line::Change(edit) => Ok(edit_text(alloc, keeper, edit)?),
+        Line::Ask(question) => Ok(answer_text(alloc, keeper, question)?),
     }
 }
 

@@ -1,9 +1,9 @@
 //! The command `waves`.
-ghost use Rattle.std.specs.Prelude.{◌≡◌, ◌-◌, ◌^◌, ◌<◌, true, Ok, IfOk, IfErr, IfSome};
-ghost use Rattle.mp_model.specs.Waves.{waves as waves_of};
-ghost use Rattle.mp_commands.specs.Outputs.{waves_output, waves_text};
+ghost use Rattle.std.specs.Prelude.{◌≡◌, ℕ, ◌-◌, ◌^◌, ◌<◌, true, Ok, IfErr, IfSome};
+ghost use Rattle.mp_commands.specs.OptionLimits.{has_valid_crew};
+ghost use Rattle.mp_commands.specs.Outputs.{output_of, waves_output, waves_text};
 ghost use Rattle.mp_commands.specs.RunFaults.{counted_reads, counted_writes};
-ghost use Rattle.mp_commands.specs.Runs.{Wrote, Refuses, comes_first};
+ghost use Rattle.mp_commands.specs.Runs.{Wrote, comes_first};
 
 use crate::options::Options;
 use crate::put_waves::put_waves;
@@ -11,7 +11,6 @@ use crate::run_fault::RunFault;
 use mp_model::{Sink, Source, plain_waves, take_all};
 use mp_netlist::Netlist;
 use mp_text::read_netlist;
-use mp_wave::Wave;
 use std::alloc::Global;
 
 /// How many bytes an input may have.
@@ -39,24 +38,26 @@ pub fn run_waves<S: Source, T: Sink>(
     ensures write_faults { T.fault_count sink.new ≡ counted_writes result (T.fault_count sink.old) }
 {
     let input = take_all(alloc, source, MAX_INPUT + 1)?;
-    let (netlist, waves) = waves_of_text(alloc, input.as_slice(), options)?;
-    put_waves(alloc, sink, &netlist, waves.as_slice())
+    let netlist = read_netlist(alloc, input.as_slice())?;
+    put_valid_waves(alloc, sink, &netlist, options)
 }
 
-/// A text's netlist, with the wave of each of its wires by number.
-fn waves_of_text(
+/// Writes the waves of a netlist, or tells `BadCount` where the options have no valid crew.
+fn put_valid_waves<T: Sink>(
     alloc: Global,
-    text: &[u8],
+    sink: &mut T,
+    netlist: &Netlist,
     options: &Options,
-) -> Result<(Netlist, Vec<Option<Wave>>), RunFault>
-    ensures output { IfOk result (λ both. waves_output text.now options.now ≡ Ok (waves_text both.0)) }
-    ensures waves { IfOk result (λ both. both.1.items ≡ waves_of both.0) }
-    ensures refused { IfErr result (Refuses (waves_output text.now options.now)) }
+) -> Result<(), RunFault>
+    requires { T.fault_count sink.old < 2 ^ 64 - 1 }
+    ensures written { Wrote result (output_of waves_text (Ok netlist.now) (has_valid_crew options.now)) (T.taken sink.old) (T.taken sink.new) }
+    ensures nothing { IfErr result (λ fault. comes_first fault ≡ true → sink.new ≡ sink.old) }
+    ensures reads { (n : ℕ) → counted_reads result n ≡ n }
+    ensures faults { T.fault_count sink.new ≡ counted_writes result (T.fault_count sink.old) }
 {
-    let netlist = read_netlist(alloc, text)?;
     if !options.has_valid_crew() {
         return Err(RunFault::BadCount);
     }
-    let waves = plain_waves(alloc, &netlist)?;
-    Ok((netlist, waves))
+    let waves = plain_waves(alloc, netlist)?;
+    put_waves(alloc, sink, netlist, waves.as_slice())
 }

@@ -3,7 +3,8 @@ use Rattle.std.proofs.lemmas.Result.{err_from_is_err_and}
 use Rattle.mp_commands.specs.OptionLimits.{has_valid_crew}
 use Rattle.mp_commands.specs.Outputs.{output_of}
 use Rattle.mp_commands.specs.Plays.{first_netlist, script_text}
-use Rattle.mp_commands.proofs.PlayLemmas.{first_netlist-long, first_netlist-of, refused_read}
+use Rattle.mp_commands.proofs.RunLemmas.{refused_read}
+use Rattle.mp_commands.proofs.PlayLemmas.{first_netlist-long, first_netlist-of}
 use Rattle.mp_commands.proofs.play_command.opened.Goals as goal
 
 pub returns-then-input-gt-MAX_INPUT-clause-refused : goal.returns-then-input-gt-MAX_INPUT-clause-refused

@@ -1,7 +1,10 @@
-use Rattle.std.proofs.Common.{refl, sym, ◌∙◌}
+use Rattle.std.proofs.Common.{refl, ap, sym, ◌∙◌}
 use Rattle.std.proofs.lemmas.Result.{err_from_is_err_and}
+use Rattle.mp_text.specs.Texts.{text_at}
+use Rattle.mp_commands.specs.OptionLimits.{has_valid_crew}
+use Rattle.mp_commands.specs.Outputs.{output_of, waves_text}
 use Rattle.mp_commands.specs.Runs.{Wrote}
-use Rattle.mp_commands.proofs.RunLemmas.{for_input, Wrote-refused, counted_reads-started, nothing-started}
+use Rattle.mp_commands.proofs.RunLemmas.{for_input, Wrote-refused, refused_read}
 use Rattle.mp_commands.proofs.waves_command.run_waves.Goals as goal
 
 pub returns-in_err-netlist-clause-written : goal.returns-in_err-netlist-clause-written
@@ -9,21 +12,20 @@ returns-in_err-netlist-clause-written g c =
     let known = g.T.Sink.taken c.args.sink.now in
     let r = c.from_residual-in_err-netlist.result in
     let p = err_from_is_err_and r c.from_residual-in_err-netlist.ensures.1 in
-    let refused = rw c.as_slice.ensures.value at c.in_err-netlist.ensures.refused in
-    for_input (λ o. Wrote r o known known) _ c.in_ok-input.input.items c.args.options.now _ c.in_ok-input.ensures.front refl
-    (Wrote-refused r p.0 _ known p.1 (rw p.2 refused))
+    let text = c.in_ok-input.input.items in
+    let read = rw c.as_slice.ensures.value at c.in_err-netlist.ensures.read in
+    for_input (λ o. Wrote r o known known) _ text c.args.options.now _ c.in_ok-input.ensures.front refl
+    (Wrote-refused r p.0 _ known p.1 (rw p.2 (refused_read waves_text (text_at text) (has_valid_crew c.args.options.now) c.in_err-netlist.field-0.0 read)))
 
 pub returns-clause-written : goal.returns-clause-written
 returns-clause-written g c =
     let old = g.T.Sink.taken c.args.sink.now in
-    let new = g.T.Sink.taken c.put_waves.new.sink in
-    let r = c.put_waves.result in
-    let output = rw c.as_slice.ensures.value at c.in_ok-netlist.ensures.output in
+    let new = g.T.Sink.taken c.put_valid_waves.new.sink in
+    let r = c.put_valid_waves.result in
+    let read = rw c.as_slice.ensures.value at c.in_ok-netlist.ensures.read in
+    let output = ap (λ n. output_of waves_text n (has_valid_crew c.args.options.now)) read in
     for_input (λ o. Wrote r o old new) _ c.in_ok-input.input.items c.args.options.now _ c.in_ok-input.ensures.front refl
-    (rw output c.put_waves.ensures.written)
-
-pub returns-clause-nothing : goal.returns-clause-nothing
-returns-clause-nothing g c = nothing-started c.put_waves.result _ c.put_waves.ensures.started
+    (rw output c.put_valid_waves.ensures.written)
 
 pub returns-clause-read_faults : goal.returns-clause-read_faults
-returns-clause-read_faults g c = c.in_ok-input.ensures.faults ∙ sym (counted_reads-started c.put_waves.result _ c.put_waves.ensures.started)
+returns-clause-read_faults g c = c.in_ok-input.ensures.faults ∙ sym (c.put_valid_waves.ensures.reads _)
