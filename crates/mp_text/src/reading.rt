@@ -39,11 +39,10 @@ pub fn read_netlist(alloc: Global, text: &[u8]) -> Result<Netlist, TextError>
     while !rest.is_empty() {
         let (front, others) = first_line(rest);
         number += 1;
-        match line(alloc, state, front) {
-            Ok(next) => state = next,
+        match line(alloc, &mut state, front) {
+            Ok(()) => rest = others,
             Err(code) => return Err(TextError { line: number, code }),
         }
-        rest = others;
     }
     match state {
         Some(netlist) => Ok(netlist),

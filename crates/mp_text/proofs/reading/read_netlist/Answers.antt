@@ -30,7 +30,7 @@ loop-rest-preserved c =
     record {
       within = rw c.first_line.ensures.rest (omega (arith, falls));
       counted = rw c.first_line.ensures.rest (lines_counted c.loop-rest.rest.now c.args.text.now c.loop-rest.number some c.loop-rest.invariant.counted);
-      same = rw c.first_line.ensures.rest (sym (lines_next c.loop-rest.number c.loop-rest.state c.loop-rest.rest.now (Ok c.in-Ok.next) some (rw c.first_line.ensures.line at c.in-Ok.ensures)) ∙ c.loop-rest.invariant.same);
+      same = rw c.first_line.ensures.rest (sym (lines_next c.loop-rest.number c.loop-rest.state c.loop-rest.rest.now (Ok c.line.new.state) some (rw c.first_line.ensures.line at c.in-Ok.ensures)) ∙ c.loop-rest.invariant.same);
     }
 
 pub returns-in-Some-clause-read : goal.returns-in-Some-clause-read
