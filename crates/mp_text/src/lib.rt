@@ -1,4 +1,4 @@
-//! The texts of netlists, the lines of scripts, and the lines of waves.
+//! The texts of netlists, and the lines of scripts.
 #![tactic(auto)]
 
 mod edit_word;

@@ -12,8 +12,8 @@ use std::alloc::Global;
 /// How many bytes a text may have.
 const MAX_TEXT: usize = 4_194_304;
 
-/// The netlist of a text of `horizon`, `wire`, `module` and `stim` statements, one a line: the
-/// empty netlist of the horizon after the edits of the others in turn.
+/// The netlist of a text of `horizon`, `wire`, `module`, `stim` and `bundle` statements, one a
+/// line: the empty netlist of the horizon after the edits of the others in turn.
 ///
 /// Else the first line that fails, counted from 1, with its first fault: a byte that is not
 /// allowed, also in a comment (`NotAscii`); a first word that is no statement
