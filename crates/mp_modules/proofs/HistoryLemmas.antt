@@ -1,5 +1,5 @@
 -- Events over time.
-use Rattle.std.proofs.Common.{◌≡◌, ℕ, Bool, not, cond, List, [], ◌∷◌}
+use Rattle.std.proofs.Common.{◌≡◌, ℕ, ◌-◌, Bool, false, not, cond, List, [], ◌∷◌, ne_eqb, arith}
 use Rattle.std.specs.Prelude.{◌==◌}
 use Rattle.mp_modules.specs.declared.memory.Memory.{Memory}
 use Rattle.mp_modules.specs.declared.memory.Client.{Client}
@@ -25,3 +25,7 @@ holding x a b c served first second = record {
 pub changed : {before before' now now' : Memory} (port : ℕ) → before ≡ before' → now ≡ now' →
     change (output_of before port) (output_of now port) ≡ change (output_of before' port) (output_of now' port)
 changed port b n = cc
+
+-- an event at an output changes it, whatever its level
+pub flips : (level : ℕ) → (level == 1 - level) ≡ false
+flips level = ne_eqb level (1 - level) (λ same. omega arith)

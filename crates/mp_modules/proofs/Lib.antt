@@ -1,3 +1,5 @@
 pub mod WordLemmas
 pub mod HistoryLemmas
 pub mod ToggleLemmas
+pub mod CElementLemmas
+pub mod SelectLemmas

@@ -1,7 +1,7 @@
 //! What holds of every kind.
 
 ghost use Rattle.mp_modules.specs.Laws.{IsNamedByWord};
-ghost use Rattle.mp_modules.specs.EventLaws.{DotHasHalfUp, BlankHasHalfDown};
+ghost use Rattle.mp_modules.specs.EventLaws.{DotHasHalfUp, BlankHasHalfDown, ChangesWhereInputsAgree, HasEachEvent, TrueWhereDiamondIsOne, FalseWhereDiamondIsNot};
 
 /// A kind is named by its word.
 pub fn named_by_word()
@@ -12,4 +12,16 @@ pub fn named_by_word()
 pub fn toggle_steers_in_turn()
     ensures dot { DotHasHalfUp }
     ensures blank { BlankHasHalfDown }
+{}
+
+/// The output of a C changes only in a unit in which both inputs, behind their bubbles, have its new level.
+pub fn c_changes_where_inputs_agree()
+    ensures { ChangesWhereInputsAgree }
+{}
+
+/// The outputs of a SELECT together have had as many events as its input, each at the output that the diamond's level then chose.
+pub fn select_gives_each_event_once()
+    ensures each { HasEachEvent }
+    ensures on_true { TrueWhereDiamondIsOne }
+    ensures on_false { FalseWhereDiamondIsNot }
 {}
