@@ -1,7 +1,7 @@
 //! What holds of every kind.
 
 ghost use Rattle.mp_modules.specs.Laws.{IsNamedByWord};
-ghost use Rattle.mp_modules.specs.EventLaws.{DotHasHalfUp, BlankHasHalfDown, ChangesWhereInputsAgree, HasEachEvent, TrueWhereDiamondIsOne, FalseWhereDiamondIsNot};
+ghost use Rattle.mp_modules.specs.EventLaws.{DotHasHalfUp, BlankHasHalfDown, ChangesWhereInputsAgree, HasAgreedLevel, HasEachEvent, TrueWhereDiamondIsOne, FalseWhereDiamondIsNot, HasOnePending, ReturnsFirst, ReturnsSecond};
 
 /// A kind is named by its word.
 pub fn named_by_word()
@@ -14,9 +14,11 @@ pub fn toggle_steers_in_turn()
     ensures blank { BlankHasHalfDown }
 {}
 
-/// The output of a C changes only in a unit in which both inputs, behind their bubbles, have its new level.
+/// The output of a C changes only in a unit in which both inputs, behind their bubbles, have its new level, and where they have the same
+/// level it has that too.
 pub fn c_changes_where_inputs_agree()
-    ensures { ChangesWhereInputsAgree }
+    ensures changes { ChangesWhereInputsAgree }
+    ensures agreed { HasAgreedLevel }
 {}
 
 /// The outputs of a SELECT together have had as many events as its input, each at the output that the diamond's level then chose.
@@ -24,4 +26,12 @@ pub fn select_gives_each_event_once()
     ensures each { HasEachEvent }
     ensures on_true { TrueWhereDiamondIsOne }
     ensures on_false { FalseWhereDiamondIsNot }
+{}
+
+/// The request output of a CALL has had as many events as its done outputs together, and one more while a client is served; a client's
+/// done output has had at most as many as its request.
+pub fn call_serves_one_at_a_time()
+    ensures pending { HasOnePending }
+    ensures first { ReturnsFirst }
+    ensures second { ReturnsSecond }
 {}
