@@ -1,6 +1,6 @@
 -- CALL: it serves one client at a time.
-use Rattle.std.proofs.Common.{◌≡◌, ℕ, zero, suc, ◌+◌, ◌-◌, ◌≤◌, Bool, true, false, not, cond, List, refl, ap, ◌∙◌, arith}
-use Rattle.std.specs.Prelude.{◌==◌, ◌&&◌, slice_index}
+use Rattle.std.proofs.Common.{◌≡◌, ℕ, zero, suc, ◌+◌, ◌-◌, ◌≤◌, Bool, true, false, cond, List, refl, ap, ◌∙◌, arith}
+use Rattle.std.specs.Prelude.{◌&&◌, slice_index}
 use Rattle.mp_modules.specs.declared.core_module.CoreModule.TheVariants.{Call}
 use Rattle.mp_modules.specs.declared.memory.Memory.{Memory}
 use Rattle.mp_modules.specs.declared.memory.Client.{Client}
@@ -11,20 +11,13 @@ use Rattle.mp_modules.specs.Call.{ended, called}
 use Rattle.mp_modules.specs.Tables.{settle, step}
 use Rattle.mp_modules.specs.Quiet.{unchanged}
 use Rattle.mp_modules.specs.Histories.{state_at, events, input, output}
-use Rattle.mp_modules.specs.EventLaws.{HasOnePending, ReturnsFirst, ReturnsSecond}
-use Rattle.mp_modules.proofs.HistoryLemmas.{bit, change, changed, holding, flips}
+use Rattle.mp_modules.specs.EventLaws.{HasOnePending, ReturnsToAskers}
+use Rattle.mp_modules.proofs.HistoryLemmas.{bit, change, changed, event_at, flip, holding, same}
 use Rattle.mp_modules.proofs.ClientLemmas.{first, second, at_most_one}
 
 -- the state with these outputs, in which this client is served
 abbrev calling : List ℕ → ℕ → ℕ → ℕ → Client → Memory
 calling x r a b served = holding x r a b served false false
-
--- no event and one
-same : (level : ℕ) → change level level ≡ 0
-same level = ap bit (unchanged level)
-
-flip : (level : ℕ) → change level (1 - level) ≡ 1
-flip level = ap (λ t. bit (not t)) (flips level)
 
 not_and : (e : Bool) → (e && false) ≡ false
 not_and true = refl
@@ -44,8 +37,13 @@ ends true Nobody x r a b = record { new_a = a; new_b = b; still = Nobody; is = r
 ends true First x r a b = record { new_a = 1 - a; new_b = b; still = Nobody; is = refl; to_first = rw (flip a) refl; to_second = rw (same b) refl }
 ends true Second x r a b = record { new_a = a; new_b = 1 - b; still = Nobody; is = refl; to_first = rw (same a) refl; to_second = rw (flip b) refl }
 ends false served x r a b = record {
-  new_a = a; new_b = b; still = served; is = refl;
-  to_first = let none = same a in omega arith; to_second = let none = same b in omega arith }
+  new_a = a;
+  new_b = b;
+  still = served;
+  is = refl;
+  to_first = let none = same a in omega arith;
+  to_second = let none = same b in omega arith;
+}
 
 -- after the requests: the request output has an event where a client is served anew
 record Called (e1 e2 : Bool) (x : List ℕ) (r a b : ℕ) (served : Client) (now : Memory) : Type 0 where
@@ -57,7 +55,7 @@ record Called (e1 e2 : Bool) (x : List ℕ) (r a b : ℕ) (served : Client) (now
   of_second : second then_served ≤ second served + bit e2
 
 calls : (e1 e2 : Bool) (served : Client) (x : List ℕ) (r a b : ℕ) →
-  Called e1 e2 x r a b served (called Second e2 (called First e1 (calling x r a b served)))
+    Called e1 e2 x r a b served (called Second e2 (called First e1 (calling x r a b served)))
 calls true true Nobody x r a b = record { new_r = 1 - r; then_served = First; is = refl; request = rw (flip r) refl; of_first = omega arith; of_second = omega arith }
 calls true false Nobody x r a b = record { new_r = 1 - r; then_served = First; is = refl; request = rw (flip r) refl; of_first = omega arith; of_second = omega arith }
 calls false true Nobody x r a b = record { new_r = 1 - r; then_served = Second; is = refl; request = rw (flip r) refl; of_first = omega arith; of_second = omega arith }
@@ -78,9 +76,6 @@ record Serves (x : ℕ → List ℕ) (t : ℕ) : Type 0 where
 settled : (x : List ℕ) → settle Call x ≡ calling x 0 0 0 Nobody
 settled x = rw (unchanged (slice_index x 0), unchanged (slice_index x 1), unchanged (slice_index x 2)) refl
 
-abbrev event_at : (ℕ → List ℕ) → ℕ → ℕ → Bool
-event_at x port t = not (slice_index (x t) port == slice_index (x (suc t)) port)
-
 next : (x : ℕ → List ℕ) (t : ℕ) → Serves x t → Serves x (suc t)
 next x t s =
     let y = x (suc t) in
@@ -92,15 +87,27 @@ next x t s =
     let firsts = changed 1 s.is is in
     let seconds = changed 2 s.is is in
     record {
-      r = v.new_r; a = u.new_a; b = u.new_b; served = v.then_served; is = is;
+      r = v.new_r;
+      a = u.new_a;
+      b = u.new_b;
+      served = v.then_served;
+      is = is;
       pending = omega (arith, s.pending, u.to_first, u.to_second, v.request);
       of_first = omega (arith, s.of_first, u.to_first, v.of_first);
-      of_second = omega (arith, s.of_second, u.to_second, v.of_second) }
+      of_second = omega (arith, s.of_second, u.to_second, v.of_second);
+    }
 
 serves : (x : ℕ → List ℕ) (t : ℕ) → Serves x t
 serves x zero = record {
-  r = 0; a = 0; b = 0; served = Nobody; is = settled (x 0);
-  pending = refl; of_first = omega arith; of_second = omega arith }
+  r = 0;
+  a = 0;
+  b = 0;
+  served = Nobody;
+  is = settled (x 0);
+  pending = refl;
+  of_first = omega arith;
+  of_second = omega arith;
+}
 serves x (suc t) = next x t (serves x t)
 
 pub has_one_pending : HasOnePending
@@ -109,8 +116,5 @@ has_one_pending x t =
     let who = ap (λ (m : Memory). cond (is_free m.served) 0 1) s.is ∙ at_most_one s.served in
     omega (arith, s.pending, who)
 
-pub returns_first : ReturnsFirst
-returns_first x t = omega (arith, (serves x t).of_first)
-
-pub returns_second : ReturnsSecond
-returns_second x t = omega (arith, (serves x t).of_second)
+pub returns_to_askers : ReturnsToAskers
+returns_to_askers x t = (omega (arith, (serves x t).of_first), omega (arith, (serves x t).of_second))

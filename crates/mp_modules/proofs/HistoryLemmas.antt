@@ -1,8 +1,9 @@
 -- Events over time.
-use Rattle.std.proofs.Common.{◌≡◌, ℕ, ◌-◌, Bool, false, not, cond, List, [], ◌∷◌, ne_eqb, arith}
-use Rattle.std.specs.Prelude.{◌==◌}
+use Rattle.std.proofs.Common.{◌≡◌, ℕ, suc, ◌-◌, Bool, false, not, cond, List, [], ◌∷◌, ne_eqb, ap, arith}
+use Rattle.std.specs.Prelude.{◌==◌, slice_index}
 use Rattle.mp_modules.specs.declared.memory.Memory.{Memory}
 use Rattle.mp_modules.specs.declared.memory.Client.{Client}
+use Rattle.mp_modules.specs.Quiet.{unchanged}
 use Rattle.mp_modules.specs.Memories.{input_levels, output_of}
 
 abbrev pub bit : Bool → ℕ
@@ -27,5 +28,15 @@ pub changed : {before before' now now' : Memory} (port : ℕ) → before ≡ bef
 changed port b n = cc
 
 -- an event at an output changes it, whatever its level
-pub flips : (level : ℕ) → (level == 1 - level) ≡ false
+flips : (level : ℕ) → (level == 1 - level) ≡ false
 flips level = ne_eqb level (1 - level) (λ same. omega arith)
+
+pub same : (level : ℕ) → change level level ≡ 0
+same level = ap bit (unchanged level)
+
+pub flip : (level : ℕ) → change level (1 - level) ≡ 1
+flip level = ap (λ t. bit (not t)) (flips level)
+
+-- an event of an input in the unit from a time on
+abbrev pub event_at : (ℕ → List ℕ) → ℕ → ℕ → Bool
+event_at x port t = not (slice_index (x t) port == slice_index (x (suc t)) port)

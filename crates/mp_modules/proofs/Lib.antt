@@ -5,3 +5,5 @@ pub mod CElementLemmas
 pub mod SelectLemmas
 pub mod ClientLemmas
 pub mod CallLemmas
+pub mod ArbiterUnits
+pub mod ArbiterRuns

@@ -10,7 +10,7 @@ use Rattle.mp_modules.specs.Tables.{settle, step}
 use Rattle.mp_modules.specs.Quiet.{unchanged}
 use Rattle.mp_modules.specs.Histories.{state_at, output}
 use Rattle.mp_modules.specs.EventLaws.{HasEachEvent, TrueWhereDiamondIsOne, FalseWhereDiamondIsNot}
-use Rattle.mp_modules.proofs.HistoryLemmas.{bit, change, changed, holding, flips}
+use Rattle.mp_modules.proofs.HistoryLemmas.{bit, change, changed, event_at, flip, holding, same}
 
 -- the state with these outputs
 abbrev showing : List ℕ → ℕ → ℕ → Memory
@@ -26,9 +26,9 @@ record Steered (event diamond : Bool) (a b : ℕ) (y : List ℕ) (now : Memory) 
 
 steered : (event diamond : Bool) (a b : ℕ) (x y : List ℕ) →
     Steered event diamond a b y (seen y (cond event (flipped (cond diamond 0 1) (showing x a b)) (showing x a b)))
-steered true true a b x y = record { new_a = 1 - a; new_b = b; is = refl; on_true = ap (λ t. bit (not t)) (flips a); on_false = ap bit (unchanged b) }
-steered true false a b x y = record { new_a = a; new_b = 1 - b; is = refl; on_true = ap bit (unchanged a); on_false = ap (λ t. bit (not t)) (flips b) }
-steered false diamond a b x y = record { new_a = a; new_b = b; is = refl; on_true = ap bit (unchanged a); on_false = ap bit (unchanged b) }
+steered true true a b x y = record { new_a = 1 - a; new_b = b; is = refl; on_true = flip a; on_false = same b }
+steered true false a b x y = record { new_a = a; new_b = 1 - b; is = refl; on_true = same a; on_false = flip b }
+steered false diamond a b x y = record { new_a = a; new_b = b; is = refl; on_true = same a; on_false = same b }
 
 record Shows (x : ℕ → List ℕ) (t : ℕ) : Type 0 where
   a : ℕ
@@ -38,9 +38,6 @@ record Shows (x : ℕ → List ℕ) (t : ℕ) : Type 0 where
 settled : (x : List ℕ) → settle Select x ≡ showing x 0 0
 settled x = rw (unchanged (slice_index x 0)) refl
 
-abbrev event_at : (ℕ → List ℕ) → ℕ → Bool
-event_at x t = not (slice_index (x t) 0 == slice_index (x (suc t)) 0)
-
 abbrev diamond_at : (ℕ → List ℕ) → ℕ → Bool
 diamond_at x t = slice_index (x t) 1 == 1
 
@@ -48,20 +45,20 @@ shows : (x : ℕ → List ℕ) (t : ℕ) → Shows x t
 shows x zero = record { a = 0; b = 0; is = settled (x 0) }
 shows x (suc t) =
     let r = shows x t in
-    let u = steered (event_at x t) (diamond_at x (suc t)) r.a r.b (x t) (x (suc t)) in
+    let u = steered (event_at x 0 t) (diamond_at x (suc t)) r.a r.b (x t) (x (suc t)) in
     record { a = u.new_a; b = u.new_b; is = ap (λ (m : Memory). step Select m (x (suc t))) r.is ∙ u.is }
 
 -- the output true has the input's event where the diamond is 1, and the output false has it elsewhere
-to_true : (x : ℕ → List ℕ) (t : ℕ) → change (output Select x 0 t) (output Select x 0 (suc t)) ≡ bit (event_at x t && diamond_at x (suc t))
+to_true : (x : ℕ → List ℕ) (t : ℕ) → change (output Select x 0 t) (output Select x 0 (suc t)) ≡ bit (event_at x 0 t && diamond_at x (suc t))
 to_true x t =
     let r = shows x t in
-    let u = steered (event_at x t) (diamond_at x (suc t)) r.a r.b (x t) (x (suc t)) in
+    let u = steered (event_at x 0 t) (diamond_at x (suc t)) r.a r.b (x t) (x (suc t)) in
     changed 0 r.is (ap (λ (m : Memory). step Select m (x (suc t))) r.is ∙ u.is) ∙ u.on_true
 
-to_false : (x : ℕ → List ℕ) (t : ℕ) → change (output Select x 1 t) (output Select x 1 (suc t)) ≡ bit (event_at x t && not (diamond_at x (suc t)))
+to_false : (x : ℕ → List ℕ) (t : ℕ) → change (output Select x 1 t) (output Select x 1 (suc t)) ≡ bit (event_at x 0 t && not (diamond_at x (suc t)))
 to_false x t =
     let r = shows x t in
-    let u = steered (event_at x t) (diamond_at x (suc t)) r.a r.b (x t) (x (suc t)) in
+    let u = steered (event_at x 0 t) (diamond_at x (suc t)) r.a r.b (x t) (x (suc t)) in
     changed 1 r.is (ap (λ (m : Memory). step Select m (x (suc t))) r.is ∙ u.is) ∙ u.on_false
 
 one_of : (event diamond : Bool) → bit (event && diamond) + bit (event && not diamond) ≡ bit event
@@ -75,7 +72,7 @@ has_each_event x (suc t) =
     let before = has_each_event x t in
     let a = to_true x t in
     let b = to_false x t in
-    let one = one_of (event_at x t) (diamond_at x (suc t)) in
+    let one = one_of (event_at x 0 t) (diamond_at x (suc t)) in
     omega arith
 
 -- a bit that is another's and a third's has them both
@@ -88,9 +85,9 @@ both_of false event side same is = cc
 pub true_where_one : TrueWhereDiamondIsOne
 true_where_one x zero event = cc
 true_where_one x (suc t) event =
-    eqb-true _ _ (both_of (not (output Select x 0 t == output Select x 0 (suc t))) (event_at x t) (diamond_at x (suc t)) (to_true x t) event)
+    eqb-true _ _ (both_of (not (output Select x 0 t == output Select x 0 (suc t))) (event_at x 0 t) (diamond_at x (suc t)) (to_true x t) event)
 
 pub false_where_not : FalseWhereDiamondIsNot
 false_where_not x zero event = cc
 false_where_not x (suc t) event =
-    eqb-false _ _ (not-true _ (both_of (not (output Select x 1 t == output Select x 1 (suc t))) (event_at x t) (not (diamond_at x (suc t))) (to_false x t) event))
+    eqb-false _ _ (not-true _ (both_of (not (output Select x 1 t == output Select x 1 (suc t))) (event_at x 0 t) (not (diamond_at x (suc t))) (to_false x t) event))

@@ -10,7 +10,7 @@ use Rattle.mp_modules.specs.Toggle.{turn}
 use Rattle.mp_modules.specs.Quiet.{unchanged}
 use Rattle.mp_modules.specs.Histories.{state_at, events, input, output}
 use Rattle.mp_modules.specs.EventLaws.{DotHasHalfUp, BlankHasHalfDown}
-use Rattle.mp_modules.proofs.HistoryLemmas.{bit, change, changed, holding}
+use Rattle.mp_modules.proofs.HistoryLemmas.{bit, change, changed, event_at, holding}
 
 -- the state with these outputs
 abbrev pointing : List ℕ → Bool → Bool → Memory
@@ -53,7 +53,7 @@ settled x = rw (unchanged (slice_index x 0)) refl
 next : (x : ℕ → List ℕ) (t : ℕ) → InTurn x t → InTurn x (suc t)
 next x t r =
     let y = x (suc t) in
-    let u = turned (not (slice_index (x t) 0 == slice_index y 0)) r.dot r.blank (x t) y in
+    let u = turned (event_at x 0 t) r.dot r.blank (x t) y in
     let is : state_at Toggle x (suc t) ≡ pointing y u.new_dot u.new_blank = ap (λ (m : Memory). step Toggle m y) r.is ∙ u.is in
     let dots = changed 0 r.is is in
     let blanks = changed 1 r.is is in

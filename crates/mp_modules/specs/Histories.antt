@@ -1,6 +1,7 @@
 -- A module over time: its states, the levels of its ports, and the events of a level.
 use Rattle.std.specs.Prelude.{ℕ, zero, suc, ◌+◌, Bool, false, not, List, slice_index, ◌==◌, if◌then◌else◌}
 use Rattle.mp_modules.specs.declared.core_module.CoreModule.{CoreModule}
+use Rattle.mp_modules.specs.declared.memory.Client.{Client}
 use Rattle.mp_modules.specs.declared.memory.Memory.{Memory}
 use Rattle.mp_modules.specs.Memories.{output_of}
 use Rattle.mp_modules.specs.Tables.{settle, step}
@@ -29,3 +30,7 @@ input x port t = slice_index (x t) port
 
 abbrev pub output : CoreModule → (ℕ → List ℕ) → ℕ → ℕ → ℕ
 output part x port t = output_of (state_at part x t) port
+
+-- whom the module serves at each time: of an ARBITER the owner
+abbrev pub served : CoreModule → (ℕ → List ℕ) → ℕ → Client
+served part x t = (state_at part x t).served

@@ -1,7 +1,7 @@
 //! What holds of every kind.
 
 ghost use Rattle.mp_modules.specs.Laws.{IsNamedByWord};
-ghost use Rattle.mp_modules.specs.EventLaws.{DotHasHalfUp, BlankHasHalfDown, ChangesWhereInputsAgree, HasAgreedLevel, HasEachEvent, TrueWhereDiamondIsOne, FalseWhereDiamondIsNot, HasOnePending, ReturnsFirst, ReturnsSecond};
+ghost use Rattle.mp_modules.specs.EventLaws.{DotHasHalfUp, BlankHasHalfDown, ChangesWhereInputsAgree, HasAgreedLevel, HasEachEvent, TrueWhereDiamondIsOne, FalseWhereDiamondIsNot, HasOnePending, ReturnsToAskers, GrantsOneAUnit, GrantsWhileFree, OwnsFromGrant, EndsEachGrant, AsksEachGrant};
 
 /// A kind is named by its word.
 pub fn named_by_word()
@@ -32,6 +32,15 @@ pub fn select_gives_each_event_once()
 /// done output has had at most as many as its request.
 pub fn call_serves_one_at_a_time()
     ensures pending { HasOnePending }
-    ensures first { ReturnsFirst }
-    ensures second { ReturnsSecond }
+    ensures asked { ReturnsToAskers }
+{}
+
+/// An ARBITER grants at most one port in a unit, and only where nobody owned before the unit or the owner's done event comes in it; the
+/// port owns then. It has had at most as many grants as requests, and as done events, but for one while it owns.
+pub fn arbiter_grants_one_at_a_time()
+    ensures one { GrantsOneAUnit }
+    ensures free { GrantsWhileFree }
+    ensures owns { OwnsFromGrant }
+    ensures ended { EndsEachGrant }
+    ensures asked { AsksEachGrant }
 {}
