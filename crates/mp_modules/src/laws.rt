@@ -1,11 +1,16 @@
 //! What holds of every kind.
 
-ghost use Rattle.mp_modules.specs.Laws.{IsNamedByWord};
+ghost use Rattle.mp_modules.specs.Laws.{IsNamedByWord, IsNamedByNoOther};
 ghost use Rattle.mp_modules.specs.EventLaws.{DotHasHalfUp, BlankHasHalfDown, ChangesWhereInputsAgree, HasAgreedLevel, HasEachEvent, TrueWhereDiamondIsOne, FalseWhereDiamondIsNot, HasOnePending, ReturnsToAskers, GrantsOneAUnit, GrantsWhileFree, OwnsFromGrant, EndsEachGrant, AsksEachGrant};
 
 /// A kind is named by its word.
 pub fn named_by_word()
     ensures { IsNamedByWord }
+{}
+
+/// A word that names a kind is the kind's word.
+pub fn named_by_no_other()
+    ensures { IsNamedByNoOther }
 {}
 
 /// Of the events of a TOGGLE's input dot has had half, rounded up, and blank half, rounded down.
