@@ -1,1 +1,9 @@
 pub mod WordLemmas
+pub mod HistoryLemmas
+pub mod ToggleLemmas
+pub mod CElementLemmas
+pub mod SelectLemmas
+pub mod ClientLemmas
+pub mod CallLemmas
+pub mod ArbiterUnits
+pub mod ArbiterRuns

@@ -1,5 +1,6 @@
 pub mod Widths
 pub mod Reg
+pub mod RegLaws
 pub mod AddC
 pub mod XorC
 pub mod Sum
