@@ -2,6 +2,7 @@
 #![tactic(auto)]
 
 mod keeper;
+mod limits;
 mod numbered;
 mod options;
 mod play_command;

@@ -1,6 +1,8 @@
 //! How a run is made.
 ghost use Rattle.std.specs.Prelude.{◌≡◌};
 
+use crate::limits::{MAX_LEAST, MAX_WORKERS};
+
 /// The numbers that a run is given. Any number may be asked for.
 #[derive(Clone, Copy, Debug, PartialEq, Eq)]
 pub struct Options {
@@ -20,6 +22,9 @@ impl Options {
     pub fn has_valid_crew(&self) -> bool
         ensures { result ≡ has_valid_crew self.now }
     {
-        1 <= self.workers && self.workers <= 16 && 1 <= self.least && self.least <= 4096
+        1 <= self.workers
+            && self.workers <= MAX_WORKERS
+            && 1 <= self.least
+            && self.least <= MAX_LEAST
     }
 }

@@ -4,8 +4,8 @@ ghost use Rattle.mp_commands.specs.declared.run_fault.RunFault.TheVariants.{OutO
 ghost use Rattle.mp_commands.specs.RunFaults.{status_of, line_of, text_line, fault_of_text, fault_of_take};
 
 use crate::numbered::push_numbered;
-use mp_model::TakeError;
 use mp_netlist::EditError;
+use mp_streams::TakeError;
 use mp_text::{TextCode, TextError};
 use std::alloc::{AllocError, AllocFailed, Global};
 use thiserror::Error;

@@ -9,4 +9,3 @@ pub mod TracksLemmas
 pub mod CellsLemmas
 pub mod QuietLemmas
 pub mod EndsLemmas
-pub mod StreamLemmas

@@ -6,6 +6,3 @@ pub mod Tracks
 pub mod Cells
 pub mod Evaluations
 pub mod Examples
-pub mod StreamBytes
-pub mod StreamFaults
-pub mod TakeErrors

@@ -15,7 +15,7 @@ pub struct ReadSource<R> {
 }
 
 impl<R> Model for ReadSource<R> {
-    ghost use Rattle.mp_model.specs.StreamFaults.{Counted};
+    ghost use Rattle.mp_streams.specs.StreamFaults.{Counted};
 
     ghost Value = { Counted R };
 

@@ -1,7 +1,7 @@
 //! What gives bytes.
 ghost use Rattle.std.specs.Prelude.{◌≡◌, ◌-◌, ◌^◌, ◌<◌, ◌≤◌, ℕ, List, Option, length, take, IfOk, MatchResult};
 ghost use Rattle.std.specs.Io.KnownBytes.{Consumes, Keeps, IsAtEnd};
-ghost use Rattle.mp_model.specs.StreamFaults.{counted};
+ghost use Rattle.mp_streams.specs.StreamFaults.{counted};
 
 use crate::failed::Failed;
 

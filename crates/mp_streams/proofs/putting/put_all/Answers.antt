@@ -1,8 +1,8 @@
 use Rattle.std.proofs.Common.{rules}
 use Rattle.std.proofs.KnownBytes.{Appends-trans}
-use Rattle.mp_model.proofs.StreamLemmas.{take-drop-all}
+use Rattle.mp_streams.proofs.StreamLemmas.{take-drop-all}
 use Rattle.std.proofs.Math.Seq.{take-add}
-use Rattle.mp_model.proofs.putting.put_all.Goals as goal
+use Rattle.mp_streams.proofs.putting.put_all.Goals as goal
 
 pub loop-done-preserved : goal.loop-done-preserved
 loop-done-preserved g c = record {

@@ -15,7 +15,7 @@ pub struct WriteSink<W> {
 }
 
 impl<W> Model for WriteSink<W> {
-    ghost use Rattle.mp_model.specs.StreamFaults.{Counted};
+    ghost use Rattle.mp_streams.specs.StreamFaults.{Counted};
 
     ghost Value = { Counted W };
 

@@ -1,5 +1,5 @@
 //! Why a source was not read.
-ghost use Rattle.mp_model.specs.declared.take_error.TakeError.TheVariants as errors;
+ghost use Rattle.mp_streams.specs.declared.take_error.TakeError.TheVariants as errors;
 ghost use Rattle.std.specs.Prelude.{◌≡◌};
 
 use crate::failed::Failed;

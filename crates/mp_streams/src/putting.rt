@@ -1,8 +1,8 @@
 //! All of some bytes to a sink.
 ghost use Rattle.std.specs.Prelude.{◌≡◌, ◌-◌, ◌^◌, ◌<◌, OnOk, OnErr};
 ghost use Rattle.std.specs.Io.KnownBytes.{Appends};
-ghost use Rattle.mp_model.specs.StreamBytes.{AppendsPrefix};
-ghost use Rattle.mp_model.specs.StreamFaults.{counted};
+ghost use Rattle.mp_streams.specs.StreamBytes.{AppendsPrefix};
+ghost use Rattle.mp_streams.specs.StreamFaults.{counted};
 
 use crate::failed::Failed;
 use crate::sink::Sink;

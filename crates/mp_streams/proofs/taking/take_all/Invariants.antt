@@ -1,6 +1,6 @@
 use Rattle.std.proofs.Common.{◌≡◌, ◌-◌, ◌≤◌, length}
 use Rattle.std.specs.Io.KnownBytes.{Consumes}
-use Rattle.mp_model.proofs.taking.take_all.Given as goal
+use Rattle.mp_streams.proofs.taking.take_all.Given as goal
 
 -- the text so far was left at first, and no fault was met
 abbrev pub invariant-loop-room : goal.invariant-loop-room

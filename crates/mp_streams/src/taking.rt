@@ -1,15 +1,15 @@
 //! All that a source has.
 ghost use Rattle.std.specs.Prelude.{◌≡◌, ◌-◌, ◌^◌, ◌<◌, ◌≤◌, length, take, IfOk, IfSome, OnErr};
 ghost use Rattle.std.specs.Io.KnownBytes.{Consumes, IsAtEnd};
-ghost use Rattle.mp_model.specs.StreamBytes.{ConsumesSome};
-ghost use Rattle.mp_model.specs.TakeErrors.{counted_take};
+ghost use Rattle.mp_streams.specs.StreamBytes.{ConsumesUpTo};
+ghost use Rattle.mp_streams.specs.TakeErrors.{counted_take};
 
 use crate::source::Source;
 use crate::take_error::TakeError;
 use std::alloc::Global;
 
 /// Takes all that is left, but no more bytes than the limit. `Failed` comes with the first fault of
-/// the source, `OutOfMemory` where the memory for the bytes is refused; some bytes may be taken then.
+/// the source, `OutOfMemory` where the memory for the bytes is refused; some bytes, no more than the limit, may be taken then.
 #[tactic(auto, using(crate::proofs::StreamLemmas::taken_front))]
 pub fn take_all<S: Source>(
     alloc: Global,
@@ -21,7 +21,7 @@ pub fn take_all<S: Source>(
     ensures limit { IfOk result (λ text. length text.items ≤ limit) }
     ensures end { IfOk result (λ text. length text.items < limit → IsAtEnd (S.left source.new)) }
     ensures front { IfOk result (λ text. IfSome (S.left source.old) (λ bytes. text.items ≡ take limit bytes)) }
-    ensures err { OnErr result (ConsumesSome (S.left source.old) (S.left source.new)) }
+    ensures err { OnErr result (ConsumesUpTo limit (S.left source.old) (S.left source.new)) }
     ensures faults { S.fault_count source.new ≡ counted_take result (S.fault_count source.old) }
 {
     let mut text = Vec::new(alloc);

@@ -1,6 +1,6 @@
 use Rattle.std.proofs.Common.{◌≡◌, ◌-◌, ◌≤◌, length, take}
 use Rattle.std.specs.Io.KnownBytes.{Appends}
-use Rattle.mp_model.proofs.putting.put_all.Given as goal
+use Rattle.mp_streams.proofs.putting.put_all.Given as goal
 
 -- what was done so far was taken, with no fault
 abbrev pub invariant-loop-done : goal.invariant-loop-done
