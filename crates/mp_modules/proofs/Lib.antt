@@ -7,3 +7,4 @@ pub mod ClientLemmas
 pub mod CallLemmas
 pub mod ArbiterUnits
 pub mod ArbiterRuns
+pub mod KindLemmas

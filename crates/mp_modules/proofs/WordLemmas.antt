@@ -11,18 +11,7 @@ use Rattle.mp_modules.specs.Kinds.{kind_named, word_of}
 pub by_word : IsNamedByWord
 unfolding kind_named
 by_word kinds.Buf = refl
-by_word kinds.Not = refl
-by_word kinds.Xor = refl
-by_word kinds.C = refl
-by_word kinds.Toggle = refl
-by_word kinds.Select = refl
-by_word kinds.Call = refl
-by_word kinds.Arbiter = refl
-by_word kinds.Reg = refl
-by_word kinds.AddC = refl
-by_word kinds.XorC = refl
-by_word kinds.Sum = refl
-by_word kinds.Bit = refl
+by_word _ = refl
 
 -- where the first word of a list of cases is tried: it is the kind's, or a later one is
 first_named : (first : Kind) (word : List ℕ) (kind : Kind) {rest : Option Kind} → (rest ≡ Some kind → word ≡ word_of kind) →
