@@ -6,8 +6,6 @@ mod limits;
 mod numbered;
 mod options;
 mod play_command;
-#[cfg(test)]
-mod play_tests;
 mod put_text;
 mod put_waves;
 mod replies;

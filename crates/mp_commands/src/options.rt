@@ -6,11 +6,11 @@ use crate::limits::{MAX_LEAST, MAX_WORKERS};
 /// The numbers that a run is given. Any number may be asked for.
 #[derive(Clone, Copy, Debug, PartialEq, Eq)]
 pub struct Options {
-    /// How many workers there are.
+    /// How many workers there are. No run calls on them yet.
     pub workers: u32,
-    /// With fewer tasks than these the workers are not called on.
+    /// With fewer tasks than these the workers are not called on. It has no effect yet.
     pub least: u32,
-    /// How many viewers a desk has.
+    /// How many viewers there are. No run looks at them yet.
     pub viewers: u32,
 }
 

@@ -16,7 +16,7 @@ pub enum RunFault {
     /// The netlist's text is not read.
     #[error("{0}")]
     Text(TextError),
-    /// A number of workers, tasks or viewers is out of its limits.
+    /// A number of workers or of tasks is out of its limits.
     #[error("bad count")]
     BadCount,
     /// A read of the input failed.
@@ -28,7 +28,7 @@ pub enum RunFault {
     /// Memory was wanting.
     #[error("out of memory")]
     OutOfMemory,
-    /// A viewer of a desk found no place.
+    /// A viewer found no place. No run ends so yet, since none has viewers.
     #[error("no place")]
     NoPlace,
 }

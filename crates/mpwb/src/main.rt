@@ -3,8 +3,6 @@
 
 mod command_line;
 mod request;
-#[cfg(test)]
-mod tests;
 
 use command_line::{read_words, tell};
 use mp_commands::{RunFault, exit_status, fault_line, run_play, run_waves};
