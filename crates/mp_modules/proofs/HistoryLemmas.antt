@@ -1,6 +1,7 @@
 -- Events over time.
-use Rattle.std.proofs.Common.{◌≡◌, ℕ, suc, ◌-◌, Bool, false, not, cond, List, [], ◌∷◌, ne_eqb, ap, arith}
-use Rattle.std.specs.Prelude.{◌==◌, slice_index}
+use Rattle.std.proofs.Common.{◌≡◌, ℕ, suc, ◌-◌, ◌≤◌, Bool, true, false, not, cond, List, [], ◌∷◌, ne_eqb, refl, ap, arith}
+use Rattle.std.specs.Prelude.{◌==◌, ◌&&◌, ◌||◌, slice_index}
+use Rattle.std.proofs.lemmas.Bool.{both_ways}
 use Rattle.mp_modules.specs.declared.memory.Memory.{Memory}
 use Rattle.mp_modules.specs.declared.memory.Client.{Client}
 use Rattle.mp_modules.specs.Quiet.{unchanged}
@@ -40,3 +41,12 @@ flip level = ap (λ t. bit (not t)) (flips level)
 -- an event of an input in the unit from a time on
 abbrev pub event_at : (ℕ → List ℕ) → ℕ → ℕ → Bool
 event_at x port t = not (slice_index (x t) port == slice_index (x (suc t)) port)
+
+pub either : (p q : Bool) → (p || q) ≡ false → (p ≡ false) × (q ≡ false)
+either true q none = absurd (both_ways _ none refl)
+either false q none = (refl, none)
+
+pub and_few : (p q : Bool) → bit (p && q) ≤ bit p
+and_few true true = omega arith
+and_few true false = omega arith
+and_few false q = omega arith

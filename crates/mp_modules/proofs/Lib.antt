@@ -4,7 +4,8 @@ pub mod ToggleLemmas
 pub mod CElementLemmas
 pub mod SelectLemmas
 pub mod ClientLemmas
-pub mod CallLemmas
+pub mod CallUnits
+pub mod CallRuns
 pub mod ArbiterUnits
 pub mod ArbiterRuns
 pub mod KindLemmas

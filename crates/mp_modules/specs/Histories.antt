@@ -1,10 +1,11 @@
 -- A module over time: its states, the levels of its ports, and the events of a level.
-use Rattle.std.specs.Prelude.{ℕ, zero, suc, ◌+◌, Bool, false, not, List, slice_index, ◌==◌, if◌then◌else◌}
+use Rattle.std.specs.Prelude.{◌≡◌, ◌<◌, ℕ, zero, suc, ◌+◌, Bool, false, not, List, slice_index, ◌==◌, if◌then◌else◌}
 use Rattle.mp_modules.specs.declared.core_module.CoreModule.{CoreModule}
 use Rattle.mp_modules.specs.declared.memory.Client.{Client}
 use Rattle.mp_modules.specs.declared.memory.Memory.{Memory}
 use Rattle.mp_modules.specs.Memories.{output_of}
-use Rattle.mp_modules.specs.Tables.{settle, step}
+use Rattle.mp_modules.specs.Findings.{no_findings}
+use Rattle.mp_modules.specs.Tables.{settle, step, found}
 
 -- the state at each time, settled at time 0 and then a step a unit, where `x t` are the levels at the inputs at time `t`
 abbrev pub run : (List ℕ → Memory) → (Memory → List ℕ → Memory) → (ℕ → List ℕ) → ℕ → Memory
@@ -34,3 +35,7 @@ output part x port t = output_of (state_at part x t) port
 -- whom the module serves at each time: of an ARBITER the owner
 abbrev pub served : CoreModule → (ℕ → List ℕ) → ℕ → Client
 served part x t = (state_at part x t).served
+
+-- nothing was found at the module up to a time
+abbrev pub FindsNothing : CoreModule → (ℕ → List ℕ) → ℕ → Type 0
+FindsNothing part x t = (u : ℕ) → u < t → found part (state_at part x u) (x (suc u)) ≡ no_findings

@@ -1,7 +1,7 @@
 //! What holds of every kind.
 
 ghost use Rattle.mp_modules.specs.Laws.{IsNamedByWord, IsNamedByNoOther};
-ghost use Rattle.mp_modules.specs.EventLaws.{DotHasHalfUp, BlankHasHalfDown, ChangesWhereInputsAgree, HasAgreedLevel, HasEachEvent, TrueWhereDiamondIsOne, FalseWhereDiamondIsNot, HasOnePending, ReturnsToAskers, GrantsOneAUnit, GrantsWhileFree, OwnsFromGrant, EndsEachGrant, AsksEachGrant};
+ghost use Rattle.mp_modules.specs.EventLaws.{DotHasHalfUp, BlankHasHalfDown, ChangesWhereInputsAgree, HasAgreedLevel, HasEachEvent, TrueWhereDiamondIsOne, FalseWhereDiamondIsNot, HasOnePending, ReturnsToAskers, ServesEachRequest, ReturnsEachDone, GrantsOneAUnit, GrantsWhileFree, OwnsFromGrant, EndsEachGrant, AsksEachGrant, GrantsEachRequest, EndsEachGrantOnce, NobodyWaitsWhileFree};
 
 /// A kind is named by its word.
 pub fn named_by_word()
@@ -40,6 +40,13 @@ pub fn call_serves_one_at_a_time()
     ensures asked { ReturnsToAskers }
 {}
 
+/// Where nothing is found at a CALL, a client's requests are its done events and one more while it is served, and each event of the done
+/// input has come to one of them.
+pub fn call_loses_no_event()
+    ensures requests { ServesEachRequest }
+    ensures dones { ReturnsEachDone }
+{}
+
 /// An ARBITER grants at most one port in a unit, and only where nobody owned before the unit or the owner's done event comes in it; the
 /// port owns then. It has had at most as many grants as requests, and as done events, but for one while it owns.
 pub fn arbiter_grants_one_at_a_time()
@@ -48,4 +55,12 @@ pub fn arbiter_grants_one_at_a_time()
     ensures owns { OwnsFromGrant }
     ensures ended { EndsEachGrant }
     ensures asked { AsksEachGrant }
+{}
+
+/// Where nothing is found at an ARBITER, a port's requests are its grants and one more while it waits, and its grants are its done events
+/// and one more while it owns. Nobody waits while nobody owns.
+pub fn arbiter_loses_no_event()
+    ensures requests { GrantsEachRequest }
+    ensures dones { EndsEachGrantOnce }
+    ensures waits { NobodyWaitsWhileFree }
 {}
