@@ -59,7 +59,7 @@ times_set n ok w r at = by r.stimulus (ok.wires_ok w r at).stimulus
     by (Some changes) valid = stimulus_times n.horizon r.width 0 changes valid
 
 -- a stimulus can be held
-pub stimulus_held : (horizon width : ℕ) (stimulus : Option (List (ℕ × ℕ))) → horizon ≤ 65536 → IfSet horizon width stimulus → IfSome stimulus (AreTimesIn 1 (2 ^ 32 - 1))
+pub stimulus_held : (horizon width : ℕ) (stimulus : Option (List (ℕ × ℕ))) → horizon ≤ 1048576 → IfSet horizon width stimulus → IfSome stimulus (AreTimesIn 1 (2 ^ 32 - 1))
 stimulus_held horizon width None low valid = tt
 stimulus_held horizon width (Some changes) low valid = AreTimesIn-longer 1 horizon (2 ^ 32 - 1) changes (omega arith) (stimulus_times horizon width 0 changes valid)
 

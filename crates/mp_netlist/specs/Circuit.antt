@@ -104,7 +104,7 @@ pub record HasNames (n : Circuit) : Type 0 where
 -- what holds of every netlist
 pub record IsCircuit (n : Circuit) : Type 0 where
   pub horizon_low : 1 ≤ n.horizon
-  pub horizon_high : n.horizon ≤ 65536
+  pub horizon_high : n.horizon ≤ 1048576
   pub wires_ok : (w : ℕ) (r : WireRecord) → wire_at n w ≡ Some r → IsWire n.horizon r
   pub modules_ok : (m : ℕ) (r : ModuleRecord) → module_at n m ≡ Some r → IsModule n r
   pub bundles_ok : (b : ℕ) (r : BundleRecord) → bundle_at n b ≡ Some r → IsBundle n r

@@ -17,7 +17,7 @@ use std::alloc::Global;
 use std::marker::Model;
 
 /// The longest time that a netlist runs for, in units.
-pub const MAX_HORIZON: u64 = 65536;
+pub const MAX_HORIZON: u64 = 1048576;
 
 /// How many wires may ever be added to a netlist.
 pub const MAX_WIRES: usize = 8192;
@@ -64,10 +64,10 @@ impl Netlist {
     ghost use Rattle.mp_netlist.specs.declared.new_error.NewError.TheVariants.{BadHorizon};
     ghost use Rattle.mp_netlist.specs.Circuit.{IsCircuit, IsWire, IsModule, IsBundle, empty_circuit, wire_at, module_at, bundle_at, wire_named, module_named, bundle_named};
 
-    /// A netlist without records that runs for `horizon` units: refused as `BadHorizon` exactly where they are not 1 to 65,536.
+    /// A netlist without records that runs for `horizon` units: refused as `BadHorizon` exactly where they are not 1 to 1,048,576.
     pub fn empty(alloc: Global, horizon: u64) -> Result<Netlist, NewError>
         ensures ok { IfOk result (λ netlist. netlist ≡ empty_circuit horizon) }
-        ensures allowed { IsOk result ↔ ((1 ≤ horizon) × (horizon ≤ 65536)) }
+        ensures allowed { IsOk result ↔ ((1 ≤ horizon) × (horizon ≤ 1048576)) }
         ensures refused { IfErr result (λ error. error ≡ BadHorizon) }
     {
         if horizon == 0 || horizon > MAX_HORIZON {
@@ -88,7 +88,7 @@ impl Netlist {
     pub fn horizon(&self) -> u32
         ensures value { result ≡ self.now.horizon }
         ensures low { 1 ≤ result }
-        ensures high { result ≤ 65536 }
+        ensures high { result ≤ 1048576 }
         ensures form { IsCircuit self.now }
     {
         self.horizon

@@ -359,8 +359,8 @@ fn new_horizon(alloc: Global, horizon: u64) -> Result<u32, NewError> {
 fn horizons(rt: HostRuntime) {
     let alloc = rt.alloc();
     assert_eq!(rt; new_horizon(alloc, 0), Err(NewError::BadHorizon));
-    assert_eq!(rt; new_horizon(alloc, 65_537), Err(NewError::BadHorizon));
-    assert_eq!(rt; new_horizon(alloc, 65_536), Ok(65_536));
+    assert_eq!(rt; new_horizon(alloc, 1_048_577), Err(NewError::BadHorizon));
+    assert_eq!(rt; new_horizon(alloc, 1_048_576), Ok(1_048_576));
     assert_eq!(rt; NewError::BadHorizon.number(), 1);
     assert_eq!(rt; NewError::OutOfMemory.number(), 2);
 }
