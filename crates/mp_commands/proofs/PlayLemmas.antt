@@ -5,6 +5,7 @@ use Rattle.std.proofs.lemmas.Bool.{cases_lt, lt-leb, le-leb}
 use Rattle.std.proofs.lemmas.List.{append-nil, take_all, length-take-le}
 use Rattle.mp_streams.specs.StreamBytes.{AppendsPrefix}
 use Rattle.mp_text.specs.declared.text_code.TextCode.TheVariants as texts
+use Rattle.mp_text.specs.declared.text_state.TextState.TheVariants.{Fresh}
 use Rattle.mp_words.specs.Lines.{lines_of}
 use Rattle.mp_text.specs.Texts.{text_at, after_lines}
 use Rattle.mp_words.specs.Divisions.{first_part, later_parts}
@@ -76,7 +77,7 @@ first_netlist-long input long = rw (lt-leb (length input) max_input long) refl
 pub first_netlist-of : (input front : List ℕ) → length input ≤ max_input → length front ≤ length input → lines_of front ≡ first_part (lines_of input) → first_netlist input ≡ text_at front
 unfolding first_netlist text_at
 first_netlist-of input front within short same =
-    rw (le-leb (length input) max_input within, le-leb (length front) max_input (omega arith)) (ap (λ lines. after_lines 0 None lines) (sym same))
+    rw (le-leb (length input) max_input within, le-leb (length front) max_input (omega arith)) (ap (λ lines. after_lines 0 Fresh lines) (sym same))
 
 -- one byte more than an input may have is enough to read
 play_output-take : (limit : ℕ) (input : List ℕ) (wants : List Bool) (options : Options) → limit ≡ max_taken → play_output wants (take limit input) options ≡ play_output wants input options

@@ -121,6 +121,7 @@ refused_read written read valid error (inr same) = by error.code
     by texts.SecondHorizon = told
     by (texts.Refused cause) = told
     by texts.TooLong = told
+    by texts.BadFormat = told
     by texts.OutOfMemory = tt
 
 -- ---- a run that began to write

@@ -1,8 +1,9 @@
 -- What `play` writes for its input.
-use Rattle.std.specs.Prelude.{◌≡◌, ℕ, Bool, true, false, List, [], ◌∷◌, ◌++◌, length, Option, None, Result, Ok, Err, nat_le, if◌then◌else◌}
+use Rattle.std.specs.Prelude.{◌≡◌, ℕ, Bool, true, false, List, [], ◌∷◌, ◌++◌, length, Option, Result, Ok, Err, nat_le, if◌then◌else◌}
 use Rattle.mp_netlist.specs.Circuit.{Circuit}
 use Rattle.mp_text.specs.declared.text_code.TextCode.TheVariants.{TooLong}
 use Rattle.mp_text.specs.declared.text_error.TextError.{TextError}
+use Rattle.mp_text.specs.declared.text_state.TextState.TheVariants.{Fresh}
 use Rattle.mp_words.specs.Lines.{lines_of}
 use Rattle.mp_text.specs.Texts.{after_lines}
 use Rattle.mp_words.specs.Divisions.{first_part, later_parts}
@@ -33,7 +34,7 @@ replies wants kept (line ∷ lines) =
 -- the netlist of an input's first part: the limit is that of the whole input
 unfoldable pub first_netlist : List ℕ → Result Circuit TextError
 first_netlist input =
-    if nat_le (length input) max_input then after_lines 0 None (first_part (lines_of input))
+    if nat_le (length input) max_input then after_lines 0 Fresh (first_part (lines_of input))
     else Err (record { line = 0; code = TooLong })
 
 -- the replies to the script behind the netlist

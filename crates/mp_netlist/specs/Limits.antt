@@ -3,7 +3,7 @@ use Rattle.std.specs.Prelude.{ℕ}
 
 -- the longest time that a netlist runs for, in units
 abbrev pub max_horizon : ℕ
-max_horizon = 65536
+max_horizon = 1048576
 
 -- how many wires may ever be added
 abbrev pub max_wires : ℕ

@@ -17,7 +17,7 @@ use std::alloc::Global;
 use std::marker::Model;
 
 /// The longest time that a netlist runs for, in units.
-pub const MAX_HORIZON: u64 = 65536;
+pub const MAX_HORIZON: u64 = 1048576;
 
 /// How many wires may ever be added to a netlist.
 pub const MAX_WIRES: usize = 8192;

@@ -1,23 +1,53 @@
 -- The text of a netlist is read as the edits of its records.
-use Rattle.std.proofs.Common.{◌≡◌, ℕ, ◌+◌, ◌≤◌, List, [], ◌∷◌, ◌++◌, length, All, Some, None, decimal, refl, sym, ap, subst, ◌∙◌, arith}
-use Rattle.std.specs.Prelude.{codes}
+use Rattle.std.proofs.Common.{◌≡◌, ℕ, ◌+◌, ◌≤◌, List, [], ◌∷◌, ◌++◌, length, All, Ok, Bool, true, false, cond, decimal, refl, sym, ap, subst, ◌∙◌, arith}
+use Rattle.std.specs.Prelude.{codes, nat_le}
+use Rattle.std.proofs.lemmas.Bool.Decides.{nat_tests}
 use Rattle.std.specs.List.{flat_map}
 use Rattle.std.proofs.lemmas.List.{append-nil}
 use Rattle.std.proofs.lemmas.List.Elements.{All-cons, All-nil}
 use Rattle.mp_netlist.specs.Circuit.{Circuit, IsCircuit, empty_circuit, HasNames}
 use Rattle.mp_words.specs.Lines.{lines_of}
 use Rattle.mp_text.specs.Texts.{after_statement, after_lines, next_line}
-use Rattle.mp_text.specs.Written.{written, horizon_line, wire_line, module_line, stimulus_line, bundle_line}
+use Rattle.mp_text.specs.Written.{written, written_line, format_line, horizon_line, wire_line, module_line, stimulus_line, bundle_line}
 use Rattle.mp_text.specs.RoundTrips.{wire_edits, module_edits, stimulus_edits, bundle_edits, edits_by_name, IsReadAs, IsReadAsWritten}
 use Rattle.mp_words.proofs.PlainLemmas.{IsPlain, IsPlain-decimal}
 use Rattle.mp_text.proofs.WrittenLineLemmas.{lines_of-written}
-use Rattle.mp_text.proofs.StatementBackLemmas.{horizon_stated}
+use Rattle.mp_text.proofs.StatementBackLemmas.{format_stated, horizon_stated}
 use Rattle.mp_text.proofs.TextBackLemmas.{Leads, leads_nowhere, leads_slots, line_stated}
 use Rattle.mp_text.proofs.RecordBackLemmas.{wire_slots, stimulus_slots, bundle_slots}
 use Rattle.mp_text.proofs.ModuleBackLemmas.{module_slots}
 use Rattle.mp_text.proofs.SameRecordLemmas.{made_again}
-use Rattle.mp_text.specs.Limits.{max_text}
+use Rattle.mp_text.specs.Limits.{max_text, max_first_horizon, max_second_horizon}
+use Rattle.mp_text.specs.Statements.{Start}
+use Rattle.mp_text.specs.declared.text_format.TextFormat.TheVariants.{Second}
+use Rattle.mp_text.specs.declared.text_state.TextState.{TextState}
+use Rattle.mp_text.specs.declared.text_state.TextState.TheVariants.{Fresh, Formatted, Open}
 use Rattle.mp_text.proofs.TextLemmas.{text_within}
+
+-- a horizon that a text of the first form may state
+opens_short : (h : ℕ) → 1 ≤ h → nat_le h max_first_horizon ≡ true → after_statement Fresh (Start (Ok h)) ≡ Ok (Open (empty_circuit h))
+unfolding after_statement
+opens_short h low most = let one : nat_le 1 h ≡ true = grind (arith, nat_tests) in rw (one, most) refl
+
+-- a horizon that a text of the second form may state
+opens_long : (h : ℕ) → 1 ≤ h → h ≤ max_second_horizon → after_statement (Formatted Second) (Start (Ok h)) ≡ Ok (Open (empty_circuit h))
+unfolding after_statement
+opens_long h low high =
+    let one : nat_le 1 h ≡ true = grind (arith, nat_tests) in
+    let most : nat_le h max_second_horizon ≡ true = grind (arith, nat_tests) in
+    rw (one, most) refl
+
+-- the line of the second form
+format_begins : (rest : List ℕ) → after_lines 0 Fresh (lines_of (written_line (codes "format") (codes "2" ∷ []) ++ rest)) ≡ after_lines (0 + 1) (Formatted Second) (lines_of rest)
+unfolding after_lines after_statement
+format_begins rest =
+    let words = codes "2" ∷ [] in
+    let two : IsPlain (codes "2") = record { some = omega arith; plain = refl } in
+    let plain : All IsPlain words = All-cons IsPlain (codes "2") [] two (All-nil IsPlain) in
+    let first : IsPlain (codes "format") = record { some = omega arith; plain = refl } in
+    let line = line_stated Fresh (codes "format") words first plain ∙ ap (after_statement Fresh) format_stated in
+    ap (after_lines 0 Fresh) (lines_of-written (codes "format") words rest first plain)
+    ∙ ap (next_line 0 (λ after. after_lines (0 + 1) after (lines_of rest))) line
 
 module _ (n : Circuit) (circuit : IsCircuit n) (named : HasNames n) where
   -- the lines of the records
@@ -36,24 +66,35 @@ module _ (n : Circuit) (circuit : IsCircuit n) (named : HasNames n) where
       (flat_map (module_edits n) n.modules ++ (flat_map stimulus_edits n.wires ++ bundle_changes)) (wire_slots n circuit named) modules
 
   -- the line of the horizon begins an empty netlist
-  horizon_begins : (rest : List ℕ) → after_lines 0 None (lines_of (horizon_line n.horizon ++ rest)) ≡ after_lines 1 (Some (empty_circuit n.horizon)) (lines_of rest)
-  unfolding after_lines after_statement
-  horizon_begins rest =
+  horizon_begins : (k : ℕ) (state : TextState) (rest : List ℕ) → after_statement state (Start (Ok n.horizon)) ≡ Ok (Open (empty_circuit n.horizon))
+      → after_lines k state (lines_of (horizon_line n.horizon ++ rest)) ≡ after_lines (k + 1) (Open (empty_circuit n.horizon)) (lines_of rest)
+  unfolding after_lines
+  horizon_begins k state rest opens =
       let words = decimal n.horizon ∷ [] in
       let plain : All IsPlain words = All-cons IsPlain (decimal n.horizon) [] (IsPlain-decimal n.horizon (omega (arith, circuit.horizon_high))) (All-nil IsPlain) in
       let first : IsPlain (codes "horizon") = record { some = omega arith; plain = refl } in
-      let line = line_stated None (codes "horizon") words first plain ∙ ap (after_statement None) (horizon_stated n.horizon circuit.horizon_low circuit.horizon_high) in
-      ap (after_lines 0 None) (lines_of-written (codes "horizon") words rest first plain)
-      ∙ ap (next_line 0 (λ after. after_lines (0 + 1) after (lines_of rest))) line
+      let line = line_stated state (codes "horizon") words first plain ∙ ap (after_statement state) (horizon_stated n.horizon (omega (arith, circuit.horizon_high))) ∙ opens in
+      ap (after_lines k state) (lines_of-written (codes "horizon") words rest first plain)
+      ∙ ap (next_line k (λ after. after_lines (k + 1) after (lines_of rest))) line
+
+  -- the lines in front of the records begin an empty netlist
+  begins : (rest : List ℕ) → (k : ℕ) × (after_lines 0 Fresh (lines_of (format_line n.horizon ++ (horizon_line n.horizon ++ rest))) ≡ after_lines k (Open (empty_circuit n.horizon)) (lines_of rest))
+  begins rest = by (nat_le n.horizon max_first_horizon) refl
+    where
+      by : (short : Bool) → nat_le n.horizon max_first_horizon ≡ short
+          → (k : ℕ) × (after_lines 0 Fresh (lines_of (cond short [] (written_line (codes "format") (codes "2" ∷ [])) ++ (horizon_line n.horizon ++ rest))) ≡ after_lines k (Open (empty_circuit n.horizon)) (lines_of rest))
+      by true short = (0 + 1, horizon_begins 0 Fresh rest (opens_short n.horizon circuit.horizon_low short))
+      by false long = (0 + 1 + 1, format_begins (horizon_line n.horizon ++ rest) ∙ horizon_begins (0 + 1) (Formatted Second) rest (opens_long n.horizon circuit.horizon_low circuit.horizon_high))
 
 pub read_as_written : IsReadAsWritten
 unfolding written
 read_as_written n circuit short =
     let named = circuit.names in
     let made = made_again n circuit named in
+    let begun = begins n circuit named (record_lines n circuit named) in
     let read =
-    text_within (horizon_line n.horizon ++ record_lines n circuit named) short ∙ horizon_begins n circuit named (record_lines n circuit named)
-    ∙ (records_lead n circuit named).each 1 (empty_circuit n.horizon) made.again made.replayed in
+    text_within (format_line n.horizon ++ (horizon_line n.horizon ++ record_lines n circuit named)) short ∙ begun.1
+    ∙ (records_lead n circuit named).each begun.0 (empty_circuit n.horizon) made.again made.replayed in
     (made.again, read, made.same)
 
 pub written_is_read : (n : Circuit) (text : List ℕ) → IsCircuit n → text ≡ written n → length text ≤ max_text → IsReadAs text n

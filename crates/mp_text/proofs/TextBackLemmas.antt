@@ -1,5 +1,5 @@
 -- Lines that are written lead from netlist to netlist as their edits do.
-use Rattle.std.proofs.Common.{◌≡◌, ℕ, ◌+◌, List, [], ◌∷◌, ◌++◌, append_assoc, All, Option, Some, Result, Ok, Err, sym, ap, subst, ◌∙◌}
+use Rattle.std.proofs.Common.{◌≡◌, ℕ, ◌+◌, List, [], ◌∷◌, ◌++◌, append_assoc, All, Option, Result, Ok, Err, sym, ap, subst, ◌∙◌}
 use Rattle.std.specs.List.{flat_map}
 use Rattle.std.specs.Result.{result_map_both}
 use Rattle.std.proofs.lemmas.List.Elements.{All-head, All-tail}
@@ -10,6 +10,8 @@ use Rattle.mp_netlist.specs.Edits.{after}
 use Rattle.mp_netlist.specs.Replays.{replay, go_on}
 use Rattle.mp_text.specs.declared.text_code.TextCode.TheVariants.{Refused}
 use Rattle.mp_text.specs.LineErrors.{in_text}
+use Rattle.mp_text.specs.declared.text_state.TextState.{TextState}
+use Rattle.mp_text.specs.declared.text_state.TextState.TheVariants.{Open}
 use Rattle.mp_words.specs.Lines.{lines_of}
 use Rattle.mp_words.specs.Reads.{◌>>=◌}
 use Rattle.mp_text.specs.Statements.{Change, statement_of}
@@ -20,14 +22,14 @@ use Rattle.mp_text.proofs.WrittenLineLemmas.{lines_of-written, line_words-spaced
 
 -- the lines of the bytes lead where the edits lead
 pub record Leads (bytes : List ℕ) (edits : List Edit) : Type 0 where
-  pub each : (k : ℕ) (c d : Circuit) → replay c edits ≡ Ok d → after_lines k (Some c) (lines_of bytes) ≡ Ok d
+  pub each : (k : ℕ) (c d : Circuit) → replay c edits ≡ Ok d → after_lines k (Open c) (lines_of bytes) ≡ Ok d
 
 pub leads_nowhere : Leads [] []
 unfolding after_lines lines_of
 leads_nowhere = record { each = λ k c d same. let e : c ≡ d = cc same in ap Ok e }
 
 -- a written line is read as its statement
-pub line_stated : (state : Option Circuit) (first : List ℕ) (words : List (List ℕ)) → IsPlain first → All IsPlain words
+pub line_stated : (state : TextState) (first : List ℕ) (words : List (List ℕ)) → IsPlain first → All IsPlain words
     → after_line state (first ++ spaced words) ≡ after_statement state (statement_of (first ∷ words))
 unfolding after_line
 line_stated state first words plain all =
@@ -35,7 +37,7 @@ line_stated state first words plain all =
 
 module _ (edit : Edit) (bytes : List ℕ) (edits : List Edit) (rest : Leads bytes edits) (k : ℕ) (d : Circuit) where
   on_edited : (r : Result Circuit EditError) → go_on (λ next. replay next edits) r ≡ Ok d
-      → next_line k (λ after. after_lines (k + 1) after (lines_of bytes)) (result_map_both Some Refused r) ≡ Ok d
+      → next_line k (λ after. after_lines (k + 1) after (lines_of bytes)) (result_map_both Open Refused r) ≡ Ok d
   on_edited (Ok c) h = rest.each (k + 1) c d h
   on_edited (Err error) h = cc
 
@@ -45,10 +47,10 @@ module _ (first : List ℕ) (words : List (List ℕ)) (edit : Edit) (plain : IsP
   unfolding after_lines after_statement
   leads_line bytes edits rest = record { each = λ k c d h. by k c d h }
     where
-      by : (k : ℕ) (c d : Circuit) → replay c (edit ∷ edits) ≡ Ok d → after_lines k (Some c) (lines_of (written_line first words ++ bytes)) ≡ Ok d
+      by : (k : ℕ) (c d : Circuit) → replay c (edit ∷ edits) ≡ Ok d → after_lines k (Open c) (lines_of (written_line first words ++ bytes)) ≡ Ok d
       by k c d h =
-          let line = line_stated (Some c) first words plain all ∙ ap (after_statement (Some c)) stated in
-          ap (after_lines k (Some c)) (lines_of-written first words bytes plain all)
+          let line = line_stated (Open c) first words plain all ∙ ap (after_statement (Open c)) stated in
+          ap (after_lines k (Open c)) (lines_of-written first words bytes plain all)
           ∙ ap (next_line k (λ after. after_lines (k + 1) after (lines_of bytes))) line
           ∙ on_edited edit bytes edits rest k d (after c edit) h
 

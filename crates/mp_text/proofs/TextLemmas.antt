@@ -1,5 +1,5 @@
 -- Facts about texts as a whole.
-use Rattle.std.proofs.Common.{◌≡◌, ℕ, ◌+◌, ◌<◌, ◌≤◌, List, [], ◌∷◌, length, Option, None, Some, Result, Ok, Err, refl, sym, ap, subst, arith}
+use Rattle.std.proofs.Common.{◌≡◌, ℕ, ◌+◌, ◌<◌, ◌≤◌, List, [], ◌∷◌, length, Result, Ok, Err, IfErr, inr, refl, sym, ap, subst, arith}
 use Rattle.std.specs.List.{before_first, after_first}
 use Rattle.std.proofs.lemmas.Bool.Decides.{nat_tests}
 use Rattle.mp_netlist.specs.Circuit.{Circuit}
@@ -7,12 +7,14 @@ use Rattle.mp_text.specs.declared.text_error.TextError.{TextError}
 use Rattle.mp_text.specs.declared.text_code.TextCode.{TextCode}
 use Rattle.mp_text.specs.declared.text_code.TextCode.TheVariants.{TooLong}
 use Rattle.mp_words.specs.Lines.{is_line_feed, lines_of}
-use Rattle.mp_text.specs.Texts.{text_at, after_lines, after_line, next_line, finished, last_line}
+use Rattle.mp_text.specs.Texts.{text_at, after_lines, after_line, next_line, finished, last_line, GivesText, IsReached}
 use Rattle.mp_text.specs.Limits.{max_text}
+use Rattle.mp_text.specs.declared.text_state.TextState.{TextState}
+use Rattle.mp_text.specs.declared.text_state.TextState.TheVariants.{Fresh, Formatted, Open}
 use Rattle.mp_words.proofs.LineLemmas.{lines_of-cons}
 
 -- a text that is not too long is its lines
-pub text_within : (text : List ℕ) → length text ≤ max_text → text_at text ≡ after_lines 0 None (lines_of text)
+pub text_within : (text : List ℕ) → length text ≤ max_text → text_at text ≡ after_lines 0 Fresh (lines_of text)
 unfolding text_at
 text_within text within = grind (arith, nat_tests)
 
@@ -21,13 +23,13 @@ unfolding text_at
 text_over text over = grind (arith, nat_tests)
 
 -- reading the next line
-pub lines_next : (n : ℕ) (state : Option Circuit) (rest : List ℕ) (read : Result (Option Circuit) TextCode) → 0 < length rest → after_line state (before_first is_line_feed rest) ≡ read
+pub lines_next : (n : ℕ) (state : TextState) (rest : List ℕ) (read : Result (TextState) TextCode) → 0 < length rest → after_line state (before_first is_line_feed rest) ≡ read
     → after_lines n state (lines_of rest) ≡ next_line n (λ after. after_lines (n + 1) after (lines_of (after_first is_line_feed rest))) read
 unfolding after_lines
 lines_next n state rest read some e = rw (lines_of-cons rest some, e) refl
 
 -- no line is left
-pub lines_end : (n : ℕ) (state : Option Circuit) (rest : List ℕ) → length rest ≡ 0 → after_lines n state (lines_of rest) ≡ finished n state
+pub lines_end : (n : ℕ) (state : TextState) (rest : List ℕ) → length rest ≡ 0 → after_lines n state (lines_of rest) ≡ finished n state
 unfolding after_lines lines_of
 lines_end n state [] none = refl
 lines_end n state (b ∷ bs) none = absurd (omega (arith, none))
@@ -37,8 +39,8 @@ abbrev end_behind : ℕ → List (List ℕ) → Result Circuit TextError → ℕ
 end_behind n lines (Ok net) = n + length lines
 end_behind n lines (Err error) = error.line
 
-end_next : (n : ℕ) (line : List ℕ) (lines : List (List ℕ)) → ((state : Option Circuit) → n + 1 ≤ end_behind (n + 1) lines (after_lines (n + 1) state lines))
-    → (read : Result (Option Circuit) TextCode) → n + 1 ≤ end_behind n (line ∷ lines) (next_line n (λ after. after_lines (n + 1) after lines) read)
+end_next : (n : ℕ) (line : List ℕ) (lines : List (List ℕ)) → ((state : TextState) → n + 1 ≤ end_behind (n + 1) lines (after_lines (n + 1) state lines))
+    → (read : Result (TextState) TextCode) → n + 1 ≤ end_behind n (line ∷ lines) (next_line n (λ after. after_lines (n + 1) after lines) read)
 end_next n line lines low (Ok state) = by (after_lines (n + 1) state lines) (low state)
   where
     by : (r : Result Circuit TextError) → n + 1 ≤ end_behind (n + 1) lines r → n + 1 ≤ end_behind n (line ∷ lines) r
@@ -46,16 +48,17 @@ end_next n line lines low (Ok state) = by (after_lines (n + 1) state lines) (low
     by (Err error) low = low
 end_next n line lines low (Err code) = omega arith
 
-end_low : (n : ℕ) (lines : List (List ℕ)) (state : Option Circuit) → n ≤ end_behind n lines (after_lines n state lines)
+end_low : (n : ℕ) (lines : List (List ℕ)) (state : TextState) → n ≤ end_behind n lines (after_lines n state lines)
 unfolding after_lines
-end_low n [] None = omega arith
-end_low n [] (Some net) = omega arith
+end_low n [] Fresh = omega arith
+end_low n [] (Formatted format) = omega arith
+end_low n [] (Open net) = omega arith
 end_low n (line ∷ lines) state =
     let next = end_next n line lines (end_low (n + 1) lines) (after_line state line) in
     omega (arith, next)
 
 -- no line before the next is the last
-pub line_reached : (n : ℕ) (state : Option Circuit) (rest text : List ℕ) → 0 < length rest → n + length (lines_of rest) ≡ length (lines_of text)
+pub line_reached : (n : ℕ) (state : TextState) (rest text : List ℕ) → 0 < length rest → n + length (lines_of rest) ≡ length (lines_of text)
     → (read : Result Circuit TextError) → after_lines n state (lines_of rest) ≡ read → n + 1 ≤ last_line text read
 unfolding after_lines
 line_reached n state rest text some counted read same =
@@ -73,3 +76,14 @@ line_reached n state rest text some counted read same =
 pub lines_counted : (rest text : List ℕ) (n : ℕ) → 0 < length rest → n + length (lines_of rest) ≡ length (lines_of text)
     → n + 1 + length (lines_of (after_first is_line_feed rest)) ≡ length (lines_of text)
 lines_counted rest text n some counted = let cons = ap length (lines_of-cons rest some) in omega (arith, cons, counted)
+
+-- what was read is given
+pub gives_same : {X : Type 0} (result read : Result X TextError) → read ≡ result → GivesText result read
+gives_same (Ok x) read same = same
+gives_same (Err error) read same = inr same
+
+-- the end of a text doesn't tell of memory
+pub finished_reached : (text : List ℕ) (n : ℕ) (state : TextState) → IfErr (finished n state) (IsReached text)
+finished_reached text n Fresh = λ wanting. cc
+finished_reached text n (Formatted format) = λ wanting. cc
+finished_reached text n (Open net) = tt

@@ -6,12 +6,13 @@ use Rattle.mp_netlist.specs.Circuit.{Circuit, empty_circuit}
 use Rattle.mp_netlist.specs.Replays.{replay}
 use Rattle.mp_words.specs.Lines.{lines_of}
 use Rattle.mp_words.specs.Words.{words_of}
-use Rattle.mp_text.specs.Statements.{Statement, Blank, Unknown, Start, Change, statement_of}
+use Rattle.mp_text.specs.Statements.{Statement, Blank, Unknown, Format, Start, Change, statement_of}
 use Rattle.mp_text.specs.Texts.{text_at}
 
 abbrev pub horizon_of : Statement → Option ℕ
 horizon_of Blank = None
 horizon_of Unknown = None
+horizon_of (Format number) = None
 horizon_of (Start (Ok horizon)) = Some horizon
 horizon_of (Start (Err code)) = None
 horizon_of (Change edit) = None
@@ -19,6 +20,7 @@ horizon_of (Change edit) = None
 abbrev pub edit_of : Statement → Option Edit
 edit_of Blank = None
 edit_of Unknown = None
+edit_of (Format number) = None
 edit_of (Start horizon) = None
 edit_of (Change (Ok edit)) = Some edit
 edit_of (Change (Err code)) = None

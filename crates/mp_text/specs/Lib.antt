@@ -1,4 +1,5 @@
 pub mod Limits
+pub mod Formats
 pub mod TextCodes
 pub mod LineErrors
 pub mod Statements

@@ -4,3 +4,11 @@ use Rattle.std.specs.Prelude.{ℕ}
 -- how many bytes a text may have
 abbrev pub max_text : ℕ
 max_text = 4194304
+
+-- the longest horizon of a text of the first form
+abbrev pub max_first_horizon : ℕ
+max_first_horizon = 65536
+
+-- the longest horizon of a text of the second form
+abbrev pub max_second_horizon : ℕ
+max_second_horizon = 1048576

@@ -18,16 +18,10 @@ use Rattle.mp_words.specs.Reads.{◌>>=◌}
 abbrev pub kind_word : List ℕ → Result Kind LineError
 kind_word word = ok_or (kind_named word) UnknownStatement
 
--- a number of units that a netlist may run for
-unfoldable pub horizon_word : List ℕ → Result ℕ LineError
-horizon_word word = do
-  horizon ← number_word word
-  if nat_le 1 horizon && nat_le horizon max_horizon then Ok horizon else Err BadNumber
-
--- the horizon of the words behind `horizon`
-unfoldable pub stated_horizon : List (List ℕ) → Result ℕ LineError
-stated_horizon (word ∷ []) = horizon_word word
-stated_horizon _ = Err WordCount
+-- the number of the words behind `format` and `horizon`
+abbrev pub stated_number : List (List ℕ) → Result ℕ LineError
+stated_number (word ∷ []) = number_word word
+stated_number _ = Err WordCount
 
 -- the edit of the words behind `wire`
 unfoldable pub wire_edit : List (List ℕ) → Result Edit LineError
@@ -89,10 +83,11 @@ stated_edit Module words = module_edit words
 stated_edit Stimulus words = stimulus_edit words
 stated_edit Bundle words = bundle_edit words
 
--- a line without words, one that begins with another word, the horizon that begins a text, or an edit
+-- a line without words, one that begins with another word, the form or the horizon of a text, or an edit
 pub data Statement : Type 0 where
   Blank : Statement
   Unknown : Statement
+  Format : Result ℕ LineError → Statement
   Start : Result ℕ LineError → Statement
   Change : Result Edit LineError → Statement
 
@@ -104,5 +99,6 @@ change_of words (Some word) = Change (stated_edit word words)
 unfoldable pub statement_of : List (List ℕ) → Statement
 statement_of [] = Blank
 statement_of (word ∷ words) =
-    if bytes_eq word (codes "horizon") then Start (stated_horizon words)
-    else change_of words (edit_word word)
+    if bytes_eq word (codes "format") then Format (stated_number words)
+    else (if bytes_eq word (codes "horizon") then Start (stated_number words)
+    else change_of words (edit_word word))

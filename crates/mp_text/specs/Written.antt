@@ -1,5 +1,5 @@
 -- How a netlist is written.
-use Rattle.std.specs.Prelude.{ℕ, List, [], ◌∷◌, ◌++◌, map, Option, Some, None, codes}
+use Rattle.std.specs.Prelude.{ℕ, List, [], ◌∷◌, ◌++◌, map, Option, Some, None, codes, nat_le, if◌then◌else◌}
 use Rattle.std.specs.List.{flat_map}
 use Rattle.std.specs.Fmt.{decimal}
 use Rattle.mp_modules.specs.Kinds.{word_of}
@@ -10,6 +10,7 @@ use Rattle.mp_records.specs.declared.bundle_record.BundleRecord.{BundleRecord}
 use Rattle.mp_records.specs.declared.ports.Output.{Output}
 use Rattle.mp_netlist.specs.Circuit.{Circuit, wire_at}
 use Rattle.mp_words.specs.WaveLines.{pair_text}
+use Rattle.mp_text.specs.Limits.{max_first_horizon}
 
 -- words, each behind a space
 abbrev pub spaced : List (List ℕ) → List ℕ
@@ -18,6 +19,10 @@ spaced words = flat_map (λ word. 32 ∷ word) words
 -- a first word, the words behind it, and a line feed
 abbrev pub written_line : List ℕ → List (List ℕ) → List ℕ
 written_line first words = first ++ (spaced words ++ (10 ∷ []))
+
+-- the line of the second form, which only a long horizon needs
+abbrev pub format_line : ℕ → List ℕ
+format_line horizon = if nat_le horizon max_first_horizon then [] else written_line (codes "format") (codes "2" ∷ [])
 
 abbrev pub horizon_line : ℕ → List ℕ
 horizon_line horizon = written_line (codes "horizon") (decimal horizon ∷ [])
@@ -64,11 +69,12 @@ bundle_line n None = []
 bundle_line n (Some r) =
     written_line (codes "bundle") (r.name ∷ wire_name n r.request ∷ wire_name n r.acknowledge ∷ wire_name n r.payload ∷ decimal r.setup ∷ [])
 
--- the horizon, the wires, the modules, the stimuli by wire and the bundles, each by number
+-- the form where it is needed, the horizon, the wires, the modules, the stimuli by wire and the bundles, each by number
 unfoldable pub written : Circuit → List ℕ
 written n =
-    horizon_line n.horizon
+    format_line n.horizon
+    ++ (horizon_line n.horizon
     ++ (flat_map wire_line n.wires
     ++ (flat_map (module_line n) n.modules
     ++ (flat_map stimulus_line n.wires
-    ++ flat_map (bundle_line n) n.bundles)))
+    ++ flat_map (bundle_line n) n.bundles))))

@@ -12,6 +12,8 @@ mod stated_line;
 mod statement;
 mod text_code;
 mod text_error;
+mod text_format;
+mod text_state;
 mod writing;
 mod written_line;
 

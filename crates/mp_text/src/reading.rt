@@ -5,6 +5,7 @@ ghost use Rattle.mp_text.specs.Texts.{text_at, GivesText, IsReached};
 use crate::statement::line;
 use crate::text_code::TextCode;
 use crate::text_error::TextError;
+use crate::text_state::TextState;
 use mp_netlist::Netlist;
 use mp_words::first_line;
 use std::alloc::Global;
@@ -13,15 +14,17 @@ use std::alloc::Global;
 const MAX_TEXT: usize = 4_194_304;
 
 /// The netlist of a text of `horizon`, `wire`, `module`, `stim` and `bundle` statements, one a
-/// line: the empty netlist of the horizon after the edits of the others in turn.
+/// line: the empty netlist of the horizon after the edits of the others in turn. A statement
+/// `format` may come first.
 ///
 /// Else the first line that fails, counted from 1, with its first fault: a byte that is not
 /// allowed, also in a comment (`NotAscii`); a first word that is no statement
-/// (`UnknownStatement`); a second `horizon` (`SecondHorizon`) or another statement before it
-/// (`NoHorizon`); the number or shape of the words (`WordCount`); a kind that is none
-/// (`UnknownStatement`); a word that is not the number or pair that it should be, or a horizon not
-/// 1 to 65,536 (`BadNumber`); an edit that is refused (`Refused`). `TooLong` with line 0 is a text
-/// over 4,194,304 bytes, and `NoHorizon` with the number of lines one without a horizon.
+/// (`UnknownStatement`); a `format` that is not on the first line with words (`BadFormat`), a second
+/// `horizon` (`SecondHorizon`) or another statement before it (`NoHorizon`); the number or shape of
+/// the words (`WordCount`); a kind that is none (`UnknownStatement`); a word that is not the number
+/// or pair that it should be, or a horizon not 1 to 65,536, or with `format 2` not 1 to 1,048,576
+/// (`BadNumber`); a `format` that is not 1 or 2 (`BadFormat`); an edit that is refused (`Refused`).
+/// `TooLong` with line 0 is a text over 4,194,304 bytes, and `NoHorizon` with the number of lines one without a horizon.
 /// `OutOfMemory` comes with the line at which memory was wanting, none behind the first that fails.
 pub fn read_netlist(alloc: Global, text: &[u8]) -> Result<Netlist, TextError>
     ensures read { GivesText result (text_at text.now) }
@@ -33,7 +36,7 @@ pub fn read_netlist(alloc: Global, text: &[u8]) -> Result<Netlist, TextError>
             code: TextCode::TooLong,
         });
     }
-    let mut state = None;
+    let mut state = TextState::Fresh;
     let mut number = 0;
     let mut rest = text;
     while !rest.is_empty() {
@@ -44,11 +47,5 @@ pub fn read_netlist(alloc: Global, text: &[u8]) -> Result<Netlist, TextError>
             Err(code) => return Err(TextError { line: number, code }),
         }
     }
-    match state {
-        Some(netlist) => Ok(netlist),
-        None => Err(TextError {
-            line: number,
-            code: TextCode::NoHorizon,
-        }),
-    }
+    state.finished(number)
 }

@@ -1,35 +1,37 @@
 //! What a line makes of a netlist.
-ghost use Rattle.std.specs.Prelude.{◌≡◌, ◌≤◌, IfOk, IfErr, Some};
+ghost use Rattle.std.specs.Prelude.{◌≡◌};
 ghost use Rattle.std.specs.Result.{result_map_both};
 ghost use Rattle.mp_text.specs.declared.text_code.TextCode.TheVariants.{OutOfMemory, Refused};
 ghost use Rattle.mp_netlist.specs.Limits.{max_horizon};
 ghost use Rattle.mp_netlist.specs.Edits.{after};
-ghost use Rattle.mp_netlist.specs.Circuit.{empty_circuit};
+ghost use Rattle.mp_text.specs.declared.text_state.TextState.TheVariants.{Open};
 ghost use Rattle.mp_words.specs.Reads.{Gives};
 ghost use Rattle.mp_words.specs.Words.{texts, AreAscii};
-ghost use Rattle.mp_text.specs.Statements.{horizon_word, stated_horizon, stated_edit, Start, Change, statement_of};
-ghost use Rattle.mp_text.specs.Texts.{after_statement, after_line};
+ghost use Rattle.mp_text.specs.Statements.{stated_number, stated_edit, Format, Start, Change, statement_of};
+ghost use Rattle.mp_text.specs.Texts.{begun, after_statement, after_line};
 
 use crate::edit_word::EditWord;
 use crate::stated_edit::stated_edit;
 use crate::text_code::TextCode;
-use mp_netlist::{Edit, EditError, MAX_HORIZON, Netlist, NewError};
+use crate::text_format::TextFormat;
+use crate::text_state::TextState;
+use mp_netlist::{Edit, EditError, Netlist, NewError};
 use mp_words::{LineError, line_words, number_word};
 use std::alloc::Global;
 
-/// Makes of the netlist so far what a line says. It is lent, since who owns it lets it go at each
+/// Makes of the text so far what a line says. It is lent, since who owns it lets it go at each
 /// place where a fault is told.
 #[tactic(auto, unfolding(crate::specs::Texts::after_line))]
-pub fn line(alloc: Global, state: &mut Option<Netlist>, line: &[u8]) -> Result<(), TextCode>
+pub fn line(alloc: Global, state: &mut TextState, line: &[u8]) -> Result<(), TextCode>
     ensures { Gives OutOfMemory (λ _. state.new) result (after_line state.old line.now) }
 {
     let words = line_words(alloc, line)?;
     statement(alloc, state, words.as_slice())
 }
 
-/// Makes of the netlist so far what a line's words say.
+/// Makes of the text so far what a line's words say.
 #[tactic(auto, unfolding(crate::specs::Statements::statement_of, crate::specs::Texts::after_statement))]
-fn statement(alloc: Global, state: &mut Option<Netlist>, words: &[&[u8]]) -> Result<(), TextCode>
+fn statement(alloc: Global, state: &mut TextState, words: &[&[u8]]) -> Result<(), TextCode>
     requires { AreAscii words.now }
     ensures { Gives OutOfMemory (λ _. state.new) result (after_statement state.old (statement_of (texts words.now))) }
 {
@@ -37,6 +39,9 @@ fn statement(alloc: Global, state: &mut Option<Netlist>, words: &[&[u8]]) -> Res
         return Ok(());
     };
     let word: &[u8] = word;
+    if word == b"format".as_slice() {
+        return format(state, others);
+    }
     if word == b"horizon".as_slice() {
         return start(alloc, state, others);
     }
@@ -46,24 +51,41 @@ fn statement(alloc: Global, state: &mut Option<Netlist>, words: &[&[u8]]) -> Res
     }
 }
 
-/// Begins the netlist with the horizon that the words state.
+/// Takes the form that the words state, on the first line with words.
 #[tactic(auto, unfolding(crate::specs::Texts::after_statement))]
-fn start(alloc: Global, state: &mut Option<Netlist>, words: &[&[u8]]) -> Result<(), TextCode>
-    ensures { Gives OutOfMemory (λ _. state.new) result (after_statement state.old (Start (stated_horizon (texts words.now)))) }
+fn format(state: &mut TextState, words: &[&[u8]]) -> Result<(), TextCode>
+    ensures { Gives OutOfMemory (λ _. state.new) result (after_statement state.old (Format (stated_number (texts words.now)))) }
 {
-    if state.is_some() {
-        return Err(TextCode::SecondHorizon);
+    if !matches!(state, TextState::Fresh) {
+        return Err(TextCode::BadFormat);
     }
-    let horizon = horizon(words)?;
-    *state = Some(empty_netlist(alloc, horizon)?);
+    let number = stated_number(words)?;
+    *state = TextState::Formatted(TextFormat::of(number)?);
     Ok(())
 }
 
-fn empty_netlist(alloc: Global, horizon: u64) -> Result<Netlist, TextCode>
-    requires { (1 ≤ horizon) × (horizon ≤ max_horizon) }
-    ensures empty { IfOk result (λ netlist. netlist ≡ empty_circuit horizon) }
-    ensures memory { IfErr result (λ code. code ≡ OutOfMemory) }
+/// Begins the netlist with the horizon that the words state.
+#[tactic(auto, unfolding(crate::specs::Texts::after_statement))]
+fn start(alloc: Global, state: &mut TextState, words: &[&[u8]]) -> Result<(), TextCode>
+    ensures { Gives OutOfMemory (λ _. state.new) result (after_statement state.old (Start (stated_number (texts words.now)))) }
 {
+    let format = match state {
+        TextState::Fresh => TextFormat::First,
+        TextState::Formatted(format) => *format,
+        TextState::Open(_) => return Err(TextCode::SecondHorizon),
+    };
+    let horizon = stated_number(words)?;
+    *state = TextState::Open(empty_netlist(alloc, format, horizon)?);
+    Ok(())
+}
+
+/// The empty netlist of a horizon that a text of this form may state.
+fn empty_netlist(alloc: Global, format: TextFormat, horizon: u64) -> Result<Netlist, TextCode>
+    ensures { Gives OutOfMemory (λ netlist. Open netlist) result (begun format horizon) }
+{
+    if horizon < 1 || horizon > format.max_horizon() {
+        return Err(TextCode::BadNumber);
+    }
     match Netlist::empty(alloc, horizon) {
         Ok(netlist) => Ok(netlist),
         Err(NewError::BadHorizon) => Err(TextCode::BadNumber),
@@ -71,36 +93,21 @@ fn empty_netlist(alloc: Global, horizon: u64) -> Result<Netlist, TextCode>
     }
 }
 
-/// The number of the words behind `horizon`.
-#[tactic(auto, unfolding(crate::specs::Statements::stated_horizon))]
-fn horizon(words: &[&[u8]]) -> Result<u64, LineError>
-    ensures said { result ≡ stated_horizon (texts words.now) }
-    ensures range { IfOk result (λ horizon. (1 ≤ horizon) × (horizon ≤ max_horizon)) }
+/// The number of the words behind `format` and `horizon`.
+fn stated_number(words: &[&[u8]]) -> Result<u64, LineError>
+    ensures { result ≡ stated_number (texts words.now) }
 {
     match words {
-        [word] => horizon_word(word),
+        [word] => number_word(word),
         _ => Err(LineError::WordCount),
     }
-}
-
-/// A word as a number of units that a netlist may run for.
-#[tactic(auto, unfolding(crate::specs::Statements::horizon_word))]
-fn horizon_word(word: &[u8]) -> Result<u64, LineError>
-    ensures said { result ≡ horizon_word word.now }
-    ensures range { IfOk result (λ horizon. (1 ≤ horizon) × (horizon ≤ max_horizon)) }
-{
-    let horizon = number_word(word)?;
-    if horizon < 1 || horizon > MAX_HORIZON {
-        return Err(LineError::BadNumber);
-    }
-    Ok(horizon)
 }
 
 /// Makes the edit that a line states, where a netlist stands.
 #[tactic(auto, unfolding(crate::specs::Texts::after_statement))]
 fn change(
     alloc: Global,
-    state: &mut Option<Netlist>,
+    state: &mut TextState,
     first: EditWord,
     words: &[&[u8]],
 ) -> Result<(), TextCode>
@@ -108,8 +115,8 @@ fn change(
     ensures { Gives OutOfMemory (λ _. state.new) result (after_statement state.old (Change (stated_edit first (texts words.now)))) }
 {
     match state {
-        Some(netlist) => make_edit(alloc, netlist, first, words),
-        None => Err(TextCode::NoHorizon),
+        TextState::Open(netlist) => make_edit(alloc, netlist, first, words),
+        _ => Err(TextCode::NoHorizon),
     }
 }
 
@@ -122,14 +129,14 @@ fn make_edit(
     words: &[&[u8]],
 ) -> Result<(), TextCode>
     requires { AreAscii words.now }
-    ensures { Gives OutOfMemory (λ _. Some netlist.new) result (after_statement (Some netlist.old) (Change (stated_edit first (texts words.now)))) }
+    ensures { Gives OutOfMemory (λ _. Open netlist.new) result (after_statement (Open netlist.old) (Change (stated_edit first (texts words.now)))) }
 {
     let edit = stated_edit(alloc, first, words)?;
     apply(netlist, &edit)
 }
 
 fn apply(netlist: &mut Netlist, edit: &Edit) -> Result<(), TextCode>
-    ensures { Gives OutOfMemory (λ _. Some netlist.new) result (result_map_both Some Refused (after netlist.old edit.now)) }
+    ensures { Gives OutOfMemory (λ _. Open netlist.new) result (result_map_both Open Refused (after netlist.old edit.now)) }
 {
     match netlist.apply(edit) {
         Ok(()) => Ok(()),

@@ -28,6 +28,8 @@ pub enum TextCode {
     TooLong,
     #[error("out of memory")]
     OutOfMemory,
+    #[error("no such format, or not on the first line with words")]
+    BadFormat,
 }
 
 impl From<AllocError> for TextCode {
@@ -65,7 +67,7 @@ impl From<LineError> for TextCode {
 impl TextCode {
     ghost use Rattle.mp_text.specs.TextCodes.{number_of, name_of};
 
-    /// The number by which programs know the fault, from 1 to 9.
+    /// The number by which programs know the fault, from 1 to 10.
     pub fn number(self) -> u32
         ensures { result ≡ number_of self }
     {
@@ -79,6 +81,7 @@ impl TextCode {
             TextCode::Refused(_) => 7,
             TextCode::TooLong => 8,
             TextCode::OutOfMemory => 9,
+            TextCode::BadFormat => 10,
         }
     }
 
@@ -96,6 +99,7 @@ impl TextCode {
             TextCode::Refused(_) => "Refused",
             TextCode::TooLong => "TooLong",
             TextCode::OutOfMemory => "OutOfMemory",
+            TextCode::BadFormat => "BadFormat",
         }
     }
 }

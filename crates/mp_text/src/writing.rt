@@ -6,11 +6,13 @@ ghost use Rattle.mp_text.specs.Limits.{max_text};
 ghost use Rattle.mp_text.specs.RoundTrips.{IsReadAs};
 ghost use Rattle.mp_text.specs.Written.{written, horizon_line, wire_line, module_line, stimulus_line, bundle_line};
 
-use crate::written_line::{push_bundle, push_horizon, push_module, push_stimulus, push_wire};
+use crate::written_line::{
+    push_bundle, push_format, push_horizon, push_module, push_stimulus, push_wire,
+};
 use mp_netlist::{BundleId, ModuleId, Netlist, WireId};
 use std::alloc::{AllocError, Global};
 
-/// The text of a netlist: its horizon, then its wires, modules, stimuli (by wire) and bundles, each
+/// The text of a netlist: `format 2` where its horizon is over 65,536, its horizon, then its wires, modules, stimuli (by wire) and bundles, each
 /// by number and only those that stand, with single spaces, and a line feed after each line. Numbers
 /// have no leading zeros, and every output has its delay. Where the text is not over 4,194,304 bytes,
 /// it is read as a netlist with the same records, if perhaps under other numbers.
@@ -27,6 +29,7 @@ fn written(alloc: Global, netlist: &Netlist) -> Result<Vec<u8>, AllocError>
     ensures form { IsCircuit netlist.now }
 {
     let mut text = Vec::new(alloc);
+    push_format(&mut text, netlist.horizon())?;
     push_horizon(&mut text, netlist.horizon())?;
     push_wires(&mut text, netlist)?;
     push_modules(&mut text, netlist)?;

@@ -1,11 +1,22 @@
 //! Writing the lines of a netlist's text.
 ghost use Rattle.std.specs.Prelude.{◌≡◌, ◌∷◌, [], ◌++◌, OnOk, Some, map};
 ghost use Rattle.std.specs.Fmt.{decimal};
-ghost use Rattle.mp_text.specs.Written.{spaced, horizon_line, wire_line, wire_name, output_name, output_text, module_line, stimulus_words, stimulus_line, bundle_line};
+ghost use Rattle.mp_text.specs.Written.{spaced, format_line, horizon_line, wire_line, wire_name, output_name, output_text, module_line, stimulus_words, stimulus_line, bundle_line};
 
+use crate::text_format::MAX_FIRST_HORIZON;
 use mp_netlist::{BundleRecord, ModuleRecord, Netlist, Output, Stimulus, WireId, WireRecord};
 use mp_words::{push_changes, push_number};
 use std::alloc::AllocError;
+
+/// Puts the line of the form behind the text where a netlist of this horizon needs one.
+pub fn push_format(text: &mut Vec<u8>, horizon: u32) -> Result<(), AllocError>
+    ensures { OnOk result (text.new.items ≡ text.old.items ++ format_line horizon) }
+{
+    if u64::from(horizon) > MAX_FIRST_HORIZON {
+        text.extend_from_slice(b"format 2\n")?;
+    }
+    Ok(())
+}
 
 /// Puts the line of the horizon behind the text.
 pub fn push_horizon(text: &mut Vec<u8>, horizon: u32) -> Result<(), AllocError>

@@ -1,6 +1,6 @@
-use Rattle.std.proofs.Common.{◌≡◌, ◌<◌, length, Ok, Err, sym, ap, ◌∙◌, inl, inr, rules, arith}
-use Rattle.mp_text.specs.Texts.{finished, text_at}
-use Rattle.mp_text.proofs.TextLemmas.{text_within, text_over, lines_next, lines_end, lines_counted, line_reached}
+use Rattle.std.proofs.Common.{◌≡◌, ◌<◌, length, Ok, Err, sym, ◌∙◌, inl, inr, rules, arith}
+use Rattle.mp_text.specs.Texts.{text_at}
+use Rattle.mp_text.proofs.TextLemmas.{text_within, text_over, lines_next, lines_end, lines_counted, line_reached, gives_same, finished_reached}
 use Rattle.mp_words.proofs.LineLemmas.{rest_falls}
 use Rattle.mp_text.proofs.reading.read_netlist.Goals as goal
 
@@ -33,14 +33,11 @@ loop-rest-preserved c =
       same = rw c.first_line.ensures.rest (sym (lines_next c.loop-rest.number c.loop-rest.state c.loop-rest.rest.now (Ok c.line.new.state) some (rw c.first_line.ensures.line at c.in-Ok.ensures)) ∙ c.loop-rest.invariant.same);
     }
 
-pub returns-in-Some-clause-read : goal.returns-in-Some-clause-read
-returns-in-Some-clause-read c =
+pub returns-clause-read : goal.returns-clause-read
+returns-clause-read c =
     let none : length c.loop-rest.rest.now ≡ 0 = search rules in
-    text_within c.args.text.now (omega arith) ∙ sym c.loop-rest.invariant.same ∙ lines_end c.loop-rest.number c.loop-rest.state c.loop-rest.rest.now none
-    ∙ ap (finished c.loop-rest.number) c.in-Some.is
+    let whole = text_within c.args.text.now (omega arith) ∙ sym c.loop-rest.invariant.same ∙ lines_end c.loop-rest.number c.loop-rest.state c.loop-rest.rest.now none in
+    gives_same _ _ (whole ∙ sym c.finished.ensures)
 
-pub returns-in-None-clause-read : goal.returns-in-None-clause-read
-returns-in-None-clause-read c =
-    let none : length c.loop-rest.rest.now ≡ 0 = search rules in
-    inr (text_within c.args.text.now (omega arith) ∙ sym c.loop-rest.invariant.same ∙ lines_end c.loop-rest.number c.loop-rest.state c.loop-rest.rest.now none
-    ∙ ap (finished c.loop-rest.number) c.in-None.is)
+pub returns-clause-reached : goal.returns-clause-reached
+returns-clause-reached c = rw c.finished.ensures (finished_reached c.args.text.now c.loop-rest.number c.loop-rest.state)

@@ -1,0 +1,19 @@
+-- The forms of a text.
+use Rattle.std.specs.Prelude.{ℕ, ◌==◌, Result, Ok, Err, if◌then◌else◌}
+use Rattle.mp_text.specs.declared.text_code.TextCode.{TextCode}
+use Rattle.mp_text.specs.declared.text_code.TextCode.TheVariants.{BadFormat}
+use Rattle.mp_text.specs.declared.text_format.TextFormat.{TextFormat}
+use Rattle.mp_text.specs.declared.text_format.TextFormat.TheVariants.{First, Second}
+use Rattle.mp_text.specs.Limits.{max_first_horizon, max_second_horizon}
+
+-- the form of that number
+abbrev pub format_of : ℕ → Result TextFormat TextCode
+format_of number =
+    if number == 1 then Ok First
+    else (if number == 2 then Ok Second
+    else Err BadFormat)
+
+-- the longest horizon that a text of that form may state
+abbrev pub max_horizon_of : TextFormat → ℕ
+max_horizon_of First = max_first_horizon
+max_horizon_of Second = max_second_horizon

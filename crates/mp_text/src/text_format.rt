@@ -1,0 +1,42 @@
+//! Forms of a netlist's text.
+ghost use Rattle.std.specs.Prelude.{◌≡◌};
+ghost use Rattle.mp_text.specs.Formats.{format_of, max_horizon_of};
+
+use crate::text_code::TextCode;
+
+/// The longest horizon of a text of the first form.
+pub const MAX_FIRST_HORIZON: u64 = 65_536;
+
+/// The form of a text: how long a horizon it may state.
+#[derive(Clone, Copy, Debug, PartialEq, Eq)]
+pub enum TextFormat {
+    /// `format 1`, and a text that states none: at most 65,536 units.
+    First,
+    /// `format 2`: at most 1,048,576 units.
+    Second,
+}
+
+impl TextFormat {
+    /// The form of this number, and `BadFormat` where there is none.
+    pub fn of(number: u64) -> Result<TextFormat, TextCode>
+        ensures { result ≡ format_of number }
+    {
+        if number == 1 {
+            Ok(TextFormat::First)
+        } else if number == 2 {
+            Ok(TextFormat::Second)
+        } else {
+            Err(TextCode::BadFormat)
+        }
+    }
+
+    /// The longest horizon that such a text may state.
+    pub fn max_horizon(self) -> u64
+        ensures { result ≡ max_horizon_of self }
+    {
+        match self {
+            TextFormat::First => MAX_FIRST_HORIZON,
+            TextFormat::Second => 1_048_576,
+        }
+    }
+}
