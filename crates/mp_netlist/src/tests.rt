@@ -136,6 +136,6 @@ fn netlist_queries_and_full_tables(rt: HostRuntime) -> Result<(), Fail> {
 #[test]
 fn words_of_refusals(rt: HostRuntime) -> Result<(), Fail> {
     let text = format!(in rt.alloc(); "{}; {}", NewError::BadHorizon, NewError::OutOfMemory)?;
-    assert!(rt; text.as_str() == "the horizon is not 1 to 65536; out of memory");
+    assert!(rt; text.as_str() == "the horizon is not 1 to 1048576; out of memory");
     Ok(())
 }
