@@ -10,7 +10,7 @@ mod tests;
 
 pub use driver::Driver;
 pub use mp_records::{
-    BundleId, BundleRecord, Changes, Edit, EditError, InputNames, Inputs, ModuleId, ModuleRecord,
+    BundleId, BundleRecord, Changes, Edit, EditError, Input, InputName, InputNames, Inputs, ModuleId, ModuleRecord,
     Name, Output, OutputName, OutputNames, Outputs, Params, Stimulus, WireId, WireRecord,
 };
 pub use netlist::{
