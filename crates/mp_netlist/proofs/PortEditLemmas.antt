@@ -17,6 +17,7 @@ use Rattle.mp_records.specs.declared.ports.Output.{Output}
 use Rattle.mp_records.specs.Inputs.{no_input, input_at}
 use Rattle.mp_records.specs.Outputs.{output_at}
 use Rattle.mp_records.specs.PortChanges.{with_input, with_input_delay, with_output, with_delay}
+use Rattle.mp_netlist.specs.Limits.{max_delay}
 use Rattle.mp_netlist.specs.Circuit.{Circuit, IsCircuit, IsModule, IsDelay, IsInputDelay, HasWidth, Drives, wire_at, module_at, width_of, module_width, stimulus_at}
 use Rattle.mp_netlist.specs.Drivers.{driver, is_free_for}
 use Rattle.mp_netlist.specs.Edits.{is_delay, is_input_delay}
@@ -25,13 +26,13 @@ use Rattle.mp_netlist.proofs.CircuitLemmas.{DrivesAlone}
 
 pub delay_at : (delay : ℕ) → is_delay delay ≡ true → IsDelay delay
 delay_at delay is =
-    let parts = and_parts (nat_le 1 delay) (nat_le delay 65535) is in
+    let parts = and_parts (nat_le 1 delay) (nat_le delay max_delay) is in
     let low = leb-true 1 delay parts.0 in
-    let high = leb-true delay 65535 parts.1 in
+    let high = leb-true delay max_delay parts.1 in
     (omega arith, omega arith)
 
 pub input_delay_at : (delay : ℕ) → is_input_delay delay ≡ true → IsInputDelay delay
-input_delay_at delay is = let high = leb-true delay 65535 is in omega arith
+input_delay_at delay is = let high = leb-true delay max_delay is in omega arith
 
 -- what holds of each element and of another holds of each after the other is written over one
 All-set : {X : Type 0} (P : X → Type 0) (xs : List X) (i : ℕ) (y : X) → P y → All P xs → All P (set xs i y)

@@ -22,6 +22,7 @@ use Rattle.mp_records.specs.Names.{is_name}
 use Rattle.mp_records.specs.Stimuli.{is_stimulus}
 use Rattle.mp_modules.specs.Levels.{fits_width}
 use Rattle.mp_records.specs.PortChanges.{with_input, with_input_delay, with_output, with_delay}
+use Rattle.mp_netlist.specs.Limits.{max_wires, max_modules, max_bundles, max_delay, max_setup}
 use Rattle.mp_netlist.specs.Circuit.{Circuit, wire_at, module_at, wire_named, module_named, bundle_named, width_of, module_width, stimulus_at}
 use Rattle.mp_netlist.specs.Drivers.{driver, is_port, is_nothing, is_free_for}
 use Rattle.mp_netlist.specs.Uses.{is_used}
@@ -36,11 +37,11 @@ is_width width = nat_le 1 width && nat_le width 64
 
 -- a delay that an output may have
 abbrev pub is_delay : ℕ → Bool
-is_delay delay = nat_le 1 delay && nat_le delay 65535
+is_delay delay = nat_le 1 delay && nat_le delay max_delay
 
 -- a delay that an input may have
 abbrev pub is_input_delay : ℕ → Bool
-is_input_delay delay = nat_le delay 65535
+is_input_delay delay = nat_le delay max_delay
 
 -- whether a wire of the name stands
 abbrev pub stands : Circuit → List ℕ → Bool
@@ -156,7 +157,7 @@ wire_checks n name width level =
     ∷ (is_none (wire_named n name), NameTaken)
     ∷ (is_width width, BadWidth)
     ∷ (fits_width width level, BadLevel)
-    ∷ (nat_lt (length n.wires) 8192, TableFull)
+    ∷ (nat_lt (length n.wires) max_wires, TableFull)
     ∷ []
 
 abbrev pub wire_refusal : Circuit → List ℕ → ℕ → ℕ → Option EditError
@@ -183,7 +184,7 @@ module_checks n name kind params inputs outputs =
     ∷ (are_params kind (new_width n kind inputs) params, BadParam)
     ∷ (delays_fit inputs outputs, BadDelay)
     ∷ (list_all (is_undriven n) (driven_names outputs) && are_distinct (driven_names outputs), AlreadyDriven)
-    ∷ (nat_lt (length n.modules) 4096, TableFull)
+    ∷ (nat_lt (length n.modules) max_modules, TableFull)
     ∷ []
 
 abbrev pub module_refusal : Circuit → List ℕ → Kind → List ℕ → List InputName → List OutputName → Option EditError
@@ -203,8 +204,8 @@ bundle_checks n name request acknowledge payload setup =
     ∷ (is_none (bundle_named n name), NameTaken)
     ∷ (stands n request && stands n acknowledge && stands n payload, NoSuchWire)
     ∷ (width_named n request == 1 && width_named n acknowledge == 1, WidthMismatch)
-    ∷ (nat_le setup 65535, BadParam)
-    ∷ (nat_lt (length n.bundles) 1024, TableFull)
+    ∷ (nat_le setup max_setup, BadParam)
+    ∷ (nat_lt (length n.bundles) max_bundles, TableFull)
     ∷ []
 
 abbrev pub bundle_refusal : Circuit → List ℕ → List ℕ → List ℕ → List ℕ → ℕ → Option EditError
