@@ -1,7 +1,6 @@
 -- A netlist without where it lies in memory.
 use Rattle.std.specs.Prelude.{◌≡◌, ℕ, ◌<◌, ◌≤◌, List, [], Option, Some, None, true, All, IsSome, IfSome, IsTrue, length, slice_index_or, if◌then◌else◌, option_and_then}
 use Rattle.mp_modules.specs.Kinds.{input_count, output_count, has_width, input_width, output_width, are_params}
-use Rattle.mp_records.specs.declared.ids.WireId.{WireId}
 use Rattle.mp_records.specs.declared.ports.Input.{Input}
 use Rattle.mp_records.specs.declared.wire_record.WireRecord.{WireRecord}
 use Rattle.mp_records.specs.declared.module_record.ModuleRecord.{ModuleRecord}

@@ -1,8 +1,8 @@
 mod changes;
 
 use crate::{
-    Changes, Driver, Edit, EditError, Input, InputName, InputNames, ModuleId, Name, Netlist, NewError, OutputName,
-    OutputNames, Params, WireId,
+    Changes, Driver, Edit, EditError, Input, InputName, InputNames, ModuleId, Name, Netlist,
+    NewError, OutputName, OutputNames, Params, WireId,
 };
 use mp_modules::Kind;
 use std::alloc::{AllocError, Global};

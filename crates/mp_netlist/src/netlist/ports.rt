@@ -9,7 +9,8 @@ use crate::driver::Driver;
 use crate::netlist::Netlist;
 use mp_modules::Kind;
 use mp_records::{
-    Input, InputName, InputNames, Inputs, ModuleId, Name, Output, OutputName, OutputNames, Outputs, WireId,
+    Input, InputName, InputNames, Inputs, ModuleId, Name, Output, OutputName, OutputNames, Outputs,
+    WireId,
 };
 use std::alloc::AllocError;
 
