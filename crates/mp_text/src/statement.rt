@@ -17,7 +17,8 @@ use mp_netlist::{Edit, EditError, MAX_HORIZON, Netlist, NewError};
 use mp_words::{LineError, line_words, number_word};
 use std::alloc::Global;
 
-/// Makes of the netlist so far what a line says. It is lent, since who owns it lets it go at each place where a fault is told.
+/// Makes of the netlist so far what a line says. It is lent, since who owns it lets it go at each
+/// place where a fault is told.
 #[tactic(auto, unfolding(crate::specs::Texts::after_line))]
 pub fn line(alloc: Global, state: &mut Option<Netlist>, line: &[u8]) -> Result<(), TextCode>
     ensures { Gives OutOfMemory (λ _. state.new) result (after_line state.old line.now) }
