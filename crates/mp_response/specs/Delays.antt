@@ -1,5 +1,5 @@
 -- Spans and what a netlist means: its modules' states, and the levels of their outputs after their delays.
-use Rattle.std.specs.Prelude.{◌≡◌, ℕ, ◌+◌, ◌-◌, ◌<◌, ◌≤◌, List, [], Some, slice_index_or, zero, suc}
+use Rattle.std.specs.Prelude.{◌≡◌, ℕ, ◌+◌, ◌-◌, ◌<◌, ◌≤◌, [], Some, slice_index_or, zero, suc}
 use Rattle.mp_wave.specs.Waveform.{level_from}
 use Rattle.mp_modules.specs.declared.memory.Memory.{Memory}
 use Rattle.mp_storage.specs.AnyModules.{start}
