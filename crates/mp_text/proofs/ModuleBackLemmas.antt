@@ -6,7 +6,7 @@ use Rattle.std.proofs.Math.Nat.{pow-le-pow_right}
 use Rattle.std.proofs.lemmas.Bool.{cases_Bool, eqb-true}
 use Rattle.std.proofs.lemmas.Bool.Decides.{nat_tests}
 use Rattle.std.proofs.lemmas.List.{append-nil}
-use Rattle.std.proofs.lemmas.List.Elements.{All-cons, All-nil, All-map, All-append, All-get_or, All-from_get_or}
+use Rattle.std.proofs.lemmas.List.Elements.{All-cons, All-nil, All-map, All-append, All-get_or, All-from_get_or, All-weaker}
 use Rattle.mp_modules.specs.declared.kind.Kind.{Kind}
 use Rattle.mp_modules.specs.declared.kind.Kind.TheVariants as kinds
 use Rattle.mp_modules.specs.Kinds.{word_of, param_bound, param_count, are_params, has_width, input_count, output_count, output_width}
@@ -29,7 +29,7 @@ use Rattle.mp_words.proofs.PlainLemmas.{IsPlain, IsPlain-append, IsPlain-decimal
 use Rattle.mp_words.proofs.ReadBackLemmas.{input_back, late_input_back, no_wire_back, wire_back}
 use Rattle.mp_text.proofs.StatementBackLemmas.{name_no_greater, module_stated}
 use Rattle.mp_text.proofs.TextBackLemmas.{SlotLeads, leads_line}
-use Rattle.mp_text.proofs.RecordBackLemmas.{wire_named, weaken}
+use Rattle.mp_text.proofs.RecordBackLemmas.{wire_named}
 
 -- the word of a kind
 IsPlain-kind : (kind : Kind) → IsPlain (word_of kind)
@@ -186,9 +186,9 @@ module _ (n : Circuit) (circuit : IsCircuit n) (named : HasNames n) where
 
     plain_words : All IsPlain (r.name ∷ word_of r.kind ∷ (params_words ++ (codes ":" ∷ (input_words ++ (codes ">" ∷ output_words)))))
     plain_words =
-        let outs = All-map IsPlain (output_text n) r.outputs (weaken IsOutput (λ o. IsPlain (output_text n o)) (λ o low. output_plain o.wire o.delay low.0 low.1) r.outputs outputs_ok) in
-        let ins = All-map IsPlain (input_text n) r.inputs (weaken IsInput (λ i. IsPlain (input_text n i)) (λ i is. named_plain (wire_name n i.wire) i.delay is.0 is.1) r.inputs inputs_ok) in
-        let numbers = All-map IsPlain decimal r.params (weaken (λ p. p < 2 ^ 64) (λ p. IsPlain (decimal p)) IsPlain-decimal r.params params_ok) in
+        let outs = All-map IsPlain (output_text n) r.outputs (All-weaker IsOutput (λ o. IsPlain (output_text n o)) (λ o low. output_plain o.wire o.delay low.0 low.1) r.outputs outputs_ok) in
+        let ins = All-map IsPlain (input_text n) r.inputs (All-weaker IsInput (λ i. IsPlain (input_text n i)) (λ i is. named_plain (wire_name n i.wire) i.delay is.0 is.1) r.inputs inputs_ok) in
+        let numbers = All-map IsPlain decimal r.params (All-weaker (λ p. p < 2 ^ 64) (λ p. IsPlain (decimal p)) IsPlain-decimal r.params params_ok) in
         let back = All-append IsPlain input_words (codes ">" ∷ output_words) ins (All-cons IsPlain (codes ">") output_words (record { some = omega arith; plain = refl }) outs) in
         let rest = All-append IsPlain params_words (codes ":" ∷ (input_words ++ (codes ">" ∷ output_words))) numbers
         (All-cons IsPlain (codes ":") (input_words ++ (codes ">" ∷ output_words)) (record { some = omega arith; plain = refl }) back) in
@@ -197,11 +197,11 @@ module _ (n : Circuit) (circuit : IsCircuit n) (named : HasNames n) where
 
     module_leads : SlotLeads (module_line n) (module_edits n) (Some r)
     module_leads =
-        let outs = weaken IsOutput (λ o. output_word (output_text n o) ≡ Ok (output_by_name n o)) (λ o low. output_back o.wire o.delay low.0 low.1) r.outputs outputs_ok in
+        let outs = All-weaker IsOutput (λ o. output_word (output_text n o) ≡ Ok (output_by_name n o)) (λ o low. output_back o.wire o.delay low.0 low.1) r.outputs outputs_ok in
         let some_inputs : 0 < length r.inputs = subst (λ k. 0 < k) (sym ok.inputs) (inputs_some r.kind) in
         let some_outputs : 0 < length r.outputs = subst (λ k. 0 < k) (sym ok.outputs) (outputs_some r.kind) in
-        let unmarked = weaken IsInput (λ i. is_mark 62 (input_text n i) ≡ false) (λ i is. name_no_greater (wire_name n i.wire) (delay_text i.delay) is.0) r.inputs inputs_ok in
-        let heard = weaken IsInput (λ i. input_word (input_text n i) ≡ Ok (input_by_name n i)) (λ i is. named_back (wire_name n i.wire) i.delay is.0 is.1) r.inputs inputs_ok in
+        let unmarked = All-weaker IsInput (λ i. is_mark 62 (input_text n i) ≡ false) (λ i is. name_no_greater (wire_name n i.wire) (delay_text i.delay) is.0) r.inputs inputs_ok in
+        let heard = All-weaker IsInput (λ i. input_word (input_text n i) ≡ Ok (input_by_name n i)) (λ i is. named_back (wire_name n i.wire) i.delay is.0 is.1) r.inputs inputs_ok in
         let stated = module_stated r.name r.kind r.params r.inputs r.outputs (input_text n) (input_by_name n) (output_text n) (output_by_name n) params_ok unmarked heard outs some_inputs some_outputs in
         let first : IsPlain (codes "module") = record { some = omega arith; plain = refl } in
         record {

@@ -5,7 +5,7 @@ use Rattle.std.specs.Char.{is_ascii_digit, is_ascii_alphabetic}
 use Rattle.std.specs.List.{list_all}
 use Rattle.std.proofs.lemmas.Bool.Decides.{nat_tests}
 use Rattle.std.proofs.lemmas.List.{map-id}
-use Rattle.std.proofs.lemmas.List.Elements.{All-map, All-cons, All-nil, All-head, All-tail}
+use Rattle.std.proofs.lemmas.List.Elements.{All-map, All-weaker}
 use Rattle.mp_modules.specs.declared.kind.Kind.{Kind}
 use Rattle.mp_modules.specs.Kinds.{word_of}
 use Rattle.mp_modules.proofs.WordLemmas.{by_word}
@@ -80,10 +80,6 @@ some_words : {A : Type 0} (write : A → List ℕ) (xs : List A) → 0 < length 
 some_words write [] some = absurd (omega (arith, some))
 some_words write (x ∷ xs) some = let no : (suc (length (map write xs)) == 0) ≡ false = grind (arith, nat_tests) in no
 
-All-weaken : {X : Type 0} (P Q : X → Type 0) → ((x : X) → P x → Q x) → (xs : List X) → All P xs → All Q xs
-All-weaken P Q each [] all = All-nil Q
-All-weaken P Q each (x ∷ xs) all = All-cons Q x xs (each x (All-head P x xs all)) (All-weaken P Q each xs (All-tail P x xs all))
-
 module _ {I O : Type 0} (name : List ℕ) (kind : Kind) (params : List ℕ) (inputs : List I) (outputs : List O)
     (input : I → List ℕ) (hear : I → InputName) (output : O → List ℕ) (see : O → OutputName)
     (low : All (λ p. p < 2 ^ 64) params) (unmarked : All (λ i. is_mark 62 (input i) ≡ false) inputs) (heard : All (λ i. input_word (input i) ≡ Ok (hear i)) inputs) (reads : All (λ o. output_word (output o) ≡ Ok (see o)) outputs)
@@ -94,7 +90,7 @@ module _ {I O : Type 0} (name : List ℕ) (kind : Kind) (params : List ℕ) (inp
   pub module_stated : statement_of (codes "module" ∷ name ∷ word_of kind ∷ (map decimal params ++ (codes ":" ∷ back))) ≡ Change (Ok (AddModule name kind params (map hear inputs) (map see outputs)))
   unfolding statement_of stated_edit module_edit parts_edit
   module_stated =
-      let no_colon = All-map (λ w. is_mark 58 w ≡ false) decimal params (All-weaken (λ p. p < 2 ^ 64) (λ p. is_mark 58 (decimal p) ≡ false) number_no_colon params low) in
+      let no_colon = All-map (λ w. is_mark 58 w ≡ false) decimal params (All-weaker (λ p. p < 2 ^ 64) (λ p. is_mark 58 (decimal p) ≡ false) number_no_colon params low) in
       let no_greater = All-map (λ w. is_mark 62 w ≡ false) input inputs unmarked in
       let front = before_first-append (is_mark 58) (codes ":") back refl (map decimal params) no_colon in
       let ports = after_first-append (is_mark 58) (codes ":") back refl (map decimal params) no_colon in
@@ -103,7 +99,7 @@ module _ {I O : Type 0} (name : List ℕ) (kind : Kind) (params : List ℕ) (inp
       let i = some_words input inputs some_inputs in
       let o = some_words output outputs some_outputs in
       let k = by_word kind in
-      let numbers = each_back number_word decimal (λ p. p) params (All-weaken (λ p. p < 2 ^ 64) (λ p. number_word (decimal p) ≡ Ok p) number_back params low) ∙ ap Ok (map-id params) in
+      let numbers = each_back number_word decimal (λ p. p) params (All-weaker (λ p. p < 2 ^ 64) (λ p. number_word (decimal p) ≡ Ok p) number_back params low) ∙ ap Ok (map-id params) in
       let hears = each_back input_word input hear inputs heard in
       let read = each_back output_word output see outputs reads in
       rw (front, ports) (rw (ins, outs) (rw (i, o) (rw k (rw numbers (rw (hears, read) refl)))))

@@ -54,11 +54,16 @@ A netlist's text that is refused is told on standard error as `mpwb: line N: COD
 /// its place: help, the version, what is wrong with the words, or want of memory.
 pub fn read_words<'a>(alloc: Global, words: &'a [String]) -> Result<Request, Error> {
     let matches = parser(alloc)?.try_get_matches_from(words)?;
-    Ok(match matches.subcommand() {
-        Some(("play", found)) => request(Command::Play, found),
-        Some((_, found)) => request(Command::Waves, found),
-        None => request(Command::Waves, &matches),
-    })
+    match matches.subcommand() {
+        Some(("waves", found)) => Ok(request(Command::Waves, found)),
+        Some(("play", found)) => Ok(request(Command::Play, found)),
+        _ => Err(no_command(alloc)?),
+    }
+}
+
+/// What is told where the words name no command that the program runs.
+fn no_command(alloc: Global) -> Result<Error, AllocError> {
+    parser(alloc)?.error(ErrorKind::InvalidSubcommand, "unrecognized subcommand")
 }
 
 /// Tells what is told in place of a run, and returns the status with which the program ends: help
