@@ -92,7 +92,7 @@ first_levels n ok w u r (Port m p) at drives reached =
     early (Some part) below = rw (lt-ltb u (delay_of part p) (omega arith)) refl
 
 -- each wire that stands at time 0
-first_on_track : (n : Circuit) → IsCircuit n → (w : ℕ) (r : WireRecord) → wire_at n w ≡ Some r → IsOnTrack n (λ m p. 0) 0 w (first_progress r)
+pub first_on_track : (n : Circuit) → IsCircuit n → (w : ℕ) (r : WireRecord) → wire_at n w ≡ Some r → IsOnTrack n (λ m p. 0) 0 w (first_progress r)
 first_on_track n ok w r at =
     let wave = (started r).wave in
     let times = times_set n ok w r at in

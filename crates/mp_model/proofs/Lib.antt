@@ -7,5 +7,6 @@ pub mod BuiltLemmas
 pub mod EvaluationLemmas
 pub mod TracksLemmas
 pub mod CellsLemmas
-pub mod QuietLemmas
 pub mod EndsLemmas
+pub mod InputLemmas
+pub mod QuietLemmas

@@ -12,6 +12,7 @@ use Rattle.mp_records.specs.declared.ids.WireId.{WireId}
 use Rattle.mp_records.specs.declared.wire_record.WireRecord.{WireRecord}
 use Rattle.mp_records.specs.declared.module_record.ModuleRecord.{ModuleRecord}
 use Rattle.mp_records.specs.declared.bundle_record.BundleRecord.{BundleRecord}
+use Rattle.mp_records.specs.Inputs.{no_input}
 use Rattle.mp_records.specs.Outputs.{output_at}
 use Rattle.mp_records.specs.Names.{is_name}
 use Rattle.mp_records.specs.NamedWires.{module_names, bundle_names}
@@ -59,8 +60,8 @@ of_bundle r w = bundle_names w r
 module_width-keep : (n m : Circuit) (r : ModuleRecord) → KeepsWidths (of_module r) n m → IsModule n r → module_width m r ≡ module_width n r
 module_width-keep n m r same ok =
     let some : 0 < length r.inputs = omega (arith, ok.inputs, some_input r.kind) in
-    let first = ok.reads 0 (record { 0 = 0 }) some in
-    ap (λ width. cond (has_width r.kind) width 1) (same.keeps _ (input_is_named r 0 (record { 0 = 0 }) some) first.0).1
+    let first = ok.reads 0 no_input some in
+    ap (λ width. cond (has_width r.kind) width 1) (same.keeps _ (input_is_named r 0 no_input some) first.0).1
 
 drives-keep : (n m : Circuit) (r : ModuleRecord) (p width : ℕ) → KeepsWidths (of_module r) n m → IfSome (output_at r p).wire (λ w. HasWidth n w.0 width)
     → IfSome (output_at r p).wire (λ w. HasWidth m w.0 width)
@@ -77,10 +78,11 @@ IsModule-keep n m r same ok =
       inputs = ok.inputs;
       outputs = ok.outputs;
       params = subst (λ k. IsTrue (are_params r.kind k r.params)) width ok.params;
+      input_delays = ok.input_delays;
       delays = ok.delays;
-      reads = λ p w within.
-          subst (λ k. HasWidth m (slice_index_or r.inputs p w).0 (input_width r.kind k p)) width
-          (HasWidth-keep (of_module r) n m same _ _ (input_is_named r p w within) (ok.reads p w within));
+      reads = λ p i within.
+          subst (λ k. HasWidth m (slice_index_or r.inputs p i).wire.0 (input_width r.kind k p)) width
+          (HasWidth-keep (of_module r) n m same _ _ (input_is_named r p i within) (ok.reads p i within));
       drives = λ p.
           subst (λ k. IfSome (output_at r p).wire (λ w. HasWidth m w.0 (output_width r.kind k p))) width
           (drives-keep n m r p _ same (ok.drives p));

@@ -1,10 +1,11 @@
 -- A netlist without where it lies in memory.
 use Rattle.std.specs.Prelude.{◌≡◌, ℕ, ◌<◌, ◌≤◌, List, [], Option, Some, None, true, All, IsSome, IfSome, IsTrue, length, slice_index_or, if◌then◌else◌, option_and_then}
 use Rattle.mp_modules.specs.Kinds.{input_count, output_count, has_width, input_width, output_width, are_params}
-use Rattle.mp_records.specs.declared.ids.WireId.{WireId}
+use Rattle.mp_records.specs.declared.ports.Input.{Input}
 use Rattle.mp_records.specs.declared.wire_record.WireRecord.{WireRecord}
 use Rattle.mp_records.specs.declared.module_record.ModuleRecord.{ModuleRecord}
 use Rattle.mp_records.specs.declared.bundle_record.BundleRecord.{BundleRecord}
+use Rattle.mp_records.specs.Inputs.{input_at}
 use Rattle.mp_records.specs.Outputs.{output_at}
 use Rattle.mp_records.specs.Names.{is_name}
 use Rattle.mp_modules.specs.Levels.{fits_width}
@@ -47,10 +48,15 @@ width_of (Some wire) = wire.width
 
 -- the width of a module: that of the wire at its first input where its kind has ports of any width, and else 1
 abbrev pub module_width : Circuit → ModuleRecord → ℕ
-module_width n r = if has_width r.kind then width_of (wire_at n (slice_index_or r.inputs 0 (record { 0 = 0 })).0) else 1
+module_width n r = if has_width r.kind then width_of (wire_at n (input_at r 0).wire.0) else 1
 
+-- a delay that an output may have
 abbrev pub IsDelay : ℕ → Type 0
 IsDelay d = (0 < d) × (d ≤ max_delay)
+
+-- a delay that an input may have
+abbrev pub IsInputDelay : ℕ → Type 0
+IsInputDelay d = d ≤ max_delay
 
 -- a wire has a width, a level of this width, and a stimulus of this width below the horizon, if any
 pub record IsWire (horizon : ℕ) (r : WireRecord) : Type 0 where
@@ -68,8 +74,9 @@ pub record IsModule (n : Circuit) (r : ModuleRecord) : Type 0 where
   pub inputs : length r.inputs ≡ input_count r.kind
   pub outputs : length r.outputs ≡ output_count r.kind
   pub params : IsTrue (are_params r.kind (module_width n r) r.params)
+  pub input_delays : All (λ i. IsInputDelay i.delay) r.inputs
   pub delays : All (λ o. IsDelay o.delay) r.outputs
-  pub reads : (p : ℕ) (w : WireId) → p < length r.inputs → HasWidth n (slice_index_or r.inputs p w).0 (input_width r.kind (module_width n r) p)
+  pub reads : (p : ℕ) (i : Input) → p < length r.inputs → HasWidth n (slice_index_or r.inputs p i).wire.0 (input_width r.kind (module_width n r) p)
   pub drives : (p : ℕ) → IfSome (output_at r p).wire (λ w. HasWidth n w.0 (output_width r.kind (module_width n r) p))
 
 -- a bundle has request and acknowledge wires of width 1, a payload of any width, and a setup that a bundle may have

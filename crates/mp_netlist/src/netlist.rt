@@ -28,7 +28,7 @@ pub const MAX_MODULES: usize = 4096;
 /// How many bundles may ever be added to a netlist.
 pub const MAX_BUNDLES: usize = 1024;
 
-/// The longest delay of an output port, in units.
+/// The longest delay of a port, in units.
 pub const MAX_DELAY: u64 = 65535;
 
 /// The longest setup of a bundle, in units.

@@ -1,5 +1,5 @@
 use crate::{
-    Driver, Edit, EditError, InputNames, ModuleId, Name, Netlist, NewError, OutputName,
+    Driver, Edit, EditError, InputName, InputNames, ModuleId, Name, Netlist, NewError, OutputName,
     OutputNames, Params, WireId,
 };
 use mp_modules::Kind;
@@ -30,11 +30,12 @@ fn stimulus(alloc: Global, text: &str, changes: &[(u64, u64)]) -> Result<Edit, A
 }
 
 fn inputs(alloc: Global, texts: &[&str]) -> Result<InputNames, AllocError> {
-    let mut names = Vec::new(alloc);
+    let mut ports = Vec::new(alloc);
     for text in texts {
-        names.push(name(alloc, text)?)?;
+        let wire = name(alloc, text)?;
+        ports.push(InputName { wire, delay: 0 })?;
     }
-    Ok(InputNames::new(names))
+    Ok(InputNames::new(ports))
 }
 
 fn output(alloc: Global, text: &str, delay: u64) -> Result<OutputNames, AllocError> {

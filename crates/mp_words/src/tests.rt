@@ -1,4 +1,4 @@
-use crate::{changes, divided, line_words, names, numbers, outputs, push_wave_line};
+use crate::{changes, divided, inputs, line_words, numbers, outputs, push_wave_line};
 use std::test::Fail;
 
 #[test]
@@ -39,10 +39,12 @@ fn read_words(rt: HostRuntime) -> Result<(), Fail> {
     let words: [&[u8]; 2] = [b"5=1", b"0=00"];
     let read = changes(rt.alloc(), words.as_slice())?;
     assert!(rt; read.as_slice() == [(5, 1), (0, 0)].as_slice());
-    let words: [&[u8]; 2] = [b"y", b"-"];
-    let read = names(rt.alloc(), words.as_slice())?;
+    let words: [&[u8]; 2] = [b"y", b"a/b/20"];
+    let read = inputs(rt.alloc(), words.as_slice())?;
     assert_eq!(rt; read.len(), 2);
-    assert_eq!(rt; read[0].as_str(), "y");
+    assert_eq!(rt; read[0].delay, 0);
+    assert_eq!(rt; read[1].wire.as_str(), "a/b");
+    assert_eq!(rt; read[1].delay, 20);
     Ok(())
 }
 
