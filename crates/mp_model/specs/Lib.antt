@@ -2,7 +2,6 @@ pub mod Levels
 pub mod Histories
 pub mod Waves
 pub mod Laws
-pub mod Replays
 pub mod Tracks
 pub mod Cells
 pub mod Evaluations

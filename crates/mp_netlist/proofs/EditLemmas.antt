@@ -15,6 +15,7 @@ use Rattle.mp_records.specs.declared.ids.WireId.{WireId}
 use Rattle.mp_records.specs.declared.module_record.ModuleRecord.{ModuleRecord}
 use Rattle.mp_records.specs.PortChanges.{with_input, with_output, with_delay}
 use Rattle.mp_records.specs.Names.{is_name}
+use Rattle.mp_netlist.specs.Limits.{max_wires, max_modules, max_bundles, max_setup}
 use Rattle.mp_netlist.specs.Circuit.{Circuit, IsCircuit, IsWire, IsModule, HasWidth, wire_at, module_at, wire_named, module_named, bundle_named, width_of, module_width}
 use Rattle.mp_netlist.specs.Drivers.{driver, is_port, is_free_for}
 use Rattle.mp_netlist.specs.Uses.{is_used}
@@ -52,13 +53,13 @@ pub record IsNewWire (n : Circuit) (name : List ℕ) (width level : ℕ) : Type 
   pub low : 1 ≤ width
   pub high : width ≤ 64
   pub fits : fits_width width level ≡ true
-  pub room : length n.wires < 8192
+  pub room : length n.wires < max_wires
 
 pub new_wire : (n : Circuit) (name : List ℕ) (width level : ℕ) → wire_refusal n name width level ≡ None → IsNewWire n name width level
 new_wire n name width level none =
     let all = all_pass (wire_checks n name width level) none in
     let bounds = and_parts (nat_le 1 width) (nat_le width 64) all.1.1.0 in
-    record { named = all.0; free = all.1.0; low = leb-true 1 width bounds.0; high = leb-true width 64 bounds.1; fits = all.1.1.1.0; room = ltb-true (length n.wires) 8192 all.1.1.1.1.0 }
+    record { named = all.0; free = all.1.0; low = leb-true 1 width bounds.0; high = leb-true width 64 bounds.1; fits = all.1.1.1.0; room = ltb-true (length n.wires) max_wires all.1.1.1.1.0 }
 
 pub IsCircuit-with_new_wire : (n : Circuit) → IsCircuit n → (name : List ℕ) (width level : ℕ) → wire_refusal n name width level ≡ None → IsCircuit (with_new_wire n name width level)
 IsCircuit-with_new_wire n ok name width level none =
@@ -87,7 +88,7 @@ pub record IsNewModule (n : Circuit) (name : List ℕ) (kind : Kind) (params : L
   pub free : is_none (module_named n name) ≡ true
   pub ports : ArePorts n kind inputs outputs
   pub ranged : are_params kind (new_width n kind inputs) params ≡ true
-  pub room : length n.modules < 4096
+  pub room : length n.modules < max_modules
 
 pub is_new_module : (n : Circuit) (name : List ℕ) (kind : Kind) (params : List ℕ) (inputs : List (List ℕ)) (outputs : List OutputName)
     → module_refusal n name kind params inputs outputs ≡ None → IsNewModule n name kind params inputs outputs
@@ -114,7 +115,7 @@ is_new_module n name kind params inputs outputs none =
         distinct = drivers.1;
       };
       ranged = rest.0;
-      room = ltb-true (length n.modules) 4096 rest.1.1.1.0;
+      room = ltb-true (length n.modules) max_modules rest.1.1.1.0;
     }
 
 pub IsCircuit-with_new_module : (n : Circuit) → IsCircuit n → (name : List ℕ) (kind : Kind) (params : List ℕ) (inputs : List (List ℕ)) (outputs : List OutputName)
@@ -140,8 +141,8 @@ pub record IsNewBundle (n : Circuit) (name request acknowledge payload : List �
   pub pays : Stands n payload
   pub request_wide : width_named n request ≡ 1
   pub acknowledge_wide : width_named n acknowledge ≡ 1
-  pub early : setup ≤ 65535
-  pub room : length n.bundles < 1024
+  pub early : setup ≤ max_setup
+  pub room : length n.bundles < max_bundles
 
 pub is_new_bundle : (n : Circuit) (name request acknowledge payload : List ℕ) (setup : ℕ) → bundle_refusal n name request acknowledge payload setup ≡ None
     → IsNewBundle n name request acknowledge payload setup
@@ -158,8 +159,8 @@ is_new_bundle n name request acknowledge payload setup none =
       pays = stands_from n payload stand.1;
       request_wide = eqb-true _ _ wide.0;
       acknowledge_wide = eqb-true _ _ wide.1;
-      early = leb-true setup 65535 all.1.1.1.1.0;
-      room = ltb-true (length n.bundles) 1024 all.1.1.1.1.1.0;
+      early = leb-true setup max_setup all.1.1.1.1.0;
+      room = ltb-true (length n.bundles) max_bundles all.1.1.1.1.1.0;
     }
 
 pub IsCircuit-with_new_bundle : (n : Circuit) → IsCircuit n → (name request acknowledge payload : List ℕ) (setup : ℕ) → bundle_refusal n name request acknowledge payload setup ≡ None

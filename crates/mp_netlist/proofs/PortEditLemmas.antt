@@ -15,6 +15,7 @@ use Rattle.mp_records.specs.declared.module_record.ModuleRecord.{ModuleRecord}
 use Rattle.mp_records.specs.declared.ports.Output.{Output}
 use Rattle.mp_records.specs.Outputs.{output_at}
 use Rattle.mp_records.specs.PortChanges.{with_input, with_output, with_delay}
+use Rattle.mp_netlist.specs.Limits.{max_delay}
 use Rattle.mp_netlist.specs.Circuit.{Circuit, IsCircuit, IsModule, IsDelay, HasWidth, Drives, wire_at, module_at, width_of, module_width, stimulus_at}
 use Rattle.mp_netlist.specs.Drivers.{driver, is_free_for}
 use Rattle.mp_netlist.specs.Edits.{is_delay}
@@ -23,9 +24,9 @@ use Rattle.mp_netlist.proofs.CircuitLemmas.{DrivesAlone}
 
 pub delay_at : (delay : ℕ) → is_delay delay ≡ true → IsDelay delay
 delay_at delay is =
-    let parts = and_parts (nat_le 1 delay) (nat_le delay 65535) is in
+    let parts = and_parts (nat_le 1 delay) (nat_le delay max_delay) is in
     let low = leb-true 1 delay parts.0 in
-    let high = leb-true delay 65535 parts.1 in
+    let high = leb-true delay max_delay parts.1 in
     (omega arith, omega arith)
 
 -- what holds of each element and of another holds of each after the other is written over one

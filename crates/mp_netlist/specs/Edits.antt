@@ -1,5 +1,5 @@
 -- What an edit does to a netlist.
-use Rattle.std.specs.Prelude.{◌≡◌, ◌⊎◌, IsOk, ℕ, Bool, true, not, ◌&&◌, ◌==◌, List, [], ◌∷◌, ◌++◌, length, map, Option, Some, None, is_none, is_some, unwrap_or, option_map, Result, Ok, Err, nat_lt, nat_le, if◌then◌else◌, slice_set, option_and_then}
+use Rattle.std.specs.Prelude.{◌≡◌, ◌⊎◌, IsOk, ℕ, Bool, true, false, not, ◌&&◌, ◌==◌, List, [], ◌∷◌, ◌++◌, length, map, Option, Some, None, is_none, is_some, unwrap_or, option_map, Result, Ok, Err, nat_lt, nat_le, if◌then◌else◌, slice_set, option_and_then}
 use Rattle.std.specs.List.{list_all, list_any, filter_map, enumerate_from}
 use Rattle.std.specs.Str.{bytes_eq}
 use Rattle.mp_modules.specs.declared.kind.Kind.{Kind}
@@ -20,6 +20,7 @@ use Rattle.mp_records.specs.Names.{is_name}
 use Rattle.mp_records.specs.Stimuli.{is_stimulus}
 use Rattle.mp_modules.specs.Levels.{fits_width}
 use Rattle.mp_records.specs.PortChanges.{with_input, with_output, with_delay}
+use Rattle.mp_netlist.specs.Limits.{max_wires, max_modules, max_bundles, max_delay, max_setup}
 use Rattle.mp_netlist.specs.Circuit.{Circuit, wire_at, module_at, wire_named, module_named, bundle_named, width_of, module_width, stimulus_at}
 use Rattle.mp_netlist.specs.Drivers.{driver, is_port, is_nothing, is_free_for}
 use Rattle.mp_netlist.specs.Uses.{is_used}
@@ -33,7 +34,7 @@ abbrev pub is_width : ℕ → Bool
 is_width width = nat_le 1 width && nat_le width 64
 
 abbrev pub is_delay : ℕ → Bool
-is_delay delay = nat_le 1 delay && nat_le delay 65535
+is_delay delay = nat_le 1 delay && nat_le delay max_delay
 
 -- whether a wire of the name stands
 abbrev pub stands : Circuit → List ℕ → Bool
@@ -140,7 +141,7 @@ wire_checks n name width level =
     ∷ (is_none (wire_named n name), NameTaken)
     ∷ (is_width width, BadWidth)
     ∷ (fits_width width level, BadLevel)
-    ∷ (nat_lt (length n.wires) 8192, TableFull)
+    ∷ (nat_lt (length n.wires) max_wires, TableFull)
     ∷ []
 
 abbrev pub wire_refusal : Circuit → List ℕ → ℕ → ℕ → Option EditError
@@ -167,7 +168,7 @@ module_checks n name kind params inputs outputs =
     ∷ (are_params kind (new_width n kind inputs) params, BadParam)
     ∷ (list_all (λ (o : OutputName). is_delay o.delay) outputs, BadDelay)
     ∷ (list_all (is_undriven n) (driven_names outputs) && are_distinct (driven_names outputs), AlreadyDriven)
-    ∷ (nat_lt (length n.modules) 4096, TableFull)
+    ∷ (nat_lt (length n.modules) max_modules, TableFull)
     ∷ []
 
 abbrev pub module_refusal : Circuit → List ℕ → Kind → List ℕ → List (List ℕ) → List OutputName → Option EditError
@@ -187,8 +188,8 @@ bundle_checks n name request acknowledge payload setup =
     ∷ (is_none (bundle_named n name), NameTaken)
     ∷ (stands n request && stands n acknowledge && stands n payload, NoSuchWire)
     ∷ (width_named n request == 1 && width_named n acknowledge == 1, WidthMismatch)
-    ∷ (nat_le setup 65535, BadParam)
-    ∷ (nat_lt (length n.bundles) 1024, TableFull)
+    ∷ (nat_le setup max_setup, BadParam)
+    ∷ (nat_lt (length n.bundles) max_bundles, TableFull)
     ∷ []
 
 abbrev pub bundle_refusal : Circuit → List ℕ → List ℕ → List ℕ → List ℕ → ℕ → Option EditError
@@ -340,6 +341,14 @@ unless (Some error) n = Err error
 -- the netlist after the edit, or the first check that fails
 abbrev pub after : Circuit → Edit → Result Circuit EditError
 after n edit = unless (refusal n edit) (edited n edit)
+
+-- the edits that take memory: those that add a thing, and that which sets a stimulus
+abbrev pub takes_memory : Edit → Bool
+takes_memory (AddWire name width level) = true
+takes_memory (AddModule name kind params inputs outputs) = true
+takes_memory (AddBundle name request acknowledge payload setup) = true
+takes_memory (SetStimulus name changes) = true
+takes_memory _ = false
 
 -- an edit was refused: by the first check that fails, or for want of memory where none does
 abbrev pub RefusedBy : {T : Type 0} → Result T EditError → EditError → Type 0

@@ -4,7 +4,7 @@ use Rattle.std.specs.Prelude.{codes, nat_lt, IsTrue, IsSome, IfSome, slice_index
 use Rattle.std.specs.List.{list_all}
 use Rattle.std.proofs.Math.Nat.{pow-le-pow_right}
 use Rattle.std.proofs.lemmas.Bool.Decides.{nat_tests}
-use Rattle.std.proofs.lemmas.List.Elements.{All-cons, All-nil, All-map, All-append, All-get_or, All-from_get_or}
+use Rattle.std.proofs.lemmas.List.Elements.{All-cons, All-nil, All-map, All-append, All-get_or, All-from_get_or, All-weaker}
 use Rattle.mp_modules.specs.declared.kind.Kind.{Kind}
 use Rattle.mp_modules.specs.declared.kind.Kind.TheVariants as kinds
 use Rattle.mp_modules.specs.Kinds.{word_of, param_bound, param_count, are_params, has_width, input_count, output_count, output_width}
@@ -15,6 +15,7 @@ use Rattle.mp_records.specs.declared.ports.Output.{Output}
 use Rattle.mp_records.specs.declared.edit.Edit.TheVariants.{AddModule}
 use Rattle.mp_records.specs.Names.{is_name}
 use Rattle.mp_records.specs.Outputs.{output_at}
+use Rattle.mp_netlist.specs.Limits.{max_delay}
 use Rattle.mp_netlist.specs.Circuit.{Circuit, IsCircuit, IsModule, IsDelay, HasWidth, wire_at, module_at, width_of, module_width, HasNames}
 use Rattle.mp_words.specs.WordLists.{output_word}
 use Rattle.mp_text.specs.Written.{module_line, wire_name, output_name, output_text}
@@ -23,7 +24,7 @@ use Rattle.mp_words.proofs.PlainLemmas.{IsPlain, IsPlain-append, IsPlain-decimal
 use Rattle.mp_words.proofs.ReadBackLemmas.{no_wire_back, wire_back}
 use Rattle.mp_text.proofs.StatementBackLemmas.{module_stated}
 use Rattle.mp_text.proofs.TextBackLemmas.{SlotLeads, leads_line}
-use Rattle.mp_text.proofs.RecordBackLemmas.{wire_named, weaken}
+use Rattle.mp_text.proofs.RecordBackLemmas.{wire_named}
 
 -- the word of a kind
 IsPlain-kind : (kind : Kind) → IsPlain (word_of kind)
@@ -117,14 +118,14 @@ module _ (n : Circuit) (circuit : IsCircuit n) (named : HasNames n) where
   module_narrow true w = slot_narrow w (wire_at n w) refl
   module_narrow false w = omega arith
 
-  output_back : (wire : Option WireId) (delay : ℕ) → delay < 65536 → Stands n wire
+  output_back : (wire : Option WireId) (delay : ℕ) → delay ≤ max_delay → Stands n wire
       → output_word (output_name n wire ++ (47 ∷ decimal delay)) ≡ Ok (record { wire = option_map (wire_name n) wire; delay = delay })
   output_back None delay low stands = no_wire_back delay (omega (arith, low))
   output_back (Some w) delay low stands =
       let name = wire_named n circuit named w stands in
       wire_back (wire_name n w) delay name (IsPlain-name (wire_name n w) name).some (omega (arith, low))
 
-  output_plain : (wire : Option WireId) (delay : ℕ) → delay < 65536 → Stands n wire → IsPlain (output_name n wire ++ (47 ∷ decimal delay))
+  output_plain : (wire : Option WireId) (delay : ℕ) → delay ≤ max_delay → Stands n wire → IsPlain (output_name n wire ++ (47 ∷ decimal delay))
   output_plain wire delay low stands =
       IsPlain-append (output_name n wire) (47 ∷ decimal delay) (by wire stands)
       (IsPlain-append (47 ∷ []) (decimal delay) (record { some = omega arith; plain = refl }) (IsPlain-decimal delay (omega (arith, low))))
@@ -134,7 +135,7 @@ module _ (n : Circuit) (circuit : IsCircuit n) (named : HasNames n) where
       by (Some w) stands = IsPlain-name (wire_name n w) (wire_named n circuit named w stands)
 
   abbrev IsOutput : Output → Type 0
-  IsOutput o = (o.delay < 65536) × Stands n o.wire
+  IsOutput o = (o.delay ≤ max_delay) × Stands n o.wire
 
   module _ (m : ℕ) (r : ModuleRecord) (at : module_at n m ≡ Some r) (ok : IsModule n r) where
     abbrev params_words : List (List ℕ)
@@ -159,9 +160,9 @@ module _ (n : Circuit) (circuit : IsCircuit n) (named : HasNames n) where
 
     plain_words : All IsPlain (r.name ∷ word_of r.kind ∷ (params_words ++ (codes ":" ∷ (input_words ++ (codes ">" ∷ output_words)))))
     plain_words =
-        let outs = All-map IsPlain (output_text n) r.outputs (weaken IsOutput (λ o. IsPlain (output_text n o)) (λ o low. output_plain o.wire o.delay low.0 low.1) r.outputs outputs_ok) in
-        let ins = All-map IsPlain (wire_name n) r.inputs (weaken (λ i. is_name (wire_name n i) ≡ true) (λ i. IsPlain (wire_name n i)) (λ i. IsPlain-name (wire_name n i)) r.inputs inputs_ok) in
-        let numbers = All-map IsPlain decimal r.params (weaken (λ p. p < 2 ^ 64) (λ p. IsPlain (decimal p)) IsPlain-decimal r.params params_ok) in
+        let outs = All-map IsPlain (output_text n) r.outputs (All-weaker IsOutput (λ o. IsPlain (output_text n o)) (λ o low. output_plain o.wire o.delay low.0 low.1) r.outputs outputs_ok) in
+        let ins = All-map IsPlain (wire_name n) r.inputs (All-weaker (λ i. is_name (wire_name n i) ≡ true) (λ i. IsPlain (wire_name n i)) (λ i. IsPlain-name (wire_name n i)) r.inputs inputs_ok) in
+        let numbers = All-map IsPlain decimal r.params (All-weaker (λ p. p < 2 ^ 64) (λ p. IsPlain (decimal p)) IsPlain-decimal r.params params_ok) in
         let back = All-append IsPlain input_words (codes ">" ∷ output_words) ins (All-cons IsPlain (codes ">") output_words (record { some = omega arith; plain = refl }) outs) in
         let rest = All-append IsPlain params_words (codes ":" ∷ (input_words ++ (codes ">" ∷ output_words))) numbers
         (All-cons IsPlain (codes ":") (input_words ++ (codes ">" ∷ output_words)) (record { some = omega arith; plain = refl }) back) in
@@ -170,7 +171,7 @@ module _ (n : Circuit) (circuit : IsCircuit n) (named : HasNames n) where
 
     module_leads : SlotLeads (module_line n) (module_edits n) (Some r)
     module_leads =
-        let outs = weaken IsOutput (λ o. output_word (output_text n o) ≡ Ok (output_by_name n o)) (λ o low. output_back o.wire o.delay low.0 low.1) r.outputs outputs_ok in
+        let outs = All-weaker IsOutput (λ o. output_word (output_text n o) ≡ Ok (output_by_name n o)) (λ o low. output_back o.wire o.delay low.0 low.1) r.outputs outputs_ok in
         let some_inputs : 0 < length r.inputs = subst (λ k. 0 < k) (sym ok.inputs) (inputs_some r.kind) in
         let some_outputs : 0 < length r.outputs = subst (λ k. 0 < k) (sym ok.outputs) (outputs_some r.kind) in
         let stated = module_stated r.name r.kind r.params r.inputs r.outputs (wire_name n) (output_text n) (output_by_name n) params_ok inputs_ok outs some_inputs some_outputs in

@@ -3,7 +3,7 @@ use Rattle.std.proofs.Common.{◌≡◌, ℕ, ◌^◌, ◌<◌, ◌≤◌, Bool,
 use Rattle.std.specs.Prelude.{codes, nat_lt, IsTrue, IsSome, IfSome}
 use Rattle.std.proofs.Math.Nat.{pow-le-pow_right}
 use Rattle.std.proofs.lemmas.Bool.Decides.{nat_tests}
-use Rattle.std.proofs.lemmas.List.Elements.{All-cons, All-nil, All-head, All-tail, All-map, All-from_get_or}
+use Rattle.std.proofs.lemmas.List.Elements.{All-cons, All-nil, All-head, All-tail, All-map, All-from_get_or, All-weaker}
 use Rattle.mp_records.specs.declared.ids.WireId.{WireId}
 use Rattle.mp_records.specs.declared.wire_record.WireRecord.{WireRecord}
 use Rattle.mp_records.specs.declared.bundle_record.BundleRecord.{BundleRecord}
@@ -12,6 +12,7 @@ use Rattle.mp_records.specs.declared.edit.Edit.TheVariants.{AddWire, AddBundle, 
 use Rattle.mp_records.specs.Names.{is_name}
 use Rattle.mp_modules.specs.Levels.{fits_width}
 use Rattle.mp_records.specs.Stimuli.{is_stimulus}
+use Rattle.mp_netlist.specs.Limits.{max_horizon}
 use Rattle.mp_netlist.specs.Circuit.{Circuit, IsCircuit, wire_at, bundle_at, HasNames}
 use Rattle.mp_words.specs.WordLists.{change_word}
 use Rattle.mp_words.specs.WaveLines.{pair_text}
@@ -88,7 +89,7 @@ IsChange change = (change.0 < 2 ^ 64) × (change.1 < 2 ^ 64)
 three : (a b c d : Bool) → (a && b && c && d) ≡ true → (b ≡ true) × (c ≡ true) × (d ≡ true)
 three a b c d all = let front = both (a && b && c) d all in let middle = both (a && b) c front.0 in ((both a b middle.0).1, middle.1, front.1)
 
-stimulus_low : (horizon width before : ℕ) (changes : List (ℕ × ℕ)) → horizon ≤ 65536 → width ≤ 64 → is_stimulus horizon width before changes ≡ true → All IsChange changes
+stimulus_low : (horizon width before : ℕ) (changes : List (ℕ × ℕ)) → horizon ≤ max_horizon → width ≤ 64 → is_stimulus horizon width before changes ≡ true → All IsChange changes
 unfolding is_stimulus fits_width
 stimulus_low horizon width before [] short narrow all = All-nil IsChange
 stimulus_low horizon width before (change ∷ changes) short narrow all =
@@ -96,10 +97,6 @@ stimulus_low horizon width before (change ∷ changes) short narrow all =
     let early = parts.0 in
     let time : change.0 < horizon = grind (arith, nat_tests) in
     All-cons IsChange change changes (omega (arith, time, short), level_low width change.1 narrow parts.1) (stimulus_low horizon width change.0 changes short narrow parts.2)
-
-pub weaken : {X : Type 0} (P Q : X → Type 0) → ((x : X) → P x → Q x) → (xs : List X) → All P xs → All Q xs
-weaken P Q each [] all = All-nil Q
-weaken P Q each (x ∷ xs) all = All-cons Q x xs (each x (All-head P x xs all)) (weaken P Q each xs (All-tail P x xs all))
 
 pair_plain : (change : ℕ × ℕ) → IsChange change → IsPlain (pair_text change)
 pair_plain change low =
@@ -113,8 +110,8 @@ module _ (n : Circuit) (circuit : IsCircuit n) (named : HasNames n) where
   set_leads name width valid narrow None ok bytes edits rest = rest
   set_leads name width valid narrow (Some changes) ok bytes edits rest =
       let low = stimulus_low n.horizon width 0 changes circuit.horizon_high narrow ok in
-      let plain = All-cons IsPlain name (map pair_text changes) (IsPlain-name name valid) (All-map IsPlain pair_text changes (weaken IsChange (λ change. IsPlain (pair_text change)) pair_plain changes low)) in
-      let read = weaken IsChange (λ change. change_word (pair_text change) ≡ Ok change) (λ change low. change_back change low.0 low.1) changes low in
+      let plain = All-cons IsPlain name (map pair_text changes) (IsPlain-name name valid) (All-map IsPlain pair_text changes (All-weaker IsChange (λ change. IsPlain (pair_text change)) pair_plain changes low)) in
+      let read = All-weaker IsChange (λ change. change_word (pair_text change) ≡ Ok change) (λ change low. change_back change low.0 low.1) changes low in
       let first : IsPlain (codes "stim") = record { some = omega arith; plain = refl } in
       leads_line (codes "stim") (name ∷ map pair_text changes) (SetStimulus name changes) first plain (stimulus_stated name changes read) bytes edits rest
 

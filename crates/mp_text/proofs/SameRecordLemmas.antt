@@ -8,7 +8,7 @@ use Rattle.mp_records.specs.declared.module_record.ModuleRecord.{ModuleRecord}
 use Rattle.mp_records.specs.declared.ports.Output.{Output}
 use Rattle.mp_records.specs.declared.port_names.OutputName.{OutputName}
 use Rattle.mp_netlist.specs.Circuit.{Circuit, IsCircuit, empty_circuit, HasNames}
-use Rattle.mp_model.specs.Replays.{replay}
+use Rattle.mp_netlist.specs.Replays.{replay}
 use Rattle.mp_text.specs.Written.{name_in, wire_name}
 use Rattle.mp_text.specs.RoundTrips.{SameRecords, standing, output_by_name, module_edits, stimulus_edits, bundle_edits, edits_by_name}
 use Rattle.mp_text.proofs.SlotLemmas.{flat_map_agree, map_agree}

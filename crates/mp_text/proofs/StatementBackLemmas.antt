@@ -5,13 +5,14 @@ use Rattle.std.specs.Char.{is_ascii_digit, is_ascii_alphabetic}
 use Rattle.std.specs.List.{list_all}
 use Rattle.std.proofs.lemmas.Bool.Decides.{nat_tests}
 use Rattle.std.proofs.lemmas.List.{map-id}
-use Rattle.std.proofs.lemmas.List.Elements.{All-map, All-cons, All-nil, All-head, All-tail}
+use Rattle.std.proofs.lemmas.List.Elements.{All-map, All-weaker}
 use Rattle.mp_modules.specs.declared.kind.Kind.{Kind}
 use Rattle.mp_modules.specs.Kinds.{word_of}
 use Rattle.mp_modules.proofs.WordLemmas.{by_word}
 use Rattle.mp_records.specs.declared.port_names.OutputName.{OutputName}
 use Rattle.mp_records.specs.declared.edit.Edit.TheVariants.{AddWire, AddModule, AddBundle, SetStimulus}
 use Rattle.mp_records.specs.Names.{is_name, is_name_byte, begins_with_letter}
+use Rattle.mp_netlist.specs.Limits.{max_horizon}
 use Rattle.mp_words.specs.WordLists.{number_word, change_word, output_word}
 use Rattle.mp_text.specs.Statements.{is_mark, Start, Change, horizon_word, stated_horizon, wire_edit, module_edit, parts_edit, stimulus_edit, bundle_edit, stated_edit, statement_of}
 use Rattle.mp_words.specs.WaveLines.{pair_text}
@@ -20,12 +21,12 @@ use Rattle.mp_words.proofs.DividedLemmas.{before_first-append, after_first-appen
 use Rattle.mp_words.proofs.PlainLemmas.{both}
 use Rattle.mp_words.proofs.ReadBackLemmas.{number_back, each_back}
 
-pub horizon_stated : (h : ℕ) → 1 ≤ h → h ≤ 65536 → statement_of (codes "horizon" ∷ decimal h ∷ []) ≡ Start (Ok h)
+pub horizon_stated : (h : ℕ) → 1 ≤ h → h ≤ max_horizon → statement_of (codes "horizon" ∷ decimal h ∷ []) ≡ Start (Ok h)
 unfolding statement_of stated_horizon horizon_word
 horizon_stated h low high =
     let number = number_back h (omega (arith, high)) in
     let one : nat_le 1 h ≡ true = grind (arith, nat_tests) in
-    let most : nat_le h 65536 ≡ true = grind (arith, nat_tests) in
+    let most : nat_le h max_horizon ≡ true = grind (arith, nat_tests) in
     rw number (rw (one, most) refl)
 
 pub wire_stated : (name : List ℕ) (width level : ℕ) → width < 2 ^ 64 → level < 2 ^ 64
@@ -77,10 +78,6 @@ some_words : {A : Type 0} (write : A → List ℕ) (xs : List A) → 0 < length 
 some_words write [] some = absurd (omega (arith, some))
 some_words write (x ∷ xs) some = let no : (suc (length (map write xs)) == 0) ≡ false = grind (arith, nat_tests) in no
 
-All-weaken : {X : Type 0} (P Q : X → Type 0) → ((x : X) → P x → Q x) → (xs : List X) → All P xs → All Q xs
-All-weaken P Q each [] all = All-nil Q
-All-weaken P Q each (x ∷ xs) all = All-cons Q x xs (each x (All-head P x xs all)) (All-weaken P Q each xs (All-tail P x xs all))
-
 module _ {I O : Type 0} (name : List ℕ) (kind : Kind) (params : List ℕ) (inputs : List I) (outputs : List O)
     (input : I → List ℕ) (output : O → List ℕ) (see : O → OutputName)
     (low : All (λ p. p < 2 ^ 64) params) (names : All (λ i. is_name (input i) ≡ true) inputs) (reads : All (λ o. output_word (output o) ≡ Ok (see o)) outputs)
@@ -91,8 +88,8 @@ module _ {I O : Type 0} (name : List ℕ) (kind : Kind) (params : List ℕ) (inp
   pub module_stated : statement_of (codes "module" ∷ name ∷ word_of kind ∷ (map decimal params ++ (codes ":" ∷ back))) ≡ Change (Ok (AddModule name kind params (map input inputs) (map see outputs)))
   unfolding statement_of stated_edit module_edit parts_edit
   module_stated =
-      let no_colon = All-map (λ w. is_mark 58 w ≡ false) decimal params (All-weaken (λ p. p < 2 ^ 64) (λ p. is_mark 58 (decimal p) ≡ false) number_no_colon params low) in
-      let no_greater = All-map (λ w. is_mark 62 w ≡ false) input inputs (All-weaken (λ i. is_name (input i) ≡ true) (λ i. is_mark 62 (input i) ≡ false) (λ i. name_no_greater (input i)) inputs names) in
+      let no_colon = All-map (λ w. is_mark 58 w ≡ false) decimal params (All-weaker (λ p. p < 2 ^ 64) (λ p. is_mark 58 (decimal p) ≡ false) number_no_colon params low) in
+      let no_greater = All-map (λ w. is_mark 62 w ≡ false) input inputs (All-weaker (λ i. is_name (input i) ≡ true) (λ i. is_mark 62 (input i) ≡ false) (λ i. name_no_greater (input i)) inputs names) in
       let front = before_first-append (is_mark 58) (codes ":") back refl (map decimal params) no_colon in
       let ports = after_first-append (is_mark 58) (codes ":") back refl (map decimal params) no_colon in
       let ins = before_first-append (is_mark 62) (codes ">") (map output outputs) refl (map input inputs) no_greater in
@@ -100,6 +97,6 @@ module _ {I O : Type 0} (name : List ℕ) (kind : Kind) (params : List ℕ) (inp
       let i = some_words input inputs some_inputs in
       let o = some_words output outputs some_outputs in
       let k = by_word kind in
-      let numbers = each_back number_word decimal (λ p. p) params (All-weaken (λ p. p < 2 ^ 64) (λ p. number_word (decimal p) ≡ Ok p) number_back params low) ∙ ap Ok (map-id params) in
+      let numbers = each_back number_word decimal (λ p. p) params (All-weaker (λ p. p < 2 ^ 64) (λ p. number_word (decimal p) ≡ Ok p) number_back params low) ∙ ap Ok (map-id params) in
       let read = each_back output_word output see outputs reads in
       rw (front, ports) (rw (ins, outs) (rw (i, o) (rw k (rw numbers (rw read refl)))))
