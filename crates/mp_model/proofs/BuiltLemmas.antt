@@ -7,7 +7,7 @@ use Rattle.mp_records.specs.declared.wire_record.WireRecord.{WireRecord}
 use Rattle.mp_records.specs.declared.module_record.ModuleRecord.{ModuleRecord}
 use Rattle.mp_records.specs.Inputs.{no_input}
 use Rattle.mp_netlist.specs.Circuit.{Circuit, IsCircuit, IsModule, wire_at, width_of, module_width}
-use Rattle.mp_netlist.proofs.CircuitLemmas.{some_input}
+use Rattle.mp_modules.proofs.KindLemmas.{some_input}
 use Rattle.mp_storage.specs.AnyModules.{is_width_of}
 
 -- a wire that stands has a width

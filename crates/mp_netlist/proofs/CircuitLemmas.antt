@@ -6,8 +6,8 @@ use Rattle.std.proofs.Math.ListN.{length-set}
 use Rattle.std.proofs.lemmas.List.{get_or_append_left, length_push}
 use Rattle.std.specs.Prelude.{slice_index_or}
 use Rattle.mp_modules.specs.declared.kind.Kind.{Kind}
-use Rattle.mp_modules.specs.declared.kind.Kind.TheVariants as kinds
-use Rattle.mp_modules.specs.Kinds.{input_count, has_width, input_width, output_width, are_params}
+use Rattle.mp_modules.proofs.KindLemmas.{some_input}
+use Rattle.mp_modules.specs.Kinds.{has_width, input_width, output_width, are_params}
 use Rattle.mp_records.specs.declared.ids.WireId.{WireId}
 use Rattle.mp_records.specs.declared.wire_record.WireRecord.{WireRecord}
 use Rattle.mp_records.specs.declared.module_record.ModuleRecord.{ModuleRecord}
@@ -25,22 +25,6 @@ use Rattle.mp_netlist.proofs.TableLemmas.{PushedAt, pushed_at, RewrittenAt, rewr
 use Rattle.mp_netlist.proofs.NameLemmas.{wire_name, module_name, HasNames-add_wire, HasNames-rewrite_wire, HasNames-add_module, HasNames-rewrite_module, HasNames-add_bundle, HasNames-rewrite_bundle}
 use Rattle.mp_netlist.proofs.UseLemmas.{input_is_named, output_is_named, used_by_module, used_by_bundle, request_is_named, acknowledge_is_named, payload_is_named}
 use Rattle.mp_netlist.proofs.DriverLemmas.{undriven_is_free}
-
--- each kind has an input port
-pub some_input : (kind : Kind) → 0 < input_count kind
-some_input kinds.Buf = omega arith
-some_input kinds.Not = omega arith
-some_input kinds.Xor = omega arith
-some_input kinds.C = omega arith
-some_input kinds.Toggle = omega arith
-some_input kinds.Select = omega arith
-some_input kinds.Call = omega arith
-some_input kinds.Arbiter = omega arith
-some_input kinds.Reg = omega arith
-some_input kinds.AddC = omega arith
-some_input kinds.XorC = omega arith
-some_input kinds.Sum = omega arith
-some_input kinds.Bit = omega arith
 
 -- each wire of the first that passes the test stands in the second with its width
 pub record KeepsWidths (test : ℕ → Bool) (n m : Circuit) : Type 0 where

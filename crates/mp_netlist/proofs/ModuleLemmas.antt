@@ -21,7 +21,7 @@ use Rattle.mp_netlist.specs.Circuit.{Circuit, IsModule, IsDelay, IsInputDelay, H
 use Rattle.mp_netlist.specs.Drivers.{driver, is_nothing}
 use Rattle.mp_netlist.specs.Edits.{stands, wire_id, width_named, is_undriven, is_delay, is_input_delay, delays_fit, driven_names, are_distinct, first_width, new_width, inputs_stand, inputs_fit, output_fits, outputs_fit, input_of, output_of, new_module}
 use Rattle.mp_netlist.proofs.NameLemmas.{Stands, stands_from, one_wire}
-use Rattle.mp_netlist.proofs.CircuitLemmas.{some_input}
+use Rattle.mp_modules.proofs.KindLemmas.{some_input}
 use Rattle.mp_netlist.proofs.PortLemmas.{no_name, driven_pass, distinct_ports}
 use Rattle.mp_netlist.proofs.PortEditLemmas.{delay_at, input_delay_at}
 

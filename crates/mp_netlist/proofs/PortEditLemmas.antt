@@ -8,7 +8,7 @@ use Rattle.std.proofs.Math.ListN.{set, length-set}
 use Rattle.std.proofs.lemmas.Bool.{and_parts, leb-true, cases_eq}
 use Rattle.std.proofs.lemmas.List.{get_or-set_same, get_or-set_other}
 use Rattle.mp_modules.specs.declared.kind.Kind.{Kind}
-use Rattle.mp_modules.specs.declared.kind.Kind.TheVariants as kinds
+use Rattle.mp_modules.proofs.KindLemmas.{first_is_wide}
 use Rattle.mp_modules.specs.Kinds.{has_width, input_width, output_width, are_params}
 use Rattle.mp_records.specs.declared.ids.WireId.{WireId}
 use Rattle.mp_records.specs.declared.module_record.ModuleRecord.{ModuleRecord}
@@ -68,22 +68,6 @@ IsModule-with_delay n r port delay within is ok = record {
   reads = ok.reads;
   drives = λ p. subst (λ wire. IfSome wire (λ (w : WireId). HasWidth n w.0 (output_width r.kind (module_width n r) p))) (sym (wires-with_delay port delay r within p)) (ok.drives p);
 }
-
--- a kind with ports of any width has the module's width at its first input
-first_is_wide : (kind : Kind) (width : ℕ) → has_width kind ≡ true → input_width kind width 0 ≡ width
-first_is_wide kinds.Buf width wide = refl
-first_is_wide kinds.Not width wide = cc
-first_is_wide kinds.Xor width wide = cc
-first_is_wide kinds.C width wide = cc
-first_is_wide kinds.Toggle width wide = cc
-first_is_wide kinds.Select width wide = cc
-first_is_wide kinds.Call width wide = cc
-first_is_wide kinds.Arbiter width wide = cc
-first_is_wide kinds.Reg width wide = refl
-first_is_wide kinds.AddC width wide = refl
-first_is_wide kinds.XorC width wide = refl
-first_is_wide kinds.Sum width wide = refl
-first_is_wide kinds.Bit width wide = refl
 
 -- a module with another input at a port, whose wire has the port's width
 module _ (n : Circuit) (r : ModuleRecord) (port : ℕ) (input : Input) (within : port < length r.inputs) (wide : HasWidth n input.wire.0 (input_width r.kind (module_width n r) port)) where

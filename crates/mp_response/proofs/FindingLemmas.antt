@@ -46,6 +46,6 @@ extend_more t set place code d found start now new lt is has before more =
     ∙ append_assoc start (findings_among t set (take place by_number)) (cond (has_code set code) one [])
     ∙ ap (λ (fs : List (ℕ × FindingCode)). start ++ fs) (sym (findings_among-more t set by_number place code d lt is))
 
-pub extend_all : (t : ℕ) (set : FindingSet) (place : ℕ) (start now : List (ℕ × FindingCode)) → place ≡ 14 → now ≡ start ++ findings_among t set (take place by_number) → now ≡ start ++ findings_of t set
+pub extend_all : (t : ℕ) (set : FindingSet) (place : ℕ) (start now : List (ℕ × FindingCode)) → place ≡ length by_number → now ≡ start ++ findings_among t set (take place by_number) → now ≡ start ++ findings_of t set
 extend_all t set place start now end is =
     is ∙ ap (λ (n : ℕ). start ++ findings_among t set (take n by_number)) end ∙ ap (λ (fs : List (ℕ × FindingCode)). start ++ fs) (findings_among-all t set)

@@ -9,6 +9,7 @@ use Rattle.std.proofs.lemmas.List.{append-nil}
 use Rattle.std.proofs.lemmas.List.Elements.{All-cons, All-nil, All-map, All-append, All-get_or, All-from_get_or, All-weaker}
 use Rattle.mp_modules.specs.declared.kind.Kind.{Kind}
 use Rattle.mp_modules.specs.declared.kind.Kind.TheVariants as kinds
+use Rattle.mp_modules.proofs.KindLemmas.{some_input, some_output, param_bound-low}
 use Rattle.mp_modules.specs.Kinds.{word_of, param_bound, param_count, are_params, has_width, input_count, output_count, output_width}
 use Rattle.mp_records.specs.declared.ids.WireId.{WireId}
 use Rattle.mp_records.specs.declared.wire_record.WireRecord.{WireRecord}
@@ -34,34 +35,7 @@ use Rattle.mp_text.proofs.RecordBackLemmas.{wire_named}
 -- the word of a kind
 IsPlain-kind : (kind : Kind) → IsPlain (word_of kind)
 IsPlain-kind kinds.Buf = record { some = omega arith; plain = refl }
-IsPlain-kind kinds.Not = record { some = omega arith; plain = refl }
-IsPlain-kind kinds.Xor = record { some = omega arith; plain = refl }
-IsPlain-kind kinds.C = record { some = omega arith; plain = refl }
-IsPlain-kind kinds.Toggle = record { some = omega arith; plain = refl }
-IsPlain-kind kinds.Select = record { some = omega arith; plain = refl }
-IsPlain-kind kinds.Call = record { some = omega arith; plain = refl }
-IsPlain-kind kinds.Arbiter = record { some = omega arith; plain = refl }
-IsPlain-kind kinds.Reg = record { some = omega arith; plain = refl }
-IsPlain-kind kinds.AddC = record { some = omega arith; plain = refl }
-IsPlain-kind kinds.XorC = record { some = omega arith; plain = refl }
-IsPlain-kind kinds.Sum = record { some = omega arith; plain = refl }
-IsPlain-kind kinds.Bit = record { some = omega arith; plain = refl }
-
--- what a parameter is below
-bound_low : (kind : Kind) (width : ℕ) → width ≤ 64 → param_bound kind width ≤ 2 ^ 64
-bound_low kinds.Buf width narrow = omega arith
-bound_low kinds.Not width narrow = omega arith
-bound_low kinds.Xor width narrow = omega arith
-bound_low kinds.C width narrow = omega arith
-bound_low kinds.Toggle width narrow = omega arith
-bound_low kinds.Select width narrow = omega arith
-bound_low kinds.Call width narrow = omega arith
-bound_low kinds.Arbiter width narrow = omega arith
-bound_low kinds.Reg width narrow = pow-le-pow_right (omega arith) narrow
-bound_low kinds.AddC width narrow = pow-le-pow_right (omega arith) narrow
-bound_low kinds.XorC width narrow = pow-le-pow_right (omega arith) narrow
-bound_low kinds.Sum width narrow = omega arith
-bound_low kinds.Bit width narrow = omega arith
+IsPlain-kind _ = record { some = omega arith; plain = refl }
 
 below_low : (bound : ℕ) → bound ≤ 2 ^ 64 → (params : List ℕ) → list_all (λ param. nat_lt param bound) params ≡ true → All (λ p. p < 2 ^ 64) params
 below_low bound low [] all = All-nil (λ p. p < 2 ^ 64)
@@ -74,37 +48,7 @@ below_low bound low (param ∷ params) all =
 params_low : (kind : Kind) (width : ℕ) (params : List ℕ) → width ≤ 64 → IsTrue (are_params kind width params) → All (λ p. p < 2 ^ 64) params
 unfolding are_params
 params_low kind width params narrow ok =
-    below_low (param_bound kind width) (bound_low kind width narrow) params (both (length params == param_count kind) (list_all (λ param. nat_lt param (param_bound kind width)) params) ok).1
-
-inputs_some : (kind : Kind) → 0 < input_count kind
-inputs_some kinds.Buf = omega arith
-inputs_some kinds.Not = omega arith
-inputs_some kinds.Xor = omega arith
-inputs_some kinds.C = omega arith
-inputs_some kinds.Toggle = omega arith
-inputs_some kinds.Select = omega arith
-inputs_some kinds.Call = omega arith
-inputs_some kinds.Arbiter = omega arith
-inputs_some kinds.Reg = omega arith
-inputs_some kinds.AddC = omega arith
-inputs_some kinds.XorC = omega arith
-inputs_some kinds.Sum = omega arith
-inputs_some kinds.Bit = omega arith
-
-outputs_some : (kind : Kind) → 0 < output_count kind
-outputs_some kinds.Buf = omega arith
-outputs_some kinds.Not = omega arith
-outputs_some kinds.Xor = omega arith
-outputs_some kinds.C = omega arith
-outputs_some kinds.Toggle = omega arith
-outputs_some kinds.Select = omega arith
-outputs_some kinds.Call = omega arith
-outputs_some kinds.Arbiter = omega arith
-outputs_some kinds.Reg = omega arith
-outputs_some kinds.AddC = omega arith
-outputs_some kinds.XorC = omega arith
-outputs_some kinds.Sum = omega arith
-outputs_some kinds.Bit = omega arith
+    below_low (param_bound kind width) (param_bound-low kind width narrow) params (both (length params == param_count kind) (list_all (λ param. nat_lt param (param_bound kind width)) params) ok).1
 
 -- a wire that stands, if any
 abbrev Stands : Circuit → Option WireId → Type 0
@@ -198,8 +142,8 @@ module _ (n : Circuit) (circuit : IsCircuit n) (named : HasNames n) where
     module_leads : SlotLeads (module_line n) (module_edits n) (Some r)
     module_leads =
         let outs = All-weaker IsOutput (λ o. output_word (output_text n o) ≡ Ok (output_by_name n o)) (λ o low. output_back o.wire o.delay low.0 low.1) r.outputs outputs_ok in
-        let some_inputs : 0 < length r.inputs = subst (λ k. 0 < k) (sym ok.inputs) (inputs_some r.kind) in
-        let some_outputs : 0 < length r.outputs = subst (λ k. 0 < k) (sym ok.outputs) (outputs_some r.kind) in
+        let some_inputs : 0 < length r.inputs = subst (λ k. 0 < k) (sym ok.inputs) (some_input r.kind) in
+        let some_outputs : 0 < length r.outputs = subst (λ k. 0 < k) (sym ok.outputs) (some_output r.kind) in
         let unmarked = All-weaker IsInput (λ i. is_mark 62 (input_text n i) ≡ false) (λ i is. name_no_greater (wire_name n i.wire) (delay_text i.delay) is.0) r.inputs inputs_ok in
         let heard = All-weaker IsInput (λ i. input_word (input_text n i) ≡ Ok (input_by_name n i)) (λ i is. named_back (wire_name n i.wire) i.delay is.0 is.1) r.inputs inputs_ok in
         let stated = module_stated r.name r.kind r.params r.inputs r.outputs (input_text n) (input_by_name n) (output_text n) (output_by_name n) params_ok unmarked heard outs some_inputs some_outputs in

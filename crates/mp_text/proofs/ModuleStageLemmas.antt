@@ -21,7 +21,7 @@ use Rattle.mp_netlist.specs.Limits.{max_modules, max_delay}
 use Rattle.mp_netlist.specs.Circuit.{Circuit, IsCircuit, IsModule, IsDelay, IsInputDelay, HasWidth, Drives, wire_at, module_at, width_of, module_width, HasNames}
 use Rattle.mp_netlist.specs.Edits.{refusal, edited, after, stands, wire_id, width_named, is_undriven, is_delay, is_input_delay, delays_fit, driven_names, are_distinct, first_width, new_width, inputs_stand, inputs_fit, output_fits, outputs_fit, module_checks, input_of, output_of, new_module, without_stimulus}
 use Rattle.mp_netlist.proofs.PortLemmas.{no_name}
-use Rattle.mp_netlist.proofs.CircuitLemmas.{some_input}
+use Rattle.mp_modules.proofs.KindLemmas.{some_input}
 use Rattle.mp_text.specs.Written.{wire_name}
 use Rattle.mp_text.specs.RoundTrips.{module_edits, input_by_name, output_by_name}
 use Rattle.mp_text.proofs.SlotLemmas.{All-flat_map, All-from_flat_map, list_all_from, Unnamed, named_nowhere, front_unnamed}

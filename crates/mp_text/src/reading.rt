@@ -11,7 +11,7 @@ use mp_words::first_line;
 use std::alloc::Global;
 
 /// How many bytes a text may have.
-const MAX_TEXT: usize = 4_194_304;
+pub const MAX_TEXT: usize = 4_194_304;
 
 /// The netlist of a text of `horizon`, `wire`, `module`, `stim` and `bundle` statements, one a
 /// line: the empty netlist of the horizon after the edits of the others in turn. A statement

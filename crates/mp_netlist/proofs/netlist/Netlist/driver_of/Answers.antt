@@ -1,8 +1,6 @@
 use Rattle.std.proofs.Common.{◌≡◌, ◌<◌, ◌^◌, ℕ, All, Option, Some, None, slice_index_or, is_some, true, false, sym, ap, subst, ◌∙◌, arith}
 use Rattle.std.proofs.lemmas.List.{get_or_default}
-use Rattle.mp_modules.specs.declared.kind.Kind.{Kind}
-use Rattle.mp_modules.specs.declared.kind.Kind.TheVariants as kinds
-use Rattle.mp_modules.specs.Kinds.{output_count}
+use Rattle.mp_modules.proofs.KindLemmas.{few_outputs}
 use Rattle.mp_records.specs.declared.module_record.ModuleRecord.{ModuleRecord}
 use Rattle.mp_netlist.specs.Circuit.{Circuit, IsCircuit, module_at, stimulus_at}
 use Rattle.mp_netlist.specs.Drivers.{driver, driver_from}
@@ -11,21 +9,6 @@ use Rattle.mp_netlist.specs.DriverSearch.{HasFewPorts}
 use Rattle.mp_netlist.specs.Records.{circuit_of}
 use Rattle.mp_netlist.proofs.DriverLemmas.{stimulus_drives, portless_driver}
 use Rattle.mp_netlist.proofs.netlist.Netlist.driver_of.Goals as goal
-
-few_outputs : (kind : Kind) → output_count kind < 2 ^ 32
-few_outputs kinds.Buf = omega arith
-few_outputs kinds.Not = omega arith
-few_outputs kinds.Xor = omega arith
-few_outputs kinds.C = omega arith
-few_outputs kinds.Toggle = omega arith
-few_outputs kinds.Select = omega arith
-few_outputs kinds.Call = omega arith
-few_outputs kinds.Arbiter = omega arith
-few_outputs kinds.Reg = omega arith
-few_outputs kinds.AddC = omega arith
-few_outputs kinds.XorC = omega arith
-few_outputs kinds.Sum = omega arith
-few_outputs kinds.Bit = omega arith
 
 few_ports : (n : Circuit) → IsCircuit n → (m : ℕ) (slot : Option ModuleRecord) → module_at n m ≡ slot → HasFewPorts slot
 few_ports n ok m None at = tt
