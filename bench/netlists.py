@@ -89,3 +89,22 @@ def edited_buffers(wires, edits, horizon):
         else:
             lines.append(f"delay b{edit % (wires - 1)} 0 {1 + edit % 7}")
     return "\n".join(lines) + "\n"
+
+
+def delayed_pipeline(stages, delay, horizon):
+    """A control pipeline whose acknowledges come late: the input of each stage hears of the stage behind it after this delay."""
+    return control_pipeline(stages, horizon).replace(" > q", f"/{delay} > q")
+
+
+def long_horizon(horizon):
+    """A buffer of ten changes over a long time."""
+    pairs = " ".join(f"{(i + 1) * horizon // 11}={(i + 1) % 2}" for i in range(10))
+    return f"format 2\nhorizon {horizon}\nwire a 1 0\nwire y 1 0\nmodule b BUF : a > y/3\nstim a {pairs}\n"
+
+
+def batched_buffers(wires, batches, horizon):
+    """The same chain and edits as in `edited_buffers`, 256 in a batch."""
+    front, _, script = edited_buffers(wires, 256 * batches, horizon).partition("---\n")
+    edits = script.splitlines()
+    lines = ["batch " + " ; ".join(edits[i : i + 256]) for i in range(0, len(edits), 256)]
+    return front + "---\n" + "\n".join(lines) + "\n"
