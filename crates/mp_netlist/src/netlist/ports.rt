@@ -201,7 +201,7 @@ impl Netlist {
     pub(crate) fn inputs_of(&self, inputs: &InputNames) -> Result<Inputs, AllocError>
         ensures { IfOk result (λ wires. wires ≡ map (wire_id self.now) inputs.now) }
     {
-        let mut wires = Vec::new(*self.modules.allocator());
+        let mut wires = Vec::new(self.modules.allocator());
         for name in inputs.as_slice() {
             wires.push(self.id_of(name))?;
         }
@@ -213,7 +213,7 @@ impl Netlist {
         requires { IsTrue (list_all (λ o. is_delay o.delay) outputs.now) }
         ensures { IfOk result (λ ports. ports ≡ map (output_of self.now) outputs.now) }
     {
-        let mut ports = Vec::new(*self.modules.allocator());
+        let mut ports = Vec::new(self.modules.allocator());
         for port in outputs.as_slice() {
             ports.push(Output {
                 wire: port.wire.as_ref().map(|name| self.id_of(name)),
