@@ -1,7 +1,7 @@
 //! The waves of a netlist, where there is memory.
 use crate::plain_waves;
 use mp_modules::Kind;
-use mp_netlist::{Edit, InputNames, Name, Netlist, OutputName, OutputNames, Params};
+use mp_netlist::{Edit, InputName, InputNames, Name, Netlist, OutputName, OutputNames, Params};
 use std::alloc::{AllocError, Global};
 use std::test::Fail;
 
@@ -19,6 +19,10 @@ fn wire(alloc: Global) -> Result<Edit, AllocError> {
 
 /// An inverter that reads its own output.
 fn inverter(alloc: Global) -> Result<Edit, AllocError> {
+    let input = InputName {
+        wire: name(alloc)?,
+        delay: 0,
+    };
     let output = OutputName {
         wire: Some(name(alloc)?),
         delay: 1,
@@ -27,7 +31,7 @@ fn inverter(alloc: Global) -> Result<Edit, AllocError> {
         name: name(alloc)?,
         kind: Kind::Not,
         params: Params::new(Vec::new(alloc)),
-        inputs: InputNames::new(vec![in alloc; name(alloc)?]?),
+        inputs: InputNames::new(vec![in alloc; input]?),
         outputs: OutputNames::new(vec![in alloc; output]?),
     })
 }

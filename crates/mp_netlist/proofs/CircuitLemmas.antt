@@ -5,7 +5,6 @@ use Rattle.std.specs.Option.{IfSome}
 use Rattle.std.proofs.Math.ListN.{length-set}
 use Rattle.std.proofs.lemmas.List.{get_or_append_left, length_push}
 use Rattle.std.specs.Prelude.{slice_index_or}
-use Rattle.mp_modules.specs.declared.kind.Kind.{Kind}
 use Rattle.mp_modules.proofs.KindLemmas.{some_input}
 use Rattle.mp_modules.specs.Kinds.{has_width, input_width, output_width, are_params}
 use Rattle.mp_records.specs.declared.ids.WireId.{WireId}

@@ -8,4 +8,3 @@ pub mod PortLemmas
 pub mod PortEditLemmas
 pub mod ModuleLemmas
 pub mod EditLemmas
-pub mod RecordLemmas

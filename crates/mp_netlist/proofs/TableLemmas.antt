@@ -1,5 +1,5 @@
 -- The look-up of a name among slots, and what each change of a slot does to the names and to their table.
-use Rattle.std.proofs.Common.{◌≡◌, ℕ, zero, suc, ◌+◌, ◌-◌, ◌<◌, ◌≤◌, ◌↔◌, Bool, true, false, cond, List, [], ◌∷◌, ◌++◌, length, get_or, Option, None, Some, MatchOption, is_some, is_none, unwrap_or, ◌⊎◌, inl, inr, refl, sym, ap, subst, ◌∙◌, arith, true≢false, String, string_bytes, length-append}
+use Rattle.std.proofs.Common.{◌≡◌, ℕ, zero, suc, ◌+◌, ◌-◌, ◌<◌, ◌≤◌, ◌↔◌, Bool, true, false, cond, List, [], ◌∷◌, ◌++◌, length, get_or, Option, None, Some, option_map, MatchOption, is_some, is_none, unwrap_or, ◌⊎◌, inl, inr, refl, sym, ap, subst, ◌∙◌, arith, true≢false, String, string_bytes, length-append}
 use Rattle.std.proofs.Math.ListN.{set}
 use Rattle.std.specs.Map.{lookup}
 use Rattle.std.specs.List.{AllZip, position_from}
@@ -10,7 +10,7 @@ use Rattle.std.proofs.lemmas.Slice.Eq.{bytes_eq-Decides}
 use Rattle.std.proofs.lemmas.Bool.{cases_lt, cases_eq}
 use Rattle.mp_records.specs.Names.{is_name}
 use Rattle.mp_netlist.specs.Slots.{has_name, number_named}
-use Rattle.mp_netlist.specs.Records.{Finds, IsTable}
+use Rattle.mp_netlist.specs.Tables.{Finds, IsTable}
 
 module _ {X : Type 0} (p : X → Bool) (d : X) (none : p d ≡ false) where
   -- what the first place that passes is, or that none passes
@@ -332,3 +332,9 @@ module _ {R : Type 0} (name_of : R → List ℕ) where
         by (inl a) (inr b) = taken i r a (ap name_of (sym b.1) ∙ sym same)
         by (inr a) (inl b) = taken j s b (ap name_of (sym a.1) ∙ same)
         by (inr a) (inr b) = a.0 ∙ sym b.0
+
+-- a change that keeps a thing's name keeps that of what stands in a slot
+pub has_name-map : {R : Type 0} (name_of : R → List ℕ) (changed : R → R) → ((thing : R) → name_of (changed thing) ≡ name_of thing) → (q : List ℕ) (slot : Option R)
+    → has_name name_of q (option_map changed slot) ≡ has_name name_of q slot
+has_name-map name_of changed keeps q None = refl
+has_name-map name_of changed keeps q (Some thing) = ap (bytes_eq q) (keeps thing)

@@ -1,6 +1,7 @@
 pub mod Limits
 pub mod NewErrors
 pub mod Slots
+pub mod Tables
 pub mod Circuit
 pub mod Drivers
 pub mod Uses

@@ -5,6 +5,8 @@ mod driver;
 pub mod laws;
 mod netlist;
 mod new_error;
+mod record_changes;
+mod table;
 #[cfg(test)]
 mod tests;
 

@@ -11,7 +11,7 @@ mod uses;
 mod widths;
 
 use crate::new_error::NewError;
-use indexmap::IndexMap;
+use crate::table::Table;
 use mp_records::{BundleId, BundleRecord, ModuleId, ModuleRecord, WireId, WireRecord};
 use std::alloc::Global;
 use std::marker::Model;
@@ -38,12 +38,9 @@ pub const MAX_SETUP: u64 = 65535;
 #[derive(Drop)]
 pub struct Netlist {
     horizon: u32,
-    wires: Vec<Option<WireRecord>>,
-    modules: Vec<Option<ModuleRecord>>,
-    bundles: Vec<Option<BundleRecord>>,
-    wire_names: IndexMap<String, u32>,
-    module_names: IndexMap<String, u32>,
-    bundle_names: IndexMap<String, u32>,
+    wires: Table<WireRecord>,
+    modules: Table<ModuleRecord>,
+    bundles: Table<BundleRecord>,
 }
 
 impl Model for Netlist {
@@ -77,12 +74,9 @@ impl Netlist {
         }
         Ok(Netlist {
             horizon: horizon as u32,
-            wires: Vec::new(alloc),
-            modules: Vec::new(alloc),
-            bundles: Vec::new(alloc),
-            wire_names: IndexMap::new(alloc),
-            module_names: IndexMap::new(alloc),
-            bundle_names: IndexMap::new(alloc),
+            wires: Table::new(alloc),
+            modules: Table::new(alloc),
+            bundles: Table::new(alloc),
         })
     }
 
@@ -125,10 +119,7 @@ impl Netlist {
         ensures value { option_copied result ≡ wire_at self.now id.0 }
         ensures form { IfSome result (λ found. IsWire self.now.horizon found.now) }
     {
-        match self.wires.get(id.0 as usize) {
-            Some(Some(found)) => Some(found),
-            _ => None,
-        }
+        self.wires.get(id.0)
     }
 
     /// The module of this number, where it stands.
@@ -136,10 +127,7 @@ impl Netlist {
         ensures value { option_copied result ≡ module_at self.now id.0 }
         ensures form { IfSome result (λ found. IsModule self.now found.now) }
     {
-        match self.modules.get(id.0 as usize) {
-            Some(Some(found)) => Some(found),
-            _ => None,
-        }
+        self.modules.get(id.0)
     }
 
     /// The bundle of this number, where it stands.
@@ -147,18 +135,15 @@ impl Netlist {
         ensures value { option_copied result ≡ bundle_at self.now id.0 }
         ensures form { IfSome result (λ found. IsBundle self.now found.now) }
     {
-        match self.bundles.get(id.0 as usize) {
-            Some(Some(found)) => Some(found),
-            _ => None,
-        }
+        self.bundles.get(id.0)
     }
 
     /// The number of the wire that has this name.
     pub fn wire_named(&self, name: &str) -> Option<WireId>
         ensures { option_map (λ id. id.0) result ≡ wire_named self.now name.now }
     {
-        match self.wire_names.get(name) {
-            Some(number) => Some(WireId(*number)),
+        match self.wires.number_named(name) {
+            Some(number) => Some(WireId(number)),
             None => None,
         }
     }
@@ -167,8 +152,8 @@ impl Netlist {
     pub fn module_named(&self, name: &str) -> Option<ModuleId>
         ensures { option_map (λ id. id.0) result ≡ module_named self.now name.now }
     {
-        match self.module_names.get(name) {
-            Some(number) => Some(ModuleId(*number)),
+        match self.modules.number_named(name) {
+            Some(number) => Some(ModuleId(number)),
             None => None,
         }
     }
@@ -177,8 +162,8 @@ impl Netlist {
     pub fn bundle_named(&self, name: &str) -> Option<BundleId>
         ensures { option_map (λ id. id.0) result ≡ bundle_named self.now name.now }
     {
-        match self.bundle_names.get(name) {
-            Some(number) => Some(BundleId(*number)),
+        match self.bundles.number_named(name) {
+            Some(number) => Some(BundleId(number)),
             None => None,
         }
     }

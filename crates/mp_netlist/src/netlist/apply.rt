@@ -1,13 +1,12 @@
 //! What an edit does to a netlist.
-ghost use Rattle.std.specs.Prelude.{◌≡◌, ◌<◌, None, option_map, slice_index_or, slice_set, vec_len};
-ghost use Rattle.mp_records.specs.PortChanges.{with_input, with_input_delay, with_output, with_delay};
-ghost use Rattle.mp_netlist.specs.Edits.{with_stimulus, without_stimulus};
-
 use crate::netlist::Netlist;
+use crate::record_changes::{
+    NewDelay, NewInput, NewInputDelay, NewOutput, NewStimulus, NoStimulus,
+};
 use mp_modules::Kind;
 use mp_records::{
     BundleRecord, Changes, Edit, EditError, InputNames, ModuleRecord, Name, OutputNames, Params,
-    Stimulus, WireId, WireRecord,
+    WireRecord,
 };
 use std::alloc::AllocError;
 
@@ -76,23 +75,16 @@ impl Netlist {
             initial: level,
             stimulus: None,
         };
-        let key = name.clone()?.into_string();
-        self.put_wire(key, added)?;
-        Ok(())
+        self.put_wire(added)
     }
 
-    fn put_wire(&mut self, key: String, added: WireRecord) -> Result<(), AllocError>
-        requires key { string_bytes key ≡ added.name }
+    fn put_wire(&mut self, added: WireRecord) -> Result<(), AllocError>
         requires free { wire_named self.old added.name ≡ None }
         requires fits { IsCircuit self.old → IsCircuit (with_wire_record self.old added) }
         ensures ok { OnOk result (self.new ≡ with_wire_record self.old added) }
         ensures err { OnErr result (self.new ≡ self.old) }
     {
-        let number = self.wires.len() as u32;
-        self.wires.reserve(1)?;
-        self.wire_names.insert(key, number)?;
-        self.wires.push(Some(added)).unwrap();
-        Ok(())
+        self.wires.push(added)
     }
 
     fn remove_wire(&mut self, name: &Name)
@@ -100,8 +92,7 @@ impl Netlist {
         ensures { self.new ≡ with_wire self.old (wire_id self.old name.now).0 None }
     {
         let id = self.id_of(name);
-        let _ = self.wire_names.swap_remove(name.as_str());
-        clear(&mut self.wires, id.0 as usize);
+        self.wires.remove(name.as_str(), id.0);
     }
 
     fn add_module(
@@ -123,23 +114,16 @@ impl Netlist {
             inputs: self.inputs_of(inputs)?,
             outputs: self.outputs_of(outputs)?,
         };
-        let key = name.clone()?.into_string();
-        self.put_module(key, added)?;
-        Ok(())
+        self.put_module(added)
     }
 
-    fn put_module(&mut self, key: String, added: ModuleRecord) -> Result<(), AllocError>
-        requires key { string_bytes key ≡ added.name }
+    fn put_module(&mut self, added: ModuleRecord) -> Result<(), AllocError>
         requires free { module_named self.old added.name ≡ None }
         requires fits { IsCircuit self.old → IsCircuit (with_new_module self.old added) }
         ensures ok { OnOk result (self.new ≡ with_new_module self.old added) }
         ensures err { OnErr result (self.new ≡ self.old) }
     {
-        let number = self.modules.len() as u32;
-        self.modules.reserve(1)?;
-        self.module_names.insert(key, number)?;
-        self.modules.push(Some(added)).unwrap();
-        Ok(())
+        self.modules.push(added)
     }
 
     fn remove_module(&mut self, name: &Name)
@@ -147,8 +131,7 @@ impl Netlist {
         ensures { self.new ≡ with_module self.old (module_id self.old name.now).0 None }
     {
         let id = self.module_id(name);
-        let _ = self.module_names.swap_remove(name.as_str());
-        clear(&mut self.modules, id.0 as usize);
+        self.modules.remove(name.as_str(), id.0);
     }
 
     fn add_bundle(
@@ -170,23 +153,16 @@ impl Netlist {
             payload: self.id_of(payload),
             setup: setup as u32,
         };
-        let key = name.clone()?.into_string();
-        self.put_bundle(key, added)?;
-        Ok(())
+        self.put_bundle(added)
     }
 
-    fn put_bundle(&mut self, key: String, added: BundleRecord) -> Result<(), AllocError>
-        requires key { string_bytes key ≡ added.name }
+    fn put_bundle(&mut self, added: BundleRecord) -> Result<(), AllocError>
         requires free { bundle_named self.old added.name ≡ None }
         requires fits { IsCircuit self.old → IsCircuit (with_new_bundle self.old added) }
         ensures ok { OnOk result (self.new ≡ with_new_bundle self.old added) }
         ensures err { OnErr result (self.new ≡ self.old) }
     {
-        let number = self.bundles.len() as u32;
-        self.bundles.reserve(1)?;
-        self.bundle_names.insert(key, number)?;
-        self.bundles.push(Some(added)).unwrap();
-        Ok(())
+        self.bundles.push(added)
     }
 
     fn remove_bundle(&mut self, name: &Name)
@@ -194,8 +170,7 @@ impl Netlist {
         ensures { self.new ≡ with_bundle self.old (bundle_id self.old name.now).0 None }
     {
         let id = self.bundle_id(name);
-        let _ = self.bundle_names.swap_remove(name.as_str());
-        clear(&mut self.bundles, id.0 as usize);
+        self.bundles.remove(name.as_str(), id.0);
     }
 
     fn rewire_input(&mut self, name: &Name, port: u64, wire: &Name)
@@ -205,7 +180,8 @@ impl Netlist {
     {
         let id = self.module_id(name);
         let read = self.id_of(wire);
-        rewire_port(&mut self.modules, id.0 as usize, port as usize, read);
+        let port = port as usize;
+        self.modules.change(id.0, NewInput { port, wire: read });
     }
 
     fn rewire_output(&mut self, name: &Name, port: u64, wire: &Option<Name>)
@@ -215,7 +191,8 @@ impl Netlist {
     {
         let id = self.module_id(name);
         let driven = self.driven_id(wire);
-        redirect_port(&mut self.modules, id.0 as usize, port as usize, driven);
+        let port = port as usize;
+        self.modules.change(id.0, NewOutput { port, wire: driven });
     }
 
     fn set_input_delay(&mut self, name: &Name, port: u64, delay: u64)
@@ -224,12 +201,8 @@ impl Netlist {
             (option_map (with_input_delay port delay) (module_at self.old (module_id self.old name.now).0)) }
     {
         let id = self.module_id(name);
-        delay_input(
-            &mut self.modules,
-            id.0 as usize,
-            port as usize,
-            delay as u32,
-        );
+        let (port, delay) = (port as usize, delay as u32);
+        self.modules.change(id.0, NewInputDelay { port, delay });
     }
 
     fn set_delay(&mut self, name: &Name, port: u64, delay: u64)
@@ -238,12 +211,8 @@ impl Netlist {
             (option_map (with_delay port delay) (module_at self.old (module_id self.old name.now).0)) }
     {
         let id = self.module_id(name);
-        delay_port(
-            &mut self.modules,
-            id.0 as usize,
-            port as usize,
-            delay as u32,
-        );
+        let (port, delay) = (port as usize, delay as u32);
+        self.modules.change(id.0, NewDelay { port, delay });
     }
 
     fn set_stimulus(&mut self, name: &Name, changes: &Changes) -> Result<(), AllocError>
@@ -252,9 +221,9 @@ impl Netlist {
             (option_map (with_stimulus changes.now) (wire_at self.old (wire_id self.old name.now).0))) }
         ensures err { OnErr result (self.new ≡ self.old) }
     {
-        let stimulus = changes.to_stimulus(*self.wires.allocator())?;
+        let stimulus = changes.to_stimulus(self.wires.allocator())?;
         let id = self.id_of(name);
-        stimulate(&mut self.wires, id.0 as usize, stimulus);
+        self.wires.change(id.0, NewStimulus { stimulus });
         Ok(())
     }
 
@@ -264,85 +233,6 @@ impl Netlist {
             (option_map without_stimulus (wire_at self.old (wire_id self.old name.now).0)) }
     {
         let id = self.id_of(name);
-        calm(&mut self.wires, id.0 as usize);
-    }
-}
-
-/// Takes away what stands in the slot of this number.
-fn clear<T: Drop>(slots: &mut Vec<Option<T>>, number: usize)
-    requires { number < vec_len slots.old }
-    ensures { slots.new.items ≡ slice_set slots.old.items number None }
-{
-    slots[number] = None;
-}
-
-/// Sets the wire of an input port of the module of this number, where it stands. The port keeps its delay.
-fn rewire_port(modules: &mut Vec<Option<ModuleRecord>>, number: usize, port: usize, wire: WireId)
-    requires { number < vec_len modules.old }
-    ensures { modules.new.items ≡ slice_set modules.old.items number
-        (option_map (with_input port wire) (slice_index_or modules.old.items number None)) }
-{
-    if let Some(found) = &mut modules[number] {
-        found.set_input(port, wire);
-    }
-}
-
-/// Sets the wire of an output port of the module of this number, where it stands.
-fn redirect_port(
-    modules: &mut Vec<Option<ModuleRecord>>,
-    number: usize,
-    port: usize,
-    wire: Option<WireId>,
-)
-    requires { number < vec_len modules.old }
-    ensures { modules.new.items ≡ slice_set modules.old.items number
-        (option_map (with_output port wire) (slice_index_or modules.old.items number None)) }
-{
-    if let Some(found) = &mut modules[number] {
-        found.set_output(port, wire);
-    }
-}
-
-/// Sets the delay of an input port of the module of this number, where it stands.
-fn delay_input(modules: &mut Vec<Option<ModuleRecord>>, number: usize, port: usize, delay: u32)
-    requires { number < vec_len modules.old }
-    ensures { modules.new.items ≡ slice_set modules.old.items number
-        (option_map (with_input_delay port delay) (slice_index_or modules.old.items number None)) }
-{
-    if let Some(found) = &mut modules[number] {
-        found.set_input_delay(port, delay);
-    }
-}
-
-/// Sets the delay of an output port of the module of this number, where it stands.
-fn delay_port(modules: &mut Vec<Option<ModuleRecord>>, number: usize, port: usize, delay: u32)
-    requires { number < vec_len modules.old }
-    ensures { modules.new.items ≡ slice_set modules.old.items number
-        (option_map (with_delay port delay) (slice_index_or modules.old.items number None)) }
-{
-    if let Some(found) = &mut modules[number] {
-        found.set_delay(port, delay);
-    }
-}
-
-/// Gives the wire of this number a stimulus, where it stands.
-fn stimulate(wires: &mut Vec<Option<WireRecord>>, number: usize, stimulus: Stimulus)
-    requires { number < vec_len wires.old }
-    ensures { wires.new.items ≡ slice_set wires.old.items number
-        (option_map (with_stimulus stimulus) (slice_index_or wires.old.items number None)) }
-{
-    if let Some(wire) = &mut wires[number] {
-        wire.stimulus = Some(stimulus);
-    }
-}
-
-/// Takes the stimulus of the wire of this number away, where it stands.
-fn calm(wires: &mut Vec<Option<WireRecord>>, number: usize)
-    requires { number < vec_len wires.old }
-    ensures { wires.new.items ≡ slice_set wires.old.items number
-        (option_map without_stimulus (slice_index_or wires.old.items number None)) }
-{
-    if let Some(wire) = &mut wires[number] {
-        wire.stimulus = None;
+        self.wires.change(id.0, NoStimulus);
     }
 }

@@ -1,8 +1,5 @@
 //! Copies of a netlist.
-ghost use Rattle.std.specs.Prelude.{◌≡◌, IfOk};
-
 use crate::netlist::Netlist;
-use mp_records::{BundleRecord, ModuleRecord, WireRecord};
 use std::alloc::AllocError;
 
 impl Netlist {
@@ -14,30 +11,9 @@ impl Netlist {
     {
         Ok(Netlist {
             horizon: self.horizon,
-            wires: copy_wires(&self.wires)?,
-            modules: copy_modules(&self.modules)?,
-            bundles: copy_bundles(&self.bundles)?,
-            wire_names: self.wire_names.clone()?,
-            module_names: self.module_names.clone()?,
-            bundle_names: self.bundle_names.clone()?,
+            wires: self.wires.copy()?,
+            modules: self.modules.copy()?,
+            bundles: self.bundles.copy()?,
         })
     }
-}
-
-fn copy_wires(slots: &Vec<Option<WireRecord>>) -> Result<Vec<Option<WireRecord>>, AllocError>
-    ensures { IfOk result (λ copy. copy.items ≡ slots.now.items) }
-{
-    Vec::from_clones(*slots.allocator(), slots.as_slice())
-}
-
-fn copy_modules(slots: &Vec<Option<ModuleRecord>>) -> Result<Vec<Option<ModuleRecord>>, AllocError>
-    ensures { IfOk result (λ copy. copy.items ≡ slots.now.items) }
-{
-    Vec::from_clones(*slots.allocator(), slots.as_slice())
-}
-
-fn copy_bundles(slots: &Vec<Option<BundleRecord>>) -> Result<Vec<Option<BundleRecord>>, AllocError>
-    ensures { IfOk result (λ copy. copy.items ≡ slots.now.items) }
-{
-    Vec::from_clones(*slots.allocator(), slots.as_slice())
 }

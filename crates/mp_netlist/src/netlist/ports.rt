@@ -203,7 +203,7 @@ impl Netlist {
         requires { IsTrue (list_all (λ i. is_input_delay i.delay) inputs.now) }
         ensures { IfOk result (λ ports. ports ≡ map (input_of self.now) inputs.now) }
     {
-        let mut ports = Vec::new(*self.modules.allocator());
+        let mut ports = Vec::new(self.modules.allocator());
         for port in inputs.as_slice() {
             ports.push(Input {
                 wire: self.id_of(&port.wire),
@@ -218,7 +218,7 @@ impl Netlist {
         requires { IsTrue (list_all (λ o. is_delay o.delay) outputs.now) }
         ensures { IfOk result (λ ports. ports ≡ map (output_of self.now) outputs.now) }
     {
-        let mut ports = Vec::new(*self.modules.allocator());
+        let mut ports = Vec::new(self.modules.allocator());
         for port in outputs.as_slice() {
             ports.push(Output {
                 wire: port.wire.as_ref().map(|name| self.id_of(name)),

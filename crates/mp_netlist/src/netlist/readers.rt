@@ -17,7 +17,7 @@ impl Netlist {
     pub fn readers_of(&self, wire: WireId) -> Result<Vec<(ModuleId, u32)>, AllocError>
         ensures { IfOk result (λ found. found.items ≡ readers self.now wire.0) }
     {
-        let mut found = Vec::new(*self.modules.allocator());
+        let mut found = Vec::new(self.modules.allocator());
         push_readers(&mut found, self.modules.as_slice(), wire)?;
         Ok(found)
     }

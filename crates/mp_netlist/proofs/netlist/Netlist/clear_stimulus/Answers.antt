@@ -1,12 +1,9 @@
-use Rattle.std.proofs.Common.{◌≡◌, ◌<◌, length, None, option_map, refl, sym, ap, subst, arith}
+use Rattle.std.proofs.Common.{◌≡◌, None, option_map, sym, ap, subst}
 use Rattle.mp_records.specs.declared.ids.WireId.{WireId}
 use Rattle.mp_netlist.specs.Circuit.{Circuit, IsCircuit, wire_at}
 use Rattle.mp_netlist.specs.Edits.{wire_id, with_wire, without_stimulus, clearing_refusal}
 use Rattle.mp_netlist.specs.Records.{circuit_of}
-use Rattle.mp_netlist.proofs.NameLemmas.{wire_name, stands_within}
-use Rattle.mp_netlist.proofs.TableLemmas.{IsTable-rewrite}
-use Rattle.mp_netlist.proofs.EditLemmas.{clearing, IsCircuit-cleared}
-use Rattle.mp_netlist.proofs.RecordLemmas.{AreRecords-wires, has_name-without_stimulus}
+use Rattle.mp_netlist.proofs.EditLemmas.{IsCircuit-cleared}
 use Rattle.mp_netlist.proofs.netlist.Netlist.clear_stimulus.Goals as goal
 
 pub invariant_of-self : goal.invariant_of-self
@@ -16,9 +13,5 @@ invariant_of-self c =
     let none = subst (λ (m : Circuit). clearing_refusal m name ≡ None) (sym c.self.view_is) c.requires in
     let same = subst (λ (m : Circuit). c.id_of-id.result ≡ wire_id m name) (sym c.self.view_is) c.id_of-id.ensures in
     let id = ap (λ (w : WireId). w.0) same in
-    let here : (wire_id n name).0 < length n.wires = stands_within n name (clearing n name none) in
-    let within : c.id_of-id.result.0 < length n.wires = omega (arith, here, id) in
     let fits = subst (λ i. IsCircuit (with_wire n i (option_map without_stimulus (wire_at n i)))) (sym id) (IsCircuit-cleared n c.self.invariant.circuit name none) in
-    AreRecords-wires c.self.inside _ c.self.invariant refl refl refl _ c.calm.ensures fits
-    (IsTable-rewrite wire_name n.wires _ c.id_of-id.result.0 _ within (λ q. has_name-without_stimulus q _) c.self.invariant.wire_table)
-    refl refl
+    record { circuit = subst (λ slots. IsCircuit (record n { wires = slots })) (sym c.change.ensures) fits }

@@ -1,4 +1,4 @@
-use Rattle.std.proofs.Common.{◌≡◌, ◌<◌, ◌^◌, ℕ, All, Option, Some, None, slice_index_or, is_some, true, false, sym, ap, subst, ◌∙◌, arith}
+use Rattle.std.proofs.Common.{◌≡◌, ℕ, All, Option, Some, None, slice_index_or, is_some, true, false, sym, ap, subst, ◌∙◌, arith}
 use Rattle.std.proofs.lemmas.List.{get_or_default}
 use Rattle.mp_modules.proofs.KindLemmas.{few_outputs}
 use Rattle.mp_records.specs.declared.module_record.ModuleRecord.{ModuleRecord}
@@ -18,7 +18,7 @@ all_few : (n : Circuit) → IsCircuit n → All HasFewPorts n.modules
 all_few n ok k d in_range = few_ports n ok k (slice_index_or n.modules k d) (get_or_default n.modules k None d in_range)
 
 pub driver_among-requires-clause-forms : goal.driver_among-requires-clause-forms
-driver_among-requires-clause-forms c = rw c.as_slice-modules.ensures.value (all_few (circuit_of c.self.inside) c.self.invariant.circuit)
+driver_among-requires-clause-forms c = rw c.as_slice-modules.ensures (all_few (circuit_of c.self.inside) c.self.invariant.circuit)
 
 pub returns-then-has_stimulus : goal.returns-then-has_stimulus
 returns-then-has_stimulus c =
@@ -29,4 +29,4 @@ pub returns : goal.returns
 returns c =
     let unset : is_some (stimulus_at (circuit_of c.self.inside) c.args.wire.0) ≡ false =
     subst (λ (n : Circuit). is_some (stimulus_at n c.args.wire.0) ≡ false) (sym c.self.view_is) (sym c.has_stimulus.ensures ∙ c.if-has_stimulus.false) in
-    rw (← c.self.view_is) (c.driver_among.ensures ∙ ap (λ slots. driver_from 0 slots c.args.wire.0 Nothing) c.as_slice-modules.ensures.value ∙ portless_driver (circuit_of c.self.inside) c.args.wire.0 unset)
+    rw (← c.self.view_is) (c.driver_among.ensures ∙ ap (λ slots. driver_from 0 slots c.args.wire.0 Nothing) c.as_slice-modules.ensures ∙ portless_driver (circuit_of c.self.inside) c.args.wire.0 unset)

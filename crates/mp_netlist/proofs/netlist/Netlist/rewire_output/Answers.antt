@@ -1,13 +1,10 @@
-use Rattle.std.proofs.Common.{◌≡◌, ◌<◌, length, None, option_map, refl, sym, ap, subst, arith}
+use Rattle.std.proofs.Common.{◌≡◌, None, option_map, sym, ap, subst}
 use Rattle.mp_records.specs.declared.ids.ModuleId.{ModuleId}
 use Rattle.mp_records.specs.PortChanges.{with_output}
 use Rattle.mp_netlist.specs.Circuit.{Circuit, IsCircuit, module_at}
 use Rattle.mp_netlist.specs.Edits.{module_id, wire_id, with_module, output_refusal}
 use Rattle.mp_netlist.specs.Records.{circuit_of}
-use Rattle.mp_netlist.proofs.NameLemmas.{module_name, module_within}
-use Rattle.mp_netlist.proofs.TableLemmas.{IsTable-rewrite}
-use Rattle.mp_netlist.proofs.EditLemmas.{new_output, IsCircuit-redirected}
-use Rattle.mp_netlist.proofs.RecordLemmas.{AreRecords-modules, has_name-with_output}
+use Rattle.mp_netlist.proofs.EditLemmas.{IsCircuit-redirected}
 use Rattle.mp_netlist.proofs.netlist.Netlist.rewire_output.Goals as goal
 
 pub invariant_of-self : goal.invariant_of-self
@@ -18,11 +15,7 @@ invariant_of-self c =
     let same = subst (λ (m : Circuit). c.module_id-id.result ≡ module_id m name) (sym c.self.view_is) c.module_id-id.ensures in
     let wire = subst (λ (m : Circuit). c.driven_id-driven.result ≡ option_map (wire_id m) c.args.wire.now) (sym c.self.view_is) c.driven_id-driven.ensures in
     let id = ap (λ (m : ModuleId). m.0) same in
-    let here : (module_id n name).0 < length n.modules = module_within n name (new_output n name c.args.port c.args.wire.now none).part in
-    let within : c.module_id-id.result.0 < length n.modules = omega (arith, here, id) in
     let kept = subst (λ i. IsCircuit (with_module n i (option_map (with_output c.args.port (option_map (wire_id n) c.args.wire.now)) (module_at n i)))) (sym id)
     (IsCircuit-redirected n c.self.invariant.circuit name c.args.port c.args.wire.now none) in
     let fits = subst (λ w. IsCircuit (with_module n c.module_id-id.result.0 (option_map (with_output c.args.port w) (module_at n c.module_id-id.result.0)))) (sym wire) kept in
-    AreRecords-modules c.self.inside _ c.self.invariant refl refl refl _ c.redirect_port.ensures fits
-    (IsTable-rewrite module_name n.modules _ c.module_id-id.result.0 _ within (λ q. has_name-with_output q _ _ _) c.self.invariant.module_table)
-    refl refl
+    record { circuit = subst (λ slots. IsCircuit (record n { modules = slots })) (sym c.change.ensures) fits }

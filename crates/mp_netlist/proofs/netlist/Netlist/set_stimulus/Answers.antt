@@ -1,27 +1,15 @@
-use Rattle.std.proofs.Common.{◌≡◌, ◌<◌, length, None, option_map, refl, sym, ap, subst, is_some, arith}
+use Rattle.std.proofs.Common.{◌≡◌, None, option_map, sym, ap, subst}
 use Rattle.mp_records.specs.declared.ids.WireId.{WireId}
 use Rattle.mp_netlist.specs.Circuit.{Circuit, IsCircuit, wire_at}
 use Rattle.mp_netlist.specs.Edits.{wire_id, with_wire, with_stimulus, stimulus_refusal}
 use Rattle.mp_netlist.specs.Records.{circuit_of}
-use Rattle.mp_netlist.proofs.TableLemmas.{slot_within}
-use Rattle.mp_netlist.proofs.EditLemmas.{new_stimulus, stimulus_early, IsCircuit-stimulated}
-use Rattle.mp_netlist.proofs.NameLemmas.{wire_name}
-use Rattle.mp_netlist.proofs.TableLemmas.{IsTable-rewrite}
-use Rattle.mp_netlist.proofs.RecordLemmas.{AreRecords-wires, has_name-with_stimulus}
+use Rattle.mp_netlist.proofs.EditLemmas.{stimulus_early, IsCircuit-stimulated}
 use Rattle.mp_netlist.proofs.netlist.Netlist.set_stimulus.Goals as goal
 
 pub to_stimulus-requires : goal.to_stimulus-requires
 to_stimulus-requires c =
     stimulus_early (circuit_of c.self.inside) c.self.invariant.circuit c.args.name.now c.args.changes.now
     (subst (λ (n : Circuit). stimulus_refusal n c.args.name.now c.args.changes.now ≡ None) (sym c.self.view_is) c.requires)
-
-pub stimulate-requires : goal.stimulate-requires
-stimulate-requires c =
-    let n = circuit_of c.self.inside in
-    let none = subst (λ (m : Circuit). stimulus_refusal m c.args.name.now c.args.changes.now ≡ None) (sym c.self.view_is) c.requires in
-    let id = subst (λ (m : Circuit). c.id_of-id.result ≡ wire_id m c.args.name.now) (sym c.self.view_is) c.id_of-id.ensures in
-    let here : (wire_id n c.args.name.now).0 < length n.wires = slot_within n.wires _ (ap is_some (new_stimulus n c.args.name.now c.args.changes.now none).wire.at) in
-    omega (arith, here, ap (λ (w : WireId). w.0) id)
 
 pub invariant_of-self : goal.invariant_of-self
 invariant_of-self c =
@@ -30,10 +18,6 @@ invariant_of-self c =
     let none = subst (λ (m : Circuit). stimulus_refusal m c.args.name.now changes ≡ None) (sym c.self.view_is) c.requires in
     let same = subst (λ (m : Circuit). c.id_of-id.result ≡ wire_id m c.args.name.now) (sym c.self.view_is) c.id_of-id.ensures in
     let id = ap (λ (w : WireId). w.0) same in
-    let here : (wire_id n c.args.name.now).0 < length n.wires = slot_within n.wires _ (ap is_some (new_stimulus n c.args.name.now changes none).wire.at) in
-    let within : c.id_of-id.result.0 < length n.wires = omega (arith, here, id) in
     let kept = subst (λ i. IsCircuit (with_wire n i (option_map (with_stimulus changes) (wire_at n i)))) (sym id) (IsCircuit-stimulated n c.self.invariant.circuit c.args.name.now changes none) in
     let fits = subst (λ s. IsCircuit (with_wire n c.id_of-id.result.0 (option_map (with_stimulus s) (wire_at n c.id_of-id.result.0)))) (sym c.in_ok-stimulus.ensures) kept in
-    AreRecords-wires c.self.inside _ c.self.invariant refl refl refl _ c.stimulate.ensures fits
-    (IsTable-rewrite wire_name n.wires _ c.id_of-id.result.0 _ within (λ q. has_name-with_stimulus q _ _) c.self.invariant.wire_table)
-    refl refl
+    record { circuit = subst (λ slots. IsCircuit (record n { wires = slots })) (sym c.change.ensures) fits }

@@ -1,0 +1,164 @@
+//! Things by number and by name.
+ghost use Rattle.std.specs.Prelude.{◌≡◌, ◌<◌, List, ℕ, None, option_map, slice_index_or, slice_set, vec_len};
+
+use indexmap::IndexMap;
+use mp_records::Name;
+use std::alloc::{AllocError, Global};
+use std::marker::Model;
+
+/// What is kept by its name. Its clones equal it.
+pub trait Named: Clone + Drop {
+    ghost name_of: { Self → List ℕ };
+
+    /// Its name.
+    fn name(&self) -> &Name
+        ensures { result.now ≡ name_of self.now };
+
+    ghost clones_equal: { (old new : Self) → Self.is_clone old new → new ≡ old };
+}
+
+/// A change of a thing that keeps its name.
+pub trait Change<R: Named>: Drop {
+    ghost changed: { Self → R → R };
+
+    /// Makes the change.
+    fn make(self, thing: &mut R)
+        ensures { thing.new ≡ changed self thing.old };
+
+    ghost keeps_name: { (change : Self) (thing : R) → R.name_of (changed change thing) ≡ R.name_of thing };
+}
+
+/// Things by number, from 0 in order of adding, and by name.
+#[derive(Drop)]
+pub struct Table<R: Named> {
+    slots: Vec<Option<R>>,
+    numbers: IndexMap<String, u32>,
+}
+
+impl<R: Named> Model for Table<R> {
+    ghost use Rattle.std.specs.Prelude.{List, Option};
+    ghost use Rattle.indexmap.specs.IndexMap.{get_by_text};
+    ghost use Rattle.mp_netlist.specs.Tables.{IsTable};
+
+    ghost Value = { List (Option R) };
+
+    ghost view = { λ table. table.slots.items };
+
+    ghost invariant = { λ table. IsTable R.name_of table.slots.items (get_by_text table.numbers) };
+}
+
+impl<R: Named> Table<R> {
+    ghost use Rattle.std.specs.Prelude.{◌≡◌, ◌<◌, ◌^◌, ◌++◌, ◌∷◌, [], None, Some, OnOk, OnErr, IfOk, length, slice_set, option_map, string_bytes};
+    ghost use Rattle.std.specs.Option.{option_copied};
+    ghost use Rattle.mp_netlist.specs.Slots.{slot_at, number_named};
+
+    /// A table of nothing.
+    pub fn new(alloc: Global) -> Table<R>
+        ensures { result ≡ [] }
+    {
+        Table {
+            slots: Vec::new(alloc),
+            numbers: IndexMap::new(alloc),
+        }
+    }
+
+    /// The thing of this number, where it stands.
+    pub fn get(&self, number: u32) -> Option<&R>
+        ensures { option_copied result ≡ slot_at self.now number }
+    {
+        match self.slots.get(number as usize) {
+            Some(Some(found)) => Some(found),
+            _ => None,
+        }
+    }
+
+    /// The number of the thing that has this name.
+    pub fn number_named(&self, name: &str) -> Option<u32>
+        ensures { result ≡ number_named R.name_of self.now name.now }
+    {
+        match self.numbers.get(name) {
+            Some(number) => Some(*number),
+            None => None,
+        }
+    }
+
+    /// Adds a thing of a new name, with the next number.
+    pub fn push(&mut self, added: R) -> Result<(), AllocError>
+        requires room { length self.old < 2 ^ 32 }
+        requires free { number_named R.name_of self.old (R.name_of added) ≡ None }
+        ensures ok { OnOk result (self.new ≡ self.old ++ Some added ∷ []) }
+        ensures err { OnErr result (self.new ≡ self.old) }
+    {
+        let number = self.slots.len() as u32;
+        let key = added.name().clone()?.into_string();
+        self.slots.reserve(1)?;
+        self.numbers.insert(key, number)?;
+        self.slots.push(Some(added)).unwrap();
+        Ok(())
+    }
+
+    /// Takes away the thing of this name and number. The number stays empty.
+    pub fn remove(&mut self, name: &str, number: u32)
+        requires { number_named R.name_of self.old name.now ≡ Some number }
+        ensures { self.new ≡ slice_set self.old number None }
+    {
+        let _ = self.numbers.swap_remove(name);
+        clear(&mut self.slots, number as usize);
+    }
+
+    /// Changes what stands in the slot of this number.
+    pub fn change<C: Change<R>>(&mut self, number: u32, change: C)
+        ensures { self.new ≡ slice_set self.old number (option_map (C.changed change) (slot_at self.old number)) }
+    {
+        if (number as usize) < self.slots.len() {
+            change_slot(&mut self.slots, number as usize, change);
+        }
+    }
+
+    /// The same table once more.
+    pub fn copy(&self) -> Result<Table<R>, AllocError>
+        ensures { IfOk result (λ copy. copy ≡ self.now) }
+    {
+        Ok(Table {
+            slots: Vec::from_clones(*self.slots.allocator(), self.slots.as_slice())?,
+            numbers: self.numbers.clone()?,
+        })
+    }
+
+    /// How many things were ever added.
+    pub fn len(&self) -> usize
+        ensures { result ≡ length self.now }
+    {
+        self.slots.len()
+    }
+
+    /// What stands, by number.
+    pub fn as_slice(&self) -> &[Option<R>]
+        ensures { result.now ≡ self.now }
+    {
+        self.slots.as_slice()
+    }
+
+    /// Where its memory is from.
+    pub fn allocator(&self) -> Global {
+        *self.slots.allocator()
+    }
+}
+
+/// Changes what stands in the slot of this number.
+fn change_slot<R: Named, C: Change<R>>(slots: &mut Vec<Option<R>>, number: usize, change: C)
+    requires { number < vec_len slots.old }
+    ensures { slots.new.items ≡ slice_set slots.old.items number (option_map (C.changed change) (slice_index_or slots.old.items number None)) }
+{
+    if let Some(thing) = &mut slots[number] {
+        change.make(thing);
+    }
+}
+
+/// Takes away what stands in the slot of this number.
+fn clear<T: Drop>(slots: &mut Vec<Option<T>>, number: usize)
+    requires { number < vec_len slots.old }
+    ensures { slots.new.items ≡ slice_set slots.old.items number None }
+{
+    slots[number] = None;
+}
