@@ -170,6 +170,7 @@ fn has_event(tracks: &[Option<Track>], inputs: &[Input], time: u32) -> bool
     inputs.iter().any(|port| is_event(tracks, *port, time))
 }
 
+#[inline(always)]
 fn is_event(tracks: &[Option<Track>], port: Input, time: u32) -> bool
     ensures { result ≡ event_at tracks.now time port }
 {
@@ -222,6 +223,7 @@ fn read_levels(
     }
 }
 
+#[inline(always)]
 fn present_level(tracks: &[Option<Track>], port: Input, time: u32) -> u64
     ensures { result ≡ present_at tracks.now time port }
 {
