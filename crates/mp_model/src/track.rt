@@ -60,6 +60,14 @@ impl Track {
         }
     }
 
+    /// Whether the level is another than one unit before, which is so at no time 0.
+    #[inline(always)]
+    pub(crate) fn has_event(&self) -> bool
+        ensures { result ≡ self.now.event }
+    {
+        self.event
+    }
+
     /// Whether the level so many units before this time was another than one unit before that, which is so at no time 0.
     #[inline(always)]
     pub(crate) fn has_event_before(&self, time: u32, delay: u32) -> bool
