@@ -1,6 +1,6 @@
 -- What the tracks of the wires give at a module's inputs.
 use Rattle.std.proofs.Common.{◌≡◌, ℕ, ◌+◌, ◌-◌, ◌<◌, ◌≤◌, ◌==◌, Bool, true, false, List, [], ◌∷◌, Option, Some, None, IsSome, map, length, slice_index_or, suc, refl, ap, sym, ◌∙◌, arith, inl, inr, ◌⊎◌}
-use Rattle.std.specs.Prelude.{not}
+use Rattle.std.specs.Prelude.{not, ◌||◌}
 use Rattle.std.specs.Option.{option_map_or}
 use Rattle.std.specs.List.{list_any}
 use Rattle.std.proofs.lemmas.Bool.{cases_Bool, cases_lt, eqb-true, lt-ltb, le-ltb, or_parts}
@@ -15,7 +15,7 @@ use Rattle.mp_netlist.specs.Circuit.{Circuit, IsCircuit, wire_at, module_at}
 use Rattle.mp_netlist.specs.Drivers.{driver}
 use Rattle.mp_model.specs.Levels.{initial_of, input_by, inputs_by}
 use Rattle.mp_model.specs.Tracks.{Progress, level_before, event_before}
-use Rattle.mp_model.specs.Evaluations.{IsReached, IsOnTrack, IsTrackOf, AreTracks, present_at, event_at}
+use Rattle.mp_model.specs.Evaluations.{IsReached, IsOnTrack, IsTrackOf, AreTracks, present_at, event_at, change_at, is_late}
 use Rattle.mp_model.specs.Waves.{level}
 use Rattle.mp_model.proofs.SlotLemmas.{no_some}
 use Rattle.mp_model.proofs.EndsLemmas.{first_on_track}
@@ -113,3 +113,21 @@ module _ (n : Circuit) (ok : IsCircuit n) (known : ℕ → ℕ → ℕ) (t : ℕ
         let here = input_is n ok i t some ∙ slot_stays i (wire_at n i.wire.0) (slot_at tracks i.wire.0) (are.each i.wire.0) some parts.0 ∙ sym (input_is n ok i u some) in
         let others = inputs_stay tracks is are (λ p d within. stand (suc p) d (omega arith)) parts.1 in
         ap (λ x. x ∷ map (λ (j : Input). input_by n (level n) j t) is) here ∙ ap (λ xs. input_by n (level n) i u ∷ xs) others
+
+-- where no input has a delay, the events at the inputs are the changes of their wires
+is_prompt : (b : Bool) → not b ≡ false → b ≡ true
+is_prompt true none = refl
+is_prompt false none = cc
+
+prompt_event : (time : ℕ) (i : Input) (slot : Option Progress) → is_late i ≡ false → option_map_or (λ (track : Progress). track.event) slot false ≡ option_map_or (event_before time i.delay) slot false
+prompt_event time i None prompt = refl
+prompt_event time i (Some track) prompt = let none = is_prompt (i.delay == 0) prompt in rw none refl
+
+pub prompt_events : (tracks : List (Option Progress)) (time : ℕ) (inputs : List Input) → list_any is_late inputs ≡ false
+    → list_any (λ (i : Input). change_at tracks i.wire.0) inputs ≡ list_any (λ (i : Input). event_at tracks time i) inputs
+prompt_events tracks time [] prompt = refl
+prompt_events tracks time (i ∷ is) prompt =
+    let parts = or_parts (is_late i) (list_any is_late is) prompt in
+    let here : change_at tracks i.wire.0 ≡ event_at tracks time i = prompt_event time i (slot_at tracks i.wire.0) parts.0 in
+    let others = prompt_events tracks time is parts.1 in
+    ap (λ b. b || list_any (λ (j : Input). change_at tracks j.wire.0) is) here ∙ ap (λ b. event_at tracks time i || b) others

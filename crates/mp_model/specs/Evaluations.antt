@@ -1,6 +1,7 @@
 -- A netlist's evaluation, unit by unit: the tracks of its wires and the cells of its modules.
-use Rattle.std.specs.Prelude.{◌≡◌, ℕ, Bool, false, ◌+◌, ◌<◌, ◌≤◌, List, [], ◌∷◌, ◌||◌, ◌&&◌, ◌==◌, Option, Some, None, option_map, length, nat_lt, if◌then◌else◌, slice_set}
+use Rattle.std.specs.Prelude.{◌≡◌, ℕ, Bool, false, not, ◌+◌, ◌<◌, ◌≤◌, List, [], ◌∷◌, ◌||◌, ◌&&◌, ◌==◌, Option, Some, None, option_map, length, nat_lt, if◌then◌else◌, slice_set}
 use Rattle.std.specs.Option.{option_map_or}
+use Rattle.std.specs.List.{list_any}
 use Rattle.mp_wave.specs.Waveform.{IsWaveform, level_from, level_of, last_time}
 use Rattle.mp_modules.specs.declared.memory.Memory.{Memory}
 use Rattle.mp_storage.specs.AnyModules.{start}
@@ -87,6 +88,18 @@ pub record AreCells (n : Circuit) (t done : ℕ) (cells : List (Option Cell)) : 
 -- the level at an input port at a time, 0 where its wire doesn't stand
 abbrev pub present_at : List (Option Progress) → ℕ → Input → ℕ
 present_at tracks time i = option_map_or (level_before time i.delay) (slot_at tracks i.wire.0) 0
+
+-- whether the level of a wire changed now
+abbrev pub change_at : List (Option Progress) → ℕ → Bool
+change_at tracks w = option_map_or (λ (track : Progress). track.event) (slot_at tracks w) false
+
+-- whether an input has a delay
+abbrev pub is_late : Input → Bool
+is_late i = not (i.delay == 0)
+
+-- no input of a module has a delay
+abbrev pub ArePrompt : Circuit → Type 0
+ArePrompt n = (m : ℕ) (r : ModuleRecord) → module_at n m ≡ Some r → list_any is_late r.inputs ≡ false
 
 -- whether the level at an input port changed at a time
 abbrev pub event_at : List (Option Progress) → ℕ → Input → Bool

@@ -1,5 +1,5 @@
 //! The plain evaluator: unit by unit from time zero, on one thread.
-ghost use Rattle.std.specs.Prelude.{◌≡◌, ◌+◌, ◌-◌, ◌^◌, ◌<◌, ◌≤◌, length, map, take, option_map, Some, IfOk, OnOk, IsTrue, ℕ};
+ghost use Rattle.std.specs.Prelude.{◌≡◌, false, ◌+◌, ◌-◌, ◌^◌, ◌<◌, ◌≤◌, length, map, take, option_map, Some, IfOk, OnOk, IsTrue, ℕ};
 ghost use Rattle.std.specs.List.{list_any};
 ghost use Rattle.std.specs.Option.{option_copied};
 ghost use Rattle.mp_records.specs.declared.ports.Input.{Input as Port};
@@ -9,7 +9,7 @@ ghost use Rattle.mp_modules.specs.Kinds.{are_params};
 ghost use Rattle.mp_storage.specs.AnyModules.{is_width_of};
 ghost use Rattle.mp_model.specs.Levels.{built};
 ghost use Rattle.mp_model.specs.Tracks.{Progress, first_progress, advanced, expecting};
-ghost use Rattle.mp_model.specs.Evaluations.{AreTracks, AreCells, delivered, present_at, event_at, with_expected, with_answer, memory_at, IsOpenAt, first_cell};
+ghost use Rattle.mp_model.specs.Evaluations.{AreTracks, AreCells, delivered, present_at, event_at, change_at, is_late, ArePrompt, with_expected, with_answer, memory_at, IsOpenAt, first_cell};
 ghost use Rattle.mp_model.specs.Cells.{after_answer};
 ghost use Rattle.mp_model.specs.Waves.{state, waves};
 
@@ -27,14 +27,35 @@ pub fn plain_waves(alloc: Global, netlist: &Netlist) -> Result<Vec<Option<Wave>>
     ensures { IfOk result (λ found. found.items ≡ waves netlist.now) }
 {
     let horizon = netlist.horizon();
+    let late = has_late_inputs(netlist);
     let mut tracks = first_tracks(alloc, netlist)?;
     let mut cells = first_cells(alloc, netlist)?;
-    answer_all(netlist, &mut tracks, &mut cells, 0)?;
+    answer_all(netlist, &mut tracks, &mut cells, 0, late)?;
     for time in 1..horizon {
         advance_all(&mut tracks, time);
-        answer_all(netlist, &mut tracks, &mut cells, time)?;
+        answer_all(netlist, &mut tracks, &mut cells, time, late)?;
     }
     finished(alloc, tracks)
+}
+
+/// Whether an input of a module has a delay.
+fn has_late_inputs(netlist: &Netlist) -> bool
+    ensures { result ≡ false → ArePrompt netlist.now }
+{
+    for m in 0..netlist.module_slots() {
+        if let Some(found) = netlist.module(ModuleId(m)) {
+            if are_late(found.inputs.as_slice()) {
+                return true;
+            }
+        }
+    }
+    false
+}
+
+fn are_late(inputs: &[Input]) -> bool
+    ensures { result ≡ list_any is_late inputs.now }
+{
+    inputs.iter().any(|port| port.delay != 0)
 }
 
 fn first_tracks(alloc: Global, netlist: &Netlist) -> Result<Vec<Option<Track>>, AllocError>
@@ -117,8 +138,10 @@ fn answer_all(
     tracks: &mut Vec<Option<Track>>,
     cells: &mut Vec<Option<Cell>>,
     time: u32,
+    late: bool,
 ) -> Result<(), AllocError>
     requires form { IsCircuit netlist.now }
+    requires prompt { late ≡ false → ArePrompt netlist.now }
     requires time { time < netlist.now.horizon }
     requires tracks { AreTracks netlist.now (delivered time 0 0) time tracks.old.items }
     requires cells { AreCells netlist.now time 0 cells.old.items }
@@ -126,7 +149,7 @@ fn answer_all(
     ensures cells { OnOk result (AreCells netlist.now time (length netlist.now.modules) cells.new.items) }
 {
     for m in 0..netlist.module_slots() {
-        answer(netlist, tracks, cells, ModuleId(m), time)?;
+        answer(netlist, tracks, cells, ModuleId(m), time, late)?;
     }
     Ok(())
 }
@@ -139,8 +162,10 @@ fn answer(
     cells: &mut Vec<Option<Cell>>,
     id: ModuleId,
     time: u32,
+    late: bool,
 ) -> Result<(), AllocError>
     requires form { IsCircuit netlist.now }
+    requires prompt { late ≡ false → ArePrompt netlist.now }
     requires time { time < netlist.now.horizon }
     requires tracks { AreTracks netlist.now (delivered time id.0 0) time tracks.old.items }
     requires cells { AreCells netlist.now time id.0 cells.old.items }
@@ -151,7 +176,7 @@ fn answer(
         return Ok(());
     };
     let inputs = found.inputs.as_slice();
-    if time > 0 && !has_event(tracks.as_slice(), inputs, time) {
+    if time > 0 && !has_event(tracks.as_slice(), inputs, time, late) {
         return Ok(());
     }
     let mut levels = [0; MOST_INPUTS];
@@ -163,13 +188,45 @@ fn answer(
     }
 }
 
-/// Whether the level at an input of a module changed now.
-fn has_event(tracks: &[Option<Track>], inputs: &[Input], time: u32) -> bool
+/// Whether the level at an input of a module changed now. Where no input of the netlist has a delay, no delay is read.
+#[inline(always)]
+fn has_event(tracks: &[Option<Track>], inputs: &[Input], time: u32, late: bool) -> bool
+    requires { late ≡ false → list_any is_late inputs.now ≡ false }
+    ensures { result ≡ list_any (λ (port : Port). event_at tracks.now time port) inputs.now }
+{
+    if late {
+        has_late_event(tracks, inputs, time)
+    } else {
+        has_change(tracks, inputs)
+    }
+}
+
+#[inline(never)]
+fn has_late_event(tracks: &[Option<Track>], inputs: &[Input], time: u32) -> bool
     ensures { result ≡ list_any (λ (port : Port). event_at tracks.now time port) inputs.now }
 {
     inputs.iter().any(|port| is_event(tracks, *port, time))
 }
 
+/// Whether the level of a wire that a module reads changed now.
+#[inline(always)]
+fn has_change(tracks: &[Option<Track>], inputs: &[Input]) -> bool
+    ensures { result ≡ list_any (λ (port : Port). change_at tracks.now port.wire.0) inputs.now }
+{
+    inputs.iter().any(|port| is_change(tracks, port.wire))
+}
+
+#[inline(always)]
+fn is_change(tracks: &[Option<Track>], wire: WireId) -> bool
+    ensures { result ≡ change_at tracks.now wire.0 }
+{
+    match tracks.get(wire.0 as usize) {
+        Some(Some(track)) => track.has_event(),
+        _ => false,
+    }
+}
+
+#[inline(always)]
 fn is_event(tracks: &[Option<Track>], port: Input, time: u32) -> bool
     ensures { result ≡ event_at tracks.now time port }
 {
@@ -222,6 +279,7 @@ fn read_levels(
     }
 }
 
+#[inline(always)]
 fn present_level(tracks: &[Option<Track>], port: Input, time: u32) -> u64
     ensures { result ≡ present_at tracks.now time port }
 {

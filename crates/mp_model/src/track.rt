@@ -27,6 +27,8 @@ impl Model for Track {
 }
 
 impl Track {
+    ghost use Rattle.std.specs.Prelude.{not, ◌==◌};
+    ghost use Rattle.mp_wave.specs.Waveform.{level_of};
     ghost use Rattle.mp_model.specs.Tracks.{AreTimesIn, first_progress, advanced, expecting, level_before, event_before};
 
     /// A wire's track at time 0: its stimulus, if any, is known ahead.
@@ -47,24 +49,54 @@ impl Track {
     }
 
     /// The level so many units before this time, or at time 0 where that is earlier.
+    #[inline(always)]
     pub(crate) fn level_before(&self, time: u32, delay: u32) -> u64
         ensures { result ≡ level_before time delay self.now }
     {
         if delay == 0 {
-            return self.present;
+            self.present
+        } else {
+            self.level_at(time.saturating_sub(delay))
         }
-        self.builder.wave().level_at(time.saturating_sub(delay))
+    }
+
+    /// Whether the level is another than one unit before, which is so at no time 0.
+    #[inline(always)]
+    pub(crate) fn has_event(&self) -> bool
+        ensures { result ≡ self.now.event }
+    {
+        self.event
     }
 
     /// Whether the level so many units before this time was another than one unit before that, which is so at no time 0.
+    #[inline(always)]
     pub(crate) fn has_event_before(&self, time: u32, delay: u32) -> bool
         ensures { result ≡ event_before time delay self.now }
     {
         if delay == 0 {
-            return self.event;
+            self.event
+        } else {
+            self.changed_at(time, delay)
         }
+    }
+
+    // Few inputs have delays: the search is kept apart, so that the others are read as quickly as if there were none.
+    #[inline(never)]
+    #[cold]
+    fn changed_at(&self, time: u32, delay: u32) -> bool
+        ensures { result ≡ not (level_of self.now.wave (time - delay) == level_of self.now.wave (time - 1 - delay)) }
+    {
         let late = time.saturating_sub(1);
-        self.level_before(time, delay) != self.level_before(late, delay)
+        self.level_at(time.saturating_sub(delay)) != self.level_at(late.saturating_sub(delay))
+    }
+
+    /// The level of the wave, as far as it is known, at a time.
+    #[inline(never)]
+    #[cold]
+    fn level_at(&self, time: u32) -> u64
+        ensures { result ≡ level_of self.now.wave time }
+    {
+        self.builder.wave().level_at(time)
     }
 
     /// Goes on to the next unit of time, which is this one.

@@ -6,7 +6,7 @@ use Rattle.mp_netlist.specs.Circuit.{Circuit, IsCircuit, module_at}
 use Rattle.mp_model.specs.Levels.{inputs_by}
 use Rattle.mp_model.specs.declared.cell.Cell.{Cell}
 use Rattle.mp_model.specs.Tracks.{Progress}
-use Rattle.mp_model.specs.Evaluations.{AreTracks, AreCells, delivered, with_answer, present_at, event_at}
+use Rattle.mp_model.specs.Evaluations.{AreTracks, AreCells, delivered, with_answer, present_at, event_at, is_late}
 use Rattle.mp_model.specs.Waves.{level, state}
 use Rattle.mp_model.proofs.TracksLemmas.{tracks_without_module}
 use Rattle.mp_model.proofs.CellsLemmas.{cells_answered, cells_without_module, memory_is, memory_some}
@@ -41,6 +41,10 @@ kept n ok m t r tracks slice inputs at low are same_tracks same_inputs later non
     let here : list_any (λ (i : Input). event_at tracks t i) r.inputs ≡ false
     = subst (λ is. list_any (λ (i : Input). event_at tracks t i) is ≡ false) same_inputs (subst (λ ts. list_any (λ (i : Input). event_at ts t i) inputs ≡ false) same_tracks none) in
     state_stays n ok (delivered t m 0) m t (t - 1) r tracks at (omega (arith, later)) low (delivered_least t m 0) are here
+
+pub has_event-requires : goal.has_event-requires
+has_event-requires c =
+    λ prompt. subst (λ is. list_any is_late is ≡ false) (sym c.as_slice-inputs.ensures) (c.requires.prompt prompt c.args.id.0 c.in-Some.found.now (sym c.in-Some.ensures.value))
 
 pub returns-then-not-has_event-clause-tracks : goal.returns-then-not-has_event-clause-tracks
 returns-then-not-has_event-clause-tracks c =
