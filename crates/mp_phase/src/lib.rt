@@ -1,0 +1,28 @@
+//! Tasks to workers, and back.
+#![tactic(auto)]
+
+mod bad_count;
+mod crew;
+mod ends;
+mod gate;
+mod hands;
+mod job;
+mod line;
+mod now;
+mod open_gate;
+mod phase;
+mod plan;
+mod share;
+mod side;
+mod told;
+mod work;
+mod worker;
+
+pub use bad_count::BadCount;
+pub use crew::Crew;
+pub use gate::Gate;
+pub use hands::Hands;
+pub use open_gate::OpenGate;
+pub use plan::Plan;
+pub use share::run_here;
+pub use work::Work;
