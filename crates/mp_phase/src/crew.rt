@@ -4,7 +4,9 @@ use crate::bad_count::BadCount;
 use crate::gate::Gate;
 use crate::hands::Hands;
 use crate::line::Line;
+use crate::one_phase::OnePhase;
 use crate::plan::Plan;
+use crate::work::Work;
 use crate::worker::{LOOKS, work};
 use std::alloc::{AllocError, Global};
 use std::sync::Wait;
@@ -20,6 +22,7 @@ pub struct Crew {
 
 impl Crew {
     ghost use Rattle.std.specs.Prelude.{◌≡◌, ◌<◌, ◌≤◌, IfOk, IfErr};
+    ghost use Rattle.mp_phase.specs.Phase.{AreDone};
 
     /// A crew of so many threads, which shares out tasks that weigh at least `least` together. `BadCount` where there isn't 1 to 16 of
     /// the first, or 1 to 4,096 of the second.
@@ -50,18 +53,21 @@ impl Crew {
 
     /// Carries the plan out with workers that wait for tasks until it ends. Where memory is refused, the plan isn't begun. A worker
     /// whose thread can't be started has its share done on the calling thread.
-    pub fn hold<R: Threads + Wait + Sync, G: Gate, P: Plan>(
+    pub fn hold<R: Threads + Wait + Sync, G: Gate + Sync, P: Plan>(
         &self,
         rt: &R,
         alloc: Global,
         gate: &G,
         plan: P,
     ) -> Result<P::Outcome, AllocError>
+    where
+        P::Task: Send,
+        <P::Task as Work>::Done: Send,
         ensures { IfOk result (λ outcome. P.ends_in plan outcome) }
     {
         let count = self.count;
         let least = self.least;
-        let lookers = lookers(rt);
+        let lookers = if count > 1 { lookers(rt) } else { 0 };
         thread::scope(
             thread::scope_env(),
             rt,
@@ -80,6 +86,22 @@ impl Crew {
                 Ok(outcome)
             },
         )
+    }
+
+    /// Does the tasks, each worker and the calling thread a share of them, and gives what is made of each, in their order. The workers
+    /// are started for this alone.
+    pub fn run<R: Threads + Wait + Sync, G: Gate + Sync, T: Work + Send>(
+        &self,
+        rt: &R,
+        alloc: Global,
+        gate: &G,
+        tasks: Vec<T>,
+    ) -> Result<Vec<T::Done>, AllocError>
+    where
+        T::Done: Send,
+        ensures { IfOk result (λ dones. AreDone T.gives tasks.items dones.items) }
+    {
+        self.hold(rt, alloc, gate, OnePhase { tasks })?
     }
 }
 

@@ -7,9 +7,9 @@ use std::alloc::{AllocError, Global};
 use std::sync::Wait;
 
 /// A task that any thread may do.
-pub trait Work: Send + Drop {
+pub trait Work: Drop {
     /// What is made of a task.
-    type Done: Send + Drop;
+    type Done: Drop;
 
     /// The work makes this of the task.
     ghost gives: { Self → Self.Done → Type 0 };
