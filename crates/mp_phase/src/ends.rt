@@ -11,8 +11,8 @@ use crate::told::{Answer, Answers, Replier, Takes, Token, ask, take_back};
 use crate::work::Work;
 use crate::worker::LOOKS;
 use crossbeam_channel::{Sender, TryRecvError};
-use std::hint;
 use std::sync::Wait;
+use std::thread;
 
 /// The collector's ends of the two channels. It keeps a sender of answers, so that these never look closed.
 #[derive(Drop)]
@@ -60,7 +60,7 @@ fn look<T: Work, R: Wait>(rt: &R, ends: &mut Ends<T>) -> Option<Answer<T::Done>>
         match ends.answers.try_recv_as::<Takes<T>, R>(rt, &mut ends.token) {
             Ok(answer) => return Some(answer),
             Err(TryRecvError::Disconnected) => return None,
-            Err(TryRecvError::Empty) => hint::spin_loop(),
+            Err(TryRecvError::Empty) => thread::yield_now(),
         }
     }
     None

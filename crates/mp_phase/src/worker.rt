@@ -7,8 +7,8 @@ use crate::told::Replies;
 use crate::work::Work;
 use crossbeam_channel::{Receiver, TryRecvError};
 use std::alloc::Global;
-use std::hint;
 use std::sync::Wait;
+use std::thread;
 
 /// Does a job and answers it. False where nobody takes the answer.
 fn answer<T: Work, R: Wait, G: Gate>(rt: &R, alloc: Global, gate: &G, job: Job<T>) -> bool {
@@ -21,8 +21,8 @@ fn answer<T: Work, R: Wait, G: Gate>(rt: &R, alloc: Global, gate: &G, job: Job<T
     to.send_as::<Replies, R>(rt, &mut token, dones).is_ok()
 }
 
-/// How often a thread looks for what comes before it sleeps.
-pub const LOOKS: u32 = 20000;
+/// How often a thread looks for what comes before it sleeps. At each look others go first.
+pub const LOOKS: u32 = 500;
 
 /// The next job, and nothing where there are no more. It is looked for so often before the thread sleeps.
 fn next<T: Work, R: Wait>(rt: &R, jobs: &Receiver<Job<T>>, looks: u32) -> Option<Job<T>> {
@@ -30,7 +30,7 @@ fn next<T: Work, R: Wait>(rt: &R, jobs: &Receiver<Job<T>>, looks: u32) -> Option
         match jobs.try_recv(rt) {
             Ok(job) => return Some(job),
             Err(TryRecvError::Disconnected) => return None,
-            Err(TryRecvError::Empty) => hint::spin_loop(),
+            Err(TryRecvError::Empty) => thread::yield_now(),
         }
     }
     jobs.recv(rt).ok()
