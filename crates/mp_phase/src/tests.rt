@@ -1,4 +1,4 @@
-use crate::{BadCount, Crew, Done, Gate, Hands, OpenGate, Plan, Task, run_here};
+use crate::{BadCount, Crew, Done, Gate, Hands, OpenGate, Plan, Task, Work, run_here};
 use mp_modules::{CoreModule, EventModule};
 use mp_netlist::ModuleId;
 use mp_response::{Changes, InPiece};
@@ -143,4 +143,73 @@ fn bad_counts(rt: HostRuntime) {
     for (count, least) in [(0, 1), (17, 1), (2, 0), (2, 4097)] {
         assert!(rt; Crew::new(count, least) == Err(BadCount), "{count} {least}");
     }
+}
+
+/// A number that is to be doubled. There is no memory for 13.
+#[derive(Drop)]
+struct Number {
+    value: u32,
+}
+
+impl Work for Number {
+    type Done = u32;
+
+    ghost gives = { λ number done. Unit {0} };
+
+    fn work<R: Wait, G: Gate>(self, _rt: &R, _alloc: Global, _gate: &G) -> Result<u32, AllocError> {
+        if self.value == 13 {
+            return Err(AllocError);
+        }
+        Ok(self.value.wrapping_mul(2))
+    }
+}
+
+/// Numbers in two phases by the same workers.
+#[derive(Drop)]
+struct Doubling {
+    first: Vec<Number>,
+    second: Vec<Number>,
+}
+
+impl Plan for Doubling {
+    type Task = Number;
+
+    type Outcome = (bool, Result<Vec<u32>, AllocError>);
+
+    ghost ends_in = { λ plan outcome. Unit {0} };
+
+    fn carry_out<R: Wait, G: Gate>(
+        self,
+        rt: &R,
+        hands: &mut Hands<'_, Number, G>,
+    ) -> (bool, Result<Vec<u32>, AllocError>) {
+        let Doubling { first, second } = self;
+        let refused = hands.run(rt, first).is_err();
+        (refused, hands.run(rt, second))
+    }
+}
+
+fn numbers(alloc: Global, values: &[u32]) -> Result<Vec<Number>, AllocError> {
+    let mut all = Vec::new(alloc);
+    for value in values {
+        all.push(Number { value: *value })?;
+    }
+    Ok(all)
+}
+
+/// Wherever memory is wanting in a phase, the call says so, and the next phase has its own answers.
+#[test]
+fn goes_on_after_want_of_memory(rt: HostRuntime) -> Result<(), Fail> {
+    let alloc = rt.alloc();
+    for short in [[13, 2, 3], [1, 13, 3], [1, 2, 13]] {
+        let plan = Doubling {
+            first: numbers(alloc, &short)?,
+            second: numbers(alloc, &[1, 2, 3, 4, 5, 6, 7])?,
+        };
+        let (refused, doubled) = Crew::new(3, 1)?.hold(&rt, alloc, &OpenGate, plan)?;
+        assert!(rt; refused);
+        let doubled = doubled?;
+        assert_eq!(rt; doubled.as_slice(), [2, 4, 6, 8, 10, 12, 14].as_slice());
+    }
+    Ok(())
 }
