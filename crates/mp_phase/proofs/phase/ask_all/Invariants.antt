@@ -1,0 +1,14 @@
+use Rattle.std.proofs.Common.{◌≡◌, ◌++◌, ℕ, ◌<◌, ◌≤◌, None, Option, List, length, drop, slice_index_or}
+use Rattle.mp_phase.specs.Lines.{all_asked}
+use Rattle.mp_phase.proofs.phase.ask_all.Given as goal
+
+-- the lines from a place on were asked for what isn't left
+abbrev pub invariant-loop-place : goal.invariant-loop-place
+invariant-loop-place g l = record {
+  within : l.place ≤ length l.lines;
+  asked : l.rest.items ++ all_asked (drop l.place l.lines) ≡ l.fn.tasks.items;
+  free : (k : ℕ) (d : Option (List _)) → k < l.place → slice_index_or l.lines k d ≡ None;
+}
+
+abbrev pub decreases-loop-place : goal.decreases-loop-place
+decreases-loop-place g l = l.place

@@ -1,0 +1,44 @@
+-- What lines were asked for.
+use Rattle.std.specs.Prelude.{◌≡◌, ℕ, ◌<◌, List, [], ◌∷◌, ◌++◌, Option, Some, None, length, slice_index_or}
+use Rattle.crossbeam_channel.specs.Claims.{Pass, view}
+use Rattle.mp_phase.specs.declared.now.Now.{Now}
+use Rattle.mp_phase.specs.declared.now.Now.TheVariants.{Free, Out, Here}
+use Rattle.mp_phase.specs.declared.side.Side.{Side}
+use Rattle.mp_phase.specs.declared.side.Side.TheVariants.{Idle, Asks, Owes, Spent}
+
+-- what a pass knows
+abbrev pub side_of : {T X : Type 0} → Pass X (Side T) → Side T
+side_of token = view token
+
+module _ {T : Type 0} where
+  -- the tasks that a pass asks for
+  abbrev pub asked_by : Side T → Option (List T)
+  asked_by Idle = None
+  asked_by (Asks tasks) = Some tasks
+  asked_by (Owes tasks) = None
+  asked_by Spent = None
+
+  -- the tasks that were asked for and aren't answered
+  abbrev pub asked_of : Now T → Side T → Option (List T)
+  asked_of Free side = None
+  asked_of Out side = asked_by side
+  asked_of (Here tasks) side = Some tasks.items
+
+  abbrev pub IsLine : Now T → Side T → Type 0
+  IsLine Free side = side ≡ Idle
+  IsLine Out side = (tasks : List T) × (side ≡ Asks tasks)
+  IsLine (Here tasks) side = side ≡ Idle
+
+  -- the tasks of a line
+  abbrev pub tasks_of : Option (List T) → List T
+  tasks_of None = []
+  tasks_of (Some tasks) = tasks
+
+  -- the tasks of all lines, in the lines' order
+  abbrev pub all_asked : List (Option (List T)) → List T
+  all_asked [] = []
+  all_asked (line ∷ lines) = tasks_of line ++ all_asked lines
+
+  -- no line was asked for anything
+  abbrev pub AreFree : List (Option (List T)) → Type 0
+  AreFree lines = (k : ℕ) (d : Option (List T)) → k < length lines → slice_index_or lines k d ≡ None

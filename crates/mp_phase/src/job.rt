@@ -1,0 +1,19 @@
+//! What is sent to a worker.
+
+ghost use Rattle.std.specs.Prelude.{◌≡◌};
+ghost use Rattle.crossbeam_channel.specs.Claims.{view, IsSeatAt};
+ghost use Rattle.crossbeam_channel.specs.Ends.{sends_on};
+ghost use Rattle.mp_phase.specs.declared.side.Side.TheVariants.{Owes};
+
+use crate::told::{Replier, Token};
+use crate::work::Work;
+
+/// Tasks, with what it takes to answer them.
+#[derive(Drop)]
+pub struct Job<T: Work> {
+    pub tasks: Vec<T>,
+    pub to: Replier<T>,
+    pub token: Token<T>,
+    pub ghost seat: { IsSeatAt (sends_on to) token },
+    pub ghost owed: { view token ≡ Owes tasks.items },
+}

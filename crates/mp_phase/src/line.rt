@@ -1,0 +1,96 @@
+//! The line to a worker.
+
+use crate::ends::{Ends, receive, send};
+use crate::gate::Gate;
+use crate::job::Job;
+use crate::now::Now;
+use crate::share::run_here;
+use crate::side::Side;
+use crate::told::{Answer, Told};
+use crate::work::Work;
+use crossbeam_channel::{Receiver, bounded, bounded_with};
+use std::alloc::{AllocError, Global};
+use std::marker::Model;
+use std::mem;
+use std::sync::Wait;
+
+/// A line to a worker. Contracts see it as the tasks that it was asked for and didn't answer.
+#[derive(Drop)]
+pub struct Line<T: Work> {
+    ends: Ends<T>,
+    now: Now<T>,
+}
+
+impl<T: Work> Model for Line<T> {
+    ghost use Rattle.std.specs.Prelude.{Option, List};
+    ghost use Rattle.mp_phase.specs.Lines.{asked_of, side_of, IsLine};
+
+    ghost Value = { Option (List T) };
+
+    ghost view = { λ l. asked_of l.now (side_of l.ends.token) };
+
+    ghost invariant = { λ l. IsLine l.now (side_of l.ends.token) };
+}
+
+impl<T: Work> Line<T> {
+    ghost use Rattle.std.specs.Prelude.{◌≡◌, Some, None, IfOk};
+    ghost use Rattle.mp_phase.specs.Phase.{AreDone};
+    ghost use Rattle.mp_phase.specs.Lines.{tasks_of};
+
+    /// A line, and the jobs that its worker is to do.
+    pub fn new(alloc: Global) -> Result<(Line<T>, Receiver<Job<T>>), AllocError>
+        ensures { IfOk result (λ r. r.0 ≡ None) }
+    {
+        let (jobs, work) = bounded(alloc, 1)?;
+        let (to, answers, token) = bounded_with::<Answer<T::Done>, Side<T>, Told<T>, Global>(
+            alloc, 1,
+        )?;
+        let ends = Ends {
+            jobs,
+            to,
+            answers,
+            token,
+        };
+        Ok((
+            Line {
+                ends,
+                now: Now::Free,
+            },
+            work,
+        ))
+    }
+
+    /// Asks for the tasks. Where they can't be sent, and where there are none, they are done with the answer.
+    pub fn ask<R: Wait>(&mut self, rt: &R, tasks: Vec<T>)
+        requires free { self.old ≡ None }
+        ensures { self.new ≡ Some tasks.items }
+    {
+        if tasks.is_empty() {
+            self.now = Now::Here(tasks);
+            return;
+        }
+        self.now = match send(rt, &mut self.ends, tasks) {
+            Ok(()) => Now::Out,
+            Err(back) => Now::Here(back),
+        };
+    }
+
+    /// What was made of what was asked. Tasks that couldn't be sent are begun here, but not where memory was refused before.
+    pub fn answer<R: Wait, G: Gate>(
+        &mut self,
+        rt: &R,
+        alloc: Global,
+        gate: &G,
+        refused: bool,
+    ) -> Result<Vec<T::Done>, AllocError>
+        ensures done { IfOk result (λ dones. AreDone T.gives (tasks_of self.old) dones.items) }
+        ensures free { self.new ≡ None }
+    {
+        match mem::replace(&mut self.now, Now::Free) {
+            Now::Free => Ok(Vec::new(alloc)),
+            Now::Here(_) if refused => Err(AllocError),
+            Now::Here(tasks) => run_here(rt, alloc, gate, tasks),
+            Now::Out => receive(rt, &mut self.ends),
+        }
+    }
+}

@@ -1,0 +1,34 @@
+//! One list of tasks by workers of its own.
+
+ghost use Rattle.std.specs.Prelude.{IfOk};
+ghost use Rattle.mp_phase.specs.Phase.{AreDone};
+
+use crate::gate::Gate;
+use crate::hands::Hands;
+use crate::plan::Plan;
+use crate::work::Work;
+use std::alloc::AllocError;
+use std::sync::Wait;
+
+/// A list of tasks, to be done at once.
+#[derive(Drop)]
+pub struct OnePhase<T> {
+    pub tasks: Vec<T>,
+}
+
+impl<T: Work> Plan for OnePhase<T> {
+    type Task = T;
+
+    type Outcome = Result<Vec<T::Done>, AllocError>;
+
+    ghost ends_in = { λ plan outcome. IfOk outcome (λ dones. AreDone T.gives plan.tasks.items dones.items) };
+
+    fn carry_out<R: Wait, G: Gate>(
+        self,
+        rt: &R,
+        hands: &mut Hands<'_, T, G>,
+    ) -> Result<Vec<T::Done>, AllocError> {
+        let OnePhase { tasks } = self;
+        hands.run(rt, tasks)
+    }
+}

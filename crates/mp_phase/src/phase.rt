@@ -1,0 +1,88 @@
+//! One list of tasks, shared out over the lines to workers and the calling thread.
+
+ghost use Rattle.std.specs.Prelude.{◌≡◌, ◌++◌, List, IfOk};
+ghost use Rattle.mp_phase.specs.Lines.{AreFree, all_asked};
+ghost use Rattle.mp_phase.specs.Told.{IsAnswerTo};
+
+use crate::gate::Gate;
+use crate::line::Line;
+use crate::share::run_here;
+use crate::told::Answer;
+use crate::work::Work;
+use std::alloc::{AllocError, Global};
+use std::sync::Wait;
+
+/// Asks each line for its share of the tasks, the last line for the last tasks, and gives the first share back. The shares differ by
+/// one task at most.
+fn ask_all<T: Work, R: Wait>(
+    rt: &R,
+    lines: &mut [Line<T>],
+    tasks: Vec<T>,
+) -> Result<Vec<T>, AllocError>
+    requires { AreFree lines.old }
+    ensures { IfOk result (λ own. own.items ++ all_asked lines.new ≡ tasks.items) }
+{
+    let mut rest = tasks;
+    let mut place = lines.len();
+    while place > 0 {
+        let share = rest.len() / (place + 1);
+        place -= 1;
+        let part = rest.split_off(rest.len() - share)?;
+        lines[place].ask(rt, part);
+    }
+    Ok(rest)
+}
+
+/// What was made of some tasks, and of those behind them.
+fn join<T: Work>(all: Answer<T::Done>, more: Answer<T::Done>) -> Answer<T::Done>
+    ensures { (xs ys : List T) → IsAnswerTo T.gives xs all → IsAnswerTo T.gives ys more → IsAnswerTo T.gives (xs ++ ys) result }
+{
+    let mut all = all?;
+    let mut more = more?;
+    all.append(&mut more)?;
+    Ok(all)
+}
+
+/// What was made of the calling thread's share, and of all that the lines were asked for. Each line has answered then.
+fn answer_all<T: Work, R: Wait, G: Gate>(
+    rt: &R,
+    alloc: Global,
+    gate: &G,
+    lines: &mut [Line<T>],
+    own: Answer<T::Done>,
+) -> Answer<T::Done>
+    ensures done { (tasks : List T) → IsAnswerTo T.gives tasks own → IsAnswerTo T.gives (tasks ++ all_asked lines.old) result }
+    ensures free { AreFree lines.new }
+{
+    let mut all = own;
+    for place in 0..lines.len() {
+        let more = lines[place].answer(rt, alloc, gate, all.is_err());
+        all = join::<T>(all, more);
+    }
+    all
+}
+
+/// Does the tasks, each line and the calling thread a share of them. After want of memory no further share is begun, and those that
+/// are out are waited for.
+pub fn phase<T: Work, R: Wait, G: Gate>(
+    rt: &R,
+    alloc: Global,
+    gate: &G,
+    lines: &mut [Line<T>],
+    tasks: Vec<T>,
+) -> Answer<T::Done>
+    requires { AreFree lines.old }
+    ensures done { IsAnswerTo T.gives tasks.items result }
+    ensures free { AreFree lines.new }
+{
+    match ask_all(rt, lines, tasks) {
+        Ok(own) => {
+            let own = run_here(rt, alloc, gate, own);
+            answer_all(rt, alloc, gate, lines, own)
+        }
+        Err(refused) => {
+            let _ = answer_all(rt, alloc, gate, lines, Err(refused));
+            Err(AllocError)
+        }
+    }
+}

@@ -1,0 +1,30 @@
+//! What a crew can be given to do.
+
+ghost use Rattle.std.specs.Prelude.{IfOk};
+
+use crate::gate::Gate;
+use std::alloc::{AllocError, Global};
+use std::sync::Wait;
+
+/// A task that any thread may do.
+pub trait Work: Drop {
+    /// What is made of a task.
+    type Done: Drop;
+
+    /// The work makes this of the task.
+    ghost gives: { Self → Self.Done → Type 0 };
+
+    /// How much work it is, in modules.
+    fn weight(&self) -> usize {
+        1
+    }
+
+    /// Does the task. It is given up where memory is refused.
+    fn work<R: Wait, G: Gate>(
+        self,
+        rt: &R,
+        alloc: Global,
+        gate: &G,
+    ) -> Result<Self::Done, AllocError>
+        ensures { IfOk result (λ done. gives self done) };
+}
