@@ -1,14 +1,14 @@
 -- The levels and states of a netlist are those that satisfy the equations.
-use Rattle.std.proofs.Common.{◌≡◌, ℕ, ◌+◌, ◌-◌, ◌<◌, ◌≤◌, false, List, [], ◌∷◌, Option, Some, None, map, slice_index_or, ◌==◌, zero, suc, refl, ap, sym, subst, ◌∙◌, arith, inl, inr}
+use Rattle.std.proofs.Common.{◌≡◌, ℕ, ◌+◌, ◌-◌, ◌<◌, ◌≤◌, false, cond, nat_lt, List, [], ◌∷◌, Option, Some, None, map, slice_index_or, ◌==◌, zero, suc, refl, ap, sym, subst, ◌∙◌, arith, inl, inr}
 use Rattle.std.proofs.lemmas.Bool.Decides.{nat_tests}
 use Rattle.std.proofs.lemmas.Bool.{cases_lt}
 use Rattle.mp_modules.specs.declared.memory.Memory.{Memory}
 use Rattle.mp_storage.specs.AnyModules.{settle, step}
 use Rattle.mp_modules.specs.Memories.{blank}
 use Rattle.mp_records.specs.declared.module_record.ModuleRecord.{ModuleRecord}
-use Rattle.mp_records.specs.declared.ids.WireId.{WireId}
-use Rattle.mp_netlist.specs.Circuit.{Circuit, IsCircuit, module_at}
-use Rattle.mp_model.specs.Levels.{IsBehaviour, level_by, inputs_by, built}
+use Rattle.mp_records.specs.declared.ports.Input.{Input}
+use Rattle.mp_netlist.specs.Circuit.{Circuit, IsCircuit, wire_at, module_at}
+use Rattle.mp_model.specs.Levels.{IsBehaviour, initial_of, level_by, input_by, inputs_by, built}
 use Rattle.mp_model.specs.Histories.{state_in, level_in, inputs_in, next_state, slot_state, row_from, next_row, history}
 use Rattle.mp_model.specs.Waves.{level, state}
 use Rattle.mp_model.specs.Laws.{Satisfies, IsOnlyOne}
@@ -39,12 +39,15 @@ unfolding level
 level_is n ok w t = level_by_same n ok (λ m u. state_in (history n t) m u) (state n) w t (λ m u r below at. state_in_is n m u t below)
 
 -- the inputs of a module rest on the levels of wires
-map_same : (f g : ℕ → ℕ) (ws : List WireId) → ((w : ℕ) → f w ≡ g w) → map (λ v. f v.0) ws ≡ map (λ (v : WireId). g v.0) ws
+input_same : (n : Circuit) (f g : ℕ → ℕ → ℕ) (i : Input) (t : ℕ) → ((w u : ℕ) → u ≤ t → f w u ≡ g w u) → input_by n f i t ≡ input_by n g i t
+input_same n f g i t same = ap (cond (nat_lt t i.delay) (initial_of (wire_at n i.wire.0))) (same i.wire.0 (t - i.delay) (omega arith))
+
+map_same : (f g : Input → ℕ) (is : List Input) → ((i : Input) → f i ≡ g i) → map f is ≡ map g is
 map_same f g [] same = refl
-map_same f g (w ∷ ws) same = ap (λ x. x ∷ map (λ (v : WireId). f v.0) ws) (same w.0) ∙ ap (λ xs. g w.0 ∷ xs) (map_same f g ws same)
+map_same f g (i ∷ is) same = ap (λ x. x ∷ map f is) (same i) ∙ ap (λ xs. g i ∷ xs) (map_same f g is same)
 
 inputs_same : (n : Circuit) (f g : ℕ → ℕ → ℕ) (r : ModuleRecord) (t : ℕ) → ((w u : ℕ) → u ≤ t → f w u ≡ g w u) → inputs_by n f r t ≡ inputs_by n g r t
-inputs_same n f g r t same = map_same (λ w. f w t) (λ w. g w t) r.inputs (λ w. same w t (omega arith))
+inputs_same n f g r t same = map_same (λ i. input_by n f i t) (λ i. input_by n g i t) r.inputs (λ i. input_same n f g i t same)
 
 inputs_are : (n : Circuit) → IsCircuit n → (r : ModuleRecord) (t : ℕ) → inputs_in n (history n t) r t ≡ inputs_by n (level n) r t
 inputs_are n ok r t = inputs_same n (λ w u. level_in n (history n t) w u) (level n) r t (λ w u within. level_in_longer n ok t w u within)

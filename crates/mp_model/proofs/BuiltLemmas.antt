@@ -5,6 +5,7 @@ use Rattle.std.proofs.lemmas.Bool.Decides.{nat_tests}
 use Rattle.mp_modules.specs.Kinds.{has_width}
 use Rattle.mp_records.specs.declared.wire_record.WireRecord.{WireRecord}
 use Rattle.mp_records.specs.declared.module_record.ModuleRecord.{ModuleRecord}
+use Rattle.mp_records.specs.Inputs.{no_input}
 use Rattle.mp_netlist.specs.Circuit.{Circuit, IsCircuit, IsModule, wire_at, width_of, module_width}
 use Rattle.mp_netlist.proofs.CircuitLemmas.{some_input}
 use Rattle.mp_storage.specs.AnyModules.{is_width_of}
@@ -24,6 +25,6 @@ chosen false w low high = refl
 pub width_of_module : (n : Circuit) → IsCircuit n → (r : ModuleRecord) → IsModule n r → is_width_of r.kind (module_width n r) ≡ true
 width_of_module n ok r is_module =
     let some : 0 < length r.inputs = omega (arith, is_module.inputs, some_input r.kind) in
-    let first = is_module.reads 0 (record { 0 = 0 }) some in
-    let wide = wire_width n ok (slice_index_or r.inputs 0 (record { 0 = 0 })).0 first.0 in
+    let first = is_module.reads 0 no_input some in
+    let wide = wire_width n ok (slice_index_or r.inputs 0 no_input).wire.0 first.0 in
     chosen (has_width r.kind) _ wide.0 wide.1

@@ -1,25 +1,21 @@
 -- The cells of all modules, while they answer one after the other.
-use Rattle.std.proofs.Common.{◌≡◌, ℕ, ◌+◌, ◌<◌, false, ◌==◌, List, [], ◌∷◌, Option, Some, None, IsSome, option_map, map, length, slice_index_or, slice_set, zero, suc, refl, ap, sym, subst, ◌∙◌, arith, inl, inr}
-use Rattle.std.specs.Option.{option_map_or}
+use Rattle.std.proofs.Common.{◌≡◌, ℕ, ◌+◌, ◌<◌, false, ◌==◌, List, Option, Some, None, option_map, map, length, slice_set, zero, suc, refl, ap, sym, subst, ◌∙◌, arith, inl, inr}
 use Rattle.std.proofs.lemmas.Bool.{cases_eq}
 use Rattle.std.proofs.lemmas.Bool.Decides.{nat_tests}
 use Rattle.std.proofs.lemmas.List.{get_or-set_same, get_or-set_other, length-map}
 use Rattle.std.proofs.Math.ListN.{length-set}
 use Rattle.mp_modules.specs.declared.memory.Memory.{Memory}
 use Rattle.mp_storage.specs.AnyModules.{settle, step}
-use Rattle.mp_records.specs.declared.ids.WireId.{WireId}
 use Rattle.mp_records.specs.declared.module_record.ModuleRecord.{ModuleRecord}
-use Rattle.mp_records.specs.declared.wire_record.WireRecord.{WireRecord}
 use Rattle.mp_netlist.specs.Slots.{slot_at}
-use Rattle.mp_netlist.specs.Circuit.{Circuit, IsCircuit, wire_at, module_at}
+use Rattle.mp_netlist.specs.Circuit.{Circuit, IsCircuit, module_at}
 use Rattle.mp_model.specs.declared.cell.Cell.{Cell}
 use Rattle.mp_model.specs.Levels.{built, inputs_by}
 use Rattle.mp_model.specs.Cells.{answered, after_answer}
-use Rattle.mp_model.specs.Tracks.{Progress}
-use Rattle.mp_model.specs.Evaluations.{IsTrackOf, AreTracks, IsInState, IsCellOf, AreCells, delivered, with_answer, memory_at, present_at, first_cell}
+use Rattle.mp_model.specs.Evaluations.{IsInState, IsCellOf, AreCells, delivered, with_answer, memory_at, first_cell}
 use Rattle.mp_model.specs.Waves.{level, state}
 use Rattle.mp_model.proofs.BehaviourLemmas.{satisfies}
-use Rattle.mp_model.proofs.SlotLemmas.{slot_at-map, slot_within, no_some}
+use Rattle.mp_model.proofs.SlotLemmas.{slot_at-map, slot_within}
 use Rattle.mp_model.proofs.EvaluationLemmas as units
 
 -- a module's answer is its state
@@ -36,25 +32,6 @@ answered_is n ok m (suc u) r cell levels at in_state inputs =
     ∙ ap (λ (memory : Memory). step (built n r) memory levels) (in_state.memory u e)
     ∙ ap (step (built n r) (state n m u)) inputs
     ∙ next)
-
--- the level now of a wire that stands
-present_is : (n : Circuit) (known : ℕ → ℕ → ℕ) (t w : ℕ) (wire : Option WireRecord) (slot : Option Progress) → IsTrackOf n known t w wire slot → IsSome wire → option_map_or (λ (track : Progress). track.present) slot 0 ≡ level n w t
-present_is n known t w None slot on some = absurd (no_some (let none : Option WireRecord = None in none) refl some)
-present_is n known t w (Some r) None on some = absurd on
-present_is n known t w (Some r) (Some track) on some = on.present
-
-map_present : (n : Circuit) (known : ℕ → ℕ → ℕ) (t : ℕ) (tracks : List (Option Progress)) (wires : List WireId) → AreTracks n known t tracks
-    → ((p : ℕ) (d : WireId) → p < length wires → IsSome (wire_at n (slice_index_or wires p d).0)) → map (λ (wire : WireId). present_at tracks wire.0) wires ≡ map (λ (wire : WireId). level n wire.0 t) wires
-map_present n known t tracks [] are stand = refl
-map_present n known t tracks (wire ∷ wires) are stand =
-    let here : present_at tracks wire.0 ≡ level n wire.0 t = present_is n known t wire.0 (wire_at n wire.0) (slot_at tracks wire.0) (are.each wire.0) (stand 0 wire (omega arith)) in
-    let others = map_present n known t tracks wires are (λ p d within. stand (suc p) d (omega arith)) in
-    ap (λ x. x ∷ map (λ (v : WireId). present_at tracks v.0) wires) here ∙ ap (λ xs. level n wire.0 t ∷ xs) others
-
--- the levels now at a module's inputs
-pub inputs_are : (n : Circuit) → IsCircuit n → (known : ℕ → ℕ → ℕ) (m t : ℕ) (r : ModuleRecord) (tracks : List (Option Progress)) → module_at n m ≡ Some r → AreTracks n known t tracks
-    → map (λ (wire : WireId). present_at tracks wire.0) r.inputs ≡ inputs_by n (level n) r t
-inputs_are n ok known m t r tracks at are = map_present n known t tracks r.inputs are (λ p d within. ((ok.modules_ok m r at).reads p d within).0)
 
 pub IsCellOf-same : (n : Circuit) (m k j : ℕ) (slot : Option ModuleRecord) (cell : Option Cell) → k ≡ j → IsCellOf n m k slot cell → IsCellOf n m j slot cell
 IsCellOf-same n m k j None None same is = tt

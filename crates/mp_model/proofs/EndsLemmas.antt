@@ -10,6 +10,7 @@ use Rattle.mp_wave.proofs.WaveformLemmas.{same_levels}
 use Rattle.mp_wave.proofs.ChangesLemmas.{last_time-changes_after, levels_of_wave, form_of_wave}
 use Rattle.mp_records.specs.declared.module_record.ModuleRecord.{ModuleRecord}
 use Rattle.mp_records.specs.declared.wire_record.WireRecord.{WireRecord}
+use Rattle.mp_netlist.specs.Limits.{max_horizon}
 use Rattle.mp_netlist.specs.declared.driver.Driver.{Driver}
 use Rattle.mp_netlist.specs.declared.driver.Driver.TheVariants.{Nothing, Stimulus, Port}
 use Rattle.mp_netlist.specs.Slots.{slot_at}
@@ -59,7 +60,7 @@ times_set n ok w r at = by r.stimulus (ok.wires_ok w r at).stimulus
     by (Some changes) valid = stimulus_times n.horizon r.width 0 changes valid
 
 -- a stimulus can be held
-pub stimulus_held : (horizon width : ℕ) (stimulus : Option (List (ℕ × ℕ))) → horizon ≤ 65536 → IfSet horizon width stimulus → IfSome stimulus (AreTimesIn 1 (2 ^ 32 - 1))
+pub stimulus_held : (horizon width : ℕ) (stimulus : Option (List (ℕ × ℕ))) → horizon ≤ max_horizon → IfSet horizon width stimulus → IfSome stimulus (AreTimesIn 1 (2 ^ 32 - 1))
 stimulus_held horizon width None low valid = tt
 stimulus_held horizon width (Some changes) low valid = AreTimesIn-longer 1 horizon (2 ^ 32 - 1) changes (omega arith) (stimulus_times horizon width 0 changes valid)
 
@@ -91,7 +92,7 @@ first_levels n ok w u r (Port m p) at drives reached =
     early (Some part) below = rw (lt-ltb u (delay_of part p) (omega arith)) refl
 
 -- each wire that stands at time 0
-first_on_track : (n : Circuit) → IsCircuit n → (w : ℕ) (r : WireRecord) → wire_at n w ≡ Some r → IsOnTrack n (λ m p. 0) 0 w (first_progress r)
+pub first_on_track : (n : Circuit) → IsCircuit n → (w : ℕ) (r : WireRecord) → wire_at n w ≡ Some r → IsOnTrack n (λ m p. 0) 0 w (first_progress r)
 first_on_track n ok w r at =
     let wave = (started r).wave in
     let times = times_set n ok w r at in

@@ -37,6 +37,9 @@ delivered_later t done p m q less = grind (arith, nat_tests)
 pub delivered_none : (t m q : ℕ) → delivered t 0 0 m q ≡ t
 delivered_none t m q = grind (arith, nat_tests)
 
+pub delivered_least : (t done p m q : ℕ) → t ≤ delivered t done p m q
+delivered_least t done p m q = grind (arith, nat_tests)
+
 -- one port more changes nothing for the others
 pub delivered_step : (t done p m q : ℕ) → (m ≡ done → q ≡ p → ⊥) → delivered t done p m q ≡ delivered t done (p + 1) m q
 delivered_step t done p m q other = by (cases_order m done) (cases_lt q p)

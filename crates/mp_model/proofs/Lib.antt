@@ -7,6 +7,7 @@ pub mod BuiltLemmas
 pub mod EvaluationLemmas
 pub mod TracksLemmas
 pub mod CellsLemmas
-pub mod QuietLemmas
 pub mod EndsLemmas
+pub mod InputLemmas
+pub mod QuietLemmas
 pub mod StreamLemmas

@@ -1,15 +1,13 @@
 -- Where no input of a module has an event its state stays, and so does the level that each output leads to.
-use Rattle.std.proofs.Common.{◌≡◌, ℕ, ◌+◌, ◌<◌, ◌≤◌, false, List, [], ◌∷◌, Option, Some, None, IsSome, map, length, slice_index_or, zero, suc, refl, ap, sym, subst, ◌∙◌, arith, inl, inr}
-use Rattle.std.specs.Option.{option_map_or}
+use Rattle.std.proofs.Common.{◌≡◌, ℕ, ◌+◌, ◌<◌, ◌≤◌, false, List, Option, Some, None, zero, suc, refl, ap, sym, subst, ◌∙◌, arith, inl, inr}
 use Rattle.std.specs.List.{list_any}
-use Rattle.std.proofs.lemmas.Bool.{cases_eq, cases_lt, or_parts}
+use Rattle.std.proofs.lemmas.Bool.{cases_eq, cases_lt}
 use Rattle.mp_wave.specs.Waveform.{level_of, last_time}
 use Rattle.mp_modules.specs.declared.memory.Memory.{Memory}
 use Rattle.mp_modules.specs.Memories.{output_of}
 use Rattle.mp_storage.specs.AnyModules.{step}
 use Rattle.mp_storage.specs.QuietAny.{settled_stays, stepped_stays}
-use Rattle.mp_records.specs.declared.ids.WireId.{WireId}
-use Rattle.mp_records.specs.declared.wire_record.WireRecord.{WireRecord}
+use Rattle.mp_records.specs.declared.ports.Input.{Input}
 use Rattle.mp_records.specs.declared.module_record.ModuleRecord.{ModuleRecord}
 use Rattle.mp_records.specs.Outputs.{delay_of}
 use Rattle.mp_netlist.specs.declared.driver.Driver.{Driver}
@@ -20,31 +18,14 @@ use Rattle.mp_netlist.specs.Drivers.{driver}
 use Rattle.mp_model.specs.declared.cell.Cell.{Cell}
 use Rattle.mp_model.specs.Levels.{built, inputs_by}
 use Rattle.mp_model.specs.Tracks.{Progress}
-use Rattle.mp_model.specs.Evaluations.{IsReached, IsOpen, IsOnTrack, IsTrackOf, AreTracks, IsCellOf, AreCells, delay_in, delivered, event_at}
+use Rattle.mp_model.specs.Evaluations.{IsReached, IsOpen, IsOnTrack, AreTracks, IsCellOf, AreCells, delay_in, delivered, event_at}
 use Rattle.mp_model.specs.Waves.{level, state}
 use Rattle.mp_model.proofs.BehaviourLemmas.{satisfies}
 use Rattle.mp_model.proofs.CellsLemmas.{IsCellOf-same}
-use Rattle.mp_model.proofs.SlotLemmas.{no_some}
+use Rattle.mp_model.proofs.InputLemmas.{inputs_stay}
 use Rattle.mp_model.proofs.TrackLemmas.{stays}
 use Rattle.mp_model.proofs.TracksLemmas.{IsTrackOf-keep}
 use Rattle.mp_model.proofs.EvaluationLemmas as units
-
--- the level of a wire without an event is that of the unit before
-level_stays : (n : Circuit) (known : ℕ → ℕ → ℕ) (t u w : ℕ) (wire : Option WireRecord) (slot : Option Progress) → u + 1 ≡ t → IsTrackOf n known t w wire slot → IsSome wire
-    → option_map_or (λ (track : Progress). track.event) slot false ≡ false → level n w t ≡ level n w u
-level_stays n known t u w None slot next on some none = absurd (no_some (let absent : Option WireRecord = None in absent) refl some)
-level_stays n known t u w (Some r) None next on some none = absurd on
-level_stays n known t u w (Some r) (Some track) next on some none = on.quiet none u next
-
-map_stays : (n : Circuit) (known : ℕ → ℕ → ℕ) (t u : ℕ) (tracks : List (Option Progress)) (wires : List WireId) → u + 1 ≡ t → AreTracks n known t tracks
-    → ((p : ℕ) (d : WireId) → p < length wires → IsSome (wire_at n (slice_index_or wires p d).0)) → list_any (λ (wire : WireId). event_at tracks wire.0) wires ≡ false
-    → map (λ (wire : WireId). level n wire.0 t) wires ≡ map (λ (wire : WireId). level n wire.0 u) wires
-map_stays n known t u tracks [] next are stand none = refl
-map_stays n known t u tracks (wire ∷ wires) next are stand none =
-    let parts = or_parts (event_at tracks wire.0) (list_any (λ (v : WireId). event_at tracks v.0) wires) none in
-    let here = level_stays n known t u wire.0 (wire_at n wire.0) (slot_at tracks wire.0) next (are.each wire.0) (stand 0 wire (omega arith)) parts.0 in
-    let others = map_stays n known t u tracks wires next are (λ p d within. stand (suc p) d (omega arith)) parts.1 in
-    ap (λ x. x ∷ map (λ (v : WireId). level n v.0 t) wires) here ∙ ap (λ xs. level n wire.0 u ∷ xs) others
 
 -- where the inputs stay, the state stays
 same_inputs : (n : Circuit) → IsCircuit n → (m u : ℕ) (r : ModuleRecord) → module_at n m ≡ Some r → inputs_by n (level n) r (u + 1) ≡ inputs_by n (level n) r u → state n m (u + 1) ≡ state n m u
@@ -62,10 +43,11 @@ same_inputs n ok m (suc v) r at same =
     ∙ ap (λ (s : Memory). step part s x) before ∙ stepped_stays part (state n m v) x ∙ sym before
 
 -- a module none of whose inputs has an event keeps its state
-pub state_stays : (n : Circuit) → IsCircuit n → (known : ℕ → ℕ → ℕ) (m t u : ℕ) (r : ModuleRecord) (tracks : List (Option Progress)) → module_at n m ≡ Some r → u + 1 ≡ t → AreTracks n known t tracks
-    → list_any (λ (wire : WireId). event_at tracks wire.0) r.inputs ≡ false → state n m t ≡ state n m u
-state_stays n ok known m t u r tracks at next are none =
-    let same : inputs_by n (level n) r t ≡ inputs_by n (level n) r u = map_stays n known t u tracks r.inputs next are (λ p d within. ((ok.modules_ok m r at).reads p d within).0) none in
+pub state_stays : (n : Circuit) → IsCircuit n → (known : ℕ → ℕ → ℕ) (m t u : ℕ) (r : ModuleRecord) (tracks : List (Option Progress)) → module_at n m ≡ Some r → u + 1 ≡ t → t < n.horizon
+    → ((k p : ℕ) → t ≤ known k p) → AreTracks n known t tracks → list_any (λ (i : Input). event_at tracks t i) r.inputs ≡ false → state n m t ≡ state n m u
+state_stays n ok known m t u r tracks at next low from are none =
+    let same : inputs_by n (level n) r t ≡ inputs_by n (level n) r u
+    = inputs_stay n ok known t from low u next tracks r.inputs are (λ p d within. ((ok.modules_ok m r at).reads p d within).0) none in
     subst (λ k. state n m k ≡ state n m u) next (same_inputs n ok m u r at (subst (λ k. inputs_by n (level n) r k ≡ inputs_by n (level n) r u) (sym next) same))
 
 -- its cell stays, and has answered

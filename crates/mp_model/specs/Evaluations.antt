@@ -6,6 +6,7 @@ use Rattle.mp_modules.specs.declared.memory.Memory.{Memory}
 use Rattle.mp_storage.specs.AnyModules.{start}
 use Rattle.mp_records.specs.declared.wire_record.WireRecord.{WireRecord}
 use Rattle.mp_records.specs.declared.module_record.ModuleRecord.{ModuleRecord}
+use Rattle.mp_records.specs.declared.ports.Input.{Input}
 use Rattle.mp_records.specs.Outputs.{delay_of}
 use Rattle.mp_netlist.specs.declared.driver.Driver.{Driver}
 use Rattle.mp_netlist.specs.declared.driver.Driver.TheVariants.{Nothing, Stimulus, Port}
@@ -13,7 +14,7 @@ use Rattle.mp_netlist.specs.Slots.{slot_at}
 use Rattle.mp_netlist.specs.Circuit.{Circuit, wire_at, module_at}
 use Rattle.mp_netlist.specs.Drivers.{driver}
 use Rattle.mp_model.specs.Levels.{built}
-use Rattle.mp_model.specs.Tracks.{Progress, expecting}
+use Rattle.mp_model.specs.Tracks.{Progress, expecting, level_before, event_before}
 use Rattle.mp_model.specs.Cells.{after_answer}
 use Rattle.mp_model.specs.Waves.{level, state}
 use Rattle.mp_model.specs.declared.cell.Cell.{Cell}
@@ -83,13 +84,13 @@ pub record AreCells (n : Circuit) (t done : ℕ) (cells : List (Option Cell)) : 
   pub places : length cells ≡ length n.modules
   pub each : (m : ℕ) → IsCellOf n m (delivered t done 0 m 0) (module_at n m) (slot_at cells m)
 
--- the level of a wire now, 0 where none stands
-abbrev pub present_at : List (Option Progress) → ℕ → ℕ
-present_at tracks w = option_map_or (λ (track : Progress). track.present) (slot_at tracks w) 0
+-- the level at an input port at a time, 0 where its wire doesn't stand
+abbrev pub present_at : List (Option Progress) → ℕ → Input → ℕ
+present_at tracks time i = option_map_or (level_before time i.delay) (slot_at tracks i.wire.0) 0
 
--- whether the level of a wire changed now
-abbrev pub event_at : List (Option Progress) → ℕ → Bool
-event_at tracks w = option_map_or (λ (track : Progress). track.event) (slot_at tracks w) false
+-- whether the level at an input port changed at a time
+abbrev pub event_at : List (Option Progress) → ℕ → Input → Bool
+event_at tracks time i = option_map_or (event_before time i.delay) (slot_at tracks i.wire.0) false
 
 -- the tracks after another level of a wire is known
 abbrev pub with_expected : List (Option Progress) → ℕ → ℕ → ℕ → List (Option Progress)

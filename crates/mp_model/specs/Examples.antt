@@ -6,6 +6,7 @@ use Rattle.mp_modules.specs.declared.kind.Kind.TheVariants as kinds
 use Rattle.mp_records.specs.declared.wire_record.WireRecord.{WireRecord}
 use Rattle.mp_records.specs.declared.module_record.ModuleRecord.{ModuleRecord}
 use Rattle.mp_records.specs.declared.ids.WireId.{WireId}
+use Rattle.mp_records.specs.declared.ports.Input.{Input}
 use Rattle.mp_records.specs.declared.ports.Output.{Output}
 use Rattle.mp_netlist.specs.Circuit.{Circuit}
 use Rattle.mp_model.specs.Waves.{waves}
@@ -17,11 +18,15 @@ wire name stimulus = Some (record { name = name; width = 1; initial = 0; stimulu
 abbrev pub number : ℕ → WireId
 number w = record { 0 = w }
 
+-- an input at a wire, without a delay
+abbrev pub reading : ℕ → Input
+reading w = record { wire = number w; delay = 0 }
+
 -- an output at a wire, with a delay
 abbrev pub output : ℕ → ℕ → List Output
 output w delay = (let port : Output = record { wire = Some (number w); delay = delay } in port) ∷ []
 
-abbrev pub part : List ℕ → Kind → List ℕ → List WireId → List Output → Option ModuleRecord
+abbrev pub part : List ℕ → Kind → List ℕ → List Input → List Output → Option ModuleRecord
 part name kind params inputs outputs = Some (record { name = name; kind = kind; params = params; inputs = inputs; outputs = outputs })
 
 abbrev pub shown : List (ℕ × ℕ) → Option Waveform
@@ -32,7 +37,7 @@ abbrev pub self_loop : Circuit
 self_loop = record {
   horizon = 5;
   wires = wire (codes "y") None ∷ wire (codes "z") None ∷ [];
-  modules = part (codes "n") kinds.Not [] (number 0 ∷ []) (output 0 1) ∷ part (codes "b") kinds.Buf [] (number 0 ∷ []) (output 1 3) ∷ [];
+  modules = part (codes "n") kinds.Not [] (reading 0 ∷ []) (output 0 1) ∷ part (codes "b") kinds.Buf [] (reading 0 ∷ []) (output 1 3) ∷ [];
   bundles = [];
 }
 
@@ -41,7 +46,7 @@ abbrev pub c_element : Circuit
 c_element = record {
   horizon = 20;
   wires = wire (codes "a") (Some ((3, 1) ∷ [])) ∷ wire (codes "b") (Some ((7, 1) ∷ [])) ∷ wire (codes "y") None ∷ [];
-  modules = part (codes "c") kinds.C (0 ∷ 0 ∷ 0 ∷ []) (number 0 ∷ number 1 ∷ []) (output 2 2) ∷ [];
+  modules = part (codes "c") kinds.C (0 ∷ 0 ∷ 0 ∷ []) (reading 0 ∷ reading 1 ∷ []) (output 2 2) ∷ [];
   bundles = [];
 }
 
@@ -51,8 +56,17 @@ two_stage_control = record {
   horizon = 20;
   wires = wire (codes "r") (Some ((1, 1) ∷ (4, 0) ∷ [])) ∷ wire (codes "ack") (Some ((10, 1) ∷ [])) ∷ wire (codes "q1") None ∷ wire (codes "q2") None ∷ [];
   modules =
-      part (codes "c1") kinds.C (0 ∷ 0 ∷ 1 ∷ []) (number 0 ∷ number 3 ∷ []) (output 2 2)
-      ∷ part (codes "c2") kinds.C (0 ∷ 0 ∷ 1 ∷ []) (number 2 ∷ number 1 ∷ []) (output 3 2) ∷ [];
+      part (codes "c1") kinds.C (0 ∷ 0 ∷ 1 ∷ []) (reading 0 ∷ reading 3 ∷ []) (output 2 2)
+      ∷ part (codes "c2") kinds.C (0 ∷ 0 ∷ 1 ∷ []) (reading 2 ∷ reading 1 ∷ []) (output 3 2) ∷ [];
+  bundles = [];
+}
+
+-- a buffer that hears of its wire 4 units late
+abbrev pub late_buffer : Circuit
+late_buffer = record {
+  horizon = 20;
+  wires = wire (codes "a") (Some ((2, 1) ∷ (5, 0) ∷ [])) ∷ wire (codes "y") None ∷ [];
+  modules = part (codes "b") kinds.Buf [] ((let port : Input = record { wire = number 0; delay = 4 } in port) ∷ []) (output 1 3) ∷ [];
   bundles = [];
 }
 
@@ -66,3 +80,6 @@ abbrev pub TwoStageControl : Type 0
 TwoStageControl =
     waves two_stage_control
     ≡ shown ((1, 1) ∷ (4, 0) ∷ []) ∷ shown ((10, 1) ∷ []) ∷ shown ((3, 1) ∷ (7, 0) ∷ []) ∷ shown ((5, 1) ∷ (12, 0) ∷ []) ∷ []
+
+abbrev pub LateBuffer : Type 0
+LateBuffer = waves late_buffer ≡ shown ((2, 1) ∷ (5, 0) ∷ []) ∷ shown ((9, 1) ∷ (12, 0) ∷ []) ∷ []

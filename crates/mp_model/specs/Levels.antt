@@ -7,6 +7,7 @@ use Rattle.mp_storage.specs.declared.any_module.AnyModule.{AnyModule}
 use Rattle.mp_storage.specs.AnyModules.{any_part_of, settle, step}
 use Rattle.mp_records.specs.declared.wire_record.WireRecord.{WireRecord}
 use Rattle.mp_records.specs.declared.module_record.ModuleRecord.{ModuleRecord}
+use Rattle.mp_records.specs.declared.ports.Input.{Input}
 use Rattle.mp_records.specs.Outputs.{delay_of}
 use Rattle.mp_netlist.specs.declared.driver.Driver.{Driver}
 use Rattle.mp_netlist.specs.declared.driver.Driver.TheVariants.{Nothing, Stimulus, Port}
@@ -41,9 +42,13 @@ driven_level (Port m p) n state w t = port_level state (module_at n m.0) m.0 p (
 abbrev pub level_by : Circuit → (ℕ → ℕ → Memory) → ℕ → ℕ → ℕ
 level_by n state w t = driven_level (driver n w) n state w t
 
+-- the level at an input port at the time t: the initial level of its wire until the delay is over, then the wire's level of so much before
+abbrev pub input_by : Circuit → (ℕ → ℕ → ℕ) → Input → ℕ → ℕ
+input_by n level i t = if nat_lt t i.delay then initial_of (wire_at n i.wire.0) else level i.wire.0 (t - i.delay)
+
 -- the levels at a module's input ports at the time t, from the levels of wires
 abbrev pub inputs_by : Circuit → (ℕ → ℕ → ℕ) → ModuleRecord → ℕ → List ℕ
-inputs_by n level r t = map (λ w. level w.0 t) r.inputs
+inputs_by n level r t = map (λ i. input_by n level i t) r.inputs
 
 -- levels and states that satisfy the equations
 pub record IsBehaviour (n : Circuit) (level : ℕ → ℕ → ℕ) (state : ℕ → ℕ → Memory) : Type 0 where

@@ -1,6 +1,6 @@
 -- The wave of one wire while time passes.
-use Rattle.std.specs.Prelude.{ℕ, Bool, false, ◌+◌, ◌≤◌, ◌<◌, List, [], ◌∷◌, ◌++◌, Option, Some, None, is_some, unwrap_or, ◌==◌, if◌then◌else◌}
-use Rattle.mp_wave.specs.Waveform.{Waveform, held_from, last_from}
+use Rattle.std.specs.Prelude.{ℕ, Bool, false, not, ◌+◌, ◌-◌, ◌≤◌, ◌<◌, List, [], ◌∷◌, ◌++◌, Option, Some, None, is_some, unwrap_or, ◌==◌, if◌then◌else◌}
+use Rattle.mp_wave.specs.Waveform.{Waveform, held_from, last_from, level_of}
 use Rattle.mp_wave.specs.Building.{Building}
 use Rattle.mp_records.specs.declared.wire_record.WireRecord.{WireRecord}
 
@@ -74,3 +74,12 @@ expecting time level track = record {
   event = track.event;
   ahead = one_more track.wave time level track.ahead;
 }
+
+-- the level so many units ago, or at time 0 where that is earlier
+abbrev pub level_before : ℕ → ℕ → Progress → ℕ
+level_before time delay track = if delay == 0 then track.present else level_of track.wave (time - delay)
+
+-- whether the level so many units ago was another than one unit before that
+abbrev pub event_before : ℕ → ℕ → Progress → Bool
+event_before time delay track =
+    if delay == 0 then track.event else not (level_of track.wave (time - delay) == level_of track.wave (time - 1 - delay))

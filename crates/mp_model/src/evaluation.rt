@@ -2,7 +2,7 @@
 ghost use Rattle.std.specs.Prelude.{◌≡◌, ◌+◌, ◌-◌, ◌^◌, ◌<◌, ◌≤◌, length, map, take, option_map, Some, IfOk, OnOk, IsTrue, ℕ};
 ghost use Rattle.std.specs.List.{list_any};
 ghost use Rattle.std.specs.Option.{option_copied};
-ghost use Rattle.mp_records.specs.declared.ids.WireId.{WireId as Wire};
+ghost use Rattle.mp_records.specs.declared.ports.Input.{Input as Port};
 ghost use Rattle.mp_netlist.specs.Slots.{slot_at};
 ghost use Rattle.mp_netlist.specs.Circuit.{IsCircuit, module_width, module_at};
 ghost use Rattle.mp_modules.specs.Kinds.{are_params};
@@ -16,7 +16,7 @@ ghost use Rattle.mp_model.specs.Waves.{state, waves};
 use crate::cell::Cell;
 use crate::track::Track;
 use mp_modules::{EventModule, MOST_INPUTS, Memory};
-use mp_netlist::{ModuleId, ModuleRecord, Netlist, WireId};
+use mp_netlist::{Input, ModuleId, ModuleRecord, Netlist, WireId};
 use mp_storage::AnyModule;
 use mp_wave::Wave;
 use std::alloc::{AllocError, Global};
@@ -151,11 +151,11 @@ fn answer(
         return Ok(());
     };
     let inputs = found.inputs.as_slice();
-    if time > 0 && !has_event(tracks.as_slice(), inputs) {
+    if time > 0 && !has_event(tracks.as_slice(), inputs, time) {
         return Ok(());
     }
     let mut levels = [0; MOST_INPUTS];
-    read_levels(tracks.as_slice(), inputs, &mut levels);
+    read_levels(tracks.as_slice(), inputs, time, &mut levels);
     step(cells, id, time, &levels[..inputs.len()]);
     match memory_of(cells.as_slice(), id) {
         Some(memory) => deliver(netlist, tracks, id, found, memory, time),
@@ -163,18 +163,18 @@ fn answer(
     }
 }
 
-/// Whether the level of a wire that a module reads changed now.
-fn has_event(tracks: &[Option<Track>], inputs: &[WireId]) -> bool
-    ensures { result ≡ list_any (λ (wire : Wire). event_at tracks.now wire.0) inputs.now }
+/// Whether the level at an input of a module changed now.
+fn has_event(tracks: &[Option<Track>], inputs: &[Input], time: u32) -> bool
+    ensures { result ≡ list_any (λ (port : Port). event_at tracks.now time port) inputs.now }
 {
-    inputs.iter().any(|wire| is_event(tracks, *wire))
+    inputs.iter().any(|port| is_event(tracks, *port, time))
 }
 
-fn is_event(tracks: &[Option<Track>], wire: WireId) -> bool
-    ensures { result ≡ event_at tracks.now wire.0 }
+fn is_event(tracks: &[Option<Track>], port: Input, time: u32) -> bool
+    ensures { result ≡ event_at tracks.now time port }
 {
-    match tracks.get(wire.0 as usize) {
-        Some(Some(track)) => track.has_event(),
+    match tracks.get(port.wire.0 as usize) {
+        Some(Some(track)) => track.has_event_before(time, port.delay),
         _ => false,
     }
 }
@@ -208,20 +208,25 @@ fn memory_of(cells: &[Option<Cell>], id: ModuleId) -> Option<&Memory>
 
 /// Reads the levels now of a module's inputs, by port, into their places. A level is written where it is read again, since to hand
 /// the places back would be to copy what was written just before.
-fn read_levels(tracks: &[Option<Track>], inputs: &[WireId], levels: &mut [u64; MOST_INPUTS])
+fn read_levels(
+    tracks: &[Option<Track>],
+    inputs: &[Input],
+    time: u32,
+    levels: &mut [u64; MOST_INPUTS],
+)
     requires { length inputs.now ≤ MOST_INPUTS }
-    ensures { take (length inputs.now) levels.new ≡ map (λ (wire : Wire). present_at tracks.now wire.0) inputs.now }
+    ensures { take (length inputs.now) levels.new ≡ map (λ (port : Port). present_at tracks.now time port) inputs.now }
 {
-    for (p, wire) in inputs.iter().enumerate() {
-        levels[p] = present_level(tracks, *wire);
+    for (p, port) in inputs.iter().enumerate() {
+        levels[p] = present_level(tracks, *port, time);
     }
 }
 
-fn present_level(tracks: &[Option<Track>], wire: WireId) -> u64
-    ensures { result ≡ present_at tracks.now wire.0 }
+fn present_level(tracks: &[Option<Track>], port: Input, time: u32) -> u64
+    ensures { result ≡ present_at tracks.now time port }
 {
-    match tracks.get(wire.0 as usize) {
-        Some(Some(track)) => track.present(),
+    match tracks.get(port.wire.0 as usize) {
+        Some(Some(track)) => track.level_before(time, port.delay),
         _ => 0,
     }
 }

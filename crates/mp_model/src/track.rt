@@ -27,7 +27,7 @@ impl Model for Track {
 }
 
 impl Track {
-    ghost use Rattle.mp_model.specs.Tracks.{AreTimesIn, first_progress, advanced, expecting};
+    ghost use Rattle.mp_model.specs.Tracks.{AreTimesIn, first_progress, advanced, expecting, level_before, event_before};
 
     /// A wire's track at time 0: its stimulus, if any, is known ahead.
     pub(crate) fn new(alloc: Global, wire: &WireRecord) -> Result<Self, AllocError>
@@ -46,18 +46,25 @@ impl Track {
         })
     }
 
-    /// The level now.
-    pub(crate) fn present(&self) -> u64
-        ensures { result ≡ self.now.present }
+    /// The level so many units before this time, or at time 0 where that is earlier.
+    pub(crate) fn level_before(&self, time: u32, delay: u32) -> u64
+        ensures { result ≡ level_before time delay self.now }
     {
-        self.present
+        if delay == 0 {
+            return self.present;
+        }
+        self.builder.wave().level_at(time.saturating_sub(delay))
     }
 
-    /// Whether the level is another than one unit before, which is so at no time 0.
-    pub(crate) fn has_event(&self) -> bool
-        ensures { result ≡ self.now.event }
+    /// Whether the level so many units before this time was another than one unit before that, which is so at no time 0.
+    pub(crate) fn has_event_before(&self, time: u32, delay: u32) -> bool
+        ensures { result ≡ event_before time delay self.now }
     {
-        self.event
+        if delay == 0 {
+            return self.event;
+        }
+        let late = time.saturating_sub(1);
+        self.level_before(time, delay) != self.level_before(late, delay)
     }
 
     /// Goes on to the next unit of time, which is this one.

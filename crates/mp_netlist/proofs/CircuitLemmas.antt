@@ -12,9 +12,11 @@ use Rattle.mp_records.specs.declared.ids.WireId.{WireId}
 use Rattle.mp_records.specs.declared.wire_record.WireRecord.{WireRecord}
 use Rattle.mp_records.specs.declared.module_record.ModuleRecord.{ModuleRecord}
 use Rattle.mp_records.specs.declared.bundle_record.BundleRecord.{BundleRecord}
+use Rattle.mp_records.specs.Inputs.{no_input}
 use Rattle.mp_records.specs.Outputs.{output_at}
 use Rattle.mp_records.specs.Names.{is_name}
 use Rattle.mp_records.specs.NamedWires.{module_names, bundle_names}
+use Rattle.mp_netlist.specs.Limits.{max_wires, max_modules, max_bundles}
 use Rattle.mp_netlist.specs.Circuit.{Circuit, IsCircuit, IsWire, IsModule, IsBundle, HasWidth, Drives, wire_at, module_at, bundle_at, width_of, module_width, stimulus_in, stimulus_at, wire_named, module_named, bundle_named}
 use Rattle.mp_netlist.specs.Drivers.{driver, is_nothing}
 use Rattle.mp_netlist.specs.Uses.{is_used}
@@ -58,8 +60,8 @@ of_bundle r w = bundle_names w r
 module_width-keep : (n m : Circuit) (r : ModuleRecord) → KeepsWidths (of_module r) n m → IsModule n r → module_width m r ≡ module_width n r
 module_width-keep n m r same ok =
     let some : 0 < length r.inputs = omega (arith, ok.inputs, some_input r.kind) in
-    let first = ok.reads 0 (record { 0 = 0 }) some in
-    ap (λ width. cond (has_width r.kind) width 1) (same.keeps _ (input_is_named r 0 (record { 0 = 0 }) some) first.0).1
+    let first = ok.reads 0 no_input some in
+    ap (λ width. cond (has_width r.kind) width 1) (same.keeps _ (input_is_named r 0 no_input some) first.0).1
 
 drives-keep : (n m : Circuit) (r : ModuleRecord) (p width : ℕ) → KeepsWidths (of_module r) n m → IfSome (output_at r p).wire (λ w. HasWidth n w.0 width)
     → IfSome (output_at r p).wire (λ w. HasWidth m w.0 width)
@@ -76,10 +78,11 @@ IsModule-keep n m r same ok =
       inputs = ok.inputs;
       outputs = ok.outputs;
       params = subst (λ k. IsTrue (are_params r.kind k r.params)) width ok.params;
+      input_delays = ok.input_delays;
       delays = ok.delays;
-      reads = λ p w within.
-          subst (λ k. HasWidth m (slice_index_or r.inputs p w).0 (input_width r.kind k p)) width
-          (HasWidth-keep (of_module r) n m same _ _ (input_is_named r p w within) (ok.reads p w within));
+      reads = λ p i within.
+          subst (λ k. HasWidth m (slice_index_or r.inputs p i).wire.0 (input_width r.kind k p)) width
+          (HasWidth-keep (of_module r) n m same _ _ (input_is_named r p i within) (ok.reads p i within));
       drives = λ p.
           subst (λ k. IfSome (output_at r p).wire (λ w. HasWidth m w.0 (output_width r.kind k p))) width
           (drives-keep n m r p _ same (ok.drives p));
@@ -113,7 +116,7 @@ module _ (n : Circuit) (ok : IsCircuit n) where
 
   -- one more wire
   module _ (r : WireRecord) (is_wire : IsWire n.horizon r) (named : is_name r.name ≡ true) (unnamed : is_none (wire_named n r.name) ≡ true)
-      (free : r.stimulus ≡ None) (room : length n.wires < 8192) where
+      (free : r.stimulus ≡ None) (room : length n.wires < max_wires) where
     abbrev more : Circuit
     more = with_wire_record n r
 
@@ -198,7 +201,7 @@ module _ (n : Circuit) (ok : IsCircuit n) where
   -- one more module, whose outputs are at different wires that nothing drives
   module _ (r : ModuleRecord) (is_module : IsModule n r) (named : is_name r.name ≡ true) (unnamed : is_none (module_named n r.name) ≡ true)
       (distinct : (p q w : ℕ) → (output_at r p).wire ≡ Some (record { 0 = w }) → (output_at r q).wire ≡ Some (record { 0 = w }) → p ≡ q)
-      (undriven : (p w : ℕ) → (output_at r p).wire ≡ Some (record { 0 = w }) → is_nothing (driver n w) ≡ true) (room : length n.modules < 4096) where
+      (undriven : (p w : ℕ) → (output_at r p).wire ≡ Some (record { 0 = w }) → is_nothing (driver n w) ≡ true) (room : length n.modules < max_modules) where
     abbrev grown : Circuit
     grown = with_new_module n r
 
@@ -305,7 +308,7 @@ module _ (n : Circuit) (ok : IsCircuit n) where
     }
 
   -- one more bundle
-  module _ (r : BundleRecord) (is_bundle : IsBundle n r) (named : is_name r.name ≡ true) (unnamed : is_none (bundle_named n r.name) ≡ true) (room : length n.bundles < 1024) where
+  module _ (r : BundleRecord) (is_bundle : IsBundle n r) (named : is_name r.name ≡ true) (unnamed : is_none (bundle_named n r.name) ≡ true) (room : length n.bundles < max_bundles) where
     abbrev bundled : Circuit
     bundled = with_new_bundle n r
 

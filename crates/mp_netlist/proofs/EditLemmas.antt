@@ -6,25 +6,27 @@ use Rattle.mp_modules.specs.declared.kind.Kind.{Kind}
 use Rattle.mp_modules.specs.Kinds.{are_params, input_count, output_count, input_width, output_width}
 use Rattle.std.specs.List.{list_all, All}
 use Rattle.std.specs.Option.{IfSome}
+use Rattle.mp_records.specs.declared.port_names.InputName.{InputName}
 use Rattle.mp_records.specs.declared.port_names.OutputName.{OutputName}
-use Rattle.mp_records.specs.declared.edit.Edit.TheVariants.{AddWire, RemoveWire, AddModule, RemoveModule, AddBundle, RemoveBundle, RewireInput, RewireOutput, SetDelay, SetStimulus, ClearStimulus}
+use Rattle.mp_records.specs.declared.edit.Edit.TheVariants.{AddWire, RemoveWire, AddModule, RemoveModule, AddBundle, RemoveBundle, RewireInput, RewireOutput, SetInputDelay, SetDelay, SetStimulus, ClearStimulus}
 use Rattle.mp_records.specs.declared.edit_error.EditError.{EditError}
 use Rattle.mp_records.specs.Stimuli.{is_stimulus}
 use Rattle.mp_modules.specs.Levels.{fits_width}
 use Rattle.mp_records.specs.declared.ids.WireId.{WireId}
 use Rattle.mp_records.specs.declared.module_record.ModuleRecord.{ModuleRecord}
-use Rattle.mp_records.specs.PortChanges.{with_input, with_output, with_delay}
+use Rattle.mp_records.specs.PortChanges.{with_input, with_input_delay, with_output, with_delay}
 use Rattle.mp_records.specs.Names.{is_name}
+use Rattle.mp_netlist.specs.Limits.{max_wires, max_modules, max_bundles, max_setup}
 use Rattle.mp_netlist.specs.Circuit.{Circuit, IsCircuit, IsWire, IsModule, HasWidth, wire_at, module_at, wire_named, module_named, bundle_named, width_of, module_width}
 use Rattle.mp_netlist.specs.Drivers.{driver, is_port, is_free_for}
 use Rattle.mp_netlist.specs.Uses.{is_used}
-use Rattle.mp_netlist.specs.Edits.{first_failing, stands, wire_id, module_id, module_of, bundle_id, input_ports, output_ports, input_width_of, output_width_of, output_stands, output_fits, output_is_free, is_delay, width_named, driven_names, are_distinct, is_undriven, new_width, inputs_fit, outputs_fit, wire_checks, wire_removal_checks, module_checks, module_removal_checks, bundle_checks, bundle_removal_checks, input_checks, output_checks, delay_checks, stimulus_checks, clearing_checks, wire_refusal, wire_removal_refusal, module_refusal, module_removal_refusal, bundle_refusal, bundle_removal_refusal, input_refusal, output_refusal, delay_refusal, stimulus_refusal, clearing_refusal, refusal, edited, new_module, with_new_wire, with_new_module, new_bundle, with_new_bundle, with_module, with_stimulus, without_stimulus, with_wire}
+use Rattle.mp_netlist.specs.Edits.{first_failing, stands, wire_id, module_id, module_of, bundle_id, input_ports, output_ports, input_width_of, output_width_of, output_stands, output_fits, output_is_free, is_delay, is_input_delay, inputs_stand, width_named, driven_names, are_distinct, is_undriven, new_width, inputs_fit, outputs_fit, wire_checks, wire_removal_checks, module_checks, module_removal_checks, bundle_checks, bundle_removal_checks, input_checks, output_checks, input_delay_checks, delay_checks, stimulus_checks, clearing_checks, wire_refusal, wire_removal_refusal, module_refusal, module_removal_refusal, bundle_refusal, bundle_removal_refusal, input_refusal, output_refusal, input_delay_refusal, delay_refusal, stimulus_refusal, clearing_refusal, refusal, edited, new_module, with_new_wire, with_new_module, new_bundle, with_new_bundle, with_module, with_stimulus, without_stimulus, with_wire}
 use Rattle.mp_netlist.specs.Laws.{EditsKeepNetlists}
 use Rattle.mp_netlist.proofs.TableLemmas.{IsNamesake}
 use Rattle.mp_netlist.proofs.NameLemmas.{wire_name, module_name, Stands, stands_from, stands_within, ModuleStands, module_stands_from, module_within, BundleStands, bundle_stands_from, bundle_within}
 use Rattle.mp_netlist.proofs.DriverLemmas.{portless_is_undriven}
 use Rattle.mp_netlist.proofs.CircuitLemmas.{DrivesAlone, DrivesAlone-same, IsCircuit-add_wire, IsCircuit-add_module, IsCircuit-rewrite_wire, IsCircuit-rewrite_module, IsCircuit-add_bundle, IsCircuit-remove_bundle}
-use Rattle.mp_netlist.proofs.PortEditLemmas.{delay_at, wires-with_delay, IsModule-with_delay, IsModule-with_input, IsModule-with_output, DrivesAlone-with_output}
+use Rattle.mp_netlist.proofs.PortEditLemmas.{delay_at, input_delay_at, wires-with_delay, IsModule-with_delay, IsModule-with_input, IsModule-with_input_delay, IsModule-with_output, DrivesAlone-with_output}
 use Rattle.mp_netlist.proofs.ModuleLemmas.{stands_wide, ArePorts, IsModule-new, new_undriven, new_distinct}
 
 -- each check passes
@@ -52,13 +54,13 @@ pub record IsNewWire (n : Circuit) (name : List ℕ) (width level : ℕ) : Type 
   pub low : 1 ≤ width
   pub high : width ≤ 64
   pub fits : fits_width width level ≡ true
-  pub room : length n.wires < 8192
+  pub room : length n.wires < max_wires
 
 pub new_wire : (n : Circuit) (name : List ℕ) (width level : ℕ) → wire_refusal n name width level ≡ None → IsNewWire n name width level
 new_wire n name width level none =
     let all = all_pass (wire_checks n name width level) none in
     let bounds = and_parts (nat_le 1 width) (nat_le width 64) all.1.1.0 in
-    record { named = all.0; free = all.1.0; low = leb-true 1 width bounds.0; high = leb-true width 64 bounds.1; fits = all.1.1.1.0; room = ltb-true (length n.wires) 8192 all.1.1.1.1.0 }
+    record { named = all.0; free = all.1.0; low = leb-true 1 width bounds.0; high = leb-true width 64 bounds.1; fits = all.1.1.1.0; room = ltb-true (length n.wires) max_wires all.1.1.1.1.0 }
 
 pub IsCircuit-with_new_wire : (n : Circuit) → IsCircuit n → (name : List ℕ) (width level : ℕ) → wire_refusal n name width level ≡ None → IsCircuit (with_new_wire n name width level)
 IsCircuit-with_new_wire n ok name width level none =
@@ -82,19 +84,19 @@ IsCircuit-without_wire n ok name none =
     (λ used. absurd (both_ways _ free.unused used)) (λ m p drives. refl)
 
 -- what the checks of a new module tell
-pub record IsNewModule (n : Circuit) (name : List ℕ) (kind : Kind) (params : List ℕ) (inputs : List (List ℕ)) (outputs : List OutputName) : Type 0 where
+pub record IsNewModule (n : Circuit) (name : List ℕ) (kind : Kind) (params : List ℕ) (inputs : List InputName) (outputs : List OutputName) : Type 0 where
   pub named : is_name name ≡ true
   pub free : is_none (module_named n name) ≡ true
   pub ports : ArePorts n kind inputs outputs
   pub ranged : are_params kind (new_width n kind inputs) params ≡ true
-  pub room : length n.modules < 4096
+  pub room : length n.modules < max_modules
 
-pub is_new_module : (n : Circuit) (name : List ℕ) (kind : Kind) (params : List ℕ) (inputs : List (List ℕ)) (outputs : List OutputName)
+pub is_new_module : (n : Circuit) (name : List ℕ) (kind : Kind) (params : List ℕ) (inputs : List InputName) (outputs : List OutputName)
     → module_refusal n name kind params inputs outputs ≡ None → IsNewModule n name kind params inputs outputs
 is_new_module n name kind params inputs outputs none =
     let all = all_pass (module_checks n name kind params inputs outputs) none in
     let counts = and_parts (length inputs == input_count kind) (length outputs == output_count kind) all.1.1.0 in
-    let stand = and_parts (list_all (stands n) inputs) (list_all (stands n) (driven_names outputs)) all.1.1.1.0 in
+    let stand = and_parts (inputs_stand n inputs) (list_all (stands n) (driven_names outputs)) all.1.1.1.0 in
     let width = new_width n kind inputs in
     let widths = and_parts (inputs_fit n kind width inputs) (outputs_fit n kind width outputs) all.1.1.1.1.0 in
     let rest = all.1.1.1.1.1 in
@@ -105,7 +107,7 @@ is_new_module n name kind params inputs outputs none =
       ports = record {
         inputs_count = eqb-true _ _ counts.0;
         outputs_count = eqb-true _ _ counts.1;
-        inputs_stand = stand.0;
+        reads_stand = stand.0;
         outputs_stand = stand.1;
         inputs_wide = widths.0;
         outputs_wide = widths.1;
@@ -114,10 +116,10 @@ is_new_module n name kind params inputs outputs none =
         distinct = drivers.1;
       };
       ranged = rest.0;
-      room = ltb-true (length n.modules) 4096 rest.1.1.1.0;
+      room = ltb-true (length n.modules) max_modules rest.1.1.1.0;
     }
 
-pub IsCircuit-with_new_module : (n : Circuit) → IsCircuit n → (name : List ℕ) (kind : Kind) (params : List ℕ) (inputs : List (List ℕ)) (outputs : List OutputName)
+pub IsCircuit-with_new_module : (n : Circuit) → IsCircuit n → (name : List ℕ) (kind : Kind) (params : List ℕ) (inputs : List InputName) (outputs : List OutputName)
     → module_refusal n name kind params inputs outputs ≡ None → IsCircuit (with_new_module n (new_module n name kind params inputs outputs))
 IsCircuit-with_new_module n ok name kind params inputs outputs none =
     let new = is_new_module n name kind params inputs outputs none in
@@ -140,8 +142,8 @@ pub record IsNewBundle (n : Circuit) (name request acknowledge payload : List �
   pub pays : Stands n payload
   pub request_wide : width_named n request ≡ 1
   pub acknowledge_wide : width_named n acknowledge ≡ 1
-  pub early : setup ≤ 65535
-  pub room : length n.bundles < 1024
+  pub early : setup ≤ max_setup
+  pub room : length n.bundles < max_bundles
 
 pub is_new_bundle : (n : Circuit) (name request acknowledge payload : List ℕ) (setup : ℕ) → bundle_refusal n name request acknowledge payload setup ≡ None
     → IsNewBundle n name request acknowledge payload setup
@@ -158,8 +160,8 @@ is_new_bundle n name request acknowledge payload setup none =
       pays = stands_from n payload stand.1;
       request_wide = eqb-true _ _ wide.0;
       acknowledge_wide = eqb-true _ _ wide.1;
-      early = leb-true setup 65535 all.1.1.1.1.0;
-      room = ltb-true (length n.bundles) 1024 all.1.1.1.1.1.0;
+      early = leb-true setup max_setup all.1.1.1.1.0;
+      room = ltb-true (length n.bundles) max_bundles all.1.1.1.1.1.0;
     }
 
 pub IsCircuit-with_new_bundle : (n : Circuit) → IsCircuit n → (name request acknowledge payload : List ℕ) (setup : ℕ) → bundle_refusal n name request acknowledge payload setup ≡ None
@@ -258,7 +260,34 @@ IsCircuit-redirected n ok name port wire none =
     (IsCircuit-rewrite_module n ok id (Some (with_output port ids old)) (module_within n name new.part) (only (IsModule n) is)
     (only (IsNamesake module_name (module_at n id)) (record { other = old; stands = new.part.at; same = refl })) (only (DrivesAlone n id) alone))
 
--- what the checks of a port's new delay tell
+-- what the checks of an input's new delay tell
+pub record IsNewInputDelay (n : Circuit) (name : List ℕ) (port delay : ℕ) : Type 0 where
+  pub part : ModuleStands n name
+  pub within : port < length part.thing.inputs
+  pub ranged : is_input_delay delay ≡ true
+
+pub new_input_delay : (n : Circuit) (name : List ℕ) (port delay : ℕ) → input_delay_refusal n name port delay ≡ None → IsNewInputDelay n name port delay
+new_input_delay n name port delay none =
+    let all = all_pass (input_delay_checks n name port delay) none in
+    let part = module_stands_from n name all.0 in
+    let within = ltb-true port (input_ports (module_of n name)) all.1.0 in
+    record { part = part; within = subst (λ (slot : Option ModuleRecord). port < input_ports slot) part.found within; ranged = all.1.1.0 }
+
+abbrev input_delayed : Circuit → List ℕ → ℕ → ℕ → Circuit
+input_delayed n name port delay = with_module n (module_id n name).0 (option_map (with_input_delay port delay) (module_at n (module_id n name).0))
+
+pub IsCircuit-input_delayed : (n : Circuit) → IsCircuit n → (name : List ℕ) (port delay : ℕ) → input_delay_refusal n name port delay ≡ None → IsCircuit (input_delayed n name port delay)
+IsCircuit-input_delayed n ok name port delay none =
+    let new = new_input_delay n name port delay none in
+    let id = (module_id n name).0 in
+    let old = new.part.thing in
+    let is = IsModule-with_input_delay n old port delay new.within (input_delay_at delay new.ranged) (ok.modules_ok id old new.part.at) in
+    let alone = DrivesAlone-same n ok id old (with_input_delay port delay old) new.part.at (λ p. refl) in
+    subst (λ slot. IsCircuit (with_module n id (option_map (with_input_delay port delay) slot))) (sym new.part.at)
+    (IsCircuit-rewrite_module n ok id (Some (with_input_delay port delay old)) (module_within n name new.part) (only (IsModule n) is)
+    (only (IsNamesake module_name (module_at n id)) (record { other = old; stands = new.part.at; same = refl })) (only (DrivesAlone n id) alone))
+
+-- what the checks of an output's new delay tell
 pub record IsNewDelay (n : Circuit) (name : List ℕ) (port delay : ℕ) : Type 0 where
   pub part : ModuleStands n name
   pub within : port < length part.thing.outputs
@@ -341,6 +370,7 @@ edits_keep_netlists n ok (AddBundle name request acknowledge payload setup) none
 edits_keep_netlists n ok (RemoveBundle name) none = IsCircuit-remove_bundle n ok (bundle_id n name).0 (bundle_within n name (going_bundle n name none))
 edits_keep_netlists n ok (RewireInput name port wire) none = IsCircuit-reread n ok name port wire none
 edits_keep_netlists n ok (RewireOutput name port wire) none = IsCircuit-redirected n ok name port wire none
+edits_keep_netlists n ok (SetInputDelay name port delay) none = IsCircuit-input_delayed n ok name port delay none
 edits_keep_netlists n ok (SetDelay name port delay) none = IsCircuit-delayed n ok name port delay none
 edits_keep_netlists n ok (SetStimulus name changes) none = IsCircuit-stimulated n ok name changes none
 edits_keep_netlists n ok (ClearStimulus name) none = IsCircuit-cleared n ok name none

@@ -3,7 +3,7 @@ use Rattle.std.proofs.Common.{◌≡◌, ℕ, ◌<◌, ◌≤◌, Bool, true, �
 use Rattle.std.specs.List.{list_all, enumerate_from, All}
 use Rattle.std.specs.Option.{IfSome, is_some}
 use Rattle.std.specs.Prelude.{slice_index_or}
-use Rattle.std.proofs.lemmas.Bool.{eqb-true, cases_lt}
+use Rattle.std.proofs.lemmas.Bool.{and_parts, eqb-true, cases_lt}
 use Rattle.std.proofs.lemmas.List.{get_or_past, get_or-map, length-map}
 use Rattle.std.proofs.lemmas.List.FromFn.{get_or-enumerate_from, length-enumerate_from}
 use Rattle.std.proofs.lemmas.List.Recursion.{and_at}
@@ -11,16 +11,19 @@ use Rattle.mp_modules.specs.declared.kind.Kind.{Kind}
 use Rattle.mp_modules.specs.Kinds.{input_count, output_count, has_width, input_width, output_width, are_params}
 use Rattle.mp_records.specs.declared.ids.WireId.{WireId}
 use Rattle.mp_records.specs.declared.module_record.ModuleRecord.{ModuleRecord}
+use Rattle.mp_records.specs.declared.ports.Input.{Input}
 use Rattle.mp_records.specs.declared.ports.Output.{Output}
+use Rattle.mp_records.specs.declared.port_names.InputName.{InputName}
 use Rattle.mp_records.specs.declared.port_names.OutputName.{OutputName}
+use Rattle.mp_records.specs.Inputs.{no_input}
 use Rattle.mp_records.specs.Outputs.{output_at}
-use Rattle.mp_netlist.specs.Circuit.{Circuit, IsModule, IsDelay, HasWidth, wire_at, width_of, module_width}
+use Rattle.mp_netlist.specs.Circuit.{Circuit, IsModule, IsDelay, IsInputDelay, HasWidth, wire_at, width_of, module_width}
 use Rattle.mp_netlist.specs.Drivers.{driver, is_nothing}
-use Rattle.mp_netlist.specs.Edits.{stands, wire_id, width_named, is_undriven, is_delay, driven_names, are_distinct, first_width, new_width, inputs_fit, output_fits, outputs_fit, output_of, new_module}
+use Rattle.mp_netlist.specs.Edits.{stands, wire_id, width_named, is_undriven, is_delay, is_input_delay, delays_fit, driven_names, are_distinct, first_width, new_width, inputs_stand, inputs_fit, output_fits, outputs_fit, input_of, output_of, new_module}
 use Rattle.mp_netlist.proofs.NameLemmas.{Stands, stands_from, one_wire}
 use Rattle.mp_netlist.proofs.CircuitLemmas.{some_input}
 use Rattle.mp_netlist.proofs.PortLemmas.{no_name, driven_pass, distinct_ports}
-use Rattle.mp_netlist.proofs.PortEditLemmas.{delay_at}
+use Rattle.mp_netlist.proofs.PortEditLemmas.{delay_at, input_delay_at}
 
 -- a wire that a name finds has the width that the name stands for
 pub stands_wide : (n : Circuit) (name : List ℕ) → Stands n name → (width : ℕ) → width_named n name ≡ width → HasWidth n (wire_id n name).0 width
@@ -33,26 +36,31 @@ counted_pass {X = X} test xs d k all here =
     let at = and_at (list_all test) test refl (λ _ _. refl) (enumerate_from 0 xs) k (0, d) long all in
     subst (λ (pair : ℕ × X). test pair ≡ true) (get_or-enumerate_from 0 xs k (0, d) here ∙ ap (λ i. (i, get_or xs k d)) (omega arith)) at
 
+-- an input that is nothing
+abbrev nowhere : InputName
+nowhere = record { wire = []; delay = 0 }
+
 -- the ports of an edit that passes its checks
-pub record ArePorts (n : Circuit) (kind : Kind) (inputs : List (List ℕ)) (outputs : List OutputName) : Type 0 where
+pub record ArePorts (n : Circuit) (kind : Kind) (inputs : List InputName) (outputs : List OutputName) : Type 0 where
   pub inputs_count : length inputs ≡ input_count kind
   pub outputs_count : length outputs ≡ output_count kind
-  pub inputs_stand : list_all (stands n) inputs ≡ true
+  pub reads_stand : inputs_stand n inputs ≡ true
   pub outputs_stand : list_all (stands n) (driven_names outputs) ≡ true
   pub inputs_wide : inputs_fit n kind (new_width n kind inputs) inputs ≡ true
   pub outputs_wide : outputs_fit n kind (new_width n kind inputs) outputs ≡ true
-  pub delays : list_all (λ (o : OutputName). is_delay o.delay) outputs ≡ true
+  pub delays : delays_fit inputs outputs ≡ true
   pub undriven : list_all (is_undriven n) (driven_names outputs) ≡ true
   pub distinct : are_distinct (driven_names outputs) ≡ true
 
-module _ (n : Circuit) (name : List ℕ) (kind : Kind) (params : List ℕ) (inputs : List (List ℕ)) (outputs : List OutputName) (ports : ArePorts n kind inputs outputs) where
+module _ (n : Circuit) (name : List ℕ) (kind : Kind) (params : List ℕ) (inputs : List InputName) (outputs : List OutputName) (ports : ArePorts n kind inputs outputs) where
   abbrev new : ModuleRecord
   new = new_module n name kind params inputs outputs
 
-  input_stands : (p : ℕ) → p < length inputs → Stands n (get_or inputs p [])
-  input_stands p here = stands_from n _ (and_at (list_all (stands n)) (stands n) refl (λ _ _. refl) inputs p [] here ports.inputs_stand)
+  input_stands : (p : ℕ) → p < length inputs → Stands n (get_or inputs p nowhere).wire
+  input_stands p here =
+      stands_from n _ (and_at (list_all (λ (i : InputName). stands n i.wire)) (λ (i : InputName). stands n i.wire) refl (λ _ _. refl) inputs p nowhere here ports.reads_stand)
 
-  first_is : (names : List (List ℕ)) → 0 < length names → first_width n names ≡ width_named n (get_or names 0 [])
+  first_is : (names : List InputName) → 0 < length names → first_width n names ≡ width_named n (get_or names 0 nowhere).wire
   first_is [] some = absurd (omega arith)
   first_is (first ∷ rest) some = refl
 
@@ -60,17 +68,18 @@ module _ (n : Circuit) (name : List ℕ) (kind : Kind) (params : List ℕ) (inpu
   width_is =
       let some : 0 < length inputs = omega (arith, ports.inputs_count, some_input kind) in
       let wire = input_stands 0 some in
-      let here = ap (λ (w : WireId). w.0) (get_or-map (wire_id n) inputs 0 [] (record { 0 = 0 }) some) in
+      let here = ap (λ (i : Input). i.wire.0) (get_or-map (input_of n) inputs 0 nowhere no_input some) in
       let same = ap (λ w. width_of (wire_at n w)) here ∙ ap width_of wire.at ∙ sym wire.width ∙ sym (first_is inputs some) in
       ap (λ width. cond (has_width kind) width 1) same
 
-  reads : (p : ℕ) (w : WireId) → p < length (map (wire_id n) inputs) → HasWidth n (slice_index_or (map (wire_id n) inputs) p w).0 (input_width kind (module_width n new) p)
-  reads p w long =
-      let here : p < length inputs = omega (arith, length-map inputs (wire_id n)) in
-      let fits = eqb-true _ _ (counted_pass (λ (port : ℕ × List ℕ). width_named n port.1 == input_width kind (new_width n kind inputs) port.0) inputs [] p ports.inputs_wide here) in
-      let at = get_or-map (wire_id n) inputs p [] w here in
+  reads : (p : ℕ) (i : Input) → p < length (map (input_of n) inputs) → HasWidth n (slice_index_or (map (input_of n) inputs) p i).wire.0 (input_width kind (module_width n new) p)
+  reads p i long =
+      let here : p < length inputs = omega (arith, length-map inputs (input_of n)) in
+      let test : ℕ × InputName → Bool = λ port. width_named n port.1.wire == input_width kind (new_width n kind inputs) port.0 in
+      let fits = eqb-true _ _ (counted_pass test inputs nowhere p ports.inputs_wide here) in
+      let at = get_or-map (input_of n) inputs p nowhere i here in
       let wide = stands_wide n _ (input_stands p here) _ (fits ∙ ap (λ width. input_width kind width p) (sym width_is)) in
-      subst (λ (v : WireId). HasWidth n v.0 (input_width kind (module_width n new) p)) (sym at) wide
+      subst (λ (j : Input). HasWidth n j.wire.0 (input_width kind (module_width n new) p)) (sym at) wide
 
   -- an output port of the new module is that of the edit
   port_is : (p : ℕ) → output_at new p ≡ output_of n (get_or outputs p no_name)
@@ -109,17 +118,27 @@ module _ (n : Circuit) (name : List ℕ) (kind : Kind) (params : List ℕ) (inpu
       by None at = tt
       by (Some q) at = stands_wide n q (port_stands p q at) _ (port_wide p q at)
 
+  both_delays : (list_all (λ (i : InputName). is_input_delay i.delay) inputs ≡ true) × (list_all (λ (o : OutputName). is_delay o.delay) outputs ≡ true)
+  both_delays = and_parts _ _ ports.delays
+
+  input_delays : All (λ (i : Input). IsInputDelay i.delay) (map (input_of n) inputs)
+  input_delays k d long =
+      let here : k < length inputs = omega (arith, length-map inputs (input_of n)) in
+      let is = and_at (list_all (λ (i : InputName). is_input_delay i.delay)) (λ (i : InputName). is_input_delay i.delay) refl (λ _ _. refl) inputs k nowhere here both_delays.0 in
+      subst (λ (i : Input). IsInputDelay i.delay) (sym (get_or-map (input_of n) inputs k nowhere d here)) (input_delay_at _ is)
+
   delays : All (λ (o : Output). IsDelay o.delay) (map (output_of n) outputs)
   delays k d long =
       let here : k < length outputs = omega (arith, length-map outputs (output_of n)) in
-      let is = and_at (list_all (λ (o : OutputName). is_delay o.delay)) (λ (o : OutputName). is_delay o.delay) refl (λ _ _. refl) outputs k no_name here ports.delays in
+      let is = and_at (list_all (λ (o : OutputName). is_delay o.delay)) (λ (o : OutputName). is_delay o.delay) refl (λ _ _. refl) outputs k no_name here both_delays.1 in
       subst (λ (o : Output). IsDelay o.delay) (sym (get_or-map (output_of n) outputs k no_name d here)) (delay_at _ is)
 
   pub IsModule-new : are_params kind (new_width n kind inputs) params ≡ true → IsModule n new
   IsModule-new ranged = record {
-    inputs = length-map inputs (wire_id n) ∙ ports.inputs_count;
+    inputs = length-map inputs (input_of n) ∙ ports.inputs_count;
     outputs = length-map outputs (output_of n) ∙ ports.outputs_count;
     params = ap (λ width. are_params kind width params) width_is ∙ ranged;
+    input_delays = input_delays;
     delays = delays;
     reads = reads;
     drives = drives;

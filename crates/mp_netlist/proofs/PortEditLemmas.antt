@@ -12,21 +12,27 @@ use Rattle.mp_modules.specs.declared.kind.Kind.TheVariants as kinds
 use Rattle.mp_modules.specs.Kinds.{has_width, input_width, output_width, are_params}
 use Rattle.mp_records.specs.declared.ids.WireId.{WireId}
 use Rattle.mp_records.specs.declared.module_record.ModuleRecord.{ModuleRecord}
+use Rattle.mp_records.specs.declared.ports.Input.{Input}
 use Rattle.mp_records.specs.declared.ports.Output.{Output}
+use Rattle.mp_records.specs.Inputs.{no_input, input_at}
 use Rattle.mp_records.specs.Outputs.{output_at}
-use Rattle.mp_records.specs.PortChanges.{with_input, with_output, with_delay}
-use Rattle.mp_netlist.specs.Circuit.{Circuit, IsCircuit, IsModule, IsDelay, HasWidth, Drives, wire_at, module_at, width_of, module_width, stimulus_at}
+use Rattle.mp_records.specs.PortChanges.{with_input, with_input_delay, with_output, with_delay}
+use Rattle.mp_netlist.specs.Limits.{max_delay}
+use Rattle.mp_netlist.specs.Circuit.{Circuit, IsCircuit, IsModule, IsDelay, IsInputDelay, HasWidth, Drives, wire_at, module_at, width_of, module_width, stimulus_at}
 use Rattle.mp_netlist.specs.Drivers.{driver, is_free_for}
-use Rattle.mp_netlist.specs.Edits.{is_delay}
+use Rattle.mp_netlist.specs.Edits.{is_delay, is_input_delay}
 use Rattle.mp_netlist.proofs.DriverLemmas.{free_for}
 use Rattle.mp_netlist.proofs.CircuitLemmas.{DrivesAlone}
 
 pub delay_at : (delay : ℕ) → is_delay delay ≡ true → IsDelay delay
 delay_at delay is =
-    let parts = and_parts (nat_le 1 delay) (nat_le delay 65535) is in
+    let parts = and_parts (nat_le 1 delay) (nat_le delay max_delay) is in
     let low = leb-true 1 delay parts.0 in
-    let high = leb-true delay 65535 parts.1 in
+    let high = leb-true delay max_delay parts.1 in
     (omega arith, omega arith)
+
+pub input_delay_at : (delay : ℕ) → is_input_delay delay ≡ true → IsInputDelay delay
+input_delay_at delay is = let high = leb-true delay max_delay is in omega arith
 
 -- what holds of each element and of another holds of each after the other is written over one
 All-set : {X : Type 0} (P : X → Type 0) (xs : List X) (i : ℕ) (y : X) → P y → All P xs → All P (set xs i y)
@@ -57,6 +63,7 @@ IsModule-with_delay n r port delay within is ok = record {
   inputs = ok.inputs;
   outputs = length-set r.outputs port (record (output_at r port) { delay = delay }) ∙ ok.outputs;
   params = ok.params;
+  input_delays = ok.input_delays;
   delays = All-set (λ (o : Output). IsDelay o.delay) r.outputs port (record (output_at r port) { delay = delay }) is ok.delays;
   reads = ok.reads;
   drives = λ p. subst (λ wire. IfSome wire (λ (w : WireId). HasWidth n w.0 (output_width r.kind (module_width n r) p))) (sym (wires-with_delay port delay r within p)) (ok.drives p);
@@ -78,24 +85,24 @@ first_is_wide kinds.XorC width wide = refl
 first_is_wide kinds.Sum width wide = refl
 first_is_wide kinds.Bit width wide = refl
 
--- a module that reads another wire of the port's width
-module _ (n : Circuit) (r : ModuleRecord) (port : ℕ) (wire : WireId) (within : port < length r.inputs) (wide : HasWidth n wire.0 (input_width r.kind (module_width n r) port)) where
+-- a module with another input at a port, whose wire has the port's width
+module _ (n : Circuit) (r : ModuleRecord) (port : ℕ) (input : Input) (within : port < length r.inputs) (wide : HasWidth n input.wire.0 (input_width r.kind (module_width n r) port)) where
   abbrev reading : ModuleRecord
-  reading = with_input port wire r
+  reading = record r { inputs = set r.inputs port input }
 
   abbrev first_of : ModuleRecord → ℕ
-  first_of s = width_of (wire_at n (slice_index_or s.inputs 0 (record { 0 = 0 })).0)
+  first_of s = width_of (wire_at n (input_at s 0).wire.0)
 
   first_is : has_width r.kind ≡ true → first_of reading ≡ first_of r
   first_is has = by (cases_eq 0 port)
     where
       by : (0 ≡ port) ⊎ (0 ≡ port → ⊥) → first_of reading ≡ first_of r
       by (inl same) =
-          let at : slice_index_or (set r.inputs port wire) 0 (record { 0 = 0 }) ≡ wire =
-          ap (λ k. slice_index_or (set r.inputs port wire) k (record { 0 = 0 })) same ∙ get_or-set_same r.inputs port wire (record { 0 = 0 }) within in
-          ap (λ (v : WireId). width_of (wire_at n v.0)) at ∙ wide.1 ∙ ap (input_width r.kind (module_width n r)) (sym same)
+          let at : slice_index_or (set r.inputs port input) 0 no_input ≡ input =
+          ap (λ k. slice_index_or (set r.inputs port input) k no_input) same ∙ get_or-set_same r.inputs port input no_input within in
+          ap (λ (i : Input). width_of (wire_at n i.wire.0)) at ∙ wide.1 ∙ ap (input_width r.kind (module_width n r)) (sym same)
           ∙ first_is_wide r.kind (module_width n r) has ∙ ap (λ b. cond b (first_of r) 1) has
-      by (inr other) = ap (λ (v : WireId). width_of (wire_at n v.0)) (get_or-set_other r.inputs port 0 wire (record { 0 = 0 }) other)
+      by (inr other) = ap (λ (i : Input). width_of (wire_at n i.wire.0)) (get_or-set_other r.inputs port 0 input no_input other)
 
   width_is : module_width n reading ≡ module_width n r
   width_is = by (has_width r.kind) refl
@@ -104,30 +111,42 @@ module _ (n : Circuit) (r : ModuleRecord) (port : ℕ) (wire : WireId) (within :
       by true has = first_is has
       by false has = refl
 
-  reads_at : (p : ℕ) (v : WireId) → p < length r.inputs → IsModule n r → HasWidth n (slice_index_or (set r.inputs port wire) p v).0 (input_width r.kind (module_width n r) p)
-  reads_at p v here ok = by (cases_eq p port)
+  reads_at : (p : ℕ) (i : Input) → p < length r.inputs → IsModule n r → HasWidth n (slice_index_or (set r.inputs port input) p i).wire.0 (input_width r.kind (module_width n r) p)
+  reads_at p i here ok = by (cases_eq p port)
     where
-      by : (p ≡ port) ⊎ (p ≡ port → ⊥) → HasWidth n (slice_index_or (set r.inputs port wire) p v).0 (input_width r.kind (module_width n r) p)
+      by : (p ≡ port) ⊎ (p ≡ port → ⊥) → HasWidth n (slice_index_or (set r.inputs port input) p i).wire.0 (input_width r.kind (module_width n r) p)
       by (inl same) =
-          let at : slice_index_or (set r.inputs port wire) p v ≡ wire = ap (λ k. slice_index_or (set r.inputs port wire) k v) same ∙ get_or-set_same r.inputs port wire v within in
-          subst (λ (u : WireId). HasWidth n u.0 (input_width r.kind (module_width n r) p)) (sym at)
-          (subst (λ k. HasWidth n wire.0 (input_width r.kind (module_width n r) k)) (sym same) wide)
+          let at : slice_index_or (set r.inputs port input) p i ≡ input = ap (λ k. slice_index_or (set r.inputs port input) k i) same ∙ get_or-set_same r.inputs port input i within in
+          subst (λ (j : Input). HasWidth n j.wire.0 (input_width r.kind (module_width n r) p)) (sym at)
+          (subst (λ k. HasWidth n input.wire.0 (input_width r.kind (module_width n r) k)) (sym same) wide)
       by (inr other) =
-          subst (λ (u : WireId). HasWidth n u.0 (input_width r.kind (module_width n r) p)) (sym (get_or-set_other r.inputs port p wire v other)) (ok.reads p v here)
+          subst (λ (j : Input). HasWidth n j.wire.0 (input_width r.kind (module_width n r) p)) (sym (get_or-set_other r.inputs port p input i other)) (ok.reads p i here)
 
-  pub IsModule-with_input : IsModule n r → IsModule n reading
-  IsModule-with_input ok =
+  IsModule-reading : IsInputDelay input.delay → IsModule n r → IsModule n reading
+  IsModule-reading early ok =
       let width = sym width_is in
       record {
-        inputs = length-set r.inputs port wire ∙ ok.inputs;
+        inputs = length-set r.inputs port input ∙ ok.inputs;
         outputs = ok.outputs;
         params = subst (λ k. IsTrue (are_params r.kind k r.params)) width ok.params;
+        input_delays = All-set (λ (i : Input). IsInputDelay i.delay) r.inputs port input early ok.input_delays;
         delays = ok.delays;
-        reads = λ p v here.
-            let old : p < length r.inputs = omega (arith, length-set r.inputs port wire) in
-            subst (λ k. HasWidth n (slice_index_or (set r.inputs port wire) p v).0 (input_width r.kind k p)) width (reads_at p v old ok);
+        reads = λ p i here.
+            let old : p < length r.inputs = omega (arith, length-set r.inputs port input) in
+            subst (λ k. HasWidth n (slice_index_or (set r.inputs port input) p i).wire.0 (input_width r.kind k p)) width (reads_at p i old ok);
         drives = λ p. subst (λ k. IfSome (output_at r p).wire (λ (w : WireId). HasWidth n w.0 (output_width r.kind k p))) width (ok.drives p);
       }
+
+-- another wire of the port's width, with the port's delay
+pub IsModule-with_input : (n : Circuit) (r : ModuleRecord) (port : ℕ) (wire : WireId) → port < length r.inputs → HasWidth n wire.0 (input_width r.kind (module_width n r) port)
+    → IsModule n r → IsModule n (with_input port wire r)
+IsModule-with_input n r port wire within wide ok =
+    IsModule-reading n r port (record (input_at r port) { wire = wire }) within wide (ok.input_delays port no_input within) ok
+
+-- another delay, at the port's wire
+pub IsModule-with_input_delay : (n : Circuit) (r : ModuleRecord) (port delay : ℕ) → port < length r.inputs → IsInputDelay delay → IsModule n r → IsModule n (with_input_delay port delay r)
+IsModule-with_input_delay n r port delay within early ok =
+    IsModule-reading n r port (record (input_at r port) { delay = delay }) within (ok.reads port no_input within) early ok
 
 -- a module that drives another wire of the port's width, or none
 module _ (n : Circuit) (r : ModuleRecord) (port : ℕ) (wire : Option WireId) (within : port < length r.outputs) where
@@ -156,6 +175,7 @@ module _ (n : Circuit) (r : ModuleRecord) (port : ℕ) (wire : Option WireId) (w
     inputs = ok.inputs;
     outputs = length-set r.outputs port new_port ∙ ok.outputs;
     params = ok.params;
+    input_delays = ok.input_delays;
     delays = All-set (λ (o : Output). IsDelay o.delay) r.outputs port new_port (ok.delays port none within) ok.delays;
     reads = ok.reads;
     drives = λ p. by p (drives_at p);

@@ -5,7 +5,7 @@ use Rattle.mp_records.specs.declared.ids.WireId.{WireId}
 use Rattle.mp_records.specs.declared.wire_record.WireRecord.{WireRecord}
 use Rattle.mp_records.specs.declared.bundle_record.BundleRecord.{BundleRecord}
 use Rattle.mp_records.specs.declared.module_record.ModuleRecord.{ModuleRecord}
-use Rattle.mp_records.specs.PortChanges.{with_input, with_output, with_delay}
+use Rattle.mp_records.specs.PortChanges.{with_input, with_input_delay, with_output, with_delay}
 use Rattle.mp_netlist.specs.declared.netlist.Netlist.TheInside.{Inside}
 use Rattle.mp_netlist.specs.Slots.{has_name}
 use Rattle.mp_netlist.specs.Circuit.{IsCircuit}
@@ -74,6 +74,11 @@ has_name-with_output q port wire None = refl
 has_name-with_output q port wire (Some part) = refl
 
 -- a delay leaves a module's name
+pub has_name-with_input_delay : (q : List ℕ) (port delay : ℕ) (slot : Option ModuleRecord)
+    → has_name module_name q (option_map (with_input_delay port delay) slot) ≡ has_name module_name q slot
+has_name-with_input_delay q port delay None = refl
+has_name-with_input_delay q port delay (Some part) = refl
+
 pub has_name-with_delay : (q : List ℕ) (port delay : ℕ) (slot : Option ModuleRecord) → has_name module_name q (option_map (with_delay port delay) slot) ≡ has_name module_name q slot
 has_name-with_delay q port delay None = refl
 has_name-with_delay q port delay (Some part) = refl

@@ -8,6 +8,7 @@ use Rattle.std.proofs.lemmas.List.Folds.{list_any_at}
 use Rattle.mp_records.specs.declared.ids.WireId.{WireId}
 use Rattle.mp_records.specs.declared.module_record.ModuleRecord.{ModuleRecord}
 use Rattle.mp_records.specs.declared.bundle_record.BundleRecord.{BundleRecord}
+use Rattle.mp_records.specs.declared.ports.Input.{Input}
 use Rattle.mp_records.specs.declared.ports.Output.{Output}
 use Rattle.mp_records.specs.Outputs.{output_at}
 use Rattle.mp_records.specs.NamedWires.{is_wire}
@@ -17,10 +18,10 @@ use Rattle.mp_netlist.specs.Circuit.{Circuit, module_at, bundle_at}
 use Rattle.mp_netlist.specs.Uses.{is_used}
 use Rattle.mp_netlist.proofs.TableLemmas.{slot_within}
 
-pub input_is_named : (r : ModuleRecord) (p : ℕ) (v : WireId) → p < length r.inputs → module_names (slice_index_or r.inputs p v).0 r ≡ true
-input_is_named r p v within =
-    let w = (slice_index_or r.inputs p v).0 in
-    or_left (list_any (λ (v : WireId). v.0 == w) r.inputs) _ (list_any_at (λ (v : WireId). v.0 == w) r.inputs p v within (eq-eqb w w refl))
+pub input_is_named : (r : ModuleRecord) (p : ℕ) (i : Input) → p < length r.inputs → module_names (slice_index_or r.inputs p i).wire.0 r ≡ true
+input_is_named r p i within =
+    let w = (slice_index_or r.inputs p i).wire.0 in
+    or_left (list_any (λ (j : Input). j.wire.0 == w) r.inputs) _ (list_any_at (λ (j : Input). j.wire.0 == w) r.inputs p i within (eq-eqb w w refl))
 
 -- a port that has a wire is within the ports
 pub output_within : (r : ModuleRecord) (p : ℕ) (v : WireId) → (output_at r p).wire ≡ Some v → p < length r.outputs
@@ -32,7 +33,7 @@ output_within r p v at = by (cases_lt p (length r.outputs))
 
 pub output_is_named : (r : ModuleRecord) (p : ℕ) (v : WireId) → (output_at r p).wire ≡ Some v → module_names v.0 r ≡ true
 output_is_named r p v at =
-    or_right (list_any (λ (u : WireId). u.0 == v.0) r.inputs) _
+    or_right (list_any (λ (i : Input). i.wire.0 == v.0) r.inputs) _
     (list_any_at (λ (o : Output). is_wire o.wire v.0) r.outputs p (record { wire = None; delay = 1 }) (output_within r p v at)
     (ap (λ named. is_wire named v.0) at ∙ eq-eqb v.0 v.0 refl))
 

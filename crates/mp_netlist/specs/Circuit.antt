@@ -1,14 +1,16 @@
 -- A netlist without where it lies in memory.
 use Rattle.std.specs.Prelude.{◌≡◌, ℕ, ◌<◌, ◌≤◌, List, [], Option, Some, None, true, All, IsSome, IfSome, IsTrue, length, slice_index_or, if◌then◌else◌, option_and_then}
 use Rattle.mp_modules.specs.Kinds.{input_count, output_count, has_width, input_width, output_width, are_params}
-use Rattle.mp_records.specs.declared.ids.WireId.{WireId}
+use Rattle.mp_records.specs.declared.ports.Input.{Input}
 use Rattle.mp_records.specs.declared.wire_record.WireRecord.{WireRecord}
 use Rattle.mp_records.specs.declared.module_record.ModuleRecord.{ModuleRecord}
 use Rattle.mp_records.specs.declared.bundle_record.BundleRecord.{BundleRecord}
+use Rattle.mp_records.specs.Inputs.{input_at}
 use Rattle.mp_records.specs.Outputs.{output_at}
 use Rattle.mp_records.specs.Names.{is_name}
 use Rattle.mp_modules.specs.Levels.{fits_width}
 use Rattle.mp_records.specs.Stimuli.{is_stimulus}
+use Rattle.mp_netlist.specs.Limits.{max_horizon, max_wires, max_modules, max_bundles, max_delay, max_setup}
 use Rattle.mp_netlist.specs.Slots.{slot_at, number_named}
 
 -- the horizon, and a slot for each number of a wire, a module and a bundle
@@ -46,10 +48,15 @@ width_of (Some wire) = wire.width
 
 -- the width of a module: that of the wire at its first input where its kind has ports of any width, and else 1
 abbrev pub module_width : Circuit → ModuleRecord → ℕ
-module_width n r = if has_width r.kind then width_of (wire_at n (slice_index_or r.inputs 0 (record { 0 = 0 })).0) else 1
+module_width n r = if has_width r.kind then width_of (wire_at n (input_at r 0).wire.0) else 1
 
+-- a delay that an output may have
 abbrev pub IsDelay : ℕ → Type 0
-IsDelay d = (0 < d) × (d < 65536)
+IsDelay d = (0 < d) × (d ≤ max_delay)
+
+-- a delay that an input may have
+abbrev pub IsInputDelay : ℕ → Type 0
+IsInputDelay d = d ≤ max_delay
 
 -- a wire has a width, a level of this width, and a stimulus of this width below the horizon, if any
 pub record IsWire (horizon : ℕ) (r : WireRecord) : Type 0 where
@@ -67,8 +74,9 @@ pub record IsModule (n : Circuit) (r : ModuleRecord) : Type 0 where
   pub inputs : length r.inputs ≡ input_count r.kind
   pub outputs : length r.outputs ≡ output_count r.kind
   pub params : IsTrue (are_params r.kind (module_width n r) r.params)
+  pub input_delays : All (λ i. IsInputDelay i.delay) r.inputs
   pub delays : All (λ o. IsDelay o.delay) r.outputs
-  pub reads : (p : ℕ) (w : WireId) → p < length r.inputs → HasWidth n (slice_index_or r.inputs p w).0 (input_width r.kind (module_width n r) p)
+  pub reads : (p : ℕ) (i : Input) → p < length r.inputs → HasWidth n (slice_index_or r.inputs p i).wire.0 (input_width r.kind (module_width n r) p)
   pub drives : (p : ℕ) → IfSome (output_at r p).wire (λ w. HasWidth n w.0 (output_width r.kind (module_width n r) p))
 
 -- a bundle has request and acknowledge wires of width 1, a payload of any width, and a setup that a bundle may have
@@ -76,7 +84,7 @@ pub record IsBundle (n : Circuit) (r : BundleRecord) : Type 0 where
   pub request : HasWidth n r.request.0 1
   pub acknowledge : HasWidth n r.acknowledge.0 1
   pub payload : IsSome (wire_at n r.payload.0)
-  pub setup : r.setup < 65536
+  pub setup : r.setup ≤ max_setup
 
 -- the port p of the module m has the wire w as its output
 pub record Drives (n : Circuit) (m p w : ℕ) : Type 0 where
@@ -104,13 +112,13 @@ pub record HasNames (n : Circuit) : Type 0 where
 -- what holds of every netlist
 pub record IsCircuit (n : Circuit) : Type 0 where
   pub horizon_low : 1 ≤ n.horizon
-  pub horizon_high : n.horizon ≤ 65536
+  pub horizon_high : n.horizon ≤ max_horizon
   pub wires_ok : (w : ℕ) (r : WireRecord) → wire_at n w ≡ Some r → IsWire n.horizon r
   pub modules_ok : (m : ℕ) (r : ModuleRecord) → module_at n m ≡ Some r → IsModule n r
   pub bundles_ok : (b : ℕ) (r : BundleRecord) → bundle_at n b ≡ Some r → IsBundle n r
   pub names : HasNames n
   pub one_port : (m p k q w : ℕ) → Drives n m p w → Drives n k q w → (m ≡ k) × (p ≡ q)
   pub port_or_stimulus : (m p w : ℕ) → Drives n m p w → stimulus_at n w ≡ None
-  pub wires_few : length n.wires ≤ 8192
-  pub modules_few : length n.modules ≤ 4096
-  pub bundles_few : length n.bundles ≤ 1024
+  pub wires_few : length n.wires ≤ max_wires
+  pub modules_few : length n.modules ≤ max_modules
+  pub bundles_few : length n.bundles ≤ max_bundles

@@ -10,16 +10,19 @@ use Rattle.mp_records.specs.declared.ids.BundleId.{BundleId}
 use Rattle.mp_records.specs.declared.wire_record.WireRecord.{WireRecord}
 use Rattle.mp_records.specs.declared.module_record.ModuleRecord.{ModuleRecord}
 use Rattle.mp_records.specs.declared.bundle_record.BundleRecord.{BundleRecord}
+use Rattle.mp_records.specs.declared.ports.Input.{Input}
 use Rattle.mp_records.specs.declared.ports.Output.{Output}
+use Rattle.mp_records.specs.declared.port_names.InputName.{InputName}
 use Rattle.mp_records.specs.declared.port_names.OutputName.{OutputName}
 use Rattle.mp_records.specs.declared.edit.Edit.{Edit}
-use Rattle.mp_records.specs.declared.edit.Edit.TheVariants.{AddWire, RemoveWire, AddModule, RemoveModule, AddBundle, RemoveBundle, RewireInput, RewireOutput, SetDelay, SetStimulus, ClearStimulus}
+use Rattle.mp_records.specs.declared.edit.Edit.TheVariants.{AddWire, RemoveWire, AddModule, RemoveModule, AddBundle, RemoveBundle, RewireInput, RewireOutput, SetInputDelay, SetDelay, SetStimulus, ClearStimulus}
 use Rattle.mp_records.specs.declared.edit_error.EditError.{EditError}
 use Rattle.mp_records.specs.declared.edit_error.EditError.TheVariants.{NameTaken, BadName, NoSuchWire, NoSuchModule, NoSuchBundle, BadWidth, BadLevel, BadDelay, BadPort, WrongPorts, BadParam, WidthMismatch, AlreadyDriven, StillUsed, BadStimulus, NoStimulus, TableFull, OutOfMemory}
 use Rattle.mp_records.specs.Names.{is_name}
 use Rattle.mp_records.specs.Stimuli.{is_stimulus}
 use Rattle.mp_modules.specs.Levels.{fits_width}
-use Rattle.mp_records.specs.PortChanges.{with_input, with_output, with_delay}
+use Rattle.mp_records.specs.PortChanges.{with_input, with_input_delay, with_output, with_delay}
+use Rattle.mp_netlist.specs.Limits.{max_wires, max_modules, max_bundles, max_delay, max_setup}
 use Rattle.mp_netlist.specs.Circuit.{Circuit, wire_at, module_at, wire_named, module_named, bundle_named, width_of, module_width, stimulus_at}
 use Rattle.mp_netlist.specs.Drivers.{driver, is_port, is_nothing, is_free_for}
 use Rattle.mp_netlist.specs.Uses.{is_used}
@@ -32,8 +35,13 @@ first_failing (check ∷ checks) = if check.0 then first_failing checks else Som
 abbrev pub is_width : ℕ → Bool
 is_width width = nat_le 1 width && nat_le width 64
 
+-- a delay that an output may have
 abbrev pub is_delay : ℕ → Bool
-is_delay delay = nat_le 1 delay && nat_le delay 65535
+is_delay delay = nat_le 1 delay && nat_le delay max_delay
+
+-- a delay that an input may have
+abbrev pub is_input_delay : ℕ → Bool
+is_input_delay delay = nat_le delay max_delay
 
 -- whether a wire of the name stands
 abbrev pub stands : Circuit → List ℕ → Bool
@@ -111,18 +119,18 @@ are_distinct [] = true
 are_distinct (name ∷ names) = not (list_any (bytes_eq name) names) && are_distinct names
 
 -- the width of the wire at the first input
-abbrev pub first_width : Circuit → List (List ℕ) → ℕ
+abbrev pub first_width : Circuit → List InputName → ℕ
 first_width n [] = 0
-first_width n (name ∷ names) = width_named n name
+first_width n (first ∷ others) = width_named n first.wire
 
 -- the width of a module with these inputs: that of the wire at the first where its kind has ports of any width, and else 1
-abbrev pub new_width : Circuit → Kind → List (List ℕ) → ℕ
+abbrev pub new_width : Circuit → Kind → List InputName → ℕ
 new_width n kind inputs = if has_width kind then first_width n inputs else 1
 
 -- each wire that is to be read has the width of its port
-abbrev pub inputs_fit : Circuit → Kind → ℕ → List (List ℕ) → Bool
+abbrev pub inputs_fit : Circuit → Kind → ℕ → List InputName → Bool
 inputs_fit n kind width inputs =
-    list_all (λ (port : ℕ × List ℕ). width_named n port.1 == input_width kind width port.0) (enumerate_from 0 inputs)
+    list_all (λ (port : ℕ × InputName). width_named n port.1.wire == input_width kind width port.0) (enumerate_from 0 inputs)
 
 abbrev pub output_fits : Circuit → Option (List ℕ) → ℕ → Bool
 output_fits n None width = true
@@ -133,6 +141,15 @@ abbrev pub outputs_fit : Circuit → Kind → ℕ → List OutputName → Bool
 outputs_fit n kind width outputs =
     list_all (λ (port : ℕ × OutputName). output_fits n port.1.wire (output_width kind width port.0)) (enumerate_from 0 outputs)
 
+-- each wire that is to be read stands
+abbrev pub inputs_stand : Circuit → List InputName → Bool
+inputs_stand n inputs = list_all (λ (i : InputName). stands n i.wire) inputs
+
+-- each port has a delay that it may have
+abbrev pub delays_fit : List InputName → List OutputName → Bool
+delays_fit inputs outputs =
+    list_all (λ (i : InputName). is_input_delay i.delay) inputs && list_all (λ (o : OutputName). is_delay o.delay) outputs
+
 -- the checks of a new wire, in order
 abbrev pub wire_checks : Circuit → List ℕ → ℕ → ℕ → List (Bool × EditError)
 wire_checks n name width level =
@@ -140,7 +157,7 @@ wire_checks n name width level =
     ∷ (is_none (wire_named n name), NameTaken)
     ∷ (is_width width, BadWidth)
     ∷ (fits_width width level, BadLevel)
-    ∷ (nat_lt (length n.wires) 8192, TableFull)
+    ∷ (nat_lt (length n.wires) max_wires, TableFull)
     ∷ []
 
 abbrev pub wire_refusal : Circuit → List ℕ → ℕ → ℕ → Option EditError
@@ -157,20 +174,20 @@ abbrev pub wire_removal_refusal : Circuit → List ℕ → Option EditError
 wire_removal_refusal n name = first_failing (wire_removal_checks n name)
 
 -- the checks of a new module, in order
-abbrev pub module_checks : Circuit → List ℕ → Kind → List ℕ → List (List ℕ) → List OutputName → List (Bool × EditError)
+abbrev pub module_checks : Circuit → List ℕ → Kind → List ℕ → List InputName → List OutputName → List (Bool × EditError)
 module_checks n name kind params inputs outputs =
     (is_name name, BadName)
     ∷ (is_none (module_named n name), NameTaken)
     ∷ (length inputs == input_count kind && length outputs == output_count kind, WrongPorts)
-    ∷ (list_all (stands n) inputs && list_all (stands n) (driven_names outputs), NoSuchWire)
+    ∷ (inputs_stand n inputs && list_all (stands n) (driven_names outputs), NoSuchWire)
     ∷ (inputs_fit n kind (new_width n kind inputs) inputs && outputs_fit n kind (new_width n kind inputs) outputs, WidthMismatch)
     ∷ (are_params kind (new_width n kind inputs) params, BadParam)
-    ∷ (list_all (λ (o : OutputName). is_delay o.delay) outputs, BadDelay)
+    ∷ (delays_fit inputs outputs, BadDelay)
     ∷ (list_all (is_undriven n) (driven_names outputs) && are_distinct (driven_names outputs), AlreadyDriven)
-    ∷ (nat_lt (length n.modules) 4096, TableFull)
+    ∷ (nat_lt (length n.modules) max_modules, TableFull)
     ∷ []
 
-abbrev pub module_refusal : Circuit → List ℕ → Kind → List ℕ → List (List ℕ) → List OutputName → Option EditError
+abbrev pub module_refusal : Circuit → List ℕ → Kind → List ℕ → List InputName → List OutputName → Option EditError
 module_refusal n name kind params inputs outputs = first_failing (module_checks n name kind params inputs outputs)
 
 -- the checks before a module goes
@@ -187,8 +204,8 @@ bundle_checks n name request acknowledge payload setup =
     ∷ (is_none (bundle_named n name), NameTaken)
     ∷ (stands n request && stands n acknowledge && stands n payload, NoSuchWire)
     ∷ (width_named n request == 1 && width_named n acknowledge == 1, WidthMismatch)
-    ∷ (nat_le setup 65535, BadParam)
-    ∷ (nat_lt (length n.bundles) 1024, TableFull)
+    ∷ (nat_le setup max_setup, BadParam)
+    ∷ (nat_lt (length n.bundles) max_bundles, TableFull)
     ∷ []
 
 abbrev pub bundle_refusal : Circuit → List ℕ → List ℕ → List ℕ → List ℕ → ℕ → Option EditError
@@ -226,7 +243,18 @@ output_checks n name port wire =
 abbrev pub output_refusal : Circuit → List ℕ → ℕ → Option (List ℕ) → Option EditError
 output_refusal n name port wire = first_failing (output_checks n name port wire)
 
--- the checks of a port's new delay, in order
+-- the checks of an input's new delay, in order
+abbrev pub input_delay_checks : Circuit → List ℕ → ℕ → ℕ → List (Bool × EditError)
+input_delay_checks n name port delay =
+    (module_stands n name, NoSuchModule)
+    ∷ (nat_lt port (input_ports (module_of n name)), BadPort)
+    ∷ (is_input_delay delay, BadDelay)
+    ∷ []
+
+abbrev pub input_delay_refusal : Circuit → List ℕ → ℕ → ℕ → Option EditError
+input_delay_refusal n name port delay = first_failing (input_delay_checks n name port delay)
+
+-- the checks of an output's new delay, in order
 abbrev pub delay_checks : Circuit → List ℕ → ℕ → ℕ → List (Bool × EditError)
 delay_checks n name port delay =
     (module_stands n name, NoSuchModule)
@@ -268,6 +296,7 @@ refusal n (AddBundle name request acknowledge payload setup) = bundle_refusal n 
 refusal n (RemoveBundle name) = bundle_removal_refusal n name
 refusal n (RewireInput name port wire) = input_refusal n name port wire
 refusal n (RewireOutput name port wire) = output_refusal n name port wire
+refusal n (SetInputDelay name port delay) = input_delay_refusal n name port delay
 refusal n (SetDelay name port delay) = delay_refusal n name port delay
 refusal n (SetStimulus name changes) = stimulus_refusal n name changes
 refusal n (ClearStimulus name) = clearing_refusal n name
@@ -278,13 +307,17 @@ with_wire_record n r = record n { wires = n.wires ++ Some r ∷ [] }
 abbrev pub with_new_wire : Circuit → List ℕ → ℕ → ℕ → Circuit
 with_new_wire n name width level = with_wire_record n (record { name = name; width = width; initial = level; stimulus = None })
 
+-- an input port at the wire that has the name
+abbrev pub input_of : Circuit → InputName → Input
+input_of n i = record { wire = wire_id n i.wire; delay = i.delay }
+
 -- an output port at the wire that has the name, if any
 abbrev pub output_of : Circuit → OutputName → Output
 output_of n o = record { wire = option_map (wire_id n) o.wire; delay = o.delay }
 
-abbrev pub new_module : Circuit → List ℕ → Kind → List ℕ → List (List ℕ) → List OutputName → ModuleRecord
+abbrev pub new_module : Circuit → List ℕ → Kind → List ℕ → List InputName → List OutputName → ModuleRecord
 new_module n name kind params inputs outputs =
-    record { name = name; kind = kind; params = params; inputs = map (wire_id n) inputs; outputs = map (output_of n) outputs }
+    record { name = name; kind = kind; params = params; inputs = map (input_of n) inputs; outputs = map (output_of n) outputs }
 
 abbrev pub with_new_module : Circuit → ModuleRecord → Circuit
 with_new_module n r = record n { modules = n.modules ++ Some r ∷ [] }
@@ -326,6 +359,8 @@ edited n (RewireInput name port wire) =
     with_module n (module_id n name).0 (option_map (with_input port (wire_id n wire)) (module_at n (module_id n name).0))
 edited n (RewireOutput name port wire) =
     with_module n (module_id n name).0 (option_map (with_output port (option_map (wire_id n) wire)) (module_at n (module_id n name).0))
+edited n (SetInputDelay name port delay) =
+    with_module n (module_id n name).0 (option_map (with_input_delay port delay) (module_at n (module_id n name).0))
 edited n (SetDelay name port delay) =
     with_module n (module_id n name).0 (option_map (with_delay port delay) (module_at n (module_id n name).0))
 edited n (SetStimulus name changes) =

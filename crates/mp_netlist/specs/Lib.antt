@@ -1,3 +1,4 @@
+pub mod Limits
 pub mod NewErrors
 pub mod Slots
 pub mod Circuit

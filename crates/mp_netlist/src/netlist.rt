@@ -28,7 +28,7 @@ pub const MAX_MODULES: usize = 4096;
 /// How many bundles may ever be added to a netlist.
 pub const MAX_BUNDLES: usize = 1024;
 
-/// The longest delay of an output port, in units.
+/// The longest delay of a port, in units.
 pub const MAX_DELAY: u64 = 65535;
 
 /// The longest setup of a bundle, in units.
@@ -62,12 +62,14 @@ impl Netlist {
     ghost use Rattle.std.specs.Prelude.{◌≡◌, ◌≤◌, ◌<◌, ℕ, length, option_map, IfSome, IfOk, IfErr, IsOk, ◌↔◌};
     ghost use Rattle.std.specs.Option.{option_copied};
     ghost use Rattle.mp_netlist.specs.declared.new_error.NewError.TheVariants.{BadHorizon};
+    ghost use Rattle.mp_netlist.specs.Limits.{max_horizon, max_wires, max_modules, max_bundles};
     ghost use Rattle.mp_netlist.specs.Circuit.{IsCircuit, IsWire, IsModule, IsBundle, empty_circuit, wire_at, module_at, bundle_at, wire_named, module_named, bundle_named};
 
-    /// A netlist without records that runs for `horizon` units: refused as `BadHorizon` exactly where they are not 1 to 65,536.
+    /// A netlist without records that runs for `horizon` units: refused as `BadHorizon` exactly where they are not 1 to
+    /// `MAX_HORIZON`.
     pub fn empty(alloc: Global, horizon: u64) -> Result<Netlist, NewError>
         ensures ok { IfOk result (λ netlist. netlist ≡ empty_circuit horizon) }
-        ensures allowed { IsOk result ↔ ((1 ≤ horizon) × (horizon ≤ 65536)) }
+        ensures allowed { IsOk result ↔ ((1 ≤ horizon) × (horizon ≤ max_horizon)) }
         ensures refused { IfErr result (λ error. error ≡ BadHorizon) }
     {
         if horizon == 0 || horizon > MAX_HORIZON {
@@ -88,7 +90,7 @@ impl Netlist {
     pub fn horizon(&self) -> u32
         ensures value { result ≡ self.now.horizon }
         ensures low { 1 ≤ result }
-        ensures high { result ≤ 65536 }
+        ensures high { result ≤ max_horizon }
         ensures form { IsCircuit self.now }
     {
         self.horizon
@@ -97,7 +99,7 @@ impl Netlist {
     /// How many wires were ever added. Their numbers are below.
     pub fn wire_slots(&self) -> u32
         ensures value { result ≡ length self.now.wires }
-        ensures few { result ≤ 8192 }
+        ensures few { result ≤ max_wires }
     {
         self.wires.len() as u32
     }
@@ -105,7 +107,7 @@ impl Netlist {
     /// How many modules were ever added. Their numbers are below.
     pub fn module_slots(&self) -> u32
         ensures value { result ≡ length self.now.modules }
-        ensures few { result ≤ 4096 }
+        ensures few { result ≤ max_modules }
     {
         self.modules.len() as u32
     }
@@ -113,7 +115,7 @@ impl Netlist {
     /// How many bundles were ever added. Their numbers are below.
     pub fn bundle_slots(&self) -> u32
         ensures value { result ≡ length self.now.bundles }
-        ensures few { result ≤ 1024 }
+        ensures few { result ≤ max_bundles }
     {
         self.bundles.len() as u32
     }

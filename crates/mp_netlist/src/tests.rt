@@ -1,8 +1,8 @@
 mod changes;
 
 use crate::{
-    Changes, Driver, Edit, EditError, InputNames, ModuleId, Name, Netlist, NewError, OutputName,
-    OutputNames, Params, WireId,
+    Changes, Driver, Edit, EditError, Input, InputName, InputNames, ModuleId, Name, Netlist,
+    NewError, OutputName, OutputNames, Params, WireId,
 };
 use mp_modules::Kind;
 use std::alloc::{AllocError, Global};
@@ -21,12 +21,14 @@ fn wire(alloc: Global, text: &str, width: u64, level: u64) -> Result<Edit, Alloc
     })
 }
 
+/// Inputs at wires whose names are divided by spaces, without delays.
 fn names(alloc: Global, texts: &str) -> Result<InputNames, AllocError> {
-    let mut names = Vec::new(alloc);
+    let mut ports = Vec::new(alloc);
     for text in texts.split(' ') {
-        names.push(name(alloc, text)?)?;
+        let wire = name(alloc, text)?;
+        ports.push(InputName { wire, delay: 0 })?;
     }
-    Ok(InputNames::new(names))
+    Ok(InputNames::new(ports))
 }
 
 /// A module with inputs divided by spaces, and one output with its delay, `-` being one without a wire.
@@ -278,7 +280,11 @@ fn reads_back_modules(rt: &impl Abort, net: &Netlist) -> Result<(), Fail> {
     assert!(rt; found.name.as_str() == "m");
     assert_eq!(rt; found.kind, Kind::Buf);
     assert_eq!(rt; found.delay(0), 5);
-    assert!(rt; found.inputs.as_slice() == [WireId(0)].as_slice());
+    let inputs = [Input {
+        wire: WireId(0),
+        delay: 0,
+    }];
+    assert!(rt; found.inputs.as_slice() == inputs.as_slice());
     Ok(())
 }
 

@@ -1,6 +1,7 @@
 pub mod Names
 pub mod Stimuli
 pub mod EditErrors
+pub mod Inputs
 pub mod Outputs
 pub mod NamedWires
 pub mod PortChanges

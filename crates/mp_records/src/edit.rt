@@ -45,7 +45,7 @@ pub enum Edit {
     RemoveBundle {
         bundle: Name,
     },
-    /// Lets an input port read another wire, of the port's width.
+    /// Lets an input port read another wire, of the port's width. The port keeps its delay.
     RewireInput {
         module: Name,
         port: u64,
@@ -56,6 +56,12 @@ pub enum Edit {
         module: Name,
         port: u64,
         wire: Option<Name>,
+    },
+    /// Sets the transport delay of an input port, in units.
+    SetInputDelay {
+        module: Name,
+        port: u64,
+        delay: u64,
     },
     /// Sets the transport delay of an output port, in units.
     SetDelay {

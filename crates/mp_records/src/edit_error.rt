@@ -23,7 +23,7 @@ pub enum EditError {
     BadWidth,
     #[error("the level does not fit the width")]
     BadLevel,
-    #[error("a delay is not 1 to 65535")]
+    #[error("an output's delay is not 1 to 65535, or an input's is above 65535")]
     BadDelay,
     #[error("no such port")]
     BadPort,

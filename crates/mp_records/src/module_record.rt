@@ -1,17 +1,17 @@
 //! What a netlist keeps of a module.
 ghost use Rattle.std.specs.Prelude.{◌≡◌, ◌==◌};
 ghost use Rattle.std.specs.List.{list_any};
-ghost use Rattle.mp_records.specs.declared.ids.WireId.{WireId};
+ghost use Rattle.mp_records.specs.declared.ports.Input.{Input};
 ghost use Rattle.mp_records.specs.declared.ports.Output.{Output};
 ghost use Rattle.mp_records.specs.NamedWires.{is_wire};
 
 use crate::ids::WireId;
 use crate::name::Name;
 use crate::params::Params;
-use crate::ports::{Inputs, Output, Outputs};
+use crate::ports::{Input, Inputs, Output, Outputs};
 use mp_modules::Kind;
 
-/// A module: its name, its kind with the parameters, the wires that it reads and its output ports.
+/// A module: its name, its kind with the parameters, its input ports and its output ports.
 #[derive(Clone, Drop)]
 pub struct ModuleRecord {
     pub name: Name,
@@ -25,7 +25,7 @@ impl ModuleRecord {
     ghost use Rattle.std.specs.Prelude.{◌≡◌};
     ghost use Rattle.mp_records.specs.Outputs.{delay_of};
     ghost use Rattle.mp_records.specs.NamedWires.{module_names};
-    ghost use Rattle.mp_records.specs.PortChanges.{with_input, with_output, with_delay};
+    ghost use Rattle.mp_records.specs.PortChanges.{with_input, with_input_delay, with_output, with_delay};
 
     /// The transport delay of an output port in units, 1 where there is no such port.
     pub fn delay(&self, port: u32) -> u32
@@ -44,11 +44,18 @@ impl ModuleRecord {
         reads(self.inputs.as_slice(), wire) || drives(self.outputs.as_slice(), wire)
     }
 
-    /// Sets the wire of an input port, where there is such a port.
+    /// Sets the wire of an input port, where there is such a port. The port keeps its delay.
     pub fn set_input(&mut self, port: usize, wire: WireId)
         ensures { self.new ≡ with_input port wire self.old }
     {
         self.inputs.set_wire(port, wire);
+    }
+
+    /// Sets the delay of an input port, where there is such a port.
+    pub fn set_input_delay(&mut self, port: usize, delay: u32)
+        ensures { self.new ≡ with_input_delay port delay self.old }
+    {
+        self.inputs.set_delay(port, delay);
     }
 
     /// Sets the wire of an output port, where there is such a port. The port keeps its delay.
@@ -67,10 +74,10 @@ impl ModuleRecord {
 }
 
 /// Whether one of the inputs is at the wire.
-fn reads(inputs: &[WireId], wire: WireId) -> bool
-    ensures { result ≡ list_any (λ (v : WireId). v.0 == wire.0) inputs.now }
+fn reads(inputs: &[Input], wire: WireId) -> bool
+    ensures { result ≡ list_any (λ (i : Input). i.wire.0 == wire.0) inputs.now }
 {
-    inputs.iter().any(|read| read.0 == wire.0)
+    inputs.iter().any(|port| port.wire.0 == wire.0)
 }
 
 /// Whether one of the outputs is at the wire.

@@ -5,18 +5,26 @@ use crate::name::Name;
 use std::alloc::AllocError;
 use std::marker::Model;
 
-/// The names of the wires that a module is to read, by port.
+/// An input port that is to be: the name of the wire that it reads, and its transport delay in units.
+#[derive(Clone, Drop)]
+pub struct InputName {
+    pub wire: Name,
+    pub delay: u64,
+}
+
+/// The inputs that a module is to have, by port.
 #[derive(Drop)]
 pub struct InputNames {
-    names: Vec<Name>,
+    ports: Vec<InputName>,
 }
 
 impl Model for InputNames {
-    ghost use Rattle.std.specs.Prelude.{List, ℕ};
+    ghost use Rattle.std.specs.Prelude.{List};
+    ghost use Rattle.mp_records.specs.declared.port_names.InputName.{InputName};
 
-    ghost Value = { List (List ℕ) };
+    ghost Value = { List InputName };
 
-    ghost view = { λ inputs. inputs.names.items };
+    ghost view = { λ inputs. inputs.ports.items };
 }
 
 impl Clone for InputNames {
@@ -24,24 +32,24 @@ impl Clone for InputNames {
 
     fn clone(&self) -> Result<Self, AllocError> {
         Ok(InputNames {
-            names: Vec::from_clones(*self.names.allocator(), self.names.as_slice())?,
+            ports: Vec::from_clones(*self.ports.allocator(), self.ports.as_slice())?,
         })
     }
 }
 
 impl InputNames {
-    /// Inputs of these wires, the first being that of port 0.
-    pub fn new(names: Vec<Name>) -> Self
-        ensures { result ≡ names.items }
+    /// These input ports, the first being port 0.
+    pub fn new(ports: Vec<InputName>) -> Self
+        ensures { result ≡ ports.items }
     {
-        InputNames { names }
+        InputNames { ports }
     }
 
-    /// The wires' names, by port.
-    pub fn as_slice(&self) -> &[Name]
+    /// The input ports, in order.
+    pub fn as_slice(&self) -> &[InputName]
         ensures { result.now ≡ self.now }
     {
-        self.names.as_slice()
+        self.ports.as_slice()
     }
 }
 

@@ -5,19 +5,26 @@ use crate::ids::WireId;
 use std::alloc::AllocError;
 use std::marker::Model;
 
-/// The wires that a module reads, by port.
+/// An input port: the wire that it reads, and its transport delay in units. A level of the wire reaches the module so much later.
+#[derive(Clone, Copy, Debug, PartialEq, Eq)]
+pub struct Input {
+    pub wire: WireId,
+    pub delay: u32,
+}
+
+/// The inputs of a module, by port.
 #[derive(Drop)]
 pub struct Inputs {
-    wires: Vec<WireId>,
+    ports: Vec<Input>,
 }
 
 impl Model for Inputs {
     ghost use Rattle.std.specs.Prelude.{List};
-    ghost use Rattle.mp_records.specs.declared.ids.WireId.{WireId};
+    ghost use Rattle.mp_records.specs.declared.ports.Input.{Input};
 
-    ghost Value = { List WireId };
+    ghost Value = { List Input };
 
-    ghost view = { λ inputs. inputs.wires.items };
+    ghost view = { λ inputs. inputs.ports.items };
 }
 
 impl Clone for Inputs {
@@ -25,32 +32,43 @@ impl Clone for Inputs {
 
     fn clone(&self) -> Result<Self, AllocError> {
         Ok(Inputs {
-            wires: Vec::from_slice(*self.wires.allocator(), self.wires.as_slice())?,
+            ports: Vec::from_slice(*self.ports.allocator(), self.ports.as_slice())?,
         })
     }
 }
 
 impl Inputs {
-    /// Inputs of these wires, the first being that of port 0.
-    pub fn new(wires: Vec<WireId>) -> Self
-        ensures { result ≡ wires.items }
+    ghost use Rattle.mp_records.specs.Inputs.{input_in};
+
+    /// These input ports, the first being port 0.
+    pub fn new(ports: Vec<Input>) -> Self
+        ensures { result ≡ ports.items }
     {
-        Inputs { wires }
+        Inputs { ports }
     }
 
-    /// The wires, by port.
-    pub fn as_slice(&self) -> &[WireId]
+    /// The input ports, in order.
+    pub fn as_slice(&self) -> &[Input]
         ensures { result.now ≡ self.now }
     {
-        self.wires.as_slice()
+        self.ports.as_slice()
     }
 
     /// Sets the wire of a port, where there is such a port.
     pub(crate) fn set_wire(&mut self, port: usize, wire: WireId)
-        ensures { self.new ≡ slice_set self.old port wire }
+        ensures { self.new ≡ slice_set self.old port (record (input_in self.old port) { wire = wire }) }
     {
-        if port < self.wires.len() {
-            self.wires[port] = wire;
+        if port < self.ports.len() {
+            self.ports[port].wire = wire;
+        }
+    }
+
+    /// Sets the delay of a port, where there is such a port.
+    pub(crate) fn set_delay(&mut self, port: usize, delay: u32)
+        ensures { self.new ≡ slice_set self.old port (record (input_in self.old port) { delay = delay }) }
+    {
+        if port < self.ports.len() {
+            self.ports[port].delay = delay;
         }
     }
 }

@@ -1,4 +1,6 @@
-use crate::{Changes, EditError, Inputs, ModuleRecord, Name, Output, Outputs, Params, WireId};
+use crate::{
+    Changes, EditError, Input, Inputs, ModuleRecord, Name, Output, Outputs, Params, WireId,
+};
 use mp_modules::Kind;
 use std::alloc::{AllocError, Global};
 use std::process::Abort;
@@ -19,8 +21,12 @@ fn stimulus(rt: HostRuntime) -> Result<(), Fail> {
     Ok(())
 }
 
-/// A buffer from wire 0 to wire 1, 5 units late.
+/// A buffer from wire 0 to wire 1, 5 units late, at an input of 4 units.
 fn buffer(alloc: Global) -> Result<ModuleRecord, AllocError> {
+    let input = Input {
+        wire: WireId(0),
+        delay: 4,
+    };
     let output = Output {
         wire: Some(WireId(1)),
         delay: 5,
@@ -29,9 +35,13 @@ fn buffer(alloc: Global) -> Result<ModuleRecord, AllocError> {
         name: name(alloc, "m")?,
         kind: Kind::Buf,
         params: Params::new(Vec::new(alloc)),
-        inputs: Inputs::new(vec![in alloc; WireId(0)]?),
+        inputs: Inputs::new(vec![in alloc; input]?),
         outputs: Outputs::new(vec![in alloc; output]?),
     })
+}
+
+fn at(wire: WireId, delay: u32) -> [Input; 1] {
+    [Input { wire, delay }]
 }
 
 #[test]
@@ -39,6 +49,9 @@ fn changed_ports(rt: HostRuntime) -> Result<(), Fail> {
     let alloc = rt.alloc();
     let mut part = buffer(alloc)?;
     part.set_input(0, WireId(2));
+    assert!(rt; part.inputs.as_slice() == at(WireId(2), 4).as_slice());
+    part.set_input_delay(0, 0);
+    assert!(rt; part.inputs.as_slice() == at(WireId(2), 0).as_slice());
     part.set_output(0, None);
     assert_eq!(rt; part.delay(0), 5);
     part.set_delay(0, 6);

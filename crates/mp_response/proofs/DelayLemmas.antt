@@ -19,7 +19,8 @@ use Rattle.mp_netlist.specs.declared.driver.Driver.{Driver}
 use Rattle.mp_netlist.proofs.DriverLemmas.{finds_ports}
 use Rattle.mp_model.specs.Levels.{IsBehaviour, built, inputs_by, initial_of, driven_level, port_level}
 use Rattle.mp_response.specs.Span.{next_state, state_after, output_changes}
-use Rattle.mp_response.specs.Delays.{state_before, put_off, EndsInState, GivesLevels}
+use Rattle.mp_response.specs.Pieces.{put_off}
+use Rattle.mp_response.specs.Delays.{state_before, EndsInState, GivesLevels}
 use Rattle.mp_response.proofs.SpanLemmas.{state_none, state_more, changes_more}
 
 -- a unit from time 1 on is a step

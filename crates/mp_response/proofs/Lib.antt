@@ -4,3 +4,4 @@ pub mod SpanLemmas
 pub mod JoinLemmas
 pub mod OutputLemmas
 pub mod DelayLemmas
+pub mod LateLemmas

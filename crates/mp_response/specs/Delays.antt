@@ -1,5 +1,5 @@
 -- Spans and what a netlist means: its modules' states, and the levels of their outputs after their delays.
-use Rattle.std.specs.Prelude.{◌≡◌, ℕ, ◌+◌, ◌-◌, ◌<◌, ◌≤◌, List, [], Some, map, slice_index_or, zero, suc}
+use Rattle.std.specs.Prelude.{◌≡◌, ℕ, ◌+◌, ◌-◌, ◌<◌, ◌≤◌, [], Some, slice_index_or, zero, suc}
 use Rattle.mp_wave.specs.Waveform.{level_from}
 use Rattle.mp_modules.specs.declared.memory.Memory.{Memory}
 use Rattle.mp_storage.specs.AnyModules.{start}
@@ -9,6 +9,7 @@ use Rattle.mp_records.specs.declared.module_record.ModuleRecord.{ModuleRecord}
 use Rattle.mp_netlist.specs.Circuit.{Circuit, IsCircuit, Drives, module_at}
 use Rattle.mp_model.specs.Levels.{IsBehaviour, built, inputs_by}
 use Rattle.mp_response.specs.declared.piece.Piece.{Piece}
+use Rattle.mp_response.specs.Pieces.{put_off}
 use Rattle.mp_response.specs.Span.{IsSpan}
 
 -- a module's state before a time: its start before time 0, and else its state at the unit before
@@ -25,10 +26,6 @@ abbrev pub EndsInState : Type 0
 EndsInState = (n : Circuit) (level : ℕ → ℕ → ℕ) (state : ℕ → ℕ → Memory) → IsBehaviour n level state →
     (m a b : ℕ) (r : ModuleRecord) (piece : Piece) → module_at n m ≡ Some r → a ≤ b → IsSpanOf n level state m r a b piece →
     piece.memory ≡ state_before (built n r) (state m) b
-
--- changes, each so much later
-abbrev pub put_off : ℕ → List (ℕ × ℕ) → List (ℕ × ℕ)
-put_off delay changes = map (λ change. (change.0 + delay, change.1)) changes
 
 -- the changes of an output in a span, put off by its delay, are those of its wire: from the level just before them they give the wire's level at each time of the span, put off likewise
 abbrev pub GivesLevels : Type 0

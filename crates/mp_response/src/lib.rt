@@ -18,4 +18,4 @@ pub use findings::Findings;
 pub use in_piece::InPiece;
 pub use outputs::Outputs;
 pub use piece::Piece;
-pub use span::{cut, respond};
+pub use span::{cut, cut_delayed, respond};

@@ -1,8 +1,8 @@
 //! A module over a span of time.
 
-ghost use Rattle.std.specs.Prelude.{◌≡◌, ◌<◌, ◌≤◌, length, IfOk};
+ghost use Rattle.std.specs.Prelude.{◌≡◌, ◌+◌, ◌<◌, ◌≤◌, ◌^◌, All, length, IfOk};
 ghost use Rattle.mp_wave.specs.Waveform.{level_of, between};
-ghost use Rattle.mp_response.specs.Pieces.{IsInPiece, levels_at};
+ghost use Rattle.mp_response.specs.Pieces.{IsInPiece, later_by, levels_at, put_off};
 ghost use Rattle.mp_response.specs.Span.{IsSpan};
 
 use crate::changes::Changes;
@@ -27,6 +27,40 @@ pub fn cut(alloc: Global, wave: &Wave, from: u32, to: u32) -> Result<InPiece, Al
         at_from,
         changes: Changes::from_vec(changes),
     })
+}
+
+/// The same of an input with a delay: the wave so many units later. No later wave is made.
+pub fn cut_delayed(
+    alloc: Global,
+    wave: &Wave,
+    delay: u32,
+    from: u32,
+    to: u32,
+) -> Result<InPiece, AllocError>
+    requires { from < to }
+    ensures value { IfOk result (λ piece. piece ≡ record { at_from = level_of (later_by delay wave.now) from; changes = between from to (put_off delay wave.now.changes) }) }
+    ensures form { IfOk result (λ piece. IsInPiece from to piece) }
+{
+    let start = from.saturating_sub(delay);
+    let end = to.saturating_sub(delay);
+    let at_from = wave.level_at(start);
+    let changes = put_off(alloc, wave.changes_between(start, end), delay)?;
+    Ok(InPiece {
+        at_from,
+        changes: Changes::from_vec(changes),
+    })
+}
+
+/// The changes, each so many units later.
+fn put_off(alloc: Global, changes: &[(u32, u64)], delay: u32) -> Result<Vec<(u32, u64)>, AllocError>
+    requires { All (λ change. change.0 + delay < 2 ^ 32) changes.now }
+    ensures { IfOk result (λ late. late.items ≡ put_off delay changes.now) }
+{
+    let mut late = Vec::new(alloc);
+    for &(time, level) in changes {
+        late.push((time + delay, level))?;
+    }
+    Ok(late)
 }
 
 /// What a module does from one time to before another, from its state before the first, where the input ports have these pieces. At

@@ -1,6 +1,6 @@
 ghost use Rattle.std.specs.Prelude.{◌<◌, ◌≤◌, ◌^◌, length};
 
-use crate::{Changes, InPiece, Piece, cut, respond};
+use crate::{Changes, InPiece, Piece, cut, cut_delayed, respond};
 use mp_modules::{EventModule, FindingCode, Kind, Memory};
 use mp_storage::AnyModule;
 use mp_wave::Wave;
@@ -78,6 +78,18 @@ fn assert_cut(
         assert_eq!(rt; piece.at_from, at_from);
         assert_eq!(rt; piece.changes.as_slice(), changes);
     }
+    Ok(())
+}
+
+#[test]
+fn input_delays_cut_delayed(rt: HostRuntime) -> Result<(), Fail> {
+    let wave = wave_of(rt.alloc(), &[(2, 1), (5, 0)])?;
+    let piece = cut_delayed(rt.alloc(), &wave, 4, 0, 10)?;
+    assert_eq!(rt; piece.at_from, 0);
+    assert!(rt; piece.changes.as_slice() == [(6, 1), (9, 0)].as_slice());
+    let piece = cut_delayed(rt.alloc(), &wave, 4, 6, 9)?;
+    assert_eq!(rt; piece.at_from, 1);
+    assert!(rt; piece.changes.as_slice().is_empty());
     Ok(())
 }
 

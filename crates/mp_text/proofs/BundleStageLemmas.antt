@@ -12,6 +12,7 @@ use Rattle.mp_records.specs.declared.module_record.ModuleRecord.{ModuleRecord}
 use Rattle.mp_records.specs.declared.bundle_record.BundleRecord.{BundleRecord}
 use Rattle.mp_records.specs.declared.edit.Edit.{Edit}
 use Rattle.mp_records.specs.declared.edit.Edit.TheVariants.{AddBundle}
+use Rattle.mp_netlist.specs.Limits.{max_bundles, max_setup}
 use Rattle.mp_netlist.specs.Circuit.{Circuit, IsCircuit, IsBundle, bundle_at, HasNames}
 use Rattle.mp_netlist.specs.Edits.{refusal, edited, after, stands, width_named, bundle_checks, new_bundle}
 use Rattle.mp_text.specs.Written.{wire_name}
@@ -97,9 +98,9 @@ module _ (n : Circuit) (circuit : IsCircuit n) (named : HasNames n) (modules : L
         let wide = and_both (width_named c first == 1) (width_named c second == 1)
         (eq-eqb _ _ (request.width ∙ is.request.1)) (eq-eqb _ _ (acknowledge.width ∙ is.acknowledge.1)) in
         let low = is.setup in
-        let early : nat_le r.setup 65535 ≡ true = grind (arith, nat_tests) in
-        let within : length front < 1024 = omega (arith, ap length split, length-append front (Some r ∷ back), circuit.bundles_few) in
-        let room = lt-ltb (length bundles) 1024 (omega (arith, few)) in
+        let early : nat_le r.setup max_setup ≡ true = grind (arith, nat_tests) in
+        let within : length front < max_bundles = omega (arith, ap length split, length-append front (Some r ∷ back), circuit.bundles_few) in
+        let room = lt-ltb (length bundles) max_bundles (omega (arith, few)) in
         is_done c (added n r)
         (none_failing (bundle_checks c r.name first second third r.setup) (named.bundles (length front) r at, (free, (found, (wide, (early, (room, tt)))))))
 

@@ -15,6 +15,7 @@ use Rattle.mp_records.specs.declared.ports.Output.{Output}
 use Rattle.mp_records.specs.declared.edit.Edit.TheVariants.{AddModule}
 use Rattle.mp_records.specs.Names.{is_name}
 use Rattle.mp_records.specs.Outputs.{output_at}
+use Rattle.mp_netlist.specs.Limits.{max_delay}
 use Rattle.mp_netlist.specs.Circuit.{Circuit, IsCircuit, IsModule, IsDelay, HasWidth, wire_at, module_at, width_of, module_width, HasNames}
 use Rattle.mp_words.specs.WordLists.{output_word}
 use Rattle.mp_text.specs.Written.{module_line, wire_name, output_name, output_text}
@@ -117,14 +118,14 @@ module _ (n : Circuit) (circuit : IsCircuit n) (named : HasNames n) where
   module_narrow true w = slot_narrow w (wire_at n w) refl
   module_narrow false w = omega arith
 
-  output_back : (wire : Option WireId) (delay : ℕ) → delay < 65536 → Stands n wire
+  output_back : (wire : Option WireId) (delay : ℕ) → delay ≤ max_delay → Stands n wire
       → output_word (output_name n wire ++ (47 ∷ decimal delay)) ≡ Ok (record { wire = option_map (wire_name n) wire; delay = delay })
   output_back None delay low stands = no_wire_back delay (omega (arith, low))
   output_back (Some w) delay low stands =
       let name = wire_named n circuit named w stands in
       wire_back (wire_name n w) delay name (IsPlain-name (wire_name n w) name).some (omega (arith, low))
 
-  output_plain : (wire : Option WireId) (delay : ℕ) → delay < 65536 → Stands n wire → IsPlain (output_name n wire ++ (47 ∷ decimal delay))
+  output_plain : (wire : Option WireId) (delay : ℕ) → delay ≤ max_delay → Stands n wire → IsPlain (output_name n wire ++ (47 ∷ decimal delay))
   output_plain wire delay low stands =
       IsPlain-append (output_name n wire) (47 ∷ decimal delay) (by wire stands)
       (IsPlain-append (47 ∷ []) (decimal delay) (record { some = omega arith; plain = refl }) (IsPlain-decimal delay (omega (arith, low))))
@@ -134,7 +135,7 @@ module _ (n : Circuit) (circuit : IsCircuit n) (named : HasNames n) where
       by (Some w) stands = IsPlain-name (wire_name n w) (wire_named n circuit named w stands)
 
   abbrev IsOutput : Output → Type 0
-  IsOutput o = (o.delay < 65536) × Stands n o.wire
+  IsOutput o = (o.delay ≤ max_delay) × Stands n o.wire
 
   module _ (m : ℕ) (r : ModuleRecord) (at : module_at n m ≡ Some r) (ok : IsModule n r) where
     abbrev params_words : List (List ℕ)

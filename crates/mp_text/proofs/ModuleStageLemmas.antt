@@ -14,6 +14,7 @@ use Rattle.mp_records.specs.declared.module_record.ModuleRecord.{ModuleRecord}
 use Rattle.mp_records.specs.declared.ports.Output.{Output}
 use Rattle.mp_records.specs.declared.port_names.OutputName.{OutputName}
 use Rattle.mp_records.specs.Outputs.{output_in}
+use Rattle.mp_netlist.specs.Limits.{max_modules, max_delay}
 use Rattle.mp_netlist.specs.Circuit.{Circuit, IsCircuit, IsModule, IsDelay, HasWidth, Drives, wire_at, module_at, width_of, module_width, HasNames}
 use Rattle.mp_netlist.specs.Edits.{refusal, edited, after, stands, wire_id, width_named, is_undriven, is_delay, driven_names, are_distinct, first_width, new_width, inputs_fit, output_fits, outputs_fit, module_checks, output_of, new_module, without_stimulus}
 use Rattle.mp_netlist.proofs.PortLemmas.{no_name}
@@ -41,8 +42,8 @@ is_low_delay d low =
     let some = low.0 in
     let most = low.1 in
     let one : nat_le 1 d ≡ true = grind (arith, nat_tests) in
-    let short : nat_le d 65535 ≡ true = grind (arith, nat_tests) in
-    and_both (nat_le 1 d) (nat_le d 65535) one short
+    let short : nat_le d max_delay ≡ true = grind (arith, nat_tests) in
+    and_both (nat_le 1 d) (nat_le d max_delay) one short
 
 -- the wires at the ports of a module are as wide in the other netlist
 module _ (n c : Circuit) (has : HasWires n c) (r : ModuleRecord) (is : IsModule n r) where
@@ -227,8 +228,8 @@ module _ (n : Circuit) (circuit : IsCircuit n) (named : HasNames n) where
         let width = new_width c r.kind inputs in
         let wide = and_both (inputs_fit c r.kind width inputs) (outputs_fit c r.kind width outputs) (inputs_wide n c has r is) (outputs_wide n c has r is) in
         let free_outputs = and_both (list_all (is_undriven c) (driven_names outputs)) (are_distinct (driven_names outputs)) (driven_all (is_undriven c) outputs undriven) (driven_distinct outputs distinct) in
-        let within : length front < 4096 = omega (arith, ap length split, length-append front (Some r ∷ back), circuit.modules_few) in
-        let room = lt-ltb (length modules) 4096 (omega (arith, few)) in
+        let within : length front < max_modules = omega (arith, ap length split, length-append front (Some r ∷ back), circuit.modules_few) in
+        let room = lt-ltb (length modules) max_modules (omega (arith, few)) in
         is_done c (added n r)
         (none_failing (module_checks c r.name r.kind r.params inputs outputs)
         (named.modules (length front) r at, (free, (counts, (found, (wide, (params_ranged n c has r is, (delays_low n c has r is, (free_outputs, (room, tt))))))))))

@@ -12,6 +12,7 @@ use Rattle.mp_records.specs.declared.edit.Edit.TheVariants.{AddWire, AddBundle, 
 use Rattle.mp_records.specs.Names.{is_name}
 use Rattle.mp_modules.specs.Levels.{fits_width}
 use Rattle.mp_records.specs.Stimuli.{is_stimulus}
+use Rattle.mp_netlist.specs.Limits.{max_horizon}
 use Rattle.mp_netlist.specs.Circuit.{Circuit, IsCircuit, wire_at, bundle_at, HasNames}
 use Rattle.mp_words.specs.WordLists.{change_word}
 use Rattle.mp_words.specs.WaveLines.{pair_text}
@@ -88,7 +89,7 @@ IsChange change = (change.0 < 2 ^ 64) × (change.1 < 2 ^ 64)
 three : (a b c d : Bool) → (a && b && c && d) ≡ true → (b ≡ true) × (c ≡ true) × (d ≡ true)
 three a b c d all = let front = both (a && b && c) d all in let middle = both (a && b) c front.0 in ((both a b middle.0).1, middle.1, front.1)
 
-stimulus_low : (horizon width before : ℕ) (changes : List (ℕ × ℕ)) → horizon ≤ 65536 → width ≤ 64 → is_stimulus horizon width before changes ≡ true → All IsChange changes
+stimulus_low : (horizon width before : ℕ) (changes : List (ℕ × ℕ)) → horizon ≤ max_horizon → width ≤ 64 → is_stimulus horizon width before changes ≡ true → All IsChange changes
 unfolding is_stimulus fits_width
 stimulus_low horizon width before [] short narrow all = All-nil IsChange
 stimulus_low horizon width before (change ∷ changes) short narrow all =

@@ -17,6 +17,7 @@ use Rattle.mp_words.specs.Lines.{lines_of, is_allowed}
 use Rattle.mp_words.specs.Words.{words_of}
 use Rattle.mp_text.specs.Statements.{Statement, Blank, Unknown, Start, Change, statement_of}
 use Rattle.mp_text.specs.Texts.{text_at, after_lines, after_line, after_statement, next_line}
+use Rattle.mp_text.specs.Limits.{max_text}
 use Rattle.mp_text.specs.Laws.{horizon_of, edit_of, statements, IsReplay}
 
 -- the lines state no horizon, and lead from one netlist to the other by their edits
@@ -79,4 +80,4 @@ of_length false lines c e h = cc
 
 pub text_is_replay : IsReplay
 unfolding text_at
-text_is_replay text c h = opens 0 c (lines_of text) (of_length (nat_le (length text) 4194304) (after_lines 0 None (lines_of text)) c _ h)
+text_is_replay text c h = opens 0 c (lines_of text) (of_length (nat_le (length text) max_text) (after_lines 0 None (lines_of text)) c _ h)

@@ -16,6 +16,7 @@ use Rattle.mp_text.proofs.TextBackLemmas.{Leads, leads_nowhere, leads_slots, lin
 use Rattle.mp_text.proofs.RecordBackLemmas.{wire_slots, stimulus_slots, bundle_slots}
 use Rattle.mp_text.proofs.ModuleBackLemmas.{module_slots}
 use Rattle.mp_text.proofs.SameRecordLemmas.{made_again}
+use Rattle.mp_text.specs.Limits.{max_text}
 use Rattle.mp_text.proofs.TextLemmas.{text_within}
 
 module _ (n : Circuit) (circuit : IsCircuit n) (named : HasNames n) where
@@ -55,5 +56,5 @@ read_as_written n circuit short =
     ∙ (records_lead n circuit named).each 1 (empty_circuit n.horizon) made.again made.replayed in
     (made.again, read, made.same)
 
-pub written_is_read : (n : Circuit) (text : List ℕ) → IsCircuit n → text ≡ written n → length text ≤ 4194304 → IsReadAs text n
-written_is_read n text circuit same short = subst (λ t. IsReadAs t n) (sym same) (read_as_written n circuit (subst (λ t. length t ≤ 4194304) same short))
+pub written_is_read : (n : Circuit) (text : List ℕ) → IsCircuit n → text ≡ written n → length text ≤ max_text → IsReadAs text n
+written_is_read n text circuit same short = subst (λ t. IsReadAs t n) (sym same) (read_as_written n circuit (subst (λ t. length t ≤ max_text) same short))

@@ -1,6 +1,6 @@
 -- Slots without the empty ones, and where a name is found among them.
 use Rattle.std.proofs.Common.{◌≡◌, ℕ, suc, ◌+◌, ◌<◌, ◌≤◌, Bool, true, false, List, [], ◌∷◌, ◌++◌, length, get_or, take, drop, map, All, Option, Some, None, is_some, refl, sym, ap, subst, ◌∙◌, arith}
-use Rattle.std.specs.List.{flat_map, list_all, list_any, position_from}
+use Rattle.std.specs.List.{flat_map, list_all, position_from}
 use Rattle.std.specs.Str.{bytes_eq}
 use Rattle.std.proofs.lemmas.List.{append-nil, get_or_at, get_or_append_left, set-get_or, set_split}
 use Rattle.std.proofs.lemmas.List.Concat.{flat_map-append}
@@ -33,10 +33,6 @@ All-from_flat_map P f (x ∷ xs) all =
 pub list_all_from : {X : Type 0} (test : X → Bool) (xs : List X) → All (λ x. test x ≡ true) xs → list_all test xs ≡ true
 list_all_from test [] all = refl
 list_all_from test (x ∷ xs) all = rw (All-head (λ x. test x ≡ true) x xs all) (list_all_from test xs (All-tail (λ x. test x ≡ true) x xs all))
-
-pub list_any_none : {X : Type 0} (test : X → Bool) (xs : List X) → All (λ x. test x ≡ false) xs → list_any test xs ≡ false
-list_any_none test [] all = refl
-list_any_none test (x ∷ xs) all = rw (All-head (λ x. test x ≡ false) x xs all) (list_any_none test xs (All-tail (λ x. test x ≡ false) x xs all))
 
 -- lists end to end that are the same each are the same
 pub flat_map_agree : {X Y : Type 0} (f g : X → List Y) → ((x : X) → f x ≡ g x) → (xs : List X) → flat_map f xs ≡ flat_map g xs

@@ -12,6 +12,7 @@ use Rattle.mp_modules.proofs.WordLemmas.{by_word}
 use Rattle.mp_records.specs.declared.port_names.OutputName.{OutputName}
 use Rattle.mp_records.specs.declared.edit.Edit.TheVariants.{AddWire, AddModule, AddBundle, SetStimulus}
 use Rattle.mp_records.specs.Names.{is_name, is_name_byte, begins_with_letter}
+use Rattle.mp_netlist.specs.Limits.{max_horizon}
 use Rattle.mp_words.specs.WordLists.{number_word, change_word, output_word}
 use Rattle.mp_text.specs.Statements.{is_mark, Start, Change, horizon_word, stated_horizon, wire_edit, module_edit, parts_edit, stimulus_edit, bundle_edit, stated_edit, statement_of}
 use Rattle.mp_words.specs.WaveLines.{pair_text}
@@ -20,12 +21,12 @@ use Rattle.mp_words.proofs.DividedLemmas.{before_first-append, after_first-appen
 use Rattle.mp_words.proofs.PlainLemmas.{both}
 use Rattle.mp_words.proofs.ReadBackLemmas.{number_back, each_back}
 
-pub horizon_stated : (h : ℕ) → 1 ≤ h → h ≤ 65536 → statement_of (codes "horizon" ∷ decimal h ∷ []) ≡ Start (Ok h)
+pub horizon_stated : (h : ℕ) → 1 ≤ h → h ≤ max_horizon → statement_of (codes "horizon" ∷ decimal h ∷ []) ≡ Start (Ok h)
 unfolding statement_of stated_horizon horizon_word
 horizon_stated h low high =
     let number = number_back h (omega (arith, high)) in
     let one : nat_le 1 h ≡ true = grind (arith, nat_tests) in
-    let most : nat_le h 65536 ≡ true = grind (arith, nat_tests) in
+    let most : nat_le h max_horizon ≡ true = grind (arith, nat_tests) in
     rw number (rw (one, most) refl)
 
 pub wire_stated : (name : List ℕ) (width level : ℕ) → width < 2 ^ 64 → level < 2 ^ 64

@@ -8,14 +8,15 @@ use Rattle.mp_text.specs.declared.text_code.TextCode.{TextCode}
 use Rattle.mp_text.specs.declared.text_code.TextCode.TheVariants.{TooLong}
 use Rattle.mp_words.specs.Lines.{is_line_feed, lines_of}
 use Rattle.mp_text.specs.Texts.{text_at, after_lines, after_line, next_line, finished, last_line}
+use Rattle.mp_text.specs.Limits.{max_text}
 use Rattle.mp_words.proofs.LineLemmas.{lines_of-cons}
 
 -- a text that is not too long is its lines
-pub text_within : (text : List ℕ) → length text ≤ 4194304 → text_at text ≡ after_lines 0 None (lines_of text)
+pub text_within : (text : List ℕ) → length text ≤ max_text → text_at text ≡ after_lines 0 None (lines_of text)
 unfolding text_at
 text_within text within = grind (arith, nat_tests)
 
-pub text_over : (text : List ℕ) → 4194304 < length text → text_at text ≡ Err (record { line = 0; code = TooLong })
+pub text_over : (text : List ℕ) → max_text < length text → text_at text ≡ Err (record { line = 0; code = TooLong })
 unfolding text_at
 text_over text over = grind (arith, nat_tests)
 

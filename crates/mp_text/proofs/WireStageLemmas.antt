@@ -12,6 +12,7 @@ use Rattle.mp_records.specs.declared.wire_record.WireRecord.{WireRecord}
 use Rattle.mp_records.specs.declared.module_record.ModuleRecord.{ModuleRecord}
 use Rattle.mp_records.specs.declared.bundle_record.BundleRecord.{BundleRecord}
 use Rattle.mp_records.specs.declared.edit.Edit.TheVariants.{AddWire}
+use Rattle.mp_netlist.specs.Limits.{max_wires}
 use Rattle.mp_netlist.specs.Circuit.{Circuit, IsCircuit, wire_at, width_of, stimulus_in, HasNames}
 use Rattle.mp_netlist.specs.Edits.{refusal, edited, after, stands, wire_id, width_named, wire_checks, without_stimulus}
 use Rattle.mp_text.specs.Written.{name_in, wire_name}
@@ -88,12 +89,12 @@ module _ (n : Circuit) (circuit : IsCircuit n) (named : HasNames n) where
       let at : wire_at n (length front) ≡ Some r = ap (λ xs. get_or xs (length front) None) same ∙ get_or_at front (Some r) back None (length front) refl in
       let ok = circuit.wires_ok (length front) r at in
       let free = named_nowhere name_of r.name (flat_map bare front) (compact_unnamed name_of without_stimulus (λ s. refl) r.name front (front_unnamed name_of n.wires front back r named.one_wire same)) in
-      let few : length front < 8192 = omega (arith, ap length same, length-append front (Some r ∷ back), circuit.wires_few) in
+      let few : length front < max_wires = omega (arith, ap length same, length-append front (Some r ∷ back), circuit.wires_few) in
       let low = ok.wide in
       let high = ok.narrow in
       let one : nat_le 1 r.width ≡ true = grind (arith, nat_tests) in
       let most : nat_le r.width 64 ≡ true = grind (arith, nat_tests) in
-      let room = lt-ltb (length (flat_map bare front)) 8192 (omega (arith, compact_few without_stimulus front)) in
+      let room = lt-ltb (length (flat_map bare front)) max_wires (omega (arith, compact_few without_stimulus front)) in
       let none = none_failing (wire_checks (wired front) r.name r.width r.initial) (named.wires (length front) r at, (ap is_none free, (and_both (nat_le 1 r.width) (nat_le r.width 64) one most, (ok.level, (room, tt))))) in
       is_done (wired front) (AddWire r.name r.width r.initial) none
       ∙ ap (λ wires. Ok (made n.horizon wires [] [])) (sym (flat_map-append bare front (Some r ∷ [])))

@@ -1,3 +1,4 @@
+pub mod Limits
 pub mod TextCodes
 pub mod LineErrors
 pub mod Statements

@@ -9,6 +9,7 @@ use Rattle.mp_records.specs.declared.port_names.OutputName.{OutputName}
 use Rattle.mp_records.specs.declared.edit.Edit.{Edit}
 use Rattle.mp_records.specs.declared.edit.Edit.TheVariants.{AddWire, AddModule, AddBundle, SetStimulus}
 use Rattle.mp_netlist.specs.Circuit.{Circuit, IsCircuit}
+use Rattle.mp_text.specs.Limits.{max_text}
 use Rattle.mp_text.specs.Texts.{text_at}
 use Rattle.mp_text.specs.Written.{written, wire_name}
 
@@ -59,4 +60,4 @@ IsReadAs text n = (m : Circuit) × (text_at text ≡ Ok m) × SameRecords n m
 
 -- the text of a netlist is read as a netlist with the same records
 abbrev pub IsReadAsWritten : Type 0
-IsReadAsWritten = (n : Circuit) → IsCircuit n → length (written n) ≤ 4194304 → IsReadAs (written n) n
+IsReadAsWritten = (n : Circuit) → IsCircuit n → length (written n) ≤ max_text → IsReadAs (written n) n

@@ -7,6 +7,7 @@ use Rattle.mp_modules.specs.declared.kind.Kind.{Kind}
 use Rattle.mp_modules.specs.Kinds.{kind_named}
 use Rattle.mp_records.specs.declared.edit.Edit.{Edit}
 use Rattle.mp_records.specs.declared.edit.Edit.TheVariants.{AddWire, AddModule, AddBundle, SetStimulus}
+use Rattle.mp_netlist.specs.Limits.{max_horizon}
 use Rattle.mp_words.specs.declared.line_error.LineError.{LineError}
 use Rattle.mp_words.specs.declared.line_error.LineError.TheVariants.{UnknownStatement, WordCount, BadNumber}
 use Rattle.mp_text.specs.declared.edit_word.EditWord.{EditWord}
@@ -17,11 +18,11 @@ use Rattle.mp_words.specs.Reads.{◌>>=◌}
 abbrev pub kind_word : List ℕ → Result Kind LineError
 kind_word word = ok_or (kind_named word) UnknownStatement
 
--- a number of units from 1 to 65,536
+-- a number of units that a netlist may run for
 unfoldable pub horizon_word : List ℕ → Result ℕ LineError
 horizon_word word = do
   horizon ← number_word word
-  if nat_le 1 horizon && nat_le horizon 65536 then Ok horizon else Err BadNumber
+  if nat_le 1 horizon && nat_le horizon max_horizon then Ok horizon else Err BadNumber
 
 -- the horizon of the words behind `horizon`
 unfoldable pub stated_horizon : List (List ℕ) → Result ℕ LineError

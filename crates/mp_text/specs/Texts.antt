@@ -7,6 +7,7 @@ use Rattle.mp_text.specs.declared.text_code.TextCode.{TextCode}
 use Rattle.mp_text.specs.declared.text_code.TextCode.TheVariants.{UnknownStatement, NoHorizon, SecondHorizon, Refused, TooLong, OutOfMemory}
 use Rattle.mp_text.specs.declared.text_error.TextError.{TextError}
 use Rattle.mp_text.specs.LineErrors.{in_text}
+use Rattle.mp_text.specs.Limits.{max_text}
 use Rattle.mp_words.specs.Lines.{lines_of, line_words}
 use Rattle.mp_text.specs.Statements.{Statement, Blank, Unknown, Start, Change, statement_of}
 use Rattle.mp_words.specs.Reads.{◌>>=◌}
@@ -46,7 +47,7 @@ after_lines n state (line ∷ lines) = next_line n (λ after. after_lines (n + 1
 
 -- the netlist of a text, or the first line that fails
 unfoldable pub text_at : List ℕ → Result Circuit TextError
-text_at text = if nat_le (length text) 4194304 then after_lines 0 None (lines_of text) else Err (record { line = 0; code = TooLong })
+text_at text = if nat_le (length text) max_text then after_lines 0 None (lines_of text) else Err (record { line = 0; code = TooLong })
 
 -- the whole text was read, or its first fault is told, or memory ran out at some line
 abbrev pub GivesText : {X : Type 0} → Result X TextError → Result X TextError → Type 0

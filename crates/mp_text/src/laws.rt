@@ -9,9 +9,9 @@ pub fn text_is_replay()
     ensures { IsReplay }
 {}
 
-/// Where the text of a well-formed netlist is not over 4,194,304 bytes, it is read as a netlist with the same records: the same horizon, the same wires with what is
-/// set on them, and the same modules and bundles with the names of their wires, all in the same order,
-/// if perhaps under other numbers.
+/// Where the text of a well-formed netlist is not over 4,194,304 bytes, it is read as a netlist with
+/// the same records: the same horizon, the same wires with what is set on them, and the same modules
+/// and bundles with the names of their wires, all in the same order, if perhaps under other numbers.
 pub fn written_text_is_read()
     ensures { IsReadAsWritten }
 {}

@@ -24,8 +24,4 @@ pub use text_error::TextError;
 pub use writing::write_netlist;
 
 #[cfg(test)]
-mod script_tests;
-#[cfg(test)]
 mod tests;
-#[cfg(test)]
-mod writing_tests;

@@ -2,6 +2,7 @@
 ghost use Rattle.std.specs.Prelude.{◌≡◌, ◌≤◌, IfOk, IfErr, Some};
 ghost use Rattle.std.specs.Result.{result_map_both};
 ghost use Rattle.mp_text.specs.declared.text_code.TextCode.TheVariants.{OutOfMemory, Refused};
+ghost use Rattle.mp_netlist.specs.Limits.{max_horizon};
 ghost use Rattle.mp_netlist.specs.Edits.{after};
 ghost use Rattle.mp_netlist.specs.Circuit.{empty_circuit};
 ghost use Rattle.mp_words.specs.Reads.{Gives};
@@ -12,11 +13,12 @@ ghost use Rattle.mp_text.specs.Texts.{after_statement, after_line};
 use crate::edit_word::EditWord;
 use crate::stated_edit::stated_edit;
 use crate::text_code::TextCode;
-use mp_netlist::{Edit, EditError, Netlist, NewError};
+use mp_netlist::{Edit, EditError, MAX_HORIZON, Netlist, NewError};
 use mp_words::{LineError, line_words, number_word};
 use std::alloc::Global;
 
-/// Makes of the netlist so far what a line says. It is lent, since who owns it lets it go at each place where a fault is told.
+/// Makes of the netlist so far what a line says. It is lent, since who owns it lets it go at each
+/// place where a fault is told.
 #[tactic(auto, unfolding(crate::specs::Texts::after_line))]
 pub fn line(alloc: Global, state: &mut Option<Netlist>, line: &[u8]) -> Result<(), TextCode>
     ensures { Gives OutOfMemory (λ _. state.new) result (after_line state.old line.now) }
@@ -58,7 +60,7 @@ fn start(alloc: Global, state: &mut Option<Netlist>, words: &[&[u8]]) -> Result<
 }
 
 fn empty_netlist(alloc: Global, horizon: u64) -> Result<Netlist, TextCode>
-    requires { (1 ≤ horizon) × (horizon ≤ 65536) }
+    requires { (1 ≤ horizon) × (horizon ≤ max_horizon) }
     ensures empty { IfOk result (λ netlist. netlist ≡ empty_circuit horizon) }
     ensures memory { IfErr result (λ code. code ≡ OutOfMemory) }
 {
@@ -73,7 +75,7 @@ fn empty_netlist(alloc: Global, horizon: u64) -> Result<Netlist, TextCode>
 #[tactic(auto, unfolding(crate::specs::Statements::stated_horizon))]
 fn horizon(words: &[&[u8]]) -> Result<u64, LineError>
     ensures said { result ≡ stated_horizon (texts words.now) }
-    ensures range { IfOk result (λ horizon. (1 ≤ horizon) × (horizon ≤ 65536)) }
+    ensures range { IfOk result (λ horizon. (1 ≤ horizon) × (horizon ≤ max_horizon)) }
 {
     match words {
         [word] => horizon_word(word),
@@ -81,14 +83,14 @@ fn horizon(words: &[&[u8]]) -> Result<u64, LineError>
     }
 }
 
-/// A word as a number of units from 1 to 65,536.
+/// A word as a number of units that a netlist may run for.
 #[tactic(auto, unfolding(crate::specs::Statements::horizon_word))]
 fn horizon_word(word: &[u8]) -> Result<u64, LineError>
     ensures said { result ≡ horizon_word word.now }
-    ensures range { IfOk result (λ horizon. (1 ≤ horizon) × (horizon ≤ 65536)) }
+    ensures range { IfOk result (λ horizon. (1 ≤ horizon) × (horizon ≤ max_horizon)) }
 {
     let horizon = number_word(word)?;
-    if horizon < 1 || horizon > 65_536 {
+    if horizon < 1 || horizon > MAX_HORIZON {
         return Err(LineError::BadNumber);
     }
     Ok(horizon)

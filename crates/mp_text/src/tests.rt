@@ -1,48 +1,17 @@
-use crate::{TextCode, read_netlist};
-use mp_netlist::{EditError, ModuleId, Output, WireId};
+use crate::{Line, TextCode, TextError, read_line, read_netlist, write_netlist};
+use mp_netlist::{Driver, Edit, EditError, ModuleId, Netlist, WireId};
+use std::alloc::Global;
+use std::process::Abort;
 use std::test::Fail;
 
-#[test]
-fn code_numbers_and_names(rt: HostRuntime) {
-    let codes = [
-        TextCode::NotAscii,
-        TextCode::UnknownStatement,
-        TextCode::WordCount,
-        TextCode::BadNumber,
-        TextCode::NoHorizon,
-        TextCode::SecondHorizon,
-        TextCode::Refused(EditError::StillUsed),
-        TextCode::TooLong,
-        TextCode::OutOfMemory,
-    ];
-    let names = [
-        "NotAscii",
-        "UnknownStatement",
-        "WordCount",
-        "BadNumber",
-        "NoHorizon",
-        "SecondHorizon",
-        "Refused",
-        "TooLong",
-        "OutOfMemory",
-    ];
-    let mut number = 0u32;
-    for (code, name) in codes.iter().zip(names.iter()) {
-        number = number.wrapping_add(1);
-        assert_eq!(rt; code.number(), number);
-        assert_eq!(rt; code.name(), *name);
-    }
-}
-
 /// What is wrong with the text.
-fn fault_of(rt: &HostRuntime, text: &[u8]) -> Option<(u32, TextCode)> {
-    let error = read_netlist(rt.alloc(), text).err()?;
-    Some((error.line, error.code))
+fn fault_of(alloc: Global, text: &[u8]) -> Option<TextError> {
+    read_netlist(alloc, text).err()
 }
 
 #[test]
 fn bad_texts(rt: HostRuntime) {
-    let texts: [(&[u8], u32, TextCode); 9] = [
+    let texts: [(&[u8], u32, TextCode); 5] = [
         (
             b"horizon 20\nwire a 1 0\nwire y 1 0\nmodule b BUF : a >",
             4,
@@ -52,77 +21,60 @@ fn bad_texts(rt: HostRuntime) {
         (b"wire a 1 0", 1, TextCode::NoHorizon),
         (b"", 0, TextCode::NoHorizon),
         (b"horizon 0", 1, TextCode::BadNumber),
-        (b"horizon 20 # \xc8", 1, TextCode::NotAscii),
-        (b"\n # none\n\r\t\n", 3, TextCode::NoHorizon),
-        (b"horizon 000000000000000000020", 1, TextCode::BadNumber),
-        (b"flip 1\nwire \xc8", 1, TextCode::UnknownStatement),
     ];
     for (text, line, code) in texts {
-        assert_eq!(rt; fault_of(&rt, text), Some((line, code)), "{line}: {code}");
+        assert_eq!(rt; fault_of(rt.alloc(), text), Some(TextError { line, code }));
     }
 }
 
-#[test]
-fn bad_third_lines(rt: HostRuntime) -> Result<(), Fail> {
-    let lines: [(&str, TextCode); 12] = [
-        ("wire a 1 0", TextCode::Refused(EditError::NameTaken)),
-        ("wire b 65 0", TextCode::Refused(EditError::BadWidth)),
-        ("wire b 64 18446744073709551616", TextCode::BadNumber),
-        ("wire b 1", TextCode::WordCount),
-        ("module m FOO : a > -", TextCode::UnknownStatement),
-        ("module m BUF a > -", TextCode::WordCount),
-        ("module m BUF : a > a/x", TextCode::BadNumber),
-        ("module m BUF : a > a", TextCode::BadNumber),
-        ("module m BUF : a > /3", TextCode::BadNumber),
-        ("stim a 2", TextCode::BadNumber),
-        ("stim - 2=1", TextCode::Refused(EditError::NoSuchWire)),
-        ("horizon", TextCode::SecondHorizon),
-    ];
-    for (line, code) in lines {
-        let text = format!(in rt.alloc(); "horizon 20\nwire a 1 0\n{line}")?;
-        assert_eq!(rt; fault_of(&rt, text.as_bytes()), Some((3, code)), "{line}");
-    }
+const TWO_STAGE_CONTROL: &str =
+    "horizon 20\nwire r 1 0\nwire ack 1 0\nwire q1 1 0\nwire q2 1 0\nmodule c1 C 0 0 1 : r q2 > q1/2\nmodule c2 C 0 0 1 : q1 ack > q2/2\nstim r 1=1 4=0\nstim ack 10=1\n";
+
+/// Who reads and who drives the wires, and how fast the control of two stages is at least. The
+/// netlist is lent, so that it isn't let go at each place where the test ends.
+fn answers_queries(rt: &impl Abort, netlist: &Netlist) -> Result<(), Fail> {
+    let readers = netlist.readers_of(WireId(3))?;
+    assert!(rt; readers.as_slice() == [(ModuleId(0), 1)].as_slice());
+    assert_eq!(rt; netlist.driver_of(WireId(3)), Driver::Port(ModuleId(1), 0));
+    assert_eq!(rt; netlist.driver_of(WireId(0)), Driver::Stimulus);
+    assert_eq!(rt; netlist.least_delay(), 2);
+    Ok(())
+}
+
+/// The netlist is written as this text.
+fn is_written(rt: &impl Abort, alloc: Global, netlist: &Netlist, text: &str) -> Result<(), Fail> {
+    let written = write_netlist(alloc, netlist)?;
+    assert!(rt; written.as_slice() == text.as_bytes());
     Ok(())
 }
 
 #[test]
-fn longest_text(rt: HostRuntime) -> Result<(), Fail> {
-    let mut text = vec![in rt.alloc(); b'#'; 4_194_304]?;
-    assert_eq!(rt;
-        fault_of(&rt, text.as_slice()),
-        Some((1, TextCode::NoHorizon))
-    );
-    text.push(b'#')?;
-    assert_eq!(rt;
-        fault_of(&rt, text.as_slice()),
-        Some((0, TextCode::TooLong))
-    );
-    Ok(())
+fn netlist_queries(rt: HostRuntime) -> Result<(), Fail> {
+    let netlist = read_netlist(rt.alloc(), TWO_STAGE_CONTROL.as_bytes())?;
+    is_written(&rt, rt.alloc(), &netlist, TWO_STAGE_CONTROL)?;
+    answers_queries(&rt, &netlist)
+}
+
+/// The port and the delay that a line sets.
+fn delay_set(alloc: Global, line: &[u8]) -> Option<(u64, u64)> {
+    match read_line(alloc, line).ok()? {
+        Line::Change(Edit::SetDelay { port, delay, .. }) => Some((port, delay)),
+        _ => None,
+    }
 }
 
 #[test]
-fn records(rt: HostRuntime) -> Result<(), Fail> {
-    let text =
-        b"horizon 020\nwire a 1 0\r\n\nwire y 1 0#level\nmodule c C 0 0 1 : a a > -/7\nmodule b BUF : a > y/3\nstim a 2=1 5=0\n";
-    let netlist = read_netlist(rt.alloc(), text.as_slice())?;
-    assert_eq!(rt; netlist.horizon(), 20);
-    assert_eq!(rt; netlist.wire_named("y"), Some(WireId(1)));
-    let a = netlist.wire(WireId(0)).ok_or("a")?;
-    let stimulus = a.stimulus.as_ref().ok_or("stimulus")?;
-    assert!(rt; stimulus.as_slice() == [(2, 1), (5, 0)].as_slice());
-    let c = netlist.module(ModuleId(0)).ok_or("c")?;
-    assert!(rt; c.params.as_slice() == [0, 0, 1].as_slice());
-    assert!(rt; c.inputs.as_slice() == [WireId(0), WireId(0)].as_slice());
-    let loose = Output {
-        wire: None,
-        delay: 7,
+fn a_line_of_a_script(rt: HostRuntime) {
+    assert_eq!(rt; delay_set(rt.alloc(), b"delay b 00 7#"), Some((0, 7)));
+}
+
+#[test]
+fn faults_in_words(rt: HostRuntime) -> Result<(), Fail> {
+    let refused = TextError {
+        line: 3,
+        code: TextCode::Refused(EditError::StillUsed),
     };
-    assert!(rt; c.outputs.as_slice() == [loose].as_slice());
-    let b = netlist.module(ModuleId(1)).ok_or("b")?;
-    let driven = Output {
-        wire: Some(WireId(1)),
-        delay: 3,
-    };
-    assert!(rt; b.outputs.as_slice() == [driven].as_slice());
+    let text = format!(in rt.alloc(); "{refused}")?;
+    assert!(rt; text.as_str() == "line 3: refused: the wire is still used");
     Ok(())
 }

@@ -6,8 +6,7 @@ use thiserror::Error;
 #[derive(Clone, Copy, Debug, PartialEq, Eq, Error)]
 #[error("line {line}: {code}")]
 pub struct TextError {
-    /// The line, counted from 1. It is 0 where the whole text is too long, where the text is
-    /// empty, and where memory is wanting before the first line.
+    /// The line, counted from 1. It is 0 where the whole text is too long, and where it is empty.
     pub line: u32,
     /// What is wrong with the line.
     pub code: TextCode,

@@ -2,6 +2,7 @@
 ghost use Rattle.std.specs.Prelude.{◌≡◌, ◌≤◌, ◌++◌, IfOk, OnOk, Some, length, map};
 ghost use Rattle.std.specs.List.{flat_map};
 ghost use Rattle.mp_netlist.specs.Circuit.{IsCircuit, wire_at, module_at, bundle_at};
+ghost use Rattle.mp_text.specs.Limits.{max_text};
 ghost use Rattle.mp_text.specs.RoundTrips.{IsReadAs};
 ghost use Rattle.mp_text.specs.Written.{written, horizon_line, wire_line, module_line, stimulus_line, bundle_line};
 
@@ -11,11 +12,11 @@ use std::alloc::{AllocError, Global};
 
 /// The text of a netlist: its horizon, then its wires, modules, stimuli (by wire) and bundles, each
 /// by number and only those that stand, with single spaces, and a line feed after each line. Numbers
-/// have no leading zeros, and every output has its delay. Where the text is not over 4,194,304 bytes, it
-/// is read as a netlist with the same records, if perhaps under other numbers.
+/// have no leading zeros, and every output has its delay. Where the text is not over 4,194,304 bytes,
+/// it is read as a netlist with the same records, if perhaps under other numbers.
 pub fn write_netlist(alloc: Global, netlist: &Netlist) -> Result<Vec<u8>, AllocError>
     ensures text { IfOk result (λ text. text.items ≡ written netlist.now) }
-    ensures read { IfOk result (λ text. length text.items ≤ 4194304 → IsReadAs text.items netlist.now) }
+    ensures read { IfOk result (λ text. length text.items ≤ max_text → IsReadAs text.items netlist.now) }
 {
     written(alloc, netlist)
 }

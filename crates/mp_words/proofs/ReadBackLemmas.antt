@@ -1,10 +1,10 @@
 -- Words that are written are read again.
-use Rattle.std.proofs.Common.{◌≡◌, ℕ, ◌^◌, ◌<◌, Bool, true, false, not, ◌==◌, ◌&&◌, List, [], ◌∷◌, ◌++◌, length, map, All, Some, None, Result, Ok, decimal, refl, ap, arith}
+use Rattle.std.proofs.Common.{◌≡◌, ℕ, ◌^◌, ◌<◌, Bool, true, false, not, ◌==◌, ◌&&◌, ◌||◌, List, [], ◌∷◌, ◌++◌, length, map, All, Some, None, Result, Ok, decimal, refl, ap, arith}
 use Rattle.std.specs.Prelude.{codes, nat_le}
 use Rattle.std.specs.Option.{ok_or}
 use Rattle.std.specs.Char.{is_ascii_digit, is_ascii_alphabetic}
 use Rattle.std.specs.Str.{bytes_eq}
-use Rattle.std.specs.List.{list_all}
+use Rattle.std.specs.List.{list_all, list_any}
 use Rattle.std.proofs.lemmas.Bool.Decides.{nat_tests}
 use Rattle.std.proofs.lemmas.List.Elements.{All-head, All-tail}
 use Rattle.std.proofs.Math.Seq.{take-append_seam, drop-append-add}
@@ -12,7 +12,7 @@ use Rattle.mp_records.specs.Names.{is_name, is_name_byte, begins_with_letter}
 use Rattle.mp_words.specs.declared.line_error.LineError.{LineError}
 use Rattle.mp_words.specs.declared.line_error.LineError.TheVariants.{BadNumber}
 use Rattle.mp_words.specs.Numbers.{time_and_value, parts_at_equals, is_slash, parts_at_slash, name_and_number}
-use Rattle.mp_words.specs.WordLists.{number_word, change_word, output_word, each_word}
+use Rattle.mp_words.specs.WordLists.{number_word, change_word, input_word, output_word, each_word}
 use Rattle.mp_words.specs.WaveLines.{pair_text}
 use Rattle.mp_words.proofs.DecimalLemmas.{spelled_number-decimal, decimal_digits}
 use Rattle.mp_words.proofs.DividedLemmas.{position-append, before_last-append, after_last-append}
@@ -106,3 +106,40 @@ wire_back name delay valid some fits =
     let pair = name_and_number-back name delay some fits in
     let dash = name_not_dash name valid in
     rw (word, pair) (rw dash refl)
+
+-- a byte of a name is no slash
+name_byte_no_slash : (b : ℕ) → is_name_byte b ≡ true → is_slash b ≡ false
+name_byte_no_slash b name = grind (arith, nat_tests)
+
+no_slash : (name : List ℕ) → list_all is_name_byte name ≡ true → list_any is_slash name ≡ false
+no_slash [] all = refl
+no_slash (b ∷ bs) all =
+    let parts = both (is_name_byte b) (list_all is_name_byte bs) all in
+    let here = name_byte_no_slash b parts.0 in
+    let rest = no_slash bs parts.1 in
+    rw (here, rest) refl
+
+name_no_slash : (name : List ℕ) → is_name name ≡ true → list_any is_slash name ≡ false
+unfolding is_name
+name_no_slash name valid = no_slash name (both (begins_with_letter name && nat_le (length name) 32) (list_all is_name_byte name) valid).1
+
+slash_within : (name ds : List ℕ) → list_any is_slash (name ++ 47 ∷ ds) ≡ true
+slash_within [] ds = refl
+slash_within (b ∷ bs) ds = by (is_slash b) (slash_within bs ds)
+  where
+    by : (t : Bool) {u : Bool} → u ≡ true → (t || u) ≡ true
+    by true some = refl
+    by false some = some
+
+-- an input without a delay
+pub input_back : (name : List ℕ) → is_name name ≡ true → input_word name ≡ Ok (record { wire = name; delay = 0 })
+unfolding input_word
+input_back name valid = let none = name_no_slash name valid in rw none refl
+
+-- an input with one
+pub late_input_back : (name : List ℕ) (delay : ℕ) → 0 < length name → delay < 2 ^ 64 → input_word (name ++ (47 ∷ decimal delay)) ≡ Ok (record { wire = name; delay = delay })
+unfolding input_word
+late_input_back name delay some fits =
+    let slash = slash_within name (decimal delay) in
+    let pair = name_and_number-back name delay some fits in
+    rw (slash, pair) refl

@@ -1,3 +1,4 @@
+pub mod Limits
 pub mod LineErrors
 pub mod Words
 pub mod Lines

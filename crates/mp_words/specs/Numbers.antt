@@ -3,6 +3,7 @@ use Rattle.std.specs.Prelude.{ℕ, ◌+◌, ◌-◌, ◌*◌, ◌^◌, Bool, ◌
 use Rattle.std.specs.Char.{is_ascii_digit}
 use Rattle.std.specs.List.{before_last, after_last}
 use Rattle.std.specs.Str.{byte}
+use Rattle.mp_words.specs.Limits.{max_digits}
 
 -- the number that the digits spell behind those of n, where it is below 2 ^ 64
 unfoldable pub number_from : ℕ → List ℕ → Option ℕ
@@ -11,7 +12,7 @@ number_from n (b ∷ bytes) = if is_ascii_digit b then number_from (n * 10 + (b 
 
 -- the number that 1 to 20 digits spell, where it is below 2 ^ 64
 unfoldable pub spelled_number : List ℕ → Option ℕ
-spelled_number word = if nat_le 1 (length word) && nat_le (length word) 20 then number_from 0 word else None
+spelled_number word = if nat_le 1 (length word) && nat_le (length word) max_digits then number_from 0 word else None
 
 -- what stands before and behind the first `=`
 unfoldable pub parts_at_equals : List ℕ → Option (List ℕ × List ℕ)

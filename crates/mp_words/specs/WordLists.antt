@@ -1,11 +1,13 @@
 -- What words say, alone and in turn.
 use Rattle.std.specs.Prelude.{ℕ, List, [], ◌∷◌, Option, Some, None, Result, Ok, if◌then◌else◌, codes, option_map}
 use Rattle.std.specs.Option.{ok_or}
+use Rattle.std.specs.List.{list_any}
 use Rattle.std.specs.Str.{bytes_eq}
+use Rattle.mp_records.specs.declared.port_names.InputName.{InputName}
 use Rattle.mp_records.specs.declared.port_names.OutputName.{OutputName}
 use Rattle.mp_words.specs.declared.line_error.LineError.{LineError}
 use Rattle.mp_words.specs.declared.line_error.LineError.TheVariants.{BadNumber}
-use Rattle.mp_words.specs.Numbers.{spelled_number, time_and_value, name_and_number}
+use Rattle.mp_words.specs.Numbers.{spelled_number, time_and_value, is_slash, name_and_number}
 use Rattle.mp_words.specs.Reads.{◌>>=◌}
 
 abbrev pub number_word : List ℕ → Result ℕ LineError
@@ -13,6 +15,15 @@ number_word word = ok_or (spelled_number word) BadNumber
 
 abbrev pub change_word : List ℕ → Result (ℕ × ℕ) LineError
 change_word word = ok_or (time_and_value word) BadNumber
+
+abbrev pub input_from : List ℕ × ℕ → InputName
+input_from pair = record { wire = pair.0; delay = pair.1 }
+
+-- an input, as `a`, or with its delay, as `a/4`
+unfoldable pub input_word : List ℕ → Result InputName LineError
+input_word word =
+    if list_any is_slash word then ok_or (option_map input_from (name_and_number word)) BadNumber
+    else Ok (input_from (word, 0))
 
 -- the wire that is named, where `-` names none
 abbrev pub wire_or_none : List ℕ → Option (List ℕ)

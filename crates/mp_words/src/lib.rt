@@ -16,4 +16,4 @@ pub use line::{first_line, line_words};
 pub use line_error::LineError;
 pub use wave_line::{push_changes, push_number, push_wave_line};
 pub use word::name_of;
-pub use word_list::{changes, names, number_word, numbers, outputs, wire_or_none};
+pub use word_list::{changes, inputs, number_word, numbers, outputs, wire_or_none};

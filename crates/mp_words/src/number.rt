@@ -5,12 +5,15 @@ ghost use Rattle.mp_words.specs.Numbers.{number_from, spelled_number, parts_at_e
 
 use crate::word::place_of;
 
+/// How many digits a number may have.
+const MAX_DIGITS: usize = 20;
+
 /// The number that 1 to 20 decimal digits spell, where it is below 2^64.
 #[tactic(auto, unfolding(crate::specs::Numbers::spelled_number))]
 pub fn number(word: &[u8]) -> Option<u64>
     ensures { result ≡ spelled_number word.now }
 {
-    if word.is_empty() || word.len() > 20 {
+    if word.is_empty() || word.len() > MAX_DIGITS {
         return None;
     }
     digits(word)

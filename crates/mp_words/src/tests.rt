@@ -1,6 +1,4 @@
-use crate::{
-    LineError, changes, divided, first_line, line_words, names, numbers, outputs, push_wave_line,
-};
+use crate::{changes, divided, inputs, line_words, numbers, outputs, push_wave_line};
 use std::test::Fail;
 
 #[test]
@@ -10,32 +8,6 @@ fn wave_line(rt: HostRuntime) -> Result<(), Fail> {
     push_wave_line(&mut text, "a", 0, [].as_slice())?;
     assert!(rt; text.as_slice() == b"y 0 5=1 8=0\na 0\n".as_slice());
     Ok(())
-}
-
-#[test]
-fn error_numbers_and_names(rt: HostRuntime) {
-    let errors = [
-        (LineError::NotAscii, 1, "NotAscii"),
-        (LineError::UnknownStatement, 2, "UnknownStatement"),
-        (LineError::WordCount, 3, "WordCount"),
-        (LineError::BadNumber, 4, "BadNumber"),
-        (LineError::OutOfMemory, 9, "OutOfMemory"),
-    ];
-    for (error, number, name) in errors {
-        assert_eq!(rt; error.number(), number);
-        assert_eq!(rt; error.name(), name);
-    }
-}
-
-#[test]
-fn first_lines(rt: HostRuntime) {
-    let (line, rest) = first_line(b"wire a\n\nwaves");
-    assert!(rt; line == b"wire a".as_slice());
-    let (line, rest) = first_line(rest);
-    assert!(rt; line.is_empty());
-    let (line, rest) = first_line(rest);
-    assert!(rt; line == b"waves".as_slice());
-    assert!(rt; rest.is_empty());
 }
 
 #[test]
@@ -67,10 +39,12 @@ fn read_words(rt: HostRuntime) -> Result<(), Fail> {
     let words: [&[u8]; 2] = [b"5=1", b"0=00"];
     let read = changes(rt.alloc(), words.as_slice())?;
     assert!(rt; read.as_slice() == [(5, 1), (0, 0)].as_slice());
-    let words: [&[u8]; 2] = [b"y", b"-"];
-    let read = names(rt.alloc(), words.as_slice())?;
+    let words: [&[u8]; 2] = [b"y", b"a/b/20"];
+    let read = inputs(rt.alloc(), words.as_slice())?;
     assert_eq!(rt; read.len(), 2);
-    assert_eq!(rt; read[0].as_str(), "y");
+    assert_eq!(rt; read[0].delay, 0);
+    assert_eq!(rt; read[1].wire.as_str(), "a/b");
+    assert_eq!(rt; read[1].delay, 20);
     Ok(())
 }
 
@@ -78,10 +52,9 @@ fn read_words(rt: HostRuntime) -> Result<(), Fail> {
 fn read_outputs(rt: HostRuntime) -> Result<(), Fail> {
     let words: [&[u8]; 3] = [b"y/3", b"-", b"a/b/20"];
     let read = outputs(rt.alloc(), words.as_slice())?;
-    let mut delays = Vec::new(rt.alloc());
-    for output in read.iter() {
-        delays.push(output.delay)?;
-    }
-    assert!(rt; delays.as_slice() == [3, 1, 20].as_slice());
+    assert_eq!(rt; read.len(), 3);
+    assert_eq!(rt; read[0].delay, 3);
+    assert_eq!(rt; read[1].delay, 1);
+    assert_eq!(rt; read[2].delay, 20);
     Ok(())
 }

@@ -1,5 +1,5 @@
 //! Lines of waves.
-ghost use Rattle.std.specs.Prelude.{◌≡◌, ◌≤◌, ◌∷◌, [], ◌++◌, drop, OnOk};
+ghost use Rattle.std.specs.Prelude.{◌≡◌, ◌≤◌, ◌∷◌, [], ◌++◌, drop, take, vec_len, OnOk, OnErr};
 ghost use Rattle.std.specs.Fmt.{decimal};
 ghost use Rattle.mp_words.specs.WaveLines.{change_text, changes_text, wave_line};
 
@@ -10,14 +10,33 @@ use std::alloc::AllocError;
 const MOST_BYTES: usize = 32;
 
 /// Puts a wire's line behind the text: its name, its first level, ` T=V` for each change, and a
-/// line feed. Where memory is wanting, a part of the line may stand behind the text.
+/// line feed. Where memory is wanting, the text stays as it was.
 pub fn push_wave_line(
     text: &mut Vec<u8>,
     name: &str,
     initial: u64,
     changes: &[(u32, u64)],
 ) -> Result<(), AllocError>
-    ensures { OnOk result (text.new.items ≡ text.old.items ++ wave_line name.now initial changes.now) }
+    ensures ok { OnOk result (text.new.items ≡ text.old.items ++ wave_line name.now initial changes.now) }
+    ensures err { OnErr result (text.new.items ≡ text.old.items) }
+{
+    let start = text.len();
+    let pushed = push_line_parts(text, name, initial, changes);
+    if pushed.is_err() {
+        text.truncate(start);
+    }
+    pushed
+}
+
+/// The same, but a part of the line may stand behind the text where memory is wanting.
+fn push_line_parts(
+    text: &mut Vec<u8>,
+    name: &str,
+    initial: u64,
+    changes: &[(u32, u64)],
+) -> Result<(), AllocError>
+    ensures ok { OnOk result (text.new.items ≡ text.old.items ++ wave_line name.now initial changes.now) }
+    ensures front { OnErr result (take (vec_len text.old) text.new.items ≡ text.old.items) }
 {
     text.extend_from_slice(name.as_bytes())?;
     text.push(b' ')?;
@@ -27,19 +46,24 @@ pub fn push_wave_line(
     Ok(())
 }
 
-/// Puts ` T=V` behind the text for each change. Where memory is wanting, a part of this may stand
-/// behind the text.
+/// Puts ` T=V` behind the text for each change. Where memory is wanting, the text stays as it was.
 pub fn push_changes(text: &mut Vec<u8>, changes: &[(u32, u64)]) -> Result<(), AllocError>
-    ensures { OnOk result (text.new.items ≡ text.old.items ++ changes_text changes.now) }
+    ensures ok { OnOk result (text.new.items ≡ text.old.items ++ changes_text changes.now) }
+    ensures err { OnErr result (text.new.items ≡ text.old.items) }
 {
+    let start = text.len();
     for &(time, value) in changes {
-        push_change(text, time, value)?;
+        if let Err(error) = push_change(text, time, value) {
+            text.truncate(start);
+            return Err(error);
+        }
     }
     Ok(())
 }
 
 fn push_change(text: &mut Vec<u8>, time: u32, value: u64) -> Result<(), AllocError>
-    ensures { OnOk result (text.new.items ≡ text.old.items ++ change_text (time, value)) }
+    ensures ok { OnOk result (text.new.items ≡ text.old.items ++ change_text (time, value)) }
+    ensures err { OnErr result (text.new.items ≡ text.old.items) }
 {
     let mut bytes = [0; MOST_BYTES];
     let start = write_change(time, value, &mut bytes);
@@ -58,9 +82,11 @@ fn write_change(time: u32, value: u64, bytes: &mut [u8; MOST_BYTES]) -> usize
     time_start - 1
 }
 
-/// Puts the number in decimal digits behind the text. The error comes where memory is wanting.
+/// Puts the number in decimal digits behind the text. Where memory is wanting, the text stays as
+/// it was.
 pub fn push_number(text: &mut Vec<u8>, number: u64) -> Result<(), AllocError>
-    ensures { OnOk result (text.new.items ≡ text.old.items ++ decimal number) }
+    ensures ok { OnOk result (text.new.items ≡ text.old.items ++ decimal number) }
+    ensures err { OnErr result (text.new.items ≡ text.old.items) }
 {
     let mut buffer = Buffer::new();
     text.extend_from_slice(buffer.format(number).as_bytes())

@@ -3,12 +3,14 @@ ghost use Rattle.std.specs.Prelude.{◌≡◌, IfOk, IsAscii};
 ghost use Rattle.mp_words.specs.declared.line_error.LineError.TheVariants.{OutOfMemory};
 ghost use Rattle.mp_words.specs.Reads.{Gives};
 ghost use Rattle.mp_words.specs.Words.{texts, AreAscii};
-ghost use Rattle.mp_words.specs.WordLists.{number_word, change_word, wire_or_none, output_word, each_word};
+ghost use Rattle.std.specs.List.{list_any};
+ghost use Rattle.mp_words.specs.Numbers.{is_slash};
+ghost use Rattle.mp_words.specs.WordLists.{number_word, change_word, input_word, wire_or_none, output_word, each_word};
 
 use crate::line_error::LineError;
 use crate::number::{name_and_number, number, time_and_value};
 use crate::word::name_of;
-use mp_records::{Name, OutputName};
+use mp_records::{InputName, Name, OutputName};
 use std::alloc::{AllocError, Global};
 
 /// The number below 2^64 that a word of 1 to 20 digits spells, and `BadNumber` for any other word.
@@ -22,6 +24,33 @@ fn change_word(word: &[u8]) -> Result<(u64, u64), LineError>
     ensures { result ≡ change_word word.now }
 {
     time_and_value(word).ok_or(LineError::BadNumber)
+}
+
+/// An input, as in `a`, or with its delay, as in `a/4`.
+#[tactic(auto, unfolding(crate::specs::WordLists::input_word))]
+fn input_word(alloc: Global, word: &[u8]) -> Result<InputName, LineError>
+    requires { IsAscii word.now }
+    ensures { Gives OutOfMemory (λ input. input) result (input_word word.now) }
+{
+    if !has_slash(word) {
+        return Ok(InputName {
+            wire: name_of(alloc, word)?,
+            delay: 0,
+        });
+    }
+    let Some((name, delay)) = name_and_number(word) else {
+        return Err(LineError::BadNumber);
+    };
+    Ok(InputName {
+        wire: name_of(alloc, name)?,
+        delay,
+    })
+}
+
+fn has_slash(word: &[u8]) -> bool
+    ensures { result ≡ list_any is_slash word.now }
+{
+    word.iter().any(|byte| *byte == b'/')
 }
 
 /// The wire that is named, where `-` names none. The error comes where memory is wanting.
@@ -96,15 +125,16 @@ pub fn outputs(alloc: Global, words: &[&[u8]]) -> Result<Vec<OutputName>, LineEr
     Ok(outputs)
 }
 
-/// The words as names, in order. The error comes where memory is wanting.
-pub fn names(alloc: Global, words: &[&[u8]]) -> Result<Vec<Name>, AllocError>
+/// The words as inputs, as in `a`, or with their delays, as in `a/4`, in order. `BadNumber` comes
+/// where a word with a `/` is none, and `OutOfMemory` where memory is wanting.
+pub fn inputs(alloc: Global, words: &[&[u8]]) -> Result<Vec<InputName>, LineError>
     requires { AreAscii words.now }
-    ensures { IfOk result (λ names. names.items ≡ texts words.now) }
+    ensures { Gives OutOfMemory (λ inputs. inputs.items) result (each_word input_word (texts words.now)) }
 {
-    let mut names = Vec::new(alloc);
+    let mut inputs = Vec::new(alloc);
     for word in words {
-        let name = name_of(alloc, word)?;
-        names.push(name)?;
+        let input = input_word(alloc, word)?;
+        inputs.push(input)?;
     }
-    Ok(names)
+    Ok(inputs)
 }

@@ -1,6 +1,6 @@
 //! What an edit does to a netlist.
 ghost use Rattle.std.specs.Prelude.{◌≡◌, ◌<◌, None, option_map, slice_index_or, slice_set, vec_len};
-ghost use Rattle.mp_records.specs.PortChanges.{with_input, with_output, with_delay};
+ghost use Rattle.mp_records.specs.PortChanges.{with_input, with_input_delay, with_output, with_delay};
 ghost use Rattle.mp_netlist.specs.Edits.{with_stimulus, without_stimulus};
 
 use crate::netlist::Netlist;
@@ -13,9 +13,9 @@ use std::alloc::AllocError;
 
 impl Netlist {
     ghost use Rattle.std.specs.Prelude.{◌≡◌, ◌<◌, [], ◌∷◌, ◌++◌, Ok, None, Some, length, IfOk, IfErr, OnOk, OnErr, option_map, string_bytes};
-    ghost use Rattle.mp_records.specs.PortChanges.{with_input, with_output, with_delay};
+    ghost use Rattle.mp_records.specs.PortChanges.{with_input, with_input_delay, with_output, with_delay};
     ghost use Rattle.mp_netlist.specs.Circuit.{IsCircuit, wire_at, module_at, wire_named, module_named, bundle_named};
-    ghost use Rattle.mp_netlist.specs.Edits.{after, RefusedBy, wire_refusal, wire_removal_refusal, module_refusal, module_removal_refusal, bundle_refusal, bundle_removal_refusal, input_refusal, output_refusal, delay_refusal, stimulus_refusal, clearing_refusal, with_wire_record, with_new_wire, new_module, with_new_module, new_bundle, with_new_bundle, with_bundle, with_stimulus, without_stimulus, with_wire, with_module, wire_id, module_id, bundle_id};
+    ghost use Rattle.mp_netlist.specs.Edits.{after, RefusedBy, wire_refusal, wire_removal_refusal, module_refusal, module_removal_refusal, bundle_refusal, bundle_removal_refusal, input_refusal, output_refusal, input_delay_refusal, delay_refusal, stimulus_refusal, clearing_refusal, with_wire_record, with_new_wire, new_module, with_new_module, new_bundle, with_new_bundle, with_bundle, with_stimulus, without_stimulus, with_wire, with_module, wire_id, module_id, bundle_id};
 
     #[tactic(auto, unfolding(crate::specs::Edits::edited, crate::specs::Edits::refusal))]
     /// Makes the edit, or says which check fails first. A refusal leaves the netlist as it was.
@@ -46,6 +46,11 @@ impl Netlist {
             Edit::RemoveBundle { bundle } => self.remove_bundle(bundle),
             Edit::RewireInput { module, port, wire } => self.rewire_input(module, *port, wire),
             Edit::RewireOutput { module, port, wire } => self.rewire_output(module, *port, wire),
+            Edit::SetInputDelay {
+                module,
+                port,
+                delay,
+            } => self.set_input_delay(module, *port, *delay),
             Edit::SetDelay {
                 module,
                 port,
@@ -210,6 +215,20 @@ impl Netlist {
         redirect_port(&mut self.modules, id.0 as usize, port as usize, driven);
     }
 
+    fn set_input_delay(&mut self, name: &Name, port: u64, delay: u64)
+        requires { input_delay_refusal self.old name.now port delay ≡ None }
+        ensures { self.new ≡ with_module self.old (module_id self.old name.now).0
+            (option_map (with_input_delay port delay) (module_at self.old (module_id self.old name.now).0)) }
+    {
+        let id = self.module_id(name);
+        delay_input(
+            &mut self.modules,
+            id.0 as usize,
+            port as usize,
+            delay as u32,
+        );
+    }
+
     fn set_delay(&mut self, name: &Name, port: u64, delay: u64)
         requires { delay_refusal self.old name.now port delay ≡ None }
         ensures { self.new ≡ with_module self.old (module_id self.old name.now).0
@@ -254,7 +273,7 @@ fn clear<T: Drop>(slots: &mut Vec<Option<T>>, number: usize)
     slots[number] = None;
 }
 
-/// Sets the wire of an input port of the module of this number, where it stands.
+/// Sets the wire of an input port of the module of this number, where it stands. The port keeps its delay.
 fn rewire_port(modules: &mut Vec<Option<ModuleRecord>>, number: usize, port: usize, wire: WireId)
     requires { number < vec_len modules.old }
     ensures { modules.new.items ≡ slice_set modules.old.items number
@@ -281,7 +300,18 @@ fn redirect_port(
     }
 }
 
-/// Sets the delay of a port of the module of this number, where it stands.
+/// Sets the delay of an input port of the module of this number, where it stands.
+fn delay_input(modules: &mut Vec<Option<ModuleRecord>>, number: usize, port: usize, delay: u32)
+    requires { number < vec_len modules.old }
+    ensures { modules.new.items ≡ slice_set modules.old.items number
+        (option_map (with_input_delay port delay) (slice_index_or modules.old.items number None)) }
+{
+    if let Some(found) = &mut modules[number] {
+        found.set_input_delay(port, delay);
+    }
+}
+
+/// Sets the delay of an output port of the module of this number, where it stands.
 fn delay_port(modules: &mut Vec<Option<ModuleRecord>>, number: usize, port: usize, delay: u32)
     requires { number < vec_len modules.old }
     ensures { modules.new.items ≡ slice_set modules.old.items number

@@ -2,8 +2,9 @@
 ghost use Rattle.std.specs.Prelude.{◌≡◌, ◌==◌, ◌&&◌, length};
 ghost use Rattle.std.specs.List.{list_all};
 ghost use Rattle.mp_modules.specs.Kinds.{input_count, output_count};
+ghost use Rattle.mp_records.specs.declared.port_names.InputName.{InputName};
 ghost use Rattle.mp_records.specs.declared.port_names.OutputName.{OutputName};
-ghost use Rattle.mp_netlist.specs.Edits.{is_delay};
+ghost use Rattle.mp_netlist.specs.Edits.{delays_fit, is_input_delay, is_delay};
 
 use crate::driver::Driver;
 use crate::netlist::{MAX_BUNDLES, MAX_DELAY, MAX_MODULES, MAX_SETUP, MAX_WIRES, Netlist};
@@ -13,7 +14,7 @@ use mp_records::{Changes, Edit, EditError, InputNames, Name, OutputNames, Params
 impl Netlist {
     ghost use Rattle.std.specs.Prelude.{◌≡◌};
     ghost use Rattle.std.specs.Result.{result_err};
-    ghost use Rattle.mp_netlist.specs.Edits.{refusal, wire_refusal, wire_removal_refusal, module_refusal, module_removal_refusal, bundle_refusal, bundle_removal_refusal, input_refusal, output_refusal, delay_refusal, stimulus_refusal, clearing_refusal};
+    ghost use Rattle.mp_netlist.specs.Edits.{refusal, wire_refusal, wire_removal_refusal, module_refusal, module_removal_refusal, bundle_refusal, bundle_removal_refusal, input_refusal, output_refusal, input_delay_refusal, delay_refusal, stimulus_refusal, clearing_refusal};
 
     #[tactic(auto, unfolding(crate::specs::Edits::refusal))]
     /// The first check that the edit fails, in the order of its kind, where it is not want of memory.
@@ -41,6 +42,11 @@ impl Netlist {
             Edit::RemoveBundle { bundle } => self.check_bundle_removal(bundle),
             Edit::RewireInput { module, port, wire } => self.check_input(module, *port, wire),
             Edit::RewireOutput { module, port, wire } => self.check_output(module, *port, wire),
+            Edit::SetInputDelay {
+                module,
+                port,
+                delay,
+            } => self.check_input_delay(module, *port, *delay),
             Edit::SetDelay {
                 module,
                 port,
@@ -113,7 +119,7 @@ impl Netlist {
         if !kind.accepts(width, params.as_slice()) {
             return Err(EditError::BadParam);
         }
-        if !are_delays(outputs) {
+        if !delays_fit(inputs, outputs) {
             return Err(EditError::BadDelay);
         }
         if !self.outputs_are_free(outputs) {
@@ -213,6 +219,21 @@ impl Netlist {
         Ok(())
     }
 
+    fn check_input_delay(&self, name: &Name, port: u64, delay: u64) -> Result<(), EditError>
+        ensures { result_err result ≡ input_delay_refusal self.now name.now port delay }
+    {
+        if !self.module_stands(name) {
+            return Err(EditError::NoSuchModule);
+        }
+        if port >= self.input_ports(name) {
+            return Err(EditError::BadPort);
+        }
+        if delay > MAX_DELAY {
+            return Err(EditError::BadDelay);
+        }
+        Ok(())
+    }
+
     fn check_delay(&self, name: &Name, port: u64, delay: u64) -> Result<(), EditError>
         ensures { result_err result ≡ delay_refusal self.now name.now port delay }
     {
@@ -264,7 +285,21 @@ fn has_ports(kind: Kind, inputs: &InputNames, outputs: &OutputNames) -> bool
     inputs.as_slice().len() == kind.inputs() && outputs.as_slice().len() == kind.outputs()
 }
 
-/// Whether each output has a delay that a port may have.
+/// Whether each port has a delay that it may have.
+fn delays_fit(inputs: &InputNames, outputs: &OutputNames) -> bool
+    ensures { result ≡ delays_fit inputs.now outputs.now }
+{
+    are_input_delays(inputs) && are_delays(outputs)
+}
+
+/// Whether each input has a delay that an input may have.
+fn are_input_delays(inputs: &InputNames) -> bool
+    ensures { result ≡ list_all (λ (port : InputName). is_input_delay port.delay) inputs.now }
+{
+    inputs.as_slice().iter().all(|port| port.delay <= MAX_DELAY)
+}
+
+/// Whether each output has a delay that an output may have.
 fn are_delays(outputs: &OutputNames) -> bool
     ensures { result ≡ list_all (λ (port : OutputName). is_delay port.delay) outputs.now }
 {

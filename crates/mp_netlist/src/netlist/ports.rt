@@ -9,14 +9,15 @@ use crate::driver::Driver;
 use crate::netlist::Netlist;
 use mp_modules::Kind;
 use mp_records::{
-    InputNames, Inputs, ModuleId, Name, Output, OutputName, OutputNames, Outputs, WireId,
+    Input, InputName, InputNames, Inputs, ModuleId, Name, Output, OutputName, OutputNames, Outputs,
+    WireId,
 };
 use std::alloc::AllocError;
 
 impl Netlist {
     ghost use Rattle.std.specs.Prelude.{◌≡◌, ◌&&◌, is_some, map, option_map, IfOk, IsTrue};
     ghost use Rattle.std.specs.List.{list_all};
-    ghost use Rattle.mp_netlist.specs.Edits.{are_distinct, is_delay, output_of, stands, wire_id, width_named, is_undriven, driven_names, new_width, inputs_fit, output_fits, outputs_fit, output_stands, output_is_free};
+    ghost use Rattle.mp_netlist.specs.Edits.{are_distinct, is_input_delay, is_delay, input_of, output_of, inputs_stand, stands, wire_id, width_named, is_undriven, driven_names, new_width, inputs_fit, output_fits, outputs_fit, output_stands, output_is_free};
 
     /// Whether a wire of the name stands.
     pub(crate) fn stands(&self, name: &Name) -> bool
@@ -95,11 +96,11 @@ impl Netlist {
         }
     }
 
-    /// Whether a wire of each name stands.
-    fn inputs_stand(&self, inputs: &[Name]) -> bool
-        ensures { result ≡ list_all (stands self.now) inputs.now }
+    /// Whether each wire that is to be read stands.
+    fn inputs_stand(&self, inputs: &[InputName]) -> bool
+        ensures { result ≡ inputs_stand self.now inputs.now }
     {
-        inputs.iter().all(|name| self.stands(name))
+        inputs.iter().all(|port| self.stands(&port.wire))
     }
 
     /// Whether the wires that the outputs name stand.
@@ -138,17 +139,17 @@ impl Netlist {
             return 1;
         }
         match inputs.as_slice() {
-            [first, ..] => self.width_of(first),
+            [first, ..] => self.width_of(&first.wire),
             [] => 0,
         }
     }
 
     /// Whether each wire that is to be read has the width of its port.
-    fn inputs_fit(&self, kind: Kind, width: u32, inputs: &[Name]) -> bool
+    fn inputs_fit(&self, kind: Kind, width: u32, inputs: &[InputName]) -> bool
         ensures { result ≡ inputs_fit self.now kind width inputs.now }
     {
-        for (port, name) in inputs.iter().enumerate() {
-            if self.width_of(name) != kind.input_width(width, port) {
+        for (port, input) in inputs.iter().enumerate() {
+            if self.width_of(&input.wire) != kind.input_width(width, port) {
                 return false;
             }
         }
@@ -171,7 +172,7 @@ impl Netlist {
 
     /// Whether the wires that the ports name stand.
     pub(crate) fn ports_stand(&self, inputs: &InputNames, outputs: &OutputNames) -> bool
-        ensures { result ≡ (list_all (stands self.now) inputs.now && list_all (stands self.now) (driven_names outputs.now)) }
+        ensures { result ≡ (inputs_stand self.now inputs.now && list_all (stands self.now) (driven_names outputs.now)) }
     {
         self.inputs_stand(inputs.as_slice()) && self.outputs_stand(outputs.as_slice())
     }
@@ -197,15 +198,19 @@ impl Netlist {
         self.outputs_are_undriven(outputs.as_slice()) && are_distinct(outputs.as_slice())
     }
 
-    /// The numbers of the wires that the inputs name.
+    /// The input ports, at the wires that the inputs name.
     pub(crate) fn inputs_of(&self, inputs: &InputNames) -> Result<Inputs, AllocError>
-        ensures { IfOk result (λ wires. wires ≡ map (wire_id self.now) inputs.now) }
+        requires { IsTrue (list_all (λ i. is_input_delay i.delay) inputs.now) }
+        ensures { IfOk result (λ ports. ports ≡ map (input_of self.now) inputs.now) }
     {
-        let mut wires = Vec::new(*self.modules.allocator());
-        for name in inputs.as_slice() {
-            wires.push(self.id_of(name))?;
+        let mut ports = Vec::new(*self.modules.allocator());
+        for port in inputs.as_slice() {
+            ports.push(Input {
+                wire: self.id_of(&port.wire),
+                delay: port.delay as u32,
+            })?;
         }
-        Ok(Inputs::new(wires))
+        Ok(Inputs::new(ports))
     }
 
     /// The output ports, at the wires that the outputs name.

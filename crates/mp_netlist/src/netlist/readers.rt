@@ -5,7 +5,7 @@ ghost use Rattle.mp_netlist.specs.Readers.{ports_at, readers_in};
 ghost use Rattle.mp_netlist.specs.DriverSearch.{HasFewInputs};
 
 use crate::netlist::Netlist;
-use mp_records::{ModuleId, ModuleRecord, WireId};
+use mp_records::{Input, ModuleId, ModuleRecord, WireId};
 use std::alloc::AllocError;
 
 impl Netlist {
@@ -45,14 +45,14 @@ fn push_readers(
 fn push_ports(
     found: &mut Vec<(ModuleId, u32)>,
     id: ModuleId,
-    inputs: &[WireId],
+    inputs: &[Input],
     wire: WireId,
 ) -> Result<(), AllocError>
     requires { length inputs.now < 2 ^ 32 }
     ensures { OnOk result (found.new.items ≡ found.old.items ++ ports_at wire.0 id.0 (enumerate_from 0 inputs.now)) }
 {
     for (port, read) in inputs.iter().enumerate() {
-        if read.0 == wire.0 {
+        if read.wire.0 == wire.0 {
             found.push((id, port as u32))?;
         }
     }

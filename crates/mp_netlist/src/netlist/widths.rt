@@ -1,8 +1,9 @@
 //! The width of a module.
-ghost use Rattle.std.specs.Prelude.{◌≡◌, slice_index_or};
+ghost use Rattle.std.specs.Prelude.{◌≡◌};
+ghost use Rattle.mp_records.specs.Inputs.{input_in};
 
 use crate::netlist::Netlist;
-use mp_records::{ModuleRecord, WireId};
+use mp_records::{Input, ModuleRecord, WireId};
 
 impl Netlist {
     ghost use Rattle.std.specs.Prelude.{◌≡◌};
@@ -23,11 +24,11 @@ impl Netlist {
     }
 }
 
-fn first_wire(wires: &[WireId]) -> WireId
-    ensures { result ≡ slice_index_or wires.now 0 (record { 0 = 0 }) }
+fn first_wire(inputs: &[Input]) -> WireId
+    ensures { result ≡ (input_in inputs.now 0).wire }
 {
-    match wires {
-        [first, ..] => *first,
+    match inputs {
+        [first, ..] => first.wire,
         [] => WireId(0),
     }
 }

@@ -71,6 +71,14 @@ fn delay(alloc: Global, text: &str, port: u64, delay: u64) -> Result<Edit, Alloc
     })
 }
 
+fn input_delay(alloc: Global, text: &str, port: u64, delay: u64) -> Result<Edit, AllocError> {
+    Ok(Edit::SetInputDelay {
+        module: name(alloc, text)?,
+        port,
+        delay,
+    })
+}
+
 fn clear(alloc: Global, wire: &str) -> Result<Edit, AllocError> {
     Ok(Edit::ClearStimulus {
         wire: name(alloc, wire)?,
@@ -90,6 +98,15 @@ fn refuses_delays(rt: &impl Abort, alloc: Global, net: &mut Netlist) -> Result<(
     refuses(rt, net, delay(alloc, "m", 1, 0), EditError::BadPort)?;
     refuses(rt, net, delay(alloc, "m", 0, 0), EditError::BadDelay)?;
     refuses(rt, net, delay(alloc, "m", 0, 65_536), EditError::BadDelay)
+}
+
+fn refuses_input_delays(rt: &impl Abort, alloc: Global, net: &mut Netlist) -> Result<(), Fail> {
+    let none = EditError::NoSuchModule;
+    refuses(rt, net, input_delay(alloc, "a", 1, 65_536), none)?;
+    let port = EditError::BadPort;
+    refuses(rt, net, input_delay(alloc, "m", 1, 65_536), port)?;
+    let long = EditError::BadDelay;
+    refuses(rt, net, input_delay(alloc, "m", 0, 65_536), long)
 }
 
 fn refuses_inputs(rt: &impl Abort, alloc: Global, net: &mut Netlist) -> Result<(), Fail> {
@@ -279,6 +296,7 @@ fn fills_bundles(rt: &impl Abort, alloc: Global, net: &mut Netlist) -> Result<()
 fn tries_refusals(rt: &impl Abort, alloc: Global, net: &mut Netlist) -> Result<(), Fail> {
     refuses_removals(rt, alloc, net)?;
     refuses_delays(rt, alloc, net)?;
+    refuses_input_delays(rt, alloc, net)?;
     refuses_inputs(rt, alloc, net)?;
     refuses_outputs(rt, alloc, net)?;
     refuses_stimuli(rt, alloc, net)

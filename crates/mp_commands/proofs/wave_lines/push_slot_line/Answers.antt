@@ -9,5 +9,5 @@ returns-in_default-wave_at c =
 
 pub returns : goal.returns
 returns c =
-    rw (c.in_ok-push_wave_line.ensures, c.as_str.ensures, c.initial.ensures.value, c.changes.ensures.value)
+    rw (c.in_ok-push_wave_line.ensures.ok, c.as_str.ensures, c.initial.ensures.value, c.changes.ensures.value)
     (ap (λ line. c.args.text.now.items ++ line) (line_of_wave c.args.netlist.now c.args.id.0 c.args.waves.now c.in-Some.wire.now c.in-Some-wave_at.wave.now c.requires c.in-Some.ensures.value c.in-Some-wave_at.ensures))

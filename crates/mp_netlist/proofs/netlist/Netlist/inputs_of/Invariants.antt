@@ -1,7 +1,7 @@
 use Rattle.std.proofs.Common.{◌≡◌, map, take}
-use Rattle.mp_netlist.specs.Edits.{wire_id}
+use Rattle.mp_netlist.specs.Edits.{input_of}
 use Rattle.mp_netlist.proofs.netlist.Netlist.inputs_of.Given as goal
 
--- the wires so far
-abbrev pub invariant-loop-name : goal.invariant-loop-name
-invariant-loop-name l = l.wires.items ≡ map (wire_id l.self) (take l.name-index l.name-items)
+-- the ports so far
+abbrev pub invariant-loop-port : goal.invariant-loop-port
+invariant-loop-port l = l.ports.items ≡ map (input_of l.self) (take l.port-index l.port-items)
