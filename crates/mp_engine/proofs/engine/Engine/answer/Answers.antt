@@ -22,6 +22,7 @@ returns c =
         cells = cells;
         mark_places = marks;
         listed = λ m is. let not = none m in let no : ⊥ = cc in absurd no;
+        late = before.late;
         some = let some = before.some in omega (arith, places, some);
         room = λ m p r at. let room = before.room m p r at in omega (arith, places, room);
         calendar = calendar;

@@ -3,6 +3,9 @@ use Rattle.std.specs.Prelude.{All}
 use Rattle.std.proofs.lemmas.List.{get_or_read, length_push, length-drop}
 use Rattle.mp_engine.specs.declared.entry.Entry.{Entry}
 use Rattle.mp_engine.specs.declared.cell.Cell.{Cell}
+use Rattle.std.specs.List.{Contains}
+use Rattle.mp_model.proofs.SlotLemmas.{slot_within}
+use Rattle.mp_engine.proofs.CellLemmas.{AreLateMarked}
 use Rattle.mp_engine.specs.Calendars.{IsExact, IsCalendar}
 use Rattle.mp_engine.specs.Histories.{IsHistory}
 use Rattle.mp_engine.specs.Lines.{AreTurning}
@@ -56,8 +59,11 @@ returns c =
     let done = c.in_ok-turn_wires.ensures in
     let next = back t c.requires.later in
     let states = states_after n s (s + 1) self refl c.requires.before in
-    let half = halfway n c.requires.form s t lists c.turn_wires.new.levels.items c.turn_wires.new.waves.items self.cells.items c.turn_wires.new.marks.items
-    next (calendar_after n s self c.requires.before) done.wires states in
+    let added = c.in_ok-mark_all.ensures in
+    let late : AreLateMarked n c.mark_all.new.marks.items
+    = λ m r at is. added.told m (let low = slot_within n.modules m r at in let places = done.marks in omega (arith, low, places)) (subst (λ xs. Contains xs (record { 0 = m })) (sym c.as_slice-late.ensures.value) (ready.late m r at is)) in
+    let half = halfway n c.requires.form s t lists c.turn_wires.new.levels.items c.turn_wires.new.waves.items self.cells.items c.turn_wires.new.marks.items c.mark_all.new.marks.items
+    next (calendar_after n s self c.requires.before) done.wires states added.kept late in
     let turned : c.push_back.new.self.items ≡ drop 1 lists ++ [] ∷ []
     = c.in_ok-push_back.ensures.items ∙ ap (λ (xs : List (List Entry)). xs ++ c.clear-2.new.self ∷ []) c.in-Some.ensures.rest ∙ ap (λ (x : List Entry). drop 1 lists ++ x ∷ []) c.clear-2.ensures in
     let size : length c.push_back.new.self.items ≡ length lists
@@ -67,11 +73,12 @@ returns c =
       readers = ready.readers;
       wires = half.wires;
       cells = half.states;
-      mark_places = done.marks;
-      listed = done.listed;
+      mark_places = added.places ∙ done.marks;
+      listed = added.listed done.listed;
+      late = ready.late;
       some = let some = ready.some in omega (arith, size, some);
       room = λ m p r at. let room = ready.room m p r at in omega (arith, size, room);
-      calendar = subst (IsCalendar n (delivered t c.turn_wires.new.marks.items) t) (sym turned) half.entered;
+      calendar = subst (IsCalendar n (delivered t c.mark_all.new.marks.items) t) (sym turned) half.entered;
       settings = subst (AreSettings n t) (sym c.in_ok-take.ensures.left) (settings_next n s t (left_of self.settings) next ready.settings);
       history = subst (λ (cells : List Cell). IsHistory n (t + 1) cells c.pass.new.self) c.as_slice.ensures.value c.in_ok-pass.ensures;
     }
