@@ -3,7 +3,7 @@ use Rattle.std.proofs.Common.{◌≡◌, ℕ, ◌<◌, ◌≤◌, ◌⊎◌, inl
 use Rattle.std.specs.Io.KnownBytes.{Appends}
 use Rattle.std.proofs.lemmas.Bool.{cases_lt, lt-leb, le-leb}
 use Rattle.std.proofs.lemmas.List.{append-nil, take_all, length-take-le}
-use Rattle.mp_model.specs.StreamBytes.{AppendsPrefix}
+use Rattle.mp_streams.specs.StreamBytes.{AppendsPrefix}
 use Rattle.mp_text.specs.declared.text_code.TextCode.TheVariants as texts
 use Rattle.mp_words.specs.Lines.{lines_of}
 use Rattle.mp_text.specs.Texts.{text_at, after_lines}
@@ -11,13 +11,14 @@ use Rattle.mp_words.specs.Divisions.{first_part, later_parts}
 use Rattle.mp_commands.specs.declared.options.Options.{Options}
 use Rattle.mp_commands.specs.declared.run_fault.RunFault.{RunFault}
 use Rattle.mp_commands.specs.declared.run_fault.RunFault.TheVariants.{WriteFailed, OutOfMemory}
+use Rattle.mp_commands.specs.Limits.{max_input, max_taken}
 use Rattle.mp_commands.specs.OptionLimits.{has_valid_crew}
 use Rattle.mp_commands.specs.Outputs.{output_of}
 use Rattle.mp_commands.specs.Keepers.{Kept, opened}
 use Rattle.mp_commands.specs.Replies.{reply, kept_next}
 use Rattle.mp_commands.specs.Plays.{replies, first_netlist, script_text, play_output, Played, PlayedScript, Opens}
-use Rattle.mp_commands.specs.Runs.{Wrote}
-use Rattle.mp_commands.proofs.RunLemmas.{part_of, prefix_of}
+use Rattle.mp_commands.specs.Runs.{HasInput, Wrote}
+use Rattle.mp_commands.proofs.RunLemmas.{for_input, part_of, prefix_of}
 
 -- ---- the replies so far
 
@@ -67,18 +68,18 @@ module _ (first now : Kept) (lines : List (List ℕ)) (done : List ℕ) (old new
 
 -- ---- the input
 
-pub first_netlist-long : (input : List ℕ) → 4194304 < length input → first_netlist input ≡ Err (record { line = 0; code = texts.TooLong })
+pub first_netlist-long : (input : List ℕ) → max_input < length input → first_netlist input ≡ Err (record { line = 0; code = texts.TooLong })
 unfolding first_netlist
-first_netlist-long input long = rw (lt-leb (length input) 4194304 long) refl
+first_netlist-long input long = rw (lt-leb (length input) max_input long) refl
 
 -- the netlist of the first part as a text
-pub first_netlist-of : (input front : List ℕ) → length input ≤ 4194304 → length front ≤ length input → lines_of front ≡ first_part (lines_of input) → first_netlist input ≡ text_at front
+pub first_netlist-of : (input front : List ℕ) → length input ≤ max_input → length front ≤ length input → lines_of front ≡ first_part (lines_of input) → first_netlist input ≡ text_at front
 unfolding first_netlist text_at
 first_netlist-of input front within short same =
-    rw (le-leb (length input) 4194304 within, le-leb (length front) 4194304 (omega arith)) (ap (λ lines. after_lines 0 None lines) (sym same))
+    rw (le-leb (length input) max_input within, le-leb (length front) max_input (omega arith)) (ap (λ lines. after_lines 0 None lines) (sym same))
 
 -- one byte more than an input may have is enough to read
-play_output-take : (limit : ℕ) (input : List ℕ) (wants : List Bool) (options : Options) → limit ≡ 4194305 → play_output wants (take limit input) options ≡ play_output wants input options
+play_output-take : (limit : ℕ) (input : List ℕ) (wants : List Bool) (options : Options) → limit ≡ max_taken → play_output wants (take limit input) options ≡ play_output wants input options
 play_output-take limit input wants options same = by (cases_lt (length input) limit)
   where
     by : (length input < limit) ⊎ (limit ≤ length input) → play_output wants (take limit input) options ≡ play_output wants input options
@@ -88,13 +89,12 @@ play_output-take limit input wants options same = by (cases_lt (length input) li
         ap (λ read. output_of (script_text wants (take limit input)) read (has_valid_crew options)) (first_netlist-long (take limit input) (omega arith))
         ∙ sym (ap (λ read. output_of (script_text wants input) read (has_valid_crew options)) (first_netlist-long input (omega arith)))
 
+-- the replies for the bytes that were read are those for the whole input
 pub for_play : (result : Result (Unit {0}) RunFault) (left : Option (List ℕ)) (text : List ℕ) (options : Options) (limit : ℕ) (old new : Option (List ℕ))
-    → IfSome left (λ bytes. text ≡ take limit bytes) → limit ≡ 4194305 → Played result text options old new → IfSome left (λ input. Played result input options old new)
-for_play result None text options limit old new front same played = tt
-for_play result (Some input) text options limit old new front same played =
-    let output : play_output played.0 text options ≡ play_output played.0 input options =
-    ap (λ t. play_output played.0 t options) front ∙ play_output-take limit input played.0 options same in
-    (played.0, subst (λ o. Wrote result o old new) output played.1)
+    → IfSome left (λ bytes. text ≡ take limit bytes) → length text ≤ limit → limit ≡ max_taken → Played result text options old new → HasInput left (λ input. Played result input options old new)
+for_play result left text options limit old new front within same =
+    for_input (λ input. Played result input options old new) left text limit front within same
+    (λ input played. (played.0, subst (λ o. Wrote result o old new) (play_output-take limit input played.0 options same) played.1))
 
 -- a script behind a netlist
 pub played_script : (result : Result (Unit {0}) RunFault) (input : List ℕ) (options : Options) (kept : Kept) (script : List ℕ) (old new : Option (List ℕ))

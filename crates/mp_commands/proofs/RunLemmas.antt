@@ -1,12 +1,14 @@
 -- The ends of a run.
-use Rattle.std.proofs.Common.{◌≡◌, ℕ, ◌+◌, ◌<◌, ◌≤◌, ◌⊎◌, inl, inr, Bool, true, false, IfSome, IfErr, List, ◌++◌, take, length, length-append, Option, Some, None, Result, Ok, Err, refl, sym, ap, subst, ◌∙◌, true≢false, arith}
+use Rattle.std.proofs.Common.{◌≡◌, ℕ, ◌+◌, ◌<◌, ◌≤◌, ◌⊎◌, inl, inr, Bool, true, false, IfSome, IfErr, List, [], ◌++◌, take, length, length-append, Option, Some, None, Result, Ok, Err, refl, sym, ap, subst, ◌∙◌, true≢false, arith}
 use Rattle.std.specs.Io.KnownBytes.{Appends}
 use Rattle.std.proofs.lemmas.Bool.{cases_lt, lt-leb}
 use Rattle.std.proofs.lemmas.List.{take_all, length-take-le, take-append-le}
 use Rattle.std.proofs.Math.Seq.{take-append_seam, take-append-add}
 use Rattle.std.proofs.KnownBytes.{Appends-nil, Appends-trans, Keeps-refl}
 use Rattle.mp_netlist.specs.Circuit.{Circuit}
-use Rattle.mp_model.specs.StreamBytes.{AppendsPrefix}
+use Rattle.mp_streams.specs.StreamBytes.{AppendsPrefix}
+use Rattle.mp_streams.specs.declared.take_error.TakeError.{TakeError}
+use Rattle.mp_streams.specs.declared.take_error.TakeError.TheVariants as takes
 use Rattle.mp_text.specs.declared.text_code.TextCode.{TextCode}
 use Rattle.mp_text.specs.declared.text_code.TextCode.TheVariants as texts
 use Rattle.mp_text.specs.declared.text_error.TextError.{TextError}
@@ -14,18 +16,19 @@ use Rattle.mp_text.specs.Texts.{text_at}
 use Rattle.mp_commands.specs.declared.options.Options.{Options}
 use Rattle.mp_commands.specs.declared.run_fault.RunFault.{RunFault}
 use Rattle.mp_commands.specs.declared.run_fault.RunFault.TheVariants.{Text, BadCount, ReadFailed, WriteFailed, OutOfMemory, NoPlace}
+use Rattle.mp_commands.specs.Limits.{max_input, max_taken}
 use Rattle.mp_commands.specs.OptionLimits.{has_valid_crew}
 use Rattle.mp_commands.specs.Outputs.{output_of, waves_text, waves_output}
-use Rattle.mp_commands.specs.RunFaults.{fault_of_text, fault_at, counted_reads}
-use Rattle.mp_commands.specs.Runs.{Wrote, AppendsPart, Refuses, comes_first}
+use Rattle.mp_commands.specs.RunFaults.{fault_of_text, fault_at, fault_of_take, counted_reads}
+use Rattle.mp_commands.specs.Runs.{HasInput, Wrote, AppendsPart, Refuses, comes_first}
 
 -- ---- one byte more than a text may have is enough to read
 
-text_at-long : (text : List ℕ) → 4194304 < length text → text_at text ≡ Err (record { line = 0; code = texts.TooLong })
+text_at-long : (text : List ℕ) → max_input < length text → text_at text ≡ Err (record { line = 0; code = texts.TooLong })
 unfolding text_at
-text_at-long text long = rw (lt-leb (length text) 4194304 long) refl
+text_at-long text long = rw (lt-leb (length text) max_input long) refl
 
-text_at-take : (limit : ℕ) (input : List ℕ) → limit ≡ 4194305 → text_at (take limit input) ≡ text_at input
+text_at-take : (limit : ℕ) (input : List ℕ) → limit ≡ max_taken → text_at (take limit input) ≡ text_at input
 text_at-take limit input same = by (cases_lt (length input) limit)
   where
     by : (length input < limit) ⊎ (limit ≤ length input) → text_at (take limit input) ≡ text_at input
@@ -34,13 +37,27 @@ text_at-take limit input same = by (cases_lt (length input) limit)
         let cut : length (take limit input) ≡ limit = length-take-le limit input more in
         text_at-long (take limit input) (omega arith) ∙ sym (text_at-long input (omega arith))
 
--- what holds of the output of the bytes that were read holds of that of the whole input
-pub for_input : (P : Result (List ℕ) RunFault → Type 0) (left : Option (List ℕ)) (text : List ℕ) (options : Options) (limit : ℕ)
-    → IfSome left (λ bytes. text ≡ take limit bytes) → limit ≡ 4194305 → P (waves_output text options) → IfSome left (λ input. P (waves_output input options))
-for_input P None text options limit front same holds = tt
-for_input P (Some input) text options limit front same holds =
-    let read : text_at text ≡ text_at input = ap text_at front ∙ text_at-take limit input same in
-    subst P (ap (λ t. output_of waves_text t (has_valid_crew options)) read) holds
+waves_output-take : (limit : ℕ) (input : List ℕ) (options : Options) → limit ≡ max_taken → waves_output (take limit input) options ≡ waves_output input options
+waves_output-take limit input options same = ap (λ t. output_of waves_text t (has_valid_crew options)) (text_at-take limit input same)
+
+-- what holds of the bytes that were read, and so of the whole input, holds of an input of the source
+pub for_input : (Holds : List ℕ → Type 0) (left : Option (List ℕ)) (text : List ℕ) (limit : ℕ) → IfSome left (λ bytes. text ≡ take limit bytes) → length text ≤ limit → limit ≡ max_taken
+    → ((input : List ℕ) → Holds (take limit input) → Holds input) → Holds text → HasInput left Holds
+for_input Holds None text limit front within same whole holds = (text, subst (λ n. length text ≤ n) same within, holds)
+for_input Holds (Some input) text limit front within same whole holds = (input, refl, whole input (subst Holds front holds))
+
+-- what holds of each input holds of one of the source
+pub any_input : (Holds : List ℕ → Type 0) (left : Option (List ℕ)) → ((input : List ℕ) → Holds input) → HasInput left Holds
+any_input Holds None holds = ([], omega arith, holds [])
+any_input Holds (Some input) holds = (input, refl, holds input)
+
+-- the lines for the bytes that were read are those for the whole input
+pub for_waves : {T : Type 0} (r : Result T RunFault) (left : Option (List ℕ)) (text : List ℕ) (options : Options) (limit : ℕ) (old new : Option (List ℕ))
+    → IfSome left (λ bytes. text ≡ take limit bytes) → length text ≤ limit → limit ≡ max_taken
+    → Wrote r (waves_output text options) old new → HasInput left (λ input. Wrote r (waves_output input options) old new)
+for_waves r left text options limit old new front within same =
+    for_input (λ input. Wrote r (waves_output input options) old new) left text limit front within same
+    (λ input. subst (λ o. Wrote r o old new) (waves_output-take limit input options same))
 
 -- ---- parts of what is written
 
@@ -76,6 +93,15 @@ refused_by T NoPlace output known h = absurd h
 pub Wrote-refused : {T : Type 0} (r : Result T RunFault) (fault : RunFault) (output : Result (List ℕ) RunFault) (known : Option (List ℕ))
     → r ≡ Err fault → Refuses output fault → Wrote r output known known
 Wrote-refused {T} r fault output known e h = subst (λ x. Wrote x output known known) (sym e) (refused_by T fault output known h)
+
+-- a source that is not read
+pub unread_source : {T : Type 0} (r : Result T RunFault) (error : TakeError) (output : Result (List ℕ) RunFault) (known : Option (List ℕ))
+    → r ≡ Err (fault_of_take error) → Wrote r output known known
+unread_source {T} r error output known e = subst (λ x. Wrote x output known known) (sym e) (by error)
+  where
+    by : (error : TakeError) → Wrote {T = T} (Err (fault_of_take error)) output known known
+    by takes.Failed = Keeps-refl known
+    by takes.OutOfMemory = (0, Appends-nil known)
 
 -- a netlist that is not read is the run's fault
 pub refused_read : (written : Circuit → List ℕ) (read : Result Circuit TextError) (valid : Bool) (error : TextError)

@@ -5,6 +5,7 @@ use Rattle.mp_records.specs.declared.edit_error.EditError.{EditError}
 use Rattle.mp_records.specs.declared.edit_error.EditError.TheVariants.{HistoryFull}
 use Rattle.mp_netlist.specs.Circuit.{Circuit}
 use Rattle.mp_netlist.specs.Edits.{after}
+use Rattle.mp_commands.specs.Limits.{max_edits}
 
 -- a netlist, and how many edits led to it
 pub record Kept : Type 0 where
@@ -15,10 +16,10 @@ pub record Kept : Type 0 where
 abbrev pub opened : Circuit → Kept
 opened n = record { netlist = n; accepted = 0 }
 
--- one more edit is accepted, where there are fewer than 4,096
+-- one more edit is accepted, where there are fewer than a script may have
 abbrev pub counted_edit : ℕ → Result Circuit EditError → Result Kept EditError
 counted_edit accepted (Err error) = Err error
-counted_edit accepted (Ok n) = if nat_lt accepted 4096 then Ok (record { netlist = n; accepted = accepted + 1 }) else Err HistoryFull
+counted_edit accepted (Ok n) = if nat_lt accepted max_edits then Ok (record { netlist = n; accepted = accepted + 1 }) else Err HistoryFull
 
 -- what is kept after an edit, or why the edit is refused
 abbrev pub kept_after : Kept → Edit → Result Kept EditError

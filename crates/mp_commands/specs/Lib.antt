@@ -1,3 +1,4 @@
+pub mod Limits
 pub mod OptionLimits
 pub mod RunFaults
 pub mod Outputs

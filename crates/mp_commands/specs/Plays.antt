@@ -8,6 +8,7 @@ use Rattle.mp_text.specs.Texts.{after_lines}
 use Rattle.mp_words.specs.Divisions.{first_part, later_parts}
 use Rattle.mp_commands.specs.declared.options.Options.{Options}
 use Rattle.mp_commands.specs.declared.run_fault.RunFault.{RunFault}
+use Rattle.mp_commands.specs.Limits.{max_input}
 use Rattle.mp_commands.specs.OptionLimits.{has_valid_crew}
 use Rattle.mp_commands.specs.Outputs.{output_of}
 use Rattle.mp_commands.specs.Keepers.{Kept, opened}
@@ -29,10 +30,10 @@ replies wants kept [] = []
 replies wants kept (line ∷ lines) =
     reply (is_wanting wants) kept line ++ replies (later_wants wants) (kept_next (is_wanting wants) kept line) lines
 
--- the netlist of an input's first part: the whole input may have 4,194,304 bytes
+-- the netlist of an input's first part: the limit is that of the whole input
 unfoldable pub first_netlist : List ℕ → Result Circuit TextError
 first_netlist input =
-    if nat_le (length input) 4194304 then after_lines 0 None (first_part (lines_of input))
+    if nat_le (length input) max_input then after_lines 0 None (first_part (lines_of input))
     else Err (record { line = 0; code = TooLong })
 
 -- the replies to the script behind the netlist

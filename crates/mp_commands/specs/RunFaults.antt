@@ -2,8 +2,8 @@
 use Rattle.std.specs.Prelude.{ℕ, ◌+◌, List, [], ◌∷◌, ◌++◌, Result, Err, codes, unwrap_or}
 use Rattle.std.specs.Fmt.{decimal}
 use Rattle.mp_records.specs.EditErrors as edits
-use Rattle.mp_model.specs.declared.take_error.TakeError.{TakeError}
-use Rattle.mp_model.specs.declared.take_error.TakeError.TheVariants as takes
+use Rattle.mp_streams.specs.declared.take_error.TakeError.{TakeError}
+use Rattle.mp_streams.specs.declared.take_error.TakeError.TheVariants as takes
 use Rattle.mp_text.specs.declared.text_code.TextCode.{TextCode}
 use Rattle.mp_text.specs.declared.text_code.TextCode.TheVariants as texts
 use Rattle.mp_text.specs.declared.text_error.TextError.{TextError}

@@ -1,10 +1,20 @@
--- What a run leaves in its sink.
-use Rattle.std.specs.Prelude.{◌≡◌, ℕ, Bool, true, false, List, [], take, Option, Result, Ok, Err, IsOkAnd}
+-- What a run takes of its source, and leaves in its sink.
+use Rattle.std.specs.Prelude.{◌≡◌, ℕ, ◌≤◌, length, Some, None, Bool, true, false, List, [], take, Option, Result, Ok, Err, IsOkAnd}
 use Rattle.std.specs.Result.{result_unwrap_or}
 use Rattle.std.specs.Io.KnownBytes.{Appends, Keeps}
-use Rattle.mp_model.specs.StreamBytes.{AppendsPrefix}
+use Rattle.mp_streams.specs.StreamBytes.{AppendsPrefix}
+use Rattle.mp_commands.specs.Limits.{max_taken}
 use Rattle.mp_commands.specs.declared.run_fault.RunFault.{RunFault}
 use Rattle.mp_commands.specs.declared.run_fault.RunFault.TheVariants.{Text, BadCount, ReadFailed, WriteFailed, OutOfMemory, NoPlace}
+
+-- the input of a run: all bytes of its source, where it tells them, and else no more than a run takes
+abbrev pub IsInput : Option (List ℕ) → List ℕ → Type 0
+IsInput (Some bytes) input = input ≡ bytes
+IsInput None input = length input ≤ max_taken
+
+-- a source has an input of which this holds
+abbrev pub HasInput : Option (List ℕ) → (List ℕ → Type 0) → Type 0
+HasInput left Holds = (input : List ℕ) × IsInput left input × Holds input
 
 -- known bytes grew by a part of these from their front
 abbrev pub AppendsPart : Option (List ℕ) → Option (List ℕ) → List ℕ → Type 0

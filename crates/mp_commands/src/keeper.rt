@@ -3,14 +3,12 @@ ghost use Rattle.std.specs.Prelude.{◌≡◌, Ok, IsOk, IfOk, IfErr};
 ghost use Rattle.mp_records.specs.declared.edit_error.EditError.TheVariants.{OutOfMemory};
 ghost use Rattle.mp_netlist.specs.Edits.{after};
 
+use crate::limits::MAX_EDITS;
 use mp_model::plain_waves;
 use mp_netlist::{Edit, EditError, Netlist};
 use mp_wave::Wave;
 use std::alloc::{AllocError, Global};
 use std::marker::Model;
-
-/// How many edits a script may change its netlist by.
-pub const MAX_EDITS: u32 = 4096;
 
 /// A netlist, the waves of its wires, and how many edits led to it.
 #[derive(Drop)]

@@ -2,11 +2,10 @@
 #![tactic(auto)]
 
 mod keeper;
+mod limits;
 mod numbered;
 mod options;
 mod play_command;
-#[cfg(test)]
-mod play_tests;
 mod put_text;
 mod put_waves;
 mod replies;

@@ -1,14 +1,16 @@
 //! How a run is made.
 ghost use Rattle.std.specs.Prelude.{◌≡◌};
 
+use crate::limits::{MAX_LEAST, MAX_WORKERS};
+
 /// The numbers that a run is given. Any number may be asked for.
 #[derive(Clone, Copy, Debug, PartialEq, Eq)]
 pub struct Options {
-    /// How many workers there are.
+    /// How many workers there are. No run calls on them yet.
     pub workers: u32,
-    /// With fewer tasks than these the workers are not called on.
+    /// With fewer tasks than these the workers are not called on. It has no effect yet.
     pub least: u32,
-    /// How many viewers a desk has.
+    /// How many viewers there are. No run looks at them yet.
     pub viewers: u32,
 }
 
@@ -20,6 +22,9 @@ impl Options {
     pub fn has_valid_crew(&self) -> bool
         ensures { result ≡ has_valid_crew self.now }
     {
-        1 <= self.workers && self.workers <= 16 && 1 <= self.least && self.least <= 4096
+        1 <= self.workers
+            && self.workers <= MAX_WORKERS
+            && 1 <= self.least
+            && self.least <= MAX_LEAST
     }
 }

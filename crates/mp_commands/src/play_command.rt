@@ -1,17 +1,19 @@
 //! The command `play`.
-ghost use Rattle.std.specs.Prelude.{◌≡◌, ◌-◌, ◌^◌, ◌<◌, true, false, [], IfOk, IfErr, IfSome};
+ghost use Rattle.std.specs.Prelude.{◌≡◌, ◌-◌, ◌^◌, ◌<◌, true, false, [], IfOk, IfErr};
+ghost use Rattle.mp_streams.specs.StreamBytes.{ConsumesUpTo};
 ghost use Rattle.mp_words.specs.Lines.{lines_of};
+ghost use Rattle.mp_commands.specs.Limits.{max_taken};
 ghost use Rattle.mp_commands.specs.RunFaults.{counted_reads, counted_writes};
-ghost use Rattle.mp_commands.specs.Runs.{Refuses, comes_first};
+ghost use Rattle.mp_commands.specs.Runs.{HasInput, Refuses, comes_first};
 ghost use Rattle.mp_commands.specs.Plays.{Played, PlayedScript, Opens, play_output};
 
 use crate::keeper::Keeper;
+use crate::limits::{MAX_INPUT, MAX_TAKEN};
 use crate::options::Options;
 use crate::put_text::put_text;
 use crate::replies::reply;
 use crate::run_fault::RunFault;
-use crate::waves_command::MAX_INPUT;
-use mp_model::{Sink, Source, take_all};
+use mp_streams::{Sink, Source, take_all};
 use mp_text::{TextCode, TextError, divided, first_line, read_netlist};
 use std::alloc::Global;
 
@@ -27,13 +29,14 @@ pub fn run_play<S: Source, T: Sink>(
 ) -> Result<(), RunFault>
     requires source { S.fault_count source.old < 2 ^ 64 - 1 }
     requires sink { T.fault_count sink.old < 2 ^ 64 - 1 }
-    ensures written { IfSome (S.left source.old)
+    ensures written { HasInput (S.left source.old)
         (λ input. Played result input options.now (T.taken sink.old) (T.taken sink.new)) }
+    ensures taken { ConsumesUpTo max_taken (S.left source.old) (S.left source.new) }
     ensures nothing { IfErr result (λ fault. comes_first fault ≡ true → sink.new ≡ sink.old) }
     ensures read_faults { S.fault_count source.new ≡ counted_reads result (S.fault_count source.old) }
     ensures write_faults { T.fault_count sink.new ≡ counted_writes result (T.fault_count sink.old) }
 {
-    let input = take_all(alloc, source, MAX_INPUT + 1)?;
+    let input = take_all(alloc, source, MAX_TAKEN)?;
     let (mut keeper, script) = opened(alloc, input.as_slice(), options)?;
     play_script(alloc, sink, &mut keeper, script)
 }

@@ -5,7 +5,7 @@ ghost use Rattle.mp_commands.specs.RunFaults.{counted_writes};
 ghost use Rattle.mp_commands.specs.Runs.{Wrote};
 
 use crate::run_fault::RunFault;
-use mp_model::{Failed, Sink, put_all};
+use mp_streams::{Failed, Sink, put_all};
 
 /// Writes the text. `WriteFailed` comes with the first fault of the sink: a part of the text, from its front, is written then.
 pub fn put_text<T: Sink>(sink: &mut T, text: &[u8]) -> Result<(), RunFault>

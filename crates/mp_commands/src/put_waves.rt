@@ -8,8 +8,8 @@ ghost use Rattle.mp_commands.specs.Runs.{Wrote, comes_first};
 use crate::put_text::put_text;
 use crate::run_fault::RunFault;
 use crate::wave_lines::push_slot_line;
-use mp_model::Sink;
 use mp_netlist::{Netlist, WireId};
+use mp_streams::Sink;
 use mp_wave::Wave;
 use std::alloc::Global;
 

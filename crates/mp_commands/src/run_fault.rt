@@ -4,8 +4,8 @@ ghost use Rattle.mp_commands.specs.declared.run_fault.RunFault.TheVariants.{OutO
 ghost use Rattle.mp_commands.specs.RunFaults.{status_of, line_of, text_line, fault_of_text, fault_of_take};
 
 use crate::numbered::push_numbered;
-use mp_model::TakeError;
 use mp_netlist::EditError;
+use mp_streams::TakeError;
 use mp_text::{TextCode, TextError};
 use std::alloc::{AllocError, AllocFailed, Global};
 use thiserror::Error;
@@ -16,7 +16,7 @@ pub enum RunFault {
     /// The netlist's text is not read.
     #[error("{0}")]
     Text(TextError),
-    /// A number of workers, tasks or viewers is out of its limits.
+    /// A number of workers or of tasks is out of its limits.
     #[error("bad count")]
     BadCount,
     /// A read of the input failed.
@@ -28,7 +28,7 @@ pub enum RunFault {
     /// Memory was wanting.
     #[error("out of memory")]
     OutOfMemory,
-    /// A viewer of a desk found no place.
+    /// A viewer found no place. No run ends so yet, since none has viewers.
     #[error("no place")]
     NoPlace,
 }

@@ -1,20 +1,21 @@
 //! The command `waves`.
-ghost use Rattle.std.specs.Prelude.{◌≡◌, ℕ, ◌-◌, ◌^◌, ◌<◌, true, Ok, IfErr, IfSome};
+ghost use Rattle.std.specs.Prelude.{◌≡◌, ℕ, ◌-◌, ◌^◌, ◌<◌, true, Ok, IfErr};
+ghost use Rattle.mp_streams.specs.StreamBytes.{ConsumesUpTo};
+ghost use Rattle.mp_commands.specs.Limits.{max_taken};
 ghost use Rattle.mp_commands.specs.OptionLimits.{has_valid_crew};
 ghost use Rattle.mp_commands.specs.Outputs.{output_of, waves_output, waves_text};
 ghost use Rattle.mp_commands.specs.RunFaults.{counted_reads, counted_writes};
-ghost use Rattle.mp_commands.specs.Runs.{Wrote, comes_first};
+ghost use Rattle.mp_commands.specs.Runs.{HasInput, Wrote, comes_first};
 
+use crate::limits::MAX_TAKEN;
 use crate::options::Options;
 use crate::put_waves::put_waves;
 use crate::run_fault::RunFault;
-use mp_model::{Sink, Source, plain_waves, take_all};
+use mp_model::plain_waves;
 use mp_netlist::Netlist;
+use mp_streams::{Sink, Source, take_all};
 use mp_text::read_netlist;
 use std::alloc::Global;
-
-/// How many bytes an input may have.
-pub const MAX_INPUT: usize = 4_194_304;
 
 /// Reads a netlist's text, all of it first, and writes the wave of each wire that stands, a line
 /// each, by number.
@@ -31,13 +32,14 @@ pub fn run_waves<S: Source, T: Sink>(
 ) -> Result<(), RunFault>
     requires source { S.fault_count source.old < 2 ^ 64 - 1 }
     requires sink { T.fault_count sink.old < 2 ^ 64 - 1 }
-    ensures written { IfSome (S.left source.old)
+    ensures written { HasInput (S.left source.old)
         (λ input. Wrote result (waves_output input options.now) (T.taken sink.old) (T.taken sink.new)) }
+    ensures taken { ConsumesUpTo max_taken (S.left source.old) (S.left source.new) }
     ensures nothing { IfErr result (λ fault. comes_first fault ≡ true → sink.new ≡ sink.old) }
     ensures read_faults { S.fault_count source.new ≡ counted_reads result (S.fault_count source.old) }
     ensures write_faults { T.fault_count sink.new ≡ counted_writes result (T.fault_count sink.old) }
 {
-    let input = take_all(alloc, source, MAX_INPUT + 1)?;
+    let input = take_all(alloc, source, MAX_TAKEN)?;
     let netlist = read_netlist(alloc, input.as_slice())?;
     put_valid_waves(alloc, sink, &netlist, options)
 }

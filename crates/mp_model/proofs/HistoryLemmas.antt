@@ -1,5 +1,5 @@
 -- A level rests on the states before it alone, so a longer history gives the same one.
-use Rattle.std.proofs.Common.{◌≡◌, ℕ, ◌+◌, ◌-◌, ◌<◌, ◌≤◌, cond, List, [], ◌∷◌, ◌++◌, Option, Some, None, length, slice_index_or, nat_lt, zero, suc, refl, ap, sym, ◌∙◌, arith, add-one, inl, inr}
+use Rattle.std.proofs.Common.{◌≡◌, ℕ, ◌+◌, ◌-◌, ◌<◌, ◌≤◌, cond, List, [], ◌∷◌, ◌++◌, Option, Some, None, length, slice_index_or, nat_lt, zero, suc, refl, ap, sym, ◌∙◌, arith, inl, inr}
 use Rattle.std.proofs.lemmas.List.{get_or_append_left, get_or_at, length_push, get_or_past}
 use Rattle.std.proofs.lemmas.Bool.{cases_lt, lt-ltb}
 use Rattle.mp_modules.specs.declared.memory.Memory.{Memory}
@@ -14,15 +14,6 @@ use Rattle.mp_netlist.specs.Drivers.{driver}
 use Rattle.mp_model.specs.Levels.{initial_of, port_level, driven_level, level_by}
 use Rattle.mp_model.specs.Histories.{state_in, level_in, next_row, history}
 use Rattle.mp_model.specs.Waves.{level}
-
--- a history one unit longer
-pub history-more : (n : Circuit) (t : ℕ) → history n (t + 1) ≡ history n t ++ next_row n (history n t) t ∷ []
-unfolding history
-history-more n t = rw add-one refl
-
-pub history-none : (n : Circuit) → history n 0 ≡ []
-unfolding history
-history-none n = refl
 
 pub length-history : (n : Circuit) (t : ℕ) → length (history n t) ≡ t
 unfolding history

@@ -10,4 +10,3 @@ pub mod CellsLemmas
 pub mod EndsLemmas
 pub mod InputLemmas
 pub mod QuietLemmas
-pub mod StreamLemmas

@@ -2,11 +2,7 @@ pub mod Levels
 pub mod Histories
 pub mod Waves
 pub mod Laws
-pub mod Replays
 pub mod Tracks
 pub mod Cells
 pub mod Evaluations
 pub mod Examples
-pub mod StreamBytes
-pub mod StreamFaults
-pub mod TakeErrors

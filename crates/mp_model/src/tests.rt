@@ -1,120 +1,50 @@
-//! Devices that give and take bytes in small parts, and devices that fail.
-ghost use Rattle.std.specs.Prelude.{◌≡◌};
+//! The waves of a netlist, where there is memory.
+use crate::plain_waves;
+use mp_modules::Kind;
+use mp_netlist::{Edit, InputName, InputNames, Name, Netlist, OutputName, OutputNames, Params};
+use std::alloc::{AllocError, Global};
+use std::test::Fail;
 
-use crate::{Failed, ReadSource, Sink, Source, TakeError, WriteSink, put_all, take_all};
-use std::alloc::Global;
-use std::io;
-use std::io::{Read, Write};
-
-const TEXT: &[u8] = b"horizon 20\n";
-
-/// Gives one byte at each read, and fails once the reads are used up.
-#[derive(Drop)]
-struct SmallReader {
-    given: usize,
-    reads: usize,
+fn name(alloc: Global) -> Result<Name, AllocError> {
+    Ok(Name::new(String::from_str(alloc, "y")?))
 }
 
-impl Read for SmallReader {
-    fn read(&mut self, room: &mut [u8]) -> io::Result<usize> {
-        if self.reads == 0 {
-            return Err(io::Error::other("no more reads"));
-        }
-        self.reads -= 1;
-        if room.is_empty() || self.given >= TEXT.len() {
-            return Ok(0);
-        }
-        room[0] = TEXT[self.given];
-        self.given += 1;
-        Ok(1)
-    }
+fn wire(alloc: Global) -> Result<Edit, AllocError> {
+    Ok(Edit::AddWire {
+        name: name(alloc)?,
+        width: 1,
+        level: 0,
+    })
 }
 
-/// Takes bytes a few at a time. Once its room is used up, it fails or takes none.
-#[derive(Drop)]
-struct SmallWriter {
-    taken: Vec<u8>,
-    most: usize,
-    room: usize,
-    fails: bool,
-}
-
-impl Write for SmallWriter {
-    fn write(&mut self, bytes: &[u8]) -> io::Result<usize> {
-        if self.room == 0 && self.fails {
-            return Err(io::Error::other("no more room"));
-        }
-        let count = bytes.len().min(self.most).min(self.room);
-        self.taken.extend_from_slice(&bytes[..count])?;
-        self.room -= count;
-        Ok(count)
-    }
-
-    fn flush(&mut self) -> io::Result<()> {
-        Ok(())
-    }
-}
-
-fn small_writer(alloc: Global, most: usize, room: usize, fails: bool) -> WriteSink<SmallWriter>
-    ensures { result.faults ≡ 0 }
-{
-    WriteSink::new(SmallWriter {
-        taken: Vec::new(alloc),
-        most,
-        room,
-        fails,
+/// An inverter that reads its own output.
+fn inverter(alloc: Global) -> Result<Edit, AllocError> {
+    let input = InputName {
+        wire: name(alloc)?,
+        delay: 0,
+    };
+    let output = OutputName {
+        wire: Some(name(alloc)?),
+        delay: 1,
+    };
+    Ok(Edit::AddModule {
+        name: name(alloc)?,
+        kind: Kind::Not,
+        params: Params::new(Vec::new(alloc)),
+        inputs: InputNames::new(vec![in alloc; input]?),
+        outputs: OutputNames::new(vec![in alloc; output]?),
     })
 }
 
 #[test]
-fn known_bytes_pass(rt: HostRuntime) {
-    let mut source = ReadSource::new(TEXT);
-    let text = take_all(rt.alloc(), &mut source, 100).unwrap_or(Vec::new(rt.alloc()));
-    let mut sink = WriteSink::new(Vec::new(rt.alloc()));
-    assert_eq!(rt; put_all(&mut sink, text.as_slice()), Ok(()));
-    assert_eq!(rt; sink.into_inner().as_slice(), TEXT);
-}
-
-#[test]
-fn a_byte_at_a_time(rt: HostRuntime) {
-    for limit in [100, 12, 11, 10, 1, 0] {
-        let mut source = ReadSource::new(SmallReader {
-            given: 0,
-            reads: 100,
-        });
-        let text = take_all(rt.alloc(), &mut source, limit).unwrap_or(Vec::new(rt.alloc()));
-        assert_eq!(rt;
-            text.as_slice(),
-            &TEXT[..limit.min(TEXT.len())],
-            "at {limit}"
-        );
-        assert_eq!(rt; source.faults(), 0);
-    }
-    let mut sink = small_writer(rt.alloc(), 1, 100, true);
-    assert_eq!(rt; put_all(&mut sink, TEXT), Ok(()));
-    assert_eq!(rt; sink.faults(), 0);
-    assert_eq!(rt; sink.into_inner().taken.as_slice(), TEXT);
-}
-
-#[test]
-fn each_read_fails(rt: HostRuntime) {
-    for reads in 0..TEXT.len() + 1 {
-        let mut source = ReadSource::new(SmallReader { given: 0, reads });
-        let failed = matches!(
-            take_all(rt.alloc(), &mut source, 100),
-            Err(TakeError::Failed)
-        );
-        assert!(rt; failed, "at {reads}");
-        assert_eq!(rt; source.faults(), 1);
-    }
-}
-
-#[test]
-fn seven_bytes_and_a_fault(rt: HostRuntime) {
-    for (most, fails) in [(100, true), (100, false), (2, true), (1, false)] {
-        let mut sink = small_writer(rt.alloc(), most, 7, fails);
-        assert_eq!(rt; put_all(&mut sink, TEXT), Err(Failed));
-        assert_eq!(rt; sink.faults(), 1);
-        assert_eq!(rt; sink.into_inner().taken.as_slice(), b"horizon".as_slice());
-    }
+fn self_loop(rt: HostRuntime) -> Result<(), Fail> {
+    let mut netlist = Netlist::empty(rt.alloc(), 5)?;
+    netlist.apply(&wire(rt.alloc())?)?;
+    netlist.apply(&inverter(rt.alloc())?)?;
+    let waves = plain_waves(rt.alloc(), &netlist)?;
+    let [Some(wave)] = waves.as_slice() else {
+        panic!(rt; "one wave");
+    };
+    assert_eq!(rt; wave.changes(), [(1, 1), (2, 0), (3, 1), (4, 0)].as_slice());
+    Ok(())
 }

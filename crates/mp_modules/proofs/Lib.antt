@@ -1,1 +1,11 @@
 pub mod WordLemmas
+pub mod HistoryLemmas
+pub mod ToggleLemmas
+pub mod CElementLemmas
+pub mod SelectLemmas
+pub mod ClientLemmas
+pub mod CallUnits
+pub mod CallRuns
+pub mod ArbiterUnits
+pub mod ArbiterRuns
+pub mod KindLemmas

@@ -1,5 +1,5 @@
 -- The ports, parameters and names of each kind of module.
-use Rattle.std.specs.Prelude.{ℕ, Bool, true, false, ◌&&◌, ◌==◌, ◌^◌, List, length, Option, Some, None, codes, nat_lt, if◌then◌else◌}
+use Rattle.std.specs.Prelude.{ℕ, Bool, ◌&&◌, ◌==◌, ◌^◌, List, length, Option, Some, None, codes, nat_lt, if◌then◌else◌}
 use Rattle.std.specs.List.{list_all}
 use Rattle.std.specs.Str.{bytes_eq}
 use Rattle.mp_modules.specs.declared.kind.Kind.{Kind}
@@ -97,13 +97,7 @@ wide_outputs _ = 0
 
 -- whether the kind has ports of any width, which is then that of the wire at the first input
 abbrev pub has_width : Kind → Bool
-has_width kinds.Buf = true
-has_width kinds.Reg = true
-has_width kinds.AddC = true
-has_width kinds.XorC = true
-has_width kinds.Sum = true
-has_width kinds.Bit = true
-has_width _ = false
+has_width kind = nat_lt 0 (wide_inputs kind)
 
 -- the width of an input port, of a module of this width
 abbrev pub input_width : Kind → ℕ → ℕ → ℕ

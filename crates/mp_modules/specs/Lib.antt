@@ -13,4 +13,6 @@ pub mod Tables
 pub mod Quiet
 pub mod QuietArbiter
 pub mod QuietModules
+pub mod Histories
+pub mod EventLaws
 pub mod Laws

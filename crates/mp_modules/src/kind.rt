@@ -139,16 +139,7 @@ impl Kind {
     pub fn has_width(self) -> bool
         ensures { result ≡ has_width self }
     {
-        match self {
-            Kind::Buf | Kind::Reg | Kind::AddC | Kind::XorC | Kind::Sum | Kind::Bit => true,
-            Kind::Not
-            | Kind::Xor
-            | Kind::C
-            | Kind::Toggle
-            | Kind::Select
-            | Kind::Call
-            | Kind::Arbiter => false,
-        }
+        self.wide_inputs() > 0
     }
 
     /// The width of an input port of a module of this kind and width.

@@ -9,8 +9,8 @@ use Rattle.mp_records.specs.Outputs.{output_at}
 use Rattle.mp_records.specs.NamedWires.{is_wire}
 use Rattle.mp_netlist.specs.declared.driver.Driver.{Driver}
 use Rattle.mp_netlist.specs.declared.driver.Driver.TheVariants.{Nothing, Stimulus, Port}
-use Rattle.mp_netlist.specs.Circuit.{Circuit, IsCircuit, Drives, stimulus_at}
-use Rattle.mp_netlist.specs.Drivers.{port_from, port_of, or_later, driver, driver_from, stimulus_driver, is_port, is_nothing, is_free_for, FindsPorts, FindsOnlyPorts}
+use Rattle.mp_netlist.specs.Circuit.{Circuit, IsCircuit, Drives, wire_at, stimulus_in, stimulus_at}
+use Rattle.mp_netlist.specs.Drivers.{port_from, port_of, or_later, driver, driver_from, stimulus_driver, is_port, is_nothing, is_free_for, FindsPorts, FindsOnlyPorts, LeavesNoDriver}
 
 abbrev no_output : Output
 no_output = record { wire = None; delay = 1 }
@@ -165,6 +165,20 @@ undriven_is_free n ok w nothing = (
 -- no port drives a wire whose driver is no port
 pub portless_is_undriven : (n : Circuit) → IsCircuit n → (w : ℕ) → is_port (driver n w) ≡ false → (m p : ℕ) → Drives n m p w → ⊥
 portless_is_undriven n ok w none m p drives = let port = ap is_port (finds_ports n ok m p w drives) in cc
+
+-- a wire that a port drives stands
+pub driven_stands : (n : Circuit) → IsCircuit n → (m p w : ℕ) → Drives n m p w → is_some (wire_at n w) ≡ true
+driven_stands n ok m p w drives =
+    let driven = (ok.modules_ok m drives.part drives.stands).drives p in
+    let stands = (rw drives.output at driven).0 in
+    grind (arith, stands)
+
+pub leaves_no_driver : LeavesNoDriver
+leaves_no_driver n ok w none = by (driven_by n w)
+  where
+    by : ((m p : ℕ) × Drives n m p w) ⊎ (driver n w ≡ stimulus_driver (stimulus_at n w)) → driver n w ≡ Nothing
+    by (inl found) = let no = sym (ap is_some none) ∙ driven_stands n ok found.0 found.1 w found.2 in cc
+    by (inr same) = same ∙ ap (λ slot. stimulus_driver (stimulus_in slot)) none
 
 -- the driver of a wire without a stimulus is found among the ports
 pub portless_driver : (n : Circuit) (w : ℕ) → is_some (stimulus_at n w) ≡ false → driver_from 0 n.modules w Nothing ≡ driver n w

@@ -6,7 +6,7 @@ use Rattle.mp_records.specs.declared.ports.Output.{Output}
 use Rattle.mp_records.specs.NamedWires.{is_wire}
 use Rattle.mp_netlist.specs.declared.driver.Driver.{Driver}
 use Rattle.mp_netlist.specs.declared.driver.Driver.TheVariants.{Nothing, Stimulus, Port}
-use Rattle.mp_netlist.specs.Circuit.{Circuit, IsCircuit, Drives, stimulus_at}
+use Rattle.mp_netlist.specs.Circuit.{Circuit, IsCircuit, Drives, wire_at, stimulus_at}
 
 -- the first port, counted from p on, that has the wire as its output
 abbrev pub port_from : ℕ → List Output → ℕ → Option ℕ
@@ -58,3 +58,7 @@ FindsPorts = (n : Circuit) → IsCircuit n → (m p w : ℕ) → Drives n m p w 
 -- a port that is a wire's driver has it as its output
 abbrev pub FindsOnlyPorts : Type 0
 FindsOnlyPorts = (n : Circuit) (w p : ℕ) (m : ModuleId) → driver n w ≡ Port m p → Drives n m.0 p w
+
+-- nothing drives a wire that was never added, or that was removed
+abbrev pub LeavesNoDriver : Type 0
+LeavesNoDriver = (n : Circuit) → IsCircuit n → (w : ℕ) → wire_at n w ≡ None → driver n w ≡ Nothing

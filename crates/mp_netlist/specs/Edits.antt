@@ -1,5 +1,5 @@
 -- What an edit does to a netlist.
-use Rattle.std.specs.Prelude.{◌≡◌, ◌⊎◌, IsOk, ℕ, Bool, true, not, ◌&&◌, ◌==◌, List, [], ◌∷◌, ◌++◌, length, map, Option, Some, None, is_none, is_some, unwrap_or, option_map, Result, Ok, Err, nat_lt, nat_le, if◌then◌else◌, slice_set, option_and_then}
+use Rattle.std.specs.Prelude.{◌≡◌, ◌⊎◌, IsOk, ℕ, Bool, true, false, not, ◌&&◌, ◌==◌, List, [], ◌∷◌, ◌++◌, length, map, Option, Some, None, is_none, is_some, unwrap_or, option_map, Result, Ok, Err, nat_lt, nat_le, if◌then◌else◌, slice_set, option_and_then}
 use Rattle.std.specs.List.{list_all, list_any, filter_map, enumerate_from}
 use Rattle.std.specs.Str.{bytes_eq}
 use Rattle.mp_modules.specs.declared.kind.Kind.{Kind}
@@ -375,6 +375,14 @@ unless (Some error) n = Err error
 -- the netlist after the edit, or the first check that fails
 abbrev pub after : Circuit → Edit → Result Circuit EditError
 after n edit = unless (refusal n edit) (edited n edit)
+
+-- the edits that take memory: those that add a thing, and that which sets a stimulus
+abbrev pub takes_memory : Edit → Bool
+takes_memory (AddWire name width level) = true
+takes_memory (AddModule name kind params inputs outputs) = true
+takes_memory (AddBundle name request acknowledge payload setup) = true
+takes_memory (SetStimulus name changes) = true
+takes_memory _ = false
 
 -- an edit was refused: by the first check that fails, or for want of memory where none does
 abbrev pub RefusedBy : {T : Type 0} → Result T EditError → EditError → Type 0

@@ -1,6 +1,6 @@
 //! What holds of every netlist.
 
-ghost use Rattle.mp_netlist.specs.Drivers.{FindsPorts, FindsOnlyPorts};
+ghost use Rattle.mp_netlist.specs.Drivers.{FindsPorts, FindsOnlyPorts, LeavesNoDriver};
 ghost use Rattle.mp_netlist.specs.Delays.{DelaysAreLeast};
 ghost use Rattle.mp_netlist.specs.Laws.{EditsKeepNetlists};
 
@@ -14,7 +14,13 @@ pub fn finds_only_ports()
     ensures { FindsOnlyPorts }
 {}
 
-/// No port that drives a wire has a delay below the least, which is at least 1.
+/// Nothing drives a wire that was never added, or that was removed.
+pub fn leaves_no_driver()
+    ensures { LeavesNoDriver }
+{}
+
+/// No port that drives a wire has a delay below the least, which is at least 1; and one has it, or it is the horizon and no port
+/// drives a wire.
 pub fn delays_are_least()
     ensures { DelaysAreLeast }
 {}

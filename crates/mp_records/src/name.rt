@@ -1,4 +1,4 @@
-//! The text by which a wire is named.
+//! The text by which a thing is named.
 ghost use Rattle.std.specs.Prelude.{◌≡◌, IfOk, string_bytes};
 ghost use Rattle.mp_records.specs.Names.{is_name, is_name_byte, begins_with_letter};
 ghost use Rattle.std.specs.List.{list_all};

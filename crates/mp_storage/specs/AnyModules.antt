@@ -8,12 +8,10 @@ use Rattle.mp_modules.specs.declared.memory.Memory.{Memory}
 use Rattle.mp_modules.specs.declared.finding_set.FindingSet.{FindingSet}
 use Rattle.mp_modules.specs.Kinds.{has_width}
 use Rattle.mp_modules.specs.Tables as tables
-use Rattle.mp_storage.specs.Widths.{highest_level}
 use Rattle.mp_storage.specs.Reg as reg
-use Rattle.mp_storage.specs.AddC as add_c
-use Rattle.mp_storage.specs.XorC as xor_c
-use Rattle.mp_storage.specs.Sum as sum
-use Rattle.mp_storage.specs.Bit as bit
+use Rattle.mp_storage.specs.Computed as computed
+use Rattle.mp_storage.specs.Computed.{computed_kind}
+use Rattle.mp_storage.specs.declared.computed.Computed.TheVariants as outputs
 use Rattle.mp_storage.specs.declared.any_module.AnyModule.{AnyModule}
 use Rattle.mp_storage.specs.declared.any_module.AnyModule.TheVariants as parts
 
@@ -32,10 +30,10 @@ any_part_of kinds.Select params width = parts.Core core.Select
 any_part_of kinds.Call params width = parts.Core core.Call
 any_part_of kinds.Arbiter params width = parts.Core core.Arbiter
 any_part_of kinds.Reg params width = parts.Reg (record { initial = slice_index params 0 })
-any_part_of kinds.AddC params width = parts.AddC (record { addend = slice_index params 0; highest = highest_level width })
-any_part_of kinds.XorC params width = parts.XorC (record { mask = slice_index params 0 })
-any_part_of kinds.Sum params width = parts.Sum (record { highest = highest_level width })
-any_part_of kinds.Bit params width = parts.Bit (record { place = slice_index params 0 })
+any_part_of kinds.AddC params width = parts.Computed (outputs.AddC (slice_index params 0) width)
+any_part_of kinds.XorC params width = parts.Computed (outputs.XorC (slice_index params 0))
+any_part_of kinds.Sum params width = parts.Computed (outputs.Sum width)
+any_part_of kinds.Bit params width = parts.Computed (outputs.Bit (slice_index params 0))
 
 -- the kind of a module
 abbrev pub core_kind : CoreModule → Kind
@@ -51,10 +49,7 @@ core_kind core.Arbiter = kinds.Arbiter
 abbrev pub kind_of : AnyModule → Kind
 kind_of (parts.Core part) = core_kind part
 kind_of (parts.Reg part) = kinds.Reg
-kind_of (parts.AddC part) = kinds.AddC
-kind_of (parts.XorC part) = kinds.XorC
-kind_of (parts.Sum part) = kinds.Sum
-kind_of (parts.Bit part) = kinds.Bit
+kind_of (parts.Computed part) = computed_kind part
 
 -- a module that is made of a kind has that kind
 abbrev pub KeepsKind : Type 0
@@ -64,34 +59,22 @@ KeepsKind = (kind : Kind) (params : List ℕ) (width : ℕ) → kind_of (any_par
 unfoldable pub start : AnyModule → Memory
 start (parts.Core part) = tables.start part
 start (parts.Reg part) = reg.start part
-start (parts.AddC part) = add_c.start part
-start (parts.XorC part) = xor_c.start part
-start (parts.Sum part) = sum.start part
-start (parts.Bit part) = bit.start part
+start (parts.Computed part) = computed.start part
 
 -- the state at time 0
 unfoldable pub settle : AnyModule → List ℕ → Memory
 settle (parts.Core part) x = tables.settle part x
 settle (parts.Reg part) x = reg.settle part x
-settle (parts.AddC part) x = add_c.settle part x
-settle (parts.XorC part) x = xor_c.settle part x
-settle (parts.Sum part) x = sum.settle part x
-settle (parts.Bit part) x = bit.settle part x
+settle (parts.Computed part) x = computed.settle part x
 
 -- the state at a time from 1 on, after that of the unit before
 unfoldable pub step : AnyModule → Memory → List ℕ → Memory
 step (parts.Core part) memory x = tables.step part memory x
 step (parts.Reg part) memory x = reg.step part memory x
-step (parts.AddC part) memory x = add_c.step part memory x
-step (parts.XorC part) memory x = xor_c.step part memory x
-step (parts.Sum part) memory x = sum.step part memory x
-step (parts.Bit part) memory x = bit.step part memory x
+step (parts.Computed part) memory x = computed.step part memory x
 
 -- what is found at a time from 1 on, after the state of the unit before
 unfoldable pub found : AnyModule → Memory → List ℕ → FindingSet
 found (parts.Core part) memory x = tables.found part memory x
 found (parts.Reg part) memory x = reg.found part memory x
-found (parts.AddC part) memory x = add_c.found part memory x
-found (parts.XorC part) memory x = xor_c.found part memory x
-found (parts.Sum part) memory x = sum.found part memory x
-found (parts.Bit part) memory x = bit.found part memory x
+found (parts.Computed part) memory x = computed.found part memory x

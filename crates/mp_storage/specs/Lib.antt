@@ -1,9 +1,8 @@
 pub mod Widths
 pub mod Reg
-pub mod AddC
-pub mod XorC
-pub mod Sum
-pub mod Bit
+pub mod RegLaws
+pub mod Computed
 pub mod QuietStorage
 pub mod AnyModules
 pub mod QuietAny
+pub mod Sums

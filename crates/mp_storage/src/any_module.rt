@@ -2,12 +2,8 @@
 ghost use Rattle.std.specs.Prelude.{◌≡◌};
 ghost use Rattle.mp_storage.specs.AnyModules.{is_width_of, core_kind};
 
-use crate::add_c::AddC;
-use crate::bit::Bit;
+use crate::computed::Computed;
 use crate::reg::Reg;
-use crate::sum::Sum;
-use crate::widths::highest_level;
-use crate::xor_c::XorC;
 use mp_modules::{CoreModule, EventModule, FindingSet, Kind, Memory, Rendezvous, level_at};
 
 /// An event module of any kind, with its parameters and its width.
@@ -15,10 +11,7 @@ use mp_modules::{CoreModule, EventModule, FindingSet, Kind, Memory, Rendezvous, 
 pub enum AnyModule {
     Core(CoreModule),
     Reg(Reg),
-    AddC(AddC),
-    XorC(XorC),
-    Sum(Sum),
-    Bit(Bit),
+    Computed(Computed),
 }
 
 impl AnyModule {
@@ -33,7 +26,6 @@ impl AnyModule {
         ensures made { IsSome result ↔ IsTrue (is_width_of kind width && are_params kind width params.now) }
         ensures part { IfSome result (λ part. part ≡ any_part_of kind params.now width) }
     {
-        let highest = highest_level(width)?;
         if !is_width_of(kind, width) || !kind.accepts(width, params) {
             return None;
         }
@@ -48,13 +40,13 @@ impl AnyModule {
             Kind::Call => AnyModule::Core(CoreModule::Call),
             Kind::Arbiter => AnyModule::Core(CoreModule::Arbiter),
             Kind::Reg => AnyModule::Reg(Reg { initial: first }),
-            Kind::AddC => AnyModule::AddC(AddC {
+            Kind::AddC => AnyModule::Computed(Computed::AddC {
                 addend: first,
-                highest,
+                width,
             }),
-            Kind::XorC => AnyModule::XorC(XorC { mask: first }),
-            Kind::Sum => AnyModule::Sum(Sum { highest }),
-            Kind::Bit => AnyModule::Bit(Bit { place: first }),
+            Kind::XorC => AnyModule::Computed(Computed::XorC { mask: first }),
+            Kind::Sum => AnyModule::Computed(Computed::Sum { width }),
+            Kind::Bit => AnyModule::Computed(Computed::Bit { place: first }),
         })
     }
 
@@ -65,10 +57,7 @@ impl AnyModule {
         match self {
             AnyModule::Core(part) => core_kind(*part),
             AnyModule::Reg(_) => Kind::Reg,
-            AnyModule::AddC(_) => Kind::AddC,
-            AnyModule::XorC(_) => Kind::XorC,
-            AnyModule::Sum(_) => Kind::Sum,
-            AnyModule::Bit(_) => Kind::Bit,
+            AnyModule::Computed(part) => part.kind(),
         }
     }
 }
@@ -127,10 +116,7 @@ impl EventModule for AnyModule {
         match self {
             AnyModule::Core(part) => part.start(),
             AnyModule::Reg(part) => part.start(),
-            AnyModule::AddC(part) => part.start(),
-            AnyModule::XorC(part) => part.start(),
-            AnyModule::Sum(part) => part.start(),
-            AnyModule::Bit(part) => part.start(),
+            AnyModule::Computed(part) => part.start(),
         }
     }
 
@@ -139,10 +125,7 @@ impl EventModule for AnyModule {
         match self {
             AnyModule::Core(part) => part.settle(levels),
             AnyModule::Reg(part) => part.settle(levels),
-            AnyModule::AddC(part) => part.settle(levels),
-            AnyModule::XorC(part) => part.settle(levels),
-            AnyModule::Sum(part) => part.settle(levels),
-            AnyModule::Bit(part) => part.settle(levels),
+            AnyModule::Computed(part) => part.settle(levels),
         }
     }
 
@@ -153,10 +136,7 @@ impl EventModule for AnyModule {
         match self {
             AnyModule::Core(part) => part.step(memory, levels),
             AnyModule::Reg(part) => part.step(memory, levels),
-            AnyModule::AddC(part) => part.step(memory, levels),
-            AnyModule::XorC(part) => part.step(memory, levels),
-            AnyModule::Sum(part) => part.step(memory, levels),
-            AnyModule::Bit(part) => part.step(memory, levels),
+            AnyModule::Computed(part) => part.step(memory, levels),
         }
     }
 
@@ -169,10 +149,7 @@ impl EventModule for AnyModule {
         match self {
             AnyModule::Core(part) => part.findings(memory, levels),
             AnyModule::Reg(part) => part.findings(memory, levels),
-            AnyModule::AddC(part) => part.findings(memory, levels),
-            AnyModule::XorC(part) => part.findings(memory, levels),
-            AnyModule::Sum(part) => part.findings(memory, levels),
-            AnyModule::Bit(part) => part.findings(memory, levels),
+            AnyModule::Computed(part) => part.findings(memory, levels),
         }
     }
 }

@@ -1,30 +1,35 @@
 -- The lines of modules lead where the edits of the modules lead.
-use Rattle.std.proofs.Common.{◌≡◌, ℕ, ◌^◌, ◌<◌, ◌≤◌, Bool, true, false, cond, ◌==◌, List, [], ◌∷◌, ◌++◌, length, map, All, Option, Some, None, Ok, decimal, refl, sym, subst, arith}
-use Rattle.std.specs.Prelude.{codes, nat_lt, IsTrue, IsSome, IfSome, slice_index_or, option_map}
+use Rattle.std.proofs.Common.{◌≡◌, ℕ, ◌^◌, ◌<◌, ◌≤◌, Bool, true, false, cond, ◌==◌, List, [], ◌∷◌, ◌++◌, length, map, All, Option, Some, None, Ok, decimal, refl, sym, subst, arith, inl, inr}
+use Rattle.std.specs.Prelude.{codes, nat_lt, IsTrue, IsSome, IfSome, option_map}
 use Rattle.std.specs.List.{list_all}
 use Rattle.std.proofs.Math.Nat.{pow-le-pow_right}
+use Rattle.std.proofs.lemmas.Bool.{cases_Bool, eqb-true}
 use Rattle.std.proofs.lemmas.Bool.Decides.{nat_tests}
-use Rattle.std.proofs.lemmas.List.Elements.{All-cons, All-nil, All-map, All-append, All-get_or, All-from_get_or}
+use Rattle.std.proofs.lemmas.List.{append-nil}
+use Rattle.std.proofs.lemmas.List.Elements.{All-cons, All-nil, All-map, All-append, All-get_or, All-from_get_or, All-weaker}
 use Rattle.mp_modules.specs.declared.kind.Kind.{Kind}
 use Rattle.mp_modules.specs.declared.kind.Kind.TheVariants as kinds
 use Rattle.mp_modules.specs.Kinds.{word_of, param_bound, param_count, are_params, has_width, input_count, output_count, output_width}
 use Rattle.mp_records.specs.declared.ids.WireId.{WireId}
 use Rattle.mp_records.specs.declared.wire_record.WireRecord.{WireRecord}
 use Rattle.mp_records.specs.declared.module_record.ModuleRecord.{ModuleRecord}
+use Rattle.mp_records.specs.declared.ports.Input.{Input}
 use Rattle.mp_records.specs.declared.ports.Output.{Output}
 use Rattle.mp_records.specs.declared.edit.Edit.TheVariants.{AddModule}
 use Rattle.mp_records.specs.Names.{is_name}
+use Rattle.mp_records.specs.Inputs.{no_input, input_at}
 use Rattle.mp_records.specs.Outputs.{output_at}
 use Rattle.mp_netlist.specs.Limits.{max_delay}
-use Rattle.mp_netlist.specs.Circuit.{Circuit, IsCircuit, IsModule, IsDelay, HasWidth, wire_at, module_at, width_of, module_width, HasNames}
-use Rattle.mp_words.specs.WordLists.{output_word}
-use Rattle.mp_text.specs.Written.{module_line, wire_name, output_name, output_text}
-use Rattle.mp_text.specs.RoundTrips.{module_edits, output_by_name}
+use Rattle.mp_netlist.specs.Circuit.{Circuit, IsCircuit, IsModule, IsDelay, IsInputDelay, HasWidth, wire_at, module_at, width_of, module_width, HasNames}
+use Rattle.mp_text.specs.Statements.{is_mark}
+use Rattle.mp_words.specs.WordLists.{input_word, output_word}
+use Rattle.mp_text.specs.Written.{module_line, wire_name, delay_text, input_text, output_name, output_text}
+use Rattle.mp_text.specs.RoundTrips.{module_edits, input_by_name, output_by_name}
 use Rattle.mp_words.proofs.PlainLemmas.{IsPlain, IsPlain-append, IsPlain-decimal, IsPlain-name, both}
-use Rattle.mp_words.proofs.ReadBackLemmas.{no_wire_back, wire_back}
-use Rattle.mp_text.proofs.StatementBackLemmas.{module_stated}
+use Rattle.mp_words.proofs.ReadBackLemmas.{input_back, late_input_back, no_wire_back, wire_back}
+use Rattle.mp_text.proofs.StatementBackLemmas.{name_no_greater, module_stated}
 use Rattle.mp_text.proofs.TextBackLemmas.{SlotLeads, leads_line}
-use Rattle.mp_text.proofs.RecordBackLemmas.{wire_named, weaken}
+use Rattle.mp_text.proofs.RecordBackLemmas.{wire_named}
 
 -- the word of a kind
 IsPlain-kind : (kind : Kind) → IsPlain (word_of kind)
@@ -134,6 +139,27 @@ module _ (n : Circuit) (circuit : IsCircuit n) (named : HasNames n) where
       by None stands = record { some = omega arith; plain = refl }
       by (Some w) stands = IsPlain-name (wire_name n w) (wire_named n circuit named w stands)
 
+  -- a name, with a delay behind it where there is one
+  named_back : (name : List ℕ) (delay : ℕ) → is_name name ≡ true → delay ≤ max_delay → input_word (name ++ delay_text delay) ≡ Ok (record { wire = name; delay = delay })
+  named_back name delay valid low =
+      elim (cases_Bool (delay == 0)) as (λ _. input_word (name ++ delay_text delay) ≡ Ok (record { wire = name; delay = delay })) [
+        | inl none ↦ let zero = eqb-true delay 0 none in rw zero (rw append-nil (input_back name valid))
+        | inr some ↦ rw some (late_input_back name delay (IsPlain-name name valid).some (omega (arith, low)))
+      ]
+
+  named_plain : (name : List ℕ) (delay : ℕ) → is_name name ≡ true → delay ≤ max_delay → IsPlain (name ++ delay_text delay)
+  named_plain name delay valid low =
+      elim (cases_Bool (delay == 0)) as (λ _. IsPlain (name ++ delay_text delay)) [
+        | inl none ↦ rw none (rw append-nil (IsPlain-name name valid))
+        | inr some ↦
+            rw some (IsPlain-append name (47 ∷ decimal delay) (IsPlain-name name valid)
+            (IsPlain-append (47 ∷ []) (decimal delay) (record { some = omega arith; plain = refl }) (IsPlain-decimal delay (omega (arith, low)))))
+      ]
+
+  -- an input at a wire with a name
+  abbrev IsInput : Input → Type 0
+  IsInput i = (is_name (wire_name n i.wire) ≡ true) × (i.delay ≤ max_delay)
+
   abbrev IsOutput : Output → Type 0
   IsOutput o = (o.delay ≤ max_delay) × Stands n o.wire
 
@@ -142,17 +168,17 @@ module _ (n : Circuit) (circuit : IsCircuit n) (named : HasNames n) where
     params_words = map decimal r.params
 
     abbrev input_words : List (List ℕ)
-    input_words = map (wire_name n) r.inputs
+    input_words = map (input_text n) r.inputs
 
     abbrev output_words : List (List ℕ)
     output_words = map (output_text n) r.outputs
 
     params_ok : All (λ p. p < 2 ^ 64) r.params
-    params_ok = params_low r.kind (module_width n r) r.params (module_narrow (has_width r.kind) (slice_index_or r.inputs 0 (record { 0 = 0 })).0) ok.params
+    params_ok = params_low r.kind (module_width n r) r.params (module_narrow (has_width r.kind) (input_at r 0).wire.0) ok.params
 
-    inputs_ok : All (λ i. is_name (wire_name n i) ≡ true) r.inputs
-    inputs_ok = All-from_get_or (λ i. is_name (wire_name n i) ≡ true) r.inputs (record { 0 = 0 })
-        (λ p within. wire_named n circuit named (slice_index_or r.inputs p (record { 0 = 0 })) (ok.reads p (record { 0 = 0 }) within).0)
+    inputs_ok : All IsInput r.inputs
+    inputs_ok = All-from_get_or IsInput r.inputs no_input
+        (λ p within. (wire_named n circuit named (input_at r p).wire (ok.reads p no_input within).0, All-get_or (λ i. IsInputDelay i.delay) r.inputs p no_input within ok.input_delays))
 
     outputs_ok : All IsOutput r.outputs
     outputs_ok = All-from_get_or IsOutput r.outputs (record { wire = None; delay = 1 })
@@ -160,9 +186,9 @@ module _ (n : Circuit) (circuit : IsCircuit n) (named : HasNames n) where
 
     plain_words : All IsPlain (r.name ∷ word_of r.kind ∷ (params_words ++ (codes ":" ∷ (input_words ++ (codes ">" ∷ output_words)))))
     plain_words =
-        let outs = All-map IsPlain (output_text n) r.outputs (weaken IsOutput (λ o. IsPlain (output_text n o)) (λ o low. output_plain o.wire o.delay low.0 low.1) r.outputs outputs_ok) in
-        let ins = All-map IsPlain (wire_name n) r.inputs (weaken (λ i. is_name (wire_name n i) ≡ true) (λ i. IsPlain (wire_name n i)) (λ i. IsPlain-name (wire_name n i)) r.inputs inputs_ok) in
-        let numbers = All-map IsPlain decimal r.params (weaken (λ p. p < 2 ^ 64) (λ p. IsPlain (decimal p)) IsPlain-decimal r.params params_ok) in
+        let outs = All-map IsPlain (output_text n) r.outputs (All-weaker IsOutput (λ o. IsPlain (output_text n o)) (λ o low. output_plain o.wire o.delay low.0 low.1) r.outputs outputs_ok) in
+        let ins = All-map IsPlain (input_text n) r.inputs (All-weaker IsInput (λ i. IsPlain (input_text n i)) (λ i is. named_plain (wire_name n i.wire) i.delay is.0 is.1) r.inputs inputs_ok) in
+        let numbers = All-map IsPlain decimal r.params (All-weaker (λ p. p < 2 ^ 64) (λ p. IsPlain (decimal p)) IsPlain-decimal r.params params_ok) in
         let back = All-append IsPlain input_words (codes ">" ∷ output_words) ins (All-cons IsPlain (codes ">") output_words (record { some = omega arith; plain = refl }) outs) in
         let rest = All-append IsPlain params_words (codes ":" ∷ (input_words ++ (codes ">" ∷ output_words))) numbers
         (All-cons IsPlain (codes ":") (input_words ++ (codes ">" ∷ output_words)) (record { some = omega arith; plain = refl }) back) in
@@ -171,14 +197,16 @@ module _ (n : Circuit) (circuit : IsCircuit n) (named : HasNames n) where
 
     module_leads : SlotLeads (module_line n) (module_edits n) (Some r)
     module_leads =
-        let outs = weaken IsOutput (λ o. output_word (output_text n o) ≡ Ok (output_by_name n o)) (λ o low. output_back o.wire o.delay low.0 low.1) r.outputs outputs_ok in
+        let outs = All-weaker IsOutput (λ o. output_word (output_text n o) ≡ Ok (output_by_name n o)) (λ o low. output_back o.wire o.delay low.0 low.1) r.outputs outputs_ok in
         let some_inputs : 0 < length r.inputs = subst (λ k. 0 < k) (sym ok.inputs) (inputs_some r.kind) in
         let some_outputs : 0 < length r.outputs = subst (λ k. 0 < k) (sym ok.outputs) (outputs_some r.kind) in
-        let stated = module_stated r.name r.kind r.params r.inputs r.outputs (wire_name n) (output_text n) (output_by_name n) params_ok inputs_ok outs some_inputs some_outputs in
+        let unmarked = All-weaker IsInput (λ i. is_mark 62 (input_text n i) ≡ false) (λ i is. name_no_greater (wire_name n i.wire) (delay_text i.delay) is.0) r.inputs inputs_ok in
+        let heard = All-weaker IsInput (λ i. input_word (input_text n i) ≡ Ok (input_by_name n i)) (λ i is. named_back (wire_name n i.wire) i.delay is.0 is.1) r.inputs inputs_ok in
+        let stated = module_stated r.name r.kind r.params r.inputs r.outputs (input_text n) (input_by_name n) (output_text n) (output_by_name n) params_ok unmarked heard outs some_inputs some_outputs in
         let first : IsPlain (codes "module") = record { some = omega arith; plain = refl } in
         record {
           each = leads_line (codes "module") (r.name ∷ word_of r.kind ∷ (params_words ++ (codes ":" ∷ (input_words ++ (codes ">" ∷ output_words)))))
-              (AddModule r.name r.kind r.params input_words (map (output_by_name n) r.outputs)) first plain_words stated;
+              (AddModule r.name r.kind r.params (map (input_by_name n) r.inputs) (map (output_by_name n) r.outputs)) first plain_words stated;
         }
 
   module_slot : (m : ℕ) (slot : Option ModuleRecord) → module_at n m ≡ slot → SlotLeads (module_line n) (module_edits n) slot

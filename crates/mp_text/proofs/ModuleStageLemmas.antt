@@ -11,16 +11,19 @@ use Rattle.mp_modules.specs.Kinds.{input_count, output_count, has_width, input_w
 use Rattle.mp_records.specs.declared.ids.WireId.{WireId}
 use Rattle.mp_records.specs.declared.wire_record.WireRecord.{WireRecord}
 use Rattle.mp_records.specs.declared.module_record.ModuleRecord.{ModuleRecord}
+use Rattle.mp_records.specs.declared.ports.Input.{Input}
 use Rattle.mp_records.specs.declared.ports.Output.{Output}
+use Rattle.mp_records.specs.declared.port_names.InputName.{InputName}
 use Rattle.mp_records.specs.declared.port_names.OutputName.{OutputName}
+use Rattle.mp_records.specs.Inputs.{no_input}
 use Rattle.mp_records.specs.Outputs.{output_in}
 use Rattle.mp_netlist.specs.Limits.{max_modules, max_delay}
-use Rattle.mp_netlist.specs.Circuit.{Circuit, IsCircuit, IsModule, IsDelay, HasWidth, Drives, wire_at, module_at, width_of, module_width, HasNames}
-use Rattle.mp_netlist.specs.Edits.{refusal, edited, after, stands, wire_id, width_named, is_undriven, is_delay, driven_names, are_distinct, first_width, new_width, inputs_fit, output_fits, outputs_fit, module_checks, output_of, new_module, without_stimulus}
+use Rattle.mp_netlist.specs.Circuit.{Circuit, IsCircuit, IsModule, IsDelay, IsInputDelay, HasWidth, Drives, wire_at, module_at, width_of, module_width, HasNames}
+use Rattle.mp_netlist.specs.Edits.{refusal, edited, after, stands, wire_id, width_named, is_undriven, is_delay, is_input_delay, delays_fit, driven_names, are_distinct, first_width, new_width, inputs_stand, inputs_fit, output_fits, outputs_fit, module_checks, input_of, output_of, new_module, without_stimulus}
 use Rattle.mp_netlist.proofs.PortLemmas.{no_name}
 use Rattle.mp_netlist.proofs.CircuitLemmas.{some_input}
 use Rattle.mp_text.specs.Written.{wire_name}
-use Rattle.mp_text.specs.RoundTrips.{module_edits, output_by_name}
+use Rattle.mp_text.specs.RoundTrips.{module_edits, input_by_name, output_by_name}
 use Rattle.mp_text.proofs.SlotLemmas.{All-flat_map, All-from_flat_map, list_all_from, Unnamed, named_nowhere, front_unnamed}
 use Rattle.mp_text.proofs.StageLemmas.{none_failing, and_both, is_done, Reaches, Reaches-none, Reaches-one, Steps, stage}
 use Rattle.mp_text.proofs.OutputLemmas.{output_named, is_output, added, DrivesNone, AddsNone, undriven_by_name, drives_none, is_nothing_driven, driven_all, driven_distinct, counted_all}
@@ -45,40 +48,45 @@ is_low_delay d low =
     let short : nat_le d max_delay ≡ true = grind (arith, nat_tests) in
     and_both (nat_le 1 d) (nat_le d max_delay) one short
 
+is_low_input_delay : (d : ℕ) → IsInputDelay d → is_input_delay d ≡ true
+is_low_input_delay d most = let short : nat_le d max_delay ≡ true = grind (arith, nat_tests) in short
+
 -- the wires at the ports of a module are as wide in the other netlist
 module _ (n c : Circuit) (has : HasWires n c) (r : ModuleRecord) (is : IsModule n r) where
-  abbrev pub input_names : List (List ℕ)
-  input_names = map (wire_name n) r.inputs
+  abbrev pub input_names : List InputName
+  input_names = map (input_by_name n) r.inputs
 
   abbrev pub output_names : List OutputName
   output_names = map (output_by_name n) r.outputs
 
-  abbrev first_id : WireId
-  first_id = record { 0 = 0 }
+  abbrev nowhere : InputName
+  nowhere = record { wire = []; delay = 0 }
 
-  input_back : (p : ℕ) → p < length r.inputs → IsBack n c (get_or r.inputs p first_id)
-  input_back p within = is_back n c has (get_or r.inputs p first_id) (is.reads p first_id within).0
+  input_back : (p : ℕ) → p < length r.inputs → IsBack n c (get_or r.inputs p no_input).wire
+  input_back p within = is_back n c has (get_or r.inputs p no_input).wire (is.reads p no_input within).0
 
-  width_first : (inputs : List WireId) → 0 < length inputs → (0 < length inputs → IsBack n c (get_or inputs 0 first_id)) → first_width c (map (wire_name n) inputs) ≡ width_of (wire_at n (slice_index_or inputs 0 (record { 0 = 0 })).0)
+  width_first : (inputs : List Input) → 0 < length inputs → (0 < length inputs → IsBack n c (get_or inputs 0 no_input).wire) → first_width c (map (input_by_name n) inputs) ≡ width_of (wire_at n (slice_index_or inputs 0 no_input).wire.0)
   width_first [] some back = absurd (omega (arith, some))
-  width_first (w ∷ ws) some back = (back some).width
+  width_first (i ∷ is) some back = (back some).width
 
   pub width_same : new_width c r.kind input_names ≡ module_width n r
   width_same =
       let some : 0 < length r.inputs = omega (arith, is.inputs, some_input r.kind) in
       ap (λ width. cond (has_width r.kind) width 1) (width_first r.inputs some (input_back 0))
 
-  pub inputs_found : list_all (stands c) input_names ≡ true
-  inputs_found = list_all_from (stands c) input_names (All-map (λ q. stands c q ≡ true) (wire_name n) r.inputs (All-from_get_or (λ w. stands c (wire_name n w) ≡ true) r.inputs first_id (λ p within. (input_back p within).found)))
+  pub inputs_found : inputs_stand c input_names ≡ true
+  inputs_found =
+      list_all_from (λ (i : InputName). stands c i.wire) input_names
+      (All-map (λ (i : InputName). stands c i.wire ≡ true) (input_by_name n) r.inputs (All-from_get_or (λ i. stands c (wire_name n i.wire) ≡ true) r.inputs no_input (λ p within. (input_back p within).found)))
 
   pub inputs_wide : inputs_fit c r.kind (new_width c r.kind input_names) input_names ≡ true
-  inputs_wide = counted_all (λ (port : ℕ × List ℕ). width_named c port.1 == input_width r.kind (new_width c r.kind input_names) port.0) input_names [] by
+  inputs_wide = counted_all (λ (port : ℕ × InputName). width_named c port.1.wire == input_width r.kind (new_width c r.kind input_names) port.0) input_names nowhere by
     where
-      by : (p : ℕ) → p < length input_names → (width_named c (get_or input_names p []) == input_width r.kind (new_width c r.kind input_names) p) ≡ true
+      by : (p : ℕ) → p < length input_names → (width_named c (get_or input_names p nowhere).wire == input_width r.kind (new_width c r.kind input_names) p) ≡ true
       by p long =
-          let within : p < length r.inputs = omega (arith, long, length-map r.inputs (wire_name n)) in
-          let at = get_or-map (wire_name n) r.inputs p first_id [] within in
-          eq-eqb _ _ (ap (width_named c) at ∙ (input_back p within).width ∙ (is.reads p first_id within).1 ∙ ap (λ width. input_width r.kind width p) (sym width_same))
+          let within : p < length r.inputs = omega (arith, long, length-map r.inputs (input_by_name n)) in
+          let at = get_or-map (input_by_name n) r.inputs p no_input nowhere within in
+          eq-eqb _ _ (ap (λ (i : InputName). width_named c i.wire) at ∙ (input_back p within).width ∙ (is.reads p no_input within).1 ∙ ap (λ width. input_width r.kind width p) (sym width_same))
 
   pub params_ranged : are_params r.kind (new_width c r.kind input_names) r.params ≡ true
   params_ranged = ap (λ width. are_params r.kind width r.params) width_same ∙ is.params
@@ -107,14 +115,28 @@ module _ (n c : Circuit) (has : HasWires n c) (r : ModuleRecord) (is : IsModule 
       by p long =
           subst (λ wire. output_fits c wire (output_width r.kind (new_width c r.kind input_names) p) ≡ true) (sym (output_named n r.outputs p)) (output_wide p (output_in r.outputs p).wire refl)
 
-  pub delays_low : list_all (λ (o : OutputName). is_delay o.delay) output_names ≡ true
-  delays_low =
+  inputs_low : list_all (λ (i : InputName). is_input_delay i.delay) input_names ≡ true
+  inputs_low =
+      list_all_from (λ (i : InputName). is_input_delay i.delay) input_names (All-map (λ (i : InputName). is_input_delay i.delay ≡ true) (input_by_name n) r.inputs
+      (All-weaker (λ (i : Input). IsInputDelay i.delay) (λ (i : Input). is_input_delay i.delay ≡ true) (λ i low. is_low_input_delay i.delay low) r.inputs is.input_delays))
+
+  outputs_low : list_all (λ (o : OutputName). is_delay o.delay) output_names ≡ true
+  outputs_low =
       list_all_from (λ (o : OutputName). is_delay o.delay) output_names (All-map (λ (o : OutputName). is_delay o.delay ≡ true) (output_by_name n) r.outputs
       (All-weaker (λ (o : Output). IsDelay o.delay) (λ (o : Output). is_delay o.delay ≡ true) (λ o low. is_low_delay o.delay low) r.outputs is.delays))
 
+  pub delays_low : delays_fit input_names output_names ≡ true
+  delays_low = and_both (list_all (λ (i : InputName). is_input_delay i.delay) input_names) (list_all (λ (o : OutputName). is_delay o.delay) output_names) inputs_low outputs_low
+
   -- the ports of the new module have the names of the old one's
-  inputs_again : map (wire_name c) (map (wire_id c) input_names) ≡ input_names
-  inputs_again = map_back (wire_name n) (wire_id c) (wire_name c) r.inputs (All-from_get_or (λ w. wire_name c (wire_id c (wire_name n w)) ≡ wire_name n w) r.inputs first_id (λ p within. (input_back p within).name))
+  abbrev heard_as : ℕ → List ℕ → InputName
+  heard_as delay wire = record { wire = wire; delay = delay }
+
+  inputs_again : map (input_by_name c) (map (input_of c) input_names) ≡ input_names
+  inputs_again =
+      map_back (input_by_name n) (input_of c) (input_by_name c) r.inputs
+      (All-from_get_or (λ i. input_by_name c (input_of c (input_by_name n i)) ≡ input_by_name n i) r.inputs no_input
+      (λ p within. ap (heard_as (get_or r.inputs p no_input).delay) (input_back p within).name))
 
   abbrev called_as : ℕ → Option (List ℕ) → OutputName
   called_as delay wire = record { wire = wire; delay = delay }
@@ -213,18 +235,18 @@ module _ (n : Circuit) (circuit : IsCircuit n) (named : HasNames n) where
         All-weaker (λ slot. All (AddsNone r.name) (module_edits c slot)) (Unnamed module_name r.name) slot_adds modules (All-from_flat_map (AddsNone r.name) (module_edits c) modules now)
 
     abbrev new : ModuleRecord
-    new = new_module c r.name r.kind r.params (map (wire_name n) r.inputs) (map (output_by_name n) r.outputs)
+    new = new_module c r.name r.kind r.params (map (input_by_name n) r.inputs) (map (output_by_name n) r.outputs)
 
     module_done : after c (added n r) ≡ Ok (moduled (modules ++ Some new ∷ []))
     unfolding refusal edited
     module_done =
-        let inputs = map (wire_name n) r.inputs in
+        let inputs = map (input_by_name n) r.inputs in
         let outputs = map (output_by_name n) r.outputs in
         let has = has_wires modules in
         let free = ap is_none (named_nowhere module_name r.name modules unnamed) in
         let counts = and_both (length inputs == input_count r.kind) (length outputs == output_count r.kind)
-        (eq-eqb _ _ (length-map r.inputs (wire_name n) ∙ is.inputs)) (eq-eqb _ _ (length-map r.outputs (output_by_name n) ∙ is.outputs)) in
-        let found = and_both (list_all (stands c) inputs) (list_all (stands c) (driven_names outputs)) (inputs_found n c has r is) (outputs_found n c has r is) in
+        (eq-eqb _ _ (length-map r.inputs (input_by_name n) ∙ is.inputs)) (eq-eqb _ _ (length-map r.outputs (output_by_name n) ∙ is.outputs)) in
+        let found = and_both (inputs_stand c inputs) (list_all (stands c) (driven_names outputs)) (inputs_found n c has r is) (outputs_found n c has r is) in
         let width = new_width c r.kind inputs in
         let wide = and_both (inputs_fit c r.kind width inputs) (outputs_fit c r.kind width outputs) (inputs_wide n c has r is) (outputs_wide n c has r is) in
         let free_outputs = and_both (list_all (is_undriven c) (driven_names outputs)) (are_distinct (driven_names outputs)) (driven_all (is_undriven c) outputs undriven) (driven_distinct outputs distinct) in

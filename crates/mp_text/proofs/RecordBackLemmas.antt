@@ -3,7 +3,7 @@ use Rattle.std.proofs.Common.{◌≡◌, ℕ, ◌^◌, ◌<◌, ◌≤◌, Bool,
 use Rattle.std.specs.Prelude.{codes, nat_lt, IsTrue, IsSome, IfSome}
 use Rattle.std.proofs.Math.Nat.{pow-le-pow_right}
 use Rattle.std.proofs.lemmas.Bool.Decides.{nat_tests}
-use Rattle.std.proofs.lemmas.List.Elements.{All-cons, All-nil, All-head, All-tail, All-map, All-from_get_or}
+use Rattle.std.proofs.lemmas.List.Elements.{All-cons, All-nil, All-head, All-tail, All-map, All-from_get_or, All-weaker}
 use Rattle.mp_records.specs.declared.ids.WireId.{WireId}
 use Rattle.mp_records.specs.declared.wire_record.WireRecord.{WireRecord}
 use Rattle.mp_records.specs.declared.bundle_record.BundleRecord.{BundleRecord}
@@ -98,10 +98,6 @@ stimulus_low horizon width before (change ∷ changes) short narrow all =
     let time : change.0 < horizon = grind (arith, nat_tests) in
     All-cons IsChange change changes (omega (arith, time, short), level_low width change.1 narrow parts.1) (stimulus_low horizon width change.0 changes short narrow parts.2)
 
-pub weaken : {X : Type 0} (P Q : X → Type 0) → ((x : X) → P x → Q x) → (xs : List X) → All P xs → All Q xs
-weaken P Q each [] all = All-nil Q
-weaken P Q each (x ∷ xs) all = All-cons Q x xs (each x (All-head P x xs all)) (weaken P Q each xs (All-tail P x xs all))
-
 pair_plain : (change : ℕ × ℕ) → IsChange change → IsPlain (pair_text change)
 pair_plain change low =
     IsPlain-append (decimal change.0) (61 ∷ decimal change.1) (IsPlain-decimal change.0 low.0)
@@ -114,8 +110,8 @@ module _ (n : Circuit) (circuit : IsCircuit n) (named : HasNames n) where
   set_leads name width valid narrow None ok bytes edits rest = rest
   set_leads name width valid narrow (Some changes) ok bytes edits rest =
       let low = stimulus_low n.horizon width 0 changes circuit.horizon_high narrow ok in
-      let plain = All-cons IsPlain name (map pair_text changes) (IsPlain-name name valid) (All-map IsPlain pair_text changes (weaken IsChange (λ change. IsPlain (pair_text change)) pair_plain changes low)) in
-      let read = weaken IsChange (λ change. change_word (pair_text change) ≡ Ok change) (λ change low. change_back change low.0 low.1) changes low in
+      let plain = All-cons IsPlain name (map pair_text changes) (IsPlain-name name valid) (All-map IsPlain pair_text changes (All-weaker IsChange (λ change. IsPlain (pair_text change)) pair_plain changes low)) in
+      let read = All-weaker IsChange (λ change. change_word (pair_text change) ≡ Ok change) (λ change low. change_back change low.0 low.1) changes low in
       let first : IsPlain (codes "stim") = record { some = omega arith; plain = refl } in
       leads_line (codes "stim") (name ∷ map pair_text changes) (SetStimulus name changes) first plain (stimulus_stated name changes read) bytes edits rest
 

@@ -5,12 +5,14 @@ use Rattle.std.proofs.lemmas.List.{append-nil}
 use Rattle.mp_records.specs.declared.ids.WireId.{WireId}
 use Rattle.mp_records.specs.declared.wire_record.WireRecord.{WireRecord}
 use Rattle.mp_records.specs.declared.module_record.ModuleRecord.{ModuleRecord}
+use Rattle.mp_records.specs.declared.ports.Input.{Input}
 use Rattle.mp_records.specs.declared.ports.Output.{Output}
+use Rattle.mp_records.specs.declared.port_names.InputName.{InputName}
 use Rattle.mp_records.specs.declared.port_names.OutputName.{OutputName}
 use Rattle.mp_netlist.specs.Circuit.{Circuit, IsCircuit, empty_circuit, HasNames}
-use Rattle.mp_model.specs.Replays.{replay}
+use Rattle.mp_netlist.specs.Replays.{replay}
 use Rattle.mp_text.specs.Written.{name_in, wire_name}
-use Rattle.mp_text.specs.RoundTrips.{SameRecords, standing, output_by_name, module_edits, stimulus_edits, bundle_edits, edits_by_name}
+use Rattle.mp_text.specs.RoundTrips.{SameRecords, standing, input_by_name, output_by_name, module_edits, stimulus_edits, bundle_edits, edits_by_name}
 use Rattle.mp_text.proofs.SlotLemmas.{flat_map_agree, map_agree}
 use Rattle.mp_text.proofs.WireStageLemmas.{bare, made, wires_reached}
 use Rattle.mp_text.proofs.ModuleStageLemmas.{modules_reached}
@@ -31,6 +33,9 @@ names_kept (Some r ∷ slots) (suc v) = names_kept slots v
 
 -- modules have the same names of wires in netlists whose wires have the same names
 module _ (c d : Circuit) (names : (w : WireId) → wire_name c w ≡ wire_name d w) where
+  input_agrees : (i : Input) → input_by_name c i ≡ input_by_name d i
+  input_agrees i = let P : List ℕ → InputName = λ name. record { wire = name; delay = i.delay } in ap P (names i.wire)
+
   output_agrees : (o : Output) → output_by_name c o ≡ output_by_name d o
   output_agrees o = by o.delay o.wire
     where
@@ -44,7 +49,7 @@ module _ (c d : Circuit) (names : (w : WireId) → wire_name c w ≡ wire_name d
   module_agrees : (slot : Option ModuleRecord) → module_edits c slot ≡ module_edits d slot
   module_agrees None = refl
   module_agrees (Some r) =
-      let inputs = map_agree (wire_name c) (wire_name d) names r.inputs in
+      let inputs = map_agree (input_by_name c) (input_by_name d) input_agrees r.inputs in
       let outputs = map_agree (output_by_name c) (output_by_name d) output_agrees r.outputs in
       rw (inputs, outputs) refl
 

@@ -6,7 +6,7 @@ use Rattle.mp_records.specs.declared.edit.Edit.{Edit}
 use Rattle.mp_records.specs.declared.edit_error.EditError.{EditError}
 use Rattle.mp_netlist.specs.Circuit.{Circuit}
 use Rattle.mp_netlist.specs.Edits.{after, unless, refusal, edited, first_failing}
-use Rattle.mp_model.specs.Replays.{replay, go_on}
+use Rattle.mp_netlist.specs.Replays.{replay, go_on}
 
 -- each check passes
 abbrev pub AllPass : List (Bool × EditError) → Type 0

@@ -5,15 +5,16 @@ use Rattle.std.specs.Char.{is_ascii_digit, is_ascii_alphabetic}
 use Rattle.std.specs.List.{list_all}
 use Rattle.std.proofs.lemmas.Bool.Decides.{nat_tests}
 use Rattle.std.proofs.lemmas.List.{map-id}
-use Rattle.std.proofs.lemmas.List.Elements.{All-map, All-cons, All-nil, All-head, All-tail}
+use Rattle.std.proofs.lemmas.List.Elements.{All-map, All-weaker}
 use Rattle.mp_modules.specs.declared.kind.Kind.{Kind}
 use Rattle.mp_modules.specs.Kinds.{word_of}
 use Rattle.mp_modules.proofs.WordLemmas.{by_word}
+use Rattle.mp_records.specs.declared.port_names.InputName.{InputName}
 use Rattle.mp_records.specs.declared.port_names.OutputName.{OutputName}
 use Rattle.mp_records.specs.declared.edit.Edit.TheVariants.{AddWire, AddModule, AddBundle, SetStimulus}
 use Rattle.mp_records.specs.Names.{is_name, is_name_byte, begins_with_letter}
 use Rattle.mp_netlist.specs.Limits.{max_horizon}
-use Rattle.mp_words.specs.WordLists.{number_word, change_word, output_word}
+use Rattle.mp_words.specs.WordLists.{number_word, change_word, input_word, output_word}
 use Rattle.mp_text.specs.Statements.{is_mark, Start, Change, horizon_word, stated_horizon, wire_edit, module_edit, parts_edit, stimulus_edit, bundle_edit, stated_edit, statement_of}
 use Rattle.mp_words.specs.WaveLines.{pair_text}
 use Rattle.mp_words.proofs.DecimalLemmas.{decimal_digits}
@@ -67,33 +68,30 @@ number_no_colon n fits = digits_no_colon (decimal n) (decimal_digits n fits)
 letter_no_greater : (b : ℕ) → is_ascii_alphabetic b ≡ true → (b == 62) ≡ false
 letter_no_greater b letter = grind (arith, nat_tests)
 
-pub name_no_greater : (name : List ℕ) → is_name name ≡ true → is_mark 62 name ≡ false
+-- a word that begins with a name is not `>`
+pub name_no_greater : (name rest : List ℕ) → is_name name ≡ true → is_mark 62 (name ++ rest) ≡ false
 unfolding is_name
-name_no_greater [] valid = refl
-name_no_greater (b ∷ bs) valid =
+name_no_greater [] rest valid = let no : ⊥ = cc in absurd no
+name_no_greater (b ∷ bs) rest valid =
     let head = both (begins_with_letter (b ∷ bs) && nat_le (length (b ∷ bs)) 32) (list_all is_name_byte (b ∷ bs)) valid in
-    other_byte 62 b bs (letter_no_greater b (both (begins_with_letter (b ∷ bs)) (nat_le (length (b ∷ bs)) 32) head.0).0)
+    other_byte 62 b (bs ++ rest) (letter_no_greater b (both (begins_with_letter (b ∷ bs)) (nat_le (length (b ∷ bs)) 32) head.0).0)
 
 some_words : {A : Type 0} (write : A → List ℕ) (xs : List A) → 0 < length xs → (length (map write xs) == 0) ≡ false
 some_words write [] some = absurd (omega (arith, some))
 some_words write (x ∷ xs) some = let no : (suc (length (map write xs)) == 0) ≡ false = grind (arith, nat_tests) in no
 
-All-weaken : {X : Type 0} (P Q : X → Type 0) → ((x : X) → P x → Q x) → (xs : List X) → All P xs → All Q xs
-All-weaken P Q each [] all = All-nil Q
-All-weaken P Q each (x ∷ xs) all = All-cons Q x xs (each x (All-head P x xs all)) (All-weaken P Q each xs (All-tail P x xs all))
-
 module _ {I O : Type 0} (name : List ℕ) (kind : Kind) (params : List ℕ) (inputs : List I) (outputs : List O)
-    (input : I → List ℕ) (output : O → List ℕ) (see : O → OutputName)
-    (low : All (λ p. p < 2 ^ 64) params) (names : All (λ i. is_name (input i) ≡ true) inputs) (reads : All (λ o. output_word (output o) ≡ Ok (see o)) outputs)
+    (input : I → List ℕ) (hear : I → InputName) (output : O → List ℕ) (see : O → OutputName)
+    (low : All (λ p. p < 2 ^ 64) params) (unmarked : All (λ i. is_mark 62 (input i) ≡ false) inputs) (heard : All (λ i. input_word (input i) ≡ Ok (hear i)) inputs) (reads : All (λ o. output_word (output o) ≡ Ok (see o)) outputs)
     (some_inputs : 0 < length inputs) (some_outputs : 0 < length outputs) where
   abbrev back : List (List ℕ)
   back = map input inputs ++ (codes ">" ∷ map output outputs)
 
-  pub module_stated : statement_of (codes "module" ∷ name ∷ word_of kind ∷ (map decimal params ++ (codes ":" ∷ back))) ≡ Change (Ok (AddModule name kind params (map input inputs) (map see outputs)))
+  pub module_stated : statement_of (codes "module" ∷ name ∷ word_of kind ∷ (map decimal params ++ (codes ":" ∷ back))) ≡ Change (Ok (AddModule name kind params (map hear inputs) (map see outputs)))
   unfolding statement_of stated_edit module_edit parts_edit
   module_stated =
-      let no_colon = All-map (λ w. is_mark 58 w ≡ false) decimal params (All-weaken (λ p. p < 2 ^ 64) (λ p. is_mark 58 (decimal p) ≡ false) number_no_colon params low) in
-      let no_greater = All-map (λ w. is_mark 62 w ≡ false) input inputs (All-weaken (λ i. is_name (input i) ≡ true) (λ i. is_mark 62 (input i) ≡ false) (λ i. name_no_greater (input i)) inputs names) in
+      let no_colon = All-map (λ w. is_mark 58 w ≡ false) decimal params (All-weaker (λ p. p < 2 ^ 64) (λ p. is_mark 58 (decimal p) ≡ false) number_no_colon params low) in
+      let no_greater = All-map (λ w. is_mark 62 w ≡ false) input inputs unmarked in
       let front = before_first-append (is_mark 58) (codes ":") back refl (map decimal params) no_colon in
       let ports = after_first-append (is_mark 58) (codes ":") back refl (map decimal params) no_colon in
       let ins = before_first-append (is_mark 62) (codes ">") (map output outputs) refl (map input inputs) no_greater in
@@ -101,6 +99,7 @@ module _ {I O : Type 0} (name : List ℕ) (kind : Kind) (params : List ℕ) (inp
       let i = some_words input inputs some_inputs in
       let o = some_words output outputs some_outputs in
       let k = by_word kind in
-      let numbers = each_back number_word decimal (λ p. p) params (All-weaken (λ p. p < 2 ^ 64) (λ p. number_word (decimal p) ≡ Ok p) number_back params low) ∙ ap Ok (map-id params) in
+      let numbers = each_back number_word decimal (λ p. p) params (All-weaker (λ p. p < 2 ^ 64) (λ p. number_word (decimal p) ≡ Ok p) number_back params low) ∙ ap Ok (map-id params) in
+      let hears = each_back input_word input hear inputs heard in
       let read = each_back output_word output see outputs reads in
-      rw (front, ports) (rw (ins, outs) (rw (i, o) (rw k (rw numbers (rw read refl)))))
+      rw (front, ports) (rw (ins, outs) (rw (i, o) (rw k (rw numbers (rw (hears, read) refl)))))

@@ -7,7 +7,7 @@ use Rattle.mp_records.specs.declared.edit.Edit.{Edit}
 use Rattle.mp_records.specs.declared.edit_error.EditError.{EditError}
 use Rattle.mp_netlist.specs.Circuit.{Circuit}
 use Rattle.mp_netlist.specs.Edits.{after}
-use Rattle.mp_model.specs.Replays.{replay, go_on}
+use Rattle.mp_netlist.specs.Replays.{replay, go_on}
 use Rattle.mp_text.specs.declared.text_code.TextCode.TheVariants.{Refused}
 use Rattle.mp_text.specs.LineErrors.{in_text}
 use Rattle.mp_words.specs.Lines.{lines_of}

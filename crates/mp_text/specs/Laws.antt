@@ -3,7 +3,7 @@ use Rattle.std.specs.Prelude.{◌≡◌, ℕ, List, [], ◌∷◌, Option, Some,
 use Rattle.std.specs.List.{filter_map}
 use Rattle.mp_records.specs.declared.edit.Edit.{Edit}
 use Rattle.mp_netlist.specs.Circuit.{Circuit, empty_circuit}
-use Rattle.mp_model.specs.Replays.{replay}
+use Rattle.mp_netlist.specs.Replays.{replay}
 use Rattle.mp_words.specs.Lines.{lines_of}
 use Rattle.mp_words.specs.Words.{words_of}
 use Rattle.mp_text.specs.Statements.{Statement, Blank, Unknown, Start, Change, statement_of}

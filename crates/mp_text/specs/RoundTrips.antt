@@ -4,7 +4,9 @@ use Rattle.std.specs.List.{flat_map, filter_map}
 use Rattle.mp_records.specs.declared.wire_record.WireRecord.{WireRecord}
 use Rattle.mp_records.specs.declared.module_record.ModuleRecord.{ModuleRecord}
 use Rattle.mp_records.specs.declared.bundle_record.BundleRecord.{BundleRecord}
+use Rattle.mp_records.specs.declared.ports.Input.{Input}
 use Rattle.mp_records.specs.declared.ports.Output.{Output}
+use Rattle.mp_records.specs.declared.port_names.InputName.{InputName}
 use Rattle.mp_records.specs.declared.port_names.OutputName.{OutputName}
 use Rattle.mp_records.specs.declared.edit.Edit.{Edit}
 use Rattle.mp_records.specs.declared.edit.Edit.TheVariants.{AddWire, AddModule, AddBundle, SetStimulus}
@@ -18,13 +20,17 @@ abbrev pub wire_edits : Option WireRecord → List Edit
 wire_edits None = []
 wire_edits (Some r) = AddWire r.name r.width r.initial ∷ []
 
+-- an input with its wire's name
+abbrev pub input_by_name : Circuit → Input → InputName
+input_by_name n input = record { wire = wire_name n input.wire; delay = input.delay }
+
 -- an output with its wire's name
 abbrev pub output_by_name : Circuit → Output → OutputName
 output_by_name n output = record { wire = option_map (wire_name n) output.wire; delay = output.delay }
 
 abbrev pub module_edits : Circuit → Option ModuleRecord → List Edit
 module_edits n None = []
-module_edits n (Some r) = AddModule r.name r.kind r.params (map (wire_name n) r.inputs) (map (output_by_name n) r.outputs) ∷ []
+module_edits n (Some r) = AddModule r.name r.kind r.params (map (input_by_name n) r.inputs) (map (output_by_name n) r.outputs) ∷ []
 
 abbrev pub set_edits : List ℕ → Option (List (ℕ × ℕ)) → List Edit
 set_edits name None = []

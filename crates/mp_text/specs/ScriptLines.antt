@@ -3,11 +3,11 @@ use Rattle.std.specs.Prelude.{ℕ, List, [], ◌∷◌, Option, Some, Result, Ok
 use Rattle.std.specs.Option.{ok_or}
 use Rattle.std.specs.Str.{bytes_eq}
 use Rattle.mp_records.specs.declared.edit.Edit.{Edit}
-use Rattle.mp_records.specs.declared.edit.Edit.TheVariants.{RemoveWire, RemoveModule, RemoveBundle, RewireInput, RewireOutput, SetDelay, ClearStimulus}
+use Rattle.mp_records.specs.declared.edit.Edit.TheVariants.{RemoveWire, RemoveModule, RemoveBundle, RewireInput, RewireOutput, SetInputDelay, SetDelay, ClearStimulus}
 use Rattle.mp_words.specs.declared.line_error.LineError.{LineError}
 use Rattle.mp_words.specs.declared.line_error.LineError.TheVariants.{UnknownStatement, WordCount}
 use Rattle.mp_text.specs.declared.line_word.LineWord.{LineWord}
-use Rattle.mp_text.specs.declared.line_word.LineWord.TheVariants.{Stated, Remove, Input, Output, Delay, Clear, Wave, Waves, Text}
+use Rattle.mp_text.specs.declared.line_word.LineWord.TheVariants.{Stated, Remove, Input, Output, InputDelay, Delay, Clear, Wave, Waves, Text}
 use Rattle.mp_text.specs.declared.script_line.Line.{Line}
 use Rattle.mp_text.specs.declared.script_line.Line.TheVariants.{Empty, Change, Ask}
 use Rattle.mp_text.specs.declared.script_line.Question.{Question}
@@ -39,6 +39,14 @@ output_edit (part ∷ port ∷ wire ∷ []) = do
   p ← number_word port
   Ok (RewireOutput part p (wire_or_none wire))
 output_edit _ = Err WordCount
+
+-- the edit of the words behind `indelay`
+unfoldable pub input_delay_edit : List (List ℕ) → Result Edit LineError
+input_delay_edit (part ∷ port ∷ delay ∷ []) = do
+  p ← number_word port
+  d ← number_word delay
+  Ok (SetInputDelay part p d)
+input_delay_edit _ = Err WordCount
 
 -- the edit of the words behind `delay`
 unfoldable pub delay_edit : List (List ℕ) → Result Edit LineError
@@ -77,12 +85,13 @@ line_word word =
     if bytes_eq word (codes "remove") then Some Remove
     else (if bytes_eq word (codes "input") then Some Input
     else (if bytes_eq word (codes "output") then Some Output
+    else (if bytes_eq word (codes "indelay") then Some InputDelay
     else (if bytes_eq word (codes "delay") then Some Delay
     else (if bytes_eq word (codes "clear") then Some Clear
     else (if bytes_eq word (codes "wave") then Some Wave
     else (if bytes_eq word (codes "waves") then Some Waves
     else (if bytes_eq word (codes "text") then Some Text
-    else option_map Stated (edit_word word))))))))
+    else option_map Stated (edit_word word)))))))))
 
 -- the line of that word and the words behind it
 unfoldable pub stated_line : LineWord → List (List ℕ) → Result Line LineError
@@ -90,6 +99,7 @@ stated_line (Stated word) words = change_line (stated_edit word words)
 stated_line Remove words = change_line (removal words)
 stated_line Input words = change_line (input_edit words)
 stated_line Output words = change_line (output_edit words)
+stated_line InputDelay words = change_line (input_delay_edit words)
 stated_line Delay words = change_line (delay_edit words)
 stated_line Clear words = change_line (clearing words)
 stated_line Wave words = question_line (wave_question words)

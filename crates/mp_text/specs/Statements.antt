@@ -12,7 +12,7 @@ use Rattle.mp_words.specs.declared.line_error.LineError.{LineError}
 use Rattle.mp_words.specs.declared.line_error.LineError.TheVariants.{UnknownStatement, WordCount, BadNumber}
 use Rattle.mp_text.specs.declared.edit_word.EditWord.{EditWord}
 use Rattle.mp_text.specs.declared.edit_word.EditWord.TheVariants.{Wire, Module, Stimulus, Bundle}
-use Rattle.mp_words.specs.WordLists.{number_word, change_word, output_word, each_word}
+use Rattle.mp_words.specs.WordLists.{number_word, change_word, input_word, output_word, each_word}
 use Rattle.mp_words.specs.Reads.{◌>>=◌}
 
 abbrev pub kind_word : List ℕ → Result Kind LineError
@@ -44,8 +44,9 @@ parts_edit name kind params inputs outputs =
     else (do
       k ← kind_word kind
       numbers ← each_word number_word params
-      ports ← each_word output_word outputs
-      Ok (AddModule name k numbers inputs ports))
+      reads ← each_word input_word inputs
+      drives ← each_word output_word outputs
+      Ok (AddModule name k numbers reads drives))
 
 -- a word of one byte alone
 abbrev pub is_mark : ℕ → List ℕ → Bool

@@ -1,5 +1,5 @@
 -- How a netlist is written.
-use Rattle.std.specs.Prelude.{ℕ, List, [], ◌∷◌, ◌++◌, map, Option, Some, None, codes}
+use Rattle.std.specs.Prelude.{ℕ, List, [], ◌∷◌, ◌++◌, map, Option, Some, None, codes, ◌==◌, if◌then◌else◌}
 use Rattle.std.specs.List.{flat_map}
 use Rattle.std.specs.Fmt.{decimal}
 use Rattle.mp_modules.specs.Kinds.{word_of}
@@ -7,6 +7,7 @@ use Rattle.mp_records.specs.declared.ids.WireId.{WireId}
 use Rattle.mp_records.specs.declared.wire_record.WireRecord.{WireRecord}
 use Rattle.mp_records.specs.declared.module_record.ModuleRecord.{ModuleRecord}
 use Rattle.mp_records.specs.declared.bundle_record.BundleRecord.{BundleRecord}
+use Rattle.mp_records.specs.declared.ports.Input.{Input}
 use Rattle.mp_records.specs.declared.ports.Output.{Output}
 use Rattle.mp_netlist.specs.Circuit.{Circuit, wire_at}
 use Rattle.mp_words.specs.WaveLines.{pair_text}
@@ -35,6 +36,14 @@ name_in (Some r) = r.name
 abbrev pub wire_name : Circuit → WireId → List ℕ
 wire_name n wire = name_in (wire_at n wire.0)
 
+-- the delay of an input, as `/4`, and nothing where there is none
+abbrev pub delay_text : ℕ → List ℕ
+delay_text delay = if delay == 0 then [] else 47 ∷ decimal delay
+
+-- an input, as `a`, or with its delay, as `a/4`
+abbrev pub input_text : Circuit → Input → List ℕ
+input_text n input = wire_name n input.wire ++ delay_text input.delay
+
 -- the name of the wire at an output, `-` where there is none
 abbrev pub output_name : Circuit → Option WireId → List ℕ
 output_name n None = codes "-"
@@ -48,7 +57,7 @@ abbrev pub module_line : Circuit → Option ModuleRecord → List ℕ
 module_line n None = []
 module_line n (Some r) =
     written_line (codes "module") (r.name ∷ word_of r.kind
-    ∷ (map decimal r.params ++ (codes ":" ∷ (map (wire_name n) r.inputs ++ (codes ">" ∷ map (output_text n) r.outputs)))))
+    ∷ (map decimal r.params ++ (codes ":" ∷ (map (input_text n) r.inputs ++ (codes ">" ∷ map (output_text n) r.outputs)))))
 
 abbrev pub stimulus_words : List ℕ → Option (List (ℕ × ℕ)) → List ℕ
 stimulus_words name None = []

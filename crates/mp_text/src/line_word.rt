@@ -12,6 +12,8 @@ pub enum LineWord {
     Input,
     /// `output`
     Output,
+    /// `indelay`
+    InputDelay,
     /// `delay`
     Delay,
     /// `clear`
@@ -38,6 +40,8 @@ impl LineWord {
             Some(LineWord::Input)
         } else if word == b"output".as_slice() {
             Some(LineWord::Output)
+        } else if word == b"indelay".as_slice() {
+            Some(LineWord::InputDelay)
         } else if word == b"delay".as_slice() {
             Some(LineWord::Delay)
         } else if word == b"clear".as_slice() {

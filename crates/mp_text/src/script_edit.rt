@@ -2,7 +2,7 @@
 ghost use Rattle.mp_words.specs.declared.line_error.LineError.TheVariants.{OutOfMemory};
 ghost use Rattle.mp_words.specs.Reads.{Gives};
 ghost use Rattle.mp_words.specs.Words.{texts, AreAscii};
-ghost use Rattle.mp_text.specs.ScriptLines.{removal, input_edit, output_edit, delay_edit, clearing};
+ghost use Rattle.mp_text.specs.ScriptLines.{removal, input_edit, output_edit, input_delay_edit, delay_edit, clearing};
 
 use mp_netlist::Edit;
 use mp_words::{LineError, name_of, number_word, wire_or_none};
@@ -66,6 +66,24 @@ pub fn output_edit(alloc: Global, words: &[&[u8]]) -> Result<Edit, LineError>
         module: name_of(alloc, part)?,
         port,
         wire: wire_or_none(alloc, wire)?,
+    })
+}
+
+/// The edit of the words behind `indelay`.
+#[tactic(auto, unfolding(crate::specs::ScriptLines::input_delay_edit))]
+pub fn input_delay_edit(alloc: Global, words: &[&[u8]]) -> Result<Edit, LineError>
+    requires { AreAscii words.now }
+    ensures { Gives OutOfMemory (λ edit. edit) result (input_delay_edit (texts words.now)) }
+{
+    let [part, port, delay] = words else {
+        return Err(LineError::WordCount);
+    };
+    let port = number_word(port)?;
+    let delay = number_word(delay)?;
+    Ok(Edit::SetInputDelay {
+        module: name_of(alloc, part)?,
+        port,
+        delay,
     })
 }
 

@@ -9,7 +9,7 @@ ghost use Rattle.mp_text.specs.Statements.{stated_edit, wire_edit, parts_edit, m
 use crate::edit_word::EditWord;
 use mp_modules::Kind;
 use mp_netlist::{Changes, Edit, InputNames, OutputNames, Params};
-use mp_words::{LineError, changes, name_of, names, number_word, numbers, outputs};
+use mp_words::{LineError, changes, inputs, name_of, number_word, numbers, outputs};
 use std::alloc::Global;
 
 /// The edit of a first word and the words behind it.
@@ -100,21 +100,21 @@ fn parts_edit(
     name: &[u8],
     kind: &[u8],
     params: &[&[u8]],
-    inputs: &[&[u8]],
+    ins: &[&[u8]],
     outs: &[&[u8]],
 ) -> Result<Edit, LineError>
     requires name { IsAscii name.now }
-    requires inputs { AreAscii inputs.now }
+    requires inputs { AreAscii ins.now }
     requires outputs { AreAscii outs.now }
-    ensures { Gives OutOfMemory (λ edit. edit) result (parts_edit name.now kind.now (texts params.now) (texts inputs.now) (texts outs.now)) }
+    ensures { Gives OutOfMemory (λ edit. edit) result (parts_edit name.now kind.now (texts params.now) (texts ins.now) (texts outs.now)) }
 {
-    if inputs.is_empty() || outs.is_empty() {
+    if ins.is_empty() || outs.is_empty() {
         return Err(LineError::WordCount);
     }
     let kind = kind_word(kind)?;
     let params = numbers(alloc, params)?;
+    let inputs = inputs(alloc, ins)?;
     let outputs = outputs(alloc, outs)?;
-    let inputs = names(alloc, inputs)?;
     Ok(Edit::AddModule {
         name: name_of(alloc, name)?,
         kind,

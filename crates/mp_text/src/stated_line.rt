@@ -6,7 +6,9 @@ ghost use Rattle.mp_words.specs.Words.{texts, AreAscii};
 ghost use Rattle.mp_text.specs.ScriptLines.{line_at, line_of, stated_line, wave_question, bare_question};
 
 use crate::line_word::LineWord;
-use crate::script_edit::{clearing, delay_edit, input_edit, output_edit, removal};
+use crate::script_edit::{
+    clearing, delay_edit, input_delay_edit, input_edit, output_edit, removal,
+};
 use crate::script_line::{Line, Question};
 use crate::stated_edit::stated_edit;
 use mp_words::{LineError, line_words, name_of};
@@ -54,6 +56,7 @@ fn stated_line(alloc: Global, first: LineWord, words: &[&[u8]]) -> Result<Line, 
         LineWord::Remove => Ok(Line::Change(removal(alloc, words)?)),
         LineWord::Input => Ok(Line::Change(input_edit(alloc, words)?)),
         LineWord::Output => Ok(Line::Change(output_edit(alloc, words)?)),
+        LineWord::InputDelay => Ok(Line::Change(input_delay_edit(alloc, words)?)),
         LineWord::Delay => Ok(Line::Change(delay_edit(alloc, words)?)),
         LineWord::Clear => Ok(Line::Change(clearing(alloc, words)?)),
         LineWord::Wave => Ok(Line::Ask(wave_question(alloc, words)?)),

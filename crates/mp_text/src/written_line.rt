@@ -1,9 +1,11 @@
 //! Writing the lines of a netlist's text.
 ghost use Rattle.std.specs.Prelude.{◌≡◌, ◌∷◌, [], ◌++◌, OnOk, Some, map};
 ghost use Rattle.std.specs.Fmt.{decimal};
-ghost use Rattle.mp_text.specs.Written.{spaced, horizon_line, wire_line, wire_name, output_name, output_text, module_line, stimulus_words, stimulus_line, bundle_line};
+ghost use Rattle.mp_text.specs.Written.{spaced, horizon_line, wire_line, wire_name, delay_text, input_text, output_name, output_text, module_line, stimulus_words, stimulus_line, bundle_line};
 
-use mp_netlist::{BundleRecord, ModuleRecord, Netlist, Output, Stimulus, WireId, WireRecord};
+use mp_netlist::{
+    BundleRecord, Input, ModuleRecord, Netlist, Output, Stimulus, WireId, WireRecord,
+};
 use mp_words::{push_changes, push_number};
 use std::alloc::AllocError;
 
@@ -58,13 +60,32 @@ fn push_params(text: &mut Vec<u8>, params: &[u64]) -> Result<(), AllocError>
     Ok(())
 }
 
-fn push_inputs(text: &mut Vec<u8>, netlist: &Netlist, inputs: &[WireId]) -> Result<(), AllocError>
-    ensures { OnOk result (text.new.items ≡ text.old.items ++ spaced (map (wire_name netlist.now) inputs.now)) }
+fn push_inputs(text: &mut Vec<u8>, netlist: &Netlist, inputs: &[Input]) -> Result<(), AllocError>
+    ensures { OnOk result (text.new.items ≡ text.old.items ++ spaced (map (input_text netlist.now) inputs.now)) }
 {
-    for wire in inputs {
-        push_name_word(text, netlist, *wire)?;
+    for input in inputs {
+        text.push(b' ')?;
+        push_input(text, netlist, *input)?;
     }
     Ok(())
+}
+
+fn push_input(text: &mut Vec<u8>, netlist: &Netlist, input: Input) -> Result<(), AllocError>
+    ensures { OnOk result (text.new.items ≡ text.old.items ++ input_text netlist.now input) }
+{
+    push_name(text, netlist, input.wire)?;
+    push_input_delay(text, input.delay)
+}
+
+/// Puts the delay of an input behind the text, and nothing where there is none.
+fn push_input_delay(text: &mut Vec<u8>, delay: u32) -> Result<(), AllocError>
+    ensures { OnOk result (text.new.items ≡ text.old.items ++ delay_text delay) }
+{
+    if delay == 0 {
+        return Ok(());
+    }
+    text.push(b'/')?;
+    push_number(text, u64::from(delay))
 }
 
 fn push_outputs(text: &mut Vec<u8>, netlist: &Netlist, outputs: &[Output]) -> Result<(), AllocError>

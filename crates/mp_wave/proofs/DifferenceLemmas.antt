@@ -12,9 +12,6 @@ pub record BeginAlike (one other : List (ℕ × ℕ)) (place : ℕ) : Type 0 whe
   pub within_other : place ≤ length other
   pub same : (k : ℕ) → k < place → pair_at one k ≡ pair_at other k
 
-pub none_alike : (one other : List (ℕ × ℕ)) → BeginAlike one other 0
-none_alike one other = record { within_one = omega arith; within_other = omega arith; same = λ k lt. absurd (omega arith) }
-
 rest_alike : (x y : ℕ × ℕ) (xs ys : List (ℕ × ℕ)) (place : ℕ) → BeginAlike (x ∷ xs) (y ∷ ys) (suc place) → BeginAlike xs ys place
 rest_alike x y xs ys place alike = record {
   within_one = omega (arith, alike.within_one);
@@ -45,6 +42,20 @@ later_at time level place [] are lt = absurd (omega arith)
 later_at time level zero (x ∷ xs) are lt = are.0
 later_at time level (suc place) (x ∷ xs) are lt = omega (arith, are.0, later_at x.0 x.1 place xs are.2 (omega arith))
 
+same_beginning : (time level place : ℕ) (x y : ℕ × ℕ) (xs ys : List (ℕ × ℕ)) → AreChanges time level (y ∷ ys) → BeginAlike (x ∷ xs) (y ∷ ys) (suc place) → AreChanges x.0 x.1 ys
+same_beginning time level place x y xs ys other alike = subst (λ (c : ℕ × ℕ). AreChanges c.0 c.1 ys) (sym (alike.same 0 (omega arith))) other.2
+
+-- where the rests behind a first pair differ at a later change, the lists do
+apart_behind : (time level place : ℕ) (x y : ℕ × ℕ) (xs ys : List (ℕ × ℕ)) → AreChanges time level (x ∷ xs) → BeginAlike (x ∷ xs) (y ∷ ys) (suc place) → place < length xs → level_from x.1 xs (pair_at xs place).0 ≢ level_from x.1 ys (pair_at xs place).0 → level_from level (x ∷ xs) (pair_at xs place).0 ≢ level_from level (y ∷ ys) (pair_at xs place).0
+apart_behind time level place x y xs ys are alike lt apart =
+    let t = (pair_at xs place).0 in
+    let first : y ≡ x = sym (alike.same 0 (omega arith)) in
+    let above : x.0 < t = later_at x.0 x.1 place xs are.2 lt in
+    let ours : level_from level (x ∷ xs) t ≡ level_from x.1 xs t = level_from-rest level t x xs (omega arith) in
+    let theirs : level_from level (y ∷ ys) t ≡ level_from x.1 ys t =
+    ap (λ (c : ℕ × ℕ). level_from level (c ∷ ys) t) first ∙ level_from-rest level t x ys (omega arith) in
+    λ same. apart (sym ours ∙ same ∙ theirs)
+
 -- where one list changes at its place and the other later, they differ
 pub differ_at : (time level place : ℕ) (xs ys : List (ℕ × ℕ)) → AreChanges time level xs → AreChanges time level ys → BeginAlike xs ys place → place < length xs → (place < length ys → (pair_at xs place).0 < (pair_at ys place).0) → level_from level xs (pair_at xs place).0 ≢ level_from level ys (pair_at xs place).0
 differ_at time level place [] ys are other alike lt later = absurd (omega arith)
@@ -52,16 +63,8 @@ differ_at time level zero (x ∷ xs) ys are other alike lt later =
     λ same. are.1 (sym (before_first level x.0 ys later) ∙ sym same ∙ level_from-first time level x xs are)
 differ_at time level (suc place) (x ∷ xs) [] are other alike lt later = absurd (omega (arith, alike.within_other))
 differ_at time level (suc place) (x ∷ xs) (y ∷ ys) are other alike lt later =
-    let t = (pair_at xs place).0 in
-    let first : y ≡ x = sym (alike.same 0 (omega arith)) in
-    let above : x.0 < t = later_at x.0 x.1 place xs are.2 (omega arith) in
-    let ours : level_from level (x ∷ xs) t ≡ level_from x.1 xs t = level_from-rest level t x xs (omega arith) in
-    let theirs : level_from level (y ∷ ys) t ≡ level_from x.1 ys t =
-    ap (λ (c : ℕ × ℕ). level_from level (c ∷ ys) t) first ∙ level_from-rest level t x ys (omega arith) in
-    let apart =
-    differ_at x.0 x.1 place xs ys are.2 (subst (λ (c : ℕ × ℕ). AreChanges c.0 c.1 ys) first other.2) (rest_alike x y xs ys place alike) (omega arith)
-    (λ lt. later (omega arith)) in
-    λ same. apart (sym ours ∙ same ∙ theirs)
+    apart_behind time level place x y xs ys are alike (omega arith)
+    (differ_at x.0 x.1 place xs ys are.2 (same_beginning time level place x y xs ys other alike) (rest_alike x y xs ys place alike) (omega arith) (λ lt. later (omega arith)))
 
 -- where both change at once to different levels, they differ
 pub differ_together : (time level place : ℕ) (xs ys : List (ℕ × ℕ)) → AreChanges time level xs → AreChanges time level ys → BeginAlike xs ys place → place < length xs → place < length ys → (pair_at xs place).0 ≡ (pair_at ys place).0 → (pair_at xs place).1 ≢ (pair_at ys place).1 → level_from level xs (pair_at xs place).0 ≢ level_from level ys (pair_at xs place).0
@@ -71,15 +74,8 @@ differ_together time level zero (x ∷ xs) (y ∷ ys) are other alike lt lt_othe
     λ same.
     levels (sym (level_from-first time level x xs are) ∙ same ∙ ap (level_from level (y ∷ ys)) times ∙ level_from-first time level y ys other)
 differ_together time level (suc place) (x ∷ xs) (y ∷ ys) are other alike lt lt_other times levels =
-    let t = (pair_at xs place).0 in
-    let first : y ≡ x = sym (alike.same 0 (omega arith)) in
-    let above : x.0 < t = later_at x.0 x.1 place xs are.2 (omega arith) in
-    let ours : level_from level (x ∷ xs) t ≡ level_from x.1 xs t = level_from-rest level t x xs (omega arith) in
-    let theirs : level_from level (y ∷ ys) t ≡ level_from x.1 ys t =
-    ap (λ (c : ℕ × ℕ). level_from level (c ∷ ys) t) first ∙ level_from-rest level t x ys (omega arith) in
-    let apart =
-    differ_together x.0 x.1 place xs ys are.2 (subst (λ (c : ℕ × ℕ). AreChanges c.0 c.1 ys) first other.2) (rest_alike x y xs ys place alike) (omega arith) (omega arith) times levels in
-    λ same. apart (sym ours ∙ same ∙ theirs)
+    apart_behind time level place x y xs ys are alike (omega arith)
+    (differ_together x.0 x.1 place xs ys are.2 (same_beginning time level place x y xs ys other alike) (rest_alike x y xs ys place alike) (omega arith) (omega arith) times levels)
 
 other_alike : (xs ys : List (ℕ × ℕ)) (place : ℕ) → BeginAlike xs ys place → BeginAlike ys xs place
 other_alike xs ys place alike = record {

@@ -2,9 +2,9 @@ ghost use Rattle.std.specs.Prelude.{◌<◌, ◌^◌, length};
 
 use crate::{Wave, WaveBuilder, WaveCause, WaveError};
 use std::alloc::{AllocError, Global};
-use std::process::Abort;
 use std::test::Fail;
 
+/// Why the pairs are no changes of a wave that begins at 0, if they are none.
 fn refusal(alloc: Global, changes: &[(u32, u64)]) -> Result<Option<WaveError>, AllocError>
     requires { length changes.now < 2 ^ 32 }
 {
@@ -20,105 +20,55 @@ fn wave_of(alloc: Global, changes: &[(u32, u64)]) -> Result<Wave, Fail>
 }
 
 #[test]
-fn wave_values(rt: HostRuntime) -> Result<(), Fail> {
-    let alloc = rt.alloc();
-    assert_eq!(rt; refusal(alloc, &[])?, None);
-    assert_eq!(rt; refusal(alloc, &[(2, 1), (5, 0)])?, None);
-    assert_eq!(rt;
-        refusal(alloc, &[(2, 1), (2, 0)])?,
-        Some(WaveError {
-            place: 1,
-            cause: WaveCause::Order
-        })
-    );
-    assert_eq!(rt;
-        refusal(alloc, &[(2, 0)])?,
-        Some(WaveError {
-            place: 0,
-            cause: WaveCause::Same
-        })
-    );
-    assert_eq!(rt;
-        refusal(alloc, &[(0, 1)])?,
-        Some(WaveError {
-            place: 0,
-            cause: WaveCause::Time
-        })
-    );
-    differences(&rt)?;
-    prefix(&rt)
+fn wave_values_refused(rt: HostRuntime) -> Result<(), Fail> {
+    let order = WaveError {
+        place: 1,
+        cause: WaveCause::Order,
+    };
+    let same = WaveError {
+        place: 0,
+        cause: WaveCause::Same,
+    };
+    let time = WaveError {
+        place: 0,
+        cause: WaveCause::Time,
+    };
+    assert!(rt; refusal(rt.alloc(), &[(2, 1), (2, 0)])? == Some(order));
+    assert!(rt; refusal(rt.alloc(), &[(2, 0)])? == Some(same));
+    assert!(rt; refusal(rt.alloc(), &[(0, 1)])? == Some(time));
+    Ok(())
 }
 
-fn differences(rt: &(impl Abort + AllocGlobal)) -> Result<(), Fail> {
+#[test]
+fn wave_values_differ(rt: HostRuntime) -> Result<(), Fail> {
     let sooner = wave_of(rt.alloc(), &[(2, 1)])?;
     let later = wave_of(rt.alloc(), &[(3, 1)])?;
-    assert_eq!(rt; sooner.first_difference(&later, 10), Some(2));
-    assert_eq!(rt; later.first_difference(&sooner, 10), Some(2));
-    assert_eq!(rt; sooner.first_difference(&later, 2), None);
-    let copy = sooner.copy()?;
-    assert_eq!(rt; copy.changes(), [(2, 1)].as_slice());
-    assert_eq!(rt; copy.initial(), 0);
-    assert_eq!(rt; sooner.first_difference(&copy, u32::MAX), None);
-    let steady = Wave::constant(rt.alloc(), 1);
-    assert_eq!(rt; sooner.first_difference(&steady, 5), Some(0));
-    assert_eq!(rt; sooner.first_difference(&steady, 0), None);
+    assert!(rt; sooner.first_difference(&later, 10) == Some(2));
+    assert!(rt; sooner.first_difference(&later, 2).is_none());
     Ok(())
 }
 
-fn prefix(rt: &(impl Abort + AllocGlobal)) -> Result<(), Fail> {
+/// The levels before 4, and what is pushed behind them.
+fn extended(alloc: Global, wave: &Wave) -> Result<Wave, AllocError> {
+    let mut builder = WaveBuilder::from_prefix(alloc, wave, 4)?;
+    builder.push_level(4, 1)?;
+    builder.push_level(6, 0)?;
+    Ok(builder.finish())
+}
+
+#[test]
+fn wave_values_built(rt: HostRuntime) -> Result<(), Fail> {
     let wave = wave_of(rt.alloc(), &[(2, 1), (5, 0)])?;
-    assert_eq!(rt; wave.changes_between(2, 6), [(5, 0)].as_slice());
-    assert_eq!(rt; wave.changes_between(2, 5), [].as_slice());
-    let mut builder = WaveBuilder::from_prefix(rt.alloc(), &wave, 4)?;
-    assert_eq!(rt; builder.next_time(), 4);
-    builder.push_level(4, 1)?;
-    builder.push_level(6, 0)?;
-    let built = builder.finish();
-    assert_eq!(rt; built.initial(), 0);
-    assert_eq!(rt; built.changes(), [(2, 1), (6, 0)].as_slice());
+    let built = extended(rt.alloc(), &wave)?;
+    assert!(rt; built.initial() == 0 && built.changes() == [(2, 1), (6, 0)].as_slice());
     Ok(())
 }
 
 #[test]
-fn levels(rt: HostRuntime) -> Result<(), Fail> {
-    let alloc = rt.alloc();
-    let steady = Wave::constant(alloc, 7);
-    assert_eq!(rt; steady.level_at(0), 7);
-    assert_eq!(rt; steady.level_at(u32::MAX), 7);
-    assert_eq!(rt; steady.changes().len(), 0);
-
-    let Ok(wave) = Wave::from_changes(3, Vec::from_slice(alloc, &[(2, 1), (5, 0), (9, 4)])?) else {
-        panic!(rt; "refused");
-    };
-    assert_eq!(rt; wave.initial(), 3);
-    assert_eq!(rt; wave.changes(), [(2, 1), (5, 0), (9, 4)].as_slice());
-    for (time, level) in [
-        (0, 3),
-        (1, 3),
-        (2, 1),
-        (4, 1),
-        (5, 0),
-        (8, 0),
-        (9, 4),
-        (u32::MAX, 4),
-    ] {
-        assert_eq!(rt; wave.level_at(time), level, "at {time}");
-    }
-    Ok(())
-}
-
-#[test]
-fn building(rt: HostRuntime) -> Result<(), Fail> {
-    let mut builder = WaveBuilder::new(rt.alloc(), 0);
-    assert_eq!(rt; builder.next_time(), 1);
-    builder.push_level(2, 1)?;
-    assert_eq!(rt; builder.next_time(), 3);
-    builder.push_level(4, 1)?;
-    assert_eq!(rt; builder.next_time(), 5);
-    builder.push_level(6, 0)?;
-    let wave = builder.finish();
-    assert_eq!(rt; wave.initial(), 0);
-    assert_eq!(rt; wave.changes(), [(2, 1), (6, 0)].as_slice());
+fn wave_values_copied(rt: HostRuntime) -> Result<(), Fail> {
+    let wave = wave_of(rt.alloc(), &[(2, 1), (6, 0)])?;
+    let copy = wave.copy()?;
+    assert!(rt; copy.initial() == 0 && copy.changes() == wave.changes());
     Ok(())
 }
 
@@ -129,9 +79,6 @@ fn refusals_in_words(rt: HostRuntime) -> Result<(), Fail> {
         cause: WaveCause::Order,
     };
     let text = format!(in rt.alloc(); "{error}")?;
-    assert_eq!(rt;
-        text.as_str(),
-        "pair 1 is no change: it is not later than the pair before"
-    );
+    assert!(rt; text.as_str() == "pair 1 is no change: it is not later than the pair before");
     Ok(())
 }

@@ -28,7 +28,8 @@ const WAVES: &str = "Writes the wave of each wire of a netlist";
 const WAVES_LONG: &str = "\
 Reads a netlist's text of at most 4194304 bytes from standard input: a line `horizon H`, with H from \
 1 to 65536, and then the lines `wire NAME WIDTH LEVEL`, `module NAME KIND PARAM .. : IN .. > \
-OUT/DELAY ..`, `stim WIRE T=V ..` and `bundle NAME REQ ACK DATA SETUP`.
+OUT/DELAY ..`, where an input with a delay is `IN/E`, `stim WIRE T=V ..` and `bundle NAME REQ ACK \
+DATA SETUP`.
 
 Writes a line for each wire, by number, on standard output: `NAME INITIAL T=V ..`, with its level at \
 time 0 and its level V from each time T on at which it changes below the horizon.
@@ -41,8 +42,8 @@ const PLAY_LONG: &str = "\
 Reads from standard input, at most 4194304 bytes, a netlist's text as `waves` does, then a line \
 `---`, and behind it a script. Its lines are edits: `wire`, `module`, `stim` and `bundle` as in a \
 text, `remove wire NAME`, `remove module NAME`, `remove bundle NAME`, `input MODULE PORT WIRE`, \
-`output MODULE PORT WIRE` (or `-` for no wire), `delay MODULE PORT D` and `clear WIRE`; and \
-questions: `wave WIRE`, `waves` and `text`.
+`output MODULE PORT WIRE` (or `-` for no wire), `indelay MODULE PORT E`, `delay MODULE PORT D` and \
+`clear WIRE`; and questions: `wave WIRE`, `waves` and `text`.
 
 Answers each line in turn on standard output: an edit by `accepted N`, with how many edits were \
 accepted so far, or `refused CODE NAME`, which changes nothing; a question by the wire's line, the \
@@ -54,11 +55,16 @@ A netlist's text that is refused is told on standard error as `mpwb: line N: COD
 /// its place: help, the version, what is wrong with the words, or want of memory.
 pub fn read_words<'a>(alloc: Global, words: &'a [String]) -> Result<Request, Error> {
     let matches = parser(alloc)?.try_get_matches_from(words)?;
-    Ok(match matches.subcommand() {
-        Some(("play", found)) => request(Command::Play, found),
-        Some((_, found)) => request(Command::Waves, found),
-        None => request(Command::Waves, &matches),
-    })
+    match matches.subcommand() {
+        Some(("waves", found)) => Ok(request(Command::Waves, found)),
+        Some(("play", found)) => Ok(request(Command::Play, found)),
+        _ => Err(no_command(alloc)?),
+    }
+}
+
+/// What is told where the words name no command that the program runs.
+fn no_command(alloc: Global) -> Result<Error, AllocError> {
+    parser(alloc)?.error(ErrorKind::InvalidSubcommand, "unrecognized subcommand")
 }
 
 /// Tells what is told in place of a run, and returns the status with which the program ends: help

@@ -3,12 +3,10 @@
 
 mod command_line;
 mod request;
-#[cfg(test)]
-mod tests;
 
 use command_line::{read_words, tell};
 use mp_commands::{RunFault, exit_status, fault_line, run_play, run_waves};
-use mp_model::{ReadSource, WriteSink};
+use mp_streams::{ReadSource, WriteSink};
 use request::{Command, Request};
 use std::io::ErrorKind;
 use std::process::ExitCode;

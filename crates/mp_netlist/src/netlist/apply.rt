@@ -12,16 +12,19 @@ use mp_records::{
 use std::alloc::AllocError;
 
 impl Netlist {
-    ghost use Rattle.std.specs.Prelude.{◌≡◌, ◌<◌, [], ◌∷◌, ◌++◌, Ok, None, Some, length, IfOk, IfErr, OnOk, OnErr, option_map, string_bytes};
+    ghost use Rattle.std.specs.Prelude.{◌≡◌, ◌<◌, [], ◌∷◌, ◌++◌, Ok, None, Some, length, IfOk, IfErr, OnOk, OnErr, IsTrue, option_map, string_bytes};
+    ghost use Rattle.mp_records.specs.declared.edit_error.EditError.TheVariants.{OutOfMemory};
     ghost use Rattle.mp_records.specs.PortChanges.{with_input, with_input_delay, with_output, with_delay};
     ghost use Rattle.mp_netlist.specs.Circuit.{IsCircuit, wire_at, module_at, wire_named, module_named, bundle_named};
-    ghost use Rattle.mp_netlist.specs.Edits.{after, RefusedBy, wire_refusal, wire_removal_refusal, module_refusal, module_removal_refusal, bundle_refusal, bundle_removal_refusal, input_refusal, output_refusal, input_delay_refusal, delay_refusal, stimulus_refusal, clearing_refusal, with_wire_record, with_new_wire, new_module, with_new_module, new_bundle, with_new_bundle, with_bundle, with_stimulus, without_stimulus, with_wire, with_module, wire_id, module_id, bundle_id};
+    ghost use Rattle.mp_netlist.specs.Edits.{after, RefusedBy, takes_memory, wire_refusal, wire_removal_refusal, module_refusal, module_removal_refusal, bundle_refusal, bundle_removal_refusal, input_refusal, output_refusal, input_delay_refusal, delay_refusal, stimulus_refusal, clearing_refusal, with_wire_record, with_new_wire, new_module, with_new_module, new_bundle, with_new_bundle, with_bundle, with_stimulus, without_stimulus, with_wire, with_module, wire_id, module_id, bundle_id};
 
     #[tactic(auto, unfolding(crate::specs::Edits::edited, crate::specs::Edits::refusal))]
-    /// Makes the edit, or says which check fails first. A refusal leaves the netlist as it was.
+    /// Makes the edit, or says which check fails first, or `OutOfMemory`, which no edit is told but those that add a thing or set a
+    /// stimulus. A refusal leaves the netlist as it was.
     pub fn apply(&mut self, edit: &Edit) -> Result<(), EditError>
         ensures ok { OnOk result (after self.old edit.now ≡ Ok self.new) }
         ensures refused { IfErr result (RefusedBy (after self.old edit.now)) }
+        ensures memory { IfErr result (λ error. error ≡ OutOfMemory → IsTrue (takes_memory edit.now)) }
         ensures err { OnErr result (self.new ≡ self.old) }
     {
         self.check(edit)?;

@@ -1,5 +1,6 @@
 use Rattle.std.proofs.Common.{◌≡◌, ◌≤◌, [], false, length, Ok, refl, sym, ap, ◌∙◌, rules, arith}
 use Rattle.std.proofs.lemmas.Result.{err_from_is_err_and}
+use Rattle.mp_commands.specs.Limits.{max_input}
 use Rattle.mp_commands.specs.OptionLimits.{has_valid_crew}
 use Rattle.mp_commands.specs.Outputs.{output_of}
 use Rattle.mp_commands.specs.Plays.{first_netlist, script_text}
@@ -15,7 +16,7 @@ returns-then-input-gt-MAX_INPUT-clause-refused c =
 pub returns-in_err-netlist-clause-refused : goal.returns-in_err-netlist-clause-refused
 returns-in_err-netlist-clause-refused c =
     let input = c.args.input.now in
-    let within : length input ≤ 4194304 = omega arith in
+    let within : length input ≤ max_input = omega arith in
     let same = first_netlist-of input c.in_ok-front.front.now within c.in_ok-front.ensures.short c.in_ok-front.ensures.front in
     let p = err_from_is_err_and c.from_residual-in_err-netlist.result c.from_residual-in_err-netlist.ensures.1 in
     rw (p.1, p.2) (refused_read (script_text [] input) (first_netlist input) (has_valid_crew c.args.options.now) c.in_err-netlist.field-0.0 (rw (sym same) at c.in_err-netlist.ensures.read))
@@ -23,7 +24,7 @@ returns-in_err-netlist-clause-refused c =
 pub returns-then-not-has_valid_crew-clause-refused : goal.returns-then-not-has_valid_crew-clause-refused
 returns-then-not-has_valid_crew-clause-refused c =
     let input = c.args.input.now in
-    let within : length input ≤ 4194304 = omega arith in
+    let within : length input ≤ max_input = omega arith in
     let same = first_netlist-of input c.in_ok-front.front.now within c.in_ok-front.ensures.short c.in_ok-front.ensures.front in
     let invalid : has_valid_crew c.args.options.now ≡ false = search rules in
     ap (λ read. output_of (script_text [] input) read (has_valid_crew c.args.options.now)) (same ∙ c.in_ok-netlist.ensures.read)
@@ -32,7 +33,7 @@ returns-then-not-has_valid_crew-clause-refused c =
 pub returns-clause-opened : goal.returns-clause-opened
 returns-clause-opened c =
     let input = c.args.input.now in
-    let within : length input ≤ 4194304 = omega arith in
+    let within : length input ≤ max_input = omega arith in
     let same = first_netlist-of input c.in_ok-front.front.now within c.in_ok-front.ensures.short c.in_ok-front.ensures.front in
     rw c.in_ok-new.ensures (record {
       netlist = same ∙ c.in_ok-netlist.ensures.read;

@@ -1,0 +1,3 @@
+pub mod StreamBytes
+pub mod StreamFaults
+pub mod TakeErrors

@@ -1,0 +1,22 @@
+//! Where bytes go to and come from: sinks, sources, and what they do with all of some bytes.
+#![tactic(auto)]
+
+mod failed;
+mod putting;
+mod read_source;
+mod sink;
+mod source;
+mod take_error;
+mod taking;
+#[cfg(test)]
+mod tests;
+mod write_sink;
+
+pub use failed::Failed;
+pub use putting::put_all;
+pub use read_source::ReadSource;
+pub use sink::Sink;
+pub use source::Source;
+pub use take_error::TakeError;
+pub use taking::take_all;
+pub use write_sink::WriteSink;
