@@ -1,4 +1,4 @@
-use Rattle.std.proofs.Common.{map, take, ap, length, arith}
+use Rattle.std.proofs.Common.{take, ap, length, arith}
 use Rattle.std.proofs.lemmas.List.{length-map, length-take-le}
 use Rattle.mp_engine.specs.Cells.{entrance_of}
 use Rattle.mp_engine.proofs.starting.entrances_of.Goals as goal
