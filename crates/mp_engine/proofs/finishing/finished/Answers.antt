@@ -1,0 +1,34 @@
+use Rattle.std.proofs.Common.{◌≡◌, ℕ, ◌+◌, ◌-◌, ◌<◌, sym, subst, arith}
+use Rattle.mp_engine.specs.Cells.{AreCells}
+use Rattle.mp_engine.specs.Runs.{IsRun}
+use Rattle.mp_engine.proofs.FinishLemmas.{run_is}
+use Rattle.mp_engine.proofs.UnitLemmas.{cells_all}
+use Rattle.mp_engine.proofs.finishing.finished.Goals as goal
+
+ends_at : (h : ℕ) → 0 < h → h - 1 + 1 ≡ h
+ends_at h low = omega (arith, low)
+
+pub finished_waves-requires-clause-places : goal.finished_waves-requires-clause-places
+finished_waves-requires-clause-places c = (c.requires.over _ (ends_at c.args.netlist.now.horizon (omega (arith, c.requires.form.horizon_low)))).ready.wires.wave_places
+
+pub finished_waves-requires-clause-whole : goal.finished_waves-requires-clause-whole
+finished_waves-requires-clause-whole c = λ w within. ((c.requires.over _ (ends_at c.args.netlist.now.horizon (omega (arith, c.requires.form.horizon_low)))).ready.wires.each w within).wave
+
+pub end_memories-requires-clause-cells : goal.end_memories-requires-clause-cells
+end_memories-requires-clause-cells c =
+    let n = c.args.netlist.now in
+    let e = c.args.engine in
+    let next = ends_at n.horizon (omega (arith, c.requires.form.horizon_low)) in
+    let after = c.requires.over (n.horizon - 1) next in
+    subst (AreCells n (λ m. n.horizon)) (sym c.as_slice.ensures.value)
+    (subst (λ k. AreCells n (λ m. k) e.cells.items) next (cells_all n (n.horizon - 1) e.marks.items e.cells.items after.unmarked after.ready.cells))
+
+pub shared_checkpoints-requires : goal.shared_checkpoints-requires
+shared_checkpoints-requires c = (c.requires.over _ (ends_at c.args.netlist.now.horizon (omega (arith, c.requires.form.horizon_low)))).ready.history.kept.places
+
+pub returns : goal.returns
+returns c =
+    let n = c.args.netlist.now in
+    let next = ends_at n.horizon (omega (arith, c.requires.form.horizon_low)) in
+    subst (IsRun n) (sym c.new.ensures)
+    (run_is n c.requires.form c.args.engine (n.horizon - 1) next (c.requires.over (n.horizon - 1) next) _ c.horizon.ensures.value c.in_ok-waves.ensures c.in_ok-ends.ensures c.in_ok-kept.ensures)

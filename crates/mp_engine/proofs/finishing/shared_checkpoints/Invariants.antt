@@ -1,0 +1,14 @@
+use Rattle.std.proofs.Common.{◌≡◌, ◌≤◌, ℕ, [], length, map, option_map, slice_index_or}
+use Rattle.std.specs.Arc.{arc_value}
+use Rattle.mp_records.specs.declared.module_record.ModuleRecord.{ModuleRecord}
+use Rattle.mp_netlist.specs.Circuit.{module_at}
+use Rattle.mp_engine.specs.Outcomes.{AreSlots}
+use Rattle.mp_engine.proofs.finishing.shared_checkpoints.Given as goal
+
+-- those so far, and the others are left
+abbrev pub invariant-loop-m : goal.invariant-loop-m
+invariant-loop-m l = record {
+  places : length l.left.items ≡ length l.netlist.modules;
+  made : AreSlots l.m (λ m. option_map (λ (r : ModuleRecord). slice_index_or l.fn.kept.items m []) (module_at l.netlist m)) (map (option_map arc_value) l.found.items);
+  left : (k : ℕ) → l.m ≤ k → slice_index_or l.left.items k [] ≡ slice_index_or l.fn.kept.items k [];
+}

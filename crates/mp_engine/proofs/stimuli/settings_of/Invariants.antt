@@ -1,0 +1,6 @@
+use Rattle.mp_engine.proofs.SettingLemmas.{AreSetBelow}
+use Rattle.mp_engine.proofs.stimuli.settings_of.Given as goal
+
+-- what the wires so far have set
+abbrev pub invariant-loop-w : goal.invariant-loop-w
+invariant-loop-w l = AreSetBelow l.netlist l.w l.list.items

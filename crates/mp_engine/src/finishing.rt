@@ -1,0 +1,133 @@
+//! An evaluation at its end.
+ghost use Rattle.std.specs.Prelude.{◌≡◌, ℕ, ◌+◌, ◌<◌, [], IfOk, length, map, option_map, slice_index_or};
+ghost use Rattle.std.specs.Arc.{arc_value};
+ghost use Rattle.mp_records.specs.declared.module_record.ModuleRecord.{ModuleRecord};
+ghost use Rattle.mp_netlist.specs.Circuit.{IsCircuit, wire_at, module_at};
+ghost use Rattle.mp_model.specs.Waves.{wave, slot_wave};
+ghost use Rattle.mp_engine.specs.Cells.{AreCells};
+ghost use Rattle.mp_engine.specs.Engines.{IsAfter};
+ghost use Rattle.mp_engine.specs.Lines.{building_at};
+ghost use Rattle.mp_engine.specs.Outcomes.{AreSlots};
+ghost use Rattle.mp_engine.specs.Runs.{IsRun, end_memory};
+
+use crate::cell::Cell;
+use crate::checkpoints::Checkpoints;
+use crate::engine::Engine;
+use crate::run::Run;
+use mp_modules::Memory;
+use mp_netlist::{ModuleId, Netlist, WireId};
+use mp_wave::{Wave, WaveBuilder};
+use std::alloc::{AllocError, Global};
+use std::sync::Arc;
+
+/// What an evaluation gives that has passed the last unit.
+pub(crate) fn finished(alloc: Global, netlist: &Netlist, engine: Engine) -> Result<Run, AllocError>
+    requires form { IsCircuit netlist.now }
+    requires over { (last : ℕ) → last + 1 ≡ netlist.now.horizon → IsAfter netlist.now last engine }
+    ensures { IfOk result (λ run. IsRun netlist.now run) }
+{
+    let Engine {
+        waves,
+        cells,
+        history,
+        ..
+    } = engine;
+    let waves = finished_waves(alloc, netlist, waves)?;
+    let ends = end_memories(alloc, netlist, cells.as_slice())?;
+    let kept = shared_checkpoints(alloc, netlist, history.kept)?;
+    Ok(Run::new(netlist.horizon(), waves, ends, kept))
+}
+
+fn finished_waves(
+    alloc: Global,
+    netlist: &Netlist,
+    built: Vec<WaveBuilder>,
+) -> Result<Vec<Option<Arc<Wave, Global>>>, AllocError>
+    requires places { length built.items ≡ length netlist.now.wires }
+    requires whole { (w : ℕ) → w < length netlist.now.wires → (building_at built.items w).wave ≡ wave netlist.now w }
+    ensures { IfOk result (λ found. AreSlots (length netlist.now.wires) (λ w. slot_wave netlist.now w (wire_at netlist.now w)) (map (option_map arc_value) found.items)) }
+{
+    let mut left = built;
+    let mut found = Vec::new(alloc);
+    for w in 0..netlist.wire_slots() {
+        let builder = std::mem::replace(&mut left[w as usize], WaveBuilder::new(alloc, 0));
+        found.push(finished_wave(alloc, netlist, WireId(w), builder)?)?;
+    }
+    Ok(found)
+}
+
+fn finished_wave(
+    alloc: Global,
+    netlist: &Netlist,
+    wire: WireId,
+    builder: WaveBuilder,
+) -> Result<Option<Arc<Wave, Global>>, AllocError>
+    requires { builder.wave ≡ wave netlist.now wire.0 }
+    ensures { IfOk result (λ found. option_map arc_value found ≡ slot_wave netlist.now wire.0 (wire_at netlist.now wire.0)) }
+{
+    match netlist.wire(wire) {
+        Some(_) => Ok(Some(Arc::new(alloc, builder.finish())?)),
+        None => Ok(None),
+    }
+}
+
+/// The states of the modules that stand.
+fn end_memories(
+    alloc: Global,
+    netlist: &Netlist,
+    cells: &[Cell],
+) -> Result<Vec<Option<Memory>>, AllocError>
+    requires form { IsCircuit netlist.now }
+    requires cells { AreCells netlist.now (λ m. netlist.now.horizon) cells.now }
+    ensures { IfOk result (λ found. AreSlots (length netlist.now.modules) (end_memory netlist.now) found.items) }
+{
+    let mut found = Vec::new(alloc);
+    for m in 0..netlist.module_slots() {
+        found.push(end_memory(netlist, cells, ModuleId(m)))?;
+    }
+    Ok(found)
+}
+
+fn end_memory(netlist: &Netlist, cells: &[Cell], id: ModuleId) -> Option<Memory>
+    requires form { IsCircuit netlist.now }
+    requires low { id.0 < length netlist.now.modules }
+    requires cells { AreCells netlist.now (λ m. netlist.now.horizon) cells.now }
+    ensures { result ≡ end_memory netlist.now id.0 }
+{
+    match netlist.module(id) {
+        Some(_) => Some(cells[id.0 as usize].memory),
+        None => None,
+    }
+}
+
+/// What was kept of the modules that stand.
+fn shared_checkpoints(
+    alloc: Global,
+    netlist: &Netlist,
+    kept: Vec<Checkpoints>,
+) -> Result<Vec<Option<Arc<Checkpoints, Global>>>, AllocError>
+    requires { length kept.items ≡ length netlist.now.modules }
+    ensures { IfOk result (λ found. AreSlots (length netlist.now.modules) (λ m. option_map (λ (r : ModuleRecord). slice_index_or kept.items m []) (module_at netlist.now m)) (map (option_map arc_value) found.items)) }
+{
+    let mut left = kept;
+    let mut found = Vec::new(alloc);
+    for m in 0..netlist.module_slots() {
+        let checkpoints = std::mem::replace(&mut left[m as usize], Checkpoints::new(alloc));
+        found.push(shared(alloc, netlist, ModuleId(m), checkpoints)?)?;
+    }
+    Ok(found)
+}
+
+fn shared(
+    alloc: Global,
+    netlist: &Netlist,
+    id: ModuleId,
+    checkpoints: Checkpoints,
+) -> Result<Option<Arc<Checkpoints, Global>>, AllocError>
+    ensures { IfOk result (λ found. option_map arc_value found ≡ option_map (λ (r : ModuleRecord). checkpoints) (module_at netlist.now id.0)) }
+{
+    match netlist.module(id) {
+        Some(_) => Ok(Some(Arc::new(alloc, checkpoints)?)),
+        None => Ok(None),
+    }
+}

@@ -1,0 +1,87 @@
+//! What an evaluation gives.
+ghost use Rattle.std.specs.Prelude.{◌≡◌};
+
+use crate::checkpoints::Checkpoints;
+use crate::history::CHECKPOINT_UNITS;
+use mp_modules::Memory;
+use mp_netlist::{ModuleId, WireId};
+use mp_wave::Wave;
+use std::alloc::Global;
+use std::marker::Model;
+use std::sync::Arc;
+
+/// The wave of each wire of a netlist up to its horizon, and states of its modules: the last ones, and those at checkpoints.
+#[derive(Drop)]
+pub struct Run {
+    horizon: u32,
+    waves: Vec<Option<Arc<Wave, Global>>>,
+    ends: Vec<Option<Memory>>,
+    kept: Vec<Option<Arc<Checkpoints, Global>>>,
+}
+
+impl Model for Run {
+    ghost use Rattle.std.specs.Prelude.{map, option_map};
+    ghost use Rattle.std.specs.Arc.{arc_value};
+    ghost use Rattle.mp_engine.specs.Outcomes.{Outcome};
+
+    ghost Value = { Outcome };
+
+    ghost view = { λ run. record { horizon = run.horizon; waves = map (option_map arc_value) run.waves.items; ends = run.ends.items; kept = map (option_map arc_value) run.kept.items } };
+}
+
+impl Run {
+    ghost use Rattle.std.specs.Prelude.{◌≡◌, map, option_map};
+    ghost use Rattle.std.specs.Option.{option_copied};
+    ghost use Rattle.std.specs.Arc.{arc_value};
+    ghost use Rattle.mp_engine.specs.Outcomes.{Outcome, wave_of, end_of, checkpoint_of};
+
+    pub(crate) fn new(
+        horizon: u32,
+        waves: Vec<Option<Arc<Wave, Global>>>,
+        ends: Vec<Option<Memory>>,
+        kept: Vec<Option<Arc<Checkpoints, Global>>>,
+    ) -> Self
+        ensures { result ≡ record { horizon = horizon; waves = map (option_map arc_value) waves.items; ends = ends.items; kept = map (option_map arc_value) kept.items } }
+    {
+        Run {
+            horizon,
+            waves,
+            ends,
+            kept,
+        }
+    }
+
+    /// The wave of a wire that stands.
+    pub fn wave(&self, wire: WireId) -> Option<&Wave>
+        ensures { option_copied result ≡ wave_of self.now wire.0 }
+    {
+        match self.waves.get(wire.0 as usize) {
+            Some(Some(wave)) => Some(wave),
+            _ => None,
+        }
+    }
+
+    /// The state of a module that stands, after the last unit.
+    pub fn end_memory(&self, module: ModuleId) -> Option<Memory>
+        ensures { result ≡ end_of self.now module.0 }
+    {
+        match self.ends.get(module.0 as usize) {
+            Some(Some(memory)) => Some(*memory),
+            _ => None,
+        }
+    }
+
+    /// The state of a module that stands, before the unit of a checkpoint: a multiple of `CHECKPOINT_UNITS` below the horizon. The state
+    /// before time 0 is that in which the module starts. Nothing for any other time.
+    pub fn checkpoint(&self, module: ModuleId, time: u32) -> Option<Memory>
+        ensures { result ≡ checkpoint_of self.now module.0 time }
+    {
+        if time >= self.horizon || !time.is_multiple_of(CHECKPOINT_UNITS) {
+            return None;
+        }
+        match self.kept.get(module.0 as usize) {
+            Some(Some(kept)) => Some(kept.kept_at(time)),
+            _ => None,
+        }
+    }
+}
