@@ -22,7 +22,8 @@ returns c =
         cells = cells;
         mark_places = marks;
         listed = λ m is. let not = none m in let no : ⊥ = cc in absurd no;
-        late = before.late;
+        taps = c.requires.before.taps;
+        tap_places = c.requires.before.tap_places;
         some = let some = before.some in omega (arith, places, some);
         room = λ m p r at. let room = before.room m p r at in omega (arith, places, room);
         calendar = calendar;
