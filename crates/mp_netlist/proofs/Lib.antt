@@ -9,3 +9,4 @@ pub mod PortEditLemmas
 pub mod ModuleLemmas
 pub mod EditLemmas
 pub mod RecordLemmas
+mod BatchLemmas
