@@ -1,7 +1,5 @@
 //! A netlist with its waves, which a script edits.
-ghost use Rattle.std.specs.Prelude.{◌≡◌, Ok, IsOk, IfOk, IfErr};
-ghost use Rattle.mp_records.specs.declared.edit_error.EditError.TheVariants.{OutOfMemory};
-ghost use Rattle.mp_netlist.specs.Edits.{after};
+ghost use Rattle.std.specs.Prelude.{◌≡◌};
 
 use crate::limits::MAX_EDITS;
 use mp_model::plain_waves;
@@ -32,10 +30,11 @@ impl Model for Keeper {
 }
 
 impl Keeper {
-    ghost use Rattle.std.specs.Prelude.{◌≡◌, Ok, IfOk, IfErr, OnOk, OnErr};
+    ghost use Rattle.std.specs.Prelude.{◌≡◌, ◌<◌, ◌≤◌, Ok, IfOk, IfErr, OnOk, OnErr};
     ghost use Rattle.mp_model.specs.Waves.{waves as waves_of};
     ghost use Rattle.mp_netlist.specs.Edits.{RefusedBy};
-    ghost use Rattle.mp_commands.specs.Keepers.{opened, kept_after};
+    ghost use Rattle.mp_commands.specs.Limits.{max_edits};
+    ghost use Rattle.mp_commands.specs.Keepers.{opened, one_more, kept_after};
 
     /// The netlist before the first edit.
     pub fn new(alloc: Global, netlist: Netlist) -> Result<Keeper, AllocError>
@@ -64,32 +63,47 @@ impl Keeper {
     }
 
     /// Makes the edit, and tells how many were accepted so far. A refused edit, for the first check that it fails, for a full history or for
-    /// want of memory, changes neither the netlist nor its waves.
+    /// want of memory, changes neither the netlist nor its waves. A batch counts as one.
     pub fn change(&mut self, alloc: Global, edit: &Edit) -> Result<u32, EditError>
         ensures ok { OnOk result (kept_after self.old edit.now ≡ Ok self.new) }
         ensures count { IfOk result (λ accepted. accepted ≡ self.new.accepted) }
-        ensures refused { IfErr result (RefusedBy (kept_after self.old edit.now)) }
+        ensures refused { IfErr result (RefusedBy edit.now (kept_after self.old edit.now)) }
         ensures err { OnErr result (self.new ≡ self.old) }
     {
-        self.netlist.check(edit)?;
-        if self.accepted >= MAX_EDITS {
-            return Err(EditError::HistoryFull);
-        }
-        let next = Keeper::new(alloc, edited(&self.netlist, edit)?)?;
+        let netlist = self.next(edit)?;
+        let next = Keeper::new(alloc, netlist)?;
         self.netlist = next.netlist;
         self.waves = next.waves;
         self.accepted += 1;
         Ok(self.accepted)
     }
-}
 
-/// The netlist after an edit that no check refuses.
-fn edited(netlist: &Netlist, edit: &Edit) -> Result<Netlist, EditError>
-    requires { IsOk (after netlist.now edit.now) }
-    ensures next { IfOk result (λ next. after netlist.now edit.now ≡ Ok next) }
-    ensures memory { IfErr result (λ error. error ≡ OutOfMemory) }
-{
-    let mut next = netlist.copy()?;
-    next.apply(edit)?;
-    Ok(next)
+    /// The netlist after the edit, where it is accepted.
+    fn next(&self, edit: &Edit) -> Result<Netlist, EditError>
+        ensures ok { IfOk result (λ next. kept_after self.now edit.now ≡ Ok (one_more self.now next)) }
+        ensures refused { IfErr result (RefusedBy edit.now (kept_after self.now edit.now)) }
+        ensures room { IfOk result (λ _. self.now.accepted < max_edits) }
+    {
+        if self.accepted >= MAX_EDITS {
+            return Err(self.refusal_when_full(edit));
+        }
+        self.netlist.after(edit)
+    }
+
+    /// Why the edit is refused in a full history: for its own fault, where it has one. A batch is judged whole for that.
+    fn refusal_when_full(&self, edit: &Edit) -> EditError
+        requires { max_edits ≤ self.now.accepted }
+        ensures { RefusedBy edit.now (kept_after self.now edit.now) result }
+    {
+        match edit {
+            Edit::Single(_) => match self.netlist.check(edit) {
+                Ok(()) => EditError::HistoryFull,
+                Err(error) => error,
+            },
+            Edit::Batch(_) => match self.netlist.after(edit) {
+                Ok(_) => EditError::HistoryFull,
+                Err(error) => error,
+            },
+        }
+    }
 }

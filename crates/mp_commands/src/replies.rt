@@ -1,8 +1,9 @@
 //! The replies to the lines of a script.
 ghost use Rattle.std.specs.Prelude.{◌≡◌, true, IfOk, IfErr};
 ghost use Rattle.mp_commands.specs.declared.run_fault.RunFault.TheVariants.{OutOfMemory};
+ghost use Rattle.mp_records.specs.declared.edit_error.EditError.TheVariants.{InBatch};
 ghost use Rattle.mp_netlist.specs.Circuit.{wire_named};
-ghost use Rattle.mp_commands.specs.Replies.{accepted_text, refused_text, unread_text, coded_text, wire_text, answer_text, is_fault, Changed, Replied, Answered};
+ghost use Rattle.mp_commands.specs.Replies.{accepted_text, refused_text, refusal_text, unread_text, coded_text, wire_text, answer_text, is_fault, Changed, Replied, Answered};
 
 use crate::keeper::Keeper;
 use crate::numbered::push_numbered;
@@ -77,10 +78,27 @@ fn accepted_text(alloc: Global, accepted: u32) -> Result<Vec<u8>, AllocError>
 fn refused_text(alloc: Global, error: EditError) -> Result<Vec<u8>, AllocError>
     ensures { IfOk result (λ text. text.items ≡ refused_text error) }
 {
-    let number = error.number();
+    match error {
+        EditError::InBatch { place, number } => batch_text(alloc, place, number),
+        _ => refusal_text(alloc, "refused ", error.number()),
+    }
+}
+
+/// Tells why a batch is refused: the place of the edit and its own refusal.
+fn batch_text(alloc: Global, place: u32, number: u32) -> Result<Vec<u8>, AllocError>
+    ensures { IfOk result (λ text. text.items ≡ refused_text (InBatch place number)) }
+{
+    let word = format!(in alloc; "refused 21 InBatch {place} ")?;
+    refusal_text(alloc, word.as_str(), number)
+}
+
+/// A line of a word with the number and name of a refusal.
+fn refusal_text(alloc: Global, word: &str, number: u32) -> Result<Vec<u8>, AllocError>
+    ensures { IfOk result (λ text. text.items ≡ refusal_text word.now number) }
+{
     coded_text(
         alloc,
-        "refused ",
+        word,
         number,
         EditError::name_of(number).unwrap_or(""),
     )

@@ -1,7 +1,9 @@
 //! The waves of a netlist, where there is memory.
 use crate::plain_waves;
 use mp_modules::Kind;
-use mp_netlist::{Edit, InputName, InputNames, Name, Netlist, OutputName, OutputNames, Params};
+use mp_netlist::{
+    Edit, InputName, InputNames, Name, Netlist, OutputName, OutputNames, Params, SingleEdit,
+};
 use std::alloc::{AllocError, Global};
 use std::test::Fail;
 
@@ -10,11 +12,11 @@ fn name(alloc: Global) -> Result<Name, AllocError> {
 }
 
 fn wire(alloc: Global) -> Result<Edit, AllocError> {
-    Ok(Edit::AddWire {
+    Ok(Edit::Single(SingleEdit::AddWire {
         name: name(alloc)?,
         width: 1,
         level: 0,
-    })
+    }))
 }
 
 /// An inverter that reads its own output.
@@ -27,13 +29,17 @@ fn inverter(alloc: Global) -> Result<Edit, AllocError> {
         wire: Some(name(alloc)?),
         delay: 1,
     };
-    Ok(Edit::AddModule {
+    let input = InputName {
+        wire: name(alloc)?,
+        delay: 0,
+    };
+    Ok(Edit::Single(SingleEdit::AddModule {
         name: name(alloc)?,
         kind: Kind::Not,
         params: Params::new(Vec::new(alloc)),
         inputs: InputNames::new(vec![in alloc; input]?),
         outputs: OutputNames::new(vec![in alloc; output]?),
-    })
+    }))
 }
 
 #[test]

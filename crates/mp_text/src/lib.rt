@@ -1,12 +1,14 @@
 //! The texts of netlists, and the lines of scripts.
 #![tactic(auto)]
 
+mod batch_line;
 mod edit_word;
 pub mod laws;
 mod line_word;
 mod reading;
 mod script_edit;
 mod script_line;
+mod single_word;
 mod stated_edit;
 mod stated_line;
 mod statement;
