@@ -1,5 +1,5 @@
 -- What the lines of a script are answered.
-use Rattle.std.specs.Prelude.{◌≡◌, ℕ, Bool, true, false, List, [], ◌∷◌, ◌++◌, Option, Some, None, Result, Ok, Err, codes, unwrap_or}
+use Rattle.std.specs.Prelude.{◌≡◌, ℕ, Bool, true, false, List, [], ◌∷◌, ◌++◌, Option, Some, None, Result, Ok, Err, codes, unwrap_or, OnOk}
 use Rattle.std.specs.Fmt.{decimal}
 use Rattle.mp_records.specs.declared.edit.Edit.{Edit}
 use Rattle.mp_records.specs.declared.edit_error.EditError.{EditError}
@@ -16,7 +16,9 @@ use Rattle.mp_text.specs.declared.script_line.Question.TheVariants.{Wave, Waves,
 use Rattle.mp_words.specs.LineErrors.{line_number_of, line_name_of}
 use Rattle.mp_text.specs.ScriptLines.{line_at}
 use Rattle.mp_text.specs.Written.{written}
+use Rattle.mp_commands.specs.declared.run_fault.RunFault.{RunFault}
 use Rattle.mp_commands.specs.RunFaults.{numbered}
+use Rattle.mp_commands.specs.Runs.{Puts}
 use Rattle.mp_commands.specs.Outputs.{slot_line, waves_text}
 use Rattle.mp_commands.specs.Keepers.{Kept, kept_after}
 
@@ -88,11 +90,12 @@ abbrev pub Changed : List ℕ → Kept → Kept → Edit → Type 0
 Changed text old new edit =
     (wanting : Bool) × (text ≡ edit_text wanting (kept_after old edit)) × (new ≡ unless_wanting wanting old (kept_after old edit))
 
--- a line that was read was answered by this text
-abbrev pub Replied : List ℕ → Kept → Kept → Line → Type 0
-Replied text old new line =
-    (wanting : Bool) × (text ≡ reply_to wanting old (Ok line)) × (new ≡ next_kept wanting old (Ok line))
+-- a line that was read was answered, or a part of its reply was put
+abbrev pub PutsReply : Result (Unit {0}) RunFault → Option (List ℕ) → Option (List ℕ) → List ℕ → List ℕ → Kept → Kept → Line → Type 0
+PutsReply result old new held rest kept next line =
+    (wanting : Bool) × Puts result old new held rest (reply_to wanting kept (Ok line)) × OnOk result (next ≡ next_kept wanting kept (Ok line))
 
--- a line was answered by this text
-abbrev pub Answered : List ℕ → Kept → Kept → List ℕ → Type 0
-Answered text old new line = (wanting : Bool) × (text ≡ reply wanting old line) × (new ≡ kept_next wanting old line)
+-- a line was answered, or a part of its reply was put
+abbrev pub Answers : Result (Unit {0}) RunFault → Option (List ℕ) → Option (List ℕ) → List ℕ → List ℕ → Kept → Kept → List ℕ → Type 0
+Answers result old new held rest kept next line =
+    (wanting : Bool) × Puts result old new held rest (reply wanting kept line) × OnOk result (next ≡ kept_next wanting kept line)

@@ -5,15 +5,15 @@ ghost use Rattle.mp_words.specs.Lines.{lines_of};
 ghost use Rattle.mp_commands.specs.Limits.{max_taken};
 ghost use Rattle.mp_commands.specs.RunFaults.{counted_reads, counted_writes};
 ghost use Rattle.mp_commands.specs.Runs.{HasInput, Refuses, comes_first};
-ghost use Rattle.mp_commands.specs.Plays.{Played, PlayedScript, Opens, play_output};
+ghost use Rattle.mp_commands.specs.Plays.{Played, PlayedScript, PutsReplies, Opens, play_output};
 
 use crate::keeper::Keeper;
 use crate::limits::{MAX_INPUT, MAX_TAKEN};
 use crate::options::Options;
-use crate::put_text::put_text;
-use crate::replies::reply;
+use crate::put_text::put_rest;
+use crate::replies::put_reply;
 use crate::run_fault::RunFault;
-use mp_streams::{Sink, Source, take_all};
+use mp_streams::{Sink, Source, WriteBuffer, take_all};
 use mp_text::{TextCode, TextError, divided, first_line, read_netlist};
 use std::alloc::Global;
 
@@ -76,11 +76,27 @@ fn play_script<T: Sink>(
     ensures written { PlayedScript result keeper.old (lines_of script.now) (T.taken sink.old) (T.taken sink.new) }
     ensures faults { T.fault_count sink.new ≡ counted_writes result (T.fault_count sink.old) }
 {
+    let mut buffer = WriteBuffer::new(alloc)?;
+    put_replies(alloc, &mut buffer, sink, keeper, script)?;
+    put_rest(&mut buffer, sink)
+}
+
+/// Puts the replies to the lines of a script in turn through the buffer.
+fn put_replies<T: Sink>(
+    alloc: Global,
+    buffer: &mut WriteBuffer,
+    sink: &mut T,
+    keeper: &mut Keeper,
+    script: &[u8],
+) -> Result<(), RunFault>
+    requires { T.fault_count sink.old < 2 ^ 64 - 1 }
+    ensures written { PutsReplies result (T.taken sink.old) (T.taken sink.new) buffer.old buffer.new keeper.old (lines_of script.now) }
+    ensures faults { T.fault_count sink.new ≡ counted_writes result (T.fault_count sink.old) }
+{
     let mut rest = script;
     while !rest.is_empty() {
         let (line, others) = first_line(rest);
-        let text = reply(alloc, keeper, line)?;
-        put_text(sink, text.as_slice())?;
+        put_reply(alloc, buffer, sink, keeper, line)?;
         rest = others;
     }
     Ok(())

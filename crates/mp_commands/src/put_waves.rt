@@ -5,15 +5,15 @@ ghost use Rattle.mp_commands.specs.Outputs.{waves_text};
 ghost use Rattle.mp_commands.specs.RunFaults.{counted_writes};
 ghost use Rattle.mp_commands.specs.Runs.{Wrote, comes_first};
 
-use crate::put_text::put_text;
+use crate::put_text::put_rest;
 use crate::run_fault::RunFault;
-use crate::wave_lines::push_slot_line;
-use mp_netlist::{Netlist, WireId};
-use mp_streams::Sink;
+use crate::wave_lines::put_lines;
+use mp_netlist::Netlist;
+use mp_streams::{Sink, WriteBuffer};
 use mp_wave::Wave;
 use std::alloc::Global;
 
-/// Writes the line of each wire that stands, by number. One line is in memory at a time.
+/// Writes the line of each wire that stands, by number.
 pub fn put_waves<T: Sink>(
     alloc: Global,
     sink: &mut T,
@@ -26,11 +26,7 @@ pub fn put_waves<T: Sink>(
     ensures written { Wrote result (Ok (waves_text netlist.now)) (T.taken sink.old) (T.taken sink.new) }
     ensures faults { T.fault_count sink.new ≡ counted_writes result (T.fault_count sink.old) }
 {
-    let mut line = Vec::new(alloc);
-    for number in 0..netlist.wire_slots() {
-        line.clear();
-        push_slot_line(&mut line, netlist, waves, WireId(number))?;
-        put_text(sink, line.as_slice())?;
-    }
-    Ok(())
+    let mut buffer = WriteBuffer::new(alloc)?;
+    put_lines(&mut buffer, sink, netlist, waves)?;
+    put_rest(&mut buffer, sink)
 }
