@@ -4,6 +4,7 @@
 mod keeper;
 mod limits;
 mod numbered;
+mod open_run;
 mod options;
 mod play_command;
 mod put_text;

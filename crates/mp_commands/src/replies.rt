@@ -16,10 +16,12 @@ use mp_netlist::{Edit, EditError, Name};
 use mp_streams::{Sink, WriteBuffer};
 use mp_text::{Line, LineError, Question, read_line, write_netlist};
 use std::alloc::{AllocError, Global};
+use std::sync::Wait;
 
 /// Puts the reply to a line of a script through the buffer, after its edit, if it is one. A line
 /// without words has none.
-pub fn put_reply<T: Sink>(
+pub fn put_reply<R: Wait, T: Sink>(
+    rt: &R,
     alloc: Global,
     buffer: &mut WriteBuffer,
     sink: &mut T,
@@ -31,7 +33,7 @@ pub fn put_reply<T: Sink>(
     ensures faults { T.fault_count sink.new ≡ counted_writes result (T.fault_count sink.old) }
 {
     match read_line(alloc, line) {
-        Ok(read) => put_line_reply(alloc, buffer, sink, keeper, &read),
+        Ok(read) => put_line_reply(rt, alloc, buffer, sink, keeper, &read),
         Err(error) => {
             let text = unread_text(alloc, error)?;
             put_text(buffer, sink, text.as_slice())
@@ -40,7 +42,8 @@ pub fn put_reply<T: Sink>(
 }
 
 /// Puts the reply to a line that was read, after its edit, if it is one.
-fn put_line_reply<T: Sink>(
+fn put_line_reply<R: Wait, T: Sink>(
+    rt: &R,
     alloc: Global,
     buffer: &mut WriteBuffer,
     sink: &mut T,
@@ -54,7 +57,7 @@ fn put_line_reply<T: Sink>(
     match line {
         Line::Empty => Ok(()),
         Line::Change(edit) => {
-            let text = edit_text(alloc, keeper, edit)?;
+            let text = edit_text(rt, alloc, keeper, edit)?;
             put_text(buffer, sink, text.as_slice())
         }
         Line::Ask(question) => put_answer(alloc, buffer, sink, keeper, question),
@@ -75,7 +78,7 @@ fn put_answer<T: Sink>(
 {
     match question {
         Question::Wave(name) => put_wire(alloc, buffer, sink, keeper, name),
-        Question::Waves => put_lines(buffer, sink, keeper.netlist(), keeper.waves()),
+        Question::Waves => put_lines(buffer, sink, keeper.netlist(), keeper.run()),
         Question::Text => {
             let text = write_netlist(alloc, keeper.netlist())?;
             put_text(buffer, sink, text.as_slice())
@@ -99,14 +102,19 @@ fn put_wire<T: Sink>(
         let text = refused_text(alloc, EditError::NoSuchWire)?;
         return put_text(buffer, sink, text.as_slice());
     };
-    put_slot_line(buffer, sink, keeper.netlist(), keeper.waves(), id)
+    put_slot_line(buffer, sink, keeper.netlist(), keeper.run(), id)
 }
 
 /// Makes the edit, and tells whether it is accepted.
-fn edit_text(alloc: Global, keeper: &mut Keeper, edit: &Edit) -> Result<Vec<u8>, AllocError>
+fn edit_text<R: Wait>(
+    rt: &R,
+    alloc: Global,
+    keeper: &mut Keeper,
+    edit: &Edit,
+) -> Result<Vec<u8>, AllocError>
     ensures { IfOk result (λ text. Changed text.items keeper.old keeper.new edit.now) }
 {
-    match keeper.change(alloc, edit) {
+    match keeper.change(rt, alloc, edit) {
         Ok(accepted) => accepted_text(alloc, accepted),
         Err(error) => refused_text(alloc, error),
     }
