@@ -6,6 +6,8 @@ mod dump_error;
 mod dumping;
 mod lines;
 mod passing;
+#[cfg(test)]
+mod tests;
 mod wave_changes;
 
 pub use dump_error::DumpError;

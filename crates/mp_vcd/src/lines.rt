@@ -117,7 +117,7 @@ fn bit(level: u64) -> u8
 }
 
 /// Puts the identifier code of a wire behind the text.
-fn push_code(text: &mut Vec<u8>, wire: u32) -> Result<(), AllocError>
+pub fn push_code(text: &mut Vec<u8>, wire: u32) -> Result<(), AllocError>
     ensures { OnOk result (text.new.items ≡ text.old.items ++ code wire) }
 {
     let mut rest = wire;
