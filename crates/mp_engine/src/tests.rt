@@ -1,108 +1,66 @@
-//! Small netlists whose waves were worked out by hand.
+//! A small netlist whose wave and states were worked out by hand.
 use crate::{OpenGate, Run, evaluate};
 use mp_modules::Kind;
 use mp_netlist::{
-    Changes, Edit, InputName, InputNames, ModuleId, Name, Netlist, OutputName, OutputNames, Params,
-    WireId,
+    Edit, InputName, InputNames, ModuleId, Name, Netlist, OutputName, OutputNames, Params,
+    SingleEdit, WireId,
 };
 use std::alloc::{AllocError, Global};
 use std::test::Fail;
 
-fn name(alloc: Global, text: &str) -> Result<Name, AllocError> {
-    Ok(Name::new(String::from_str(alloc, text)?))
+fn name(alloc: Global) -> Result<Name, AllocError> {
+    Ok(Name::new(String::from_str(alloc, "y")?))
 }
 
-fn wire(alloc: Global, text: &str) -> Result<Edit, AllocError> {
-    Ok(Edit::AddWire {
-        name: name(alloc, text)?,
+fn wire(alloc: Global) -> Result<SingleEdit, AllocError> {
+    Ok(SingleEdit::AddWire {
+        name: name(alloc)?,
         width: 1,
         level: 0,
     })
 }
 
-fn stimulus(alloc: Global, text: &str, changes: &[(u64, u64)]) -> Result<Edit, AllocError> {
-    Ok(Edit::SetStimulus {
-        wire: name(alloc, text)?,
-        changes: Changes::new(changes.to_vec(alloc)?),
+/// An inverter that hears its own output 200 units later than it changes, which is 300 units after the answer.
+fn inverter(alloc: Global) -> Result<SingleEdit, AllocError> {
+    let input = InputName {
+        wire: name(alloc)?,
+        delay: 200,
+    };
+    let output = OutputName {
+        wire: Some(name(alloc)?),
+        delay: 300,
+    };
+    Ok(SingleEdit::AddModule {
+        name: name(alloc)?,
+        kind: Kind::Not,
+        params: Params::new(Vec::new(alloc)),
+        inputs: InputNames::new(vec![in alloc; input]?),
+        outputs: OutputNames::new(vec![in alloc; output]?),
     })
 }
 
-/// A module whose inputs are wires with delays, and whose output is a wire with a delay.
-fn module(
-    alloc: Global,
-    text: &str,
-    (kind, params): (Kind, &[u64]),
-    inputs: &[(&str, u64)],
-    (output, delay): (&str, u64),
-) -> Result<Edit, AllocError> {
-    let mut ports = Vec::new(alloc);
-    for input in inputs {
-        let (wire, delay) = *input;
-        let wire = name(alloc, wire)?;
-        ports.push(InputName { wire, delay })?;
-    }
-    let wire = Some(name(alloc, output)?);
-    Ok(Edit::AddModule {
-        name: name(alloc, text)?,
-        kind,
-        params: Params::new(params.to_vec(alloc)?),
-        inputs: InputNames::new(ports),
-        outputs: OutputNames::new(vec![in alloc; OutputName { wire, delay }]?),
-    })
+/// Whether the netlist takes the edit. It alone owns one where it ends, since each end spells out how an edit is let go.
+fn accepts(netlist: &mut Netlist, edit: SingleEdit) -> bool {
+    netlist.apply(&Edit::Single(edit)).is_ok()
 }
 
-fn add(netlist: &mut Netlist, edit: Edit) -> Result<(), Fail> {
-    netlist.apply(&edit).ok().ok_or("refused")?;
-    Ok(())
-}
-
-/// A C-element behind a delayed input, and a buffer that its output drives.
-fn late_rendezvous(alloc: Global) -> Result<Netlist, Fail> {
-    let mut netlist = Netlist::empty(alloc, 3000).ok().ok_or("no netlist")?;
-    for text in ["a", "b", "y", "z"] {
-        add(&mut netlist, wire(alloc, text)?)?;
-    }
-    let rendezvous = (Kind::C, [0, 0, 0].as_slice());
-    let inputs = [("a", 4), ("b", 0)];
-    add(
-        &mut netlist,
-        module(alloc, "c", rendezvous, &inputs, ("y", 2))?,
-    )?;
-    let buffer = (Kind::Buf, [].as_slice());
-    add(
-        &mut netlist,
-        module(alloc, "d", buffer, &[("y", 0)], ("z", 1))?,
-    )?;
-    add(&mut netlist, stimulus(alloc, "a", &[(3, 1), (1500, 0)])?)?;
-    add(&mut netlist, stimulus(alloc, "b", &[(5, 1), (1502, 0)])?)?;
-    Ok(netlist)
-}
-
-fn changes(run: &Run, wire: u32) -> &[(u32, u64)] {
-    match run.wave(WireId(wire)) {
-        Some(wave) => wave.changes(),
-        None => &[],
-    }
-}
-
-/// The level of a module's output before its delay, at a checkpoint.
-fn output_before(run: &Run, module: u32, time: u32) -> Option<u64> {
-    let memory = run.checkpoint(ModuleId(module), time)?;
+/// The level of the inverter's output before its delay, before the unit of a checkpoint.
+fn output_before(run: &Run, time: u32) -> Option<u64> {
+    let memory = run.checkpoint(ModuleId(0), time)?;
     Some(memory.output(0))
 }
 
 #[test]
-fn late_rendezvous_runs(rt: HostRuntime) -> Result<(), Fail> {
-    let netlist = late_rendezvous(rt.alloc())?;
+fn late_self_loop(rt: HostRuntime) -> Result<(), Fail> {
+    let mut netlist = Netlist::empty(rt.alloc(), 2000)?;
+    assert!(rt; accepts(&mut netlist, wire(rt.alloc())?));
+    assert!(rt; accepts(&mut netlist, inverter(rt.alloc())?));
     let run = evaluate(rt.alloc(), &rt, &netlist, &OpenGate)?;
-    assert_eq!(rt; changes(&run, 2), [(9, 1), (1506, 0)].as_slice());
-    assert_eq!(rt; changes(&run, 3), [(10, 1), (1507, 0)].as_slice());
-    assert!(rt; run.wave(WireId(4)).is_none());
-    assert_eq!(rt; output_before(&run, 0, 0), Some(0));
-    assert_eq!(rt; output_before(&run, 0, 1024), Some(1));
-    assert_eq!(rt; output_before(&run, 1, 2048), Some(0));
-    assert_eq!(rt; output_before(&run, 0, 1000), None);
-    assert_eq!(rt; output_before(&run, 0, 3072), None);
-    assert!(rt; run.end_memory(ModuleId(1)).is_some());
+    let Some(wave) = run.wave(WireId(0)) else {
+        panic!(rt; "one wave");
+    };
+    assert!(rt; wave.changes() == [(300, 1), (800, 0), (1300, 1), (1800, 0)].as_slice());
+    assert!(rt; output_before(&run, 1024) == Some(1));
+    assert!(rt; output_before(&run, 1023) == None);
     Ok(())
 }
