@@ -1,4 +1,5 @@
 pub mod OutputLemmas
 pub mod RunLemmas
+pub mod PutLemmas
 pub mod PlayLemmas
 pub mod ReplyLemmas

@@ -1,9 +1,8 @@
 -- A script, line after line.
 use Rattle.std.proofs.Common.{◌≡◌, ℕ, ◌<◌, ◌≤◌, ◌⊎◌, inl, inr, Bool, List, [], ◌∷◌, ◌++◌, append_assoc, length, take, Option, Some, None, IfSome, Result, Ok, Err, refl, sym, ap, subst, ◌∙◌, arith}
-use Rattle.std.specs.Io.KnownBytes.{Appends}
 use Rattle.std.proofs.lemmas.Bool.{cases_lt, lt-leb, le-leb}
 use Rattle.std.proofs.lemmas.List.{append-nil, take_all, length-take-le}
-use Rattle.mp_streams.specs.StreamBytes.{AppendsPrefix}
+use Rattle.mp_streams.specs.StreamBytes.{PassesOn}
 use Rattle.mp_text.specs.declared.text_code.TextCode.TheVariants as texts
 use Rattle.mp_text.specs.declared.text_state.TextState.TheVariants.{Fresh}
 use Rattle.mp_words.specs.Lines.{lines_of}
@@ -11,15 +10,15 @@ use Rattle.mp_text.specs.Texts.{text_at, after_lines}
 use Rattle.mp_words.specs.Divisions.{first_part, later_parts}
 use Rattle.mp_commands.specs.declared.options.Options.{Options}
 use Rattle.mp_commands.specs.declared.run_fault.RunFault.{RunFault}
-use Rattle.mp_commands.specs.declared.run_fault.RunFault.TheVariants.{WriteFailed, OutOfMemory}
 use Rattle.mp_commands.specs.Limits.{max_input, max_taken}
 use Rattle.mp_commands.specs.OptionLimits.{has_valid_crew}
 use Rattle.mp_commands.specs.Outputs.{output_of}
 use Rattle.mp_commands.specs.Keepers.{Kept, opened}
 use Rattle.mp_commands.specs.Replies.{reply, kept_next}
-use Rattle.mp_commands.specs.Plays.{replies, first_netlist, script_text, play_output, Played, PlayedScript, Opens}
-use Rattle.mp_commands.specs.Runs.{HasInput, Wrote}
-use Rattle.mp_commands.proofs.RunLemmas.{for_input, part_of, prefix_of}
+use Rattle.mp_commands.specs.Plays.{replies, first_netlist, script_text, play_output, Played, PlayedScript, PutsReplies, Opens}
+use Rattle.mp_commands.specs.Runs.{HasInput, Puts, Wrote}
+use Rattle.mp_commands.proofs.RunLemmas.{for_input}
+use Rattle.mp_commands.proofs.PutLemmas.{puts_then, puts_sooner}
 
 -- ---- the replies so far
 
@@ -50,22 +49,27 @@ one_more first now next lines rest line done text wanting played answered kept =
       ∙ sym (append_assoc done text (replies later next rest));
 }
 
-module _ (first now : Kept) (lines : List (List ℕ)) (done : List ℕ) (old new : Option (List ℕ)) where
-  -- all lines were answered
-  pub played_all : ArePlayed first now lines [] done → Appends old new done → PlayedScript (Ok tt) first lines old new
-  played_all played written =
-      let whole : replies (played.wants ++ []) first lines ≡ done = played.splits [] ∙ ap (λ l. done ++ l) (replies-end [] now) ∙ append-nil done in
-      (played.wants ++ [], subst (Appends old new) (sym whole) written)
+-- all lines were answered
+pub replies_all : (first now : Kept) (lines : List (List ℕ)) (done : List ℕ) (old new : Option (List ℕ)) (held rest : List ℕ)
+    → ArePlayed first now lines [] done → PassesOn old new held rest done → PutsReplies (Ok tt) old new held rest first lines
+replies_all first now lines done old new held rest played passed =
+    let whole : replies (played.wants ++ []) first lines ≡ done = played.splits [] ∙ ap (λ l. done ++ l) (replies-end [] now) ∙ append-nil done in
+    (played.wants ++ [], subst (PassesOn old new held rest) (sym whole) passed)
 
-  -- memory was wanting
-  pub played_part : (rest : List (List ℕ)) → ArePlayed first now lines rest done → Appends old new done → PlayedScript (Err OutOfMemory) first lines old new
-  played_part rest played written = (played.wants ++ [], part_of _ done (replies [] now rest) old new (played.splits []) written)
-
-  -- a write failed
-  pub played_prefix : (rest : List (List ℕ)) (text : List ℕ) (mid : Option (List ℕ)) → ArePlayed first now lines rest (done ++ text) → Appends old mid done → AppendsPrefix mid new text
-      → PlayedScript (Err WriteFailed) first lines old new
-  played_prefix rest text mid played written part =
-      (played.wants ++ [], prefix_of _ done text (replies [] now rest) old mid new (played.splits [] ∙ append_assoc done text (replies [] now rest)) written part)
+-- the reply to a line failed
+pub replies_part : (fault : RunFault) (first now : Kept) (lines others : List (List ℕ)) (line done : List ℕ) (wanting : Bool) (old mid new : Option (List ℕ)) (held between rest : List ℕ)
+    → ArePlayed first now lines (line ∷ others) done → PassesOn old mid held between done → Puts {T = Unit {0}} (Err fault) mid new between rest (reply wanting now line)
+    → PutsReplies (Err fault) old new held rest first lines
+replies_part fault first now lines others line done wanting old mid new held between rest played passed part =
+    let text = reply wanting now line in
+    let next = kept_next wanting now line in
+    let more = one_more first now next lines others line done text wanting played refl refl in
+    let later = replies [] next others in
+    let whole : replies (more.wants ++ []) first lines ≡ done ++ (text ++ later) = more.splits [] ∙ append_assoc done text later in (
+      more.wants ++ [],
+      subst (Puts {T = Unit {0}} (Err fault) old new held rest) (sym whole)
+          (puts_then old mid new held between rest done (text ++ later) (Err fault) passed (puts_sooner fault mid new between rest text later part)),
+    )
 
 -- ---- the input
 

@@ -6,7 +6,7 @@ use Rattle.std.proofs.lemmas.List.{take_all, length-take-le, take-append-le}
 use Rattle.std.proofs.Math.Seq.{take-append_seam, take-append-add}
 use Rattle.std.proofs.KnownBytes.{Appends-nil, Appends-trans, Keeps-refl}
 use Rattle.mp_netlist.specs.Circuit.{Circuit}
-use Rattle.mp_streams.specs.StreamBytes.{AppendsPrefix}
+use Rattle.mp_vcd.specs.Dumps.{dump}
 use Rattle.mp_streams.specs.declared.take_error.TakeError.{TakeError}
 use Rattle.mp_streams.specs.declared.take_error.TakeError.TheVariants as takes
 use Rattle.mp_text.specs.declared.text_code.TextCode.{TextCode}
@@ -18,9 +18,9 @@ use Rattle.mp_commands.specs.declared.run_fault.RunFault.{RunFault}
 use Rattle.mp_commands.specs.declared.run_fault.RunFault.TheVariants.{Text, BadCount, ReadFailed, WriteFailed, OutOfMemory, NoPlace}
 use Rattle.mp_commands.specs.Limits.{max_input, max_taken}
 use Rattle.mp_commands.specs.OptionLimits.{has_valid_crew}
-use Rattle.mp_commands.specs.Outputs.{output_of, waves_text, waves_output}
+use Rattle.mp_commands.specs.Outputs.{output_of, waves_text, waves_output, dump_output}
 use Rattle.mp_commands.specs.RunFaults.{fault_of_text, fault_at, fault_of_take, counted_reads}
-use Rattle.mp_commands.specs.Runs.{HasInput, Wrote, AppendsPart, Refuses, comes_first}
+use Rattle.mp_commands.specs.Runs.{HasInput, Wrote, Puts, AppendsPart, Refuses, comes_first}
 
 -- ---- one byte more than a text may have is enough to read
 
@@ -59,6 +59,14 @@ for_waves r left text options limit old new front within same =
     for_input (λ input. Wrote r (waves_output input options) old new) left text limit front within same
     (λ input. subst (λ o. Wrote r o old new) (waves_output-take limit input options same))
 
+-- and so is the dump
+pub for_dump : {T : Type 0} (r : Result T RunFault) (left : Option (List ℕ)) (text : List ℕ) (options : Options) (limit : ℕ) (old new : Option (List ℕ))
+    → IfSome left (λ bytes. text ≡ take limit bytes) → length text ≤ limit → limit ≡ max_taken
+    → Wrote r (dump_output text options) old new → HasInput left (λ input. Wrote r (dump_output input options) old new)
+for_dump r left text options limit old new front within same =
+    for_input (λ input. Wrote r (dump_output input options) old new) left text limit front within same
+    (λ input. subst (λ o. Wrote r o old new) (ap (λ t. output_of dump t (has_valid_crew options)) (text_at-take limit input same)))
+
 -- ---- parts of what is written
 
 -- what was written so far is a part of the whole
@@ -66,19 +74,6 @@ pub part_of : (whole done rest : List ℕ) (old new : Option (List ℕ)) → who
 part_of whole done rest old new same written =
     let cut : take (length done) whole ≡ done = ap (take (length done)) same ∙ take-append_seam done rest in
     (length done, subst (Appends old new) (sym cut) written)
-
--- where the next text is written in part, so is the whole
-pub prefix_of : (whole done text rest : List ℕ) (old mid new : Option (List ℕ)) → whole ≡ done ++ (text ++ rest)
-    → Appends old mid done → AppendsPrefix mid new text → AppendsPrefix old new whole
-prefix_of whole done text rest old mid new same written part =
-    let p = part.0 in
-    let less : p < length text = part.1 in
-    let at_most : p ≤ length text = omega arith in
-    let cut : take (length done + p) whole ≡ done ++ take p text =
-    ap (take (length done + p)) same ∙ take-append-add done (text ++ rest) p ∙ ap (λ l. done ++ l) (take-append-le p text rest at_most) in
-    let long : length whole ≡ length done + (length text + length rest) =
-    ap length same ∙ length-append done (text ++ rest) ∙ ap (λ m. length done + m) (length-append text rest) in
-    (length done + p, omega arith, subst (Appends old new) (sym cut) (Appends-trans old mid new done (take p text) written part.2))
 
 -- ---- a run that writes nothing
 
@@ -135,6 +130,16 @@ counted_reads-started (Err ReadFailed) n h = let bad : true ≡ false = h in cc 
 counted_reads-started (Err WriteFailed) n h = refl
 counted_reads-started (Err OutOfMemory) n h = refl
 counted_reads-started (Err NoPlace) n h = refl
+
+-- a run that puts bytes began to write
+pub puts_started : {T : Type 0} (r : Result T RunFault) (old new : Option (List ℕ)) (held rest bytes : List ℕ) → Puts r old new held rest bytes → IfErr r (λ fault. comes_first fault ≡ false)
+puts_started (Ok done) old new held rest bytes h = tt
+puts_started (Err WriteFailed) old new held rest bytes h = refl
+puts_started (Err OutOfMemory) old new held rest bytes h = refl
+puts_started (Err (Text error)) old new held rest bytes h = absurd h
+puts_started (Err BadCount) old new held rest bytes h = absurd h
+puts_started (Err ReadFailed) old new held rest bytes h = absurd h
+puts_started (Err NoPlace) old new held rest bytes h = absurd h
 
 -- what holds where a fault comes first holds after a run that began to write
 pub nothing-started : {T : Type 0} (r : Result T RunFault) (X : Type 0) → IfErr r (λ fault. comes_first fault ≡ false) → IfErr r (λ fault. comes_first fault ≡ true → X)

@@ -16,11 +16,15 @@ pub record Kept : Type 0 where
 abbrev pub opened : Circuit → Kept
 opened n = record { netlist = n; accepted = 0 }
 
+-- what is kept when one more edit led to this netlist
+abbrev pub one_more : Kept → Circuit → Kept
+one_more kept n = record { netlist = n; accepted = kept.accepted + 1 }
+
 -- one more edit is accepted, where there are fewer than a script may have
-abbrev pub counted_edit : ℕ → Result Circuit EditError → Result Kept EditError
-counted_edit accepted (Err error) = Err error
-counted_edit accepted (Ok n) = if nat_lt accepted max_edits then Ok (record { netlist = n; accepted = accepted + 1 }) else Err HistoryFull
+abbrev pub counted_edit : Kept → Result Circuit EditError → Result Kept EditError
+counted_edit kept (Err error) = Err error
+counted_edit kept (Ok n) = if nat_lt kept.accepted max_edits then Ok (one_more kept n) else Err HistoryFull
 
 -- what is kept after an edit, or why the edit is refused
 abbrev pub kept_after : Kept → Edit → Result Kept EditError
-kept_after kept edit = counted_edit kept.accepted (after kept.netlist edit)
+kept_after kept edit = counted_edit kept (after kept.netlist edit)

@@ -4,6 +4,7 @@ use Rattle.mp_wave.specs.Waveform.{Waveform}
 use Rattle.mp_records.specs.declared.wire_record.WireRecord.{WireRecord}
 use Rattle.mp_netlist.specs.Circuit.{Circuit, wire_at}
 use Rattle.mp_model.specs.Waves.{wave}
+use Rattle.mp_vcd.specs.Dumps.{dump}
 use Rattle.mp_text.specs.declared.text_error.TextError.{TextError}
 use Rattle.mp_text.specs.Texts.{text_at}
 use Rattle.mp_words.specs.WaveLines.{wave_line}
@@ -34,3 +35,7 @@ output_of written (Ok n) valid = if valid then Ok (written n) else Err BadCount
 -- the output of `waves` for an input, or why there is none
 abbrev pub waves_output : List ℕ → Options → Result (List ℕ) RunFault
 waves_output input options = output_of waves_text (text_at input) (has_valid_crew options)
+
+-- the output of `dump` for an input, or why there is none
+abbrev pub dump_output : List ℕ → Options → Result (List ℕ) RunFault
+dump_output input options = output_of dump (text_at input) (has_valid_crew options)

@@ -14,7 +14,7 @@ use Rattle.mp_commands.specs.OptionLimits.{has_valid_crew}
 use Rattle.mp_commands.specs.Outputs.{output_of}
 use Rattle.mp_commands.specs.Keepers.{Kept, opened}
 use Rattle.mp_commands.specs.Replies.{reply, kept_next}
-use Rattle.mp_commands.specs.Runs.{Wrote}
+use Rattle.mp_commands.specs.Runs.{Wrote, Puts}
 
 -- whether memory was wanting for the edit of the next line, of all the lines from there on
 abbrev pub is_wanting : List Bool → Bool
@@ -52,6 +52,10 @@ Played result input options old new = (wants : List Bool) × Wrote result (play_
 -- the same of the lines of a script alone
 abbrev pub PlayedScript : Result (Unit {0}) RunFault → Kept → List (List ℕ) → Option (List ℕ) → Option (List ℕ) → Type 0
 PlayedScript result kept lines old new = (wants : List Bool) × Wrote result (Ok (replies wants kept lines)) old new
+
+-- the same through a buffer
+abbrev pub PutsReplies : Result (Unit {0}) RunFault → Option (List ℕ) → Option (List ℕ) → List ℕ → List ℕ → Kept → List (List ℕ) → Type 0
+PutsReplies result old new held rest kept lines = (wants : List Bool) × Puts result old new held rest (replies wants kept lines)
 
 -- an input is a netlist, which is opened, and a script behind it
 pub record Opens (input : List ℕ) (options : Options) (kept : Kept) (script : List ℕ) : Type 0 where

@@ -1,11 +1,12 @@
 -- What the lines of a script are answered.
-use Rattle.std.specs.Prelude.{◌≡◌, ℕ, Bool, true, false, List, [], ◌∷◌, ◌++◌, Option, Some, None, Result, Ok, Err, codes, unwrap_or}
+use Rattle.std.specs.Prelude.{◌≡◌, ℕ, Bool, true, false, List, [], ◌∷◌, ◌++◌, Option, Some, None, Result, Ok, Err, ◌&&◌, if◌then◌else◌, codes, unwrap_or, OnOk}
 use Rattle.std.specs.Fmt.{decimal}
 use Rattle.mp_records.specs.declared.edit.Edit.{Edit}
 use Rattle.mp_records.specs.declared.edit_error.EditError.{EditError}
-use Rattle.mp_records.specs.declared.edit_error.EditError.TheVariants.{NoSuchWire, OutOfMemory}
+use Rattle.mp_records.specs.declared.edit_error.EditError.TheVariants.{NoSuchWire, OutOfMemory, InBatch}
 use Rattle.mp_records.specs.EditErrors as edits
 use Rattle.mp_netlist.specs.Circuit.{Circuit, wire_at, wire_named}
+use Rattle.mp_netlist.specs.Edits.{may_want}
 use Rattle.mp_model.specs.Waves.{wave}
 use Rattle.mp_words.specs.declared.line_error.LineError.{LineError}
 use Rattle.mp_words.specs.declared.line_error.LineError.TheVariants as lines
@@ -16,7 +17,9 @@ use Rattle.mp_text.specs.declared.script_line.Question.TheVariants.{Wave, Waves,
 use Rattle.mp_words.specs.LineErrors.{line_number_of, line_name_of}
 use Rattle.mp_text.specs.ScriptLines.{line_at}
 use Rattle.mp_text.specs.Written.{written}
+use Rattle.mp_commands.specs.declared.run_fault.RunFault.{RunFault}
 use Rattle.mp_commands.specs.RunFaults.{numbered}
+use Rattle.mp_commands.specs.Runs.{Puts}
 use Rattle.mp_commands.specs.Outputs.{slot_line, waves_text}
 use Rattle.mp_commands.specs.Keepers.{Kept, kept_after}
 
@@ -28,9 +31,14 @@ accepted_text accepted = codes "accepted " ++ (decimal accepted ++ (10 ∷ []))
 abbrev pub coded_text : List ℕ → ℕ → List ℕ → List ℕ
 coded_text word number name = word ++ (numbered number name ++ (10 ∷ []))
 
--- `refused` with the number and name of the refusal
+-- a word with the number and name of a refusal
+abbrev pub refusal_text : List ℕ → ℕ → List ℕ
+refusal_text word number = coded_text word number (unwrap_or (edits.name_of number) [])
+
+-- `refused` with the number and name of the refusal; of a batch with the place of the edit and its own refusal behind them
 abbrev pub refused_text : EditError → List ℕ
-refused_text error = coded_text (codes "refused ") (edits.number_of error) (unwrap_or (edits.name_of (edits.number_of error)) [])
+refused_text (InBatch place number) = refusal_text (codes "refused 21 InBatch " ++ (decimal place ++ (32 ∷ []))) number
+refused_text error = refusal_text (codes "refused ") (edits.number_of error)
 
 -- `unread` with the number and name of the line's fault
 abbrev pub unread_text : LineError → List ℕ
@@ -41,11 +49,14 @@ abbrev pub is_fault : LineError → Bool
 is_fault lines.OutOfMemory = false
 is_fault error = true
 
+-- the reply to an edit that met no want of memory
+abbrev pub judged_text : Result Kept EditError → List ℕ
+judged_text (Err error) = refused_text error
+judged_text (Ok kept) = accepted_text kept.accepted
+
 -- the reply to an edit, where its memory was wanting or not
-abbrev pub edit_text : Bool → Result Kept EditError → List ℕ
-edit_text wanting (Err error) = refused_text error
-edit_text true (Ok kept) = refused_text OutOfMemory
-edit_text false (Ok kept) = accepted_text kept.accepted
+abbrev pub edit_text : Bool → Edit → Result Kept EditError → List ℕ
+edit_text wanting edit judged = if wanting && may_want edit judged then refused_text OutOfMemory else judged_text judged
 
 -- the line of a wire, where it stands
 abbrev pub wire_text : Circuit → Option ℕ → List ℕ
@@ -61,19 +72,22 @@ answer_text n Text = written n
 -- the reply to a line that was read or not: a line without words has none
 abbrev pub reply_to : Bool → Kept → Result Line LineError → List ℕ
 reply_to wanting kept (Ok Empty) = []
-reply_to wanting kept (Ok (Change edit)) = edit_text wanting (kept_after kept edit)
+reply_to wanting kept (Ok (Change edit)) = edit_text wanting edit (kept_after kept edit)
 reply_to wanting kept (Ok (Ask question)) = answer_text kept.netlist question
 reply_to wanting kept (Err error) = unread_text error
 
+-- what is kept after an edit that met no want of memory
+abbrev pub kept_or : Kept → Result Kept EditError → Kept
+kept_or kept (Err error) = kept
+kept_or kept (Ok next) = next
+
 -- what is kept after an edit, where its memory was wanting or not
-abbrev pub unless_wanting : Bool → Kept → Result Kept EditError → Kept
-unless_wanting wanting kept (Err error) = kept
-unless_wanting true kept (Ok next) = kept
-unless_wanting false kept (Ok next) = next
+abbrev pub unless_wanting : Bool → Kept → Edit → Result Kept EditError → Kept
+unless_wanting wanting kept edit judged = if wanting && may_want edit judged then kept else kept_or kept judged
 
 -- what is kept after a line: only an edit changes it
 abbrev pub next_kept : Bool → Kept → Result Line LineError → Kept
-next_kept wanting kept (Ok (Change edit)) = unless_wanting wanting kept (kept_after kept edit)
+next_kept wanting kept (Ok (Change edit)) = unless_wanting wanting kept edit (kept_after kept edit)
 next_kept wanting kept line = kept
 
 -- the reply to a line, and what is kept after it
@@ -86,13 +100,14 @@ kept_next wanting kept line = next_kept wanting kept (line_at line)
 -- an edit was made or refused, and this is the reply to it
 abbrev pub Changed : List ℕ → Kept → Kept → Edit → Type 0
 Changed text old new edit =
-    (wanting : Bool) × (text ≡ edit_text wanting (kept_after old edit)) × (new ≡ unless_wanting wanting old (kept_after old edit))
+    (wanting : Bool) × (text ≡ edit_text wanting edit (kept_after old edit)) × (new ≡ unless_wanting wanting old edit (kept_after old edit))
 
--- a line that was read was answered by this text
-abbrev pub Replied : List ℕ → Kept → Kept → Line → Type 0
-Replied text old new line =
-    (wanting : Bool) × (text ≡ reply_to wanting old (Ok line)) × (new ≡ next_kept wanting old (Ok line))
+-- a line that was read was answered, or a part of its reply was put
+abbrev pub PutsReply : Result (Unit {0}) RunFault → Option (List ℕ) → Option (List ℕ) → List ℕ → List ℕ → Kept → Kept → Line → Type 0
+PutsReply result old new held rest kept next line =
+    (wanting : Bool) × Puts result old new held rest (reply_to wanting kept (Ok line)) × OnOk result (next ≡ next_kept wanting kept (Ok line))
 
--- a line was answered by this text
-abbrev pub Answered : List ℕ → Kept → Kept → List ℕ → Type 0
-Answered text old new line = (wanting : Bool) × (text ≡ reply wanting old line) × (new ≡ kept_next wanting old line)
+-- a line was answered, or a part of its reply was put
+abbrev pub Answers : Result (Unit {0}) RunFault → Option (List ℕ) → Option (List ℕ) → List ℕ → List ℕ → Kept → Kept → List ℕ → Type 0
+Answers result old new held rest kept next line =
+    (wanting : Bool) × Puts result old new held rest (reply wanting kept line) × OnOk result (next ≡ kept_next wanting kept line)

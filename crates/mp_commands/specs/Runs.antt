@@ -1,8 +1,8 @@
 -- What a run takes of its source, and leaves in its sink.
-use Rattle.std.specs.Prelude.{◌≡◌, ℕ, ◌≤◌, length, Some, None, Bool, true, false, List, [], take, Option, Result, Ok, Err, IsOkAnd}
+use Rattle.std.specs.Prelude.{◌≡◌, ℕ, ◌≤◌, length, Some, None, Bool, true, false, List, [], ◌++◌, take, Option, Result, Ok, Err, IsOkAnd}
 use Rattle.std.specs.Result.{result_unwrap_or}
 use Rattle.std.specs.Io.KnownBytes.{Appends, Keeps}
-use Rattle.mp_streams.specs.StreamBytes.{AppendsPrefix}
+use Rattle.mp_streams.specs.StreamBytes.{AppendsPrefix, PassesOn}
 use Rattle.mp_commands.specs.Limits.{max_taken}
 use Rattle.mp_commands.specs.declared.run_fault.RunFault.{RunFault}
 use Rattle.mp_commands.specs.declared.run_fault.RunFault.TheVariants.{Text, BadCount, ReadFailed, WriteFailed, OutOfMemory, NoPlace}
@@ -29,6 +29,16 @@ Wrote (Err ReadFailed) output old new = Keeps old new
 Wrote (Err WriteFailed) output old new = IsOkAnd output (λ bytes. AppendsPrefix old new bytes)
 Wrote (Err OutOfMemory) output old new = AppendsPart old new (result_unwrap_or output [])
 Wrote (Err NoPlace) output old new = ⊥
+
+-- what became of these bytes in a call that ended in this way: they were passed on, or the sink took a part from the front of what the buffer held and of them
+abbrev pub Puts : {T : Type 0} → Result T RunFault → Option (List ℕ) → Option (List ℕ) → List ℕ → List ℕ → List ℕ → Type 0
+Puts (Ok done) old new held rest bytes = PassesOn old new held rest bytes
+Puts (Err WriteFailed) old new held rest bytes = AppendsPrefix old new (held ++ bytes)
+Puts (Err OutOfMemory) old new held rest bytes = AppendsPart old new (held ++ bytes)
+Puts (Err (Text error)) old new held rest bytes = ⊥
+Puts (Err BadCount) old new held rest bytes = ⊥
+Puts (Err ReadFailed) old new held rest bytes = ⊥
+Puts (Err NoPlace) old new held rest bytes = ⊥
 
 -- a fault that comes before anything is written
 abbrev pub comes_first : RunFault → Bool

@@ -1,9 +1,11 @@
 //! What each command reads and writes.
 #![tactic(auto)]
 
+mod dump_command;
 mod keeper;
 mod limits;
 mod numbered;
+mod open_run;
 mod options;
 mod play_command;
 mod put_text;
@@ -15,6 +17,7 @@ mod tests;
 mod wave_lines;
 mod waves_command;
 
+pub use dump_command::run_dump;
 pub use options::Options;
 pub use play_command::run_play;
 pub use run_fault::{RunFault, exit_status, fault_line};

@@ -5,23 +5,25 @@ ghost use Rattle.mp_words.specs.Lines.{lines_of};
 ghost use Rattle.mp_commands.specs.Limits.{max_taken};
 ghost use Rattle.mp_commands.specs.RunFaults.{counted_reads, counted_writes};
 ghost use Rattle.mp_commands.specs.Runs.{HasInput, Refuses, comes_first};
-ghost use Rattle.mp_commands.specs.Plays.{Played, PlayedScript, Opens, play_output};
+ghost use Rattle.mp_commands.specs.Plays.{Played, PlayedScript, PutsReplies, Opens, play_output};
 
 use crate::keeper::Keeper;
 use crate::limits::{MAX_INPUT, MAX_TAKEN};
 use crate::options::Options;
-use crate::put_text::put_text;
-use crate::replies::reply;
+use crate::put_text::put_rest;
+use crate::replies::put_reply;
 use crate::run_fault::RunFault;
-use mp_streams::{Sink, Source, take_all};
+use mp_streams::{Sink, Source, WriteBuffer, take_all};
 use mp_text::{TextCode, TextError, divided, first_line, read_netlist};
 use std::alloc::Global;
+use std::sync::Wait;
 
 /// Reads a netlist's text and, behind a line `---`, a script, all of it first. Then each line of the script is answered in turn: an edit by
 /// `accepted N` or `refused CODE NAME`, a question by its answer, and a line that is not read by `unread CODE NAME`.
 ///
 /// The faults are those of `run_waves`, in the same order.
-pub fn run_play<S: Source, T: Sink>(
+pub fn run_play<R: Wait, S: Source, T: Sink>(
+    rt: &R,
     alloc: Global,
     source: &mut S,
     sink: &mut T,
@@ -37,12 +39,13 @@ pub fn run_play<S: Source, T: Sink>(
     ensures write_faults { T.fault_count sink.new ≡ counted_writes result (T.fault_count sink.old) }
 {
     let input = take_all(alloc, source, MAX_TAKEN)?;
-    let (mut keeper, script) = opened(alloc, input.as_slice(), options)?;
-    play_script(alloc, sink, &mut keeper, script)
+    let (mut keeper, script) = opened(rt, alloc, input.as_slice(), options)?;
+    play_script(rt, alloc, sink, &mut keeper, script)
 }
 
 /// The netlist of an input's first part, and the script behind it.
-fn opened<'a>(
+fn opened<'a, R: Wait>(
+    rt: &R,
     alloc: Global,
     input: &'a [u8],
     options: &Options,
@@ -61,11 +64,12 @@ fn opened<'a>(
     if !options.has_valid_crew() {
         return Err(RunFault::BadCount);
     }
-    Ok((Keeper::new(alloc, netlist)?, script))
+    Ok((Keeper::new(rt, alloc, netlist)?, script))
 }
 
 /// Answers the lines of a script in turn.
-fn play_script<T: Sink>(
+fn play_script<R: Wait, T: Sink>(
+    rt: &R,
     alloc: Global,
     sink: &mut T,
     keeper: &mut Keeper,
@@ -76,11 +80,28 @@ fn play_script<T: Sink>(
     ensures written { PlayedScript result keeper.old (lines_of script.now) (T.taken sink.old) (T.taken sink.new) }
     ensures faults { T.fault_count sink.new ≡ counted_writes result (T.fault_count sink.old) }
 {
+    let mut buffer = WriteBuffer::new(alloc)?;
+    put_replies(rt, alloc, &mut buffer, sink, keeper, script)?;
+    put_rest(&mut buffer, sink)
+}
+
+/// Puts the replies to the lines of a script in turn through the buffer.
+fn put_replies<R: Wait, T: Sink>(
+    rt: &R,
+    alloc: Global,
+    buffer: &mut WriteBuffer,
+    sink: &mut T,
+    keeper: &mut Keeper,
+    script: &[u8],
+) -> Result<(), RunFault>
+    requires { T.fault_count sink.old < 2 ^ 64 - 1 }
+    ensures written { PutsReplies result (T.taken sink.old) (T.taken sink.new) buffer.old buffer.new keeper.old (lines_of script.now) }
+    ensures faults { T.fault_count sink.new ≡ counted_writes result (T.fault_count sink.old) }
+{
     let mut rest = script;
     while !rest.is_empty() {
         let (line, others) = first_line(rest);
-        let text = reply(alloc, keeper, line)?;
-        put_text(sink, text.as_slice())?;
+        put_reply(rt, alloc, buffer, sink, keeper, line)?;
         rest = others;
     }
     Ok(())

@@ -1,36 +1,32 @@
 //! The lines of a netlist's waves to a sink.
 ghost use Rattle.std.specs.Prelude.{◌≡◌, ◌-◌, ◌^◌, ◌<◌, false, Ok, IfErr};
-ghost use Rattle.mp_model.specs.Waves.{waves as waves_of};
+ghost use Rattle.mp_engine.specs.Runs.{IsRun};
 ghost use Rattle.mp_commands.specs.Outputs.{waves_text};
 ghost use Rattle.mp_commands.specs.RunFaults.{counted_writes};
 ghost use Rattle.mp_commands.specs.Runs.{Wrote, comes_first};
 
-use crate::put_text::put_text;
+use crate::put_text::put_rest;
 use crate::run_fault::RunFault;
-use crate::wave_lines::push_slot_line;
-use mp_netlist::{Netlist, WireId};
-use mp_streams::Sink;
-use mp_wave::Wave;
+use crate::wave_lines::put_lines;
+use mp_engine::Run;
+use mp_netlist::Netlist;
+use mp_streams::{Sink, WriteBuffer};
 use std::alloc::Global;
 
-/// Writes the line of each wire that stands, by number. One line is in memory at a time.
+/// Writes the line of each wire that stands, by number.
 pub fn put_waves<T: Sink>(
     alloc: Global,
     sink: &mut T,
     netlist: &Netlist,
-    waves: &[Option<Wave>],
+    run: &Run,
 ) -> Result<(), RunFault>
     requires countable { T.fault_count sink.old < 2 ^ 64 - 1 }
-    requires waves { waves.now ≡ waves_of netlist.now }
+    requires run { IsRun netlist.now run.now }
     ensures started { IfErr result (λ fault. comes_first fault ≡ false) }
     ensures written { Wrote result (Ok (waves_text netlist.now)) (T.taken sink.old) (T.taken sink.new) }
     ensures faults { T.fault_count sink.new ≡ counted_writes result (T.fault_count sink.old) }
 {
-    let mut line = Vec::new(alloc);
-    for number in 0..netlist.wire_slots() {
-        line.clear();
-        push_slot_line(&mut line, netlist, waves, WireId(number))?;
-        put_text(sink, line.as_slice())?;
-    }
-    Ok(())
+    let mut buffer = WriteBuffer::new(alloc)?;
+    put_lines(&mut buffer, sink, netlist, run)?;
+    put_rest(&mut buffer, sink)
 }

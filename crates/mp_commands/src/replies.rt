@@ -1,70 +1,123 @@
 //! The replies to the lines of a script.
-ghost use Rattle.std.specs.Prelude.{◌≡◌, true, IfOk, IfErr};
+ghost use Rattle.std.specs.Prelude.{◌≡◌, ◌-◌, ◌^◌, ◌<◌, true, IfOk, IfErr};
 ghost use Rattle.mp_commands.specs.declared.run_fault.RunFault.TheVariants.{OutOfMemory};
+ghost use Rattle.mp_records.specs.declared.edit_error.EditError.TheVariants.{InBatch};
 ghost use Rattle.mp_netlist.specs.Circuit.{wire_named};
-ghost use Rattle.mp_commands.specs.Replies.{accepted_text, refused_text, unread_text, coded_text, wire_text, answer_text, is_fault, Changed, Replied, Answered};
+ghost use Rattle.mp_commands.specs.Replies.{accepted_text, refused_text, refusal_text, unread_text, coded_text, wire_text, answer_text, is_fault, Changed, PutsReply, Answers};
+ghost use Rattle.mp_commands.specs.RunFaults.{counted_writes};
+ghost use Rattle.mp_commands.specs.Runs.{Puts};
 
 use crate::keeper::Keeper;
 use crate::numbered::push_numbered;
+use crate::put_text::put_text;
 use crate::run_fault::RunFault;
-use crate::wave_lines::{push_slot_line, waves_text};
+use crate::wave_lines::{put_lines, put_slot_line};
 use mp_netlist::{Edit, EditError, Name};
+use mp_streams::{Sink, WriteBuffer};
 use mp_text::{Line, LineError, Question, read_line, write_netlist};
 use std::alloc::{AllocError, Global};
+use std::sync::Wait;
 
-/// The reply to a line of a script, after its edit, if it is one. A line without words has none.
-pub fn reply(alloc: Global, keeper: &mut Keeper, line: &[u8]) -> Result<Vec<u8>, RunFault>
-    ensures answered { IfOk result (λ text. Answered text.items keeper.old keeper.new line.now) }
-    ensures memory { IfErr result (λ fault. fault ≡ OutOfMemory) }
+/// Puts the reply to a line of a script through the buffer, after its edit, if it is one. A line
+/// without words has none.
+pub fn put_reply<R: Wait, T: Sink>(
+    rt: &R,
+    alloc: Global,
+    buffer: &mut WriteBuffer,
+    sink: &mut T,
+    keeper: &mut Keeper,
+    line: &[u8],
+) -> Result<(), RunFault>
+    requires { T.fault_count sink.old < 2 ^ 64 - 1 }
+    ensures answered { Answers result (T.taken sink.old) (T.taken sink.new) buffer.old buffer.new keeper.old keeper.new line.now }
+    ensures faults { T.fault_count sink.new ≡ counted_writes result (T.fault_count sink.old) }
 {
     match read_line(alloc, line) {
-        Ok(read) => line_text(alloc, keeper, &read),
-        Err(error) => unread_text(alloc, error),
+        Ok(read) => put_line_reply(rt, alloc, buffer, sink, keeper, &read),
+        Err(error) => {
+            let text = unread_text(alloc, error)?;
+            put_text(buffer, sink, text.as_slice())
+        }
     }
 }
 
-/// The reply to a line that was read, after its edit, if it is one.
-fn line_text(alloc: Global, keeper: &mut Keeper, line: &Line) -> Result<Vec<u8>, RunFault>
-    ensures replied { IfOk result (λ text. Replied text.items keeper.old keeper.new line.now) }
-    ensures memory { IfErr result (λ fault. fault ≡ OutOfMemory) }
+/// Puts the reply to a line that was read, after its edit, if it is one.
+fn put_line_reply<R: Wait, T: Sink>(
+    rt: &R,
+    alloc: Global,
+    buffer: &mut WriteBuffer,
+    sink: &mut T,
+    keeper: &mut Keeper,
+    line: &Line,
+) -> Result<(), RunFault>
+    requires { T.fault_count sink.old < 2 ^ 64 - 1 }
+    ensures replied { PutsReply result (T.taken sink.old) (T.taken sink.new) buffer.old buffer.new keeper.old keeper.new line.now }
+    ensures faults { T.fault_count sink.new ≡ counted_writes result (T.fault_count sink.old) }
 {
     match line {
-        Line::Empty => Ok(Vec::new(alloc)),
-        Line::Change(edit) => Ok(edit_text(alloc, keeper, edit)?),
-        Line::Ask(question) => Ok(answer_text(alloc, keeper, question)?),
+        Line::Empty => Ok(()),
+        Line::Change(edit) => {
+            let text = edit_text(rt, alloc, keeper, edit)?;
+            put_text(buffer, sink, text.as_slice())
+        }
+        Line::Ask(question) => put_answer(alloc, buffer, sink, keeper, question),
     }
+}
+
+/// Puts the answer to a question: the lines of waves as they are made, and a text that is made first.
+fn put_answer<T: Sink>(
+    alloc: Global,
+    buffer: &mut WriteBuffer,
+    sink: &mut T,
+    keeper: &Keeper,
+    question: &Question,
+) -> Result<(), RunFault>
+    requires { T.fault_count sink.old < 2 ^ 64 - 1 }
+    ensures answered { Puts result (T.taken sink.old) (T.taken sink.new) buffer.old buffer.new (answer_text keeper.now.netlist question.now) }
+    ensures faults { T.fault_count sink.new ≡ counted_writes result (T.fault_count sink.old) }
+{
+    match question {
+        Question::Wave(name) => put_wire(alloc, buffer, sink, keeper, name),
+        Question::Waves => put_lines(buffer, sink, keeper.netlist(), keeper.run()),
+        Question::Text => {
+            let text = write_netlist(alloc, keeper.netlist())?;
+            put_text(buffer, sink, text.as_slice())
+        }
+    }
+}
+
+/// Puts the line of the wire that has the name.
+fn put_wire<T: Sink>(
+    alloc: Global,
+    buffer: &mut WriteBuffer,
+    sink: &mut T,
+    keeper: &Keeper,
+    name: &Name,
+) -> Result<(), RunFault>
+    requires { T.fault_count sink.old < 2 ^ 64 - 1 }
+    ensures answered { Puts result (T.taken sink.old) (T.taken sink.new) buffer.old buffer.new (wire_text keeper.now.netlist (wire_named keeper.now.netlist name.now)) }
+    ensures faults { T.fault_count sink.new ≡ counted_writes result (T.fault_count sink.old) }
+{
+    let Some(id) = keeper.netlist().wire_named(name.as_str()) else {
+        let text = refused_text(alloc, EditError::NoSuchWire)?;
+        return put_text(buffer, sink, text.as_slice());
+    };
+    put_slot_line(buffer, sink, keeper.netlist(), keeper.run(), id)
 }
 
 /// Makes the edit, and tells whether it is accepted.
-fn edit_text(alloc: Global, keeper: &mut Keeper, edit: &Edit) -> Result<Vec<u8>, AllocError>
+fn edit_text<R: Wait>(
+    rt: &R,
+    alloc: Global,
+    keeper: &mut Keeper,
+    edit: &Edit,
+) -> Result<Vec<u8>, AllocError>
     ensures { IfOk result (λ text. Changed text.items keeper.old keeper.new edit.now) }
 {
-    match keeper.change(alloc, edit) {
+    match keeper.change(rt, alloc, edit) {
         Ok(accepted) => accepted_text(alloc, accepted),
         Err(error) => refused_text(alloc, error),
     }
-}
-
-fn answer_text(alloc: Global, keeper: &Keeper, question: &Question) -> Result<Vec<u8>, AllocError>
-    ensures { IfOk result (λ text. text.items ≡ answer_text keeper.now.netlist question.now) }
-{
-    match question {
-        Question::Wave(name) => wire_text(alloc, keeper, name),
-        Question::Waves => waves_text(alloc, keeper.netlist(), keeper.waves()),
-        Question::Text => write_netlist(alloc, keeper.netlist()),
-    }
-}
-
-/// The line of the wire that has the name.
-fn wire_text(alloc: Global, keeper: &Keeper, name: &Name) -> Result<Vec<u8>, AllocError>
-    ensures { IfOk result (λ text. text.items ≡ wire_text keeper.now.netlist (wire_named keeper.now.netlist name.now)) }
-{
-    let Some(id) = keeper.netlist().wire_named(name.as_str()) else {
-        return refused_text(alloc, EditError::NoSuchWire);
-    };
-    let mut text = Vec::new(alloc);
-    push_slot_line(&mut text, keeper.netlist(), keeper.waves(), id)?;
-    Ok(text)
 }
 
 fn accepted_text(alloc: Global, accepted: u32) -> Result<Vec<u8>, AllocError>
@@ -77,10 +130,27 @@ fn accepted_text(alloc: Global, accepted: u32) -> Result<Vec<u8>, AllocError>
 fn refused_text(alloc: Global, error: EditError) -> Result<Vec<u8>, AllocError>
     ensures { IfOk result (λ text. text.items ≡ refused_text error) }
 {
-    let number = error.number();
+    match error {
+        EditError::InBatch { place, number } => batch_text(alloc, place, number),
+        _ => refusal_text(alloc, "refused ", error.number()),
+    }
+}
+
+/// Tells why a batch is refused: the place of the edit and its own refusal.
+fn batch_text(alloc: Global, place: u32, number: u32) -> Result<Vec<u8>, AllocError>
+    ensures { IfOk result (λ text. text.items ≡ refused_text (InBatch place number)) }
+{
+    let word = format!(in alloc; "refused 21 InBatch {place} ")?;
+    refusal_text(alloc, word.as_str(), number)
+}
+
+/// A line of a word with the number and name of a refusal.
+fn refusal_text(alloc: Global, word: &str, number: u32) -> Result<Vec<u8>, AllocError>
+    ensures { IfOk result (λ text. text.items ≡ refusal_text word.now number) }
+{
     coded_text(
         alloc,
-        "refused ",
+        word,
         number,
         EditError::name_of(number).unwrap_or(""),
     )

@@ -8,6 +8,7 @@ use std::alloc::Global;
 use std::io;
 use std::io::{Read, Write};
 use std::process::Abort;
+use std::sync::Wait;
 
 const CREW: Options = Options {
     workers: 2,
@@ -68,7 +69,7 @@ impl Write for SmallWriter {
 
 /// A run over a reader with so many reads and a writer with so much room ends so, and this is written.
 fn runs(
-    rt: &impl Abort,
+    rt: &(impl Abort + Wait),
     alloc: Global,
     reads: usize,
     room: usize,
@@ -80,7 +81,7 @@ fn runs(
         taken: Vec::new(alloc),
         room,
     });
-    assert_eq!(rt; run_waves(alloc, &mut source, &mut sink, &CREW), ended);
+    assert_eq!(rt; run_waves(rt, alloc, &mut source, &mut sink, &CREW), ended);
     assert_eq!(rt; source.faults() + sink.faults(), ended.is_err() as u64);
     assert_eq!(rt; sink.into_inner().taken.as_slice(), text);
 }
@@ -114,7 +115,10 @@ fn play_on_a_small_device(rt: HostRuntime) {
             taken: Vec::new(rt.alloc()),
             room,
         });
-        assert_eq!(rt; run_play(rt.alloc(), &mut source, &mut sink, &CREW), ended);
+        assert_eq!(rt;
+            run_play(&rt, rt.alloc(), &mut source, &mut sink, &CREW),
+            ended
+        );
         assert_eq!(rt; sink.into_inner().taken.as_slice(), text);
     }
 }

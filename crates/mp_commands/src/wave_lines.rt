@@ -1,57 +1,63 @@
 //! The lines of a netlist's waves.
-ghost use Rattle.std.specs.Prelude.{◌≡◌, ◌++◌, IfOk, OnOk};
-ghost use Rattle.std.specs.Option.{option_copied};
+ghost use Rattle.std.specs.Prelude.{◌≡◌, ◌-◌, ◌^◌, ◌<◌};
 ghost use Rattle.mp_netlist.specs.Circuit.{wire_at};
-ghost use Rattle.mp_netlist.specs.Slots.{slot_at};
-ghost use Rattle.mp_model.specs.Waves.{wave, waves as waves_of};
+ghost use Rattle.mp_model.specs.Waves.{wave};
+ghost use Rattle.mp_engine.specs.Runs.{IsRun};
 ghost use Rattle.mp_commands.specs.Outputs.{slot_line, waves_text};
+ghost use Rattle.mp_commands.specs.RunFaults.{counted_writes};
+ghost use Rattle.mp_commands.specs.Runs.{Puts};
 
+use crate::run_fault::RunFault;
+use mp_engine::Run;
 use mp_netlist::{Netlist, WireId};
-use mp_text::push_wave_line;
-use mp_wave::Wave;
-use std::alloc::{AllocError, Global};
+use mp_streams::{Failed, Sink, WriteBuffer};
+use mp_words::put_wave_line;
 
-/// The line of each wire that stands, by number.
-pub fn waves_text(
-    alloc: Global,
+/// Puts the line of each wire that stands, by number, through the buffer.
+pub fn put_lines<T: Sink>(
+    buffer: &mut WriteBuffer,
+    sink: &mut T,
     netlist: &Netlist,
-    waves: &[Option<Wave>],
-) -> Result<Vec<u8>, AllocError>
-    requires { waves.now ≡ waves_of netlist.now }
-    ensures { IfOk result (λ text. text.items ≡ waves_text netlist.now) }
+    run: &Run,
+) -> Result<(), RunFault>
+    requires countable { T.fault_count sink.old < 2 ^ 64 - 1 }
+    requires run { IsRun netlist.now run.now }
+    ensures written { Puts result (T.taken sink.old) (T.taken sink.new) buffer.old buffer.new (waves_text netlist.now) }
+    ensures faults { T.fault_count sink.new ≡ counted_writes result (T.fault_count sink.old) }
 {
-    let mut text = Vec::new(alloc);
     for number in 0..netlist.wire_slots() {
-        push_slot_line(&mut text, netlist, waves, WireId(number))?;
+        put_slot_line(buffer, sink, netlist, run, WireId(number))?;
     }
-    Ok(text)
+    Ok(())
 }
 
-/// Puts the line of the wire of this number behind the text, and nothing where none stands.
-pub fn push_slot_line(
-    text: &mut Vec<u8>,
+/// Puts the line of the wire of this number through the buffer, and nothing where none stands.
+pub fn put_slot_line<T: Sink>(
+    buffer: &mut WriteBuffer,
+    sink: &mut T,
     netlist: &Netlist,
-    waves: &[Option<Wave>],
+    run: &Run,
     id: WireId,
-) -> Result<(), AllocError>
-    requires { waves.now ≡ waves_of netlist.now }
-    ensures { OnOk result (text.new.items ≡ text.old.items ++ slot_line (wire_at netlist.now id.0) (wave netlist.now id.0)) }
+) -> Result<(), RunFault>
+    requires countable { T.fault_count sink.old < 2 ^ 64 - 1 }
+    requires run { IsRun netlist.now run.now }
+    ensures written { Puts result (T.taken sink.old) (T.taken sink.new) buffer.old buffer.new (slot_line (wire_at netlist.now id.0) (wave netlist.now id.0)) }
+    ensures faults { T.fault_count sink.new ≡ counted_writes result (T.fault_count sink.old) }
 {
     let Some(wire) = netlist.wire(id) else {
         return Ok(());
     };
-    let Some(wave) = wave_at(waves, id) else {
+    let Some(wave) = run.wave(id) else {
         return Ok(());
     };
-    push_wave_line(text, wire.name.as_str(), wave.initial(), wave.changes())?;
-    Ok(())
-}
-
-fn wave_at(waves: &[Option<Wave>], id: WireId) -> Option<&Wave>
-    ensures { option_copied result ≡ slot_at waves.now id.0 }
-{
-    match waves.get(id.0 as usize) {
-        Some(Some(wave)) => Some(wave),
-        _ => None,
+    match put_wave_line(
+        buffer,
+        sink,
+        wire.name.as_str(),
+        wave.initial(),
+        wave.changes(),
+    ) {
+        Ok(()) => Ok(()),
+        Err(Failed) => Err(RunFault::WriteFailed),
     }
 }

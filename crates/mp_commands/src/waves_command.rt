@@ -8,14 +8,15 @@ ghost use Rattle.mp_commands.specs.RunFaults.{counted_reads, counted_writes};
 ghost use Rattle.mp_commands.specs.Runs.{HasInput, Wrote, comes_first};
 
 use crate::limits::MAX_TAKEN;
+use crate::open_run::open_run;
 use crate::options::Options;
 use crate::put_waves::put_waves;
 use crate::run_fault::RunFault;
-use mp_model::plain_waves;
 use mp_netlist::Netlist;
 use mp_streams::{Sink, Source, take_all};
 use mp_text::read_netlist;
 use std::alloc::Global;
+use std::sync::Wait;
 
 /// Reads a netlist's text, all of it first, and writes the wave of each wire that stands, a line
 /// each, by number.
@@ -24,7 +25,8 @@ use std::alloc::Global;
 /// where the options have no valid crew: then nothing is written. `WriteFailed` comes with a fault
 /// of the sink and `OutOfMemory` where memory is wanting, in the text's reading too: then a part of
 /// the output from its front may be written.
-pub fn run_waves<S: Source, T: Sink>(
+pub fn run_waves<R: Wait, S: Source, T: Sink>(
+    rt: &R,
     alloc: Global,
     source: &mut S,
     sink: &mut T,
@@ -41,11 +43,12 @@ pub fn run_waves<S: Source, T: Sink>(
 {
     let input = take_all(alloc, source, MAX_TAKEN)?;
     let netlist = read_netlist(alloc, input.as_slice())?;
-    put_valid_waves(alloc, sink, &netlist, options)
+    put_valid_waves(rt, alloc, sink, &netlist, options)
 }
 
 /// Writes the waves of a netlist, or tells `BadCount` where the options have no valid crew.
-fn put_valid_waves<T: Sink>(
+fn put_valid_waves<R: Wait, T: Sink>(
+    rt: &R,
     alloc: Global,
     sink: &mut T,
     netlist: &Netlist,
@@ -60,6 +63,6 @@ fn put_valid_waves<T: Sink>(
     if !options.has_valid_crew() {
         return Err(RunFault::BadCount);
     }
-    let waves = plain_waves(alloc, netlist)?;
-    put_waves(alloc, sink, netlist, waves.as_slice())
+    let run = open_run(rt, alloc, netlist)?;
+    put_waves(alloc, sink, netlist, &run)
 }

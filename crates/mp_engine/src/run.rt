@@ -62,10 +62,10 @@ impl Run {
     }
 
     /// The state of a module that stands, after the last unit.
-    pub fn end_memory(&self, module: ModuleId) -> Option<Memory>
-        ensures { result ≡ end_of self.now module.0 }
+    pub fn end_memory(&self, id: ModuleId) -> Option<Memory>
+        ensures { result ≡ end_of self.now id.0 }
     {
-        match self.ends.get(module.0 as usize) {
+        match self.ends.get(id.0 as usize) {
             Some(Some(memory)) => Some(*memory),
             _ => None,
         }
@@ -73,13 +73,13 @@ impl Run {
 
     /// The state of a module that stands, before the unit of a checkpoint: a multiple of `CHECKPOINT_UNITS` below the horizon. The state
     /// before time 0 is that in which the module starts. Nothing for any other time.
-    pub fn checkpoint(&self, module: ModuleId, time: u32) -> Option<Memory>
-        ensures { result ≡ checkpoint_of self.now module.0 time }
+    pub fn checkpoint(&self, id: ModuleId, time: u32) -> Option<Memory>
+        ensures { result ≡ checkpoint_of self.now id.0 time }
     {
         if time >= self.horizon || !time.is_multiple_of(CHECKPOINT_UNITS) {
             return None;
         }
-        match self.kept.get(module.0 as usize) {
+        match self.kept.get(id.0 as usize) {
             Some(Some(kept)) => Some(kept.kept_at(time)),
             _ => None,
         }

@@ -2,7 +2,8 @@
 use crate::{OpenGate, Run, evaluate};
 use mp_modules::Kind;
 use mp_netlist::{
-    Edit, InputName, InputNames, ModuleId, Name, Netlist, OutputName, OutputNames, Params, WireId,
+    Edit, InputName, InputNames, ModuleId, Name, Netlist, OutputName, OutputNames, Params,
+    SingleEdit, WireId,
 };
 use std::alloc::{AllocError, Global};
 use std::test::Fail;
@@ -11,16 +12,16 @@ fn name(alloc: Global) -> Result<Name, AllocError> {
     Ok(Name::new(String::from_str(alloc, "y")?))
 }
 
-fn wire(alloc: Global) -> Result<Edit, AllocError> {
-    Ok(Edit::AddWire {
+fn wire(alloc: Global) -> Result<SingleEdit, AllocError> {
+    Ok(SingleEdit::AddWire {
         name: name(alloc)?,
         width: 1,
         level: 0,
     })
 }
 
-/// An inverter that hears its own output 200 units later than it changes, 300 units after the answer.
-fn inverter(alloc: Global) -> Result<Edit, AllocError> {
+/// An inverter that hears its own output 200 units later than it changes, which is 300 units after the answer.
+fn inverter(alloc: Global) -> Result<SingleEdit, AllocError> {
     let input = InputName {
         wire: name(alloc)?,
         delay: 200,
@@ -29,7 +30,7 @@ fn inverter(alloc: Global) -> Result<Edit, AllocError> {
         wire: Some(name(alloc)?),
         delay: 300,
     };
-    Ok(Edit::AddModule {
+    Ok(SingleEdit::AddModule {
         name: name(alloc)?,
         kind: Kind::Not,
         params: Params::new(Vec::new(alloc)),
@@ -38,15 +39,15 @@ fn inverter(alloc: Global) -> Result<Edit, AllocError> {
     })
 }
 
+/// Whether the netlist takes the edit. It alone owns one where it ends, since each end spells out how an edit is let go.
+fn accepts(netlist: &mut Netlist, edit: SingleEdit) -> bool {
+    netlist.apply(&Edit::Single(edit)).is_ok()
+}
+
 /// The level of the inverter's output before its delay, before the unit of a checkpoint.
 fn output_before(run: &Run, time: u32) -> Option<u64> {
     let memory = run.checkpoint(ModuleId(0), time)?;
     Some(memory.output(0))
-}
-
-/// Applies an edit. It alone owns one where it ends, since each end spells out how an edit is let go.
-fn accepts(netlist: &mut Netlist, edit: Edit) -> bool {
-    netlist.apply(&edit).is_ok()
 }
 
 #[test]

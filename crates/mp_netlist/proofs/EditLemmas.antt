@@ -8,7 +8,8 @@ use Rattle.std.specs.List.{list_all, All}
 use Rattle.std.specs.Option.{IfSome}
 use Rattle.mp_records.specs.declared.port_names.InputName.{InputName}
 use Rattle.mp_records.specs.declared.port_names.OutputName.{OutputName}
-use Rattle.mp_records.specs.declared.edit.Edit.TheVariants.{AddWire, RemoveWire, AddModule, RemoveModule, AddBundle, RemoveBundle, RewireInput, RewireOutput, SetInputDelay, SetDelay, SetStimulus, ClearStimulus}
+use Rattle.mp_records.specs.declared.single_edit.SingleEdit.{SingleEdit}
+use Rattle.mp_records.specs.declared.single_edit.SingleEdit.TheVariants.{AddWire, RemoveWire, AddModule, RemoveModule, AddBundle, RemoveBundle, RewireInput, RewireOutput, SetInputDelay, SetDelay, SetStimulus, ClearStimulus}
 use Rattle.mp_records.specs.declared.edit_error.EditError.{EditError}
 use Rattle.mp_records.specs.Stimuli.{is_stimulus}
 use Rattle.mp_modules.specs.Levels.{fits_width}
@@ -21,7 +22,6 @@ use Rattle.mp_netlist.specs.Circuit.{Circuit, IsCircuit, IsWire, IsModule, HasWi
 use Rattle.mp_netlist.specs.Drivers.{driver, is_port, is_free_for}
 use Rattle.mp_netlist.specs.Uses.{is_used}
 use Rattle.mp_netlist.specs.Edits.{first_failing, stands, wire_id, module_id, module_of, bundle_id, input_ports, output_ports, input_width_of, output_width_of, output_stands, output_fits, output_is_free, is_delay, is_input_delay, inputs_stand, width_named, driven_names, are_distinct, is_undriven, new_width, inputs_fit, outputs_fit, wire_checks, wire_removal_checks, module_checks, module_removal_checks, bundle_checks, bundle_removal_checks, input_checks, output_checks, input_delay_checks, delay_checks, stimulus_checks, clearing_checks, wire_refusal, wire_removal_refusal, module_refusal, module_removal_refusal, bundle_refusal, bundle_removal_refusal, input_refusal, output_refusal, input_delay_refusal, delay_refusal, stimulus_refusal, clearing_refusal, refusal, edited, new_module, with_new_wire, with_new_module, new_bundle, with_new_bundle, with_module, with_stimulus, without_stimulus, with_wire}
-use Rattle.mp_netlist.specs.Laws.{EditsKeepNetlists}
 use Rattle.mp_netlist.proofs.TableLemmas.{IsNamesake}
 use Rattle.mp_netlist.proofs.NameLemmas.{wire_name, module_name, Stands, stands_from, stands_within, ModuleStands, module_stands_from, module_within, BundleStands, bundle_stands_from, bundle_within}
 use Rattle.mp_netlist.proofs.DriverLemmas.{portless_is_undriven}
@@ -360,20 +360,20 @@ IsCircuit-cleared n ok name none =
     (only (IsNamesake wire_name (wire_at n id)) (record { other = wire.wire; stands = wire.at; same = refl }))
     (λ used. (refl, sym (ap width_of wire.at))) (λ m p drives. refl))
 
-pub edits_keep_netlists : EditsKeepNetlists
+pub IsCircuit-edited : (n : Circuit) → IsCircuit n → (edit : SingleEdit) → refusal n edit ≡ None → IsCircuit (edited n edit)
 unfolding refusal edited
-edits_keep_netlists n ok (AddWire name width level) none = IsCircuit-with_new_wire n ok name width level none
-edits_keep_netlists n ok (RemoveWire name) none = IsCircuit-without_wire n ok name none
-edits_keep_netlists n ok (AddModule name kind params inputs outputs) none = IsCircuit-with_new_module n ok name kind params inputs outputs none
-edits_keep_netlists n ok (RemoveModule name) none = IsCircuit-without_module n ok name (going_module n name none)
-edits_keep_netlists n ok (AddBundle name request acknowledge payload setup) none = IsCircuit-with_new_bundle n ok name request acknowledge payload setup none
-edits_keep_netlists n ok (RemoveBundle name) none = IsCircuit-remove_bundle n ok (bundle_id n name).0 (bundle_within n name (going_bundle n name none))
-edits_keep_netlists n ok (RewireInput name port wire) none = IsCircuit-reread n ok name port wire none
-edits_keep_netlists n ok (RewireOutput name port wire) none = IsCircuit-redirected n ok name port wire none
-edits_keep_netlists n ok (SetInputDelay name port delay) none = IsCircuit-input_delayed n ok name port delay none
-edits_keep_netlists n ok (SetDelay name port delay) none = IsCircuit-delayed n ok name port delay none
-edits_keep_netlists n ok (SetStimulus name changes) none = IsCircuit-stimulated n ok name changes none
-edits_keep_netlists n ok (ClearStimulus name) none = IsCircuit-cleared n ok name none
+IsCircuit-edited n ok (AddWire name width level) none = IsCircuit-with_new_wire n ok name width level none
+IsCircuit-edited n ok (RemoveWire name) none = IsCircuit-without_wire n ok name none
+IsCircuit-edited n ok (AddModule name kind params inputs outputs) none = IsCircuit-with_new_module n ok name kind params inputs outputs none
+IsCircuit-edited n ok (RemoveModule name) none = IsCircuit-without_module n ok name (going_module n name none)
+IsCircuit-edited n ok (AddBundle name request acknowledge payload setup) none = IsCircuit-with_new_bundle n ok name request acknowledge payload setup none
+IsCircuit-edited n ok (RemoveBundle name) none = IsCircuit-remove_bundle n ok (bundle_id n name).0 (bundle_within n name (going_bundle n name none))
+IsCircuit-edited n ok (RewireInput name port wire) none = IsCircuit-reread n ok name port wire none
+IsCircuit-edited n ok (RewireOutput name port wire) none = IsCircuit-redirected n ok name port wire none
+IsCircuit-edited n ok (SetInputDelay name port delay) none = IsCircuit-input_delayed n ok name port delay none
+IsCircuit-edited n ok (SetDelay name port delay) none = IsCircuit-delayed n ok name port delay none
+IsCircuit-edited n ok (SetStimulus name changes) none = IsCircuit-stimulated n ok name changes none
+IsCircuit-edited n ok (ClearStimulus name) none = IsCircuit-cleared n ok name none
 
 -- each time of a stimulus is below the horizon
 is_stimulus-early : (horizon width before : ℕ) (changes : List (ℕ × ℕ)) → is_stimulus horizon width before changes ≡ true → All (λ (change : ℕ × ℕ). change.0 < horizon) changes

@@ -8,3 +8,4 @@ pub mod PortLemmas
 pub mod PortEditLemmas
 pub mod ModuleLemmas
 pub mod EditLemmas
+mod BatchLemmas

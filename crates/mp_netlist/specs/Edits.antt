@@ -1,5 +1,5 @@
 -- What an edit does to a netlist.
-use Rattle.std.specs.Prelude.{◌≡◌, ◌⊎◌, IsOk, ℕ, Bool, true, false, not, ◌&&◌, ◌==◌, List, [], ◌∷◌, ◌++◌, length, map, Option, Some, None, is_none, is_some, unwrap_or, option_map, Result, Ok, Err, nat_lt, nat_le, if◌then◌else◌, slice_set, option_and_then}
+use Rattle.std.specs.Prelude.{◌≡◌, ◌⊎◌, IsTrue, ℕ, ◌+◌, Bool, true, false, not, ◌&&◌, ◌==◌, List, [], ◌∷◌, ◌++◌, length, map, Option, Some, None, is_none, is_some, unwrap_or, option_map, Result, Ok, Err, is_ok, nat_lt, nat_le, if◌then◌else◌, slice_set, option_and_then}
 use Rattle.std.specs.List.{list_all, list_any, filter_map, enumerate_from}
 use Rattle.std.specs.Str.{bytes_eq}
 use Rattle.mp_modules.specs.declared.kind.Kind.{Kind}
@@ -15,14 +15,17 @@ use Rattle.mp_records.specs.declared.ports.Output.{Output}
 use Rattle.mp_records.specs.declared.port_names.InputName.{InputName}
 use Rattle.mp_records.specs.declared.port_names.OutputName.{OutputName}
 use Rattle.mp_records.specs.declared.edit.Edit.{Edit}
-use Rattle.mp_records.specs.declared.edit.Edit.TheVariants.{AddWire, RemoveWire, AddModule, RemoveModule, AddBundle, RemoveBundle, RewireInput, RewireOutput, SetInputDelay, SetDelay, SetStimulus, ClearStimulus}
+use Rattle.mp_records.specs.declared.edit.Edit.TheVariants.{Single, Batch}
+use Rattle.mp_records.specs.declared.single_edit.SingleEdit.{SingleEdit}
+use Rattle.mp_records.specs.declared.single_edit.SingleEdit.TheVariants.{AddWire, RemoveWire, AddModule, RemoveModule, AddBundle, RemoveBundle, RewireInput, RewireOutput, SetInputDelay, SetDelay, SetStimulus, ClearStimulus}
 use Rattle.mp_records.specs.declared.edit_error.EditError.{EditError}
-use Rattle.mp_records.specs.declared.edit_error.EditError.TheVariants.{NameTaken, BadName, NoSuchWire, NoSuchModule, NoSuchBundle, BadWidth, BadLevel, BadDelay, BadPort, WrongPorts, BadParam, WidthMismatch, AlreadyDriven, StillUsed, BadStimulus, NoStimulus, TableFull, OutOfMemory}
+use Rattle.mp_records.specs.declared.edit_error.EditError.TheVariants.{NameTaken, BadName, NoSuchWire, NoSuchModule, NoSuchBundle, BadWidth, BadLevel, BadDelay, BadPort, WrongPorts, BadParam, WidthMismatch, AlreadyDriven, StillUsed, BadStimulus, NoStimulus, TableFull, OutOfMemory, BadBatch, InBatch}
+use Rattle.mp_records.specs.EditErrors.{number_of}
 use Rattle.mp_records.specs.Names.{is_name}
 use Rattle.mp_records.specs.Stimuli.{is_stimulus}
 use Rattle.mp_modules.specs.Levels.{fits_width}
 use Rattle.mp_records.specs.PortChanges.{with_input, with_input_delay, with_output, with_delay}
-use Rattle.mp_netlist.specs.Limits.{max_wires, max_modules, max_bundles, max_delay, max_setup}
+use Rattle.mp_netlist.specs.Limits.{max_wires, max_modules, max_bundles, max_delay, max_setup, max_batch}
 use Rattle.mp_netlist.specs.Circuit.{Circuit, wire_at, module_at, wire_named, module_named, bundle_named, width_of, module_width, stimulus_at}
 use Rattle.mp_netlist.specs.Drivers.{driver, is_port, is_nothing, is_free_for}
 use Rattle.mp_netlist.specs.Uses.{is_used}
@@ -287,7 +290,7 @@ abbrev pub clearing_refusal : Circuit → List ℕ → Option EditError
 clearing_refusal n name = first_failing (clearing_checks n name)
 
 -- the first check that the edit fails
-unfoldable pub refusal : Circuit → Edit → Option EditError
+unfoldable pub refusal : Circuit → SingleEdit → Option EditError
 refusal n (AddWire name width level) = wire_refusal n name width level
 refusal n (RemoveWire name) = wire_removal_refusal n name
 refusal n (AddModule name kind params inputs outputs) = module_refusal n name kind params inputs outputs
@@ -300,6 +303,19 @@ refusal n (SetInputDelay name port delay) = input_delay_refusal n name port dela
 refusal n (SetDelay name port delay) = delay_refusal n name port delay
 refusal n (SetStimulus name changes) = stimulus_refusal n name changes
 refusal n (ClearStimulus name) = clearing_refusal n name
+
+-- a batch has 1 to 256 edits
+abbrev pub is_batch : List SingleEdit → Bool
+is_batch edits = nat_le 1 (length edits) && nat_le (length edits) max_batch
+
+-- the check of a batch before its edits are made
+abbrev pub batch_checks : List SingleEdit → List (Bool × EditError)
+batch_checks edits = (is_batch edits, BadBatch) ∷ []
+
+-- the first check that fails before anything is made: a batch's edits are judged as they are made
+abbrev pub checked : Circuit → Edit → Option EditError
+checked n (Single edit) = refusal n edit
+checked n (Batch edits) = first_failing (batch_checks edits)
 
 abbrev pub with_wire_record : Circuit → WireRecord → Circuit
 with_wire_record n r = record n { wires = n.wires ++ Some r ∷ [] }
@@ -348,7 +364,7 @@ abbrev pub with_module : Circuit → ℕ → Option ModuleRecord → Circuit
 with_module n m part = record n { modules = slice_set n.modules m part }
 
 -- the netlist after an edit that no check refuses
-unfoldable pub edited : Circuit → Edit → Circuit
+unfoldable pub edited : Circuit → SingleEdit → Circuit
 edited n (AddWire name width level) = with_new_wire n name width level
 edited n (RemoveWire name) = with_wire n (wire_id n name).0 None
 edited n (AddModule name kind params inputs outputs) = with_new_module n (new_module n name kind params inputs outputs)
@@ -372,18 +388,48 @@ abbrev pub unless : Option EditError → Circuit → Result Circuit EditError
 unless None n = Ok n
 unless (Some error) n = Err error
 
--- the netlist after the edit, or the first check that fails
+-- the netlist after an edit of one thing, or the first check that fails
+abbrev pub after_single : Circuit → SingleEdit → Result Circuit EditError
+after_single n edit = unless (refusal n edit) (edited n edit)
+
+-- goes on with what is next where the netlist stands
+abbrev pub go_on : (Circuit → Result Circuit EditError) → Result Circuit EditError → Result Circuit EditError
+go_on next (Ok n) = next n
+go_on next (Err error) = Err error
+
+-- a batch is refused for the edit in this place, where that is refused
+abbrev pub in_place : ℕ → Result Circuit EditError → Result Circuit EditError
+in_place place (Ok n) = Ok n
+in_place place (Err error) = Err (InBatch place (number_of error))
+
+-- the netlist after the edits of a batch from this place on, each made on the netlist after those before it
+abbrev pub after_each : ℕ → Circuit → List SingleEdit → Result Circuit EditError
+after_each place n [] = Ok n
+after_each place n (edit ∷ edits) = go_on (λ next. after_each (place + 1) next edits) (in_place place (after_single n edit))
+
+-- the netlist after the edit, or why it is refused
 abbrev pub after : Circuit → Edit → Result Circuit EditError
-after n edit = unless (refusal n edit) (edited n edit)
+after n (Single edit) = after_single n edit
+after n (Batch edits) = if is_batch edits then after_each 1 n edits else Err BadBatch
 
--- the edits that take memory: those that add a thing, and that which sets a stimulus
+-- the edits of one thing that take memory: those that add a thing, and that which sets a stimulus
+abbrev pub single_takes_memory : SingleEdit → Bool
+single_takes_memory (AddWire name width level) = true
+single_takes_memory (AddModule name kind params inputs outputs) = true
+single_takes_memory (AddBundle name request acknowledge payload setup) = true
+single_takes_memory (SetStimulus name changes) = true
+single_takes_memory _ = false
+
+-- the edits that take memory: a batch does, since it is made on a copy
 abbrev pub takes_memory : Edit → Bool
-takes_memory (AddWire name width level) = true
-takes_memory (AddModule name kind params inputs outputs) = true
-takes_memory (AddBundle name request acknowledge payload setup) = true
-takes_memory (SetStimulus name changes) = true
-takes_memory _ = false
+takes_memory (Single edit) = single_takes_memory edit
+takes_memory (Batch edits) = true
 
--- an edit was refused: by the first check that fails, or for want of memory where none does
-abbrev pub RefusedBy : {T : Type 0} → Result T EditError → EditError → Type 0
-RefusedBy judged error = (judged ≡ Err error) ⊎ ((error ≡ OutOfMemory) × IsOk judged)
+-- want of memory may come in place of the answer: where an edit of one thing is accepted, and for a batch that is one whatever its edits meet
+abbrev pub may_want : {T : Type 0} → Edit → Result T EditError → Bool
+may_want (Single edit) judged = is_ok judged
+may_want (Batch edits) judged = is_batch edits
+
+-- an edit was refused: as it is judged, or for want of memory where that may come
+abbrev pub RefusedBy : {T : Type 0} → Edit → Result T EditError → EditError → Type 0
+RefusedBy edit judged error = (judged ≡ Err error) ⊎ ((error ≡ OutOfMemory) × IsTrue (may_want edit judged))

@@ -1,9 +1,9 @@
 -- What holds of every edit.
-use Rattle.std.specs.Prelude.{◌≡◌, None}
+use Rattle.std.specs.Prelude.{◌≡◌, Ok}
 use Rattle.mp_records.specs.declared.edit.Edit.{Edit}
 use Rattle.mp_netlist.specs.Circuit.{Circuit, IsCircuit}
-use Rattle.mp_netlist.specs.Edits.{refusal, edited}
+use Rattle.mp_netlist.specs.Edits.{after}
 
--- a netlist is one after each edit that no check refuses
+-- a netlist is one after each edit that is not refused
 abbrev pub EditsKeepNetlists : Type 0
-EditsKeepNetlists = (n : Circuit) → IsCircuit n → (edit : Edit) → refusal n edit ≡ None → IsCircuit (edited n edit)
+EditsKeepNetlists = (n m : Circuit) → IsCircuit n → (edit : Edit) → after n edit ≡ Ok m → IsCircuit m

@@ -24,3 +24,7 @@ max_delay = 65535
 -- the longest setup of a bundle, in units
 abbrev pub max_setup : ℕ
 max_setup = 65535
+
+-- how many edits a batch may have
+abbrev pub max_batch : ℕ
+max_batch = 256

@@ -25,7 +25,7 @@ pub fn delays_are_least()
     ensures { DelaysAreLeast }
 {}
 
-/// A netlist is one after each edit that no check refuses.
+/// A netlist is one after each edit that is not refused, a batch among them.
 pub fn edits_keep_netlists()
     ensures { EditsKeepNetlists }
 {}

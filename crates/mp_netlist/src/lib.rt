@@ -12,11 +12,11 @@ mod tests;
 
 pub use driver::Driver;
 pub use mp_records::{
-    BundleId, BundleRecord, Changes, Edit, EditError, Input, InputName, InputNames, Inputs,
-    ModuleId, ModuleRecord, Name, Output, OutputName, OutputNames, Outputs, Params, Stimulus,
-    WireId, WireRecord,
+    Batch, BundleId, BundleRecord, Changes, Edit, EditError, Input, InputName, InputNames, Inputs,
+    ModuleId, ModuleRecord, Name, Output, OutputName, OutputNames, Outputs, Params, SingleEdit,
+    Stimulus, WireId, WireRecord,
 };
 pub use netlist::{
-    MAX_BUNDLES, MAX_DELAY, MAX_HORIZON, MAX_MODULES, MAX_SETUP, MAX_WIRES, Netlist,
+    MAX_BATCH, MAX_BUNDLES, MAX_DELAY, MAX_HORIZON, MAX_MODULES, MAX_SETUP, MAX_WIRES, Netlist,
 };
 pub use new_error::NewError;

@@ -1,5 +1,6 @@
 //! The netlist: its records in slots, and the tables of their names.
 mod apply;
+mod batches;
 mod check;
 mod copies;
 mod delays;
@@ -33,6 +34,9 @@ pub const MAX_DELAY: u64 = 65535;
 
 /// The longest setup of a bundle, in units.
 pub const MAX_SETUP: u64 = 65535;
+
+/// How many edits a batch may have.
+pub const MAX_BATCH: usize = 256;
 
 /// Wires, modules and bundles by number, and for how many units they run.
 #[derive(Drop)]

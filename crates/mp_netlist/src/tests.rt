@@ -1,6 +1,6 @@
 use crate::{
-    Driver, Edit, EditError, InputName, InputNames, ModuleId, Name, Netlist, NewError, OutputName,
-    OutputNames, Params, WireId,
+    Batch, Driver, Edit, EditError, InputName, InputNames, ModuleId, Name, Netlist, NewError,
+    OutputName, OutputNames, Params, SingleEdit, WireId,
 };
 use mp_modules::Kind;
 use mp_records::Changes;
@@ -12,8 +12,8 @@ fn name(alloc: Global, text: &str) -> Result<Name, AllocError> {
     Ok(Name::new(String::from_str(alloc, text)?))
 }
 
-fn wire(alloc: Global, text: &str) -> Result<Edit, AllocError> {
-    Ok(Edit::AddWire {
+fn wire(alloc: Global, text: &str) -> Result<SingleEdit, AllocError> {
+    Ok(SingleEdit::AddWire {
         name: name(alloc, text)?,
         width: 1,
         level: 0,
@@ -21,9 +21,9 @@ fn wire(alloc: Global, text: &str) -> Result<Edit, AllocError> {
 }
 
 /// A request wire to be set at times from outside.
-fn stimulus(alloc: Global, text: &str, changes: &[(u64, u64)]) -> Result<Edit, AllocError> {
+fn stimulus(alloc: Global, text: &str, changes: &[(u64, u64)]) -> Result<SingleEdit, AllocError> {
     let wire = name(alloc, text)?;
-    Ok(Edit::SetStimulus {
+    Ok(SingleEdit::SetStimulus {
         wire,
         changes: Changes::new(changes.to_vec(alloc)?),
     })
@@ -44,11 +44,16 @@ fn output(alloc: Global, text: &str, delay: u64) -> Result<OutputNames, AllocErr
 }
 
 /// The control of a stage: a C-element of the request before it and, inverted, the acknowledge behind it.
-fn stage(alloc: Global, text: &str, reads: &[&str], drives: &str) -> Result<Edit, AllocError> {
+fn stage(
+    alloc: Global,
+    text: &str,
+    reads: &[&str],
+    drives: &str,
+) -> Result<SingleEdit, AllocError> {
     let inputs = inputs(alloc, reads)?;
     let outputs = output(alloc, drives, 2)?;
     let params = Params::new(vec![in alloc; 0, 0, 1]?);
-    Ok(Edit::AddModule {
+    Ok(SingleEdit::AddModule {
         name: name(alloc, text)?,
         kind: Kind::C,
         params,
@@ -57,11 +62,11 @@ fn stage(alloc: Global, text: &str, reads: &[&str], drives: &str) -> Result<Edit
     })
 }
 
-fn bundle(alloc: Global, text: &str) -> Result<Edit, AllocError> {
+fn bundle(alloc: Global, text: &str) -> Result<SingleEdit, AllocError> {
     let name = name(alloc, text)?;
     let request = self::name(alloc, "r")?;
     let acknowledge = self::name(alloc, "ack")?;
-    Ok(Edit::AddBundle {
+    Ok(SingleEdit::AddBundle {
         name,
         request,
         acknowledge,
@@ -71,8 +76,18 @@ fn bundle(alloc: Global, text: &str) -> Result<Edit, AllocError> {
 }
 
 /// Why the netlist refuses the edit. It alone owns an edit where it ends, since each end spells out how an edit is let go.
-fn refusal(net: &mut Netlist, edit: Edit) -> Option<EditError> {
-    net.apply(&edit).err()
+fn refusal(net: &mut Netlist, edit: SingleEdit) -> Option<EditError> {
+    net.apply(&Edit::Single(edit)).err()
+}
+
+/// Why the netlist refuses a batch that adds wires `b0`, `b1`, .. , this many.
+fn batch_refusal(alloc: Global, net: &mut Netlist, count: u32) -> Result<Option<EditError>, Fail> {
+    let mut edits = Vec::new(alloc);
+    for number in 0..count {
+        let text = format!(in alloc; "b{number}")?;
+        edits.push(wire(alloc, text.as_str())?)?;
+    }
+    Ok(net.apply(&Edit::Batch(Batch::new(edits))).err())
 }
 
 /// Makes the control of a micropipeline of two stages.
@@ -121,8 +136,21 @@ fn full_tables(rt: &impl Abort, alloc: Global, net: &mut Netlist) -> Result<(), 
     Ok(())
 }
 
+/// Batches of no edit and of one too many.
+fn batch_counts(rt: &impl Abort, alloc: Global, net: &mut Netlist) -> Result<(), Fail> {
+    for count in [0, 257] {
+        assert_eq!(rt;
+            batch_refusal(alloc, net, count)?,
+            Some(EditError::BadBatch)
+        );
+    }
+    assert_eq!(rt; net.wire_slots(), 4);
+    Ok(())
+}
+
 fn tries(rt: &impl Abort, alloc: Global, net: &mut Netlist) -> Result<(), Fail> {
     netlist_queries(rt, alloc, net)?;
+    batch_counts(rt, alloc, net)?;
     full_tables(rt, alloc, net)
 }
 

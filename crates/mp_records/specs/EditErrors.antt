@@ -1,7 +1,7 @@
 -- The number and the name of each refusal.
 use Rattle.std.specs.Prelude.{ℕ, ◌-◌, ◌==◌, if◌then◌else◌, None, List, ◌∷◌, [], Option, codes, slice_get}
 use Rattle.mp_records.specs.declared.edit_error.EditError.{EditError}
-use Rattle.mp_records.specs.declared.edit_error.EditError.TheVariants.{NameTaken, BadName, NoSuchWire, NoSuchModule, NoSuchBundle, BadWidth, BadLevel, BadDelay, BadPort, WrongPorts, BadParam, WidthMismatch, AlreadyDriven, StillUsed, BadStimulus, NoStimulus, TableFull, HistoryFull, OutOfMemory}
+use Rattle.mp_records.specs.declared.edit_error.EditError.TheVariants.{NameTaken, BadName, NoSuchWire, NoSuchModule, NoSuchBundle, BadWidth, BadLevel, BadDelay, BadPort, WrongPorts, BadParam, WidthMismatch, AlreadyDriven, StillUsed, BadStimulus, NoStimulus, TableFull, HistoryFull, OutOfMemory, BadBatch, InBatch}
 
 abbrev pub number_of : EditError → ℕ
 number_of NameTaken = 1
@@ -23,6 +23,8 @@ number_of NoStimulus = 16
 number_of TableFull = 17
 number_of HistoryFull = 18
 number_of OutOfMemory = 19
+number_of BadBatch = 20
+number_of (InBatch place number) = 21
 
 -- the names, the first being that of number 1
 abbrev pub names : List (List ℕ)
@@ -46,6 +48,8 @@ names =
     ∷ codes "TableFull"
     ∷ codes "HistoryFull"
     ∷ codes "OutOfMemory"
+    ∷ codes "BadBatch"
+    ∷ codes "InBatch"
     ∷ []
 
 -- the name of a number's refusal, where there is one

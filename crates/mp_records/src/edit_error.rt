@@ -47,6 +47,11 @@ pub enum EditError {
     HistoryFull,
     #[error("out of memory")]
     OutOfMemory,
+    #[error("not 1 to 256 edits in the batch")]
+    BadBatch,
+    /// A batch is refused for one of its edits: which one, the first having place 1, and the number of that edit's own refusal.
+    #[error("edit {place} of the batch is refused with number {number}")]
+    InBatch { place: u32, number: u32 },
 }
 
 impl From<AllocError> for EditError {
@@ -66,7 +71,7 @@ impl<T: Drop> From<AllocFailed<T>> for EditError {
 }
 
 impl EditError {
-    /// The number by which texts and programs know the refusal, from 1 to 19.
+    /// The number by which texts and programs know the refusal, from 1 to 21.
     pub fn number(self) -> u32
         ensures { result ≡ number_of self }
     {
@@ -90,6 +95,8 @@ impl EditError {
             EditError::TableFull => 17,
             EditError::HistoryFull => 18,
             EditError::OutOfMemory => 19,
+            EditError::BadBatch => 20,
+            EditError::InBatch { .. } => 21,
         }
     }
 
@@ -117,6 +124,8 @@ impl EditError {
             17 => "TableFull",
             18 => "HistoryFull",
             19 => "OutOfMemory",
+            20 => "BadBatch",
+            21 => "InBatch",
             _ => return None,
         })
     }

@@ -1,6 +1,7 @@
 //! What a wire, a module, a bundle and an edit are as data.
 #![tactic(auto)]
 
+mod batch;
 mod bundle_record;
 mod changes;
 mod edit;
@@ -11,11 +12,13 @@ mod name;
 mod params;
 mod port_names;
 mod ports;
+mod single_edit;
 mod stimulus;
 #[cfg(test)]
 mod tests;
 mod wire_record;
 
+pub use batch::Batch;
 pub use bundle_record::BundleRecord;
 pub use changes::Changes;
 pub use edit::Edit;
@@ -26,5 +29,6 @@ pub use name::Name;
 pub use params::Params;
 pub use port_names::{InputName, InputNames, OutputName, OutputNames};
 pub use ports::{Input, Inputs, Output, Outputs};
+pub use single_edit::SingleEdit;
 pub use stimulus::Stimulus;
 pub use wire_record::WireRecord;

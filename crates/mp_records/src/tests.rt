@@ -1,4 +1,4 @@
-use crate::{Changes, Edit, EditError, Name};
+use crate::{Batch, Changes, Edit, EditError, Name, SingleEdit};
 use std::alloc::{AllocError, Global};
 use std::process::Abort;
 use std::test::Fail;
@@ -12,18 +12,31 @@ fn stimulus(rt: HostRuntime) -> Result<(), Fail> {
     Ok(())
 }
 
-/// Wire `a` is set to 1 at time 19.
+/// A batch of one edit: wire `a` is set to 1 at time 19.
 fn late(alloc: Global) -> Result<Edit, AllocError> {
     let wire = Name::new(String::from_str(alloc, "a")?);
-    Ok(Edit::SetStimulus {
+    let set = SingleEdit::SetStimulus {
         wire,
         changes: Changes::new(vec![in alloc; (19, 1)]?),
-    })
+    };
+    let mut edits = Vec::new(alloc);
+    edits.push(set)?;
+    Ok(Edit::Batch(Batch::new(edits)))
 }
 
 fn is_late(edit: &Edit) -> bool {
     match edit {
-        Edit::SetStimulus { wire, changes } => {
+        Edit::Single(_) => false,
+        Edit::Batch(batch) => match batch.as_slice() {
+            [only] => sets_late(only),
+            _ => false,
+        },
+    }
+}
+
+fn sets_late(edit: &SingleEdit) -> bool {
+    match edit {
+        SingleEdit::SetStimulus { wire, changes } => {
             wire.as_str() == "a" && changes.as_slice() == [(19, 1)].as_slice()
         }
         _ => false,
@@ -54,5 +67,15 @@ fn words_of_refusals(rt: HostRuntime) -> Result<(), Fail> {
     let alloc = rt.alloc();
     says(&rt, alloc, EditError::NameTaken, "the name is taken")?;
     says(&rt, alloc, EditError::StillUsed, "the wire is still used")?;
-    says(&rt, alloc, EditError::OutOfMemory, "out of memory")
+    says(&rt, alloc, EditError::OutOfMemory, "out of memory")?;
+    let refused = EditError::InBatch {
+        place: 2,
+        number: 8,
+    };
+    says(
+        &rt,
+        alloc,
+        refused,
+        "edit 2 of the batch is refused with number 8",
+    )
 }

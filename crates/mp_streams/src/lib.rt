@@ -10,6 +10,7 @@ mod take_error;
 mod taking;
 #[cfg(test)]
 mod tests;
+mod write_buffer;
 mod write_sink;
 
 pub use failed::Failed;
@@ -19,4 +20,5 @@ pub use sink::Sink;
 pub use source::Source;
 pub use take_error::TakeError;
 pub use taking::take_all;
+pub use write_buffer::WriteBuffer;
 pub use write_sink::WriteSink;

@@ -1,10 +1,13 @@
 //! Devices that give and take bytes in small parts, and devices that fail.
-ghost use Rattle.std.specs.Prelude.{◌≡◌};
+ghost use Rattle.std.specs.Prelude.{◌≡◌, ◌-◌, ◌^◌, ◌<◌};
 
-use crate::{Failed, ReadSource, Sink, Source, TakeError, WriteSink, put_all, take_all};
+use crate::{
+    Failed, ReadSource, Sink, Source, TakeError, WriteBuffer, WriteSink, put_all, take_all,
+};
 use std::alloc::Global;
 use std::io;
 use std::io::{Read, Write};
+use std::test::Fail;
 
 const TEXT: &[u8] = b"horizon 20\n";
 
@@ -108,4 +111,43 @@ fn seven_bytes_and_a_fault(rt: HostRuntime) {
         assert_eq!(rt; sink.faults(), 1);
         assert_eq!(rt; sink.into_inner().taken.as_slice(), b"horizon".as_slice());
     }
+}
+
+/// Puts the text, the filling and the text again through the buffer.
+fn put_through(
+    buffer: &mut WriteBuffer,
+    sink: &mut WriteSink<SmallWriter>,
+    filling: &[u8],
+) -> Result<(), Failed>
+    requires { sink.old.faults < 2 ^ 64 - 1 }
+{
+    buffer.push(sink, TEXT)?;
+    buffer.push(sink, filling)?;
+    buffer.push(sink, TEXT)?;
+    buffer.flush(sink)
+}
+
+#[test]
+fn through_a_buffer(rt: HostRuntime) -> Result<(), Fail> {
+    for (length, room) in [
+        (0, 100_000),
+        (65_530, 100_000),
+        (70_000, 100_000),
+        (0, 7),
+        (65_530, 20),
+        (65_530, 65_545),
+        (70_000, 70_015),
+    ] {
+        let filling = vec![in rt.alloc(); b'a'; length]?;
+        let mut whole = Vec::from_slice(rt.alloc(), TEXT)?;
+        whole.extend_from_slice(filling.as_slice())?;
+        whole.extend_from_slice(TEXT)?;
+        let mut buffer = WriteBuffer::new(rt.alloc())?;
+        let mut sink = small_writer(rt.alloc(), 1, room, true);
+        let ended = put_through(&mut buffer, &mut sink, filling.as_slice());
+        let most = room.min(whole.len());
+        assert_eq!(rt; ended.is_ok(), most == whole.len());
+        assert!(rt; sink.into_inner().taken.as_slice() == &whole.as_slice()[..most]);
+    }
+    Ok(())
 }

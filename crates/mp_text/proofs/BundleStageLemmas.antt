@@ -10,11 +10,11 @@ use Rattle.std.proofs.lemmas.List.Concat.{flat_map-append}
 use Rattle.std.proofs.lemmas.List.Elements.{All-cons, All-nil, All-head, All-weaker}
 use Rattle.mp_records.specs.declared.module_record.ModuleRecord.{ModuleRecord}
 use Rattle.mp_records.specs.declared.bundle_record.BundleRecord.{BundleRecord}
-use Rattle.mp_records.specs.declared.edit.Edit.{Edit}
-use Rattle.mp_records.specs.declared.edit.Edit.TheVariants.{AddBundle}
+use Rattle.mp_records.specs.declared.single_edit.SingleEdit.{SingleEdit}
+use Rattle.mp_records.specs.declared.single_edit.SingleEdit.TheVariants.{AddBundle}
 use Rattle.mp_netlist.specs.Limits.{max_bundles, max_setup}
 use Rattle.mp_netlist.specs.Circuit.{Circuit, IsCircuit, IsBundle, bundle_at, HasNames}
-use Rattle.mp_netlist.specs.Edits.{refusal, edited, after, stands, width_named, bundle_checks, new_bundle}
+use Rattle.mp_netlist.specs.Edits.{refusal, edited, after_single, stands, width_named, bundle_checks, new_bundle}
 use Rattle.mp_text.specs.Written.{wire_name}
 use Rattle.mp_text.specs.RoundTrips.{bundle_edits}
 use Rattle.mp_text.proofs.SlotLemmas.{All-flat_map, All-from_flat_map, Unnamed, named_nowhere, front_unnamed}
@@ -26,11 +26,11 @@ abbrev bundle_name : BundleRecord → List ℕ
 bundle_name r = r.name
 
 -- the edit that adds a bundle by name
-abbrev added : Circuit → BundleRecord → Edit
+abbrev added : Circuit → BundleRecord → SingleEdit
 added n r = AddBundle r.name (wire_name n r.request) (wire_name n r.acknowledge) (wire_name n r.payload) r.setup
 
 -- the edit adds no bundle of this name
-abbrev AddsNone : List ℕ → Edit → Type 0
+abbrev AddsNone : List ℕ → SingleEdit → Type 0
 AddsNone q (AddBundle name request acknowledge payload setup) = bytes_eq q name ≡ false
 AddsNone q _ = Unit {0}
 
@@ -87,7 +87,7 @@ module _ (n : Circuit) (circuit : IsCircuit n) (named : HasNames n) (modules : L
     abbrev new : BundleRecord
     new = new_bundle c r.name (wire_name n r.request) (wire_name n r.acknowledge) (wire_name n r.payload) r.setup
 
-    bundle_done : after c (added n r) ≡ Ok (bundled (bundles ++ Some new ∷ []))
+    bundle_done : after_single c (added n r) ≡ Ok (bundled (bundles ++ Some new ∷ []))
     unfolding refusal edited
     bundle_done =
         let first = wire_name n r.request in

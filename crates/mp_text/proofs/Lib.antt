@@ -15,3 +15,4 @@ pub mod ModuleStageLemmas
 pub mod StimulusStageLemmas
 pub mod BundleStageLemmas
 pub mod SameRecordLemmas
+mod PartLemmas

@@ -16,7 +16,7 @@ use Rattle.mp_records.specs.declared.wire_record.WireRecord.{WireRecord}
 use Rattle.mp_records.specs.declared.module_record.ModuleRecord.{ModuleRecord}
 use Rattle.mp_records.specs.declared.ports.Input.{Input}
 use Rattle.mp_records.specs.declared.ports.Output.{Output}
-use Rattle.mp_records.specs.declared.edit.Edit.TheVariants.{AddModule}
+use Rattle.mp_records.specs.declared.single_edit.SingleEdit.TheVariants.{AddModule}
 use Rattle.mp_records.specs.Names.{is_name}
 use Rattle.mp_records.specs.Inputs.{no_input, input_at}
 use Rattle.mp_records.specs.Outputs.{output_at}

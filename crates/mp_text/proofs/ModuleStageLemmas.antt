@@ -19,7 +19,7 @@ use Rattle.mp_records.specs.Inputs.{no_input}
 use Rattle.mp_records.specs.Outputs.{output_in}
 use Rattle.mp_netlist.specs.Limits.{max_modules, max_delay}
 use Rattle.mp_netlist.specs.Circuit.{Circuit, IsCircuit, IsModule, IsDelay, IsInputDelay, HasWidth, Drives, wire_at, module_at, width_of, module_width, HasNames}
-use Rattle.mp_netlist.specs.Edits.{refusal, edited, after, stands, wire_id, width_named, is_undriven, is_delay, is_input_delay, delays_fit, driven_names, are_distinct, first_width, new_width, inputs_stand, inputs_fit, output_fits, outputs_fit, module_checks, input_of, output_of, new_module, without_stimulus}
+use Rattle.mp_netlist.specs.Edits.{refusal, edited, after_single, stands, wire_id, width_named, is_undriven, is_delay, is_input_delay, delays_fit, driven_names, are_distinct, first_width, new_width, inputs_stand, inputs_fit, output_fits, outputs_fit, module_checks, input_of, output_of, new_module, without_stimulus}
 use Rattle.mp_netlist.proofs.PortLemmas.{no_name}
 use Rattle.mp_modules.proofs.KindLemmas.{some_input}
 use Rattle.mp_text.specs.Written.{wire_name}
@@ -237,7 +237,7 @@ module _ (n : Circuit) (circuit : IsCircuit n) (named : HasNames n) where
     abbrev new : ModuleRecord
     new = new_module c r.name r.kind r.params (map (input_by_name n) r.inputs) (map (output_by_name n) r.outputs)
 
-    module_done : after c (added n r) ≡ Ok (moduled (modules ++ Some new ∷ []))
+    module_done : after_single c (added n r) ≡ Ok (moduled (modules ++ Some new ∷ []))
     unfolding refusal edited
     module_done =
         let inputs = map (input_by_name n) r.inputs in

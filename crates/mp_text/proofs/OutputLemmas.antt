@@ -8,8 +8,8 @@ use Rattle.mp_records.specs.declared.ids.WireId.{WireId}
 use Rattle.mp_records.specs.declared.module_record.ModuleRecord.{ModuleRecord}
 use Rattle.mp_records.specs.declared.ports.Output.{Output}
 use Rattle.mp_records.specs.declared.port_names.OutputName.{OutputName}
-use Rattle.mp_records.specs.declared.edit.Edit.{Edit}
-use Rattle.mp_records.specs.declared.edit.Edit.TheVariants.{AddModule}
+use Rattle.mp_records.specs.declared.single_edit.SingleEdit.{SingleEdit}
+use Rattle.mp_records.specs.declared.single_edit.SingleEdit.TheVariants.{AddModule}
 use Rattle.mp_records.specs.Outputs.{output_in}
 use Rattle.mp_netlist.specs.Circuit.{Circuit, Drives, wire_at, stimulus_at}
 use Rattle.mp_netlist.specs.Drivers.{driver, is_nothing, is_port, stimulus_driver}
@@ -48,16 +48,16 @@ is_output n outputs p q is = by (output_in outputs p).wire refl (sym (output_nam
     by (Some w) at is = let same : wire_name n w ≡ q = cc in record { wire = w; drives = at; name = same }
 
 -- the edit that adds a module by name
-abbrev pub added : Circuit → ModuleRecord → Edit
+abbrev pub added : Circuit → ModuleRecord → SingleEdit
 added n r = AddModule r.name r.kind r.params (map (input_by_name n) r.inputs) (map (output_by_name n) r.outputs)
 
 -- the edit adds no output of this name
-abbrev pub DrivesNone : List ℕ → Edit → Type 0
+abbrev pub DrivesNone : List ℕ → SingleEdit → Type 0
 DrivesNone q (AddModule name kind params inputs outputs) = (p : ℕ) → (get_or outputs p no_name).wire ≡ Some q → ⊥
 DrivesNone q _ = Unit {0}
 
 -- the edit adds no module of this name
-abbrev pub AddsNone : List ℕ → Edit → Type 0
+abbrev pub AddsNone : List ℕ → SingleEdit → Type 0
 AddsNone q (AddModule name kind params inputs outputs) = bytes_eq q name ≡ false
 AddsNone q _ = Unit {0}
 

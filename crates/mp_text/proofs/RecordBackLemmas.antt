@@ -7,8 +7,8 @@ use Rattle.std.proofs.lemmas.List.Elements.{All-cons, All-nil, All-map, All-from
 use Rattle.mp_records.specs.declared.ids.WireId.{WireId}
 use Rattle.mp_records.specs.declared.wire_record.WireRecord.{WireRecord}
 use Rattle.mp_records.specs.declared.bundle_record.BundleRecord.{BundleRecord}
-use Rattle.mp_records.specs.declared.edit.Edit.{Edit}
-use Rattle.mp_records.specs.declared.edit.Edit.TheVariants.{AddWire, AddBundle, SetStimulus}
+use Rattle.mp_records.specs.declared.single_edit.SingleEdit.{SingleEdit}
+use Rattle.mp_records.specs.declared.single_edit.SingleEdit.TheVariants.{AddWire, AddBundle, SetStimulus}
 use Rattle.mp_records.specs.Names.{is_name}
 use Rattle.mp_modules.specs.Levels.{fits_width}
 use Rattle.mp_records.specs.Stimuli.{is_stimulus}
@@ -105,7 +105,7 @@ pair_plain change low =
 
 module _ (n : Circuit) (circuit : IsCircuit n) (named : HasNames n) where
   set_leads : (name : List ℕ) (width : ℕ) → is_name name ≡ true → width ≤ 64 → (stimulus : Option (List (ℕ × ℕ)))
-      → IfSome stimulus (λ changes. IsTrue (is_stimulus n.horizon width 0 changes)) → (bytes : List ℕ) (edits : List Edit) → Leads bytes edits
+      → IfSome stimulus (λ changes. IsTrue (is_stimulus n.horizon width 0 changes)) → (bytes : List ℕ) (edits : List SingleEdit) → Leads bytes edits
       → Leads (stimulus_words name stimulus ++ bytes) (set_edits name stimulus ++ edits)
   set_leads name width valid narrow None ok bytes edits rest = rest
   set_leads name width valid narrow (Some changes) ok bytes edits rest =

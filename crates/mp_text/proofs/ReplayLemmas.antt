@@ -1,13 +1,14 @@
 -- The netlist of a text is a replay.
-use Rattle.std.proofs.Common.{◌≡◌, ℕ, ◌+◌, Bool, true, false, cond, List, [], ◌∷◌, Result, Ok, Err, length, refl, ap, ◌∙◌}
+use Rattle.std.proofs.Common.{◌≡◌, ℕ, ◌+◌, Bool, true, false, cond, List, [], ◌∷◌, map, Result, Ok, Err, length, refl, ap, ◌∙◌}
 use Rattle.std.specs.Prelude.{nat_le, ◌&&◌}
 use Rattle.std.specs.Result.{result_map_both}
 use Rattle.std.specs.List.{filter_map, list_all}
-use Rattle.mp_records.specs.declared.edit.Edit.{Edit}
+use Rattle.mp_records.specs.declared.edit.Edit.TheVariants.{Single}
+use Rattle.mp_records.specs.declared.single_edit.SingleEdit.{SingleEdit}
 use Rattle.mp_records.specs.declared.edit_error.EditError.{EditError}
 use Rattle.mp_netlist.specs.Circuit.{Circuit, empty_circuit}
-use Rattle.mp_netlist.specs.Edits.{after}
-use Rattle.mp_netlist.specs.Replays.{replay, go_on}
+use Rattle.mp_netlist.specs.Edits.{after_single, go_on}
+use Rattle.mp_netlist.specs.Replays.{replay, replay_singles}
 use Rattle.mp_words.specs.declared.line_error.LineError.TheVariants.{NotAscii}
 use Rattle.mp_text.specs.declared.text_code.TextCode.TheVariants.{BadNumber, Refused}
 use Rattle.mp_text.specs.declared.text_code.TextCode.{TextCode}
@@ -24,18 +25,18 @@ use Rattle.mp_words.specs.Words.{words_of}
 use Rattle.mp_text.specs.Statements.{Statement, Blank, Unknown, Format, Start, Change, statement_of}
 use Rattle.mp_text.specs.Texts.{text_at, after_lines, after_line, after_statement, formatted, next_line}
 use Rattle.mp_text.specs.Limits.{max_text}
-use Rattle.mp_text.specs.Laws.{horizon_of, edit_of, statements, IsReplay}
+use Rattle.mp_text.specs.Laws.{horizon_of, edit_of, statements, IsReplayed, IsReplay}
 
 -- the lines state no horizon, and lead from one netlist to the other by their edits
 abbrev LeadsOn : List Statement → Circuit → Circuit → Type 0
-LeadsOn ss n c = (filter_map horizon_of ss ≡ []) × (replay n (filter_map edit_of ss) ≡ Ok c)
+LeadsOn ss n c = (filter_map horizon_of ss ≡ []) × (replay_singles n (filter_map edit_of ss) ≡ Ok c)
 
 module _ (k : ℕ) (n c : Circuit) (ss : List Statement) (go : TextState → Result Circuit TextError)
     (next : (m : Circuit) → go (Open m) ≡ Ok c → LeadsOn ss m c) where
-  on_edit : (e : Edit) (r : Result Circuit EditError) → after n e ≡ r → next_line k go (result_map_both Open Refused r) ≡ Ok c → LeadsOn (Change (Ok e) ∷ ss) n c
+  on_edit : (e : SingleEdit) (r : Result Circuit EditError) → after_single n e ≡ r → next_line k go (result_map_both Open Refused r) ≡ Ok c → LeadsOn (Change (Ok e) ∷ ss) n c
   on_edit e (Ok m) same h =
       let rest = next m h in
-      (rest.0, ap (go_on (λ n. replay n (filter_map edit_of ss))) same ∙ rest.1)
+      (rest.0, ap (go_on (λ n. replay_singles n (filter_map edit_of ss))) same ∙ rest.1)
   on_edit e (Err error) same h = cc
 
   on_statement : (s : Statement) → next_line k go (after_statement (Open n) s) ≡ Ok c → LeadsOn (s ∷ ss) n c
@@ -44,7 +45,7 @@ module _ (k : ℕ) (n c : Circuit) (ss : List Statement) (go : TextState → Res
   on_statement Unknown h = cc
   on_statement (Format number) h = cc
   on_statement (Start horizon) h = cc
-  on_statement (Change (Ok e)) h = on_edit e (after n e) refl h
+  on_statement (Change (Ok e)) h = on_edit e (after_single n e) refl h
   on_statement (Change (Err code)) h = cc
 
 -- what holds of the statements of a line that is read holds of its words
@@ -63,7 +64,7 @@ leads_on k n c (line ∷ lines) h =
 
 -- the lines state one horizon, and lead from its empty netlist to the other by their edits
 abbrev Opens : List Statement → Circuit → Type 0
-Opens ss c = (h : ℕ) × ((filter_map horizon_of ss ≡ h ∷ []) × (replay (empty_circuit h) (filter_map edit_of ss) ≡ Ok c))
+Opens ss c = (h : ℕ) × ((filter_map horizon_of ss ≡ h ∷ []) × (replay_singles (empty_circuit h) (filter_map edit_of ss) ≡ Ok c))
 
 module _ (k : ℕ) (c : Circuit) (ss : List Statement) (go : TextState → Result Circuit TextError)
     (formed : (format : TextFormat) → go (Formatted format) ≡ Ok c → Opens ss c) (next : (m : Circuit) → go (Open m) ≡ Ok c → LeadsOn ss m c) where
@@ -112,6 +113,20 @@ of_length : (b : Bool) (lines : Result Circuit TextError) (c : Circuit) (e : Tex
 of_length true lines c e h = h
 of_length false lines c e h = cc
 
+-- a replay of edits of one thing
+singles_replayed : (n : Circuit) (edits : List SingleEdit) → replay n (map Single edits) ≡ replay_singles n edits
+singles_replayed n [] = refl
+singles_replayed n (edit ∷ edits) = by (after_single n edit) (λ next. singles_replayed next edits)
+  where
+    by : (made : Result Circuit EditError) → ((next : Circuit) → replay next (map Single edits) ≡ replay_singles next edits)
+        → go_on (λ next. replay next (map Single edits)) made ≡ go_on (λ next. replay_singles next edits) made
+    by (Ok next) later = later next
+    by (Err error) later = refl
+
+replayed : (lines : List (List ℕ)) (c : Circuit) → Opens (statements lines) c → IsReplayed lines c
+replayed lines c opened =
+    (opened.0, (opened.1.0, singles_replayed (empty_circuit opened.0) (filter_map edit_of (statements lines)) ∙ opened.1.1))
+
 pub text_is_replay : IsReplay
 unfolding text_at
-text_is_replay text c h = opens 0 c (lines_of text) (of_length (nat_le (length text) max_text) (after_lines 0 Fresh (lines_of text)) c _ h)
+text_is_replay text c h = replayed (lines_of text) c (opens 0 c (lines_of text) (of_length (nat_le (length text) max_text) (after_lines 0 Fresh (lines_of text)) c _ h))

@@ -10,7 +10,7 @@ use Rattle.mp_records.specs.declared.ports.Output.{Output}
 use Rattle.mp_records.specs.declared.port_names.InputName.{InputName}
 use Rattle.mp_records.specs.declared.port_names.OutputName.{OutputName}
 use Rattle.mp_netlist.specs.Circuit.{Circuit, IsCircuit, empty_circuit, HasNames}
-use Rattle.mp_netlist.specs.Replays.{replay}
+use Rattle.mp_netlist.specs.Replays.{replay_singles}
 use Rattle.mp_text.specs.Written.{name_in, wire_name}
 use Rattle.mp_text.specs.RoundTrips.{SameRecords, standing, input_by_name, output_by_name, module_edits, stimulus_edits, bundle_edits, edits_by_name}
 use Rattle.mp_text.proofs.SlotLemmas.{flat_map_agree, map_agree}
@@ -56,7 +56,7 @@ module _ (c d : Circuit) (names : (w : WireId) → wire_name c w ≡ wire_name d
 -- the edits of the records lead to a netlist with the same records
 pub record IsMadeAgain (n : Circuit) : Type 0 where
   pub again : Circuit
-  pub replayed : replay (empty_circuit n.horizon) (edits_by_name n) ≡ Ok again
+  pub replayed : replay_singles (empty_circuit n.horizon) (edits_by_name n) ≡ Ok again
   pub same : SameRecords n again
 
 module _ (n : Circuit) (circuit : IsCircuit n) (named : HasNames n) (modules : List (Option ModuleRecord))
@@ -86,12 +86,12 @@ made_again n circuit named =
       again = bundles.goal;
       replayed =
           wires.leads (module_changes ++ (stimulus_changes ++ bundle_changes))
-          ∙ ap (λ c. replay c (module_changes ++ (stimulus_changes ++ bundle_changes))) wires.holds
+          ∙ ap (λ c. replay_singles c (module_changes ++ (stimulus_changes ++ bundle_changes))) wires.holds
           ∙ modules.leads (stimulus_changes ++ bundle_changes)
-          ∙ ap (λ c. replay c (stimulus_changes ++ bundle_changes)) modules.holds.is
+          ∙ ap (λ c. replay_singles c (stimulus_changes ++ bundle_changes)) modules.holds.is
           ∙ stimuli.leads bundle_changes
-          ∙ ap (λ c. replay c bundle_changes) stimuli.holds
-          ∙ ap (replay (made n.horizon (flat_map kept n.wires) modules.holds.modules [])) (sym (append-nil bundle_changes))
+          ∙ ap (λ c. replay_singles c bundle_changes) stimuli.holds
+          ∙ ap (replay_singles (made n.horizon (flat_map kept n.wires) modules.holds.modules [])) (sym (append-nil bundle_changes))
           ∙ bundles.leads [];
       same = same_records n circuit named modules.holds.modules modules.holds.same bundles.goal bundles.holds;
     }

@@ -2,11 +2,11 @@
 use Rattle.std.proofs.Common.{◌≡◌, Bool, true, false, ◌&&◌, List, [], ◌∷◌, ◌++◌, append_assoc, Option, None, Ok, refl, sym, ap, subst, ◌∙◌}
 use Rattle.std.specs.List.{flat_map}
 use Rattle.std.proofs.lemmas.List.{append-nil}
-use Rattle.mp_records.specs.declared.edit.Edit.{Edit}
+use Rattle.mp_records.specs.declared.single_edit.SingleEdit.{SingleEdit}
 use Rattle.mp_records.specs.declared.edit_error.EditError.{EditError}
 use Rattle.mp_netlist.specs.Circuit.{Circuit}
-use Rattle.mp_netlist.specs.Edits.{after, unless, refusal, edited, first_failing}
-use Rattle.mp_netlist.specs.Replays.{replay, go_on}
+use Rattle.mp_netlist.specs.Edits.{go_on, after_single, unless, refusal, edited, first_failing}
+use Rattle.mp_netlist.specs.Replays.{replay_singles}
 
 -- each check passes
 abbrev pub AllPass : List (Bool × EditError) → Type 0
@@ -23,34 +23,34 @@ and_both true b first second = second
 and_both false b first second = cc
 
 -- an edit that no check refuses is done
-pub is_done : (c : Circuit) (edit : Edit) → refusal c edit ≡ None → after c edit ≡ Ok (edited c edit)
+pub is_done : (c : Circuit) (edit : SingleEdit) → refusal c edit ≡ None → after_single c edit ≡ Ok (edited c edit)
 is_done c edit none = ap (λ e. unless e (edited c edit)) none
 
 -- the edits lead to a netlist of which something holds
-pub record Reaches (P : Circuit → Type 0) (c : Circuit) (edits : List Edit) : Type 0 where
+pub record Reaches (P : Circuit → Type 0) (c : Circuit) (edits : List SingleEdit) : Type 0 where
   pub goal : Circuit
   pub holds : P goal
-  pub leads : (rest : List Edit) → replay c (edits ++ rest) ≡ replay goal rest
+  pub leads : (rest : List SingleEdit) → replay_singles c (edits ++ rest) ≡ replay_singles goal rest
 
 pub Reaches-none : (P : Circuit → Type 0) (c : Circuit) → P c → Reaches P c []
 Reaches-none P c holds = record { goal = c; holds = holds; leads = λ rest. refl }
 
-pub Reaches-one : (P : Circuit → Type 0) (c d : Circuit) (edit : Edit) → after c edit ≡ Ok d → P d → Reaches P c (edit ∷ [])
-Reaches-one P c d edit done holds = record { goal = d; holds = holds; leads = λ rest. ap (go_on (λ next. replay next rest)) done }
+pub Reaches-one : (P : Circuit → Type 0) (c d : Circuit) (edit : SingleEdit) → after_single c edit ≡ Ok d → P d → Reaches P c (edit ∷ [])
+Reaches-one P c d edit done holds = record { goal = d; holds = holds; leads = λ rest. ap (go_on (λ next. replay_singles next rest)) done }
 
-pub Reaches-append : (P Q : Circuit → Type 0) (c : Circuit) (edits more : List Edit) → (first : Reaches P c edits) → Reaches Q first.goal more → Reaches Q c (edits ++ more)
+pub Reaches-append : (P Q : Circuit → Type 0) (c : Circuit) (edits more : List SingleEdit) → (first : Reaches P c edits) → Reaches Q first.goal more → Reaches Q c (edits ++ more)
 Reaches-append P Q c edits more first second = record {
   goal = second.goal;
   holds = second.holds;
-  leads = λ rest. ap (replay c) (append_assoc edits more rest) ∙ first.leads (more ++ rest) ∙ second.leads rest;
+  leads = λ rest. ap (replay_singles c) (append_assoc edits more rest) ∙ first.leads (more ++ rest) ∙ second.leads rest;
 }
 
 -- from each netlist for what is in front the edits of a slot lead to one for what is in front with it
-abbrev pub Steps : {R : Type 0} → List (Option R) → (Option R → List Edit) → (List (Option R) → List (Option R) → Circuit → Type 0) → Type 0
+abbrev pub Steps : {R : Type 0} → List (Option R) → (Option R → List SingleEdit) → (List (Option R) → List (Option R) → Circuit → Type 0) → Type 0
 Steps {R} slots edits At =
     (front back : List (Option R)) (slot : Option R) → slots ≡ front ++ slot ∷ back → (c : Circuit) → At front (slot ∷ back) c → Reaches (At (front ++ slot ∷ []) back) c (edits slot)
 
-pub stage : {R : Type 0} (slots : List (Option R)) (edits : Option R → List Edit) (At : List (Option R) → List (Option R) → Circuit → Type 0) → Steps slots edits At
+pub stage : {R : Type 0} (slots : List (Option R)) (edits : Option R → List SingleEdit) (At : List (Option R) → List (Option R) → Circuit → Type 0) → Steps slots edits At
     → (back front : List (Option R)) → slots ≡ front ++ back → (c : Circuit) → At front back c → Reaches (At slots []) c (flat_map edits back)
 stage slots edits At step [] front same c holds = Reaches-none (At slots []) c (subst (λ xs. At xs [] c) (sym (same ∙ append-nil front)) holds)
 stage slots edits At step (slot ∷ back) front same c holds =

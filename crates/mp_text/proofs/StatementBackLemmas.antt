@@ -1,5 +1,5 @@
 -- Statements that are written are read again.
-use Rattle.std.proofs.Common.{◌≡◌, ℕ, ◌^◌, ◌<◌, ◌≤◌, true, false, ◌==◌, ◌&&◌, List, [], ◌∷◌, ◌++◌, length, map, All, Ok, decimal, refl, ap, ◌∙◌, arith}
+use Rattle.std.proofs.Common.{◌≡◌, ℕ, ◌^◌, ◌<◌, true, false, ◌==◌, ◌&&◌, List, [], ◌∷◌, ◌++◌, length, map, All, Ok, decimal, refl, ap, ◌∙◌, arith}
 use Rattle.std.specs.Prelude.{codes, nat_le, suc}
 use Rattle.std.specs.Char.{is_ascii_digit, is_ascii_alphabetic}
 use Rattle.std.specs.List.{list_all}
@@ -11,9 +11,8 @@ use Rattle.mp_modules.specs.Kinds.{word_of}
 use Rattle.mp_modules.proofs.WordLemmas.{by_word}
 use Rattle.mp_records.specs.declared.port_names.InputName.{InputName}
 use Rattle.mp_records.specs.declared.port_names.OutputName.{OutputName}
-use Rattle.mp_records.specs.declared.edit.Edit.TheVariants.{AddWire, AddModule, AddBundle, SetStimulus}
+use Rattle.mp_records.specs.declared.single_edit.SingleEdit.TheVariants.{AddWire, AddModule, AddBundle, SetStimulus}
 use Rattle.mp_records.specs.Names.{is_name, is_name_byte, begins_with_letter}
-use Rattle.mp_netlist.specs.Limits.{max_horizon}
 use Rattle.mp_words.specs.WordLists.{number_word, change_word, input_word, output_word}
 use Rattle.mp_text.specs.Statements.{is_mark, Format, Start, Change, wire_edit, module_edit, parts_edit, stimulus_edit, bundle_edit, stated_edit, statement_of}
 use Rattle.mp_words.specs.Numbers.{spelled_number, number_from}

@@ -8,13 +8,13 @@ use Rattle.std.proofs.lemmas.List.Concat.{flat_map-append}
 use Rattle.mp_records.specs.declared.ids.WireId.{WireId}
 use Rattle.mp_records.specs.declared.wire_record.WireRecord.{WireRecord}
 use Rattle.mp_records.specs.declared.module_record.ModuleRecord.{ModuleRecord}
-use Rattle.mp_records.specs.declared.edit.Edit.TheVariants.{SetStimulus}
+use Rattle.mp_records.specs.declared.single_edit.SingleEdit.TheVariants.{SetStimulus}
 use Rattle.mp_records.specs.Stimuli.{is_stimulus}
 use Rattle.mp_records.specs.Outputs.{output_in}
 use Rattle.mp_netlist.specs.Slots.{number_named}
 use Rattle.mp_netlist.specs.Circuit.{Circuit, IsCircuit, Drives, wire_at, width_of, stimulus_in, stimulus_at, HasNames}
 use Rattle.mp_netlist.specs.Drivers.{driver, is_port}
-use Rattle.mp_netlist.specs.Edits.{refusal, edited, after, stands, wire_id, width_named, stimulus_checks, with_stimulus, without_stimulus}
+use Rattle.mp_netlist.specs.Edits.{refusal, edited, after_single, stands, wire_id, width_named, stimulus_checks, with_stimulus, without_stimulus}
 use Rattle.mp_text.specs.Written.{name_in, wire_name}
 use Rattle.mp_text.specs.RoundTrips.{module_edits, set_edits, stimulus_edits}
 use Rattle.mp_text.proofs.SlotLemmas.{compact, compact-none, length-compact, named_behind, front_unnamed, compact_unnamed}
@@ -92,7 +92,7 @@ module _ (n : Circuit) (circuit : IsCircuit n) (named : HasNames n) (modules : L
           let all = subst (All (DrivesNone r.name)) (sym same) (drives_none n r.name n.modules nobody) in
           undriven_by_name unset (wire_id c r.name).0 r.name unset_name all k p (record { part = drives.part; stands = drives.stands; output = drives.output })
 
-      stimulus_done : after c (SetStimulus r.name changes) ≡ Ok (made n.horizon (before ++ Some r ∷ behind) modules [])
+      stimulus_done : after_single c (SetStimulus r.name changes) ≡ Ok (made n.horizon (before ++ Some r ∷ behind) modules [])
       unfolding refusal edited
       stimulus_done =
           let found : stands c r.name ≡ true = ap is_some number_found in

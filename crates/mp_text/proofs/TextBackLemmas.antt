@@ -3,11 +3,11 @@ use Rattle.std.proofs.Common.{◌≡◌, ℕ, ◌+◌, List, [], ◌∷◌, ◌+
 use Rattle.std.specs.List.{flat_map}
 use Rattle.std.specs.Result.{result_map_both}
 use Rattle.std.proofs.lemmas.List.Elements.{All-head, All-tail}
-use Rattle.mp_records.specs.declared.edit.Edit.{Edit}
+use Rattle.mp_records.specs.declared.single_edit.SingleEdit.{SingleEdit}
 use Rattle.mp_records.specs.declared.edit_error.EditError.{EditError}
 use Rattle.mp_netlist.specs.Circuit.{Circuit}
-use Rattle.mp_netlist.specs.Edits.{after}
-use Rattle.mp_netlist.specs.Replays.{replay, go_on}
+use Rattle.mp_netlist.specs.Edits.{go_on, after_single}
+use Rattle.mp_netlist.specs.Replays.{replay_singles}
 use Rattle.mp_text.specs.declared.text_code.TextCode.TheVariants.{Refused}
 use Rattle.mp_text.specs.LineErrors.{in_text}
 use Rattle.mp_text.specs.declared.text_state.TextState.{TextState}
@@ -21,8 +21,8 @@ use Rattle.mp_words.proofs.PlainLemmas.{IsPlain}
 use Rattle.mp_text.proofs.WrittenLineLemmas.{lines_of-written, line_words-spaced}
 
 -- the lines of the bytes lead where the edits lead
-pub record Leads (bytes : List ℕ) (edits : List Edit) : Type 0 where
-  pub each : (k : ℕ) (c d : Circuit) → replay c edits ≡ Ok d → after_lines k (Open c) (lines_of bytes) ≡ Ok d
+pub record Leads (bytes : List ℕ) (edits : List SingleEdit) : Type 0 where
+  pub each : (k : ℕ) (c d : Circuit) → replay_singles c edits ≡ Ok d → after_lines k (Open c) (lines_of bytes) ≡ Ok d
 
 pub leads_nowhere : Leads [] []
 unfolding after_lines lines_of
@@ -35,31 +35,31 @@ unfolding after_line
 line_stated state first words plain all =
     ap (λ read. in_text read >>= λ words. after_statement state (statement_of words)) (line_words-spaced first words plain all)
 
-module _ (edit : Edit) (bytes : List ℕ) (edits : List Edit) (rest : Leads bytes edits) (k : ℕ) (d : Circuit) where
-  on_edited : (r : Result Circuit EditError) → go_on (λ next. replay next edits) r ≡ Ok d
+module _ (edit : SingleEdit) (bytes : List ℕ) (edits : List SingleEdit) (rest : Leads bytes edits) (k : ℕ) (d : Circuit) where
+  on_edited : (r : Result Circuit EditError) → go_on (λ next. replay_singles next edits) r ≡ Ok d
       → next_line k (λ after. after_lines (k + 1) after (lines_of bytes)) (result_map_both Open Refused r) ≡ Ok d
   on_edited (Ok c) h = rest.each (k + 1) c d h
   on_edited (Err error) h = cc
 
-module _ (first : List ℕ) (words : List (List ℕ)) (edit : Edit) (plain : IsPlain first) (all : All IsPlain words) (stated : statement_of (first ∷ words) ≡ Change (Ok edit)) where
+module _ (first : List ℕ) (words : List (List ℕ)) (edit : SingleEdit) (plain : IsPlain first) (all : All IsPlain words) (stated : statement_of (first ∷ words) ≡ Change (Ok edit)) where
   -- a written line in front of others
-  pub leads_line : (bytes : List ℕ) (edits : List Edit) → Leads bytes edits → Leads (written_line first words ++ bytes) (edit ∷ edits)
+  pub leads_line : (bytes : List ℕ) (edits : List SingleEdit) → Leads bytes edits → Leads (written_line first words ++ bytes) (edit ∷ edits)
   unfolding after_lines after_statement
   leads_line bytes edits rest = record { each = λ k c d h. by k c d h }
     where
-      by : (k : ℕ) (c d : Circuit) → replay c (edit ∷ edits) ≡ Ok d → after_lines k (Open c) (lines_of (written_line first words ++ bytes)) ≡ Ok d
+      by : (k : ℕ) (c d : Circuit) → replay_singles c (edit ∷ edits) ≡ Ok d → after_lines k (Open c) (lines_of (written_line first words ++ bytes)) ≡ Ok d
       by k c d h =
           let line = line_stated (Open c) first words plain all ∙ ap (after_statement (Open c)) stated in
           ap (after_lines k (Open c)) (lines_of-written first words bytes plain all)
           ∙ ap (next_line k (λ after. after_lines (k + 1) after (lines_of bytes))) line
-          ∙ on_edited edit bytes edits rest k d (after c edit) h
+          ∙ on_edited edit bytes edits rest k d (after_single c edit) h
 
 -- the line of a slot leads where its edit leads
-pub record SlotLeads {R : Type 0} (line : Option R → List ℕ) (change : Option R → List Edit) (slot : Option R) : Type 0 where
-  pub each : (bytes : List ℕ) (edits : List Edit) → Leads bytes edits → Leads (line slot ++ bytes) (change slot ++ edits)
+pub record SlotLeads {R : Type 0} (line : Option R → List ℕ) (change : Option R → List SingleEdit) (slot : Option R) : Type 0 where
+  pub each : (bytes : List ℕ) (edits : List SingleEdit) → Leads bytes edits → Leads (line slot ++ bytes) (change slot ++ edits)
 
 -- the lines of slots in front of others
-pub leads_slots : {R : Type 0} (line : Option R → List ℕ) (change : Option R → List Edit) (slots : List (Option R)) (bytes : List ℕ) (edits : List Edit)
+pub leads_slots : {R : Type 0} (line : Option R → List ℕ) (change : Option R → List SingleEdit) (slots : List (Option R)) (bytes : List ℕ) (edits : List SingleEdit)
     → All (SlotLeads line change) slots → Leads bytes edits → Leads (flat_map line slots ++ bytes) (flat_map change slots ++ edits)
 leads_slots line change [] bytes edits all rest = rest
 leads_slots line change (slot ∷ slots) bytes edits all rest =

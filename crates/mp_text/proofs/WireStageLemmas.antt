@@ -11,10 +11,10 @@ use Rattle.mp_records.specs.declared.ids.WireId.{WireId}
 use Rattle.mp_records.specs.declared.wire_record.WireRecord.{WireRecord}
 use Rattle.mp_records.specs.declared.module_record.ModuleRecord.{ModuleRecord}
 use Rattle.mp_records.specs.declared.bundle_record.BundleRecord.{BundleRecord}
-use Rattle.mp_records.specs.declared.edit.Edit.TheVariants.{AddWire}
+use Rattle.mp_records.specs.declared.single_edit.SingleEdit.TheVariants.{AddWire}
 use Rattle.mp_netlist.specs.Limits.{max_wires}
 use Rattle.mp_netlist.specs.Circuit.{Circuit, IsCircuit, wire_at, width_of, stimulus_in, HasNames}
-use Rattle.mp_netlist.specs.Edits.{refusal, edited, after, stands, wire_id, width_named, wire_checks, without_stimulus}
+use Rattle.mp_netlist.specs.Edits.{refusal, edited, after_single, stands, wire_id, width_named, wire_checks, without_stimulus}
 use Rattle.mp_text.specs.Written.{name_in, wire_name}
 use Rattle.mp_text.specs.RoundTrips.{wire_edits}
 use Rattle.mp_text.proofs.SlotLemmas.{compact, compact-none, compact_few, IsAt, IsAt-compact, named_nowhere, front_unnamed, compact_unnamed}
@@ -83,7 +83,7 @@ module _ (n : Circuit) (circuit : IsCircuit n) (named : HasNames n) where
   abbrev pub wired : List (Option WireRecord) → Circuit
   wired front = made n.horizon (flat_map bare front) [] []
 
-  wire_done : (front back : List (Option WireRecord)) (r : WireRecord) → n.wires ≡ front ++ Some r ∷ back → after (wired front) (AddWire r.name r.width r.initial) ≡ Ok (wired (front ++ Some r ∷ []))
+  wire_done : (front back : List (Option WireRecord)) (r : WireRecord) → n.wires ≡ front ++ Some r ∷ back → after_single (wired front) (AddWire r.name r.width r.initial) ≡ Ok (wired (front ++ Some r ∷ []))
   unfolding refusal edited
   wire_done front back r same =
       let at : wire_at n (length front) ≡ Some r = ap (λ xs. get_or xs (length front) None) same ∙ get_or_at front (Some r) back None (length front) refl in
@@ -106,7 +106,7 @@ module _ (n : Circuit) (circuit : IsCircuit n) (named : HasNames n) where
   wire_step front back None same c at =
       Reaches-none (λ d. d ≡ wired (front ++ None ∷ [])) c (at ∙ ap (λ wires. made n.horizon wires [] []) (sym (compact-none without_stimulus front)))
   wire_step front back (Some r) same c at =
-      Reaches-one (λ d. d ≡ wired (front ++ Some r ∷ [])) c (wired (front ++ Some r ∷ [])) (AddWire r.name r.width r.initial) (ap (λ d. after d (AddWire r.name r.width r.initial)) at ∙ wire_done front back r same) refl
+      Reaches-one (λ d. d ≡ wired (front ++ Some r ∷ [])) c (wired (front ++ Some r ∷ [])) (AddWire r.name r.width r.initial) (ap (λ d. after_single d (AddWire r.name r.width r.initial)) at ∙ wire_done front back r same) refl
 
   -- the wires are added
   pub wires_reached : Reaches (λ c. c ≡ wired n.wires) (wired []) (flat_map wire_edits n.wires)

@@ -1,7 +1,8 @@
 -- What the netlist of a text is made of.
 use Rattle.std.specs.Prelude.{◌≡◌, ℕ, List, [], ◌∷◌, Option, Some, None, Ok, Err, map}
 use Rattle.std.specs.List.{filter_map}
-use Rattle.mp_records.specs.declared.edit.Edit.{Edit}
+use Rattle.mp_records.specs.declared.edit.Edit.TheVariants.{Single}
+use Rattle.mp_records.specs.declared.single_edit.SingleEdit.{SingleEdit}
 use Rattle.mp_netlist.specs.Circuit.{Circuit, empty_circuit}
 use Rattle.mp_netlist.specs.Replays.{replay}
 use Rattle.mp_words.specs.Lines.{lines_of}
@@ -17,7 +18,7 @@ horizon_of (Start (Ok horizon)) = Some horizon
 horizon_of (Start (Err code)) = None
 horizon_of (Change edit) = None
 
-abbrev pub edit_of : Statement → Option Edit
+abbrev pub edit_of : Statement → Option SingleEdit
 edit_of Blank = None
 edit_of Unknown = None
 edit_of (Format number) = None
@@ -34,12 +35,12 @@ abbrev pub horizons_of : List (List ℕ) → List ℕ
 horizons_of lines = filter_map horizon_of (statements lines)
 
 -- the edits that the lines state, in order
-abbrev pub edits_of : List (List ℕ) → List Edit
+abbrev pub edits_of : List (List ℕ) → List SingleEdit
 edits_of lines = filter_map edit_of (statements lines)
 
 -- the lines state one horizon, and the netlist is the replay of their edits on its empty netlist
 abbrev pub IsReplayed : List (List ℕ) → Circuit → Type 0
-IsReplayed lines n = (h : ℕ) × ((horizons_of lines ≡ h ∷ []) × (replay (empty_circuit h) (edits_of lines) ≡ Ok n))
+IsReplayed lines n = (h : ℕ) × ((horizons_of lines ≡ h ∷ []) × (replay (empty_circuit h) (map Single (edits_of lines)) ≡ Ok n))
 
 -- each text that is read is replayed
 abbrev pub IsReplay : Type 0

@@ -4,6 +4,8 @@ pub mod TextCodes
 pub mod LineErrors
 pub mod Statements
 pub mod Texts
+pub mod SingleEdits
+pub mod Batches
 pub mod ScriptLines
 pub mod Laws
 pub mod Written

@@ -8,15 +8,15 @@ use Rattle.mp_records.specs.declared.ports.Input.{Input}
 use Rattle.mp_records.specs.declared.ports.Output.{Output}
 use Rattle.mp_records.specs.declared.port_names.InputName.{InputName}
 use Rattle.mp_records.specs.declared.port_names.OutputName.{OutputName}
-use Rattle.mp_records.specs.declared.edit.Edit.{Edit}
-use Rattle.mp_records.specs.declared.edit.Edit.TheVariants.{AddWire, AddModule, AddBundle, SetStimulus}
+use Rattle.mp_records.specs.declared.single_edit.SingleEdit.{SingleEdit}
+use Rattle.mp_records.specs.declared.single_edit.SingleEdit.TheVariants.{AddWire, AddModule, AddBundle, SetStimulus}
 use Rattle.mp_netlist.specs.Circuit.{Circuit, IsCircuit}
 use Rattle.mp_text.specs.Limits.{max_text}
 use Rattle.mp_text.specs.Texts.{text_at}
 use Rattle.mp_text.specs.Written.{written, wire_name}
 
 -- the edit that adds what stands in a wire's slot, and none where nothing does
-abbrev pub wire_edits : Option WireRecord → List Edit
+abbrev pub wire_edits : Option WireRecord → List SingleEdit
 wire_edits None = []
 wire_edits (Some r) = AddWire r.name r.width r.initial ∷ []
 
@@ -28,25 +28,25 @@ input_by_name n input = record { wire = wire_name n input.wire; delay = input.de
 abbrev pub output_by_name : Circuit → Output → OutputName
 output_by_name n output = record { wire = option_map (wire_name n) output.wire; delay = output.delay }
 
-abbrev pub module_edits : Circuit → Option ModuleRecord → List Edit
+abbrev pub module_edits : Circuit → Option ModuleRecord → List SingleEdit
 module_edits n None = []
 module_edits n (Some r) = AddModule r.name r.kind r.params (map (input_by_name n) r.inputs) (map (output_by_name n) r.outputs) ∷ []
 
-abbrev pub set_edits : List ℕ → Option (List (ℕ × ℕ)) → List Edit
+abbrev pub set_edits : List ℕ → Option (List (ℕ × ℕ)) → List SingleEdit
 set_edits name None = []
 set_edits name (Some changes) = SetStimulus name changes ∷ []
 
 -- the edit that sets the stimulus of what stands in a wire's slot, if any
-abbrev pub stimulus_edits : Option WireRecord → List Edit
+abbrev pub stimulus_edits : Option WireRecord → List SingleEdit
 stimulus_edits None = []
 stimulus_edits (Some r) = set_edits r.name r.stimulus
 
-abbrev pub bundle_edits : Circuit → Option BundleRecord → List Edit
+abbrev pub bundle_edits : Circuit → Option BundleRecord → List SingleEdit
 bundle_edits n None = []
 bundle_edits n (Some r) = AddBundle r.name (wire_name n r.request) (wire_name n r.acknowledge) (wire_name n r.payload) r.setup ∷ []
 
 -- the edits that add the records of a netlist by name: wires, modules, stimuli by wire and bundles, each by number
-abbrev pub edits_by_name : Circuit → List Edit
+abbrev pub edits_by_name : Circuit → List SingleEdit
 edits_by_name n = flat_map wire_edits n.wires ++ (flat_map (module_edits n) n.modules ++ (flat_map stimulus_edits n.wires ++ flat_map (bundle_edits n) n.bundles))
 
 -- the things that stand, by number

@@ -1,15 +1,14 @@
 -- What a line's words say.
-use Rattle.std.specs.Prelude.{ℕ, ◌&&◌, ◌||◌, Bool, ◌==◌, List, [], ◌∷◌, length, Option, Some, None, Result, Ok, Err, nat_le, if◌then◌else◌, codes}
+use Rattle.std.specs.Prelude.{ℕ, ◌||◌, Bool, ◌==◌, List, [], ◌∷◌, length, Option, Some, None, Result, Ok, Err, if◌then◌else◌, codes}
 use Rattle.std.specs.Option.{ok_or}
 use Rattle.std.specs.Str.{byte, bytes_eq}
 use Rattle.std.specs.List.{before_first, after_first}
 use Rattle.mp_modules.specs.declared.kind.Kind.{Kind}
 use Rattle.mp_modules.specs.Kinds.{kind_named}
-use Rattle.mp_records.specs.declared.edit.Edit.{Edit}
-use Rattle.mp_records.specs.declared.edit.Edit.TheVariants.{AddWire, AddModule, AddBundle, SetStimulus}
-use Rattle.mp_netlist.specs.Limits.{max_horizon}
+use Rattle.mp_records.specs.declared.single_edit.SingleEdit.{SingleEdit}
+use Rattle.mp_records.specs.declared.single_edit.SingleEdit.TheVariants.{AddWire, AddModule, AddBundle, SetStimulus}
 use Rattle.mp_words.specs.declared.line_error.LineError.{LineError}
-use Rattle.mp_words.specs.declared.line_error.LineError.TheVariants.{UnknownStatement, WordCount, BadNumber}
+use Rattle.mp_words.specs.declared.line_error.LineError.TheVariants.{UnknownStatement, WordCount}
 use Rattle.mp_text.specs.declared.edit_word.EditWord.{EditWord}
 use Rattle.mp_text.specs.declared.edit_word.EditWord.TheVariants.{Wire, Module, Stimulus, Bundle}
 use Rattle.mp_words.specs.WordLists.{number_word, change_word, input_word, output_word, each_word}
@@ -24,7 +23,7 @@ stated_number (word ∷ []) = number_word word
 stated_number _ = Err WordCount
 
 -- the edit of the words behind `wire`
-unfoldable pub wire_edit : List (List ℕ) → Result Edit LineError
+unfoldable pub wire_edit : List (List ℕ) → Result SingleEdit LineError
 wire_edit (name ∷ width ∷ level ∷ []) = do
   w ← number_word width
   l ← number_word level
@@ -32,7 +31,7 @@ wire_edit (name ∷ width ∷ level ∷ []) = do
 wire_edit _ = Err WordCount
 
 -- the edit of the parts of the words behind `module`, where there is an input and an output
-unfoldable pub parts_edit : List ℕ → List ℕ → List (List ℕ) → List (List ℕ) → List (List ℕ) → Result Edit LineError
+unfoldable pub parts_edit : List ℕ → List ℕ → List (List ℕ) → List (List ℕ) → List (List ℕ) → Result SingleEdit LineError
 parts_edit name kind params inputs outputs =
     if length inputs == 0 || length outputs == 0 then Err WordCount
     else (do
@@ -48,21 +47,21 @@ is_mark mark word = bytes_eq word (mark ∷ [])
 
 -- the edit of the words behind `module`: the first `:` behind the kind and the first `>` behind it divide them
 -- (where one of these is missing there are no outputs)
-unfoldable pub module_edit : List (List ℕ) → Result Edit LineError
+unfoldable pub module_edit : List (List ℕ) → Result SingleEdit LineError
 module_edit (name ∷ kind ∷ words) =
     let ports = after_first (is_mark (byte ":")) words in
     parts_edit name kind (before_first (is_mark (byte ":")) words) (before_first (is_mark (byte ">")) ports) (after_first (is_mark (byte ">")) ports)
 module_edit _ = Err WordCount
 
 -- the edit of the words behind `stim`
-unfoldable pub stimulus_edit : List (List ℕ) → Result Edit LineError
+unfoldable pub stimulus_edit : List (List ℕ) → Result SingleEdit LineError
 stimulus_edit [] = Err WordCount
 stimulus_edit (wire ∷ words) = do
   changes ← each_word change_word words
   Ok (SetStimulus wire changes)
 
 -- the edit of the words behind `bundle`
-unfoldable pub bundle_edit : List (List ℕ) → Result Edit LineError
+unfoldable pub bundle_edit : List (List ℕ) → Result SingleEdit LineError
 bundle_edit (name ∷ request ∷ acknowledge ∷ payload ∷ setup ∷ []) = do
   s ← number_word setup
   Ok (AddBundle name request acknowledge payload s)
@@ -78,7 +77,7 @@ edit_word word =
     else None)))
 
 -- the edit of the words behind that word
-unfoldable pub stated_edit : EditWord → List (List ℕ) → Result Edit LineError
+unfoldable pub stated_edit : EditWord → List (List ℕ) → Result SingleEdit LineError
 stated_edit Wire words = wire_edit words
 stated_edit Module words = module_edit words
 stated_edit Stimulus words = stimulus_edit words
@@ -90,7 +89,7 @@ pub data Statement : Type 0 where
   Unknown : Statement
   Format : Result ℕ LineError → Statement
   Start : Result ℕ LineError → Statement
-  Change : Result Edit LineError → Statement
+  Change : Result SingleEdit LineError → Statement
 
 abbrev pub change_of : List (List ℕ) → Option EditWord → Statement
 change_of words None = Unknown

@@ -2,7 +2,7 @@
 use Rattle.std.specs.Prelude.{◌≡◌, ◌⊎◌, ℕ, ◌+◌, ◌≤◌, List, [], ◌∷◌, ◌&&◌, length, Result, Ok, Err, nat_le, if◌then◌else◌}
 use Rattle.std.specs.Result.{result_map_both}
 use Rattle.mp_netlist.specs.Circuit.{Circuit, empty_circuit}
-use Rattle.mp_netlist.specs.Edits.{after}
+use Rattle.mp_netlist.specs.Edits.{after_single}
 use Rattle.mp_text.specs.declared.text_code.TextCode.{TextCode}
 use Rattle.mp_text.specs.declared.text_code.TextCode.TheVariants.{UnknownStatement, BadNumber, BadFormat, NoHorizon, SecondHorizon, Refused, TooLong, OutOfMemory}
 use Rattle.mp_text.specs.declared.text_error.TextError.{TextError}
@@ -46,7 +46,7 @@ after_statement Fresh (Change edit) = Err NoHorizon
 after_statement (Formatted format) (Change edit) = Err NoHorizon
 after_statement (Open n) (Change edit) = do
   e ← in_text edit
-  result_map_both Open Refused (after n e)
+  result_map_both Open Refused (after_single n e)
 
 -- where a text is after a line
 unfoldable pub after_line : TextState → List ℕ → Result TextState TextCode

@@ -1,12 +1,14 @@
 //! The texts of netlists, and the lines of scripts.
 #![tactic(auto)]
 
+mod batch_line;
 mod edit_word;
 pub mod laws;
 mod line_word;
 mod reading;
 mod script_edit;
 mod script_line;
+mod single_word;
 mod stated_edit;
 mod stated_line;
 mod statement;
@@ -17,7 +19,7 @@ mod text_state;
 mod writing;
 mod written_line;
 
-pub use mp_words::{LineError, divided, first_line, push_wave_line};
+pub use mp_words::{LineError, divided, first_line};
 pub use reading::{MAX_TEXT, read_netlist};
 pub use script_line::{Line, Question};
 pub use stated_line::read_line;

@@ -1,23 +1,13 @@
 //! First words of script lines.
-use crate::edit_word::EditWord;
+use crate::single_word::SingleWord;
 
 /// The first word of a script's line.
 #[derive(Clone, Copy, Debug, PartialEq, Eq)]
 pub enum LineWord {
-    /// That of an edit that texts have too.
-    Stated(EditWord),
-    /// `remove`
-    Remove,
-    /// `input`
-    Input,
-    /// `output`
-    Output,
-    /// `indelay`
-    InputDelay,
-    /// `delay`
-    Delay,
-    /// `clear`
-    Clear,
+    /// That of an edit of one thing.
+    Single(SingleWord),
+    /// `batch`
+    Batch,
     /// `wave`
     Wave,
     /// `waves`
@@ -34,18 +24,8 @@ impl LineWord {
     pub fn from_word(word: &[u8]) -> Option<LineWord>
         ensures { result ≡ line_word word.now }
     {
-        if word == b"remove".as_slice() {
-            Some(LineWord::Remove)
-        } else if word == b"input".as_slice() {
-            Some(LineWord::Input)
-        } else if word == b"output".as_slice() {
-            Some(LineWord::Output)
-        } else if word == b"indelay".as_slice() {
-            Some(LineWord::InputDelay)
-        } else if word == b"delay".as_slice() {
-            Some(LineWord::Delay)
-        } else if word == b"clear".as_slice() {
-            Some(LineWord::Clear)
+        if word == b"batch".as_slice() {
+            Some(LineWord::Batch)
         } else if word == b"wave".as_slice() {
             Some(LineWord::Wave)
         } else if word == b"waves".as_slice() {
@@ -53,7 +33,7 @@ impl LineWord {
         } else if word == b"text".as_slice() {
             Some(LineWord::Text)
         } else {
-            Some(LineWord::Stated(EditWord::from_word(word)?))
+            Some(LineWord::Single(SingleWord::from_word(word)?))
         }
     }
 }

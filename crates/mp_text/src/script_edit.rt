@@ -2,15 +2,38 @@
 ghost use Rattle.mp_words.specs.declared.line_error.LineError.TheVariants.{OutOfMemory};
 ghost use Rattle.mp_words.specs.Reads.{Gives};
 ghost use Rattle.mp_words.specs.Words.{texts, AreAscii};
-ghost use Rattle.mp_text.specs.ScriptLines.{removal, input_edit, output_edit, input_delay_edit, delay_edit, clearing};
+ghost use Rattle.mp_text.specs.SingleEdits.{removal, input_edit, output_edit, input_delay_edit, delay_edit, clearing, single_edit};
 
-use mp_netlist::Edit;
+use crate::single_word::SingleWord;
+use crate::stated_edit::stated_edit;
+use mp_netlist::SingleEdit;
 use mp_words::{LineError, name_of, number_word, wire_or_none};
 use std::alloc::Global;
 
+/// The edit of a first word and the words behind it.
+#[tactic(auto, unfolding(crate::specs::SingleEdits::single_edit))]
+pub fn single_edit(
+    alloc: Global,
+    first: SingleWord,
+    words: &[&[u8]],
+) -> Result<SingleEdit, LineError>
+    requires { AreAscii words.now }
+    ensures { Gives OutOfMemory (λ edit. edit) result (single_edit first (texts words.now)) }
+{
+    match first {
+        SingleWord::Stated(word) => stated_edit(alloc, word, words),
+        SingleWord::Remove => removal(alloc, words),
+        SingleWord::Input => input_edit(alloc, words),
+        SingleWord::Output => output_edit(alloc, words),
+        SingleWord::InputDelay => input_delay_edit(alloc, words),
+        SingleWord::Delay => delay_edit(alloc, words),
+        SingleWord::Clear => clearing(alloc, words),
+    }
+}
+
 /// The edit of the words behind `remove`.
-#[tactic(auto, unfolding(crate::specs::ScriptLines::removal))]
-pub fn removal(alloc: Global, words: &[&[u8]]) -> Result<Edit, LineError>
+#[tactic(auto, unfolding(crate::specs::SingleEdits::removal))]
+fn removal(alloc: Global, words: &[&[u8]]) -> Result<SingleEdit, LineError>
     requires { AreAscii words.now }
     ensures { Gives OutOfMemory (λ edit. edit) result (removal (texts words.now)) }
 {
@@ -19,15 +42,15 @@ pub fn removal(alloc: Global, words: &[&[u8]]) -> Result<Edit, LineError>
     };
     let thing: &[u8] = thing;
     if thing == b"wire".as_slice() {
-        Ok(Edit::RemoveWire {
+        Ok(SingleEdit::RemoveWire {
             wire: name_of(alloc, name)?,
         })
     } else if thing == b"module".as_slice() {
-        Ok(Edit::RemoveModule {
+        Ok(SingleEdit::RemoveModule {
             module: name_of(alloc, name)?,
         })
     } else if thing == b"bundle".as_slice() {
-        Ok(Edit::RemoveBundle {
+        Ok(SingleEdit::RemoveBundle {
             bundle: name_of(alloc, name)?,
         })
     } else {
@@ -36,8 +59,8 @@ pub fn removal(alloc: Global, words: &[&[u8]]) -> Result<Edit, LineError>
 }
 
 /// The edit of the words behind `input`.
-#[tactic(auto, unfolding(crate::specs::ScriptLines::input_edit))]
-pub fn input_edit(alloc: Global, words: &[&[u8]]) -> Result<Edit, LineError>
+#[tactic(auto, unfolding(crate::specs::SingleEdits::input_edit))]
+fn input_edit(alloc: Global, words: &[&[u8]]) -> Result<SingleEdit, LineError>
     requires { AreAscii words.now }
     ensures { Gives OutOfMemory (λ edit. edit) result (input_edit (texts words.now)) }
 {
@@ -45,7 +68,7 @@ pub fn input_edit(alloc: Global, words: &[&[u8]]) -> Result<Edit, LineError>
         return Err(LineError::WordCount);
     };
     let port = number_word(port)?;
-    Ok(Edit::RewireInput {
+    Ok(SingleEdit::RewireInput {
         module: name_of(alloc, part)?,
         port,
         wire: name_of(alloc, wire)?,
@@ -53,8 +76,8 @@ pub fn input_edit(alloc: Global, words: &[&[u8]]) -> Result<Edit, LineError>
 }
 
 /// The edit of the words behind `output`, where `-` is no wire.
-#[tactic(auto, unfolding(crate::specs::ScriptLines::output_edit))]
-pub fn output_edit(alloc: Global, words: &[&[u8]]) -> Result<Edit, LineError>
+#[tactic(auto, unfolding(crate::specs::SingleEdits::output_edit))]
+fn output_edit(alloc: Global, words: &[&[u8]]) -> Result<SingleEdit, LineError>
     requires { AreAscii words.now }
     ensures { Gives OutOfMemory (λ edit. edit) result (output_edit (texts words.now)) }
 {
@@ -62,7 +85,7 @@ pub fn output_edit(alloc: Global, words: &[&[u8]]) -> Result<Edit, LineError>
         return Err(LineError::WordCount);
     };
     let port = number_word(port)?;
-    Ok(Edit::RewireOutput {
+    Ok(SingleEdit::RewireOutput {
         module: name_of(alloc, part)?,
         port,
         wire: wire_or_none(alloc, wire)?,
@@ -70,8 +93,8 @@ pub fn output_edit(alloc: Global, words: &[&[u8]]) -> Result<Edit, LineError>
 }
 
 /// The edit of the words behind `indelay`.
-#[tactic(auto, unfolding(crate::specs::ScriptLines::input_delay_edit))]
-pub fn input_delay_edit(alloc: Global, words: &[&[u8]]) -> Result<Edit, LineError>
+#[tactic(auto, unfolding(crate::specs::SingleEdits::input_delay_edit))]
+fn input_delay_edit(alloc: Global, words: &[&[u8]]) -> Result<SingleEdit, LineError>
     requires { AreAscii words.now }
     ensures { Gives OutOfMemory (λ edit. edit) result (input_delay_edit (texts words.now)) }
 {
@@ -80,7 +103,7 @@ pub fn input_delay_edit(alloc: Global, words: &[&[u8]]) -> Result<Edit, LineErro
     };
     let port = number_word(port)?;
     let delay = number_word(delay)?;
-    Ok(Edit::SetInputDelay {
+    Ok(SingleEdit::SetInputDelay {
         module: name_of(alloc, part)?,
         port,
         delay,
@@ -88,8 +111,8 @@ pub fn input_delay_edit(alloc: Global, words: &[&[u8]]) -> Result<Edit, LineErro
 }
 
 /// The edit of the words behind `delay`.
-#[tactic(auto, unfolding(crate::specs::ScriptLines::delay_edit))]
-pub fn delay_edit(alloc: Global, words: &[&[u8]]) -> Result<Edit, LineError>
+#[tactic(auto, unfolding(crate::specs::SingleEdits::delay_edit))]
+fn delay_edit(alloc: Global, words: &[&[u8]]) -> Result<SingleEdit, LineError>
     requires { AreAscii words.now }
     ensures { Gives OutOfMemory (λ edit. edit) result (delay_edit (texts words.now)) }
 {
@@ -98,7 +121,7 @@ pub fn delay_edit(alloc: Global, words: &[&[u8]]) -> Result<Edit, LineError>
     };
     let port = number_word(port)?;
     let delay = number_word(delay)?;
-    Ok(Edit::SetDelay {
+    Ok(SingleEdit::SetDelay {
         module: name_of(alloc, part)?,
         port,
         delay,
@@ -106,15 +129,15 @@ pub fn delay_edit(alloc: Global, words: &[&[u8]]) -> Result<Edit, LineError>
 }
 
 /// The edit of the words behind `clear`.
-#[tactic(auto, unfolding(crate::specs::ScriptLines::clearing))]
-pub fn clearing(alloc: Global, words: &[&[u8]]) -> Result<Edit, LineError>
+#[tactic(auto, unfolding(crate::specs::SingleEdits::clearing))]
+fn clearing(alloc: Global, words: &[&[u8]]) -> Result<SingleEdit, LineError>
     requires { AreAscii words.now }
     ensures { Gives OutOfMemory (λ edit. edit) result (clearing (texts words.now)) }
 {
     let [wire] = words else {
         return Err(LineError::WordCount);
     };
-    Ok(Edit::ClearStimulus {
+    Ok(SingleEdit::ClearStimulus {
         wire: name_of(alloc, wire)?,
     })
 }

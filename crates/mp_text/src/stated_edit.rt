@@ -8,13 +8,13 @@ ghost use Rattle.mp_text.specs.Statements.{stated_edit, wire_edit, parts_edit, m
 
 use crate::edit_word::EditWord;
 use mp_modules::Kind;
-use mp_netlist::{Changes, Edit, InputNames, OutputNames, Params};
+use mp_netlist::{Changes, InputNames, OutputNames, Params, SingleEdit};
 use mp_words::{LineError, changes, inputs, name_of, number_word, numbers, outputs};
 use std::alloc::Global;
 
 /// The edit of a first word and the words behind it.
 #[tactic(auto, unfolding(crate::specs::Statements::stated_edit))]
-pub fn stated_edit(alloc: Global, word: EditWord, words: &[&[u8]]) -> Result<Edit, LineError>
+pub fn stated_edit(alloc: Global, word: EditWord, words: &[&[u8]]) -> Result<SingleEdit, LineError>
     requires { AreAscii words.now }
     ensures { Gives OutOfMemory (λ edit. edit) result (stated_edit word (texts words.now)) }
 {
@@ -28,7 +28,7 @@ pub fn stated_edit(alloc: Global, word: EditWord, words: &[&[u8]]) -> Result<Edi
 
 /// The edit of the words behind `wire`.
 #[tactic(auto, unfolding(crate::specs::Statements::wire_edit))]
-fn wire_edit(alloc: Global, words: &[&[u8]]) -> Result<Edit, LineError>
+fn wire_edit(alloc: Global, words: &[&[u8]]) -> Result<SingleEdit, LineError>
     requires { AreAscii words.now }
     ensures { Gives OutOfMemory (λ edit. edit) result (wire_edit (texts words.now)) }
 {
@@ -37,7 +37,7 @@ fn wire_edit(alloc: Global, words: &[&[u8]]) -> Result<Edit, LineError>
     };
     let width = number_word(width)?;
     let level = number_word(level)?;
-    Ok(Edit::AddWire {
+    Ok(SingleEdit::AddWire {
         name: name_of(alloc, name)?,
         width,
         level,
@@ -46,7 +46,7 @@ fn wire_edit(alloc: Global, words: &[&[u8]]) -> Result<Edit, LineError>
 
 /// The edit of the words behind `stim`.
 #[tactic(auto, unfolding(crate::specs::Statements::stimulus_edit))]
-fn stimulus_edit(alloc: Global, words: &[&[u8]]) -> Result<Edit, LineError>
+fn stimulus_edit(alloc: Global, words: &[&[u8]]) -> Result<SingleEdit, LineError>
     requires { AreAscii words.now }
     ensures { Gives OutOfMemory (λ edit. edit) result (stimulus_edit (texts words.now)) }
 {
@@ -54,7 +54,7 @@ fn stimulus_edit(alloc: Global, words: &[&[u8]]) -> Result<Edit, LineError>
         return Err(LineError::WordCount);
     };
     let changes = changes(alloc, others)?;
-    Ok(Edit::SetStimulus {
+    Ok(SingleEdit::SetStimulus {
         wire: name_of(alloc, wire)?,
         changes: Changes::new(changes),
     })
@@ -62,7 +62,7 @@ fn stimulus_edit(alloc: Global, words: &[&[u8]]) -> Result<Edit, LineError>
 
 /// The edit of the words behind `bundle`.
 #[tactic(auto, unfolding(crate::specs::Statements::bundle_edit))]
-fn bundle_edit(alloc: Global, words: &[&[u8]]) -> Result<Edit, LineError>
+fn bundle_edit(alloc: Global, words: &[&[u8]]) -> Result<SingleEdit, LineError>
     requires { AreAscii words.now }
     ensures { Gives OutOfMemory (λ edit. edit) result (bundle_edit (texts words.now)) }
 {
@@ -70,7 +70,7 @@ fn bundle_edit(alloc: Global, words: &[&[u8]]) -> Result<Edit, LineError>
         return Err(LineError::WordCount);
     };
     let setup = number_word(setup)?;
-    Ok(Edit::AddBundle {
+    Ok(SingleEdit::AddBundle {
         name: name_of(alloc, name)?,
         request: name_of(alloc, request)?,
         acknowledge: name_of(alloc, acknowledge)?,
@@ -81,7 +81,7 @@ fn bundle_edit(alloc: Global, words: &[&[u8]]) -> Result<Edit, LineError>
 
 /// The edit of the words behind `module`.
 #[tactic(auto, unfolding(crate::specs::Statements::module_edit))]
-fn module_edit(alloc: Global, words: &[&[u8]]) -> Result<Edit, LineError>
+fn module_edit(alloc: Global, words: &[&[u8]]) -> Result<SingleEdit, LineError>
     requires { AreAscii words.now }
     ensures { Gives OutOfMemory (λ edit. edit) result (module_edit (texts words.now)) }
 {
@@ -102,7 +102,7 @@ fn parts_edit(
     params: &[&[u8]],
     ins: &[&[u8]],
     outs: &[&[u8]],
-) -> Result<Edit, LineError>
+) -> Result<SingleEdit, LineError>
     requires name { IsAscii name.now }
     requires inputs { AreAscii ins.now }
     requires outputs { AreAscii outs.now }
@@ -115,7 +115,7 @@ fn parts_edit(
     let params = numbers(alloc, params)?;
     let inputs = inputs(alloc, ins)?;
     let outputs = outputs(alloc, outs)?;
-    Ok(Edit::AddModule {
+    Ok(SingleEdit::AddModule {
         name: name_of(alloc, name)?,
         kind,
         params: Params::new(params),
@@ -158,7 +158,8 @@ fn place_of_mark(mark: u8, words: &[&[u8]]) -> Option<usize>
     words.iter().position(|word| is_mark(mark, word))
 }
 
-fn is_mark(mark: u8, word: &[u8]) -> bool
+/// Whether the word is this byte alone.
+pub fn is_mark(mark: u8, word: &[u8]) -> bool
     ensures { result ≡ is_mark mark word.now }
 {
     word == [mark].as_slice()

@@ -5,22 +5,21 @@ ghost use Rattle.mp_words.specs.Reads.{Gives};
 ghost use Rattle.mp_words.specs.Words.{texts, AreAscii};
 ghost use Rattle.mp_text.specs.ScriptLines.{line_at, line_of, stated_line, wave_question, bare_question};
 
+use crate::batch_line::batch;
 use crate::line_word::LineWord;
-use crate::script_edit::{
-    clearing, delay_edit, input_delay_edit, input_edit, output_edit, removal,
-};
+use crate::script_edit::single_edit;
 use crate::script_line::{Line, Question};
-use crate::stated_edit::stated_edit;
+use mp_netlist::Edit;
 use mp_words::{LineError, line_words, name_of};
 use std::alloc::Global;
 
 /// What a line of a script says, which is given without its line feed: an edit, as in a netlist's
-/// text, or a question; or nothing, where there are no words.
+/// text, or a batch of them, or a question; or nothing, where there are no words.
 ///
 /// Else its first fault: a byte that is not allowed, also in a comment (`NotAscii`); a first word
 /// that no line has (`UnknownStatement`); the number or shape of the words (`WordCount`); a kind
 /// that is none (`UnknownStatement`); a word that is not the number or pair that it should be
-/// (`BadNumber`). `OutOfMemory` says that memory was wanting. Whether the netlist takes the edit is
+/// (`BadNumber`). The parts of a batch are looked at in turn. `OutOfMemory` says that memory was wanting. Whether the netlist takes the edit is
 /// not looked at.
 #[tactic(auto, unfolding(crate::specs::ScriptLines::line_at))]
 pub fn read_line(alloc: Global, line: &[u8]) -> Result<Line, LineError>
@@ -52,13 +51,8 @@ fn stated_line(alloc: Global, first: LineWord, words: &[&[u8]]) -> Result<Line, 
     ensures { Gives OutOfMemory (λ line. line) result (stated_line first (texts words.now)) }
 {
     match first {
-        LineWord::Stated(word) => Ok(Line::Change(stated_edit(alloc, word, words)?)),
-        LineWord::Remove => Ok(Line::Change(removal(alloc, words)?)),
-        LineWord::Input => Ok(Line::Change(input_edit(alloc, words)?)),
-        LineWord::Output => Ok(Line::Change(output_edit(alloc, words)?)),
-        LineWord::InputDelay => Ok(Line::Change(input_delay_edit(alloc, words)?)),
-        LineWord::Delay => Ok(Line::Change(delay_edit(alloc, words)?)),
-        LineWord::Clear => Ok(Line::Change(clearing(alloc, words)?)),
+        LineWord::Single(word) => Ok(Line::Change(Edit::Single(single_edit(alloc, word, words)?))),
+        LineWord::Batch => Ok(Line::Change(Edit::Batch(batch(alloc, words)?))),
         LineWord::Wave => Ok(Line::Ask(wave_question(alloc, words)?)),
         LineWord::Waves => Ok(Line::Ask(bare_question(Question::Waves, words)?)),
         LineWord::Text => Ok(Line::Ask(bare_question(Question::Text, words)?)),

@@ -3,7 +3,7 @@ ghost use Rattle.std.specs.Prelude.{◌≡◌};
 ghost use Rattle.std.specs.Result.{result_map_both};
 ghost use Rattle.mp_text.specs.declared.text_code.TextCode.TheVariants.{OutOfMemory, Refused};
 ghost use Rattle.mp_netlist.specs.Limits.{max_horizon};
-ghost use Rattle.mp_netlist.specs.Edits.{after};
+ghost use Rattle.mp_netlist.specs.Edits.{after_single};
 ghost use Rattle.mp_text.specs.declared.text_state.TextState.TheVariants.{Open};
 ghost use Rattle.mp_words.specs.Reads.{Gives};
 ghost use Rattle.mp_words.specs.Words.{texts, AreAscii};
@@ -15,7 +15,7 @@ use crate::stated_edit::stated_edit;
 use crate::text_code::TextCode;
 use crate::text_format::TextFormat;
 use crate::text_state::TextState;
-use mp_netlist::{Edit, EditError, Netlist, NewError};
+use mp_netlist::{Edit, EditError, Netlist, NewError, SingleEdit};
 use mp_words::{LineError, line_words, number_word};
 use std::alloc::Global;
 
@@ -132,13 +132,13 @@ fn make_edit(
     ensures { Gives OutOfMemory (λ _. Open netlist.new) result (after_statement (Open netlist.old) (Change (stated_edit first (texts words.now)))) }
 {
     let edit = stated_edit(alloc, first, words)?;
-    apply(netlist, &edit)
+    apply(netlist, edit)
 }
 
-fn apply(netlist: &mut Netlist, edit: &Edit) -> Result<(), TextCode>
-    ensures { Gives OutOfMemory (λ _. Open netlist.new) result (result_map_both Open Refused (after netlist.old edit.now)) }
+fn apply(netlist: &mut Netlist, edit: SingleEdit) -> Result<(), TextCode>
+    ensures { Gives OutOfMemory (λ _. Open netlist.new) result (result_map_both Open Refused (after_single netlist.old edit)) }
 {
-    match netlist.apply(edit) {
+    match netlist.apply(&Edit::Single(edit)) {
         Ok(()) => Ok(()),
         Err(EditError::OutOfMemory) => Err(TextCode::OutOfMemory),
         Err(error) => Err(TextCode::Refused(error)),

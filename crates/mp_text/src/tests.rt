@@ -1,5 +1,5 @@
 use crate::{Line, TextCode, TextError, read_line, read_netlist, write_netlist};
-use mp_netlist::{Driver, Edit, EditError, ModuleId, Netlist, WireId};
+use mp_netlist::{Driver, Edit, EditError, ModuleId, Netlist, SingleEdit, WireId};
 use std::alloc::Global;
 use std::process::Abort;
 use std::test::Fail;
@@ -58,7 +58,7 @@ fn netlist_queries(rt: HostRuntime) -> Result<(), Fail> {
 /// The port and the delay that a line sets.
 fn delay_set(alloc: Global, line: &[u8]) -> Option<(u64, u64)> {
     match read_line(alloc, line).ok()? {
-        Line::Change(Edit::SetDelay { port, delay, .. }) => Some((port, delay)),
+        Line::Change(Edit::Single(SingleEdit::SetDelay { port, delay, .. })) => Some((port, delay)),
         _ => None,
     }
 }

@@ -7,3 +7,4 @@ pub mod DivisionLemmas
 pub mod DividedLemmas
 pub mod PlainLemmas
 pub mod ReadBackLemmas
+pub mod ChangeLemmas

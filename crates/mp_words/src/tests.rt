@@ -1,12 +1,15 @@
-use crate::{changes, divided, inputs, line_words, numbers, outputs, push_wave_line};
+use crate::{changes, divided, inputs, line_words, numbers, outputs, put_wave_line};
+use mp_streams::{WriteBuffer, WriteSink};
 use std::test::Fail;
 
 #[test]
 fn wave_line(rt: HostRuntime) -> Result<(), Fail> {
-    let mut text = Vec::new(rt.alloc());
-    push_wave_line(&mut text, "y", 0, [(5, 1), (8, 0)].as_slice())?;
-    push_wave_line(&mut text, "a", 0, [].as_slice())?;
-    assert!(rt; text.as_slice() == b"y 0 5=1 8=0\na 0\n".as_slice());
+    let mut buffer = WriteBuffer::new(rt.alloc())?;
+    let mut sink = WriteSink::new(Vec::new(rt.alloc()));
+    put_wave_line(&mut buffer, &mut sink, "y", 0, [(5, 1), (8, 0)].as_slice())?;
+    put_wave_line(&mut buffer, &mut sink, "a", 0, [].as_slice())?;
+    buffer.flush(&mut sink)?;
+    assert!(rt; sink.into_inner().as_slice() == b"y 0 5=1 8=0\na 0\n".as_slice());
     Ok(())
 }
 

@@ -1,49 +1,84 @@
 //! Lines of waves.
-ghost use Rattle.std.specs.Prelude.{◌≡◌, ◌≤◌, ◌∷◌, [], ◌++◌, drop, take, vec_len, OnOk, OnErr};
+ghost use Rattle.std.specs.Prelude.{◌≡◌, ◌-◌, ◌^◌, ◌<◌, ◌≤◌, ◌∷◌, [], ◌++◌, drop, OnOk, OnErr};
 ghost use Rattle.std.specs.Fmt.{decimal};
+ghost use Rattle.mp_streams.specs.StreamBytes.{AppendsPrefix, PassesOn};
+ghost use Rattle.mp_streams.specs.StreamFaults.{counted};
 ghost use Rattle.mp_words.specs.WaveLines.{change_text, changes_text, wave_line};
 
 use itoa::{Buffer, write_digits};
+use mp_streams::{Failed, Sink, WriteBuffer};
 use std::alloc::AllocError;
 
 /// How many bytes a change takes at most: two signs and the digits of its time and its value.
 const MOST_BYTES: usize = 32;
 
-/// Puts a wire's line behind the text: its name, its first level, ` T=V` for each change, and a
-/// line feed. Where memory is wanting, the text stays as it was.
-pub fn push_wave_line(
-    text: &mut Vec<u8>,
+/// Puts a wire's line through the buffer: its name, its first level, ` T=V` for each change, and a
+/// line feed. `Failed` comes with a fault of the sink: then a part from the front of what the buffer
+/// held and the line was taken, and the buffer holds none.
+pub fn put_wave_line<S: Sink>(
+    buffer: &mut WriteBuffer,
+    sink: &mut S,
     name: &str,
     initial: u64,
     changes: &[(u32, u64)],
-) -> Result<(), AllocError>
-    ensures ok { OnOk result (text.new.items ≡ text.old.items ++ wave_line name.now initial changes.now) }
-    ensures err { OnErr result (text.new.items ≡ text.old.items) }
+) -> Result<(), Failed>
+    requires { S.fault_count sink.old < 2 ^ 64 - 1 }
+    ensures passed { OnOk result (PassesOn (S.taken sink.old) (S.taken sink.new) buffer.old buffer.new (wave_line name.now initial changes.now)) }
+    ensures failed { OnErr result (AppendsPrefix (S.taken sink.old) (S.taken sink.new) (buffer.old ++ wave_line name.now initial changes.now)) }
+    ensures faults { S.fault_count sink.new ≡ counted result (S.fault_count sink.old) }
 {
-    let start = text.len();
-    let pushed = push_line_parts(text, name, initial, changes);
-    if pushed.is_err() {
-        text.truncate(start);
-    }
-    pushed
+    put_start(buffer, sink, name, initial)?;
+    put_changes(buffer, sink, changes)?;
+    buffer.push(sink, b"\n")
 }
 
-/// The same, but a part of the line may stand behind the text where memory is wanting.
-fn push_line_parts(
-    text: &mut Vec<u8>,
+fn put_start<S: Sink>(
+    buffer: &mut WriteBuffer,
+    sink: &mut S,
     name: &str,
     initial: u64,
-    changes: &[(u32, u64)],
-) -> Result<(), AllocError>
-    ensures ok { OnOk result (text.new.items ≡ text.old.items ++ wave_line name.now initial changes.now) }
-    ensures front { OnErr result (take (vec_len text.old) text.new.items ≡ text.old.items) }
+) -> Result<(), Failed>
+    requires { S.fault_count sink.old < 2 ^ 64 - 1 }
+    ensures passed { OnOk result (PassesOn (S.taken sink.old) (S.taken sink.new) buffer.old buffer.new (name.now ++ (32 ∷ decimal initial))) }
+    ensures failed { OnErr result (AppendsPrefix (S.taken sink.old) (S.taken sink.new) (buffer.old ++ (name.now ++ (32 ∷ decimal initial)))) }
+    ensures faults { S.fault_count sink.new ≡ counted result (S.fault_count sink.old) }
 {
-    text.extend_from_slice(name.as_bytes())?;
-    text.push(b' ')?;
-    push_number(text, initial)?;
-    push_changes(text, changes)?;
-    text.push(b'\n')?;
+    let mut digits = Buffer::new();
+    buffer.push(sink, name.as_bytes())?;
+    buffer.push(sink, b" ")?;
+    buffer.push(sink, digits.format(initial).as_bytes())
+}
+
+fn put_changes<S: Sink>(
+    buffer: &mut WriteBuffer,
+    sink: &mut S,
+    changes: &[(u32, u64)],
+) -> Result<(), Failed>
+    requires { S.fault_count sink.old < 2 ^ 64 - 1 }
+    ensures passed { OnOk result (PassesOn (S.taken sink.old) (S.taken sink.new) buffer.old buffer.new (changes_text changes.now)) }
+    ensures failed { OnErr result (AppendsPrefix (S.taken sink.old) (S.taken sink.new) (buffer.old ++ changes_text changes.now)) }
+    ensures faults { S.fault_count sink.new ≡ counted result (S.fault_count sink.old) }
+{
+    for &(time, value) in changes {
+        put_change(buffer, sink, time, value)?;
+    }
     Ok(())
+}
+
+fn put_change<S: Sink>(
+    buffer: &mut WriteBuffer,
+    sink: &mut S,
+    time: u32,
+    value: u64,
+) -> Result<(), Failed>
+    requires { S.fault_count sink.old < 2 ^ 64 - 1 }
+    ensures passed { OnOk result (PassesOn (S.taken sink.old) (S.taken sink.new) buffer.old buffer.new (change_text (time, value))) }
+    ensures failed { OnErr result (AppendsPrefix (S.taken sink.old) (S.taken sink.new) (buffer.old ++ change_text (time, value))) }
+    ensures faults { S.fault_count sink.new ≡ counted result (S.fault_count sink.old) }
+{
+    let mut bytes = [0; MOST_BYTES];
+    let start = write_change(time, value, &mut bytes);
+    buffer.push(sink, &bytes[start..])
 }
 
 /// Puts ` T=V` behind the text for each change. Where memory is wanting, the text stays as it was.

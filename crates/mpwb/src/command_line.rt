@@ -36,6 +36,18 @@ time 0 and its level V from each time T on at which it changes below the horizon
 
 A text that is refused is told on standard error as `mpwb: line N: CODE NAME`.";
 
+const DUMP: &str = "Writes the waves of a netlist as a value change dump";
+
+const DUMP_LONG: &str = "\
+Reads a netlist's text from standard input, as `waves` does.
+
+Writes its value change dump (IEEE Std 1364) on standard output, as viewers of waves read it: a \
+declaration for each wire, by number, in the scope `top`, with a unit of time of 1 ns; the level of \
+each wire at time 0; the levels that change at each later time below the horizon; and the horizon. \
+A wire of width 1 is a scalar, and a wider one a vector of all its bits.
+
+A text that is refused is told on standard error as `mpwb: line N: CODE NAME`.";
+
 const PLAY: &str = "Edits a netlist by a script, and answers its questions";
 
 const PLAY_LONG: &str = "\
@@ -57,6 +69,7 @@ pub fn read_words<'a>(alloc: Global, words: &'a [String]) -> Result<Request, Err
     let matches = parser(alloc)?.try_get_matches_from(words)?;
     match matches.subcommand() {
         Some(("waves", found)) => Ok(request(Command::Waves, found)),
+        Some(("dump", found)) => Ok(request(Command::Dump, found)),
         Some(("play", found)) => Ok(request(Command::Play, found)),
         _ => Err(no_command(alloc)?),
     }
@@ -106,6 +119,7 @@ fn parser<'a>(alloc: Global) -> Result<Parser<'a>, AllocError> {
         .after_help(STATUS)
         .subcommand_required(true)
         .subcommand(command(alloc, "waves", WAVES, WAVES_LONG)?)?
+        .subcommand(command(alloc, "dump", DUMP, DUMP_LONG)?)?
         .subcommand(command(alloc, "play", PLAY, PLAY_LONG)?)
 }
 

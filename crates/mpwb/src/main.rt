@@ -5,12 +5,13 @@ mod command_line;
 mod request;
 
 use command_line::{read_words, tell};
-use mp_commands::{RunFault, exit_status, fault_line, run_play, run_waves};
+use mp_commands::{RunFault, exit_status, fault_line, run_dump, run_play, run_waves};
 use mp_streams::{ReadSource, WriteSink};
 use request::{Command, Request};
 use std::io::ErrorKind;
 use std::process::ExitCode;
 use std::rt::Runtime;
+use std::sync::Wait;
 use std::{env, io, str};
 
 fn main(rt: HostRuntime) -> ExitCode {
@@ -24,7 +25,7 @@ fn main(rt: HostRuntime) -> ExitCode {
 }
 
 /// Does what the command line asks for, and returns the status with which the program ends.
-fn answer<R: Runtime + AllocGlobal>(rt: &R) -> Result<u8, RunFault> {
+fn answer<R: Runtime + Wait + AllocGlobal>(rt: &R) -> Result<u8, RunFault> {
     let arguments = match env::args(rt) {
         Ok(arguments) => arguments,
         Err(error) if error.kind() == ErrorKind::OutOfMemory => return Err(RunFault::OutOfMemory),
@@ -43,12 +44,13 @@ fn answer<R: Runtime + AllocGlobal>(rt: &R) -> Result<u8, RunFault> {
     }
 }
 
-fn run<R: Input + Print + AllocGlobal>(rt: &R, request: &Request) -> Result<(), RunFault> {
+fn run<R: Input + Print + Wait + AllocGlobal>(rt: &R, request: &Request) -> Result<(), RunFault> {
     let mut source = ReadSource::new(rt.reader());
     let mut sink = WriteSink::new(io::writer(rt));
     match request.command {
-        Command::Waves => run_waves(rt.alloc(), &mut source, &mut sink, &request.options),
-        Command::Play => run_play(rt.alloc(), &mut source, &mut sink, &request.options),
+        Command::Waves => run_waves(rt, rt.alloc(), &mut source, &mut sink, &request.options),
+        Command::Dump => run_dump(rt.alloc(), &mut source, &mut sink, &request.options),
+        Command::Play => run_play(rt, rt.alloc(), &mut source, &mut sink, &request.options),
     }
 }
 

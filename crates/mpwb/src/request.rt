@@ -6,6 +6,8 @@ use mp_commands::Options;
 pub enum Command {
     /// Write the waves of a netlist's text.
     Waves,
+    /// Write the value change dump of a netlist's text.
+    Dump,
     /// Edit a netlist by a script, and answer its questions.
     Play,
 }

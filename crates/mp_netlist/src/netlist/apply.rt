@@ -6,60 +6,82 @@ use crate::record_changes::{
 use mp_modules::Kind;
 use mp_records::{
     BundleRecord, Changes, Edit, EditError, InputNames, ModuleRecord, Name, OutputNames, Params,
-    WireRecord,
+    SingleEdit, WireRecord,
 };
 use std::alloc::AllocError;
 
 impl Netlist {
     ghost use Rattle.std.specs.Prelude.{◌≡◌, ◌<◌, [], ◌∷◌, ◌++◌, Ok, None, Some, length, IfOk, IfErr, OnOk, OnErr, IsTrue, option_map, string_bytes};
+    ghost use Rattle.mp_records.specs.declared.edit.Edit.TheVariants.{Single};
     ghost use Rattle.mp_records.specs.declared.edit_error.EditError.TheVariants.{OutOfMemory};
     ghost use Rattle.mp_records.specs.PortChanges.{with_input, with_input_delay, with_output, with_delay};
     ghost use Rattle.mp_netlist.specs.Circuit.{IsCircuit, wire_at, module_at, wire_named, module_named, bundle_named};
-    ghost use Rattle.mp_netlist.specs.Edits.{after, RefusedBy, takes_memory, wire_refusal, wire_removal_refusal, module_refusal, module_removal_refusal, bundle_refusal, bundle_removal_refusal, input_refusal, output_refusal, input_delay_refusal, delay_refusal, stimulus_refusal, clearing_refusal, with_wire_record, with_new_wire, new_module, with_new_module, new_bundle, with_new_bundle, with_bundle, with_stimulus, without_stimulus, with_wire, with_module, wire_id, module_id, bundle_id};
+    ghost use Rattle.mp_netlist.specs.Edits.{after, after_single, RefusedBy, takes_memory, single_takes_memory, wire_refusal, wire_removal_refusal, module_refusal, module_removal_refusal, bundle_refusal, bundle_removal_refusal, input_refusal, output_refusal, input_delay_refusal, delay_refusal, stimulus_refusal, clearing_refusal, with_wire_record, with_new_wire, new_module, with_new_module, new_bundle, with_new_bundle, with_bundle, with_stimulus, without_stimulus, with_wire, with_module, wire_id, module_id, bundle_id};
 
-    #[tactic(auto, unfolding(crate::specs::Edits::edited, crate::specs::Edits::refusal))]
-    /// Makes the edit, or says which check fails first, or `OutOfMemory`, which no edit is told but those that add a thing or set a
-    /// stimulus. A refusal leaves the netlist as it was.
+    /// Makes the edit, or says which check fails first, or `OutOfMemory`, which no edit is told but a batch and those that add a thing or
+    /// set a stimulus. A batch is made whole, or refused for the first of its edits that is refused: with `InBatch`, or with
+    /// `OutOfMemory` where that was met before. A refusal leaves the netlist as it was.
     pub fn apply(&mut self, edit: &Edit) -> Result<(), EditError>
         ensures ok { OnOk result (after self.old edit.now ≡ Ok self.new) }
-        ensures refused { IfErr result (RefusedBy (after self.old edit.now)) }
+        ensures refused { IfErr result (RefusedBy edit.now (after self.old edit.now)) }
         ensures memory { IfErr result (λ error. error ≡ OutOfMemory → IsTrue (takes_memory edit.now)) }
         ensures err { OnErr result (self.new ≡ self.old) }
     {
-        self.check(edit)?;
         match edit {
-            Edit::AddWire { name, width, level } => self.add_wire(name, *width, *level)?,
-            Edit::RemoveWire { wire } => self.remove_wire(wire),
-            Edit::AddModule {
+            Edit::Single(single) => self.apply_single(single),
+            Edit::Batch(_) => {
+                *self = self.after(edit)?;
+                Ok(())
+            }
+        }
+    }
+
+    #[tactic(auto, unfolding(crate::specs::Edits::edited, crate::specs::Edits::refusal))]
+    /// Makes an edit of one thing, or says why it is refused, as `apply` does.
+    pub(crate) fn apply_single(&mut self, edit: &SingleEdit) -> Result<(), EditError>
+        ensures ok { OnOk result (after_single self.old edit.now ≡ Ok self.new) }
+        ensures refused { IfErr result (RefusedBy (Single edit.now) (after_single self.old edit.now)) }
+        ensures memory { IfErr result (λ error. error ≡ OutOfMemory → IsTrue (single_takes_memory edit.now)) }
+        ensures err { OnErr result (self.new ≡ self.old) }
+    {
+        self.check_single(edit)?;
+        match edit {
+            SingleEdit::AddWire { name, width, level } => self.add_wire(name, *width, *level)?,
+            SingleEdit::RemoveWire { wire } => self.remove_wire(wire),
+            SingleEdit::AddModule {
                 name,
                 kind,
                 params,
                 inputs,
                 outputs,
             } => self.add_module(name, *kind, params, inputs, outputs)?,
-            Edit::RemoveModule { module } => self.remove_module(module),
-            Edit::AddBundle {
+            SingleEdit::RemoveModule { module } => self.remove_module(module),
+            SingleEdit::AddBundle {
                 name,
                 request,
                 acknowledge,
                 payload,
                 setup,
             } => self.add_bundle(name, request, acknowledge, payload, *setup)?,
-            Edit::RemoveBundle { bundle } => self.remove_bundle(bundle),
-            Edit::RewireInput { module, port, wire } => self.rewire_input(module, *port, wire),
-            Edit::RewireOutput { module, port, wire } => self.rewire_output(module, *port, wire),
-            Edit::SetInputDelay {
+            SingleEdit::RemoveBundle { bundle } => self.remove_bundle(bundle),
+            SingleEdit::RewireInput { module, port, wire } => self.rewire_input(
+                module, *port, wire,
+            ),
+            SingleEdit::RewireOutput { module, port, wire } => self.rewire_output(
+                module, *port, wire,
+            ),
+            SingleEdit::SetInputDelay {
                 module,
                 port,
                 delay,
             } => self.set_input_delay(module, *port, *delay),
-            Edit::SetDelay {
+            SingleEdit::SetDelay {
                 module,
                 port,
                 delay,
             } => self.set_delay(module, *port, *delay),
-            Edit::SetStimulus { wire, changes } => self.set_stimulus(wire, changes)?,
-            Edit::ClearStimulus { wire } => self.clear_stimulus(wire),
+            SingleEdit::SetStimulus { wire, changes } => self.set_stimulus(wire, changes)?,
+            SingleEdit::ClearStimulus { wire } => self.clear_stimulus(wire),
         }
         Ok(())
     }

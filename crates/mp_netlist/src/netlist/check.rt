@@ -4,56 +4,74 @@ ghost use Rattle.std.specs.List.{list_all};
 ghost use Rattle.mp_modules.specs.Kinds.{input_count, output_count};
 ghost use Rattle.mp_records.specs.declared.port_names.InputName.{InputName};
 ghost use Rattle.mp_records.specs.declared.port_names.OutputName.{OutputName};
-ghost use Rattle.mp_netlist.specs.Edits.{delays_fit, is_input_delay, is_delay};
+ghost use Rattle.std.specs.Result.{result_err};
+ghost use Rattle.mp_netlist.specs.Edits.{first_failing, batch_checks, delays_fit, is_input_delay, is_delay};
 
 use crate::driver::Driver;
-use crate::netlist::{MAX_BUNDLES, MAX_DELAY, MAX_MODULES, MAX_SETUP, MAX_WIRES, Netlist};
+use crate::netlist::{
+    MAX_BATCH, MAX_BUNDLES, MAX_DELAY, MAX_MODULES, MAX_SETUP, MAX_WIRES, Netlist,
+};
 use mp_modules::{Kind, fits_width};
-use mp_records::{Changes, Edit, EditError, InputNames, Name, OutputNames, Params};
+use mp_records::{
+    Batch, Changes, Edit, EditError, InputNames, Name, OutputNames, Params, SingleEdit,
+};
 
 impl Netlist {
     ghost use Rattle.std.specs.Prelude.{◌≡◌};
     ghost use Rattle.std.specs.Result.{result_err};
-    ghost use Rattle.mp_netlist.specs.Edits.{refusal, wire_refusal, wire_removal_refusal, module_refusal, module_removal_refusal, bundle_refusal, bundle_removal_refusal, input_refusal, output_refusal, input_delay_refusal, delay_refusal, stimulus_refusal, clearing_refusal};
+    ghost use Rattle.mp_netlist.specs.Edits.{checked, refusal, wire_refusal, wire_removal_refusal, module_refusal, module_removal_refusal, bundle_refusal, bundle_removal_refusal, input_refusal, output_refusal, input_delay_refusal, delay_refusal, stimulus_refusal, clearing_refusal};
+
+    /// The first check that the edit fails, in the order of its kind, where it is not want of memory. Of a batch it tells `BadBatch` alone:
+    /// its edits are judged as they are made.
+    pub fn check(&self, edit: &Edit) -> Result<(), EditError>
+        ensures { result_err result ≡ checked self.now edit.now }
+    {
+        match edit {
+            Edit::Single(single) => self.check_single(single),
+            Edit::Batch(batch) => check_batch(batch),
+        }
+    }
 
     #[tactic(auto, unfolding(crate::specs::Edits::refusal))]
-    /// The first check that the edit fails, in the order of its kind, where it is not want of memory.
-    pub fn check(&self, edit: &Edit) -> Result<(), EditError>
+    /// The first check that an edit of one thing fails, in the order of its kind, where it is not want of memory.
+    pub(crate) fn check_single(&self, edit: &SingleEdit) -> Result<(), EditError>
         ensures { result_err result ≡ refusal self.now edit.now }
     {
         match edit {
-            Edit::AddWire { name, width, level } => self.check_wire(name, *width, *level),
-            Edit::RemoveWire { wire } => self.check_wire_removal(wire),
-            Edit::AddModule {
+            SingleEdit::AddWire { name, width, level } => self.check_wire(name, *width, *level),
+            SingleEdit::RemoveWire { wire } => self.check_wire_removal(wire),
+            SingleEdit::AddModule {
                 name,
                 kind,
                 params,
                 inputs,
                 outputs,
             } => self.check_module(name, *kind, params, inputs, outputs),
-            Edit::RemoveModule { module } => self.check_module_removal(module),
-            Edit::AddBundle {
+            SingleEdit::RemoveModule { module } => self.check_module_removal(module),
+            SingleEdit::AddBundle {
                 name,
                 request,
                 acknowledge,
                 payload,
                 setup,
             } => self.check_bundle(name, request, acknowledge, payload, *setup),
-            Edit::RemoveBundle { bundle } => self.check_bundle_removal(bundle),
-            Edit::RewireInput { module, port, wire } => self.check_input(module, *port, wire),
-            Edit::RewireOutput { module, port, wire } => self.check_output(module, *port, wire),
-            Edit::SetInputDelay {
+            SingleEdit::RemoveBundle { bundle } => self.check_bundle_removal(bundle),
+            SingleEdit::RewireInput { module, port, wire } => self.check_input(module, *port, wire),
+            SingleEdit::RewireOutput { module, port, wire } => self.check_output(
+                module, *port, wire,
+            ),
+            SingleEdit::SetInputDelay {
                 module,
                 port,
                 delay,
             } => self.check_input_delay(module, *port, *delay),
-            Edit::SetDelay {
+            SingleEdit::SetDelay {
                 module,
                 port,
                 delay,
             } => self.check_delay(module, *port, *delay),
-            Edit::SetStimulus { wire, changes } => self.check_stimulus(wire, changes),
-            Edit::ClearStimulus { wire } => self.check_clearing(wire),
+            SingleEdit::SetStimulus { wire, changes } => self.check_stimulus(wire, changes),
+            SingleEdit::ClearStimulus { wire } => self.check_clearing(wire),
         }
     }
 
@@ -276,6 +294,17 @@ impl Netlist {
         }
         Ok(())
     }
+}
+
+/// Whether a batch has edits, and not too many.
+fn check_batch(batch: &Batch) -> Result<(), EditError>
+    ensures { result_err result ≡ first_failing (batch_checks batch.now) }
+{
+    let edits = batch.as_slice();
+    if edits.is_empty() || edits.len() > MAX_BATCH {
+        return Err(EditError::BadBatch);
+    }
+    Ok(())
 }
 
 /// Whether there are as many inputs and outputs as the kind has.

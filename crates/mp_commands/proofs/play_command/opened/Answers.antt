@@ -9,12 +9,12 @@ use Rattle.mp_commands.proofs.PlayLemmas.{first_netlist-long, first_netlist-of}
 use Rattle.mp_commands.proofs.play_command.opened.Goals as goal
 
 pub returns-then-input-gt-MAX_INPUT-clause-refused : goal.returns-then-input-gt-MAX_INPUT-clause-refused
-returns-then-input-gt-MAX_INPUT-clause-refused c =
+returns-then-input-gt-MAX_INPUT-clause-refused g c =
     let input = c.args.input.now in
     ap (λ read. output_of (script_text [] input) read (has_valid_crew c.args.options.now)) (first_netlist-long input (omega arith))
 
 pub returns-in_err-netlist-clause-refused : goal.returns-in_err-netlist-clause-refused
-returns-in_err-netlist-clause-refused c =
+returns-in_err-netlist-clause-refused g c =
     let input = c.args.input.now in
     let within : length input ≤ max_input = omega arith in
     let same = first_netlist-of input c.in_ok-front.front.now within c.in_ok-front.ensures.short c.in_ok-front.ensures.front in
@@ -22,7 +22,7 @@ returns-in_err-netlist-clause-refused c =
     rw (p.1, p.2) (refused_read (script_text [] input) (first_netlist input) (has_valid_crew c.args.options.now) c.in_err-netlist.field-0.0 (rw (sym same) at c.in_err-netlist.ensures.read))
 
 pub returns-then-not-has_valid_crew-clause-refused : goal.returns-then-not-has_valid_crew-clause-refused
-returns-then-not-has_valid_crew-clause-refused c =
+returns-then-not-has_valid_crew-clause-refused g c =
     let input = c.args.input.now in
     let within : length input ≤ max_input = omega arith in
     let same = first_netlist-of input c.in_ok-front.front.now within c.in_ok-front.ensures.short c.in_ok-front.ensures.front in
@@ -31,7 +31,7 @@ returns-then-not-has_valid_crew-clause-refused c =
     ∙ ap (λ valid. output_of (script_text [] input) (Ok c.in_ok-netlist.netlist) valid) invalid
 
 pub returns-clause-opened : goal.returns-clause-opened
-returns-clause-opened c =
+returns-clause-opened g c =
     let input = c.args.input.now in
     let within : length input ≤ max_input = omega arith in
     let same = first_netlist-of input c.in_ok-front.front.now within c.in_ok-front.ensures.short c.in_ok-front.ensures.front in

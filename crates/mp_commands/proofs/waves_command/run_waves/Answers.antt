@@ -3,7 +3,6 @@ use Rattle.std.proofs.lemmas.Result.{err_from_is_err_and}
 use Rattle.mp_text.specs.Texts.{text_at}
 use Rattle.mp_commands.specs.OptionLimits.{has_valid_crew}
 use Rattle.mp_commands.specs.Outputs.{output_of, waves_text, waves_output}
-use Rattle.mp_commands.specs.Runs.{Wrote}
 use Rattle.mp_commands.proofs.RunLemmas.{for_waves, any_input, unread_source, Wrote-refused, refused_read}
 use Rattle.mp_commands.proofs.waves_command.run_waves.Goals as goal
 

@@ -1,0 +1,61 @@
+//! The netlist after an edit, and edits made as one.
+use crate::netlist::Netlist;
+use mp_records::{Batch, Edit, EditError, SingleEdit};
+
+impl Netlist {
+    ghost use Rattle.std.specs.Prelude.{◌≡◌, ◌⊎◌, ◌≤◌, Ok, Err, None, length, IfOk, IfErr, OnOk};
+    ghost use Rattle.mp_records.specs.declared.edit_error.EditError.TheVariants.{OutOfMemory};
+    ghost use Rattle.mp_netlist.specs.Limits.{max_batch};
+    ghost use Rattle.mp_netlist.specs.Edits.{checked, after, after_single, after_each, in_place, RefusedBy};
+
+    /// The netlist after the edit, or why it is refused, as `apply` tells; this one stays as it is. It takes one copy, also for a batch,
+    /// and none where `check` refuses the edit.
+    pub fn after(&self, edit: &Edit) -> Result<Netlist, EditError>
+        ensures ok { IfOk result (λ next. after self.now edit.now ≡ Ok next) }
+        ensures refused { IfErr result (RefusedBy edit.now (after self.now edit.now)) }
+    {
+        self.check(edit)?;
+        let mut next = self.copy()?;
+        next.make(edit)?;
+        Ok(next)
+    }
+
+    /// Makes an edit that `check` lets pass. Of a batch that is refused the edits before stay made.
+    fn make(&mut self, edit: &Edit) -> Result<(), EditError>
+        requires { checked self.old edit.now ≡ None }
+        ensures ok { OnOk result (after self.old edit.now ≡ Ok self.new) }
+        ensures refused { IfErr result (RefusedBy edit.now (after self.old edit.now)) }
+    {
+        match edit {
+            Edit::Single(single) => self.apply_single(single),
+            Edit::Batch(batch) => self.make_each(batch),
+        }
+    }
+
+    /// Makes the edits of a batch in turn, up to the first that is refused.
+    fn make_each(&mut self, batch: &Batch) -> Result<(), EditError>
+        requires { length batch.now ≤ max_batch }
+        ensures ok { OnOk result (after_each 1 self.old batch.now ≡ Ok self.new) }
+        ensures refused { IfErr result (λ error. (after_each 1 self.old batch.now ≡ Err error) ⊎ (error ≡ OutOfMemory)) }
+    {
+        for (index, edit) in batch.as_slice().iter().enumerate() {
+            self.make_in_place(index as u32 + 1, edit)?;
+        }
+        Ok(())
+    }
+
+    /// Makes the edit of a batch that has this place.
+    fn make_in_place(&mut self, place: u32, edit: &SingleEdit) -> Result<(), EditError>
+        ensures ok { OnOk result (in_place place (after_single self.old edit.now) ≡ Ok self.new) }
+        ensures refused { IfErr result (λ error. (in_place place (after_single self.old edit.now) ≡ Err error) ⊎ (error ≡ OutOfMemory)) }
+    {
+        match self.apply_single(edit) {
+            Ok(()) => Ok(()),
+            Err(EditError::OutOfMemory) => Err(EditError::OutOfMemory),
+            Err(error) => Err(EditError::InBatch {
+                place,
+                number: error.number(),
+            }),
+        }
+    }
+}

@@ -1,0 +1,48 @@
+//! The edits of a batch.
+ghost use Rattle.std.specs.Prelude.{◌≡◌};
+
+use crate::single_edit::SingleEdit;
+use std::alloc::AllocError;
+use std::marker::Model;
+
+/// Edits that are made one after the other, as one edit. A batch may have any number of them: a netlist refuses the one that has none
+/// or too many.
+#[derive(Drop)]
+pub struct Batch {
+    edits: Vec<SingleEdit>,
+}
+
+impl Model for Batch {
+    ghost use Rattle.std.specs.Prelude.{List};
+    ghost use Rattle.mp_records.specs.declared.single_edit.SingleEdit.{SingleEdit};
+
+    ghost Value = { List SingleEdit };
+
+    ghost view = { λ batch. batch.edits.items };
+}
+
+impl Clone for Batch {
+    ghost is_clone = { λ old new. new ≡ old };
+
+    fn clone(&self) -> Result<Self, AllocError> {
+        Ok(Batch {
+            edits: Vec::from_clones(*self.edits.allocator(), self.edits.as_slice())?,
+        })
+    }
+}
+
+impl Batch {
+    /// A batch of these edits, the first being made first.
+    pub fn new(edits: Vec<SingleEdit>) -> Self
+        ensures { result ≡ edits.items }
+    {
+        Batch { edits }
+    }
+
+    /// The edits, in order.
+    pub fn as_slice(&self) -> &[SingleEdit]
+        ensures { result.now ≡ self.now }
+    {
+        self.edits.as_slice()
+    }
+}

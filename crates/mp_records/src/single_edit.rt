@@ -1,0 +1,78 @@
+//! The edits of one thing.
+use crate::changes::Changes;
+use crate::name::Name;
+use crate::params::Params;
+use crate::port_names::{InputNames, OutputNames};
+use mp_modules::Kind;
+
+/// A change of one thing in a netlist. It names things by their present names, and its numbers may be out of range: the edit is refused then.
+#[derive(Clone, Drop)]
+pub enum SingleEdit {
+    /// Adds a wire of a new name, with a width in bits and an initial level.
+    AddWire {
+        name: Name,
+        width: u64,
+        level: u64,
+    },
+    /// Removes a wire that no module and no bundle names, with what was set on it. Its name may be given again, its number never is.
+    RemoveWire {
+        wire: Name,
+    },
+    /// Adds a module of a new name, whose ports are at wires that stand.
+    AddModule {
+        name: Name,
+        kind: Kind,
+        params: Params,
+        inputs: InputNames,
+        outputs: OutputNames,
+    },
+    /// Removes a module. The wires that it drove have no driver then.
+    RemoveModule {
+        module: Name,
+    },
+    /// Adds a bundle of a new name, with its setup in units.
+    AddBundle {
+        name: Name,
+        request: Name,
+        acknowledge: Name,
+        payload: Name,
+        setup: u64,
+    },
+    /// Removes a bundle.
+    RemoveBundle {
+        bundle: Name,
+    },
+    /// Lets an input port read another wire, of the port's width. The port keeps its delay.
+    RewireInput {
+        module: Name,
+        port: u64,
+        wire: Name,
+    },
+    /// Lets an output port drive another wire of its width, or none. The port keeps its delay.
+    RewireOutput {
+        module: Name,
+        port: u64,
+        wire: Option<Name>,
+    },
+    /// Sets the transport delay of an input port, in units.
+    SetInputDelay {
+        module: Name,
+        port: u64,
+        delay: u64,
+    },
+    /// Sets the transport delay of an output port, in units.
+    SetDelay {
+        module: Name,
+        port: u64,
+        delay: u64,
+    },
+    /// Sets a wire from outside, in place of what was set on it before.
+    SetStimulus {
+        wire: Name,
+        changes: Changes,
+    },
+    /// Takes away what was set on a wire from outside.
+    ClearStimulus {
+        wire: Name,
+    },
+}

@@ -1,0 +1,36 @@
+-- What a script's batch says.
+use Rattle.std.specs.Prelude.{ℕ, List, [], ◌∷◌, map, Result, Ok, Err}
+use Rattle.std.specs.Borrow.{Bor}
+use Rattle.std.specs.Option.{ok_or}
+use Rattle.std.specs.Str.{byte}
+use Rattle.std.specs.List.{slice_split}
+use Rattle.mp_records.specs.declared.single_edit.SingleEdit.{SingleEdit}
+use Rattle.mp_words.specs.declared.line_error.LineError.{LineError}
+use Rattle.mp_words.specs.declared.line_error.LineError.TheVariants.{UnknownStatement, WordCount}
+use Rattle.mp_words.specs.Words.{texts}
+use Rattle.mp_words.specs.Reads.{◌>>=◌}
+use Rattle.mp_text.specs.Statements.{is_mark}
+use Rattle.mp_text.specs.SingleEdits.{single_word, single_edit}
+
+-- the edit of one thing that a part's words say
+unfoldable pub part_edit : List (List ℕ) → Result SingleEdit LineError
+part_edit [] = Err WordCount
+part_edit (word ∷ words) = do
+  first ← ok_or (single_word word) UnknownStatement
+  single_edit first words
+
+-- what each of the parts says, or the code of the first that cannot be read
+unfoldable pub each_part : List (List (List ℕ)) → Result (List SingleEdit) LineError
+each_part [] = Ok []
+each_part (part ∷ parts) = do
+  edit ← part_edit part
+  edits ← each_part parts
+  Ok (edit ∷ edits)
+
+-- the edits of the words behind `batch`: the words `;` divide them into parts
+abbrev pub batch_of : List (List ℕ) → Result (List SingleEdit) LineError
+batch_of words = each_part (slice_split (is_mark (byte ";")) words)
+
+-- parts without where they lie in memory
+abbrev pub part_texts : List (Bor (List (Bor (List ℕ)))) → List (List (List ℕ))
+part_texts parts = map (λ part. texts part.now) parts

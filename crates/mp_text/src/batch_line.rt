@@ -1,0 +1,71 @@
+//! The batches that scripts have.
+ghost use Rattle.std.specs.Prelude.{◌≡◌, ◌∷◌, IfOk, All, map};
+ghost use Rattle.std.specs.List.{slice_split};
+ghost use Rattle.std.specs.Str.{byte};
+ghost use Rattle.mp_words.specs.declared.line_error.LineError.TheVariants.{OutOfMemory};
+ghost use Rattle.mp_words.specs.Reads.{Gives};
+ghost use Rattle.mp_words.specs.Words.{texts, AreAscii};
+ghost use Rattle.mp_text.specs.Statements.{is_mark};
+ghost use Rattle.mp_text.specs.Batches.{part_edit, each_part, batch_of, part_texts};
+
+use crate::script_edit::single_edit;
+use crate::single_word::SingleWord;
+use crate::stated_edit::is_mark;
+use mp_netlist::{Batch, SingleEdit};
+use mp_words::LineError;
+use std::alloc::{AllocError, Global};
+
+/// The batch of the words behind `batch`.
+pub fn batch(alloc: Global, words: &[&[u8]]) -> Result<Batch, LineError>
+    requires { AreAscii words.now }
+    ensures { Gives OutOfMemory (λ batch. batch) result (batch_of (texts words.now)) }
+{
+    let parts = parts(alloc, words)?;
+    each_part(alloc, parts.as_slice())
+}
+
+/// The parts of the words, between the words `;`.
+fn parts<'a, 'b>(alloc: Global, words: &'a [&'b [u8]]) -> Result<Vec<&'a [&'b [u8]]>, AllocError>
+    requires { AreAscii words.now }
+    ensures parts { IfOk result (λ parts. part_texts parts.items ≡ slice_split (is_mark (byte ";")) (texts words.now)) }
+    ensures ascii { IfOk result (λ parts. All (λ part. AreAscii part.now) parts.items) }
+{
+    split_parts(alloc, words)
+}
+
+fn split_parts<'a, 'b>(
+    alloc: Global,
+    words: &'a [&'b [u8]],
+) -> Result<Vec<&'a [&'b [u8]]>, AllocError>
+    ensures { IfOk result (λ parts. map (λ part. part.now) parts.items ≡ slice_split (λ word. is_mark (byte ";") word.now) words.now) }
+{
+    words.split(|word| is_mark(b';', word)).collect(alloc)
+}
+
+/// The batch of the edits that the parts say, in order.
+fn each_part(alloc: Global, parts: &[&[&[u8]]]) -> Result<Batch, LineError>
+    requires { All (λ part. AreAscii part.now) parts.now }
+    ensures { Gives OutOfMemory (λ batch. batch) result (each_part (part_texts parts.now)) }
+{
+    let mut edits = Vec::new(alloc);
+    for part in parts {
+        let edit = part_edit(alloc, part)?;
+        edits.push(edit)?;
+    }
+    Ok(Batch::new(edits))
+}
+
+/// The edit of one thing that a part's words say.
+#[tactic(auto, unfolding(crate::specs::Batches::part_edit))]
+fn part_edit(alloc: Global, words: &[&[u8]]) -> Result<SingleEdit, LineError>
+    requires { AreAscii words.now }
+    ensures { Gives OutOfMemory (λ edit. edit) result (part_edit (texts words.now)) }
+{
+    let [word, others @ ..] = words else {
+        return Err(LineError::WordCount);
+    };
+    match SingleWord::from_word(word) {
+        Some(first) => single_edit(alloc, first, others),
+        None => Err(LineError::UnknownStatement),
+    }
+}

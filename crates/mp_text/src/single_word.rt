@@ -1,0 +1,47 @@
+//! First words of the lines that are edits of one thing.
+use crate::edit_word::EditWord;
+
+/// The first word of an edit of one thing, as a line or in a batch.
+#[derive(Clone, Copy, Debug, PartialEq, Eq)]
+pub enum SingleWord {
+    /// That of an edit that texts have too.
+    Stated(EditWord),
+    /// `remove`
+    Remove,
+    /// `input`
+    Input,
+    /// `output`
+    Output,
+    /// `indelay`
+    InputDelay,
+    /// `delay`
+    Delay,
+    /// `clear`
+    Clear,
+}
+
+impl SingleWord {
+    ghost use Rattle.std.specs.Prelude.{◌≡◌};
+    ghost use Rattle.mp_text.specs.SingleEdits.{single_word};
+
+    /// What the word is as such a first word, where it is one.
+    pub fn from_word(word: &[u8]) -> Option<SingleWord>
+        ensures { result ≡ single_word word.now }
+    {
+        if word == b"remove".as_slice() {
+            Some(SingleWord::Remove)
+        } else if word == b"input".as_slice() {
+            Some(SingleWord::Input)
+        } else if word == b"output".as_slice() {
+            Some(SingleWord::Output)
+        } else if word == b"indelay".as_slice() {
+            Some(SingleWord::InputDelay)
+        } else if word == b"delay".as_slice() {
+            Some(SingleWord::Delay)
+        } else if word == b"clear".as_slice() {
+            Some(SingleWord::Clear)
+        } else {
+            Some(SingleWord::Stated(EditWord::from_word(word)?))
+        }
+    }
+}

@@ -1,0 +1,56 @@
+-- Codes and binary digits, digit by digit.
+use Rattle.std.proofs.Common.{◌≡◌, ℕ, ◌+◌, ◌-◌, ◌/◌, ◌%◌, ◌<◌, ◌≤◌, Bool, true, false, cond, nat_lt, List, [], ◌∷◌, ◌++◌, append_assoc, length, drop, slice_set, zero, suc, refl, sym, ap, ◌∙◌, arith}
+use Rattle.std.proofs.lemmas.Bool.Decides.{nat_tests}
+use Rattle.std.proofs.lemmas.List.{drop-set}
+use Rattle.mp_vcd.specs.Codes.{digits_of, code}
+use Rattle.mp_vcd.specs.Values.{bit, bits}
+
+not_below : (n k : ℕ) → nat_lt n k ≡ false → k ≤ n
+not_below n k test = grind (arith, nat_tests)
+
+-- more digits than a number has are not written
+digits_of-same : (most least n : ℕ) → n < most → n < least → digits_of most n ≡ digits_of least n
+digits_of-same zero least n below under = absurd (omega arith)
+digits_of-same (suc most) zero n below under = absurd (omega arith)
+digits_of-same (suc most) (suc least) n below under =
+    ap (λ l. (33 + n % 94) ∷ l) (by (nat_lt n 94) refl (λ high. digits_of-same most least (n / 94) (omega (arith, high)) (omega (arith, high))))
+  where
+    by : (t : Bool) → nat_lt n 94 ≡ t → (94 ≤ n → digits_of most (n / 94) ≡ digits_of least (n / 94)) → cond t [] (digits_of most (n / 94)) ≡ cond t [] (digits_of least (n / 94))
+    by true test more = refl
+    by false test more = more (not_below n 94 test)
+
+pub code-one : (n : ℕ) → n < 94 → code n ≡ (33 + n) ∷ []
+unfolding code
+code-one n low =
+    let small : nat_lt n 94 ≡ true = grind (arith, nat_tests) in
+    let same : n % 94 ≡ n = omega arith in
+    rw (small, same) refl
+
+code-more : (n : ℕ) → 94 ≤ n → code n ≡ (33 + n % 94) ∷ code (n / 94)
+unfolding code
+code-more n high =
+    let large : nat_lt n 94 ≡ false = grind (arith, nat_tests) in
+    rw large (ap (λ l. (33 + n % 94) ∷ l) (digits_of-same n (suc (n / 94)) (n / 94) (omega arith) (omega arith)))
+
+-- one digit more is written
+pub code_step : (text whole : List ℕ) (n : ℕ) → 94 ≤ n → text ++ code n ≡ whole → (text ++ (33 + n % 94) ∷ []) ++ code (n / 94) ≡ whole
+code_step text whole n high same = append_assoc text ((33 + n % 94) ∷ []) (code (n / 94)) ∙ ap (λ l. text ++ l) (sym (code-more n high)) ∙ same
+
+bits-suc : (width level : ℕ) → bits (suc width) level ≡ bits width (level / 2) ++ bit level ∷ []
+unfolding bits
+bits-suc width level = refl
+
+pub bits-zero : (level : ℕ) → bits 0 level ≡ []
+unfolding bits
+bits-zero level = refl
+
+-- one bit more is written
+pub bits_step : (whole digits : List ℕ) (start left rest : ℕ) → 0 < left → 0 < start → start ≤ length digits → whole ≡ bits left rest ++ drop start digits
+    → whole ≡ bits (left - 1) (rest / 2) ++ drop (start - 1) (slice_set digits (start - 1) (bit rest))
+bits_step whole digits start left rest some room within same =
+    let last : left ≡ suc (left - 1) = omega arith in
+    let place : start - 1 + 1 ≡ start = omega arith in
+    let back : drop (start - 1) (slice_set digits (start - 1) (bit rest)) ≡ bit rest ∷ drop start digits =
+    drop-set digits (start - 1) (bit rest) (omega arith) ∙ ap (λ k. bit rest ∷ drop k digits) place in
+    same ∙ ap (λ k. bits k rest ++ drop start digits) last ∙ ap (λ l. l ++ drop start digits) (bits-suc (left - 1) rest)
+    ∙ append_assoc (bits (left - 1) (rest / 2)) (bit rest ∷ []) (drop start digits) ∙ ap (λ l. bits (left - 1) (rest / 2) ++ l) (sym back)

@@ -1,0 +1,5 @@
+pub mod PassingLemmas
+pub mod CodeLemmas
+pub mod StandingLemmas
+pub mod AgendaLemmas
+pub mod DumpLemmas

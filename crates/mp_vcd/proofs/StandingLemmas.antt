@@ -1,0 +1,93 @@
+-- The wires that stand, one after the other.
+use Rattle.std.proofs.Common.{◌≡◌, ℕ, ◌+◌, ◌-◌, ◌<◌, ◌≤◌, Bool, true, false, cond, List, [], ◌∷◌, ◌++◌, length, drop, Option, None, Some, zero, suc, refl, sym, ap, ◌∙◌, add-one, add-zero, arith}
+use Rattle.std.specs.List.{filter, flat_map, range_with_len}
+use Rattle.std.proofs.Math.Seq.{drop-cons, drop-length}
+use Rattle.mp_wave.specs.Waveform.{Waveform}
+use Rattle.mp_records.specs.declared.wire_record.WireRecord.{WireRecord}
+use Rattle.mp_netlist.specs.Circuit.{Circuit, wire_at, width_of}
+use Rattle.mp_netlist.specs.Slots.{slot_at}
+use Rattle.mp_model.specs.Waves.{level, wave, waves, waves_from, slot_wave}
+use Rattle.mp_vcd.specs.Dumps.{if_stands, standing_from, is_changed}
+use Rattle.mp_vcd.specs.Values.{value_line}
+use Rattle.mp_vcd.specs.declared.dumping.Part.{Part}
+use Rattle.mp_vcd.specs.declared.dumping.Part.TheVariants.{FirstLevels}
+use Rattle.mp_vcd.specs.Parts.{part_line, slot_text}
+use Rattle.mp_vcd.specs.Agendas.{with_levels, onto_slot}
+
+pub standing_step : (slots : List (Option WireRecord)) (w : ℕ) → w < length slots → standing_from w (drop w slots) ≡ if_stands w (slot_at slots w) (standing_from (w + 1) (drop (w + 1) slots))
+standing_step slots w within =
+    ap (standing_from w) (drop-cons slots w None within) ∙ ap (λ k. if_stands w (slot_at slots w) (standing_from (w + 1) (drop k slots))) (sym (add-one w))
+
+pub standing_end : (slots : List (Option WireRecord)) (w : ℕ) → w ≡ length slots → standing_from w (drop w slots) ≡ []
+standing_end slots w over = ap (λ k. standing_from w (drop k slots)) over ∙ ap (standing_from w) (drop-length slots)
+
+-- the line of a wire, where it stands, before those of others
+flat_map_stands : (told : ℕ → List ℕ) (w : ℕ) (slot : Option WireRecord) (others : List ℕ) → flat_map told (if_stands w slot others) ≡ slot_text told w slot ++ flat_map told others
+flat_map_stands told w None others = refl
+flat_map_stands told w (Some r) others = refl
+
+pub lines_step : (told : ℕ → List ℕ) (slots : List (Option WireRecord)) (w : ℕ) → w < length slots
+    → flat_map told (standing_from w (drop w slots)) ≡ slot_text told w (slot_at slots w) ++ flat_map told (standing_from (w + 1) (drop (w + 1) slots))
+lines_step told slots w within =
+    ap (flat_map told) (standing_step slots w within) ∙ flat_map_stands told w (slot_at slots w) (standing_from (w + 1) (drop (w + 1) slots))
+
+-- a wire's change at a time, where there is one, before those of others
+told_stands : (n : Circuit) (t w : ℕ) (slot : Option WireRecord) (others : List ℕ)
+    → with_levels n t (filter (is_changed n t) (if_stands w slot others)) ≡ onto_slot n t w slot (with_levels n t (filter (is_changed n t) others))
+told_stands n t w None others = refl
+told_stands n t w (Some r) others = by (is_changed n t w)
+  where
+    by : (test : Bool) → with_levels n t (cond test (w ∷ filter (is_changed n t) others) (filter (is_changed n t) others))
+        ≡ cond test ((w, level n w t) ∷ with_levels n t (filter (is_changed n t) others)) (with_levels n t (filter (is_changed n t) others))
+    by true = refl
+    by false = refl
+
+pub told_step : (n : Circuit) (t w : ℕ) → w < length n.wires
+    → with_levels n t (filter (is_changed n t) (standing_from w (drop w n.wires)))
+    ≡ onto_slot n t w (wire_at n w) (with_levels n t (filter (is_changed n t) (standing_from (w + 1) (drop (w + 1) n.wires))))
+told_step n t w within =
+    ap (λ ws. with_levels n t (filter (is_changed n t) ws)) (standing_step n.wires w within) ∙ told_stands n t w (wire_at n w) (standing_from (w + 1) (drop (w + 1) n.wires))
+
+-- ---- the wave of a wire that stands
+
+waves_from-at : (n : Circuit) (k : ℕ) (slots : List (Option WireRecord)) (w : ℕ) → slot_at (waves_from n k slots) w ≡ slot_wave n (k + w) (slot_at slots w)
+waves_from-at n k [] w = refl
+waves_from-at n k (slot ∷ slots) zero = ap (λ i. slot_wave n i slot) (sym (add-zero k))
+waves_from-at n k (slot ∷ slots) (suc w) =
+    let same : k + 1 + w ≡ k + suc w = omega arith in
+    waves_from-at n (k + 1) slots w ∙ ap (λ i. slot_wave n i (slot_at slots w)) same
+
+pub wave_in_slot : (n : Circuit) (w : ℕ) (slots : List (Option Waveform)) → slots ≡ waves n → slot_at slots w ≡ slot_wave n w (wire_at n w)
+wave_in_slot n w slots given =
+    let first : 0 + w ≡ w = omega arith in
+    ap (λ s. slot_at s w) given ∙ waves_from-at n 0 n.wires w ∙ ap (λ i. slot_wave n i (wire_at n w)) first
+
+-- ---- times
+
+pub times_step : (t upto : ℕ) → t < upto → range_with_len t (upto - t) ≡ t ∷ range_with_len (t + 1) (upto - (t + 1))
+times_step t upto within = let more : upto - t ≡ suc (upto - (t + 1)) = omega arith in ap (range_with_len t) more
+
+pub times_end : (t upto : ℕ) → upto ≤ t → range_with_len t (upto - t) ≡ []
+times_end t upto over = let none : upto - t ≡ 0 = omega arith in ap (range_with_len t) none
+
+-- ---- what the wave of a wire tells
+
+pub first_level : (n : Circuit) (w : ℕ) (slot : Option WireRecord) (v : Waveform) → Some v ≡ slot_wave n w slot → v.initial ≡ level n w 0
+first_level n w None v same = cc
+first_level n w (Some r) v same = let is : v ≡ wave n w = cc in ap (λ (x : Waveform). x.initial) is
+
+pub changes_in : (n : Circuit) (w : ℕ) (slot : Option WireRecord) (v : Waveform) → Some v ≡ slot_wave n w slot → (r : WireRecord) × (slot ≡ Some r) × (v.changes ≡ (wave n w).changes)
+changes_in n w None v same = cc
+changes_in n w (Some r) v same = let is : v ≡ wave n w = cc in (r, refl, ap (λ (x : Waveform). x.changes) is)
+
+pub none_in : (n : Circuit) (w t : ℕ) (slot : Option WireRecord) (others : List (ℕ × ℕ)) → None ≡ slot_wave n w slot → others ≡ onto_slot n t w slot others
+none_in n w t None others same = refl
+none_in n w t (Some r) others same = cc
+
+-- the line of the first level of a wire that stands
+pub first_line : (n : Circuit) (w v : ℕ) (part : Part) (r : WireRecord) → Some r ≡ wire_at n w → part ≡ FirstLevels → v ≡ level n w 0
+    → value_line (width_of (wire_at n w)) w v ≡ slot_text (part_line n part) w (wire_at n w)
+first_line n w v part r stands is same =
+    ap (λ v. value_line (width_of (wire_at n w)) w v) same
+    ∙ ap (λ slot. slot_text (part_line n FirstLevels) w slot) stands
+    ∙ ap (λ (p : Part). slot_text (part_line n p) w (wire_at n w)) (sym is)

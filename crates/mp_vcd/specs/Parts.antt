@@ -1,0 +1,17 @@
+-- What is told of wires before their changes.
+use Rattle.std.specs.Prelude.{ℕ, List, [], Option, Some, None}
+use Rattle.mp_records.specs.declared.wire_record.WireRecord.{WireRecord}
+use Rattle.mp_netlist.specs.Circuit.{Circuit}
+use Rattle.mp_vcd.specs.Dumps.{declaration, value_at}
+use Rattle.mp_vcd.specs.declared.dumping.Part.{Part}
+use Rattle.mp_vcd.specs.declared.dumping.Part.TheVariants.{Declarations, FirstLevels}
+
+-- the line of a part for a wire
+abbrev pub part_line : Circuit → Part → ℕ → List ℕ
+part_line n Declarations w = declaration n w
+part_line n FirstLevels w = value_at n 0 w
+
+-- the line for a wire where it stands
+abbrev pub slot_text : (ℕ → List ℕ) → ℕ → Option WireRecord → List ℕ
+slot_text told w None = []
+slot_text told w (Some r) = told w
