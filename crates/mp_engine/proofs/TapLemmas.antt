@@ -1,21 +1,20 @@
 -- Inputs that hear of a wire later than it changes.
-use Rattle.std.proofs.Common.{◌≡◌, ◌≢◌, ℕ, ◌+◌, ◌-◌, ◌<◌, ◌≤◌, Bool, true, List, [], ◌∷◌, ◌++◌, length, drop, slice_index_or, slice_set, zero, suc, refl, ap, sym, subst, ◌∙◌, arith, inl, inr}
+use Rattle.std.proofs.Common.{◌≡◌, ℕ, ◌+◌, ◌-◌, ◌<◌, ◌≤◌, Bool, true, List, [], ◌∷◌, ◌++◌, length, drop, slice_index_or, slice_set, zero, suc, refl, ap, sym, subst, ◌∙◌, arith, inl, inr}
 use Rattle.std.specs.List.{Contains}
 use Rattle.std.proofs.lemmas.Bool.{cases_eq, cases_lt, le-leb, lt-leb}
 use Rattle.std.proofs.lemmas.List.{get_or-set_same, get_or-set_other, get_or_append_left, get_or_past}
 use Rattle.std.proofs.lemmas.List.Elements.{Contains-append_left, Contains-append_cases, Contains-push}
-use Rattle.mp_wave.specs.Waveform.{IsWaveform, level_from, level_of, wave_upto, between}
+use Rattle.mp_wave.specs.Waveform.{IsWaveform, level_from, level_of, between}
 use Rattle.mp_wave.specs.Building.{Building}
 use Rattle.mp_wave.proofs.ChangesLemmas.{levels_of_wave, form_of_wave}
 use Rattle.mp_wave.proofs.PrefixLemmas.{cut_levels}
-use Rattle.mp_records.specs.declared.ids.ModuleId.{ModuleId}
 use Rattle.mp_records.specs.declared.ports.Input.{Input}
 use Rattle.mp_netlist.specs.Circuit.{Circuit}
 use Rattle.mp_model.specs.Waves.{level}
 use Rattle.mp_engine.specs.declared.tap.Tap.{Tap}
 use Rattle.mp_engine.specs.Lines.{building_at}
-use Rattle.mp_engine.specs.Marks.{is_marked, AreAdded}
-use Rattle.mp_engine.specs.Taps.{tap_of, IsLate, AreTaken, IsBefore, IsUnheard, StaysUntil, AreWaves, IsTold, IsCalled, IsListed, AreKept, IsListening, AreListening, AreTapped, AreHeard}
+use Rattle.mp_engine.specs.Marks.{is_marked}
+use Rattle.mp_engine.specs.Taps.{tap_of, AreTaken, IsBefore, IsUnheard, StaysUntil, AreWaves, IsTold, IsCalled, IsListed, AreKept, IsListening, AreListening, AreTapped, AreHeard}
 use Rattle.mp_engine.specs.Taps.IsListening.{Waiting, Called}
 use Rattle.mp_engine.proofs.MarkLemmas.{none_in, contains_cons}
 

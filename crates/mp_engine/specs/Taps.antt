@@ -1,5 +1,5 @@
 -- Inputs that hear of a wire later than it changes, listed by the unit in which each is looked at next.
-use Rattle.std.specs.Prelude.{◌≡◌, ◌≢◌, ℕ, ◌+◌, ◌-◌, ◌<◌, ◌≤◌, Bool, true, List, [], ◌∷◌, Some, length, slice_index_or}
+use Rattle.std.specs.Prelude.{◌≡◌, ◌≢◌, ℕ, ◌+◌, ◌-◌, ◌<◌, ◌≤◌, Bool, true, List, [], Some, length, slice_index_or}
 use Rattle.std.specs.List.{Contains}
 use Rattle.mp_wave.specs.Waveform.{level_from, wave_upto}
 use Rattle.mp_wave.specs.Building.{Building}

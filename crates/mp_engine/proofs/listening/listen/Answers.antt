@@ -1,4 +1,4 @@
-use Rattle.std.proofs.Common.{◌≡◌, ◌+◌, ◌-◌, Bool, true, false, List, ◌∷◌, [], ℕ, subst, arith, inl, inr}
+use Rattle.std.proofs.Common.{◌≡◌, Bool, true, ◌∷◌, [], subst, arith, inl, inr}
 use Rattle.std.specs.Prelude.{if◌then◌else◌}
 use Rattle.std.proofs.lemmas.Bool.{cases_Bool}
 use Rattle.mp_engine.specs.Marks.{is_marked, AreAdded}
