@@ -1,4 +1,4 @@
-//! What holds of every kind.
+//! What holds of every kind, and of the event modules over time.
 
 ghost use Rattle.mp_modules.specs.Laws.{IsNamedByWord, IsNamedByNoOther};
 ghost use Rattle.mp_modules.specs.EventLaws.{DotHasHalfUp, BlankHasHalfDown, ChangesWhereInputsAgree, HasAgreedLevel, HasEachEvent, TrueWhereDiamondIsOne, FalseWhereDiamondIsNot, HasOnePending, ReturnsToAskers, ServesEachRequest, ReturnsEachDone, GrantsOneAUnit, GrantsWhileFree, OwnsFromGrant, EndsEachGrant, AsksEachGrant, GrantsEachRequest, EndsEachGrantOnce, NobodyWaitsWhileFree};
