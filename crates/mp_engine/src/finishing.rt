@@ -14,6 +14,7 @@ use crate::cell::Cell;
 use crate::checkpoints::Checkpoints;
 use crate::engine::Engine;
 use crate::run::Run;
+use mp_model::Waves;
 use mp_modules::Memory;
 use mp_netlist::{ModuleId, Netlist, WireId};
 use mp_wave::{Wave, WaveBuilder};
@@ -42,10 +43,10 @@ fn finished_waves(
     alloc: Global,
     netlist: &Netlist,
     built: Vec<WaveBuilder>,
-) -> Result<Vec<Option<Arc<Wave, Global>>>, AllocError>
+) -> Result<Waves, AllocError>
     requires places { length built.items ≡ length netlist.now.wires }
     requires whole { (w : ℕ) → w < length netlist.now.wires → (building_at built.items w).wave ≡ wave netlist.now w }
-    ensures { IfOk result (λ found. AreSlots (length netlist.now.wires) (λ w. slot_wave netlist.now w (wire_at netlist.now w)) (map (option_map arc_value) found.items)) }
+    ensures { IfOk result (λ found. AreSlots (length netlist.now.wires) (λ w. slot_wave netlist.now w (wire_at netlist.now w)) found) }
 {
     let mut left = built;
     let mut found = Vec::new(alloc);
@@ -53,7 +54,7 @@ fn finished_waves(
         let builder = std::mem::replace(&mut left[w as usize], WaveBuilder::new(alloc, 0));
         found.push(finished_wave(alloc, netlist, WireId(w), builder)?)?;
     }
-    Ok(found)
+    Ok(Waves::new(found))
 }
 
 fn finished_wave(

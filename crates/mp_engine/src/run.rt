@@ -3,6 +3,7 @@ ghost use Rattle.std.specs.Prelude.{◌≡◌};
 
 use crate::checkpoints::Checkpoints;
 use crate::history::CHECKPOINT_UNITS;
+use mp_model::Waves;
 use mp_modules::Memory;
 use mp_netlist::{ModuleId, WireId};
 use mp_wave::Wave;
@@ -14,7 +15,7 @@ use std::sync::Arc;
 #[derive(Drop)]
 pub struct Run {
     horizon: u32,
-    waves: Vec<Option<Arc<Wave, Global>>>,
+    waves: Waves,
     ends: Vec<Option<Memory>>,
     kept: Vec<Option<Arc<Checkpoints, Global>>>,
 }
@@ -26,7 +27,7 @@ impl Model for Run {
 
     ghost Value = { Outcome };
 
-    ghost view = { λ run. record { horizon = run.horizon; waves = map (option_map arc_value) run.waves.items; ends = run.ends.items; kept = map (option_map arc_value) run.kept.items } };
+    ghost view = { λ run. record { horizon = run.horizon; waves = run.waves; ends = run.ends.items; kept = map (option_map arc_value) run.kept.items } };
 }
 
 impl Run {
@@ -37,11 +38,11 @@ impl Run {
 
     pub(crate) fn new(
         horizon: u32,
-        waves: Vec<Option<Arc<Wave, Global>>>,
+        waves: Waves,
         ends: Vec<Option<Memory>>,
         kept: Vec<Option<Arc<Checkpoints, Global>>>,
     ) -> Self
-        ensures { result ≡ record { horizon = horizon; waves = map (option_map arc_value) waves.items; ends = ends.items; kept = map (option_map arc_value) kept.items } }
+        ensures { result ≡ record { horizon = horizon; waves = waves; ends = ends.items; kept = map (option_map arc_value) kept.items } }
     {
         Run {
             horizon,
@@ -55,10 +56,14 @@ impl Run {
     pub fn wave(&self, wire: WireId) -> Option<&Wave>
         ensures { option_copied result ≡ wave_of self.now wire.0 }
     {
-        match self.waves.get(wire.0 as usize) {
-            Some(Some(wave)) => Some(wave),
-            _ => None,
-        }
+        self.waves.of(wire)
+    }
+
+    /// The wave of each wire that stands.
+    pub fn waves(&self) -> &Waves
+        ensures { result.now ≡ self.now.waves }
+    {
+        &self.waves
     }
 
     /// The state of a module that stands, after the last unit.

@@ -1,9 +1,10 @@
 -- The levels, states and waves of a netlist.
-use Rattle.std.specs.Prelude.{ℕ, ◌+◌, ◌-◌, List, [], ◌∷◌, Option, Some, None}
+use Rattle.std.specs.Prelude.{◌≡◌, ℕ, ◌+◌, ◌-◌, List, [], ◌∷◌, Option, Some, None}
 use Rattle.mp_wave.specs.Waveform.{Waveform, wave_upto}
 use Rattle.mp_modules.specs.declared.memory.Memory.{Memory}
 use Rattle.mp_records.specs.declared.wire_record.WireRecord.{WireRecord}
-use Rattle.mp_netlist.specs.Circuit.{Circuit}
+use Rattle.mp_netlist.specs.Slots.{slot_at}
+use Rattle.mp_netlist.specs.Circuit.{Circuit, wire_at}
 use Rattle.mp_model.specs.Histories.{history, level_in, state_in}
 
 -- the state of a module at a time
@@ -30,3 +31,7 @@ waves_from n w (slot ∷ slots) = slot_wave n w slot ∷ waves_from n (w + 1) sl
 
 abbrev pub waves : Circuit → List (Option Waveform)
 waves n = waves_from n 0 n.wires
+
+-- they are the waves of the wires, and there is none where no wire stands
+abbrev pub AreWavesOf : Circuit → List (Option Waveform) → Type 0
+AreWavesOf n found = (w : ℕ) → slot_at found w ≡ slot_wave n w (wire_at n w)

@@ -8,6 +8,8 @@ pub mod laws;
 #[cfg(test)]
 mod tests;
 mod track;
+mod waves;
 
 pub use evaluation::plain_waves;
 pub use mp_streams::{Failed, ReadSource, Sink, Source, TakeError, WriteSink, put_all, take_all};
+pub use waves::Waves;
