@@ -1,0 +1,3 @@
+pub mod ChunkLemmas
+pub mod StoryLemmas
+pub mod WorkLemmas

@@ -1,0 +1,5 @@
+pub mod Limits
+pub mod Stories
+pub mod Works
+pub mod Sessions
+pub mod Versions
