@@ -77,19 +77,17 @@ pub struct History {
 }
 
 impl Model for History {
-    ghost use Rattle.std.specs.Prelude.{◌≡◌, ◌<◌, ◌≤◌, ◌++◌, List, All, length};
+    ghost use Rattle.std.specs.Prelude.{◌++◌, List};
     ghost use Rattle.std.specs.List.{flat_map};
     ghost use Rattle.std.specs.Arc.{arc_value};
     ghost use Rattle.mp_records.specs.declared.edit.Edit.{Edit};
-    ghost use Rattle.mp_session.specs.Limits.{max_edits};
+    ghost use Rattle.mp_session.specs.Chunks.{AreChunks};
 
     ghost Value = { List Edit };
 
     ghost view = { λ history. flat_map arc_value history.chunks.items ++ history.last };
 
-    ghost invariant = { λ history. All (λ chunk. length (arc_value chunk) ≡ 64) history.chunks.items
-        × (length history.last < 64)
-        × (length (flat_map arc_value history.chunks.items ++ history.last) ≤ max_edits) };
+    ghost invariant = { λ history. AreChunks arc_value history.chunks.items history.last };
 }
 
 impl History {
@@ -138,9 +136,11 @@ impl History {
         ensures { option_copied result ≡ slice_get self.now index }
     {
         let index = index as usize;
-        match self.chunks.get(index / CHUNK_EDITS) {
-            Some(chunk) => chunk.get(index % CHUNK_EDITS),
-            None => self.last.get(index - self.chunks.len() * CHUNK_EDITS),
+        let place = index / CHUNK_EDITS;
+        if place < self.chunks.len() {
+            self.chunks[place].get(index % CHUNK_EDITS)
+        } else {
+            self.last.get(index - self.chunks.len() * CHUNK_EDITS)
         }
     }
 }

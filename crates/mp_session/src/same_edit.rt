@@ -20,6 +20,12 @@ impl Same for OutputName {
     }
 }
 
+impl Same for (u64, u64) {
+    fn same(&self, other: &Self) -> bool {
+        self.0 == other.0 && self.1 == other.1
+    }
+}
+
 impl Same for Edit {
     fn same(&self, other: &Self) -> bool {
         match self {
@@ -225,7 +231,7 @@ fn sets_stimulus(edit: &SingleEdit, named: &Name, pairs: &Changes) -> bool
 {
     match edit {
         SingleEdit::SetStimulus { wire, changes } => {
-            named.same(wire) && pairs.as_slice() == changes.as_slice()
+            named.same(wire) && same_list(pairs.as_slice(), changes.as_slice())
         }
         _ => false,
     }

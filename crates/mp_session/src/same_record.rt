@@ -1,9 +1,10 @@
 //! Whether two netlists have the same records in the same slots.
 ghost use Rattle.std.specs.Prelude.{◌≡◌, IsTrue, ◌↔◌};
 
-use crate::same::{Same, same_option, same_place};
+use crate::same::{Same, same_list, same_option, same_place};
 use mp_netlist::{
-    BundleId, BundleRecord, ModuleId, ModuleRecord, Name, Netlist, Stimulus, WireId, WireRecord,
+    BundleId, BundleRecord, Input, ModuleId, ModuleRecord, Name, Netlist, Output, Stimulus, WireId,
+    WireRecord,
 };
 
 impl Same for Name {
@@ -14,7 +15,31 @@ impl Same for Name {
 
 impl Same for Stimulus {
     fn same(&self, other: &Self) -> bool {
-        self.as_slice() == other.as_slice()
+        same_list(self.as_slice(), other.as_slice())
+    }
+}
+
+impl Same for (u32, u64) {
+    fn same(&self, other: &Self) -> bool {
+        self.0 == other.0 && self.1 == other.1
+    }
+}
+
+impl Same for WireId {
+    fn same(&self, other: &Self) -> bool {
+        self.0 == other.0
+    }
+}
+
+impl Same for Input {
+    fn same(&self, other: &Self) -> bool {
+        self.wire.same(&other.wire) && self.delay == other.delay
+    }
+}
+
+impl Same for Output {
+    fn same(&self, other: &Self) -> bool {
+        same_option(&self.wire, &other.wire) && self.delay == other.delay
     }
 }
 
@@ -32,17 +57,17 @@ impl Same for ModuleRecord {
         self.name.same(&other.name)
             && self.kind == other.kind
             && self.params.as_slice() == other.params.as_slice()
-            && self.inputs.as_slice() == other.inputs.as_slice()
-            && self.outputs.as_slice() == other.outputs.as_slice()
+            && same_list(self.inputs.as_slice(), other.inputs.as_slice())
+            && same_list(self.outputs.as_slice(), other.outputs.as_slice())
     }
 }
 
 impl Same for BundleRecord {
     fn same(&self, other: &Self) -> bool {
         self.name.same(&other.name)
-            && self.request == other.request
-            && self.acknowledge == other.acknowledge
-            && self.payload == other.payload
+            && self.request.same(&other.request)
+            && self.acknowledge.same(&other.acknowledge)
+            && self.payload.same(&other.payload)
             && self.setup == other.setup
     }
 }
