@@ -1,16 +1,21 @@
 -- A netlist that a script edits.
-use Rattle.std.specs.Prelude.{ℕ, ◌+◌, Result, Ok, Err, nat_lt, if◌then◌else◌}
+use Rattle.std.specs.Prelude.{ℕ, ◌+◌, length, Result, Ok, Err, nat_lt, if◌then◌else◌}
 use Rattle.mp_records.specs.declared.edit.Edit.{Edit}
 use Rattle.mp_records.specs.declared.edit_error.EditError.{EditError}
 use Rattle.mp_records.specs.declared.edit_error.EditError.TheVariants.{HistoryFull}
 use Rattle.mp_netlist.specs.Circuit.{Circuit}
 use Rattle.mp_netlist.specs.Edits.{after}
-use Rattle.mp_commands.specs.Limits.{max_edits}
+use Rattle.mp_session.specs.Limits.{max_edits}
+use Rattle.mp_session.specs.Stories.{Story, present}
 
 -- a netlist, and how many edits led to it
 pub record Kept : Type 0 where
   pub netlist : Circuit
   pub accepted : ℕ
+
+-- what is kept in a session with this story
+abbrev pub kept_of : Story → Kept
+kept_of story = record { netlist = present story; accepted = length story.edits }
 
 -- a netlist before the first edit
 abbrev pub opened : Circuit → Kept

@@ -10,10 +10,6 @@ max_input = max_text
 abbrev pub max_taken : ℕ
 max_taken = max_input + 1
 
--- how many edits of a script may be accepted
-abbrev pub max_edits : ℕ
-max_edits = 4096
-
 -- how many workers there may be
 abbrev pub max_workers : ℕ
 max_workers = 16

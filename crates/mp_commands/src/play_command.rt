@@ -17,12 +17,13 @@ use mp_streams::{Sink, Source, WriteBuffer, take_all};
 use mp_text::{TextCode, TextError, divided, first_line, read_netlist};
 use std::alloc::Global;
 use std::sync::Wait;
+use std::thread::Threads;
 
 /// Reads a netlist's text and, behind a line `---`, a script, all of it first. Then each line of the script is answered in turn: an edit by
 /// `accepted N` or `refused CODE NAME`, a question by its answer, and a line that is not read by `unread CODE NAME`.
 ///
 /// The faults are those of `run_waves`, in the same order.
-pub fn run_play<R: Wait, S: Source, T: Sink>(
+pub fn run_play<R: Threads + Wait + Sync, S: Source, T: Sink>(
     rt: &R,
     alloc: Global,
     source: &mut S,
@@ -44,7 +45,7 @@ pub fn run_play<R: Wait, S: Source, T: Sink>(
 }
 
 /// The netlist of an input's first part, and the script behind it.
-fn opened<'a, R: Wait>(
+fn opened<'a, R: Threads + Wait + Sync>(
     rt: &R,
     alloc: Global,
     input: &'a [u8],
@@ -61,14 +62,14 @@ fn opened<'a, R: Wait>(
     }
     let (front, script) = divided(alloc, input)?;
     let netlist = read_netlist(alloc, front)?;
-    if !options.has_valid_crew() {
+    let Some(crew) = options.crew() else {
         return Err(RunFault::BadCount);
-    }
-    Ok((Keeper::new(rt, alloc, netlist)?, script))
+    };
+    Ok((Keeper::new(rt, alloc, &netlist, crew)?, script))
 }
 
 /// Answers the lines of a script in turn.
-fn play_script<R: Wait, T: Sink>(
+fn play_script<R: Threads + Wait + Sync, T: Sink>(
     rt: &R,
     alloc: Global,
     sink: &mut T,
@@ -86,7 +87,7 @@ fn play_script<R: Wait, T: Sink>(
 }
 
 /// Puts the replies to the lines of a script in turn through the buffer.
-fn put_replies<R: Wait, T: Sink>(
+fn put_replies<R: Threads + Wait + Sync, T: Sink>(
     rt: &R,
     alloc: Global,
     buffer: &mut WriteBuffer,

@@ -17,10 +17,11 @@ use mp_streams::{Sink, WriteBuffer};
 use mp_text::{Line, LineError, Question, read_line, write_netlist};
 use std::alloc::{AllocError, Global};
 use std::sync::Wait;
+use std::thread::Threads;
 
 /// Puts the reply to a line of a script through the buffer, after its edit, if it is one. A line
 /// without words has none.
-pub fn put_reply<R: Wait, T: Sink>(
+pub fn put_reply<R: Threads + Wait + Sync, T: Sink>(
     rt: &R,
     alloc: Global,
     buffer: &mut WriteBuffer,
@@ -42,7 +43,7 @@ pub fn put_reply<R: Wait, T: Sink>(
 }
 
 /// Puts the reply to a line that was read, after its edit, if it is one.
-fn put_line_reply<R: Wait, T: Sink>(
+fn put_line_reply<R: Threads + Wait + Sync, T: Sink>(
     rt: &R,
     alloc: Global,
     buffer: &mut WriteBuffer,
@@ -78,7 +79,7 @@ fn put_answer<T: Sink>(
 {
     match question {
         Question::Wave(name) => put_wire(alloc, buffer, sink, keeper, name),
-        Question::Waves => put_lines(buffer, sink, keeper.netlist(), keeper.run()),
+        Question::Waves => put_lines(buffer, sink, keeper.netlist(), keeper.waves()),
         Question::Text => {
             let text = write_netlist(alloc, keeper.netlist())?;
             put_text(buffer, sink, text.as_slice())
@@ -102,11 +103,11 @@ fn put_wire<T: Sink>(
         let text = refused_text(alloc, EditError::NoSuchWire)?;
         return put_text(buffer, sink, text.as_slice());
     };
-    put_slot_line(buffer, sink, keeper.netlist(), keeper.run(), id)
+    put_slot_line(buffer, sink, keeper.netlist(), keeper.waves(), id)
 }
 
 /// Makes the edit, and tells whether it is accepted.
-fn edit_text<R: Wait>(
+fn edit_text<R: Threads + Wait + Sync>(
     rt: &R,
     alloc: Global,
     keeper: &mut Keeper,
@@ -114,7 +115,7 @@ fn edit_text<R: Wait>(
 ) -> Result<Vec<u8>, AllocError>
     ensures { IfOk result (λ text. Changed text.items keeper.old keeper.new edit.now) }
 {
-    match keeper.change(rt, alloc, edit) {
+    match keeper.change(rt, edit) {
         Ok(accepted) => accepted_text(alloc, accepted),
         Err(error) => refused_text(alloc, error),
     }

@@ -64,5 +64,5 @@ fn put_valid_waves<R: Wait, T: Sink>(
         return Err(RunFault::BadCount);
     }
     let run = open_run(rt, alloc, netlist)?;
-    put_waves(alloc, sink, netlist, &run)
+    put_waves(alloc, sink, netlist, run.waves())
 }

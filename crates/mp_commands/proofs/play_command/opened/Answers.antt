@@ -21,8 +21,8 @@ returns-in_err-netlist-clause-refused g c =
     let p = err_from_is_err_and c.from_residual-in_err-netlist.result c.from_residual-in_err-netlist.ensures.1 in
     rw (p.1, p.2) (refused_read (script_text [] input) (first_netlist input) (has_valid_crew c.args.options.now) c.in_err-netlist.field-0.0 (rw (sym same) at c.in_err-netlist.ensures.read))
 
-pub returns-then-not-has_valid_crew-clause-refused : goal.returns-then-not-has_valid_crew-clause-refused
-returns-then-not-has_valid_crew-clause-refused g c =
+pub returns-in_default-clause-refused : goal.returns-in_default-clause-refused
+returns-in_default-clause-refused g c =
     let input = c.args.input.now in
     let within : length input ≤ max_input = omega arith in
     let same = first_netlist-of input c.in_ok-front.front.now within c.in_ok-front.ensures.short c.in_ok-front.ensures.front in
