@@ -45,6 +45,7 @@ impl WriteBuffer {
         requires { S.fault_count sink.old < 2 ^ 64 - 1 }
         ensures passed { OnOk result (PassesOn (S.taken sink.old) (S.taken sink.new) self.old self.new bytes.now) }
         ensures failed { OnErr result (AppendsPrefix (S.taken sink.old) (S.taken sink.new) (self.old ++ bytes.now)) }
+        ensures empty { OnErr result (self.new ≡ []) }
         ensures faults { S.fault_count sink.new ≡ counted result (S.fault_count sink.old) }
     {
         if bytes.len() > self.bytes.capacity() - self.bytes.len() {
@@ -61,6 +62,7 @@ impl WriteBuffer {
         requires { S.fault_count sink.old < 2 ^ 64 - 1 }
         ensures passed { OnOk result (PassesOn (S.taken sink.old) (S.taken sink.new) self.old self.new bytes.now) }
         ensures failed { OnErr result (AppendsPrefix (S.taken sink.old) (S.taken sink.new) (self.old ++ bytes.now)) }
+        ensures empty { OnErr result (self.new ≡ []) }
         ensures faults { S.fault_count sink.new ≡ counted result (S.fault_count sink.old) }
     {
         self.flush(sink)?;
