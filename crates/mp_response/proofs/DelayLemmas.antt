@@ -11,12 +11,11 @@ use Rattle.mp_storage.specs.AnyModules.{kind_of, step}
 use Rattle.mp_storage.specs.declared.any_module.AnyModule.{AnyModule}
 use Rattle.mp_storage.proofs.KindLemmas.{keeps_kind}
 use Rattle.mp_records.specs.Outputs.{delay_of}
-use Rattle.mp_records.specs.declared.ids.WireId.{WireId}
 use Rattle.mp_records.specs.declared.module_record.ModuleRecord.{ModuleRecord}
-use Rattle.mp_records.specs.declared.ports.Output.{Output}
 use Rattle.mp_netlist.specs.Circuit.{Circuit, IsCircuit, Drives, module_at, module_width, wire_at}
 use Rattle.mp_netlist.specs.declared.driver.Driver.{Driver}
 use Rattle.mp_netlist.proofs.DriverLemmas.{finds_ports}
+use Rattle.mp_netlist.proofs.UseLemmas.{output_within}
 use Rattle.mp_model.specs.Levels.{IsBehaviour, built, inputs_by, initial_of, driven_level, port_level}
 use Rattle.mp_response.specs.Span.{next_state, state_after, output_changes}
 use Rattle.mp_response.specs.Pieces.{put_off}
@@ -167,22 +166,11 @@ put_off_gives delay v u (x ∷ xs) =
     let test : nat_le (x.0 + delay) (u + delay) ≡ nat_le x.0 u = grind (arith, nat_tests) in
     rw test (ap (λ w. cond (nat_le x.0 u) w v) (put_off_gives delay x.1 u xs))
 
-abbrev output_in : List Output → ℕ → Output
-output_in outputs p = slice_index_or outputs p (record { wire = None; delay = 1 })
-
-no_output : (outputs : List Output) (p w : ℕ) → length outputs ≤ p → (output_in outputs p).wire ≡ Some (let id : WireId = record { 0 = w } in id) → ⊥
-no_output [] p w over is = cc
-no_output (o ∷ os) zero w over is = absurd (omega arith)
-no_output (o ∷ os) (suc p) w over is = no_output os p w (omega arith) is
-
 -- a port that drives a wire is one of its module's
 driving_port : (n : Circuit) → IsCircuit n → (m p w : ℕ) (drives : Drives n m p w) → p < output_count drives.part.kind
 driving_port n ok m p w drives =
     let part = ok.modules_ok m drives.part drives.stands in
-    elim (cases_lt p (length drives.part.outputs)) as (λ _. p < output_count drives.part.kind) [
-      | inl lt ↦ omega (arith, part.outputs)
-      | inr over ↦ absurd (no_output drives.part.outputs p w over drives.output)
-    ]
+    omega (arith, part.outputs, output_within drives.part p (record { 0 = w }) drives.output)
 
 -- the level of a wire, from the state of the module that drives it
 driven : (n : Circuit) (level : ℕ → ℕ → ℕ) (state : ℕ → ℕ → Memory) → IsCircuit n → IsBehaviour n level state → (m p w t : ℕ) (drives : Drives n m p w) → delay_of drives.part p ≤ t → level w t ≡ output_of (state m (t - delay_of drives.part p)) p
