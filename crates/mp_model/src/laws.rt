@@ -1,6 +1,6 @@
 //! What the levels, states and waves of a netlist satisfy.
 
-ghost use Rattle.mp_model.specs.Laws.{Satisfies, IsOnlyOne, HasLevels};
+ghost use Rattle.mp_model.specs.Laws.{Satisfies, IsOnlyOne, FollowsPorts, BeginsAtInitialLevels, HasLevels};
 
 /// The levels and states satisfy their equations, loops of modules included.
 pub fn equations()
@@ -10,6 +10,16 @@ pub fn equations()
 /// No other levels and states do.
 pub fn only_one()
     ensures { IsOnlyOne }
+{}
+
+/// A wire that a port drives has the level of the module's output, the port's delay later.
+pub fn follows_ports()
+    ensures { FollowsPorts }
+{}
+
+/// At time 0 a wire has its initial level.
+pub fn begins_at_initial_levels()
+    ensures { BeginsAtInitialLevels }
 {}
 
 /// A wave has the level of its wire at each time below the horizon.
