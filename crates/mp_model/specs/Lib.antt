@@ -2,6 +2,7 @@ pub mod Levels
 pub mod Histories
 pub mod Waves
 pub mod Laws
+pub mod Reach
 pub mod Tracks
 pub mod Cells
 pub mod Evaluations

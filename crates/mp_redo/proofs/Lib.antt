@@ -1,0 +1,4 @@
+pub mod SameLemmas
+pub mod StayLemmas
+pub mod LevelLemmas
+pub mod WorkLemmas

@@ -1,0 +1,82 @@
+-- What is worked on, and what isn't.
+use Rattle.std.proofs.Common.{◌≡◌, ◌≢◌, ◌⊎◌, ℕ, ◌+◌, ◌-◌, ◌%◌, ◌<◌, ◌≤◌, min, Option, Some, IsSome, refl, ap, sym, subst, ◌∙◌, arith, inl, inr}
+use Rattle.std.proofs.lemmas.Bool.{cases_lt}
+use Rattle.mp_records.specs.declared.module_record.ModuleRecord.{ModuleRecord}
+use Rattle.mp_netlist.specs.Circuit.{Circuit, IsCircuit, module_at}
+use Rattle.mp_netlist.specs.Delays.{least_delay}
+use Rattle.mp_netlist.proofs.DelayLemmas.{delays_are_least}
+use Rattle.mp_model.specs.Waves.{state}
+use Rattle.mp_model.specs.Reach.{IsApart, IsTouched, IsReached}
+use Rattle.mp_redo.specs.Revisions.{IsRevision, IsKept, AgreeBefore}
+use Rattle.mp_redo.specs.Work.{block_of, window_of, window_end, IsWindow, Differs, IsApartIn, IsAtWork, WorksFrom, IsEntry, WorksOnlyReached, WorksWhileDifferent, AgreesOutside}
+use Rattle.mp_redo.proofs.SameLemmas.{same, same_memories, search_span}
+use Rattle.mp_redo.proofs.StayLemmas.{states_stay, decide_apart}
+
+-- a window lies in one block
+window_within : (n : Circuit) → IsCircuit n → (start to : ℕ) → IsWindow n start to → (block_of start ≤ start) × (start < to) × (to ≤ block_of start + 1024)
+window_within n ok start to window =
+    let positive = (delays_are_least n ok).positive in
+    let ends = window.ends in
+    let below = window.below in
+    omega (arith, positive, ends, below)
+
+same_block : (start to : ℕ) → start < to → to ≤ block_of start + 1024 → block_of (to - 1) ≡ block_of start
+same_block start to less within = omega arith
+
+-- where states differ before a time, the module was apart before
+apart_before : (old new : Circuit) → IsCircuit old → IsCircuit new → IsRevision old new → (m c : ℕ) → Differs old new m c → (t : ℕ) × (0 ≤ t) × (t < c) × IsApart old new m t
+apart_before old new old_ok new_ok revised m c differs =
+    elim (search_span (IsApart old new m) (decide_apart old new old_ok new_ok revised m differs.part differs.kept) 0 c) as (λ _. (t : ℕ) × (0 ≤ t) × (t < c) × IsApart old new m t) [
+      | inl found ↦ found
+      | inr none ↦ absurd (differs.differ (states_stay old new old_ok new_ok revised m differs.part differs.kept 0 c (λ u e. absurd (omega arith)) none differs.last (omega arith) (omega (arith, differs.before))))
+    ]
+
+pub only_reached : WorksOnlyReached
+only_reached old new old_ok new_ok revised m from to entry = by entry.works
+  where
+    within : (block_of entry.start ≤ entry.start) × (entry.start < to) × (to ≤ block_of entry.start + 1024)
+    within = window_within new new_ok entry.start to entry.window
+
+    at_work : IsAtWork old new m entry.start → IsReached old new m to
+    at_work (inl touched) = inl touched
+    at_work (inr (inl differs)) =
+        let found = apart_before old new old_ok new_ok revised m (block_of entry.start) differs in
+        inr (found.0, omega (arith, found.2, within.0, within.1), found.3)
+    at_work (inr (inr found)) = inr (found.0, omega (arith, found.2, within.1), found.3)
+
+    by : WorksFrom old new m entry.start from to → IsReached old new m to
+    by (inl works) = at_work works.0
+    by (inr joins) = inr (joins.1.0, joins.1.2, joins.1.3)
+
+pub rejoins : WorksWhileDifferent
+rejoins old new new_ok m from to r kept entry =
+    subst (λ c. Differs old new m c ⊎ IsApartIn old new m c to) (sym (same_block entry.start to within.1 within.2)) (by entry.works)
+  where
+    within : (block_of entry.start ≤ entry.start) × (entry.start < to) × (to ≤ block_of entry.start + 1024)
+    within = window_within new new_ok entry.start to entry.window
+
+    at_work : IsAtWork old new m entry.start → Differs old new m (block_of entry.start) ⊎ IsApartIn old new m (block_of entry.start) to
+    at_work (inl touched) = absurd (touched.differ (kept.before ∙ sym kept.after))
+    at_work (inr (inl differs)) = inl differs
+    at_work (inr (inr found)) = inr (found.0, found.1, omega (arith, found.2, within.1), found.3)
+
+    by : WorksFrom old new m entry.start from to → Differs old new m (block_of entry.start) ⊎ IsApartIn old new m (block_of entry.start) to
+    by (inl works) = at_work works.0
+    by (inr joins) = inr (joins.1.0, omega (arith, joins.1.1, within.0), joins.1.2, joins.1.3)
+
+pub agrees_outside : AgreesOutside
+agrees_outside old new old_ok new_ok revised m r kept start to window none =
+    states_stay old new old_ok new_ok revised m r kept (block_of start) to before together
+  where
+    idle : IsAtWork old new m start → ⊥
+    idle work = none start (record { start = start; window = window; works = inl (work, refl) })
+
+    before : AgreeBefore old new m (block_of start)
+    before u e = same (state old m u) (state new m u) (same_memories (state old m u) (state new m u))
+        (λ differ. idle (inr (inl (record { part = r; kept = kept; last = u; before = e; differ = differ }))))
+
+    together : (t : ℕ) → block_of start ≤ t → t < to → IsApart old new m t → ⊥
+    together t from below apart = elim (cases_lt t start) as (λ _. ⊥) [
+      | inl earlier ↦ idle (inr (inr (t, from, earlier, apart)))
+      | inr later ↦ none (block_of start) (record { start = start; window = window; works = inr (idle, (t, later, below, apart), refl) })
+    ]

@@ -1,0 +1,28 @@
+//! What a change of a netlist leaves as it was, and what has to be evaluated again.
+
+ghost use Rattle.mp_redo.specs.Stays.{StatesStay, UnreachedStates, LevelsStay, UnreachedLevels};
+ghost use Rattle.mp_redo.specs.Work.{WorksOnlyReached, WorksWhileDifferent, AgreesOutside};
+
+/// Where a module's record is the same in both netlists and its states agree before a time, they agree from then on as long as its
+/// inputs do; and a wire that the same drives has the same level wherever the state agrees that it comes from.
+pub fn unreached()
+    ensures states { StatesStay }
+    ensures states_below { UnreachedStates }
+    ensures levels { LevelsStay }
+    ensures levels_below { UnreachedLevels }
+{}
+
+/// Whatever is worked on is reached before the work's end.
+pub fn only_reached()
+    ensures { WorksOnlyReached }
+{}
+
+/// A module that isn't touched works on in a block of time only where its states differ before the block, or its inputs in it.
+pub fn rejoins()
+    ensures { WorksWhileDifferent }
+{}
+
+/// The states of a module that doesn't work in a window agree from the begin of the window's block to its end.
+pub fn agrees_outside()
+    ensures { AgreesOutside }
+{}
