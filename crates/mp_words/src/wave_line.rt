@@ -49,7 +49,9 @@ fn put_start<S: Sink>(
     buffer.push(sink, digits.format(initial).as_bytes())
 }
 
-fn put_changes<S: Sink>(
+/// Puts ` T=V` through the buffer for each change. `Failed` comes with a fault of the sink: then a part from
+/// the front of what the buffer held and the changes was taken, and the buffer holds none.
+pub fn put_changes<S: Sink>(
     buffer: &mut WriteBuffer,
     sink: &mut S,
     changes: &[(u32, u64)],
