@@ -22,7 +22,7 @@ use Rattle.mp_model.proofs.EndsLemmas.{first_on_track}
 use Rattle.mp_model.proofs.EvaluationLemmas.{delay_positive}
 
 -- the level at an input is that of its wire so much before, or at time 0 where that is earlier
-input_is : (n : Circuit) → IsCircuit n → (i : Input) (t : ℕ) → IsSome (wire_at n i.wire.0) → input_by n (level n) i t ≡ level n i.wire.0 (t - i.delay)
+pub input_is : (n : Circuit) → IsCircuit n → (i : Input) (t : ℕ) → IsSome (wire_at n i.wire.0) → input_by n (level n) i t ≡ level n i.wire.0 (t - i.delay)
 input_is n ok i t stands = by (wire_at n i.wire.0) refl stands (cases_lt t i.delay)
   where
     by : (slot : Option WireRecord) → wire_at n i.wire.0 ≡ slot → IsSome slot → (t < i.delay) ⊎ (i.delay ≤ t) → input_by n (level n) i t ≡ level n i.wire.0 (t - i.delay)
