@@ -22,7 +22,7 @@ use Rattle.mp_model.proofs.EndsLemmas.{first_level}
 use Rattle.mp_model.proofs.EvaluationLemmas.{delay_positive}
 
 -- the level at an input is that of its wire so much before, or at time 0 where that is earlier
-input_is : (n : Circuit) → IsCircuit n → (i : Input) (t : ℕ) → input_by n (level n) i t ≡ level n i.wire.0 (t - i.delay)
+pub input_is : (n : Circuit) → IsCircuit n → (i : Input) (t : ℕ) → input_by n (level n) i t ≡ level n i.wire.0 (t - i.delay)
 input_is n ok i t = by (cases_lt t i.delay)
   where
     by : (t < i.delay) ⊎ (i.delay ≤ t) → input_by n (level n) i t ≡ level n i.wire.0 (t - i.delay)

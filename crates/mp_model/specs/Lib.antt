@@ -7,3 +7,5 @@ pub mod Tracks
 pub mod Cells
 pub mod Evaluations
 pub mod Examples
+pub mod Findings
+pub mod FindingLaws

@@ -1,5 +1,6 @@
 //! What the levels, states and waves of a netlist satisfy.
 
+ghost use Rattle.mp_model.specs.FindingLaws.{FindsByRule};
 ghost use Rattle.mp_model.specs.Laws.{Satisfies, IsOnlyOne, FollowsPorts, BeginsAtInitialLevels, HasLevels};
 
 /// The levels and states satisfy their equations, loops of modules included.
@@ -25,4 +26,9 @@ pub fn begins_at_initial_levels()
 /// A wave has the level of its wire at each time below the horizon.
 pub fn wave_levels()
     ensures { HasLevels }
+{}
+
+/// A finding is told exactly where the rule of its code holds, at its module or bundle and its time.
+pub fn finds_by_rule()
+    ensures { FindsByRule }
 {}
