@@ -1,6 +1,7 @@
 -- The whole of a dump, read.
 use Rattle.std.proofs.Common.{◌≡◌, ℕ, ◌+◌, ◌-◌, ◌<◌, ◌≤◌, List, [], ◌∷◌, ◌++◌, append_assoc, append-nil, length, map, Option, None, Some, suc, refl, sym, ap, subst, ◌∙◌, add-zero, zero-add, arith}
 use Rattle.std.specs.Prelude.{codes}
+use Rattle.std.proofs.Math.Nat.{mod-eq_of_lt}
 use Rattle.std.specs.List.{flat_map}
 use Rattle.mp_records.specs.declared.wire_record.WireRecord.{WireRecord}
 use Rattle.mp_netlist.specs.Limits.{max_wires}
@@ -12,6 +13,7 @@ use Rattle.mp_vcd.specs.Readings.{words, Variable, Given, Reading, read_words, r
 use Rattle.mp_vcd.specs.Laws.{name_of, variable, SaysLevels, IsReadBack}
 use Rattle.mp_vcd.proofs.ReadingLemmas.{Leads, leads_none, leads_both, leads_as, declaring, leads_declaration, leads_time, valued}
 use Rattle.mp_vcd.proofs.LevelReadLemmas.{given_at, leads_values, stands_in, knows_first, Units, leads_units}
+use Rattle.mp_vcd.proofs.LevelFitLemmas.{level_fits}
 use Rattle.mp_vcd.proofs.DumpLemmas.{units}
 
 -- ---- the declarations
@@ -81,7 +83,7 @@ module _ (n : Circuit) (circuit : IsCircuit n) where
   says = record {
     whole = refl;
     variables = refl;
-    levels = λ w t wire stands below. all_units.knows.before w t (stands_in n w wire stands) (omega (arith, below));
+    levels = λ w t wire stands below. all_units.knows.before w t (stands_in n w wire stands) (omega (arith, below)) ∙ ap Some (mod-eq_of_lt (level_fits n circuit w t));
     horizon = refl;
   }
 

@@ -12,9 +12,12 @@ use Rattle.mp_model.specs.Waves.{level}
 use Rattle.mp_vcd.specs.Codes.{code}
 use Rattle.mp_vcd.specs.Dumps.{standing, standing_from, if_stands, value_at, is_changed, changed, marked, unit_text, time_mark}
 use Rattle.mp_vcd.specs.Readings.{Variable, Given, Reading, value_of}
-use Rattle.mp_vcd.specs.Laws.{level_bits}
 use Rattle.mp_vcd.proofs.CodeReadLemmas.{own_codes, same_bytes}
 use Rattle.mp_vcd.proofs.ReadingLemmas.{Leads, leads_none, leads_both, leads_time, leads_value, valued, giving}
+
+-- the bits of a wire's level, as many as the wire has
+abbrev pub level_bits : Circuit → ℕ → ℕ → ℕ
+level_bits n w t = level n w t % 2 ^ width_of (wire_at n w)
 
 -- ---- the values of some wires at a time
 

@@ -7,3 +7,5 @@ pub mod CodeReadLemmas
 pub mod ReadingLemmas
 pub mod LevelReadLemmas
 pub mod DumpReadLemmas
+pub mod ModuleFitLemmas
+pub mod LevelFitLemmas
