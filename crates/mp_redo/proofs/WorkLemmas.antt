@@ -10,18 +10,8 @@ use Rattle.mp_model.specs.Reach.{IsApart, IsTouched, IsReached}
 use Rattle.mp_redo.specs.Revisions.{IsRevision, IsKept, AgreeBefore}
 use Rattle.mp_redo.specs.Work.{block_of, window_of, window_end, IsWindow, Differs, IsApartIn, IsAtWork, WorksFrom, IsEntry, WorksOnlyReached, WorksWhileDifferent, AgreesOutside}
 use Rattle.mp_redo.proofs.SameLemmas.{same, same_memories, search_span}
+use Rattle.mp_redo.proofs.WindowLemmas.{window_within, same_block}
 use Rattle.mp_redo.proofs.StayLemmas.{states_stay, decide_apart}
-
--- a window lies in one block
-window_within : (n : Circuit) → IsCircuit n → (start to : ℕ) → IsWindow n start to → (block_of start ≤ start) × (start < to) × (to ≤ block_of start + 1024)
-window_within n ok start to window =
-    let positive = (delays_are_least n ok).positive in
-    let ends = window.ends in
-    let below = window.below in
-    omega (arith, positive, ends, below)
-
-same_block : (start to : ℕ) → start < to → to ≤ block_of start + 1024 → block_of (to - 1) ≡ block_of start
-same_block start to less within = omega arith
 
 -- where states differ before a time, the module was apart before
 apart_before : (old new : Circuit) → IsCircuit old → IsCircuit new → IsRevision old new → (m c : ℕ) → Differs old new m c → (t : ℕ) × (0 ≤ t) × (t < c) × IsApart old new m t

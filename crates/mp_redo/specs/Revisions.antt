@@ -1,11 +1,13 @@
 -- A netlist and what was made of it.
-use Rattle.std.specs.Prelude.{◌≡◌, ℕ, ◌+◌, ◌≤◌, Some, IsSome, length}
+use Rattle.std.specs.Prelude.{◌≡◌, ℕ, ◌+◌, ◌≤◌, Some, IsSome, Ok, length}
+use Rattle.mp_records.specs.declared.edit.Edit.{Edit}
 use Rattle.mp_records.specs.declared.ids.ModuleId.{ModuleId}
 use Rattle.mp_records.specs.declared.wire_record.WireRecord.{WireRecord}
 use Rattle.mp_records.specs.declared.module_record.ModuleRecord.{ModuleRecord}
 use Rattle.mp_netlist.specs.declared.driver.Driver.TheVariants.{Port}
 use Rattle.mp_netlist.specs.Circuit.{Circuit, wire_at, module_at, stimulus_at}
 use Rattle.mp_netlist.specs.Drivers.{driver}
+use Rattle.mp_netlist.specs.Edits.{after}
 use Rattle.mp_model.specs.Waves.{state}
 
 -- the new netlist has the horizon and the numbers of the old one, and a wire that stands in both has the same width and initial level
@@ -15,6 +17,10 @@ pub record IsRevision (old new : Circuit) : Type 0 where
   pub modules : length old.modules ≤ length new.modules
   pub widths : (w : ℕ) (r s : WireRecord) → wire_at old w ≡ Some r → wire_at new w ≡ Some s → r.width ≡ s.width
   pub initials : (w : ℕ) (r s : WireRecord) → wire_at old w ≡ Some r → wire_at new w ≡ Some s → r.initial ≡ s.initial
+
+-- an edit that isn't refused, a batch among them, makes a revision
+abbrev pub EditsRevise : Type 0
+EditsRevise = (old new : Circuit) (edit : Edit) → after old edit ≡ Ok new → IsRevision old new
 
 -- the module stands in both netlists with this record
 pub record IsKept (old new : Circuit) (m : ℕ) (r : ModuleRecord) : Type 0 where

@@ -77,3 +77,17 @@ abbrev pub AgreesOutside : Type 0
 AgreesOutside = (old new : Circuit) → IsCircuit old → IsCircuit new → IsRevision old new → (m : ℕ) (r : ModuleRecord) → IsKept old new m r →
     (start to : ℕ) → IsWindow new start to → ((from : ℕ) → IsEntry old new m from to → ⊥) →
     (t : ℕ) → block_of start ≤ t → t < to → state old m t ≡ state new m t
+
+-- of two entries of a module the one that ends earlier ends before the other begins, and two that end together are one
+abbrev pub WorksOnce : Type 0
+WorksOnce = (old new : Circuit) → IsCircuit new → (m from to after end : ℕ) → IsEntry old new m from to → IsEntry old new m after end →
+    (to < end → to ≤ after) × (to ≡ end → from ≡ after)
+
+-- a touched module works in each window, and in nothing else
+abbrev pub WorksThroughout : Type 0
+WorksThroughout = (old new : Circuit) (m from to : ℕ) → IsTouched old new m → IsEntry old new m from to ↔ IsWindow new from to
+
+-- each time below the horizon lies in the window of the time
+abbrev pub WindowsCover : Type 0
+WindowsCover = (n : Circuit) → IsCircuit n → (t : ℕ) → t < n.horizon →
+    IsWindow n (window_of n t) (window_end n (window_of n t)) × (window_of n t ≤ t) × (t < window_end n (window_of n t))

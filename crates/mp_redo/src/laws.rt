@@ -1,7 +1,13 @@
 //! What a change of a netlist leaves as it was, and what has to be evaluated again.
 
+ghost use Rattle.mp_redo.specs.Revisions.{EditsRevise};
 ghost use Rattle.mp_redo.specs.Stays.{StatesStay, UnreachedStates, LevelsStay, UnreachedLevels};
-ghost use Rattle.mp_redo.specs.Work.{WorksOnlyReached, WorksWhileDifferent, AgreesOutside};
+ghost use Rattle.mp_redo.specs.Work.{WindowsCover, WorksOnlyReached, WorksWhileDifferent, WorksThroughout, WorksOnce, AgreesOutside};
+
+/// An edit that isn't refused keeps the horizon, the numbers, and the width and initial level of each wire that stands before and after.
+pub fn edits_revise()
+    ensures { EditsRevise }
+{}
 
 /// Where a module's record is the same in both netlists and its states agree before a time, they agree from then on as long as its
 /// inputs do; and a wire that the same drives has the same level wherever the state agrees that it comes from.
@@ -10,6 +16,17 @@ pub fn unreached()
     ensures states_below { UnreachedStates }
     ensures levels { LevelsStay }
     ensures levels_below { UnreachedLevels }
+{}
+
+/// Windows follow each other from time 0 to the horizon: each time lies in one.
+pub fn windows_cover()
+    ensures { WindowsCover }
+{}
+
+/// A touched module works in each window; no module works on anything twice.
+pub fn works_once()
+    ensures throughout { WorksThroughout }
+    ensures once { WorksOnce }
 {}
 
 /// Whatever is worked on is reached before the work's end.
