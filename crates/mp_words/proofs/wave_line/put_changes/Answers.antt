@@ -1,4 +1,4 @@
-use Rattle.std.proofs.Common.{◌≡◌, ◌+◌, ◌<◌, ◌++◌, length, get_or, take, drop, ◌∙◌, arith}
+use Rattle.std.proofs.Common.{◌+◌, ◌++◌, get_or, take, drop, ◌∙◌}
 use Rattle.mp_streams.proofs.BufferLemmas.{passed_both, then_part, part_sooner}
 use Rattle.mp_words.specs.WaveLines.{change_text, changes_text}
 use Rattle.mp_words.proofs.ChangeLemmas.{next_change, changes_at}

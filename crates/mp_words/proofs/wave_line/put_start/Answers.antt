@@ -1,6 +1,6 @@
-use Rattle.std.proofs.Common.{◌≡◌, [], ◌∷◌}
+use Rattle.std.proofs.Common.{[], ◌∷◌}
 use Rattle.std.specs.Fmt.{decimal}
-use Rattle.mp_streams.proofs.BufferLemmas.{then_all, then_part, part_sooner}
+use Rattle.mp_streams.proofs.BufferLemmas.{then_all, then_part}
 use Rattle.mp_words.proofs.wave_line.put_start.Goals as goal
 
 pub returns-clause-passed : goal.returns-clause-passed

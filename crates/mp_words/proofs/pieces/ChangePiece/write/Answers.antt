@@ -1,6 +1,5 @@
-use Rattle.std.proofs.Common.{◌≡◌, ◌+◌, ◌<◌, ◌∷◌, [], length, arith}
+use Rattle.std.proofs.Common.{arith}
 use Rattle.std.proofs.Math.ListN.{length-set}
-use Rattle.mp_streams.proofs.PlaceLemmas.{placed_byte, placed_both}
 use Rattle.mp_words.proofs.pieces.ChangePiece.write.Goals as goal
 
 pub bounds-room-sign : goal.bounds-room-sign
