@@ -5,6 +5,7 @@ mod division;
 mod line;
 mod line_error;
 mod number;
+mod pieces;
 #[cfg(test)]
 mod tests;
 mod wave_line;
