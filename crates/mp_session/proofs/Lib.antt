@@ -1,0 +1,4 @@
+pub mod ChunkLemmas
+pub mod StoryLemmas
+pub mod WorkLemmas
+pub mod SameLemmas

@@ -1,0 +1,21 @@
+//! Sessions: a netlist, the edits that are accepted on it one after the other, and the version after each of them.
+#![tactic(auto)]
+
+mod evaluation;
+mod history;
+mod prepared;
+mod same;
+mod same_edit;
+mod same_record;
+mod same_version;
+mod session;
+#[cfg(test)]
+mod tests;
+mod version;
+mod work;
+
+pub use history::{History, MAX_EDITS};
+pub use prepared::Prepared;
+pub use session::Session;
+pub use version::Version;
+pub use work::{Work, WorkEntry};

@@ -1,0 +1,60 @@
+//! An edit with all that its commit needs.
+ghost use Rattle.std.specs.Prelude.{◌≡◌, IsTrue, ◌↔◌};
+
+use crate::same::Same;
+use crate::session::Session;
+use crate::version::Version;
+use crate::work::Work;
+use mp_netlist::Edit;
+use mp_phase::Gate;
+use std::alloc::Global;
+use std::marker::Model;
+use std::sync::Arc;
+
+/// An edit that a session accepts after just the edits that it was prepared after, the version to which it leads, and the work of it: once for
+/// the answer of the commit, and once for the session.
+#[derive(Drop)]
+pub struct Prepared {
+    pub(crate) before: Arc<Version, Global>,
+    pub(crate) edit: Arc<Edit, Global>,
+    pub(crate) next: Arc<Version, Global>,
+    pub(crate) work: Work,
+    pub(crate) kept_work: Work,
+}
+
+impl Model for Prepared {
+    ghost use Rattle.std.specs.Prelude.{◌≡◌};
+    ghost use Rattle.std.specs.Arc.{arc_value};
+    ghost use Rattle.mp_session.specs.Stories.{present, one_more};
+    ghost use Rattle.mp_session.specs.Works.{whole_work};
+    ghost use Rattle.mp_session.specs.Sessions.{Step};
+
+    ghost Value = { Step };
+
+    ghost view = { λ prepared. record { before = arc_value prepared.before; edit = arc_value prepared.edit } };
+
+    ghost invariant = { λ prepared. (arc_value prepared.next ≡ one_more (arc_value prepared.before) (arc_value prepared.edit))
+        × (prepared.work ≡ whole_work (present (arc_value prepared.next)))
+        × (prepared.kept_work ≡ whole_work (present (arc_value prepared.next))) };
+}
+
+impl Prepared {
+    ghost use Rattle.std.specs.Arc.{arc_value};
+    ghost use Rattle.mp_session.specs.Sessions.{story_after};
+
+    /// Whether the session's version is the one that the edit was prepared after: the same base, and the same edits.
+    pub fn fits<G: Gate>(&self, session: &Session<G>) -> bool
+        ensures { IsTrue result ↔ (self.now.before ≡ session.now.story) }
+    {
+        let before: &Version = &self.before;
+        let present: &Version = session.version();
+        before.same(present)
+    }
+
+    /// The version to which the edit leads.
+    pub fn version(&self) -> &Arc<Version, Global>
+        ensures { arc_value result.now ≡ story_after self.now }
+    {
+        &self.next
+    }
+}

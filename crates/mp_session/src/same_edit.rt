@@ -1,0 +1,247 @@
+//! Whether two edits are the same.
+ghost use Rattle.std.specs.Prelude.{◌≡◌, IsTrue, ◌↔◌};
+ghost use Rattle.mp_records.specs.declared.single_edit.SingleEdit.TheVariants.{AddWire, RemoveWire, AddModule, RemoveModule, AddBundle, RemoveBundle, RewireInput, RewireOutput, SetInputDelay, SetDelay, SetStimulus, ClearStimulus};
+
+use crate::same::{Same, same_list, same_option};
+use mp_modules::Kind;
+use mp_netlist::{
+    Changes, Edit, InputName, InputNames, Name, OutputName, OutputNames, Params, SingleEdit,
+};
+
+impl Same for InputName {
+    fn same(&self, other: &Self) -> bool {
+        self.wire.same(&other.wire) && self.delay == other.delay
+    }
+}
+
+impl Same for OutputName {
+    fn same(&self, other: &Self) -> bool {
+        same_option(&self.wire, &other.wire) && self.delay == other.delay
+    }
+}
+
+impl Same for (u64, u64) {
+    fn same(&self, other: &Self) -> bool {
+        self.0 == other.0 && self.1 == other.1
+    }
+}
+
+impl Same for Edit {
+    fn same(&self, other: &Self) -> bool {
+        match self {
+            Edit::Single(one) => match other {
+                Edit::Single(another) => one.same(another),
+                Edit::Batch(_) => false,
+            },
+            Edit::Batch(one) => match other {
+                Edit::Single(_) => false,
+                Edit::Batch(another) => same_list(one.as_slice(), another.as_slice()),
+            },
+        }
+    }
+}
+
+impl Same for SingleEdit {
+    fn same(&self, other: &Self) -> bool {
+        match self {
+            SingleEdit::AddWire { name, width, level } => adds_wire(other, name, *width, *level),
+            SingleEdit::RemoveWire { wire } => removes_wire(other, wire),
+            SingleEdit::AddModule {
+                name,
+                kind,
+                params,
+                inputs,
+                outputs,
+            } => adds_module(other, name, *kind, params, inputs, outputs),
+            SingleEdit::RemoveModule { module } => removes_module(other, module),
+            SingleEdit::AddBundle {
+                name,
+                request,
+                acknowledge,
+                payload,
+                setup,
+            } => adds_bundle(other, name, request, acknowledge, payload, *setup),
+            SingleEdit::RemoveBundle { bundle } => removes_bundle(other, bundle),
+            SingleEdit::RewireInput { module, port, wire } => rewires_input(
+                other, module, *port, wire,
+            ),
+            SingleEdit::RewireOutput { module, port, wire } => rewires_output(
+                other, module, *port, wire,
+            ),
+            SingleEdit::SetInputDelay {
+                module,
+                port,
+                delay,
+            } => sets_input_delay(other, module, *port, *delay),
+            SingleEdit::SetDelay {
+                module,
+                port,
+                delay,
+            } => sets_delay(other, module, *port, *delay),
+            SingleEdit::SetStimulus { wire, changes } => sets_stimulus(other, wire, changes),
+            SingleEdit::ClearStimulus { wire } => clears_stimulus(other, wire),
+        }
+    }
+}
+
+fn adds_wire(edit: &SingleEdit, named: &Name, bits: u64, initial: u64) -> bool
+    ensures { IsTrue result ↔ (AddWire named.now bits initial ≡ edit.now) }
+{
+    match edit {
+        SingleEdit::AddWire { name, width, level } => {
+            named.same(name) && bits == *width && initial == *level
+        }
+        _ => false,
+    }
+}
+
+fn removes_wire(edit: &SingleEdit, named: &Name) -> bool
+    ensures { IsTrue result ↔ (RemoveWire named.now ≡ edit.now) }
+{
+    match edit {
+        SingleEdit::RemoveWire { wire } => named.same(wire),
+        _ => false,
+    }
+}
+
+fn adds_module(
+    edit: &SingleEdit,
+    named: &Name,
+    sort: Kind,
+    numbers: &Params,
+    reads: &InputNames,
+    drives: &OutputNames,
+) -> bool
+    ensures { IsTrue result ↔ (AddModule named.now sort numbers.now reads.now drives.now ≡ edit.now) }
+{
+    match edit {
+        SingleEdit::AddModule {
+            name,
+            kind,
+            params,
+            inputs,
+            outputs,
+        } => {
+            named.same(name)
+                && sort == *kind
+                && numbers.as_slice() == params.as_slice()
+                && same_list(reads.as_slice(), inputs.as_slice())
+                && same_list(drives.as_slice(), outputs.as_slice())
+        }
+        _ => false,
+    }
+}
+
+fn removes_module(edit: &SingleEdit, named: &Name) -> bool
+    ensures { IsTrue result ↔ (RemoveModule named.now ≡ edit.now) }
+{
+    match edit {
+        SingleEdit::RemoveModule { module } => named.same(module),
+        _ => false,
+    }
+}
+
+fn adds_bundle(
+    edit: &SingleEdit,
+    named: &Name,
+    asks: &Name,
+    answers: &Name,
+    carries: &Name,
+    units: u64,
+) -> bool
+    ensures { IsTrue result ↔ (AddBundle named.now asks.now answers.now carries.now units ≡ edit.now) }
+{
+    match edit {
+        SingleEdit::AddBundle {
+            name,
+            request,
+            acknowledge,
+            payload,
+            setup,
+        } => {
+            named.same(name)
+                && asks.same(request)
+                && answers.same(acknowledge)
+                && carries.same(payload)
+                && units == *setup
+        }
+        _ => false,
+    }
+}
+
+fn removes_bundle(edit: &SingleEdit, named: &Name) -> bool
+    ensures { IsTrue result ↔ (RemoveBundle named.now ≡ edit.now) }
+{
+    match edit {
+        SingleEdit::RemoveBundle { bundle } => named.same(bundle),
+        _ => false,
+    }
+}
+
+fn rewires_input(edit: &SingleEdit, named: &Name, place: u64, read: &Name) -> bool
+    ensures { IsTrue result ↔ (RewireInput named.now place read.now ≡ edit.now) }
+{
+    match edit {
+        SingleEdit::RewireInput { module, port, wire } => {
+            named.same(module) && place == *port && read.same(wire)
+        }
+        _ => false,
+    }
+}
+
+fn rewires_output(edit: &SingleEdit, named: &Name, place: u64, driven: &Option<Name>) -> bool
+    ensures { IsTrue result ↔ (RewireOutput named.now place driven.now ≡ edit.now) }
+{
+    match edit {
+        SingleEdit::RewireOutput { module, port, wire } => {
+            named.same(module) && place == *port && same_option(driven, wire)
+        }
+        _ => false,
+    }
+}
+
+fn sets_input_delay(edit: &SingleEdit, named: &Name, place: u64, units: u64) -> bool
+    ensures { IsTrue result ↔ (SetInputDelay named.now place units ≡ edit.now) }
+{
+    match edit {
+        SingleEdit::SetInputDelay {
+            module,
+            port,
+            delay,
+        } => named.same(module) && place == *port && units == *delay,
+        _ => false,
+    }
+}
+
+fn sets_delay(edit: &SingleEdit, named: &Name, place: u64, units: u64) -> bool
+    ensures { IsTrue result ↔ (SetDelay named.now place units ≡ edit.now) }
+{
+    match edit {
+        SingleEdit::SetDelay {
+            module,
+            port,
+            delay,
+        } => named.same(module) && place == *port && units == *delay,
+        _ => false,
+    }
+}
+
+fn sets_stimulus(edit: &SingleEdit, named: &Name, pairs: &Changes) -> bool
+    ensures { IsTrue result ↔ (SetStimulus named.now pairs.now ≡ edit.now) }
+{
+    match edit {
+        SingleEdit::SetStimulus { wire, changes } => {
+            named.same(wire) && same_list(pairs.as_slice(), changes.as_slice())
+        }
+        _ => false,
+    }
+}
+
+fn clears_stimulus(edit: &SingleEdit, named: &Name) -> bool
+    ensures { IsTrue result ↔ (ClearStimulus named.now ≡ edit.now) }
+{
+    match edit {
+        SingleEdit::ClearStimulus { wire } => named.same(wire),
+        _ => false,
+    }
+}

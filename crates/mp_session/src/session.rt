@@ -1,0 +1,199 @@
+//! A netlist that is edited, and its present version.
+ghost use Rattle.std.specs.Prelude.{◌≡◌, IfOk};
+
+use crate::evaluation::evaluated;
+use crate::history::MAX_EDITS;
+use crate::prepared::Prepared;
+use crate::version::Version;
+use crate::work::Work;
+use mp_netlist::{Edit, EditError, Netlist};
+use mp_phase::{Crew, Gate};
+use std::alloc::{AllocError, Global};
+use std::marker::Model;
+use std::sync::{Arc, Wait};
+use std::thread::Threads;
+
+/// A netlist and the edits that were accepted on it: its present version, and the crew and the gate with which each version's waves are
+/// computed.
+#[derive(Drop)]
+pub struct Session<G: Gate> {
+    alloc: Global,
+    crew: Crew,
+    gate: G,
+    version: Arc<Version, Global>,
+    last_work: Work,
+}
+
+impl<G: Gate> Model for Session<G> {
+    ghost use Rattle.std.specs.Arc.{arc_value};
+    ghost use Rattle.mp_session.specs.Sessions.{Standing};
+
+    ghost Value = { Standing };
+
+    ghost view = { λ session. record { story = arc_value session.version; last_work = session.last_work } };
+}
+
+impl<G: Gate> Session<G> {
+    ghost use Rattle.std.specs.Prelude.{◌≡◌, ◌<◌, ◌≤◌, Ok, IfOk, IfErr, OnOk, OnErr, length};
+    ghost use Rattle.std.specs.Arc.{arc_value};
+    ghost use Rattle.mp_netlist.specs.Edits.{RefusedBy, after};
+    ghost use Rattle.mp_session.specs.Limits.{max_edits};
+    ghost use Rattle.mp_session.specs.Stories.{present, judged, one_more};
+    ghost use Rattle.mp_session.specs.Works.{whole_work};
+    ghost use Rattle.mp_session.specs.Sessions.{opened};
+
+    /// A session on a copy of this netlist, with no edits. It may wait, as an evaluation may.
+    pub fn open<R: Threads + Wait + Sync>(
+        rt: &R,
+        alloc: Global,
+        netlist: &Netlist,
+        crew: Crew,
+        gate: G,
+    ) -> Result<Self, AllocError>
+    where
+        G: Sync,
+        ensures { IfOk result (λ session. session ≡ opened netlist.now) }
+    {
+        let waves = evaluated(rt, alloc, netlist, &crew, &gate)?;
+        let version = Version::opening(alloc, netlist.copy()?, waves)?;
+        Ok(Session {
+            alloc,
+            crew,
+            gate,
+            version: Arc::new(alloc, version)?,
+            last_work: Work::none(alloc),
+        })
+    }
+
+    /// The present version.
+    pub fn version(&self) -> &Arc<Version, Global>
+        ensures { arc_value result.now ≡ self.now.story }
+    {
+        &self.version
+    }
+
+    /// The work of the last edit that was accepted, and none before the first.
+    pub fn last_work(&self) -> &Work
+        ensures { result.now ≡ self.now.last_work }
+    {
+        &self.last_work
+    }
+
+    /// Judges the edit after the session's edits, and makes all that its commit needs. It is refused for the first check that it fails;
+    /// else as `HistoryFull` after `MAX_EDITS` edits; else for want of memory, which for a batch of 1 to 256 edits may come in place of the
+    /// others. It may wait, as an evaluation may.
+    pub fn prepare<R: Threads + Wait + Sync>(
+        &self,
+        rt: &R,
+        edit: &Edit,
+    ) -> Result<Prepared, EditError>
+    where
+        G: Sync,
+        ensures fits { IfOk result (λ prepared. prepared.before ≡ self.now.story) }
+        ensures edit { IfOk result (λ prepared. prepared.edit ≡ edit.now) }
+        ensures accepted { OnOk result (judged self.now.story edit.now ≡ Ok (present (one_more self.now.story edit.now))) }
+        ensures refused { IfErr result (RefusedBy edit.now (judged self.now.story edit.now)) }
+    {
+        let next = self.next(edit)?;
+        Ok(self.prepared(rt, edit, next)?)
+    }
+
+    /// Makes the prepared edit. It takes no memory and waits for nobody.
+    pub fn commit(&mut self, prepared: Prepared) -> Work
+        requires { prepared.before ≡ self.old.story }
+        ensures story { self.new.story ≡ one_more self.old.story prepared.edit }
+        ensures work { result ≡ whole_work (present self.new.story) }
+        ensures last { self.new.last_work ≡ result }
+    {
+        let Prepared {
+            before: _,
+            edit: _,
+            next,
+            work,
+            kept_work,
+        } = prepared;
+        self.version = next;
+        self.last_work = kept_work;
+        work
+    }
+
+    /// Prepares the edit and makes it. A refused edit changes nothing.
+    pub fn apply<R: Threads + Wait + Sync>(
+        &mut self,
+        rt: &R,
+        edit: &Edit,
+    ) -> Result<Work, EditError>
+    where
+        G: Sync,
+        ensures story { OnOk result (self.new.story ≡ one_more self.old.story edit.now) }
+        ensures accepted { OnOk result (judged self.old.story edit.now ≡ Ok (present self.new.story)) }
+        ensures work { IfOk result (λ work. work ≡ whole_work (present self.new.story)) }
+        ensures last { IfOk result (λ work. self.new.last_work ≡ work) }
+        ensures refused { IfErr result (RefusedBy edit.now (judged self.old.story edit.now)) }
+        ensures err { OnErr result (self.new ≡ self.old) }
+    {
+        let prepared = self.prepare(rt, edit)?;
+        Ok(self.commit(prepared))
+    }
+
+    /// The netlist after the edit, where it is accepted.
+    fn next(&self, edit: &Edit) -> Result<Netlist, EditError>
+        ensures ok { IfOk result (λ next. after (present self.now.story) edit.now ≡ Ok next) }
+        ensures refused { IfErr result (RefusedBy edit.now (judged self.now.story edit.now)) }
+        ensures room { OnOk result (length self.now.story.edits < max_edits) }
+    {
+        if self.version.number() >= MAX_EDITS {
+            return Err(self.refusal_when_full(edit));
+        }
+        self.version.now().after(edit)
+    }
+
+    /// Why the edit is refused after as many edits as a session may have: for its own fault, where it has one. A batch is judged whole for
+    /// that.
+    fn refusal_when_full(&self, edit: &Edit) -> EditError
+        requires { max_edits ≤ length self.now.story.edits }
+        ensures { RefusedBy edit.now (judged self.now.story edit.now) result }
+    {
+        match edit {
+            Edit::Single(_) => match self.version.now().check(edit) {
+                Ok(()) => EditError::HistoryFull,
+                Err(error) => error,
+            },
+            Edit::Batch(_) => match self.version.now().after(edit) {
+                Ok(_) => EditError::HistoryFull,
+                Err(error) => error,
+            },
+        }
+    }
+
+    /// The edit with the version of the netlist after it.
+    fn prepared<R: Threads + Wait + Sync>(
+        &self,
+        rt: &R,
+        edit: &Edit,
+        next: Netlist,
+    ) -> Result<Prepared, AllocError>
+    where
+        G: Sync,
+        requires accepted { after (present self.now.story) edit.now ≡ Ok next }
+        requires room { length self.now.story.edits < max_edits }
+        ensures fits { IfOk result (λ prepared. prepared.before ≡ self.now.story) }
+        ensures edit { IfOk result (λ prepared. prepared.edit ≡ edit.now) }
+        ensures next { OnOk result (present (one_more self.now.story edit.now) ≡ next) }
+    {
+        let edit = Arc::new(self.alloc, edit.copy()?)?;
+        let work = Work::whole(self.alloc, &next)?;
+        let kept_work = work.copy()?;
+        let waves = evaluated(rt, self.alloc, &next, &self.crew, &self.gate)?;
+        let version = self
+            .version
+            .next(self.alloc, Arc::try_clone(&edit)?, next, waves)?;
+        Ok(Prepared {
+            before: Arc::try_clone(&self.version)?,
+            edit,
+            next: Arc::new(self.alloc, version)?,
+            work,
+            kept_work,
+        })
+    }
+}
