@@ -8,6 +8,7 @@ mod numbered;
 mod open_run;
 mod options;
 mod play_command;
+mod put_dump;
 mod put_text;
 mod put_waves;
 mod replies;

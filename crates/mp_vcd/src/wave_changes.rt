@@ -1,33 +1,17 @@
 //! The changes of a netlist's waves by time.
 ghost use Rattle.std.specs.Prelude.{◌≡◌, ℕ, List, IfOk, OnOk, vec_len};
-ghost use Rattle.std.specs.Option.{option_copied};
 ghost use Rattle.mp_netlist.specs.Circuit.{wire_at};
-ghost use Rattle.mp_netlist.specs.Slots.{slot_at};
-ghost use Rattle.mp_model.specs.Waves.{waves as waves_of};
+ghost use Rattle.mp_model.specs.Waves.{AreWavesOf};
 ghost use Rattle.mp_vcd.specs.Agendas.{Tells, onto, onto_slot, told_at};
 
 use crate::agenda::Agenda;
+use mp_model::Waves;
 use mp_netlist::{Netlist, WireId};
-use mp_wave::Wave;
 use std::alloc::{AllocError, Global};
 
-/// The wave of this wire, where it stands.
-pub fn wave_at(waves: &[Option<Wave>], id: WireId) -> Option<&Wave>
-    ensures { option_copied result ≡ slot_at waves.now id.0 }
-{
-    match waves.get(id.0 as usize) {
-        Some(Some(wave)) => Some(wave),
-        _ => None,
-    }
-}
-
 /// The changes of all wires by time, those of a time by wire.
-pub fn agenda_of(
-    alloc: Global,
-    netlist: &Netlist,
-    waves: &[Option<Wave>],
-) -> Result<Agenda, AllocError>
-    requires { waves.now ≡ waves_of netlist.now }
+pub fn agenda_of(alloc: Global, netlist: &Netlist, waves: &Waves) -> Result<Agenda, AllocError>
+    requires { AreWavesOf netlist.now waves.now }
     ensures times { IfOk result (λ agenda. vec_len agenda.firsts ≡ netlist.now.horizon) }
     ensures told { IfOk result (λ agenda. Tells agenda.firsts.items agenda.entries.items (told_at netlist.now)) }
 {
@@ -41,10 +25,10 @@ pub fn agenda_of(
 }
 
 /// How many changes the waves have.
-fn change_count(netlist: &Netlist, waves: &[Option<Wave>]) -> usize {
+fn change_count(netlist: &Netlist, waves: &Waves) -> usize {
     let mut count: usize = 0;
     for number in 0..netlist.wire_slots() {
-        if let Some(wave) = wave_at(waves, WireId(number)) {
+        if let Some(wave) = waves.of(WireId(number)) {
             count = count.saturating_add(wave.changes().len());
         }
     }
@@ -55,16 +39,16 @@ fn change_count(netlist: &Netlist, waves: &[Option<Wave>]) -> usize {
 fn add_wire(
     agenda: &mut Agenda,
     netlist: &Netlist,
-    waves: &[Option<Wave>],
+    waves: &Waves,
     id: WireId,
 ) -> Result<(), AllocError>
-    requires waves { waves.now ≡ waves_of netlist.now }
+    requires waves { AreWavesOf netlist.now waves.now }
     requires times { vec_len agenda.old.firsts ≡ netlist.now.horizon }
     ensures times { OnOk result (vec_len agenda.new.firsts ≡ vec_len agenda.old.firsts) }
     ensures told { OnOk result ((told : ℕ → List (ℕ × ℕ)) → Tells agenda.old.firsts.items agenda.old.entries.items told
         → Tells agenda.new.firsts.items agenda.new.entries.items (λ t. onto_slot netlist.now t id.0 (wire_at netlist.now id.0) (told t))) }
 {
-    let Some(wave) = wave_at(waves, id) else {
+    let Some(wave) = waves.of(id) else {
         return Ok(());
     };
     add_changes(agenda, id.0, wave.changes())?;

@@ -49,7 +49,7 @@ fn run<R: Input + Print + Wait + AllocGlobal>(rt: &R, request: &Request) -> Resu
     let mut sink = WriteSink::new(io::writer(rt));
     match request.command {
         Command::Waves => run_waves(rt, rt.alloc(), &mut source, &mut sink, &request.options),
-        Command::Dump => run_dump(rt.alloc(), &mut source, &mut sink, &request.options),
+        Command::Dump => run_dump(rt, rt.alloc(), &mut source, &mut sink, &request.options),
         Command::Play => run_play(rt, rt.alloc(), &mut source, &mut sink, &request.options),
     }
 }
