@@ -1,6 +1,7 @@
 //! The replies to the lines of a script.
 ghost use Rattle.std.specs.Prelude.{◌≡◌, ℕ, ◌-◌, ◌^◌, ◌<◌, true, List, IfOk, IsOk, OnOk};
 ghost use Rattle.mp_text.specs.Written.{written};
+ghost use Rattle.mp_vcd.specs.Dumps.{dump};
 ghost use Rattle.mp_records.specs.declared.edit_error.EditError.TheVariants.{InBatch};
 ghost use Rattle.mp_netlist.specs.Circuit.{wire_named};
 ghost use Rattle.mp_commands.specs.Replies.{accepted_text, refused_text, refusal_text, unread_text, coded_text, wire_text, answer_text, is_fault, Changed, PutsReply, Answers};
@@ -9,6 +10,7 @@ ghost use Rattle.mp_commands.specs.Runs.{Puts};
 
 use crate::keeper::Keeper;
 use crate::numbered::push_numbered;
+use crate::put_dump::put_dump;
 use crate::put_text::{put_rest, put_text};
 use crate::run_fault::RunFault;
 use crate::wave_lines::{put_lines, put_slot_line};
@@ -94,6 +96,7 @@ fn put_answer<T: Sink>(
         Question::Wave(name) => put_wire(alloc, buffer, sink, keeper, name),
         Question::Waves => put_lines(buffer, sink, keeper.netlist(), keeper.run()),
         Question::Text => put_netlist_text(buffer, sink, keeper.netlist()),
+        Question::Dump => put_dump_answer(alloc, buffer, sink, keeper),
     }
 }
 
@@ -111,6 +114,21 @@ fn put_netlist_text<T: Sink>(
         Ok(()) => Ok(()),
         Err(Failed) => Err(RunFault::WriteFailed),
     }
+}
+
+/// Puts the dump of the netlist. It takes memory in its midst, so the replies before it are written first, and are seen where memory is wanting.
+fn put_dump_answer<T: Sink>(
+    alloc: Global,
+    buffer: &mut WriteBuffer,
+    sink: &mut T,
+    keeper: &Keeper,
+) -> Result<(), RunFault>
+    requires { T.fault_count sink.old < 2 ^ 64 - 1 }
+    ensures written { Puts result (T.taken sink.old) (T.taken sink.new) buffer.old buffer.new (dump keeper.now.netlist) }
+    ensures faults { T.fault_count sink.new ≡ counted_writes result (T.fault_count sink.old) }
+{
+    put_rest(buffer, sink)?;
+    put_dump(alloc, buffer, sink, keeper.netlist(), keeper.run())
 }
 
 /// Puts the line of the wire that has the name.
