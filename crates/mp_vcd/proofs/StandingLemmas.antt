@@ -1,5 +1,5 @@
 -- The wires that stand, one after the other.
-use Rattle.std.proofs.Common.{◌≡◌, ℕ, ◌+◌, ◌-◌, ◌<◌, ◌≤◌, Bool, true, false, cond, List, [], ◌∷◌, ◌++◌, length, drop, Option, None, Some, suc, refl, sym, ap, ◌∙◌, add-one, arith}
+use Rattle.std.proofs.Common.{◌≡◌, ℕ, ◌+◌, ◌-◌, ◌<◌, ◌≤◌, Bool, true, false, cond, List, [], ◌∷◌, ◌++◌, append_assoc, length, drop, Option, None, Some, zero, suc, refl, sym, ap, ◌∙◌, add-one, add-zero, arith}
 use Rattle.std.specs.List.{filter, flat_map, range_with_len}
 use Rattle.std.proofs.Math.Seq.{drop-cons, drop-length}
 use Rattle.mp_wave.specs.Waveform.{Waveform}
@@ -55,6 +55,24 @@ times_step t upto within = let more : upto - t ≡ suc (upto - (t + 1)) = omega 
 
 pub times_end : (t upto : ℕ) → upto ≤ t → range_with_len t (upto - t) ≡ []
 times_end t upto over = let none : upto - t ≡ 0 = omega arith in ap (range_with_len t) none
+
+-- the texts of some times, and then of others
+pub times_split : (f : ℕ → List ℕ) (t m k : ℕ) → flat_map f (range_with_len t (m + k)) ≡ flat_map f (range_with_len t m) ++ flat_map f (range_with_len (t + m) k)
+times_split f t zero k = let none : 0 + k ≡ k = omega arith in ap (λ j. flat_map f (range_with_len t j)) none ∙ ap (λ u. flat_map f (range_with_len u k)) (sym (add-zero t))
+times_split f t (suc m) k =
+    let more : suc m + k ≡ suc (m + k) = omega arith in
+    let later : t + 1 + m ≡ t + suc m = omega arith in
+    ap (λ j. flat_map f (range_with_len t j)) more
+    ∙ ap (λ l. f t ++ l) (times_split f (t + 1) m k ∙ ap (λ u. flat_map f (range_with_len (t + 1) m) ++ flat_map f (range_with_len u k)) later)
+    ∙ sym (append_assoc (f t) (flat_map f (range_with_len (t + 1) m)) (flat_map f (range_with_len (t + suc m) k)))
+
+pub times_divide : (f : ℕ → List ℕ) (from to upto : ℕ) → from ≤ to → to ≤ upto
+    → flat_map f (range_with_len from (upto - from)) ≡ flat_map f (range_with_len from (to - from)) ++ flat_map f (range_with_len to (upto - to))
+times_divide f from to upto first second =
+    let parts : upto - from ≡ (to - from) + (upto - to) = omega (arith, first, second) in
+    let there : from + (to - from) ≡ to = omega (arith, first) in
+    ap (λ j. flat_map f (range_with_len from j)) parts ∙ times_split f from (to - from) (upto - to)
+    ∙ ap (λ u. flat_map f (range_with_len from (to - from)) ++ flat_map f (range_with_len u (upto - to))) there
 
 -- ---- what the wave of a wire tells
 

@@ -1,9 +1,9 @@
 //! The dump of a netlist.
-ghost use Rattle.std.specs.Prelude.{◌≡◌, ◌-◌, ◌^◌, ◌<◌, ◌++◌, OnOk, vec_len};
+ghost use Rattle.std.specs.Prelude.{◌≡◌, ◌+◌, ◌-◌, ◌^◌, ◌<◌, ◌≤◌, ◌++◌, OnOk, vec_len};
 ghost use Rattle.std.specs.List.{flat_map, range_with_len};
 ghost use Rattle.mp_netlist.specs.Circuit.{wire_at, width_of};
 ghost use Rattle.mp_model.specs.Waves.{AreWavesOf};
-ghost use Rattle.mp_vcd.specs.Agendas.{Tells, told_at};
+ghost use Rattle.mp_vcd.specs.Agendas.{Tells, told_from, told_at};
 ghost use Rattle.mp_vcd.specs.DumpErrors.{Wrote, counted_writes};
 ghost use Rattle.mp_vcd.specs.Puts.{Puts};
 ghost use Rattle.mp_vcd.specs.Dumps.{standing, time_mark, unit_text, dump};
@@ -14,7 +14,7 @@ use crate::agenda::Agenda;
 use crate::dump_error::DumpError;
 use crate::lines::{push_declaration, push_level, push_time_mark};
 use crate::putting::{put_bytes, put_rest};
-use crate::wave_changes::agenda_of;
+use crate::wave_changes::{agenda_of, portion_of};
 use mp_model::Waves;
 use mp_netlist::{Netlist, WireId};
 use mp_streams::{Sink, WriteBuffer};
@@ -36,8 +36,8 @@ pub(crate) enum Part {
 /// Writes the value change dump of a netlist, given its waves.
 ///
 /// `WriteFailed` comes with a fault of the sink, and `OutOfMemory` where memory is wanting: then a part of the dump, from its
-/// front, is written. It takes time in proportion to the wires, the units and the changes, 16 bytes for each change, 4 for each
-/// unit, and a buffer of some KiB.
+/// front, is written. It takes time in proportion to the wires, the units and the changes, and a buffer of 64 KiB; and of
+/// memory beside it 16 bytes for each change and 4 for each unit of a portion, which has as many changes as stay near the processor.
 pub fn dump<T: Sink>(
     alloc: Global,
     netlist: &Netlist,
@@ -70,14 +70,13 @@ pub fn put_dump<T: Sink>(
     ensures written { Puts result (T.taken sink.old) (T.taken sink.new) buffer.old buffer.new (dump netlist.now) }
     ensures faults { T.fault_count sink.new ≡ counted_writes result (T.fault_count sink.old) }
 {
-    let agenda = agenda_of(alloc, netlist, waves)?;
     let mut line = Vec::new(alloc);
     put_bytes(buffer, sink, OPENING)?;
     put_wires(&mut line, buffer, sink, netlist, waves, Part::Declarations)?;
     put_bytes(buffer, sink, BLOCK_START)?;
     put_wires(&mut line, buffer, sink, netlist, waves, Part::FirstLevels)?;
     put_bytes(buffer, sink, BLOCK_END)?;
-    put_units(&mut line, buffer, sink, netlist, &agenda)?;
+    put_units(alloc, &mut line, buffer, sink, netlist, waves)?;
     put_time_mark(&mut line, buffer, sink, netlist.horizon())
 }
 
@@ -126,21 +125,48 @@ fn push_part(
     }
 }
 
-/// Puts the changes of each time from 1 to one below the horizon.
+/// Puts the changes of each time from 1 to one below the horizon, portion by portion.
 fn put_units<T: Sink>(
+    alloc: Global,
+    line: &mut Vec<u8>,
+    buffer: &mut WriteBuffer,
+    sink: &mut T,
+    netlist: &Netlist,
+    waves: &Waves,
+) -> Result<(), DumpError>
+    requires countable { T.fault_count sink.old < 2 ^ 64 - 1 }
+    requires waves { AreWavesOf netlist.now waves.now }
+    ensures written { Puts result (T.taken sink.old) (T.taken sink.new) buffer.old buffer.new (flat_map (unit_text netlist.now) (range_with_len 1 (netlist.now.horizon - 1))) }
+    ensures faults { T.fault_count sink.new ≡ counted_writes result (T.fault_count sink.old) }
+{
+    let portion = portion_of(netlist, waves);
+    let mut from: u32 = 1;
+    while from < netlist.horizon() {
+        let to = from.saturating_add(portion.units).min(netlist.horizon());
+        let agenda = agenda_of(alloc, netlist, waves, from, to, portion.changes)?;
+        put_agenda(line, buffer, sink, netlist, &agenda, to)?;
+        from = to;
+    }
+    Ok(())
+}
+
+/// Puts the changes of each time of an agenda, the last of which is before another.
+fn put_agenda<T: Sink>(
     line: &mut Vec<u8>,
     buffer: &mut WriteBuffer,
     sink: &mut T,
     netlist: &Netlist,
     agenda: &Agenda,
+    to: u32,
 ) -> Result<(), DumpError>
     requires countable { T.fault_count sink.old < 2 ^ 64 - 1 }
-    requires times { vec_len agenda.now.firsts ≡ netlist.now.horizon }
-    requires told { Tells agenda.now.firsts.items agenda.now.entries.items (told_at netlist.now) }
-    ensures written { Puts result (T.taken sink.old) (T.taken sink.new) buffer.old buffer.new (flat_map (unit_text netlist.now) (range_with_len 1 (netlist.now.horizon - 1))) }
+    requires order { agenda.now.from ≤ to }
+    requires times { vec_len agenda.now.firsts ≡ to - agenda.now.from }
+    requires told { Tells agenda.now.firsts.items agenda.now.entries.items (told_from agenda.now.from (told_at netlist.now)) }
+    ensures written { Puts result (T.taken sink.old) (T.taken sink.new) buffer.old buffer.new (flat_map (unit_text netlist.now) (range_with_len agenda.now.from (to - agenda.now.from))) }
     ensures faults { T.fault_count sink.new ≡ counted_writes result (T.fault_count sink.old) }
 {
-    for time in 1..netlist.horizon() {
+    for time in agenda.from..to {
         put_unit(line, buffer, sink, netlist, agenda, time)?;
     }
     Ok(())
@@ -156,12 +182,13 @@ fn put_unit<T: Sink>(
     time: u32,
 ) -> Result<(), DumpError>
     requires countable { T.fault_count sink.old < 2 ^ 64 - 1 }
-    requires times { time < vec_len agenda.now.firsts }
-    requires told { Tells agenda.now.firsts.items agenda.now.entries.items (told_at netlist.now) }
+    requires from { agenda.now.from ≤ time }
+    requires times { time < agenda.now.from + vec_len agenda.now.firsts }
+    requires told { Tells agenda.now.firsts.items agenda.now.entries.items (told_from agenda.now.from (told_at netlist.now)) }
     ensures written { Puts result (T.taken sink.old) (T.taken sink.new) buffer.old buffer.new (unit_text netlist.now time) }
     ensures faults { T.fault_count sink.new ≡ counted_writes result (T.fault_count sink.old) }
 {
-    let mut place = agenda.firsts[time as usize];
+    let mut place = agenda.firsts[(time - agenda.from) as usize];
     if place == 0 {
         return Ok(());
     }

@@ -16,7 +16,7 @@ returns-in_err-put_bytes-clause-written g c =
     let lines = flat_map (declaration n) (standing n) in
     let levels = flat_map (value_at n 0) (standing n) in
     let one = dump_starts n start held in
-    let p = err_from_is_err_and c.from_residual-in_err-put_bytes.result c.from_residual-in_err-put_bytes.ensures.1 in
+    let p = err_from_is_err_and c.from_residual.result c.from_residual.ensures.1 in
     rw (p.1, p.2) (failed whole start held opening_lines (lines ++ behind_declarations n) start held one c.in_err-put_bytes.field-0.0 (g.T.Sink.taken c.put_bytes.new.sink) c.put_bytes.new.buffer c.in_err-put_bytes.ensures.written)
 
 pub returns-in_err-put_wires-clause-written : goal.returns-in_err-put_wires-clause-written

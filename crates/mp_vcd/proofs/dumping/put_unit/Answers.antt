@@ -1,4 +1,4 @@
-use Rattle.std.proofs.Common.{◌≡◌, ◌≢◌, ◌-◌, ◌<◌, ◌++◌, length, slice_index, refl, sym, ◌∙◌, rules, arith}
+use Rattle.std.proofs.Common.{◌≡◌, ◌≢◌, ◌+◌, ◌-◌, ◌<◌, ◌++◌, length, slice_index, refl, sym, subst, ◌∙◌, rules, arith}
 use Rattle.std.proofs.lemmas.List.{get_or_read_under}
 use Rattle.std.proofs.lemmas.Result.{err_from_is_err_and}
 use Rattle.mp_netlist.specs.Circuit.{wire_at, width_of}
@@ -16,9 +16,12 @@ returns-in_err-put_time_mark-clause-written g c =
     let firsts = c.args.agenda.now.firsts.items in
     let entries = c.args.agenda.now.entries.items in
     let place = c.index-place.result.now in
-    let within : t < length firsts = search rules in
-    let is : place ≡ slice_index firsts t = get_or_read_under firsts t (length firsts) place 0 c.index-place.ensures within refl in
-    let chain : IsChain entries place (told_at n t) = rw is (c.requires.told t within) in
+    let from = c.args.agenda.now.from in
+    let within : t - from < length firsts = omega (arith, c.requires.from, c.requires.times) in
+    let is : place ≡ slice_index firsts (t - from) = get_or_read_under firsts (t - from) (length firsts) place 0 c.index-place.ensures within refl in
+    let same : from + (t - from) ≡ t = omega (arith, c.requires.from) in
+    let listed : IsChain entries place (told_at n (from + (t - from))) = rw is (c.requires.told (t - from) within) in
+    let chain : IsChain entries place (told_at n t) = subst (λ u. IsChain entries place (told_at n u)) same listed in
     let some : place ≢ 0 = search rules in
     let start = g.T.Sink.taken c.args.sink.now in
     let held = c.args.buffer.now in
@@ -35,9 +38,12 @@ loop-place-init g c =
     let firsts = c.args.agenda.now.firsts.items in
     let entries = c.args.agenda.now.entries.items in
     let place = c.index-place.result.now in
-    let within : t < length firsts = search rules in
-    let is : place ≡ slice_index firsts t = get_or_read_under firsts t (length firsts) place 0 c.index-place.ensures within refl in
-    let chain : IsChain entries place (told_at n t) = rw is (c.requires.told t within) in
+    let from = c.args.agenda.now.from in
+    let within : t - from < length firsts = omega (arith, c.requires.from, c.requires.times) in
+    let is : place ≡ slice_index firsts (t - from) = get_or_read_under firsts (t - from) (length firsts) place 0 c.index-place.ensures within refl in
+    let same : from + (t - from) ≡ t = omega (arith, c.requires.from) in
+    let listed : IsChain entries place (told_at n (from + (t - from))) = rw is (c.requires.told (t - from) within) in
+    let chain : IsChain entries place (told_at n t) = subst (λ u. IsChain entries place (told_at n u)) same listed in
     let some : place ≢ 0 = search rules in
     let start = g.T.Sink.taken c.args.sink.now in
     let held = c.args.buffer.now in
