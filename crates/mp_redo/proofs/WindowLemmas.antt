@@ -1,11 +1,11 @@
 -- Blocks and windows of time.
-use Rattle.std.proofs.Common.{◌≡◌, ◌≢◌, ◌⊎◌, ℕ, ◌+◌, ◌-◌, ◌*◌, ◌/◌, ◌%◌, ◌<◌, ◌≤◌, min, refl, ap, sym, subst, ◌∙◌, arith, inl, inr}
+use Rattle.std.proofs.Common.{◌≡◌, ℕ, ◌+◌, ◌-◌, ◌*◌, ◌/◌, ◌%◌, ◌<◌, ◌≤◌, refl, ap, ◌∙◌, arith, inl, inr}
 use Rattle.std.proofs.lemmas.Bool.{cases_lt, cases_eq}
 use Rattle.std.proofs.lemmas.Nat.{div-add-mod', mod_below, mul-le, mod-mul-add}
 use Rattle.mp_netlist.specs.Circuit.{Circuit, IsCircuit}
 use Rattle.mp_netlist.specs.Delays.{least_delay}
 use Rattle.mp_netlist.proofs.DelayLemmas.{delays_are_least}
-use Rattle.mp_redo.specs.Work.{block_of, window_of, window_end, IsWindow, WindowsCover}
+use Rattle.mp_redo.specs.Work.{block_of, window_of, IsWindow, WindowsCover}
 
 -- a window lies in one block
 pub window_within : (n : Circuit) → IsCircuit n → (start to : ℕ) → IsWindow n start to → (block_of start ≤ start) × (start < to) × (to ≤ block_of start + 1024)

@@ -2,7 +2,7 @@
 
 ghost use Rattle.mp_redo.specs.Revisions.{EditsRevise};
 ghost use Rattle.mp_redo.specs.Stays.{StatesStay, UnreachedStates, LevelsStay, UnreachedLevels};
-ghost use Rattle.mp_redo.specs.Work.{WindowsCover, WorksOnlyReached, WorksWhileDifferent, WorksThroughout, WorksOnce, AgreesOutside};
+ghost use Rattle.mp_redo.specs.Work.{IsOnlyWork, WindowsCover, WorksOnlyReached, WorksWhileDifferent, WorksThroughout, WorksOnce, AgreesOutside};
 
 /// An edit that isn't refused keeps the horizon, the numbers, and the width and initial level of each wire that stands before and after.
 pub fn edits_revise()
@@ -21,6 +21,11 @@ pub fn unreached()
 /// Windows follow each other from time 0 to the horizon: each time lies in one.
 pub fn windows_cover()
     ensures { WindowsCover }
+{}
+
+/// The work is one list: no other has just its entries in their order.
+pub fn only_work()
+    ensures { IsOnlyWork }
 {}
 
 /// A touched module works in each window; no module works on anything twice.
