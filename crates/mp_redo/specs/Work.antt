@@ -95,3 +95,7 @@ WorksThroughout = (old new : Circuit) (m from to : ℕ) → IsTouched old new m 
 abbrev pub WindowsCover : Type 0
 WindowsCover = (n : Circuit) → IsCircuit n → (t : ℕ) → t < n.horizon →
     IsWindow n (window_of n t) (window_end n (window_of n t)) × (window_of n t ≤ t) × (t < window_end n (window_of n t))
+
+-- of two windows the one that begins later begins where the other ends, or after it
+abbrev pub WindowsApart : Type 0
+WindowsApart = (n : Circuit) → IsCircuit n → (start to later end : ℕ) → IsWindow n start to → IsWindow n later end → start < later → to ≤ later
