@@ -39,6 +39,7 @@ impl Readers {
     pub fn build(alloc: Global, netlist: &Netlist) -> Result<Readers, AllocError>
         ensures { IfOk result (λ readers. AreReaders netlist.now readers) }
     {
+        // Its contract tells that the netlist is well formed.
         let _horizon = netlist.horizon();
         let rows = rows(alloc, netlist)?;
         joined(alloc, rows.as_slice())

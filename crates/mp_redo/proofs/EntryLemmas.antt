@@ -1,9 +1,9 @@
 -- The entries of one module.
-use Rattle.std.proofs.Common.{◌≡◌, ◌≢◌, ◌⊎◌, ◌↔◌, ℕ, ◌+◌, ◌<◌, ◌≤◌, refl, ap, sym, subst, ◌∙◌, arith, inl, inr}
+use Rattle.std.proofs.Common.{◌≡◌, ℕ, ◌+◌, ◌<◌, ◌≤◌, refl, ap, sym, subst, ◌∙◌, arith, inl, inr}
 use Rattle.std.proofs.lemmas.Bool.{cases_lt, cases_eq}
 use Rattle.mp_netlist.specs.Circuit.{Circuit, IsCircuit}
-use Rattle.mp_model.specs.Reach.{IsApart, IsTouched}
-use Rattle.mp_redo.specs.Work.{block_of, window_end, IsWindow, Differs, IsApartIn, IsAtWork, WorksFrom, IsEntry, WorksOnce, WorksThroughout}
+use Rattle.mp_model.specs.Reach.{IsApart}
+use Rattle.mp_redo.specs.Work.{block_of, window_end, IsWindow, Differs, IsAtWork, WorksFrom, IsEntry, WorksOnce, WorksThroughout}
 use Rattle.mp_redo.proofs.WindowLemmas.{window_within, windows_apart}
 
 -- a module that works in a window is at work before each later one of the block

@@ -1,22 +1,20 @@
 -- The level of a wire that the same drives.
-use Rattle.std.proofs.Common.{◌≡◌, ℕ, ◌+◌, ◌-◌, ◌<◌, ◌≤◌, cond, List, Option, Some, None, IsSome, nat_lt, refl, ap, sym, subst, ◌∙◌, arith, inl, inr}
+use Rattle.std.proofs.Common.{◌≡◌, ℕ, ◌+◌, ◌-◌, cond, Option, Some, None, IsSome, nat_lt, refl, ap, sym, ◌∙◌, arith, inl, inr}
 use Rattle.std.proofs.lemmas.Bool.{cases_lt, lt-ltb}
 use Rattle.mp_modules.specs.declared.memory.Memory.{Memory}
 use Rattle.mp_modules.specs.Memories.{output_of}
-use Rattle.mp_records.specs.declared.ids.ModuleId.{ModuleId}
 use Rattle.mp_records.specs.declared.wire_record.WireRecord.{WireRecord}
 use Rattle.mp_records.specs.declared.module_record.ModuleRecord.{ModuleRecord}
 use Rattle.mp_records.specs.Outputs.{delay_of}
 use Rattle.mp_netlist.specs.declared.driver.Driver.{Driver}
 use Rattle.mp_netlist.specs.declared.driver.Driver.TheVariants.{Nothing, Stimulus, Port}
-use Rattle.mp_netlist.specs.Circuit.{Circuit, IsCircuit, wire_at, module_at, stimulus_at}
+use Rattle.mp_netlist.specs.Circuit.{Circuit, wire_at, module_at, stimulus_at}
 use Rattle.mp_netlist.specs.Drivers.{driver}
-use Rattle.mp_model.specs.Levels.{initial_of, stimulus_level, port_level, driven_level, level_by}
-use Rattle.mp_model.specs.Waves.{level, state}
-use Rattle.mp_model.specs.Reach.{IsReached}
+use Rattle.mp_model.specs.Levels.{initial_of, stimulus_level, port_level, driven_level}
+use Rattle.mp_model.specs.Waves.{state}
 use Rattle.mp_model.proofs.BehaviourLemmas.{satisfies}
 use Rattle.mp_model.proofs.HistoryLemmas.{late}
-use Rattle.mp_redo.specs.Revisions.{IsRevision, IsKept, IsDrivenAlike}
+use Rattle.mp_redo.specs.Revisions.{IsRevision, IsDrivenAlike}
 use Rattle.mp_redo.specs.Stays.{SourceAgrees, LevelsStay, UnreachedLevels}
 use Rattle.mp_redo.proofs.StayLemmas.{unreached_states}
 

@@ -5,3 +5,4 @@ pub mod LevelLemmas
 pub mod WindowLemmas
 pub mod WorkLemmas
 pub mod EntryLemmas
+pub mod OrderLemmas

@@ -1,5 +1,5 @@
 -- What every edit keeps.
-use Rattle.std.proofs.Common.{◌≡◌, ℕ, ◌+◌, ◌<◌, ◌≤◌, Bool, true, false, cond, List, [], ◌∷◌, ◌++◌, Option, None, Some, Result, Ok, Err, option_map, length, slice_index_or, slice_set, refl, ap, sym, subst, ◌∙◌, arith, inl, inr}
+use Rattle.std.proofs.Common.{◌≡◌, ℕ, ◌+◌, ◌<◌, ◌≤◌, Bool, true, false, cond, List, [], ◌∷◌, ◌++◌, Option, None, Some, Result, Ok, Err, option_map, length, slice_set, refl, sym, subst, ◌∙◌, arith, inl, inr}
 use Rattle.std.proofs.lemmas.Bool.{cases_lt, cases_eq}
 use Rattle.std.proofs.lemmas.List.{get_or_append_left, length-append, get_or-set_same, get_or-set_other, set_past, length-set}
 use Rattle.mp_records.specs.declared.wire_record.WireRecord.{WireRecord}
@@ -11,7 +11,7 @@ use Rattle.mp_records.specs.declared.edit_error.EditError.{EditError}
 use Rattle.mp_records.specs.declared.edit_error.EditError.TheVariants.{BadBatch}
 use Rattle.mp_netlist.specs.Slots.{slot_at}
 use Rattle.mp_netlist.specs.Circuit.{Circuit, wire_at}
-use Rattle.mp_netlist.specs.Edits.{refusal, edited, unless, after_single, in_place, go_on, after_each, is_batch, wire_id, module_id, new_module, with_stimulus, without_stimulus}
+use Rattle.mp_netlist.specs.Edits.{refusal, edited, unless, after_single, in_place, go_on, after_each, is_batch, wire_id, new_module, with_stimulus, without_stimulus}
 use Rattle.mp_model.proofs.SlotLemmas.{slot_within}
 use Rattle.mp_redo.specs.Revisions.{IsRevision, EditsRevise}
 

@@ -1,5 +1,5 @@
 -- States that agree stay so where the inputs agree.
-use Rattle.std.proofs.Common.{◌≡◌, ◌≢◌, ◌⊎◌, ℕ, ◌+◌, ◌<◌, ◌≤◌, Bool, true, false, cond, List, Option, Some, None, IsSome, length, slice_index_or, zero, suc, refl, ap, sym, subst, ◌∙◌, arith, inl, inr}
+use Rattle.std.proofs.Common.{◌≡◌, ◌⊎◌, ℕ, ◌+◌, ◌<◌, ◌≤◌, cond, Option, Some, None, IsSome, length, zero, suc, refl, ap, sym, subst, ◌∙◌, arith, inl, inr}
 use Rattle.std.proofs.lemmas.Bool.{cases_lt}
 use Rattle.mp_modules.specs.declared.memory.Memory.{Memory}
 use Rattle.mp_modules.specs.Kinds.{has_width}
@@ -11,11 +11,11 @@ use Rattle.mp_records.specs.Inputs.{input_at, no_input}
 use Rattle.mp_netlist.specs.Circuit.{Circuit, IsCircuit, wire_at, module_at, width_of, module_width}
 use Rattle.mp_model.specs.Levels.{built, inputs_by}
 use Rattle.mp_model.specs.Waves.{level, state}
-use Rattle.mp_model.specs.Reach.{inputs, slot_inputs, IsApart, IsReached}
+use Rattle.mp_model.specs.Reach.{inputs, slot_inputs, IsApart}
 use Rattle.mp_model.proofs.BehaviourLemmas.{satisfies}
 use Rattle.mp_redo.specs.Revisions.{IsRevision, IsKept, AgreeBefore}
 use Rattle.mp_redo.specs.Stays.{StatesStay, UnreachedStates}
-use Rattle.mp_redo.proofs.SameLemmas.{Same, same, same_lists}
+use Rattle.mp_redo.proofs.SameLemmas.{same, same_lists}
 
 pub some_is : {A : Type 0} (slot : Option A) (x : A) → slot ≡ Some x → IsSome slot
 some_is None x e = cc

@@ -1,11 +1,11 @@
 -- Blocks and windows of time.
-use Rattle.std.proofs.Common.{◌≡◌, ◌≢◌, ◌⊎◌, ℕ, ◌+◌, ◌-◌, ◌*◌, ◌/◌, ◌%◌, ◌<◌, ◌≤◌, min, refl, ap, sym, subst, ◌∙◌, arith, inl, inr}
+use Rattle.std.proofs.Common.{◌≡◌, ℕ, ◌+◌, ◌-◌, ◌*◌, ◌/◌, ◌%◌, ◌<◌, ◌≤◌, refl, ap, ◌∙◌, arith, inl, inr}
 use Rattle.std.proofs.lemmas.Bool.{cases_lt, cases_eq}
 use Rattle.std.proofs.lemmas.Nat.{div-add-mod', mod_below, mul-le, mod-mul-add}
 use Rattle.mp_netlist.specs.Circuit.{Circuit, IsCircuit}
 use Rattle.mp_netlist.specs.Delays.{least_delay}
 use Rattle.mp_netlist.proofs.DelayLemmas.{delays_are_least}
-use Rattle.mp_redo.specs.Work.{block_of, window_of, window_end, IsWindow, WindowsCover}
+use Rattle.mp_redo.specs.Work.{block_of, window_of, IsWindow, WindowsCover, WindowsApart}
 
 -- a window lies in one block
 pub window_within : (n : Circuit) → IsCircuit n → (start to : ℕ) → IsWindow n start to → (block_of start ≤ start) × (start < to) × (to ≤ block_of start + 1024)
@@ -41,7 +41,7 @@ begins_at n start begins = omega (arith, rest_le (start % 1024) (least_delay n),
     rest_le a k = let e = div-add-mod' a k in omega (arith, e)
 
 -- a window that begins later begins at the end of the one before, or later
-pub windows_apart : (n : Circuit) → IsCircuit n → (start to later end : ℕ) → IsWindow n start to → IsWindow n later end → start < later → to ≤ later
+pub windows_apart : WindowsApart
 windows_apart n ok start to later end first second less = elim (cases_eq (block_of start) (block_of later)) as (λ _. to ≤ later) [
   | inl one ↦
       let positive = (delays_are_least n ok).positive in

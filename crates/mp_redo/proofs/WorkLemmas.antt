@@ -1,14 +1,11 @@
 -- What is worked on, and what isn't.
-use Rattle.std.proofs.Common.{◌≡◌, ◌≢◌, ◌⊎◌, ℕ, ◌+◌, ◌-◌, ◌%◌, ◌<◌, ◌≤◌, min, Option, Some, IsSome, refl, ap, sym, subst, ◌∙◌, arith, inl, inr}
+use Rattle.std.proofs.Common.{◌⊎◌, ℕ, ◌+◌, ◌<◌, ◌≤◌, refl, sym, subst, ◌∙◌, arith, inl, inr}
 use Rattle.std.proofs.lemmas.Bool.{cases_lt}
-use Rattle.mp_records.specs.declared.module_record.ModuleRecord.{ModuleRecord}
-use Rattle.mp_netlist.specs.Circuit.{Circuit, IsCircuit, module_at}
-use Rattle.mp_netlist.specs.Delays.{least_delay}
-use Rattle.mp_netlist.proofs.DelayLemmas.{delays_are_least}
+use Rattle.mp_netlist.specs.Circuit.{Circuit, IsCircuit}
 use Rattle.mp_model.specs.Waves.{state}
-use Rattle.mp_model.specs.Reach.{IsApart, IsTouched, IsReached}
-use Rattle.mp_redo.specs.Revisions.{IsRevision, IsKept, AgreeBefore}
-use Rattle.mp_redo.specs.Work.{block_of, window_of, window_end, IsWindow, Differs, IsApartIn, IsAtWork, WorksFrom, IsEntry, WorksOnlyReached, WorksWhileDifferent, AgreesOutside}
+use Rattle.mp_model.specs.Reach.{IsApart, IsReached}
+use Rattle.mp_redo.specs.Revisions.{IsRevision, AgreeBefore}
+use Rattle.mp_redo.specs.Work.{block_of, Differs, IsApartIn, IsAtWork, WorksFrom, WorksOnlyReached, WorksWhileDifferent, AgreesOutside}
 use Rattle.mp_redo.proofs.SameLemmas.{same, same_memories, search_span}
 use Rattle.mp_redo.proofs.WindowLemmas.{window_within, same_block}
 use Rattle.mp_redo.proofs.StayLemmas.{states_stay, decide_apart}

@@ -62,6 +62,10 @@ pub record IsWork (old new : Circuit) (work : List WorkEntry) : Type 0 where
   pub entries : (e : WorkEntry) → Contains work e ↔ IsEntry old new e.«module».0 e.from e.to
   pub order : (k : ℕ) (d : WorkEntry) → k + 1 < length work → ComesBefore (slice_index_or work k d) (slice_index_or work (k + 1) d)
 
+-- there is no other such list
+abbrev pub IsOnlyWork : Type 0
+IsOnlyWork = (old new : Circuit) (work other : List WorkEntry) → IsWork old new work → IsWork old new other → work ≡ other
+
 -- whatever is worked on is reached before the work's end
 abbrev pub WorksOnlyReached : Type 0
 WorksOnlyReached = (old new : Circuit) → IsCircuit old → IsCircuit new → IsRevision old new →
@@ -91,3 +95,7 @@ WorksThroughout = (old new : Circuit) (m from to : ℕ) → IsTouched old new m 
 abbrev pub WindowsCover : Type 0
 WindowsCover = (n : Circuit) → IsCircuit n → (t : ℕ) → t < n.horizon →
     IsWindow n (window_of n t) (window_end n (window_of n t)) × (window_of n t ≤ t) × (t < window_end n (window_of n t))
+
+-- of two windows the one that begins later begins where the other ends, or after it
+abbrev pub WindowsApart : Type 0
+WindowsApart = (n : Circuit) → IsCircuit n → (start to later end : ℕ) → IsWindow n start to → IsWindow n later end → start < later → to ≤ later

@@ -2,7 +2,7 @@
 
 ghost use Rattle.mp_redo.specs.Revisions.{EditsRevise};
 ghost use Rattle.mp_redo.specs.Stays.{StatesStay, UnreachedStates, LevelsStay, UnreachedLevels};
-ghost use Rattle.mp_redo.specs.Work.{WindowsCover, WorksOnlyReached, WorksWhileDifferent, WorksThroughout, WorksOnce, AgreesOutside};
+ghost use Rattle.mp_redo.specs.Work.{IsOnlyWork, WindowsCover, WindowsApart, WorksOnlyReached, WorksWhileDifferent, WorksThroughout, WorksOnce, AgreesOutside};
 
 /// An edit that isn't refused keeps the horizon, the numbers, and the width and initial level of each wire that stands before and after.
 pub fn edits_revise()
@@ -18,9 +18,15 @@ pub fn unreached()
     ensures levels_below { UnreachedLevels }
 {}
 
-/// Windows follow each other from time 0 to the horizon: each time lies in one.
-pub fn windows_cover()
-    ensures { WindowsCover }
+/// Each time below the horizon lies in a window, and no two windows have a time in common.
+pub fn windows_tile()
+    ensures cover { WindowsCover }
+    ensures apart { WindowsApart }
+{}
+
+/// The work is one list: no other has just its entries in their order.
+pub fn only_work()
+    ensures { IsOnlyWork }
 {}
 
 /// A touched module works in each window; no module works on anything twice.
