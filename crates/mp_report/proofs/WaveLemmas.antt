@@ -44,4 +44,4 @@ cut_late wave piece end delay t form is within =
 -- what an input hears of its wire
 pub hears : (n : Circuit) → IsCircuit n → (i : Input) (v : Waveform) (t : ℕ) → IsSome (wire_at n i.wire.0) → v ≡ wave n i.wire.0 → t < n.horizon → level_of v (t - i.delay) ≡ input_by n (level n) i t
 hears n ok i v t stands is within =
-    ap (λ (x : Waveform). level_of x (t - i.delay)) is ∙ levels_of_wave (level n i.wire.0) (n.horizon - 1) (t - i.delay) (omega (arith, within)) ∙ sym (input_is n ok i t stands)
+    ap (λ (x : Waveform). level_of x (t - i.delay)) is ∙ levels_of_wave (level n i.wire.0) (n.horizon - 1) (t - i.delay) (omega (arith, within)) ∙ sym (input_is n ok i t)
