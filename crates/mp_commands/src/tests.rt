@@ -9,6 +9,7 @@ use std::io;
 use std::io::{Read, Write};
 use std::process::Abort;
 use std::sync::Wait;
+use std::thread::Threads;
 
 const CREW: Options = Options {
     workers: 2,
@@ -69,7 +70,7 @@ impl Write for SmallWriter {
 
 /// A run over a reader with so many reads and a writer with so much room ends so, and this is written.
 fn runs(
-    rt: &(impl Abort + Wait),
+    rt: &(impl Abort + Threads + Wait + Sync),
     alloc: Global,
     reads: usize,
     room: usize,
