@@ -1,6 +1,7 @@
 //! What each command reads and writes.
 #![tactic(auto)]
 
+mod crew_run;
 mod dump_command;
 mod keeper;
 mod limits;

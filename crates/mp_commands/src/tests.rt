@@ -9,6 +9,7 @@ use std::io;
 use std::io::{Read, Write};
 use std::process::Abort;
 use std::sync::Wait;
+use std::thread::Threads;
 
 const CREW: Options = Options {
     workers: 2,
@@ -76,7 +77,7 @@ impl Write for SmallWriter {
 
 /// A run over a reader with so many reads and a writer with so much room ends so, and this is written.
 fn runs(
-    rt: &(impl Abort + Wait),
+    rt: &(impl Abort + Threads + Wait + Sync),
     alloc: Global,
     reads: usize,
     room: usize,

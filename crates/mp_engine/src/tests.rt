@@ -10,6 +10,7 @@ use std::process::Abort;
 use std::sync::Wait;
 use std::sync::atomic::{AtomicU64, Ordering};
 use std::test::Fail;
+use std::thread::Threads;
 
 fn name(alloc: Global, text: &str) -> Result<Name, AllocError> {
     Ok(Name::new(String::from_str(alloc, text)?))
@@ -47,15 +48,12 @@ fn accepts(netlist: &mut Netlist, edit: SingleEdit) -> bool {
     netlist.apply(&Edit::Single(edit)).is_ok()
 }
 
-/// Adds an inverter and its wire, which have this name.
-fn add_loop(
-    rt: &impl Abort,
-    alloc: Global,
-    netlist: &mut Netlist,
-    text: &str,
-) -> Result<(), AllocError> {
-    assert!(rt; accepts(netlist, wire(alloc, text)?));
-    assert!(rt; accepts(netlist, inverter(alloc, text)?));
+/// Adds two inverters, each with a wire of its own.
+fn add_loops(rt: &impl Abort, alloc: Global, netlist: &mut Netlist) -> Result<(), AllocError> {
+    for text in ["y", "z"] {
+        assert!(rt; accepts(netlist, wire(alloc, text)?));
+        assert!(rt; accepts(netlist, inverter(alloc, text)?));
+    }
     Ok(())
 }
 
@@ -99,24 +97,42 @@ impl Gate for Meeting {
     }
 }
 
-/// Two loops that share no wire have the same waves by any number of workers, and two workers meet in their first unit.
-#[test]
-fn late_self_loops(rt: HostRuntime) -> Result<(), Fail> {
-    let alloc = rt.alloc();
-    let mut netlist = Netlist::empty(alloc, 2000)?;
-    add_loop(&rt, alloc, &mut netlist, "y")?;
-    add_loop(&rt, alloc, &mut netlist, "z")?;
+/// Both loops have the waves that they are to have, by so many workers.
+fn assert_loops<R: Abort + Threads + Wait + Sync, G: Gate + Sync>(
+    rt: &R,
+    alloc: Global,
+    netlist: &Netlist,
+    count: u32,
+    gate: &G,
+) -> Result<(), Fail> {
+    let crew = Crew::new(count, 1)?;
+    let run = evaluate(rt, alloc, netlist, &crew, gate)?;
+    assert_loop(rt, &run, 0);
+    assert_loop(rt, &run, 1);
+    Ok(())
+}
+
+/// Loops that share no wire have the same waves by any number of workers, and two workers meet in their first unit.
+fn assert_all<R: Abort + Threads + Wait + Sync>(
+    rt: &R,
+    alloc: Global,
+    netlist: &Netlist,
+) -> Result<(), Fail> {
     for count in [1, 2, 16] {
-        let run = evaluate(&rt, alloc, &netlist, &Crew::new(count, 1)?, &OpenGate)?;
-        assert_loop(&rt, &run, 0);
-        assert_loop(&rt, &run, 1);
+        assert_loops(rt, alloc, netlist, count, &OpenGate)?;
     }
     let gate = Meeting {
         entered: AtomicU64::new(0),
         met: AtomicU64::new(0),
     };
-    let run = evaluate(&rt, alloc, &netlist, &Crew::new(2, 1)?, &gate)?;
-    assert_loop(&rt, &run, 0);
+    assert_loops(rt, alloc, netlist, 2, &gate)?;
     assert_eq!(rt; gate.met.load(Ordering::SeqCst), 2);
     Ok(())
+}
+
+#[test]
+fn late_self_loops(rt: HostRuntime) -> Result<(), Fail> {
+    let mut netlist = Netlist::empty(rt.alloc(), 2000)?;
+    add_loops(&rt, rt.alloc(), &mut netlist)?;
+    assert_all(&rt, rt.alloc(), &netlist)
 }

@@ -140,11 +140,11 @@ fn command<'a>(
 
 /// The command with the options of a crew.
 fn with_crew<'a>(alloc: Global, command: Parser<'a>) -> Result<Parser<'a>, AllocError> {
-    let workers = number(alloc, "workers")
-        .default_value("2")
-        .help("How many workers there are, 1 to 16; no effect yet");
+    let workers = number(alloc, "workers").default_value("2").help(
+        "How many workers there are, 1 to 16; only waves calls on them",
+    );
     let least = number(alloc, "least").default_value("64").help(
-        "With fewer tasks than these the workers are not called on, 1 to 4096; no effect yet",
+        "With fewer modules than these the workers are not called on, 1 to 4096",
     );
     command.arg(workers)?.arg(least)
 }

@@ -12,6 +12,7 @@ use std::io::ErrorKind;
 use std::process::ExitCode;
 use std::rt::Runtime;
 use std::sync::Wait;
+use std::thread::Threads;
 use std::{env, io, str};
 
 fn main(rt: HostRuntime) -> ExitCode {
@@ -25,7 +26,7 @@ fn main(rt: HostRuntime) -> ExitCode {
 }
 
 /// Does what the command line asks for, and returns the status with which the program ends.
-fn answer<R: Runtime + Wait + AllocGlobal>(rt: &R) -> Result<u8, RunFault> {
+fn answer<R: Runtime + Threads + Wait + Sync + AllocGlobal>(rt: &R) -> Result<u8, RunFault> {
     let arguments = match env::args(rt) {
         Ok(arguments) => arguments,
         Err(error) if error.kind() == ErrorKind::OutOfMemory => return Err(RunFault::OutOfMemory),
@@ -44,7 +45,10 @@ fn answer<R: Runtime + Wait + AllocGlobal>(rt: &R) -> Result<u8, RunFault> {
     }
 }
 
-fn run<R: Input + Print + Wait + AllocGlobal>(rt: &R, request: &Request) -> Result<(), RunFault> {
+fn run<R: Input + Print + Threads + Wait + Sync + AllocGlobal>(
+    rt: &R,
+    request: &Request,
+) -> Result<(), RunFault> {
     let mut source = ReadSource::new(rt.reader());
     let mut sink = WriteSink::new(io::writer(rt));
     match request.command {
