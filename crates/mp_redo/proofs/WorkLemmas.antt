@@ -1,13 +1,17 @@
 -- What is worked on, and what isn't.
-use Rattle.std.proofs.Common.{◌⊎◌, ℕ, ◌+◌, ◌<◌, ◌≤◌, refl, sym, subst, ◌∙◌, arith, inl, inr}
+use Rattle.std.proofs.Common.{◌≡◌, ◌⊎◌, ℕ, ◌+◌, ◌<◌, ◌≤◌, Some, refl, ap, sym, subst, ◌∙◌, arith, inl, inr}
 use Rattle.std.proofs.lemmas.Bool.{cases_lt}
-use Rattle.mp_netlist.specs.Circuit.{Circuit, IsCircuit}
+use Rattle.mp_records.specs.Outputs.{delay_of}
+use Rattle.mp_records.specs.declared.ids.ModuleId.{ModuleId}
+use Rattle.mp_records.specs.declared.module_record.ModuleRecord.{ModuleRecord}
+use Rattle.mp_netlist.specs.Circuit.{Circuit, IsCircuit, module_at}
 use Rattle.mp_model.specs.Waves.{state}
 use Rattle.mp_model.specs.Reach.{IsApart, IsReached}
-use Rattle.mp_redo.specs.Revisions.{IsRevision, AgreeBefore}
-use Rattle.mp_redo.specs.Work.{block_of, Differs, IsApartIn, IsAtWork, WorksFrom, WorksOnlyReached, WorksWhileDifferent, AgreesOutside}
+use Rattle.mp_redo.specs.Revisions.{IsRevision, IsKept, AgreeBefore}
+use Rattle.mp_redo.specs.Work.{block_of, Differs, IsApartIn, IsAtWork, WorksFrom, WorksOnlyReached, WorksWhileDifferent, AgreesOutside, LevelsAgreeOutside}
 use Rattle.mp_redo.proofs.SameLemmas.{same, same_memories, search_span}
 use Rattle.mp_redo.proofs.WindowLemmas.{window_within, same_block}
+use Rattle.mp_redo.proofs.LevelLemmas.{levels_stay}
 use Rattle.mp_redo.proofs.StayLemmas.{states_stay, decide_apart}
 
 -- where states differ before a time, the module was apart before
@@ -67,3 +71,15 @@ agrees_outside old new old_ok new_ok revised m r kept start to window none =
       | inl earlier ↦ idle (inr (inr (t, from, earlier, apart)))
       | inr later ↦ none (block_of start) (record { start = start; window = window; works = inr (idle, (t, later, below, apart), refl) })
     ]
+
+pub levels_agree_outside : LevelsAgreeOutside
+levels_agree_outside old new old_ok new_ok revised w alike m p r drives at start to window none t from below =
+    levels_stay old new old_ok new_ok revised w alike t (λ k q u s drive stands e.
+    let part : k ≡ m = cc in
+    let port : q ≡ p = cc in
+    let slot : module_at new m.0 ≡ Some s = subst (λ (j : ModuleId). module_at new j.0 ≡ Some s) part stands in
+    let one : s ≡ r = cc in
+    let delay : delay_of s q ≡ delay_of r p = ap (λ (x : ModuleRecord). delay_of x q) one ∙ ap (delay_of r) port in
+    let kept : IsKept old new m.0 r = record { before = alike.part m p drives ∙ at; after = at } in
+    subst (λ (j : ModuleId). state old j.0 u ≡ state new j.0 u) (sym part)
+    (agrees_outside old new old_ok new_ok revised m.0 r kept start to window none u (omega (arith, e, delay, from)) (omega (arith, e, delay, below))))

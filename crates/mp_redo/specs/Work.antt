@@ -1,13 +1,17 @@
 -- What is evaluated again after a netlist has changed: by blocks of time, and in these by windows.
-use Rattle.std.specs.Prelude.{◌≡◌, ◌≢◌, ◌⊎◌, ◌↔◌, ℕ, ◌+◌, ◌-◌, ◌%◌, ◌<◌, ◌≤◌, List, length, slice_index_or, min}
+use Rattle.std.specs.Prelude.{◌≡◌, ◌≢◌, ◌⊎◌, ◌↔◌, ℕ, ◌+◌, ◌-◌, ◌%◌, ◌<◌, ◌≤◌, List, Some, length, slice_index_or, min}
 use Rattle.std.specs.List.{Contains}
+use Rattle.mp_records.specs.declared.ids.ModuleId.{ModuleId}
 use Rattle.mp_records.specs.declared.module_record.ModuleRecord.{ModuleRecord}
-use Rattle.mp_netlist.specs.Circuit.{Circuit, IsCircuit}
+use Rattle.mp_records.specs.Outputs.{delay_of}
+use Rattle.mp_netlist.specs.declared.driver.Driver.TheVariants.{Port}
+use Rattle.mp_netlist.specs.Circuit.{Circuit, IsCircuit, module_at}
+use Rattle.mp_netlist.specs.Drivers.{driver}
 use Rattle.mp_netlist.specs.Delays.{least_delay}
-use Rattle.mp_model.specs.Waves.{state}
+use Rattle.mp_model.specs.Waves.{level, state}
 use Rattle.mp_model.specs.Reach.{IsApart, IsTouched, IsReached}
 use Rattle.mp_redo.specs.declared.work_entry.WorkEntry.{WorkEntry}
-use Rattle.mp_redo.specs.Revisions.{IsRevision, IsKept}
+use Rattle.mp_redo.specs.Revisions.{IsRevision, IsKept, IsDrivenAlike}
 
 -- a block begins at each multiple of 1,024, where states are kept
 abbrev pub block_of : ℕ → ℕ
@@ -99,3 +103,11 @@ WindowsCover = (n : Circuit) → IsCircuit n → (t : ℕ) → t < n.horizon →
 -- of two windows the one that begins later begins where the other ends, or after it
 abbrev pub WindowsApart : Type 0
 WindowsApart = (n : Circuit) → IsCircuit n → (start to later end : ℕ) → IsWindow n start to → IsWindow n later end → start < later → to ≤ later
+
+-- so the level of a wire that the same drives, through a port of such a module, is the same from the block's begin to the window's end,
+-- both put off by the port's delay
+abbrev pub LevelsAgreeOutside : Type 0
+LevelsAgreeOutside = (old new : Circuit) → IsCircuit old → IsCircuit new → IsRevision old new → (w : ℕ) → IsDrivenAlike old new w →
+    (m : ModuleId) (p : ℕ) (r : ModuleRecord) → driver new w ≡ Port m p → module_at new m.0 ≡ Some r →
+    (start to : ℕ) → IsWindow new start to → ((from : ℕ) → IsEntry old new m.0 from to → ⊥) →
+    (t : ℕ) → block_of start + delay_of r p ≤ t → t < to + delay_of r p → level old w t ≡ level new w t

@@ -2,7 +2,7 @@
 
 ghost use Rattle.mp_redo.specs.Revisions.{EditsRevise};
 ghost use Rattle.mp_redo.specs.Stays.{StatesStay, UnreachedStates, LevelsStay, UnreachedLevels};
-ghost use Rattle.mp_redo.specs.Work.{IsOnlyWork, WindowsCover, WindowsApart, WorksOnlyReached, WorksWhileDifferent, WorksThroughout, WorksOnce, AgreesOutside};
+ghost use Rattle.mp_redo.specs.Work.{IsOnlyWork, WindowsCover, WindowsApart, WorksOnlyReached, WorksWhileDifferent, WorksThroughout, WorksOnce, AgreesOutside, LevelsAgreeOutside};
 
 /// An edit that isn't refused keeps the horizon, the numbers, and the width and initial level of each wire that stands before and after.
 pub fn edits_revise()
@@ -45,7 +45,9 @@ pub fn rejoins()
     ensures { WorksWhileDifferent }
 {}
 
-/// The states of a module that doesn't work in a window agree from the begin of the window's block to its end.
+/// The states of a module that isn't touched and doesn't work in a window agree from the begin of the window's block to its end, and so
+/// do the levels of the wires that it drives, put off by the delays of its ports.
 pub fn agrees_outside()
-    ensures { AgreesOutside }
+    ensures states { AgreesOutside }
+    ensures levels { LevelsAgreeOutside }
 {}
