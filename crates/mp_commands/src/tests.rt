@@ -146,6 +146,13 @@ fn play_on_a_small_device(rt: HostRuntime) {
     plays(&rt, alloc, SCRIPT, 13, failed, b"accepted 1\ny ");
     plays(&rt, alloc, QUESTIONS, 1000, Ok(()), SHOWN);
     for room in [0, 12, 70, 72, 100, 240] {
-        plays(&rt, alloc, QUESTIONS, room, failed, &SHOWN[..room]);
+        plays(
+            &rt,
+            alloc,
+            QUESTIONS,
+            room,
+            failed,
+            &SHOWN[..room.min(SHOWN.len())],
+        );
     }
 }
