@@ -1,5 +1,5 @@
 -- The levels of a netlist are no wider than its wires.
-use Rattle.std.proofs.Common.{◌≡◌, ℕ, ◌+◌, ◌-◌, ◌^◌, ◌<◌, ◌≤◌, ◌⊎◌, inl, inr, Bool, true, false, cond, nat_lt, nat_le, ◌==◌, ◌&&◌, List, [], ◌∷◌, map, length, slice_index, slice_index_or, Option, None, Some, IfSome, IsSome, zero, suc, refl, sym, ap, subst, ◌∙◌, add-one, arith}
+use Rattle.std.proofs.Common.{◌≡◌, ℕ, ◌+◌, ◌-◌, ◌^◌, ◌<◌, ◌≤◌, ◌⊎◌, inl, inr, Bool, true, false, cond, nat_lt, nat_le, ◌&&◌, List, [], ◌∷◌, map, length, slice_index, slice_index_or, Option, None, Some, IfSome, zero, suc, refl, sym, ap, subst, ◌∙◌, arith}
 use Rattle.std.specs.Prelude.{IsTrue}
 use Rattle.std.proofs.lemmas.Bool.{cases_lt, and_parts, ltb-true}
 use Rattle.std.proofs.lemmas.Bool.Decides.{nat_tests}
@@ -18,16 +18,14 @@ use Rattle.mp_records.specs.declared.ids.WireId.{WireId}
 use Rattle.mp_records.specs.Inputs.{input_at}
 use Rattle.mp_records.specs.Outputs.{output_at, delay_of}
 use Rattle.mp_records.specs.Stimuli.{is_stimulus}
-use Rattle.mp_netlist.specs.declared.driver.Driver.{Driver}
-use Rattle.mp_netlist.specs.declared.driver.Driver.TheVariants.{Nothing, Stimulus, Port}
-use Rattle.mp_netlist.specs.Circuit.{Circuit, IsCircuit, IsWire, IsModule, HasWidth, Drives, wire_at, module_at, width_of, module_width, stimulus_in, stimulus_at}
+use Rattle.mp_netlist.specs.Circuit.{Circuit, IsCircuit, IsWire, HasWidth, Drives, wire_at, module_at, width_of, module_width, stimulus_in, stimulus_at}
 use Rattle.mp_netlist.specs.Drivers.{driver, stimulus_driver}
 use Rattle.mp_netlist.proofs.DriverLemmas.{driven_by, finds_ports}
-use Rattle.mp_model.specs.Levels.{built, initial_of, stimulus_level, port_level, driven_level, input_by, inputs_by}
+use Rattle.mp_model.specs.Levels.{initial_of, stimulus_level, port_level, driven_level, input_by, inputs_by}
 use Rattle.mp_model.specs.Waves.{level, state}
 use Rattle.mp_model.proofs.BehaviourLemmas.{satisfies}
 use Rattle.mp_model.proofs.HistoryLemmas.{late}
-use Rattle.mp_vcd.proofs.ModuleFitLemmas.{Fits, InputsFit, OutputsFit, step_fits, settle_fits}
+use Rattle.mp_vcd.proofs.ModuleFitLemmas.{InputsFit, OutputsFit, step_fits, settle_fits}
 
 -- ---- what is set from outside
 

@@ -1,6 +1,6 @@
 -- The levels at the outputs of a module are no wider than the outputs.
-use Rattle.std.proofs.Common.{◌≡◌, ℕ, ◌+◌, ◌-◌, ◌*◌, ◌%◌, ◌^◌, ◌<◌, ◌≤◌, Bool, true, false, cond, ◌==◌, ◌&&◌, List, [], ◌∷◌, length, slice_index, slice_set, get_or, zero, suc, refl, sym, ap, subst, ◌∙◌, arith}
-use Rattle.std.specs.Prelude.{bit_xor, min, nat_lt}
+use Rattle.std.proofs.Common.{◌≡◌, ℕ, ◌+◌, ◌-◌, ◌%◌, ◌^◌, ◌<◌, ◌≤◌, Bool, true, false, cond, ◌==◌, ◌&&◌, List, [], ◌∷◌, length, slice_index, slice_set, zero, suc, refl, sym, subst, arith}
+use Rattle.std.specs.Prelude.{min, nat_lt}
 use Rattle.std.specs.List.{list_all}
 use Rattle.std.proofs.lemmas.Bool.{and_parts, ltb-true}
 use Rattle.std.proofs.lemmas.Nat.{pow_pos, mod_below, xor_lt}
@@ -11,16 +11,16 @@ use Rattle.mp_modules.specs.declared.memory.Client.{Client}
 use Rattle.mp_modules.specs.declared.memory.Client.TheVariants.{Nobody, First, Second}
 use Rattle.mp_modules.specs.declared.rendezvous.Rendezvous.{Rendezvous}
 use Rattle.mp_modules.specs.Kinds.{input_width, output_width, param_count, param_bound, are_params}
-use Rattle.mp_modules.specs.Memories.{with_outputs, with_one_output, output_of, is_event, flipped, seen}
+use Rattle.mp_modules.specs.Memories.{with_one_output, output_of, is_event, flipped, seen}
 use Rattle.mp_modules.specs.Clients.{is_free}
 use Rattle.mp_modules.specs.Merge.{merged}
 use Rattle.mp_modules.specs.CElement.{bubbled, joined}
 use Rattle.mp_modules.specs.Toggle.{toggle_step, turn}
 use Rattle.mp_modules.specs.Select.{select_step, chosen}
 use Rattle.mp_modules.specs.Call.{returned, ended, called, before_calls, after_first_call, call_step}
-use Rattle.mp_modules.specs.Arbiter.{is_owner_done, released, granted, promoted, made_wait, requested, is_engaged, before_requests, after_first_request, arbitrated, arbiter_step}
+use Rattle.mp_modules.specs.Arbiter.{is_owner_done, released, granted, promoted, made_wait, requested, is_engaged, before_requests, after_first_request, arbiter_step}
 use Rattle.mp_modules.specs.Tables.{rendezvous}
-use Rattle.mp_storage.specs.Reg.{latched, is_open}
+use Rattle.mp_storage.specs.Reg.{is_open}
 use Rattle.mp_storage.specs.Widths.{modulus}
 use Rattle.mp_storage.specs.declared.any_module.AnyModule.{AnyModule}
 use Rattle.mp_storage.specs.declared.any_module.AnyModule.TheVariants as parts

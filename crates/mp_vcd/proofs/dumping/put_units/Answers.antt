@@ -1,4 +1,4 @@
-use Rattle.std.proofs.Common.{◌≡◌, ◌-◌, ◌<◌, ◌≤◌, ◌++◌, ap, ◌∙◌, rules, arith}
+use Rattle.std.proofs.Common.{◌-◌, ◌≤◌, ◌++◌, ap, ◌∙◌, rules, arith}
 use Rattle.std.specs.List.{flat_map, range_with_len}
 use Rattle.std.proofs.lemmas.Result.{err_from_is_err_and}
 use Rattle.mp_vcd.specs.Dumps.{unit_text}

@@ -1,4 +1,4 @@
-use Rattle.std.proofs.Common.{◌≡◌, ◌+◌, ◌-◌, ◌<◌, sym, ap, ◌∙◌, arith}
+use Rattle.std.proofs.Common.{◌+◌, ◌-◌, ◌<◌, sym, ap, ◌∙◌, arith}
 use Rattle.mp_netlist.specs.Circuit.{wire_at}
 use Rattle.mp_vcd.specs.Agendas.{told_from, onto, onto_slot}
 use Rattle.mp_vcd.proofs.AgendaLemmas.{told_as, onto_wave, onto_between}

@@ -1,4 +1,4 @@
-use Rattle.std.proofs.Common.{◌≡◌, ℕ, List, ◌+◌, ◌-◌, ◌<◌, ◌≤◌, drop, sym, ap, subst, ◌∙◌, rules, arith}
+use Rattle.std.proofs.Common.{◌≡◌, ℕ, List, ◌+◌, ◌-◌, ◌<◌, drop, sym, ap, subst, ◌∙◌, rules, arith}
 use Rattle.std.specs.List.{filter}
 use Rattle.mp_netlist.specs.Circuit.{wire_at}
 use Rattle.mp_vcd.specs.Dumps.{standing_from, is_changed}
