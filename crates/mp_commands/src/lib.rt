@@ -13,6 +13,8 @@ mod put_dump;
 mod put_text;
 mod put_waves;
 mod replies;
+mod report_command;
+mod report_lines;
 mod run_fault;
 #[cfg(test)]
 mod tests;
@@ -22,5 +24,6 @@ mod waves_command;
 pub use dump_command::run_dump;
 pub use options::Options;
 pub use play_command::run_play;
+pub use report_command::run_report;
 pub use run_fault::{RunFault, exit_status, fault_line};
 pub use waves_command::run_waves;

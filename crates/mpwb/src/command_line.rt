@@ -36,6 +36,18 @@ time 0 and its level V from each time T on at which it changes below the horizon
 
 A text that is refused is told on standard error as `mpwb: line N: CODE NAME`.";
 
+const REPORT: &str = "Writes where a netlist breaks a rule of its modules or bundles";
+
+const REPORT_LONG: &str = "\
+Reads a netlist's text from standard input, as `waves` does.
+
+Writes a line for each finding on standard output: `TIME module NAME CODE` or `TIME bundle NAME \
+CODE`, by time, then the modules and then the bundles, each in the order in which they were added, then \
+by the number of the code. A finding tells of something that a well-behaved circuit avoids, as the \
+collision of two events at a XOR, or data that change too short before a request.
+
+A text that is refused is told on standard error as `mpwb: line N: CODE NAME`.";
+
 const DUMP: &str = "Writes the waves of a netlist as a value change dump";
 
 const DUMP_LONG: &str = "\
@@ -70,6 +82,7 @@ pub fn read_words<'a>(alloc: Global, words: &'a [String]) -> Result<Request, Err
     let matches = parser(alloc)?.try_get_matches_from(words)?;
     match matches.subcommand() {
         Some(("waves", found)) => Ok(request(Command::Waves, found)),
+        Some(("report", found)) => Ok(request(Command::Report, found)),
         Some(("dump", found)) => Ok(request(Command::Dump, found)),
         Some(("play", found)) => Ok(request(Command::Play, found)),
         _ => Err(no_command(alloc)?),
@@ -120,6 +133,7 @@ fn parser<'a>(alloc: Global) -> Result<Parser<'a>, AllocError> {
         .after_help(STATUS)
         .subcommand_required(true)
         .subcommand(command(alloc, "waves", WAVES, WAVES_LONG)?)?
+        .subcommand(command(alloc, "report", REPORT, REPORT_LONG)?)?
         .subcommand(command(alloc, "dump", DUMP, DUMP_LONG)?)?
         .subcommand(command(alloc, "play", PLAY, PLAY_LONG)?)
 }
