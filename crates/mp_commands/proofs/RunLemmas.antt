@@ -1,11 +1,12 @@
 -- The ends of a run.
-use Rattle.std.proofs.Common.{◌≡◌, ℕ, ◌+◌, ◌<◌, ◌≤◌, ◌⊎◌, inl, inr, Bool, true, false, IfSome, IfErr, List, [], ◌++◌, take, length, length-append, Option, Some, None, Result, Ok, Err, refl, sym, ap, subst, ◌∙◌, true≢false, arith}
+use Rattle.std.proofs.Common.{◌≡◌, ℕ, ◌<◌, ◌≤◌, ◌⊎◌, inl, inr, Bool, true, false, IfSome, IfErr, List, [], ◌++◌, take, length, Option, Some, None, Result, Ok, Err, refl, sym, ap, subst, ◌∙◌, true≢false, arith}
 use Rattle.std.specs.Io.KnownBytes.{Appends}
 use Rattle.std.proofs.lemmas.Bool.{cases_lt, lt-leb}
-use Rattle.std.proofs.lemmas.List.{take_all, length-take-le, take-append-le}
-use Rattle.std.proofs.Math.Seq.{take-append_seam, take-append-add}
-use Rattle.std.proofs.KnownBytes.{Appends-nil, Appends-trans, Keeps-refl}
+use Rattle.std.proofs.lemmas.List.{take_all, length-take-le}
+use Rattle.std.proofs.Math.Seq.{take-append_seam}
+use Rattle.std.proofs.KnownBytes.{Appends-nil, Keeps-refl}
 use Rattle.mp_netlist.specs.Circuit.{Circuit}
+use Rattle.mp_report.specs.Lines.{report_text}
 use Rattle.mp_vcd.specs.Dumps.{dump}
 use Rattle.mp_streams.specs.declared.take_error.TakeError.{TakeError}
 use Rattle.mp_streams.specs.declared.take_error.TakeError.TheVariants as takes
@@ -18,7 +19,7 @@ use Rattle.mp_commands.specs.declared.run_fault.RunFault.{RunFault}
 use Rattle.mp_commands.specs.declared.run_fault.RunFault.TheVariants.{Text, BadCount, ReadFailed, WriteFailed, OutOfMemory, NoPlace}
 use Rattle.mp_commands.specs.Limits.{max_input, max_taken}
 use Rattle.mp_commands.specs.OptionLimits.{has_valid_crew}
-use Rattle.mp_commands.specs.Outputs.{output_of, waves_text, waves_output, dump_output}
+use Rattle.mp_commands.specs.Outputs.{output_of, waves_text, waves_output, dump_output, report_output}
 use Rattle.mp_commands.specs.RunFaults.{fault_of_text, fault_at, fault_of_take, counted_reads}
 use Rattle.mp_commands.specs.Runs.{HasInput, Wrote, Puts, AppendsPart, Refuses, comes_first}
 
@@ -66,6 +67,14 @@ pub for_dump : {T : Type 0} (r : Result T RunFault) (left : Option (List ℕ)) (
 for_dump r left text options limit old new front within same =
     for_input (λ input. Wrote r (dump_output input options) old new) left text limit front within same
     (λ input. subst (λ o. Wrote r o old new) (ap (λ t. output_of dump t (has_valid_crew options)) (text_at-take limit input same)))
+
+-- and so is the report
+pub for_report : {T : Type 0} (r : Result T RunFault) (left : Option (List ℕ)) (text : List ℕ) (options : Options) (limit : ℕ) (old new : Option (List ℕ))
+    → IfSome left (λ bytes. text ≡ take limit bytes) → length text ≤ limit → limit ≡ max_taken
+    → Wrote r (report_output text options) old new → HasInput left (λ input. Wrote r (report_output input options) old new)
+for_report r left text options limit old new front within same =
+    for_input (λ input. Wrote r (report_output input options) old new) left text limit front within same
+    (λ input. subst (λ o. Wrote r o old new) (ap (λ t. output_of report_text t (has_valid_crew options)) (text_at-take limit input same)))
 
 -- ---- parts of what is written
 

@@ -4,6 +4,7 @@ use Rattle.mp_wave.specs.Waveform.{Waveform}
 use Rattle.mp_records.specs.declared.wire_record.WireRecord.{WireRecord}
 use Rattle.mp_netlist.specs.Circuit.{Circuit, wire_at}
 use Rattle.mp_model.specs.Waves.{wave}
+use Rattle.mp_report.specs.Lines.{report_text}
 use Rattle.mp_vcd.specs.Dumps.{dump}
 use Rattle.mp_text.specs.declared.text_error.TextError.{TextError}
 use Rattle.mp_text.specs.Texts.{text_at}
@@ -39,3 +40,7 @@ waves_output input options = output_of waves_text (text_at input) (has_valid_cre
 -- the output of `dump` for an input, or why there is none
 abbrev pub dump_output : List ℕ → Options → Result (List ℕ) RunFault
 dump_output input options = output_of dump (text_at input) (has_valid_crew options)
+
+-- the output of `report` for an input, or why there is none
+abbrev pub report_output : List ℕ → Options → Result (List ℕ) RunFault
+report_output input options = output_of report_text (text_at input) (has_valid_crew options)

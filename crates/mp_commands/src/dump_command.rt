@@ -1,7 +1,7 @@
 //! The command `dump`.
 ghost use Rattle.std.specs.Prelude.{◌≡◌, ℕ, ◌-◌, ◌^◌, ◌<◌, true, false, Ok, IfErr};
 ghost use Rattle.mp_streams.specs.StreamBytes.{ConsumesUpTo};
-ghost use Rattle.mp_model.specs.Waves.{waves as waves_of};
+ghost use Rattle.mp_model.specs.Waves.{AreWavesOf};
 ghost use Rattle.mp_vcd.specs.Dumps.{dump as dump_text};
 ghost use Rattle.mp_commands.specs.Limits.{max_taken};
 ghost use Rattle.mp_commands.specs.OptionLimits.{has_valid_crew};
@@ -10,15 +10,17 @@ ghost use Rattle.mp_commands.specs.RunFaults.{counted_reads, counted_writes};
 ghost use Rattle.mp_commands.specs.Runs.{HasInput, Wrote, comes_first};
 
 use crate::limits::MAX_TAKEN;
+use crate::open_run::open_run;
 use crate::options::Options;
+use crate::put_dump::put_dump;
+use crate::put_text::put_rest;
 use crate::run_fault::RunFault;
-use mp_model::plain_waves;
+use mp_model::Waves;
 use mp_netlist::Netlist;
-use mp_streams::{Sink, Source, take_all};
+use mp_streams::{Sink, Source, WriteBuffer, take_all};
 use mp_text::read_netlist;
-use mp_vcd::{DumpError, dump};
-use mp_wave::Wave;
 use std::alloc::Global;
+use std::sync::Wait;
 
 /// Reads a netlist's text, all of it first, and writes its value change dump.
 ///
@@ -26,7 +28,8 @@ use std::alloc::Global;
 /// where the options have no valid crew: then nothing is written. `WriteFailed` comes with a fault
 /// of the sink and `OutOfMemory` where memory is wanting, in the text's reading too: then a part of
 /// the output from its front may be written.
-pub fn run_dump<S: Source, T: Sink>(
+pub fn run_dump<R: Wait, S: Source, T: Sink>(
+    rt: &R,
     alloc: Global,
     source: &mut S,
     sink: &mut T,
@@ -43,11 +46,12 @@ pub fn run_dump<S: Source, T: Sink>(
 {
     let input = take_all(alloc, source, MAX_TAKEN)?;
     let netlist = read_netlist(alloc, input.as_slice())?;
-    put_valid_dump(alloc, sink, &netlist, options)
+    put_valid_dump(rt, alloc, sink, &netlist, options)
 }
 
 /// Writes the dump of a netlist, or tells `BadCount` where the options have no valid crew.
-fn put_valid_dump<T: Sink>(
+fn put_valid_dump<R: Wait, T: Sink>(
+    rt: &R,
     alloc: Global,
     sink: &mut T,
     netlist: &Netlist,
@@ -62,26 +66,24 @@ fn put_valid_dump<T: Sink>(
     if !options.has_valid_crew() {
         return Err(RunFault::BadCount);
     }
-    let waves = plain_waves(alloc, netlist)?;
-    put_dump(alloc, sink, netlist, waves.as_slice())
+    let run = open_run(rt, alloc, netlist)?;
+    write_dump(alloc, sink, netlist, run.waves())
 }
 
-/// Writes the dump of a netlist, given its waves.
-fn put_dump<T: Sink>(
+/// Writes the dump of a netlist, given its run.
+fn write_dump<T: Sink>(
     alloc: Global,
     sink: &mut T,
     netlist: &Netlist,
-    waves: &[Option<Wave>],
+    waves: &Waves,
 ) -> Result<(), RunFault>
     requires countable { T.fault_count sink.old < 2 ^ 64 - 1 }
-    requires waves { waves.now ≡ waves_of netlist.now }
+    requires waves { AreWavesOf netlist.now waves.now }
     ensures started { IfErr result (λ fault. comes_first fault ≡ false) }
     ensures written { Wrote result (Ok (dump_text netlist.now)) (T.taken sink.old) (T.taken sink.new) }
     ensures faults { T.fault_count sink.new ≡ counted_writes result (T.fault_count sink.old) }
 {
-    match dump(alloc, netlist, waves, sink) {
-        Ok(()) => Ok(()),
-        Err(DumpError::WriteFailed) => Err(RunFault::WriteFailed),
-        Err(DumpError::OutOfMemory) => Err(RunFault::OutOfMemory),
-    }
+    let mut buffer = WriteBuffer::new(alloc)?;
+    put_dump(alloc, &mut buffer, sink, netlist, waves)?;
+    put_rest(&mut buffer, sink)
 }

@@ -1,6 +1,7 @@
 //! What each command reads and writes.
 #![tactic(auto)]
 
+mod crew_run;
 mod dump_command;
 mod keeper;
 mod limits;
@@ -8,9 +9,12 @@ mod numbered;
 mod open_run;
 mod options;
 mod play_command;
+mod put_dump;
 mod put_text;
 mod put_waves;
 mod replies;
+mod report_command;
+mod report_lines;
 mod run_fault;
 #[cfg(test)]
 mod tests;
@@ -20,5 +24,6 @@ mod waves_command;
 pub use dump_command::run_dump;
 pub use options::Options;
 pub use play_command::run_play;
+pub use report_command::run_report;
 pub use run_fault::{RunFault, exit_status, fault_line};
 pub use waves_command::run_waves;

@@ -2,7 +2,7 @@
 ghost use Rattle.std.specs.Prelude.{IfOk};
 ghost use Rattle.mp_engine.specs.Runs.{IsRun};
 
-use mp_engine::{OpenGate, Run, evaluate};
+use mp_engine::{OpenGate, Run, evaluate_here};
 use mp_netlist::Netlist;
 use std::alloc::{AllocError, Global};
 use std::sync::Wait;
@@ -11,5 +11,5 @@ use std::sync::Wait;
 pub fn open_run<R: Wait>(rt: &R, alloc: Global, netlist: &Netlist) -> Result<Run, AllocError>
     ensures { IfOk result (λ run. IsRun netlist.now run) }
 {
-    evaluate(alloc, rt, netlist, &OpenGate)
+    evaluate_here(rt, alloc, netlist, &OpenGate)
 }

@@ -7,9 +7,9 @@ use mp_phase::Crew;
 /// The numbers that a run is given. Any number may be asked for.
 #[derive(Clone, Copy, Debug, PartialEq, Eq)]
 pub struct Options {
-    /// How many workers there are. No run calls on them yet.
+    /// How many workers there are.
     pub workers: u32,
-    /// With fewer tasks than these the workers are not called on. It has no effect yet.
+    /// With fewer modules than these the workers are not called on.
     pub least: u32,
     /// How many viewers there are. No run looks at them yet.
     pub viewers: u32,

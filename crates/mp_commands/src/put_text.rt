@@ -1,5 +1,5 @@
 //! Texts through a buffer to a sink.
-ghost use Rattle.std.specs.Prelude.{◌≡◌, ◌-◌, ◌^◌, ◌<◌, Ok, IfErr};
+ghost use Rattle.std.specs.Prelude.{◌≡◌, ◌-◌, ◌^◌, ◌<◌, [], Ok, IfErr};
 ghost use Rattle.mp_commands.specs.declared.run_fault.RunFault.TheVariants.{WriteFailed};
 ghost use Rattle.mp_commands.specs.RunFaults.{counted_writes};
 ghost use Rattle.mp_commands.specs.Runs.{Puts, Wrote};
@@ -25,10 +25,11 @@ pub fn put_text<T: Sink>(
 }
 
 /// Writes what the buffer holds. `WriteFailed` comes with a fault of the sink: then a part of it,
-/// from its front, is written.
+/// from its front, is written. The buffer holds nothing either way.
 pub fn put_rest<T: Sink>(buffer: &mut WriteBuffer, sink: &mut T) -> Result<(), RunFault>
     requires { T.fault_count sink.old < 2 ^ 64 - 1 }
     ensures failed { IfErr result (λ fault. fault ≡ WriteFailed) }
+    ensures empty { buffer.new ≡ [] }
     ensures written { Wrote result (Ok buffer.old) (T.taken sink.old) (T.taken sink.new) }
     ensures faults { T.fault_count sink.new ≡ counted_writes result (T.fault_count sink.old) }
 {

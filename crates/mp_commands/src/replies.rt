@@ -1,6 +1,7 @@
 //! The replies to the lines of a script.
-ghost use Rattle.std.specs.Prelude.{◌≡◌, ◌-◌, ◌^◌, ◌<◌, true, IfOk, IfErr};
-ghost use Rattle.mp_commands.specs.declared.run_fault.RunFault.TheVariants.{OutOfMemory};
+ghost use Rattle.std.specs.Prelude.{◌≡◌, ℕ, ◌-◌, ◌^◌, ◌<◌, true, List, IfOk, IsOk, OnOk};
+ghost use Rattle.mp_text.specs.Written.{written};
+ghost use Rattle.mp_vcd.specs.Dumps.{dump};
 ghost use Rattle.mp_records.specs.declared.edit_error.EditError.TheVariants.{InBatch};
 ghost use Rattle.mp_netlist.specs.Circuit.{wire_named};
 ghost use Rattle.mp_commands.specs.Replies.{accepted_text, refused_text, refusal_text, unread_text, coded_text, wire_text, answer_text, is_fault, Changed, PutsReply, Answers};
@@ -9,12 +10,13 @@ ghost use Rattle.mp_commands.specs.Runs.{Puts};
 
 use crate::keeper::Keeper;
 use crate::numbered::push_numbered;
-use crate::put_text::put_text;
+use crate::put_dump::put_dump;
+use crate::put_text::{put_rest, put_text};
 use crate::run_fault::RunFault;
 use crate::wave_lines::{put_lines, put_slot_line};
-use mp_netlist::{Edit, EditError, Name};
-use mp_streams::{Sink, WriteBuffer};
-use mp_text::{Line, LineError, Question, read_line, write_netlist};
+use mp_netlist::{Edit, EditError, Name, Netlist};
+use mp_streams::{Failed, Sink, WriteBuffer};
+use mp_text::{Line, LineError, Question, put_netlist, read_line};
 use std::alloc::{AllocError, Global};
 use std::sync::Wait;
 use std::thread::Threads;
@@ -35,9 +37,26 @@ pub fn put_reply<R: Threads + Wait + Sync, T: Sink>(
 {
     match read_line(alloc, line) {
         Ok(read) => put_line_reply(rt, alloc, buffer, sink, keeper, &read),
-        Err(error) => {
-            let text = unread_text(alloc, error)?;
-            put_text(buffer, sink, text.as_slice())
+        Err(error) => put_made(buffer, sink, unread_text(alloc, error)),
+    }
+}
+
+/// Puts a reply that was made. Where memory was wanting for it the replies before it are written, so that they are seen.
+fn put_made<T: Sink>(
+    buffer: &mut WriteBuffer,
+    sink: &mut T,
+    made: Result<Vec<u8>, AllocError>,
+) -> Result<(), RunFault>
+    requires { T.fault_count sink.old < 2 ^ 64 - 1 }
+    ensures made { OnOk result (IsOk made) }
+    ensures written { (bytes : List ℕ) → IfOk made (λ text. text.items ≡ bytes) → Puts result (T.taken sink.old) (T.taken sink.new) buffer.old buffer.new bytes }
+    ensures faults { T.fault_count sink.new ≡ counted_writes result (T.fault_count sink.old) }
+{
+    match made {
+        Ok(text) => put_text(buffer, sink, text.as_slice()),
+        Err(_) => {
+            put_rest(buffer, sink)?;
+            Err(RunFault::OutOfMemory)
         }
     }
 }
@@ -57,15 +76,12 @@ fn put_line_reply<R: Threads + Wait + Sync, T: Sink>(
 {
     match line {
         Line::Empty => Ok(()),
-        Line::Change(edit) => {
-            let text = edit_text(rt, alloc, keeper, edit)?;
-            put_text(buffer, sink, text.as_slice())
-        }
+        Line::Change(edit) => put_made(buffer, sink, edit_text(rt, alloc, keeper, edit)),
         Line::Ask(question) => put_answer(alloc, buffer, sink, keeper, question),
     }
 }
 
-/// Puts the answer to a question: the lines of waves as they are made, and a text that is made first.
+/// Puts the answer to a question, as it is made: so no answer takes memory for its length.
 fn put_answer<T: Sink>(
     alloc: Global,
     buffer: &mut WriteBuffer,
@@ -80,11 +96,40 @@ fn put_answer<T: Sink>(
     match question {
         Question::Wave(name) => put_wire(alloc, buffer, sink, keeper, name),
         Question::Waves => put_lines(buffer, sink, keeper.netlist(), keeper.waves()),
-        Question::Text => {
-            let text = write_netlist(alloc, keeper.netlist())?;
-            put_text(buffer, sink, text.as_slice())
-        }
+        Question::Text => put_netlist_text(buffer, sink, keeper.netlist()),
+        Question::Dump => put_dump_answer(alloc, buffer, sink, keeper),
     }
+}
+
+/// Puts the text of a netlist.
+fn put_netlist_text<T: Sink>(
+    buffer: &mut WriteBuffer,
+    sink: &mut T,
+    netlist: &Netlist,
+) -> Result<(), RunFault>
+    requires { T.fault_count sink.old < 2 ^ 64 - 1 }
+    ensures written { Puts result (T.taken sink.old) (T.taken sink.new) buffer.old buffer.new (written netlist.now) }
+    ensures faults { T.fault_count sink.new ≡ counted_writes result (T.fault_count sink.old) }
+{
+    match put_netlist(buffer, sink, netlist) {
+        Ok(()) => Ok(()),
+        Err(Failed) => Err(RunFault::WriteFailed),
+    }
+}
+
+/// Puts the dump of the netlist. It takes memory in its midst, so the replies before it are written first, and are seen where memory is wanting.
+fn put_dump_answer<T: Sink>(
+    alloc: Global,
+    buffer: &mut WriteBuffer,
+    sink: &mut T,
+    keeper: &Keeper,
+) -> Result<(), RunFault>
+    requires { T.fault_count sink.old < 2 ^ 64 - 1 }
+    ensures written { Puts result (T.taken sink.old) (T.taken sink.new) buffer.old buffer.new (dump keeper.now.netlist) }
+    ensures faults { T.fault_count sink.new ≡ counted_writes result (T.fault_count sink.old) }
+{
+    put_rest(buffer, sink)?;
+    put_dump(alloc, buffer, sink, keeper.netlist(), keeper.waves())
 }
 
 /// Puts the line of the wire that has the name.
@@ -100,8 +145,7 @@ fn put_wire<T: Sink>(
     ensures faults { T.fault_count sink.new ≡ counted_writes result (T.fault_count sink.old) }
 {
     let Some(id) = keeper.netlist().wire_named(name.as_str()) else {
-        let text = refused_text(alloc, EditError::NoSuchWire)?;
-        return put_text(buffer, sink, text.as_slice());
+        return put_made(buffer, sink, refused_text(alloc, EditError::NoSuchWire));
     };
     put_slot_line(buffer, sink, keeper.netlist(), keeper.waves(), id)
 }
@@ -158,14 +202,13 @@ fn refusal_text(alloc: Global, word: &str, number: u32) -> Result<Vec<u8>, Alloc
 }
 
 /// Tells the fault of a line, where it is not want of memory.
-fn unread_text(alloc: Global, error: LineError) -> Result<Vec<u8>, RunFault>
+fn unread_text(alloc: Global, error: LineError) -> Result<Vec<u8>, AllocError>
     ensures told { IfOk result (λ text. text.items ≡ unread_text error) }
     ensures fault { IfOk result (λ _. is_fault error ≡ true) }
-    ensures memory { IfErr result (λ fault. fault ≡ OutOfMemory) }
 {
     match error {
-        LineError::OutOfMemory => Err(RunFault::OutOfMemory),
-        _ => Ok(coded_text(alloc, "unread ", error.number(), error.name())?),
+        LineError::OutOfMemory => Err(AllocError),
+        _ => coded_text(alloc, "unread ", error.number(), error.name()),
     }
 }
 

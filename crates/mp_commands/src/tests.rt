@@ -9,6 +9,7 @@ use std::io;
 use std::io::{Read, Write};
 use std::process::Abort;
 use std::sync::Wait;
+use std::thread::Threads;
 
 const CREW: Options = Options {
     workers: 2,
@@ -20,6 +21,13 @@ const BUF: &[u8] = b"horizon 20\nwire a 1 0\nwire y 1 0\nmodule b BUF : a > y/3\
 
 const SCRIPT: &[u8] =
     b"horizon 20\nwire a 1 0\nwire y 1 0\nmodule b BUF : a > y/3\nstim a 2=1 5=0\n---\ndelay b 0 2\nwave y\n";
+
+const QUESTIONS: &[u8] =
+    b"horizon 20\nwire a 1 0\nwire y 1 0\nmodule b BUF : a > y/3\nstim a 2=1 5=0\n---\ntext\ndump\n";
+
+/// The answers to the questions: the text, and the dump.
+const SHOWN: &[u8] =
+    b"horizon 20\nwire a 1 0\nwire y 1 0\nmodule b BUF : a > y/3\nstim a 2=1 5=0\n$timescale 1 ns $end\n$scope module top $end\n$var wire 1 ! a $end\n$var wire 1 \" y $end\n$upscope $end\n$enddefinitions $end\n#0\n$dumpvars\n0!\n0\"\n$end\n#2\n1!\n#5\n0!\n1\"\n#8\n0\"\n#20\n";
 
 /// Gives the bytes one at a time, and fails once the reads are used up.
 #[derive(Drop)]
@@ -69,7 +77,7 @@ impl Write for SmallWriter {
 
 /// A run over a reader with so many reads and a writer with so much room ends so, and this is written.
 fn runs(
-    rt: &(impl Abort + Wait),
+    rt: &(impl Abort + Threads + Wait + Sync),
     alloc: Global,
     reads: usize,
     room: usize,
@@ -104,21 +112,47 @@ fn waves_on_small_devices(rt: HostRuntime) {
     }
 }
 
+/// A script over a writer with so much room ends so, and this is written.
+fn plays(
+    rt: &(impl Abort + Wait),
+    alloc: Global,
+    script: &[u8],
+    room: usize,
+    ended: Result<(), RunFault>,
+    text: &[u8],
+) {
+    let mut source = ReadSource::new(script);
+    let mut sink = WriteSink::new(SmallWriter {
+        taken: Vec::new(alloc),
+        room,
+    });
+    assert_eq!(rt; run_play(rt, alloc, &mut source, &mut sink, &CREW), ended);
+    assert_eq!(rt; sink.faults(), ended.is_err() as u64);
+    assert_eq!(rt; sink.into_inner().taken.as_slice(), text);
+}
+
 #[test]
 fn play_on_a_small_device(rt: HostRuntime) {
-    for (room, ended, text) in [
-        (1000, Ok(()), b"accepted 1\ny 0 4=1 7=0\n".as_slice()),
-        (13, Err(RunFault::WriteFailed), b"accepted 1\ny ".as_slice()),
-    ] {
-        let mut source = ReadSource::new(SCRIPT);
-        let mut sink = WriteSink::new(SmallWriter {
-            taken: Vec::new(rt.alloc()),
+    let alloc = rt.alloc();
+    let failed = Err(RunFault::WriteFailed);
+    plays(
+        &rt,
+        alloc,
+        SCRIPT,
+        1000,
+        Ok(()),
+        b"accepted 1\ny 0 4=1 7=0\n",
+    );
+    plays(&rt, alloc, SCRIPT, 13, failed, b"accepted 1\ny ");
+    plays(&rt, alloc, QUESTIONS, 1000, Ok(()), SHOWN);
+    for room in [0, 12, 70, 72, 100, 240] {
+        plays(
+            &rt,
+            alloc,
+            QUESTIONS,
             room,
-        });
-        assert_eq!(rt;
-            run_play(&rt, rt.alloc(), &mut source, &mut sink, &CREW),
-            ended
+            failed,
+            &SHOWN[..room.min(SHOWN.len())],
         );
-        assert_eq!(rt; sink.into_inner().taken.as_slice(), text);
     }
 }

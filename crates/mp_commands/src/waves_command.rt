@@ -7,8 +7,8 @@ ghost use Rattle.mp_commands.specs.Outputs.{output_of, waves_output, waves_text}
 ghost use Rattle.mp_commands.specs.RunFaults.{counted_reads, counted_writes};
 ghost use Rattle.mp_commands.specs.Runs.{HasInput, Wrote, comes_first};
 
+use crate::crew_run::crew_run;
 use crate::limits::MAX_TAKEN;
-use crate::open_run::open_run;
 use crate::options::Options;
 use crate::put_waves::put_waves;
 use crate::run_fault::RunFault;
@@ -17,6 +17,7 @@ use mp_streams::{Sink, Source, take_all};
 use mp_text::read_netlist;
 use std::alloc::Global;
 use std::sync::Wait;
+use std::thread::Threads;
 
 /// Reads a netlist's text, all of it first, and writes the wave of each wire that stands, a line
 /// each, by number.
@@ -25,7 +26,7 @@ use std::sync::Wait;
 /// where the options have no valid crew: then nothing is written. `WriteFailed` comes with a fault
 /// of the sink and `OutOfMemory` where memory is wanting, in the text's reading too: then a part of
 /// the output from its front may be written.
-pub fn run_waves<R: Wait, S: Source, T: Sink>(
+pub fn run_waves<R: Threads + Wait + Sync, S: Source, T: Sink>(
     rt: &R,
     alloc: Global,
     source: &mut S,
@@ -47,7 +48,7 @@ pub fn run_waves<R: Wait, S: Source, T: Sink>(
 }
 
 /// Writes the waves of a netlist, or tells `BadCount` where the options have no valid crew.
-fn put_valid_waves<R: Wait, T: Sink>(
+fn put_valid_waves<R: Threads + Wait + Sync, T: Sink>(
     rt: &R,
     alloc: Global,
     sink: &mut T,
@@ -63,6 +64,6 @@ fn put_valid_waves<R: Wait, T: Sink>(
     if !options.has_valid_crew() {
         return Err(RunFault::BadCount);
     }
-    let run = open_run(rt, alloc, netlist)?;
+    let run = crew_run(rt, alloc, netlist, options)?;
     put_waves(alloc, sink, netlist, run.waves())
 }

@@ -6,15 +6,14 @@ use Rattle.std.proofs.lemmas.List.{get_or_past, get_or_append_left, get_or_push,
 use Rattle.mp_modules.specs.Memories.{blank}
 use Rattle.mp_records.specs.declared.module_record.ModuleRecord.{ModuleRecord}
 use Rattle.mp_netlist.specs.Slots.{slot_at}
-use Rattle.mp_netlist.specs.Circuit.{Circuit, IsCircuit, wire_at, module_at}
+use Rattle.mp_netlist.specs.Circuit.{Circuit, wire_at, module_at}
 use Rattle.mp_model.specs.Waves.{state, slot_wave}
 use Rattle.mp_engine.specs.declared.cell.Cell.{Cell}
 use Rattle.mp_engine.specs.declared.checkpoints.Checkpoint.{Checkpoint}
-use Rattle.mp_engine.specs.Checkpoints.{kept_at, state_before, AreKept}
-use Rattle.mp_engine.specs.declared.engine.Engine.{Engine}
-use Rattle.mp_engine.specs.Engines.{IsAfter}
-use Rattle.mp_engine.specs.Starts.{no_cell}
+use Rattle.mp_engine.specs.declared.part_run.PartRun.{PartRun}
+use Rattle.mp_engine.specs.Checkpoints.{kept_at, state_before, IsBorder, AreKept}
 use Rattle.mp_engine.specs.Outcomes.{Outcome, AreSlots, checkpoint_of}
+use Rattle.mp_engine.specs.PartRuns.{waves_in, kept_in, AreCheckpoints, IsPartRun}
 use Rattle.mp_engine.specs.Runs.{IsRun, end_memory, checkpoint}
 
 -- one slot more
@@ -42,34 +41,37 @@ pub no_module : {X : Type 0} (n : Circuit) (f : ModuleRecord → X) (m : ℕ) �
 no_module n f m past = ap (option_map f) (get_or_past n.modules m None past)
 
 -- the checkpoints that are kept
-pub checkpoints_are : (n : Circuit) (m c : ℕ) (run : Outcome) (cells : List Cell) (stepped : List Bool) (kept : List (List Checkpoint)) → run.horizon ≡ n.horizon → slot_at run.kept m ≡ option_map (λ (r : ModuleRecord). slice_index_or kept m []) (module_at n m)
-    → AreKept n n.horizon cells stepped kept → (d : Cell) → checkpoint_of run m c ≡ checkpoint n m c
-checkpoints_are n m c run cells stepped kept same slot are d =
+pub checkpoints_are : (n : Circuit) (cells : List Cell) (stepped : List Bool) (kept : List (List Checkpoint)) (slots : List (Option (List Checkpoint)))
+    → AreSlots (length n.modules) (λ m. option_map (λ (r : ModuleRecord). slice_index_or kept m []) (module_at n m)) slots → AreKept n n.horizon cells stepped kept → (d : Cell) → AreCheckpoints n slots
+checkpoints_are n cells stepped kept slots made are d = record {
+  places = made.places;
+  each = λ m c border low.
+      ap (option_map (λ ks. kept_at ks c blank)) (slot_is (length n.modules) (λ k. option_map (λ (r : ModuleRecord). slice_index_or kept k []) (module_at n k)) slots
+      (λ k past. no_module n (λ (r : ModuleRecord). slice_index_or kept k []) k past) made m)
+      ∙ by m c border low (module_at n m) refl;
+}
+  where
+    by : (m c : ℕ) → IsBorder c → c < n.horizon → (found : Option ModuleRecord) → module_at n m ≡ found
+        → option_map (λ ks. kept_at ks c blank) (option_map (λ (r : ModuleRecord). slice_index_or kept m []) found) ≡ option_map (λ (r : ModuleRecord). state_before n m r c) found
+    by m c border low None e = refl
+    by m c border low (Some r) e = ap Some ((are.each m r d e).known c border low)
+
+-- what is kept of a run is what it tells
+checkpoint_is : (n : Circuit) (m c : ℕ) (run : Outcome) → run.horizon ≡ n.horizon → AreCheckpoints n run.kept → checkpoint_of run m c ≡ checkpoint n m c
+checkpoint_is n m c run same are =
     ap (λ h. if nat_lt c h && c % 1024 == 0 then option_map (λ ks. kept_at ks c blank) (slot_at run.kept m) else None) same ∙ by (cases_Bool (nat_lt c n.horizon && c % 1024 == 0))
   where
-    open_slot : (found : Option ModuleRecord) → module_at n m ≡ found → c < n.horizon → c % 1024 ≡ 0
-        → option_map (λ ks. kept_at ks c blank) (option_map (λ (r : ModuleRecord). slice_index_or kept m []) found) ≡ option_map (λ (r : ModuleRecord). state_before n m r c) found
-    open_slot None e low border = refl
-    open_slot (Some r) e low border = ap Some ((are.each m r d e).known c border low)
-
     by : (nat_lt c n.horizon && c % 1024 == 0 ≡ true) ⊎ (nat_lt c n.horizon && c % 1024 == 0 ≡ false)
         → (if nat_lt c n.horizon && c % 1024 == 0 then option_map (λ ks. kept_at ks c blank) (slot_at run.kept m) else None) ≡ checkpoint n m c
     by (inl passes) =
         let parts = and_parts (nat_lt c n.horizon) (c % 1024 == 0) passes in
-        rw passes (ap (option_map (λ ks. kept_at ks c blank)) slot ∙ open_slot (module_at n m) refl (ltb-true c n.horizon parts.0) (eqb-true (c % 1024) 0 parts.1))
+        rw passes (are.each m c (eqb-true (c % 1024) 0 parts.1) (ltb-true c n.horizon parts.0))
     by (inr fails) = rw fails refl
 
--- the run, when the last unit is over
-pub run_is : (n : Circuit) → IsCircuit n → (e : Engine) (last : ℕ) → last + 1 ≡ n.horizon → IsAfter n last e → (run : Outcome) → run.horizon ≡ n.horizon
-    → AreSlots (length n.wires) (λ w. slot_wave n w (wire_at n w)) run.waves
-    → AreSlots (length n.modules) (end_memory n) run.ends
-    → AreSlots (length n.modules) (λ m. option_map (λ (r : ModuleRecord). slice_index_or e.history.kept.items m []) (module_at n m)) run.kept
-    → IsRun n run
-run_is n ok e last next after run same waves ends kept = record {
-  waves = slot_is (length n.wires) (λ w. slot_wave n w (wire_at n w)) run.waves (no_wave n) waves;
-  ends = slot_is (length n.modules) (end_memory n) run.ends (λ m past. no_module n (λ (r : ModuleRecord). state n m (n.horizon - 1)) m past) ends;
-  checkpoints = λ m c. checkpoints_are n m c run e.cells.items e.history.stepped.items e.history.kept.items same
-      (slot_is (length n.modules) (λ m. option_map (λ (r : ModuleRecord). slice_index_or e.history.kept.items m []) (module_at n m)) run.kept
-      (λ m past. no_module n (λ (r : ModuleRecord). slice_index_or e.history.kept.items m []) m past) kept m)
-      (subst (λ b. AreKept n b e.cells.items e.history.stepped.items e.history.kept.items) next after.ready.history.kept) no_cell;
+-- the run of a netlist that is its own only part
+pub run_is : (n : Circuit) (part : PartRun) (run : Outcome) → run.horizon ≡ n.horizon → run.waves ≡ waves_in part → run.ends ≡ part.ends.items → run.kept ≡ kept_in part → IsPartRun n part → IsRun n run
+run_is n part run same waves ends kept is = record {
+  waves = λ w. ap (λ xs. slot_at xs w) waves ∙ slot_is (length n.wires) (λ k. slot_wave n k (wire_at n k)) (waves_in part) (no_wave n) is.waves w;
+  ends = λ m. ap (λ xs. slot_at xs m) ends ∙ slot_is (length n.modules) (end_memory n) part.ends.items (λ k past. no_module n (λ (r : ModuleRecord). state n k (n.horizon - 1)) k past) is.ends m;
+  checkpoints = λ m c. checkpoint_is n m c run same (subst (AreCheckpoints n) (sym kept) is.kept);
 }

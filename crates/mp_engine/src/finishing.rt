@@ -8,24 +8,29 @@ ghost use Rattle.mp_engine.specs.Cells.{AreCells};
 ghost use Rattle.mp_engine.specs.Engines.{IsAfter};
 ghost use Rattle.mp_engine.specs.Lines.{building_at};
 ghost use Rattle.mp_engine.specs.Outcomes.{AreSlots};
-ghost use Rattle.mp_engine.specs.Runs.{IsRun, end_memory};
+ghost use Rattle.mp_engine.specs.PartRuns.{IsPartRun};
+ghost use Rattle.mp_engine.specs.Runs.{end_memory};
 
 use crate::cell::Cell;
 use crate::checkpoints::Checkpoints;
 use crate::engine::Engine;
-use crate::run::Run;
-use mp_model::Waves;
+use crate::part_run::PartRun;
+use crate::region::Region;
 use mp_modules::Memory;
-use mp_netlist::{ModuleId, Netlist, WireId};
+use mp_netlist::{ModuleId, WireId};
 use mp_wave::{Wave, WaveBuilder};
 use std::alloc::{AllocError, Global};
 use std::sync::Arc;
 
 /// What an evaluation gives that has passed the last unit.
-pub(crate) fn finished(alloc: Global, netlist: &Netlist, engine: Engine) -> Result<Run, AllocError>
+pub(crate) fn finished(
+    alloc: Global,
+    netlist: &Region<'_>,
+    engine: Engine,
+) -> Result<PartRun, AllocError>
     requires form { IsCircuit netlist.now }
     requires over { (last : ℕ) → last + 1 ≡ netlist.now.horizon → IsAfter netlist.now last engine }
-    ensures { IfOk result (λ run. IsRun netlist.now run) }
+    ensures { IfOk result (λ run. IsPartRun netlist.now run) }
 {
     let Engine {
         waves,
@@ -36,17 +41,17 @@ pub(crate) fn finished(alloc: Global, netlist: &Netlist, engine: Engine) -> Resu
     let waves = finished_waves(alloc, netlist, waves)?;
     let ends = end_memories(alloc, netlist, cells.as_slice())?;
     let kept = shared_checkpoints(alloc, netlist, history.kept)?;
-    Ok(Run::new(netlist.horizon(), waves, ends, kept))
+    Ok(PartRun { waves, ends, kept })
 }
 
 fn finished_waves(
     alloc: Global,
-    netlist: &Netlist,
+    netlist: &Region<'_>,
     built: Vec<WaveBuilder>,
-) -> Result<Waves, AllocError>
+) -> Result<Vec<Option<Arc<Wave, Global>>>, AllocError>
     requires places { length built.items ≡ length netlist.now.wires }
     requires whole { (w : ℕ) → w < length netlist.now.wires → (building_at built.items w).wave ≡ wave netlist.now w }
-    ensures { IfOk result (λ found. AreSlots (length netlist.now.wires) (λ w. slot_wave netlist.now w (wire_at netlist.now w)) found) }
+    ensures { IfOk result (λ found. AreSlots (length netlist.now.wires) (λ w. slot_wave netlist.now w (wire_at netlist.now w)) (map (option_map arc_value) found.items)) }
 {
     let mut left = built;
     let mut found = Vec::new(alloc);
@@ -54,12 +59,12 @@ fn finished_waves(
         let builder = std::mem::replace(&mut left[w as usize], WaveBuilder::new(alloc, 0));
         found.push(finished_wave(alloc, netlist, WireId(w), builder)?)?;
     }
-    Ok(Waves::new(found))
+    Ok(found)
 }
 
 fn finished_wave(
     alloc: Global,
-    netlist: &Netlist,
+    netlist: &Region<'_>,
     wire: WireId,
     builder: WaveBuilder,
 ) -> Result<Option<Arc<Wave, Global>>, AllocError>
@@ -75,7 +80,7 @@ fn finished_wave(
 /// The states of the modules that stand.
 fn end_memories(
     alloc: Global,
-    netlist: &Netlist,
+    netlist: &Region<'_>,
     cells: &[Cell],
 ) -> Result<Vec<Option<Memory>>, AllocError>
     requires form { IsCircuit netlist.now }
@@ -89,7 +94,7 @@ fn end_memories(
     Ok(found)
 }
 
-fn end_memory(netlist: &Netlist, cells: &[Cell], id: ModuleId) -> Option<Memory>
+fn end_memory(netlist: &Region<'_>, cells: &[Cell], id: ModuleId) -> Option<Memory>
     requires form { IsCircuit netlist.now }
     requires low { id.0 < length netlist.now.modules }
     requires cells { AreCells netlist.now (λ m. netlist.now.horizon) cells.now }
@@ -104,7 +109,7 @@ fn end_memory(netlist: &Netlist, cells: &[Cell], id: ModuleId) -> Option<Memory>
 /// What was kept of the modules that stand.
 fn shared_checkpoints(
     alloc: Global,
-    netlist: &Netlist,
+    netlist: &Region<'_>,
     kept: Vec<Checkpoints>,
 ) -> Result<Vec<Option<Arc<Checkpoints, Global>>>, AllocError>
     requires { length kept.items ≡ length netlist.now.modules }
@@ -121,7 +126,7 @@ fn shared_checkpoints(
 
 fn shared(
     alloc: Global,
-    netlist: &Netlist,
+    netlist: &Region<'_>,
     id: ModuleId,
     checkpoints: Checkpoints,
 ) -> Result<Option<Arc<Checkpoints, Global>>, AllocError>

@@ -6,7 +6,8 @@ ghost use Rattle.mp_engine.specs.Marks.{is_marked, AreListed};
 use crate::answers::is_marked;
 use crate::cell::Cell;
 use crate::checkpoints::{Checkpoint, Checkpoints};
-use mp_netlist::{ModuleId, Netlist};
+use crate::region::Region;
+use mp_netlist::ModuleId;
 use std::alloc::AllocError;
 
 /// At each multiple of so many units the states of modules are kept.
@@ -22,7 +23,7 @@ pub(crate) struct History {
 
 /// Keeps the state of a module that answered since the last time.
 fn keep_state(
-    netlist: &Netlist,
+    netlist: &Region<'_>,
     cells: &[Cell],
     stepped: &mut Vec<bool>,
     kept: &mut Vec<Checkpoints>,
@@ -45,7 +46,7 @@ fn keep_state(
 
 /// Keeps the states of all modules that answered since the last time, which are listed.
 fn keep_states(
-    netlist: &Netlist,
+    netlist: &Region<'_>,
     cells: &[Cell],
     stepped: &mut Vec<bool>,
     kept: &mut Vec<Checkpoints>,
@@ -73,7 +74,7 @@ impl History {
     /// Goes on to the unit at a time, before which the modules have these states: keeps those that have changed, where it is time.
     pub(crate) fn pass(
         &mut self,
-        netlist: &Netlist,
+        netlist: &Region<'_>,
         cells: &[Cell],
         time: u32,
     ) -> Result<(), AllocError>

@@ -6,9 +6,10 @@ ghost use Rattle.mp_engine.specs.Lines.{building_at};
 ghost use Rattle.mp_engine.specs.Marks.{AreAdded};
 ghost use Rattle.mp_engine.specs.Taps.{IsBefore, IsUnheard, StaysUntil, AreWaves, IsListed, IsTold, IsCalled, AreKept, AreListening};
 
+use crate::region::Region;
 use crate::tap::{Tap, Taps};
 use crate::turns::mark;
-use mp_netlist::{ModuleId, Netlist};
+use mp_netlist::ModuleId;
 use mp_wave::WaveBuilder;
 use std::alloc::AllocError;
 use std::collections::VecDeque;
@@ -107,7 +108,7 @@ fn mark_where(
 
 /// Where the input hears a change its module is marked; and it is listed for a unit before which it hears no other.
 fn listen(
-    netlist: &Netlist,
+    netlist: &Region<'_>,
     waves: &[WaveBuilder],
     marks: &mut Vec<bool>,
     due: &mut Vec<ModuleId>,
@@ -132,7 +133,7 @@ fn listen(
 
 /// All inputs with a delay hear of their wires at a time, for which some of them are called.
 pub(crate) fn listen_all(
-    netlist: &Netlist,
+    netlist: &Region<'_>,
     waves: &[WaveBuilder],
     marks: &mut Vec<bool>,
     due: &mut Vec<ModuleId>,

@@ -1,6 +1,6 @@
 -- The tracks at time 0 and at the horizon.
 use Rattle.std.proofs.Common.{◌≡◌, ℕ, ◌+◌, ◌-◌, ◌^◌, ◌<◌, ◌≤◌, true, nat_lt, List, [], ◌∷◌, Option, Some, None, is_some, IfSome, unwrap_or, option_map, map, length, suc, refl, ap, sym, subst, ◌∙◌, arith, inl, inr}
-use Rattle.std.specs.Prelude.{option_and_then, ◌&&◌}
+use Rattle.std.specs.Prelude.{◌&&◌}
 use Rattle.std.specs.Bool.{IsTrue}
 use Rattle.std.proofs.lemmas.Bool.{lt-ltb, and_parts, ltb-true, cases_lt}
 use Rattle.std.proofs.lemmas.List.{length-map}
@@ -16,14 +16,15 @@ use Rattle.mp_netlist.specs.declared.driver.Driver.TheVariants.{Nothing, Stimulu
 use Rattle.mp_netlist.specs.Slots.{slot_at}
 use Rattle.mp_records.specs.Stimuli.{is_stimulus}
 use Rattle.mp_modules.specs.Levels.{fits_width}
-use Rattle.mp_netlist.specs.Circuit.{Circuit, IsCircuit, wire_at, module_at}
+use Rattle.mp_netlist.specs.Circuit.{Circuit, IsCircuit, wire_at, module_at, stimulus_in}
 use Rattle.mp_records.specs.Outputs.{delay_of}
 use Rattle.mp_netlist.specs.Drivers.{driver}
-use Rattle.mp_netlist.proofs.DriverLemmas.{stimulus_drives}
+use Rattle.mp_netlist.proofs.DriverLemmas.{stimulus_drives, leaves_no_driver}
 use Rattle.mp_model.specs.Levels.{initial_of, stimulus_level, port_level, driven_level}
 use Rattle.mp_model.specs.Tracks.{Progress, AreTimesIn, held_all, unchanged, started, first_progress}
 use Rattle.mp_model.specs.Evaluations.{AreRising, IsReached, IsOpen, IsOnTrack, IsTrackOf, AreTracks, delay_in, delivered}
 use Rattle.mp_model.specs.Waves.{level, state, slot_wave, waves_from, waves}
+use Rattle.mp_model.specs.Laws.{BeginsAtInitialLevels}
 use Rattle.mp_model.proofs.BehaviourLemmas.{satisfies}
 use Rattle.mp_model.proofs.SlotLemmas.{slot_at-map}
 use Rattle.mp_model.proofs.TrackLemmas.{AreRising-changes, level_from-now, stays}
@@ -48,9 +49,6 @@ set_ahead r = unwrap_or r.stimulus []
 
 abbrev IfSet : ℕ → ℕ → Option (List (ℕ × ℕ)) → Type 0
 IfSet horizon width stimulus = IfSome stimulus (λ changes. IsTrue (is_stimulus horizon width 0 changes))
-
-abbrev stimulus_in : Option WireRecord → Option (List (ℕ × ℕ))
-stimulus_in slot = option_and_then (λ (r : WireRecord). r.stimulus) slot
 
 times_set : (n : Circuit) → IsCircuit n → (w : ℕ) (r : WireRecord) → wire_at n w ≡ Some r → AreTimesIn 1 n.horizon (set_ahead r)
 times_set n ok w r at = by r.stimulus (ok.wires_ok w r at).stimulus
@@ -130,6 +128,13 @@ first_on_track n ok w r at =
         let positive : 0 < delay = units.delay_positive n ok m.0 p in
         let P : List (ℕ × ℕ) → Type 0 = λ changes. let built = held_all (unchanged r.initial) changes in (built.next ≤ 0 + delay) × (last_time 0 built.wave.changes < 0 + delay) in
         subst P (sym none) (omega (arith, positive), omega (arith, positive))
+
+pub first_level : BeginsAtInitialLevels
+first_level n ok w = by (wire_at n w) refl
+  where
+    by : (slot : Option WireRecord) → wire_at n w ≡ slot → level n w 0 ≡ initial_of (wire_at n w)
+    by None at = (satisfies n ok).levels w 0 ∙ ap (λ d. driven_level d n (state n) w 0) (leaves_no_driver n ok w at)
+    by (Some r) at = sym (first_on_track n ok w r at).present ∙ sym (ap initial_of at)
 
 -- the tracks at time 0
 pub first_tracks_are : (n : Circuit) → IsCircuit n → AreTracks n (delivered 0 0 0) 0 (map (option_map first_progress) n.wires)

@@ -17,6 +17,7 @@ use Rattle.mp_model.specs.Levels.{port_level, initial_of, driven_level}
 use Rattle.mp_model.specs.Tracks.{Progress, advanced, expecting, due_level, rest_after, one_more}
 use Rattle.mp_model.specs.Evaluations.{AreRising, IsReached, IsOpen, IsOnTrack, delay_in, delivered}
 use Rattle.mp_model.specs.Waves.{level, state}
+use Rattle.mp_model.specs.Laws.{FollowsPorts}
 use Rattle.mp_model.proofs.HistoryLemmas.{late}
 use Rattle.mp_model.proofs.BehaviourLemmas.{satisfies}
 use Rattle.mp_model.proofs.TrackLemmas as tracks
@@ -145,8 +146,7 @@ on_track_advanced n ok t w track low on =
       free = next_open n ok t (driver n w) track on.free;
     }
 
--- the level of a wire that a port drives, its delay after a state
-pub port_level_is : (n : Circuit) → IsCircuit n → (m p w t : ℕ) (r : ModuleRecord) → module_at n m ≡ Some r → driver n w ≡ Port (record { 0 = m }) p → level n w (t + delay_of r p) ≡ output_of (state n m t) p
+pub port_level_is : FollowsPorts
 port_level_is n ok m p w t r at drives =
     let back : t + delay_of r p - delay_of r p ≡ t = omega arith in
     let over : nat_lt (t + delay_of r p) (delay_of r p) ≡ false = le-ltb (t + delay_of r p) (delay_of r p) (omega arith) in

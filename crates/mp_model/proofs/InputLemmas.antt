@@ -1,9 +1,9 @@
 -- What the tracks of the wires give at a module's inputs.
-use Rattle.std.proofs.Common.{◌≡◌, ℕ, ◌+◌, ◌-◌, ◌<◌, ◌≤◌, ◌==◌, Bool, true, false, List, [], ◌∷◌, Option, Some, None, IsSome, map, length, slice_index_or, suc, refl, ap, sym, ◌∙◌, arith, inl, inr, ◌⊎◌}
+use Rattle.std.proofs.Common.{◌≡◌, ℕ, ◌+◌, ◌-◌, ◌<◌, ◌≤◌, ◌==◌, false, List, [], ◌∷◌, Option, Some, None, IsSome, map, length, slice_index_or, suc, refl, ap, sym, ◌∙◌, arith, inl, inr, ◌⊎◌}
 use Rattle.std.specs.Prelude.{not, ◌||◌}
 use Rattle.std.specs.Option.{option_map_or}
 use Rattle.std.specs.List.{list_any}
-use Rattle.std.proofs.lemmas.Bool.{cases_Bool, cases_lt, eqb-true, lt-ltb, le-ltb, or_parts}
+use Rattle.std.proofs.lemmas.Bool.{cases_Bool, cases_lt, eqb-true, lt-ltb, le-ltb, not-false, or_parts}
 use Rattle.mp_wave.specs.Waveform.{level_of}
 use Rattle.mp_records.specs.declared.ports.Input.{Input}
 use Rattle.mp_records.specs.declared.wire_record.WireRecord.{WireRecord}
@@ -13,24 +13,23 @@ use Rattle.mp_netlist.specs.declared.driver.Driver.TheVariants.{Nothing, Stimulu
 use Rattle.mp_netlist.specs.Slots.{slot_at}
 use Rattle.mp_netlist.specs.Circuit.{Circuit, IsCircuit, wire_at, module_at}
 use Rattle.mp_netlist.specs.Drivers.{driver}
-use Rattle.mp_model.specs.Levels.{initial_of, input_by, inputs_by}
+use Rattle.mp_model.specs.Levels.{input_by, inputs_by}
 use Rattle.mp_model.specs.Tracks.{Progress, level_before, event_before}
 use Rattle.mp_model.specs.Evaluations.{IsReached, IsOnTrack, IsTrackOf, AreTracks, present_at, event_at, change_at, is_late}
 use Rattle.mp_model.specs.Waves.{level}
 use Rattle.mp_model.proofs.SlotLemmas.{no_some}
-use Rattle.mp_model.proofs.EndsLemmas.{first_on_track}
+use Rattle.mp_model.proofs.EndsLemmas.{first_level}
 use Rattle.mp_model.proofs.EvaluationLemmas.{delay_positive}
 
 -- the level at an input is that of its wire so much before, or at time 0 where that is earlier
-input_is : (n : Circuit) → IsCircuit n → (i : Input) (t : ℕ) → IsSome (wire_at n i.wire.0) → input_by n (level n) i t ≡ level n i.wire.0 (t - i.delay)
-input_is n ok i t stands = by (wire_at n i.wire.0) refl stands (cases_lt t i.delay)
+pub input_is : (n : Circuit) → IsCircuit n → (i : Input) (t : ℕ) → input_by n (level n) i t ≡ level n i.wire.0 (t - i.delay)
+input_is n ok i t = by (cases_lt t i.delay)
   where
-    by : (slot : Option WireRecord) → wire_at n i.wire.0 ≡ slot → IsSome slot → (t < i.delay) ⊎ (i.delay ≤ t) → input_by n (level n) i t ≡ level n i.wire.0 (t - i.delay)
-    by None at some lies = absurd (no_some (let none : Option WireRecord = None in none) refl some)
-    by (Some r) at some (inl early) =
+    by : (t < i.delay) ⊎ (i.delay ≤ t) → input_by n (level n) i t ≡ level n i.wire.0 (t - i.delay)
+    by (inl early) =
         let none : 0 ≡ t - i.delay = omega arith in
-        rw (lt-ltb t i.delay early) (ap initial_of at ∙ (first_on_track n ok i.wire.0 r at).present ∙ ap (level n i.wire.0) none)
-    by (Some r) at some (inr over) = rw (le-ltb t i.delay over) refl
+        rw (lt-ltb t i.delay early) (sym (first_level n ok i.wire.0) ∙ ap (level n i.wire.0) none)
+    by (inr over) = rw (le-ltb t i.delay over) refl
 
 -- where each port has delivered the states before a time, the levels up to it are reached
 reached_now : (n : Circuit) → IsCircuit n → (known : ℕ → ℕ → ℕ) (t u : ℕ) (d : Driver) → ((m p : ℕ) → t ≤ known m p) → u ≤ t → IsReached n known d u
@@ -63,7 +62,7 @@ module _ (n : Circuit) (ok : IsCircuit n) (known : ℕ → ℕ → ℕ) (t : ℕ
   map_present tracks (i ∷ is) are stand =
       let some = stand 0 i (omega arith) in
       let here : present_at tracks t i ≡ input_by n (level n) i t
-      = present_is i (wire_at n i.wire.0) (slot_at tracks i.wire.0) (are.each i.wire.0) some ∙ sym (input_is n ok i t some) in
+      = present_is i (wire_at n i.wire.0) (slot_at tracks i.wire.0) (are.each i.wire.0) some ∙ sym (input_is n ok i t) in
       let others = map_present tracks is are (λ p d within. stand (suc p) d (omega arith)) in
       ap (λ x. x ∷ map (λ (j : Input). present_at tracks t j) is) here ∙ ap (λ xs. input_by n (level n) i t ∷ xs) others
 
@@ -75,11 +74,7 @@ module _ (n : Circuit) (ok : IsCircuit n) (known : ℕ → ℕ → ℕ) (t : ℕ
   -- the time before now
   module _ (u : ℕ) (next : u + 1 ≡ t) where
     same_if : (one other : ℕ) → not (one == other) ≡ false → one ≡ other
-    same_if one other test = eqb-true one other (by (one == other) test)
-      where
-        by : (b : Bool) → not b ≡ false → b ≡ true
-        by true none = refl
-        by false none = cc
+    same_if one other test = eqb-true one other (not-false (one == other) test)
 
     -- without an event a level is that of the unit before
     level_stays : (delay w : ℕ) (track : Progress) → IsOnTrack n known t w track → event_before t delay track ≡ false → level n w (t - delay) ≡ level n w (u - delay)
@@ -110,18 +105,14 @@ module _ (n : Circuit) (ok : IsCircuit n) (known : ℕ → ℕ → ℕ) (t : ℕ
     inputs_stay tracks (i ∷ is) are stand none =
         let some = stand 0 i (omega arith) in
         let parts = or_parts (event_at tracks t i) (list_any (λ (j : Input). event_at tracks t j) is) none in
-        let here = input_is n ok i t some ∙ slot_stays i (wire_at n i.wire.0) (slot_at tracks i.wire.0) (are.each i.wire.0) some parts.0 ∙ sym (input_is n ok i u some) in
+        let here = input_is n ok i t ∙ slot_stays i (wire_at n i.wire.0) (slot_at tracks i.wire.0) (are.each i.wire.0) some parts.0 ∙ sym (input_is n ok i u) in
         let others = inputs_stay tracks is are (λ p d within. stand (suc p) d (omega arith)) parts.1 in
         ap (λ x. x ∷ map (λ (j : Input). input_by n (level n) j t) is) here ∙ ap (λ xs. input_by n (level n) i u ∷ xs) others
 
 -- where no input has a delay, the events at the inputs are the changes of their wires
-is_prompt : (b : Bool) → not b ≡ false → b ≡ true
-is_prompt true none = refl
-is_prompt false none = cc
-
 prompt_event : (time : ℕ) (i : Input) (slot : Option Progress) → is_late i ≡ false → option_map_or (λ (track : Progress). track.event) slot false ≡ option_map_or (event_before time i.delay) slot false
 prompt_event time i None prompt = refl
-prompt_event time i (Some track) prompt = let none = is_prompt (i.delay == 0) prompt in rw none refl
+prompt_event time i (Some track) prompt = let none = not-false (i.delay == 0) prompt in rw none refl
 
 pub prompt_events : (tracks : List (Option Progress)) (time : ℕ) (inputs : List Input) → list_any is_late inputs ≡ false
     → list_any (λ (i : Input). change_at tracks i.wire.0) inputs ≡ list_any (λ (i : Input). event_at tracks time i) inputs

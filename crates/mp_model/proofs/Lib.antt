@@ -10,3 +10,5 @@ pub mod CellsLemmas
 pub mod EndsLemmas
 pub mod InputLemmas
 pub mod QuietLemmas
+pub mod MemberLemmas
+pub mod FindingLemmas

@@ -2,7 +2,10 @@ pub mod Levels
 pub mod Histories
 pub mod Waves
 pub mod Laws
+pub mod Reach
 pub mod Tracks
 pub mod Cells
 pub mod Evaluations
 pub mod Examples
+pub mod Findings
+pub mod FindingLaws

@@ -102,8 +102,8 @@ fn first_cell_at(netlist: &Netlist, id: ModuleId) -> Option<Cell>
     })
 }
 
-/// The event module that a record stands for.
-fn built(netlist: &Netlist, found: &ModuleRecord) -> AnyModule
+/// The event module that a netlist's record stands for.
+pub fn built(netlist: &Netlist, found: &ModuleRecord) -> AnyModule
     requires width { IsTrue (is_width_of found.now.kind (module_width netlist.now found.now)) }
     requires params { IsTrue (are_params found.now.kind (module_width netlist.now found.now) found.now.params) }
     ensures { result ≡ built netlist.now found.now }

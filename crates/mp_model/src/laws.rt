@@ -1,6 +1,7 @@
 //! What the levels, states and waves of a netlist satisfy.
 
-ghost use Rattle.mp_model.specs.Laws.{Satisfies, IsOnlyOne, HasLevels};
+ghost use Rattle.mp_model.specs.FindingLaws.{FindsByRule};
+ghost use Rattle.mp_model.specs.Laws.{Satisfies, IsOnlyOne, FollowsPorts, BeginsAtInitialLevels, HasLevels};
 
 /// The levels and states satisfy their equations, loops of modules included.
 pub fn equations()
@@ -12,7 +13,22 @@ pub fn only_one()
     ensures { IsOnlyOne }
 {}
 
+/// A wire that a port drives has the level of the module's output, the port's delay later.
+pub fn follows_ports()
+    ensures { FollowsPorts }
+{}
+
+/// At time 0 a wire has its initial level.
+pub fn begins_at_initial_levels()
+    ensures { BeginsAtInitialLevels }
+{}
+
 /// A wave has the level of its wire at each time below the horizon.
 pub fn wave_levels()
     ensures { HasLevels }
+{}
+
+/// A finding is told exactly where the rule of its code holds, at its module or bundle and its time.
+pub fn finds_by_rule()
+    ensures { FindsByRule }
 {}

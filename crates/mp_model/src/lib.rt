@@ -4,12 +4,14 @@
 mod cell;
 mod evaluation;
 pub mod examples;
+mod finding;
 pub mod laws;
 #[cfg(test)]
 mod tests;
 mod track;
 mod waves;
 
-pub use evaluation::plain_waves;
+pub use evaluation::{built, plain_waves};
+pub use finding::{Finding, Place};
 pub use mp_streams::{Failed, ReadSource, Sink, Source, TakeError, WriteSink, put_all, take_all};
 pub use waves::Waves;

@@ -17,7 +17,7 @@ use Rattle.mp_modules.specs.Quiet.{unchanged}
 use Rattle.mp_modules.specs.Histories.{state_at, events, input, output, served}
 use Rattle.mp_modules.specs.EventLaws.{HasOnePending, ReturnsToAskers, ServesEachRequest, ReturnsEachDone}
 use Rattle.mp_modules.proofs.HistoryLemmas.{and_few, bit, change, either, event_at}
-use Rattle.mp_modules.proofs.ClientLemmas.{first, second, at_most_one}
+use Rattle.mp_modules.proofs.ClientLemmas.{first, second, number_served}
 use Rattle.mp_modules.proofs.CallUnits.{calling, unit}
 
 record Serves (x : ℕ → List ℕ) (t : ℕ) : Type 0 where
@@ -105,7 +105,7 @@ pending x (suc t) =
 pub has_one_pending : HasOnePending
 has_one_pending x t =
     let all = pending x t in
-    let who = at_most_one (served Call x t) in
+    let who = number_served (served Call x t) in
     omega arith
 
 record HaveAsked (x : ℕ → List ℕ) (t : ℕ) : Type 0 where

@@ -12,7 +12,8 @@ first client = bit (is_same First client)
 abbrev pub second : Client → ℕ
 second client = bit (is_same Second client)
 
-pub at_most_one : (client : Client) → cond (is_free client) 0 1 ≡ first client + second client
-at_most_one Nobody = refl
-at_most_one First = refl
-at_most_one Second = refl
+-- just one is served, or nobody is
+pub number_served : (client : Client) → cond (is_free client) 0 1 ≡ first client + second client
+number_served Nobody = refl
+number_served First = refl
+number_served Second = refl

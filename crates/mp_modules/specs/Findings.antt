@@ -36,6 +36,13 @@ code_word found.Setup = codes "setup"
 code_word found.RequestWhileBusy = codes "request-while-busy"
 code_word found.AckWhileIdle = codes "ack-while-idle"
 
+-- all codes by number
+abbrev pub by_number : List FindingCode
+by_number =
+    found.MergeCollision ∷ found.Withdrawn ∷ found.SelectUnstable ∷ found.CallOverlap ∷ found.DoneWithoutCall ∷ found.RepeatRequest
+    ∷ found.DoneWithoutGrant ∷ found.CaptureWhileHeld ∷ found.PassWhileOpen ∷ found.DataAtCapture ∷ found.DataWhileBusy ∷ found.Setup
+    ∷ found.RequestWhileBusy ∷ found.AckWhileIdle ∷ []
+
 -- the code is in the set
 abbrev pub has_code : FindingSet → FindingCode → Bool
 has_code set code = slice_index_or set.present (code_number code - 1) false

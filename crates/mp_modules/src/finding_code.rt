@@ -1,6 +1,8 @@
 //! What may be found at a module or a bundle.
 ghost use Rattle.std.specs.Prelude.{◌≡◌, ◌≤◌};
-ghost use Rattle.mp_modules.specs.Findings.{code_number, code_word};
+ghost use Rattle.mp_modules.specs.Findings.{by_number, code_number, code_word};
+
+use crate::finding_set::CODES;
 
 /// What may be found at a module, or at a bundle of a request, an acknowledge and a data wire, at a unit of time from 1 on.
 #[derive(Clone, Copy, Debug, PartialEq, Eq)]
@@ -36,6 +38,28 @@ pub enum FindingCode {
 }
 
 impl FindingCode {
+    /// All codes by number.
+    pub fn by_number() -> [FindingCode; CODES]
+        ensures { result ≡ by_number }
+    {
+        [
+            FindingCode::MergeCollision,
+            FindingCode::Withdrawn,
+            FindingCode::SelectUnstable,
+            FindingCode::CallOverlap,
+            FindingCode::DoneWithoutCall,
+            FindingCode::RepeatRequest,
+            FindingCode::DoneWithoutGrant,
+            FindingCode::CaptureWhileHeld,
+            FindingCode::PassWhileOpen,
+            FindingCode::DataAtCapture,
+            FindingCode::DataWhileBusy,
+            FindingCode::Setup,
+            FindingCode::RequestWhileBusy,
+            FindingCode::AckWhileIdle,
+        ]
+    }
+
     /// Its number, 1 to 14.
     pub fn number(self) -> u32
         ensures value { result ≡ code_number self }

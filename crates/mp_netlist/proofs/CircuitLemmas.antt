@@ -19,6 +19,7 @@ use Rattle.mp_netlist.specs.Limits.{max_wires, max_modules, max_bundles}
 use Rattle.mp_netlist.specs.Circuit.{Circuit, IsCircuit, IsWire, IsModule, IsBundle, HasWidth, Drives, wire_at, module_at, bundle_at, width_of, module_width, stimulus_in, stimulus_at, wire_named, module_named, bundle_named}
 use Rattle.mp_netlist.specs.Drivers.{driver, is_nothing}
 use Rattle.mp_netlist.specs.Uses.{is_used}
+use Rattle.mp_netlist.specs.Slots.{slot_at}
 use Rattle.mp_netlist.specs.Edits.{with_wire_record, with_new_module, with_new_bundle, with_wire, with_module, with_bundle}
 use Rattle.mp_netlist.proofs.TableLemmas.{PushedAt, pushed_at, RewrittenAt, rewritten_at, slot_within, IsNamesake}
 use Rattle.mp_netlist.proofs.NameLemmas.{wire_name, module_name, HasNames-add_wire, HasNames-rewrite_wire, HasNames-add_module, HasNames-rewrite_module, HasNames-add_bundle, HasNames-rewrite_bundle}
@@ -31,6 +32,16 @@ pub record KeepsWidths (test : ℕ → Bool) (n m : Circuit) : Type 0 where
 
 HasWidth-keep : (test : ℕ → Bool) (n m : Circuit) → KeepsWidths test n m → (w width : ℕ) → test w ≡ true → HasWidth n w width → HasWidth m w width
 HasWidth-keep test n m same w width passes has = let kept = same.keeps w passes has.0 in (kept.0, kept.1 ∙ has.1)
+
+-- where the wires stay, each keeps its width
+KeepsWidths-same : (test : ℕ → Bool) (n m : Circuit) → n.wires ≡ m.wires → KeepsWidths test n m
+KeepsWidths-same test n m same = record {
+  keeps = λ w passes is. (ap (λ wires. is_some (slot_at wires w)) (sym same) ∙ is, ap (λ wires. width_of (slot_at wires w)) (sym same));
+}
+
+-- where the modules stay, no port drives another wire
+Drives-same : (n m : Circuit) → n.modules ≡ m.modules → (k p w : ℕ) → Drives m k p w → Drives n k p w
+Drives-same n m same k p w drives = record { part = drives.part; stands = ap (λ modules. slot_at modules k) same ∙ drives.stands; output = drives.output }
 
 -- the wires that a module names
 abbrev of_module : ModuleRecord → ℕ → Bool
@@ -120,9 +131,6 @@ module _ (n : Circuit) (ok : IsCircuit n) where
     more_free m p w drives (inr (inl new)) = ap stimulus_in new.1 ∙ free
     more_free m p w drives (inr (inr none)) = ap stimulus_in none.1
 
-    back : (m p w : ℕ) → Drives more m p w → Drives n m p w
-    back m p w drives = record { part = drives.part; stands = drives.stands; output = drives.output }
-
     pub IsCircuit-add_wire : IsCircuit more
     IsCircuit-add_wire = record {
       horizon_low = ok.horizon_low;
@@ -131,8 +139,8 @@ module _ (n : Circuit) (ok : IsCircuit n) where
       modules_ok = λ m s at. IsModule-keep n more s (more_keeps (of_module s)) (ok.modules_ok m s at);
       bundles_ok = λ b s at. IsBundle-keep n more s (more_keeps (of_bundle s)) (ok.bundles_ok b s at);
       names = HasNames-add_wire n ok.names r named unnamed;
-      one_port = λ m p k q w a b. ok.one_port m p k q w (back m p w a) (back k q w b);
-      port_or_stimulus = λ m p w drives. more_free m p w (back m p w drives) (pushed_at n.wires (Some r) w);
+      one_port = λ m p k q w a b. ok.one_port m p k q w (Drives-same n more refl m p w a) (Drives-same n more refl k q w b);
+      port_or_stimulus = λ m p w drives. more_free m p w (Drives-same n more refl m p w drives) (pushed_at n.wires (Some r) w);
       wires_few = omega (arith, length_push n.wires (Some r));
       modules_few = ok.modules_few;
       bundles_few = ok.bundles_few;
@@ -163,9 +171,6 @@ module _ (n : Circuit) (ok : IsCircuit n) where
     other_free m p w drives (inl new) = ap stimulus_in new.1 ∙ free m p (subst (Drives n m p) new.0 drives)
     other_free m p w drives (inr old) = ap stimulus_in old.1 ∙ ok.port_or_stimulus m p w drives
 
-    other_back : (m p w : ℕ) → Drives other m p w → Drives n m p w
-    other_back m p w drives = record { part = drives.part; stands = drives.stands; output = drives.output }
-
     pub IsCircuit-rewrite_wire : IsCircuit other
     IsCircuit-rewrite_wire = record {
       horizon_low = ok.horizon_low;
@@ -174,8 +179,8 @@ module _ (n : Circuit) (ok : IsCircuit n) where
       modules_ok = λ m s at. IsModule-keep n other s (record { keeps = λ w named is. kept_at w (used_by_module n m s w at named) (now w) is }) (ok.modules_ok m s at);
       bundles_ok = λ b s at. IsBundle-keep n other s (record { keeps = λ w named is. kept_at w (used_by_bundle n b s w at named) (now w) is }) (ok.bundles_ok b s at);
       names = HasNames-rewrite_wire n ok.names id slot within namesake;
-      one_port = λ m p k q w a b. ok.one_port m p k q w (other_back m p w a) (other_back k q w b);
-      port_or_stimulus = λ m p w drives. other_free m p w (other_back m p w drives) (now w);
+      one_port = λ m p k q w a b. ok.one_port m p k q w (Drives-same n other refl m p w a) (Drives-same n other refl k q w b);
+      port_or_stimulus = λ m p w drives. other_free m p w (Drives-same n other refl m p w drives) (now w);
       wires_few = omega (arith, length-set n.wires id slot, ok.wires_few);
       modules_few = ok.modules_few;
       bundles_few = ok.bundles_few;
@@ -187,9 +192,6 @@ module _ (n : Circuit) (ok : IsCircuit n) where
       (undriven : (p w : ℕ) → (output_at r p).wire ≡ Some (record { 0 = w }) → is_nothing (driver n w) ≡ true) (room : length n.modules < max_modules) where
     abbrev grown : Circuit
     grown = with_new_module n r
-
-    grown_keeps : (test : ℕ → Bool) → KeepsWidths test n grown
-    grown_keeps test = record { keeps = λ w passes is. (is, refl) }
 
     grown_modules : (m : ℕ) (s : ModuleRecord) → PushedAt n.modules (Some r) m → module_at grown m ≡ Some s → IsModule n s
     grown_modules m s (inl old) at = ok.modules_ok m s (sym old.1 ∙ at)
@@ -225,8 +227,8 @@ module _ (n : Circuit) (ok : IsCircuit n) where
       horizon_low = ok.horizon_low;
       horizon_high = ok.horizon_high;
       wires_ok = λ w s at. ok.wires_ok w s at;
-      modules_ok = λ m s at. IsModule-keep n grown s (grown_keeps (of_module s)) (grown_modules m s (pushed_at n.modules (Some r) m) at);
-      bundles_ok = λ b s at. IsBundle-keep n grown s (grown_keeps (of_bundle s)) (ok.bundles_ok b s at);
+      modules_ok = λ m s at. IsModule-keep n grown s (KeepsWidths-same (of_module s) n grown refl) (grown_modules m s (pushed_at n.modules (Some r) m) at);
+      bundles_ok = λ b s at. IsBundle-keep n grown s (KeepsWidths-same (of_bundle s) n grown refl) (ok.bundles_ok b s at);
       names = HasNames-add_module n ok.names r named unnamed;
       one_port = λ m p k q w a b. grown_one_port m p k q w (grown_drives m p w a) (grown_drives k q w b);
       port_or_stimulus = λ m p w drives. grown_free m p w (grown_drives m p w drives);
@@ -241,9 +243,6 @@ module _ (n : Circuit) (ok : IsCircuit n) where
       (drives_alone : (s : ModuleRecord) → slot ≡ Some s → DrivesAlone n id s) where
     abbrev changed : Circuit
     changed = with_module n id slot
-
-    changed_keeps : (test : ℕ → Bool) → KeepsWidths test n changed
-    changed_keeps test = record { keeps = λ w passes is. (is, refl) }
 
     changed_modules : (m : ℕ) (s : ModuleRecord) → RewrittenAt n.modules id slot m → module_at changed m ≡ Some s → IsModule n s
     changed_modules m s (inl new) at = is_module s (sym new.1 ∙ at)
@@ -280,8 +279,8 @@ module _ (n : Circuit) (ok : IsCircuit n) where
       horizon_low = ok.horizon_low;
       horizon_high = ok.horizon_high;
       wires_ok = λ w s at. ok.wires_ok w s at;
-      modules_ok = λ m s at. IsModule-keep n changed s (changed_keeps (of_module s)) (changed_modules m s (rewritten_at n.modules id slot within m) at);
-      bundles_ok = λ b s at. IsBundle-keep n changed s (changed_keeps (of_bundle s)) (ok.bundles_ok b s at);
+      modules_ok = λ m s at. IsModule-keep n changed s (KeepsWidths-same (of_module s) n changed refl) (changed_modules m s (rewritten_at n.modules id slot within m) at);
+      bundles_ok = λ b s at. IsBundle-keep n changed s (KeepsWidths-same (of_bundle s) n changed refl) (ok.bundles_ok b s at);
       names = HasNames-rewrite_module n ok.names id slot within namesake;
       one_port = λ m p k q w a b. changed_one_port m p k q w (changed_drives m p w a) (changed_drives k q w b);
       port_or_stimulus = λ m p w drives. changed_free m p w (changed_drives m p w drives);
@@ -295,27 +294,21 @@ module _ (n : Circuit) (ok : IsCircuit n) where
     abbrev bundled : Circuit
     bundled = with_new_bundle n r
 
-    bundled_keeps : (test : ℕ → Bool) → KeepsWidths test n bundled
-    bundled_keeps test = record { keeps = λ w passes is. (is, refl) }
-
     bundled_bundles : (b : ℕ) (s : BundleRecord) → PushedAt n.bundles (Some r) b → bundle_at bundled b ≡ Some s → IsBundle n s
     bundled_bundles b s (inl old) at = ok.bundles_ok b s (sym old.1 ∙ at)
     bundled_bundles b s (inr (inl new)) at = let same : r ≡ s = (let both = sym new.1 ∙ at in cc) in subst (IsBundle n) same is_bundle
     bundled_bundles b s (inr (inr none)) at = let no = sym none.1 ∙ at in cc
-
-    bundled_back : (m p w : ℕ) → Drives bundled m p w → Drives n m p w
-    bundled_back m p w drives = record { part = drives.part; stands = drives.stands; output = drives.output }
 
     pub IsCircuit-add_bundle : IsCircuit bundled
     IsCircuit-add_bundle = record {
       horizon_low = ok.horizon_low;
       horizon_high = ok.horizon_high;
       wires_ok = λ w s at. ok.wires_ok w s at;
-      modules_ok = λ m s at. IsModule-keep n bundled s (bundled_keeps (of_module s)) (ok.modules_ok m s at);
-      bundles_ok = λ b s at. IsBundle-keep n bundled s (bundled_keeps (of_bundle s)) (bundled_bundles b s (pushed_at n.bundles (Some r) b) at);
+      modules_ok = λ m s at. IsModule-keep n bundled s (KeepsWidths-same (of_module s) n bundled refl) (ok.modules_ok m s at);
+      bundles_ok = λ b s at. IsBundle-keep n bundled s (KeepsWidths-same (of_bundle s) n bundled refl) (bundled_bundles b s (pushed_at n.bundles (Some r) b) at);
       names = HasNames-add_bundle n ok.names r named unnamed;
-      one_port = λ m p k q w a b. ok.one_port m p k q w (bundled_back m p w a) (bundled_back k q w b);
-      port_or_stimulus = λ m p w drives. ok.port_or_stimulus m p w (bundled_back m p w drives);
+      one_port = λ m p k q w a b. ok.one_port m p k q w (Drives-same n bundled refl m p w a) (Drives-same n bundled refl k q w b);
+      port_or_stimulus = λ m p w drives. ok.port_or_stimulus m p w (Drives-same n bundled refl m p w drives);
       wires_few = ok.wires_few;
       modules_few = ok.modules_few;
       bundles_few = omega (arith, length_push n.bundles (Some r));
@@ -326,26 +319,20 @@ module _ (n : Circuit) (ok : IsCircuit n) where
     abbrev unbundled : Circuit
     unbundled = with_bundle n id None
 
-    unbundled_keeps : (test : ℕ → Bool) → KeepsWidths test n unbundled
-    unbundled_keeps test = record { keeps = λ w passes is. (is, refl) }
-
     unbundled_bundles : (b : ℕ) (s : BundleRecord) → RewrittenAt n.bundles id None b → bundle_at unbundled b ≡ Some s → IsBundle n s
     unbundled_bundles b s (inl new) at = let no = sym new.1 ∙ at in cc
     unbundled_bundles b s (inr old) at = ok.bundles_ok b s (sym old.1 ∙ at)
-
-    unbundled_back : (m p w : ℕ) → Drives unbundled m p w → Drives n m p w
-    unbundled_back m p w drives = record { part = drives.part; stands = drives.stands; output = drives.output }
 
     pub IsCircuit-remove_bundle : IsCircuit unbundled
     IsCircuit-remove_bundle = record {
       horizon_low = ok.horizon_low;
       horizon_high = ok.horizon_high;
       wires_ok = λ w s at. ok.wires_ok w s at;
-      modules_ok = λ m s at. IsModule-keep n unbundled s (unbundled_keeps (of_module s)) (ok.modules_ok m s at);
-      bundles_ok = λ b s at. IsBundle-keep n unbundled s (unbundled_keeps (of_bundle s)) (unbundled_bundles b s (rewritten_at n.bundles id None within b) at);
+      modules_ok = λ m s at. IsModule-keep n unbundled s (KeepsWidths-same (of_module s) n unbundled refl) (ok.modules_ok m s at);
+      bundles_ok = λ b s at. IsBundle-keep n unbundled s (KeepsWidths-same (of_bundle s) n unbundled refl) (unbundled_bundles b s (rewritten_at n.bundles id None within b) at);
       names = HasNames-rewrite_bundle n ok.names id None within (λ s is. (cc));
-      one_port = λ m p k q w a b. ok.one_port m p k q w (unbundled_back m p w a) (unbundled_back k q w b);
-      port_or_stimulus = λ m p w drives. ok.port_or_stimulus m p w (unbundled_back m p w drives);
+      one_port = λ m p k q w a b. ok.one_port m p k q w (Drives-same n unbundled refl m p w a) (Drives-same n unbundled refl k q w b);
+      port_or_stimulus = λ m p w drives. ok.port_or_stimulus m p w (Drives-same n unbundled refl m p w drives);
       wires_few = ok.wires_few;
       modules_few = ok.modules_few;
       bundles_few = omega (arith, length-set n.bundles id None, ok.bundles_few);

@@ -15,10 +15,11 @@ use Rattle.mp_records.specs.Stimuli.{is_stimulus}
 use Rattle.mp_modules.specs.Levels.{fits_width}
 use Rattle.mp_records.specs.declared.ids.WireId.{WireId}
 use Rattle.mp_records.specs.declared.module_record.ModuleRecord.{ModuleRecord}
+use Rattle.mp_records.specs.declared.wire_record.WireRecord.{WireRecord}
 use Rattle.mp_records.specs.PortChanges.{with_input, with_input_delay, with_output, with_delay}
 use Rattle.mp_records.specs.Names.{is_name}
 use Rattle.mp_netlist.specs.Limits.{max_wires, max_modules, max_bundles, max_setup}
-use Rattle.mp_netlist.specs.Circuit.{Circuit, IsCircuit, IsWire, IsModule, HasWidth, wire_at, module_at, wire_named, module_named, bundle_named, width_of, module_width}
+use Rattle.mp_netlist.specs.Circuit.{Circuit, IsCircuit, IsWire, IsModule, HasWidth, Drives, wire_at, module_at, wire_named, module_named, bundle_named, width_of, module_width}
 use Rattle.mp_netlist.specs.Drivers.{driver, is_port, is_free_for}
 use Rattle.mp_netlist.specs.Uses.{is_used}
 use Rattle.mp_netlist.specs.Edits.{first_failing, stands, wire_id, module_id, module_of, bundle_id, input_ports, output_ports, input_width_of, output_width_of, output_stands, output_fits, output_is_free, is_delay, is_input_delay, inputs_stand, width_named, driven_names, are_distinct, is_undriven, new_width, inputs_fit, outputs_fit, wire_checks, wire_removal_checks, module_checks, module_removal_checks, bundle_checks, bundle_removal_checks, input_checks, output_checks, input_delay_checks, delay_checks, stimulus_checks, clearing_checks, wire_refusal, wire_removal_refusal, module_refusal, module_removal_refusal, bundle_refusal, bundle_removal_refusal, input_refusal, output_refusal, input_delay_refusal, delay_refusal, stimulus_refusal, clearing_refusal, refusal, edited, new_module, with_new_wire, with_new_module, new_bundle, with_new_bundle, with_module, with_stimulus, without_stimulus, with_wire}
@@ -46,6 +47,27 @@ all_pass (check ∷ checks) none = by check.0 none (all_pass checks)
 -- what holds of a thing holds of what is in its slot
 only : {R : Type 0} (P : R → Type 0) {thing : R} → P thing → (other : R) → Some thing ≡ Some other → P other
 only P {thing = thing} holds other is = let same : thing ≡ other = cc in subst P same holds
+
+-- a module that stands is changed in its place, and keeps its name
+IsCircuit-changed_module : (n : Circuit) → IsCircuit n → (name : List ℕ) (part : ModuleStands n name) (change : ModuleRecord → ModuleRecord) → module_name (change part.thing) ≡ module_name part.thing
+    → IsModule n (change part.thing) → DrivesAlone n (module_id n name).0 (change part.thing)
+    → IsCircuit (with_module n (module_id n name).0 (option_map change (module_at n (module_id n name).0)))
+IsCircuit-changed_module n ok name part change named is alone =
+    let id = (module_id n name).0 in
+    subst (λ slot. IsCircuit (with_module n id (option_map change slot))) (sym part.at)
+    (IsCircuit-rewrite_module n ok id (Some (change part.thing)) (module_within n name part) (only (IsModule n) is)
+    (only (IsNamesake module_name (module_at n id)) (record { other = part.thing; stands = part.at; same = named })) (only (DrivesAlone n id) alone))
+
+-- a wire that stands is changed in its place, and keeps its name and its width
+IsCircuit-changed_wire : (n : Circuit) → IsCircuit n → (name : List ℕ) (wire : Stands n name) (change : WireRecord → WireRecord) → wire_name (change wire.wire) ≡ wire_name wire.wire
+    → (change wire.wire).width ≡ wire.wire.width → IsWire n.horizon (change wire.wire) → ((m p : ℕ) → Drives n m p (wire_id n name).0 → (change wire.wire).stimulus ≡ None)
+    → IsCircuit (with_wire n (wire_id n name).0 (option_map change (wire_at n (wire_id n name).0)))
+IsCircuit-changed_wire n ok name wire change named wide is free =
+    let id = (wire_id n name).0 in
+    subst (λ slot. IsCircuit (with_wire n id (option_map change slot))) (sym wire.at)
+    (IsCircuit-rewrite_wire n ok id (Some (change wire.wire)) (stands_within n name wire) (only (IsWire n.horizon) is)
+    (only (IsNamesake wire_name (wire_at n id)) (record { other = wire.wire; stands = wire.at; same = named }))
+    (λ used. (refl, wide ∙ sym (ap width_of wire.at))) free)
 
 -- what the checks of a new wire tell
 pub record IsNewWire (n : Circuit) (name : List ℕ) (width level : ℕ) : Type 0 where
@@ -209,9 +231,7 @@ IsCircuit-reread n ok name port wire none =
     let old = new.part.thing in
     let is = IsModule-with_input n old port (wire_id n wire) new.within new.wide (ok.modules_ok id old new.part.at) in
     let alone = DrivesAlone-same n ok id old (with_input port (wire_id n wire) old) new.part.at (λ p. refl) in
-    subst (λ slot. IsCircuit (with_module n id (option_map (with_input port (wire_id n wire)) slot))) (sym new.part.at)
-    (IsCircuit-rewrite_module n ok id (Some (with_input port (wire_id n wire) old)) (module_within n name new.part) (only (IsModule n) is)
-    (only (IsNamesake module_name (module_at n id)) (record { other = old; stands = new.part.at; same = refl })) (only (DrivesAlone n id) alone))
+    IsCircuit-changed_module n ok name new.part (with_input port (wire_id n wire)) refl is alone
 
 -- what the checks of an output's new wire tell
 pub record IsNewOutput (n : Circuit) (name : List ℕ) (port : ℕ) (wire : Option (List ℕ)) : Type 0 where
@@ -256,9 +276,7 @@ IsCircuit-redirected n ok name port wire none =
     let ids = option_map (wire_id n) wire in
     let is = IsModule-with_output n old port ids new.within new.wide (ok.modules_ok id old new.part.at) in
     let alone = DrivesAlone-with_output n old port ids new.within ok id new.part.at new.free in
-    subst (λ slot. IsCircuit (with_module n id (option_map (with_output port ids) slot))) (sym new.part.at)
-    (IsCircuit-rewrite_module n ok id (Some (with_output port ids old)) (module_within n name new.part) (only (IsModule n) is)
-    (only (IsNamesake module_name (module_at n id)) (record { other = old; stands = new.part.at; same = refl })) (only (DrivesAlone n id) alone))
+    IsCircuit-changed_module n ok name new.part (with_output port ids) refl is alone
 
 -- what the checks of an input's new delay tell
 pub record IsNewInputDelay (n : Circuit) (name : List ℕ) (port delay : ℕ) : Type 0 where
@@ -283,9 +301,7 @@ IsCircuit-input_delayed n ok name port delay none =
     let old = new.part.thing in
     let is = IsModule-with_input_delay n old port delay new.within (input_delay_at delay new.ranged) (ok.modules_ok id old new.part.at) in
     let alone = DrivesAlone-same n ok id old (with_input_delay port delay old) new.part.at (λ p. refl) in
-    subst (λ slot. IsCircuit (with_module n id (option_map (with_input_delay port delay) slot))) (sym new.part.at)
-    (IsCircuit-rewrite_module n ok id (Some (with_input_delay port delay old)) (module_within n name new.part) (only (IsModule n) is)
-    (only (IsNamesake module_name (module_at n id)) (record { other = old; stands = new.part.at; same = refl })) (only (DrivesAlone n id) alone))
+    IsCircuit-changed_module n ok name new.part (with_input_delay port delay) refl is alone
 
 -- what the checks of an output's new delay tell
 pub record IsNewDelay (n : Circuit) (name : List ℕ) (port delay : ℕ) : Type 0 where
@@ -310,9 +326,7 @@ IsCircuit-delayed n ok name port delay none =
     let old = new.part.thing in
     let is = IsModule-with_delay n old port delay new.within (delay_at delay new.ranged) (ok.modules_ok id old new.part.at) in
     let alone = DrivesAlone-same n ok id old (with_delay port delay old) new.part.at (wires-with_delay port delay old new.within) in
-    subst (λ slot. IsCircuit (with_module n id (option_map (with_delay port delay) slot))) (sym new.part.at)
-    (IsCircuit-rewrite_module n ok id (Some (with_delay port delay old)) (module_within n name new.part) (only (IsModule n) is)
-    (only (IsNamesake module_name (module_at n id)) (record { other = old; stands = new.part.at; same = refl })) (only (DrivesAlone n id) alone))
+    IsCircuit-changed_module n ok name new.part (with_delay port delay) refl is alone
 
 -- what the checks of a stimulus tell
 pub record IsNewStimulus (n : Circuit) (name : List ℕ) (changes : List (ℕ × ℕ)) : Type 0 where
@@ -332,15 +346,10 @@ pub IsCircuit-stimulated : (n : Circuit) → IsCircuit n → (name : List ℕ) (
 IsCircuit-stimulated n ok name changes none =
     let new = new_stimulus n name changes none in
     let id = (wire_id n name).0 in
-    let old = new.wire.wire in
-    let was = ok.wires_ok id old new.wire.at in
+    let was = ok.wires_ok id new.wire.wire new.wire.at in
     let valid = ap (λ width. is_stimulus n.horizon width 0 changes) (sym new.wire.width) ∙ new.valid in
-    subst (λ slot. IsCircuit (with_wire n id (option_map (with_stimulus changes) slot))) (sym new.wire.at)
-    (IsCircuit-rewrite_wire n ok id (Some (with_stimulus changes old)) (stands_within n name new.wire)
-    (only (IsWire n.horizon) (record { wide = was.wide; narrow = was.narrow; level = was.level; stimulus = valid }))
-    (only (IsNamesake wire_name (wire_at n id)) (record { other = old; stands = new.wire.at; same = refl }))
-    (λ used. (refl, sym (ap width_of new.wire.at)))
-    (λ m p drives. absurd (portless_is_undriven n ok id new.portless m p drives)))
+    IsCircuit-changed_wire n ok name new.wire (with_stimulus changes) refl refl (record { wide = was.wide; narrow = was.narrow; level = was.level; stimulus = valid })
+    (λ m p drives. absurd (portless_is_undriven n ok id new.portless m p drives))
 
 -- what the checks before a stimulus goes tell
 pub clearing : (n : Circuit) (name : List ℕ) → clearing_refusal n name ≡ None → Stands n name
@@ -352,13 +361,8 @@ cleared n name = with_wire n (wire_id n name).0 (option_map without_stimulus (wi
 pub IsCircuit-cleared : (n : Circuit) → IsCircuit n → (name : List ℕ) → clearing_refusal n name ≡ None → IsCircuit (cleared n name)
 IsCircuit-cleared n ok name none =
     let wire = clearing n name none in
-    let id = (wire_id n name).0 in
-    let was = ok.wires_ok id wire.wire wire.at in
-    subst (λ slot. IsCircuit (with_wire n id (option_map without_stimulus slot))) (sym wire.at)
-    (IsCircuit-rewrite_wire n ok id (Some (without_stimulus wire.wire)) (stands_within n name wire)
-    (only (IsWire n.horizon) (record { wide = was.wide; narrow = was.narrow; level = was.level; stimulus = tt }))
-    (only (IsNamesake wire_name (wire_at n id)) (record { other = wire.wire; stands = wire.at; same = refl }))
-    (λ used. (refl, sym (ap width_of wire.at))) (λ m p drives. refl))
+    let was = ok.wires_ok (wire_id n name).0 wire.wire wire.at in
+    IsCircuit-changed_wire n ok name wire without_stimulus refl refl (record { wide = was.wide; narrow = was.narrow; level = was.level; stimulus = tt }) (λ m p drives. refl)
 
 pub IsCircuit-edited : (n : Circuit) → IsCircuit n → (edit : SingleEdit) → refusal n edit ≡ None → IsCircuit (edited n edit)
 unfolding refusal edited

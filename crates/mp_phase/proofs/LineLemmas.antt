@@ -2,17 +2,9 @@
 use Rattle.std.proofs.Common.{◌≡◌, ℕ, ◌+◌, ◌<◌, List, [], ◌∷◌, ◌++◌, length, take, drop, set, slice_index_or, Option, Some, refl, sym, ap, ◌∙◌, add-one, append_assoc, append-nil}
 use Rattle.std.proofs.Math.Seq.{take-suc}
 use Rattle.std.proofs.lemmas.List.{drop-set, take-append-drop}
-use Rattle.mp_phase.specs.declared.side.Side.{Side}
-use Rattle.mp_phase.specs.declared.side.Side.TheVariants.{Idle, Asks, Owes, Spent}
-use Rattle.mp_phase.specs.Lines.{asked_by, tasks_of, all_asked}
+use Rattle.mp_phase.specs.Lines.{tasks_of, all_asked}
 
 module _ {T : Type 0} where
-  pub asks_it : (side : Side T) (tasks : List T) → asked_by side ≡ Some tasks → side ≡ Asks tasks
-  asks_it Idle tasks e = absurd cc
-  asks_it (Asks p) tasks e = cc
-  asks_it (Owes p) tasks e = absurd cc
-  asks_it Spent tasks e = absurd cc
-
   all_asked-append : (front back : List (Option (List T))) → all_asked (front ++ back) ≡ all_asked front ++ all_asked back
   all_asked-append [] back = refl
   all_asked-append (line ∷ front) back = ap (λ tasks. tasks_of line ++ tasks) (all_asked-append front back) ∙ sym (append_assoc (tasks_of line) (all_asked front) (all_asked back))

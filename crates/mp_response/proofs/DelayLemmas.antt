@@ -1,27 +1,29 @@
 -- Lemmas on spans of the modules of a netlist.
-use Rattle.std.proofs.Common.{◌≡◌, ℕ, ◌+◌, ◌-◌, ◌<◌, ◌≤◌, Bool, true, false, cond, List, [], ◌∷◌, ◌++◌, length, slice_index_or, Option, Some, None, ◌==◌, nat_le, nat_lt, zero, suc, refl, ap, sym, subst, ◌∙◌, arith, inl, inr, add-zero}
+use Rattle.std.proofs.Common.{◌≡◌, ℕ, ◌+◌, ◌-◌, ◌<◌, ◌≤◌, Bool, true, false, cond, List, [], ◌∷◌, ◌++◌, length, slice_index_or, Option, Some, None, ◌==◌, nat_le, nat_lt, zero, suc, refl, ap, sym, subst, ◌∙◌, arith, inl, inr, add-zero, append-nil}
+use Rattle.std.specs.List.{flat_map, range_with_len}
 use Rattle.std.proofs.lemmas.Bool.{cases_lt, eqb-true}
 use Rattle.std.proofs.lemmas.Bool.Decides.{nat_tests}
+use Rattle.std.proofs.lemmas.Grind.{flat_map-append}
 use Rattle.mp_wave.specs.Waveform.{level_from, last_from}
 use Rattle.mp_wave.proofs.WaveformLemmas.{nat_le-true, nat_le-false, last_from-append, level_from-append_later}
 use Rattle.mp_modules.specs.Kinds.{output_count}
 use Rattle.mp_modules.specs.Memories.{output_of}
+use Rattle.mp_modules.specs.declared.finding_code.FindingCode.{FindingCode}
 use Rattle.mp_modules.specs.declared.memory.Memory.{Memory}
 use Rattle.mp_storage.specs.AnyModules.{kind_of, step}
 use Rattle.mp_storage.specs.declared.any_module.AnyModule.{AnyModule}
 use Rattle.mp_storage.proofs.KindLemmas.{keeps_kind}
 use Rattle.mp_records.specs.Outputs.{delay_of}
-use Rattle.mp_records.specs.declared.ids.WireId.{WireId}
 use Rattle.mp_records.specs.declared.module_record.ModuleRecord.{ModuleRecord}
-use Rattle.mp_records.specs.declared.ports.Output.{Output}
 use Rattle.mp_netlist.specs.Circuit.{Circuit, IsCircuit, Drives, module_at, module_width, wire_at}
 use Rattle.mp_netlist.specs.declared.driver.Driver.{Driver}
 use Rattle.mp_netlist.proofs.DriverLemmas.{finds_ports}
+use Rattle.mp_netlist.proofs.UseLemmas.{output_within}
 use Rattle.mp_model.specs.Levels.{IsBehaviour, built, inputs_by, initial_of, driven_level, port_level}
-use Rattle.mp_response.specs.Span.{next_state, state_after, output_changes}
+use Rattle.mp_response.specs.Span.{next_state, found_at, state_after, findings_of, findings_in, output_changes}
 use Rattle.mp_response.specs.Pieces.{put_off}
-use Rattle.mp_response.specs.Delays.{state_before, EndsInState, GivesLevels}
-use Rattle.mp_response.proofs.SpanLemmas.{state_none, state_more, changes_more}
+use Rattle.mp_response.specs.Delays.{state_before, EndsInState, FindsByStates, GivesLevels}
+use Rattle.mp_response.proofs.SpanLemmas.{state_none, state_more, changes_more, findings_none, findings_more}
 
 -- a unit from time 1 on is a step
 later_unit : (part : AnyModule) (s : Memory) (x : List ℕ) (t : ℕ) → 0 < t → next_state part s x t ≡ step part s x
@@ -83,6 +85,49 @@ ends_in_state n level state behaves m a b r piece stands le span =
           ∙ state_none part (inputs_by n level r) s a
           ∙ ap (state_before part (state m)) same
     ]
+
+-- the state before a unit of a span is the module's
+span_before : (n : Circuit) (level : ℕ → ℕ → ℕ) (state : ℕ → ℕ → Memory) → IsBehaviour n level state → (m a j : ℕ) (r : ModuleRecord) → module_at n m ≡ Some r → state_after (built n r) (inputs_by n level r) (state_before (built n r) (state m) a) a j ≡ state_before (built n r) (state m) (a + j)
+span_before n level state behaves m a zero r stands =
+    let part = built n r in
+    state_none part (inputs_by n level r) (state_before part (state m) a) a ∙ ap (state_before part (state m)) (sym (add-zero a))
+span_before n level state behaves m a (suc j) r stands =
+    let part = built n r in
+    let one : suc j ≡ j + 1 = omega arith in
+    let next : suc (a + j) ≡ a + suc j = omega arith in
+    ap (state_after part (inputs_by n level r) (state_before part (state m) a) a) one ∙ span_state n level state behaves m a j r stands ∙ ap (state_before part (state m)) next
+
+times_more : (a n : ℕ) → range_with_len a (n + 1) ≡ range_with_len a n ++ (a + n) ∷ []
+times_more a zero = let same : a ≡ a + 0 = omega arith in ap (λ t. t ∷ []) same
+times_more a (suc n) =
+    let one : suc n + 1 ≡ suc (n + 1) = omega arith in
+    let last : a + 1 + n ≡ a + suc n = omega arith in
+    ap (range_with_len a) one ∙ ap (λ ts. a ∷ ts) (times_more (a + 1) n) ∙ ap (λ t. a ∷ (range_with_len (a + 1) n ++ t ∷ [])) last
+
+-- what a module's table finds at a time, from the state before it
+abbrev found_by : Circuit → (ℕ → ℕ → ℕ) → (ℕ → ℕ → Memory) → ℕ → ModuleRecord → ℕ → List (ℕ × FindingCode)
+found_by n level state m r t = findings_of t (found_at (built n r) (state_before (built n r) (state m) t) (inputs_by n level r t) t)
+
+findings_are : (n : Circuit) (level : ℕ → ℕ → ℕ) (state : ℕ → ℕ → Memory) → IsBehaviour n level state → (m a k : ℕ) (r : ModuleRecord) → module_at n m ≡ Some r
+    → findings_in (built n r) (inputs_by n level r) (state_before (built n r) (state m) a) a k ≡ flat_map (found_by n level state m r) (range_with_len a k)
+findings_are n level state behaves m a zero r stands = sym (findings_none (built n r) (inputs_by n level r) (state_before (built n r) (state m) a) a)
+findings_are n level state behaves m a (suc k) r stands =
+    let part = built n r in
+    let x = inputs_by n level r in
+    let s = state_before part (state m) a in
+    let one : suc k ≡ k + 1 = omega arith in
+    let found = found_by n level state m r in
+    ap (findings_in part x s a) one
+    ∙ findings_more part x s a k
+    ∙ ap (λ (z : Memory). findings_in part x s a k ++ findings_of (a + k) (found_at part z (x (a + k)) (a + k))) (span_before n level state behaves m a k r stands)
+    ∙ ap (λ (fs : List (ℕ × FindingCode)). fs ++ found (a + k)) (findings_are n level state behaves m a k r stands)
+    ∙ ap (λ (fs : List (ℕ × FindingCode)). flat_map found (range_with_len a k) ++ fs) (sym (append-nil (found (a + k))))
+    ∙ sym (flat_map-append found (range_with_len a k) ((a + k) ∷ []))
+    ∙ ap (flat_map found) (sym (times_more a k))
+    ∙ ap (λ i. flat_map found (range_with_len a i)) (sym one)
+
+pub finds_by_states : FindsByStates
+finds_by_states n level state behaves m a b r piece stands span = span.findings ∙ findings_are n level state behaves m a (b - a) r stands
 
 -- all times are below one
 abbrev AreBelow : ℕ → List (ℕ × ℕ) → Type 0
@@ -167,22 +212,11 @@ put_off_gives delay v u (x ∷ xs) =
     let test : nat_le (x.0 + delay) (u + delay) ≡ nat_le x.0 u = grind (arith, nat_tests) in
     rw test (ap (λ w. cond (nat_le x.0 u) w v) (put_off_gives delay x.1 u xs))
 
-abbrev output_in : List Output → ℕ → Output
-output_in outputs p = slice_index_or outputs p (record { wire = None; delay = 1 })
-
-no_output : (outputs : List Output) (p w : ℕ) → length outputs ≤ p → (output_in outputs p).wire ≡ Some (let id : WireId = record { 0 = w } in id) → ⊥
-no_output [] p w over is = cc
-no_output (o ∷ os) zero w over is = absurd (omega arith)
-no_output (o ∷ os) (suc p) w over is = no_output os p w (omega arith) is
-
 -- a port that drives a wire is one of its module's
 driving_port : (n : Circuit) → IsCircuit n → (m p w : ℕ) (drives : Drives n m p w) → p < output_count drives.part.kind
 driving_port n ok m p w drives =
     let part = ok.modules_ok m drives.part drives.stands in
-    elim (cases_lt p (length drives.part.outputs)) as (λ _. p < output_count drives.part.kind) [
-      | inl lt ↦ omega (arith, part.outputs)
-      | inr over ↦ absurd (no_output drives.part.outputs p w over drives.output)
-    ]
+    omega (arith, part.outputs, output_within drives.part p (record { 0 = w }) drives.output)
 
 -- the level of a wire, from the state of the module that drives it
 driven : (n : Circuit) (level : ℕ → ℕ → ℕ) (state : ℕ → ℕ → Memory) → IsCircuit n → IsBehaviour n level state → (m p w t : ℕ) (drives : Drives n m p w) → delay_of drives.part p ≤ t → level w t ≡ output_of (state m (t - delay_of drives.part p)) p

@@ -3,10 +3,10 @@ use Rattle.std.proofs.Common.{◌≡◌, ℕ, ◌+◌, ◌<◌, Bool, true, fals
 use Rattle.std.specs.List.{filter}
 use Rattle.std.proofs.lemmas.List.{map-append}
 use Rattle.std.proofs.lemmas.List.Elements.{filter_more}
-use Rattle.mp_modules.specs.Findings.{has_code}
+use Rattle.mp_modules.specs.Findings.{has_code, by_number}
 use Rattle.mp_modules.specs.declared.finding_code.FindingCode.{FindingCode}
 use Rattle.mp_modules.specs.declared.finding_set.FindingSet.{FindingSet}
-use Rattle.mp_response.specs.Span.{by_number, findings_of}
+use Rattle.mp_response.specs.Span.{findings_of}
 
 -- those codes of a list that are in a set, each with a time
 unfoldable pub findings_among : ℕ → FindingSet → List FindingCode → List (ℕ × FindingCode)

@@ -1,9 +1,10 @@
 -- A wave that is put off by a delay.
-use Rattle.std.proofs.Common.{◌≡◌, ℕ, ◌+◌, ◌-◌, ◌^◌, ◌<◌, ◌≤◌, Bool, true, false, cond, List, [], ◌∷◌, length, get_or, nat_le, nat_lt, zero, suc, refl, ap, sym, subst, ◌∙◌, arith, inl, inr}
+use Rattle.std.proofs.Common.{◌≡◌, ℕ, ◌+◌, ◌-◌, ◌^◌, ◌<◌, Bool, true, false, cond, List, [], ◌∷◌, length, get_or, nat_le, nat_lt, zero, suc, refl, ap, sym, subst, ◌∙◌, arith, inl, inr}
 use Rattle.std.specs.List.{All}
 use Rattle.std.proofs.lemmas.Bool.{cases_Bool, ltb-true}
 use Rattle.std.proofs.lemmas.Bool.Decides.{nat_tests}
 use Rattle.mp_wave.specs.Waveform.{Waveform, IsWaveform, AreChanges, level_from, level_of, later_than, earlier_than, between}
+use Rattle.mp_wave.proofs.WaveformLemmas.{AreChanges-earlier}
 use Rattle.mp_response.specs.Pieces.{put_off, later_by}
 
 -- each level of the later wave is the level of so much before, or that at time 0
@@ -17,17 +18,13 @@ late_level delay t v time (x ∷ xs) are =
 pub late_level_of : (delay t : ℕ) (wave : Waveform) → IsWaveform wave → level_of (later_by delay wave) t ≡ level_of wave (t - delay)
 late_level_of delay t wave form = late_level delay t wave.initial 0 wave.changes form
 
-AreChanges-sooner : (sooner time v : ℕ) (xs : List (ℕ × ℕ)) → sooner ≤ time → AreChanges time v xs → AreChanges sooner v xs
-AreChanges-sooner sooner time v [] le are = tt
-AreChanges-sooner sooner time v (x ∷ xs) le are = (omega (arith, are.0, le), are.1, are.2)
-
 AreChanges-put_off : (delay time v : ℕ) (xs : List (ℕ × ℕ)) → AreChanges time v xs → AreChanges (time + delay) v (put_off delay xs)
 AreChanges-put_off delay time v [] are = tt
 AreChanges-put_off delay time v (x ∷ xs) are = (omega (arith, are.0), are.1, AreChanges-put_off delay x.0 x.1 xs are.2)
 
 -- the later wave is a wave
 pub IsWaveform-later_by : (delay : ℕ) (wave : Waveform) → IsWaveform wave → IsWaveform (later_by delay wave)
-IsWaveform-later_by delay wave form = AreChanges-sooner 0 (0 + delay) wave.initial (put_off delay wave.changes) (omega arith) (AreChanges-put_off delay 0 wave.initial wave.changes form)
+IsWaveform-later_by delay wave form = AreChanges-earlier 0 (0 + delay) wave.initial (put_off delay wave.changes) (omega arith) (AreChanges-put_off delay 0 wave.initial wave.changes form)
 
 later_than-put_off : (delay from time v : ℕ) (xs : List (ℕ × ℕ)) → AreChanges time v xs → later_than from (put_off delay xs) ≡ put_off delay (later_than (from - delay) xs)
 later_than-put_off delay from time v [] are = refl

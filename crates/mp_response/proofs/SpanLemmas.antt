@@ -165,7 +165,7 @@ changes_none : (level : ℕ → ℕ) (a : ℕ) → [] ≡ output_changes level a
 unfolding output_changes
 changes_none level a = refl
 
-findings_none : (part : AnyModule) (x : ℕ → List ℕ) (s : Memory) (a : ℕ) → [] ≡ findings_in part x s a 0
+pub findings_none : (part : AnyModule) (x : ℕ → List ℕ) (s : Memory) (a : ℕ) → [] ≡ findings_in part x s a 0
 unfolding findings_in
 findings_none part x s a = refl
 

@@ -1,5 +1,6 @@
 -- Spans and what a netlist means: its modules' states, and the levels of their outputs after their delays.
 use Rattle.std.specs.Prelude.{◌≡◌, ℕ, ◌+◌, ◌-◌, ◌<◌, ◌≤◌, [], Some, slice_index_or, zero, suc}
+use Rattle.std.specs.List.{flat_map, range_with_len}
 use Rattle.mp_wave.specs.Waveform.{level_from}
 use Rattle.mp_modules.specs.declared.memory.Memory.{Memory}
 use Rattle.mp_storage.specs.AnyModules.{start}
@@ -10,7 +11,7 @@ use Rattle.mp_netlist.specs.Circuit.{Circuit, IsCircuit, Drives, module_at}
 use Rattle.mp_model.specs.Levels.{IsBehaviour, built, inputs_by}
 use Rattle.mp_response.specs.declared.piece.Piece.{Piece}
 use Rattle.mp_response.specs.Pieces.{put_off}
-use Rattle.mp_response.specs.Span.{IsSpan}
+use Rattle.mp_response.specs.Span.{IsSpan, findings_of, found_at}
 
 -- a module's state before a time: its start before time 0, and else its state at the unit before
 abbrev pub state_before : AnyModule → (ℕ → Memory) → ℕ → Memory
@@ -26,6 +27,12 @@ abbrev pub EndsInState : Type 0
 EndsInState = (n : Circuit) (level : ℕ → ℕ → ℕ) (state : ℕ → ℕ → Memory) → IsBehaviour n level state →
     (m a b : ℕ) (r : ModuleRecord) (piece : Piece) → module_at n m ≡ Some r → a ≤ b → IsSpanOf n level state m r a b piece →
     piece.memory ≡ state_before (built n r) (state m) b
+
+-- the findings of a span are what the module's table finds at each of its units, from the state before the unit
+abbrev pub FindsByStates : Type 0
+FindsByStates = (n : Circuit) (level : ℕ → ℕ → ℕ) (state : ℕ → ℕ → Memory) → IsBehaviour n level state →
+    (m a b : ℕ) (r : ModuleRecord) (piece : Piece) → module_at n m ≡ Some r → IsSpanOf n level state m r a b piece →
+    piece.findings ≡ flat_map (λ t. findings_of t (found_at (built n r) (state_before (built n r) (state m) t) (inputs_by n level r t) t)) (range_with_len a (b - a))
 
 -- the changes of an output in a span, put off by its delay, are those of its wire: from the level just before them they give the wire's level at each time of the span, put off likewise
 abbrev pub GivesLevels : Type 0

@@ -1,11 +1,10 @@
 -- What a module does over a span of time, from its state before and its input levels at each time: the definition.
 use Rattle.std.specs.Prelude.{◌≡◌, ℕ, ◌+◌, ◌-◌, ◌<◌, List, [], ◌∷◌, ◌++◌, map, length, slice_index_or, ◌==◌, if◌then◌else◌, zero, suc}
 use Rattle.std.specs.List.{filter}
-use Rattle.mp_modules.specs.Findings.{no_findings, has_code}
+use Rattle.mp_modules.specs.Findings.{no_findings, has_code, by_number}
 use Rattle.mp_modules.specs.Kinds.{output_count}
 use Rattle.mp_modules.specs.Memories.{output_of}
 use Rattle.mp_modules.specs.declared.finding_code.FindingCode.{FindingCode}
-use Rattle.mp_modules.specs.declared.finding_code.FindingCode.TheVariants as codes
 use Rattle.mp_modules.specs.declared.finding_set.FindingSet.{FindingSet}
 use Rattle.mp_modules.specs.declared.memory.Memory.{Memory}
 use Rattle.mp_storage.specs.AnyModules.{kind_of, settle, step, found}
@@ -24,13 +23,6 @@ found_at part s x t = if t == 0 then no_findings else found part s x
 unfoldable pub state_after : AnyModule → (ℕ → List ℕ) → Memory → ℕ → ℕ → Memory
 state_after part x s a zero = s
 state_after part x s a (suc k) = next_state part (state_after part x s a k) (x (a + k)) (a + k)
-
--- all codes by number
-abbrev pub by_number : List FindingCode
-by_number =
-    codes.MergeCollision ∷ codes.Withdrawn ∷ codes.SelectUnstable ∷ codes.CallOverlap ∷ codes.DoneWithoutCall ∷ codes.RepeatRequest
-    ∷ codes.DoneWithoutGrant ∷ codes.CaptureWhileHeld ∷ codes.PassWhileOpen ∷ codes.DataAtCapture ∷ codes.DataWhileBusy ∷ codes.Setup
-    ∷ codes.RequestWhileBusy ∷ codes.AckWhileIdle ∷ []
 
 -- the codes of a set by number, each with the time at which they were found
 unfoldable pub findings_of : ℕ → FindingSet → List (ℕ × FindingCode)

@@ -1,26 +1,8 @@
 //! What was found over a span of time.
 
-use mp_modules::{CODES, FindingCode, FindingSet};
+use mp_modules::{FindingCode, FindingSet};
 use std::alloc::{AllocError, Global};
 use std::marker::Model;
-
-/// All codes by number.
-const BY_NUMBER: [FindingCode; CODES] = [
-    FindingCode::MergeCollision,
-    FindingCode::Withdrawn,
-    FindingCode::SelectUnstable,
-    FindingCode::CallOverlap,
-    FindingCode::DoneWithoutCall,
-    FindingCode::RepeatRequest,
-    FindingCode::DoneWithoutGrant,
-    FindingCode::CaptureWhileHeld,
-    FindingCode::PassWhileOpen,
-    FindingCode::DataAtCapture,
-    FindingCode::DataWhileBusy,
-    FindingCode::Setup,
-    FindingCode::RequestWhileBusy,
-    FindingCode::AckWhileIdle,
-];
 
 /// Pairs of a time and a code that was found then.
 #[derive(Debug, Drop)]
@@ -72,10 +54,10 @@ impl Findings {
     }
 
     /// The codes of a set too, by number, as found at a time.
-    pub(crate) fn extend(&mut self, time: u32, set: FindingSet) -> Result<(), AllocError>
+    pub fn extend(&mut self, time: u32, set: FindingSet) -> Result<(), AllocError>
         ensures ok { OnOk result (self.new ≡ self.old ++ findings_of time set) }
     {
-        for code in BY_NUMBER {
+        for code in FindingCode::by_number() {
             self.push_if(time, code, set.contains(code))?;
         }
         Ok(())

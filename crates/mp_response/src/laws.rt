@@ -1,6 +1,6 @@
 //! What holds of all spans.
 
-ghost use Rattle.mp_response.specs.Delays.{EndsInState, GivesLevels};
+ghost use Rattle.mp_response.specs.Delays.{EndsInState, FindsByStates, GivesLevels};
 ghost use Rattle.mp_response.specs.Joins.{JoinsSpans, DependsInside, IsOneSpan};
 
 /// A span and the one that goes on from its last state are together one span: the last state is that of the second, and the findings
@@ -22,6 +22,11 @@ pub fn one_span()
 /// In a netlist, the last state of a module's span is the module's state before the span's end.
 pub fn ends_in_state()
     ensures { EndsInState }
+{}
+
+/// In a netlist, the findings of a module's span are what its table finds at each unit, from its state before the unit.
+pub fn finds_by_states()
+    ensures { FindsByStates }
 {}
 
 /// In a netlist, the changes of an output in a span, put off by the output's delay, are those of its wire.

@@ -1,9 +1,8 @@
 //! The waves of a session's netlist.
 ghost use Rattle.std.specs.Prelude.{IfOk};
 ghost use Rattle.mp_model.specs.Waves.{AreWavesOf};
-ghost use Rattle.mp_engine.specs.Runs.{IsRun};
 
-use mp_engine::{Run, evaluate};
+use mp_engine::evaluate;
 use mp_model::Waves;
 use mp_netlist::Netlist;
 use mp_phase::{Crew, Gate};
@@ -21,19 +20,6 @@ pub(crate) fn evaluated<R: Threads + Wait + Sync, G: Gate + Sync>(
 ) -> Result<Waves, AllocError>
     ensures { IfOk result (λ waves. AreWavesOf netlist.now waves) }
 {
-    let run = session_run(rt, alloc, netlist, crew, gate)?;
+    let run = evaluate(rt, alloc, netlist, crew, gate)?;
     run.waves().share(alloc)
-}
-
-/// The run of a netlist.
-fn session_run<R: Threads + Wait + Sync, G: Gate + Sync>(
-    rt: &R,
-    alloc: Global,
-    netlist: &Netlist,
-    _crew: &Crew,
-    gate: &G,
-) -> Result<Run, AllocError>
-    ensures { IfOk result (λ run. IsRun netlist.now run) }
-{
-    evaluate(alloc, rt, netlist, gate)
 }

@@ -1,3 +1,4 @@
+pub mod Places
 pub mod StreamBytes
 pub mod StreamFaults
 pub mod TakeErrors

@@ -2,6 +2,7 @@
 #![tactic(auto)]
 
 mod failed;
+mod piece;
 mod putting;
 mod read_source;
 mod sink;
@@ -14,6 +15,7 @@ mod write_buffer;
 mod write_sink;
 
 pub use failed::Failed;
+pub use piece::{PIECE_BYTES, Piece};
 pub use putting::put_all;
 pub use read_source::ReadSource;
 pub use sink::Sink;

@@ -1,8 +1,8 @@
 //! Devices that give and take bytes in small parts, and devices that fail.
-ghost use Rattle.std.specs.Prelude.{◌≡◌, ◌-◌, ◌^◌, ◌<◌};
+ghost use Rattle.std.specs.Prelude.{◌≡◌, ◌-◌, ◌^◌, ◌<◌, ◌∷◌, []};
 
 use crate::{
-    Failed, ReadSource, Sink, Source, TakeError, WriteBuffer, WriteSink, put_all, take_all,
+    Failed, Piece, ReadSource, Sink, Source, TakeError, WriteBuffer, WriteSink, put_all, take_all,
 };
 use std::alloc::Global;
 use std::io;
@@ -147,6 +147,51 @@ fn through_a_buffer(rt: HostRuntime) -> Result<(), Fail> {
         let ended = put_through(&mut buffer, &mut sink, filling.as_slice());
         let most = room.min(whole.len());
         assert_eq!(rt; ended.is_ok(), most == whole.len());
+        assert!(rt; sink.into_inner().taken.as_slice() == &whole.as_slice()[..most]);
+    }
+    Ok(())
+}
+
+/// Writes an `a`.
+struct Letter;
+
+impl Piece for Letter {
+    ghost text = { λ _. 97 ∷ [] };
+
+    fn write(&self, room: &mut [u8], at: usize) -> usize {
+        room[at] = b'a';
+        at + 1
+    }
+}
+
+/// Puts so many letters through the buffer.
+fn put_letters(
+    buffer: &mut WriteBuffer,
+    sink: &mut WriteSink<SmallWriter>,
+    count: usize,
+) -> Result<(), Failed>
+    requires { sink.old.faults < 2 ^ 64 - 1 }
+{
+    'letters: for _ in 0..count {
+        buffer.push_piece(sink, &Letter)?;
+    }
+    buffer.flush(sink)
+}
+
+#[test]
+fn pieces_through_a_buffer(rt: HostRuntime) -> Result<(), Fail> {
+    for (count, room) in [
+        (65_473, 100_000),
+        (65_600, 100_000),
+        (65_600, 7),
+        (65_600, 65_500),
+    ] {
+        let whole = vec![in rt.alloc(); b'a'; count]?;
+        let mut buffer = WriteBuffer::new(rt.alloc())?;
+        let mut sink = small_writer(rt.alloc(), 70_000, room, true);
+        let ended = put_letters(&mut buffer, &mut sink, count);
+        let most = room.min(count);
+        assert_eq!(rt; ended.is_ok(), most == count);
         assert!(rt; sink.into_inner().taken.as_slice() == &whole.as_slice()[..most]);
     }
     Ok(())

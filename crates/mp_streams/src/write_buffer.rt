@@ -1,10 +1,12 @@
 //! A buffer before a sink.
-ghost use Rattle.std.specs.Prelude.{◌≡◌, ◌+◌, ◌-◌, ◌^◌, ◌<◌, ◌≤◌, List, [], ◌++◌, ℕ, length, vec_len, vec_capacity, IfOk, OnOk, OnErr};
+ghost use Rattle.std.specs.Prelude.{◌≡◌, ◌+◌, ◌-◌, ◌^◌, ◌<◌, ◌≤◌, [], ◌++◌, length, IfOk, OnOk, OnErr};
 ghost use Rattle.std.specs.Io.KnownBytes.{Appends};
+ghost use Rattle.mp_streams.specs.Places.{IsPlaced};
 ghost use Rattle.mp_streams.specs.StreamBytes.{AppendsPrefix, PassesOn};
 ghost use Rattle.mp_streams.specs.StreamFaults.{counted};
 
 use crate::failed::Failed;
+use crate::piece::{PIECE_BYTES, Piece};
 use crate::putting::put_all;
 use crate::sink::Sink;
 use std::alloc::{AllocError, Global};
@@ -18,13 +20,19 @@ const CAPACITY: usize = 65_536;
 /// let go is lost. The buffer takes its memory when it is made, and no more.
 #[derive(Drop)]
 pub struct WriteBuffer {
-    bytes: Vec<u8>,
+    // the room, as long as it was at first, whose front is held
+    room: Vec<u8>,
+    end: usize,
 }
 
 impl Model for WriteBuffer {
+    ghost use Rattle.std.specs.Prelude.{ℕ, ◌≤◌, List, length, take};
+
     ghost Value = { List ℕ };
 
-    ghost view = { λ buffer. buffer.bytes.items };
+    ghost view = { λ buffer. take buffer.end buffer.room.items };
+
+    ghost invariant = { λ buffer. (buffer.end ≤ length buffer.room.items) × (64 ≤ length buffer.room.items) };
 }
 
 impl WriteBuffer {
@@ -32,9 +40,8 @@ impl WriteBuffer {
     pub fn new(alloc: Global) -> Result<WriteBuffer, AllocError>
         ensures { IfOk result (λ buffer. buffer ≡ []) }
     {
-        Ok(WriteBuffer {
-            bytes: Vec::with_capacity(alloc, CAPACITY)?,
-        })
+        let room = vec![in alloc; 0; CAPACITY]?;
+        Ok(WriteBuffer { room, end: 0 })
     }
 
     /// Passes the bytes on to the sink, behind those that the buffer holds, or holds them too.
@@ -45,29 +52,63 @@ impl WriteBuffer {
         requires { S.fault_count sink.old < 2 ^ 64 - 1 }
         ensures passed { OnOk result (PassesOn (S.taken sink.old) (S.taken sink.new) self.old self.new bytes.now) }
         ensures failed { OnErr result (AppendsPrefix (S.taken sink.old) (S.taken sink.new) (self.old ++ bytes.now)) }
+        ensures empty { OnErr result (self.new ≡ []) }
         ensures faults { S.fault_count sink.new ≡ counted result (S.fault_count sink.old) }
     {
-        if bytes.len() > self.bytes.capacity() - self.bytes.len() {
+        if bytes.len() > self.room.len() - self.end {
             return self.push_over(sink, bytes);
         }
-        append(&mut self.bytes, bytes);
+        self.end = place(self.room.as_mut_slice(), self.end, bytes);
         Ok(())
     }
 
-    /// The same where there is no room for the bytes.
+    /// Passes the bytes of the piece on to the sink, behind those that the buffer holds, or holds
+    /// them too: it writes them where the buffer has room for any piece. `Failed` comes with a fault
+    /// of the sink: then a part of all these bytes from the front, and not all of them, was taken,
+    /// and the buffer holds none.
+    #[inline]
+    pub fn push_piece<S: Sink, P: Piece>(&mut self, sink: &mut S, piece: &P) -> Result<(), Failed>
+        requires { S.fault_count sink.old < 2 ^ 64 - 1 }
+        ensures passed { OnOk result (PassesOn (S.taken sink.old) (S.taken sink.new) self.old self.new (P.text piece.now)) }
+        ensures failed { OnErr result (AppendsPrefix (S.taken sink.old) (S.taken sink.new) (self.old ++ P.text piece.now)) }
+        ensures faults { S.fault_count sink.new ≡ counted result (S.fault_count sink.old) }
+    {
+        if self.room.len() - self.end < PIECE_BYTES {
+            return self.push_piece_over(sink, piece);
+        }
+        self.end = piece.write(self.room.as_mut_slice(), self.end);
+        Ok(())
+    }
+
+    /// The same as `push` where there is no room for the bytes.
     #[cold]
     #[inline(never)]
     fn push_over<S: Sink>(&mut self, sink: &mut S, bytes: &[u8]) -> Result<(), Failed>
         requires { S.fault_count sink.old < 2 ^ 64 - 1 }
         ensures passed { OnOk result (PassesOn (S.taken sink.old) (S.taken sink.new) self.old self.new bytes.now) }
         ensures failed { OnErr result (AppendsPrefix (S.taken sink.old) (S.taken sink.new) (self.old ++ bytes.now)) }
+        ensures empty { OnErr result (self.new ≡ []) }
         ensures faults { S.fault_count sink.new ≡ counted result (S.fault_count sink.old) }
     {
         self.flush(sink)?;
-        if bytes.len() > self.bytes.capacity() {
+        if bytes.len() > self.room.len() - self.end {
             return put_all(sink, bytes);
         }
-        append(&mut self.bytes, bytes);
+        self.end = place(self.room.as_mut_slice(), self.end, bytes);
+        Ok(())
+    }
+
+    /// The same as `push_piece` where there is no room for the piece.
+    #[cold]
+    #[inline(never)]
+    fn push_piece_over<S: Sink, P: Piece>(&mut self, sink: &mut S, piece: &P) -> Result<(), Failed>
+        requires { S.fault_count sink.old < 2 ^ 64 - 1 }
+        ensures passed { OnOk result (PassesOn (S.taken sink.old) (S.taken sink.new) self.old self.new (P.text piece.now)) }
+        ensures failed { OnErr result (AppendsPrefix (S.taken sink.old) (S.taken sink.new) (self.old ++ P.text piece.now)) }
+        ensures faults { S.fault_count sink.new ≡ counted result (S.fault_count sink.old) }
+    {
+        self.flush(sink)?;
+        self.end = piece.write(self.room.as_mut_slice(), 0);
         Ok(())
     }
 
@@ -80,19 +121,19 @@ impl WriteBuffer {
         ensures empty { self.new ≡ [] }
         ensures faults { S.fault_count sink.new ≡ counted result (S.fault_count sink.old) }
     {
-        let put = put_all(sink, self.bytes.as_slice());
-        self.bytes.clear();
+        let put = put_all(sink, &self.room[..self.end]);
+        self.end = 0;
         put
     }
 }
 
-/// Puts the bytes behind the others, where there is room for them.
+/// Writes the bytes from a place on, where there is room for them, and returns where they end.
 #[inline]
-fn append(to: &mut Vec<u8>, bytes: &[u8])
-    requires { vec_len to.old + length bytes.now ≤ vec_capacity to.old }
-    ensures { to.new.items ≡ to.old.items ++ bytes.now }
+fn place(room: &mut [u8], at: usize, bytes: &[u8]) -> usize
+    requires { at + length bytes.now ≤ length room.old }
+    ensures { IsPlaced room.old room.new at bytes.now result }
 {
-    let Ok(()) = to.extend_from_slice(bytes) else {
-        unreachable!()
-    };
+    let end = at + bytes.len();
+    room[at..end].copy_from_slice(bytes);
+    end
 }

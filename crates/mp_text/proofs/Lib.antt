@@ -5,6 +5,8 @@ pub mod StatementBackLemmas
 pub mod TextBackLemmas
 pub mod TextLemmas
 pub mod WriteLemmas
+pub mod PutLemmas
+pub mod SectionLemmas
 pub mod ModuleBackLemmas
 pub mod WrittenLineLemmas
 pub mod SlotLemmas

@@ -2,7 +2,6 @@
 use Rattle.std.proofs.Common.{◌≡◌, ℕ, ◌^◌, ◌<◌, ◌≤◌, Bool, true, false, cond, ◌==◌, List, [], ◌∷◌, ◌++◌, length, map, All, Option, Some, None, Ok, decimal, refl, sym, subst, arith, inl, inr}
 use Rattle.std.specs.Prelude.{codes, nat_lt, IsTrue, IsSome, IfSome, option_map}
 use Rattle.std.specs.List.{list_all}
-use Rattle.std.proofs.Math.Nat.{pow-le-pow_right}
 use Rattle.std.proofs.lemmas.Bool.{cases_Bool, eqb-true}
 use Rattle.std.proofs.lemmas.Bool.Decides.{nat_tests}
 use Rattle.std.proofs.lemmas.List.{append-nil}
@@ -10,7 +9,7 @@ use Rattle.std.proofs.lemmas.List.Elements.{All-cons, All-nil, All-map, All-appe
 use Rattle.mp_modules.specs.declared.kind.Kind.{Kind}
 use Rattle.mp_modules.specs.declared.kind.Kind.TheVariants as kinds
 use Rattle.mp_modules.proofs.KindLemmas.{some_input, some_output, param_bound-low}
-use Rattle.mp_modules.specs.Kinds.{word_of, param_bound, param_count, are_params, has_width, input_count, output_count, output_width}
+use Rattle.mp_modules.specs.Kinds.{word_of, param_bound, param_count, are_params, has_width, output_width}
 use Rattle.mp_records.specs.declared.ids.WireId.{WireId}
 use Rattle.mp_records.specs.declared.wire_record.WireRecord.{WireRecord}
 use Rattle.mp_records.specs.declared.module_record.ModuleRecord.{ModuleRecord}

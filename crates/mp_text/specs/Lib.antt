@@ -9,4 +9,5 @@ pub mod Batches
 pub mod ScriptLines
 pub mod Laws
 pub mod Written
+pub mod Sections
 pub mod RoundTrips

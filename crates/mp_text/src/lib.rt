@@ -5,9 +5,12 @@ mod batch_line;
 mod edit_word;
 pub mod laws;
 mod line_word;
+mod put_ports;
+mod put_words;
 mod reading;
 mod script_edit;
 mod script_line;
+mod section;
 mod single_word;
 mod stated_edit;
 mod stated_line;
@@ -25,7 +28,7 @@ pub use script_line::{Line, Question};
 pub use stated_line::read_line;
 pub use text_code::TextCode;
 pub use text_error::TextError;
-pub use writing::write_netlist;
+pub use writing::{put_netlist, write_netlist};
 
 #[cfg(test)]
 mod tests;

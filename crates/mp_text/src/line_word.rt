@@ -14,6 +14,8 @@ pub enum LineWord {
     Waves,
     /// `text`
     Text,
+    /// `dump`
+    Dump,
 }
 
 impl LineWord {
@@ -32,6 +34,8 @@ impl LineWord {
             Some(LineWord::Waves)
         } else if word == b"text".as_slice() {
             Some(LineWord::Text)
+        } else if word == b"dump".as_slice() {
+            Some(LineWord::Dump)
         } else {
             Some(LineWord::Single(SingleWord::from_word(word)?))
         }

@@ -21,4 +21,6 @@ pub enum Question {
     Waves,
     /// The netlist's text.
     Text,
+    /// The value change dump of the netlist.
+    Dump,
 }

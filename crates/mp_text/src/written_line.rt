@@ -1,186 +1,168 @@
-//! Writing the lines of a netlist's text.
-ghost use Rattle.std.specs.Prelude.{◌≡◌, ◌∷◌, [], ◌++◌, OnOk, Some, map};
+//! The lines of a netlist's text through a buffer.
+ghost use Rattle.std.specs.Prelude.{◌≡◌, ◌-◌, ◌^◌, ◌<◌, ◌∷◌, ◌++◌, OnOk, OnErr, Some, codes, map};
 ghost use Rattle.std.specs.Fmt.{decimal};
-ghost use Rattle.mp_text.specs.Written.{spaced, format_line, horizon_line, wire_line, wire_name, delay_text, input_text, output_name, output_text, module_line, stimulus_words, stimulus_line, bundle_line};
+ghost use Rattle.mp_modules.specs.Kinds.{word_of};
+ghost use Rattle.mp_streams.specs.StreamBytes.{AppendsPrefix, PassesOn};
+ghost use Rattle.mp_streams.specs.StreamFaults.{counted};
+ghost use Rattle.mp_text.specs.Written.{spaced, input_text, output_text, format_line, horizon_line, wire_line, module_line, stimulus_line, bundle_line};
 
+use crate::put_ports::{put_inputs, put_outputs, wire_word};
+use crate::put_words::{put_line, put_numbers, put_word};
 use crate::text_format::MAX_FIRST_HORIZON;
-use mp_netlist::{
-    BundleRecord, Input, ModuleRecord, Netlist, Output, Stimulus, WireId, WireRecord,
-};
-use mp_words::{push_changes, push_number};
-use std::alloc::AllocError;
+use itoa::Buffer;
+use mp_netlist::{BundleRecord, ModuleRecord, Netlist, WireRecord};
+use mp_streams::{Failed, Sink, WriteBuffer};
+use mp_words::put_changes;
 
-/// Puts the line of the form behind the text where a netlist of this horizon needs one.
-pub fn push_format(text: &mut Vec<u8>, horizon: u32) -> Result<(), AllocError>
-    ensures { OnOk result (text.new.items ≡ text.old.items ++ format_line horizon) }
+/// Puts the line of the form through the buffer where a netlist of this horizon needs one.
+pub fn put_format<S: Sink>(
+    buffer: &mut WriteBuffer,
+    sink: &mut S,
+    horizon: u32,
+) -> Result<(), Failed>
+    requires { S.fault_count sink.old < 2 ^ 64 - 1 }
+    ensures passed { OnOk result (PassesOn (S.taken sink.old) (S.taken sink.new) buffer.old buffer.new (format_line horizon)) }
+    ensures failed { OnErr result (AppendsPrefix (S.taken sink.old) (S.taken sink.new) (buffer.old ++ format_line horizon)) }
+    ensures faults { S.fault_count sink.new ≡ counted result (S.fault_count sink.old) }
 {
     if u64::from(horizon) > MAX_FIRST_HORIZON {
-        text.extend_from_slice(b"format 2\n")?;
+        return put_line(buffer, sink, b"format", &[b"2"]);
     }
     Ok(())
 }
 
-/// Puts the line of the horizon behind the text.
-pub fn push_horizon(text: &mut Vec<u8>, horizon: u32) -> Result<(), AllocError>
-    ensures { OnOk result (text.new.items ≡ text.old.items ++ horizon_line horizon) }
+/// Puts the line of the horizon through the buffer.
+pub fn put_horizon<S: Sink>(
+    buffer: &mut WriteBuffer,
+    sink: &mut S,
+    horizon: u32,
+) -> Result<(), Failed>
+    requires { S.fault_count sink.old < 2 ^ 64 - 1 }
+    ensures passed { OnOk result (PassesOn (S.taken sink.old) (S.taken sink.new) buffer.old buffer.new (horizon_line horizon)) }
+    ensures failed { OnErr result (AppendsPrefix (S.taken sink.old) (S.taken sink.new) (buffer.old ++ horizon_line horizon)) }
+    ensures faults { S.fault_count sink.new ≡ counted result (S.fault_count sink.old) }
 {
-    text.extend_from_slice(b"horizon")?;
-    push_number_word(text, u64::from(horizon))?;
-    text.push(b'\n')?;
-    Ok(())
+    let mut digits = Buffer::new();
+    put_line(
+        buffer,
+        sink,
+        b"horizon",
+        &[digits.format(horizon).as_bytes()],
+    )
 }
 
-/// Puts the line of a wire behind the text.
-pub fn push_wire(text: &mut Vec<u8>, wire: &WireRecord) -> Result<(), AllocError>
-    ensures { OnOk result (text.new.items ≡ text.old.items ++ wire_line (Some wire.now)) }
+/// Puts the line of a wire through the buffer.
+pub fn put_wire<S: Sink>(
+    buffer: &mut WriteBuffer,
+    sink: &mut S,
+    wire: &WireRecord,
+) -> Result<(), Failed>
+    requires { S.fault_count sink.old < 2 ^ 64 - 1 }
+    ensures passed { OnOk result (PassesOn (S.taken sink.old) (S.taken sink.new) buffer.old buffer.new (wire_line (Some wire.now))) }
+    ensures failed { OnErr result (AppendsPrefix (S.taken sink.old) (S.taken sink.new) (buffer.old ++ wire_line (Some wire.now))) }
+    ensures faults { S.fault_count sink.new ≡ counted result (S.fault_count sink.old) }
 {
-    text.extend_from_slice(b"wire")?;
-    push_word(text, wire.name.as_str())?;
-    push_number_word(text, u64::from(wire.width))?;
-    push_number_word(text, wire.initial)?;
-    text.push(b'\n')?;
-    Ok(())
+    let mut width = Buffer::new();
+    let mut initial = Buffer::new();
+    let words = [
+        wire.name.as_str().as_bytes(),
+        width.format(wire.width).as_bytes(),
+        initial.format(wire.initial).as_bytes(),
+    ];
+    put_line(buffer, sink, b"wire", &words)
 }
 
-/// Puts the line of a module of the netlist behind the text.
-pub fn push_module(
-    text: &mut Vec<u8>,
+/// Puts the line of a module of the netlist through the buffer.
+pub fn put_module<S: Sink>(
+    buffer: &mut WriteBuffer,
+    sink: &mut S,
     netlist: &Netlist,
     part: &ModuleRecord,
-) -> Result<(), AllocError>
-    ensures { OnOk result (text.new.items ≡ text.old.items ++ module_line netlist.now (Some part.now)) }
+) -> Result<(), Failed>
+    requires { S.fault_count sink.old < 2 ^ 64 - 1 }
+    ensures passed { OnOk result (PassesOn (S.taken sink.old) (S.taken sink.new) buffer.old buffer.new (module_line netlist.now (Some part.now))) }
+    ensures failed { OnErr result (AppendsPrefix (S.taken sink.old) (S.taken sink.new) (buffer.old ++ module_line netlist.now (Some part.now))) }
+    ensures faults { S.fault_count sink.new ≡ counted result (S.fault_count sink.old) }
 {
-    text.extend_from_slice(b"module")?;
-    push_word(text, part.name.as_str())?;
-    push_word(text, part.kind.word())?;
-    push_params(text, part.params.as_slice())?;
-    push_word(text, ":")?;
-    push_inputs(text, netlist, part.inputs.as_slice())?;
-    push_word(text, ">")?;
-    push_outputs(text, netlist, part.outputs.as_slice())?;
-    text.push(b'\n')?;
-    Ok(())
+    put_module_start(buffer, sink, part)?;
+    put_module_ports(buffer, sink, netlist, part)?;
+    buffer.push(sink, b"\n")
 }
 
-fn push_params(text: &mut Vec<u8>, params: &[u64]) -> Result<(), AllocError>
-    ensures { OnOk result (text.new.items ≡ text.old.items ++ spaced (map decimal params.now)) }
+/// Puts what a module is, its name, its kind and its parameters, through the buffer.
+fn put_module_start<S: Sink>(
+    buffer: &mut WriteBuffer,
+    sink: &mut S,
+    part: &ModuleRecord,
+) -> Result<(), Failed>
+    requires { S.fault_count sink.old < 2 ^ 64 - 1 }
+    ensures passed { OnOk result (PassesOn (S.taken sink.old) (S.taken sink.new) buffer.old buffer.new (codes "module" ++ spaced (part.now.name ∷ word_of part.now.kind ∷ map decimal part.now.params))) }
+    ensures failed { OnErr result (AppendsPrefix (S.taken sink.old) (S.taken sink.new) (buffer.old ++ (codes "module" ++ spaced (part.now.name ∷ word_of part.now.kind ∷ map decimal part.now.params)))) }
+    ensures faults { S.fault_count sink.new ≡ counted result (S.fault_count sink.old) }
 {
-    for param in params {
-        push_number_word(text, *param)?;
-    }
-    Ok(())
+    buffer.push(sink, b"module")?;
+    put_word(buffer, sink, part.name.as_str().as_bytes())?;
+    put_word(buffer, sink, part.kind.word().as_bytes())?;
+    put_numbers(buffer, sink, part.params.as_slice())
 }
 
-fn push_inputs(text: &mut Vec<u8>, netlist: &Netlist, inputs: &[Input]) -> Result<(), AllocError>
-    ensures { OnOk result (text.new.items ≡ text.old.items ++ spaced (map (input_text netlist.now) inputs.now)) }
+/// Puts the wires of a module's ports through the buffer.
+fn put_module_ports<S: Sink>(
+    buffer: &mut WriteBuffer,
+    sink: &mut S,
+    netlist: &Netlist,
+    part: &ModuleRecord,
+) -> Result<(), Failed>
+    requires { S.fault_count sink.old < 2 ^ 64 - 1 }
+    ensures passed { OnOk result (PassesOn (S.taken sink.old) (S.taken sink.new) buffer.old buffer.new (spaced (codes ":" ∷ (map (input_text netlist.now) part.now.inputs ++ (codes ">" ∷ map (output_text netlist.now) part.now.outputs))))) }
+    ensures failed { OnErr result (AppendsPrefix (S.taken sink.old) (S.taken sink.new) (buffer.old ++ spaced (codes ":" ∷ (map (input_text netlist.now) part.now.inputs ++ (codes ">" ∷ map (output_text netlist.now) part.now.outputs))))) }
+    ensures faults { S.fault_count sink.new ≡ counted result (S.fault_count sink.old) }
 {
-    for input in inputs {
-        text.push(b' ')?;
-        push_input(text, netlist, *input)?;
-    }
-    Ok(())
+    put_word(buffer, sink, b":")?;
+    put_inputs(buffer, sink, netlist, part.inputs.as_slice())?;
+    put_word(buffer, sink, b">")?;
+    put_outputs(buffer, sink, netlist, part.outputs.as_slice())
 }
 
-fn push_input(text: &mut Vec<u8>, netlist: &Netlist, input: Input) -> Result<(), AllocError>
-    ensures { OnOk result (text.new.items ≡ text.old.items ++ input_text netlist.now input) }
+/// Puts the line of a wire's stimulus through the buffer, where it has one.
+pub fn put_stimulus<S: Sink>(
+    buffer: &mut WriteBuffer,
+    sink: &mut S,
+    wire: &WireRecord,
+) -> Result<(), Failed>
+    requires { S.fault_count sink.old < 2 ^ 64 - 1 }
+    ensures passed { OnOk result (PassesOn (S.taken sink.old) (S.taken sink.new) buffer.old buffer.new (stimulus_line (Some wire.now))) }
+    ensures failed { OnErr result (AppendsPrefix (S.taken sink.old) (S.taken sink.new) (buffer.old ++ stimulus_line (Some wire.now))) }
+    ensures faults { S.fault_count sink.new ≡ counted result (S.fault_count sink.old) }
 {
-    push_name(text, netlist, input.wire)?;
-    push_input_delay(text, input.delay)
-}
-
-/// Puts the delay of an input behind the text, and nothing where there is none.
-fn push_input_delay(text: &mut Vec<u8>, delay: u32) -> Result<(), AllocError>
-    ensures { OnOk result (text.new.items ≡ text.old.items ++ delay_text delay) }
-{
-    if delay == 0 {
+    let Some(stimulus) = &wire.stimulus else {
         return Ok(());
-    }
-    text.push(b'/')?;
-    push_number(text, u64::from(delay))
+    };
+    buffer.push(sink, b"stim")?;
+    put_word(buffer, sink, wire.name.as_str().as_bytes())?;
+    put_changes(buffer, sink, stimulus.as_slice())?;
+    buffer.push(sink, b"\n")
 }
 
-fn push_outputs(text: &mut Vec<u8>, netlist: &Netlist, outputs: &[Output]) -> Result<(), AllocError>
-    ensures { OnOk result (text.new.items ≡ text.old.items ++ spaced (map (output_text netlist.now) outputs.now)) }
-{
-    for output in outputs {
-        text.push(b' ')?;
-        push_output(text, netlist, *output)?;
-    }
-    Ok(())
-}
-
-fn push_output(text: &mut Vec<u8>, netlist: &Netlist, output: Output) -> Result<(), AllocError>
-    ensures { OnOk result (text.new.items ≡ text.old.items ++ output_text netlist.now output) }
-{
-    match output.wire {
-        Some(wire) => push_name(text, netlist, wire)?,
-        None => text.push(b'-')?,
-    }
-    text.push(b'/')?;
-    push_number(text, u64::from(output.delay))
-}
-
-/// Puts the name of the wire of this number behind the text, and nothing where none stands.
-fn push_name(text: &mut Vec<u8>, netlist: &Netlist, wire: WireId) -> Result<(), AllocError>
-    ensures { OnOk result (text.new.items ≡ text.old.items ++ wire_name netlist.now wire) }
-{
-    if let Some(found) = netlist.wire(wire) {
-        text.extend_from_slice(found.name.as_str().as_bytes())?;
-    }
-    Ok(())
-}
-
-/// Puts the line of a wire's stimulus behind the text, where it has one.
-pub fn push_stimulus(text: &mut Vec<u8>, wire: &WireRecord) -> Result<(), AllocError>
-    ensures { OnOk result (text.new.items ≡ text.old.items ++ stimulus_line (Some wire.now)) }
-{
-    if let Some(stimulus) = &wire.stimulus {
-        text.extend_from_slice(b"stim")?;
-        push_word(text, wire.name.as_str())?;
-        push_changes(text, stimulus.as_slice())?;
-        text.push(b'\n')?;
-    }
-    Ok(())
-}
-
-/// Puts the line of a bundle of the netlist behind the text.
-pub fn push_bundle(
-    text: &mut Vec<u8>,
+/// Puts the line of a bundle of the netlist through the buffer.
+pub fn put_bundle<S: Sink>(
+    buffer: &mut WriteBuffer,
+    sink: &mut S,
     netlist: &Netlist,
     bundle: &BundleRecord,
-) -> Result<(), AllocError>
-    ensures { OnOk result (text.new.items ≡ text.old.items ++ bundle_line netlist.now (Some bundle.now)) }
+) -> Result<(), Failed>
+    requires { S.fault_count sink.old < 2 ^ 64 - 1 }
+    ensures passed { OnOk result (PassesOn (S.taken sink.old) (S.taken sink.new) buffer.old buffer.new (bundle_line netlist.now (Some bundle.now))) }
+    ensures failed { OnErr result (AppendsPrefix (S.taken sink.old) (S.taken sink.new) (buffer.old ++ bundle_line netlist.now (Some bundle.now))) }
+    ensures faults { S.fault_count sink.new ≡ counted result (S.fault_count sink.old) }
 {
-    text.extend_from_slice(b"bundle")?;
-    push_word(text, bundle.name.as_str())?;
-    push_name_word(text, netlist, bundle.request)?;
-    push_name_word(text, netlist, bundle.acknowledge)?;
-    push_name_word(text, netlist, bundle.payload)?;
-    push_number_word(text, u64::from(bundle.setup))?;
-    text.push(b'\n')?;
-    Ok(())
-}
-
-/// Puts a space and the name of the wire of this number behind the text.
-fn push_name_word(text: &mut Vec<u8>, netlist: &Netlist, wire: WireId) -> Result<(), AllocError>
-    ensures { OnOk result (text.new.items ≡ text.old.items ++ (32 ∷ wire_name netlist.now wire)) }
-{
-    text.push(b' ')?;
-    push_name(text, netlist, wire)
-}
-
-/// Puts a space and the word behind the text.
-fn push_word(text: &mut Vec<u8>, word: &str) -> Result<(), AllocError>
-    ensures { OnOk result (text.new.items ≡ text.old.items ++ (32 ∷ word.now)) }
-{
-    text.push(b' ')?;
-    text.extend_from_slice(word.as_bytes())
-}
-
-/// Puts a space and the number behind the text.
-fn push_number_word(text: &mut Vec<u8>, number: u64) -> Result<(), AllocError>
-    ensures { OnOk result (text.new.items ≡ text.old.items ++ (32 ∷ decimal number)) }
-{
-    text.push(b' ')?;
-    push_number(text, number)
+    let mut setup = Buffer::new();
+    let words = [
+        bundle.name.as_str().as_bytes(),
+        wire_word(netlist, bundle.request),
+        wire_word(netlist, bundle.acknowledge),
+        wire_word(netlist, bundle.payload),
+        setup.format(bundle.setup).as_bytes(),
+    ];
+    put_line(buffer, sink, b"bundle", &words)
 }

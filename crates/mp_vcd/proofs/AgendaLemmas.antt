@@ -1,19 +1,19 @@
 -- The changes of a time, one before the others.
-use Rattle.std.proofs.Common.{◌≡◌, ◌≢◌, ℕ, ◌+◌, ◌-◌, ◌<◌, ◌≤◌, ◌⊎◌, inl, inr, Bool, true, false, not, cond, ◌==◌, nat_le, List, [], ◌∷◌, ◌++◌, length, length-append, take, slice_index, slice_set, Some, zero, suc, refl, sym, ap, subst, ◌∙◌, zero-add, add-one, get_or, arith, get_or-set_other, get_or-set_same}
+use Rattle.std.proofs.Common.{◌≡◌, ◌≢◌, ℕ, ◌+◌, ◌-◌, ◌<◌, ◌≤◌, ◌⊎◌, inl, inr, Bool, true, false, not, cond, ◌==◌, nat_le, nat_lt, List, [], ◌∷◌, ◌++◌, length, length-append, take, slice_index, slice_set, Some, zero, suc, refl, sym, ap, subst, ◌∙◌, zero-add, add-one, get_or, arith, get_or-set_other, get_or-set_same}
 use Rattle.std.proofs.lemmas.Bool.Decides.{nat_tests}
-use Rattle.std.proofs.lemmas.Bool.{cases_lt, eqb-true}
+use Rattle.std.proofs.lemmas.Bool.{cases_lt, eqb-true, lt-ltb}
 use Rattle.std.proofs.Math.ListN.{get_or-append, length-set}
 use Rattle.std.proofs.Math.Seq.{get_or-append_seam, take-suc}
-use Rattle.mp_wave.specs.Waveform.{change_after, changes_after}
+use Rattle.mp_wave.specs.Waveform.{change_after, changes_after, later_than, between}
 use Rattle.mp_records.specs.declared.wire_record.WireRecord.{WireRecord}
 use Rattle.mp_netlist.specs.Circuit.{Circuit, wire_at, width_of}
 use Rattle.mp_model.specs.Waves.{level}
-use Rattle.std.specs.List.{flat_map}
+use Rattle.std.specs.List.{filter, flat_map}
 use Rattle.std.proofs.lemmas.List.Folds.{flat_map-map}
 use Rattle.mp_vcd.specs.Values.{value_line}
 use Rattle.mp_vcd.specs.Dumps.{is_changed, value_at, marked, time_mark}
 use Rattle.mp_vcd.specs.declared.agenda.Entry.{Entry}
-use Rattle.mp_vcd.specs.Agendas.{no_entry, entry_at, IsChain, Tells, with_told, onto, onto_slot, with_levels, told_lines}
+use Rattle.mp_vcd.specs.Agendas.{no_entry, entry_at, IsChain, Tells, told_from, with_told, onto, onto_slot, with_levels, told_lines}
 
 -- ---- chains
 
@@ -157,6 +157,43 @@ module _ (levels : ℕ → ℕ) (w t : ℕ) where
           let after = upto_true t (suc m) (omega arith) in
           rw (now, before, after) refl
       by (inr later) = late (suc m == t) refl later
+
+-- changes that pass a test which each at a time passes
+onto-filter : (p : ℕ × ℕ → Bool) (w : ℕ) (changes : List (ℕ × ℕ)) (t : ℕ) (others : List (ℕ × ℕ)) → ((change : ℕ × ℕ) → change.0 ≡ t → p change ≡ true)
+    → onto w (filter p changes) t others ≡ onto w changes t others
+onto-filter p w [] t others each = refl
+onto-filter p w (x ∷ xs) t others each =
+    by (p x) refl (onto-filter p w xs t (cond (x.0 == t) ((w, x.1) ∷ others) others) each) (onto-filter p w xs t others each)
+  where
+    none : (now : Bool) → (x.0 == t) ≡ now → p x ≡ false → onto w xs t others ≡ onto w xs t (cond now ((w, x.1) ∷ others) others)
+    none true now out = let passes = each x (eqb-true x.0 t now) in cc (passes, out)
+    none false now out = refl
+
+    by : (test : Bool) → p x ≡ test → onto w (filter p xs) t (cond (x.0 == t) ((w, x.1) ∷ others) others) ≡ onto w xs t (cond (x.0 == t) ((w, x.1) ∷ others) others)
+        → onto w (filter p xs) t others ≡ onto w xs t others
+        → onto w (cond test (x ∷ filter p xs) (filter p xs)) t others ≡ onto w xs t (cond (x.0 == t) ((w, x.1) ∷ others) others)
+    by true test kept left = kept
+    by false test kept left = left ∙ none (x.0 == t) refl test
+
+-- those between two times, at a time between them
+pub onto_between : (w from to : ℕ) (changes : List (ℕ × ℕ)) (t : ℕ) (others : List (ℕ × ℕ)) → from < t → t < to → onto w (between from to changes) t others ≡ onto w changes t others
+onto_between w from to changes t others after before =
+    onto-filter (λ change. nat_lt change.0 to) w (later_than from changes) t others (λ change same. let less : change.0 < to = omega (arith, same, before) in lt-ltb change.0 to less)
+    ∙ onto-filter (λ change. nat_lt from change.0) w changes t others (λ change same. let less : from < change.0 = omega (arith, same, after) in lt-ltb from change.0 less)
+
+-- a change at a time from another on
+pub with_told-from : (told : ℕ → List (ℕ × ℕ)) (from time : ℕ) (change : ℕ × ℕ) (k : ℕ) → from ≤ time → with_told (told_from from told) (time - from) change k ≡ told_from from (with_told told time change) k
+with_told-from told from time change k after =
+    let same : (time - from == k) ≡ (time == from + k) = by (time - from == k) refl in
+    ap (λ test. cond test (change ∷ told (from + k)) (told (from + k))) same
+  where
+    by : (test : Bool) → (time - from == k) ≡ test → (time - from == k) ≡ (time == from + k)
+    by true test = let here : time ≡ from + k = omega (arith, eqb-true (time - from) k test, after) in test ∙ sym (ap (λ n. n == from + k) here ∙ same_here (from + k))
+    by false test = let other : time ≢ from + k = grind (arith, nat_tests, test, after) in test ∙ sym (not_same time (from + k) other)
+
+-- and at a time that is none of them
+pub with_told-other : (told : ℕ → List (ℕ × ℕ)) (from time : ℕ) (change : ℕ × ℕ) (k : ℕ) → time ≢ from + k → told_from from told k ≡ told_from from (with_told told time change) k
+with_told-other told from time change k other = let test = not_same time (from + k) other in rw test refl
 
 -- the changes of the wave of a wire at a time below the horizon
 pub onto_wave : (n : Circuit) (w t : ℕ) (r : WireRecord) (others : List (ℕ × ℕ)) → t < n.horizon

@@ -1,5 +1,11 @@
-pub mod PassingLemmas
+pub mod PutLemmas
 pub mod CodeLemmas
 pub mod StandingLemmas
 pub mod AgendaLemmas
 pub mod DumpLemmas
+pub mod CodeReadLemmas
+pub mod ReadingLemmas
+pub mod LevelReadLemmas
+pub mod DumpReadLemmas
+pub mod ModuleFitLemmas
+pub mod LevelFitLemmas

@@ -1,12 +1,12 @@
 -- The wires that stand, one after the other.
-use Rattle.std.proofs.Common.{◌≡◌, ℕ, ◌+◌, ◌-◌, ◌<◌, ◌≤◌, Bool, true, false, cond, List, [], ◌∷◌, ◌++◌, length, drop, Option, None, Some, zero, suc, refl, sym, ap, ◌∙◌, add-one, add-zero, arith}
+use Rattle.std.proofs.Common.{◌≡◌, ℕ, ◌+◌, ◌-◌, ◌<◌, ◌≤◌, Bool, true, false, cond, List, [], ◌∷◌, ◌++◌, append_assoc, length, drop, Option, None, Some, zero, suc, refl, sym, ap, ◌∙◌, add-one, add-zero, arith}
 use Rattle.std.specs.List.{filter, flat_map, range_with_len}
 use Rattle.std.proofs.Math.Seq.{drop-cons, drop-length}
 use Rattle.mp_wave.specs.Waveform.{Waveform}
 use Rattle.mp_records.specs.declared.wire_record.WireRecord.{WireRecord}
 use Rattle.mp_netlist.specs.Circuit.{Circuit, wire_at, width_of}
 use Rattle.mp_netlist.specs.Slots.{slot_at}
-use Rattle.mp_model.specs.Waves.{level, wave, waves, waves_from, slot_wave}
+use Rattle.mp_model.specs.Waves.{level, wave, slot_wave}
 use Rattle.mp_vcd.specs.Dumps.{if_stands, standing_from, is_changed}
 use Rattle.mp_vcd.specs.Values.{value_line}
 use Rattle.mp_vcd.specs.declared.dumping.Part.{Part}
@@ -48,20 +48,6 @@ pub told_step : (n : Circuit) (t w : ℕ) → w < length n.wires
 told_step n t w within =
     ap (λ ws. with_levels n t (filter (is_changed n t) ws)) (standing_step n.wires w within) ∙ told_stands n t w (wire_at n w) (standing_from (w + 1) (drop (w + 1) n.wires))
 
--- ---- the wave of a wire that stands
-
-waves_from-at : (n : Circuit) (k : ℕ) (slots : List (Option WireRecord)) (w : ℕ) → slot_at (waves_from n k slots) w ≡ slot_wave n (k + w) (slot_at slots w)
-waves_from-at n k [] w = refl
-waves_from-at n k (slot ∷ slots) zero = ap (λ i. slot_wave n i slot) (sym (add-zero k))
-waves_from-at n k (slot ∷ slots) (suc w) =
-    let same : k + 1 + w ≡ k + suc w = omega arith in
-    waves_from-at n (k + 1) slots w ∙ ap (λ i. slot_wave n i (slot_at slots w)) same
-
-pub wave_in_slot : (n : Circuit) (w : ℕ) (slots : List (Option Waveform)) → slots ≡ waves n → slot_at slots w ≡ slot_wave n w (wire_at n w)
-wave_in_slot n w slots given =
-    let first : 0 + w ≡ w = omega arith in
-    ap (λ s. slot_at s w) given ∙ waves_from-at n 0 n.wires w ∙ ap (λ i. slot_wave n i (wire_at n w)) first
-
 -- ---- times
 
 pub times_step : (t upto : ℕ) → t < upto → range_with_len t (upto - t) ≡ t ∷ range_with_len (t + 1) (upto - (t + 1))
@@ -69,6 +55,24 @@ times_step t upto within = let more : upto - t ≡ suc (upto - (t + 1)) = omega 
 
 pub times_end : (t upto : ℕ) → upto ≤ t → range_with_len t (upto - t) ≡ []
 times_end t upto over = let none : upto - t ≡ 0 = omega arith in ap (range_with_len t) none
+
+-- the texts of some times, and then of others
+pub times_split : (f : ℕ → List ℕ) (t m k : ℕ) → flat_map f (range_with_len t (m + k)) ≡ flat_map f (range_with_len t m) ++ flat_map f (range_with_len (t + m) k)
+times_split f t zero k = let none : 0 + k ≡ k = omega arith in ap (λ j. flat_map f (range_with_len t j)) none ∙ ap (λ u. flat_map f (range_with_len u k)) (sym (add-zero t))
+times_split f t (suc m) k =
+    let more : suc m + k ≡ suc (m + k) = omega arith in
+    let later : t + 1 + m ≡ t + suc m = omega arith in
+    ap (λ j. flat_map f (range_with_len t j)) more
+    ∙ ap (λ l. f t ++ l) (times_split f (t + 1) m k ∙ ap (λ u. flat_map f (range_with_len (t + 1) m) ++ flat_map f (range_with_len u k)) later)
+    ∙ sym (append_assoc (f t) (flat_map f (range_with_len (t + 1) m)) (flat_map f (range_with_len (t + suc m) k)))
+
+pub times_divide : (f : ℕ → List ℕ) (from to upto : ℕ) → from ≤ to → to ≤ upto
+    → flat_map f (range_with_len from (upto - from)) ≡ flat_map f (range_with_len from (to - from)) ++ flat_map f (range_with_len to (upto - to))
+times_divide f from to upto first second =
+    let parts : upto - from ≡ (to - from) + (upto - to) = omega (arith, first, second) in
+    let there : from + (to - from) ≡ to = omega (arith, first) in
+    ap (λ j. flat_map f (range_with_len from j)) parts ∙ times_split f from (to - from) (upto - to)
+    ∙ ap (λ u. flat_map f (range_with_len from (to - from)) ++ flat_map f (range_with_len u (upto - to))) there
 
 -- ---- what the wave of a wire tells
 

@@ -1,5 +1,5 @@
 -- The changes of all wires by time.
-use Rattle.std.specs.Prelude.{◌≡◌, ℕ, ◌-◌, ◌<◌, ◌≤◌, List, [], ◌∷◌, length, map, Option, Some, None, slice_index, slice_index_or, ◌==◌, if◌then◌else◌}
+use Rattle.std.specs.Prelude.{◌≡◌, ℕ, ◌+◌, ◌-◌, ◌<◌, ◌≤◌, List, [], ◌∷◌, length, map, Option, Some, None, slice_index, slice_index_or, ◌==◌, if◌then◌else◌}
 use Rattle.std.specs.List.{flat_map}
 use Rattle.mp_records.specs.declared.wire_record.WireRecord.{WireRecord}
 use Rattle.mp_netlist.specs.Circuit.{Circuit, wire_at, width_of}
@@ -25,6 +25,10 @@ IsChain entries place (told ∷ later) =
 -- for each time, from its first place on, stand these wires and levels
 abbrev pub Tells : List ℕ → List Entry → (ℕ → List (ℕ × ℕ)) → Type 0
 Tells firsts entries told = (t : ℕ) → t < length firsts → IsChain entries (slice_index firsts t) (told t)
+
+-- what is told at the times from one on
+abbrev pub told_from : ℕ → (ℕ → List (ℕ × ℕ)) → ℕ → List (ℕ × ℕ)
+told_from from told k = told (from + k)
 
 -- one wire and level more at a time, before the others
 abbrev pub with_told : (ℕ → List (ℕ × ℕ)) → ℕ → ℕ × ℕ → ℕ → List (ℕ × ℕ)

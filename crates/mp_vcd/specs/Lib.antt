@@ -2,6 +2,8 @@ pub mod Codes
 pub mod Values
 pub mod Dumps
 pub mod DumpErrors
-pub mod Passing
+pub mod Puts
 pub mod Agendas
 pub mod Parts
+pub mod Readings
+pub mod Laws

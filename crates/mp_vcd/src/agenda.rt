@@ -1,6 +1,6 @@
 //! Changes of wires by time.
 ghost use Rattle.std.specs.Prelude.{◌≡◌, ℕ, List, [], IfOk, OnOk, vec_len};
-ghost use Rattle.mp_vcd.specs.Agendas.{Tells, with_told};
+ghost use Rattle.mp_vcd.specs.Agendas.{Tells, told_from, with_told};
 
 use std::alloc::{AllocError, Global};
 
@@ -12,31 +12,41 @@ pub struct Entry {
     pub next: u32,
 }
 
-/// For each time a list of changes, whose first place is in `firsts`. Places are counted from 1, and 0 ends a list.
+/// For each time from one on a list of changes, whose first place is in `firsts`. Places are counted from 1, and 0 ends a list.
 #[derive(Drop)]
 pub struct Agenda {
+    pub from: u32,
     pub firsts: Vec<u32>,
     pub entries: Vec<Entry>,
 }
 
 impl Agenda {
-    /// An agenda of no changes, with room for so many.
-    pub fn new(alloc: Global, times: u32, changes: usize) -> Result<Agenda, AllocError>
+    /// An agenda of no changes at so many times from one on, with room for some.
+    pub fn new(alloc: Global, from: u32, times: u32, room: usize) -> Result<Agenda, AllocError>
+        ensures from { IfOk result (λ agenda. agenda.from ≡ from) }
         ensures times { IfOk result (λ agenda. vec_len agenda.firsts ≡ times) }
         ensures told { IfOk result (λ agenda. Tells agenda.firsts.items agenda.entries.items (λ _. [])) }
     {
         let firsts = vec![in alloc; 0; times as usize]?;
-        let entries = Vec::with_capacity(alloc, changes)?;
-        Ok(Agenda { firsts, entries })
+        let entries = Vec::with_capacity(alloc, room)?;
+        Ok(Agenda {
+            from,
+            firsts,
+            entries,
+        })
     }
 
     /// Puts a change before the others of its time. More than 2^32 - 1 changes are too many for memory.
     pub fn add(&mut self, time: u32, wire: u32, level: u64) -> Result<(), AllocError>
+        ensures from { OnOk result (self.new.from ≡ self.old.from) }
         ensures times { OnOk result (vec_len self.new.firsts ≡ vec_len self.old.firsts) }
-        ensures told { OnOk result ((told : ℕ → List (ℕ × ℕ)) → Tells self.old.firsts.items self.old.entries.items told
-            → Tells self.new.firsts.items self.new.entries.items (with_told told time (wire, level))) }
+        ensures told { OnOk result ((told : ℕ → List (ℕ × ℕ)) → Tells self.old.firsts.items self.old.entries.items (told_from self.old.from told)
+            → Tells self.new.firsts.items self.new.entries.items (told_from self.old.from (with_told told time (wire, level)))) }
     {
-        let at = time as usize;
+        if time < self.from {
+            return Ok(());
+        }
+        let at = (time - self.from) as usize;
         if at >= self.firsts.len() {
             return Ok(());
         }

@@ -1,22 +1,23 @@
 //! The dump of a netlist.
-ghost use Rattle.std.specs.Prelude.{◌≡◌, ◌-◌, ◌^◌, ◌<◌, ◌++◌, OnOk, vec_len};
+ghost use Rattle.std.specs.Prelude.{◌≡◌, ◌+◌, ◌-◌, ◌^◌, ◌<◌, ◌≤◌, ◌++◌, OnOk, vec_len};
 ghost use Rattle.std.specs.List.{flat_map, range_with_len};
-ghost use Rattle.mp_netlist.specs.Circuit.{wire_at};
-ghost use Rattle.mp_model.specs.Waves.{waves as waves_of};
-ghost use Rattle.mp_vcd.specs.Agendas.{Tells, told_at};
+ghost use Rattle.mp_netlist.specs.Circuit.{wire_at, width_of};
+ghost use Rattle.mp_model.specs.Waves.{AreWavesOf};
+ghost use Rattle.mp_vcd.specs.Agendas.{Tells, told_from, told_at};
 ghost use Rattle.mp_vcd.specs.DumpErrors.{Wrote, counted_writes};
-ghost use Rattle.mp_vcd.specs.Passing.{Passed};
-ghost use Rattle.mp_vcd.specs.Dumps.{standing, unit_text, dump};
+ghost use Rattle.mp_vcd.specs.Puts.{Puts};
+ghost use Rattle.mp_vcd.specs.Dumps.{standing, time_mark, unit_text, dump};
 ghost use Rattle.mp_vcd.specs.Parts.{part_line, slot_text};
+ghost use Rattle.mp_vcd.specs.Values.{value_line};
 
 use crate::agenda::Agenda;
 use crate::dump_error::DumpError;
 use crate::lines::{push_declaration, push_level, push_time_mark};
-use crate::passing::{pass_on, put_bytes};
-use crate::wave_changes::{agenda_of, wave_at};
+use crate::putting::{put_bytes, put_rest};
+use crate::wave_changes::{agenda_of, portion_of};
+use mp_model::Waves;
 use mp_netlist::{Netlist, WireId};
-use mp_streams::Sink;
-use mp_wave::Wave;
+use mp_streams::{Sink, WriteBuffer};
 use std::alloc::{AllocError, Global};
 
 const OPENING: &[u8] = b"$timescale 1 ns $end\n$scope module top $end\n";
@@ -27,7 +28,7 @@ const BLOCK_END: &[u8] = b"$end\n";
 
 /// What is told of each wire before its changes.
 #[derive(Clone, Copy)]
-pub enum Part {
+pub(crate) enum Part {
     Declarations,
     FirstLevels,
 }
@@ -35,46 +36,68 @@ pub enum Part {
 /// Writes the value change dump of a netlist, given its waves.
 ///
 /// `WriteFailed` comes with a fault of the sink, and `OutOfMemory` where memory is wanting: then a part of the dump, from its
-/// front, is written. It takes time in proportion to the wires, the units and the changes, 16 bytes for each change, 4 for each
-/// unit, and a buffer of some KiB.
+/// front, is written. It takes time in proportion to the wires, the units and the changes, and a buffer of 64 KiB; and of
+/// memory beside it 16 bytes for each change and 4 for each unit of a portion, which has as many changes as stay near the processor.
 pub fn dump<T: Sink>(
     alloc: Global,
     netlist: &Netlist,
-    waves: &[Option<Wave>],
+    waves: &Waves,
     sink: &mut T,
 ) -> Result<(), DumpError>
     requires countable { T.fault_count sink.old < 2 ^ 64 - 1 }
-    requires waves { waves.now ≡ waves_of netlist.now }
+    requires waves { AreWavesOf netlist.now waves.now }
     ensures written { Wrote result (dump netlist.now) (T.taken sink.old) (T.taken sink.new) }
     ensures faults { T.fault_count sink.new ≡ counted_writes result (T.fault_count sink.old) }
 {
-    let agenda = agenda_of(alloc, netlist, waves)?;
-    let mut held = Vec::from_slice(alloc, OPENING)?;
-    put_wires(sink, &mut held, netlist, waves, Part::Declarations)?;
-    held.extend_from_slice(BLOCK_START)?;
-    put_wires(sink, &mut held, netlist, waves, Part::FirstLevels)?;
-    held.extend_from_slice(BLOCK_END)?;
-    put_units(sink, &mut held, netlist, &agenda)?;
-    push_time_mark(&mut held, netlist.horizon())?;
-    put_bytes(sink, held.as_slice())
+    let mut buffer = WriteBuffer::new(alloc)?;
+    put_dump(alloc, &mut buffer, sink, netlist, waves)?;
+    put_rest(&mut buffer, sink)
+}
+
+/// Puts the value change dump of a netlist, given its waves, through a buffer.
+///
+/// `WriteFailed` comes with a fault of the sink, and `OutOfMemory` where memory is wanting: then a part of what the buffer held and
+/// of the dump, from the front, was taken.
+pub fn put_dump<T: Sink>(
+    alloc: Global,
+    buffer: &mut WriteBuffer,
+    sink: &mut T,
+    netlist: &Netlist,
+    waves: &Waves,
+) -> Result<(), DumpError>
+    requires countable { T.fault_count sink.old < 2 ^ 64 - 1 }
+    requires waves { AreWavesOf netlist.now waves.now }
+    ensures written { Puts result (T.taken sink.old) (T.taken sink.new) buffer.old buffer.new (dump netlist.now) }
+    ensures faults { T.fault_count sink.new ≡ counted_writes result (T.fault_count sink.old) }
+{
+    let mut line = Vec::new(alloc);
+    put_bytes(buffer, sink, OPENING)?;
+    put_wires(&mut line, buffer, sink, netlist, waves, Part::Declarations)?;
+    put_bytes(buffer, sink, BLOCK_START)?;
+    put_wires(&mut line, buffer, sink, netlist, waves, Part::FirstLevels)?;
+    put_bytes(buffer, sink, BLOCK_END)?;
+    put_units(alloc, &mut line, buffer, sink, netlist, waves)?;
+    put_time_mark(&mut line, buffer, sink, netlist.horizon())
 }
 
 /// Puts the lines of a part for each wire that stands, by number.
 fn put_wires<T: Sink>(
+    line: &mut Vec<u8>,
+    buffer: &mut WriteBuffer,
     sink: &mut T,
-    held: &mut Vec<u8>,
     netlist: &Netlist,
-    waves: &[Option<Wave>],
+    waves: &Waves,
     part: Part,
 ) -> Result<(), DumpError>
     requires countable { T.fault_count sink.old < 2 ^ 64 - 1 }
-    requires waves { waves.now ≡ waves_of netlist.now }
-    ensures passed { Passed result (flat_map (part_line netlist.now part) (standing netlist.now)) (T.taken sink.old) (T.taken sink.new) held.old.items held.new.items }
+    requires waves { AreWavesOf netlist.now waves.now }
+    ensures written { Puts result (T.taken sink.old) (T.taken sink.new) buffer.old buffer.new (flat_map (part_line netlist.now part) (standing netlist.now)) }
     ensures faults { T.fault_count sink.new ≡ counted_writes result (T.fault_count sink.old) }
 {
     for number in 0..netlist.wire_slots() {
-        push_part(held, netlist, waves, WireId(number), part)?;
-        pass_on(sink, held)?;
+        line.clear();
+        push_part(line, netlist, waves, WireId(number), part)?;
+        put_bytes(buffer, sink, line.as_slice())?;
     }
     Ok(())
 }
@@ -83,17 +106,17 @@ fn put_wires<T: Sink>(
 fn push_part(
     text: &mut Vec<u8>,
     netlist: &Netlist,
-    waves: &[Option<Wave>],
+    waves: &Waves,
     id: WireId,
     part: Part,
 ) -> Result<(), AllocError>
-    requires { waves.now ≡ waves_of netlist.now }
+    requires { AreWavesOf netlist.now waves.now }
     ensures { OnOk result (text.new.items ≡ text.old.items ++ slot_text (part_line netlist.now part) id.0 (wire_at netlist.now id.0)) }
 {
     let Some(wire) = netlist.wire(id) else {
         return Ok(());
     };
-    let Some(wave) = wave_at(waves, id) else {
+    let Some(wave) = waves.of(id) else {
         return Ok(());
     };
     match part {
@@ -102,49 +125,112 @@ fn push_part(
     }
 }
 
-/// Puts the changes of each time from 1 to one below the horizon.
+/// Puts the changes of each time from 1 to one below the horizon, portion by portion.
 fn put_units<T: Sink>(
+    alloc: Global,
+    line: &mut Vec<u8>,
+    buffer: &mut WriteBuffer,
     sink: &mut T,
-    held: &mut Vec<u8>,
     netlist: &Netlist,
-    agenda: &Agenda,
+    waves: &Waves,
 ) -> Result<(), DumpError>
     requires countable { T.fault_count sink.old < 2 ^ 64 - 1 }
-    requires times { vec_len agenda.now.firsts ≡ netlist.now.horizon }
-    requires told { Tells agenda.now.firsts.items agenda.now.entries.items (told_at netlist.now) }
-    ensures passed { Passed result (flat_map (unit_text netlist.now) (range_with_len 1 (netlist.now.horizon - 1))) (T.taken sink.old) (T.taken sink.new) held.old.items held.new.items }
+    requires waves { AreWavesOf netlist.now waves.now }
+    ensures written { Puts result (T.taken sink.old) (T.taken sink.new) buffer.old buffer.new (flat_map (unit_text netlist.now) (range_with_len 1 (netlist.now.horizon - 1))) }
     ensures faults { T.fault_count sink.new ≡ counted_writes result (T.fault_count sink.old) }
 {
-    for time in 1..netlist.horizon() {
-        put_unit(sink, held, netlist, agenda, time)?;
+    let portion = portion_of(netlist, waves);
+    let mut from: u32 = 1;
+    while from < netlist.horizon() {
+        let to = from.saturating_add(portion.units).min(netlist.horizon());
+        let agenda = agenda_of(alloc, netlist, waves, from, to, portion.changes)?;
+        put_agenda(line, buffer, sink, netlist, &agenda, to)?;
+        from = to;
+    }
+    Ok(())
+}
+
+/// Puts the changes of each time of an agenda, the last of which is before another.
+fn put_agenda<T: Sink>(
+    line: &mut Vec<u8>,
+    buffer: &mut WriteBuffer,
+    sink: &mut T,
+    netlist: &Netlist,
+    agenda: &Agenda,
+    to: u32,
+) -> Result<(), DumpError>
+    requires countable { T.fault_count sink.old < 2 ^ 64 - 1 }
+    requires order { agenda.now.from ≤ to }
+    requires times { vec_len agenda.now.firsts ≡ to - agenda.now.from }
+    requires told { Tells agenda.now.firsts.items agenda.now.entries.items (told_from agenda.now.from (told_at netlist.now)) }
+    ensures written { Puts result (T.taken sink.old) (T.taken sink.new) buffer.old buffer.new (flat_map (unit_text netlist.now) (range_with_len agenda.now.from (to - agenda.now.from))) }
+    ensures faults { T.fault_count sink.new ≡ counted_writes result (T.fault_count sink.old) }
+{
+    for time in agenda.from..to {
+        put_unit(line, buffer, sink, netlist, agenda, time)?;
     }
     Ok(())
 }
 
 /// Puts the changes of a time.
 fn put_unit<T: Sink>(
+    line: &mut Vec<u8>,
+    buffer: &mut WriteBuffer,
     sink: &mut T,
-    held: &mut Vec<u8>,
     netlist: &Netlist,
     agenda: &Agenda,
     time: u32,
 ) -> Result<(), DumpError>
     requires countable { T.fault_count sink.old < 2 ^ 64 - 1 }
-    requires times { time < vec_len agenda.now.firsts }
-    requires told { Tells agenda.now.firsts.items agenda.now.entries.items (told_at netlist.now) }
-    ensures passed { Passed result (unit_text netlist.now time) (T.taken sink.old) (T.taken sink.new) held.old.items held.new.items }
+    requires from { agenda.now.from ≤ time }
+    requires times { time < agenda.now.from + vec_len agenda.now.firsts }
+    requires told { Tells agenda.now.firsts.items agenda.now.entries.items (told_from agenda.now.from (told_at netlist.now)) }
+    ensures written { Puts result (T.taken sink.old) (T.taken sink.new) buffer.old buffer.new (unit_text netlist.now time) }
     ensures faults { T.fault_count sink.new ≡ counted_writes result (T.fault_count sink.old) }
 {
-    let mut place = agenda.firsts[time as usize];
+    let mut place = agenda.firsts[(time - agenda.from) as usize];
     if place == 0 {
         return Ok(());
     }
-    push_time_mark(held, time)?;
+    put_time_mark(line, buffer, sink, time)?;
     while place > 0 {
         let entry = agenda.entries[place as usize - 1];
-        push_level(held, netlist, WireId(entry.wire), entry.level)?;
-        pass_on(sink, held)?;
+        put_level(line, buffer, sink, netlist, WireId(entry.wire), entry.level)?;
         place = entry.next;
     }
     Ok(())
+}
+
+/// Puts the line of a time.
+fn put_time_mark<T: Sink>(
+    line: &mut Vec<u8>,
+    buffer: &mut WriteBuffer,
+    sink: &mut T,
+    time: u32,
+) -> Result<(), DumpError>
+    requires { T.fault_count sink.old < 2 ^ 64 - 1 }
+    ensures written { Puts result (T.taken sink.old) (T.taken sink.new) buffer.old buffer.new (time_mark time) }
+    ensures faults { T.fault_count sink.new ≡ counted_writes result (T.fault_count sink.old) }
+{
+    line.clear();
+    push_time_mark(line, time)?;
+    put_bytes(buffer, sink, line.as_slice())
+}
+
+/// Puts the line of a wire's level.
+fn put_level<T: Sink>(
+    line: &mut Vec<u8>,
+    buffer: &mut WriteBuffer,
+    sink: &mut T,
+    netlist: &Netlist,
+    wire: WireId,
+    level: u64,
+) -> Result<(), DumpError>
+    requires { T.fault_count sink.old < 2 ^ 64 - 1 }
+    ensures written { Puts result (T.taken sink.old) (T.taken sink.new) buffer.old buffer.new (value_line (width_of (wire_at netlist.now wire.0)) wire.0 level) }
+    ensures faults { T.fault_count sink.new ≡ counted_writes result (T.fault_count sink.old) }
+{
+    line.clear();
+    push_level(line, netlist, wire, level)?;
+    put_bytes(buffer, sink, line.as_slice())
 }

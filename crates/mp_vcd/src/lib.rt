@@ -4,11 +4,12 @@
 mod agenda;
 mod dump_error;
 mod dumping;
+pub mod laws;
 mod lines;
-mod passing;
+mod putting;
 #[cfg(test)]
 mod tests;
 mod wave_changes;
 
 pub use dump_error::DumpError;
-pub use dumping::dump;
+pub use dumping::{dump, put_dump};

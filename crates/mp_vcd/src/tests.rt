@@ -2,8 +2,9 @@
 use crate::dump_error::DumpError;
 use crate::dumping::dump;
 use crate::lines::push_code;
-use mp_model::{Sink, WriteSink, plain_waves};
+use mp_model::Waves;
 use mp_netlist::Netlist;
+use mp_streams::{Sink, WriteSink};
 use std::io;
 use std::io::Write;
 use std::test::Fail;
@@ -45,7 +46,7 @@ fn codes(rt: HostRuntime) -> Result<(), Fail> {
 fn dump_device_fault(rt: HostRuntime) -> Result<(), Fail> {
     let alloc = rt.alloc();
     let netlist = Netlist::empty(alloc, 20)?;
-    let waves = plain_waves(alloc, &netlist)?;
+    let waves = Waves::new(Vec::new(alloc));
     for (room, ended, text) in [
         (
             1000,
@@ -59,7 +60,7 @@ fn dump_device_fault(rt: HostRuntime) -> Result<(), Fail> {
             taken: Vec::new(alloc),
             room,
         });
-        assert_eq!(rt; dump(alloc, &netlist, waves.as_slice(), &mut sink), ended);
+        assert_eq!(rt; dump(alloc, &netlist, &waves, &mut sink), ended);
         assert_eq!(rt; sink.faults(), ended.is_err() as u64);
         assert_eq!(rt; sink.into_inner().taken.as_slice(), text);
     }

@@ -98,11 +98,3 @@ pub held : (level : ℕ → ℕ) (n : ℕ) → held_from (wave_upto level n) (n 
 held level n =
     rw (add-one n, last_from-changes_after level 0 n, zero-add n)
     (held_or_not (level n == level (suc n)) (level 0) (suc n) (level (suc n)) (changes_after level 0 n))
-
--- the same at a time that is written t
-pub held_at : (level : ℕ → ℕ) (t : ℕ) → 0 < t → held_from (wave_upto level (t - 1)) t (level t) ≡ wave_upto level t
-held_at level zero later = absurd (omega arith)
-held_at level (suc n) later =
-    let before : suc n - 1 ≡ n = omega arith in
-    let next : n + 1 ≡ suc n = omega arith in
-    rw before (subst (λ (k : ℕ). held_from (wave_upto level n) k (level k) ≡ wave_upto level k) next (held level n))

@@ -1,5 +1,6 @@
 pub mod DecimalLemmas
 pub mod DigitLemmas
+pub mod LengthLemmas
 pub mod LineLemmas
 pub mod WordLemmas
 pub mod WordListLemmas

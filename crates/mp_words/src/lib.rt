@@ -5,6 +5,7 @@ mod division;
 mod line;
 mod line_error;
 mod number;
+mod pieces;
 #[cfg(test)]
 mod tests;
 mod wave_line;
@@ -14,6 +15,6 @@ mod word_list;
 pub use division::divided;
 pub use line::{first_line, line_words};
 pub use line_error::LineError;
-pub use wave_line::{push_changes, push_number, put_wave_line};
+pub use wave_line::{push_changes, push_number, put_changes, put_wave_line};
 pub use word::name_of;
 pub use word_list::{changes, inputs, number_word, numbers, outputs, wire_or_none};

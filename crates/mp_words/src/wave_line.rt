@@ -1,16 +1,14 @@
 //! Lines of waves.
-ghost use Rattle.std.specs.Prelude.{◌≡◌, ◌-◌, ◌^◌, ◌<◌, ◌≤◌, ◌∷◌, [], ◌++◌, drop, OnOk, OnErr};
+ghost use Rattle.std.specs.Prelude.{◌≡◌, ◌-◌, ◌^◌, ◌<◌, ◌∷◌, [], ◌++◌, OnOk, OnErr};
 ghost use Rattle.std.specs.Fmt.{decimal};
 ghost use Rattle.mp_streams.specs.StreamBytes.{AppendsPrefix, PassesOn};
 ghost use Rattle.mp_streams.specs.StreamFaults.{counted};
 ghost use Rattle.mp_words.specs.WaveLines.{change_text, changes_text, wave_line};
 
-use itoa::{Buffer, write_digits};
-use mp_streams::{Failed, Sink, WriteBuffer};
+use crate::pieces::{Change, FirstLevel};
+use itoa::Buffer;
+use mp_streams::{Failed, PIECE_BYTES, Piece, Sink, WriteBuffer};
 use std::alloc::AllocError;
-
-/// How many bytes a change takes at most: two signs and the digits of its time and its value.
-const MOST_BYTES: usize = 32;
 
 /// Puts a wire's line through the buffer: its name, its first level, ` T=V` for each change, and a
 /// line feed. `Failed` comes with a fault of the sink: then a part from the front of what the buffer
@@ -43,13 +41,13 @@ fn put_start<S: Sink>(
     ensures failed { OnErr result (AppendsPrefix (S.taken sink.old) (S.taken sink.new) (buffer.old ++ (name.now ++ (32 ∷ decimal initial)))) }
     ensures faults { S.fault_count sink.new ≡ counted result (S.fault_count sink.old) }
 {
-    let mut digits = Buffer::new();
     buffer.push(sink, name.as_bytes())?;
-    buffer.push(sink, b" ")?;
-    buffer.push(sink, digits.format(initial).as_bytes())
+    buffer.push_piece(sink, &FirstLevel(initial))
 }
 
-fn put_changes<S: Sink>(
+/// Puts ` T=V` through the buffer for each change. `Failed` comes with a fault of the sink: then a part from
+/// the front of what the buffer held and the changes was taken, and the buffer holds none.
+pub fn put_changes<S: Sink>(
     buffer: &mut WriteBuffer,
     sink: &mut S,
     changes: &[(u32, u64)],
@@ -60,25 +58,9 @@ fn put_changes<S: Sink>(
     ensures faults { S.fault_count sink.new ≡ counted result (S.fault_count sink.old) }
 {
     for &(time, value) in changes {
-        put_change(buffer, sink, time, value)?;
+        buffer.push_piece(sink, &Change { time, value })?;
     }
     Ok(())
-}
-
-fn put_change<S: Sink>(
-    buffer: &mut WriteBuffer,
-    sink: &mut S,
-    time: u32,
-    value: u64,
-) -> Result<(), Failed>
-    requires { S.fault_count sink.old < 2 ^ 64 - 1 }
-    ensures passed { OnOk result (PassesOn (S.taken sink.old) (S.taken sink.new) buffer.old buffer.new (change_text (time, value))) }
-    ensures failed { OnErr result (AppendsPrefix (S.taken sink.old) (S.taken sink.new) (buffer.old ++ change_text (time, value))) }
-    ensures faults { S.fault_count sink.new ≡ counted result (S.fault_count sink.old) }
-{
-    let mut bytes = [0; MOST_BYTES];
-    let start = write_change(time, value, &mut bytes);
-    buffer.push(sink, &bytes[start..])
 }
 
 /// Puts ` T=V` behind the text for each change. Where memory is wanting, the text stays as it was.
@@ -100,21 +82,9 @@ fn push_change(text: &mut Vec<u8>, time: u32, value: u64) -> Result<(), AllocErr
     ensures ok { OnOk result (text.new.items ≡ text.old.items ++ change_text (time, value)) }
     ensures err { OnErr result (text.new.items ≡ text.old.items) }
 {
-    let mut bytes = [0; MOST_BYTES];
-    let start = write_change(time, value, &mut bytes);
-    text.extend_from_slice(&bytes[start..])
-}
-
-/// Writes ` T=V` at the end of the bytes, and gives its start: so it is copied behind a text at once.
-fn write_change(time: u32, value: u64, bytes: &mut [u8; MOST_BYTES]) -> usize
-    ensures start { result ≤ MOST_BYTES }
-    ensures written { drop result bytes.new ≡ change_text (time, value) }
-{
-    let value_start = write_digits(value, bytes, MOST_BYTES);
-    bytes[value_start - 1] = b'=';
-    let time_start = write_digits(u64::from(time), bytes, value_start - 1);
-    bytes[time_start - 1] = b' ';
-    time_start - 1
+    let mut bytes = [0; PIECE_BYTES];
+    let end = Change { time, value }.write(&mut bytes, 0);
+    text.extend_from_slice(&bytes[..end])
 }
 
 /// Puts the number in decimal digits behind the text. Where memory is wanting, the text stays as

@@ -36,6 +36,18 @@ time 0 and its level V from each time T on at which it changes below the horizon
 
 A text that is refused is told on standard error as `mpwb: line N: CODE NAME`.";
 
+const REPORT: &str = "Writes where a netlist breaks a rule of its modules or bundles";
+
+const REPORT_LONG: &str = "\
+Reads a netlist's text from standard input, as `waves` does.
+
+Writes a line for each finding on standard output: `TIME module NAME CODE` or `TIME bundle NAME \
+CODE`, by time, then the modules and then the bundles, each in the order in which they were added, then \
+by the number of the code. A finding tells of something that a well-behaved circuit avoids, as the \
+collision of two events at a XOR, or data that change too short before a request.
+
+A text that is refused is told on standard error as `mpwb: line N: CODE NAME`.";
+
 const DUMP: &str = "Writes the waves of a netlist as a value change dump";
 
 const DUMP_LONG: &str = "\
@@ -55,11 +67,12 @@ Reads from standard input, at most 4194304 bytes, a netlist's text as `waves` do
 `---`, and behind it a script. Its lines are edits: `wire`, `module`, `stim` and `bundle` as in a \
 text, `remove wire NAME`, `remove module NAME`, `remove bundle NAME`, `input MODULE PORT WIRE`, \
 `output MODULE PORT WIRE` (or `-` for no wire), `indelay MODULE PORT E`, `delay MODULE PORT D` and \
-`clear WIRE`; and questions: `wave WIRE`, `waves` and `text`.
+`clear WIRE`; and questions: `wave WIRE`, `waves`, `text` and `dump`.
 
 Answers each line in turn on standard output: an edit by `accepted N`, with how many edits were \
 accepted so far, or `refused CODE NAME`, which changes nothing; a question by the wire's line, the \
-lines of all wires, or the present netlist's text; and a line that is not read by `unread CODE NAME`.
+lines of all wires, the present netlist's text or its value change dump; and a line that is not \
+read by `unread CODE NAME`.
 
 A netlist's text that is refused is told on standard error as `mpwb: line N: CODE NAME`.";
 
@@ -69,6 +82,7 @@ pub fn read_words<'a>(alloc: Global, words: &'a [String]) -> Result<Request, Err
     let matches = parser(alloc)?.try_get_matches_from(words)?;
     match matches.subcommand() {
         Some(("waves", found)) => Ok(request(Command::Waves, found)),
+        Some(("report", found)) => Ok(request(Command::Report, found)),
         Some(("dump", found)) => Ok(request(Command::Dump, found)),
         Some(("play", found)) => Ok(request(Command::Play, found)),
         _ => Err(no_command(alloc)?),
@@ -119,6 +133,7 @@ fn parser<'a>(alloc: Global) -> Result<Parser<'a>, AllocError> {
         .after_help(STATUS)
         .subcommand_required(true)
         .subcommand(command(alloc, "waves", WAVES, WAVES_LONG)?)?
+        .subcommand(command(alloc, "report", REPORT, REPORT_LONG)?)?
         .subcommand(command(alloc, "dump", DUMP, DUMP_LONG)?)?
         .subcommand(command(alloc, "play", PLAY, PLAY_LONG)?)
 }
@@ -139,11 +154,11 @@ fn command<'a>(
 
 /// The command with the options of a crew.
 fn with_crew<'a>(alloc: Global, command: Parser<'a>) -> Result<Parser<'a>, AllocError> {
-    let workers = number(alloc, "workers")
-        .default_value("2")
-        .help("How many workers there are, 1 to 16; no effect yet");
+    let workers = number(alloc, "workers").default_value("2").help(
+        "How many workers there are, 1 to 16; only waves calls on them",
+    );
     let least = number(alloc, "least").default_value("64").help(
-        "With fewer tasks than these the workers are not called on, 1 to 4096; no effect yet",
+        "With fewer modules than these the workers are not called on, 1 to 4096",
     );
     command.arg(workers)?.arg(least)
 }

@@ -5,7 +5,7 @@ mod command_line;
 mod request;
 
 use command_line::{read_words, tell};
-use mp_commands::{RunFault, exit_status, fault_line, run_dump, run_play, run_waves};
+use mp_commands::{RunFault, exit_status, fault_line, run_dump, run_play, run_report, run_waves};
 use mp_streams::{ReadSource, WriteSink};
 use request::{Command, Request};
 use std::io::ErrorKind;
@@ -53,7 +53,8 @@ fn run<R: Input + Print + Threads + Wait + Sync + AllocGlobal>(
     let mut sink = WriteSink::new(io::writer(rt));
     match request.command {
         Command::Waves => run_waves(rt, rt.alloc(), &mut source, &mut sink, &request.options),
-        Command::Dump => run_dump(rt.alloc(), &mut source, &mut sink, &request.options),
+        Command::Report => run_report(rt, rt.alloc(), &mut source, &mut sink, &request.options),
+        Command::Dump => run_dump(rt, rt.alloc(), &mut source, &mut sink, &request.options),
         Command::Play => run_play(rt, rt.alloc(), &mut source, &mut sink, &request.options),
     }
 }

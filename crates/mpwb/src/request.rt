@@ -6,6 +6,8 @@ use mp_commands::Options;
 pub enum Command {
     /// Write the waves of a netlist's text.
     Waves,
+    /// Write the report of a netlist's text.
+    Report,
     /// Write the value change dump of a netlist's text.
     Dump,
     /// Edit a netlist by a script, and answer its questions.

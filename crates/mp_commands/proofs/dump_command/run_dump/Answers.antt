@@ -4,7 +4,6 @@ use Rattle.mp_vcd.specs.Dumps.{dump}
 use Rattle.mp_text.specs.Texts.{text_at}
 use Rattle.mp_commands.specs.OptionLimits.{has_valid_crew}
 use Rattle.mp_commands.specs.Outputs.{output_of, dump_output}
-use Rattle.mp_commands.specs.Runs.{Wrote}
 use Rattle.mp_commands.proofs.RunLemmas.{for_dump, any_input, unread_source, Wrote-refused, refused_read}
 use Rattle.mp_commands.proofs.dump_command.run_dump.Goals as goal
 

@@ -1,7 +1,6 @@
-use Rattle.std.proofs.Common.{Err}
 use Rattle.std.proofs.lemmas.Result.{err_from_is_err_and}
 use Rattle.mp_commands.specs.Outputs.{waves_text}
-use Rattle.mp_commands.proofs.PutLemmas.{no_part, wrote_part, wrote_rest}
+use Rattle.mp_commands.proofs.PutLemmas.{wrote_part, wrote_rest}
 use Rattle.mp_commands.proofs.put_waves.put_waves.Goals as goal
 
 pub returns-in_err-put_lines-clause-written : goal.returns-in_err-put_lines-clause-written

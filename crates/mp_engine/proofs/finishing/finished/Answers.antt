@@ -1,7 +1,8 @@
 use Rattle.std.proofs.Common.{◌≡◌, ℕ, ◌+◌, ◌-◌, ◌<◌, sym, subst, arith}
 use Rattle.mp_engine.specs.Cells.{AreCells}
-use Rattle.mp_engine.specs.Runs.{IsRun}
-use Rattle.mp_engine.proofs.FinishLemmas.{run_is}
+use Rattle.mp_engine.specs.Checkpoints.{AreKept}
+use Rattle.mp_engine.specs.Starts.{no_cell}
+use Rattle.mp_engine.proofs.FinishLemmas.{checkpoints_are}
 use Rattle.mp_engine.proofs.UnitLemmas.{cells_all}
 use Rattle.mp_engine.proofs.finishing.finished.Goals as goal
 
@@ -29,6 +30,12 @@ shared_checkpoints-requires c = (c.requires.over _ (ends_at c.args.netlist.now.h
 pub returns : goal.returns
 returns c =
     let n = c.args.netlist.now in
+    let e = c.args.engine in
     let next = ends_at n.horizon (omega (arith, c.requires.form.horizon_low)) in
-    subst (IsRun n) (sym c.new.ensures)
-    (run_is n c.requires.form c.args.engine (n.horizon - 1) next (c.requires.over (n.horizon - 1) next) _ c.horizon.ensures.value c.in_ok-waves.ensures c.in_ok-ends.ensures c.in_ok-kept.ensures)
+    let after = c.requires.over (n.horizon - 1) next in
+    record {
+      waves = c.in_ok-waves.ensures;
+      ends = c.in_ok-ends.ensures;
+      kept = checkpoints_are n e.cells.items e.history.stepped.items e.history.kept.items _ c.in_ok-kept.ensures
+          (subst (λ b. AreKept n b e.cells.items e.history.stepped.items e.history.kept.items) next after.ready.history.kept) no_cell;
+    }

@@ -1,11 +1,12 @@
 use Rattle.std.proofs.Common.{◌≡◌, ℕ, List, take, vec_len}
-use Rattle.mp_vcd.specs.Agendas.{Tells, onto}
+use Rattle.mp_vcd.specs.Agendas.{Tells, told_from, onto}
 use Rattle.mp_vcd.proofs.wave_changes.add_changes.Given as goal
 
 -- the changes so far are told
 abbrev pub invariant-loop-change : goal.invariant-loop-change
 invariant-loop-change l = record {
+  from : l.agenda.from ≡ l.fn.agenda.from;
   times : vec_len l.agenda.firsts ≡ vec_len l.fn.agenda.firsts;
-  told : (told : ℕ → List (ℕ × ℕ)) → Tells l.fn.agenda.firsts.items l.fn.agenda.entries.items told
-      → Tells l.agenda.firsts.items l.agenda.entries.items (λ t. onto l.wire (take l.change-index l.changes) t (told t));
+  told : (told : ℕ → List (ℕ × ℕ)) → Tells l.fn.agenda.firsts.items l.fn.agenda.entries.items (told_from l.fn.agenda.from told)
+      → Tells l.agenda.firsts.items l.agenda.entries.items (told_from l.fn.agenda.from (λ t. onto l.wire (take l.change-index l.changes) t (told t)));
 }

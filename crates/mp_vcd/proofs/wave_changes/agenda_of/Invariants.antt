@@ -1,16 +1,17 @@
-use Rattle.std.proofs.Common.{◌≡◌, ◌≤◌, drop, length, vec_len}
+use Rattle.std.proofs.Common.{◌≡◌, ◌-◌, ◌≤◌, drop, length, vec_len}
 use Rattle.std.specs.List.{filter}
 use Rattle.mp_vcd.specs.Dumps.{standing_from, is_changed}
-use Rattle.mp_vcd.specs.Agendas.{Tells, with_levels}
+use Rattle.mp_vcd.specs.Agendas.{Tells, told_from, with_levels}
 use Rattle.mp_vcd.proofs.wave_changes.agenda_of.Given as goal
 
 -- the changes of the wires from the number on are told
 abbrev pub invariant-loop-number : goal.invariant-loop-number
 invariant-loop-number l = record {
   within : l.number ≤ length l.netlist.wires;
-  times : vec_len l.agenda.firsts ≡ l.netlist.horizon;
+  from : l.agenda.from ≡ l.from;
+  times : vec_len l.agenda.firsts ≡ l.to - l.from;
   told : Tells l.agenda.firsts.items l.agenda.entries.items
-      (λ t. with_levels l.netlist t (filter (is_changed l.netlist t) (standing_from l.number (drop l.number l.netlist.wires))));
+      (told_from l.from (λ t. with_levels l.netlist t (filter (is_changed l.netlist t) (standing_from l.number (drop l.number l.netlist.wires)))));
 }
 
 abbrev pub decreases-loop-number : goal.decreases-loop-number

@@ -1,7 +1,7 @@
-use Rattle.std.proofs.Common.{◌≡◌, [], ◌∷◌, ◌++◌, append_assoc, sym}
+use Rattle.std.proofs.Common.{[], ◌∷◌, ◌++◌}
 use Rattle.std.specs.Fmt.{decimal}
 use Rattle.mp_streams.proofs.BufferLemmas.{then_all, then_part, part_sooner}
-use Rattle.mp_words.specs.WaveLines.{changes_text, wave_line}
+use Rattle.mp_words.specs.WaveLines.{changes_text}
 use Rattle.mp_words.proofs.ChangeLemmas.{line_start}
 use Rattle.mp_words.proofs.wave_line.put_wave_line.Goals as goal
 

@@ -1,6 +1,6 @@
-use Rattle.std.proofs.Common.{arith, refl, get_or}
+use Rattle.std.proofs.Common.{List, arith, ap, get_or}
+use Rattle.mp_modules.specs.declared.finding_code.FindingCode.{FindingCode}
 use Rattle.mp_modules.specs.declared.finding_code.FindingCode.TheVariants.{MergeCollision}
-use Rattle.mp_response.specs.Span.{by_number}
 use Rattle.mp_response.proofs.FindingLemmas.{extend_none, extend_more, extend_all}
 use Rattle.mp_response.proofs.findings.Findings.extend.Goals as goal
 
@@ -9,7 +9,7 @@ loop-code-init c = extend_none c.args.time c.args.set c.args.self.now
 
 pub loop-code-preserved : goal.loop-code-preserved
 loop-code-preserved c =
-    extend_more c.args.time c.args.set c.loop-code.code-index (get_or by_number c.loop-code.code-index MergeCollision) MergeCollision c.contains.result c.args.self.now c.loop-code.self c.push_if.new.self c.loop-code-test.true refl c.contains.ensures c.loop-code.invariant c.in_ok-push_if.ensures.ok
+    extend_more c.args.time c.args.set c.loop-code.code-index (get_or c.by_number-code-items.result c.loop-code.code-index MergeCollision) MergeCollision c.contains.result c.args.self.now c.loop-code.self c.push_if.new.self c.loop-code-test.true (ap (λ (cs : List FindingCode). get_or cs c.loop-code.code-index MergeCollision) c.by_number-code-items.ensures) c.contains.ensures c.loop-code.invariant c.in_ok-push_if.ensures.ok
 
 pub returns : goal.returns
 returns c = record { ok = extend_all c.args.time c.args.set c.loop-code.code-index c.args.self.now c.loop-code.self (omega arith) c.loop-code.invariant }

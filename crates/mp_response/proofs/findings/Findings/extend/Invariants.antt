@@ -1,5 +1,5 @@
 use Rattle.std.proofs.Common.{◌≡◌, ◌++◌, take}
-use Rattle.mp_response.specs.Span.{by_number}
+use Rattle.mp_modules.specs.Findings.{by_number}
 use Rattle.mp_response.proofs.FindingLemmas.{findings_among}
 use Rattle.mp_response.proofs.findings.Findings.extend.Given as goal
 

@@ -1,0 +1,3 @@
+pub mod Touched
+pub mod Rows
+pub mod Known

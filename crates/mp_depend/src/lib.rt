@@ -1,0 +1,13 @@
+//! What an edit depends on: which modules it touches, who reads each wire, and from where a module can be evaluated again.
+#![tactic(auto)]
+
+mod readers;
+mod records;
+mod row;
+#[cfg(test)]
+mod tests;
+mod touch;
+
+pub use readers::Readers;
+pub use records::Records;
+pub use touch::touched;

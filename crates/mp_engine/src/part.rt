@@ -1,0 +1,36 @@
+//! A part of a netlist as a task.
+
+use crate::evaluation::run_region;
+use crate::part_run::PartRun;
+use crate::region::Region;
+use mp_phase::{Gate, Work};
+use std::alloc::{AllocError, Global};
+use std::sync::Wait;
+
+/// A part of a netlist, to be run up to the horizon, and how many modules are at home in it.
+#[derive(Drop)]
+pub(crate) struct Part<'a> {
+    pub region: Region<'a>,
+    pub size: usize,
+}
+
+impl<'a> Work for Part<'a> {
+    ghost use Rattle.mp_engine.specs.PartRuns.{IsPartRun};
+
+    type Done = PartRun;
+
+    ghost gives = { λ part run. IsPartRun part.region run };
+
+    fn weight(&self) -> usize {
+        self.size
+    }
+
+    fn work<R: Wait, G: Gate>(
+        self,
+        rt: &R,
+        alloc: Global,
+        gate: &G,
+    ) -> Result<PartRun, AllocError> {
+        run_region(rt, alloc, &self.region, gate)
+    }
+}

@@ -1,0 +1,93 @@
+//! A part of a netlist.
+
+use crate::home::home_of;
+use mp_netlist::{ModuleId, ModuleRecord, Netlist, WireId, WireRecord};
+use std::marker::Model;
+
+/// The modules of a netlist that are at home in one part of it, with all its wires. Contracts see it as a netlist.
+#[derive(Drop)]
+pub(crate) struct Region<'a> {
+    netlist: &'a Netlist,
+    homes: &'a [u32],
+    part: u32,
+}
+
+impl<'a> Model for Region<'a> {
+    ghost use Rattle.mp_netlist.specs.Circuit.{Circuit};
+    ghost use Rattle.mp_engine.specs.Regions.{region};
+
+    ghost Value = { Circuit };
+
+    ghost view = { λ r. region r.netlist.now r.homes.now r.part };
+}
+
+impl<'a> Region<'a> {
+    ghost use Rattle.std.specs.Prelude.{◌≡◌, ◌≤◌, length, IfSome};
+    ghost use Rattle.std.specs.Option.{option_copied};
+    ghost use Rattle.mp_netlist.specs.Limits.{max_horizon, max_wires, max_modules};
+    ghost use Rattle.mp_netlist.specs.Circuit.{IsCircuit, IsWire, IsModule, wire_at, module_at, module_width};
+    ghost use Rattle.mp_engine.specs.Regions.{region};
+
+    pub(crate) fn new(netlist: &'a Netlist, homes: &'a [u32], part: u32) -> Self
+        ensures { result ≡ region netlist.now homes.now part }
+    {
+        Region {
+            netlist,
+            homes,
+            part,
+        }
+    }
+
+    /// For how many units it runs.
+    pub(crate) fn horizon(&self) -> u32
+        ensures value { result ≡ self.now.horizon }
+        ensures low { 1 ≤ result }
+        ensures high { result ≤ max_horizon }
+        ensures form { IsCircuit self.now }
+    {
+        self.netlist.horizon()
+    }
+
+    /// How many wires were ever added to the netlist.
+    pub(crate) fn wire_slots(&self) -> u32
+        ensures value { result ≡ length self.now.wires }
+        ensures few { result ≤ max_wires }
+    {
+        self.netlist.wire_slots()
+    }
+
+    /// How many modules were ever added to the netlist.
+    pub(crate) fn module_slots(&self) -> u32
+        ensures value { result ≡ length self.now.modules }
+        ensures few { result ≤ max_modules }
+    {
+        self.netlist.module_slots()
+    }
+
+    /// The wire of this number, where it stands.
+    pub(crate) fn wire(&self, id: WireId) -> Option<&WireRecord>
+        ensures value { option_copied result ≡ wire_at self.now id.0 }
+        ensures form { IfSome result (λ found. IsWire self.now.horizon found.now) }
+    {
+        self.netlist.wire(id)
+    }
+
+    /// The module of this number, where it stands and is at home here.
+    pub(crate) fn module(&self, id: ModuleId) -> Option<&ModuleRecord>
+        ensures value { option_copied result ≡ module_at self.now id.0 }
+        ensures form { IfSome result (λ found. IsModule self.now found.now) }
+    {
+        if home_of(self.homes, id.0) == self.part {
+            self.netlist.module(id)
+        } else {
+            None
+        }
+    }
+
+    /// The width of a module.
+    pub(crate) fn module_width(&self, found: &ModuleRecord) -> u32
+        ensures { result ≡ module_width self.now found.now }
+    {
+        self.netlist.module_width(found)
+    }
+}

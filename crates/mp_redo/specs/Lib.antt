@@ -1,0 +1,3 @@
+pub mod Revisions
+pub mod Stays
+pub mod Work

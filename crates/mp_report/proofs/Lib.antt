@@ -1,0 +1,7 @@
+pub mod TimeLemmas
+pub mod AheadLemmas
+pub mod BundleLemmas
+pub mod WaveLemmas
+pub mod ModuleLemmas
+pub mod MergeLemmas
+pub mod LineLemmas

@@ -1,0 +1,80 @@
+-- Lemmas on what is found at modules.
+use Rattle.std.proofs.Common.{◌≡◌, ℕ, ◌-◌, ◌<◌, ◌≤◌, ◌==◌, Bool, false, List, [], ◌∷◌, ◌++◌, map, Option, Some, None, filter, flat_map, zero, suc, refl, ap, sym, subst, ◌∙◌, arith}
+use Rattle.std.specs.List.{range_with_len}
+use Rattle.std.proofs.lemmas.Bool.Decides.{nat_tests}
+use Rattle.mp_modules.specs.declared.kind.Kind.{Kind}
+use Rattle.mp_modules.specs.declared.kind.Kind.TheVariants as kinds
+use Rattle.mp_modules.specs.Kinds.{input_count}
+use Rattle.mp_modules.specs.declared.finding_code.FindingCode.{FindingCode}
+use Rattle.mp_modules.specs.declared.memory.Memory.{Memory}
+use Rattle.mp_modules.specs.Findings.{by_number, has_code}
+use Rattle.mp_storage.specs.declared.any_module.AnyModule.{AnyModule}
+use Rattle.mp_storage.specs.AnyModules.{start, found}
+use Rattle.mp_records.specs.declared.module_record.ModuleRecord.{ModuleRecord}
+use Rattle.mp_netlist.specs.Circuit.{Circuit, IsCircuit, module_at}
+use Rattle.mp_model.specs.Levels.{built, inputs_by}
+use Rattle.mp_model.specs.Waves.{level, state}
+use Rattle.mp_model.specs.Findings.{is_found_at_module, module_place}
+use Rattle.mp_model.proofs.BehaviourLemmas.{satisfies}
+use Rattle.mp_response.specs.Span.{IsSpan, findings_of, found_at}
+use Rattle.mp_response.specs.Delays.{state_before}
+use Rattle.mp_response.specs.declared.piece.Piece.{Piece}
+use Rattle.mp_response.proofs.DelayLemmas.{finds_by_states}
+use Rattle.mp_response.proofs.JoinLemmas.{inside_alone}
+use Rattle.mp_report.specs.Places.{codes_at, found_over}
+use Rattle.mp_report.proofs.TimeLemmas.{told_same_from}
+
+pub few_inputs : (kind : Kind) → input_count kind ≤ 4
+few_inputs kinds.Buf = omega arith
+few_inputs _ = omega arith
+
+-- what is found at a module at a time from 1 on
+later_found : (n : Circuit) (m t : ℕ) (r : ModuleRecord) → module_at n m ≡ Some r → 1 ≤ t
+    → findings_of t (found_at (built n r) (state_before (built n r) (state n m) t) (inputs_by n (level n) r t) t) ≡ codes_at n (module_place m) t
+unfolding findings_of
+later_found n m zero r at some = absurd (omega (arith, some))
+later_found n m (suc u) r at some =
+    let later : (suc u == 0) ≡ false = grind (arith, nat_tests) in
+    let back : u ≡ suc u - 1 = omega arith in
+    let pairs : (FindingCode → Bool) → List (ℕ × FindingCode) = (λ (p : FindingCode → Bool). map (λ (code : FindingCode). let pair : ℕ × FindingCode = (suc u, code) in pair) (filter p by_number)) in
+    let x = inputs_by n (level n) r (suc u) in
+    rw later
+    (ap (λ (v : ℕ). pairs (has_code (found (built n r) (state n m v) x))) back
+    ∙ sym (ap (λ (slot : Option ModuleRecord). pairs (is_found_at_module n m slot (suc u))) at))
+
+first_found : (part : AnyModule) (s : Memory) (x : List ℕ) → findings_of 0 (found_at part s x 0) ≡ []
+unfolding findings_of
+first_found part s x = refl
+
+-- what is found over a span of all times
+module_over : (n : Circuit) (m : ℕ) (r : ModuleRecord) → module_at n m ≡ Some r → 1 ≤ n.horizon
+    → flat_map (λ t. findings_of t (found_at (built n r) (state_before (built n r) (state n m) t) (inputs_by n (level n) r t) t)) (range_with_len 0 (n.horizon - 0)) ≡ found_over n (module_place m)
+unfolding found_over
+module_over n m r at some =
+    let told : ℕ → List (ℕ × FindingCode) = λ t. findings_of t (found_at (built n r) (state_before (built n r) (state n m) t) (inputs_by n (level n) r t) t) in
+    let whole : n.horizon - 0 ≡ suc (n.horizon - 1) = omega (arith, some) in
+    ap (λ k. flat_map told (range_with_len 0 k)) whole
+    ∙ ap (λ (fs : List (ℕ × FindingCode)). fs ++ flat_map told (range_with_len 1 (n.horizon - 1))) (first_found (built n r) (state_before (built n r) (state n m) 0) (inputs_by n (level n) r 0))
+    ∙ told_same_from told (codes_at n (module_place m)) 1 (n.horizon - 1) (λ t low high. later_found n m t r at low)
+
+-- the findings of a module's answer over all times
+pub answer_over : (n : Circuit) → IsCircuit n → (m : ℕ) (r : ModuleRecord) (part : AnyModule) (s : Memory) (x : ℕ → List ℕ) (piece : Piece) → module_at n m ≡ Some r → part ≡ built n r → s ≡ start part
+    → ((t : ℕ) → t < n.horizon → x t ≡ inputs_by n (level n) r t) → IsSpan part x s 0 n.horizon piece → piece.findings ≡ found_over n (module_place m)
+answer_over n ok m r part s x piece at is starts hears span =
+    let begins : s ≡ start (built n r) = starts ∙ ap start is in
+    let own : IsSpan (built n r) (inputs_by n (level n) r) (start (built n r)) 0 n.horizon piece =
+    subst (λ (z : Memory). IsSpan (built n r) (inputs_by n (level n) r) z 0 n.horizon piece) begins
+    (subst (λ (p : AnyModule). IsSpan p (inputs_by n (level n) r) s 0 n.horizon piece) is (inside_alone part x (inputs_by n (level n) r) s 0 n.horizon piece (λ t low high. hears t high) span)) in
+    finds_by_states n (level n) (state n) (satisfies n ok) m 0 n.horizon r piece at own ∙ module_over n m r at ok.horizon_low
+
+none_told : {X : Type 0} (f : ℕ → List X) → ((t : ℕ) → f t ≡ []) → (ts : List ℕ) → flat_map f ts ≡ []
+none_told f none [] = refl
+none_told f none (t ∷ ts) = ap (λ xs. xs ++ flat_map f ts) (none t) ∙ none_told f none ts
+
+-- nothing is found where none stands
+pub no_module_over : (n : Circuit) (m : ℕ) → module_at n m ≡ None → [] ≡ found_over n (module_place m)
+unfolding found_over
+no_module_over n m at =
+    sym (none_told (codes_at n (module_place m))
+    (λ t. ap (λ (slot : Option ModuleRecord). map (λ (code : FindingCode). let pair : ℕ × FindingCode = (t, code) in pair) (filter (is_found_at_module n m slot t) by_number)) at)
+    (range_with_len 1 (n.horizon - 1)))

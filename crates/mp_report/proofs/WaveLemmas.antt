@@ -1,0 +1,47 @@
+-- The waves of wires that stand.
+use Rattle.std.proofs.Common.{◌≡◌, ℕ, ◌-◌, ◌<◌, List, Option, Some, None, IsSome, ap, sym, ◌∙◌, arith}
+use Rattle.mp_wave.specs.Waveform.{Waveform, IsWaveform, level_of, between}
+use Rattle.mp_wave.proofs.PrefixLemmas.{cut_levels}
+use Rattle.mp_wave.proofs.ChangesLemmas.{levels_of_wave}
+use Rattle.mp_records.specs.declared.wire_record.WireRecord.{WireRecord}
+use Rattle.mp_records.specs.declared.ports.Input.{Input}
+use Rattle.mp_netlist.specs.Slots.{slot_at}
+use Rattle.mp_netlist.specs.Circuit.{Circuit, IsCircuit, wire_at}
+use Rattle.mp_model.specs.Levels.{input_by}
+use Rattle.mp_model.specs.Waves.{level, wave, slot_wave, AreWavesOf}
+use Rattle.mp_model.proofs.InputLemmas.{input_is}
+use Rattle.mp_response.specs.Pieces.{later_by, put_off, piece_level}
+use Rattle.mp_response.specs.declared.in_piece.InPiece.{InPiece}
+use Rattle.mp_response.proofs.LateLemmas.{late_level_of, IsWaveform-later_by}
+
+-- the wave that is kept of a wire that stands
+pub wave_is : (n : Circuit) (w : ℕ) (found : List (Option Waveform)) (v : Waveform) → AreWavesOf n found → Some v ≡ slot_at found w → v ≡ wave n w
+wave_is n w found v are is = by (wire_at n w) (is ∙ are w)
+  where
+    by : (slot : Option WireRecord) → Some v ≡ slot_wave n w slot → v ≡ wave n w
+    by None fails = cc
+    by (Some r) same = cc
+
+pub no_wave : (n : Circuit) (w : ℕ) (found : List (Option Waveform)) → AreWavesOf n found → IsSome (wire_at n w) → (let none : Option Waveform = None in none) ≡ slot_at found w → ⊥
+no_wave n w found are some is = by (wire_at n w) some (is ∙ are w)
+  where
+    by : (slot : Option WireRecord) → IsSome slot → (let none : Option Waveform = None in none) ≡ slot_wave n w slot → ⊥
+    by None stands same = cc
+    by (Some r) stands same = cc
+
+-- a wave that is cut over all times below an end
+pub cut_whole : (wave : Waveform) (piece : InPiece) (end delay t : ℕ) → IsWaveform wave → delay ≡ 0 → piece ≡ record { at_from = level_of wave 0; changes = between 0 end wave.changes } → t < end
+    → piece_level piece t ≡ level_of wave (t - delay)
+cut_whole wave piece end delay t form none is within =
+    let same : t ≡ t - delay = omega (arith, none) in
+    ap (λ (p : InPiece). piece_level p t) is ∙ cut_levels wave 0 end t form (omega arith) within ∙ ap (level_of wave) same
+
+pub cut_late : (wave : Waveform) (piece : InPiece) (end delay t : ℕ) → IsWaveform wave → piece ≡ record { at_from = level_of (later_by delay wave) 0; changes = between 0 end (put_off delay wave.changes) } → t < end
+    → piece_level piece t ≡ level_of wave (t - delay)
+cut_late wave piece end delay t form is within =
+    ap (λ (p : InPiece). piece_level p t) is ∙ cut_levels (later_by delay wave) 0 end t (IsWaveform-later_by delay wave form) (omega arith) within ∙ late_level_of delay t wave form
+
+-- what an input hears of its wire
+pub hears : (n : Circuit) → IsCircuit n → (i : Input) (v : Waveform) (t : ℕ) → IsSome (wire_at n i.wire.0) → v ≡ wave n i.wire.0 → t < n.horizon → level_of v (t - i.delay) ≡ input_by n (level n) i t
+hears n ok i v t stands is within =
+    ap (λ (x : Waveform). level_of x (t - i.delay)) is ∙ levels_of_wave (level n i.wire.0) (n.horizon - 1) (t - i.delay) (omega (arith, within)) ∙ sym (input_is n ok i t)

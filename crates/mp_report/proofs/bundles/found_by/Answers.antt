@@ -1,0 +1,85 @@
+use Rattle.std.proofs.Common.{◌≡◌, ◌-◌, ◌+◌, ◌++◌, ℕ, List, flat_map, ap, sym, ◌∙◌, arith}
+use Rattle.std.specs.List.{range_with_len}
+use Rattle.mp_modules.specs.declared.finding_code.FindingCode.{FindingCode}
+use Rattle.mp_response.specs.Span.{findings_of}
+use Rattle.mp_report.specs.Bundles.{bundle_set}
+use Rattle.mp_report.proofs.TimeLemmas.{told_more, told_quiet}
+use Rattle.mp_report.proofs.BundleLemmas.{quiet_set}
+use Rattle.mp_report.proofs.bundles.found_by.Goals as goal
+
+pub loop-time-init : goal.loop-time-init
+loop-time-init c =
+    let n = c.args.netlist.now in
+    let b = c.args.bundle.now in
+    let same = c.horizon-horizon.ensures.value in
+    let some = c.horizon-horizon.ensures.low in
+    let next = c.next-time.ensures in
+    let last = next.within in
+    let time = c.next-time.result in
+    let low = next.later n b 1 c.requires (omega (arith, some)) in
+    let told : ℕ → List (ℕ × FindingCode) = λ t. findings_of t (bundle_set n b t) in
+    let all : 0 + (time - 1) ≡ time - 1 = omega arith in
+    record {
+      same = same;
+      low = low;
+      high = omega (arith, last, same);
+      ahead = next.still n b 1 c.requires low (omega (arith, last, same));
+      found = c.none-found.ensures ∙ sym (ap (λ k. flat_map told (range_with_len 1 k)) (sym all) ∙ told_quiet told 1 0 (time - 1) (λ t from before. quiet_set n b t (next.quiet n b 1 t c.requires (omega (arith, from)) (omega (arith, before, low)) (omega (arith, before, low, last, same)))));
+    }
+
+pub found_now-requires-clause-ahead : goal.found_now-requires-clause-ahead
+found_now-requires-clause-ahead c = c.loop-time.invariant.ahead
+
+pub found_now-requires-clause-within : goal.found_now-requires-clause-within
+found_now-requires-clause-within c = omega (arith, c.loop-time.invariant.same, c.loop-time-test.true)
+
+pub loop-time-smaller : goal.loop-time-smaller
+loop-time-smaller c =
+    let kept = c.loop-time.invariant in
+    let n = c.args.netlist.now in
+    let same = kept.same in
+    let test = c.loop-time-test.true in
+    let next = c.next-time-in-loop-time.ensures in
+    let later = next.later n c.args.bundle.now (c.loop-time.time + 1) (c.since-watch.ensures n c.args.bundle.now kept.ahead (omega (arith, same, test))) (omega (arith, test)) in
+    let last = next.within in
+    omega (arith, later, last, test)
+
+pub loop-time-preserved : goal.loop-time-preserved
+loop-time-preserved c =
+    let kept = c.loop-time.invariant in
+    let n = c.args.netlist.now in
+    let b = c.args.bundle.now in
+    let same = kept.same in
+    let test = c.loop-time-test.true in
+    let now = c.loop-time.time in
+    let from_one = kept.low in
+    let next = c.next-time-in-loop-time.ensures in
+    let then = c.next-time-in-loop-time.result in
+    let after = c.since-watch.ensures n b kept.ahead (omega (arith, same, test)) in
+    let later = next.later n b (now + 1) after (omega (arith, test)) in
+    let last = next.within in
+    let told : ℕ → List (ℕ × FindingCode) = λ t. findings_of t (bundle_set n b t) in
+    let all : now - 1 + 1 + (then - now - 1) ≡ then - 1 = omega (arith, later, from_one) in
+    record {
+      same = same;
+      low = omega (arith, later);
+      high = omega (arith, last, same);
+      ahead = next.still n b (now + 1) after later (omega (arith, last, same));
+      found =
+          c.in_ok-extend.ensures.ok
+          ∙ ap (λ (fs : List (ℕ × FindingCode)). fs ++ findings_of now c.found_now.result) kept.found
+          ∙ ap (λ set. flat_map told (range_with_len 1 (now - 1)) ++ findings_of now set) c.found_now.ensures
+          ∙ sym (told_more told 1 (now - 1) now (omega (arith, from_one)))
+          ∙ sym (told_quiet told 1 (now - 1 + 1) (then - now - 1)
+          (λ t from before. quiet_set n b t (next.quiet n b (now + 1) t after (omega (arith, from, from_one)) (omega (arith, before, from_one, later)) (omega (arith, before, from_one, later, last, same)))))
+          ∙ ap (λ k. flat_map told (range_with_len 1 k)) all;
+    }
+
+pub returns : goal.returns
+returns c =
+    let kept = c.loop-time.invariant in
+    let over = c.loop-time-test.false in
+    let same = kept.same in
+    let high = kept.high in
+    let end : c.loop-time.time - 1 ≡ c.args.netlist.now.horizon - 1 = omega (arith, over, same, high) in
+    kept.found ∙ ap (λ k. flat_map (λ t. findings_of t (bundle_set c.args.netlist.now c.args.bundle.now t)) (range_with_len 1 k)) end

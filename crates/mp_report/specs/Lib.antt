@@ -1,0 +1,4 @@
+pub mod Places
+pub mod Ahead
+pub mod Bundles
+pub mod Lines

@@ -1,0 +1,13 @@
+//! What is found in a netlist, and how it is told.
+#![tactic(auto)]
+
+mod ahead;
+mod bundles;
+mod lines;
+mod modules;
+mod places;
+mod reporting;
+mod watch;
+
+pub use lines::put_report;
+pub use reporting::report;

@@ -1,0 +1,92 @@
+//! What is found at a module.
+ghost use Rattle.std.specs.Prelude.{◌≡◌, ℕ, ◌-◌, ◌<◌, IsSome, IfOk, All, map, vec_len, length};
+ghost use Rattle.mp_wave.specs.Waveform.{IsWaveform, level_of};
+ghost use Rattle.mp_records.specs.declared.ports.Input.{Input as Port};
+ghost use Rattle.mp_netlist.specs.Circuit.{wire_at};
+ghost use Rattle.mp_model.specs.Levels.{input_by};
+ghost use Rattle.mp_model.specs.Waves.{AreWavesOf, level};
+ghost use Rattle.mp_model.specs.Findings.{module_place};
+ghost use Rattle.mp_response.specs.Pieces.{levels_at, piece_level};
+ghost use Rattle.mp_report.specs.Places.{found_over};
+
+use mp_model::{Waves, built};
+use mp_modules::EventModule;
+use mp_netlist::{Input, ModuleId, Netlist};
+use mp_response::{Findings, InPiece, cut, cut_delayed, respond};
+use mp_wave::Wave;
+use std::alloc::{AllocError, Global};
+
+/// What is found at a module, by time and then by the codes' numbers; nothing where it doesn't stand. The module answers once, over the
+/// whole horizon.
+pub(crate) fn found_at_module(
+    alloc: Global,
+    netlist: &Netlist,
+    waves: &Waves,
+    id: ModuleId,
+) -> Result<Findings, AllocError>
+    requires { AreWavesOf netlist.now waves.now }
+    ensures { IfOk result (λ found. found ≡ found_over netlist.now (module_place id.0)) }
+{
+    let Some(record) = netlist.module(id) else {
+        return Ok(Findings::none(alloc));
+    };
+    let end = netlist.horizon();
+    let part = built(netlist, record);
+    let inputs = pieces(alloc, netlist, waves, record.inputs.as_slice())?;
+    let piece = respond(alloc, &part, part.start(), inputs.as_slice(), 0, end)?;
+    Ok(piece.findings)
+}
+
+/// What the inputs of a module hear over the whole horizon.
+fn pieces(
+    alloc: Global,
+    netlist: &Netlist,
+    waves: &Waves,
+    inputs: &[Input],
+) -> Result<Vec<InPiece>, AllocError>
+    requires waves { AreWavesOf netlist.now waves.now }
+    requires stand { All (λ (i : Port). IsSome (wire_at netlist.now i.wire.0)) inputs.now }
+    ensures count { IfOk result (λ pieces. vec_len pieces ≡ length inputs.now) }
+    ensures levels { IfOk result (λ pieces. (t : ℕ) → t < netlist.now.horizon
+        → levels_at pieces.items t ≡ map (λ i. input_by netlist.now (level netlist.now) i t) inputs.now) }
+{
+    let mut pieces = Vec::with_capacity(alloc, inputs.len())?;
+    for &input in inputs {
+        pieces.push(piece(alloc, netlist, waves, input)?)?;
+    }
+    Ok(pieces)
+}
+
+/// What an input hears over the whole horizon.
+fn piece(
+    alloc: Global,
+    netlist: &Netlist,
+    waves: &Waves,
+    input: Input,
+) -> Result<InPiece, AllocError>
+    requires waves { AreWavesOf netlist.now waves.now }
+    requires stands { IsSome (wire_at netlist.now input.wire.0) }
+    ensures { IfOk result (λ piece. (t : ℕ) → t < netlist.now.horizon → piece_level piece t ≡ input_by netlist.now (level netlist.now) input t) }
+{
+    match waves.of(input.wire) {
+        Some(wave) => {
+            let piece = heard(alloc, wave, input.delay, netlist.horizon())?;
+            Ok(piece)
+        }
+        None => unreachable!(),
+    }
+}
+
+/// A wave so much later, from time 0 to an end. It is copied as a whole where it isn't put off.
+fn heard(alloc: Global, wave: &Wave, delay: u32, end: u32) -> Result<InPiece, AllocError>
+    requires some { 0 < end }
+    requires form { IsWaveform wave.now }
+    ensures { IfOk result (λ piece. (t : ℕ) → t < end → piece_level piece t ≡ level_of wave.now (t - delay)) }
+{
+    if delay == 0 {
+        let piece = cut(alloc, wave, 0, end)?;
+        return Ok(piece);
+    }
+    let piece = cut_delayed(alloc, wave, delay, 0, end)?;
+    Ok(piece)
+}

@@ -1,8 +1,0 @@
-use Rattle.std.proofs.Common.{◌≡◌, ◌++◌, take}
-use Rattle.std.specs.List.{flat_map}
-use Rattle.mp_text.specs.Written.{wire_line}
-use Rattle.mp_text.proofs.writing.push_wires.Given as goal
-
--- the lines of the slots so far are written
-abbrev pub invariant-loop-number : goal.invariant-loop-number
-invariant-loop-number l = l.text.items ≡ l.fn.text.items ++ flat_map wire_line (take l.number l.netlist.wires)

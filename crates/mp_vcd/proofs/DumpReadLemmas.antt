@@ -1,0 +1,94 @@
+-- The whole of a dump, read.
+use Rattle.std.proofs.Common.{◌≡◌, ℕ, ◌+◌, ◌-◌, ◌<◌, ◌≤◌, List, [], ◌∷◌, ◌++◌, append_assoc, append-nil, length, map, Option, None, Some, suc, refl, sym, ap, subst, ◌∙◌, add-zero, zero-add, arith}
+use Rattle.std.specs.Prelude.{codes}
+use Rattle.std.proofs.Math.Nat.{mod-eq_of_lt}
+use Rattle.std.specs.List.{flat_map}
+use Rattle.mp_records.specs.declared.wire_record.WireRecord.{WireRecord}
+use Rattle.mp_netlist.specs.Limits.{max_wires}
+use Rattle.mp_netlist.specs.Circuit.{Circuit, IsCircuit, wire_at, width_of}
+use Rattle.mp_netlist.specs.Slots.{slot_at}
+use Rattle.mp_vcd.specs.Codes.{code}
+use Rattle.mp_vcd.specs.Dumps.{standing, standing_from, slot_declaration, declaration, value_at, time_mark, line, opening_lines, block_start, dump}
+use Rattle.mp_vcd.specs.Readings.{words, Variable, Given, Reading, read_words, reading}
+use Rattle.mp_vcd.specs.Laws.{name_of, variable, SaysLevels, IsReadBack}
+use Rattle.mp_vcd.proofs.ReadingLemmas.{Leads, leads_none, leads_both, leads_as, declaring, leads_declaration, leads_time, valued}
+use Rattle.mp_vcd.proofs.LevelReadLemmas.{given_at, leads_values, stands_in, knows_first, Units, leads_units}
+use Rattle.mp_vcd.proofs.LevelFitLemmas.{level_fits}
+use Rattle.mp_vcd.proofs.DumpLemmas.{units}
+
+-- ---- the declarations
+
+module _ (n : Circuit) (circuit : IsCircuit n) where
+  variable_stands : (w : ℕ) (r : WireRecord) → wire_at n w ≡ Some r → variable n w ≡ record { width = r.width; code = code w; name = r.name }
+  variable_stands w r stands = ap (λ slot. record { width = width_of slot; code = code w; name = name_of slot }) stands
+
+  declared_wire : (vs : List Variable) (w : ℕ) (r : WireRecord) → wire_at n w ≡ Some r → w < max_wires → Leads (declaring vs) (declaration n w) (declaring (vs ++ variable n w ∷ []))
+  declared_wire vs w r stands few =
+      let wire = circuit.wires_ok w r stands in
+      leads_as (declaring vs) _ _ (slot_declaration w (Some r)) (declaration n w) (ap (slot_declaration w) (sym stands)) (ap (λ v. declaring (vs ++ v ∷ [])) (sym (variable_stands w r stands)))
+      (leads_declaration vs w r (omega (arith, few)) (omega (arith, wire.narrow)) (circuit.names.wires w r stands))
+
+  leads_declarations : (vs : List Variable) (k : ℕ) (slots : List (Option WireRecord)) → k + length slots ≤ max_wires → ((i : ℕ) (r : WireRecord) → slot_at slots i ≡ Some r → wire_at n (k + i) ≡ Some r)
+      → Leads (declaring vs) (flat_map (declaration n) (standing_from k slots)) (declaring (vs ++ map (variable n) (standing_from k slots)))
+  leads_declarations vs k [] few same = leads_as (declaring vs) _ _ [] [] refl (ap declaring (sym (append-nil vs))) (leads_none (declaring vs))
+  leads_declarations vs k (None ∷ slots) few same =
+      leads_declarations vs (k + 1) slots (omega (arith, few)) (λ i r stands. let e : k + suc i ≡ k + 1 + i = omega arith in ap (wire_at n) (sym e) ∙ same (suc i) r stands)
+  leads_declarations vs k (Some r ∷ slots) few same =
+      let here : wire_at n k ≡ Some r = ap (wire_at n) (sym (add-zero k)) ∙ same 0 r refl in
+      let later = leads_declarations (vs ++ variable n k ∷ []) (k + 1) slots (omega (arith, few)) (λ i s stands. let e : k + suc i ≡ k + 1 + i = omega arith in ap (wire_at n) (sym e) ∙ same (suc i) s stands) in
+      leads_as (declaring vs) _ _ _ _ refl (ap declaring (append_assoc vs (variable n k ∷ []) (map (variable n) (standing_from (k + 1) slots))))
+      (leads_both (declaring vs) (declaring (vs ++ variable n k ∷ [])) _ (declaration n k) _ (declared_wire vs k r here (omega (arith, few))) later)
+
+-- ---- the lines between
+
+starts : Leads (declaring []) opening_lines (declaring [])
+starts = record { each = λ rest. refl }
+
+block_starts : (vs : List Variable) → Leads (declaring vs) block_start (valued vs 0 [])
+block_starts vs = record { each = λ rest. refl }
+
+block_ends : (vs : List Variable) (given : List Given) → Leads (valued vs 0 given) (line (codes "$end")) (valued vs 0 given)
+block_ends vs given = record { each = λ rest. refl }
+
+-- ---- the whole
+
+leads_all : (text : List ℕ) (to : Reading) → Leads (declaring []) text to → reading text ≡ to
+unfolding reading
+leads_all text to leads = ap (λ l. read_words (words l) (declaring [])) (sym (append-nil text)) ∙ leads.each []
+
+module _ (n : Circuit) (circuit : IsCircuit n) where
+  abbrev all_variables : List Variable
+  all_variables = map (variable n) (standing n)
+
+  abbrev first_given : List Given
+  first_given = given_at n 0 (standing n) []
+
+  all_units : Units n all_variables (valued all_variables 0 first_given) (units n) (0 + (n.horizon - 1))
+  all_units = leads_units n all_variables (n.horizon - 1) 0 0 first_given (omega (arith, circuit.horizon_high)) (knows_first n)
+
+  leads_dump : Leads (declaring []) (dump n) (valued all_variables n.horizon all_units.given)
+  unfolding dump
+  leads_dump =
+      let vs = all_variables in
+      let end = leads_time vs all_units.time n.horizon all_units.given (omega (arith, circuit.horizon_high)) in
+      let changes = leads_both _ _ _ (units n) (time_mark n.horizon) all_units.leads end in
+      let over = leads_both _ _ _ (line (codes "$end")) _ (block_ends vs first_given) changes in
+      let levels = leads_both _ _ _ (flat_map (value_at n 0) (standing n)) _ (leads_values n vs 0 (standing n) []) over in
+      let block = leads_both _ _ _ block_start _ (block_starts vs) levels in
+      let stands : (i : ℕ) (r : WireRecord) → slot_at n.wires i ≡ Some r → wire_at n (0 + i) ≡ Some r = λ i r at. ap (wire_at n) (zero-add i) ∙ at in
+      let all = leads_both _ _ _ (flat_map (declaration n) (standing n)) _ (leads_declarations n circuit [] 0 n.wires (omega (arith, circuit.wires_few)) stands) block in
+      leads_both _ _ _ opening_lines _ starts all
+
+  says : SaysLevels n (valued all_variables n.horizon all_units.given)
+  says = record {
+    whole = refl;
+    variables = refl;
+    levels = λ w t wire stands below. all_units.knows.before w t (stands_in n w wire stands) (omega (arith, below)) ∙ ap Some (mod-eq_of_lt (level_fits n circuit w t));
+    horizon = refl;
+  }
+
+  pub says_levels : SaysLevels n (reading (dump n))
+  says_levels = subst (SaysLevels n) (sym (leads_all (dump n) _ leads_dump)) says
+
+pub dump_is_read : IsReadBack
+dump_is_read n circuit = says_levels n circuit

@@ -1,0 +1,191 @@
+-- The levels that a reader of a dump knows, unit by unit.
+use Rattle.std.proofs.Common.{◌≡◌, ℕ, ◌+◌, ◌-◌, ◌%◌, ◌^◌, ◌<◌, ◌≤◌, ◌⊎◌, inl, inr, Bool, true, false, not, cond, ◌==◌, nat_le, List, [], ◌∷◌, Option, None, Some, zero, suc, refl, sym, ap, subst, ◌∙◌, add-zero, zero-add, arith}
+use Rattle.std.specs.List.{filter, flat_map, range_with_len}
+use Rattle.std.specs.Str.{bytes_eq}
+use Rattle.std.proofs.lemmas.Bool.{cases_lt, eqb-true}
+use Rattle.std.proofs.lemmas.Bool.Decides.{nat_tests}
+use Rattle.std.proofs.lemmas.Slice.Eq.{bytes_eq-Decides}
+use Rattle.mp_records.specs.declared.wire_record.WireRecord.{WireRecord}
+use Rattle.mp_netlist.specs.Circuit.{Circuit, wire_at, width_of}
+use Rattle.mp_netlist.specs.Slots.{slot_at}
+use Rattle.mp_model.specs.Waves.{level}
+use Rattle.mp_vcd.specs.Codes.{code}
+use Rattle.mp_vcd.specs.Dumps.{standing, standing_from, if_stands, value_at, is_changed, changed, marked, unit_text, time_mark}
+use Rattle.mp_vcd.specs.Readings.{Variable, Given, Reading, value_of}
+use Rattle.mp_vcd.proofs.CodeReadLemmas.{own_codes, same_bytes}
+use Rattle.mp_vcd.proofs.ReadingLemmas.{Leads, leads_none, leads_both, leads_time, leads_value, valued, giving}
+
+-- the bits of a wire's level, as many as the wire has
+abbrev pub level_bits : Circuit → ℕ → ℕ → ℕ
+level_bits n w t = level n w t % 2 ^ width_of (wire_at n w)
+
+-- ---- the values of some wires at a time
+
+-- the values given, after those of some wires at a time
+abbrev pub given_at : Circuit → ℕ → List ℕ → List Given → List Given
+given_at n t [] given = given
+given_at n t (w ∷ ws) given = given_at n t ws (giving t w (level_bits n w t) ∷ given)
+
+pub leads_values : (n : Circuit) (vs : List Variable) (t : ℕ) (ws : List ℕ) (given : List Given) → Leads (valued vs t given) (flat_map (value_at n t) ws) (valued vs t (given_at n t ws given))
+leads_values n vs t [] given = leads_none (valued vs t given)
+leads_values n vs t (w ∷ ws) given =
+    leads_both (valued vs t given) (valued vs t (giving t w (level_bits n w t) ∷ given)) _ (value_at n t w) (flat_map (value_at n t) ws)
+    (leads_value vs t w (level n w t) given (width_of (wire_at n w))) (leads_values n vs t ws (giving t w (level_bits n w t) ∷ given))
+
+-- the time at the end of a unit
+abbrev marked_time : ℕ → ℕ → List ℕ → ℕ
+marked_time before t [] = before
+marked_time before t (w ∷ ws) = t
+
+leads_marked : (n : Circuit) (vs : List Variable) (before t : ℕ) (ws : List ℕ) (given : List Given) → t < 2 ^ 64
+    → Leads (valued vs before given) (marked n t ws) (valued vs (marked_time before t ws) (given_at n t ws given))
+leads_marked n vs before t [] given fits = leads_none (valued vs before given)
+leads_marked n vs before t (w ∷ ws) given fits =
+    leads_both (valued vs before given) (valued vs t given) _ (time_mark t) (flat_map (value_at n t) (w ∷ ws)) (leads_time vs before t given fits) (leads_values n vs t (w ∷ ws) given)
+
+-- ---- wires among others
+
+abbrev pub In : ℕ → List ℕ → Type 0
+In w [] = ⊥
+In w (v ∷ ws) = (v ≡ w) ⊎ In w ws
+
+in_filter : (p : ℕ → Bool) (w : ℕ) (ws : List ℕ) → In w ws → p w ≡ true → In w (filter p ws)
+in_filter p w [] within passes = absurd within
+in_filter p w (v ∷ ws) (inl same) passes = let here : p v ≡ true = ap p same ∙ passes in rw here (inl same)
+in_filter p w (v ∷ ws) (inr later) passes = by (p v) (in_filter p w ws later passes)
+  where
+    by : (test : Bool) → In w (filter p ws) → In w (cond test (v ∷ filter p ws) (filter p ws))
+    by true rest = inr rest
+    by false rest = rest
+
+behind_slot : (k w : ℕ) (slot : Option WireRecord) (others : List ℕ) → In w others → In w (if_stands k slot others)
+behind_slot k w None others within = within
+behind_slot k w (Some r) others within = inr within
+
+in_standing : (k i : ℕ) (slots : List (Option WireRecord)) (r : WireRecord) → slot_at slots i ≡ Some r → In (k + i) (standing_from k slots)
+in_standing k i [] r stands = let bad : None ≡ Some r = stands in cc bad
+in_standing k zero (slot ∷ slots) r stands = rw stands (inl (sym (add-zero k)))
+in_standing k (suc i) (slot ∷ slots) r stands =
+    let same : k + 1 + i ≡ k + suc i = omega arith in
+    behind_slot k (k + suc i) slot (standing_from (k + 1) slots) (subst (λ v. In v (standing_from (k + 1) slots)) same (in_standing (k + 1) i slots r stands))
+
+pub stands_in : (n : Circuit) (w : ℕ) (r : WireRecord) → wire_at n w ≡ Some r → In w (standing n)
+stands_in n w r stands = subst (λ v. In v (standing n)) (zero-add w) (in_standing 0 w n.wires r stands)
+
+-- ---- the values of a code
+
+not_now : (t s : ℕ) → s < t → nat_le t s ≡ false
+not_now t s sooner = grind (arith, nat_tests)
+
+now : (t s : ℕ) → t ≤ s → nat_le t s ≡ true
+now t s not_later = grind (arith, nat_tests)
+
+-- earlier values stay
+value_before : (n : Circuit) (t s : ℕ) (c : List ℕ) (ws : List ℕ) (given : List Given) → s < t → value_of c s (given_at n t ws given) ≡ value_of c s given
+value_before n t s c [] given sooner = refl
+value_before n t s c (w ∷ ws) given sooner =
+    let none = not_now t s sooner in
+    value_before n t s c ws (giving t w (level_bits n w t) ∷ given) sooner ∙ rw none refl
+
+-- a value that a code has already is not changed by that of its wire, nor by those of others
+value_kept : (n : Circuit) (t s w : ℕ) (ws : List ℕ) (given : List Given) → t ≤ s → value_of (code w) s given ≡ Some (level_bits n w t)
+    → value_of (code w) s (given_at n t ws given) ≡ Some (level_bits n w t)
+value_kept n t s w [] given not_later known = known
+value_kept n t s w (v ∷ ws) given not_later known =
+    let on = now t s not_later in
+    value_kept n t s w ws (giving t v (level_bits n v t) ∷ given) not_later (rw on (by (bytes_eq (code v) (code w)) refl))
+  where
+    by : (test : Bool) → bytes_eq (code v) (code w) ≡ test → cond test (Some (level_bits n v t)) (value_of (code w) s given) ≡ Some (level_bits n w t)
+    by true test =
+        let same : v ≡ w = own_codes v w ((bytes_eq-Decides (code v) (code w)).0 test) in
+        ap (λ k. Some (level_bits n k t)) same
+    by false test = known
+
+-- a wire that is among them has its value
+value_given : (n : Circuit) (t s w : ℕ) (ws : List ℕ) (given : List Given) → t ≤ s → In w ws → value_of (code w) s (given_at n t ws given) ≡ Some (level_bits n w t)
+value_given n t s w [] given not_later within = absurd within
+value_given n t s w (v ∷ ws) given not_later (inl same) =
+    let on = now t s not_later in
+    let equal : bytes_eq (code v) (code w) ≡ true = ap (λ k. bytes_eq (code k) (code w)) same ∙ same_bytes (code w) in
+    value_kept n t s w ws (giving t v (level_bits n v t) ∷ given) not_later (rw (on, equal) (ap (λ k. Some (level_bits n k t)) same))
+value_given n t s w (v ∷ ws) given not_later (inr later) = value_given n t s w ws (giving t v (level_bits n v t) ∷ given) not_later later
+
+-- ---- what is known at a time
+
+-- the values of the wires that stand are their levels up to a time, and from then on the last of them
+pub record Knows (n : Circuit) (t : ℕ) (given : List Given) : Type 0 where
+  pub before : (w s : ℕ) → In w (standing n) → s ≤ t → value_of (code w) s given ≡ Some (level_bits n w s)
+  pub after : (w s : ℕ) → In w (standing n) → t ≤ s → value_of (code w) s given ≡ Some (level_bits n w t)
+
+pub knows_first : (n : Circuit) → Knows n 0 (given_at n 0 (standing n) [])
+knows_first n = record {
+  before = λ w s within first.
+      let zero_time : s ≡ 0 = omega (arith, first) in
+      value_given n 0 s w (standing n) [] (omega arith) within ∙ ap (λ k. Some (level_bits n w k)) (sym zero_time);
+  after = λ w s within later. value_given n 0 s w (standing n) [] later within;
+}
+
+module _ (n : Circuit) (t : ℕ) (given : List Given) (known : Knows n t given) where
+  -- the level of a wire that does not change stays
+  stays : (w : ℕ) → is_changed n (t + 1) w ≡ false → level_bits n w t ≡ level_bits n w (t + 1)
+  stays w test =
+      let place : t + 1 - 1 ≡ t = omega arith in
+      let equal : (level n w (t + 1) == level n w t) ≡ true = by (level n w (t + 1) == level n w t) (ap (λ k. not (level n w (t + 1) == level n w k)) (sym place) ∙ test) in
+      ap (λ v. v % 2 ^ width_of (wire_at n w)) (sym (eqb-true (level n w (t + 1)) (level n w t) equal))
+    where
+      by : (x : Bool) → not x ≡ false → x ≡ true
+      by true h = refl
+      by false h = let bad : true ≡ false = h in cc bad
+
+  later_value : (w s : ℕ) → In w (standing n) → t + 1 ≤ s → value_of (code w) s (given_at n (t + 1) (changed n (t + 1)) given) ≡ Some (level_bits n w (t + 1))
+  later_value w s within later = by (is_changed n (t + 1) w) refl
+    where
+      by : (test : Bool) → is_changed n (t + 1) w ≡ test → value_of (code w) s (given_at n (t + 1) (changed n (t + 1)) given) ≡ Some (level_bits n w (t + 1))
+      by true test = value_given n (t + 1) s w (changed n (t + 1)) given later (in_filter (is_changed n (t + 1)) w (standing n) within test)
+      by false test =
+          value_kept n (t + 1) s w (changed n (t + 1)) given later
+          (known.after w s within (omega (arith, later)) ∙ ap Some (stays w test))
+
+  pub knows_next : Knows n (t + 1) (given_at n (t + 1) (changed n (t + 1)) given)
+  knows_next = record {
+    before = λ w s within upto. by w s within upto (cases_lt s (t + 1));
+    after = later_value;
+  }
+    where
+      by : (w s : ℕ) → In w (standing n) → s ≤ t + 1 → (s < t + 1) ⊎ (t + 1 ≤ s) → value_of (code w) s (given_at n (t + 1) (changed n (t + 1)) given) ≡ Some (level_bits n w s)
+      by w s within upto (inl sooner) =
+          value_before n (t + 1) s (code w) (changed n (t + 1)) given sooner ∙ known.before w s within (omega (arith, sooner))
+      by w s within upto (inr late) =
+          let same : t + 1 ≡ s = omega (arith, upto, late) in
+          later_value w s within late ∙ ap (λ k. Some (level_bits n w k)) same
+
+-- ---- all units
+
+-- the units lead to a reading that knows the levels up to the last of them
+pub record Units (n : Circuit) (vs : List Variable) (from : Reading) (text : List ℕ) (last : ℕ) : Type 0 where
+  pub time : ℕ
+  pub given : List Given
+  pub leads : Leads from text (valued vs time given)
+  pub knows : Knows n last given
+
+pub leads_units : (n : Circuit) (vs : List Variable) (k t before : ℕ) (given : List Given) → t + k < 2 ^ 64 → Knows n t given
+    → Units n vs (valued vs before given) (flat_map (unit_text n) (range_with_len (t + 1) k)) (t + k)
+leads_units n vs zero t before given fits known = record {
+  time = before;
+  given = given;
+  leads = leads_none (valued vs before given);
+  knows = subst (λ s. Knows n s given) (sym (add-zero t)) known;
+}
+leads_units n vs (suc k) t before given fits known =
+    let next = given_at n (t + 1) (changed n (t + 1)) given in
+    let here = valued vs (marked_time before (t + 1) (changed n (t + 1))) next in
+    let rest = leads_units n vs k (t + 1) (marked_time before (t + 1) (changed n (t + 1))) next (omega (arith, fits)) (knows_next n t given known) in
+    let same : t + 1 + k ≡ t + suc k = omega arith in
+    record {
+      time = rest.time;
+      given = rest.given;
+      leads =
+          leads_both (valued vs before given) here _ (unit_text n (t + 1)) (flat_map (unit_text n) (range_with_len (t + 1 + 1) k))
+          (leads_marked n vs before (t + 1) (changed n (t + 1)) given (omega (arith, fits))) rest.leads;
+      knows = subst (λ s. Knows n s rest.given) same rest.knows;
+    }

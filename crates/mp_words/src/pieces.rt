@@ -1,0 +1,69 @@
+//! The parts of a wave's line that write themselves.
+ghost use Rattle.std.specs.Prelude.{◌≡◌, ◌+◌, ◌≤◌, ◌∷◌, length};
+ghost use Rattle.std.specs.Fmt.{decimal};
+ghost use Rattle.mp_streams.specs.Places.{IsPlaced};
+ghost use Rattle.mp_words.specs.WaveLines.{change_text};
+
+use itoa::write_digits;
+use mp_streams::Piece;
+
+/// A change of a wave, written as ` T=V`.
+#[derive(Clone, Copy)]
+pub(crate) struct Change {
+    pub(crate) time: u32,
+    pub(crate) value: u64,
+}
+
+impl Piece for Change {
+    ghost text = { λ change. change_text (change.time, change.value) };
+
+    #[inline(always)]
+    fn write(&self, room: &mut [u8], at: usize) -> usize {
+        room[at] = b' ';
+        let sign = write_number(u64::from(self.time), room, at + 1);
+        room[sign] = b'=';
+        write_number(self.value, room, sign + 1)
+    }
+}
+
+/// The first level of a wave, written as ` V`.
+#[derive(Clone, Copy)]
+pub(crate) struct FirstLevel(pub(crate) u64);
+
+impl Piece for FirstLevel {
+    ghost text = { λ level. 32 ∷ decimal level.0 };
+
+    fn write(&self, room: &mut [u8], at: usize) -> usize {
+        room[at] = b' ';
+        write_number(self.0, room, at + 1)
+    }
+}
+
+/// Writes the number from a place on, in decimal digits, and returns where they end.
+#[inline]
+fn write_number(number: u64, room: &mut [u8], at: usize) -> usize
+    requires { at + 20 ≤ length room.old }
+    ensures placed { IsPlaced room.old room.new at (decimal number) result }
+    ensures short { result ≤ at + 20 }
+{
+    let end = at + digit_count(number);
+    write_digits(number, room, end);
+    end
+}
+
+/// How many decimal digits the number has. Those of times and of most values are few, and as many as
+/// those of the number before.
+#[inline]
+fn digit_count(number: u64) -> usize
+    ensures value { result ≡ length (decimal number) }
+    ensures short { result ≤ 20 }
+{
+    match number {
+        0..=9 => 1,
+        10..=99 => 2,
+        100..=999 => 3,
+        1_000..=9_999 => 4,
+        10_000..=99_999 => 5,
+        _ => number.ilog10() as usize + 1,
+    }
+}
