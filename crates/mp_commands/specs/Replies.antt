@@ -8,13 +8,14 @@ use Rattle.mp_records.specs.EditErrors as edits
 use Rattle.mp_netlist.specs.Circuit.{Circuit, wire_at, wire_named}
 use Rattle.mp_netlist.specs.Edits.{may_want}
 use Rattle.mp_model.specs.Waves.{wave}
+use Rattle.mp_report.specs.Lines.{report_text}
 use Rattle.mp_vcd.specs.Dumps.{dump}
 use Rattle.mp_words.specs.declared.line_error.LineError.{LineError}
 use Rattle.mp_words.specs.declared.line_error.LineError.TheVariants as lines
 use Rattle.mp_text.specs.declared.script_line.Line.{Line}
 use Rattle.mp_text.specs.declared.script_line.Line.TheVariants.{Empty, Change, Ask}
 use Rattle.mp_text.specs.declared.script_line.Question.{Question}
-use Rattle.mp_text.specs.declared.script_line.Question.TheVariants.{Wave, Waves, Text, Dump}
+use Rattle.mp_text.specs.declared.script_line.Question.TheVariants.{Wave, Waves, Text, Report, Dump}
 use Rattle.mp_words.specs.LineErrors.{line_number_of, line_name_of}
 use Rattle.mp_text.specs.ScriptLines.{line_at}
 use Rattle.mp_text.specs.Written.{written}
@@ -69,6 +70,7 @@ abbrev pub answer_text : Circuit → Question → List ℕ
 answer_text n (Wave name) = wire_text n (wire_named n name)
 answer_text n Waves = waves_text n
 answer_text n Text = written n
+answer_text n Report = report_text n
 answer_text n Dump = dump n
 
 -- the reply to a line that was read or not: a line without words has none

@@ -1,6 +1,7 @@
 //! The replies to the lines of a script.
 ghost use Rattle.std.specs.Prelude.{◌≡◌, ℕ, ◌-◌, ◌^◌, ◌<◌, true, List, IfOk, IsOk, OnOk};
 ghost use Rattle.mp_text.specs.Written.{written};
+ghost use Rattle.mp_report.specs.Lines.{report_text};
 ghost use Rattle.mp_vcd.specs.Dumps.{dump};
 ghost use Rattle.mp_records.specs.declared.edit_error.EditError.TheVariants.{InBatch};
 ghost use Rattle.mp_netlist.specs.Circuit.{wire_named};
@@ -12,6 +13,7 @@ use crate::keeper::Keeper;
 use crate::numbered::push_numbered;
 use crate::put_dump::put_dump;
 use crate::put_text::{put_rest, put_text};
+use crate::report_lines::put_report_lines;
 use crate::run_fault::RunFault;
 use crate::wave_lines::{put_lines, put_slot_line};
 use mp_netlist::{Edit, EditError, Name, Netlist};
@@ -97,6 +99,7 @@ fn put_answer<T: Sink>(
         Question::Wave(name) => put_wire(alloc, buffer, sink, keeper, name),
         Question::Waves => put_lines(buffer, sink, keeper.netlist(), keeper.waves()),
         Question::Text => put_netlist_text(buffer, sink, keeper.netlist()),
+        Question::Report => put_report_answer(alloc, buffer, sink, keeper),
         Question::Dump => put_dump_answer(alloc, buffer, sink, keeper),
     }
 }
@@ -115,6 +118,21 @@ fn put_netlist_text<T: Sink>(
         Ok(()) => Ok(()),
         Err(Failed) => Err(RunFault::WriteFailed),
     }
+}
+
+/// Puts the report of the netlist. It takes memory, so the replies before it are written first, and are seen where memory is wanting.
+fn put_report_answer<T: Sink>(
+    alloc: Global,
+    buffer: &mut WriteBuffer,
+    sink: &mut T,
+    keeper: &Keeper,
+) -> Result<(), RunFault>
+    requires { T.fault_count sink.old < 2 ^ 64 - 1 }
+    ensures written { Puts result (T.taken sink.old) (T.taken sink.new) buffer.old buffer.new (report_text keeper.now.netlist) }
+    ensures faults { T.fault_count sink.new ≡ counted_writes result (T.fault_count sink.old) }
+{
+    put_rest(buffer, sink)?;
+    put_report_lines(alloc, buffer, sink, keeper.netlist(), keeper.waves())
 }
 
 /// Puts the dump of the netlist. It takes memory in its midst, so the replies before it are written first, and are seen where memory is wanting.

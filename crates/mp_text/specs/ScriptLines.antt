@@ -7,7 +7,7 @@ use Rattle.mp_records.specs.declared.single_edit.SingleEdit.{SingleEdit}
 use Rattle.mp_words.specs.declared.line_error.LineError.{LineError}
 use Rattle.mp_words.specs.declared.line_error.LineError.TheVariants.{UnknownStatement, WordCount}
 use Rattle.mp_text.specs.declared.line_word.LineWord.{LineWord}
-use Rattle.mp_text.specs.declared.line_word.LineWord.TheVariants.{Single, Batch, Wave, Waves, Text, Dump}
+use Rattle.mp_text.specs.declared.line_word.LineWord.TheVariants.{Single, Batch, Wave, Waves, Text, Report, Dump}
 use Rattle.mp_text.specs.declared.script_line.Line.{Line}
 use Rattle.mp_text.specs.declared.script_line.Line.TheVariants.{Empty, Change, Ask}
 use Rattle.mp_text.specs.declared.script_line.Question.{Question}
@@ -46,8 +46,9 @@ line_word word =
     else (if bytes_eq word (codes "wave") then Some Wave
     else (if bytes_eq word (codes "waves") then Some Waves
     else (if bytes_eq word (codes "text") then Some Text
+    else (if bytes_eq word (codes "report") then Some Report
     else (if bytes_eq word (codes "dump") then Some Dump
-    else option_map Single (single_word word)))))
+    else option_map Single (single_word word))))))
 
 -- the line of that word and the words behind it
 unfoldable pub stated_line : LineWord → List (List ℕ) → Result Line LineError
@@ -56,6 +57,7 @@ stated_line Batch words = batch_line (batch_of words)
 stated_line Wave words = question_line (wave_question words)
 stated_line Waves words = question_line (bare_question questions.Waves words)
 stated_line Text words = question_line (bare_question questions.Text words)
+stated_line Report words = question_line (bare_question questions.Report words)
 stated_line Dump words = question_line (bare_question questions.Dump words)
 
 -- the line of its words

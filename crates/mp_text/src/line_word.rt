@@ -14,6 +14,8 @@ pub enum LineWord {
     Waves,
     /// `text`
     Text,
+    /// `report`
+    Report,
     /// `dump`
     Dump,
 }
@@ -34,6 +36,8 @@ impl LineWord {
             Some(LineWord::Waves)
         } else if word == b"text".as_slice() {
             Some(LineWord::Text)
+        } else if word == b"report".as_slice() {
+            Some(LineWord::Report)
         } else if word == b"dump".as_slice() {
             Some(LineWord::Dump)
         } else {

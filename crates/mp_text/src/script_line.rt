@@ -21,6 +21,8 @@ pub enum Question {
     Waves,
     /// The netlist's text.
     Text,
+    /// What is found in the netlist.
+    Report,
     /// The value change dump of the netlist.
     Dump,
 }

@@ -56,6 +56,7 @@ fn stated_line(alloc: Global, first: LineWord, words: &[&[u8]]) -> Result<Line, 
         LineWord::Wave => Ok(Line::Ask(wave_question(alloc, words)?)),
         LineWord::Waves => Ok(Line::Ask(bare_question(Question::Waves, words)?)),
         LineWord::Text => Ok(Line::Ask(bare_question(Question::Text, words)?)),
+        LineWord::Report => Ok(Line::Ask(bare_question(Question::Report, words)?)),
         LineWord::Dump => Ok(Line::Ask(bare_question(Question::Dump, words)?)),
     }
 }
