@@ -3,7 +3,7 @@ ghost use Rattle.std.specs.Prelude.{IfOk};
 ghost use Rattle.mp_engine.specs.Runs.{IsRun};
 
 use crate::options::Options;
-use mp_engine::{Crew, OpenGate, Run, evaluate, evaluate_here};
+use mp_engine::{OpenGate, Run, evaluate, evaluate_here};
 use mp_netlist::Netlist;
 use std::alloc::{AllocError, Global};
 use std::sync::Wait;
@@ -19,8 +19,8 @@ pub fn crew_run<R: Threads + Wait + Sync>(
 ) -> Result<Run, AllocError>
     ensures { IfOk result (λ run. IsRun netlist.now run) }
 {
-    match Crew::new(options.workers, options.least) {
-        Ok(crew) => evaluate(rt, alloc, netlist, &crew, &OpenGate),
-        Err(_) => evaluate_here(rt, alloc, netlist, &OpenGate),
+    match options.crew() {
+        Some(crew) => evaluate(rt, alloc, netlist, &crew, &OpenGate),
+        None => evaluate_here(rt, alloc, netlist, &OpenGate),
     }
 }

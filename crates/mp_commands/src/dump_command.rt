@@ -10,7 +10,7 @@ ghost use Rattle.mp_commands.specs.RunFaults.{counted_reads, counted_writes};
 ghost use Rattle.mp_commands.specs.Runs.{HasInput, Wrote, comes_first};
 
 use crate::limits::MAX_TAKEN;
-use crate::open_run::open_run;
+use crate::crew_run::crew_run;
 use crate::options::Options;
 use crate::put_dump::put_dump;
 use crate::put_text::put_rest;
@@ -21,6 +21,7 @@ use mp_streams::{Sink, Source, WriteBuffer, take_all};
 use mp_text::read_netlist;
 use std::alloc::Global;
 use std::sync::Wait;
+use std::thread::Threads;
 
 /// Reads a netlist's text, all of it first, and writes its value change dump.
 ///
@@ -28,7 +29,7 @@ use std::sync::Wait;
 /// where the options have no valid crew: then nothing is written. `WriteFailed` comes with a fault
 /// of the sink and `OutOfMemory` where memory is wanting, in the text's reading too: then a part of
 /// the output from its front may be written.
-pub fn run_dump<R: Wait, S: Source, T: Sink>(
+pub fn run_dump<R: Threads + Wait + Sync, S: Source, T: Sink>(
     rt: &R,
     alloc: Global,
     source: &mut S,
@@ -50,7 +51,7 @@ pub fn run_dump<R: Wait, S: Source, T: Sink>(
 }
 
 /// Writes the dump of a netlist, or tells `BadCount` where the options have no valid crew.
-fn put_valid_dump<R: Wait, T: Sink>(
+fn put_valid_dump<R: Threads + Wait + Sync, T: Sink>(
     rt: &R,
     alloc: Global,
     sink: &mut T,
@@ -66,7 +67,7 @@ fn put_valid_dump<R: Wait, T: Sink>(
     if !options.has_valid_crew() {
         return Err(RunFault::BadCount);
     }
-    let run = open_run(rt, alloc, netlist)?;
+    let run = crew_run(rt, alloc, netlist, options)?;
     write_dump(alloc, sink, netlist, run.waves())
 }
 

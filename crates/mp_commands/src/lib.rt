@@ -6,7 +6,6 @@ mod dump_command;
 mod keeper;
 mod limits;
 mod numbered;
-mod open_run;
 mod options;
 mod play_command;
 mod put_dump;

@@ -9,7 +9,7 @@ ghost use Rattle.mp_commands.specs.RunFaults.{counted_reads, counted_writes};
 ghost use Rattle.mp_commands.specs.Runs.{HasInput, Wrote, comes_first};
 
 use crate::limits::MAX_TAKEN;
-use crate::open_run::open_run;
+use crate::crew_run::crew_run;
 use crate::options::Options;
 use crate::report_lines::put_report_alone;
 use crate::run_fault::RunFault;
@@ -18,6 +18,7 @@ use mp_streams::{Sink, Source, take_all};
 use mp_text::read_netlist;
 use std::alloc::Global;
 use std::sync::Wait;
+use std::thread::Threads;
 
 /// Reads a netlist's text, all of it first, and writes what is found in it, a line each: by time,
 /// then the modules by number and the bundles by number, then by the codes' numbers.
@@ -26,7 +27,7 @@ use std::sync::Wait;
 /// where the options have no valid crew: then nothing is written. `WriteFailed` comes with a fault
 /// of the sink and `OutOfMemory` where memory is wanting, in the text's reading too: then a part of
 /// the output from its front may be written.
-pub fn run_report<R: Wait, S: Source, T: Sink>(
+pub fn run_report<R: Threads + Wait + Sync, S: Source, T: Sink>(
     rt: &R,
     alloc: Global,
     source: &mut S,
@@ -48,7 +49,7 @@ pub fn run_report<R: Wait, S: Source, T: Sink>(
 }
 
 /// Writes the report of a netlist, or tells `BadCount` where the options have no valid crew.
-fn put_valid_report<R: Wait, T: Sink>(
+fn put_valid_report<R: Threads + Wait + Sync, T: Sink>(
     rt: &R,
     alloc: Global,
     sink: &mut T,
@@ -64,6 +65,6 @@ fn put_valid_report<R: Wait, T: Sink>(
     if !options.has_valid_crew() {
         return Err(RunFault::BadCount);
     }
-    let run = open_run(rt, alloc, netlist)?;
+    let run = crew_run(rt, alloc, netlist, options)?;
     put_report_alone(alloc, sink, netlist, run.waves())
 }

@@ -67,12 +67,12 @@ Reads from standard input, at most 4194304 bytes, a netlist's text as `waves` do
 `---`, and behind it a script. Its lines are edits: `wire`, `module`, `stim` and `bundle` as in a \
 text, `remove wire NAME`, `remove module NAME`, `remove bundle NAME`, `input MODULE PORT WIRE`, \
 `output MODULE PORT WIRE` (or `-` for no wire), `indelay MODULE PORT E`, `delay MODULE PORT D` and \
-`clear WIRE`; and questions: `wave WIRE`, `waves`, `text` and `dump`.
+`clear WIRE`; and questions: `wave WIRE`, `waves`, `text`, `report` and `dump`.
 
 Answers each line in turn on standard output: an edit by `accepted N`, with how many edits were \
 accepted so far, or `refused CODE NAME`, which changes nothing; a question by the wire's line, the \
-lines of all wires, the present netlist's text or its value change dump; and a line that is not \
-read by `unread CODE NAME`.
+lines of all wires, the present netlist's text, its report or its value change dump; and a line \
+that is not read by `unread CODE NAME`.
 
 A netlist's text that is refused is told on standard error as `mpwb: line N: CODE NAME`.";
 
@@ -155,7 +155,7 @@ fn command<'a>(
 /// The command with the options of a crew.
 fn with_crew<'a>(alloc: Global, command: Parser<'a>) -> Result<Parser<'a>, AllocError> {
     let workers = number(alloc, "workers").default_value("2").help(
-        "How many workers there are, 1 to 16; only waves calls on them",
+        "How many workers there are, 1 to 16",
     );
     let least = number(alloc, "least").default_value("64").help(
         "With fewer modules than these the workers are not called on, 1 to 4096",
