@@ -1,5 +1,5 @@
 -- The lines of waves, one after the other.
-use Rattle.std.proofs.Common.{◌≡◌, ℕ, ◌+◌, ◌-◌, ◌≤◌, List, [], ◌++◌, append_assoc, length, Some, zero, suc, refl, sym, ap, ◌∙◌, add-one, add-zero, add-suc, arith}
+use Rattle.std.proofs.Common.{◌≡◌, ℕ, ◌+◌, ◌-◌, ◌≤◌, List, [], ◌++◌, append_assoc, length, Option, Some, zero, suc, refl, sym, ap, ◌∙◌, add-one, add-zero, add-suc, arith}
 use Rattle.std.proofs.lemmas.List.{append-nil}
 use Rattle.mp_wave.specs.Waveform.{Waveform}
 use Rattle.mp_records.specs.declared.wire_record.WireRecord.{WireRecord}

@@ -9,8 +9,8 @@ ghost use Rattle.mp_commands.specs.Outputs.{output_of, dump_output};
 ghost use Rattle.mp_commands.specs.RunFaults.{counted_reads, counted_writes};
 ghost use Rattle.mp_commands.specs.Runs.{HasInput, Wrote, comes_first};
 
-use crate::limits::MAX_TAKEN;
 use crate::crew_run::crew_run;
+use crate::limits::MAX_TAKEN;
 use crate::options::Options;
 use crate::put_dump::put_dump;
 use crate::put_text::put_rest;

@@ -8,8 +8,8 @@ ghost use Rattle.mp_commands.specs.Outputs.{output_of, report_output};
 ghost use Rattle.mp_commands.specs.RunFaults.{counted_reads, counted_writes};
 ghost use Rattle.mp_commands.specs.Runs.{HasInput, Wrote, comes_first};
 
-use crate::limits::MAX_TAKEN;
 use crate::crew_run::crew_run;
+use crate::limits::MAX_TAKEN;
 use crate::options::Options;
 use crate::report_lines::put_report_alone;
 use crate::run_fault::RunFault;

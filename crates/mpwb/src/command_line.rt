@@ -154,9 +154,9 @@ fn command<'a>(
 
 /// The command with the options of a crew.
 fn with_crew<'a>(alloc: Global, command: Parser<'a>) -> Result<Parser<'a>, AllocError> {
-    let workers = number(alloc, "workers").default_value("2").help(
-        "How many workers there are, 1 to 16",
-    );
+    let workers = number(alloc, "workers")
+        .default_value("2")
+        .help("How many workers there are, 1 to 16");
     let least = number(alloc, "least").default_value("64").help(
         "With fewer modules than these the workers are not called on, 1 to 4096",
     );

@@ -1,4 +1,3 @@
-use Rattle.std.proofs.Common.{Err}
 use Rattle.std.proofs.lemmas.Result.{err_from_is_err_and}
 use Rattle.mp_vcd.specs.Dumps.{dump}
 use Rattle.mp_commands.proofs.PutLemmas.{wrote_part, wrote_rest}

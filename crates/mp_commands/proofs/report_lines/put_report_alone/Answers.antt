@@ -1,7 +1,6 @@
-use Rattle.std.proofs.Common.{Err}
 use Rattle.std.proofs.lemmas.Result.{err_from_is_err_and}
 use Rattle.mp_report.specs.Lines.{report_text}
-use Rattle.mp_commands.proofs.PutLemmas.{no_part, wrote_part, wrote_rest}
+use Rattle.mp_commands.proofs.PutLemmas.{wrote_part, wrote_rest}
 use Rattle.mp_commands.proofs.report_lines.put_report_alone.Goals as goal
 
 pub returns-in_err-put_report_lines-clause-written : goal.returns-in_err-put_report_lines-clause-written
