@@ -1,0 +1,36 @@
+-- Beginnings of one list, and stories that extend one another.
+use Rattle.std.proofs.Common.{◌≡◌, ◌≤◌, List, [], ◌∷◌, ◌++◌, length, refl, ap, sym, ◌∙◌, arith, append_assoc}
+use mathlib.Core.List.{IsPrefix}
+use Rattle.mp_records.specs.declared.edit.Edit.{Edit}
+use Rattle.mp_session.specs.Stories.{Story, one_more}
+use Rattle.mp_desk.specs.Extending.{Extends}
+
+pub prefix_self : {A : Type 0} (xs : List A) → IsPrefix xs xs
+prefix_self [] = ([], refl)
+prefix_self (x ∷ xs) = (let r = prefix_self xs in r.0, ap (λ ys. x ∷ ys) (prefix_self xs).1)
+
+pub prefix_trans : {A : Type 0} (xs ys zs : List A) → IsPrefix xs ys → IsPrefix ys zs → IsPrefix xs zs
+prefix_trans xs ys zs p q = (p.0 ++ q.0, sym (append_assoc xs p.0 q.0) ∙ (ap (λ w. w ++ q.0) p.1 ∙ q.1))
+
+-- a beginning as long as the whole is the whole
+pub prefix_whole : {A : Type 0} (xs ys : List A) → IsPrefix xs ys → length ys ≤ length xs → xs ≡ ys
+prefix_whole [] [] p le = refl
+prefix_whole [] (y ∷ ys) p le = absurd (omega arith)
+prefix_whole (x ∷ xs) [] p le = absurd (cc (p.1))
+prefix_whole (x ∷ xs) (y ∷ ys) p le =
+    let rest = prefix_whole xs ys (p.0, cc (p.1)) (omega arith) in cc (p.1, rest)
+
+pub extends_self : (s : Story) → Extends s s
+extends_self s = record { same_base = refl; begins = prefix_self s.edits }
+
+pub extends_trans : (c b a : Story) → Extends c b → Extends b a → Extends c a
+extends_trans c b a h k = record { same_base = h.same_base ∙ k.same_base; begins = prefix_trans a.edits b.edits c.edits k.begins h.begins }
+
+-- a story with one more edit extends it
+pub extends_one_more : (s : Story) (edit : Edit) → Extends (one_more s edit) s
+extends_one_more s edit = record { same_base = refl; begins = (edit ∷ [], refl) }
+
+-- a story as long as the one that it extends is that one
+pub extends_whole : (later earlier : Story) → Extends later earlier → length later.edits ≡ length earlier.edits → later ≡ earlier
+extends_whole later earlier h same =
+    let e : earlier.edits ≡ later.edits = prefix_whole earlier.edits later.edits h.begins (omega arith) in λ i. record { base = h.same_base i; edits = sym e i }

@@ -1,0 +1,28 @@
+use Rattle.std.proofs.Common.{◌≡◌, rules, arith, All, ap, subst, vec_len}
+use Rattle.mp_session.specs.Stories.{Story}
+use Rattle.mp_session.specs.Sessions.{Standing}
+use Rattle.mp_desk.specs.Extending.{Extends}
+use Rattle.mp_desk.specs.Holders.{ExtendsEach, Seeing}
+use Rattle.mp_desk.proofs.desk.Desk.close.Goals as goal
+
+pub returns-clause-seen : goal.returns-clause-seen
+returns-clause-seen g c =
+    let s : Standing = c.session.inside.session in
+    let shown : c.session.inside.publication.story ≡ s.story = ap (λ p. p.story) c.session.invariant.0 in
+    subst (λ (z : Story). ExtendsEach z c.args.designers.items) shown c.part_designers.ensures.extends
+
+pub returns-clause-read : goal.returns-clause-read
+returns-clause-read g c =
+    let s : Standing = c.session.inside.session in
+    let shown : c.session.inside.publication.story ≡ s.story = ap (λ p. p.story) c.session.invariant.0 in
+    subst (λ (z : Story). All (λ (v : Seeing). Extends z v.last) c.args.viewers.now) shown c.part_viewers.ensures.extends
+
+pub returns-clause-counted : goal.returns-clause-counted
+returns-clause-counted g c =
+    let kept = c.session.invariant in let mine = c.self.invariant in
+    let shares = c.part_designers.ensures.share in
+    let all_here : vec_len c.args.designers ≡ c.self.inside.designers = search rules in
+    let parts : c.part_designers.new.all.parts ≡ g.L.Ledger.parts = omega (arith, shares.0, kept.3, mine.1, all_here) in
+    let whole : c.part_designers.new.all.amount ≡ c.session.inside.book.total = c.audit.ensures.whole parts in
+    let opening : c.self.inside.opening ≡ c.args.self.opening = ap (λ d. d.opening) c.self.view_is in
+    omega (arith, whole, shares.1, mine.0, kept.2, kept.4, opening)

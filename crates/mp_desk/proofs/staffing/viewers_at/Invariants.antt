@@ -1,0 +1,12 @@
+use Rattle.std.proofs.Common.{◌≡◌, ◌+◌, ◌∷◌, [], All, vec_len}
+use Rattle.std.specs.Arc.{arc_value}
+use Rattle.mp_desk.specs.Holders.{fresh_viewer}
+use Rattle.mp_desk.proofs.staffing.viewers_at.Given as goal
+
+abbrev pub invariant-loop-pass : goal.invariant-loop-pass
+invariant-loop-pass g l =
+    All (λ p. p ≡ record { book = g.L.DeskName.history; story = arc_value l.version } ∷ []) l.places.items × All (λ d. d ≡ fresh_viewer (arc_value l.version)) l.made.items
+    × (vec_len l.places + vec_len l.made ≡ vec_len l.initial.places)
+
+abbrev pub decreases-loop-pass : goal.decreases-loop-pass
+decreases-loop-pass g l = vec_len l.places

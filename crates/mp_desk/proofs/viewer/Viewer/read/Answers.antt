@@ -1,0 +1,42 @@
+use Rattle.std.proofs.Common.{rules, ◌≡◌, ◌≤◌, length, ap, sym, ◌∙◌, subst, inl, arith}
+use Rattle.std.specs.Arc.{arc_value}
+use Rattle.mp_desk.specs.Extending.{Extends}
+use Rattle.mp_desk.specs.Chronicles.{Shown, Follows}
+use Rattle.mp_desk.specs.Holders.{Seeing}
+use Rattle.mp_desk.specs.Knowing.{Known, Has}
+use Rattle.mp_desk.proofs.KeepingLemmas.{covers_has}
+use Rattle.mp_desk.proofs.ShowingLemmas.{shown_is}
+use Rattle.mp_desk.proofs.viewer.Viewer.read.Goals as goal
+
+pub agrees-requires : goal.agrees-requires
+agrees-requires g c =
+    let p : Shown = c.in_ok-published.published in
+    let f : Follows p _ = covers_has p _ _ c.in_ok-published.ensures.0 c.self.invariant.0 in
+    c.self.invariant.1 ∙ (sym f.same_book ∙ sym (ap (λ (z : Shown). z.book) c.front.ensures))
+
+pub invariant_of-self-2 : goal.invariant_of-self-2
+invariant_of-self-2 g c =
+    let p : Shown = c.in_ok-published.published in
+    let f : Follows p _ = covers_has p _ _ c.in_ok-published.ensures.0 c.self.invariant.0 in
+    let same : c.in_ok-copy.copy.value ≡ arc_value c.into_version-version.result = search rules in
+    let is : p ≡ record { book = g.L.DeskName.history; story = arc_value c.in_ok-copy.copy } = shown_is p _ _ f.same_book (sym c.into_version-version.ensures ∙ sym same) in (
+      subst (λ (k : Known). Has k (record { book = g.L.DeskName.history; story = arc_value c.in_ok-copy.copy })) (sym c.in_ok-published.ensures.1) (inl is),
+      c.self.invariant.1,
+      c.self.invariant.2,
+    )
+
+pub returns-clause-later : goal.returns-clause-later
+returns-clause-later g c =
+    let p : Shown = c.in_ok-published.published in
+    let f : Follows p _ = covers_has p _ _ c.in_ok-published.ensures.0 c.self.invariant.0 in
+    let v : arc_value c.into_version-version.result ≡ p.story = c.into_version-version.ensures in
+    rw v (subst (λ (z : Seeing). Extends p.story z.last) c.self.view_is f.extends)
+
+pub returns-clause-told : goal.returns-clause-told
+returns-clause-told g c =
+    let p : Shown = c.in_ok-published.published in
+    let v : arc_value c.into_version-version.result ≡ p.story = c.into_version-version.ensures in
+    let n : c.number-number.result ≡ length p.story.edits = search rules in
+    let le : length c.self.inside.heard.story.edits ≤ length c.front.result.now.story.edits = omega (arith, c.if-number-self.false, n, c.self.invariant.2, ap (λ (z : Shown). length z.story.edits) c.front.ensures) in
+    let heard : Extends p.story c.self.inside.heard.story = subst (λ (z : Shown). Extends z.story c.self.inside.heard.story) c.front.ensures (c.agrees.ensures le) in
+    rw v (subst (λ (z : Seeing). Extends p.story z.learnt) c.self.view_is heard)

@@ -1,0 +1,5 @@
+pub mod Extending
+pub mod Chronicles
+pub mod Knowing
+pub mod Holders
+pub mod Worlds

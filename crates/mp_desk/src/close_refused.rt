@@ -1,0 +1,23 @@
+//! Why a desk was not closed.
+use crate::designer::Designer;
+use crate::desk::Desk;
+use crate::name::DeskName;
+use mp_phase::Gate;
+use std::sync::Wait;
+use thiserror::Error;
+
+/// What a close wanted.
+#[derive(Clone, Copy, Debug, PartialEq, Eq, Error)]
+pub enum CloseCause {
+    /// Not all designers of the desk were given.
+    #[error("a designer is missing")]
+    MissingPass,
+}
+
+/// A refusal, with all that was given.
+#[derive(Drop)]
+pub struct CloseRefused<G: Gate, L: DeskName, R: Wait + Drop> {
+    pub cause: CloseCause,
+    pub desk: Desk<G, L, R>,
+    pub designers: Vec<Designer<L>>,
+}

@@ -1,0 +1,171 @@
+//! The desk: how it is opened, an edit submitted, and how it is closed.
+ghost use Rattle.std.specs.Prelude.{◌≡◌};
+
+use crate::close_refused::{CloseCause, CloseRefused};
+use crate::designer::Designer;
+use crate::desk_parts::DeskParts;
+use crate::desk_refused::{DeskCause, DeskRefused};
+use crate::keeper::Keeper;
+use crate::name::DeskName;
+use crate::parting::{part_designers, part_viewers};
+use crate::receipt::Receipt;
+use crate::staffed::Staffed;
+use crate::staffing::{designers_at, viewers_at};
+use crate::viewer::Viewer;
+use mp_netlist::{Edit, EditError};
+use mp_phase::Gate;
+use mp_session::Session;
+use std::marker::Model;
+use std::sync::{Mutex, Wait};
+use std::thread::Threads;
+
+/// Where designers submit edits. A contract sees the number of the version with which it was opened, and how many designers it has.
+#[derive(Drop)]
+pub struct Desk<G: Gate, L: DeskName, R: Wait + Drop> {
+    keeper: Mutex<Keeper<G, L, R>>,
+    opening: u32,
+    designers: u32,
+}
+
+impl<G: Gate, L: DeskName, R: Wait + Drop> Model for Desk<G, L, R> {
+    ghost use Rattle.std.specs.Prelude.{◌≡◌, ◌+◌};
+    ghost use Rattle.mp_desk.specs.Holders.{Opened};
+
+    ghost Value = { Opened };
+
+    ghost view = { λ d. record { opening = d.opening; designers = d.designers } };
+
+    ghost invariant = { λ d. (d.opening ≡ L.opening) × (d.designers + 1 ≡ L.parts) };
+}
+
+impl<G: Gate, L: DeskName, R: Wait + Drop> Desk<G, L, R> {
+    ghost use Rattle.std.specs.Prelude.{◌+◌, length, vec_len, All, IfOk, IfErr};
+    ghost use Rattle.mp_desk.specs.Extending.{Extends};
+    ghost use Rattle.mp_desk.specs.Holders.{fresh_designer, fresh_viewer, ExtendsEach, accepted_by};
+
+    /// Opens the desk under the name that the caller picked for these parts. `OutOfMemory` where memory is wanting: then the session is handed
+    /// back.
+    pub fn open(parts: DeskParts<G, R>) -> Result<Staffed<G, L, R>, DeskRefused<G>>
+        requires history { parts.book ≡ L.history }
+        requires ledger { parts.ledger ≡ L.name }
+        requires shares { parts.designers + 1 ≡ L.parts }
+        requires opening { length parts.session.story.edits ≡ L.opening }
+        ensures desk { IfOk result (λ s. (s.desk.opening ≡ length parts.session.story.edits) × (s.desk.designers ≡ parts.designers)) }
+        ensures designers { IfOk result (λ s. (vec_len s.designers ≡ parts.designers) × All (λ d. d ≡ fresh_designer parts.session.story) s.designers.items) }
+        ensures viewers { IfOk result (λ s. (vec_len s.viewers ≡ parts.viewers) × All (λ v. v ≡ fresh_viewer parts.session.story) s.viewers.items) }
+        ensures refused { IfErr result (λ r. r.session ≡ parts.session) }
+    {
+        let DeskParts {
+            alloc,
+            session,
+            head,
+            publication,
+            designers: for_designers,
+            viewers: for_viewers,
+            blank,
+        } = parts;
+        let count = for_designers.len() as u32;
+        let opening = session.version().number();
+        let (mut book, mut share) = blank.open::<L>();
+        book.add(&mut share, opening as u64);
+        let (Ok(designers), Ok(viewers)) = (
+            designers_at(alloc, for_designers, session.version(), &mut share),
+            viewers_at(
+                alloc,
+                for_viewers,
+                session.version(),
+                publication.published().front(),
+            ),
+        ) else {
+            return Err(DeskRefused {
+                cause: DeskCause::OutOfMemory,
+                session,
+            });
+        };
+        let keeper = Mutex::new(Keeper {
+            session,
+            head,
+            publication,
+            book,
+            share,
+        });
+        let desk = Desk {
+            keeper,
+            opening,
+            designers: count,
+        };
+        Ok(Staffed {
+            desk,
+            designers,
+            viewers,
+        })
+    }
+
+    /// The number of the version with which the desk was opened.
+    pub fn opening(&self) -> u32
+        ensures { result ≡ self.now.opening }
+    {
+        self.opening
+    }
+
+    /// Closes the desk, with all its designers and the viewers that are lent, and gives its session. `MissingPass` where not all designers are
+    /// given: then all is handed back.
+    pub fn close(
+        self,
+        rt: &R,
+        designers: Vec<Designer<L>>,
+        viewers: &mut [Viewer<L>],
+    ) -> Result<Session<G>, CloseRefused<G, L, R>>
+        ensures viewers { viewers.new ≡ viewers.old }
+        ensures seen { IfOk result (λ s. ExtendsEach s.story designers.items) }
+        ensures read { IfOk result (λ s. All (λ v. Extends s.story v.last) viewers.old) }
+        ensures counted { IfOk result (λ s. length s.story.edits ≡ self.opening + accepted_by designers.items) }
+        ensures refused { IfErr result (λ r. (r.desk ≡ self) × (r.designers ≡ designers)) }
+    {
+        if designers.len() != self.designers as usize {
+            return Err(CloseRefused {
+                cause: CloseCause::MissingPass,
+                desk: self,
+                designers,
+            });
+        }
+        let Desk {
+            keeper,
+            opening: _,
+            designers: _,
+        } = self;
+        let Keeper {
+            session,
+            head: _,
+            publication,
+            mut book,
+            mut share,
+        } = keeper.into_inner();
+        part_designers(rt, &publication, designers, &mut share);
+        part_viewers(rt, &publication, viewers);
+        book.audit(&mut share);
+        Ok(session)
+    }
+}
+
+impl<G: Gate + Sync, L: DeskName, R: Threads + Wait + Sync + Drop> Desk<G, L, R> {
+    ghost use Rattle.std.specs.Prelude.{◌+◌, IfOk, IfErr, OnErr};
+    ghost use Rattle.std.specs.Arc.{arc_value};
+    ghost use Rattle.mp_session.specs.Stories.{Story, one_more};
+    ghost use Rattle.mp_desk.specs.Extending.{Extends};
+    ghost use Rattle.mp_desk.specs.Holders.{RefusedAfter};
+
+    /// Submits an edit, which is judged after all edits that were accepted before it, and where it is accepted published before the answer.
+    /// The one lock is held meanwhile: other designers wait, and viewers don't. The error is that of the session; then nothing is published.
+    pub fn submit(&self, rt: &R, me: &mut Designer<L>, edit: &Edit) -> Result<Receipt<L>, EditError>
+        ensures accepted { IfOk result (λ r. (s : Story) × Extends s me.old.seen × (arc_value r.version ≡ one_more s edit.now)) }
+        ensures notice { IfOk result (λ r. r.notice ≡ arc_value r.version) }
+        ensures seen { IfOk result (λ r. me.new.seen ≡ arc_value r.version) }
+        ensures counted { IfOk result (λ _. me.new.accepted ≡ me.old.accepted + 1) }
+        ensures refused { IfErr result (λ error. RefusedAfter me.old.seen me.new.seen edit.now error) }
+        ensures uncounted { OnErr result (me.new.accepted ≡ me.old.accepted) }
+        ensures forward { OnErr result (Extends me.new.seen me.old.seen) }
+    {
+        self.keeper.lock(rt).submit(rt, me, edit)
+    }
+}

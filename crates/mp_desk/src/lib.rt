@@ -1,0 +1,37 @@
+//! A desk, where designers submit edits of one session and viewers read its versions without waiting.
+#![tactic(auto)]
+
+mod chronicle;
+mod close_refused;
+mod designer;
+mod desk;
+mod desk_parts;
+mod desk_refused;
+mod front;
+mod keeper;
+pub mod laws;
+mod name;
+mod notice;
+mod parting;
+mod pass;
+mod publication;
+mod publishing;
+mod receipt;
+mod showing;
+mod staffed;
+mod staffing;
+#[cfg(test)]
+mod tests;
+mod viewer;
+
+pub use close_refused::{CloseCause, CloseRefused};
+pub use designer::Designer;
+pub use desk::Desk;
+pub use desk_parts::DeskParts;
+pub use desk_refused::{DeskCause, DeskRefused};
+pub use name::DeskName;
+pub use notice::Notice;
+pub use pass::ReadError;
+pub use receipt::Receipt;
+pub use staffed::Staffed;
+pub use viewer::Viewer;

@@ -1,0 +1,65 @@
+//! How designers and viewers leave a desk that is closed.
+ghost use Rattle.std.specs.Prelude.{◌≡◌, ◌+◌, vec_len, All};
+ghost use Rattle.mp_desk.specs.Extending.{Extends};
+ghost use Rattle.mp_desk.specs.Holders.{ExtendsEach, accepted_by};
+
+use crate::designer::Designer;
+use crate::name::DeskName;
+use crate::publication::Publication;
+use crate::showing::show;
+use crate::viewer::Viewer;
+use std::sync::Wait;
+use std::sync::ledger::Share;
+
+/// Parts with all designers.
+pub(crate) fn part_designers<L: DeskName, R: Wait + Drop>(
+    rt: &R,
+    publication: &Publication<R>,
+    designers: Vec<Designer<L>>,
+    all: &mut Share<L>,
+)
+    requires { publication.now.book ≡ L.history }
+    ensures extends { ExtendsEach publication.now.story designers.items }
+    ensures share { (all.new.parts ≡ all.old.parts + vec_len designers) × (all.new.amount ≡ all.old.amount + accepted_by designers.items) }
+{
+    let mut designers = designers;
+    while let Some(designer) = designers.pop() {
+        part(rt, publication, designer, all);
+    }
+}
+
+/// Shows a designer what is published, for the last time, and takes the share.
+fn part<L: DeskName, R: Wait + Drop>(
+    rt: &R,
+    publication: &Publication<R>,
+    designer: Designer<L>,
+    all: &mut Share<L>,
+)
+    requires { publication.now.book ≡ L.history }
+    ensures extends { Extends publication.now.story designer.seen }
+    ensures share { (all.new.parts ≡ all.old.parts + 1) × (all.new.amount ≡ all.old.amount + designer.accepted) }
+{
+    let Designer {
+        mut pass,
+        seen: _seen,
+        accepted: _,
+        share,
+    } = designer;
+    show(rt, publication, &mut pass);
+    all.merge(share);
+}
+
+/// Parts with the viewers that are lent.
+pub(crate) fn part_viewers<L: DeskName, R: Wait + Drop>(
+    rt: &R,
+    publication: &Publication<R>,
+    viewers: &mut [Viewer<L>],
+)
+    requires { publication.now.book ≡ L.history }
+    ensures same { viewers.new ≡ viewers.old }
+    ensures extends { All (λ v. Extends publication.now.story v.last) viewers.old }
+{
+    for i in 0..viewers.len() {
+        viewers[i].part(rt, publication);
+    }
+}

@@ -1,0 +1,167 @@
+//! The one writer of what viewers read.
+ghost use Rattle.std.specs.Prelude.{◌≡◌, ◌∷◌, ◌++◌, [], fold, drop, MatchResult};
+ghost use Rattle.left_right.specs.Sides.{view};
+ghost use Rattle.mp_desk.specs.Chronicles.{Follows};
+
+use crate::front::Front;
+use crate::pass::Pass;
+use crate::publishing::{Brings, Extending, Known, Published, Starts};
+use core::mem::replace_with;
+use left_right::writer::Writer;
+use mp_session::Version;
+use std::alloc::{AllocError, Global};
+use std::marker::Model;
+use std::sync::{Arc, Wait};
+
+type RuledWriter = Writer<Published, Published, Known, Extending>;
+
+/// The one writer. It keeps the handle, since its drop waits for readers in mid-read. A contract sees what is published.
+pub(crate) struct Publication<R: Wait + Drop> {
+    writer: RuledWriter,
+    rt: R,
+}
+
+impl<R: Wait + Drop> Drop for Publication<R> {
+    fn drop(self) {
+        let Self { writer, rt } = self;
+        drop(writer.take(&rt));
+    }
+}
+
+impl<R: Wait + Drop> Model for Publication<R> {
+    ghost use Rattle.std.specs.Prelude.{◌≡◌, ◌∷◌, []};
+    ghost use Rattle.left_right.specs.Sides as sides;
+    ghost use Rattle.mp_desk.specs.Chronicles.{Shown};
+
+    ghost Value = { Shown };
+
+    ghost view = { λ p. p.writer.desk.shown.value };
+
+    ghost invariant = { λ p. sides.view p.writer.desk.place ≡ p.writer.desk.shown.value ∷ [] };
+}
+
+impl<R: Wait + Drop> Publication<R> {
+    ghost use Rattle.std.specs.Prelude.{◌<◌, ◌^◌, All, IfOk, length, vec_len};
+    ghost use Rattle.std.specs.Arc.{arc_value};
+
+    /// Publishes a first version, with room for so many readers.
+    pub(crate) fn new(
+        rt: R,
+        alloc: Global,
+        version: &Arc<Version>,
+        front: &Front,
+        readers: usize,
+    ) -> Result<Publication<R>, AllocError>
+        requires room { (0 < readers) × (readers < 2 ^ 32) }
+        requires front { arc_value version.now ≡ front.now.story }
+        ensures { IfOk result (λ p. p ≡ front.now) }
+    {
+        let first = Published::new(Arc::try_clone(version)?, front.again());
+        let second = Published::new(Arc::try_clone(version)?, front.again());
+        let again = Published::new(Arc::try_clone(version)?, front.again());
+        let mut writer = RuledWriter::new(alloc, first, second, readers)?;
+        if writer.append(again).is_err() {
+            drop(writer.take(&rt));
+            return Err(AllocError);
+        }
+        let (writer, shown) = published(&rt, writer);
+        if shown.is_err() {
+            drop(writer.take(&rt));
+            return Err(AllocError);
+        }
+        Ok(Publication { writer, rt })
+    }
+
+    /// A place for one more reader, which starts from what is published.
+    pub(crate) fn place(&mut self) -> Result<Pass, AllocError>
+        ensures same { self.new ≡ self.old }
+        ensures place { IfOk result (λ p. p ≡ self.old ∷ []) }
+    {
+        let mut reader = self.writer.factory().reader()?;
+        reader.learn::<Starts>(self.writer.tell::<Starts>());
+        Ok(Pass { reader })
+    }
+
+    /// So many places.
+    pub(crate) fn places(&mut self, alloc: Global, count: u32) -> Result<Vec<Pass>, AllocError>
+        ensures same { self.new ≡ self.old }
+        ensures count { IfOk result (λ v. vec_len v ≡ count) }
+        ensures each { IfOk result (λ v. All (λ p. p ≡ self.old ∷ []) v.items) }
+    {
+        let mut places = Vec::new(alloc);
+        for _i in 0..count {
+            let place = self.place()?;
+            places.push(place)?;
+        }
+        Ok(places)
+    }
+
+    /// What is published.
+    pub(crate) fn published(&self) -> &Published
+        ensures { result.now ≡ self.now }
+    {
+        self.writer.published()
+    }
+
+    /// The number of the published version.
+    pub(crate) fn number(&self) -> u32
+        ensures { result ≡ length self.now.story.edits }
+    {
+        let version: &Version = self.writer.published().version();
+        version.number()
+    }
+
+    /// Publishes a version in place of the one before. It waits for readers in mid-read.
+    pub(crate) fn publish(&mut self, next: Published)
+        requires { Follows next self.old }
+        ensures { self.new ≡ next }
+    {
+        appended(&self.rt, &mut self.writer, next);
+        replace_with(
+            &mut self.writer,
+            &self.rt,
+            |writer: RuledWriter, rt: &R| -> (RuledWriter, ())
+                requires { Follows (fold (λ _ v. v) writer.desk.shown.value (drop writer.behind writer.log.items)) writer.desk.shown.value }
+                ensures { (result.0.desk.shown.value ≡ fold (λ _ v. v) writer.desk.shown.value (drop writer.behind writer.log.items)) × (view result.0.desk.place ≡ result.0.desk.shown.value ∷ []) }
+            { (brought(rt, writer), ()) },
+        )
+    }
+}
+
+fn published<R: Wait>(rt: &R, writer: RuledWriter) -> (RuledWriter, Result<(), AllocError>)
+    requires { Follows (fold (λ _ v. v) writer.desk.shown.value (drop writer.behind writer.log.items)) writer.desk.shown.value }
+    ensures { MatchResult result.1 (λ _. (result.0.desk.shown.value ≡ fold (λ _ v. v) writer.desk.shown.value (drop writer.behind writer.log.items)) × (view result.0.desk.place ≡ result.0.desk.shown.value ∷ [])) (λ _. (result.0.desk.shown.value ≡ writer.desk.shown.value) × (view result.0.desk.place ≡ view writer.desk.place) × (drop result.0.behind result.0.log.items ≡ drop writer.behind writer.log.items)) }
+{
+    writer.publish_as::<Brings, R>(rt)
+}
+
+/// Hands the version to the writer. Where there is no memory it tries again.
+fn appended<R: Wait>(rt: &R, writer: &mut RuledWriter, next: Published)
+    ensures desk { writer.new.desk ≡ writer.old.desk }
+    ensures pending { drop writer.new.behind writer.new.log.items ≡ drop writer.old.behind writer.old.log.items ++ next ∷ [] }
+{
+    let mut next = next;
+    for _ in rt.forever() {
+        match writer.append(next) {
+            Ok(()) => return,
+            Err(back) => next = back,
+        }
+    }
+    unreachable!()
+}
+
+/// Publishes what the writer has. Where it can't be done it tries again.
+fn brought<R: Wait>(rt: &R, writer: RuledWriter) -> RuledWriter
+    requires { Follows (fold (λ _ v. v) writer.desk.shown.value (drop writer.behind writer.log.items)) writer.desk.shown.value }
+    ensures { (result.desk.shown.value ≡ fold (λ _ v. v) writer.desk.shown.value (drop writer.behind writer.log.items)) × (view result.desk.place ≡ result.desk.shown.value ∷ []) }
+{
+    let mut writer = writer;
+    for _ in rt.forever() {
+        let (next, done) = published(rt, writer);
+        writer = next;
+        if done.is_ok() {
+            return writer;
+        }
+    }
+    unreachable!()
+}

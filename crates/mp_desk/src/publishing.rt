@@ -1,0 +1,142 @@
+//! What is published, and the rule of the publication: each version follows the one before, and all that a place has read.
+ghost use Rattle.std.specs.Prelude.{◌≡◌};
+
+use crate::front::Front;
+use atomic_table::{Join, Split};
+use crossbeam_utils::rule::{Outcome, Protocol};
+use left_right::Absorb;
+use mp_session::Version;
+use std::alloc::AllocError;
+use std::marker::Model;
+use std::sync::Arc;
+
+/// The version that readers take, with the front that it stands for. A contract sees that front.
+#[derive(Drop)]
+pub(crate) struct Published {
+    version: Arc<Version>,
+    front: Front,
+}
+
+impl Model for Published {
+    ghost use Rattle.std.specs.Prelude.{◌≡◌};
+    ghost use Rattle.std.specs.Arc.{arc_value};
+    ghost use Rattle.mp_desk.specs.Chronicles.{Shown};
+
+    ghost Value = { Shown };
+
+    ghost view = { λ p. p.front };
+
+    ghost invariant = { λ p. arc_value p.version ≡ p.front.story };
+}
+
+impl Published {
+    ghost use Rattle.std.specs.Prelude.{IfOk};
+    ghost use Rattle.std.specs.Arc.{arc_value};
+
+    pub(crate) fn new(version: Arc<Version>, front: Front) -> Published
+        requires { arc_value version ≡ front.story }
+        ensures { result ≡ front }
+    {
+        Published { version, front }
+    }
+
+    pub(crate) fn version(&self) -> &Arc<Version>
+        ensures { arc_value result.now ≡ self.now.story }
+    {
+        &self.version
+    }
+
+    pub(crate) fn into_version(self) -> Arc<Version>
+        ensures { arc_value result ≡ self.story }
+    {
+        let Published { version, front: _ } = self;
+        version
+    }
+
+    pub(crate) fn front(&self) -> &Front
+        ensures { result.now ≡ self.now }
+    {
+        &self.front
+    }
+
+    pub(crate) fn try_copy(&self) -> Result<Published, AllocError>
+        ensures { IfOk result (λ p. p ≡ self.now) }
+    {
+        Ok(Published {
+            version: Arc::try_clone(&self.version)?,
+            front: self.front.again(),
+        })
+    }
+}
+
+impl Absorb<Published> for Published {
+    type State = Published;
+
+    ghost state = { λ p. p };
+
+    ghost applied = { λ _ next. next };
+
+    fn absorb_first(
+        &mut self,
+        operation: &Published,
+        _other: &Published,
+    ) -> Result<(), AllocError> {
+        *self = operation.try_copy()?;
+        Ok(())
+    }
+
+    fn absorb_second(&mut self, operation: Published, _other: &Published) -> Result<(), Published> {
+        *self = operation;
+        Ok(())
+    }
+}
+
+/// What a place has read. No value of it is made.
+pub(crate) type Known = [Published; 0];
+
+/// The rule: what is published follows all that any place has read.
+pub(crate) struct Extending;
+
+impl Protocol<Published, Known> for Extending {
+    ghost use Rattle.std.specs.Prelude.{[]};
+    ghost use Rattle.mp_desk.specs.Knowing.{Kept};
+
+    ghost holds = { Kept };
+
+    ghost first = { [] };
+}
+
+/// What an entry tells.
+pub(crate) struct Enters;
+
+impl Outcome<Published, Known> for Enters {
+    ghost use Rattle.mp_desk.specs.Knowing.{Entered};
+
+    ghost then = { λ known before now new. Entered known now new };
+}
+
+/// What a publication tells.
+pub(crate) struct Brings;
+
+impl Outcome<Published, Known> for Brings {
+    ghost use Rattle.std.specs.Prelude.{◌≡◌, ◌∷◌, []};
+
+    ghost then = { λ known before now new. new ≡ now ∷ [] };
+}
+
+/// How the writer tells a new place of what it published, and how that place starts from it.
+pub(crate) struct Starts;
+
+impl Split<Known> for Starts {
+    ghost left = { λ known. known };
+
+    ghost right = { λ known. known };
+}
+
+impl Join<Known> for Starts {
+    ghost use Rattle.std.specs.Prelude.{◌++◌, []};
+
+    ghost both = { λ known note. note ++ known };
+
+    ghost spent = { [] };
+}

@@ -1,0 +1,12 @@
+//! What an accepted edit gives.
+use crate::name::DeskName;
+use crate::notice::Notice;
+use mp_session::Version;
+use std::sync::Arc;
+
+/// The version to which an accepted edit led, and a notice of it.
+#[derive(Drop)]
+pub struct Receipt<L: DeskName> {
+    pub version: Arc<Version>,
+    pub notice: Notice<L>,
+}

@@ -1,0 +1,96 @@
+//! Designers and viewers at their places.
+ghost use Rattle.std.specs.Prelude.{◌≡◌, ◌+◌, ◌∷◌, ◌<◌, [], vec_len, All, IfOk, OnOk};
+ghost use Rattle.std.specs.Arc.{arc_value};
+ghost use Rattle.mp_desk.specs.Holders.{fresh_designer, fresh_viewer};
+
+use crate::designer::Designer;
+use crate::front::Front;
+use crate::name::DeskName;
+use crate::pass::Pass;
+use crate::viewer::Viewer;
+use mp_session::Version;
+use std::alloc::{AllocError, Global};
+use std::marker::PhantomData;
+use std::sync::Arc;
+use std::sync::ledger::Share;
+
+/// A designer for each place.
+pub(crate) fn designers_at<L: DeskName>(
+    alloc: Global,
+    places: Vec<Pass>,
+    version: &Arc<Version>,
+    all: &mut Share<L>,
+) -> Result<Vec<Designer<L>>, AllocError>
+    requires places { All (λ p. p ≡ record { book = L.history; story = arc_value version.now } ∷ []) places.items }
+    requires parts { all.old.parts ≡ vec_len places + 1 }
+    ensures count { IfOk result (λ v. vec_len v ≡ vec_len places) }
+    ensures each { IfOk result (λ v. All (λ d. d ≡ fresh_designer (arc_value version.now)) v.items) }
+    ensures share { OnOk result ((all.new.parts ≡ 1) × (all.new.amount ≡ all.old.amount)) }
+{
+    let mut made = Vec::new(alloc);
+    let mut places = places;
+    while let Some(pass) = places.pop() {
+        let next = designer_at(pass, version, all)?;
+        made.push(next)?;
+    }
+    Ok(made)
+}
+
+fn designer_at<L: DeskName>(
+    pass: Pass,
+    version: &Arc<Version>,
+    all: &mut Share<L>,
+) -> Result<Designer<L>, AllocError>
+    requires pass { pass ≡ record { book = L.history; story = arc_value version.now } ∷ [] }
+    requires parts { 1 < all.old.parts }
+    ensures designer { IfOk result (λ d. d ≡ fresh_designer (arc_value version.now)) }
+    ensures share { OnOk result ((all.new.parts + 1 ≡ all.old.parts) × (all.new.amount ≡ all.old.amount)) }
+{
+    let seen = Arc::try_clone(version)?;
+    Ok(Designer {
+        pass,
+        seen,
+        accepted: 0,
+        share: all.split_off(1, 0),
+    })
+}
+
+/// A viewer for each place.
+pub(crate) fn viewers_at<L: DeskName>(
+    alloc: Global,
+    places: Vec<Pass>,
+    version: &Arc<Version>,
+    front: &Front,
+) -> Result<Vec<Viewer<L>>, AllocError>
+    requires front { front.now ≡ record { book = L.history; story = arc_value version.now } }
+    requires places { All (λ p. p ≡ record { book = L.history; story = arc_value version.now } ∷ []) places.items }
+    ensures count { IfOk result (λ v. vec_len v ≡ vec_len places) }
+    ensures each { IfOk result (λ v. All (λ d. d ≡ fresh_viewer (arc_value version.now)) v.items) }
+{
+    let mut made = Vec::new(alloc);
+    let mut places = places;
+    while let Some(pass) = places.pop() {
+        let next = viewer_at(pass, version, front)?;
+        made.push(next)?;
+    }
+    Ok(made)
+}
+
+fn viewer_at<L: DeskName>(
+    pass: Pass,
+    version: &Arc<Version>,
+    front: &Front,
+) -> Result<Viewer<L>, AllocError>
+    requires front { front.now ≡ record { book = L.history; story = arc_value version.now } }
+    requires pass { pass ≡ record { book = L.history; story = arc_value version.now } ∷ [] }
+    ensures { IfOk result (λ v. v ≡ fresh_viewer (arc_value version.now)) }
+{
+    let last = Arc::try_clone(version)?;
+    Ok(Viewer {
+        pass,
+        last,
+        heard: front.again(),
+        floor: version.number(),
+        of: PhantomData,
+    })
+}

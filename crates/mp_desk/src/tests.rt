@@ -1,0 +1,207 @@
+//! Two designers and a viewer at one desk.
+ghost use Rattle.std.specs.Prelude.{◌≡◌, ◌+◌, length};
+
+use crate::{
+    CloseCause, Designer, Desk, DeskCause, DeskName, DeskParts, Notice, ReadError, Staffed, Viewer,
+};
+use mp_netlist::{Changes, Edit, Name, Netlist, SingleEdit};
+use mp_phase::{Crew, OpenGate};
+use mp_session::Session;
+use std::alloc::{AllocError, Global};
+use std::marker::Brand;
+use std::process::Abort;
+use std::sync::Wait;
+use std::test::Fail;
+use std::thread::{Threads, join};
+
+fn name(alloc: Global, text: &str) -> Result<Name, AllocError> {
+    Ok(Name::new(String::from_str(alloc, text)?))
+}
+
+fn wire(alloc: Global, text: &str) -> Result<SingleEdit, AllocError> {
+    Ok(SingleEdit::AddWire {
+        name: name(alloc, text)?,
+        width: 1,
+        level: 0,
+    })
+}
+
+/// The wire rises at a time.
+fn rise(alloc: Global, text: &str, time: u64) -> Result<SingleEdit, AllocError> {
+    Ok(SingleEdit::SetStimulus {
+        wire: name(alloc, text)?,
+        changes: Changes::new(vec![in alloc; (time, 1)]?),
+    })
+}
+
+/// Whether the netlist takes the edit. It alone owns one where it ends, since each end spells out how an edit is let go.
+fn accepts(netlist: &mut Netlist, edit: SingleEdit) -> bool {
+    netlist.apply(&Edit::Single(edit)).is_ok()
+}
+
+fn opened(
+    rt: &(impl Abort + Threads + Wait + Sync),
+    alloc: Global,
+) -> Result<Session<OpenGate>, Fail> {
+    let mut netlist = Netlist::empty(alloc, 20)?;
+    assert!(rt; accepts(&mut netlist, wire(alloc, "a")?));
+    assert!(rt; accepts(&mut netlist, wire(alloc, "b")?));
+    Ok(Session::open(rt, alloc, &netlist, Crew::new(2, 1)?, OpenGate)?)
+}
+
+#[test]
+fn two_designers(rt: HostRuntime) -> Result<(), Fail> {
+    let session = opened(&rt, rt.alloc())?;
+    let parts = DeskParts::new(&rt, rt.alloc(), session, 2, 1)
+        .ok()
+        .ok_or("no parts")?;
+    at_desk::<Brand, _>(&rt, rt.alloc(), parts)
+}
+
+fn at_desk<L: DeskName + Send + Sync, R: Threads + Wait + Abort + Sync + Send + Copy>(
+    rt: R,
+    alloc: Global,
+    parts: DeskParts<OpenGate, R>,
+) -> Result<(), Fail>
+    requires history { parts.book ≡ L.history }
+    requires ledger { parts.ledger ≡ L.name }
+    requires shares { parts.designers + 1 ≡ L.parts }
+    requires opening { length parts.session.story.edits ≡ L.opening }
+{
+    let staffed = Desk::<OpenGate, L, R>::open(parts).ok().ok_or("no desk")?;
+    let Staffed {
+        desk,
+        mut designers,
+        mut viewers,
+    } = staffed;
+    let one = designers.pop().ok_or("no designer")?;
+    let two = designers.pop().ok_or("no designer")?;
+    let viewer = viewers.pop().ok_or("no viewer")?;
+    let rt = &rt;
+    let (first, second, mut viewer) = race(rt, alloc, &desk, one, two, viewer);
+    let (one, notice) = first.ok_or("a designer without edits")?;
+    let (two, other) = second.ok_or("a designer without edits")?;
+    viewer.learn(&notice);
+    viewer.learn(&other);
+    let read = viewer.read().ok().ok_or("no read")?.number();
+    assert_eq!(rt; read, 6);
+    assert_eq!(rt; (one.accepted(), two.accepted()), (3, 3));
+    let mut all = Vec::new(alloc);
+    all.push(one)?;
+    all.push(two)?;
+    let mut lent = [viewer];
+    let session = desk.close(rt, all, &mut lent).ok().ok_or("not closed")?;
+    assert_eq!(rt; session.version().number(), 6);
+    assert!(rt; matches!(lent[0].read(), Err(ReadError::Closed)));
+    Ok(())
+}
+
+type Done<L> = Option<(Designer<L>, Notice<L>)>;
+
+fn race<L: DeskName + Send + Sync, R: Threads + Wait + Sync + Send + Drop>(
+    rt: &R,
+    alloc: Global,
+    desk: &Desk<OpenGate, L, R>,
+    one: Designer<L>,
+    two: Designer<L>,
+    viewer: Viewer<L>,
+) -> (Done<L>, Done<L>, Viewer<L>) {
+    let (first, (second, viewer)) = join(
+        rt,
+        || submit_three(rt, alloc, desk, one, "a"),
+        || {
+            join(
+                rt,
+                || submit_three(rt, alloc, desk, two, "b"),
+                || read_often(viewer),
+            )
+        },
+    );
+    (first, second, viewer)
+}
+
+/// Submits four edits of a wire, of which the third is refused.
+fn submit_three<L: DeskName, R: Threads + Wait + Sync + Drop>(
+    rt: &R,
+    alloc: Global,
+    desk: &Desk<OpenGate, L, R>,
+    mut me: Designer<L>,
+    text: &str,
+) -> Done<L> {
+    let mut last = None;
+    for time in [1, 2, 0, 3] {
+        let Ok(edit) = rise(alloc, text, time) else {
+            return None;
+        };
+        if let Some(notice) = submitted(rt, desk, &mut me, edit) {
+            last = Some(notice);
+        }
+    }
+    Some((me, last?))
+}
+
+fn submitted<L: DeskName, R: Threads + Wait + Sync + Drop>(
+    rt: &R,
+    desk: &Desk<OpenGate, L, R>,
+    me: &mut Designer<L>,
+    edit: SingleEdit,
+) -> Option<Notice<L>> {
+    match desk.submit(rt, me, &Edit::Single(edit)) {
+        Ok(receipt) => Some(receipt.notice),
+        Err(_) => None,
+    }
+}
+
+fn read_often<L: DeskName>(mut viewer: Viewer<L>) -> Viewer<L> {
+    for _i in 0..100u32 {
+        let _ = viewer.read();
+    }
+    viewer
+}
+
+#[test]
+fn desk_refusals(rt: HostRuntime) -> Result<(), Fail> {
+    let mut session = opened(&rt, rt.alloc())?;
+    for (designers, viewers) in [(0, 1), (9, 1), (1, 0), (1, 33)] {
+        let Err(refused) = DeskParts::new(&rt, rt.alloc(), session, designers, viewers) else {
+            return Err("a bad count was taken".into());
+        };
+        assert_eq!(rt; refused.cause, DeskCause::BadCount);
+        session = refused.session;
+    }
+    let parts = DeskParts::new(&rt, rt.alloc(), session, 2, 1)
+        .ok()
+        .ok_or("no parts")?;
+    close_without_all::<Brand, _>(&rt, parts)
+}
+
+fn close_without_all<L: DeskName, R: Wait + Abort + Drop + Copy>(
+    rt: R,
+    parts: DeskParts<OpenGate, R>,
+) -> Result<(), Fail>
+    requires history { parts.book ≡ L.history }
+    requires ledger { parts.ledger ≡ L.name }
+    requires shares { parts.designers + 1 ≡ L.parts }
+    requires opening { length parts.session.story.edits ≡ L.opening }
+{
+    let staffed = Desk::<OpenGate, L, R>::open(parts).ok().ok_or("no desk")?;
+    let Staffed {
+        desk,
+        mut designers,
+        mut viewers,
+    } = staffed;
+    let one = designers.pop().ok_or("no designer")?;
+    let Err(refused) = desk.close(&rt, designers, viewers.as_mut_slice()) else {
+        return Err("closed without all".into());
+    };
+    assert_eq!(rt; refused.cause, CloseCause::MissingPass);
+    let mut designers = refused.designers;
+    designers.push(one)?;
+    assert!(rt;
+        refused
+            .desk
+            .close(&rt, designers, viewers.as_mut_slice())
+            .is_ok()
+    );
+    Ok(())
+}
