@@ -58,6 +58,15 @@ fn two_designers(rt: HostRuntime) -> Result<(), Fail> {
     at_desk::<Brand, _>(&rt, rt.alloc(), parts)
 }
 
+/// What two designers and a viewer see: the number that the viewer reads at the end, how many edits of each designer were accepted, and the number
+/// of the session's version after the close.
+#[derive(Clone, Copy, Debug, PartialEq)]
+struct Seen {
+    read: u32,
+    accepted: (u32, u32),
+    number: u32,
+}
+
 fn at_desk<L: DeskName + Send + Sync, R: Threads + Wait + Abort + Sync + Send + Copy>(
     rt: R,
     alloc: Global,
@@ -68,35 +77,46 @@ fn at_desk<L: DeskName + Send + Sync, R: Threads + Wait + Abort + Sync + Send + 
     requires shares { parts.designers + 1 ≡ L.parts }
     requires opening { length parts.session.story.edits ≡ L.opening }
 {
-    let staffed = Desk::<OpenGate, L, R>::open(parts).ok().ok_or("no desk")?;
+    let Ok(staffed) = Desk::<OpenGate, L, R>::open(parts) else {
+        return Err("no desk".into());
+    };
+    let seen = worked(&rt, alloc, staffed);
+    let wanted = Seen {
+        read: 6,
+        accepted: (3, 3),
+        number: 6,
+    };
+    assert!(rt; seen == Some(wanted));
+    Ok(())
+}
+
+fn worked<L: DeskName + Send + Sync, R: Threads + Wait + Sync + Send + Drop>(
+    rt: &R,
+    alloc: Global,
+    staffed: Staffed<OpenGate, L, R>,
+) -> Option<Seen> {
     let Staffed {
         desk,
         mut designers,
         mut viewers,
     } = staffed;
-    let one = designers.pop().ok_or("no designer")?;
-    let two = designers.pop().ok_or("no designer")?;
-    let viewer = viewers.pop().ok_or("no viewer")?;
-    let rt = &rt;
-    let (first, second, mut viewer) = race(rt, alloc, &desk, one, two, viewer);
-    let (one, notice) = first.ok_or("a designer without edits")?;
-    let (two, other) = second.ok_or("a designer without edits")?;
-    viewer.learn(&notice);
-    viewer.learn(&other);
-    let read = viewer.read().ok().ok_or("no read")?.number();
-    assert_eq!(rt; read, 6);
-    assert_eq!(rt; (one.accepted(), two.accepted()), (3, 3));
-    let mut all = Vec::new(alloc);
-    all.push(one)?;
-    all.push(two)?;
-    let mut lent = [viewer];
-    let session = desk.close(rt, all, &mut lent).ok().ok_or("not closed")?;
-    assert_eq!(rt; session.version().number(), 6);
-    assert!(rt; matches!(lent[0].read(), Err(ReadError::Closed)));
-    Ok(())
+    let (Some(one), Some(two), Some(viewer)) = (designers.pop(), designers.pop(), viewers.pop())
+    else {
+        return None;
+    };
+    let ((one, first), (two, second), viewer) = race(rt, alloc, &desk, one, two, viewer);
+    let (viewer, read) = told(viewer, first, second);
+    let accepted = (one.accepted(), two.accepted());
+    let number = closed(rt, alloc, desk, one, two, viewer)?;
+    Some(Seen {
+        read: read?,
+        accepted,
+        number,
+    })
 }
 
-type Done<L> = Option<(Designer<L>, Notice<L>)>;
+/// A designer, and the notice of the last edit that was accepted.
+type Done<L> = (Designer<L>, Option<Notice<L>>);
 
 fn race<L: DeskName + Send + Sync, R: Threads + Wait + Sync + Send + Drop>(
     rt: &R,
@@ -108,11 +128,11 @@ fn race<L: DeskName + Send + Sync, R: Threads + Wait + Sync + Send + Drop>(
 ) -> (Done<L>, Done<L>, Viewer<L>) {
     let (first, (second, viewer)) = join(
         rt,
-        || submit_three(rt, alloc, desk, one, "a"),
+        || submit_four(rt, alloc, desk, one, "a"),
         || {
             join(
                 rt,
-                || submit_three(rt, alloc, desk, two, "b"),
+                || submit_four(rt, alloc, desk, two, "b"),
                 || read_often(viewer),
             )
         },
@@ -121,7 +141,7 @@ fn race<L: DeskName + Send + Sync, R: Threads + Wait + Sync + Send + Drop>(
 }
 
 /// Submits four edits of a wire, of which the third is refused.
-fn submit_three<L: DeskName, R: Threads + Wait + Sync + Drop>(
+fn submit_four<L: DeskName, R: Threads + Wait + Sync + Drop>(
     rt: &R,
     alloc: Global,
     desk: &Desk<OpenGate, L, R>,
@@ -130,26 +150,21 @@ fn submit_three<L: DeskName, R: Threads + Wait + Sync + Drop>(
 ) -> Done<L> {
     let mut last = None;
     for time in [1, 2, 0, 3] {
-        let Ok(edit) = rise(alloc, text, time) else {
-            return None;
-        };
-        if let Some(notice) = submitted(rt, desk, &mut me, edit) {
+        if let Some(notice) = submitted(rt, desk, &mut me, rise(alloc, text, time)) {
             last = Some(notice);
         }
     }
-    Some((me, last?))
+    (me, last)
 }
 
 fn submitted<L: DeskName, R: Threads + Wait + Sync + Drop>(
     rt: &R,
     desk: &Desk<OpenGate, L, R>,
     me: &mut Designer<L>,
-    edit: SingleEdit,
+    edit: Result<SingleEdit, AllocError>,
 ) -> Option<Notice<L>> {
-    match desk.submit(rt, me, &Edit::Single(edit)) {
-        Ok(receipt) => Some(receipt.notice),
-        Err(_) => None,
-    }
+    let receipt = desk.submit(rt, me, &Edit::Single(edit.ok()?)).ok()?;
+    Some(receipt.notice)
 }
 
 fn read_often<L: DeskName>(mut viewer: Viewer<L>) -> Viewer<L> {
@@ -157,6 +172,43 @@ fn read_often<L: DeskName>(mut viewer: Viewer<L>) -> Viewer<L> {
         let _ = viewer.read();
     }
     viewer
+}
+
+/// The viewer learns of both, and reads.
+fn told<L: DeskName>(
+    mut viewer: Viewer<L>,
+    first: Option<Notice<L>>,
+    second: Option<Notice<L>>,
+) -> (Viewer<L>, Option<u32>) {
+    if let Some(notice) = &first {
+        viewer.learn(notice);
+    }
+    if let Some(notice) = &second {
+        viewer.learn(notice);
+    }
+    let read = match viewer.read() {
+        Ok(version) => Some(version.number()),
+        Err(_) => None,
+    };
+    (viewer, read)
+}
+
+/// Closes the desk, after which the viewer reads nothing, and gives the number of its version.
+fn closed<L: DeskName, R: Wait + Drop>(
+    rt: &R,
+    alloc: Global,
+    desk: Desk<OpenGate, L, R>,
+    one: Designer<L>,
+    two: Designer<L>,
+    viewer: Viewer<L>,
+) -> Option<u32> {
+    let designers = vec![in alloc; one, two].ok()?;
+    let mut lent = [viewer];
+    let session = desk.close(rt, designers, &mut lent).ok()?;
+    match lent[0].read() {
+        Err(ReadError::Closed) => Some(session.version().number()),
+        _ => None,
+    }
 }
 
 #[test]
