@@ -114,7 +114,7 @@ fn waves_on_small_devices(rt: HostRuntime) {
 
 /// A script over a writer with so much room ends so, and this is written.
 fn plays(
-    rt: &(impl Abort + Wait),
+    rt: &(impl Abort + Threads + Wait + Sync),
     alloc: Global,
     script: &[u8],
     room: usize,
