@@ -1,6 +1,6 @@
 //! A module with both its inputs at one wire: who reads it, the states that its run keeps, and that it is new.
 use crate::{Records, touched};
-use mp_engine::{OpenGate, Run, evaluate};
+use mp_engine::{OpenGate, Run, evaluate_here};
 use mp_modules::Kind;
 use mp_netlist::{
     Edit, InputName, InputNames, ModuleId, Name, Netlist, OutputName, OutputNames, Params,
@@ -84,7 +84,7 @@ fn one_merge(rt: HostRuntime) -> Result<(), Fail> {
     assert!(rt; accepts(&mut netlist, wire(rt.alloc())?));
     assert!(rt; accepts(&mut netlist, merge(rt.alloc())?));
     assert!(rt; touches(rt.alloc(), &netlist)?);
-    let run = evaluate(rt.alloc(), &rt, &netlist, &OpenGate)?;
+    let run = evaluate_here(&rt, rt.alloc(), &netlist, &OpenGate)?;
     let records = Records::build(rt.alloc(), &netlist, &run)?;
     assert!(rt; are_known(&records) && agree(&records, &run));
     Ok(())
