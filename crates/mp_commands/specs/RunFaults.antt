@@ -4,6 +4,8 @@ use Rattle.std.specs.Fmt.{decimal}
 use Rattle.mp_records.specs.EditErrors as edits
 use Rattle.mp_streams.specs.declared.take_error.TakeError.{TakeError}
 use Rattle.mp_streams.specs.declared.take_error.TakeError.TheVariants as takes
+use Rattle.mp_meeting.specs.declared.meeting_fault.MeetingFault.{MeetingFault}
+use Rattle.mp_meeting.specs.declared.meeting_fault.MeetingFault.TheVariants as meetings
 use Rattle.mp_text.specs.declared.text_code.TextCode.{TextCode}
 use Rattle.mp_text.specs.declared.text_code.TextCode.TheVariants as texts
 use Rattle.mp_text.specs.declared.text_error.TextError.{TextError}
@@ -22,6 +24,10 @@ fault_of_text error = fault_at error error.code
 abbrev pub fault_of_take : TakeError → RunFault
 fault_of_take takes.Failed = ReadFailed
 fault_of_take takes.OutOfMemory = OutOfMemory
+
+abbrev pub fault_of_meeting : MeetingFault → RunFault
+fault_of_meeting meetings.OutOfMemory = OutOfMemory
+fault_of_meeting meetings.NoPlace = NoPlace
 
 -- 1 for what was asked of the program, 3 for a device, 4 for want of memory or of a place
 abbrev pub status_of : RunFault → ℕ

@@ -47,7 +47,7 @@ comes_first BadCount = true
 comes_first ReadFailed = true
 comes_first WriteFailed = false
 comes_first OutOfMemory = false
-comes_first NoPlace = false
+comes_first NoPlace = true
 
 -- a fault for which nothing is written, where the output is known
 abbrev pub Refuses : Result (List ℕ) RunFault → RunFault → Type 0

@@ -2,13 +2,16 @@
 #![tactic(auto)]
 
 mod crew_run;
+mod desk_command;
 mod dump_command;
 mod keeper;
 mod limits;
+mod met_lines;
 mod numbered;
 mod options;
 mod play_command;
 mod put_dump;
+mod put_met;
 mod put_text;
 mod put_waves;
 mod replies;
@@ -20,6 +23,7 @@ mod tests;
 mod wave_lines;
 mod waves_command;
 
+pub use desk_command::run_desk;
 pub use dump_command::run_dump;
 pub use options::Options;
 pub use play_command::run_play;

@@ -1,7 +1,7 @@
 //! How a run is made.
 ghost use Rattle.std.specs.Prelude.{◌≡◌};
 
-use crate::limits::{MAX_LEAST, MAX_WORKERS};
+use crate::limits::{MAX_DESIGNERS, MAX_LEAST, MAX_VIEWERS, MAX_WORKERS};
 use mp_phase::Crew;
 
 /// The numbers that a run is given. Any number may be asked for.
@@ -11,13 +11,14 @@ pub struct Options {
     pub workers: u32,
     /// With fewer modules than these the workers are not called on.
     pub least: u32,
-    /// How many viewers there are. No run looks at them yet.
+    /// How many viewers there are, of a desk alone.
     pub viewers: u32,
 }
 
 impl Options {
-    ghost use Rattle.std.specs.Prelude.{is_some};
+    ghost use Rattle.std.specs.Prelude.{◌<◌, ◌≤◌, is_some, IfSome};
     ghost use Rattle.mp_commands.specs.OptionLimits.{has_valid_crew};
+    ghost use Rattle.mp_commands.specs.Desks.{has_valid_desk};
 
     /// Whether there are 1 to 16 workers for 1 to 4,096 tasks at least. The viewers are not looked
     /// at.
@@ -28,6 +29,21 @@ impl Options {
             && self.workers <= MAX_WORKERS
             && 1 <= self.least
             && self.least <= MAX_LEAST
+    }
+
+    /// The crew of a desk with so many designers, where that has 1 to 8, 1 to 32 viewers and a valid crew.
+    pub(crate) fn desk_crew(&self, designers: usize) -> Option<Crew>
+        ensures valid { is_some result ≡ has_valid_desk designers self.now }
+        ensures range { IfSome result (λ _. (0 < designers) × (designers ≤ 8) × (0 < self.now.viewers) × (self.now.viewers ≤ 32)) }
+    {
+        if designers < 1
+            || designers > MAX_DESIGNERS
+            || self.viewers < 1
+            || self.viewers > MAX_VIEWERS
+        {
+            return None;
+        }
+        self.crew()
     }
 
     /// The crew of these workers and tasks, where there is a valid one.

@@ -1,9 +1,10 @@
 //! Why a run ends early.
 ghost use Rattle.std.specs.Prelude.{◌≡◌, IfOk};
 ghost use Rattle.mp_commands.specs.declared.run_fault.RunFault.TheVariants.{OutOfMemory};
-ghost use Rattle.mp_commands.specs.RunFaults.{status_of, line_of, text_line, fault_of_text, fault_of_take};
+ghost use Rattle.mp_commands.specs.RunFaults.{status_of, line_of, text_line, fault_of_text, fault_of_take, fault_of_meeting};
 
 use crate::numbered::push_numbered;
+use mp_meeting::MeetingFault;
 use mp_netlist::EditError;
 use mp_streams::TakeError;
 use mp_text::{TextCode, TextError};
@@ -28,7 +29,7 @@ pub enum RunFault {
     /// Memory was wanting.
     #[error("out of memory")]
     OutOfMemory,
-    /// A viewer found no place. No run ends so yet, since none has viewers.
+    /// A designer or a viewer found no place at a desk.
     #[error("no place")]
     NoPlace,
 }
@@ -52,6 +53,17 @@ impl From<TakeError> for RunFault {
         match error {
             TakeError::Failed => RunFault::ReadFailed,
             TakeError::OutOfMemory => RunFault::OutOfMemory,
+        }
+    }
+}
+
+impl From<MeetingFault> for RunFault {
+    ghost from_gives = { λ error fault. fault ≡ fault_of_meeting error };
+
+    fn from(error: MeetingFault) -> RunFault {
+        match error {
+            MeetingFault::OutOfMemory => RunFault::OutOfMemory,
+            MeetingFault::NoPlace => RunFault::NoPlace,
         }
     }
 }

@@ -21,7 +21,7 @@ Exit status:
   1  the text or a number was refused
   2  the command line was refused
   3  a read or a write failed
-  4  memory was wanting";
+  4  memory was wanting, or a place at a desk";
 
 const WAVES: &str = "Writes the wave of each wire of a netlist";
 
@@ -76,15 +76,34 @@ that is not read by `unread CODE NAME`.
 
 A netlist's text that is refused is told on standard error as `mpwb: line N: CODE NAME`.";
 
+const DESK: &str = "Has designers edit a netlist at the same time, while viewers read";
+
+const DESK_LONG: &str = "\
+Reads from standard input, at most 4194304 bytes, a netlist's text as `waves` does, and behind it a \
+block of lines for each of 1 to 8 designers, each behind a line `---`. The lines are edits as those \
+of a script of `play`. Each designer submits its lines in turn, on a thread of its own, and each \
+viewer reads 100 times meanwhile, on a thread of its own. In which order the edits of different \
+designers come is open.
+
+Writes on standard output `designer J accepted A refused B` for each designer, where a line that is \
+no edit counts as refused; then `viewer J saw N` for each viewer, with how many accepted edits the \
+version had that it read last, after it was told of them all; and then the lines of all wires.
+
+A netlist's text that is refused is told on standard error as `mpwb: line N: CODE NAME`.";
+
+/// How many viewers a desk has where that isn't said.
+const VIEWERS: u32 = 2;
+
 /// The request that the words make, of which the first is the program's name, or what is told in
 /// its place: help, the version, what is wrong with the words, or want of memory.
 pub fn read_words<'a>(alloc: Global, words: &'a [String]) -> Result<Request, Error> {
     let matches = parser(alloc)?.try_get_matches_from(words)?;
     match matches.subcommand() {
-        Some(("waves", found)) => Ok(request(Command::Waves, found)),
-        Some(("report", found)) => Ok(request(Command::Report, found)),
-        Some(("dump", found)) => Ok(request(Command::Dump, found)),
-        Some(("play", found)) => Ok(request(Command::Play, found)),
+        Some(("waves", found)) => Ok(request(Command::Waves, found, VIEWERS)),
+        Some(("report", found)) => Ok(request(Command::Report, found, VIEWERS)),
+        Some(("dump", found)) => Ok(request(Command::Dump, found, VIEWERS)),
+        Some(("play", found)) => Ok(request(Command::Play, found, VIEWERS)),
+        Some(("desk", found)) => Ok(request(Command::Desk, found, viewers(found))),
         _ => Err(no_command(alloc)?),
     }
 }
@@ -114,13 +133,17 @@ pub fn tell<R: Print + Eprint>(rt: &R, error: &Error) -> Result<u8, RunFault>
     }
 }
 
-fn request(command: Command, found: &ArgMatches<'_>) -> Request {
+fn viewers(found: &ArgMatches<'_>) -> u32 {
+    found.get_one::<u32>("viewers").unwrap_or(VIEWERS)
+}
+
+fn request(command: Command, found: &ArgMatches<'_>, viewers: u32) -> Request {
     Request {
         command,
         options: Options {
             workers: found.get_one::<u32>("workers").unwrap_or(2),
             least: found.get_one::<u32>("least").unwrap_or(64),
-            viewers: 2,
+            viewers,
         },
     }
 }
@@ -135,7 +158,16 @@ fn parser<'a>(alloc: Global) -> Result<Parser<'a>, AllocError> {
         .subcommand(command(alloc, "waves", WAVES, WAVES_LONG)?)?
         .subcommand(command(alloc, "report", REPORT, REPORT_LONG)?)?
         .subcommand(command(alloc, "dump", DUMP, DUMP_LONG)?)?
-        .subcommand(command(alloc, "play", PLAY, PLAY_LONG)?)
+        .subcommand(command(alloc, "play", PLAY, PLAY_LONG)?)?
+        .subcommand(desk(alloc)?)
+}
+
+/// The command with viewers.
+fn desk<'a>(alloc: Global) -> Result<Parser<'a>, AllocError> {
+    let viewers = number(alloc, "viewers")
+        .default_value("2")
+        .help("How many viewers there are, 1 to 32");
+    command(alloc, "desk", DESK, DESK_LONG)?.arg(viewers)
 }
 
 /// A command that works with a crew.

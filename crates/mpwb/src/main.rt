@@ -5,7 +5,9 @@ mod command_line;
 mod request;
 
 use command_line::{read_words, tell};
-use mp_commands::{RunFault, exit_status, fault_line, run_dump, run_play, run_report, run_waves};
+use mp_commands::{
+    RunFault, exit_status, fault_line, run_desk, run_dump, run_play, run_report, run_waves,
+};
 use mp_streams::{ReadSource, WriteSink};
 use request::{Command, Request};
 use std::io::ErrorKind;
@@ -56,6 +58,7 @@ fn run<R: Input + Print + Threads + Wait + Sync + AllocGlobal>(
         Command::Report => run_report(rt, rt.alloc(), &mut source, &mut sink, &request.options),
         Command::Dump => run_dump(rt, rt.alloc(), &mut source, &mut sink, &request.options),
         Command::Play => run_play(rt, rt.alloc(), &mut source, &mut sink, &request.options),
+        Command::Desk => run_desk(rt, rt.alloc(), &mut source, &mut sink, &request.options),
     }
 }
 

@@ -12,6 +12,8 @@ pub enum Command {
     Dump,
     /// Edit a netlist by a script, and answer its questions.
     Play,
+    /// Have designers edit a netlist at the same time, while viewers read.
+    Desk,
 }
 
 /// A command with its options.
