@@ -15,6 +15,7 @@ use std::thread::Threads;
 #[derive(Drop)]
 pub struct Keeper {
     session: Session<OpenGate>,
+    crew: Crew,
 }
 
 impl Model for Keeper {
@@ -42,6 +43,7 @@ impl Keeper {
     {
         Ok(Keeper {
             session: Session::open(rt, alloc, netlist, crew, OpenGate)?,
+            crew,
         })
     }
 
@@ -50,6 +52,11 @@ impl Keeper {
         ensures { result.now ≡ self.now.netlist }
     {
         self.session.version().now()
+    }
+
+    /// The workers that it was given.
+    pub fn crew(&self) -> Crew {
+        self.crew
     }
 
     /// Its waves.

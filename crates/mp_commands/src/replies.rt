@@ -79,12 +79,13 @@ fn put_line_reply<R: Threads + Wait + Sync, T: Sink>(
     match line {
         Line::Empty => Ok(()),
         Line::Change(edit) => put_made(buffer, sink, edit_text(rt, alloc, keeper, edit)),
-        Line::Ask(question) => put_answer(alloc, buffer, sink, keeper, question),
+        Line::Ask(question) => put_answer(rt, alloc, buffer, sink, keeper, question),
     }
 }
 
 /// Puts the answer to a question, as it is made: so no answer takes memory for its length.
-fn put_answer<T: Sink>(
+fn put_answer<R: Threads + Sync, T: Sink>(
+    rt: &R,
     alloc: Global,
     buffer: &mut WriteBuffer,
     sink: &mut T,
@@ -99,7 +100,7 @@ fn put_answer<T: Sink>(
         Question::Wave(name) => put_wire(alloc, buffer, sink, keeper, name),
         Question::Waves => put_lines(buffer, sink, keeper.netlist(), keeper.waves()),
         Question::Text => put_netlist_text(buffer, sink, keeper.netlist()),
-        Question::Report => put_report_answer(alloc, buffer, sink, keeper),
+        Question::Report => put_report_answer(rt, alloc, buffer, sink, keeper),
         Question::Dump => put_dump_answer(alloc, buffer, sink, keeper),
     }
 }
@@ -121,7 +122,8 @@ fn put_netlist_text<T: Sink>(
 }
 
 /// Puts the report of the netlist. It takes memory, so the replies before it are written first, and are seen where memory is wanting.
-fn put_report_answer<T: Sink>(
+fn put_report_answer<R: Threads + Sync, T: Sink>(
+    rt: &R,
     alloc: Global,
     buffer: &mut WriteBuffer,
     sink: &mut T,
@@ -132,7 +134,8 @@ fn put_report_answer<T: Sink>(
     ensures faults { T.fault_count sink.new ≡ counted_writes result (T.fault_count sink.old) }
 {
     put_rest(buffer, sink)?;
-    put_report_lines(alloc, buffer, sink, keeper.netlist(), keeper.waves())
+    let (netlist, waves) = (keeper.netlist(), keeper.waves());
+    put_report_lines(rt, alloc, buffer, sink, netlist, waves, keeper.crew())
 }
 
 /// Puts the dump of the netlist. It takes memory in its midst, so the replies before it are written first, and are seen where memory is wanting.

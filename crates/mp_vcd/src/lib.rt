@@ -9,7 +9,9 @@ mod lines;
 mod putting;
 #[cfg(test)]
 mod tests;
+mod value_lines;
 mod wave_changes;
+mod widths;
 
 pub use dump_error::DumpError;
 pub use dumping::{dump, put_dump};
