@@ -144,10 +144,12 @@ fn put_units<T: Sink>(
 {
     let widths = widths_of(alloc, netlist)?;
     let portion = portion_of(netlist, waves);
+    let mut places = vec![in alloc; 0; netlist.wire_slots() as usize]?;
     let mut from: u32 = 1;
     while from < netlist.horizon() {
         let to = from.saturating_add(portion.units).min(netlist.horizon());
-        let agenda = agenda_of(alloc, netlist, waves, from, to, portion.changes)?;
+        let next = places.as_mut_slice();
+        let agenda = agenda_of(alloc, netlist, waves, next, from, to, portion.changes)?;
         put_agenda(line, buffer, sink, netlist, widths.as_slice(), &agenda, to)?;
         from = to;
     }

@@ -6,6 +6,7 @@ mod dump_error;
 mod dumping;
 pub mod laws;
 mod lines;
+mod parts;
 mod putting;
 #[cfg(test)]
 mod tests;
