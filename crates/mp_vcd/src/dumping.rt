@@ -40,7 +40,8 @@ pub(crate) enum Part {
 ///
 /// `WriteFailed` comes with a fault of the sink, and `OutOfMemory` where memory is wanting: then a part of the dump, from its
 /// front, is written. It takes time in proportion to the wires, the units and the changes, and a buffer of 64 KiB; and of
-/// memory beside it 16 bytes for each change and 4 for each unit of a portion, which has as many changes as stay near the processor.
+/// memory beside it 12 bytes for each wire, and 16 for each change and 4 for each unit of a portion, which has as many changes as stay
+/// near the processor.
 pub fn dump<T: Sink>(
     alloc: Global,
     netlist: &Netlist,
