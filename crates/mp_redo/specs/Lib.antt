@@ -1,3 +1,6 @@
 pub mod Revisions
 pub mod Stays
 pub mod Work
+pub mod Lines
+pub mod Stretches
+pub mod Redoing

@@ -1,7 +1,11 @@
 //! What has to be evaluated again after a netlist has changed.
 #![tactic(auto)]
 
+mod cell;
 pub mod laws;
+mod line;
+mod looks;
+mod stretch;
 mod work_entry;
 
 pub use work_entry::WorkEntry;
