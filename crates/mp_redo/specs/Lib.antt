@@ -4,3 +4,5 @@ pub mod Work
 pub mod Lines
 pub mod Stretches
 pub mod Redoing
+pub mod Merges
+pub mod WholeWork

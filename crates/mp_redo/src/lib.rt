@@ -6,6 +6,10 @@ pub mod laws;
 mod line;
 mod looks;
 mod stretch;
+mod work;
+mod work_entries;
 mod work_entry;
 
+pub use work::Work;
+pub use work_entries::WorkEntries;
 pub use work_entry::WorkEntry;
