@@ -6,3 +6,5 @@ pub mod WindowLemmas
 pub mod WorkLemmas
 pub mod EntryLemmas
 pub mod OrderLemmas
+pub mod MergeLemmas
+pub mod WholeLemmas

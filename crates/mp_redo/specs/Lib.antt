@@ -1,3 +1,8 @@
 pub mod Revisions
 pub mod Stays
 pub mod Work
+pub mod Lines
+pub mod Stretches
+pub mod Redoing
+pub mod Merges
+pub mod WholeWork

@@ -1,8 +1,8 @@
--- What of a netlist was evaluated.
+-- The work of an evaluation from time 0.
 use Rattle.std.specs.Prelude.{ℕ, ◌+◌, List, [], ◌∷◌, Option, Some, None}
 use Rattle.mp_records.specs.declared.module_record.ModuleRecord.{ModuleRecord}
 use Rattle.mp_netlist.specs.Circuit.{Circuit}
-use Rattle.mp_session.specs.declared.work.WorkEntry.{WorkEntry}
+use Rattle.mp_redo.specs.declared.work_entry.WorkEntry.{WorkEntry}
 
 -- a module for all units up to a horizon
 abbrev pub whole_entry : ℕ → ℕ → WorkEntry
