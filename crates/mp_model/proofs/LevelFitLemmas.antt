@@ -25,7 +25,7 @@ use Rattle.mp_model.specs.Levels.{initial_of, stimulus_level, port_level, driven
 use Rattle.mp_model.specs.Waves.{level, state}
 use Rattle.mp_model.proofs.BehaviourLemmas.{satisfies}
 use Rattle.mp_model.proofs.HistoryLemmas.{late}
-use Rattle.mp_vcd.proofs.ModuleFitLemmas.{InputsFit, OutputsFit, step_fits, settle_fits}
+use Rattle.mp_model.proofs.ModuleFitLemmas.{InputsFit, OutputsFit, step_fits, settle_fits}
 
 -- ---- what is set from outside
 
