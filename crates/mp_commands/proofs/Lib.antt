@@ -3,3 +3,4 @@ pub mod RunLemmas
 pub mod PutLemmas
 pub mod PlayLemmas
 pub mod ReplyLemmas
+pub mod WorkLineLemmas

@@ -6,3 +6,4 @@ pub mod Runs
 pub mod Keepers
 pub mod Replies
 pub mod Plays
+pub mod WorkLines

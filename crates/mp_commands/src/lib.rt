@@ -19,6 +19,7 @@ mod run_fault;
 mod tests;
 mod wave_lines;
 mod waves_command;
+mod work_lines;
 
 pub use dump_command::run_dump;
 pub use options::Options;
