@@ -6,6 +6,8 @@ pub mod laws;
 mod line;
 mod looks;
 mod stretch;
+#[cfg(test)]
+mod tests;
 mod work;
 mod work_entries;
 mod work_entry;

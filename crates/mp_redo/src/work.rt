@@ -30,7 +30,8 @@ impl Model for Work {
 }
 
 impl Work {
-    ghost use Rattle.std.specs.Prelude.{[]};
+    ghost use Rattle.std.specs.Prelude.{◌<◌, [], All};
+    ghost use Rattle.mp_redo.specs.Merges.{IsStretch, entries_left};
     ghost use Rattle.mp_redo.specs.WholeWork.{whole_work};
 
     /// No work.
@@ -41,6 +42,20 @@ impl Work {
             least: 1,
             horizon: 0,
             stretches: Vec::new(alloc),
+        }
+    }
+
+    /// The work of these stretches, which are in order of their first entries. A window ends after the least delay, with its block, or at
+    /// the horizon.
+    pub(crate) fn of(least: u32, horizon: u32, stretches: Vec<Stretch>) -> Self
+        requires least { 0 < least }
+        requires stretches { All (IsStretch horizon) stretches.items }
+        ensures { result ≡ entries_left least horizon [] stretches.items }
+    {
+        Work {
+            least,
+            horizon,
+            stretches,
         }
     }
 
