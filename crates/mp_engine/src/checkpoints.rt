@@ -7,14 +7,14 @@ use std::marker::Model;
 
 /// A module's state before the unit of a time.
 #[derive(Clone, Copy)]
-pub(crate) struct Checkpoint {
+pub struct Checkpoint {
     pub time: u32,
     pub memory: Memory,
 }
 
 /// The states of a module that are kept, by rising time. Between two of them it didn't answer before the later's time.
 #[derive(Drop)]
-pub(crate) struct Checkpoints {
+pub struct Checkpoints {
     list: Vec<Checkpoint>,
 }
 
@@ -31,7 +31,8 @@ impl Checkpoints {
     ghost use Rattle.mp_engine.specs.Checkpoints.{kept_at};
     ghost use Rattle.mp_modules.specs.Memories.{blank};
 
-    pub(crate) fn new(alloc: Global) -> Self
+    /// None are kept.
+    pub fn new(alloc: Global) -> Self
         ensures { result ≡ [] }
     {
         Checkpoints {
@@ -39,7 +40,8 @@ impl Checkpoints {
         }
     }
 
-    pub(crate) fn push(&mut self, checkpoint: Checkpoint) -> Result<(), AllocError>
+    /// One more, of a time that isn't before the others.
+    pub fn push(&mut self, checkpoint: Checkpoint) -> Result<(), AllocError>
         ensures { OnOk result (self.new ≡ self.old ++ checkpoint ∷ []) }
     {
         self.list.push(checkpoint)?;
@@ -47,7 +49,7 @@ impl Checkpoints {
     }
 
     /// The last that is kept for a time not after this one, or a blank one.
-    pub(crate) fn kept_at(&self, time: u32) -> Memory
+    pub fn kept_at(&self, time: u32) -> Memory
         ensures { result ≡ kept_at self.now time blank }
     {
         let mut kept = Memory::with_one_output(&[], 0);
