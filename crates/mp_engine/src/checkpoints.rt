@@ -106,11 +106,7 @@ fn split(list: &[Checkpoint], time: u32) -> (Memory, &[Checkpoint])
 }
 
 /// Adds what is kept for times before an end.
-fn add_before(
-    list: &mut Vec<Checkpoint>,
-    more: &[Checkpoint],
-    end: u32,
-) -> Result<(), AllocError>
+fn add_before(list: &mut Vec<Checkpoint>, more: &[Checkpoint], end: u32) -> Result<(), AllocError>
     ensures { OnOk result (list.new.items ≡ list.old.items ++ kept_before end more.now) }
 {
     for checkpoint in more {

@@ -6,3 +6,6 @@ pub mod WindowLemmas
 pub mod WorkLemmas
 pub mod EntryLemmas
 pub mod OrderLemmas
+pub mod PrefixLemmas
+pub mod PushLemmas
+pub mod CutLemmas

@@ -2,9 +2,11 @@
 #![tactic(auto)]
 
 mod cell;
+mod cutting;
 pub mod laws;
 mod line;
 mod looks;
+mod prefix;
 mod stretch;
 mod work_entry;
 
