@@ -6,3 +6,6 @@ pub mod WindowLemmas
 pub mod WorkLemmas
 pub mod EntryLemmas
 pub mod OrderLemmas
+pub mod HeardLemmas
+pub mod StillLemmas
+pub mod LineLemmas
