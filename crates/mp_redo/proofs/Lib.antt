@@ -9,3 +9,4 @@ pub mod OrderLemmas
 pub mod HeardLemmas
 pub mod StillLemmas
 pub mod LineLemmas
+pub mod MarkedLemmas
