@@ -9,3 +9,7 @@ pub mod OrderLemmas
 pub mod PrefixLemmas
 pub mod PushLemmas
 pub mod CutLemmas
+pub mod HeardLemmas
+pub mod StillLemmas
+pub mod LineLemmas
+pub mod MarkedLemmas

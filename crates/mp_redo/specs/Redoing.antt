@@ -1,5 +1,5 @@
 -- What holds of a re-evaluation between two windows.
-use Rattle.std.specs.Prelude.{◌≡◌, ◌≢◌, ◌⊎◌, ℕ, ◌+◌, ◌-◌, ◌*◌, ◌<◌, ◌≤◌, Bool, true, false, List, [], Some, length, slice_index_or}
+use Rattle.std.specs.Prelude.{◌≡◌, ◌≢◌, ◌⊎◌, ℕ, ◌+◌, ◌-◌, ◌*◌, ◌<◌, ◌≤◌, Bool, true, false, List, [], Some, length, slice_index_or, if◌then◌else◌}
 use Rattle.std.specs.List.{Contains}
 use Rattle.mp_modules.specs.declared.memory.Memory.{Memory}
 use Rattle.mp_modules.specs.Memories.{blank}
@@ -11,6 +11,7 @@ use Rattle.mp_netlist.specs.Circuit.{Circuit, Drives, wire_at, module_at}
 use Rattle.mp_model.specs.Waves.{level}
 use Rattle.mp_model.specs.Reach.{IsApart, IsTouched}
 use Rattle.mp_engine.specs.Checkpoints.{state_before}
+use Rattle.mp_engine.specs.Marks.{is_marked}
 use Rattle.mp_engine.specs.Outcomes.{Outcome, wave_of}
 use Rattle.mp_redo.specs.declared.cell.Cell.{Cell}
 use Rattle.mp_redo.specs.declared.line.Line.{Line}
@@ -35,6 +36,10 @@ level_at run lines w t = line_level (line_at lines w) (wave_of run w) t
 
 abbrev pub looks_at : List (List ModuleId) → ℕ → List ModuleId
 looks_at looks k = slice_index_or looks k []
+
+-- to which time a module has answered in a window from one time to another: those that are marked are still to answer
+abbrev pub answered_to : ℕ → ℕ → List Bool → ℕ → ℕ
+answered_to from to marks m = if is_marked marks m then from else to
 
 -- the module is at work at a time of the block that begins at c
 abbrev pub IsWorking : Circuit → Circuit → ℕ → ℕ → ℕ → Type 0
