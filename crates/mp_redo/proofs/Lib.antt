@@ -13,3 +13,4 @@ pub mod HeardLemmas
 pub mod StillLemmas
 pub mod LineLemmas
 pub mod MarkedLemmas
+pub mod DriverLemmas

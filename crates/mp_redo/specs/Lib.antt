@@ -5,3 +5,4 @@ pub mod Lines
 pub mod Stretches
 pub mod Redoing
 pub mod Prefixes
+pub mod Drivers

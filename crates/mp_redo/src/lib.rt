@@ -3,6 +3,7 @@
 
 mod cell;
 mod cutting;
+mod drivers;
 pub mod laws;
 mod line;
 mod looks;
