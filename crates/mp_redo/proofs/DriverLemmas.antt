@@ -12,7 +12,7 @@ use Rattle.mp_netlist.specs.declared.driver.Driver.{Driver}
 use Rattle.mp_netlist.specs.declared.driver.Driver.TheVariants.{Nothing, Port}
 use Rattle.mp_netlist.specs.Circuit.{Circuit, IsCircuit, Drives, module_at, stimulus_at}
 use Rattle.mp_netlist.specs.Drivers.{driver, stimulus_driver}
-use Rattle.mp_netlist.proofs.DriverLemmas.{finds_ports, driven_by}
+use Rattle.mp_netlist.proofs.DriverLemmas.{finds_ports, driven_by, leaves_no_driver}
 use Rattle.mp_model.proofs.SlotLemmas.{slot_within}
 use Rattle.mp_redo.specs.Drivers.{driver_in, AreDrivers, IsNoted, IsDriverBelow, AreDriversBelow}
 
@@ -34,11 +34,12 @@ noted_more m outputs i w before now after output d within read is here other = e
   | inr not ↦ elim is as (λ _. IsNoted m outputs (i + 1) w before after) [
     | inl so ↦ inl (so.0, omega (arith, so.1), so.2, other not ∙ so.3)
     | inr none ↦ inr (
-        λ p less e. elim (cases_eq p i) as (λ _. ⊥) [
-          | inl same ↦ not (ap (λ (o : Output). o.wire) found ∙ subst (λ k. (output_in outputs k).wire ≡ Some (wire_of w)) same e)
-          | inr differ ↦ none.0 p (omega (arith, less, differ)) e
-        ],
-        other not ∙ none.1)
+      λ p less e. elim (cases_eq p i) as (λ _. ⊥) [
+        | inl same ↦ not (ap (λ (o : Output). o.wire) found ∙ subst (λ k. (output_in outputs k).wire ≡ Some (wire_of w)) same e)
+        | inr differ ↦ none.0 p (omega (arith, less, differ)) e
+      ],
+      other not ∙ none.1,
+    )
   ]
 ]
   where
@@ -62,14 +63,15 @@ below_more n m r old new at size are noted = record {
     | inr none ↦ elim (are.each w low) as (λ _. IsDriverBelow n (m.0 + 1) w (driver_in new w)) [
       | inl so ↦ inl (so.0, so.1, so.2, none.1 ∙ so.3)
       | inr free ↦ inr (
-          λ k p less drives. elim (cases_eq k m.0) as (λ _. ⊥) [
-            | inl same ↦
-                let part : drives.part ≡ r = same_Some drives.part r (sym drives.stands ∙ ap (module_at n) same ∙ at) in
-                let output : (output_in r.outputs p).wire ≡ Some (wire_of w) = subst (λ (x : ModuleRecord). (output_in x.outputs p).wire ≡ Some (wire_of w)) part drives.output in
-                none.0 p (output_within r.outputs p w output) output
-            | inr differ ↦ free.0 k p (omega (arith, less, differ)) drives
-          ],
-          none.1 ∙ free.1)
+        λ k p less drives. elim (cases_eq k m.0) as (λ _. ⊥) [
+          | inl same ↦
+              let part : drives.part ≡ r = same_Some drives.part r (sym drives.stands ∙ ap (module_at n) same ∙ at) in
+              let output : (output_in r.outputs p).wire ≡ Some (wire_of w) = subst (λ (x : ModuleRecord). (output_in x.outputs p).wire ≡ Some (wire_of w)) part drives.output in
+              none.0 p (output_within r.outputs p w output) output
+          | inr differ ↦ free.0 k p (omega (arith, less, differ)) drives
+        ],
+        none.1 ∙ free.1,
+      )
     ]
   ];
 }
@@ -81,23 +83,26 @@ below_none n m drivers at are = record {
   each = λ w low. elim (are.each w low) as (λ _. IsDriverBelow n (m + 1) w (driver_in drivers w)) [
     | inl so ↦ inl so
     | inr free ↦ inr (
-        λ k p less drives. elim (cases_eq k m) as (λ _. ⊥) [
-          | inl same ↦ none-some drives.part (sym at ∙ ap (module_at n) (sym same) ∙ drives.stands)
-          | inr differ ↦ free.0 k p (omega (arith, less, differ)) drives
-        ],
-        free.1)
+      λ k p less drives. elim (cases_eq k m) as (λ _. ⊥) [
+        | inl same ↦ none-some drives.part (sym at ∙ ap (module_at n) (sym same) ∙ drives.stands)
+        | inr differ ↦ free.0 k p (omega (arith, less, differ)) drives
+      ],
+      free.1,
+    )
   ];
 }
 
 -- those of all modules
 pub drivers_are : (n : Circuit) → IsCircuit n → (m : ℕ) (drivers : List Driver) → length n.modules ≤ m → AreDriversBelow n m drivers → AreDrivers n drivers
-drivers_are n ok m drivers le are = record {
-  places = are.places;
-  each = λ w low. elim (are.each w low) as (λ _. driver_in drivers w ≡ driver n w) [
+drivers_are n ok m drivers le are w = elim (cases_lt w (length n.wires)) as (λ _. driver_in drivers w ≡ driver n w) [
+  | inl low ↦ elim (are.each w low) as (λ _. driver_in drivers w ≡ driver n w) [
     | inl so ↦ so.3 ∙ sym (finds_ports n ok so.0 so.1 w so.2)
     | inr free ↦ elim (driven_by n w) as (λ _. driver_in drivers w ≡ driver n w) [
       | inl found ↦ absurd (free.0 found.0 found.1 (let within = slot_within n.modules found.0 found.2.part found.2.stands in omega (arith, within, le)) found.2)
       | inr by ↦ free.1 ∙ sym by
     ]
-  ];
-}
+  ]
+  | inr past ↦
+      get_or_past drivers w Nothing (let places = are.places in omega (arith, past, places))
+      ∙ sym (leaves_no_driver n ok w (get_or_past n.wires w None past))
+]

@@ -8,6 +8,8 @@ pub mod laws;
 mod line;
 mod looks;
 mod prefix;
+mod set_wires;
+mod starting;
 mod stretch;
 mod work_entry;
 
