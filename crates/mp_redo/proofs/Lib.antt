@@ -10,3 +10,4 @@ pub mod HeardLemmas
 pub mod StillLemmas
 pub mod LineLemmas
 pub mod MarkedLemmas
+pub mod RingLemmas

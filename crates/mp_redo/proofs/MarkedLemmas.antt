@@ -40,7 +40,6 @@ working_on old new c t later m le (inr (inr found)) = inr (inr (found.0, found.1
 module _ (old new : Circuit) (old_ok : IsCircuit old) (new_ok : IsCircuit new) (revised : IsRevision old new) (run : Outcome) (is_run : IsRun old run)
     (c from to : ℕ) (cells : List Cell) (lines : List Line) (looks : List (List ModuleId)) (before : IsBefore old new run c from cells lines looks)
     (block : c ≤ from) (some : from < to) (short : to ≤ from + least_delay new) (within : to ≤ new.horizon) where
-
   -- a live module that doesn't look keeps its state, which is that of the unit before
   last_of : (m : ℕ) (r : ModuleRecord) → module_at new m ≡ Some r → ((ahead : ℕ) → from + ahead < to → IsLooking looks m ahead → ⊥) → (cell_at cells m).live ≡ true
       → (last : ℕ) × (last + 1 ≡ from)

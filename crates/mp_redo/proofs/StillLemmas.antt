@@ -68,7 +68,6 @@ module _ (old new : Circuit) (old_ok : IsCircuit old) (new_ok : IsCircuit new) (
     (c from to : ℕ) (cells : List Cell) (lines : List Line) (looks : List (List ModuleId)) (before : IsBefore old new run c from cells lines looks)
     (short : to ≤ from + least_delay new) (within : to ≤ new.horizon) (m : ℕ) (r : ModuleRecord) (at : module_at new m ≡ Some r)
     (none : (ahead : ℕ) → from + ahead < to → IsLooking looks m ahead → ⊥) where
-
   -- a module that listens hears no news
   quiet_input : IsListening new run from lines looks m → (i : Input) → Contains r.inputs i → (u x : ℕ) → from ≤ u + 1 → u + 1 < to → x + 1 + i.delay ≡ u + 1
       → (level_at run lines i.wire.0 (x + 1) ≡ level_at run lines i.wire.0 x) × (level_in (wave_of run i.wire.0) (x + 1) ≡ level_in (wave_of run i.wire.0) x)

@@ -4,3 +4,4 @@ pub mod Work
 pub mod Lines
 pub mod Stretches
 pub mod Redoing
+pub mod Rings

@@ -5,6 +5,8 @@ mod cell;
 pub mod laws;
 mod line;
 mod looks;
+mod marks;
+mod ring;
 mod stretch;
 mod work_entry;
 
