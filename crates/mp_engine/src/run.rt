@@ -78,6 +78,16 @@ impl Run {
         }
     }
 
+    /// The states of a module that the run kept.
+    pub fn checkpoints(&self, id: ModuleId) -> Option<&Checkpoints>
+        ensures { option_copied result ≡ slot_at self.now.kept id.0 }
+    {
+        match self.kept.get(id.0 as usize) {
+            Some(Some(kept)) => Some(kept),
+            _ => None,
+        }
+    }
+
     /// The states of a module that the run kept, shared and not copied.
     pub fn shared_checkpoints(
         &self,

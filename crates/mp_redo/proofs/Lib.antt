@@ -6,6 +6,9 @@ pub mod WindowLemmas
 pub mod WorkLemmas
 pub mod EntryLemmas
 pub mod OrderLemmas
+pub mod PrefixLemmas
+pub mod PushLemmas
+pub mod CutLemmas
 pub mod HeardLemmas
 pub mod StillLemmas
 pub mod LineLemmas

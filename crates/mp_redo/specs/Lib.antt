@@ -5,3 +5,4 @@ pub mod Lines
 pub mod Stretches
 pub mod Redoing
 pub mod Rings
+pub mod Prefixes

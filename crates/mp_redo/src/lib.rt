@@ -2,10 +2,12 @@
 #![tactic(auto)]
 
 mod cell;
+mod cutting;
 pub mod laws;
 mod line;
 mod looks;
 mod marks;
+mod prefix;
 mod ring;
 mod stretch;
 mod work_entry;
