@@ -6,3 +6,4 @@ pub mod Stretches
 pub mod Redoing
 pub mod Rings
 pub mod Prefixes
+pub mod Answers

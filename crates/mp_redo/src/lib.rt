@@ -8,6 +8,7 @@ mod line;
 mod looks;
 mod marks;
 mod prefix;
+mod responding;
 mod ring;
 mod stretch;
 mod work_entry;
