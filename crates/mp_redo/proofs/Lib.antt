@@ -14,3 +14,4 @@ pub mod StillLemmas
 pub mod LineLemmas
 pub mod MarkedLemmas
 pub mod RingLemmas
+pub mod GiveLemmas

@@ -3,6 +3,7 @@
 
 mod cell;
 mod cutting;
+mod giving;
 pub mod laws;
 mod line;
 mod looks;

@@ -33,10 +33,10 @@ returns c =
     let pieces = c.in_ok-inputs.inputs.items in
     let seen : ℕ → List ℕ = λ t. levels_at c.as_slice-2.result.now t in
     let same : (t : ℕ) → a ≤ t → t < b → seen t ≡ heard t = λ t low high.
-        ap (λ xs. levels_at xs t) c.as_slice-2.ensures.value
-        ∙ c.in_ok-inputs.ensures.levels t low high
-        ∙ ap (map (λ (i : Input). level_at c.args.run.now c.args.lines.now i.wire.0 (t - i.delay))) c.as_slice.ensures
-        ∙ sym (map_same (λ i. input_by n (level n) i t) (λ i. level_at c.args.run.now c.args.lines.now i.wire.0 (t - i.delay)) r.inputs (λ i has. c.requires.heard i t has high)) in
+    ap (λ xs. levels_at xs t) c.as_slice-2.ensures.value
+    ∙ c.in_ok-inputs.ensures.levels t low high
+    ∙ ap (map (λ (i : Input). level_at c.args.run.now c.args.lines.now i.wire.0 (t - i.delay))) c.as_slice.ensures
+    ∙ sym (map_same (λ i. input_by n (level n) i t) (λ i. level_at c.args.run.now c.args.lines.now i.wire.0 (t - i.delay)) r.inputs (λ i has. c.requires.heard i t has high)) in
     let P : Piece → Type 0 = λ piece. IsSpan c.built-part.result seen s a b piece in
     let Q : Piece → Type 0 = λ piece. IsSpan (built n r) heard s a b piece in
     if_ok_map c.respond.result P Q (λ piece span.
