@@ -15,3 +15,4 @@ pub mod LineLemmas
 pub mod MarkedLemmas
 pub mod RingLemmas
 pub mod GiveLemmas
+pub mod DriverLemmas

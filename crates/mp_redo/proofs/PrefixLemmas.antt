@@ -5,11 +5,11 @@ use Rattle.mp_wave.specs.Waveform.{Waveform, IsWaveform, AreChanges, level_from,
 use Rattle.mp_wave.specs.Building.{Building, IsBuilding}
 use Rattle.mp_wave.proofs.WaveformLemmas.{le-last_time, level_of-held_before, level_of-held_after}
 use Rattle.mp_wave.proofs.BuildingLemmas.{last_time-held, form-held}
-use Rattle.mp_wave.proofs.PrefixLemmas.{level_from-over, cut_levels, kept_levels, AreChanges-between, last_time-between}
+use Rattle.mp_wave.proofs.PrefixLemmas.{AreChanges-earlier_than, last_time-earlier_than, level_from-over, cut_levels, kept_levels, AreChanges-between, last_time-between}
 use Rattle.mp_model.specs.Tracks.{AreTimesIn, held_on, held_all}
 use Rattle.mp_model.specs.Evaluations.{AreRising}
 use Rattle.mp_model.proofs.TrackLemmas.{AreRising-changes, level_from-now, stays}
-use Rattle.mp_model.proofs.HeldLemmas.{levels-all}
+use Rattle.mp_model.proofs.HeldLemmas.{building-all, levels-all}
 use Rattle.mp_redo.specs.Prefixes.{switched, IsUpTo}
 
 pub switched_before : (time : ℕ) (one other : ℕ → ℕ) (t : ℕ) → t < time → switched time one other t ≡ one t
@@ -30,6 +30,7 @@ up_to_same one other end built some same is = record {
   levels = λ t less. is.levels t less ∙ same t less;
   held = λ t le. is.held t le ∙ same (end - 1) (omega arith);
   next = is.next;
+  form = is.form;
 }
 
 pub next-all : (built : Building) (end : ℕ) (changes : List (ℕ × ℕ)) → built.next ≤ end → AreTimesIn built.next end changes → (held_all built changes).next ≤ end
@@ -43,7 +44,7 @@ times_in time level end (change ∷ changes) are last = (omega (arith, are.0), o
 pub times_between : (wave : Waveform) (from to : ℕ) → IsWaveform wave → from < to → AreTimesIn (from + 1) to (between from to wave.changes)
 times_between wave from to form less = times_in from (level_of wave from) to (between from to wave.changes) (AreChanges-between wave from to form) (last_time-between wave from to form less)
 
-held_building : (built : Building) (time level : ℕ) → IsBuilding built → built.next ≤ time → IsBuilding (held_on built time level)
+pub held_building : (built : Building) (time level : ℕ) → IsBuilding built → built.next ≤ time → IsBuilding (held_on built time level)
 held_building built time level is le = record {
   form = form-held built.wave time level is.form (omega (arith, is.over));
   over = last_time-held built.wave time level (time + 1) (omega (arith, is.over)) (omega arith);
@@ -72,6 +73,7 @@ followed built wave from to is form later less = record {
       ∙ cut_levels wave from to (to - 1) form last (omega arith)
       ∙ sym (switched_after from (level_of built.wave) (level_of wave) (to - 1) last);
   next = next-all first to changes (omega arith) times;
+  form = building-all first to changes (held_building built from v is later) times;
 }
   where
     v : ℕ
@@ -122,6 +124,7 @@ held_up_to built from to level is later less = record {
   ];
   held = λ t le. over t (omega arith) ∙ sym (switched_after from (level_of built.wave) (λ u. level) (to - 1) (omega arith));
   next = omega arith;
+  form = held_building built from level is later;
 }
   where
     over : (t : ℕ) → from ≤ t → level_of (held_on built from level).wave t ≡ level
@@ -133,6 +136,10 @@ kept_up_to wave end form some = record {
   levels = λ t less. (kept_levels wave end t form some).0 less;
   held = λ t le. (kept_levels wave end t form some).1 le;
   next = omega arith;
+  form = record {
+    form = AreChanges-earlier_than end 0 wave.initial wave.changes form;
+    over = last_time-earlier_than end 0 wave.initial wave.changes some form;
+  };
 }
 
 -- what was built needs no cut before an end where levels from it on can still be given
@@ -141,4 +148,5 @@ built_up_to built end is le = record {
   levels = λ t less. refl;
   held = λ t over. stays built.wave (end - 1) t is.form (omega (arith, is.over)) (omega arith);
   next = le;
+  form = is;
 }

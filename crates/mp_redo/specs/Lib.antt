@@ -7,3 +7,4 @@ pub mod Redoing
 pub mod Rings
 pub mod Prefixes
 pub mod Answers
+pub mod Drivers

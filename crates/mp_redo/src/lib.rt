@@ -3,6 +3,7 @@
 
 mod cell;
 mod cutting;
+mod drivers;
 mod giving;
 pub mod laws;
 mod line;

@@ -125,9 +125,8 @@ impl Line {
         match self {
             Line::Old => Ok(()),
             Line::Own { wave: own, until } => {
-                // The range of the one and the form of the other are used.
+                // Its range is used.
                 let _until = *until;
-                let _next = own.next_time();
                 own.push_level(time, level)
             }
         }
