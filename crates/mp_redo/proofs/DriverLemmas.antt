@@ -34,11 +34,12 @@ noted_more m outputs i w before now after output d within read is here other = e
   | inr not ↦ elim is as (λ _. IsNoted m outputs (i + 1) w before after) [
     | inl so ↦ inl (so.0, omega (arith, so.1), so.2, other not ∙ so.3)
     | inr none ↦ inr (
-        λ p less e. elim (cases_eq p i) as (λ _. ⊥) [
-          | inl same ↦ not (ap (λ (o : Output). o.wire) found ∙ subst (λ k. (output_in outputs k).wire ≡ Some (wire_of w)) same e)
-          | inr differ ↦ none.0 p (omega (arith, less, differ)) e
-        ],
-        other not ∙ none.1)
+      λ p less e. elim (cases_eq p i) as (λ _. ⊥) [
+        | inl same ↦ not (ap (λ (o : Output). o.wire) found ∙ subst (λ k. (output_in outputs k).wire ≡ Some (wire_of w)) same e)
+        | inr differ ↦ none.0 p (omega (arith, less, differ)) e
+      ],
+      other not ∙ none.1,
+    )
   ]
 ]
   where
@@ -62,14 +63,15 @@ below_more n m r old new at size are noted = record {
     | inr none ↦ elim (are.each w low) as (λ _. IsDriverBelow n (m.0 + 1) w (driver_in new w)) [
       | inl so ↦ inl (so.0, so.1, so.2, none.1 ∙ so.3)
       | inr free ↦ inr (
-          λ k p less drives. elim (cases_eq k m.0) as (λ _. ⊥) [
-            | inl same ↦
-                let part : drives.part ≡ r = same_Some drives.part r (sym drives.stands ∙ ap (module_at n) same ∙ at) in
-                let output : (output_in r.outputs p).wire ≡ Some (wire_of w) = subst (λ (x : ModuleRecord). (output_in x.outputs p).wire ≡ Some (wire_of w)) part drives.output in
-                none.0 p (output_within r.outputs p w output) output
-            | inr differ ↦ free.0 k p (omega (arith, less, differ)) drives
-          ],
-          none.1 ∙ free.1)
+        λ k p less drives. elim (cases_eq k m.0) as (λ _. ⊥) [
+          | inl same ↦
+              let part : drives.part ≡ r = same_Some drives.part r (sym drives.stands ∙ ap (module_at n) same ∙ at) in
+              let output : (output_in r.outputs p).wire ≡ Some (wire_of w) = subst (λ (x : ModuleRecord). (output_in x.outputs p).wire ≡ Some (wire_of w)) part drives.output in
+              none.0 p (output_within r.outputs p w output) output
+          | inr differ ↦ free.0 k p (omega (arith, less, differ)) drives
+        ],
+        none.1 ∙ free.1,
+      )
     ]
   ];
 }
@@ -81,11 +83,12 @@ below_none n m drivers at are = record {
   each = λ w low. elim (are.each w low) as (λ _. IsDriverBelow n (m + 1) w (driver_in drivers w)) [
     | inl so ↦ inl so
     | inr free ↦ inr (
-        λ k p less drives. elim (cases_eq k m) as (λ _. ⊥) [
-          | inl same ↦ none-some drives.part (sym at ∙ ap (module_at n) (sym same) ∙ drives.stands)
-          | inr differ ↦ free.0 k p (omega (arith, less, differ)) drives
-        ],
-        free.1)
+      λ k p less drives. elim (cases_eq k m) as (λ _. ⊥) [
+        | inl same ↦ none-some drives.part (sym at ∙ ap (module_at n) (sym same) ∙ drives.stands)
+        | inr differ ↦ free.0 k p (omega (arith, less, differ)) drives
+      ],
+      free.1,
+    )
   ];
 }
 
