@@ -13,5 +13,7 @@ pub mod HeardLemmas
 pub mod StillLemmas
 pub mod LineLemmas
 pub mod MarkedLemmas
+pub mod RingLemmas
+pub mod GiveLemmas
 pub mod DriverLemmas
 pub mod StartLemmas

@@ -53,6 +53,10 @@ pub own_later : (line : Line) (next later end : ℕ) → next ≤ later → IsOw
 own_later Old next later end le own = own
 own_later (Own wave until) next later end le own = (own.0, omega (arith, own.1, le), own.2)
 
+pub own_shorter : (line : Line) (next end sooner : ℕ) → sooner ≤ end → IsOwn line next end → IsOwn line next sooner
+own_shorter Old next end sooner le own = own
+own_shorter (Own wave until) next end sooner le own = (own.0, own.1, omega (arith, own.2, le))
+
 -- a wire has one driver, with one delay
 pub one_delay : (n : Circuit) → IsCircuit n → (m p k q w : ℕ) (one : Drives n m p w) (other : Drives n k q w) → delay_of other.part q ≡ delay_of one.part p
 one_delay n ok m p k q w one other =

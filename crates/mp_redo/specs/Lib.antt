@@ -4,6 +4,9 @@ pub mod Work
 pub mod Lines
 pub mod Stretches
 pub mod Redoing
+pub mod Rings
 pub mod Prefixes
+pub mod Answers
 pub mod Drivers
 pub mod Starts
+pub mod Ledgers

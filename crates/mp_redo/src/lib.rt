@@ -4,10 +4,15 @@
 mod cell;
 mod cutting;
 mod drivers;
+mod giving;
 pub mod laws;
+mod ledger;
 mod line;
 mod looks;
+mod marks;
 mod prefix;
+mod responding;
+mod ring;
 mod set_wires;
 mod starting;
 mod stretch;

@@ -1,0 +1,66 @@
+-- A line is given changes, one after the other.
+use Rattle.std.proofs.Common.{◌≡◌, ◌≢◌, ◌⊎◌, ℕ, ◌+◌, ◌-◌, ◌^◌, ◌<◌, ◌≤◌, List, [], ◌∷◌, Option, zero, suc, refl, ap, sym, subst, ◌∙◌, arith, inl, inr}
+use Rattle.std.proofs.lemmas.Bool.{cases_lt, cases_eq, le-leb, lt-leb}
+use Rattle.mp_wave.specs.Waveform.{Waveform, level_from}
+use Rattle.mp_response.specs.Pieces.{put_off}
+use Rattle.mp_model.specs.Tracks.{AreTimesIn}
+use Rattle.mp_redo.specs.declared.line.Line.{Line}
+use Rattle.mp_redo.specs.Lines.{line_level, IsOwn}
+use Rattle.mp_redo.specs.Answers.{CanTake, HasTaken}
+use Rattle.mp_redo.proofs.LineLemmas.{own_held, own_later}
+
+-- before the first change the level stays
+pub none_yet : (changes : List (ℕ × ℕ)) (delay a b level t : ℕ) → AreTimesIn a b changes → t < a + delay → level_from level (put_off delay changes) t ≡ level
+none_yet [] delay a b level t times early = refl
+none_yet (x ∷ xs) delay a b level t times early = rw (lt-leb (x.0 + delay) t (omega (arith, times.0, early))) refl
+
+pub took_none : (line : Line) (delay end a b : ℕ) → CanTake line [] delay end a b → HasTaken line line [] delay end a b
+took_none line delay end a b can = record {
+  own = own_later line (a + delay) (b + delay) end (let r = can.rise in omega (arith, r)) can.own;
+  before = λ old t low. refl;
+  levels = λ old t from below. own_held line old (a + delay) end (a + delay - 1) t can.own (let l = can.late in omega (arith, l)) (let l = can.late in omega (arith, from)) below;
+}
+
+-- changes from an end on are left out
+pub took_past : (line : Line) (changes : List (ℕ × ℕ)) (time level delay end a b : ℕ) → end ≤ time + delay → CanTake line ((time, level) ∷ changes) delay end a b → HasTaken line line ((time, level) ∷ changes) delay end a b
+took_past line changes time level delay end a b past can = record {
+  own = own_later line (a + delay) (b + delay) end (let r = can.rise in omega (arith, r)) can.own;
+  before = λ old t low. refl;
+  levels = λ old t from below. rw (lt-leb (time + delay) t (omega (arith, past, below)))
+      (own_held line old (a + delay) end (a + delay - 1) t can.own (let l = can.late in omega (arith, l)) (let l = can.late in omega (arith, from)) below);
+}
+
+-- one more
+pub can_more : (line new : Line) (changes : List (ℕ × ℕ)) (time level delay end a b : ℕ) → CanTake line ((time, level) ∷ changes) delay end a b → IsOwn new (time + delay + 1) end → CanTake new changes delay end (time + 1) b
+can_more line new changes time level delay end a b can own = record {
+  times = can.times.2;
+  rise = let low = can.times.1 in omega (arith, low);
+  late = can.late;
+  low = can.low;
+  own = own_later new (time + delay + 1) (time + 1 + delay) end (omega arith) own;
+}
+
+pub took_more : (line next new : Line) (changes : List (ℕ × ℕ)) (time level delay end a b : ℕ) → time + delay < end → CanTake line ((time, level) ∷ changes) delay end a b
+    → ((old : Option Waveform) (t : ℕ) → t < time + delay → line_level next old t ≡ line_level line old t)
+    → ((old : Option Waveform) → line_level next old (time + delay) ≡ level)
+    → HasTaken next new changes delay end (time + 1) b → HasTaken line new ((time, level) ∷ changes) delay end a b
+took_more line next new changes time level delay end a b within can stays is taken = record {
+  own = taken.own;
+  before = λ old t low. let first = can.times.0 in taken.before old t (omega (arith, first, low)) ∙ stays old t (omega (arith, first, low));
+  levels = λ old t from below. elim (cases_lt t (time + delay)) as (λ _. line_level new old t ≡ level_from (line_level line old (a + delay - 1)) (put_off delay ((time, level) ∷ changes)) t) [
+    | inl early ↦
+        let late = can.late in
+        taken.before old t (omega (arith, early)) ∙ stays old t early
+        ∙ own_held line old (a + delay) end (a + delay - 1) t can.own (omega (arith, late)) (omega (arith, from)) below
+        ∙ rw (lt-leb (time + delay) t early) refl
+    | inr past ↦ rw (le-leb (time + delay) t past) (elim (cases_eq t (time + delay)) as (λ _. line_level new old t ≡ level_from level (put_off delay changes) t) [
+      | inl here ↦
+          taken.before old t (omega (arith, here)) ∙ ap (line_level next old) here ∙ is old
+          ∙ sym (none_yet changes delay (time + 1) b level t can.times.2 (omega (arith, here)))
+      | inr later ↦
+          let e : time + 1 + delay - 1 ≡ time + delay = omega arith in
+          taken.levels old t (omega (arith, past, later)) below
+          ∙ ap (λ x. level_from x (put_off delay changes) t) (ap (line_level next old) e ∙ is old)
+    ])
+  ];
+}
