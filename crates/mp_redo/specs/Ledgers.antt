@@ -1,5 +1,5 @@
 -- The states of a module that are kept after a change of its netlist, over those that the old run kept, if it did.
-use Rattle.std.specs.Prelude.{◌≡◌, ℕ, ◌<◌, ◌≤◌, List, Option, Some, None, All, nat_lt, if◌then◌else◌}
+use Rattle.std.specs.Prelude.{◌≡◌, ℕ, ◌<◌, ◌≤◌, List, Option, Some, None, All, slice_index_or, nat_lt, if◌then◌else◌}
 use Rattle.mp_modules.specs.declared.memory.Memory.{Memory}
 use Rattle.mp_modules.specs.Memories.{blank}
 use Rattle.mp_engine.specs.declared.checkpoints.Checkpoint.{Checkpoint}
@@ -34,3 +34,6 @@ IsOwn (Own kept until) next end = AreTimesTo next kept × (end ≤ until)
 pub record KeepsTo (state : ℕ → Memory) (end : ℕ) (kept : List Checkpoint) : Type 0 where
   pub states : (c : ℕ) → c < end → kept_at kept c blank ≡ state c
   pub times : AreTimesTo end kept
+
+abbrev pub ledger_at : List Ledger → ℕ → Ledger
+ledger_at ledgers m = slice_index_or ledgers m Old

@@ -10,3 +10,4 @@ pub mod Answers
 pub mod Drivers
 pub mod Starts
 pub mod Ledgers
+pub mod Endings

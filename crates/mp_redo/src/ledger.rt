@@ -14,9 +14,11 @@ pub(crate) enum Ledger {
 }
 
 impl Ledger {
-    ghost use Rattle.std.specs.Prelude.{◌≡◌, ℕ, ◌+◌, ◌<◌, ◌≤◌, List, Option, nat_lt, if◌then◌else◌, option_map, IsSome, IfOk, OnOk};
+    ghost use Rattle.std.specs.Prelude.{◌≡◌, ℕ, ◌+◌, ◌<◌, ◌≤◌, List, Option, nat_lt, if◌then◌else◌, IfOk, OnOk};
     ghost use Rattle.std.specs.Arc.{arc_value};
     ghost use Rattle.mp_netlist.specs.Slots.{slot_at};
+    ghost use Rattle.mp_modules.specs.Memories.{blank};
+    ghost use Rattle.mp_engine.specs.Checkpoints.{kept_at};
     ghost use Rattle.mp_engine.specs.declared.checkpoints.Checkpoint.{Checkpoint as State};
     ghost use Rattle.mp_redo.specs.Ledgers.{state_in, ledger_state, IsInOrder, IsOwn, KeepsTo};
 
@@ -101,24 +103,24 @@ impl Ledger {
         run: &Run,
         id: ModuleId,
         end: u32,
-    ) -> Result<Option<Arc<Checkpoints, Global>>, AllocError>
+    ) -> Result<Arc<Checkpoints, Global>, AllocError>
         requires some { 0 < end }
         requires order { IsInOrder self }
-        ensures stands { IfOk result (λ shared. IsSome (slot_at run.now.kept id.0) → IsSome (option_map arc_value shared)) }
-        ensures states { IfOk result (λ shared. (c : ℕ) → c < end → state_in (option_map arc_value shared) c ≡ ledger_state self (slot_at run.now.kept id.0) c) }
+        ensures { IfOk result (λ shared. (c : ℕ) → c < end → kept_at (arc_value shared) c blank ≡ ledger_state self (slot_at run.now.kept id.0) c) }
     {
         match self {
-            Ledger::Old => run.shared_checkpoints(id),
+            Ledger::Old => shared(alloc, run, id),
             Ledger::Own { kept, until } => {
                 let ledger = Ledger::Own { kept, until };
                 let list = ledger.into_list(alloc, run, id, end)?;
-                Ok(Some(Arc::new(alloc, list)?))
+                Ok(Arc::new(alloc, list)?)
             }
         }
     }
 }
 
 ghost use Rattle.std.specs.Prelude.{◌≡◌, ℕ, ◌<◌, ◌≤◌, nat_lt, if◌then◌else◌, IfOk};
+ghost use Rattle.std.specs.Arc.{arc_value};
 ghost use Rattle.mp_netlist.specs.Slots.{slot_at};
 ghost use Rattle.mp_modules.specs.Memories.{blank};
 ghost use Rattle.mp_engine.specs.Checkpoints.{kept_at};
@@ -135,12 +137,7 @@ fn list_before(alloc: Global, list: &Checkpoints, end: u32) -> Result<Checkpoint
 }
 
 /// The states that a run kept for times below an end.
-fn run_before(
-    alloc: Global,
-    run: &Run,
-    id: ModuleId,
-    end: u32,
-) -> Result<Checkpoints, AllocError>
+fn run_before(alloc: Global, run: &Run, id: ModuleId, end: u32) -> Result<Checkpoints, AllocError>
     requires { 0 < end }
     ensures { IfOk result (λ found. KeepsTo (state_in (slot_at run.now.kept id.0)) end found) }
 {
@@ -168,4 +165,14 @@ fn run_after(
         None => kept.keep(until, Memory::with_one_output(&[], 0))?,
     }
     Ok(kept)
+}
+
+/// The states that a run kept, shared and not copied, and none where it kept none.
+fn shared(alloc: Global, run: &Run, id: ModuleId) -> Result<Arc<Checkpoints, Global>, AllocError>
+    ensures { IfOk result (λ found. (c : ℕ) → kept_at (arc_value found) c blank ≡ state_in (slot_at run.now.kept id.0) c) }
+{
+    match run.shared_checkpoints(id)? {
+        Some(list) => Ok(list),
+        None => Ok(Arc::new(alloc, Checkpoints::new(alloc))?),
+    }
 }

@@ -4,6 +4,7 @@
 mod cell;
 mod cutting;
 mod drivers;
+mod finishing;
 mod giving;
 pub mod laws;
 mod ledger;
