@@ -16,3 +16,4 @@ pub mod MarkedLemmas
 pub mod RingLemmas
 pub mod GiveLemmas
 pub mod DriverLemmas
+pub mod AnswerLemmas

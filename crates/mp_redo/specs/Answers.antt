@@ -55,3 +55,11 @@ pub record HasGiven (lines new : List Line) (outputs : List Output) (answers : L
 
 abbrev pub CanGiveSome : List Line → List Output → List (List (ℕ × ℕ)) → ℕ → Type 0
 CanGiveSome lines outputs answers end = (a : ℕ) × (b : ℕ) × CanGive lines outputs answers end a b
+
+-- the lines of these outputs can be given levels from the time a after their delays on, and have the levels before that they had
+pub record HasOpened (run : Outcome) (lines new : List Line) (outputs : List Output) (end a : ℕ) : Type 0 where
+  pub places : length new ≡ length lines
+  pub own : (p w : ℕ) → (output_in outputs p).wire ≡ Some (record { 0 = w }) → IsOwn (line_at new w) (a + (output_in outputs p).delay) end
+  pub before : (p w : ℕ) → (output_in outputs p).wire ≡ Some (record { 0 = w }) → (t : ℕ) → t < a + (output_in outputs p).delay → t < end →
+      level_at run new w t ≡ level_at run lines w t
+  pub others : (w : ℕ) → ((p : ℕ) → (output_in outputs p).wire ≡ Some (record { 0 = w }) → ⊥) → line_at new w ≡ line_at lines w
