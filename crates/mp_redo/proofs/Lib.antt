@@ -17,3 +17,4 @@ pub mod RingLemmas
 pub mod GiveLemmas
 pub mod DriverLemmas
 pub mod AnswerLemmas
+pub mod HearerLemmas

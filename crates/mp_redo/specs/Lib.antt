@@ -8,3 +8,4 @@ pub mod Rings
 pub mod Prefixes
 pub mod Answers
 pub mod Drivers
+pub mod Telling

@@ -13,6 +13,7 @@ mod prefix;
 mod responding;
 mod ring;
 mod stretch;
+mod telling;
 mod work_entry;
 
 pub use work_entry::WorkEntry;
