@@ -18,3 +18,4 @@ pub mod GiveLemmas
 pub mod DriverLemmas
 pub mod AnswerLemmas
 pub mod HearerLemmas
+pub mod ListenLemmas
