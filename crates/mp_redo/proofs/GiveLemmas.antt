@@ -1,12 +1,15 @@
 -- A line is given changes, one after the other.
-use Rattle.std.proofs.Common.{◌≡◌, ◌≢◌, ◌⊎◌, ℕ, ◌+◌, ◌-◌, ◌^◌, ◌<◌, ◌≤◌, List, [], ◌∷◌, Option, zero, suc, refl, ap, sym, subst, ◌∙◌, arith, inl, inr}
+use Rattle.std.proofs.Common.{◌≡◌, ◌≢◌, ◌⊎◌, ℕ, ◌+◌, ◌-◌, ◌^◌, ◌<◌, ◌≤◌, List, [], ◌∷◌, Option, Some, length, slice_index_or, zero, suc, refl, ap, sym, subst, ◌∙◌, arith, inl, inr}
 use Rattle.std.proofs.lemmas.Bool.{cases_lt, cases_eq, le-leb, lt-leb}
 use Rattle.mp_wave.specs.Waveform.{Waveform, level_from}
 use Rattle.mp_response.specs.Pieces.{put_off}
 use Rattle.mp_model.specs.Tracks.{AreTimesIn}
 use Rattle.mp_redo.specs.declared.line.Line.{Line}
 use Rattle.mp_redo.specs.Lines.{line_level, IsOwn}
-use Rattle.mp_redo.specs.Answers.{CanTake, HasTaken}
+use Rattle.mp_records.specs.declared.ports.Output.{Output}
+use Rattle.mp_records.specs.Outputs.{output_in}
+use Rattle.mp_redo.specs.Redoing.{line_at}
+use Rattle.mp_redo.specs.Answers.{CanTake, HasTaken, CanTakeSome, CanGive, HasGiven, AreApart}
 use Rattle.mp_redo.proofs.LineLemmas.{own_held, own_later}
 
 -- before the first change the level stays
@@ -64,3 +67,53 @@ took_more line next new changes time level delay end a b within can stays is tak
     ])
   ];
 }
+
+-- an output, however what stands for none is written
+pub read_output : (outputs : List Output) (p : ℕ) (d : Output) → p < length outputs → slice_index_or outputs p d ≡ output_in outputs p
+read_output [] p d within = absurd (let no : ⊥ = omega (arith, within) in no)
+read_output (o ∷ os) zero d within = refl
+read_output (o ∷ os) (suc p) d within = read_output os p d (omega (arith, within))
+
+pub given_none : (lines : List Line) (outputs : List Output) (answers : List (List (ℕ × ℕ))) (end a b : ℕ) → HasGiven lines lines outputs answers end a b 0
+given_none lines outputs answers end a b = record {
+  places = refl;
+  taken = λ p w low wire. absurd (omega (arith, low));
+  others = λ w none. refl;
+}
+
+-- one more output gives its changes
+pub given_more : (lines next new : List Line) (outputs : List Output) (answers : List (List (ℕ × ℕ))) (end a b p : ℕ) → AreApart outputs → p < length outputs → CanGive lines outputs answers end a b
+    → HasGiven lines next outputs answers end a b p → length new ≡ length next
+    → ((w : ℕ) → (output_in outputs p).wire ≡ Some (record { 0 = w }) → CanTake (line_at next w) (slice_index_or answers p []) (output_in outputs p).delay end a b
+    → HasTaken (line_at next w) (line_at new w) (slice_index_or answers p []) (output_in outputs p).delay end a b)
+    → ((w : ℕ) → ((output_in outputs p).wire ≡ Some (record { 0 = w }) → ⊥) → line_at new w ≡ line_at next w)
+    → HasGiven lines new outputs answers end a b (p + 1)
+given_more lines next new outputs answers end a b p apart within can given places takes others = record {
+  places = places ∙ given.places;
+  taken = λ q w low wire. elim (cases_eq q p) as (λ _. HasTaken (line_at lines w) (line_at new w) (slice_index_or answers q []) (output_in outputs q).delay end a b) [
+    | inl same ↦ subst (λ k. HasTaken (line_at lines w) (line_at new w) (slice_index_or answers k []) (output_in outputs k).delay end a b) (sym same) (here w (subst (λ k. (output_in outputs k).wire ≡ Some (record { 0 = w })) same wire))
+    | inr differ ↦
+        let other : line_at new w ≡ line_at next w = others w (λ mine. differ (apart q p w wire mine)) in
+        subst (λ l. HasTaken (line_at lines w) l (slice_index_or answers q []) (output_in outputs q).delay end a b) (sym other) (given.taken q w (omega (arith, low, differ)) wire)
+  ];
+  others = λ w none. others w (none p (omega arith)) ∙ given.others w (λ q low. none q (omega (arith, low)));
+}
+  where
+    untouched : (w : ℕ) → (output_in outputs p).wire ≡ Some (record { 0 = w }) → line_at next w ≡ line_at lines w
+    untouched w wire = given.others w (λ q low other. let e = apart q p w other wire in omega (arith, e, low))
+
+    here : (w : ℕ) → (output_in outputs p).wire ≡ Some (record { 0 = w }) → HasTaken (line_at lines w) (line_at new w) (slice_index_or answers p []) (output_in outputs p).delay end a b
+    here w wire =
+        let same = untouched w wire in
+        subst (λ l. HasTaken l (line_at new w) (slice_index_or answers p []) (output_in outputs p).delay end a b) same
+        (takes w wire (subst (λ l. CanTake l (slice_index_or answers p []) (output_in outputs p).delay end a b) (sym same) (can p w within wire).1))
+
+-- and it can do so
+pub can_next : (lines next : List Line) (outputs : List Output) (answers : List (List (ℕ × ℕ))) (end a b p w : ℕ) → AreApart outputs → p < length outputs → CanGive lines outputs answers end a b
+    → HasGiven lines next outputs answers end a b p → (output_in outputs p).wire ≡ Some (record { 0 = w }) → (w < length next) × CanTakeSome (line_at next w) (slice_index_or answers p []) (output_in outputs p).delay end
+can_next lines next outputs answers end a b p w apart within can given wire =
+    let same : line_at next w ≡ line_at lines w = given.others w (λ q low other. let e = apart q p w other wire in omega (arith, e, low)) in
+    let able = can p w within wire in
+    let places = given.places in
+    let first = able.0 in
+    (omega (arith, places, first), (a, b, subst (λ l. CanTake l (slice_index_or answers p []) (output_in outputs p).delay end a b) (sym same) able.1))

@@ -18,3 +18,6 @@ pub mod GiveLemmas
 pub mod DriverLemmas
 pub mod StartLemmas
 pub mod EndLemmas
+pub mod AnswerLemmas
+pub mod HearerLemmas
+pub mod ListenLemmas

@@ -1,5 +1,5 @@
 -- What modules answer in a window.
-use Rattle.std.specs.Prelude.{◌≡◌, ℕ, ◌+◌, ◌-◌, ◌^◌, ◌<◌, ◌≤◌, List, Option}
+use Rattle.std.specs.Prelude.{◌≡◌, ℕ, ◌+◌, ◌-◌, ◌^◌, ◌<◌, ◌≤◌, List, [], Option, Some, length, slice_index_or}
 use Rattle.std.specs.List.{Contains}
 use Rattle.mp_records.specs.declared.ports.Input.{Input}
 use Rattle.mp_records.specs.declared.module_record.ModuleRecord.{ModuleRecord}
@@ -12,7 +12,9 @@ use Rattle.mp_wave.specs.Waveform.{Waveform, level_from}
 use Rattle.mp_response.specs.Pieces.{put_off}
 use Rattle.mp_model.specs.Tracks.{AreTimesIn}
 use Rattle.mp_redo.specs.Lines.{line_level, IsOwn}
-use Rattle.mp_redo.specs.Redoing.{level_at}
+use Rattle.mp_records.specs.declared.ports.Output.{Output}
+use Rattle.mp_records.specs.Outputs.{output_in}
+use Rattle.mp_redo.specs.Redoing.{level_at, line_at}
 
 -- below a time the lines give what the module hears at its inputs
 abbrev pub IsHeardBy : Circuit → Outcome → List Line → ModuleRecord → ℕ → Type 0
@@ -34,3 +36,30 @@ pub record HasTaken (line new : Line) (changes : List (ℕ × ℕ)) (delay end a
 
 abbrev pub CanTakeSome : Line → List (ℕ × ℕ) → ℕ → ℕ → Type 0
 CanTakeSome line changes delay end = (a : ℕ) × (b : ℕ) × CanTake line changes delay end a b
+
+-- each output that has a wire can give its changes to the wire's line
+abbrev pub CanGive : List Line → List Output → List (List (ℕ × ℕ)) → ℕ → ℕ → ℕ → Type 0
+CanGive lines outputs answers end a b = (p w : ℕ) → p < length outputs → (output_in outputs p).wire ≡ Some (record { 0 = w }) →
+    (w < length lines) × CanTake (line_at lines w) (slice_index_or answers p []) (output_in outputs p).delay end a b
+
+-- no two outputs have one wire
+abbrev pub AreApart : List Output → Type 0
+AreApart outputs = (p q w : ℕ) → (output_in outputs p).wire ≡ Some (record { 0 = w }) → (output_in outputs q).wire ≡ Some (record { 0 = w }) → p ≡ q
+
+-- the first outputs have given their changes to the lines of their wires, and the other lines are as they were
+pub record HasGiven (lines new : List Line) (outputs : List Output) (answers : List (List (ℕ × ℕ))) (end a b count : ℕ) : Type 0 where
+  pub places : length new ≡ length lines
+  pub taken : (p w : ℕ) → p < count → (output_in outputs p).wire ≡ Some (record { 0 = w }) →
+      HasTaken (line_at lines w) (line_at new w) (slice_index_or answers p []) (output_in outputs p).delay end a b
+  pub others : (w : ℕ) → ((p : ℕ) → p < count → (output_in outputs p).wire ≡ Some (record { 0 = w }) → ⊥) → line_at new w ≡ line_at lines w
+
+abbrev pub CanGiveSome : List Line → List Output → List (List (ℕ × ℕ)) → ℕ → Type 0
+CanGiveSome lines outputs answers end = (a : ℕ) × (b : ℕ) × CanGive lines outputs answers end a b
+
+-- the lines of these outputs can be given levels from the time a after their delays on, and have the levels before that they had
+pub record HasOpened (run : Outcome) (lines new : List Line) (outputs : List Output) (end a : ℕ) : Type 0 where
+  pub places : length new ≡ length lines
+  pub own : (p w : ℕ) → (output_in outputs p).wire ≡ Some (record { 0 = w }) → IsOwn (line_at new w) (a + (output_in outputs p).delay) end
+  pub before : (p w : ℕ) → (output_in outputs p).wire ≡ Some (record { 0 = w }) → (t : ℕ) → t < a + (output_in outputs p).delay → t < end →
+      level_at run new w t ≡ level_at run lines w t
+  pub others : (w : ℕ) → ((p : ℕ) → (output_in outputs p).wire ≡ Some (record { 0 = w }) → ⊥) → line_at new w ≡ line_at lines w

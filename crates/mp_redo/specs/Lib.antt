@@ -11,3 +11,4 @@ pub mod Drivers
 pub mod Starts
 pub mod Ledgers
 pub mod Endings
+pub mod Telling

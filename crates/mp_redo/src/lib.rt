@@ -17,6 +17,7 @@ mod ring;
 mod set_wires;
 mod starting;
 mod stretch;
+mod telling;
 mod work_entry;
 
 pub use work_entry::WorkEntry;

@@ -29,13 +29,17 @@ fn put(looks: &mut VecDeque<Looks>, place: usize, id: ModuleId) -> Result<(), Al
 }
 
 /// Lists a module for the unit that comes so many units after the next, or before that where no list lies so far ahead.
-pub(crate) fn enter(looks: &mut VecDeque<Looks>, ahead: u32, id: ModuleId) -> Result<(), AllocError>
+pub(crate) fn enter(
+    looks: &mut VecDeque<Looks>,
+    ahead: usize,
+    id: ModuleId,
+) -> Result<(), AllocError>
     requires { 0 < length looks.old.items }
     ensures places { OnOk result (length looks.new.items ≡ length looks.old.items) }
     ensures kept { OnOk result (AreKept looks.old.items looks.new.items) }
     ensures looking { OnOk result (IsLooking looks.new.items id.0 ahead) }
 {
-    let place = smaller(ahead as usize, looks.len() - 1);
+    let place = smaller(ahead, looks.len() - 1);
     put(looks, place, id)?;
     Ok(())
 }
@@ -43,7 +47,7 @@ pub(crate) fn enter(looks: &mut VecDeque<Looks>, ahead: u32, id: ModuleId) -> Re
 /// Lists readers of a wire, each a module and a port, for the unit that comes so many units after the next, or before that.
 pub(crate) fn tell(
     looks: &mut VecDeque<Looks>,
-    ahead: u32,
+    ahead: usize,
     readers: &[(ModuleId, u32)],
 ) -> Result<(), AllocError>
     requires { 0 < length looks.old.items }
