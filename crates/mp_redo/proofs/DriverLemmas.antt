@@ -1,5 +1,5 @@
 -- What drives each wire, found module by module.
-use Rattle.std.proofs.Common.{◌≡◌, ◌⊎◌, ℕ, ◌+◌, ◌<◌, ◌≤◌, List, Option, Some, None, length, get_or, refl, ap, sym, subst, ◌∙◌, arith, inl, inr}
+use Rattle.std.proofs.Common.{◌≡◌, ◌⊎◌, ℕ, ◌+◌, ◌<◌, ◌≤◌, List, Option, Some, None, length, get_or, ap, sym, subst, ◌∙◌, arith, inl, inr}
 use Rattle.std.proofs.lemmas.Bool.{cases_lt, cases_eq}
 use Rattle.std.proofs.lemmas.List.{get_or_default, get_or_past}
 use Rattle.std.proofs.lemmas.Option.{same_Some, none-some}
@@ -10,8 +10,8 @@ use Rattle.mp_records.specs.declared.module_record.ModuleRecord.{ModuleRecord}
 use Rattle.mp_records.specs.Outputs.{output_in}
 use Rattle.mp_netlist.specs.declared.driver.Driver.{Driver}
 use Rattle.mp_netlist.specs.declared.driver.Driver.TheVariants.{Nothing, Port}
-use Rattle.mp_netlist.specs.Circuit.{Circuit, IsCircuit, Drives, module_at, stimulus_at}
-use Rattle.mp_netlist.specs.Drivers.{driver, stimulus_driver}
+use Rattle.mp_netlist.specs.Circuit.{Circuit, IsCircuit, module_at}
+use Rattle.mp_netlist.specs.Drivers.{driver}
 use Rattle.mp_netlist.proofs.DriverLemmas.{finds_ports, driven_by, leaves_no_driver}
 use Rattle.mp_model.proofs.SlotLemmas.{slot_within}
 use Rattle.mp_redo.specs.Drivers.{driver_in, AreDrivers, IsNoted, IsDriverBelow, AreDriversBelow}

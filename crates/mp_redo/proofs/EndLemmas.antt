@@ -1,11 +1,11 @@
 -- What a re-evaluation gives at its end.
-use Rattle.std.proofs.Common.{◌≡◌, ℕ, ◌+◌, ◌-◌, ◌<◌, ◌≤◌, Bool, true, false, List, [], ◌∷◌, ◌++◌, map, Option, Some, None, IsSome, option_map, length, refl, ap, sym, subst, ◌∙◌, arith, inl, inr}
+use Rattle.std.proofs.Common.{◌≡◌, ℕ, ◌+◌, ◌-◌, ◌<◌, ◌≤◌, List, [], ◌∷◌, ◌++◌, map, Option, Some, None, option_map, length, refl, ap, sym, subst, ◌∙◌, arith, inl, inr}
 use Rattle.std.specs.Prelude.{MatchOption}
 use Rattle.std.proofs.lemmas.Bool.{cases_lt, cases_eq}
 use Rattle.std.proofs.lemmas.List.{get_or_past, get_or_push, get_or_append_left, map-append, length-map}
 use Rattle.std.proofs.lemmas.Option.{same_Some, none-some}
-use Rattle.mp_wave.specs.Waveform.{Waveform, IsWaveform, level_of, last_time, changes_after, wave_upto}
-use Rattle.mp_wave.specs.Building.{Building, IsBuilding}
+use Rattle.mp_wave.specs.Waveform.{Waveform, level_of, changes_after, wave_upto}
+use Rattle.mp_wave.specs.Building.{Building}
 use Rattle.mp_wave.proofs.ChangesLemmas.{last_from-changes_after, last_time-changes_after, AreChanges-changes_after, levels_of_wave, form_of_wave}
 use Rattle.mp_wave.proofs.PrefixLemmas.{level_from-over}
 use Rattle.mp_wave.proofs.WaveformLemmas.{same_levels}
@@ -13,10 +13,10 @@ use Rattle.mp_modules.specs.Memories.{blank}
 use Rattle.mp_records.specs.declared.wire_record.WireRecord.{WireRecord}
 use Rattle.mp_records.specs.declared.module_record.ModuleRecord.{ModuleRecord}
 use Rattle.mp_netlist.specs.Slots.{slot_at}
-use Rattle.mp_netlist.specs.Circuit.{Circuit, IsCircuit, wire_at, module_at}
+use Rattle.mp_netlist.specs.Circuit.{Circuit, wire_at, module_at}
 use Rattle.mp_model.specs.Waves.{level, state, wave, slot_wave}
 use Rattle.mp_engine.specs.declared.checkpoints.Checkpoint.{Checkpoint}
-use Rattle.mp_engine.specs.Checkpoints.{kept_at, state_before, IsBorder}
+use Rattle.mp_engine.specs.Checkpoints.{kept_at, state_before}
 use Rattle.mp_engine.specs.Outcomes.{Outcome, AreSlots, wave_of}
 use Rattle.mp_engine.specs.PartRuns.{AreCheckpoints}
 use Rattle.mp_engine.specs.Runs.{IsRun, end_memory}

@@ -21,3 +21,5 @@ pub mod EndLemmas
 pub mod AnswerLemmas
 pub mod HearerLemmas
 pub mod ListenLemmas
+pub mod OverLemmas
+pub mod KeepLemmas

@@ -1,8 +1,8 @@
 -- The lines of wires before anything is evaluated again.
-use Rattle.std.proofs.Common.{◌≡◌, ◌≢◌, ◌⊎◌, ℕ, ◌+◌, ◌-◌, ◌^◌, ◌<◌, ◌≤◌, Bool, true, false, cond, List, [], ◌∷◌, ◌++◌, Option, Some, None, IsSome, IfSome, unwrap_or, length, nat_lt, zero, suc, refl, ap, sym, subst, ◌∙◌, arith, inl, inr}
+use Rattle.std.proofs.Common.{◌≡◌, ℕ, ◌+◌, ◌-◌, ◌^◌, ◌<◌, Bool, true, false, cond, List, [], ◌∷◌, ◌++◌, Option, Some, None, IsSome, IfSome, length, refl, ap, sym, subst, ◌∙◌, arith, inl, inr}
 use Rattle.std.proofs.lemmas.Bool.{cases_eq, lt-ltb}
 use Rattle.std.proofs.lemmas.List.{get_or_append_left, get_or_push}
-use Rattle.mp_wave.specs.Waveform.{Waveform, level_from, level_of}
+use Rattle.mp_wave.specs.Waveform.{level_from, level_of}
 use Rattle.mp_wave.specs.Building.{Building, IsBuilding}
 use Rattle.mp_modules.specs.Memories.{output_of}
 use Rattle.mp_records.specs.declared.ids.ModuleId.{ModuleId}
@@ -10,13 +10,12 @@ use Rattle.mp_records.specs.declared.wire_record.WireRecord.{WireRecord}
 use Rattle.mp_records.specs.declared.module_record.ModuleRecord.{ModuleRecord}
 use Rattle.mp_records.specs.Outputs.{delay_of}
 use Rattle.mp_netlist.specs.declared.driver.Driver.{Driver}
-use Rattle.mp_netlist.specs.declared.driver.Driver.TheVariants.{Nothing, Stimulus, Port}
+use Rattle.mp_netlist.specs.declared.driver.Driver.TheVariants.{Port}
 use Rattle.mp_netlist.specs.Circuit.{Circuit, IsCircuit, Drives, wire_at, module_at, stimulus_at}
 use Rattle.mp_netlist.specs.Drivers.{driver, stimulus_driver}
 use Rattle.mp_netlist.proofs.DriverLemmas.{finds_ports, finds_only_ports, driven_by}
 use Rattle.mp_model.specs.Levels.{initial_of, stimulus_level, driven_level, port_level}
 use Rattle.mp_model.specs.Waves.{level, state}
-use Rattle.mp_model.specs.Reach.{IsTouched}
 use Rattle.mp_model.specs.Tracks.{AreTimesIn, held_all, unchanged}
 use Rattle.mp_model.proofs.BehaviourLemmas.{satisfies}
 use Rattle.mp_model.proofs.EndsLemmas.{stimulus_held}
@@ -27,10 +26,10 @@ use Rattle.mp_engine.specs.Runs.{IsRun}
 use Rattle.mp_redo.specs.declared.cell.Cell.{Cell}
 use Rattle.mp_redo.specs.declared.line.Line.{Line}
 use Rattle.mp_redo.specs.declared.line.Line.TheVariants.{Old, Own}
-use Rattle.mp_redo.specs.Lines.{level_in, line_level, IsOwn}
+use Rattle.mp_redo.specs.Lines.{level_in, line_level}
 use Rattle.mp_redo.specs.Revisions.{IsRevision, IsDrivenAlike}
 use Rattle.mp_redo.specs.Stays.{SourceAgrees}
-use Rattle.mp_redo.specs.Redoing.{cell_at, line_at, IsGiven, IsCellAt, AreCells, IsWorking, IsLineAt, AreLines}
+use Rattle.mp_redo.specs.Redoing.{cell_at, line_at, AreCells, AreLines}
 use Rattle.mp_redo.specs.Starts.{IsSetAlike, IsFirstLine}
 use Rattle.mp_redo.proofs.HeardLemmas.{old_level}
 use Rattle.mp_redo.proofs.LevelLemmas.{levels_stay}

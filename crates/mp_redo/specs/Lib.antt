@@ -12,3 +12,4 @@ pub mod Starts
 pub mod Ledgers
 pub mod Endings
 pub mod Telling
+pub mod Keeping

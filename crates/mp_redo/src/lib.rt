@@ -6,6 +6,7 @@ mod cutting;
 mod drivers;
 mod finishing;
 mod giving;
+mod keeping;
 pub mod laws;
 mod ledger;
 mod line;

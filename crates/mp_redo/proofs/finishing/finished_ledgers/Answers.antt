@@ -1,10 +1,9 @@
-use Rattle.std.proofs.Common.{◌≡◌, ◌+◌, ◌++◌, ◌∷◌, [], ℕ, List, Option, length, map, option_map, ap, sym, subst, ◌∙◌, arith, ◌≢◌}
+use Rattle.std.proofs.Common.{◌+◌, length, map, option_map, ap, sym, subst, ◌∙◌, arith, ◌≢◌}
 use Rattle.std.specs.Arc.{arc_value}
 use Rattle.std.proofs.Math.ListN.{length-set}
 use Rattle.std.proofs.lemmas.List.{length_push, length-map, get_or-set_other}
-use Rattle.mp_netlist.specs.Slots.{slot_at}
 use Rattle.mp_redo.specs.declared.ledger.Ledger.TheVariants.{Old}
-use Rattle.mp_redo.specs.Endings.{IsWhole, HasCheckpoints}
+use Rattle.mp_redo.specs.Endings.{IsWhole}
 use Rattle.mp_redo.proofs.EndLemmas.{kept_more, kept_are}
 use Rattle.mp_redo.proofs.finishing.finished_ledgers.Goals as goal
 

@@ -1,5 +1,5 @@
-use Rattle.std.proofs.Common.{◌≡◌, ◌^◌, ◌-◌, ℕ, List, Option, Some, None, ap, sym, subst, ◌∙◌}
-use Rattle.mp_wave.specs.Waveform.{level_from, level_of}
+use Rattle.std.proofs.Common.{◌≡◌, ◌^◌, ◌-◌, ℕ, List, Option, Some, None, ap, sym, ◌∙◌}
+use Rattle.mp_wave.specs.Waveform.{level_of}
 use Rattle.mp_wave.specs.Building.{Building}
 use Rattle.mp_records.specs.declared.wire_record.WireRecord.{WireRecord}
 use Rattle.mp_netlist.specs.Circuit.{wire_at, stimulus_in}

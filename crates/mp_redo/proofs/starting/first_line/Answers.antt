@@ -1,6 +1,4 @@
-use Rattle.std.proofs.Common.{◌≡◌, ℕ, ap, sym, subst, ◌∙◌}
-use Rattle.mp_wave.specs.Building.{Building}
-use Rattle.mp_netlist.specs.Circuit.{wire_at}
+use Rattle.std.proofs.Common.{ap, sym, subst, ◌∙◌}
 use Rattle.mp_netlist.proofs.DriverLemmas.{finds_only_ports}
 use Rattle.mp_model.specs.Tracks.{unchanged}
 use Rattle.mp_redo.specs.declared.line.Line.TheVariants.{Own}
