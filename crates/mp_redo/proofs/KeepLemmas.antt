@@ -1,7 +1,8 @@
 -- Ledgers while modules answer.
-use Rattle.std.proofs.Common.{◌≡◌, ℕ, ◌+◌, ◌<◌, ◌≤◌, Bool, true, false, List, refl, ap, sym, subst, ◌∙◌, arith, inl, inr}
+use Rattle.std.proofs.Common.{◌≡◌, ℕ, ◌+◌, ◌<◌, ◌≤◌, Bool, true, false, List, [], ◌∷◌, ◌++◌, length, get_or, slice_set, refl, ap, sym, subst, ◌∙◌, arith, inl, inr}
 use Rattle.std.specs.Prelude.{All}
-use Rattle.std.proofs.lemmas.Bool.{cases_lt, lt-ltb, le-ltb}
+use Rattle.std.proofs.lemmas.Bool.{cases_lt, cases_eq}
+use Rattle.std.proofs.lemmas.List.{get_or_default, get_or_push, get_or_append_left, get_or-set_same, get_or-set_other}
 use Rattle.std.proofs.lemmas.List.Elements.{All-weaker}
 use Rattle.mp_modules.specs.declared.memory.Memory.{Memory}
 use Rattle.mp_modules.specs.Memories.{blank}
@@ -14,8 +15,9 @@ use Rattle.mp_engine.specs.Outcomes.{Outcome}
 use Rattle.mp_redo.specs.declared.cell.Cell.{Cell}
 use Rattle.mp_redo.specs.declared.ledger.Ledger.{Ledger}
 use Rattle.mp_redo.specs.declared.ledger.Ledger.TheVariants.{Old, Own}
+use Rattle.mp_redo.specs.Redoing.{no_cell, cell_at}
 use Rattle.mp_redo.specs.Keeping.{IsLedgerAt, IsStateAt, IsNextBorder}
-use Rattle.mp_redo.specs.Ledgers.{state_in, ledger_state, AreTimesTo, IsInOrder, IsOwn}
+use Rattle.mp_redo.specs.Ledgers.{state_in, ledger_state, ledger_at, AreTimesTo, IsInOrder, IsOwn}
 
 times_later : (kept : List Checkpoint) (time later : ℕ) → time ≤ later → AreTimesTo time kept → AreTimesTo later kept
 times_later kept time later le times = All-weaker (λ (k : Checkpoint). k.time ≤ time) (λ (k : Checkpoint). k.time ≤ later) (λ k low. omega (arith, low, le)) kept times
@@ -100,3 +102,35 @@ left_ledger new run time m r ledger after order before from is = record {
   ready = λ live. let no : ⊥ = cc in absurd no;
   follows = λ quiet c later. from c (omega (arith, later));
 }
+
+-- the first ledger of a cell
+abbrev pub IsFirst : ℕ → Cell → Ledger → Type 0
+IsFirst end cell ledger = (new : Circuit) (run : Outcome) (m : ℕ) (r : ModuleRecord) → new.horizon ≡ end → IsStateAt new run 0 m r cell → IsLedgerAt new run 0 m r cell.live ledger
+
+-- one ledger more
+pub first_more : (cells : List Cell) (ledgers : List Ledger) (ledger : Ledger) (i end : ℕ) (d : Cell) → i < length cells → length ledgers ≡ i → IsFirst end (get_or cells i d) ledger
+    → ((k : ℕ) → k < i → IsFirst end (cell_at cells k) (ledger_at ledgers k)) → (k : ℕ) → k < i + 1 → IsFirst end (cell_at cells k) (ledger_at (ledgers ++ ledger ∷ []) k)
+first_more cells ledgers ledger i end d within size is are k low = elim (cases_eq k i) as (λ _. IsFirst end (cell_at cells k) (ledger_at (ledgers ++ ledger ∷ []) k)) [
+  | inl same ↦
+      subst (IsFirst end (cell_at cells k)) (sym (get_or_push ledgers ledger Old k (size ∙ sym same)))
+      (subst (λ j. IsFirst end (cell_at cells j) ledger) (sym same) (subst (λ (x : Cell). IsFirst end x ledger) (get_or_default cells i d no_cell within) is))
+  | inr other ↦
+      subst (IsFirst end (cell_at cells k)) (sym (get_or_append_left ledgers (ledger ∷ []) Old k (omega (arith, low, other, size)))) (are k (omega (arith, low, other)))
+]
+
+-- what a ledger becomes at a border
+abbrev pub IsNext : ℕ → Cell → Ledger → Ledger → Type 0
+IsNext time cell ledger after = (new : Circuit) (run : Outcome) (t m : ℕ) (r : ModuleRecord) → IsNextBorder new t time → IsStateAt new run time m r cell → IsLedgerAt new run t m r cell.live ledger → IsLedgerAt new run time m r cell.live after
+
+-- one ledger more at a border
+pub next_more : (cells : List Cell) (first ledgers : List Ledger) (ledger after : Ledger) (i time : ℕ) (d : Cell) → i < length cells → i < length ledgers → ledger ≡ get_or ledgers i ledger → ledger_at ledgers i ≡ ledger_at first i
+    → IsNext time (get_or cells i d) ledger after → ((k : ℕ) → k < i → IsNext time (cell_at cells k) (ledger_at first k) (ledger_at ledgers k))
+    → (k : ℕ) → k < i + 1 → IsNext time (cell_at cells k) (ledger_at first k) (ledger_at (slice_set ledgers i after) k)
+next_more cells first ledgers ledger after i time d within low read left is are k less = elim (cases_eq k i) as (λ _. IsNext time (cell_at cells k) (ledger_at first k) (ledger_at (slice_set ledgers i after) k)) [
+  | inl same ↦
+      let old : ledger ≡ ledger_at first i = read ∙ get_or_default ledgers i ledger Old low ∙ left in
+      subst (λ j. IsNext time (cell_at cells j) (ledger_at first j) (ledger_at (slice_set ledgers i after) j)) (sym same)
+      (subst (IsNext time (cell_at cells i) (ledger_at first i)) (sym (get_or-set_same ledgers i after Old low))
+      (subst (λ l. IsNext time (cell_at cells i) l after) old (subst (λ (x : Cell). IsNext time x ledger after) (get_or_default cells i d no_cell within) is)))
+  | inr other ↦ subst (IsNext time (cell_at cells k) (ledger_at first k)) (sym (get_or-set_other ledgers i k after Old other)) (are k (omega (arith, less, other)))
+]

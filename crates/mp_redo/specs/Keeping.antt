@@ -33,3 +33,11 @@ pub record IsNextBorder (new : Circuit) (t time : ℕ) : Type 0 where
   pub later : t < time
   pub below : time < new.horizon
   pub none : (b : ℕ) → IsBorder b → t < b → b < time → ⊥
+
+-- so it is of each module
+abbrev pub AreStatesAt : Circuit → Outcome → ℕ → List Cell → Type 0
+AreStatesAt new run time cells = (m : ℕ) (r : ModuleRecord) → module_at new m ≡ Some r → IsStateAt new run time m r (cell_at cells m)
+
+-- each live module's ledger can keep a state of this time
+abbrev pub CanKeepAll : List Cell → List Ledger → ℕ → Type 0
+CanKeepAll cells ledgers time = (m : ℕ) → m < length ledgers → (cell_at cells m).live ≡ true → IsOwn (ledger_at ledgers m) time (time + 1)

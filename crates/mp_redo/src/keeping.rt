@@ -61,3 +61,40 @@ pub(crate) fn leave_ledger(ledger: &mut Ledger, time: u32)
 {
     ledger.hand_back(time + 1);
 }
+
+ghost use Rattle.std.specs.Prelude.{Some, length};
+ghost use Rattle.mp_netlist.specs.Circuit.{module_at};
+ghost use Rattle.mp_redo.specs.Keeping.{AreLedgers, AreStatesAt, CanKeepAll};
+ghost use Rattle.mp_redo.specs.Redoing.{cell_at};
+
+/// The first ledgers of all modules, by number.
+pub(crate) fn first_ledgers(
+    alloc: Global,
+    cells: &[Cell],
+    end: u32,
+) -> Result<Vec<Ledger>, AllocError>
+    requires { 0 < end }
+    ensures { IfOk result (λ ledgers. (new : Circuit) (run : Outcome) → new.horizon ≡ end → length cells.now ≡ length new.modules → AreStatesAt new run 0 cells.now → AreLedgers new run 0 cells.now ledgers.items) }
+{
+    let mut ledgers = Vec::new(alloc);
+    for cell in cells {
+        ledgers.push(first_ledger(alloc, cell, end)?)?;
+    }
+    Ok(ledgers)
+}
+
+/// At the next border the states of all live modules before it are kept.
+pub(crate) fn keep_states(
+    cells: &[Cell],
+    ledgers: &mut Vec<Ledger>,
+    time: u32,
+) -> Result<(), AllocError>
+    requires places { length ledgers.old.items ≡ length cells.now }
+    requires can { CanKeepAll cells.now ledgers.old.items time }
+    ensures { OnOk result ((new : Circuit) (run : Outcome) (t : ℕ) → length cells.now ≡ length new.modules → IsNextBorder new t time → AreStatesAt new run time cells.now → AreLedgers new run t cells.now ledgers.old.items → AreLedgers new run time cells.now ledgers.new.items) }
+{
+    for m in 0..ledgers.len() {
+        keep_state(&mut ledgers[m], &cells[m], time)?;
+    }
+    Ok(())
+}
