@@ -19,3 +19,4 @@ pub mod DriverLemmas
 pub mod AnswerLemmas
 pub mod HearerLemmas
 pub mod ListenLemmas
+pub mod StepLemmas

@@ -8,7 +8,11 @@ use Rattle.mp_records.specs.declared.ports.Input.{Input}
 use Rattle.mp_records.specs.declared.ports.Output.{Output}
 use Rattle.mp_records.specs.declared.module_record.ModuleRecord.{ModuleRecord}
 use Rattle.mp_records.specs.Outputs.{output_in, output_at}
-use Rattle.mp_netlist.specs.Circuit.{Circuit, module_at}
+use Rattle.mp_netlist.specs.declared.driver.Driver.{Driver}
+use Rattle.mp_netlist.specs.declared.driver.Driver.TheVariants.{Nothing, Stimulus, Port}
+use Rattle.mp_netlist.specs.Circuit.{Circuit, IsCircuit, module_at}
+use Rattle.mp_netlist.specs.Drivers.{driver}
+use Rattle.mp_netlist.proofs.DriverLemmas.{finds_ports, finds_only_ports}
 use Rattle.mp_netlist.specs.Readers.{readers}
 use Rattle.mp_response.specs.Pieces.{put_off}
 use Rattle.mp_depend.specs.Rows.{row_at}
@@ -117,4 +121,29 @@ listening_given n run rows a to lines given looks new outputs answers m are late
                 inr (looking_later new m (first_time (slice_index_or answers p []) + d - to) (x + 1 + i.delay - to) (omega (arith, over))
                 (told p within i.wire.0 (record { 0 = m }, reader.0) wire now.0 (subst (λ xs. Contains xs (record { 0 = m }, reader.0)) (sym (are i.wire.0)) reader.1)))
           ]
+    ]
+
+-- a wire is at an output of the module, or at none
+pub at_output : (n : Circuit) → IsCircuit n → (m : ℕ) (r : ModuleRecord) → module_at n m ≡ Some r → (w : ℕ) → ((p : ℕ) × ((output_in r.outputs p).wire ≡ Some (record { 0 = w }))) ⊎ ((p : ℕ) → (output_in r.outputs p).wire ≡ Some (record { 0 = w }) → ⊥)
+at_output n ok m r at w = by (driver n w) refl
+  where
+    Found : Type 0
+    Found = ((p : ℕ) × ((output_in r.outputs p).wire ≡ Some (record { 0 = w }))) ⊎ ((p : ℕ) → (output_in r.outputs p).wire ≡ Some (record { 0 = w }) → ⊥)
+
+    port : (p : ℕ) → (output_in r.outputs p).wire ≡ Some (record { 0 = w }) → driver n w ≡ Port (record { 0 = m }) p
+    port p wire = finds_ports n ok m p w (record { part = r; stands = at; output = wire })
+
+    by : (d : Driver) → driver n w ≡ d → Found
+    by Nothing e = inr (λ p wire. let found = port p wire in let no : ⊥ = cc in no)
+    by Stimulus e = inr (λ p wire. let found = port p wire in let no : ⊥ = cc in no)
+    by (Port k q) e = elim (cases_eq k.0 m) as (λ _. Found) [
+      | inl same ↦
+          let drives = finds_only_ports n w q k e in
+          let there : module_at n m ≡ Some drives.part = subst (λ j. module_at n j ≡ Some drives.part) same drives.stands in
+          let one : drives.part ≡ r = cc in
+          inl (q, subst (λ (x : ModuleRecord). (output_at x q).wire ≡ Some (record { 0 = w })) one drives.output)
+      | inr differ ↦ inr (λ p wire.
+          let found = port p wire in
+          let one : k ≡ record { 0 = m } = cc in
+          differ (ap (λ (j : ModuleId). j.0) one))
     ]

@@ -9,3 +9,4 @@ pub mod Prefixes
 pub mod Answers
 pub mod Drivers
 pub mod Telling
+pub mod Steps

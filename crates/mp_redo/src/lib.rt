@@ -1,6 +1,7 @@
 //! What has to be evaluated again after a netlist has changed.
 #![tactic(auto)]
 
+mod answering;
 mod cell;
 mod cutting;
 mod drivers;
