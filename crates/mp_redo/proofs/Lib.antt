@@ -20,3 +20,4 @@ pub mod AnswerLemmas
 pub mod HearerLemmas
 pub mod ListenLemmas
 pub mod StepLemmas
+pub mod OpenLemmas

@@ -10,6 +10,7 @@ pub mod laws;
 mod line;
 mod looks;
 mod marks;
+mod opening;
 mod prefix;
 mod responding;
 mod ring;
