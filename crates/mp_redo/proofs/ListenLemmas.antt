@@ -20,10 +20,12 @@ use Rattle.mp_depend.specs.Known.{AreReaders}
 use Rattle.mp_engine.specs.Outcomes.{Outcome, wave_of}
 use Rattle.mp_redo.specs.declared.line.Line.{Line}
 use Rattle.mp_redo.specs.Lines.{line_level, level_in}
-use Rattle.mp_redo.specs.Redoing.{level_at, line_at, looks_at, IsInput, IsNews, IsLooking, IsListening}
+use Rattle.mp_redo.specs.Redoing.{level_at, line_at, looks_at, IsInput, IsNews, IsLooking, IsListening, IsTracked, IsWatching}
+use Rattle.mp_redo.specs.declared.cell.Cell.{Cell}
+use Rattle.mp_redo.specs.Steps.{GoesOnWatching}
 use Rattle.mp_redo.specs.Rings.{AreKept, AreTaken}
 use Rattle.mp_redo.specs.Answers.{HasTaken, HasGiven}
-use Rattle.mp_redo.specs.Telling.{IsTold, AreTold, first_time}
+use Rattle.mp_redo.specs.Telling.{IsTold, AreTold, AreWoken, first_time}
 use Rattle.mp_redo.proofs.RingLemmas.{looking_kept}
 use Rattle.mp_redo.proofs.HearerLemmas.{is_reader}
 use Rattle.mp_redo.proofs.AnswerLemmas.{port_within}
@@ -146,4 +148,30 @@ at_output n ok m r at w = by (driver n w) refl
           let found = port p wire in
           let one : k ≡ record { 0 = m } = cc in
           differ (ap (λ (j : ModuleId). j.0) one))
+    ]
+
+-- whoever reads a line that has changed is woken
+pub watching_on : (n : Circuit) → IsCircuit n → (run : Outcome) (rows : List (List (ModuleId × ℕ))) (to m : ℕ) (r : ModuleRecord) → module_at n m ≡ Some r → (lines new : List Line) (looks lists : List (List ModuleId))
+    → AreReaders n rows → ((w : ℕ) → ((p : ℕ) → (output_in r.outputs p).wire ≡ Some (record { 0 = w }) → ⊥) → line_at new w ≡ line_at lines w) → AreKept looks lists → AreWoken rows r.outputs lists (length r.outputs)
+    → GoesOnWatching n run to lines new looks lists
+watching_on n ok run rows to m r at lines new looks lists are others kept woken k cells now back watch watching = by watching
+  where
+    told : (i : Input) → IsInput n k i → (p : ℕ) → (output_in r.outputs p).wire ≡ Some (record { 0 = i.wire.0 }) → (ahead : ℕ) → IsLooking lists k ahead
+    told i is p wire ahead =
+        let reader = is_reader n k i is in
+        looking_later lists k 0 ahead (omega arith)
+        (woken p (port_within r.outputs p i.wire.0 wire) i.wire.0 (record { 0 = k }, reader.0) wire (subst (λ xs. Contains xs (record { 0 = k }, reader.0)) (sym (are i.wire.0)) reader.1))
+
+    hears : IsListening n run to lines looks k → IsListening n run to new lists k
+    hears listens = listening_on n run to lines new looks lists k kept listens (λ i is x past low news.
+        elim (at_output n ok m r at i.wire.0) as (λ _. IsNews run lines i.wire.0 x ⊎ IsLooking lists k (x + 1 + i.delay - to)) [
+          | inl found ↦ inr (told i is found.0 found.1 (x + 1 + i.delay - to))
+          | inr none ↦ inl (same_news run lines new i.wire.0 x (others i.wire.0 none) news)
+        ])
+
+    by : IsWatching n now new k → IsListening n run to new lists k
+    by (inl live) = hears (watch (inl (back live)))
+    by (inr reads) = elim (at_output n ok m r at reads.0.wire.0) as (λ _. IsListening n run to new lists k) [
+      | inl found ↦ (λ i is x past low news. told reads.0 reads.1 found.0 found.1 (x + 1 + i.delay - to))
+      | inr none ↦ hears (watch (inr (reads.0, reads.1, subst IsTracked (others reads.0.wire.0 none) reads.2)))
     ]

@@ -49,3 +49,10 @@ opened_all run lines new outputs end a opened = record {
   before = λ p w wire. opened.before p w (port_within outputs p w wire) wire;
   others = λ w none. opened.others w (λ p low. none p);
 }
+
+-- what was taken over, in terms of the module's outputs
+pub opened_as : (run : Outcome) (lines new : List Line) (os outputs : List Output) (h end a : ℕ) → os ≡ outputs → h ≡ end → HasOpenedTo run lines new os h a (length os) → HasOpened run lines new outputs end a
+opened_as run lines new os outputs h end a one two opened =
+    opened_all run lines new outputs end a
+    (subst (λ k. HasOpenedTo run lines new outputs k a (length outputs)) two
+    (subst (λ ps. HasOpenedTo run lines new ps h a (length ps)) one opened))

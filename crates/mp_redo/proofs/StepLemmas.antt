@@ -21,7 +21,7 @@ use Rattle.mp_redo.specs.declared.line.Line.{Line}
 use Rattle.mp_redo.specs.Redoing.{AreLines, IsListening}
 use Rattle.mp_redo.specs.Rings.{AreKept}
 use Rattle.mp_redo.specs.Answers.{CanGive, HasGiven, HasOpened}
-use Rattle.mp_redo.specs.Steps.{IsAt, IsStep, AreReady, GoesOn, GoesOnListening}
+use Rattle.mp_redo.specs.Steps.{IsAt, IsStep, AreReady, GoesOn, GoesOnFrom, GoesOnListening}
 use Rattle.mp_redo.specs.Telling.{AreTold}
 use Rattle.mp_redo.proofs.LineLemmas.{output_stands}
 use Rattle.mp_redo.proofs.AnswerLemmas.{before_alike, port_within, delay_ok, outputs_apart, memory_after, can_give, answered_lines}
@@ -43,7 +43,7 @@ module _ (n : Circuit) (ok : IsCircuit n) (r : ModuleRecord) (memory : Memory) (
   pub ends_at : (m : ℕ) → IsAt n m from r memory → IsAt n m to r piece.memory
   ends_at m at = record { stands = at.stands; state = memory_after n ok m r at.stands from to piece (span_of m at) rise }
 
-  stand : (m : ℕ) → module_at n m ≡ Some r → (p w : ℕ) → (output_at r p).wire ≡ Some (record { 0 = w }) → w < length n.wires
+  pub stand : (m : ℕ) → module_at n m ≡ Some r → (p w : ℕ) → (output_at r p).wire ≡ Some (record { 0 = w }) → w < length n.wires
   stand m at p w wire = some_within n.wires w (output_stands n ok m p w r at wire)
 
   pub ports_alike : IsModule n r → length piece.outputs ≡ length r.outputs
@@ -56,6 +56,10 @@ module _ (n : Circuit) (ok : IsCircuit n) (r : ModuleRecord) (memory : Memory) (
     pub goes_on : (given : List Line) → HasGiven opened given r.outputs piece.outputs n.horizon from to (length r.outputs) → GoesOn n run lines given r memory from to
     goes_on given gave m times later cells after at step are =
         answered_lines n ok m r at.stands from to piece (span_of m at) rise run lines opened has size within (stand m at.stands) times later cells after given are gave from step.was (omega arith) step.now step.same_times step.same_cells step.live
+
+    pub goes_on_from : (given : List Line) → HasGiven opened given r.outputs piece.outputs n.horizon from to (length r.outputs) → GoesOnFrom n run lines given r memory from to
+    goes_on_from given gave m begin times later cells after at le step are =
+        answered_lines n ok m r at.stands from to piece (span_of m at) rise run lines opened has size within (stand m at.stands) times later cells after given are gave begin step.was le step.now step.same_times step.same_cells step.live
 
   pub goes_on_listening : (m : ℕ) → IsAt n m from r memory → (run : Outcome) (rows : List (List (ModuleId × ℕ))) (lines given : List Line) (looks new : List (List ModuleId)) → AreReaders n rows
       → HasGiven lines given r.outputs piece.outputs n.horizon from to (length r.outputs) → AreKept looks new → AreTold rows r.outputs piece.outputs to new (length r.outputs)

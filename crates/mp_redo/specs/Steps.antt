@@ -1,5 +1,5 @@
 -- One module answers in a window.
-use Rattle.std.specs.Prelude.{◌≡◌, ◌≢◌, ℕ, ◌+◌, ◌<◌, true, List, Some}
+use Rattle.std.specs.Prelude.{◌≡◌, ◌≢◌, ℕ, ◌+◌, ◌<◌, ◌≤◌, true, List, Some}
 use Rattle.mp_modules.specs.declared.memory.Memory.{Memory}
 use Rattle.mp_records.specs.declared.ids.ModuleId.{ModuleId}
 use Rattle.mp_records.specs.declared.ports.Output.{Output}
@@ -11,7 +11,7 @@ use Rattle.mp_engine.specs.Outcomes.{Outcome}
 use Rattle.mp_redo.specs.declared.cell.Cell.{Cell}
 use Rattle.mp_redo.specs.declared.line.Line.{Line}
 use Rattle.mp_redo.specs.Lines.{IsOwn}
-use Rattle.mp_redo.specs.Redoing.{line_at, cell_at, AreLines, IsListening}
+use Rattle.mp_redo.specs.Redoing.{line_at, cell_at, AreLines, IsListening, IsWatching}
 
 -- the module stands, with this state before a time
 pub record IsAt (n : Circuit) (m t : ℕ) (r : ModuleRecord) (memory : Memory) : Type 0 where
@@ -42,3 +42,13 @@ GoesOnListening n run to lines new looks after = (k : ℕ) → IsListening n run
 -- a module has this record, and this state before a time
 abbrev pub StandsSomewhere : Circuit → ModuleRecord → ℕ → Memory → Type 0
 StandsSomewhere n r t memory = (m : ℕ) × IsAt n m t r memory
+
+-- the same of a module that has answered from an earlier time on
+abbrev pub GoesOnFrom : Circuit → Outcome → List Line → List Line → ModuleRecord → Memory → ℕ → ℕ → Type 0
+GoesOnFrom n run lines new r memory from to = (m begin : ℕ) (times later : ℕ → ℕ) (cells after : List Cell) → IsAt n m from r memory → from ≤ begin → IsStep times later cells after m begin to →
+    AreLines n run times cells lines → AreLines n run later after new
+
+-- whoever listened if it was watching does so when it is
+abbrev pub GoesOnWatching : Circuit → Outcome → ℕ → List Line → List Line → List (List ModuleId) → List (List ModuleId) → Type 0
+GoesOnWatching n run to lines new looks after = (k : ℕ) (cells now : List Cell) → ((cell_at now k).live ≡ true → (cell_at cells k).live ≡ true) →
+    (IsWatching n cells lines k → IsListening n run to lines looks k) → IsWatching n now new k → IsListening n run to new after k

@@ -4,6 +4,7 @@ use Rattle.mp_redo.specs.declared.line.Line.{Line}
 use Rattle.mp_redo.specs.Answers.{CanGive, CanGiveSome, HasGiven, AreApart}
 use Rattle.mp_redo.specs.Telling.{AreTold}
 use Rattle.mp_redo.proofs.AnswerLemmas.{outputs_apart}
+use Rattle.mp_redo.proofs.GiveLemmas.{given_as}
 use Rattle.mp_redo.proofs.StepLemmas.{opened_already, ends_at, ports_alike, able, goes_on, goes_on_listening}
 use Rattle.mp_redo.proofs.answering.answer_live.Goals as goal
 
@@ -43,18 +44,6 @@ give_all-requires-clause-able c =
 pub returns-clause-memory : goal.returns-clause-memory
 returns-clause-memory c = λ m at.
     ends_at c.args.netlist.now c.requires.form c.args.found.now c.args.memory c.args.from c.args.to c.in_ok-piece.piece c.in_ok-piece.ensures (let s = c.requires.span in omega (arith, s)) m at
-
--- what was given, in terms of the module's outputs
-given_as : (lines new : List Line) (os outputs : List Output) (xs answers : List (List (ℕ × ℕ))) (h end a b : ℕ) → os ≡ outputs → xs ≡ answers → h ≡ end
-    → ((a b : ℕ) → CanGive lines os xs h a b → HasGiven lines new os xs h a b (length os)) → CanGive lines outputs answers end a b → HasGiven lines new outputs answers end a b (length outputs)
-given_as lines new os outputs xs answers h end a b one two three gave can =
-    subst (λ k. HasGiven lines new outputs answers k a b (length outputs)) three
-    (subst (λ ys. HasGiven lines new outputs ys h a b (length outputs)) two
-    (subst (λ ps. HasGiven lines new ps xs h a b (length ps)) one
-    (gave a b
-    (subst (λ ps. CanGive lines ps xs h a b) (sym one)
-    (subst (λ ys. CanGive lines outputs ys h a b) (sym two)
-    (subst (λ k. CanGive lines outputs answers k a b) (sym three) can))))))
 
 pub returns-clause-wires : goal.returns-clause-wires
 returns-clause-wires c = λ m times later cells after at.
