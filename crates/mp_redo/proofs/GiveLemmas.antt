@@ -117,3 +117,15 @@ can_next lines next outputs answers end a b p w apart within can given wire =
     let places = given.places in
     let first = able.0 in
     (omega (arith, places, first), (a, b, subst (λ l. CanTake l (slice_index_or answers p []) (output_in outputs p).delay end a b) (sym same) able.1))
+
+-- what was given, in terms of the module's outputs
+pub given_as : (lines new : List Line) (os outputs : List Output) (xs answers : List (List (ℕ × ℕ))) (h end a b : ℕ) → os ≡ outputs → xs ≡ answers → h ≡ end
+    → ((a b : ℕ) → CanGive lines os xs h a b → HasGiven lines new os xs h a b (length os)) → CanGive lines outputs answers end a b → HasGiven lines new outputs answers end a b (length outputs)
+given_as lines new os outputs xs answers h end a b one two three gave can =
+    subst (λ k. HasGiven lines new outputs answers k a b (length outputs)) three
+    (subst (λ ys. HasGiven lines new outputs ys h a b (length outputs)) two
+    (subst (λ ps. HasGiven lines new ps xs h a b (length ps)) one
+    (gave a b
+    (subst (λ ps. CanGive lines ps xs h a b) (sym one)
+    (subst (λ ys. CanGive lines outputs ys h a b) (sym two)
+    (subst (λ k. CanGive lines outputs answers k a b) (sym three) can))))))

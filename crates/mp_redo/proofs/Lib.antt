@@ -23,3 +23,5 @@ pub mod HearerLemmas
 pub mod ListenLemmas
 pub mod OverLemmas
 pub mod KeepLemmas
+pub mod StepLemmas
+pub mod OpenLemmas

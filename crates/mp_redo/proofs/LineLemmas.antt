@@ -66,7 +66,7 @@ one_delay n ok m p k q w one other =
     ap (λ (r : ModuleRecord). delay_of r q) same_part ∙ ap (delay_of one.part) (sym are.1)
 
 -- a wire at an output stands
-output_stands : (n : Circuit) → IsCircuit n → (m p w : ℕ) (r : ModuleRecord) → module_at n m ≡ Some r → (output_at r p).wire ≡ Some (record { 0 = w }) → IsSome (wire_at n w)
+pub output_stands : (n : Circuit) → IsCircuit n → (m p w : ℕ) (r : ModuleRecord) → module_at n m ≡ Some r → (output_at r p).wire ≡ Some (record { 0 = w }) → IsSome (wire_at n w)
 output_stands n ok m p w r at is =
     let all : IfSome (output_at r p).wire (λ v. HasWidth n v.0 (output_width r.kind (module_width n r) p)) = (ok.modules_ok m r at).drives p in
     (subst (λ (x : Option WireId). IfSome x (λ v. HasWidth n v.0 (output_width r.kind (module_width n r) p))) is all).0

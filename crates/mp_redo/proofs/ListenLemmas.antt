@@ -8,7 +8,11 @@ use Rattle.mp_records.specs.declared.ports.Input.{Input}
 use Rattle.mp_records.specs.declared.ports.Output.{Output}
 use Rattle.mp_records.specs.declared.module_record.ModuleRecord.{ModuleRecord}
 use Rattle.mp_records.specs.Outputs.{output_in, output_at}
-use Rattle.mp_netlist.specs.Circuit.{Circuit, module_at}
+use Rattle.mp_netlist.specs.declared.driver.Driver.{Driver}
+use Rattle.mp_netlist.specs.declared.driver.Driver.TheVariants.{Nothing, Stimulus, Port}
+use Rattle.mp_netlist.specs.Circuit.{Circuit, IsCircuit, module_at}
+use Rattle.mp_netlist.specs.Drivers.{driver}
+use Rattle.mp_netlist.proofs.DriverLemmas.{finds_ports, finds_only_ports}
 use Rattle.mp_netlist.specs.Readers.{readers}
 use Rattle.mp_response.specs.Pieces.{put_off}
 use Rattle.mp_depend.specs.Rows.{row_at}
@@ -16,10 +20,12 @@ use Rattle.mp_depend.specs.Known.{AreReaders}
 use Rattle.mp_engine.specs.Outcomes.{Outcome, wave_of}
 use Rattle.mp_redo.specs.declared.line.Line.{Line}
 use Rattle.mp_redo.specs.Lines.{line_level, level_in}
-use Rattle.mp_redo.specs.Redoing.{level_at, line_at, looks_at, IsInput, IsNews, IsLooking, IsListening}
+use Rattle.mp_redo.specs.Redoing.{level_at, line_at, looks_at, IsInput, IsNews, IsLooking, IsListening, IsTracked, IsWatching}
+use Rattle.mp_redo.specs.declared.cell.Cell.{Cell}
+use Rattle.mp_redo.specs.Steps.{GoesOnWatching}
 use Rattle.mp_redo.specs.Rings.{AreKept, AreTaken}
 use Rattle.mp_redo.specs.Answers.{HasTaken, HasGiven}
-use Rattle.mp_redo.specs.Telling.{IsTold, AreTold, first_time}
+use Rattle.mp_redo.specs.Telling.{IsTold, AreTold, AreWoken, first_time}
 use Rattle.mp_redo.proofs.RingLemmas.{looking_kept}
 use Rattle.mp_redo.proofs.HearerLemmas.{is_reader}
 use Rattle.mp_redo.proofs.AnswerLemmas.{port_within}
@@ -117,4 +123,55 @@ listening_given n run rows a to lines given looks new outputs answers m are late
                 inr (looking_later new m (first_time (slice_index_or answers p []) + d - to) (x + 1 + i.delay - to) (omega (arith, over))
                 (told p within i.wire.0 (record { 0 = m }, reader.0) wire now.0 (subst (λ xs. Contains xs (record { 0 = m }, reader.0)) (sym (are i.wire.0)) reader.1)))
           ]
+    ]
+
+-- a wire is at an output of the module, or at none
+pub at_output : (n : Circuit) → IsCircuit n → (m : ℕ) (r : ModuleRecord) → module_at n m ≡ Some r → (w : ℕ) → ((p : ℕ) × ((output_in r.outputs p).wire ≡ Some (record { 0 = w }))) ⊎ ((p : ℕ) → (output_in r.outputs p).wire ≡ Some (record { 0 = w }) → ⊥)
+at_output n ok m r at w = by (driver n w) refl
+  where
+    Found : Type 0
+    Found = ((p : ℕ) × ((output_in r.outputs p).wire ≡ Some (record { 0 = w }))) ⊎ ((p : ℕ) → (output_in r.outputs p).wire ≡ Some (record { 0 = w }) → ⊥)
+
+    port : (p : ℕ) → (output_in r.outputs p).wire ≡ Some (record { 0 = w }) → driver n w ≡ Port (record { 0 = m }) p
+    port p wire = finds_ports n ok m p w (record { part = r; stands = at; output = wire })
+
+    by : (d : Driver) → driver n w ≡ d → Found
+    by Nothing e = inr (λ p wire. let found = port p wire in let no : ⊥ = cc in no)
+    by Stimulus e = inr (λ p wire. let found = port p wire in let no : ⊥ = cc in no)
+    by (Port k q) e = elim (cases_eq k.0 m) as (λ _. Found) [
+      | inl same ↦
+          let drives = finds_only_ports n w q k e in
+          let there : module_at n m ≡ Some drives.part = subst (λ j. module_at n j ≡ Some drives.part) same drives.stands in
+          let one : drives.part ≡ r = cc in
+          inl (q, subst (λ (x : ModuleRecord). (output_at x q).wire ≡ Some (record { 0 = w })) one drives.output)
+      | inr differ ↦ inr (λ p wire.
+          let found = port p wire in
+          let one : k ≡ record { 0 = m } = cc in
+          differ (ap (λ (j : ModuleId). j.0) one))
+    ]
+
+-- whoever reads a line that has changed is woken
+pub watching_on : (n : Circuit) → IsCircuit n → (run : Outcome) (rows : List (List (ModuleId × ℕ))) (to m : ℕ) (r : ModuleRecord) → module_at n m ≡ Some r → (lines new : List Line) (looks lists : List (List ModuleId))
+    → AreReaders n rows → ((w : ℕ) → ((p : ℕ) → (output_in r.outputs p).wire ≡ Some (record { 0 = w }) → ⊥) → line_at new w ≡ line_at lines w) → AreKept looks lists → AreWoken rows r.outputs lists (length r.outputs)
+    → GoesOnWatching n run to lines new looks lists
+watching_on n ok run rows to m r at lines new looks lists are others kept woken k cells now back watch watching = by watching
+  where
+    told : (i : Input) → IsInput n k i → (p : ℕ) → (output_in r.outputs p).wire ≡ Some (record { 0 = i.wire.0 }) → (ahead : ℕ) → IsLooking lists k ahead
+    told i is p wire ahead =
+        let reader = is_reader n k i is in
+        looking_later lists k 0 ahead (omega arith)
+        (woken p (port_within r.outputs p i.wire.0 wire) i.wire.0 (record { 0 = k }, reader.0) wire (subst (λ xs. Contains xs (record { 0 = k }, reader.0)) (sym (are i.wire.0)) reader.1))
+
+    hears : IsListening n run to lines looks k → IsListening n run to new lists k
+    hears listens = listening_on n run to lines new looks lists k kept listens (λ i is x past low news.
+        elim (at_output n ok m r at i.wire.0) as (λ _. IsNews run lines i.wire.0 x ⊎ IsLooking lists k (x + 1 + i.delay - to)) [
+          | inl found ↦ inr (told i is found.0 found.1 (x + 1 + i.delay - to))
+          | inr none ↦ inl (same_news run lines new i.wire.0 x (others i.wire.0 none) news)
+        ])
+
+    by : IsWatching n now new k → IsListening n run to new lists k
+    by (inl live) = hears (watch (inl (back live)))
+    by (inr reads) = elim (at_output n ok m r at reads.0.wire.0) as (λ _. IsListening n run to new lists k) [
+      | inl found ↦ (λ i is x past low news. told reads.0 reads.1 found.0 found.1 (x + 1 + i.delay - to))
+      | inr none ↦ hears (watch (inr (reads.0, reads.1, subst IsTracked (others reads.0.wire.0 none) reads.2)))
     ]

@@ -63,3 +63,11 @@ pub record HasOpened (run : Outcome) (lines new : List Line) (outputs : List Out
   pub before : (p w : ℕ) → (output_in outputs p).wire ≡ Some (record { 0 = w }) → (t : ℕ) → t < a + (output_in outputs p).delay → t < end →
       level_at run new w t ≡ level_at run lines w t
   pub others : (w : ℕ) → ((p : ℕ) → (output_in outputs p).wire ≡ Some (record { 0 = w }) → ⊥) → line_at new w ≡ line_at lines w
+
+-- so it is for the first of these outputs
+pub record HasOpenedTo (run : Outcome) (lines new : List Line) (outputs : List Output) (end a count : ℕ) : Type 0 where
+  pub places : length new ≡ length lines
+  pub own : (p w : ℕ) → p < count → (output_in outputs p).wire ≡ Some (record { 0 = w }) → IsOwn (line_at new w) (a + (output_in outputs p).delay) end
+  pub before : (p w : ℕ) → p < count → (output_in outputs p).wire ≡ Some (record { 0 = w }) → (t : ℕ) → t < a + (output_in outputs p).delay → t < end →
+      level_at run new w t ≡ level_at run lines w t
+  pub others : (w : ℕ) → ((p : ℕ) → p < count → (output_in outputs p).wire ≡ Some (record { 0 = w }) → ⊥) → line_at new w ≡ line_at lines w

@@ -13,3 +13,4 @@ pub mod Ledgers
 pub mod Endings
 pub mod Telling
 pub mod Keeping
+pub mod Steps

@@ -19,3 +19,10 @@ IsTold rows output changes to looks = (w : ℕ) (reader : ModuleId × ℕ) → o
 -- so it is for the first outputs
 abbrev pub AreTold : List (List (ModuleId × ℕ)) → List Output → List (List (ℕ × ℕ)) → ℕ → List (List ModuleId) → ℕ → Type 0
 AreTold rows outputs answers to looks count = (p : ℕ) → p < count → IsTold rows (output_in outputs p) (slice_index_or answers p []) to looks
+
+-- the readers of the wire at an output look in the next unit
+abbrev pub IsWoken : List (List (ModuleId × ℕ)) → Output → List (List ModuleId) → Type 0
+IsWoken rows output looks = (w : ℕ) (reader : ModuleId × ℕ) → output.wire ≡ Some (record { 0 = w }) → Contains (row_at rows w) reader → IsLooking looks reader.0.0 0
+
+abbrev pub AreWoken : List (List (ModuleId × ℕ)) → List Output → List (List ModuleId) → ℕ → Type 0
+AreWoken rows outputs looks count = (p : ℕ) → p < count → IsWoken rows (output_in outputs p) looks

@@ -1,6 +1,7 @@
 //! What has to be evaluated again after a netlist has changed.
 #![tactic(auto)]
 
+mod answering;
 mod cell;
 mod cutting;
 mod drivers;
@@ -12,6 +13,7 @@ mod ledger;
 mod line;
 mod looks;
 mod marks;
+mod opening;
 mod prefix;
 mod responding;
 mod ring;
