@@ -25,3 +25,4 @@ pub mod OverLemmas
 pub mod KeepLemmas
 pub mod StepLemmas
 pub mod OpenLemmas
+pub mod CloseLemmas

@@ -14,3 +14,4 @@ pub mod Endings
 pub mod Telling
 pub mod Keeping
 pub mod Steps
+pub mod Closing

@@ -3,6 +3,7 @@
 
 mod answering;
 mod cell;
+mod closing;
 mod cutting;
 mod drivers;
 mod finishing;
