@@ -21,3 +21,5 @@ pub mod HearerLemmas
 pub mod ListenLemmas
 pub mod StepLemmas
 pub mod OpenLemmas
+pub mod ApartLemmas
+pub mod BeginLemmas

@@ -3,6 +3,7 @@
 
 mod answering;
 mod cell;
+mod comparing;
 mod cutting;
 mod drivers;
 mod giving;
