@@ -23,3 +23,4 @@ pub mod StepLemmas
 pub mod OpenLemmas
 pub mod ApartLemmas
 pub mod BeginLemmas
+pub mod DuringLemmas
