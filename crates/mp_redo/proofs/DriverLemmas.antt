@@ -1,5 +1,5 @@
 -- What drives each wire, found module by module.
-use Rattle.std.proofs.Common.{◌≡◌, ◌⊎◌, ℕ, ◌+◌, ◌<◌, ◌≤◌, List, Option, Some, None, length, get_or, refl, ap, sym, subst, ◌∙◌, arith, inl, inr}
+use Rattle.std.proofs.Common.{◌≡◌, ◌⊎◌, ℕ, ◌+◌, ◌<◌, ◌≤◌, List, Option, Some, None, length, get_or, ap, sym, subst, ◌∙◌, arith, inl, inr}
 use Rattle.std.proofs.lemmas.Bool.{cases_lt, cases_eq}
 use Rattle.std.proofs.lemmas.List.{get_or_default, get_or_past}
 use Rattle.std.proofs.lemmas.Option.{same_Some, none-some}
@@ -10,9 +10,9 @@ use Rattle.mp_records.specs.declared.module_record.ModuleRecord.{ModuleRecord}
 use Rattle.mp_records.specs.Outputs.{output_in}
 use Rattle.mp_netlist.specs.declared.driver.Driver.{Driver}
 use Rattle.mp_netlist.specs.declared.driver.Driver.TheVariants.{Nothing, Port}
-use Rattle.mp_netlist.specs.Circuit.{Circuit, IsCircuit, Drives, module_at, stimulus_at}
-use Rattle.mp_netlist.specs.Drivers.{driver, stimulus_driver}
-use Rattle.mp_netlist.proofs.DriverLemmas.{finds_ports, driven_by}
+use Rattle.mp_netlist.specs.Circuit.{Circuit, IsCircuit, module_at}
+use Rattle.mp_netlist.specs.Drivers.{driver}
+use Rattle.mp_netlist.proofs.DriverLemmas.{finds_ports, driven_by, leaves_no_driver}
 use Rattle.mp_model.proofs.SlotLemmas.{slot_within}
 use Rattle.mp_redo.specs.Drivers.{driver_in, AreDrivers, IsNoted, IsDriverBelow, AreDriversBelow}
 
@@ -94,13 +94,15 @@ below_none n m drivers at are = record {
 
 -- those of all modules
 pub drivers_are : (n : Circuit) → IsCircuit n → (m : ℕ) (drivers : List Driver) → length n.modules ≤ m → AreDriversBelow n m drivers → AreDrivers n drivers
-drivers_are n ok m drivers le are = record {
-  places = are.places;
-  each = λ w low. elim (are.each w low) as (λ _. driver_in drivers w ≡ driver n w) [
+drivers_are n ok m drivers le are w = elim (cases_lt w (length n.wires)) as (λ _. driver_in drivers w ≡ driver n w) [
+  | inl low ↦ elim (are.each w low) as (λ _. driver_in drivers w ≡ driver n w) [
     | inl so ↦ so.3 ∙ sym (finds_ports n ok so.0 so.1 w so.2)
     | inr free ↦ elim (driven_by n w) as (λ _. driver_in drivers w ≡ driver n w) [
       | inl found ↦ absurd (free.0 found.0 found.1 (let within = slot_within n.modules found.0 found.2.part found.2.stands in omega (arith, within, le)) found.2)
       | inr by ↦ free.1 ∙ sym by
     ]
-  ];
-}
+  ]
+  | inr past ↦
+      get_or_past drivers w Nothing (let places = are.places in omega (arith, past, places))
+      ∙ sym (leaves_no_driver n ok w (get_or_past n.wires w None past))
+]

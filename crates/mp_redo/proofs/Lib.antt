@@ -16,11 +16,16 @@ pub mod MarkedLemmas
 pub mod RingLemmas
 pub mod GiveLemmas
 pub mod DriverLemmas
+pub mod StartLemmas
+pub mod EndLemmas
 pub mod AnswerLemmas
 pub mod HearerLemmas
 pub mod ListenLemmas
+pub mod OverLemmas
+pub mod KeepLemmas
 pub mod StepLemmas
 pub mod OpenLemmas
 pub mod ApartLemmas
 pub mod BeginLemmas
 pub mod DuringLemmas
+pub mod CloseLemmas

@@ -1,12 +1,11 @@
 -- Lists of modules for the units to come.
-use Rattle.std.proofs.Common.{◌≡◌, ℕ, ◌+◌, ◌-◌, ◌<◌, ◌≤◌, Bool, true, List, [], ◌∷◌, ◌++◌, length, drop, slice_index_or, slice_set, zero, suc, refl, ap, sym, subst, ◌∙◌, arith, inl, inr}
+use Rattle.std.proofs.Common.{◌≡◌, ℕ, ◌+◌, ◌<◌, ◌≤◌, Bool, true, List, [], ◌∷◌, ◌++◌, length, drop, slice_index_or, slice_set, zero, suc, refl, ap, sym, subst, ◌∙◌, arith, inl, inr}
 use Rattle.std.specs.List.{Contains}
 use Rattle.std.proofs.lemmas.Bool.{cases_eq, cases_lt}
 use Rattle.std.proofs.lemmas.List.{get_or-set_same, get_or-set_other, get_or_append_left, get_or-drop, get_or_past, length-drop, length-append}
 use Rattle.std.proofs.lemmas.List.Elements.{Contains-append_left, Contains-push}
 use Rattle.mp_records.specs.declared.ids.ModuleId.{ModuleId}
-use Rattle.mp_engine.specs.Marks.{is_marked, AreListed, AreAdded}
-use Rattle.mp_engine.proofs.MarkLemmas.{none_in}
+use Rattle.mp_engine.specs.Marks.{is_marked, AreAdded}
 use Rattle.mp_redo.specs.Redoing.{looks_at, IsLooking}
 use Rattle.mp_redo.specs.Rings.{AreKept, AreTaken}
 

@@ -37,7 +37,7 @@ module _ (old new : Circuit) (old_ok : IsCircuit old) (new_ok : IsCircuit new) (
       ap (λ k. cond (has_width r.kind) k 1)
       (widths_same old new revised w (wire_at old w) (wire_at new w) refl refl (was.reads 0 no_input some).0 (now.reads 0 no_input some).0)
 
-  built_same : built old r ≡ built new r
+  pub built_same : built old r ≡ built new r
   built_same = ap (any_part_of r.kind r.params) width_same
 
   pub old_inputs : (t : ℕ) → inputs old m t ≡ inputs_by old (level old) r t

@@ -12,9 +12,8 @@ abbrev pub driver_in : List Driver → ℕ → Driver
 driver_in drivers w = slice_index_or drivers w Nothing
 
 -- they are the drivers of the wires, by number
-pub record AreDrivers (n : Circuit) (drivers : List Driver) : Type 0 where
-  pub places : length drivers ≡ length n.wires
-  pub each : (w : ℕ) → w < length n.wires → driver_in drivers w ≡ driver n w
+abbrev pub AreDrivers : Circuit → List Driver → Type 0
+AreDrivers n drivers = (w : ℕ) → driver_in drivers w ≡ driver n w
 
 -- the wire's port among the first count of these outputs of the module m, if any, or else another driver
 abbrev pub IsNoted : ModuleId → List Output → ℕ → ℕ → Driver → Driver → Type 0

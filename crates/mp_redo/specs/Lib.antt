@@ -8,5 +8,10 @@ pub mod Rings
 pub mod Prefixes
 pub mod Answers
 pub mod Drivers
+pub mod Starts
+pub mod Ledgers
+pub mod Endings
 pub mod Telling
+pub mod Keeping
 pub mod Steps
+pub mod Closing

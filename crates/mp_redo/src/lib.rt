@@ -3,11 +3,15 @@
 
 mod answering;
 mod cell;
+mod closing;
 mod comparing;
 mod cutting;
 mod drivers;
+mod finishing;
 mod giving;
+mod keeping;
 pub mod laws;
+mod ledger;
 mod line;
 mod looks;
 mod marks;
@@ -15,6 +19,8 @@ mod opening;
 mod prefix;
 mod responding;
 mod ring;
+mod set_wires;
+mod starting;
 mod stretch;
 mod telling;
 mod work_entry;

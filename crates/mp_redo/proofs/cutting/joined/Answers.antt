@@ -1,8 +1,6 @@
-use Rattle.std.proofs.Common.{◌≡◌, ◌≢◌, ◌∷◌, [], ◌++◌, ℕ, List, ap, sym, subst, ◌∙◌}
+use Rattle.std.proofs.Common.{◌≡◌, ◌≢◌, ◌++◌, ℕ, List, ap, sym, ◌∙◌}
 use Rattle.mp_wave.specs.Waveform.{level_from, last_from}
-use Rattle.mp_response.specs.declared.in_piece.InPiece.{InPiece}
-use Rattle.mp_response.specs.Pieces.{IsInPiece, piece_level}
-use Rattle.mp_redo.specs.Prefixes.{switched}
+use Rattle.mp_response.specs.Pieces.{IsInPiece}
 use Rattle.mp_redo.proofs.CutLemmas.{IsMiddle, middle_same, middle_more, joined_form, joined_levels}
 use Rattle.mp_redo.proofs.cutting.joined.Goals as goal
 use Rattle.mp_redo.proofs.cutting.joined.Goals.{then-before-second+in_ok-push, else-before-second}

@@ -1,4 +1,4 @@
-use Rattle.std.proofs.Common.{arith, ap, sym, subst, ◌∙◌}
+use Rattle.std.proofs.Common.{arith, sym, subst}
 use Rattle.std.proofs.lemmas.Result.{IfOk-weaker}
 use Rattle.mp_wave.specs.Waveform.{Waveform, level_of}
 use Rattle.mp_redo.specs.Prefixes.{IsUpTo}

@@ -1,7 +1,6 @@
-use Rattle.std.proofs.Common.{◌≡◌, sym, subst}
+use Rattle.std.proofs.Common.{sym, subst}
 use Rattle.std.proofs.lemmas.Result.{IfOk-weaker}
-use Rattle.mp_wave.specs.Waveform.{level_of, kept_before}
-use Rattle.mp_wave.specs.Building.{Building}
+use Rattle.mp_wave.specs.Waveform.{level_of}
 use Rattle.mp_redo.specs.Lines.{level_in}
 use Rattle.mp_redo.specs.Prefixes.{IsUpTo}
 use Rattle.mp_redo.proofs.PrefixLemmas.{kept_up_to}
