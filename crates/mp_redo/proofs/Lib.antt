@@ -25,4 +25,7 @@ pub mod OverLemmas
 pub mod KeepLemmas
 pub mod StepLemmas
 pub mod OpenLemmas
+pub mod ApartLemmas
+pub mod BeginLemmas
+pub mod DuringLemmas
 pub mod CloseLemmas

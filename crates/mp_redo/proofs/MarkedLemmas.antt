@@ -77,16 +77,16 @@ module _ (old new : Circuit) (old_ok : IsCircuit old) (new_ok : IsCircuit new) (
         kept = was.kept;
       }
 
-  module _ (marks : List Bool) (all : (m ahead : ℕ) → from + ahead < to → IsLooking looks m ahead → is_marked marks m ≡ true) where
-    unmarked : (m : ℕ) → is_marked marks m ≡ false → (ahead : ℕ) → from + ahead < to → IsLooking looks m ahead → ⊥
-    unmarked m not ahead low looking = let is = all m ahead low looking in cc
+  module _ (marks : List Bool) (all : (m ahead : ℕ) (r : ModuleRecord) → module_at new m ≡ Some r → from + ahead < to → IsLooking looks m ahead → is_marked marks m ≡ true) where
+    unmarked : (m : ℕ) (r : ModuleRecord) → module_at new m ≡ Some r → is_marked marks m ≡ false → (ahead : ℕ) → from + ahead < to → IsLooking looks m ahead → ⊥
+    unmarked m r at not ahead low looking = let is = all m ahead r at low looking in cc
 
     pub still_cells : AreCells old new c (answered_to from to marks) cells
     still_cells = record {
       places = before.modules.places;
       each = λ m r at. elim (cases_Bool (is_marked marks m)) as (λ _. IsCellAt old new c (answered_to from to marks m) m r (cell_at cells m)) [
         | inl is ↦ subst (λ t. IsCellAt old new c t m r (cell_at cells m)) (sym (answered_marked from to marks m is)) (before.modules.each m r at)
-        | inr not ↦ subst (λ t. IsCellAt old new c t m r (cell_at cells m)) (sym (answered_unmarked from to marks m not)) (still_cell m r at (unmarked m not))
+        | inr not ↦ subst (λ t. IsCellAt old new c t m r (cell_at cells m)) (sym (answered_unmarked from to marks m not)) (still_cell m r at (unmarked m r at not))
       ];
     }
 
@@ -100,7 +100,7 @@ module _ (old new : Circuit) (old_ok : IsCircuit old) (new_ok : IsCircuit new) (
 
         at_live : is_marked marks m ≡ false → t < to + d → (cell_at cells m).live ≡ true → level_at run lines w t ≡ level new w t
         at_live not under live =
-            let none = unmarked m not in
+            let none = unmarked m drives.part drives.stands not in
             let last = last_of m drives.part drives.stands none live in
             let next = last.1 in
             let stay = states_same old new old_ok new_ok revised run is_run c from to cells lines looks before short within m drives.part drives.stands none live last.0 next in
@@ -113,7 +113,7 @@ module _ (old new : Circuit) (old_ok : IsCircuit old) (new_ok : IsCircuit new) (
             let was = before.modules.each m drives.part drives.stands in
             let same = idle_kept old new c from from m drives.part (cell_at cells m) was (was.quiet quiet) in
             is.follows m p drives quiet t past
-            ∙ idle_line old new old_ok new_ok revised run is_run c to m p w drives same (still_idle m drives.part drives.stands (unmarked m not) quiet) t (omega (arith, block, past)) under low
+            ∙ idle_line old new old_ok new_ok revised run is_run c to m p w drives same (still_idle m drives.part drives.stands (unmarked m drives.part drives.stands not) quiet) t (omega (arith, block, past)) under low
 
         by : (is_marked marks m ≡ true) ⊎ (is_marked marks m ≡ false) → level_at run lines w t ≡ level new w t
         by (inl marked) = let e = answered_marked from to marks m marked in absurd (omega (arith, e, past, below))

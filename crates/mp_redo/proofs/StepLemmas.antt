@@ -1,5 +1,5 @@
 -- One module answers in a window.
-use Rattle.std.proofs.Common.{◌≡◌, ◌≢◌, ◌⊎◌, ℕ, ◌+◌, ◌-◌, ◌<◌, ◌≤◌, true, List, [], Some, length, slice_index_or, refl, ap, sym, subst, ◌∙◌, arith}
+use Rattle.std.proofs.Common.{◌≡◌, ◌≢◌, ◌⊎◌, ℕ, ◌+◌, ◌-◌, ◌<◌, ◌≤◌, true, List, [], Some, length, slice_index_or, refl, ap, sym, subst, ◌∙◌, arith, inl, inr}
 use Rattle.mp_modules.specs.declared.memory.Memory.{Memory}
 use Rattle.mp_modules.specs.Kinds.{output_count}
 use Rattle.mp_storage.specs.AnyModules.{kind_of}
@@ -18,12 +18,12 @@ use Rattle.mp_depend.specs.Known.{AreReaders}
 use Rattle.mp_engine.specs.Outcomes.{Outcome}
 use Rattle.mp_redo.specs.declared.cell.Cell.{Cell}
 use Rattle.mp_redo.specs.declared.line.Line.{Line}
-use Rattle.mp_redo.specs.Redoing.{AreLines, IsListening}
+use Rattle.mp_redo.specs.Redoing.{line_at, AreLines, IsListening, IsTracked, IsWatching}
 use Rattle.mp_redo.specs.Rings.{AreKept}
 use Rattle.mp_redo.specs.Answers.{CanGive, HasGiven, HasOpened}
-use Rattle.mp_redo.specs.Steps.{IsAt, IsStep, AreReady, GoesOn, GoesOnFrom, GoesOnListening}
+use Rattle.mp_redo.specs.Steps.{IsAt, IsStep, AreReady, GoesOn, GoesOnFrom, GoesOnListening, GoesOnWatching}
 use Rattle.mp_redo.specs.Telling.{AreTold}
-use Rattle.mp_redo.proofs.LineLemmas.{output_stands}
+use Rattle.mp_redo.proofs.LineLemmas.{output_stands, own_tracked}
 use Rattle.mp_redo.proofs.AnswerLemmas.{before_alike, port_within, delay_ok, outputs_apart, memory_after, can_give, answered_lines}
 use Rattle.mp_redo.proofs.ListenLemmas.{listening_given, at_output}
 
@@ -61,10 +61,24 @@ module _ (n : Circuit) (ok : IsCircuit n) (r : ModuleRecord) (memory : Memory) (
     goes_on_from given gave m begin times later cells after at le step are =
         answered_lines n ok m r at.stands from to piece (span_of m at) rise run lines opened has size within (stand m at.stands) times later cells after given are gave begin step.was le step.now step.same_times step.same_cells step.live
 
-  pub goes_on_listening : (m : ℕ) → IsAt n m from r memory → (run : Outcome) (rows : List (List (ModuleId × ℕ))) (lines given : List Line) (looks new : List (List ModuleId)) → AreReaders n rows
+  goes_on_listening : (m : ℕ) → IsAt n m from r memory → (run : Outcome) (rows : List (List (ModuleId × ℕ))) (lines given : List Line) (looks new : List (List ModuleId)) → AreReaders n rows
       → HasGiven lines given r.outputs piece.outputs n.horizon from to (length r.outputs) → AreKept looks new → AreTold rows r.outputs piece.outputs to new (length r.outputs)
       → GoesOnListening n run to lines given looks new
   goes_on_listening m at run rows lines given looks new are gave kept told k listens =
       listening_given n run rows from to lines given looks new r.outputs piece.outputs k are
       (λ p w wire. (delay_ok r.outputs p (ok.modules_ok m r at.stands).delays (port_within r.outputs p w wire)).0)
       gave kept told (at_output n ok m r at.stands) listens
+
+  -- whoever reads a line of its outputs watched before
+  pub goes_on_watching : (m : ℕ) → IsAt n m from r memory → (run : Outcome) (rows : List (List (ModuleId × ℕ))) (lines given : List Line) (looks new : List (List ModuleId)) → AreReaders n rows → AreReady lines r.outputs from n.horizon
+      → HasGiven lines given r.outputs piece.outputs n.horizon from to (length r.outputs) → AreKept looks new → AreTold rows r.outputs piece.outputs to new (length r.outputs)
+      → GoesOnWatching n run to lines given looks new
+  goes_on_watching m at run rows lines given looks new are ready gave kept told k cells now back watch watching =
+      goes_on_listening m at run rows lines given looks new are gave kept told k (watch (before watching))
+    where
+      before : IsWatching n now given k → IsWatching n cells lines k
+      before (inl live) = inl (back live)
+      before (inr reads) = elim (at_output n ok m r at.stands reads.0.wire.0) as (λ _. IsWatching n cells lines k) [
+        | inl found ↦ inr (reads.0, reads.1, own_tracked (line_at lines reads.0.wire.0) (from + (output_in r.outputs found.0).delay) n.horizon (ready found.0 reads.0.wire.0 found.1))
+        | inr none ↦ inr (reads.0, reads.1, subst IsTracked (gave.others reads.0.wire.0 (λ p low wire. none p wire)) reads.2)
+      ]

@@ -11,7 +11,7 @@ use Rattle.mp_netlist.specs.Circuit.{Circuit, Drives, wire_at, module_at}
 use Rattle.mp_model.specs.Waves.{level}
 use Rattle.mp_model.specs.Reach.{IsApart, IsTouched}
 use Rattle.mp_engine.specs.Checkpoints.{state_before}
-use Rattle.mp_engine.specs.Marks.{is_marked}
+use Rattle.mp_engine.specs.Marks.{is_marked, AreListed}
 use Rattle.mp_engine.specs.Outcomes.{Outcome, wave_of}
 use Rattle.mp_redo.specs.declared.cell.Cell.{Cell}
 use Rattle.mp_redo.specs.declared.line.Line.{Line}
@@ -114,3 +114,11 @@ pub record IsBefore (old new : Circuit) (run : Outcome) (c t : ℕ) (cells : Lis
   pub listening : (m : ℕ) → IsWatching new cells lines m → IsListening new run t lines looks m
   pub first : t ≡ 0 → (m : ℕ) → (cell_at cells m).live ≡ true → Contains (looks_at looks 0) (record { 0 = m })
   pub fresh : (m u : ℕ) → (cell_at cells m).live ≡ false → u + 1 ≡ t → IsApart old new m u → Contains (looks_at looks 0) (record { 0 = m })
+
+-- in the window from one time to another: the modules that aren't marked have answered, and those that aren't among the due ones
+-- listen from the window's end on
+pub record IsDuring (old new : Circuit) (run : Outcome) (c from to : ℕ) (due : List ModuleId) (marks : List Bool) (cells : List Cell) (lines : List Line) (looks : List (List ModuleId)) : Type 0 where
+  pub modules : AreCells old new c (answered_to from to marks) cells
+  pub wires : AreLines new run (answered_to from to marks) cells lines
+  pub listening : (m : ℕ) → (Contains due (record { 0 = m }) → ⊥) → IsWatching new cells lines m → IsListening new run to lines looks m
+  pub listed : AreListed marks due

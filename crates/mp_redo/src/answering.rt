@@ -4,7 +4,7 @@ ghost use Rattle.mp_netlist.specs.Circuit.{IsCircuit, IsModule};
 ghost use Rattle.mp_depend.specs.Known.{AreReaders};
 ghost use Rattle.mp_redo.specs.Answers.{IsHeardBy};
 ghost use Rattle.mp_redo.specs.Rings.{AreKept};
-ghost use Rattle.mp_redo.specs.Steps.{IsAt, AreReady, GoesOn, GoesOnListening, StandsSomewhere};
+ghost use Rattle.mp_redo.specs.Steps.{IsAt, AreReady, GoesOn, GoesOnWatching, StandsSomewhere};
 
 use crate::giving::give_all;
 use crate::line::Line;
@@ -46,7 +46,7 @@ pub(crate) fn answer_live(
     ensures places { OnOk result (length looks.new.items ≡ length looks.old.items) }
     ensures kept { OnOk result (AreKept looks.old.items looks.new.items) }
     ensures wires { OnOk result (GoesOn netlist.now run.now lines.old.items lines.new.items found.now memory from to) }
-    ensures listening { OnOk result (GoesOnListening netlist.now run.now to lines.old.items lines.new.items looks.old.items looks.new.items) }
+    ensures watching { OnOk result (GoesOnWatching netlist.now run.now to lines.old.items lines.new.items looks.old.items looks.new.items) }
 {
     let piece = respond_in(
         alloc,
@@ -65,7 +65,7 @@ pub(crate) fn answer_live(
     Ok(piece.memory)
 }
 
-ghost use Rattle.mp_redo.specs.Steps.{GoesOnFrom, GoesOnWatching};
+ghost use Rattle.mp_redo.specs.Steps.{GoesOnFrom};
 
 use crate::opening::open_all;
 use crate::telling::wake_outputs;

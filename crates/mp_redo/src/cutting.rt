@@ -109,3 +109,40 @@ fn last_level(level: u64, changes: &[(u32, u64)]) -> u64
     }
     last
 }
+
+ghost use Rattle.std.specs.Prelude.{◌≢◌, ◌↔◌, IsTrue, true, false};
+
+/// Whether both pieces have the same level at the first time, and the same changes.
+fn is_same(one: &InPiece, other: &InPiece) -> bool
+    ensures { IsTrue result ↔ ((one.now.at_from ≡ other.now.at_from) × (one.now.changes ≡ other.now.changes)) }
+{
+    one.at_from == other.at_from && are_same(one.changes.as_slice(), other.changes.as_slice())
+}
+
+fn are_same(one: &[(u32, u64)], other: &[(u32, u64)]) -> bool
+    ensures { IsTrue result ↔ (one.now ≡ other.now) }
+{
+    one == other
+}
+
+/// Whether an input hears anything else over a span than in the old run.
+pub(crate) fn hears_other(
+    alloc: Global,
+    line: &Line,
+    run: &Run,
+    wire: WireId,
+    delay: u32,
+    from: u32,
+    to: u32,
+) -> Result<bool, AllocError>
+    requires { from < to }
+    ensures other { IfOk result (λ other. other ≡ true → (t : ℕ) × (from ≤ t) × (t < to) × (line_level line.now (wave_of run.now wire.0) (t - delay) ≢ level_in (wave_of run.now wire.0) (t - delay))) }
+    ensures same { IfOk result (λ other. other ≡ false → (t : ℕ) → from ≤ t → t < to → line_level line.now (wave_of run.now wire.0) (t - delay) ≡ level_in (wave_of run.now wire.0) (t - delay)) }
+{
+    let Line::Own { .. } = line else {
+        return Ok(false);
+    };
+    let new = cut(alloc, line, run, wire, delay, from, to)?;
+    let old = cut_run(alloc, run, wire, delay, from, to)?;
+    Ok(!is_same(&new, &old))
+}

@@ -4,6 +4,7 @@
 mod answering;
 mod cell;
 mod closing;
+mod comparing;
 mod cutting;
 mod drivers;
 mod finishing;

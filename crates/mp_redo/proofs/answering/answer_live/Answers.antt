@@ -5,7 +5,7 @@ use Rattle.mp_redo.specs.Answers.{CanGive, CanGiveSome, HasGiven, AreApart}
 use Rattle.mp_redo.specs.Telling.{AreTold}
 use Rattle.mp_redo.proofs.AnswerLemmas.{outputs_apart}
 use Rattle.mp_redo.proofs.GiveLemmas.{given_as}
-use Rattle.mp_redo.proofs.StepLemmas.{opened_already, ends_at, ports_alike, able, goes_on, goes_on_listening}
+use Rattle.mp_redo.proofs.StepLemmas.{opened_already, ends_at, ports_alike, able, goes_on, goes_on_watching}
 use Rattle.mp_redo.proofs.answering.answer_live.Goals as goal
 
 pub give_all-requires-clause-ports : goal.give_all-requires-clause-ports
@@ -60,8 +60,8 @@ returns-clause-wires c = λ m times later cells after at.
     let gave = given_as lines new c.as_slice-outputs.result.now r.outputs c.ports-answers.result.now piece.outputs c.horizon.result n.horizon a b c.as_slice-outputs.ensures c.ports-answers.ensures c.horizon.ensures.value c.in_ok-give_all.ensures can in
     goes_on n c.requires.form r c.args.memory a b piece c.in_ok-piece.ensures rise c.args.run.now lines lines opened c.requires.places c.requires.within new gave m times later cells after at
 
-pub returns-clause-listening : goal.returns-clause-listening
-returns-clause-listening c =
+pub returns-clause-watching : goal.returns-clause-watching
+returns-clause-watching c =
     let n = c.args.netlist.now in
     let r = c.args.found.now in
     let lines = c.args.lines.now.items in
@@ -80,4 +80,4 @@ returns-clause-listening c =
     let told : AreTold rows r.outputs piece.outputs b lists (length r.outputs)
     = subst (λ xs. AreTold rows r.outputs xs b lists (length r.outputs)) c.ports-answers.ensures
     (subst (λ ps. AreTold rows ps c.ports-answers.result.now b lists (length ps)) c.as_slice-outputs.ensures c.in_ok-tell_outputs.ensures.told) in
-    goes_on_listening n c.requires.form r c.args.memory a b piece c.in_ok-piece.ensures rise stands.0 stands.1 c.args.run.now rows lines new looks lists c.requires.rows gave c.in_ok-tell_outputs.ensures.kept told
+    goes_on_watching n c.requires.form r c.args.memory a b piece c.in_ok-piece.ensures rise stands.0 stands.1 c.args.run.now rows lines new looks lists c.requires.rows c.requires.ready gave c.in_ok-tell_outputs.ensures.kept told
