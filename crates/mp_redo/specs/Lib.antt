@@ -6,3 +6,14 @@ pub mod Stretches
 pub mod Redoing
 pub mod Merges
 pub mod WholeWork
+pub mod Rings
+pub mod Prefixes
+pub mod Answers
+pub mod Drivers
+pub mod Starts
+pub mod Ledgers
+pub mod Endings
+pub mod Telling
+pub mod Keeping
+pub mod Steps
+pub mod Closing

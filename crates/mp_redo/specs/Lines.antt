@@ -1,7 +1,7 @@
 -- The levels of a wire after a change of its netlist, over its wave before, if it had one.
 use Rattle.std.specs.Prelude.{ℕ, ◌≤◌, Option, Some, None, nat_lt, if◌then◌else◌}
 use Rattle.mp_wave.specs.Waveform.{Waveform, level_of}
-use Rattle.mp_wave.specs.Building.{Building}
+use Rattle.mp_wave.specs.Building.{IsBuilding}
 use Rattle.mp_redo.specs.declared.line.Line.{Line}
 use Rattle.mp_redo.specs.declared.line.Line.TheVariants.{Old, Own}
 
@@ -18,4 +18,4 @@ line_level (Own wave until) old t = if nat_lt t until then level_of wave.wave t 
 -- the line is its own up to an end at least, and its levels from the time next on can still be given
 abbrev pub IsOwn : Line → ℕ → ℕ → Type 0
 IsOwn Old next end = ⊥
-IsOwn (Own wave until) next end = (wave.next ≤ next) × (end ≤ until)
+IsOwn (Own wave until) next end = IsBuilding wave × (wave.next ≤ next) × (end ≤ until)

@@ -1,5 +1,5 @@
 -- What holds of a re-evaluation between two windows.
-use Rattle.std.specs.Prelude.{◌≡◌, ◌≢◌, ◌⊎◌, ℕ, ◌+◌, ◌-◌, ◌*◌, ◌<◌, ◌≤◌, Bool, true, false, List, [], Some, length, slice_index_or}
+use Rattle.std.specs.Prelude.{◌≡◌, ◌≢◌, ◌⊎◌, ℕ, ◌+◌, ◌-◌, ◌*◌, ◌<◌, ◌≤◌, Bool, true, false, List, [], Some, length, slice_index_or, if◌then◌else◌}
 use Rattle.std.specs.List.{Contains}
 use Rattle.mp_modules.specs.declared.memory.Memory.{Memory}
 use Rattle.mp_modules.specs.Memories.{blank}
@@ -11,6 +11,7 @@ use Rattle.mp_netlist.specs.Circuit.{Circuit, Drives, wire_at, module_at}
 use Rattle.mp_model.specs.Waves.{level}
 use Rattle.mp_model.specs.Reach.{IsApart, IsTouched}
 use Rattle.mp_engine.specs.Checkpoints.{state_before}
+use Rattle.mp_engine.specs.Marks.{is_marked, AreListed}
 use Rattle.mp_engine.specs.Outcomes.{Outcome, wave_of}
 use Rattle.mp_redo.specs.declared.cell.Cell.{Cell}
 use Rattle.mp_redo.specs.declared.line.Line.{Line}
@@ -35,6 +36,10 @@ level_at run lines w t = line_level (line_at lines w) (wave_of run w) t
 
 abbrev pub looks_at : List (List ModuleId) → ℕ → List ModuleId
 looks_at looks k = slice_index_or looks k []
+
+-- to which time a module has answered in a window from one time to another: those that are marked are still to answer
+abbrev pub answered_to : ℕ → ℕ → List Bool → ℕ → ℕ
+answered_to from to marks m = if is_marked marks m then from else to
 
 -- the module is at work at a time of the block that begins at c
 abbrev pub IsWorking : Circuit → Circuit → ℕ → ℕ → ℕ → Type 0
@@ -109,3 +114,11 @@ pub record IsBefore (old new : Circuit) (run : Outcome) (c t : ℕ) (cells : Lis
   pub listening : (m : ℕ) → IsWatching new cells lines m → IsListening new run t lines looks m
   pub first : t ≡ 0 → (m : ℕ) → (cell_at cells m).live ≡ true → Contains (looks_at looks 0) (record { 0 = m })
   pub fresh : (m u : ℕ) → (cell_at cells m).live ≡ false → u + 1 ≡ t → IsApart old new m u → Contains (looks_at looks 0) (record { 0 = m })
+
+-- in the window from one time to another: the modules that aren't marked have answered, and those that aren't among the due ones
+-- listen from the window's end on
+pub record IsDuring (old new : Circuit) (run : Outcome) (c from to : ℕ) (due : List ModuleId) (marks : List Bool) (cells : List Cell) (lines : List Line) (looks : List (List ModuleId)) : Type 0 where
+  pub modules : AreCells old new c (answered_to from to marks) cells
+  pub wires : AreLines new run (answered_to from to marks) cells lines
+  pub listening : (m : ℕ) → (Contains due (record { 0 = m }) → ⊥) → IsWatching new cells lines m → IsListening new run to lines looks m
+  pub listed : AreListed marks due
