@@ -65,7 +65,7 @@ fn station_of<'a, R: Wait, G: Gate>(
 }
 
 /// The evaluation of a part after time 0.
-fn begun<R: Wait, G: Gate>(
+pub(crate) fn begun<R: Wait, G: Gate>(
     rt: &R,
     alloc: Global,
     netlist: &Netlist,
