@@ -29,3 +29,4 @@ pub mod ApartLemmas
 pub mod BeginLemmas
 pub mod DuringLemmas
 pub mod CloseLemmas
+pub mod NewsLemmas
