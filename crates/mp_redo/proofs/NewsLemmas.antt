@@ -1,5 +1,5 @@
 -- When a wave changes next.
-use Rattle.std.proofs.Common.{◌≡◌, ℕ, ◌+◌, ◌-◌, ◌<◌, ◌≤◌, List, [], ◌∷◌, length, slice_index_or, refl, sym, ◌∙◌, arith}
+use Rattle.std.proofs.Common.{◌≡◌, ℕ, ◌+◌, ◌<◌, ◌≤◌, List, [], ◌∷◌, length, slice_index_or, refl, sym, ◌∙◌, arith}
 use Rattle.std.proofs.lemmas.Bool.{lt-leb}
 use Rattle.mp_wave.specs.Waveform.{Waveform, IsWaveform, level_from, level_of, between}
 use Rattle.mp_wave.proofs.PrefixLemmas.{cut_levels}
