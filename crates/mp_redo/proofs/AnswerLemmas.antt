@@ -1,14 +1,12 @@
 -- The lines of a module's outputs when it has answered.
-use Rattle.std.proofs.Common.{◌≡◌, ◌≢◌, ◌⊎◌, ℕ, ◌+◌, ◌-◌, ◌^◌, ◌<◌, ◌≤◌, ◌==◌, true, false, cond, List, [], ◌∷◌, ◌++◌, Option, Some, None, length, slice_index_or, zero, suc, refl, ap, sym, subst, ◌∙◌, arith, inl, inr}
+use Rattle.std.proofs.Common.{◌≡◌, ◌≢◌, ℕ, ◌+◌, ◌-◌, ◌<◌, ◌≤◌, ◌==◌, true, false, cond, List, [], ◌∷◌, ◌++◌, Some, None, length, slice_index_or, zero, suc, refl, ap, sym, subst, ◌∙◌, arith, inl, inr}
 use Rattle.std.specs.Prelude.{All}
 use Rattle.std.proofs.lemmas.Bool.{cases_lt, cases_eq, cases_Bool}
 use Rattle.mp_wave.specs.Waveform.{level_from}
-use Rattle.mp_modules.specs.declared.memory.Memory.{Memory}
 use Rattle.mp_modules.specs.Kinds.{output_count}
 use Rattle.mp_modules.specs.Memories.{output_of}
 use Rattle.mp_storage.specs.AnyModules.{kind_of}
 use Rattle.mp_records.specs.declared.ids.ModuleId.{ModuleId}
-use Rattle.mp_records.specs.declared.ids.WireId.{WireId}
 use Rattle.mp_records.specs.declared.ports.Output.{Output}
 use Rattle.mp_records.specs.declared.module_record.ModuleRecord.{ModuleRecord}
 use Rattle.mp_records.specs.Outputs.{output_in, output_at, delay_of}
@@ -26,16 +24,15 @@ use Rattle.mp_model.proofs.HistoryLemmas.{late}
 use Rattle.mp_response.specs.declared.piece.Piece.{Piece}
 use Rattle.mp_response.specs.Delays as spans
 use Rattle.mp_response.specs.Pieces.{put_off}
-use Rattle.mp_response.specs.Span.{IsSpan, extended, output_changes, state_after}
+use Rattle.mp_response.specs.Span.{extended, output_changes, state_after}
 use Rattle.mp_response.proofs.DelayLemmas.{ends_in_state, gives_levels}
-use Rattle.mp_response.proofs.SpanLemmas.{changes_more}
 use Rattle.mp_engine.specs.Checkpoints.{state_before}
 use Rattle.mp_engine.specs.Outcomes.{Outcome, wave_of}
 use Rattle.mp_redo.specs.declared.cell.Cell.{Cell}
 use Rattle.mp_redo.specs.declared.line.Line.{Line}
 use Rattle.mp_redo.specs.Lines.{line_level, IsOwn}
-use Rattle.mp_redo.specs.Redoing.{level_at, line_at, cell_at, IsGiven, IsLineAt, AreLines}
-use Rattle.mp_redo.specs.Answers.{CanTake, CanGive, HasTaken, HasGiven, HasOpened, AreApart}
+use Rattle.mp_redo.specs.Redoing.{level_at, line_at, cell_at, IsLineAt, AreLines}
+use Rattle.mp_redo.specs.Answers.{CanGive, HasTaken, HasGiven, HasOpened, AreApart}
 use Rattle.mp_redo.proofs.LineLemmas.{one_delay}
 
 -- the state before a time, as spans and as runs have it

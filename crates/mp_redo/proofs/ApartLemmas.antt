@@ -1,9 +1,9 @@
 -- Two pieces of an input over a span.
-use Rattle.std.proofs.Common.{◌≡◌, ◌≢◌, ◌⊎◌, ℕ, ◌+◌, ◌-◌, ◌<◌, ◌≤◌, Bool, true, false, List, refl, ap, sym, subst, ◌∙◌, arith, inl, inr}
+use Rattle.std.proofs.Common.{◌≡◌, ◌≢◌, ◌⊎◌, ℕ, ◌+◌, ◌-◌, ◌<◌, ◌≤◌, Bool, true, false, List, ap, sym, ◌∙◌, arith, inl, inr}
 use Rattle.std.specs.Prelude.{not}
 use Rattle.std.specs.List.{Contains}
 use Rattle.std.proofs.lemmas.Bool.{cases_lt, cases_eq}
-use Rattle.mp_wave.specs.Waveform.{Waveform, IsWaveform, AreChanges, level_from, level_of, last_time, last_from}
+use Rattle.mp_wave.specs.Waveform.{Waveform, level_from}
 use Rattle.mp_wave.proofs.PrefixLemmas.{level_from-over}
 use Rattle.mp_wave.proofs.WaveformLemmas.{AreChanges-earlier, level_from-before, same_levels}
 use Rattle.mp_response.specs.declared.in_piece.InPiece.{InPiece}

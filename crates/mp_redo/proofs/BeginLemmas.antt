@@ -1,6 +1,5 @@
 -- A window begins.
-use Rattle.std.proofs.Common.{◌≡◌, ◌⊎◌, ℕ, ◌+◌, ◌-◌, ◌<◌, ◌≤◌, Bool, true, false, List, Some, length, refl, ap, sym, subst, ◌∙◌, arith, inl, inr}
-use Rattle.std.specs.List.{Contains}
+use Rattle.std.proofs.Common.{◌≡◌, ℕ, ◌+◌, ◌<◌, ◌≤◌, Bool, true, List, Some, length, arith, inl, inr}
 use Rattle.std.proofs.lemmas.Bool.{cases_lt}
 use Rattle.mp_records.specs.declared.ids.ModuleId.{ModuleId}
 use Rattle.mp_records.specs.declared.module_record.ModuleRecord.{ModuleRecord}
@@ -13,7 +12,7 @@ use Rattle.mp_engine.specs.Runs.{IsRun}
 use Rattle.mp_redo.specs.declared.cell.Cell.{Cell}
 use Rattle.mp_redo.specs.declared.line.Line.{Line}
 use Rattle.mp_redo.specs.Revisions.{IsRevision}
-use Rattle.mp_redo.specs.Redoing.{looks_at, IsLooking, IsWatching, IsListening, IsBefore, IsDuring}
+use Rattle.mp_redo.specs.Redoing.{IsLooking, IsListening, IsBefore, IsDuring}
 use Rattle.mp_redo.specs.Rings.{AreTaken}
 use Rattle.mp_redo.proofs.ListenLemmas.{listening_taken}
 use Rattle.mp_redo.proofs.MarkedLemmas.{still_cells, still_lines}

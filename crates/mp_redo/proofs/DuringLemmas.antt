@@ -1,7 +1,7 @@
 -- One more module has answered in a window.
-use Rattle.std.proofs.Common.{◌≡◌, ◌≢◌, ◌⊎◌, ℕ, ◌+◌, ◌-◌, ◌<◌, ◌≤◌, Bool, true, false, cond, List, [], ◌∷◌, Some, length, slice_set, refl, ap, sym, subst, ◌∙◌, arith, inl, inr}
+use Rattle.std.proofs.Common.{◌≡◌, ◌≢◌, ℕ, ◌+◌, ◌<◌, ◌≤◌, Bool, true, false, cond, List, Some, length, slice_set, ap, sym, subst, ◌∙◌, arith, inl, inr}
 use Rattle.std.specs.List.{Contains}
-use Rattle.std.proofs.lemmas.Bool.{cases_lt, cases_eq, cases_Bool}
+use Rattle.std.proofs.lemmas.Bool.{cases_lt, cases_eq}
 use Rattle.std.proofs.lemmas.List.{get_or-set_same, get_or-set_other}
 use Rattle.mp_records.specs.declared.ids.ModuleId.{ModuleId}
 use Rattle.mp_records.specs.declared.module_record.ModuleRecord.{ModuleRecord}
@@ -16,10 +16,10 @@ use Rattle.mp_engine.proofs.MarkLemmas.{marked_within}
 use Rattle.mp_redo.specs.declared.cell.Cell.{Cell}
 use Rattle.mp_redo.specs.declared.line.Line.{Line}
 use Rattle.mp_redo.specs.Revisions.{IsRevision}
-use Rattle.mp_redo.specs.Redoing.{level_at, line_at, cell_at, answered_to, IsWorking, IsCellAt, AreCells, AreLines, IsLineAt, IsWatching, IsListening, IsDuring}
+use Rattle.mp_redo.specs.Redoing.{level_at, cell_at, answered_to, IsWorking, IsCellAt, AreLines, IsDuring}
 use Rattle.mp_redo.specs.Steps.{IsStep, GoesOnWatching}
 use Rattle.mp_redo.proofs.LineLemmas.{one_delay, idle_kept, idle_line, line_on}
-use Rattle.mp_redo.proofs.MarkedLemmas.{answered_marked, answered_least}
+use Rattle.mp_redo.proofs.MarkedLemmas.{answered_marked}
 
 answered_other : (from to : ℕ) (marks : List Bool) (m k : ℕ) → (k ≡ m → ⊥) → answered_to from to (slice_set marks m false) k ≡ answered_to from to marks k
 answered_other from to marks m k other = ap (λ (b : Bool). cond b from to) (get_or-set_other marks m k false false other)

@@ -1,30 +1,26 @@
 -- What a module hears at its inputs in a window, by the lines of the wires.
-use Rattle.std.proofs.Common.{◌≡◌, ◌≢◌, ◌⊎◌, ℕ, ◌+◌, ◌-◌, ◌<◌, ◌≤◌, List, [], ◌∷◌, Option, Some, None, IsSome, map, length, slice_index_or, zero, suc, refl, ap, sym, subst, ◌∙◌, arith, inl, inr}
+use Rattle.std.proofs.Common.{◌≡◌, ℕ, ◌+◌, ◌-◌, ◌<◌, ◌≤◌, List, [], ◌∷◌, Option, Some, None, IsSome, map, length, suc, refl, ap, sym, subst, ◌∙◌, arith, inl, inr}
 use Rattle.std.specs.List.{Contains}
 use Rattle.std.proofs.lemmas.Bool.{cases_lt, cases_eq}
-use Rattle.mp_wave.specs.Waveform.{Waveform, level_of}
+use Rattle.mp_wave.specs.Waveform.{Waveform}
 use Rattle.mp_wave.proofs.ChangesLemmas.{levels_of_wave}
-use Rattle.mp_modules.specs.declared.memory.Memory.{Memory}
 use Rattle.mp_records.specs.declared.ids.ModuleId.{ModuleId}
 use Rattle.mp_records.specs.declared.ports.Input.{Input}
 use Rattle.mp_records.specs.declared.wire_record.WireRecord.{WireRecord}
 use Rattle.mp_records.specs.declared.module_record.ModuleRecord.{ModuleRecord}
-use Rattle.mp_records.specs.Outputs.{delay_of}
-use Rattle.mp_netlist.specs.Circuit.{Circuit, IsCircuit, Drives, wire_at, module_at}
+use Rattle.mp_netlist.specs.Circuit.{Circuit, IsCircuit, wire_at, module_at}
 use Rattle.mp_netlist.specs.Delays.{least_delay}
 use Rattle.mp_netlist.proofs.DelayLemmas.{delays_are_least}
-use Rattle.mp_model.specs.Levels.{input_by, inputs_by}
-use Rattle.mp_model.specs.Waves.{level, state, wave, slot_wave}
-use Rattle.mp_model.specs.Reach.{IsApart}
+use Rattle.mp_model.specs.Levels.{input_by}
+use Rattle.mp_model.specs.Waves.{level, slot_wave}
 use Rattle.mp_model.proofs.InputLemmas.{input_is}
-use Rattle.mp_model.proofs.QuietLemmas.{same_inputs}
 use Rattle.mp_model.proofs.SlotLemmas.{no_some, some_within}
 use Rattle.mp_engine.specs.Outcomes.{Outcome, wave_of}
 use Rattle.mp_engine.specs.Runs.{IsRun}
 use Rattle.mp_redo.specs.declared.cell.Cell.{Cell}
 use Rattle.mp_redo.specs.declared.line.Line.{Line}
 use Rattle.mp_redo.specs.Lines.{level_in}
-use Rattle.mp_redo.specs.Redoing.{level_at, line_at, cell_at, AreLines, IsGiven, IsInput, IsWatching, IsListening, IsLooking, IsNews}
+use Rattle.mp_redo.specs.Redoing.{level_at, AreLines, IsGiven, IsInput, IsListening, IsLooking, IsNews}
 
 -- the wire at an input stands
 pub input_stands : (n : Circuit) → IsCircuit n → (m : ℕ) (r : ModuleRecord) (i : Input) → module_at n m ≡ Some r → Contains r.inputs i → IsSome (wire_at n i.wire.0)

@@ -1,12 +1,11 @@
 -- Who reads a wire.
-use Rattle.std.proofs.Common.{◌≡◌, ℕ, ◌+◌, ◌<◌, ◌≤◌, ◌==◌, true, List, [], ◌∷◌, Option, Some, None, length, slice_index_or, zero, suc, refl, ap, sym, subst, ◌∙◌, arith, eq-eqb}
+use Rattle.std.proofs.Common.{◌≡◌, ℕ, ◌+◌, ◌<◌, ◌==◌, List, [], ◌∷◌, Some, None, length, slice_index_or, zero, suc, refl, ap, subst, ◌∙◌, arith, eq-eqb}
 use Rattle.std.specs.List.{Contains, enumerate_from}
 use Rattle.mp_records.specs.declared.ids.ModuleId.{ModuleId}
 use Rattle.mp_records.specs.declared.ports.Input.{Input}
-use Rattle.mp_records.specs.declared.module_record.ModuleRecord.{ModuleRecord}
 use Rattle.mp_netlist.specs.Circuit.{Circuit}
-use Rattle.mp_netlist.specs.Readers.{readers, readers_in, ports_at}
-use Rattle.mp_model.proofs.MemberLemmas.{contains_here, contains_there, contains_filter, contains_map, contains_flat_map}
+use Rattle.mp_netlist.specs.Readers.{readers, readers_in}
+use Rattle.mp_model.proofs.MemberLemmas.{contains_filter, contains_map, contains_flat_map}
 use Rattle.mp_model.proofs.SlotLemmas.{slot_within}
 use Rattle.mp_redo.specs.Redoing.{IsInput}
 

@@ -1,16 +1,13 @@
 -- Ledgers while modules answer.
-use Rattle.std.proofs.Common.{◌≡◌, ℕ, ◌+◌, ◌<◌, ◌≤◌, Bool, true, false, List, [], ◌∷◌, ◌++◌, length, get_or, slice_set, refl, ap, sym, subst, ◌∙◌, arith, inl, inr}
-use Rattle.std.specs.Prelude.{All}
+use Rattle.std.proofs.Common.{◌≡◌, ℕ, ◌+◌, ◌<◌, ◌≤◌, true, false, List, [], ◌∷◌, ◌++◌, length, get_or, slice_set, sym, subst, ◌∙◌, arith, inl, inr}
 use Rattle.std.proofs.lemmas.Bool.{cases_lt, cases_eq}
 use Rattle.std.proofs.lemmas.List.{get_or_default, get_or_push, get_or_append_left, get_or-set_same, get_or-set_other}
 use Rattle.std.proofs.lemmas.List.Elements.{All-weaker}
-use Rattle.mp_modules.specs.declared.memory.Memory.{Memory}
-use Rattle.mp_modules.specs.Memories.{blank}
 use Rattle.mp_records.specs.declared.module_record.ModuleRecord.{ModuleRecord}
 use Rattle.mp_netlist.specs.Slots.{slot_at}
 use Rattle.mp_netlist.specs.Circuit.{Circuit}
 use Rattle.mp_engine.specs.declared.checkpoints.Checkpoint.{Checkpoint}
-use Rattle.mp_engine.specs.Checkpoints.{state_before, IsBorder, KeepsFrom}
+use Rattle.mp_engine.specs.Checkpoints.{state_before, IsBorder}
 use Rattle.mp_engine.specs.Outcomes.{Outcome}
 use Rattle.mp_redo.specs.declared.cell.Cell.{Cell}
 use Rattle.mp_redo.specs.declared.ledger.Ledger.{Ledger}

@@ -31,3 +31,4 @@ pub mod ApartLemmas
 pub mod BeginLemmas
 pub mod DuringLemmas
 pub mod CloseLemmas
+pub mod NewsLemmas

@@ -1,8 +1,7 @@
 -- What the lines of wires are while modules answer.
-use Rattle.std.proofs.Common.{◌≡◌, ◌≢◌, ◌⊎◌, ℕ, ◌+◌, ◌-◌, ◌<◌, ◌≤◌, Bool, true, false, cond, List, [], ◌∷◌, Option, Some, None, IsSome, IfSome, length, nat_lt, zero, suc, refl, ap, sym, subst, ◌∙◌, arith, inl, inr}
-use Rattle.std.proofs.lemmas.Bool.{cases_lt, cases_eq, cases_Bool, lt-ltb, le-ltb}
-use Rattle.mp_wave.specs.Waveform.{Waveform, level_of}
-use Rattle.mp_wave.specs.Building.{Building, IsBuilding}
+use Rattle.std.proofs.Common.{◌≡◌, ℕ, ◌+◌, ◌-◌, ◌<◌, ◌≤◌, List, Option, Some, IsSome, IfSome, suc, refl, ap, sym, subst, ◌∙◌, arith, inl, inr}
+use Rattle.std.proofs.lemmas.Bool.{cases_lt, cases_Bool, lt-ltb}
+use Rattle.mp_wave.specs.Waveform.{Waveform}
 use Rattle.mp_modules.specs.declared.memory.Memory.{Memory}
 use Rattle.mp_modules.specs.Memories.{output_of}
 use Rattle.mp_modules.specs.Kinds.{output_width}
@@ -16,7 +15,6 @@ use Rattle.mp_netlist.specs.Circuit.{Circuit, IsCircuit, Drives, HasWidth, modul
 use Rattle.mp_netlist.specs.Drivers.{driver}
 use Rattle.mp_netlist.proofs.DriverLemmas.{finds_ports, finds_only_ports}
 use Rattle.mp_model.specs.Waves.{level, state}
-use Rattle.mp_model.specs.Reach.{IsApart, IsTouched}
 use Rattle.mp_model.proofs.TrackLemmas.{stays}
 use Rattle.mp_model.proofs.EvaluationLemmas.{port_level_is}
 use Rattle.mp_engine.specs.Checkpoints.{state_before}
@@ -27,8 +25,7 @@ use Rattle.mp_redo.specs.declared.line.Line.{Line}
 use Rattle.mp_redo.specs.declared.line.Line.TheVariants.{Old, Own}
 use Rattle.mp_redo.specs.Lines.{level_in, line_level, IsOwn}
 use Rattle.mp_redo.specs.Revisions.{IsRevision, IsKept, AgreeBefore, IsDrivenAlike}
-use Rattle.mp_redo.specs.Work.{Differs}
-use Rattle.mp_redo.specs.Redoing.{level_at, line_at, cell_at, IsWorking, IsCellAt, IsGiven, IsLineAt, AreLines, IsTracked}
+use Rattle.mp_redo.specs.Redoing.{level_at, line_at, IsWorking, IsCellAt, IsGiven, IsLineAt, IsTracked}
 use Rattle.mp_redo.proofs.HeardLemmas.{old_level}
 use Rattle.mp_redo.proofs.LevelLemmas.{levels_stay}
 use Rattle.mp_redo.proofs.SameLemmas.{same, same_memories}

@@ -1,5 +1,5 @@
 -- Modules that listen go on listening.
-use Rattle.std.proofs.Common.{◌≡◌, ◌≢◌, ◌⊎◌, ℕ, ◌+◌, ◌-◌, ◌<◌, ◌≤◌, Bool, true, false, List, [], ◌∷◌, Some, length, slice_index_or, zero, suc, refl, ap, sym, subst, ◌∙◌, arith, inl, inr}
+use Rattle.std.proofs.Common.{◌≡◌, ◌⊎◌, ℕ, ◌+◌, ◌-◌, ◌<◌, ◌≤◌, Bool, List, [], ◌∷◌, Some, length, slice_index_or, refl, ap, sym, subst, ◌∙◌, arith, inl, inr}
 use Rattle.std.specs.List.{Contains}
 use Rattle.std.proofs.lemmas.Bool.{cases_lt, cases_eq, lt-leb}
 use Rattle.mp_wave.specs.Waveform.{level_from}
@@ -13,19 +13,16 @@ use Rattle.mp_netlist.specs.declared.driver.Driver.TheVariants.{Nothing, Stimulu
 use Rattle.mp_netlist.specs.Circuit.{Circuit, IsCircuit, module_at}
 use Rattle.mp_netlist.specs.Drivers.{driver}
 use Rattle.mp_netlist.proofs.DriverLemmas.{finds_ports, finds_only_ports}
-use Rattle.mp_netlist.specs.Readers.{readers}
 use Rattle.mp_response.specs.Pieces.{put_off}
-use Rattle.mp_depend.specs.Rows.{row_at}
 use Rattle.mp_depend.specs.Known.{AreReaders}
 use Rattle.mp_engine.specs.Outcomes.{Outcome, wave_of}
 use Rattle.mp_redo.specs.declared.line.Line.{Line}
-use Rattle.mp_redo.specs.Lines.{line_level, level_in}
+use Rattle.mp_redo.specs.Lines.{line_level}
 use Rattle.mp_redo.specs.Redoing.{level_at, line_at, looks_at, IsInput, IsNews, IsLooking, IsListening, IsTracked, IsWatching}
-use Rattle.mp_redo.specs.declared.cell.Cell.{Cell}
 use Rattle.mp_redo.specs.Steps.{GoesOnWatching}
 use Rattle.mp_redo.specs.Rings.{AreKept, AreTaken}
 use Rattle.mp_redo.specs.Answers.{HasTaken, HasGiven}
-use Rattle.mp_redo.specs.Telling.{IsTold, AreTold, AreWoken, first_time}
+use Rattle.mp_redo.specs.Telling.{AreTold, AreWoken, first_time}
 use Rattle.mp_redo.proofs.RingLemmas.{looking_kept}
 use Rattle.mp_redo.proofs.HearerLemmas.{is_reader}
 use Rattle.mp_redo.proofs.AnswerLemmas.{port_within}

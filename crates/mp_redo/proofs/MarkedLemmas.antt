@@ -1,20 +1,18 @@
 -- When a window begins: the modules that don't look in it have answered.
 use Rattle.std.proofs.Common.{◌≡◌, ◌⊎◌, ℕ, ◌+◌, ◌-◌, ◌<◌, ◌≤◌, Bool, true, false, cond, List, Some, zero, suc, refl, ap, sym, subst, ◌∙◌, arith, inl, inr}
-use Rattle.std.proofs.lemmas.Bool.{cases_lt, cases_eq, cases_Bool}
+use Rattle.std.proofs.lemmas.Bool.{cases_lt, cases_Bool}
 use Rattle.mp_records.specs.declared.ids.ModuleId.{ModuleId}
 use Rattle.mp_records.specs.declared.module_record.ModuleRecord.{ModuleRecord}
 use Rattle.mp_records.specs.Outputs.{delay_of}
 use Rattle.mp_netlist.specs.Circuit.{Circuit, IsCircuit, Drives, module_at}
 use Rattle.mp_netlist.specs.Delays.{least_delay}
-use Rattle.mp_model.specs.Waves.{level, state}
-use Rattle.mp_model.specs.Reach.{IsApart}
-use Rattle.mp_engine.specs.Checkpoints.{state_before}
+use Rattle.mp_model.specs.Waves.{level}
 use Rattle.mp_engine.specs.Marks.{is_marked}
 use Rattle.mp_engine.specs.Outcomes.{Outcome, wave_of}
 use Rattle.mp_engine.specs.Runs.{IsRun}
 use Rattle.mp_redo.specs.declared.cell.Cell.{Cell}
 use Rattle.mp_redo.specs.declared.line.Line.{Line}
-use Rattle.mp_redo.specs.Revisions.{IsRevision, IsKept}
+use Rattle.mp_redo.specs.Revisions.{IsRevision}
 use Rattle.mp_redo.specs.Redoing.{level_at, line_at, cell_at, answered_to, IsWorking, IsCellAt, AreCells, AreLines, IsLineAt, IsLooking, IsBefore}
 use Rattle.mp_redo.proofs.LineLemmas.{before_is, one_delay, own_held, idle_kept, idle_line, still_levels, line_on}
 use Rattle.mp_redo.proofs.StillLemmas.{states_same, not_apart}

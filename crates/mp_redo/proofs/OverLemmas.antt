@@ -3,7 +3,6 @@ use Rattle.std.proofs.Common.{◌≡◌, ℕ, ◌+◌, ◌-◌, ◌%◌, ◌<◌
 use Rattle.std.specs.Prelude.{◌&&◌, if◌then◌else◌}
 use Rattle.std.proofs.lemmas.Bool.{cases_lt, and_from, lt-ltb, eq-eqb}
 use Rattle.std.proofs.lemmas.Option.{same_Some, none-some}
-use Rattle.mp_modules.specs.declared.memory.Memory.{Memory}
 use Rattle.mp_records.specs.declared.module_record.ModuleRecord.{ModuleRecord}
 use Rattle.mp_storage.specs.AnyModules.{start}
 use Rattle.mp_modules.specs.Memories.{blank}

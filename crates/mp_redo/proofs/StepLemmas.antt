@@ -1,8 +1,7 @@
 -- One module answers in a window.
-use Rattle.std.proofs.Common.{◌≡◌, ◌≢◌, ◌⊎◌, ℕ, ◌+◌, ◌-◌, ◌<◌, ◌≤◌, true, List, [], Some, length, slice_index_or, refl, ap, sym, subst, ◌∙◌, arith, inl, inr}
+use Rattle.std.proofs.Common.{◌≡◌, ℕ, ◌+◌, ◌<◌, ◌≤◌, List, Some, length, refl, ap, sym, subst, ◌∙◌, arith, inl, inr}
 use Rattle.mp_modules.specs.declared.memory.Memory.{Memory}
 use Rattle.mp_modules.specs.Kinds.{output_count}
-use Rattle.mp_storage.specs.AnyModules.{kind_of}
 use Rattle.mp_storage.proofs.KindLemmas.{keeps_kind}
 use Rattle.mp_records.specs.declared.ids.ModuleId.{ModuleId}
 use Rattle.mp_records.specs.declared.module_record.ModuleRecord.{ModuleRecord}
@@ -16,15 +15,14 @@ use Rattle.mp_response.specs.Delays as spans
 use Rattle.mp_response.specs.Span.{IsSpan}
 use Rattle.mp_depend.specs.Known.{AreReaders}
 use Rattle.mp_engine.specs.Outcomes.{Outcome}
-use Rattle.mp_redo.specs.declared.cell.Cell.{Cell}
 use Rattle.mp_redo.specs.declared.line.Line.{Line}
-use Rattle.mp_redo.specs.Redoing.{line_at, AreLines, IsListening, IsTracked, IsWatching}
+use Rattle.mp_redo.specs.Redoing.{line_at, IsTracked, IsWatching}
 use Rattle.mp_redo.specs.Rings.{AreKept}
 use Rattle.mp_redo.specs.Answers.{CanGive, HasGiven, HasOpened}
-use Rattle.mp_redo.specs.Steps.{IsAt, IsStep, AreReady, GoesOn, GoesOnFrom, GoesOnListening, GoesOnWatching}
+use Rattle.mp_redo.specs.Steps.{IsAt, AreReady, GoesOn, GoesOnFrom, GoesOnListening, GoesOnWatching}
 use Rattle.mp_redo.specs.Telling.{AreTold}
 use Rattle.mp_redo.proofs.LineLemmas.{output_stands, own_tracked}
-use Rattle.mp_redo.proofs.AnswerLemmas.{before_alike, port_within, delay_ok, outputs_apart, memory_after, can_give, answered_lines}
+use Rattle.mp_redo.proofs.AnswerLemmas.{before_alike, port_within, delay_ok, memory_after, can_give, answered_lines}
 use Rattle.mp_redo.proofs.ListenLemmas.{listening_given, at_output}
 
 -- a line that can be given levels needn't be opened

@@ -1,5 +1,5 @@
 -- Modules that don't look at their inputs in a window.
-use Rattle.std.proofs.Common.{◌≡◌, ◌≢◌, ◌⊎◌, ℕ, ◌+◌, ◌-◌, ◌<◌, ◌≤◌, true, false, List, [], ◌∷◌, Some, IsSome, map, length, slice_index_or, zero, suc, refl, ap, sym, subst, ◌∙◌, arith, inl, inr}
+use Rattle.std.proofs.Common.{◌≡◌, ℕ, ◌+◌, ◌-◌, ◌<◌, ◌≤◌, true, false, List, [], ◌∷◌, Some, map, zero, suc, refl, ap, sym, subst, ◌∙◌, arith, inl, inr}
 use Rattle.std.specs.List.{Contains}
 use Rattle.std.proofs.lemmas.Bool.{cases_lt, cases_eq}
 use Rattle.mp_modules.specs.declared.memory.Memory.{Memory}
@@ -8,7 +8,7 @@ use Rattle.mp_records.specs.declared.ports.Input.{Input}
 use Rattle.mp_records.specs.declared.module_record.ModuleRecord.{ModuleRecord}
 use Rattle.mp_netlist.specs.Circuit.{Circuit, IsCircuit, wire_at, module_at}
 use Rattle.mp_netlist.specs.Delays.{least_delay}
-use Rattle.mp_model.specs.Levels.{input_by, inputs_by}
+use Rattle.mp_model.specs.Levels.{input_by}
 use Rattle.mp_model.specs.Waves.{level, state}
 use Rattle.mp_model.specs.Reach.{IsApart}
 use Rattle.mp_model.proofs.InputLemmas.{input_is}
@@ -21,7 +21,7 @@ use Rattle.mp_redo.specs.declared.line.Line.{Line}
 use Rattle.mp_redo.specs.declared.line.Line.TheVariants.{Old, Own}
 use Rattle.mp_redo.specs.Lines.{level_in, line_level}
 use Rattle.mp_redo.specs.Revisions.{IsRevision, IsKept}
-use Rattle.mp_redo.specs.Redoing.{level_at, line_at, cell_at, looks_at, AreLines, IsInput, IsWatching, IsListening, IsLooking, IsTracked, IsBefore}
+use Rattle.mp_redo.specs.Redoing.{level_at, line_at, cell_at, IsListening, IsLooking, IsTracked, IsBefore}
 use Rattle.mp_redo.proofs.HeardLemmas.{input_stands, map_same, heard_now, heard_on, no_news, unheard, old_level}
 use Rattle.mp_redo.proofs.LevelLemmas.{initials_same}
 use Rattle.mp_redo.proofs.StayLemmas.{old_inputs, new_inputs, together}

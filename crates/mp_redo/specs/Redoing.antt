@@ -1,13 +1,12 @@
 -- What holds of a re-evaluation between two windows.
-use Rattle.std.specs.Prelude.{◌≡◌, ◌≢◌, ◌⊎◌, ℕ, ◌+◌, ◌-◌, ◌*◌, ◌<◌, ◌≤◌, Bool, true, false, List, [], Some, length, slice_index_or, if◌then◌else◌}
+use Rattle.std.specs.Prelude.{◌≡◌, ◌≢◌, ◌⊎◌, ℕ, ◌+◌, ◌-◌, ◌<◌, ◌≤◌, Bool, true, false, List, [], Some, length, slice_index_or, if◌then◌else◌}
 use Rattle.std.specs.List.{Contains}
-use Rattle.mp_modules.specs.declared.memory.Memory.{Memory}
 use Rattle.mp_modules.specs.Memories.{blank}
 use Rattle.mp_records.specs.declared.ids.ModuleId.{ModuleId}
 use Rattle.mp_records.specs.declared.ports.Input.{Input}
 use Rattle.mp_records.specs.declared.module_record.ModuleRecord.{ModuleRecord}
 use Rattle.mp_records.specs.Outputs.{delay_of}
-use Rattle.mp_netlist.specs.Circuit.{Circuit, Drives, wire_at, module_at}
+use Rattle.mp_netlist.specs.Circuit.{Circuit, Drives, module_at}
 use Rattle.mp_model.specs.Waves.{level}
 use Rattle.mp_model.specs.Reach.{IsApart, IsTouched}
 use Rattle.mp_engine.specs.Checkpoints.{state_before}
@@ -18,7 +17,7 @@ use Rattle.mp_redo.specs.declared.line.Line.{Line}
 use Rattle.mp_redo.specs.declared.line.Line.TheVariants.{Old, Own}
 use Rattle.mp_redo.specs.declared.stretch.Stretch.{Stretch}
 use Rattle.mp_redo.specs.Lines.{level_in, line_level, IsOwn}
-use Rattle.mp_redo.specs.Stretches.{stretch_at, AreStretchesTo}
+use Rattle.mp_redo.specs.Stretches.{stretch_at}
 use Rattle.mp_redo.specs.Work.{Differs, IsApartIn}
 
 abbrev pub no_cell : Cell

@@ -1,9 +1,9 @@
 -- Lists of modules for the units to come, the next first.
-use Rattle.std.specs.Prelude.{◌≡◌, ℕ, ◌+◌, ◌-◌, ◌<◌, ◌≤◌, Bool, true, List, length}
+use Rattle.std.specs.Prelude.{◌≡◌, ℕ, ◌+◌, ◌<◌, Bool, true, List, length}
 use Rattle.std.specs.List.{Contains}
 use Rattle.mp_records.specs.declared.ids.ModuleId.{ModuleId}
 use Rattle.mp_engine.specs.Marks.{is_marked, AreListed}
-use Rattle.mp_redo.specs.Redoing.{looks_at, IsLooking}
+use Rattle.mp_redo.specs.Redoing.{looks_at}
 
 -- no list has lost a module
 abbrev pub AreKept : List (List ModuleId) → List (List ModuleId) → Type 0

@@ -1,6 +1,5 @@
 -- Work by stretches of time: a module works from one time to the end of a window, and then in each window up to a last end.
-use Rattle.std.specs.Prelude.{◌≡◌, ◌⊎◌, ◌↔◌, ℕ, ◌<◌, ◌≤◌, List, length, slice_index_or}
-use Rattle.mp_records.specs.declared.ids.ModuleId.{ModuleId}
+use Rattle.std.specs.Prelude.{◌≡◌, ◌⊎◌, ℕ, ◌<◌, ◌≤◌, List, length, slice_index_or}
 use Rattle.mp_netlist.specs.Circuit.{Circuit}
 use Rattle.mp_redo.specs.declared.stretch.Stretch.{Stretch}
 use Rattle.mp_redo.specs.Work.{IsWindow, IsEntry}

@@ -15,6 +15,7 @@ mod ledger;
 mod line;
 mod looks;
 mod marks;
+mod news;
 mod opening;
 mod prefix;
 mod responding;

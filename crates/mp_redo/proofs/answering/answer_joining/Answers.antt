@@ -1,9 +1,6 @@
-use Rattle.std.proofs.Common.{◌≡◌, ℕ, ◌+◌, ◌^◌, ◌<◌, ◌≤◌, List, Some, length, sym, subst, ap, ◌∙◌, arith}
-use Rattle.mp_records.specs.declared.ports.Output.{Output}
+use Rattle.std.proofs.Common.{◌≡◌, ◌+◌, ◌^◌, ◌<◌, ◌≤◌, Some, length, sym, subst, ap, ◌∙◌, arith}
 use Rattle.mp_records.specs.Outputs.{output_in}
-use Rattle.mp_redo.specs.declared.line.Line.{Line}
-use Rattle.mp_redo.specs.Redoing.{line_at}
-use Rattle.mp_redo.specs.Answers.{CanGive, HasGiven, HasOpened, HasOpenedTo, AreApart}
+use Rattle.mp_redo.specs.Answers.{CanGive, AreApart}
 use Rattle.mp_redo.specs.Telling.{AreWoken}
 use Rattle.mp_redo.proofs.AnswerLemmas.{outputs_apart, delay_ok}
 use Rattle.mp_redo.proofs.GiveLemmas.{given_as}

@@ -1,7 +1,5 @@
-use Rattle.std.proofs.Common.{◌≡◌, ℕ, ◌<◌, ◌≤◌, List, length, sym, subst, ap, ◌∙◌, arith}
-use Rattle.mp_records.specs.declared.ports.Output.{Output}
-use Rattle.mp_redo.specs.declared.line.Line.{Line}
-use Rattle.mp_redo.specs.Answers.{CanGive, CanGiveSome, HasGiven, AreApart}
+use Rattle.std.proofs.Common.{◌≤◌, length, sym, subst, ap, ◌∙◌, arith}
+use Rattle.mp_redo.specs.Answers.{CanGive, AreApart}
 use Rattle.mp_redo.specs.Telling.{AreTold}
 use Rattle.mp_redo.proofs.AnswerLemmas.{outputs_apart}
 use Rattle.mp_redo.proofs.GiveLemmas.{given_as}

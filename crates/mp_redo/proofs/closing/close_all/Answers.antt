@@ -1,11 +1,11 @@
-use Rattle.std.proofs.Common.{◌≡◌, ℕ, ◌+◌, ◌^◌, ◌<◌, List, Some, None, length, slice_index_or, sym, subst, arith}
+use Rattle.std.proofs.Common.{◌≡◌, ℕ, ◌+◌, ◌^◌, ◌<◌, Some, None, length, slice_index_or, sym, subst, arith}
 use Rattle.mp_records.specs.declared.ports.Output.{Output}
 use Rattle.mp_records.specs.Outputs.{output_in}
 use Rattle.mp_engine.specs.Outcomes.{wave_of}
 use Rattle.mp_redo.specs.Closing.{HasClosed}
 use Rattle.mp_redo.specs.Lines.{level_in}
 use Rattle.mp_redo.specs.Prefixes.{switched}
-use Rattle.mp_redo.specs.Redoing.{line_at, level_at}
+use Rattle.mp_redo.specs.Redoing.{level_at}
 use Rattle.mp_redo.proofs.GiveLemmas.{read_output}
 use Rattle.mp_redo.proofs.CloseLemmas.{closed_none, closed_more}
 use Rattle.mp_redo.proofs.closing.close_all.Goals as goal

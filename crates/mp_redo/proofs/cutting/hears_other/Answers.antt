@@ -1,5 +1,4 @@
-use Rattle.std.proofs.Common.{◌≡◌, ◌≢◌, ℕ, ◌-◌, ◌<◌, ◌≤◌, true, sym, ◌∙◌}
-use Rattle.mp_response.specs.Pieces.{piece_level}
+use Rattle.std.proofs.Common.{sym, ◌∙◌}
 use Rattle.mp_redo.proofs.ApartLemmas.{other_pieces, never_both}
 use Rattle.mp_redo.proofs.cutting.hears_other.Goals as goal
 

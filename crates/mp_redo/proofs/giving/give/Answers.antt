@@ -1,9 +1,6 @@
-use Rattle.std.proofs.Common.{◌≡◌, ℕ, ◌+◌, ◌<◌, ◌≤◌, List, [], ◌∷◌, length, refl, sym, subst, ap, ◌∙◌, arith}
-use Rattle.std.specs.Prelude.{Option}
-use Rattle.mp_wave.specs.Waveform.{Waveform}
-use Rattle.mp_redo.specs.declared.line.Line.{Line}
-use Rattle.mp_redo.specs.Lines.{line_level, IsOwn}
-use Rattle.mp_redo.specs.Answers.{CanTake, HasTaken, CanTakeSome}
+use Rattle.std.proofs.Common.{◌≡◌, ℕ, ◌+◌, ◌<◌, List, [], ◌∷◌, length, refl, sym, subst, arith}
+use Rattle.mp_redo.specs.Lines.{IsOwn}
+use Rattle.mp_redo.specs.Answers.{CanTake, HasTaken}
 use Rattle.mp_redo.proofs.LineLemmas.{own_later, own_shorter}
 use Rattle.mp_redo.proofs.GiveLemmas.{took_none, took_past, took_more, can_more}
 use Rattle.mp_redo.proofs.giving.give.Goals as goal

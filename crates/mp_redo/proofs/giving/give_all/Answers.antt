@@ -1,10 +1,9 @@
-use Rattle.std.proofs.Common.{◌≡◌, ℕ, ◌+◌, ◌<◌, ◌≤◌, List, [], Some, None, length, slice_index_or, refl, sym, subst, ap, ◌∙◌, arith, inl, inr}
+use Rattle.std.proofs.Common.{◌≡◌, ◌<◌, [], Some, None, length, slice_index_or, sym, subst, arith}
 use Rattle.std.proofs.lemmas.List.{get_or_read}
 use Rattle.mp_records.specs.declared.ports.Output.{Output}
 use Rattle.mp_records.specs.Outputs.{output_in}
-use Rattle.mp_redo.specs.declared.line.Line.{Line}
 use Rattle.mp_redo.specs.Redoing.{line_at}
-use Rattle.mp_redo.specs.Answers.{CanTake, CanTakeSome, HasTaken, CanGive, HasGiven}
+use Rattle.mp_redo.specs.Answers.{CanTake, CanTakeSome, HasTaken, HasGiven}
 use Rattle.mp_redo.proofs.GiveLemmas.{given_none, given_more, can_next, read_output}
 use Rattle.mp_redo.proofs.giving.give_all.Goals as goal
 

@@ -1,8 +1,8 @@
-use Rattle.std.proofs.Common.{◌≡◌, ℕ, ◌+◌, ◌^◌, ◌<◌, List, Some, None, length, slice_index_or, sym, subst, ap, arith}
+use Rattle.std.proofs.Common.{◌≡◌, ℕ, ◌+◌, ◌^◌, ◌<◌, Some, None, length, slice_index_or, sym, subst, arith}
 use Rattle.mp_records.specs.declared.ports.Output.{Output}
 use Rattle.mp_records.specs.Outputs.{output_in}
 use Rattle.mp_redo.specs.Lines.{IsOwn}
-use Rattle.mp_redo.specs.Redoing.{line_at, level_at}
+use Rattle.mp_redo.specs.Redoing.{line_at}
 use Rattle.mp_redo.specs.Answers.{HasOpenedTo}
 use Rattle.mp_redo.proofs.GiveLemmas.{read_output}
 use Rattle.mp_redo.proofs.OpenLemmas.{opened_none, opened_more}

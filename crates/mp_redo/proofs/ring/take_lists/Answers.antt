@@ -1,4 +1,4 @@
-use Rattle.std.proofs.Common.{◌≡◌, ◌+◌, ◌∷◌, [], ◌++◌, drop, sym, subst, arith}
+use Rattle.std.proofs.Common.{◌≡◌, ◌+◌, sym, subst, arith}
 use Rattle.mp_redo.specs.Rings.{AreTaken}
 use Rattle.mp_redo.proofs.RingLemmas.{taken_none, taken_more}
 use Rattle.mp_redo.proofs.ring.take_lists.Goals as goal

@@ -1,4 +1,4 @@
-use Rattle.std.proofs.Common.{◌≡◌, ℕ, ◌+◌, ◌∷◌, [], take, slice_index_or, sym, subst, ◌∙◌, ap, arith, inl, inr}
+use Rattle.std.proofs.Common.{ℕ, ◌∷◌, [], take, slice_index_or, sym, subst, ◌∙◌, arith, inl, inr}
 use Rattle.std.specs.List.{Contains}
 use Rattle.std.proofs.lemmas.List.{take_more, take_all}
 use Rattle.std.proofs.lemmas.List.Elements.{Contains-append_cases}

@@ -1,11 +1,10 @@
-use Rattle.std.proofs.Common.{◌≡◌, ℕ, ◌+◌, ◌-◌, ◌<◌, List, Some, length, slice_index_or, sym, subst, ap, ◌∙◌, arith}
+use Rattle.std.proofs.Common.{◌≡◌, ℕ, ◌+◌, ◌-◌, List, sym, subst, ap, ◌∙◌}
 use Rattle.std.specs.List.{Contains}
 use Rattle.std.proofs.lemmas.Result.{on_ok_weaker}
 use Rattle.mp_records.specs.declared.ids.WireId.{WireId}
-use Rattle.mp_records.specs.declared.ids.ModuleId.{ModuleId}
 use Rattle.mp_depend.specs.Rows.{row_at}
 use Rattle.mp_redo.specs.Redoing.{IsLooking}
-use Rattle.mp_redo.specs.Telling.{IsTold, first_time}
+use Rattle.mp_redo.specs.Telling.{first_time}
 use Rattle.mp_redo.proofs.telling.tell_output.Goals as goal
 
 pub returns-clause-told : goal.returns-clause-told

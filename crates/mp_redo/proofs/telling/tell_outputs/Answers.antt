@@ -1,9 +1,8 @@
-use Rattle.std.proofs.Common.{◌≡◌, ℕ, ◌+◌, ◌-◌, ◌<◌, ◌≤◌, List, [], Some, None, length, slice_index_or, refl, sym, subst, ap, ◌∙◌, arith, inl, inr}
+use Rattle.std.proofs.Common.{◌≡◌, ◌+◌, ◌-◌, ◌<◌, [], None, length, slice_index_or, refl, sym, subst, ◌∙◌, arith, inl, inr}
 use Rattle.std.proofs.lemmas.Bool.{cases_eq}
 use Rattle.std.proofs.lemmas.List.{get_or_read}
 use Rattle.mp_records.specs.declared.ports.Output.{Output}
 use Rattle.mp_records.specs.Outputs.{output_in}
-use Rattle.mp_redo.specs.Redoing.{IsLooking}
 use Rattle.mp_redo.specs.Telling.{IsTold, AreTold, first_time}
 use Rattle.mp_redo.proofs.GiveLemmas.{read_output}
 use Rattle.mp_redo.proofs.RingLemmas.{looking_kept, kept_twice}
