@@ -22,7 +22,7 @@ mod text_state;
 mod writing;
 mod written_line;
 
-pub use mp_words::{LineError, divided, first_line};
+pub use mp_words::{LineError, divided, first_line, parts};
 pub use reading::{MAX_TEXT, read_netlist};
 pub use script_line::{Line, Question};
 pub use stated_line::read_line;

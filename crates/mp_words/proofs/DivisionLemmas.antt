@@ -1,13 +1,13 @@
 -- The lines of an input up to a division.
-use Rattle.std.proofs.Common.{◌≡◌, ℕ, ◌+◌, ◌-◌, ◌<◌, ◌≤◌, ◌⊎◌, inl, inr, Bool, true, false, cond, not, suc, List, [], ◌∷◌, ◌++◌, length, get_or, take, drop, All, refl, sym, ap, subst, ◌∙◌, append_assoc, length-drop, arith}
+use Rattle.std.proofs.Common.{◌≡◌, ℕ, ◌+◌, ◌-◌, ◌<◌, ◌≤◌, ◌⊎◌, inl, inr, Bool, true, false, cond, not, ◌||◌, nat_lt, suc, List, [], ◌∷◌, ◌++◌, length, get_or, take, drop, All, refl, sym, ap, subst, ◌∙◌, append_assoc, length-drop, arith}
 use Rattle.std.specs.List.{onto_first, before_first, after_first, position_or_len}
-use Rattle.std.proofs.lemmas.Bool.{cases_lt, eqb-true}
+use Rattle.std.proofs.lemmas.Bool.{cases_lt, eqb-true, lt-ltb, le-ltb}
 use Rattle.std.proofs.lemmas.List.{append-nil, drop_all, take_all, take_more, take-append-drop, length-take-le}
 use Rattle.std.proofs.lemmas.List.Elements.{All-head, All-tail}
 use Rattle.std.proofs.lemmas.List.Sums.{fails_before_first, passes_at_first, take_while-cons}
 use Rattle.std.proofs.Math.Seq.{take-add, drop-drop, get_or-take, take-length, drop-length}
 use Rattle.mp_words.specs.Lines.{is_line_feed, lines_of}
-use Rattle.mp_words.specs.Divisions.{is_division, first_part, later_parts}
+use Rattle.mp_words.specs.Divisions.{is_division, first_part, later_parts, are_divided}
 use Rattle.mp_words.proofs.LineLemmas.{lines_of-cons}
 
 -- ---- whole lines before others
@@ -59,18 +59,18 @@ ended_back = refl
 
 -- ---- parts of lines
 
-first_part-other : (line : List ℕ) (lines : List (List ℕ)) → is_division line ≡ false → first_part (line ∷ lines) ≡ line ∷ first_part lines
+pub first_part-other : (line : List ℕ) (lines : List (List ℕ)) → is_division line ≡ false → first_part (line ∷ lines) ≡ line ∷ first_part lines
 first_part-other line lines other = take_while-cons (λ l. not (is_division l)) line lines ∙ ap (λ t. cond (not t) (line ∷ first_part lines) []) other
 
-first_part-here : (line : List ℕ) (lines : List (List ℕ)) → is_division line ≡ true → first_part (line ∷ lines) ≡ []
+pub first_part-here : (line : List ℕ) (lines : List (List ℕ)) → is_division line ≡ true → first_part (line ∷ lines) ≡ []
 first_part-here line lines here = take_while-cons (λ l. not (is_division l)) line lines ∙ ap (λ t. cond (not t) (line ∷ first_part lines) []) here
 
-later_parts-other : (line : List ℕ) (lines : List (List ℕ)) → is_division line ≡ false → later_parts (line ∷ lines) ≡ later_parts lines
+pub later_parts-other : (line : List ℕ) (lines : List (List ℕ)) → is_division line ≡ false → later_parts (line ∷ lines) ≡ later_parts lines
 later_parts-other line lines other =
     let one : 1 + position_or_len is_division lines + 1 ≡ suc (position_or_len is_division lines + 1) = omega arith in
     ap (λ t. drop (cond (not t) (1 + position_or_len is_division lines) 0 + 1) (line ∷ lines)) other ∙ ap (λ n. drop n (line ∷ lines)) one
 
-later_parts-here : (line : List ℕ) (lines : List (List ℕ)) → is_division line ≡ true → later_parts (line ∷ lines) ≡ lines
+pub later_parts-here : (line : List ℕ) (lines : List (List ℕ)) → is_division line ≡ true → later_parts (line ∷ lines) ≡ lines
 later_parts-here line lines here = ap (λ t. drop (cond (not t) (1 + position_or_len is_division lines) 0 + 1) (line ∷ lines)) here
 
 -- ---- one line further
@@ -82,6 +82,20 @@ Front input n = first_part (lines_of input) ≡ lines_of (take n input) ++ first
 -- the first bytes divide nothing
 abbrev pub Back : List ℕ → ℕ → Type 0
 Back input n = later_parts (lines_of input) ≡ later_parts (lines_of (drop n input))
+
+-- the first bytes have no division
+abbrev pub Divided : List ℕ → ℕ → Type 0
+Divided input n = are_divided (lines_of input) ≡ are_divided (lines_of (drop n input))
+
+ended_undivided : are_divided (lines_of []) ≡ false
+unfolding lines_of
+ended_undivided = refl
+
+divided-other : (line : List ℕ) (lines : List (List ℕ)) → is_division line ≡ false → are_divided (line ∷ lines) ≡ are_divided lines
+divided-other line lines other = ap (λ t. t || are_divided lines) other
+
+divided-line : (line : List ℕ) (lines : List (List ℕ)) → is_division line ≡ true → are_divided (line ∷ lines) ≡ true
+divided-line line lines here = ap (λ t. t || are_divided lines) here
 
 module _ (input : List ℕ) (at : ℕ) where
   abbrev rest : List ℕ
@@ -168,6 +182,15 @@ module _ (input : List ℕ) (at : ℕ) where
     back_next other back =
         back ∙ ap later_parts split ∙ later_parts-other line (lines_of others) other ∙ sym (ap (λ l. later_parts (lines_of l)) next_line_in.rest_is)
 
+    pub divided_next : is_division line ≡ false → Divided input at → Divided input (length input - length others)
+    divided_next other divided =
+        divided ∙ ap are_divided split ∙ divided-other line (lines_of others) other ∙ sym (ap (λ l. are_divided (lines_of l)) next_line_in.rest_is)
+
+    pub divided_here : is_division line ≡ true → Divided input at → nat_lt (length (take at input)) (length input) ≡ are_divided (lines_of input)
+    divided_here here divided =
+        let size : length (take at input) ≡ at = length-take-le at input (omega arith) in
+        lt-ltb _ _ (omega (arith, size, inside)) ∙ sym (divided ∙ ap are_divided split ∙ divided-line line (lines_of others) here)
+
     pub front_here : is_division line ≡ true → Front input at → lines_of (take at input) ≡ first_part (lines_of input)
     front_here here front =
         sym (front ∙ ap (λ l. lines_of (take at input) ++ first_part l) split ∙ ap (λ l. lines_of (take at input) ++ l) (first_part-here line (lines_of others) here) ∙ append-nil (lines_of (take at input)))
@@ -185,6 +208,9 @@ front_end input at low high front =
     let all : take at input ≡ input = take_all at input high in
     let none : drop at input ≡ [] = drop_all at input high in
     sym (front ∙ ap (λ l. lines_of l ++ first_part (lines_of (drop at input))) all ∙ ap (λ l. lines_of input ++ first_part (lines_of l)) none ∙ ended input)
+
+pub divided_end : (input : List ℕ) (at : ℕ) → length input ≤ at → Divided input at → nat_lt (length input) (length input) ≡ are_divided (lines_of input)
+divided_end input at high divided = le-ltb (length input) (length input) (omega arith) ∙ sym (divided ∙ ap (λ l. are_divided (lines_of l)) (drop_all at input high) ∙ ended_undivided)
 
 pub back_end : (input : List ℕ) (at : ℕ) → length input ≤ at → Back input at → lines_of [] ≡ later_parts (lines_of input)
 back_end input at high back = sym (back ∙ ap (λ l. later_parts (lines_of l)) (drop_all at input high) ∙ ended_back)

@@ -5,6 +5,7 @@ pub mod LineLemmas
 pub mod WordLemmas
 pub mod WordListLemmas
 pub mod DivisionLemmas
+pub mod PartLemmas
 pub mod DividedLemmas
 pub mod PlainLemmas
 pub mod ReadBackLemmas

@@ -1,8 +1,8 @@
 //! Inputs of several parts, which lines `---` divide.
-ghost use Rattle.std.specs.Prelude.{◌≡◌, ◌≤◌, length, IfOk};
+ghost use Rattle.std.specs.Prelude.{◌≡◌, ◌<◌, ◌≤◌, length, vec_len, nat_lt, IfOk};
 ghost use Rattle.mp_words.specs.Lines.{lines_of};
 ghost use Rattle.mp_words.specs.Words.{texts};
-ghost use Rattle.mp_words.specs.Divisions.{is_division, are_division, first_part, later_parts};
+ghost use Rattle.mp_words.specs.Divisions.{is_division, are_division, first_part, later_parts, are_divided, parts_of, lines_of_each};
 
 use crate::line::first_line;
 use crate::word::words;
@@ -14,6 +14,8 @@ pub fn divided(alloc: Global, input: &[u8]) -> Result<(&[u8], &[u8]), AllocError
     ensures short { IfOk result (λ parts. length parts.0.now ≤ length input.now) }
     ensures front { IfOk result (λ parts. lines_of parts.0.now ≡ first_part (lines_of input.now)) }
     ensures back { IfOk result (λ parts. lines_of parts.1.now ≡ later_parts (lines_of input.now)) }
+    ensures divided { IfOk result (λ parts. nat_lt (length parts.0.now) (length input.now) ≡ are_divided (lines_of input.now)) }
+    ensures shorter { IfOk result (λ parts. length parts.0.now < length input.now → length parts.1.now < length input.now) }
 {
     let mut at = 0;
     while at < input.len() {
@@ -24,6 +26,23 @@ pub fn divided(alloc: Global, input: &[u8]) -> Result<(&[u8], &[u8]), AllocError
         at = input.len() - rest.len();
     }
     Ok((input, &[]))
+}
+
+/// The parts of an input between the lines whose one word is `---`, of which there is one more than there are such lines.
+pub fn parts(alloc: Global, input: &[u8]) -> Result<Vec<&[u8]>, AllocError>
+    ensures some { IfOk result (λ parts. 0 < vec_len parts) }
+    ensures parts { IfOk result (λ parts. lines_of_each parts.items ≡ parts_of (lines_of input.now)) }
+{
+    let mut parts = Vec::new(alloc);
+    let mut rest = input;
+    loop {
+        let (front, back) = divided(alloc, rest)?;
+        parts.push(front)?;
+        if front.len() >= rest.len() {
+            return Ok(parts);
+        }
+        rest = back;
+    }
 }
 
 /// Whether the line divides an input.

@@ -12,7 +12,7 @@ mod wave_line;
 mod word;
 mod word_list;
 
-pub use division::divided;
+pub use division::{divided, parts};
 pub use line::{first_line, line_words};
 pub use line_error::LineError;
 pub use wave_line::{push_changes, push_number, put_changes, put_wave_line};

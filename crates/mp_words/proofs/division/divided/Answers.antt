@@ -1,7 +1,7 @@
 use Rattle.std.proofs.Common.{◌≡◌, ◌<◌, true, false, length, refl, sym, ◌∙◌, rules, arith}
 use Rattle.std.proofs.lemmas.List.{take_rest}
 use Rattle.mp_words.specs.Divisions.{is_division}
-use Rattle.mp_words.proofs.DivisionLemmas.{front_start, next_line_in, front_next, back_next, front_here, back_here, front_end, back_end}
+use Rattle.mp_words.proofs.DivisionLemmas.{front_start, next_line_in, front_next, back_next, divided_next, front_here, back_here, divided_here, front_end, back_end, divided_end}
 use Rattle.mp_words.proofs.division.divided.Goals as goal
 
 pub loop-at-init : goal.loop-at-init
@@ -10,6 +10,7 @@ loop-at-init c = record {
   whole = λ some. tt;
   front = front_start c.args.input.now;
   back = refl;
+  divided = refl;
 }
 
 pub loop-at-preserved : goal.loop-at-preserved
@@ -26,6 +27,7 @@ loop-at-preserved c =
       whole = next.whole;
       front = front_next input at inside here whole c.loop-at.invariant.front;
       back = back_next input at inside here c.loop-at.invariant.back;
+      divided = divided_next input at inside here c.loop-at.invariant.divided;
     })
 
 pub returns-then-branch-clause-front : goal.returns-then-branch-clause-front
@@ -46,3 +48,12 @@ returns-clause-front c =
 
 pub returns-clause-back : goal.returns-clause-back
 returns-clause-back c = back_end c.args.input.now c.loop-at.at (search rules) c.loop-at.invariant.back
+
+pub returns-then-branch-clause-divided : goal.returns-then-branch-clause-divided
+returns-then-branch-clause-divided c =
+    let inside : c.loop-at.at < length c.args.input.now = search rules in
+    let divides : is_division c.first_line.result.0.now ≡ true = sym c.in_ok-is_division.ensures ∙ c.if-branch.true in
+    divided_here c.args.input.now c.loop-at.at inside (rw (c.first_line.ensures.line, take_rest c.args.input.now c.loop-at.at) at divides) c.loop-at.invariant.divided
+
+pub returns-clause-divided : goal.returns-clause-divided
+returns-clause-divided c = divided_end c.args.input.now c.loop-at.at (search rules) c.loop-at.invariant.divided

@@ -1,5 +1,5 @@
 use Rattle.std.proofs.Common.{◌-◌, ◌<◌, ◌≤◌, length, take}
-use Rattle.mp_words.proofs.DivisionLemmas.{AreWhole, Front, Back}
+use Rattle.mp_words.proofs.DivisionLemmas.{AreWhole, Front, Back, Divided}
 use Rattle.mp_words.proofs.division.divided.Given as goal
 
 -- no line so far divides the input
@@ -9,6 +9,7 @@ invariant-loop-at l = record {
   whole : l.at < length l.input → AreWhole (take l.at l.input);
   front : Front l.input l.at;
   back : Back l.input l.at;
+  divided : Divided l.input l.at;
 }
 
 abbrev pub decreases-loop-at : goal.decreases-loop-at

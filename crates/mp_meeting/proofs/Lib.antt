@@ -1,0 +1,4 @@
+pub mod FateLemmas
+pub mod SittingLemmas
+pub mod SeatLemmas
+pub mod MeetLemmas

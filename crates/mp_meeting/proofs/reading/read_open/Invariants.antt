@@ -1,0 +1,6 @@
+use Rattle.std.proofs.Common.{◌≡◌}
+use Rattle.mp_meeting.proofs.reading.read_open.Given as goal
+
+-- what was learnt stays
+abbrev pub invariant-loop : goal.invariant-loop
+invariant-loop g l = (goal.iterator-loop g).can_next l.iterator' × (goal.iterator-loop g).is_finite l.iterator' × (l.viewer.learnt ≡ l.initial.viewer.learnt)

@@ -1,0 +1,4 @@
+pub mod Fates
+pub mod Sittings
+pub mod Seats
+pub mod Meetings

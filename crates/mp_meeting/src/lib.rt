@@ -1,0 +1,14 @@
+//! Several designers and viewers at one desk, on threads of their own: each designer submits a block of lines, and viewers read meanwhile.
+#![tactic(auto)]
+
+mod meeting;
+mod meeting_fault;
+mod race;
+mod reading;
+mod seats;
+mod sitting;
+mod tally;
+
+pub use meeting::{Met, meet};
+pub use meeting_fault::MeetingFault;
+pub use tally::Tally;

@@ -1,0 +1,114 @@
+//! A meeting from its beginning to its end.
+ghost use Rattle.std.specs.Prelude.{◌≡◌, ◌+◌, ◌<◌, ◌≤◌, vec_len, length, All, IfOk};
+ghost use Rattle.mp_netlist.specs.Circuit.{Circuit};
+ghost use Rattle.mp_words.specs.Divisions.{lines_of_each};
+ghost use Rattle.mp_session.specs.Stories.{opening};
+ghost use Rattle.mp_desk.specs.Holders.{fresh_designer};
+ghost use Rattle.mp_meeting.specs.Meetings.{IsMeeting};
+
+use crate::meeting_fault::MeetingFault;
+use crate::race::race;
+use crate::reading::last_reads;
+use crate::seats::{risen, seated};
+use crate::tally::Tally;
+use mp_desk::{Desk, DeskCause, DeskName, DeskParts, Staffed};
+use mp_phase::OpenGate;
+use mp_session::Session;
+use std::alloc::{AllocError, Global};
+use std::marker::Brand;
+use std::sync::Wait;
+use std::thread::Threads;
+
+/// What a meeting leads to.
+#[derive(Drop)]
+pub struct Met {
+    /// The session after all accepted edits.
+    pub session: Session<OpenGate>,
+    /// How the lines of each designer fared.
+    pub tallies: Vec<Tally>,
+    /// The number of the version that each viewer read last.
+    pub numbers: Vec<u32>,
+}
+
+/// Has a designer for each block submit its lines, and viewers read 100 times, all on threads of their own; a part whose thread can't be
+/// started is done on the calling thread. Then each viewer learns of each designer's last edit, and reads once more. `NoPlace` where there is
+/// no place for a viewer or designer, and `OutOfMemory` where memory is wanting for any of them.
+pub fn meet<R: Threads + Wait + Sync>(
+    rt: &R,
+    alloc: Global,
+    session: Session<OpenGate>,
+    blocks: &[&[u8]],
+    viewers: u32,
+) -> Result<Met, MeetingFault>
+    requires fresh { session.story ≡ opening session.story.base }
+    requires designers { (0 < length blocks.now) × (length blocks.now ≤ 8) }
+    requires viewers { (0 < viewers) × (viewers ≤ 32) }
+    ensures met { IfOk result (λ met. IsMeeting session.story.base (lines_of_each blocks.now) met.session.story met.tallies.items met.numbers.items) }
+    ensures viewers { IfOk result (λ met. vec_len met.numbers ≡ viewers) }
+{
+    match DeskParts::new(rt, alloc, session, blocks.len() as u32, viewers) {
+        Ok(parts) => Ok(at_desk::<Brand, _>(rt, alloc, parts, blocks)?),
+        Err(refused) => match refused.cause {
+            // The counts are in their ranges, so `BadCount` doesn't come.
+            DeskCause::OutOfMemory | DeskCause::BadCount => Err(MeetingFault::OutOfMemory),
+            DeskCause::NoPlace => Err(MeetingFault::NoPlace),
+        },
+    }
+}
+
+/// The meeting at the desk that these parts make.
+fn at_desk<L: DeskName + Send + Sync, R: Threads + Wait + Sync + Send + Copy>(
+    rt: R,
+    alloc: Global,
+    parts: DeskParts<OpenGate, R>,
+    blocks: &[&[u8]],
+) -> Result<Met, AllocError>
+    requires history { parts.book ≡ L.history }
+    requires ledger { parts.ledger ≡ L.name }
+    requires shares { parts.designers + 1 ≡ L.parts }
+    requires opening { length parts.session.story.edits ≡ L.opening }
+    requires fresh { parts.session.story ≡ opening parts.session.story.base }
+    requires some { 0 < length blocks.now }
+    requires blocks { parts.designers ≡ length blocks.now }
+    ensures met { IfOk result (λ met. IsMeeting parts.session.story.base (lines_of_each blocks.now) met.session.story met.tallies.items met.numbers.items) }
+    ensures viewers { IfOk result (λ met. vec_len met.numbers ≡ parts.viewers) }
+{
+    match Desk::<OpenGate, L, R>::open(parts) {
+        Ok(staffed) => held(&rt, alloc, staffed, blocks),
+        Err(_) => Err(AllocError),
+    }
+}
+
+/// The meeting at this desk.
+fn held<L: DeskName + Send + Sync, R: Threads + Wait + Sync + Send + Drop>(
+    rt: &R,
+    alloc: Global,
+    staffed: Staffed<OpenGate, L, R>,
+    blocks: &[&[u8]],
+) -> Result<Met, AllocError>
+    requires count { vec_len staffed.designers ≡ length blocks.now }
+    requires some { 0 < length blocks.now }
+    requires fresh { All (λ d. d.accepted ≡ 0) staffed.designers.items }
+    requires opening { staffed.desk.opening ≡ 0 }
+    ensures met { IfOk result (λ met. (base : Circuit) → All (λ d. d ≡ fresh_designer (opening base)) staffed.designers.items → IsMeeting base (lines_of_each blocks.now) met.session.story met.tallies.items met.numbers.items) }
+    ensures viewers { IfOk result (λ met. vec_len met.numbers ≡ vec_len staffed.viewers) }
+{
+    let Staffed {
+        desk,
+        designers,
+        viewers,
+    } = staffed;
+    let sittings = seated(alloc, designers)?;
+    let (sittings, mut viewers) = race(rt, alloc, &desk, blocks, sittings, viewers);
+    let numbers = last_reads(rt, alloc, sittings.as_slice(), viewers.as_mut_slice())?;
+    let (designers, tallies) = risen(alloc, sittings)?;
+    match desk.close(rt, designers, viewers.as_mut_slice()) {
+        Ok(session) => Ok(Met {
+            session,
+            tallies,
+            numbers,
+        }),
+        // All designers are given, so this doesn't come.
+        Err(_) => Err(AllocError),
+    }
+}

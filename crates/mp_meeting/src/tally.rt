@@ -1,0 +1,10 @@
+//! How a designer's lines fared.
+
+/// How many lines of a designer were accepted, and how many refused.
+#[derive(Clone, Copy, Debug, PartialEq, Eq)]
+pub struct Tally {
+    /// The edits that were accepted.
+    pub accepted: u32,
+    /// The edits that were refused, and the lines that are no edits.
+    pub refused: u64,
+}

@@ -1,0 +1,11 @@
+use Rattle.std.proofs.Common.{◌≡◌, ◌++◌, length}
+use Rattle.mp_words.specs.Lines.{lines_of}
+use Rattle.mp_words.specs.Divisions.{parts_of, lines_of_each}
+use Rattle.mp_words.proofs.division.parts.Given as goal
+
+-- the parts so far, and those of the rest
+abbrev pub invariant-loop-parts : goal.invariant-loop-parts
+invariant-loop-parts l = parts_of (lines_of l.input) ≡ lines_of_each l.parts.items ++ parts_of (lines_of l.rest)
+
+abbrev pub decreases-loop-parts : goal.decreases-loop-parts
+decreases-loop-parts l = length l.rest
