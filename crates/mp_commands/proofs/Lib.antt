@@ -4,3 +4,4 @@ pub mod PutLemmas
 pub mod PlayLemmas
 pub mod ReplyLemmas
 pub mod DeskLemmas
+pub mod WorkLineLemmas

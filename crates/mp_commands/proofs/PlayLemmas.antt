@@ -13,6 +13,7 @@ use Rattle.mp_commands.specs.declared.run_fault.RunFault.{RunFault}
 use Rattle.mp_commands.specs.Limits.{max_input, max_taken}
 use Rattle.mp_commands.specs.OptionLimits.{has_valid_crew}
 use Rattle.mp_commands.specs.Outputs.{output_of}
+use Rattle.mp_redo.specs.declared.work_entry.WorkEntry.{WorkEntry}
 use Rattle.mp_commands.specs.Keepers.{Kept, opened}
 use Rattle.mp_commands.specs.Replies.{reply, kept_next}
 use Rattle.mp_commands.specs.Plays.{replies, first_netlist, script_text, play_output, Played, PlayedScript, PutsReplies, Opens}
@@ -106,7 +107,8 @@ pub played_script : (result : Result (Unit {0}) RunFault) (input : List ℕ) (op
     → Opens input options kept script → PlayedScript result kept (lines_of script) old new → Played result input options old new
 played_script result input options kept script old new opens played =
     let wants = played.0 in
-    let first : opened kept.netlist ≡ kept = ap (λ (accepted : ℕ). let k : Kept = record { netlist = kept.netlist; accepted = accepted } in k) (sym opens.first) in
+    let first : opened kept.netlist ≡ kept = ap (λ (accepted : ℕ). let k : Kept = record { netlist = kept.netlist; accepted = accepted; work = [] } in k) (sym opens.first)
+    ∙ ap (λ (work : List WorkEntry). let k : Kept = record { netlist = kept.netlist; accepted = kept.accepted; work = work } in k) (sym opens.no_work) in
     let output : play_output wants input options ≡ Ok (replies wants kept (lines_of script)) =
     ap (λ read. output_of (script_text wants input) read (has_valid_crew options)) opens.netlist
     ∙ ap (λ valid. output_of (script_text wants input) (Ok kept.netlist) valid) opens.crew

@@ -1,29 +1,33 @@
 -- A netlist that a script edits.
-use Rattle.std.specs.Prelude.{ℕ, ◌+◌, length, Result, Ok, Err, nat_lt, if◌then◌else◌}
+use Rattle.std.specs.Prelude.{ℕ, ◌+◌, List, [], length, Result, Ok, Err, nat_lt, if◌then◌else◌}
 use Rattle.mp_records.specs.declared.edit.Edit.{Edit}
 use Rattle.mp_records.specs.declared.edit_error.EditError.{EditError}
 use Rattle.mp_records.specs.declared.edit_error.EditError.TheVariants.{HistoryFull}
 use Rattle.mp_netlist.specs.Circuit.{Circuit}
 use Rattle.mp_netlist.specs.Edits.{after}
 use Rattle.mp_session.specs.Limits.{max_edits}
-use Rattle.mp_session.specs.Stories.{Story, present}
+use Rattle.mp_session.specs.Stories.{present}
+use Rattle.mp_session.specs.Sessions.{Standing}
+use Rattle.mp_redo.specs.declared.work_entry.WorkEntry.{WorkEntry}
+use Rattle.mp_redo.specs.WholeWork.{whole_work}
 
--- a netlist, and how many edits led to it
+-- a netlist, how many edits led to it, and what was evaluated for the last of them
 pub record Kept : Type 0 where
   pub netlist : Circuit
   pub accepted : ℕ
+  pub work : List WorkEntry
 
--- what is kept in a session with this story
-abbrev pub kept_of : Story → Kept
-kept_of story = record { netlist = present story; accepted = length story.edits }
+-- what is kept where a session stands
+abbrev pub kept_of : Standing → Kept
+kept_of standing = record { netlist = present standing.story; accepted = length standing.story.edits; work = standing.last_work }
 
 -- a netlist before the first edit
 abbrev pub opened : Circuit → Kept
-opened n = record { netlist = n; accepted = 0 }
+opened n = record { netlist = n; accepted = 0; work = [] }
 
 -- what is kept when one more edit led to this netlist
 abbrev pub one_more : Kept → Circuit → Kept
-one_more kept n = record { netlist = n; accepted = kept.accepted + 1 }
+one_more kept n = record { netlist = n; accepted = kept.accepted + 1; work = whole_work n }
 
 -- one more edit is accepted, where there are fewer than a script may have
 abbrev pub counted_edit : Kept → Result Circuit EditError → Result Kept EditError

@@ -7,3 +7,4 @@ pub mod Keepers
 pub mod Replies
 pub mod Plays
 pub mod Desks
+pub mod WorkLines

@@ -62,4 +62,5 @@ pub record Opens (input : List ℕ) (options : Options) (kept : Kept) (script : 
   pub netlist : first_netlist input ≡ Ok kept.netlist
   pub crew : has_valid_crew options ≡ true
   pub first : kept.accepted ≡ 0
+  pub no_work : kept.work ≡ []
   pub lines : lines_of script ≡ later_parts (lines_of input)

@@ -15,7 +15,7 @@ use Rattle.mp_words.specs.declared.line_error.LineError.TheVariants as lines
 use Rattle.mp_text.specs.declared.script_line.Line.{Line}
 use Rattle.mp_text.specs.declared.script_line.Line.TheVariants.{Empty, Change, Ask}
 use Rattle.mp_text.specs.declared.script_line.Question.{Question}
-use Rattle.mp_text.specs.declared.script_line.Question.TheVariants.{Wave, Waves, Text, Report, Dump}
+use Rattle.mp_text.specs.declared.script_line.Question.TheVariants.{Wave, Waves, Text, Report, Dump, Work}
 use Rattle.mp_words.specs.LineErrors.{line_number_of, line_name_of}
 use Rattle.mp_text.specs.ScriptLines.{line_at}
 use Rattle.mp_text.specs.Written.{written}
@@ -23,6 +23,7 @@ use Rattle.mp_commands.specs.declared.run_fault.RunFault.{RunFault}
 use Rattle.mp_commands.specs.RunFaults.{numbered}
 use Rattle.mp_commands.specs.Runs.{Puts}
 use Rattle.mp_commands.specs.Outputs.{slot_line, waves_text}
+use Rattle.mp_commands.specs.WorkLines.{work_text}
 use Rattle.mp_commands.specs.Keepers.{Kept, kept_after}
 
 -- `accepted` and how many edits were
@@ -66,18 +67,19 @@ wire_text n None = refused_text NoSuchWire
 wire_text n (Some w) = slot_line (wire_at n w) (wave n w)
 
 -- the answer to a question
-abbrev pub answer_text : Circuit → Question → List ℕ
-answer_text n (Wave name) = wire_text n (wire_named n name)
-answer_text n Waves = waves_text n
-answer_text n Text = written n
-answer_text n Report = report_text n
-answer_text n Dump = dump n
+abbrev pub answer_text : Kept → Question → List ℕ
+answer_text kept (Wave name) = wire_text kept.netlist (wire_named kept.netlist name)
+answer_text kept Waves = waves_text kept.netlist
+answer_text kept Text = written kept.netlist
+answer_text kept Report = report_text kept.netlist
+answer_text kept Dump = dump kept.netlist
+answer_text kept Work = work_text kept.netlist kept.work
 
 -- the reply to a line that was read or not: a line without words has none
 abbrev pub reply_to : Bool → Kept → Result Line LineError → List ℕ
 reply_to wanting kept (Ok Empty) = []
 reply_to wanting kept (Ok (Change edit)) = edit_text wanting edit (kept_after kept edit)
-reply_to wanting kept (Ok (Ask question)) = answer_text kept.netlist question
+reply_to wanting kept (Ok (Ask question)) = answer_text kept question
 reply_to wanting kept (Err error) = unread_text error
 
 -- what is kept after an edit that met no want of memory

@@ -5,16 +5,18 @@ use mp_engine::OpenGate;
 use mp_model::Waves;
 use mp_netlist::{Edit, EditError, Netlist};
 use mp_phase::Crew;
+use mp_redo::Work;
 use mp_session::Session;
 use std::alloc::{AllocError, Global};
 use std::marker::Model;
 use std::sync::Wait;
 use std::thread::Threads;
 
-/// A session in which no module waits: a netlist, its waves, and how many edits led to it.
+/// A session in which no module waits: a netlist, its waves, how many edits led to it, and what was evaluated for the last of them.
 #[derive(Drop)]
 pub struct Keeper {
     session: Session<OpenGate>,
+    crew: Crew,
 }
 
 impl Model for Keeper {
@@ -22,7 +24,7 @@ impl Model for Keeper {
 
     ghost Value = { Kept };
 
-    ghost view = { λ keeper. kept_of keeper.session.story };
+    ghost view = { λ keeper. kept_of keeper.session };
 }
 
 impl Keeper {
@@ -42,6 +44,7 @@ impl Keeper {
     {
         Ok(Keeper {
             session: Session::open(rt, alloc, netlist, crew, OpenGate)?,
+            crew,
         })
     }
 
@@ -52,6 +55,11 @@ impl Keeper {
         self.session.version().now()
     }
 
+    /// The workers that it was given.
+    pub fn crew(&self) -> Crew {
+        self.crew
+    }
+
     /// Its waves.
     pub fn waves(&self) -> &Waves
         ensures { AreWavesOf self.now.netlist result.now }
@@ -59,19 +67,22 @@ impl Keeper {
         self.session.version().waves()
     }
 
+    /// What was evaluated for the last edit that was accepted, and nothing before the first.
+    pub fn work(&self) -> &Work
+        ensures { result.now ≡ self.now.work }
+    {
+        self.session.last_work()
+    }
+
     /// Makes the edit, and tells how many were accepted so far. A refused edit, for the first check that it fails, for a full history or for
     /// want of memory, changes neither the netlist nor its waves. A batch counts as one.
-    pub fn change<R: Threads + Wait + Sync>(
-        &mut self,
-        rt: &R,
-        edit: &Edit,
-    ) -> Result<u32, EditError>
-        ensures ok { OnOk result (kept_after self.old edit.now ≡ Ok self.new) }
+    pub fn change<R: Threads + Wait + Sync>(&mut self, rt: &R, edit: Edit) -> Result<u32, EditError>
+        ensures ok { OnOk result (kept_after self.old edit ≡ Ok self.new) }
         ensures count { IfOk result (λ accepted. accepted ≡ self.new.accepted) }
-        ensures refused { IfErr result (RefusedBy edit.now (kept_after self.old edit.now)) }
+        ensures refused { IfErr result (RefusedBy edit (kept_after self.old edit)) }
         ensures err { OnErr result (self.new ≡ self.old) }
     {
-        self.session.apply(rt, edit)?;
+        self.session.take(rt, edit)?;
         Ok(self.session.version().number())
     }
 }

@@ -22,6 +22,7 @@ mod run_fault;
 mod tests;
 mod wave_lines;
 mod waves_command;
+mod work_lines;
 
 pub use desk_command::run_desk;
 pub use dump_command::run_dump;

@@ -3,6 +3,7 @@ ghost use Rattle.std.specs.Prelude.{◌≡◌, ℕ, ◌-◌, ◌^◌, ◌<◌, t
 ghost use Rattle.mp_text.specs.Written.{written};
 ghost use Rattle.mp_report.specs.Lines.{report_text};
 ghost use Rattle.mp_vcd.specs.Dumps.{dump};
+ghost use Rattle.mp_commands.specs.WorkLines.{work_text};
 ghost use Rattle.mp_records.specs.declared.edit_error.EditError.TheVariants.{InBatch};
 ghost use Rattle.mp_netlist.specs.Circuit.{wire_named};
 ghost use Rattle.mp_commands.specs.Replies.{accepted_text, refused_text, refusal_text, unread_text, coded_text, wire_text, answer_text, is_fault, Changed, PutsReply, Answers};
@@ -16,6 +17,7 @@ use crate::put_text::{put_rest, put_text};
 use crate::report_lines::put_report_lines;
 use crate::run_fault::RunFault;
 use crate::wave_lines::{put_lines, put_slot_line};
+use crate::work_lines::put_work_lines;
 use mp_netlist::{Edit, EditError, Name, Netlist};
 use mp_streams::{Failed, Sink, WriteBuffer};
 use mp_text::{Line, LineError, Question, put_netlist, read_line};
@@ -38,7 +40,7 @@ pub fn put_reply<R: Threads + Wait + Sync, T: Sink>(
     ensures faults { T.fault_count sink.new ≡ counted_writes result (T.fault_count sink.old) }
 {
     match read_line(alloc, line) {
-        Ok(read) => put_line_reply(rt, alloc, buffer, sink, keeper, &read),
+        Ok(read) => put_line_reply(rt, alloc, buffer, sink, keeper, read),
         Err(error) => put_made(buffer, sink, unread_text(alloc, error)),
     }
 }
@@ -70,21 +72,22 @@ fn put_line_reply<R: Threads + Wait + Sync, T: Sink>(
     buffer: &mut WriteBuffer,
     sink: &mut T,
     keeper: &mut Keeper,
-    line: &Line,
+    line: Line,
 ) -> Result<(), RunFault>
     requires { T.fault_count sink.old < 2 ^ 64 - 1 }
-    ensures replied { PutsReply result (T.taken sink.old) (T.taken sink.new) buffer.old buffer.new keeper.old keeper.new line.now }
+    ensures replied { PutsReply result (T.taken sink.old) (T.taken sink.new) buffer.old buffer.new keeper.old keeper.new line }
     ensures faults { T.fault_count sink.new ≡ counted_writes result (T.fault_count sink.old) }
 {
     match line {
         Line::Empty => Ok(()),
         Line::Change(edit) => put_made(buffer, sink, edit_text(rt, alloc, keeper, edit)),
-        Line::Ask(question) => put_answer(alloc, buffer, sink, keeper, question),
+        Line::Ask(question) => put_answer(rt, alloc, buffer, sink, keeper, &question),
     }
 }
 
 /// Puts the answer to a question, as it is made: so no answer takes memory for its length.
-fn put_answer<T: Sink>(
+fn put_answer<R: Threads + Sync, T: Sink>(
+    rt: &R,
     alloc: Global,
     buffer: &mut WriteBuffer,
     sink: &mut T,
@@ -92,15 +95,16 @@ fn put_answer<T: Sink>(
     question: &Question,
 ) -> Result<(), RunFault>
     requires { T.fault_count sink.old < 2 ^ 64 - 1 }
-    ensures answered { Puts result (T.taken sink.old) (T.taken sink.new) buffer.old buffer.new (answer_text keeper.now.netlist question.now) }
+    ensures answered { Puts result (T.taken sink.old) (T.taken sink.new) buffer.old buffer.new (answer_text keeper.now question.now) }
     ensures faults { T.fault_count sink.new ≡ counted_writes result (T.fault_count sink.old) }
 {
     match question {
         Question::Wave(name) => put_wire(alloc, buffer, sink, keeper, name),
         Question::Waves => put_lines(buffer, sink, keeper.netlist(), keeper.waves()),
         Question::Text => put_netlist_text(buffer, sink, keeper.netlist()),
-        Question::Report => put_report_answer(alloc, buffer, sink, keeper),
+        Question::Report => put_report_answer(rt, alloc, buffer, sink, keeper),
         Question::Dump => put_dump_answer(alloc, buffer, sink, keeper),
+        Question::Work => put_work_answer(buffer, sink, keeper),
     }
 }
 
@@ -121,7 +125,8 @@ fn put_netlist_text<T: Sink>(
 }
 
 /// Puts the report of the netlist. It takes memory, so the replies before it are written first, and are seen where memory is wanting.
-fn put_report_answer<T: Sink>(
+fn put_report_answer<R: Threads + Sync, T: Sink>(
+    rt: &R,
     alloc: Global,
     buffer: &mut WriteBuffer,
     sink: &mut T,
@@ -132,7 +137,8 @@ fn put_report_answer<T: Sink>(
     ensures faults { T.fault_count sink.new ≡ counted_writes result (T.fault_count sink.old) }
 {
     put_rest(buffer, sink)?;
-    put_report_lines(alloc, buffer, sink, keeper.netlist(), keeper.waves())
+    let (netlist, waves) = (keeper.netlist(), keeper.waves());
+    put_report_lines(rt, alloc, buffer, sink, netlist, waves, keeper.crew())
 }
 
 /// Puts the dump of the netlist. It takes memory in its midst, so the replies before it are written first, and are seen where memory is wanting.
@@ -148,6 +154,20 @@ fn put_dump_answer<T: Sink>(
 {
     put_rest(buffer, sink)?;
     put_dump(alloc, buffer, sink, keeper.netlist(), keeper.waves())
+}
+
+/// Puts the work of the last edit. It takes memory, so the replies before it are written first, and are seen where memory is wanting.
+fn put_work_answer<T: Sink>(
+    buffer: &mut WriteBuffer,
+    sink: &mut T,
+    keeper: &Keeper,
+) -> Result<(), RunFault>
+    requires { T.fault_count sink.old < 2 ^ 64 - 1 }
+    ensures written { Puts result (T.taken sink.old) (T.taken sink.new) buffer.old buffer.new (work_text keeper.now.netlist keeper.now.work) }
+    ensures faults { T.fault_count sink.new ≡ counted_writes result (T.fault_count sink.old) }
+{
+    put_rest(buffer, sink)?;
+    put_work_lines(buffer, sink, keeper.netlist(), keeper.work())
 }
 
 /// Puts the line of the wire that has the name.
@@ -173,9 +193,9 @@ fn edit_text<R: Threads + Wait + Sync>(
     rt: &R,
     alloc: Global,
     keeper: &mut Keeper,
-    edit: &Edit,
+    edit: Edit,
 ) -> Result<Vec<u8>, AllocError>
-    ensures { IfOk result (λ text. Changed text.items keeper.old keeper.new edit.now) }
+    ensures { IfOk result (λ text. Changed text.items keeper.old keeper.new edit) }
 {
     match keeper.change(rt, edit) {
         Ok(accepted) => accepted_text(alloc, accepted),

@@ -62,9 +62,9 @@ fn put_valid_report<R: Threads + Wait + Sync, T: Sink>(
     ensures reads { (n : ℕ) → counted_reads result n ≡ n }
     ensures faults { T.fault_count sink.new ≡ counted_writes result (T.fault_count sink.old) }
 {
-    if !options.has_valid_crew() {
+    let Some(crew) = options.crew() else {
         return Err(RunFault::BadCount);
-    }
+    };
     let run = crew_run(rt, alloc, netlist, options)?;
-    put_report_alone(alloc, sink, netlist, run.waves())
+    put_report_alone(rt, alloc, sink, netlist, run.waves(), crew)
 }

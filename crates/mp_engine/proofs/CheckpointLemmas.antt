@@ -32,7 +32,7 @@ last_kept-push [] k before = refl
 last_kept-push (x ∷ ks) k before = last_kept-push ks k x.memory
 
 -- the last is for all later times
-kept_at-last : (ks : List Checkpoint) (b c : ℕ) (before : Memory) → b ≤ c → All (λ (k : Checkpoint). k.time ≤ b) ks → kept_at ks c before ≡ last_kept ks before
+pub kept_at-last : (ks : List Checkpoint) (b c : ℕ) (before : Memory) → b ≤ c → All (λ (k : Checkpoint). k.time ≤ b) ks → kept_at ks c before ≡ last_kept ks before
 kept_at-last [] b c before le times = refl
 kept_at-last (x ∷ ks) b c before le times =
     let first = times 0 x (omega arith) in

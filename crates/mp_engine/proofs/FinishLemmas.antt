@@ -57,7 +57,7 @@ checkpoints_are n cells stepped kept slots made are d = record {
     by m c border low (Some r) e = ap Some ((are.each m r d e).known c border low)
 
 -- what is kept of a run is what it tells
-checkpoint_is : (n : Circuit) (m c : ℕ) (run : Outcome) → run.horizon ≡ n.horizon → AreCheckpoints n run.kept → checkpoint_of run m c ≡ checkpoint n m c
+pub checkpoint_is : (n : Circuit) (m c : ℕ) (run : Outcome) → run.horizon ≡ n.horizon → AreCheckpoints n run.kept → checkpoint_of run m c ≡ checkpoint n m c
 checkpoint_is n m c run same are =
     ap (λ h. if nat_lt c h && c % 1024 == 0 then option_map (λ ks. kept_at ks c blank) (slot_at run.kept m) else None) same ∙ by (cases_Bool (nat_lt c n.horizon && c % 1024 == 0))
   where

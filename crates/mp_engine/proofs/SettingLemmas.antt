@@ -1,5 +1,5 @@
 -- What is set on wires from outside, and in what order it is taken.
-use Rattle.std.proofs.Common.{◌≡◌, ◌≢◌, ℕ, ◌+◌, ◌<◌, ◌≤◌, List, [], ◌∷◌, ◌++◌, Option, Some, None, is_some, unwrap_or, map, length, zero, suc, refl, ap, sym, subst, ◌∙◌, arith, inl, inr}
+use Rattle.std.proofs.Common.{◌≡◌, ◌≢◌, ℕ, ◌+◌, ◌<◌, ◌≤◌, Bool, true, false, List, [], ◌∷◌, ◌++◌, Option, Some, None, is_some, unwrap_or, map, length, zero, suc, refl, ap, sym, subst, ◌∙◌, arith, inl, inr}
 use Rattle.std.specs.Prelude.{All}
 use Rattle.std.specs.List.{Contains}
 use Rattle.std.specs.List.Sorted.{IsNonDecreasingBy, IsPermutation}
@@ -22,6 +22,7 @@ use Rattle.mp_engine.specs.declared.entry.Entry.{Entry}
 use Rattle.mp_engine.specs.declared.stimuli.Setting.{Setting}
 use Rattle.mp_engine.specs.Calendars.{IsExact, entry_of}
 use Rattle.mp_engine.specs.Settings.{setting_of, entries_at, settings_after, IsSetting, AreFrom, AreSettings}
+use Rattle.mp_engine.specs.Marks.{is_marked}
 use Rattle.mp_engine.proofs.MarkLemmas.{none_in, contains_cons}
 use Rattle.mp_engine.proofs.StartLemmas.{rises_at}
 
@@ -151,23 +152,23 @@ from_after n u (s ∷ ss) from = elim (cases_eq s.time u) as (λ _. AreFrom n (u
 ]
 
 -- a unit later
-pub settings_next : (n : Circuit) (s t : ℕ) (ss : List Setting) → s + 1 ≡ t → AreSettings n s ss → AreSettings n t (settings_after t ss)
+pub settings_next : {heard : List Bool} (n : Circuit) (s t : ℕ) (ss : List Setting) → s + 1 ≡ t → AreSettings n heard s ss → AreSettings n heard t (settings_after t ss)
 settings_next n s t ss next are = record {
   listed = from_after n t ss (subst (λ u. AreFrom n u ss) next are.listed);
-  told = λ w v le drives differ. left_after t ss (setting_of w (v + 1, level n w (v + 1))) (omega (arith, le)) (are.told w v (omega (arith, le, next)) drives differ);
+  told = λ w v not le drives differ. left_after t ss (setting_of w (v + 1, level n w (v + 1))) (omega (arith, le)) (are.told w v not (omega (arith, le, next)) drives differ);
 }
 
--- what the wires below w have set is listed, and nothing else
-pub record AreSetBelow (n : Circuit) (w : ℕ) (list : List Setting) : Type 0 where
+-- what the wires below w have set that aren't heard is listed, and nothing else
+pub record AreSetBelow (n : Circuit) (heard : List Bool) (w : ℕ) (list : List Setting) : Type 0 where
   pub exact : All (IsSetting n) list
   pub later : All (λ (s : Setting). 0 < s.time) list
-  pub told : (v : ℕ) (c : ℕ × ℕ) → v < w → Contains (set_on n v) c → Contains list (setting_of v c)
+  pub told : (v : ℕ) (c : ℕ × ℕ) → v < w → is_marked heard v ≡ false → Contains (set_on n v) c → Contains list (setting_of v c)
 
-pub below_none : (n : Circuit) → AreSetBelow n 0 []
-below_none n = record {
+pub below_none : (n : Circuit) (heard : List Bool) → AreSetBelow n heard 0 []
+below_none n heard = record {
   exact = λ i d within. absurd (omega arith);
   later = λ i d within. absurd (omega arith);
-  told = λ v c low has. absurd (omega (arith, low));
+  told = λ v c low not has. absurd (omega (arith, low));
 }
 
 contains_map : (w : ℕ) (changes : List (ℕ × ℕ)) (c : ℕ × ℕ) → Contains changes c → Contains (map (setting_of w) changes) (setting_of w c)
@@ -184,18 +185,29 @@ all_map w P (x ∷ xs) holds zero d within = holds x (0, omega arith, refl)
 all_map w P (x ∷ xs) holds (suc i) d within = all_map w P xs (λ c has. holds c (suc has.0, omega (arith, has.1), has.2)) i d (omega (arith, within))
 
 -- one wire more
-pub below_more : (n : Circuit) → IsCircuit n → (w : ℕ) (list : List Setting) → w < length n.wires → AreSetBelow n w list → AreSetBelow n (w + 1) (list ++ map (setting_of w) (set_on n w))
+pub below_more : {heard : List Bool} (n : Circuit) → IsCircuit n → (w : ℕ) (list : List Setting) → w < length n.wires → AreSetBelow n heard w list → AreSetBelow n heard (w + 1) (list ++ map (setting_of w) (set_on n w))
 below_more n ok w list within are = record {
   exact = All-append (IsSetting n) list more are.exact (all_map w (IsSetting n) (set_on n w) (λ c has. record { stands = within; value = (set_is_level n ok w c has).1 }));
   later = All-append (λ (s : Setting). 0 < s.time) list more are.later (all_map w (λ (s : Setting). 0 < s.time) (set_on n w) (λ c has. (set_is_level n ok w c has).0));
-  told = λ v c low has. elim (cases_eq v w) as (λ _. Contains (list ++ more) (setting_of v c)) [
+  told = λ v c low not has. elim (cases_eq v w) as (λ _. Contains (list ++ more) (setting_of v c)) [
     | inl same ↦ subst (λ x. Contains (list ++ more) (setting_of x c)) (sym same) (Contains-append_right list more (setting_of w c) (contains_map w (set_on n w) c (subst (λ x. Contains (set_on n x) c) same has)))
-    | inr other ↦ Contains-append_left list more (setting_of v c) (are.told v c (omega (arith, low, other)) has)
+    | inr other ↦ Contains-append_left list more (setting_of v c) (are.told v c (omega (arith, low, other)) not has)
   ];
 }
   where
     more : List Setting
     more = map (setting_of w) (set_on n w)
+
+-- nothing is listed of a wire that is heard
+pub below_heard : (n : Circuit) (heard : List Bool) (w : ℕ) (list : List Setting) → is_marked heard w ≡ true → AreSetBelow n heard w list → AreSetBelow n heard (w + 1) list
+below_heard n heard w list is are = record {
+  exact = are.exact;
+  later = are.later;
+  told = λ v c low not has. elim (cases_eq v w) as (λ _. Contains list (setting_of v c)) [
+    | inl same ↦ let here = ap (is_marked heard) same in let no : ⊥ = cc in absurd no
+    | inr other ↦ are.told v c (omega (arith, low, other)) not has
+  ];
+}
 
 -- a list by time
 in_order : (n : Circuit) (u : ℕ) (ss : List Setting) → All (IsSetting n) ss → All (λ (s : Setting). u ≤ s.time) ss → IsNonDecreasingBy (λ (s : Setting). s.time) ss → AreFrom n u ss
@@ -208,14 +220,14 @@ in_order n u (s ∷ ss) exact later sorted = (
 )
 
 -- the settings of all wires, by time
-pub settings_sorted : (n : Circuit) → IsCircuit n → (list sorted : List Setting) → AreSetBelow n (length n.wires) list → IsPermutation list sorted → IsNonDecreasingBy (λ (s : Setting). s.time) sorted
-    → AreSettings n 0 sorted
+pub settings_sorted : {heard : List Bool} (n : Circuit) → IsCircuit n → (list sorted : List Setting) → AreSetBelow n heard (length n.wires) list → IsPermutation list sorted → IsNonDecreasingBy (λ (s : Setting). s.time) sorted
+    → AreSettings n heard 0 sorted
 settings_sorted n ok list sorted are permutation ordered = record {
   listed = in_order n 1 sorted (All-permutation (IsSetting n) list sorted permutation are.exact)
       (λ i d within. let low = All-permutation (λ (s : Setting). 0 < s.time) list sorted permutation are.later i d within in omega (arith, low)) ordered;
-  told = λ w v le drives differ.
+  told = λ w v not le drives differ.
       let set = stimulus_change n ok w v drives differ in
-      Contains-permutation list sorted (setting_of w (v + 1, level n w (v + 1))) permutation (are.told w (v + 1, level n w (v + 1)) (stands w (v + 1, level n w (v + 1)) set) set);
+      Contains-permutation list sorted (setting_of w (v + 1, level n w (v + 1))) permutation (are.told w (v + 1, level n w (v + 1)) (stands w (v + 1, level n w (v + 1)) set) not set);
 }
   where
     stands : (w : ℕ) (c : ℕ × ℕ) → Contains (set_on n w) c → w < length n.wires

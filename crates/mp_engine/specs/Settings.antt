@@ -1,5 +1,5 @@
 -- What is set on wires from outside, by time.
-use Rattle.std.specs.Prelude.{◌≡◌, ◌≢◌, ℕ, ◌+◌, ◌<◌, ◌≤◌, List, [], ◌∷◌, drop, length, ◌==◌, if◌then◌else◌}
+use Rattle.std.specs.Prelude.{◌≡◌, ◌≢◌, ℕ, ◌+◌, ◌<◌, ◌≤◌, Bool, false, List, [], ◌∷◌, drop, length, ◌==◌, if◌then◌else◌}
 use Rattle.std.specs.List.{Contains}
 use Rattle.mp_netlist.specs.declared.driver.Driver.TheVariants.{Stimulus}
 use Rattle.mp_netlist.specs.Circuit.{Circuit}
@@ -9,6 +9,7 @@ use Rattle.mp_engine.specs.declared.entry.Entry.{Entry}
 use Rattle.mp_engine.specs.declared.stimuli.Setting.{Setting}
 use Rattle.mp_engine.specs.declared.stimuli.Settings.{Settings}
 use Rattle.mp_engine.specs.Calendars.{entry_of}
+use Rattle.mp_engine.specs.Marks.{is_marked}
 
 abbrev pub setting_of : ℕ → ℕ × ℕ → Setting
 setting_of w change = record { time = change.0; wire = record { 0 = w }; level = change.1 }
@@ -36,7 +37,7 @@ abbrev pub AreFrom : Circuit → ℕ → List Setting → Type 0
 AreFrom n time [] = Unit {0}
 AreFrom n time (s ∷ ss) = (time ≤ s.time) × IsSetting n s × AreFrom n s.time ss
 
--- they are those of all wires after the time t
-pub record AreSettings (n : Circuit) (t : ℕ) (ss : List Setting) : Type 0 where
+-- they are those of all wires after the time t, but for wires that are heard
+pub record AreSettings (n : Circuit) (heard : List Bool) (t : ℕ) (ss : List Setting) : Type 0 where
   pub listed : AreFrom n (t + 1) ss
-  pub told : (w v : ℕ) → t ≤ v → driver n w ≡ Stimulus → level n w (v + 1) ≢ level n w v → Contains ss (setting_of w (v + 1, level n w (v + 1)))
+  pub told : (w v : ℕ) → is_marked heard w ≡ false → t ≤ v → driver n w ≡ Stimulus → level n w (v + 1) ≢ level n w v → Contains ss (setting_of w (v + 1, level n w (v + 1)))

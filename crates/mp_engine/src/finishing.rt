@@ -71,9 +71,10 @@ fn finished_wave(
     requires { builder.wave ≡ wave netlist.now wire.0 }
     ensures { IfOk result (λ found. option_map arc_value found ≡ slot_wave netlist.now wire.0 (wire_at netlist.now wire.0)) }
 {
-    match netlist.wire(wire) {
-        Some(_) => Ok(Some(Arc::new(alloc, builder.finish())?)),
-        None => Ok(None),
+    if netlist.has_wire(wire) {
+        Ok(Some(Arc::new(alloc, builder.finish())?))
+    } else {
+        Ok(None)
     }
 }
 

@@ -4,20 +4,89 @@ use crate::home::{NOWHERE, home_of};
 use mp_netlist::{Input, ModuleId, Netlist};
 use std::alloc::{AllocError, Global};
 
-/// For each module its part: at most so many parts, with about as many modules in each, and connected modules together.
+/// For each module its part: at most so many parts, with about as many modules in each. Connected modules are together, but for groups
+/// that are larger than a part is to be, where such may be cut.
 pub(crate) fn homes_of(
     alloc: Global,
     netlist: &Netlist,
     count: u32,
+    cut: bool,
 ) -> Result<Vec<u32>, AllocError> {
     let heads = heads_of(alloc, netlist)?;
     let heads = heads.as_slice();
-    let places = places_of(alloc, heads, count)?;
+    let share = heads.len().div_ceil(count.max(1) as usize);
+    let places = places_of(alloc, heads, count, share, cut)?;
+    let mut passed = zeros(alloc, heads.len())?;
     let mut homes = Vec::new(alloc);
     for head in heads {
-        homes.push(home_of(places.as_slice(), *head))?;
+        let rank = home_of(passed.as_slice(), *head);
+        put(&mut passed, *head, rank.saturating_add(1));
+        let place = place_at(places.as_slice(), *head);
+        homes.push(place.home(rank as usize, share, count))?;
     }
     Ok(homes)
+}
+
+/// Where a group is put: the part of its first module, how many modules are there before, and whether it goes on in the next part
+/// where one is full.
+#[derive(Clone, Copy)]
+struct Place {
+    part: u32,
+    before: usize,
+    cut: bool,
+}
+
+impl Place {
+    /// The part of one of the group's modules, of which so many come before it.
+    fn home(&self, rank: usize, share: usize, count: u32) -> u32 {
+        if !self.cut {
+            return self.part;
+        }
+        let further = self.before.saturating_add(rank) / share.max(1);
+        let part = (self.part as usize).saturating_add(further);
+        part.min(count.saturating_sub(1) as usize) as u32
+    }
+
+    /// The place behind a group of this size.
+    fn behind(&self, size: usize, share: usize, count: u32, cut: bool) -> Place {
+        let before = self.before.saturating_add(size);
+        if !cut {
+            return Place {
+                part: self.part,
+                before,
+                cut,
+            };
+        }
+        let whole = Place {
+            part: self.part,
+            before: self.before,
+            cut,
+        };
+        Place {
+            part: whole.home(size, share, count),
+            before: before % share.max(1),
+            cut,
+        }
+    }
+}
+
+fn place_at(places: &[Place], number: u32) -> Place {
+    match places.get(number as usize) {
+        Some(place) => *place,
+        None => Place {
+            part: 0,
+            before: 0,
+            cut: false,
+        },
+    }
+}
+
+fn zeros(alloc: Global, count: usize) -> Result<Vec<u32>, AllocError> {
+    let mut list = Vec::new(alloc);
+    for _ in 0..count {
+        list.push(0)?;
+    }
+    Ok(list)
 }
 
 /// For each module the first module of its group.
@@ -94,22 +163,30 @@ fn put(list: &mut Vec<u32>, place: u32, number: u32) {
     }
 }
 
-/// For the first module of each group the part in which the group is put. The next part is begun where more than half of a group is
-/// too much.
-fn places_of(alloc: Global, heads: &[u32], count: u32) -> Result<Vec<u32>, AllocError> {
+/// For the first module of each group where the group is put. The next part is begun where more than half of a group is too much.
+fn places_of(
+    alloc: Global,
+    heads: &[u32],
+    count: u32,
+    share: usize,
+    cut: bool,
+) -> Result<Vec<Place>, AllocError> {
     let sizes = sizes_of(alloc, heads)?;
-    let share = heads.len().div_ceil(count.max(1) as usize);
     let mut places = Vec::new(alloc);
-    let mut part = 0u32;
-    let mut load = 0usize;
+    let mut next = Place {
+        part: 0,
+        before: 0,
+        cut: false,
+    };
     for size in sizes.as_slice() {
         let size = *size as usize;
-        if is_too_much(load, size, share) && part.saturating_add(1) < count {
-            part = part.saturating_add(1);
-            load = 0;
+        let cut = cut && size > share;
+        if !cut && is_too_much(next.before, size, share) && next.part.saturating_add(1) < count {
+            next.part = next.part.saturating_add(1);
+            next.before = 0;
         }
-        load = load.saturating_add(size);
-        places.push(part)?;
+        places.push(Place { cut, ..next })?;
+        next = next.behind(size, share, count, cut);
     }
     Ok(places)
 }
@@ -121,10 +198,7 @@ fn is_too_much(load: usize, size: usize, share: usize) -> bool {
 
 /// For each module how many its group has, if it is the first of them.
 fn sizes_of(alloc: Global, heads: &[u32]) -> Result<Vec<u32>, AllocError> {
-    let mut sizes = Vec::new(alloc);
-    for _m in heads {
-        sizes.push(0)?;
-    }
+    let mut sizes = zeros(alloc, heads.len())?;
     for head in heads {
         let size = home_of(sizes.as_slice(), *head);
         put(&mut sizes, *head, size.saturating_add(1));

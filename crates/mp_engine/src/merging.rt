@@ -28,8 +28,8 @@ pub(crate) fn merged(
     runs: &[PartRun],
 ) -> Result<PartRun, AllocError>
     requires form { IsCircuit netlist.now }
-    requires division { IsDivision netlist.now division.now.homes.items division.now.wires.items division.now.parts }
-    requires runs { AreRuns netlist.now division.now.homes.items division.now.parts runs.now }
+    requires division { IsDivision netlist.now division.now.homes.items division.now.wires.items division.now.heard.items division.now.parts }
+    requires runs { AreRuns netlist.now division.now.homes.items division.now.heard.items division.now.parts runs.now }
     ensures { IfOk result (λ run. IsPartRun netlist.now run) }
 {
     let waves = merged_waves(alloc, netlist, division, runs)?;
@@ -45,8 +45,8 @@ fn merged_waves(
     runs: &[PartRun],
 ) -> Result<Vec<Option<Arc<Wave, Global>>>, AllocError>
     requires form { IsCircuit netlist.now }
-    requires division { IsDivision netlist.now division.now.homes.items division.now.wires.items division.now.parts }
-    requires runs { AreRuns netlist.now division.now.homes.items division.now.parts runs.now }
+    requires division { IsDivision netlist.now division.now.homes.items division.now.wires.items division.now.heard.items division.now.parts }
+    requires runs { AreRuns netlist.now division.now.homes.items division.now.heard.items division.now.parts runs.now }
     ensures { IfOk result (λ waves. AreSlots (length netlist.now.wires) (λ w. slot_wave netlist.now w (wire_at netlist.now w)) (map (option_map arc_value) waves.items)) }
 {
     let mut waves = Vec::new(alloc);
@@ -64,8 +64,8 @@ fn wave_of(
     wire: WireId,
 ) -> Result<Option<Arc<Wave, Global>>, AllocError>
     requires form { IsCircuit netlist.now }
-    requires division { IsDivision netlist.now division.now.homes.items division.now.wires.items division.now.parts }
-    requires runs { AreRuns netlist.now division.now.homes.items division.now.parts runs.now }
+    requires division { IsDivision netlist.now division.now.homes.items division.now.wires.items division.now.heard.items division.now.parts }
+    requires runs { AreRuns netlist.now division.now.homes.items division.now.heard.items division.now.parts runs.now }
     requires low { wire.0 < length netlist.now.wires }
     ensures { IfOk result (λ wave. option_map arc_value wave ≡ slot_wave netlist.now wire.0 (wire_at netlist.now wire.0)) }
 {
@@ -98,8 +98,8 @@ fn merged_ends(
     runs: &[PartRun],
 ) -> Result<Vec<Option<Memory>>, AllocError>
     requires form { IsCircuit netlist.now }
-    requires division { IsDivision netlist.now division.now.homes.items division.now.wires.items division.now.parts }
-    requires runs { AreRuns netlist.now division.now.homes.items division.now.parts runs.now }
+    requires division { IsDivision netlist.now division.now.homes.items division.now.wires.items division.now.heard.items division.now.parts }
+    requires runs { AreRuns netlist.now division.now.homes.items division.now.heard.items division.now.parts runs.now }
     ensures { IfOk result (λ ends. AreSlots (length netlist.now.modules) (end_memory netlist.now) ends.items) }
 {
     let mut ends = Vec::new(alloc);
@@ -112,8 +112,8 @@ fn merged_ends(
 /// The last state of a module.
 fn end_of(netlist: &Netlist, division: &Division, runs: &[PartRun], id: ModuleId) -> Option<Memory>
     requires form { IsCircuit netlist.now }
-    requires division { IsDivision netlist.now division.now.homes.items division.now.wires.items division.now.parts }
-    requires runs { AreRuns netlist.now division.now.homes.items division.now.parts runs.now }
+    requires division { IsDivision netlist.now division.now.homes.items division.now.wires.items division.now.heard.items division.now.parts }
+    requires runs { AreRuns netlist.now division.now.homes.items division.now.heard.items division.now.parts runs.now }
     requires low { id.0 < length netlist.now.modules }
     ensures { result ≡ end_memory netlist.now id.0 }
 {
@@ -137,8 +137,8 @@ fn merged_checkpoints(
     runs: &[PartRun],
 ) -> Result<Vec<Option<Arc<Checkpoints, Global>>>, AllocError>
     requires form { IsCircuit netlist.now }
-    requires division { IsDivision netlist.now division.now.homes.items division.now.wires.items division.now.parts }
-    requires runs { AreRuns netlist.now division.now.homes.items division.now.parts runs.now }
+    requires division { IsDivision netlist.now division.now.homes.items division.now.wires.items division.now.heard.items division.now.parts }
+    requires runs { AreRuns netlist.now division.now.homes.items division.now.heard.items division.now.parts runs.now }
     ensures { IfOk result (λ kept. AreCheckpoints netlist.now (map (option_map arc_value) kept.items)) }
 {
     let mut kept = Vec::new(alloc);

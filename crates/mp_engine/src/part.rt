@@ -1,17 +1,23 @@
 //! A part of a netlist as a task.
 
+ghost use Rattle.std.specs.Prelude.{[]};
+ghost use Rattle.mp_engine.specs.Regions.{HasStimuli};
+
 use crate::evaluation::run_region;
 use crate::part_run::PartRun;
 use crate::region::Region;
+use mp_netlist::Netlist;
 use mp_phase::{Gate, Work};
 use std::alloc::{AllocError, Global};
 use std::sync::Wait;
 
-/// A part of a netlist, to be run up to the horizon, and how many modules are at home in it.
+/// A part of a netlist that hears of nothing, to be run up to the horizon, and how many modules are at home in it.
 #[derive(Drop)]
 pub(crate) struct Part<'a> {
+    pub netlist: &'a Netlist,
     pub region: Region<'a>,
     pub size: usize,
+    pub ghost stimuli: { HasStimuli netlist.now region [] },
 }
 
 impl<'a> Work for Part<'a> {
@@ -31,6 +37,6 @@ impl<'a> Work for Part<'a> {
         alloc: Global,
         gate: &G,
     ) -> Result<PartRun, AllocError> {
-        run_region(rt, alloc, &self.region, gate)
+        run_region(rt, alloc, self.netlist, &self.region, gate)
     }
 }

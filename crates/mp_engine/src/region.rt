@@ -1,15 +1,20 @@
 //! A part of a netlist.
 
+ghost use Rattle.mp_engine.specs.Regions.{HearsOthers};
+
 use crate::home::home_of;
-use mp_netlist::{ModuleId, ModuleRecord, Netlist, WireId, WireRecord};
+use mp_netlist::{ModuleId, ModuleRecord, Netlist, WireId};
 use std::marker::Model;
 
-/// The modules of a netlist that are at home in one part of it, with all its wires. Contracts see it as a netlist.
+/// The modules of a netlist that are at home in one part of it, with all its wires, and which of these it hears that modules elsewhere
+/// drive. Contracts see it as a netlist in which the levels of wires that are heard come from outside.
 #[derive(Drop)]
 pub(crate) struct Region<'a> {
     netlist: &'a Netlist,
     homes: &'a [u32],
     part: u32,
+    heard: &'a [bool],
+    ghost apart: { HearsOthers netlist.now homes.now part heard.now },
 }
 
 impl<'a> Model for Region<'a> {
@@ -18,23 +23,26 @@ impl<'a> Model for Region<'a> {
 
     ghost Value = { Circuit };
 
-    ghost view = { λ r. region r.netlist.now r.homes.now r.part };
+    ghost view = { λ r. region r.netlist.now r.homes.now r.part r.heard.now };
 }
 
 impl<'a> Region<'a> {
-    ghost use Rattle.std.specs.Prelude.{◌≡◌, ◌≤◌, length, IfSome};
+    ghost use Rattle.std.specs.Prelude.{◌≡◌, ◌≤◌, length, IfSome, is_some};
     ghost use Rattle.std.specs.Option.{option_copied};
     ghost use Rattle.mp_netlist.specs.Limits.{max_horizon, max_wires, max_modules};
-    ghost use Rattle.mp_netlist.specs.Circuit.{IsCircuit, IsWire, IsModule, wire_at, module_at, module_width};
-    ghost use Rattle.mp_engine.specs.Regions.{region};
+    ghost use Rattle.mp_netlist.specs.Circuit.{IsCircuit, IsModule, wire_at, module_at, module_width};
+    ghost use Rattle.mp_model.specs.Levels.{initial_of};
+    ghost use Rattle.mp_engine.specs.Regions.{region, HearsOthers};
 
-    pub(crate) fn new(netlist: &'a Netlist, homes: &'a [u32], part: u32) -> Self
-        ensures { result ≡ region netlist.now homes.now part }
+    pub(crate) fn new(netlist: &'a Netlist, homes: &'a [u32], part: u32, heard: &'a [bool]) -> Self
+        requires { HearsOthers netlist.now homes.now part heard.now }
+        ensures { result ≡ region netlist.now homes.now part heard.now }
     {
         Region {
             netlist,
             homes,
             part,
+            heard,
         }
     }
 
@@ -64,12 +72,24 @@ impl<'a> Region<'a> {
         self.netlist.module_slots()
     }
 
-    /// The wire of this number, where it stands.
-    pub(crate) fn wire(&self, id: WireId) -> Option<&WireRecord>
-        ensures value { option_copied result ≡ wire_at self.now id.0 }
-        ensures form { IfSome result (λ found. IsWire self.now.horizon found.now) }
+    /// The level of a wire at time 0, 0 where it doesn't stand.
+    pub(crate) fn initial_level(&self, id: WireId) -> u64
+        ensures { result ≡ initial_of (wire_at self.now id.0) }
     {
-        self.netlist.wire(id)
+        match self.netlist.wire(id) {
+            Some(found) => found.initial,
+            None => 0,
+        }
+    }
+
+    /// Whether a wire of this number stands.
+    pub(crate) fn has_wire(&self, id: WireId) -> bool
+        ensures { result ≡ is_some (wire_at self.now id.0) }
+    {
+        match self.netlist.wire(id) {
+            Some(_) => true,
+            None => false,
+        }
     }
 
     /// The module of this number, where it stands and is at home here.

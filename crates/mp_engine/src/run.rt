@@ -7,7 +7,7 @@ use mp_model::Waves;
 use mp_modules::Memory;
 use mp_netlist::{ModuleId, WireId};
 use mp_wave::Wave;
-use std::alloc::Global;
+use std::alloc::{AllocError, Global};
 use std::marker::Model;
 use std::sync::Arc;
 
@@ -31,12 +31,14 @@ impl Model for Run {
 }
 
 impl Run {
-    ghost use Rattle.std.specs.Prelude.{◌≡◌, map, option_map};
+    ghost use Rattle.std.specs.Prelude.{◌≡◌, map, option_map, IfOk};
     ghost use Rattle.std.specs.Option.{option_copied};
     ghost use Rattle.std.specs.Arc.{arc_value};
+    ghost use Rattle.mp_netlist.specs.Slots.{slot_at};
     ghost use Rattle.mp_engine.specs.Outcomes.{Outcome, wave_of, end_of, checkpoint_of};
 
-    pub(crate) fn new(
+    /// The run up to a horizon with these waves, last states and states at checkpoints.
+    pub fn new(
         horizon: u32,
         waves: Waves,
         ends: Vec<Option<Memory>>,
@@ -73,6 +75,29 @@ impl Run {
         match self.ends.get(id.0 as usize) {
             Some(Some(memory)) => Some(*memory),
             _ => None,
+        }
+    }
+
+    /// The states of a module that the run kept.
+    pub fn checkpoints(&self, id: ModuleId) -> Option<&Checkpoints>
+        ensures { option_copied result ≡ slot_at self.now.kept id.0 }
+    {
+        match self.kept.get(id.0 as usize) {
+            Some(Some(kept)) => Some(kept),
+            _ => None,
+        }
+    }
+
+    /// The states of a module that the run kept, shared and not copied.
+    pub fn shared_checkpoints(
+        &self,
+        id: ModuleId,
+    ) -> Result<Option<Arc<Checkpoints, Global>>, AllocError>
+        ensures { IfOk result (λ kept. option_map arc_value kept ≡ slot_at self.now.kept id.0) }
+    {
+        match self.kept.get(id.0 as usize) {
+            Some(Some(kept)) => Ok(Some(Arc::try_clone(kept)?)),
+            _ => Ok(None),
         }
     }
 

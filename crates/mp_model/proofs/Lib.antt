@@ -12,3 +12,5 @@ pub mod InputLemmas
 pub mod QuietLemmas
 pub mod MemberLemmas
 pub mod FindingLemmas
+pub mod ModuleFitLemmas
+pub mod LevelFitLemmas

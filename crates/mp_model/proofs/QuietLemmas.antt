@@ -28,7 +28,7 @@ use Rattle.mp_model.proofs.TracksLemmas.{IsTrackOf-keep}
 use Rattle.mp_model.proofs.EvaluationLemmas as units
 
 -- where the inputs stay, the state stays
-same_inputs : (n : Circuit) → IsCircuit n → (m u : ℕ) (r : ModuleRecord) → module_at n m ≡ Some r → inputs_by n (level n) r (u + 1) ≡ inputs_by n (level n) r u → state n m (u + 1) ≡ state n m u
+pub same_inputs : (n : Circuit) → IsCircuit n → (m u : ℕ) (r : ModuleRecord) → module_at n m ≡ Some r → inputs_by n (level n) r (u + 1) ≡ inputs_by n (level n) r u → state n m (u + 1) ≡ state n m u
 same_inputs n ok m zero r at same =
     let part = built n r in
     let first = (satisfies n ok).settled m r at in

@@ -1,12 +1,12 @@
 -- What the levels, states and waves of a netlist satisfy.
-use Rattle.std.specs.Prelude.{◌≡◌, ℕ, ◌+◌, ◌<◌, Some}
+use Rattle.std.specs.Prelude.{◌≡◌, ℕ, ◌+◌, ◌<◌, ◌^◌, Some}
 use Rattle.mp_wave.specs.Waveform.{level_of}
 use Rattle.mp_modules.specs.declared.memory.Memory.{Memory}
 use Rattle.mp_modules.specs.Memories.{output_of}
 use Rattle.mp_records.specs.declared.module_record.ModuleRecord.{ModuleRecord}
 use Rattle.mp_records.specs.Outputs.{delay_of}
 use Rattle.mp_netlist.specs.declared.driver.Driver.TheVariants.{Port}
-use Rattle.mp_netlist.specs.Circuit.{Circuit, IsCircuit, wire_at, module_at}
+use Rattle.mp_netlist.specs.Circuit.{Circuit, IsCircuit, wire_at, module_at, width_of}
 use Rattle.mp_netlist.specs.Drivers.{driver}
 use Rattle.mp_model.specs.Levels.{IsBehaviour, initial_of}
 use Rattle.mp_model.specs.Waves.{level, state, wave}
@@ -32,3 +32,7 @@ BeginsAtInitialLevels = (n : Circuit) → IsCircuit n → (w : ℕ) → level n 
 -- a wave has the levels of its wire
 abbrev pub HasLevels : Type 0
 HasLevels = (n : Circuit) → IsCircuit n → (w t : ℕ) → t < n.horizon → level_of (wave n w) t ≡ level n w t
+
+-- no level is wider than its wire
+abbrev pub HaveWidth : Type 0
+HaveWidth = (n : Circuit) → IsCircuit n → (w t : ℕ) → level n w t < 2 ^ width_of (wire_at n w)

@@ -1,7 +1,7 @@
 //! What the levels, states and waves of a netlist satisfy.
 
 ghost use Rattle.mp_model.specs.FindingLaws.{FindsByRule};
-ghost use Rattle.mp_model.specs.Laws.{Satisfies, IsOnlyOne, FollowsPorts, BeginsAtInitialLevels, HasLevels};
+ghost use Rattle.mp_model.specs.Laws.{Satisfies, IsOnlyOne, FollowsPorts, BeginsAtInitialLevels, HasLevels, HaveWidth};
 
 /// The levels and states satisfy their equations, loops of modules included.
 pub fn equations()
@@ -26,6 +26,11 @@ pub fn begins_at_initial_levels()
 /// A wave has the level of its wire at each time below the horizon.
 pub fn wave_levels()
     ensures { HasLevels }
+{}
+
+/// A level has no more bits than its wire.
+pub fn levels_have_width()
+    ensures { HaveWidth }
 {}
 
 /// A finding is told exactly where the rule of its code holds, at its module or bundle and its time.

@@ -47,6 +47,16 @@ impl Waves {
         }
     }
 
+    /// The wave of a wire that stands, shared and not copied.
+    pub fn shared(&self, wire: WireId) -> Result<Option<Arc<Wave, Global>>, AllocError>
+        ensures { IfOk result (λ wave. option_map arc_value wave ≡ slot_at self.now wire.0) }
+    {
+        match self.list.get(wire.0 as usize) {
+            Some(slot) => shared(slot),
+            None => Ok(None),
+        }
+    }
+
     /// The same waves, shared and not copied.
     pub fn share(&self, alloc: Global) -> Result<Waves, AllocError>
         ensures { IfOk result (λ waves. waves ≡ self.now) }

@@ -18,7 +18,7 @@ use Rattle.mp_redo.specs.Revisions.{IsRevision, IsDrivenAlike}
 use Rattle.mp_redo.specs.Stays.{SourceAgrees, LevelsStay, UnreachedLevels}
 use Rattle.mp_redo.proofs.StayLemmas.{unreached_states}
 
-initials_same : (old new : Circuit) → IsRevision old new → (w : ℕ) (one other : Option WireRecord) → wire_at old w ≡ one → wire_at new w ≡ other → IsSome one → IsSome other → initial_of one ≡ initial_of other
+pub initials_same : (old new : Circuit) → IsRevision old new → (w : ℕ) (one other : Option WireRecord) → wire_at old w ≡ one → wire_at new w ≡ other → IsSome one → IsSome other → initial_of one ≡ initial_of other
 initials_same old new revised w None other a b some too = cc
 initials_same old new revised w (Some r) None a b some too = cc
 initials_same old new revised w (Some r) (Some s) a b some too = revised.initials w r s a b

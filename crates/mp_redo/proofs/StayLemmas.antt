@@ -37,17 +37,17 @@ module _ (old new : Circuit) (old_ok : IsCircuit old) (new_ok : IsCircuit new) (
       ap (λ k. cond (has_width r.kind) k 1)
       (widths_same old new revised w (wire_at old w) (wire_at new w) refl refl (was.reads 0 no_input some).0 (now.reads 0 no_input some).0)
 
-  built_same : built old r ≡ built new r
+  pub built_same : built old r ≡ built new r
   built_same = ap (any_part_of r.kind r.params) width_same
 
-  old_inputs : (t : ℕ) → inputs old m t ≡ inputs_by old (level old) r t
+  pub old_inputs : (t : ℕ) → inputs old m t ≡ inputs_by old (level old) r t
   old_inputs t = ap (λ slot. slot_inputs old slot t) kept.before
 
-  new_inputs : (t : ℕ) → inputs new m t ≡ inputs_by new (level new) r t
+  pub new_inputs : (t : ℕ) → inputs new m t ≡ inputs_by new (level new) r t
   new_inputs t = ap (λ slot. slot_inputs new slot t) kept.after
 
   -- a module that isn't apart has the same inputs
-  together : (t : ℕ) → (IsApart old new m t → ⊥) → inputs_by old (level old) r t ≡ inputs_by new (level new) r t
+  pub together : (t : ℕ) → (IsApart old new m t → ⊥) → inputs_by old (level old) r t ≡ inputs_by new (level new) r t
   together t not =
       sym (old_inputs t)
       ∙ same (inputs old m t) (inputs new m t) (same_lists (inputs old m t) (inputs new m t))

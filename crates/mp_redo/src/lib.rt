@@ -1,7 +1,35 @@
 //! What has to be evaluated again after a netlist has changed.
 #![tactic(auto)]
 
+mod answering;
+mod cell;
+mod closing;
+mod comparing;
+mod cutting;
+mod drivers;
+mod finishing;
+mod giving;
+mod keeping;
 pub mod laws;
+mod ledger;
+mod line;
+mod looks;
+mod marks;
+mod news;
+mod opening;
+mod prefix;
+mod responding;
+mod ring;
+mod set_wires;
+mod starting;
+mod stretch;
+mod telling;
+#[cfg(test)]
+mod tests;
+mod work;
+mod work_entries;
 mod work_entry;
 
+pub use work::Work;
+pub use work_entries::WorkEntries;
 pub use work_entry::WorkEntry;

@@ -5,3 +5,4 @@ pub mod WaveLemmas
 pub mod ModuleLemmas
 pub mod MergeLemmas
 pub mod LineLemmas
+pub mod ShareLemmas

@@ -7,11 +7,12 @@ use Rattle.mp_modules.specs.declared.kind.Kind.TheVariants as kinds
 use Rattle.mp_modules.specs.Kinds.{input_count}
 use Rattle.mp_modules.specs.declared.finding_code.FindingCode.{FindingCode}
 use Rattle.mp_modules.specs.declared.memory.Memory.{Memory}
-use Rattle.mp_modules.specs.Findings.{by_number, has_code}
+use Rattle.mp_modules.specs.declared.finding_set.FindingSet.{FindingSet}
+use Rattle.mp_modules.specs.Findings.{by_number, has_code, no_findings}
 use Rattle.mp_storage.specs.declared.any_module.AnyModule.{AnyModule}
-use Rattle.mp_storage.specs.AnyModules.{start, found}
+use Rattle.mp_storage.specs.AnyModules.{start, found, any_part_of}
 use Rattle.mp_records.specs.declared.module_record.ModuleRecord.{ModuleRecord}
-use Rattle.mp_netlist.specs.Circuit.{Circuit, IsCircuit, module_at}
+use Rattle.mp_netlist.specs.Circuit.{Circuit, IsCircuit, module_at, module_width}
 use Rattle.mp_model.specs.Levels.{built, inputs_by}
 use Rattle.mp_model.specs.Waves.{level, state}
 use Rattle.mp_model.specs.Findings.{is_found_at_module, module_place}
@@ -77,4 +78,16 @@ unfolding found_over
 no_module_over n m at =
     sym (none_told (codes_at n (module_place m))
     (λ t. ap (λ (slot : Option ModuleRecord). map (λ (code : FindingCode). let pair : ℕ × FindingCode = (t, code) in pair) (filter (is_found_at_module n m slot t) by_number)) at)
+    (range_with_len 1 (n.horizon - 1)))
+
+-- nothing is found where the module's table finds nothing, whatever its state
+pub quiet_module_over : (n : Circuit) (m : ℕ) (r : ModuleRecord) → module_at n m ≡ Some r
+    → ((params : List ℕ) (width : ℕ) (s : Memory) (x : List ℕ) → found (any_part_of r.kind params width) s x ≡ no_findings) → [] ≡ found_over n (module_place m)
+unfolding found_over
+quiet_module_over n m r at quiet =
+    let pairs : ℕ → (FindingCode → Bool) → List (ℕ × FindingCode) = (λ (t : ℕ) (p : FindingCode → Bool). map (λ (code : FindingCode). let pair : ℕ × FindingCode = (t, code) in pair) (filter p by_number)) in
+    sym (none_told (codes_at n (module_place m))
+    (λ t.
+    ap (λ (slot : Option ModuleRecord). pairs t (is_found_at_module n m slot t)) at
+    ∙ ap (λ (set : FindingSet). pairs t (has_code set)) (quiet r.params (module_width n r) (state n m (t - 1)) (inputs_by n (level n) r t)))
     (range_with_len 1 (n.horizon - 1)))

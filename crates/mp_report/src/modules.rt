@@ -1,6 +1,9 @@
 //! What is found at a module.
-ghost use Rattle.std.specs.Prelude.{◌≡◌, ℕ, ◌-◌, ◌<◌, IsSome, IfOk, All, map, vec_len, length};
+ghost use Rattle.std.specs.Prelude.{◌≡◌, ℕ, ◌-◌, ◌<◌, true, List, IsSome, IfOk, All, map, vec_len, length};
 ghost use Rattle.mp_wave.specs.Waveform.{IsWaveform, level_of};
+ghost use Rattle.mp_modules.specs.declared.memory.Memory.{Memory};
+ghost use Rattle.mp_modules.specs.Findings.{no_findings};
+ghost use Rattle.mp_storage.specs.AnyModules.{any_part_of, found};
 ghost use Rattle.mp_records.specs.declared.ports.Input.{Input as Port};
 ghost use Rattle.mp_netlist.specs.Circuit.{wire_at};
 ghost use Rattle.mp_model.specs.Levels.{input_by};
@@ -10,14 +13,14 @@ ghost use Rattle.mp_response.specs.Pieces.{levels_at, piece_level};
 ghost use Rattle.mp_report.specs.Places.{found_over};
 
 use mp_model::{Waves, built};
-use mp_modules::EventModule;
+use mp_modules::{EventModule, Kind};
 use mp_netlist::{Input, ModuleId, Netlist};
 use mp_response::{Findings, InPiece, cut, cut_delayed, respond};
 use mp_wave::Wave;
 use std::alloc::{AllocError, Global};
 
 /// What is found at a module, by time and then by the codes' numbers; nothing where it doesn't stand. The module answers once, over the
-/// whole horizon.
+/// whole horizon, unless its kind finds nothing.
 pub(crate) fn found_at_module(
     alloc: Global,
     netlist: &Netlist,
@@ -30,11 +33,25 @@ pub(crate) fn found_at_module(
     let Some(record) = netlist.module(id) else {
         return Ok(Findings::none(alloc));
     };
+    if finds_nothing(record.kind) {
+        return Ok(Findings::none(alloc));
+    }
     let end = netlist.horizon();
     let part = built(netlist, record);
     let inputs = pieces(alloc, netlist, waves, record.inputs.as_slice())?;
     let piece = respond(alloc, &part, part.start(), inputs.as_slice(), 0, end)?;
     Ok(piece.findings)
+}
+
+/// Whether no module of the kind ever finds anything, so that none need be looked at.
+fn finds_nothing(kind: Kind) -> bool
+    ensures { result ≡ true → (params : List ℕ) (width : ℕ) (memory : Memory) (x : List ℕ) → found (any_part_of kind params width) memory x ≡ no_findings }
+{
+    match kind {
+        Kind::Buf | Kind::Not | Kind::Toggle => true,
+        Kind::AddC | Kind::XorC | Kind::Sum | Kind::Bit => true,
+        Kind::Xor | Kind::C | Kind::Select | Kind::Call | Kind::Arbiter | Kind::Reg => false,
+    }
 }
 
 /// What the inputs of a module hear over the whole horizon.

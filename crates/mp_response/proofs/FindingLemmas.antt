@@ -3,7 +3,10 @@ use Rattle.std.proofs.Common.{◌≡◌, ℕ, ◌+◌, ◌<◌, Bool, true, fals
 use Rattle.std.specs.List.{filter}
 use Rattle.std.proofs.lemmas.List.{map-append}
 use Rattle.std.proofs.lemmas.List.Elements.{filter_more}
-use Rattle.mp_modules.specs.Findings.{has_code, by_number}
+use lib.Pointwise.{pointwise}
+use mathlib.Core.Bool.{beq}
+use Rattle.std.proofs.Common.{true≢false}
+use Rattle.mp_modules.specs.Findings.{no_findings, has_code, by_number}
 use Rattle.mp_modules.specs.declared.finding_code.FindingCode.{FindingCode}
 use Rattle.mp_modules.specs.declared.finding_set.FindingSet.{FindingSet}
 use Rattle.mp_response.specs.Span.{findings_of}
@@ -49,3 +52,19 @@ extend_more t set place code d found start now new lt is has before more =
 pub extend_all : (t : ℕ) (set : FindingSet) (place : ℕ) (start now : List (ℕ × FindingCode)) → place ≡ length by_number → now ≡ start ++ findings_among t set (take place by_number) → now ≡ start ++ findings_of t set
 extend_all t set place start now end is =
     is ∙ ap (λ (n : ℕ). start ++ findings_among t set (take n by_number)) end ∙ ap (λ (fs : List (ℕ × FindingCode)). start ++ fs) (findings_among-all t set)
+
+same_flags : (xs ys : List Bool) → true ≡ pointwise beq xs ys → xs ≡ ys
+same_flags [] [] h = refl
+same_flags [] (y ∷ ys) h = absurd (true≢false h)
+same_flags (x ∷ xs) [] h = absurd (true≢false h)
+same_flags (true ∷ xs) (true ∷ ys) h = ap (λ l. true ∷ l) (same_flags xs ys h)
+same_flags (true ∷ xs) (false ∷ ys) h = absurd (true≢false h)
+same_flags (false ∷ xs) (true ∷ ys) h = absurd (true≢false h)
+same_flags (false ∷ xs) (false ∷ ys) h = ap (λ l. false ∷ l) (same_flags xs ys h)
+
+-- a set without codes adds nothing
+pub extend_empty : (t : ℕ) (set empty : FindingSet) (start : List (ℕ × FindingCode)) → true ≡ pointwise beq set.present empty.present → empty ≡ no_findings → start ≡ start ++ findings_of t set
+unfolding findings_of
+extend_empty t set empty start equal is =
+    let same : set.present ≡ no_findings.present = same_flags set.present empty.present equal ∙ ap (λ (s : FindingSet). s.present) is in
+    sym (ap (λ (flags : List Bool). start ++ map (λ (c : FindingCode). let pair : ℕ × FindingCode = (t, c) in pair) (filter (has_code (record { present = flags })) by_number)) same ∙ append-nil start)

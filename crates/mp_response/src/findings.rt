@@ -57,6 +57,9 @@ impl Findings {
     pub fn extend(&mut self, time: u32, set: FindingSet) -> Result<(), AllocError>
         ensures ok { OnOk result (self.new ≡ self.old ++ findings_of time set) }
     {
+        if set == FindingSet::empty() {
+            return Ok(());
+        }
         for code in FindingCode::by_number() {
             self.push_if(time, code, set.contains(code))?;
         }

@@ -1,4 +1,3 @@
 pub mod ChunkLemmas
 pub mod StoryLemmas
-pub mod WorkLemmas
 pub mod SameLemmas

@@ -3,7 +3,7 @@ use Rattle.std.specs.Prelude.{List, []}
 use Rattle.mp_records.specs.declared.edit.Edit.{Edit}
 use Rattle.mp_netlist.specs.Circuit.{Circuit}
 use Rattle.mp_session.specs.Stories.{Story, opening, one_more}
-use Rattle.mp_session.specs.declared.work.WorkEntry.{WorkEntry}
+use Rattle.mp_redo.specs.declared.work_entry.WorkEntry.{WorkEntry}
 
 -- the story of a session's version, and what was evaluated for its last edit
 pub record Standing : Type 0 where

@@ -12,10 +12,8 @@ mod session;
 #[cfg(test)]
 mod tests;
 mod version;
-mod work;
 
 pub use history::{History, MAX_EDITS};
 pub use prepared::Prepared;
 pub use session::Session;
 pub use version::Version;
-pub use work::{Work, WorkEntry};

@@ -4,20 +4,22 @@ ghost use Rattle.std.specs.Prelude.{◌≡◌, IsTrue, ◌↔◌};
 use crate::same::Same;
 use crate::session::Session;
 use crate::version::Version;
-use crate::work::Work;
+use mp_engine::Run;
 use mp_netlist::Edit;
 use mp_phase::Gate;
+use mp_redo::Work;
 use std::alloc::Global;
 use std::marker::Model;
 use std::sync::Arc;
 
-/// An edit that a session accepts after just the edits that it was prepared after, the version to which it leads, and the work of it: once for
-/// the answer of the commit, and once for the session.
+/// An edit that a session accepts after just the edits that it was prepared after, the version to which it leads with its run, and the work
+/// of it: once for the answer of the commit, and once for the session.
 #[derive(Drop)]
 pub struct Prepared {
     pub(crate) before: Arc<Version, Global>,
     pub(crate) edit: Arc<Edit, Global>,
     pub(crate) next: Arc<Version, Global>,
+    pub(crate) run: Run,
     pub(crate) work: Work,
     pub(crate) kept_work: Work,
 }
@@ -26,7 +28,8 @@ impl Model for Prepared {
     ghost use Rattle.std.specs.Prelude.{◌≡◌};
     ghost use Rattle.std.specs.Arc.{arc_value};
     ghost use Rattle.mp_session.specs.Stories.{present, one_more};
-    ghost use Rattle.mp_session.specs.Works.{whole_work};
+    ghost use Rattle.mp_engine.specs.Runs.{IsRun};
+    ghost use Rattle.mp_redo.specs.WholeWork.{whole_work};
     ghost use Rattle.mp_session.specs.Sessions.{Step};
 
     ghost Value = { Step };
@@ -34,6 +37,7 @@ impl Model for Prepared {
     ghost view = { λ prepared. record { before = arc_value prepared.before; edit = arc_value prepared.edit } };
 
     ghost invariant = { λ prepared. (arc_value prepared.next ≡ one_more (arc_value prepared.before) (arc_value prepared.edit))
+        × IsRun (present (arc_value prepared.next)) prepared.run
         × (prepared.work ≡ whole_work (present (arc_value prepared.next)))
         × (prepared.kept_work ≡ whole_work (present (arc_value prepared.next))) };
 }

@@ -5,22 +5,24 @@ use crate::evaluation::evaluated;
 use crate::history::MAX_EDITS;
 use crate::prepared::Prepared;
 use crate::version::Version;
-use crate::work::Work;
+use mp_engine::{Run, evaluate};
 use mp_netlist::{Edit, EditError, Netlist};
 use mp_phase::{Crew, Gate};
+use mp_redo::Work;
 use std::alloc::{AllocError, Global};
 use std::marker::Model;
 use std::sync::{Arc, Wait};
 use std::thread::Threads;
 
-/// A netlist and the edits that were accepted on it: its present version, and the crew and the gate with which each version's waves are
-/// computed.
+/// A netlist and the edits that were accepted on it: its present version with its run, and the crew and the gate with which each version's
+/// run is computed.
 #[derive(Drop)]
 pub struct Session<G: Gate> {
     alloc: Global,
     crew: Crew,
     gate: G,
     version: Arc<Version, Global>,
+    run: Run,
     last_work: Work,
 }
 
@@ -30,7 +32,12 @@ impl<G: Gate> Model for Session<G> {
 
     ghost Value = { Standing };
 
+    ghost use Rattle.mp_engine.specs.Runs.{IsRun};
+    ghost use Rattle.mp_session.specs.Stories.{present};
+
     ghost view = { λ session. record { story = arc_value session.version; last_work = session.last_work } };
+
+    ghost invariant = { λ session. IsRun (present (arc_value session.version)) session.run };
 }
 
 impl<G: Gate> Session<G> {
@@ -39,7 +46,7 @@ impl<G: Gate> Session<G> {
     ghost use Rattle.mp_netlist.specs.Edits.{RefusedBy, after};
     ghost use Rattle.mp_session.specs.Limits.{max_edits};
     ghost use Rattle.mp_session.specs.Stories.{present, judged, one_more};
-    ghost use Rattle.mp_session.specs.Works.{whole_work};
+    ghost use Rattle.mp_redo.specs.WholeWork.{whole_work};
     ghost use Rattle.mp_session.specs.Sessions.{opened};
 
     /// A session on a copy of this netlist, with no edits. It may wait, as an evaluation may.
@@ -54,13 +61,14 @@ impl<G: Gate> Session<G> {
         G: Sync,
         ensures { IfOk result (λ session. session ≡ opened netlist.now) }
     {
-        let waves = evaluated(rt, alloc, netlist, &crew, &gate)?;
-        let version = Version::opening(alloc, netlist.copy()?, waves)?;
+        let run = evaluate(rt, alloc, netlist, &crew, &gate)?;
+        let version = Version::opening(alloc, netlist.copy()?, run.waves().share(alloc)?)?;
         Ok(Session {
             alloc,
             crew,
             gate,
             version: Arc::new(alloc, version)?,
+            run,
             last_work: Work::none(alloc),
         })
     }
@@ -95,7 +103,7 @@ impl<G: Gate> Session<G> {
         ensures refused { IfErr result (RefusedBy edit.now (judged self.now.story edit.now)) }
     {
         let next = self.next(edit)?;
-        Ok(self.prepared(rt, edit, next)?)
+        Ok(self.prepared_copy(rt, edit, next)?)
     }
 
     /// Makes the prepared edit. It takes no memory and waits for nobody.
@@ -109,10 +117,12 @@ impl<G: Gate> Session<G> {
             before: _,
             edit: _,
             next,
+            run,
             work,
             kept_work,
         } = prepared;
         self.version = next;
+        self.run = run;
         self.last_work = kept_work;
         work
     }
@@ -134,6 +144,22 @@ impl<G: Gate> Session<G> {
     {
         let prepared = self.prepare(rt, edit)?;
         Ok(self.commit(prepared))
+    }
+
+    /// Makes the edit as `apply` does, and keeps it in place of a copy.
+    pub fn take<R: Threads + Wait + Sync>(&mut self, rt: &R, edit: Edit) -> Result<Work, EditError>
+    where
+        G: Sync,
+        ensures story { OnOk result (self.new.story ≡ one_more self.old.story edit) }
+        ensures accepted { OnOk result (judged self.old.story edit ≡ Ok (present self.new.story)) }
+        ensures work { IfOk result (λ work. work ≡ whole_work (present self.new.story)) }
+        ensures last { IfOk result (λ work. self.new.last_work ≡ work) }
+        ensures refused { IfErr result (RefusedBy edit (judged self.old.story edit)) }
+        ensures err { OnErr result (self.new ≡ self.old) }
+    {
+        let next = self.next(&edit)?;
+        let taken = self.prepared(rt, edit, next)?;
+        Ok(self.commit(taken))
     }
 
     /// The netlist after the edit, where it is accepted.
@@ -166,8 +192,8 @@ impl<G: Gate> Session<G> {
         }
     }
 
-    /// The edit with the version of the netlist after it.
-    fn prepared<R: Threads + Wait + Sync>(
+    /// A copy of the edit with the version of the netlist after it.
+    fn prepared_copy<R: Threads + Wait + Sync>(
         &self,
         rt: &R,
         edit: &Edit,
@@ -181,10 +207,28 @@ impl<G: Gate> Session<G> {
         ensures edit { IfOk result (λ prepared. prepared.edit ≡ edit.now) }
         ensures next { OnOk result (present (one_more self.now.story edit.now) ≡ next) }
     {
-        let edit = Arc::new(self.alloc, edit.copy()?)?;
-        let work = Work::whole(self.alloc, &next)?;
+        self.prepared(rt, edit.copy()?, next)
+    }
+
+    /// The edit with the version of the netlist after it.
+    fn prepared<R: Threads + Wait + Sync>(
+        &self,
+        rt: &R,
+        edit: Edit,
+        next: Netlist,
+    ) -> Result<Prepared, AllocError>
+    where
+        G: Sync,
+        requires accepted { after (present self.now.story) edit ≡ Ok next }
+        requires room { length self.now.story.edits < max_edits }
+        ensures fits { IfOk result (λ prepared. prepared.before ≡ self.now.story) }
+        ensures edit { IfOk result (λ prepared. prepared.edit ≡ edit) }
+        ensures next { OnOk result (present (one_more self.now.story edit) ≡ next) }
+    {
+        let edit = Arc::new(self.alloc, edit)?;
+        let (run, work) = evaluated(rt, self.alloc, &next, &self.crew, &self.gate)?;
         let kept_work = work.copy()?;
-        let waves = evaluated(rt, self.alloc, &next, &self.crew, &self.gate)?;
+        let waves = run.waves().share(self.alloc)?;
         let version = self
             .version
             .next(self.alloc, Arc::try_clone(&edit)?, next, waves)?;
@@ -192,6 +236,7 @@ impl<G: Gate> Session<G> {
             before: Arc::try_clone(&self.version)?,
             edit,
             next: Arc::new(self.alloc, version)?,
+            run,
             work,
             kept_work,
         })

@@ -7,7 +7,7 @@ use Rattle.mp_records.specs.declared.single_edit.SingleEdit.{SingleEdit}
 use Rattle.mp_words.specs.declared.line_error.LineError.{LineError}
 use Rattle.mp_words.specs.declared.line_error.LineError.TheVariants.{UnknownStatement, WordCount}
 use Rattle.mp_text.specs.declared.line_word.LineWord.{LineWord}
-use Rattle.mp_text.specs.declared.line_word.LineWord.TheVariants.{Single, Batch, Wave, Waves, Text, Report, Dump}
+use Rattle.mp_text.specs.declared.line_word.LineWord.TheVariants.{Single, Batch, Wave, Waves, Text, Report, Dump, Work}
 use Rattle.mp_text.specs.declared.script_line.Line.{Line}
 use Rattle.mp_text.specs.declared.script_line.Line.TheVariants.{Empty, Change, Ask}
 use Rattle.mp_text.specs.declared.script_line.Question.{Question}
@@ -48,7 +48,8 @@ line_word word =
     else (if bytes_eq word (codes "text") then Some Text
     else (if bytes_eq word (codes "report") then Some Report
     else (if bytes_eq word (codes "dump") then Some Dump
-    else option_map Single (single_word word))))))
+    else (if bytes_eq word (codes "work") then Some Work
+    else option_map Single (single_word word)))))))
 
 -- the line of that word and the words behind it
 unfoldable pub stated_line : LineWord → List (List ℕ) → Result Line LineError
@@ -59,6 +60,7 @@ stated_line Waves words = question_line (bare_question questions.Waves words)
 stated_line Text words = question_line (bare_question questions.Text words)
 stated_line Report words = question_line (bare_question questions.Report words)
 stated_line Dump words = question_line (bare_question questions.Dump words)
+stated_line Work words = question_line (bare_question questions.Work words)
 
 -- the line of its words
 unfoldable pub line_of : List (List ℕ) → Result Line LineError

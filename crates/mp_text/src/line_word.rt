@@ -18,6 +18,8 @@ pub enum LineWord {
     Report,
     /// `dump`
     Dump,
+    /// `work`
+    Work,
 }
 
 impl LineWord {
@@ -40,6 +42,8 @@ impl LineWord {
             Some(LineWord::Report)
         } else if word == b"dump".as_slice() {
             Some(LineWord::Dump)
+        } else if word == b"work".as_slice() {
+            Some(LineWord::Work)
         } else {
             Some(LineWord::Single(SingleWord::from_word(word)?))
         }

@@ -25,4 +25,6 @@ pub enum Question {
     Report,
     /// The value change dump of the netlist.
     Dump,
+    /// What was evaluated for the last edit.
+    Work,
 }

@@ -58,6 +58,7 @@ fn stated_line(alloc: Global, first: LineWord, words: &[&[u8]]) -> Result<Line, 
         LineWord::Text => Ok(Line::Ask(bare_question(Question::Text, words)?)),
         LineWord::Report => Ok(Line::Ask(bare_question(Question::Report, words)?)),
         LineWord::Dump => Ok(Line::Ask(bare_question(Question::Dump, words)?)),
+        LineWord::Work => Ok(Line::Ask(bare_question(Question::Work, words)?)),
     }
 }
 

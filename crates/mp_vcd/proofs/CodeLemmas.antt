@@ -1,7 +1,7 @@
 -- Codes and binary digits, digit by digit.
 use Rattle.std.proofs.Common.{◌≡◌, ℕ, ◌+◌, ◌-◌, ◌/◌, ◌%◌, ◌<◌, ◌≤◌, Bool, true, false, cond, nat_lt, List, [], ◌∷◌, ◌++◌, append_assoc, length, drop, slice_set, zero, suc, refl, sym, ap, ◌∙◌, arith}
 use Rattle.std.proofs.lemmas.Bool.Decides.{nat_tests}
-use Rattle.std.proofs.lemmas.List.{drop-set}
+use Rattle.std.proofs.lemmas.List.{drop-set, length-append}
 use Rattle.mp_vcd.specs.Codes.{digits_of, code}
 use Rattle.mp_vcd.specs.Values.{bit, bits}
 
@@ -54,3 +54,12 @@ bits_step whole digits start left rest some room within same =
     drop-set digits (start - 1) (bit rest) (omega arith) ∙ ap (λ k. bit rest ∷ drop k digits) place in
     same ∙ ap (λ k. bits k rest ++ drop start digits) last ∙ ap (λ l. l ++ drop start digits) (bits-suc (left - 1) rest)
     ∙ append_assoc (bits (left - 1) (rest / 2)) (bit rest ∷ []) (drop start digits) ∙ ap (λ l. bits (left - 1) (rest / 2) ++ l) (sym back)
+
+pub bits_long : (width level : ℕ) → length (bits width level) ≡ width
+bits_long zero level = ap length (bits-zero level)
+bits_long (suc width) level =
+    ap length (bits-suc width level) ∙ length-append (bits width (level / 2)) (bit level ∷ []) ∙ ap (λ k. k + 1) (bits_long width (level / 2)) ∙ (omega arith)
+
+-- a code of two digits
+pub code-two : (n : ℕ) → 94 ≤ n → n < 8836 → code n ≡ (33 + n % 94) ∷ (33 + n / 94) ∷ []
+code-two n high low = code-more n high ∙ ap (λ l. (33 + n % 94) ∷ l) (code-one (n / 94) (omega arith))

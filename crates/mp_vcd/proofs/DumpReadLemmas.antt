@@ -13,7 +13,7 @@ use Rattle.mp_vcd.specs.Readings.{words, Variable, Given, Reading, read_words, r
 use Rattle.mp_vcd.specs.Laws.{name_of, variable, SaysLevels, IsReadBack}
 use Rattle.mp_vcd.proofs.ReadingLemmas.{Leads, leads_none, leads_both, leads_as, declaring, leads_declaration, leads_time, valued}
 use Rattle.mp_vcd.proofs.LevelReadLemmas.{given_at, leads_values, stands_in, knows_first, Units, leads_units}
-use Rattle.mp_vcd.proofs.LevelFitLemmas.{level_fits}
+use Rattle.mp_model.proofs.LevelFitLemmas.{level_fits}
 use Rattle.mp_vcd.proofs.DumpLemmas.{units}
 
 -- ---- the declarations

@@ -7,5 +7,3 @@ pub mod CodeReadLemmas
 pub mod ReadingLemmas
 pub mod LevelReadLemmas
 pub mod DumpReadLemmas
-pub mod ModuleFitLemmas
-pub mod LevelFitLemmas

@@ -1,5 +1,5 @@
 -- What a dump says to a reader.
-use Rattle.std.specs.Prelude.{◌≡◌, ℕ, ◌<◌, ◌^◌, List, [], map, Option, Some, None}
+use Rattle.std.specs.Prelude.{◌≡◌, ℕ, ◌<◌, List, [], map, Option, Some, None}
 use Rattle.mp_records.specs.declared.wire_record.WireRecord.{WireRecord}
 use Rattle.mp_netlist.specs.Circuit.{Circuit, IsCircuit, wire_at, width_of}
 use Rattle.mp_model.specs.Waves.{level}
@@ -30,7 +30,3 @@ IsReadBack = (n : Circuit) → IsCircuit n → SaysLevels n (reading (dump n))
 -- no two wires have one code
 abbrev pub HaveOwnCodes : Type 0
 HaveOwnCodes = (w v : ℕ) → code w ≡ code v → w ≡ v
-
--- no level is wider than its wire
-abbrev pub HaveWidth : Type 0
-HaveWidth = (n : Circuit) → IsCircuit n → (w t : ℕ) → level n w t < 2 ^ width_of (wire_at n w)

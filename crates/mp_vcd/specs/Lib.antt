@@ -7,3 +7,4 @@ pub mod Agendas
 pub mod Parts
 pub mod Readings
 pub mod Laws
+pub mod Widths

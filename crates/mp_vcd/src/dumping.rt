@@ -9,12 +9,15 @@ ghost use Rattle.mp_vcd.specs.Puts.{Puts};
 ghost use Rattle.mp_vcd.specs.Dumps.{standing, time_mark, unit_text, dump};
 ghost use Rattle.mp_vcd.specs.Parts.{part_line, slot_text};
 ghost use Rattle.mp_vcd.specs.Values.{value_line};
+ghost use Rattle.mp_vcd.specs.Widths.{AreWidths};
 
 use crate::agenda::Agenda;
 use crate::dump_error::DumpError;
 use crate::lines::{push_declaration, push_level, push_time_mark};
-use crate::putting::{put_bytes, put_rest};
+use crate::putting::{put_bytes, put_piece, put_rest};
+use crate::value_lines::ValueLine;
 use crate::wave_changes::{agenda_of, portion_of};
+use crate::widths::widths_of;
 use mp_model::Waves;
 use mp_netlist::{Netlist, WireId};
 use mp_streams::{Sink, WriteBuffer};
@@ -37,7 +40,8 @@ pub(crate) enum Part {
 ///
 /// `WriteFailed` comes with a fault of the sink, and `OutOfMemory` where memory is wanting: then a part of the dump, from its
 /// front, is written. It takes time in proportion to the wires, the units and the changes, and a buffer of 64 KiB; and of
-/// memory beside it 16 bytes for each change and 4 for each unit of a portion, which has as many changes as stay near the processor.
+/// memory beside it 12 bytes for each wire, and 16 for each change and 4 for each unit of a portion, which has as many changes as stay
+/// near the processor.
 pub fn dump<T: Sink>(
     alloc: Global,
     netlist: &Netlist,
@@ -139,12 +143,15 @@ fn put_units<T: Sink>(
     ensures written { Puts result (T.taken sink.old) (T.taken sink.new) buffer.old buffer.new (flat_map (unit_text netlist.now) (range_with_len 1 (netlist.now.horizon - 1))) }
     ensures faults { T.fault_count sink.new ≡ counted_writes result (T.fault_count sink.old) }
 {
+    let widths = widths_of(alloc, netlist)?;
     let portion = portion_of(netlist, waves);
+    let mut places = vec![in alloc; 0; netlist.wire_slots() as usize]?;
     let mut from: u32 = 1;
     while from < netlist.horizon() {
         let to = from.saturating_add(portion.units).min(netlist.horizon());
-        let agenda = agenda_of(alloc, netlist, waves, from, to, portion.changes)?;
-        put_agenda(line, buffer, sink, netlist, &agenda, to)?;
+        let next = places.as_mut_slice();
+        let agenda = agenda_of(alloc, netlist, waves, next, from, to, portion.changes)?;
+        put_agenda(line, buffer, sink, netlist, widths.as_slice(), &agenda, to)?;
         from = to;
     }
     Ok(())
@@ -156,10 +163,12 @@ fn put_agenda<T: Sink>(
     buffer: &mut WriteBuffer,
     sink: &mut T,
     netlist: &Netlist,
+    widths: &[u32],
     agenda: &Agenda,
     to: u32,
 ) -> Result<(), DumpError>
     requires countable { T.fault_count sink.old < 2 ^ 64 - 1 }
+    requires widths { AreWidths netlist.now widths.now }
     requires order { agenda.now.from ≤ to }
     requires times { vec_len agenda.now.firsts ≡ to - agenda.now.from }
     requires told { Tells agenda.now.firsts.items agenda.now.entries.items (told_from agenda.now.from (told_at netlist.now)) }
@@ -167,7 +176,7 @@ fn put_agenda<T: Sink>(
     ensures faults { T.fault_count sink.new ≡ counted_writes result (T.fault_count sink.old) }
 {
     for time in agenda.from..to {
-        put_unit(line, buffer, sink, netlist, agenda, time)?;
+        put_unit(line, buffer, sink, netlist, widths, agenda, time)?;
     }
     Ok(())
 }
@@ -178,10 +187,12 @@ fn put_unit<T: Sink>(
     buffer: &mut WriteBuffer,
     sink: &mut T,
     netlist: &Netlist,
+    widths: &[u32],
     agenda: &Agenda,
     time: u32,
 ) -> Result<(), DumpError>
     requires countable { T.fault_count sink.old < 2 ^ 64 - 1 }
+    requires widths { AreWidths netlist.now widths.now }
     requires from { agenda.now.from ≤ time }
     requires times { time < agenda.now.from + vec_len agenda.now.firsts }
     requires told { Tells agenda.now.firsts.items agenda.now.entries.items (told_from agenda.now.from (told_at netlist.now)) }
@@ -195,7 +206,8 @@ fn put_unit<T: Sink>(
     put_time_mark(line, buffer, sink, time)?;
     while place > 0 {
         let entry = agenda.entries[place as usize - 1];
-        put_level(line, buffer, sink, netlist, WireId(entry.wire), entry.level)?;
+        let wire = WireId(entry.wire);
+        put_level(line, buffer, sink, netlist, widths, wire, entry.level)?;
         place = entry.next;
     }
     Ok(())
@@ -218,7 +230,33 @@ fn put_time_mark<T: Sink>(
 }
 
 /// Puts the line of a wire's level.
+#[inline]
 fn put_level<T: Sink>(
+    line: &mut Vec<u8>,
+    buffer: &mut WriteBuffer,
+    sink: &mut T,
+    netlist: &Netlist,
+    widths: &[u32],
+    wire: WireId,
+    level: u64,
+) -> Result<(), DumpError>
+    requires countable { T.fault_count sink.old < 2 ^ 64 - 1 }
+    requires widths { AreWidths netlist.now widths.now }
+    ensures written { Puts result (T.taken sink.old) (T.taken sink.new) buffer.old buffer.new (value_line (width_of (wire_at netlist.now wire.0)) wire.0 level) }
+    ensures faults { T.fault_count sink.new ≡ counted_writes result (T.fault_count sink.old) }
+{
+    let Some(&width) = widths.get(wire.0 as usize) else {
+        return put_long_level(line, buffer, sink, netlist, wire, level);
+    };
+    match ValueLine::new(width, wire.0, level) {
+        Some(short) => put_piece(buffer, sink, &short),
+        None => put_long_level(line, buffer, sink, netlist, wire, level),
+    }
+}
+
+/// Puts the line of a wire's level, which may be long.
+#[cold]
+fn put_long_level<T: Sink>(
     line: &mut Vec<u8>,
     buffer: &mut WriteBuffer,
     sink: &mut T,

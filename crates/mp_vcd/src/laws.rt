@@ -1,5 +1,5 @@
 //! What a dump says to a reader.
-ghost use Rattle.mp_vcd.specs.Laws.{IsReadBack, HaveOwnCodes, HaveWidth};
+ghost use Rattle.mp_vcd.specs.Laws.{IsReadBack, HaveOwnCodes};
 
 /// The dump of a well-formed netlist, read by the rules of IEEE Std 1364, declares each wire that stands
 /// as a variable with the wire's name and width, and gives it at each time below the horizon the
@@ -11,9 +11,4 @@ pub fn dump_is_read()
 /// No two wires have the same identifier code.
 pub fn own_codes()
     ensures { HaveOwnCodes }
-{}
-
-/// A level has no more bits than its wire.
-pub fn levels_have_width()
-    ensures { HaveWidth }
 {}

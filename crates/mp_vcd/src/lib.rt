@@ -6,10 +6,13 @@ mod dump_error;
 mod dumping;
 pub mod laws;
 mod lines;
+mod parts;
 mod putting;
 #[cfg(test)]
 mod tests;
+mod value_lines;
 mod wave_changes;
+mod widths;
 
 pub use dump_error::DumpError;
 pub use dumping::{dump, put_dump};

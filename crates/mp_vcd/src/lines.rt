@@ -1,5 +1,6 @@
 //! The lines of a dump.
-ghost use Rattle.std.specs.Prelude.{◌≡◌, ◌≤◌, ◌∷◌, [], ◌++◌, drop, OnOk, Some};
+ghost use Rattle.std.specs.Prelude.{◌≡◌, ◌+◌, ◌≤◌, ◌∷◌, [], ◌++◌, length, OnOk, Some};
+ghost use Rattle.mp_streams.specs.Places.{IsPlaced};
 ghost use Rattle.mp_netlist.specs.Circuit.{wire_at, width_of};
 ghost use Rattle.mp_vcd.specs.Codes.{code};
 ghost use Rattle.mp_vcd.specs.Values.{bit, bits, value_text, value_line};
@@ -10,10 +11,10 @@ use mp_words::push_number;
 use std::alloc::AllocError;
 
 /// How many digits a code has to choose from.
-const BASE: u32 = 94;
+pub(crate) const BASE: u32 = 94;
 
 /// The digit that stands for 0 in a code.
-const FIRST_DIGIT: u8 = b'!';
+pub(crate) const FIRST_DIGIT: u8 = b'!';
 
 /// How many bits the widest level has.
 const MOST_BITS: usize = 64;
@@ -56,7 +57,7 @@ pub fn push_level(
     Ok(())
 }
 
-fn width_of(netlist: &Netlist, wire: WireId) -> u32
+pub(crate) fn width_of(netlist: &Netlist, wire: WireId) -> u32
     ensures value { result ≡ width_of (wire_at netlist.now wire.0) }
     ensures narrow { result ≤ MOST_BITS }
 {
@@ -87,30 +88,31 @@ fn push_bits(text: &mut Vec<u8>, width: u32, level: u64) -> Result<(), AllocErro
     ensures { OnOk result (text.new.items ≡ text.old.items ++ bits width level) }
 {
     let mut digits = [0; MOST_BITS];
-    let start = write_bits(width, level, &mut digits);
-    text.extend_from_slice(&digits[start..])
+    let end = write_bits(width, level, digits.as_mut_slice(), 0);
+    text.extend_from_slice(&digits[..end])
 }
 
-/// Writes the lowest bits of a level at the end of the digits, and gives their start.
-fn write_bits(width: u32, level: u64, digits: &mut [u8; MOST_BITS]) -> usize
-    requires { width ≤ MOST_BITS }
-    ensures start { result ≤ MOST_BITS }
-    ensures written { drop result digits.new ≡ bits width level }
+/// Writes the lowest bits of a level, so many, from a place on, the greatest first, and returns where they end.
+#[inline]
+pub(crate) fn write_bits(width: u32, level: u64, room: &mut [u8], at: usize) -> usize
+    requires { at + width ≤ length room.old }
+    ensures placed { IsPlaced room.old room.new at (bits width level) result }
+    ensures end { result ≡ at + width }
 {
-    let mut start = MOST_BITS;
-    let mut left = width;
+    let end = at + width as usize;
+    let mut place = end;
     let mut rest = level;
-    while left > 0 {
-        left -= 1;
-        start -= 1;
-        digits[start] = bit(rest);
+    while place > at {
+        place -= 1;
+        room[place] = bit(rest);
         rest /= 2;
     }
-    start
+    end
 }
 
 /// The digit of the lowest bit.
-fn bit(level: u64) -> u8
+#[inline(always)]
+pub(crate) fn bit(level: u64) -> u8
     ensures { result ≡ bit level }
 {
     b'0' + (level % 2) as u8

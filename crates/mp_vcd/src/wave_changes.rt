@@ -5,6 +5,7 @@ ghost use Rattle.mp_model.specs.Waves.{AreWavesOf};
 ghost use Rattle.mp_vcd.specs.Agendas.{Tells, told_from, onto, onto_slot, told_at};
 
 use crate::agenda::Agenda;
+use crate::parts::part;
 use mp_model::Waves;
 use mp_netlist::{Netlist, WireId};
 use std::alloc::{AllocError, Global};
@@ -50,11 +51,13 @@ fn change_count(netlist: &Netlist, waves: &Waves) -> usize {
     count
 }
 
-/// The changes of all wires by time, from a time to before another, those of a time by wire; with room for some.
+/// The changes of all wires by time, from a time to before another, those of a time by wire; with room for some. Each wire's are looked for
+/// at its place, which is afterwards that of its next change.
 pub fn agenda_of(
     alloc: Global,
     netlist: &Netlist,
     waves: &Waves,
+    places: &mut [usize],
     from: u32,
     to: u32,
     room: usize,
@@ -71,7 +74,7 @@ pub fn agenda_of(
     let mut number = netlist.wire_slots();
     while number > 0 {
         number -= 1;
-        add_wire(&mut agenda, netlist, waves, WireId(number), to)?;
+        add_wire(&mut agenda, netlist, waves, places, WireId(number), to)?;
     }
     Ok(agenda)
 }
@@ -81,6 +84,7 @@ fn add_wire(
     agenda: &mut Agenda,
     netlist: &Netlist,
     waves: &Waves,
+    places: &mut [usize],
     id: WireId,
     to: u32,
 ) -> Result<(), AllocError>
@@ -97,8 +101,26 @@ fn add_wire(
     let Some(wave) = waves.of(id) else {
         return Ok(());
     };
-    add_changes(agenda, id.0, wave.changes_between(agenda.from - 1, to))?;
+    let place = place_of(places, id);
+    let changes = part(wave, agenda.from, to, place);
+    add_changes(agenda, id.0, changes)?;
+    set_place(places, id, place.saturating_add(changes.len()));
     Ok(())
+}
+
+/// The place of a wire's next change, where it is known.
+fn place_of(places: &[usize], id: WireId) -> usize {
+    match places.get(id.0 as usize) {
+        Some(&place) => place,
+        None => 0,
+    }
+}
+
+fn set_place(places: &mut [usize], id: WireId, place: usize) {
+    let number = id.0 as usize;
+    if number < places.len() {
+        places[number] = place;
+    }
 }
 
 fn add_changes(agenda: &mut Agenda, wire: u32, changes: &[(u32, u64)]) -> Result<(), AllocError>

@@ -67,12 +67,12 @@ Reads from standard input, at most 4194304 bytes, a netlist's text as `waves` do
 `---`, and behind it a script. Its lines are edits: `wire`, `module`, `stim` and `bundle` as in a \
 text, `remove wire NAME`, `remove module NAME`, `remove bundle NAME`, `input MODULE PORT WIRE`, \
 `output MODULE PORT WIRE` (or `-` for no wire), `indelay MODULE PORT E`, `delay MODULE PORT D` and \
-`clear WIRE`; and questions: `wave WIRE`, `waves`, `text`, `report` and `dump`.
+`clear WIRE`; and questions: `wave WIRE`, `waves`, `text`, `report`, `dump` and `work`.
 
 Answers each line in turn on standard output: an edit by `accepted N`, with how many edits were \
 accepted so far, or `refused CODE NAME`, which changes nothing; a question by the wire's line, the \
-lines of all wires, the present netlist's text, its report or its value change dump; and a line \
-that is not read by `unread CODE NAME`.
+lines of all wires, the present netlist's text, its report, its value change dump or what was \
+evaluated for the last edit; and a line that is not read by `unread CODE NAME`.
 
 A netlist's text that is refused is told on standard error as `mpwb: line N: CODE NAME`.";
 

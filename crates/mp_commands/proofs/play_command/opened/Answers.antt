@@ -39,5 +39,6 @@ returns-clause-opened g c =
       netlist = same ∙ c.in_ok-netlist.ensures.read;
       crew = search rules;
       first = refl;
+      no_work = refl;
       lines = c.in_ok-front.ensures.back;
     })

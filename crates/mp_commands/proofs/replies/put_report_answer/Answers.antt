@@ -7,4 +7,4 @@ pub returns-clause-written : goal.returns-clause-written
 returns-clause-written g c =
     let held = c.args.buffer.now in
     puts_then _ _ _ held c.put_rest.new.buffer c.put_report_lines.new.buffer [] (report_text c.args.keeper.now.netlist) c.put_report_lines.result
-    (held, c.in_ok-put_rest.ensures.written, ap (λ l. held ++ l) (sym c.in_ok-put_rest.ensures.empty)) (rw c.netlist.ensures at c.put_report_lines.ensures.written)
+    (held, c.in_ok-put_rest.ensures.written, ap (λ l. held ++ l) (sym c.in_ok-put_rest.ensures.empty)) (rw c.netlist-netlist.ensures at c.put_report_lines.ensures.written)

@@ -5,4 +5,4 @@ use Rattle.mp_engine.proofs.division.are_read_at.Given as goal
 
 -- those so far
 abbrev pub invariant-loop-input : goal.invariant-loop-input
-invariant-loop-input l = All (λ (input : Input). IsReadAt l.wires l.parts l.home input) (take l.input-index l.inputs)
+invariant-loop-input l = All (λ (input : Input). IsReadAt l.wires l.heard l.parts l.home input) (take l.input-index l.inputs)

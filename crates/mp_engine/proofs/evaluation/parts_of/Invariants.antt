@@ -1,4 +1,4 @@
-use Rattle.std.proofs.Common.{◌≡◌, ℕ, ◌<◌, length, slice_index_or}
+use Rattle.std.proofs.Common.{◌≡◌, ℕ, ◌<◌, [], length, slice_index_or}
 use Rattle.mp_engine.specs.declared.part.Part.{Part}
 use Rattle.mp_engine.specs.Regions.{region}
 use Rattle.mp_engine.proofs.evaluation.parts_of.Given as goal
@@ -7,5 +7,5 @@ use Rattle.mp_engine.proofs.evaluation.parts_of.Given as goal
 abbrev pub invariant-loop-part : goal.invariant-loop-part
 invariant-loop-part l = record {
   places : length l.parts.items ≡ l.part;
-  each : (k : ℕ) (d : Part) → k < l.part → (slice_index_or l.parts.items k d).region ≡ region l.netlist l.division.homes.items k;
+  each : (k : ℕ) (d : Part) → k < l.part → (slice_index_or l.parts.items k d).region ≡ region l.netlist l.division.homes.items k [];
 }

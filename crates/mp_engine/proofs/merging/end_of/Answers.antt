@@ -14,4 +14,4 @@ returns c =
     let run = c.index-runs-part.result in
     let home : c.home_of-part.result ≡ home_of division.homes.items m = c.home_of-part.ensures ∙ ap (λ (xs : List ℕ). home_of xs m) c.as_slice.ensures.value in
     c.end_in.ensures ∙ ap (λ (x : PartRun). slot_at x.ends.items m) c.index-runs-part.is ∙ ap (λ k. slot_at (slice_index_or runs k run).ends.items m) home
-    ∙ divided_end n c.requires.form division.homes.items division.wires.items division.parts m runs run c.requires.division c.requires.runs c.requires.low
+    ∙ divided_end n c.requires.form division.homes.items division.wires.items division.heard.items division.parts m runs run c.requires.division c.requires.runs c.requires.low

@@ -33,5 +33,5 @@ returns c =
     let runs = c.args.runs.now in
     let division = c.args.division.now in
     let all : c.loop-m.m ≡ length n.modules = omega arith in
-    divided_checkpoints n c.requires.form division.homes.items division.wires.items division.parts runs _ c.requires.division c.requires.runs
+    divided_checkpoints n c.requires.form division.homes.items division.wires.items division.heard.items division.parts runs _ c.requires.division c.requires.runs
     (subst (λ k. AreSlots k (λ m. slot_at (slice_index_or (map kept_in runs) (home_of division.homes.items m) []) m) (map (option_map arc_value) c.loop-m.kept.items)) all c.loop-m.invariant)

@@ -17,5 +17,5 @@ returns c =
     let division = c.args.division.now in
     let run = c.index-runs-part.result in
     on_ok c.shared_wave.result _ _ (λ wave is. is ∙ ap (λ (x : PartRun). slot_at (waves_in x) w) c.index-runs-part.is
-    ∙ divided_wave n c.requires.form division.homes.items division.wires.items division.parts w c.part_of_wire-part.result runs run c.requires.division c.requires.runs c.requires.low
+    ∙ divided_wave n c.requires.form division.homes.items division.wires.items division.heard.items division.parts w c.part_of_wire-part.result runs run c.requires.division c.requires.runs c.requires.low
     c.part_of_wire-part.ensures.low c.part_of_wire-part.ensures.home) c.shared_wave.ensures

@@ -6,7 +6,7 @@ use Rattle.mp_model.proofs.BuiltLemmas.{width_of_module}
 use Rattle.mp_response.specs.Pieces.{levels_at}
 use Rattle.mp_response.specs.Span.{IsSpan}
 use Rattle.mp_response.specs.declared.in_piece.InPiece.{InPiece}
-use Rattle.mp_report.proofs.ModuleLemmas.{answer_over, no_module_over}
+use Rattle.mp_report.proofs.ModuleLemmas.{answer_over, no_module_over, quiet_module_over}
 use Rattle.mp_report.proofs.modules.found_at_module.Goals as goal
 
 pub built-part-requires-clause-width : goal.built-part-requires-clause-width
@@ -14,6 +14,9 @@ built-part-requires-clause-width c = width_of_module c.args.netlist.now c.horizo
 
 pub returns-in_default : goal.returns-in_default
 returns-in_default c = c.none.ensures ∙ no_module_over c.args.netlist.now c.args.id.0 (sym c.in_default.ensures.value)
+
+pub returns-then-finds_nothing : goal.returns-then-finds_nothing
+returns-then-finds_nothing c = c.none-then-finds_nothing.ensures ∙ quiet_module_over c.args.netlist.now c.args.id.0 c.in-Some.record.now (sym c.in-Some.ensures.value) (c.finds_nothing.ensures c.if-finds_nothing.true)
 
 pub returns : goal.returns
 returns c =

@@ -1,33 +1,50 @@
-use Rattle.std.proofs.Common.{◌≡◌, ◌<◌, ◌≤◌, ◌++◌, append-nil, drop, length, rules, sym, ap, ◌∙◌, arith}
-use Rattle.std.proofs.lemmas.List.{drop_all}
+use Rattle.std.proofs.Common.{◌≡◌, ◌+◌, ◌-◌, ◌<◌, ◌≤◌, ◌/◌, ◌++◌, drop, length, slice_set, refl, rules, sym, ap, ◌∙◌, arith}
+use Rattle.std.proofs.lemmas.List.{take-set-le}
 use Rattle.std.proofs.Math.ListN.{length-set}
-use Rattle.mp_vcd.specs.Values.{bits}
-use Rattle.mp_vcd.proofs.CodeLemmas.{bits_step, bits-zero}
+use Rattle.mp_streams.proofs.PlaceLemmas.{placed_between}
+use Rattle.mp_vcd.specs.Values.{bit, bits}
+use Rattle.mp_vcd.proofs.CodeLemmas.{bits_step, bits-zero, bits_long}
 use Rattle.mp_vcd.proofs.lines.write_bits.Goals as goal
 
-pub loop-left-init : goal.loop-left-init
-loop-left-init c =
-    let long : length c.args.digits.now ≡ 64 = omega (arith, c.told-digits) in
+pub loop-place-init : goal.loop-place-init
+loop-place-init c =
+    let whole : c.args.width ≡ c.args.at + c.args.width - c.args.at = omega arith in
     record {
-      few = omega arith;
-      place = omega arith;
-      long = long;
-      same = sym (ap (λ l. bits c.args.width c.args.level ++ l) (drop_all 64 c.args.digits.now (omega (arith, long))) ∙ append-nil (bits c.args.width c.args.level));
+      low = omega arith;
+      high = omega arith;
+      long = refl;
+      before = refl;
+      same = ap (λ k. bits k c.args.level ++ drop (c.args.at + c.args.width) c.args.room.now) whole;
     }
 
-pub loop-left-preserved : goal.loop-left-preserved
-loop-left-preserved c =
-    let some : 0 < c.loop-left.left = search rules in
-    let room : 0 < c.loop-left.start = omega arith in
-    let within : c.loop-left.start ≤ length c.loop-left.digits = omega arith in
+pub loop-place-preserved : goal.loop-place-preserved
+loop-place-preserved c =
+    let at = c.args.at in
+    let place = c.loop-place.place in
+    let room = c.loop-place.room in
+    let rest = c.loop-place.rest in
+    let more : at < place = search rules in
+    let some : 0 < place - at = omega arith in
+    let first : 0 < place = omega arith in
+    let within : place ≤ length room = omega (arith, c.loop-place.invariant.long, c.loop-place.invariant.high, c.requires) in
+    let back : at ≤ place - 1 = omega arith in
+    let next : place - at - 1 ≡ place - 1 - at = omega arith in
     record {
-      few = omega arith;
-      place = omega arith;
-      long = length-set c.loop-left.digits _ _ ∙ c.loop-left.invariant.long;
-      same = rw c.bit.ensures (bits_step (bits c.args.width c.args.level) c.loop-left.digits c.loop-left.start c.loop-left.left c.loop-left.rest some room within c.loop-left.invariant.same);
+      low = back;
+      high = omega (arith, c.loop-place.invariant.high);
+      long = length-set room _ _ ∙ c.loop-place.invariant.long;
+      before = take-set-le at room (place - 1) _ back ∙ c.loop-place.invariant.before;
+      same = rw c.bit.ensures (bits_step (bits c.args.width c.args.level ++ drop (at + c.args.width) c.args.room.now) room place (place - at) rest some first within c.loop-place.invariant.same
+          ∙ ap (λ k. bits k (rest / 2) ++ drop (place - 1) (slice_set room (place - 1) (bit rest))) next);
     }
 
-pub returns-clause-written : goal.returns-clause-written
-returns-clause-written c =
-    let none : c.loop-left.left ≡ 0 = omega arith in
-    sym (c.loop-left.invariant.same ∙ ap (λ k. bits k c.loop-left.rest ++ drop c.loop-left.start c.loop-left.digits) none ∙ ap (λ l. l ++ drop c.loop-left.start c.loop-left.digits) (bits-zero c.loop-left.rest))
+pub returns-clause-placed : goal.returns-clause-placed
+returns-clause-placed c =
+    let at = c.args.at in
+    let room = c.loop-place.room in
+    let none : c.loop-place.place ≡ at = omega (arith, c.loop-place.invariant.low) in
+    let empty : c.loop-place.place - at ≡ 0 = omega (arith, none) in
+    let behind : drop at room ≡ bits c.args.width c.args.level ++ drop (at + c.args.width) c.args.room.now =
+    sym (c.loop-place.invariant.same ∙ ap (λ k. bits k c.loop-place.rest ++ drop c.loop-place.place room) empty ∙ ap (λ l. l ++ drop c.loop-place.place room) (bits-zero c.loop-place.rest) ∙ ap (λ k. drop k room) none) in
+    placed_between c.args.room.now room (bits c.args.width c.args.level) at (at + c.args.width) c.loop-place.invariant.before behind
+    (ap (λ k. at + k) (bits_long c.args.width c.args.level)) c.requires c.loop-place.invariant.long

@@ -1,15 +1,16 @@
-use Rattle.std.proofs.Common.{◌≡◌, ◌+◌, ◌≤◌, ◌++◌, drop, length}
+use Rattle.std.proofs.Common.{◌≡◌, ◌+◌, ◌-◌, ◌≤◌, ◌++◌, drop, take, length}
 use Rattle.mp_vcd.specs.Values.{bits}
 use Rattle.mp_vcd.proofs.lines.write_bits.Given as goal
 
--- the bits that are left stand before the digits so far
-abbrev pub invariant-loop-left : goal.invariant-loop-left
-invariant-loop-left l = record {
-  few : l.left ≤ l.width;
-  place : l.start + l.width ≡ 64 + l.left;
-  long : length l.digits ≡ 64;
-  same : bits l.width l.level ≡ bits l.left l.rest ++ drop l.start l.digits;
+-- the bits that are left stand before the digits so far, and what is before and behind them stays
+abbrev pub invariant-loop-place : goal.invariant-loop-place
+invariant-loop-place l = record {
+  low : l.at ≤ l.place;
+  high : l.place ≤ l.at + l.width;
+  long : length l.room ≡ length l.fn.room;
+  before : take l.at l.room ≡ take l.at l.fn.room;
+  same : bits l.width l.level ++ drop (l.at + l.width) l.fn.room ≡ bits (l.place - l.at) l.rest ++ drop l.place l.room;
 }
 
-abbrev pub decreases-loop-left : goal.decreases-loop-left
-decreases-loop-left l = l.left
+abbrev pub decreases-loop-place : goal.decreases-loop-place
+decreases-loop-place l = l.place

@@ -1,4 +1,5 @@
 use Rattle.std.proofs.Common.{◌+◌, Result, Ok, Err, OnOk, sym, subst, arith}
+use Rattle.mp_engine.specs.Calendars.{heard_until}
 use Rattle.mp_engine.specs.Marks.{AreListed}
 use Rattle.mp_engine.proofs.CheckpointLemmas.{kept_answered}
 use Rattle.mp_engine.proofs.engine.Engine.answer.Goals as goal
@@ -7,8 +8,8 @@ on_ok : {T E : Type 0} (r : Result T E) (A B C D F G Q : Type 0) → (A → B �
 on_ok (Ok value) A B C D F G Q f a b c d e g = f a b c d e g
 on_ok (Err error) A B C D F G Q f a b c d e g = tt
 
-pub returns : goal.returns
-returns c =
+pub returns-clause-after : goal.returns-clause-after
+returns-clause-after c =
     let n = c.args.netlist.now in
     let t = c.args.time in
     let self = c.args.self.now in
@@ -26,7 +27,7 @@ returns c =
         tap_places = c.requires.before.tap_places;
         some = let some = before.some in omega (arith, places, some);
         room = λ m p r at. let room = before.room m p r at in omega (arith, places, room);
-        calendar = calendar;
+        calendar = calendar (heard_until self.heard.items self.known) before.calendar;
         settings = before.settings;
         history = record {
           kept = kept_answered n (t + 1) self.marks.items self.history.stepped.items c.mark_all.new.marks.items c.as_slice-due.result.now self.history.steps.items c.mark_all.new.due.items self.cells.items

@@ -5,7 +5,7 @@ use Rattle.mp_engine.specs.declared.entry.Entry.{Entry}
 use Rattle.mp_engine.specs.declared.cell.Cell.{Cell}
 use Rattle.mp_engine.specs.Taps.{AreKept, AreHeard, AreTapped, AreWaves, AreListening}
 use Rattle.mp_engine.proofs.TapLemmas.{listening_start, listening_end, kept_pushed}
-use Rattle.mp_engine.specs.Calendars.{IsExact, IsCalendar}
+use Rattle.mp_engine.specs.Calendars.{IsExact, IsCalendar, heard_until}
 use Rattle.mp_engine.specs.Histories.{IsHistory}
 use Rattle.mp_engine.specs.Lines.{AreTurning}
 use Rattle.mp_engine.specs.Marks.{delivered}
@@ -44,8 +44,8 @@ turn_wires-requires-clause-wires c =
     = c.as_slice-2.ensures ∙ c.in_ok-take.ensures.entered ∙ ap (λ (xs : List Entry). xs ++ entries_at c.args.time ss) first in
     subst (λ xs. AreTurning n s xs self.levels.items self.waves.items self.marks.items) (sym list)
     (subst (λ u. AreTurning n s (slice_index_or lists 0 [] ++ entries_at u ss) self.levels.items self.waves.items self.marks.items) (back c.args.time c.requires.later)
-    (turning_start n c.requires.form s lists ss self.levels.items self.waves.items self.marks.items (omega (arith, c.requires.later, c.requires.low))
-    (calendar_after n s self c.requires.before) c.requires.before.ready.settings c.requires.before.ready.wires))
+    (turning_start n c.requires.form self.heard.items self.known s lists ss self.levels.items self.waves.items self.marks.items (omega (arith, c.requires.later, c.requires.low))
+    (λ w is. let low = c.requires.known w is in let later = c.requires.later in omega (arith, low, later)) (calendar_after n s self c.requires.before) c.requires.before.ready.settings c.requires.before.ready.wires))
 
 pub listen_all-requires-clause-waves : goal.listen_all-requires-clause-waves
 listen_all-requires-clause-waves c =
@@ -71,8 +71,8 @@ listen_all-requires-clause-before c =
     subst (λ xs. AreListening n t xs c.pop_front-2.new.self.items marks) (sym (c.as_slice-4.ensures ∙ first))
     (subst (λ xs. AreListening n t (slice_index_or lists 0 []) xs marks) (sym c.in-Some-pop_front.ensures.rest) start)
 
-pub returns : goal.returns
-returns c =
+pub returns-clause-ready : goal.returns-clause-ready
+returns-clause-ready c =
     let n = c.args.netlist.now in
     let t = c.args.time in
     let s = t - 1 in
@@ -109,7 +109,7 @@ returns c =
           omega (arith, pushed, same, rest, places);
       some = let some = ready.some in omega (arith, size, some);
       room = λ m p r at. let room = ready.room m p r at in omega (arith, size, room);
-      calendar = subst (IsCalendar n (delivered t c.listen_all.new.marks.items) t) (sym turned) half.entered;
-      settings = subst (AreSettings n t) (sym c.in_ok-take.ensures.left) (settings_next n s t (left_of self.settings) next ready.settings);
+      calendar = subst (IsCalendar n (heard_until self.heard.items self.known) (delivered t c.listen_all.new.marks.items) t) (sym turned) half.entered;
+      settings = subst (AreSettings n self.heard.items t) (sym c.in_ok-take.ensures.left) (settings_next n s t (left_of self.settings) next ready.settings);
       history = subst (λ (cells : List Cell). IsHistory n (t + 1) cells c.pass.new.self) c.as_slice.ensures.value c.in_ok-pass.ensures;
     }

@@ -4,4 +4,6 @@ use Rattle.mp_engine.proofs.RegionLemmas.{region_is}
 use Rattle.mp_engine.proofs.region.Region.horizon.Goals as goal
 
 pub returns-clause-form : goal.returns-clause-form
-returns-clause-form c = subst IsCircuit c.self.view_is (region_is c.self.inside.netlist.now c.horizon.ensures.form c.self.inside.homes.now c.self.inside.part)
+returns-clause-form c =
+    let inside = c.self.inside in
+    subst IsCircuit c.self.view_is (region_is inside.netlist.now inside.homes.now inside.part inside.heard.now c.horizon.ensures.form inside.apart)

@@ -1,7 +1,7 @@
 use Rattle.std.proofs.Common.{List, arith, ap, get_or}
 use Rattle.mp_modules.specs.declared.finding_code.FindingCode.{FindingCode}
 use Rattle.mp_modules.specs.declared.finding_code.FindingCode.TheVariants.{MergeCollision}
-use Rattle.mp_response.proofs.FindingLemmas.{extend_none, extend_more, extend_all}
+use Rattle.mp_response.proofs.FindingLemmas.{extend_none, extend_more, extend_all, extend_empty}
 use Rattle.mp_response.proofs.findings.Findings.extend.Goals as goal
 
 pub loop-code-init : goal.loop-code-init
@@ -13,3 +13,6 @@ loop-code-preserved c =
 
 pub returns : goal.returns
 returns c = record { ok = extend_all c.args.time c.args.set c.loop-code.code-index c.args.self.now c.loop-code.self (omega arith) c.loop-code.invariant }
+
+pub returns-then-eq : goal.returns-then-eq
+returns-then-eq c = record { ok = extend_empty c.args.time c.args.set c.empty.result c.args.self.now c.if-eq.ensures c.empty.ensures }

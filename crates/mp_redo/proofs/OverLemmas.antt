@@ -1,0 +1,98 @@
+-- A re-evaluation is over once all units are answered.
+use Rattle.std.proofs.Common.{◌≡◌, ℕ, ◌+◌, ◌-◌, ◌%◌, ◌<◌, ◌≤◌, Bool, true, false, List, Option, Some, None, nat_lt, ◌==◌, option_map, zero, suc, refl, ap, sym, ◌∙◌, arith, inl, inr}
+use Rattle.std.specs.Prelude.{◌&&◌, if◌then◌else◌}
+use Rattle.std.proofs.lemmas.Bool.{cases_lt, and_from, lt-ltb, eq-eqb}
+use Rattle.std.proofs.lemmas.Option.{same_Some, none-some}
+use Rattle.mp_records.specs.declared.module_record.ModuleRecord.{ModuleRecord}
+use Rattle.mp_storage.specs.AnyModules.{start}
+use Rattle.mp_modules.specs.Memories.{blank}
+use Rattle.mp_netlist.specs.Slots.{slot_at}
+use Rattle.mp_netlist.specs.Circuit.{Circuit, IsCircuit, module_at}
+use Rattle.mp_model.specs.Waves.{state}
+use Rattle.mp_engine.specs.declared.checkpoints.Checkpoint.{Checkpoint}
+use Rattle.mp_engine.specs.Checkpoints.{kept_at, state_before, IsBorder}
+use Rattle.mp_engine.specs.Outcomes.{Outcome}
+use Rattle.mp_engine.specs.Runs.{IsRun, checkpoint}
+use Rattle.mp_redo.specs.declared.cell.Cell.{Cell}
+use Rattle.mp_redo.specs.declared.ledger.Ledger.{Ledger}
+use Rattle.mp_redo.specs.declared.line.Line.{Line}
+use Rattle.mp_redo.specs.Endings.{IsEndAt, IsOver}
+use Rattle.mp_redo.specs.Keeping.{AreLedgers, AreStatesAt}
+use Rattle.mp_redo.specs.Redoing.{cell_at, AreCells, AreLines, IsWorking}
+use Rattle.mp_redo.specs.Revisions.{IsRevision, IsKept}
+use Rattle.mp_redo.specs.Ledgers.{state_in}
+use Rattle.mp_redo.proofs.SameLemmas.{same, same_memories}
+use Rattle.mp_redo.proofs.StayLemmas.{built_same}
+use Rattle.mp_redo.proofs.LineLemmas.{before_is, idle_agrees, idle_kept}
+
+module _ (old new : Circuit) (old_ok : IsCircuit old) (new_ok : IsCircuit new) (revised : IsRevision old new) (run : Outcome) (is : IsRun old run) where
+  -- the last state of a module
+  end_is : (c : ℕ) (cells : List Cell) → c < new.horizon → AreCells old new c (λ m. new.horizon) cells → (m : ℕ) (r : ModuleRecord) → module_at new m ≡ Some r → IsEndAt run new m (cell_at cells m)
+  end_is c cells low are m r at =
+      let cell = are.each m r at in
+      let last : new.horizon - 1 + 1 ≡ new.horizon = omega (arith, low) in
+      record {
+        live = λ live. cell.memory live ∙ before_is new m new.horizon (new.horizon - 1) r last;
+        quiet = λ quiet.
+            let idle = cell.quiet quiet in
+            let was = idle_kept old new c new.horizon new.horizon m r (cell_at cells m) cell idle in
+            is.ends m
+            ∙ ap (option_map (λ (x : ModuleRecord). state old m (old.horizon - 1))) was
+            ∙ ap (λ h. Some (state old m (h - 1))) (sym revised.horizon)
+            ∙ ap Some (idle_agrees old new old_ok new_ok revised c new.horizon m r (record { before = was; after = at }) idle (new.horizon - 1) (omega (arith, low)) (omega (arith, low)))
+            ∙ sym (ap (option_map (λ (x : ModuleRecord). state new m (new.horizon - 1))) at);
+      }
+
+  -- all is there where all units are answered, and the states before all borders kept
+  pub is_over : (c t : ℕ) (cells : List Cell) (lines : List Line) (ledgers : List Ledger) → c < new.horizon → ((b : ℕ) → IsBorder b → b < new.horizon → b ≤ t)
+      → AreCells old new c (λ m. new.horizon) cells → AreLines new run (λ m. new.horizon) cells lines → AreLedgers new run t cells ledgers → IsOver new run cells lines ledgers
+  is_over c t cells lines ledgers low borders are wires kept = record {
+    line_places = wires.places;
+    levels = λ w u within below. (wires.each w within).right u below (λ m p drives. omega arith);
+    ends = end_is c cells low are;
+    ledger_places = kept.places;
+    kept = λ m r at.
+        let ledger = kept.each m r at in
+        record { order = ledger.order; states = λ b border less. ledger.right b border (borders b border less) less };
+  }
+
+  -- the state before a border that the old run kept
+  old_state : (m b : ℕ) (r : ModuleRecord) → module_at old m ≡ Some r → IsBorder b → b < old.horizon → state_in (slot_at run.kept m) b ≡ state_before old m r b
+  old_state m b r at border low = by (slot_at run.kept m) (opened (nat_lt b run.horizon && b % 1024 == 0) (is.checkpoints m b ∙ told ∙ ap (option_map (λ (x : ModuleRecord). state_before old m x b)) at))
+    where
+      test : (nat_lt b old.horizon && b % 1024 == 0) ≡ true
+      test = and_from (nat_lt b old.horizon) (b % 1024 == 0) (lt-ltb b old.horizon low) (eq-eqb (b % 1024) 0 border)
+
+      told : checkpoint old m b ≡ option_map (λ (x : ModuleRecord). state_before old m x b) (module_at old m)
+      told = rw test refl
+
+      opened : (test : Bool) → (if test then option_map (λ ks. kept_at ks b blank) (slot_at run.kept m) else None) ≡ Some (state_before old m r b) → option_map (λ ks. kept_at ks b blank) (slot_at run.kept m) ≡ Some (state_before old m r b)
+      opened true e = e
+      opened false e = absurd (none-some (state_before old m r b) e)
+
+      by : (slot : Option (List Checkpoint)) → option_map (λ ks. kept_at ks b blank) slot ≡ Some (state_before old m r b) → state_in slot b ≡ state_before old m r b
+      by None e = absurd (none-some (state_before old m r b) e)
+      by (Some ks) e = same_Some (kept_at ks b blank) (state_before old m r b) e
+
+  -- at a border up to which all units are answered, the states before it
+  pub states_at : (c b : ℕ) (cells : List Cell) → c ≤ b → IsBorder b → b < new.horizon → AreCells old new c (λ m. b) cells → AreStatesAt new run b cells
+  states_at c b cells le border low are m r at =
+      let cell = are.each m r at in
+      record {
+        live = cell.memory;
+        quiet = λ quiet.
+            let idle = cell.quiet quiet in
+            let was = idle_kept old new c b b m r (cell_at cells m) cell idle in
+            let same = revised.horizon in
+            old_state m b r was border (omega (arith, low, same)) ∙ agree c b m r (record { before = was; after = at }) idle le;
+      }
+    where
+      agree : (c b m : ℕ) (r : ModuleRecord) → IsKept old new m r → (IsWorking old new c m b → ⊥) → c ≤ b → state_before old m r b ≡ state_before new m r b
+      agree c zero m r kept idle le = ap start (built_same old new old_ok new_ok revised m r kept)
+      agree c (suc u) m r kept idle le = elim (cases_lt u c) as (λ _. state old m u ≡ state new m u) [
+        | inl first ↦
+            let at : u + 1 ≡ c = omega arith in
+            same (state old m u) (state new m u) (same_memories (state old m u) (state new m u))
+            (λ differ. idle (inr (inl (record { part = r; kept = kept; last = u; before = at; differ = differ }))))
+        | inr past ↦ idle_agrees old new old_ok new_ok revised c (suc u) m r kept idle u past (omega arith)
+      ]

@@ -1,0 +1,7 @@
+use Rattle.mp_engine.specs.Outcomes.{AreSlots}
+use Rattle.mp_engine.specs.Runs.{end_memory}
+use Rattle.mp_redo.proofs.finishing.finished_ends.Given as goal
+
+-- those so far
+abbrev pub invariant-loop-m : goal.invariant-loop-m
+invariant-loop-m l = AreSlots l.m (end_memory l.new) l.found.items

@@ -1,0 +1,54 @@
+-- One module answers in a window.
+use Rattle.std.specs.Prelude.{◌≡◌, ◌≢◌, ℕ, ◌+◌, ◌≤◌, true, List, Some}
+use Rattle.mp_modules.specs.declared.memory.Memory.{Memory}
+use Rattle.mp_records.specs.declared.ids.ModuleId.{ModuleId}
+use Rattle.mp_records.specs.declared.ports.Output.{Output}
+use Rattle.mp_records.specs.declared.module_record.ModuleRecord.{ModuleRecord}
+use Rattle.mp_records.specs.Outputs.{output_in}
+use Rattle.mp_netlist.specs.Circuit.{Circuit, module_at}
+use Rattle.mp_engine.specs.Checkpoints.{state_before}
+use Rattle.mp_engine.specs.Outcomes.{Outcome}
+use Rattle.mp_redo.specs.declared.cell.Cell.{Cell}
+use Rattle.mp_redo.specs.declared.line.Line.{Line}
+use Rattle.mp_redo.specs.Lines.{IsOwn}
+use Rattle.mp_redo.specs.Redoing.{line_at, cell_at, AreLines, IsListening, IsWatching}
+
+-- the module stands, with this state before a time
+pub record IsAt (n : Circuit) (m t : ℕ) (r : ModuleRecord) (memory : Memory) : Type 0 where
+  pub stands : module_at n m ≡ Some r
+  pub state : memory ≡ state_before n m r t
+
+-- one module goes on from a time to another and is live then, and the others stay as they are
+pub record IsStep (times later : ℕ → ℕ) (cells after : List Cell) (m from to : ℕ) : Type 0 where
+  pub was : times m ≡ from
+  pub now : later m ≡ to
+  pub same_times : (k : ℕ) → k ≢ m → later k ≡ times k
+  pub same_cells : (k : ℕ) → k ≢ m → cell_at after k ≡ cell_at cells k
+  pub live : (cell_at after m).live ≡ true
+
+-- the lines of these outputs can be given levels from a time after their delays on
+abbrev pub AreReady : List Line → List Output → ℕ → ℕ → Type 0
+AreReady lines outputs from end = (p w : ℕ) → (output_in outputs p).wire ≡ Some (record { 0 = w }) → IsOwn (line_at lines w) (from + (output_in outputs p).delay) end
+
+-- lines that are right up to what modules have answered are so when one more has
+abbrev pub GoesOn : Circuit → Outcome → List Line → List Line → ModuleRecord → Memory → ℕ → ℕ → Type 0
+GoesOn n run lines new r memory from to = (m : ℕ) (times later : ℕ → ℕ) (cells after : List Cell) → IsAt n m from r memory → IsStep times later cells after m from to →
+    AreLines n run times cells lines → AreLines n run later after new
+
+-- whoever listens goes on listening
+abbrev pub GoesOnListening : Circuit → Outcome → ℕ → List Line → List Line → List (List ModuleId) → List (List ModuleId) → Type 0
+GoesOnListening n run to lines new looks after = (k : ℕ) → IsListening n run to lines looks k → IsListening n run to new after k
+
+-- a module has this record, and this state before a time
+abbrev pub StandsSomewhere : Circuit → ModuleRecord → ℕ → Memory → Type 0
+StandsSomewhere n r t memory = (m : ℕ) × IsAt n m t r memory
+
+-- the same of a module that has answered from an earlier time on
+abbrev pub GoesOnFrom : Circuit → Outcome → List Line → List Line → ModuleRecord → Memory → ℕ → ℕ → Type 0
+GoesOnFrom n run lines new r memory from to = (m begin : ℕ) (times later : ℕ → ℕ) (cells after : List Cell) → IsAt n m from r memory → from ≤ begin → IsStep times later cells after m begin to →
+    AreLines n run times cells lines → AreLines n run later after new
+
+-- whoever listened if it was watching does so when it is
+abbrev pub GoesOnWatching : Circuit → Outcome → ℕ → List Line → List Line → List (List ModuleId) → List (List ModuleId) → Type 0
+GoesOnWatching n run to lines new looks after = (k : ℕ) (cells now : List Cell) → ((cell_at now k).live ≡ true → (cell_at cells k).live ≡ true) →
+    (IsWatching n cells lines k → IsListening n run to lines looks k) → IsWatching n now new k → IsListening n run to new after k

@@ -1,0 +1,34 @@
+-- Work by stretches of time: a module works from one time to the end of a window, and then in each window up to a last end.
+use Rattle.std.specs.Prelude.{◌≡◌, ◌⊎◌, ℕ, ◌<◌, ◌≤◌, List, length, slice_index_or}
+use Rattle.mp_netlist.specs.Circuit.{Circuit}
+use Rattle.mp_redo.specs.declared.stretch.Stretch.{Stretch}
+use Rattle.mp_redo.specs.Work.{IsWindow, IsEntry}
+
+-- the stretch of no module
+abbrev pub no_stretch : Stretch
+no_stretch = record { «module» = record { 0 = 0 }; from = 0; first_end = 0; last_end = 0 }
+
+abbrev pub stretch_at : List Stretch → ℕ → Stretch
+stretch_at stretches k = slice_index_or stretches k no_stretch
+
+-- its module works in the stretch from one time to before another: at its begin, or in a later window
+abbrev pub IsPart : Circuit → Stretch → ℕ → ℕ → Type 0
+IsPart new s from to =
+    ((from ≡ s.from) × (to ≡ s.first_end)) ⊎ (IsWindow new from to × (s.first_end ≤ from) × (to ≤ s.last_end))
+
+-- the module works from one time to before another in this stretch
+pub record IsIn (new : Circuit) (stretches : List Stretch) (m from to k : ℕ) : Type 0 where
+  pub within : k < length stretches
+  pub part : (stretch_at stretches k).«module».0 ≡ m
+  pub at : IsPart new (stretch_at stretches k) from to
+
+-- all work that ends up to a time is in just one stretch, and what is in one is work
+pub record AreStretchesTo (old new : Circuit) (end : ℕ) (stretches : List Stretch) : Type 0 where
+  pub known : (m from to : ℕ) → to ≤ end → IsEntry old new m from to → (k : ℕ) × IsIn new stretches m from to k
+  pub only : (m from to k : ℕ) → to ≤ end → IsIn new stretches m from to k → IsEntry old new m from to
+  pub once : (m from to k j : ℕ) → to ≤ end → IsIn new stretches m from to k → IsIn new stretches m from to j → k ≡ j
+  pub windows : (k : ℕ) → k < length stretches → (stretch_at stretches k).first_end ≤ end
+
+-- so it is of all work
+abbrev pub AreStretches : Circuit → Circuit → List Stretch → Type 0
+AreStretches old new stretches = AreStretchesTo old new new.horizon stretches

@@ -1,0 +1,134 @@
+//! A wire's levels after a change of its netlist, over its wave before.
+use crate::prefix::{run_after, run_before};
+use mp_engine::Run;
+use mp_netlist::WireId;
+use mp_wave::WaveBuilder;
+use std::alloc::{AllocError, Global};
+
+/// What a wire's levels are taken from: from its wave in the old run alone, or from a wave of its own up to a time, in units, and from
+/// the old run's from then on.
+#[derive(Drop)]
+pub(crate) enum Line {
+    Old,
+    Own { wave: WaveBuilder, until: u32 },
+}
+
+ghost use Rattle.std.specs.Prelude.{◌≡◌};
+ghost use Rattle.mp_engine.specs.Outcomes.{wave_of};
+ghost use Rattle.mp_redo.specs.Lines.{level_in};
+
+/// The level that a wire had in a run at a time, 0 where there was none.
+pub(crate) fn run_level(run: &Run, wire: WireId, time: u32) -> u64
+    ensures { result ≡ level_in (wave_of run.now wire.0) time }
+{
+    match run.wave(wire) {
+        Some(wave) => wave.level_at(time),
+        None => 0,
+    }
+}
+
+impl Line {
+    ghost use Rattle.std.specs.Prelude.{◌≡◌, ◌≢◌, ◌↔◌, ℕ, ◌+◌, ◌-◌, ◌<◌, ◌≤◌, Option, nat_lt, if◌then◌else◌, IfOk, OnOk, IsTrue};
+    ghost use Rattle.mp_wave.specs.Waveform.{Waveform};
+    ghost use Rattle.mp_engine.specs.Outcomes.{wave_of};
+    ghost use Rattle.mp_redo.specs.Lines.{level_in, line_level, IsOwn};
+    ghost use Rattle.mp_redo.specs.Prefixes.{IsUpTo};
+
+    /// The level at a time.
+    pub(crate) fn level_at(&self, run: &Run, wire: WireId, time: u32) -> u64
+        ensures { result ≡ line_level self.now (wave_of run.now wire.0) time }
+    {
+        match self {
+            Line::Old => run_level(run, wire, time),
+            Line::Own { wave: own, until } => {
+                if time < *until {
+                    own.wave().level_at(time)
+                } else {
+                    run_level(run, wire, time)
+                }
+            }
+        }
+    }
+
+    /// Whether the level at a time is another than in the old run.
+    pub(crate) fn differs_at(&self, run: &Run, wire: WireId, time: u32) -> bool
+        ensures { IsTrue result ↔ (line_level self.now (wave_of run.now wire.0) time ≢ level_in (wave_of run.now wire.0) time) }
+    {
+        self.level_at(run, wire, time) != run_level(run, wire, time)
+    }
+
+    /// The levels up to an end as a wave.
+    pub(crate) fn into_wave(
+        self,
+        alloc: Global,
+        run: &Run,
+        wire: WireId,
+        end: u32,
+    ) -> Result<WaveBuilder, AllocError>
+        requires { 0 < end }
+        ensures { IfOk result (λ built. IsUpTo (line_level self (wave_of run.now wire.0)) end built) }
+    {
+        match self {
+            Line::Old => run_before(alloc, run, wire, end),
+            Line::Own { wave: own, until } => {
+                if until == 0 {
+                    run_before(alloc, run, wire, end)
+                } else {
+                    run_after(alloc, own, until, run, wire, end)
+                }
+            }
+        }
+    }
+
+    /// Takes over: below a time the levels stay, from then on up to an end they are its own and can be given. Where memory runs out,
+    /// the levels are lost.
+    pub(crate) fn take_over(
+        &mut self,
+        alloc: Global,
+        run: &Run,
+        wire: WireId,
+        from: u32,
+        end: u32,
+    ) -> Result<(), AllocError>
+        requires { 0 < from }
+        ensures own { OnOk result (IsOwn self.new from end) }
+        ensures before { OnOk result ((t : ℕ) → t < from → t < end → line_level self.new (wave_of run.now wire.0) t ≡ line_level self.old (wave_of run.now wire.0) t) }
+        ensures held { OnOk result ((t : ℕ) → from ≤ t → t < end → line_level self.new (wave_of run.now wire.0) t ≡ line_level self.old (wave_of run.now wire.0) (from - 1)) }
+    {
+        let line = std::mem::replace(self, Line::Old);
+        let own = line.into_wave(alloc, run, wire, from)?;
+        *self = Line::Own {
+            wave: own,
+            until: end,
+        };
+        Ok(())
+    }
+
+    /// Hands back: from a time on the levels are those of the old run.
+    pub(crate) fn hand_back(&mut self, from: u32)
+        ensures { (old : Option Waveform) (t : ℕ) → line_level self.new old t ≡ (if nat_lt t from then line_level self.old old t else level_in old t) }
+    {
+        if let Line::Own { until, .. } = self {
+            if from < *until {
+                *until = from;
+            }
+        }
+    }
+
+    /// From a time on this level, which the line can still be given.
+    pub(crate) fn push_level(&mut self, time: u32, level: u64) -> Result<(), AllocError>
+        requires { IsOwn self.old time (time + 1) }
+        ensures own { OnOk result ((end : ℕ) → IsOwn self.old time end → IsOwn self.new (time + 1) end) }
+        ensures before { OnOk result ((old : Option Waveform) (t : ℕ) → t < time → line_level self.new old t ≡ line_level self.old old t) }
+        ensures level { OnOk result ((old : Option Waveform) (t : ℕ) → time ≤ t → IsOwn self.old time (t + 1) → line_level self.new old t ≡ level) }
+    {
+        match self {
+            Line::Old => Ok(()),
+            Line::Own { wave: own, until } => {
+                // Its range is used.
+                let _until = *until;
+                own.push_level(time, level)
+            }
+        }
+    }
+}

@@ -1,0 +1,55 @@
+//! When a line, or the wave that its wire had, changes next.
+ghost use Rattle.std.specs.Prelude.{◌≡◌, ℕ, ◌+◌, ◌<◌, ◌≤◌};
+ghost use Rattle.mp_wave.specs.Waveform.{level_of};
+ghost use Rattle.mp_engine.specs.Outcomes.{wave_of};
+ghost use Rattle.mp_redo.specs.Lines.{level_in, line_level};
+
+use crate::line::Line;
+use mp_engine::Run;
+use mp_netlist::WireId;
+use mp_wave::Wave;
+
+/// The first change of a wave after a time, or an end that comes first.
+fn next_change(wave: &Wave, after: u32, end: u32) -> u32
+    ensures { (x : ℕ) → after ≤ x → x + 1 < result → x + 1 < end → level_of wave.now (x + 1) ≡ level_of wave.now x }
+{
+    match wave.changes_between(after, end).first() {
+        Some(change) => change.0,
+        None => end,
+    }
+}
+
+/// The same of the wave that a wire had in a run.
+fn next_old(run: &Run, wire: WireId, after: u32, end: u32) -> u32
+    ensures { (x : ℕ) → after ≤ x → x + 1 < result → x + 1 < end → level_in (wave_of run.now wire.0) (x + 1) ≡ level_in (wave_of run.now wire.0) x }
+{
+    match run.wave(wire) {
+        Some(wave) => next_change(wave, after, end),
+        None => end,
+    }
+}
+
+/// The same of a line, or a time before that.
+fn next_own(line: &Line, run: &Run, wire: WireId, after: u32, end: u32) -> u32
+    ensures { (x : ℕ) → after ≤ x → x + 1 < result → x + 1 < end → line_level line.now (wave_of run.now wire.0) (x + 1) ≡ line_level line.now (wave_of run.now wire.0) x }
+{
+    match line {
+        Line::Old => next_old(run, wire, after, end),
+        Line::Own { wave: own, until } => {
+            if *until <= after {
+                next_old(run, wire, after, end)
+            } else {
+                next_change(own.wave(), after, end).min(*until)
+            }
+        }
+    }
+}
+
+/// The first time after another, or an end that comes first, at which a line or the wave that its wire had in a run changes, or a time
+/// before that.
+pub(crate) fn next_news(line: &Line, run: &Run, wire: WireId, after: u32, end: u32) -> u32
+    ensures own { (x : ℕ) → after ≤ x → x + 1 < result → x + 1 < end → line_level line.now (wave_of run.now wire.0) (x + 1) ≡ line_level line.now (wave_of run.now wire.0) x }
+    ensures old { (x : ℕ) → after ≤ x → x + 1 < result → x + 1 < end → level_in (wave_of run.now wire.0) (x + 1) ≡ level_in (wave_of run.now wire.0) x }
+{
+    next_own(line, run, wire, after, end).min(next_old(run, wire, after, end))
+}

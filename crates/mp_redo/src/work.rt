@@ -1,0 +1,105 @@
+//! Work of an evaluation.
+ghost use Rattle.std.specs.Prelude.{◌≡◌, IfOk};
+
+use crate::stretch::Stretch;
+use crate::work_entries::WorkEntries;
+use mp_netlist::{ModuleId, Netlist};
+use std::alloc::{AllocError, Global};
+use std::marker::Model;
+
+/// What was evaluated of a netlist, seen as the list of its entries: one that ends earlier comes first, and of two that end together the one
+/// of the lesser module. It is kept as stretches of time, so it takes memory for each time that a module begins to work, and none for
+/// each window in which it works on.
+#[derive(Drop)]
+pub struct Work {
+    least: u32,
+    horizon: u32,
+    stretches: Vec<Stretch>,
+}
+
+impl Model for Work {
+    ghost use Rattle.std.specs.Prelude.{ℕ, ◌<◌, List, [], All};
+    ghost use Rattle.mp_redo.specs.declared.work_entry.WorkEntry.{WorkEntry};
+    ghost use Rattle.mp_redo.specs.Merges.{IsStretch, entries_left};
+
+    ghost Value = { List WorkEntry };
+
+    ghost view = { λ work. entries_left work.least work.horizon [] work.stretches.items };
+
+    ghost invariant = { λ work. (0 < work.least) × All (IsStretch work.horizon) work.stretches.items };
+}
+
+impl Work {
+    ghost use Rattle.std.specs.Prelude.{◌<◌, [], All};
+    ghost use Rattle.mp_redo.specs.Merges.{IsStretch, entries_left};
+    ghost use Rattle.mp_redo.specs.WholeWork.{whole_work};
+
+    /// No work.
+    pub fn none(alloc: Global) -> Self
+        ensures { result ≡ [] }
+    {
+        Work {
+            least: 1,
+            horizon: 0,
+            stretches: Vec::new(alloc),
+        }
+    }
+
+    /// The work of these stretches, which are in order of their first entries. A window ends after the least delay, with its block, or at
+    /// the horizon.
+    pub(crate) fn of(least: u32, horizon: u32, stretches: Vec<Stretch>) -> Self
+        requires least { 0 < least }
+        requires stretches { All (IsStretch horizon) stretches.items }
+        ensures { result ≡ entries_left least horizon [] stretches.items }
+    {
+        Work {
+            least,
+            horizon,
+            stretches,
+        }
+    }
+
+    /// Each module that stands once, by number, from time 0 to the horizon.
+    pub fn whole(alloc: Global, netlist: &Netlist) -> Result<Self, AllocError>
+        ensures { IfOk result (λ work. work ≡ whole_work netlist.now) }
+    {
+        let horizon = netlist.horizon();
+        let mut stretches = Vec::with_capacity(alloc, netlist.module_slots() as usize)?;
+        for number in 0..netlist.module_slots() {
+            let id = ModuleId(number);
+            if let Some(_) = netlist.module(id) {
+                stretches.push(Stretch {
+                    module: id,
+                    from: 0,
+                    first_end: horizon,
+                    last_end: horizon,
+                })?;
+            }
+        }
+        Ok(Work {
+            least: netlist.least_delay(),
+            horizon,
+            stretches,
+        })
+    }
+
+    /// The same work once more.
+    pub fn copy(&self) -> Result<Self, AllocError>
+        ensures { IfOk result (λ work. work ≡ self.now) }
+    {
+        Ok(Work {
+            least: self.least,
+            horizon: self.horizon,
+            stretches: Vec::from_slice(*self.stretches.allocator(), self.stretches.as_slice())?,
+        })
+    }
+
+    /// The entries one after the other. It takes memory for the stretches, and none for the entries.
+    pub fn entries(&self) -> Result<WorkEntries, AllocError>
+        ensures { IfOk result (λ entries. entries ≡ self.now) }
+    {
+        let alloc = *self.stretches.allocator();
+        let waiting = Vec::from_slice(alloc, self.stretches.as_slice())?;
+        WorkEntries::of(alloc, self.least, self.horizon, waiting)
+    }
+}
