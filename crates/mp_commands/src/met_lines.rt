@@ -32,7 +32,9 @@ fn push_tally(text: &mut Vec<u8>, place: usize, tally: Tally) -> Result<(), Allo
     let number = place + 1;
     let accepted = tally.accepted;
     let refused = tally.refused;
-    let line = format!(in *text.allocator(); "designer {number} accepted {accepted} refused {refused}\n")?;
+    let line = format!(in *text.allocator();
+        "designer {number} accepted {accepted} refused {refused}\n"
+    )?;
     text.extend_from_slice(line.as_bytes())
 }
 

@@ -30,7 +30,13 @@ pub fn put_met<T: Sink>(alloc: Global, sink: &mut T, met: &Met) -> Result<(), Ru
     let netlist = version.now();
     let lines = met_lines(alloc, met.tallies.as_slice(), met.numbers.as_slice())?;
     let mut buffer = WriteBuffer::new(alloc)?;
-    put_both(&mut buffer, sink, lines.as_slice(), netlist, version.waves())?;
+    put_both(
+        &mut buffer,
+        sink,
+        lines.as_slice(),
+        netlist,
+        version.waves(),
+    )?;
     put_rest(&mut buffer, sink)
 }
 
