@@ -32,3 +32,4 @@ pub mod BeginLemmas
 pub mod DuringLemmas
 pub mod CloseLemmas
 pub mod NewsLemmas
+pub mod PartLemmas
