@@ -33,3 +33,6 @@ pub mod DuringLemmas
 pub mod CloseLemmas
 pub mod NewsLemmas
 pub mod PartLemmas
+pub mod LeftLemmas
+pub mod QueueLemmas
+pub mod StretchLemmas

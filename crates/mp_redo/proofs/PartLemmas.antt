@@ -1,5 +1,5 @@
 -- The parts of a stretch: its first entry, and what is left of it.
-use Rattle.std.proofs.Common.{◌≡◌, ◌⊎◌, ℕ, ◌+◌, ◌<◌, ◌≤◌, Bool, true, false, if◌then◌else◌, nat_lt, List, [], ◌∷◌, ◌++◌, refl, ap, sym, subst, ◌∙◌, arith, inl, inr}
+use Rattle.std.proofs.Common.{◌≡◌, ◌⊎◌, ℕ, ◌<◌, ◌≤◌, Bool, true, false, if◌then◌else◌, nat_lt, List, [], ◌∷◌, ◌++◌, refl, ap, sym, subst, ◌∙◌, arith, inl, inr}
 use Rattle.std.proofs.lemmas.Bool.{cases_lt, cases_eq, ltb-true, ltb-false}
 use Rattle.mp_netlist.specs.Circuit.{Circuit, IsCircuit}
 use Rattle.mp_netlist.specs.Delays.{least_delay}
@@ -142,11 +142,14 @@ part_rest n ok s tiled m from to has = elim (rest_cases n s) as (λ _. IsOf n s 
 ]
   where
     next : GoesOn n s → IsInSome n (next_of n s ∷ []) m from to → IsOf n s m from to
-    next goes (inl (part, inl first)) = (part, inr (
-      subst (λ x. IsWindow n x to) (sym first.0) (subst (λ x. IsWindow n s.first_end x) (sym first.1) goes.window),
-      let e = first.0 in omega (arith, e),
-      let e = first.1 in let within = goes.within in omega (arith, e, within),
-    ))
+    next goes (inl (part, inl first)) = (
+      part,
+      inr (
+        subst (λ x. IsWindow n x to) (sym first.0) (subst (λ x. IsWindow n s.first_end x) (sym first.1) goes.window),
+        let e = first.0 in omega (arith, e),
+        let e = first.1 in let within = goes.within in omega (arith, e, within),
+      ),
+    )
     next goes (inl (part, inr other)) =
         let past = (window_within n ok s.first_end (window_end n s.first_end) goes.window).1 in
         (part, inr (other.0, let e = other.1 in omega (arith, e, past), other.2))
