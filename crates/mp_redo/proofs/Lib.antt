@@ -32,3 +32,7 @@ pub mod BeginLemmas
 pub mod DuringLemmas
 pub mod CloseLemmas
 pub mod NewsLemmas
+pub mod PartLemmas
+pub mod LeftLemmas
+pub mod QueueLemmas
+pub mod StretchLemmas

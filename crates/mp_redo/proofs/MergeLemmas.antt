@@ -38,10 +38,10 @@ rest_fewer least horizon s is = by (nat_lt s.first_end s.last_end) refl
         omega (arith, before, begins)
     by false ended = omega arith
 
-entries_behind : (q : List Stretch) (r : List Stretch) → most_entries (q ++ r) ≡ most_entries q + most_entries r
+pub entries_behind : (q : List Stretch) (r : List Stretch) → most_entries (q ++ r) ≡ most_entries q + most_entries r
 entries_behind q r = sum_by-append (λ (s : Stretch). s.last_end - s.from + 1) q r
 
-entries_first : (s : Stretch) (q : List Stretch) → most_entries (s ∷ q) ≡ s.last_end - s.from + 1 + most_entries q
+pub entries_first : (s : Stretch) (q : List Stretch) → most_entries (s ∷ q) ≡ s.last_end - s.from + 1 + most_entries q
 entries_first s q = sum_by-cons (λ (s : Stretch). s.last_end - s.from + 1) s q
 
 either : (b : Bool) (x y : WorkEntry) (xs xs' ys ys' : List WorkEntry) → xs ≡ xs' → ys ≡ ys' → (if b then x ∷ xs else y ∷ ys) ≡ (if b then x ∷ xs' else y ∷ ys')

@@ -4,33 +4,33 @@ use Rattle.std.specs.List.{Contains}
 use Rattle.mp_redo.specs.declared.work_entry.WorkEntry.{WorkEntry}
 use Rattle.mp_redo.specs.Work.{ComesBefore, IsOnlyWork}
 
-abbrev IsOrdered : List WorkEntry → Type 0
+abbrev pub IsOrdered : List WorkEntry → Type 0
 IsOrdered xs = (k : ℕ) (d : WorkEntry) → k + 1 < length xs → ComesBefore (slice_index_or xs k d) (slice_index_or xs (k + 1) d)
 
-joined : (e f g : WorkEntry) → ComesBefore e f → ComesBefore f g → ComesBefore e g
+pub joined : (e f g : WorkEntry) → ComesBefore e f → ComesBefore f g → ComesBefore e g
 joined e f g (inl a) (inl b) = inl (omega (arith, a, b))
 joined e f g (inl a) (inr b) = inl (omega (arith, a, b.0))
 joined e f g (inr a) (inl b) = inl (omega (arith, a.0, b))
 joined e f g (inr a) (inr b) = inr (a.0 ∙ b.0, omega (arith, a.1, b.1))
 
-never_itself : (e : WorkEntry) → ComesBefore e e → ⊥
+pub never_itself : (e : WorkEntry) → ComesBefore e e → ⊥
 never_itself e (inl a) = omega (arith, a)
 never_itself e (inr a) = omega (arith, a.1)
 
-contains_cases : (x : WorkEntry) (xs : List WorkEntry) (e : WorkEntry) → Contains (x ∷ xs) e → (x ≡ e) ⊎ Contains xs e
+pub contains_cases : (x : WorkEntry) (xs : List WorkEntry) (e : WorkEntry) → Contains (x ∷ xs) e → (x ≡ e) ⊎ Contains xs e
 contains_cases x xs e has = by has.0 has.1 has.2
   where
     by : (k : ℕ) → k < length (x ∷ xs) → slice_index_or (x ∷ xs) k e ≡ e → (x ≡ e) ⊎ Contains xs e
     by zero within is = inl is
     by (suc k) within is = inr (k, omega (arith, within), is)
 
-contains_first : (x : WorkEntry) (xs : List WorkEntry) → Contains (x ∷ xs) x
+pub contains_first : (x : WorkEntry) (xs : List WorkEntry) → Contains (x ∷ xs) x
 contains_first x xs = (0, omega arith, refl)
 
-contains_later : (x : WorkEntry) (xs : List WorkEntry) (e : WorkEntry) → Contains xs e → Contains (x ∷ xs) e
+pub contains_later : (x : WorkEntry) (xs : List WorkEntry) (e : WorkEntry) → Contains xs e → Contains (x ∷ xs) e
 contains_later x xs e has = (suc has.0, omega (arith, has.1), has.2)
 
-contains_none : (e : WorkEntry) → Contains (let none : List WorkEntry = [] in none) e → ⊥
+pub contains_none : (e : WorkEntry) → Contains (let none : List WorkEntry = [] in none) e → ⊥
 contains_none e has = omega (arith, has.1)
 
 others_ordered : (x : WorkEntry) (xs : List WorkEntry) → IsOrdered (x ∷ xs) → IsOrdered xs

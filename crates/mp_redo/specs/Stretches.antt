@@ -1,8 +1,10 @@
 -- Work by stretches of time: a module works from one time to the end of a window, and then in each window up to a last end.
-use Rattle.std.specs.Prelude.{◌≡◌, ◌⊎◌, ℕ, ◌<◌, ◌≤◌, List, length, slice_index_or}
-use Rattle.mp_netlist.specs.Circuit.{Circuit}
+use Rattle.std.specs.Prelude.{◌≡◌, ◌⊎◌, ℕ, ◌+◌, ◌<◌, ◌≤◌, List, [], length, slice_index_or}
+use Rattle.mp_netlist.specs.Circuit.{Circuit, IsCircuit}
+use Rattle.mp_netlist.specs.Delays.{least_delay}
 use Rattle.mp_redo.specs.declared.stretch.Stretch.{Stretch}
-use Rattle.mp_redo.specs.Work.{IsWindow, IsEntry}
+use Rattle.mp_redo.specs.Work.{IsWindow, IsEntry, ComesBefore, IsWork}
+use Rattle.mp_redo.specs.Merges.{first_entry, entries_left}
 
 -- the stretch of no module
 abbrev pub no_stretch : Stretch
@@ -22,13 +24,27 @@ pub record IsIn (new : Circuit) (stretches : List Stretch) (m from to k : ℕ) :
   pub part : (stretch_at stretches k).«module».0 ≡ m
   pub at : IsPart new (stretch_at stretches k) from to
 
+-- it ends at the horizon, or where a window does
+abbrev pub EndsWithWindow : Circuit → Stretch → Type 0
+EndsWithWindow new s = (s.last_end ≡ new.horizon) ⊎ ((start : ℕ) × IsWindow new start s.last_end)
+
 -- all work that ends up to a time is in just one stretch, and what is in one is work
 pub record AreStretchesTo (old new : Circuit) (end : ℕ) (stretches : List Stretch) : Type 0 where
   pub known : (m from to : ℕ) → to ≤ end → IsEntry old new m from to → (k : ℕ) × IsIn new stretches m from to k
   pub only : (m from to k : ℕ) → to ≤ end → IsIn new stretches m from to k → IsEntry old new m from to
   pub once : (m from to k j : ℕ) → to ≤ end → IsIn new stretches m from to k → IsIn new stretches m from to j → k ≡ j
   pub windows : (k : ℕ) → k < length stretches → (stretch_at stretches k).first_end ≤ end
+  pub ends : (k : ℕ) → k < length stretches → EndsWithWindow new (stretch_at stretches k)
 
 -- so it is of all work
 abbrev pub AreStretches : Circuit → Circuit → List Stretch → Type 0
 AreStretches old new stretches = AreStretchesTo old new new.horizon stretches
+
+-- their first entries are in order
+abbrev pub AreInOrder : List Stretch → Type 0
+AreInOrder stretches = (k : ℕ) → k + 1 < length stretches → ComesBefore (first_entry (stretch_at stretches k)) (first_entry (stretch_at stretches (k + 1)))
+
+-- then the entries of stretches of all work are all work, in order
+abbrev pub StretchesAreWork : Type 0
+StretchesAreWork = (old new : Circuit) → IsCircuit new → (stretches : List Stretch) → AreStretches old new stretches → AreInOrder stretches →
+    IsWork old new (entries_left (least_delay new) new.horizon [] stretches)

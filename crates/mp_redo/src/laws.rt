@@ -2,6 +2,7 @@
 
 ghost use Rattle.mp_redo.specs.Revisions.{EditsRevise};
 ghost use Rattle.mp_redo.specs.Stays.{StatesStay, UnreachedStates, LevelsStay, UnreachedLevels};
+ghost use Rattle.mp_redo.specs.Stretches.{StretchesAreWork};
 ghost use Rattle.mp_redo.specs.Work.{IsOnlyWork, WindowsCover, WindowsApart, WorksOnlyReached, WorksWhileDifferent, WorksThroughout, WorksOnce, AgreesOutside, LevelsAgreeOutside};
 
 /// An edit that isn't refused keeps the horizon, the numbers, and the width and initial level of each wire that stands before and after.
@@ -27,6 +28,11 @@ pub fn windows_tile()
 /// The work is one list: no other has just its entries in their order.
 pub fn only_work()
     ensures { IsOnlyWork }
+{}
+
+/// Where stretches of time have all work in them, each part of it in just one, their entries are the work.
+pub fn stretches_are_work()
+    ensures { StretchesAreWork }
 {}
 
 /// A touched module works in each window; no module works on anything twice.
