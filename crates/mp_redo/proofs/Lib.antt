@@ -36,3 +36,4 @@ pub mod PartLemmas
 pub mod LeftLemmas
 pub mod QueueLemmas
 pub mod StretchLemmas
+pub mod DueLemmas

@@ -6,7 +6,7 @@ use Rattle.mp_redo.specs.declared.work_entry.WorkEntry.{WorkEntry}
 use Rattle.mp_redo.specs.declared.stretch.Stretch.{Stretch}
 use Rattle.mp_redo.specs.Work.{block_of, IsWindow, WorksFrom, IsEntry}
 use Rattle.mp_redo.specs.Merges.{first_entry, most_entries}
-use Rattle.mp_redo.specs.Stretches.{stretch_at, IsPart, EndsWithWindow, AreStretches, AreInOrder, StretchesAreWork}
+use Rattle.mp_redo.specs.Stretches.{stretch_at, IsPart, EndsWithWindow, AreStretches, AreInOrder, StretchesAreWork, HasBegun}
 use Rattle.mp_redo.proofs.WindowLemmas.{window_within}
 use Rattle.mp_redo.proofs.EntryLemmas.{works_once}
 use Rattle.mp_redo.proofs.PartLemmas.{next_begins, IsTiled, IsOf, IsInSome}
@@ -71,7 +71,11 @@ module _ (old new : Circuit) (ok : IsCircuit new) (stretches : List Stretch) (ar
   ends_by m from to k within is = by is.1
     where
       by : IsPart new (stretch_at stretches k) from to → to ≤ new.horizon
-      by (inl first) = let low = are.windows k within in let e = first.1 in omega (arith, low, e)
+      by (inl first) = begun (are.begun k within)
+        where
+          begun : HasBegun new new.horizon (stretch_at stretches k) → to ≤ new.horizon
+          begun (inl low) = let e = first.1 in omega (arith, low, e)
+          begun (inr now) = let end = now.2.1 in let e = first.1 in omega (arith, end, e)
       by (inr other) = window_by from to other.0
 
   entry_of : (m from to k : ℕ) → k < length stretches → IsOf new (stretch_at stretches k) m from to → IsEntry old new m from to

@@ -17,3 +17,5 @@ pub mod Telling
 pub mod Keeping
 pub mod Steps
 pub mod Closing
+pub mod Windows
+pub mod Joins

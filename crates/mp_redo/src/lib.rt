@@ -2,22 +2,28 @@
 #![tactic(auto)]
 
 mod answering;
+mod beginning;
+mod border;
 mod cell;
 mod closing;
 mod comparing;
 mod cutting;
 mod drivers;
+mod due;
 mod finishing;
 mod giving;
+mod joining;
 mod keeping;
 pub mod laws;
 mod ledger;
 mod line;
+mod looking;
 mod looks;
 mod marks;
 mod news;
 mod opening;
 mod prefix;
+mod redo;
 mod responding;
 mod ring;
 mod set_wires;
@@ -26,10 +32,12 @@ mod stretch;
 mod telling;
 #[cfg(test)]
 mod tests;
+mod window;
 mod work;
 mod work_entries;
 mod work_entry;
 
+pub use redo::redo;
 pub use work::Work;
 pub use work_entries::WorkEntries;
 pub use work_entry::WorkEntry;

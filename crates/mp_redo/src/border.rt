@@ -1,0 +1,57 @@
+//! The end of a block: states are kept, and modules whose states are those of the old run again are evaluated no longer.
+ghost use Rattle.std.specs.Prelude.{◌≡◌, ℕ, ◌+◌, ◌<◌, ◌≤◌, OnOk, length};
+ghost use Rattle.mp_depend.specs.Known.{AreReaders};
+ghost use Rattle.mp_engine.specs.Checkpoints.{IsBorder};
+ghost use Rattle.mp_engine.specs.Runs.{IsRun};
+ghost use Rattle.mp_redo.specs.Keeping.{AreLedgers, IsNextBorder};
+ghost use Rattle.mp_redo.specs.Redoing.{AreOpen, IsBefore};
+ghost use Rattle.mp_redo.specs.Revisions.{IsRevision};
+ghost use Rattle.mp_redo.specs.Stretches.{AreStretchesTo};
+ghost use Rattle.mp_redo.specs.Work.{IsWindow};
+
+use crate::cell::Cell;
+use crate::ledger::Ledger;
+use crate::line::Line;
+use crate::looks::Looks;
+use crate::stretch::Stretch;
+use mp_depend::Readers;
+use mp_engine::Run;
+use mp_netlist::{ModuleId, Netlist};
+use std::alloc::AllocError;
+use std::collections::VecDeque;
+
+/// From one block to the next: the states of live modules before the border are kept; an untouched one whose state is the one that the
+/// old run kept is live no longer, its stretch ends, its lines are handed back, and who reads them looks.
+pub(crate) fn cross_border(
+    old: &Netlist,
+    run: &Run,
+    new: &Netlist,
+    readers: &Readers,
+    block: u32,
+    time: u32,
+    cells: &mut Vec<Cell>,
+    lines: &mut Vec<Line>,
+    looks: &mut VecDeque<Looks>,
+    ledgers: &mut Vec<Ledger>,
+    stretches: &mut Vec<Stretch>,
+    live: &mut Vec<ModuleId>,
+) -> Result<(), AllocError>
+    requires revision { IsRevision old.now new.now }
+    requires run { IsRun old.now run.now }
+    requires rows { AreReaders new.now readers.now }
+    requires some { 0 < length looks.old.items }
+    requires border { IsBorder time }
+    requires next { IsNextBorder new.now block time }
+    requires window { (start : ℕ) × IsWindow new.now start time }
+    requires before { IsBefore old.now new.now run.now block time cells.old.items lines.old.items looks.old.items }
+    requires kept { AreLedgers new.now run.now block cells.old.items ledgers.old.items }
+    requires stretches { AreStretchesTo old.now new.now time stretches.old.items }
+    requires open { AreOpen new.now time cells.old.items stretches.old.items }
+    ensures places { OnOk result (length looks.new.items ≡ length looks.old.items) }
+    ensures before { OnOk result (IsBefore old.now new.now run.now time time cells.new.items lines.new.items looks.new.items) }
+    ensures kept { OnOk result (AreLedgers new.now run.now time cells.new.items ledgers.new.items) }
+    ensures stretches { OnOk result (AreStretchesTo old.now new.now time stretches.new.items) }
+    ensures open { OnOk result (AreOpen new.now time cells.new.items stretches.new.items) }
+{
+    Err(AllocError)
+}
