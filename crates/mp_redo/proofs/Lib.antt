@@ -38,3 +38,4 @@ pub mod QueueLemmas
 pub mod StretchLemmas
 pub mod DueLemmas
 pub mod SortLemmas
+pub mod CourseLemmas
