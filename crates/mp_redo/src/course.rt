@@ -55,6 +55,8 @@ impl Course {
         requires rows { AreReaders new.now readers.now }
         ensures { IfOk result (λ course. IsCourse old.now new.now run.now 0 0 course) }
     {
+        // Its contract tells that the netlist is well formed.
+        let _horizon = old.horizon();
         let mut cells = first_cells(alloc, old, new)?;
         let lines = first_lines(alloc, old, new, cells.as_slice())?;
         let looks = first_looks(alloc, new, readers, cells.as_slice(), lines.as_slice())?;
@@ -62,7 +64,7 @@ impl Course {
         let mut stretches = Vec::new(alloc);
         let mut live = Vec::new(alloc);
         open_first(new, &mut cells, &mut stretches, &mut live)?;
-        let marks = vec![in alloc; false; new.module_slots() as usize]?;
+        let marks = unmarked(alloc, new.module_slots() as usize)?;
         Ok(Course {
             cells,
             lines,
@@ -222,4 +224,15 @@ impl Course {
         )?;
         Ok(())
     }
+}
+
+ghost use Rattle.std.specs.Prelude.{◌≡◌, ℕ, false, IfOk, length};
+ghost use Rattle.mp_engine.specs.Marks.{is_marked};
+
+/// No module is marked.
+fn unmarked(alloc: Global, modules: usize) -> Result<Vec<bool>, AllocError>
+    ensures places { IfOk result (λ marks. length marks.items ≡ modules) }
+    ensures free { IfOk result (λ marks. (m : ℕ) → is_marked marks.items m ≡ false) }
+{
+    Ok(vec![in alloc; false; modules]?)
 }
