@@ -134,3 +134,10 @@ first_block new = omega arith
 
 pub inner_block : (new : Circuit) (t : ℕ) → t < new.horizon → last_block new t ≡ block_of t
 inner_block new t below = omega (arith, below)
+
+-- the last block begins at the last border
+pub last_below : (new : Circuit) → 1 ≤ new.horizon → last_block new new.horizon < new.horizon
+last_below new some = omega (arith, some)
+
+pub last_border : (new : Circuit) (b : ℕ) → IsBorder b → b < new.horizon → b ≤ last_block new new.horizon
+last_border new b border below = omega (arith, border, below)

@@ -4,7 +4,10 @@ ghost use Rattle.mp_engine.specs.Runs.{IsRun};
 ghost use Rattle.mp_redo.specs.Revisions.{IsRevision};
 ghost use Rattle.mp_redo.specs.Work.{IsWork};
 
+use crate::course::Course;
+use crate::finishing::finished;
 use crate::work::Work;
+use mp_depend::Readers;
 use mp_engine::Run;
 use mp_netlist::Netlist;
 use mp_phase::Gate;
@@ -26,5 +29,19 @@ pub fn redo<R: Wait, G: Gate>(
     ensures run { IfOk result (λ both. IsRun new.now both.0) }
     ensures work { IfOk result (λ both. IsWork old.now new.now both.1) }
 {
-    Err(AllocError)
+    // Their contracts tell that the netlists are well formed.
+    let _old_horizon = old.horizon();
+    let _new_horizon = new.horizon();
+    let readers = Readers::build(alloc, new)?;
+    let mut course = Course::first(alloc, old, run, new, &readers)?;
+    course.follow(rt, alloc, gate, old, run, new, &readers)?;
+    let Course {
+        cells,
+        lines,
+        ledgers,
+        stretches,
+        ..
+    } = course;
+    let found = finished(alloc, old, run, new, cells.as_slice(), lines, ledgers)?;
+    Ok((found, Work::of_change(old, new, stretches)))
 }

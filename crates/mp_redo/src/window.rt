@@ -34,6 +34,7 @@ pub(crate) fn run_window<R: Wait, G: Gate>(
     block: u32,
     from: u32,
     to: u32,
+    live: &[ModuleId],
     due: &mut Vec<ModuleId>,
     marks: &mut Vec<bool>,
     cells: &mut Vec<Cell>,
