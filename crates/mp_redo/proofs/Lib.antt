@@ -37,3 +37,7 @@ pub mod LeftLemmas
 pub mod QueueLemmas
 pub mod StretchLemmas
 pub mod DueLemmas
+pub mod LikeLemmas
+pub mod OpenedLemmas
+pub mod JoinLemmas
+pub mod JoinWorkLemmas
