@@ -41,3 +41,5 @@ pub mod LikeLemmas
 pub mod OpenedLemmas
 pub mod JoinLemmas
 pub mod JoinWorkLemmas
+pub mod AgainLemmas
+pub mod WindowEndLemmas
