@@ -75,7 +75,7 @@ module _ (old new : Circuit) (ok : IsCircuit new) (stretches : List Stretch) (ar
         where
           begun : HasBegun new new.horizon (stretch_at stretches k) → to ≤ new.horizon
           begun (inl low) = let e = first.1 in omega (arith, low, e)
-          begun (inr now) = let end = now.2.1 in let e = first.1 in omega (arith, end, e)
+          begun (inr now) = let end = now.2 in let e = first.1 in omega (arith, end, e)
       by (inr other) = window_by from to other.0
 
   entry_of : (m from to k : ℕ) → k < length stretches → IsOf new (stretch_at stretches k) m from to → IsEntry old new m from to

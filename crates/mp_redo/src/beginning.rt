@@ -1,5 +1,5 @@
 //! A re-evaluation before time 0: the touched modules are live.
-ghost use Rattle.std.specs.Prelude.{◌≡◌, ◌×◌, ℕ, ◌<◌, true, None, IfOk, OnOk, length};
+ghost use Rattle.std.specs.Prelude.{◌≡◌, ℕ, ◌<◌, ◌≤◌, true, [], None, IfOk, OnOk, length};
 ghost use Rattle.std.specs.List.{Contains};
 ghost use Rattle.mp_netlist.specs.Circuit.{Circuit, IsCircuit};
 ghost use Rattle.mp_depend.specs.Known.{AreReaders};

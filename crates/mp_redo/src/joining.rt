@@ -1,5 +1,5 @@
 //! Modules that have joined those that are evaluated again: their stretches begin, and the states that are kept of them are their own.
-ghost use Rattle.std.specs.Prelude.{◌≡◌, ◌×◌, ℕ, ◌+◌, ◌<◌, ◌≤◌, List, OnOk, length};
+ghost use Rattle.std.specs.Prelude.{◌≡◌, ℕ, ◌+◌, ◌<◌, ◌≤◌, List, OnOk, length};
 ghost use Rattle.mp_netlist.specs.Circuit.{Circuit, IsCircuit};
 ghost use Rattle.mp_redo.specs.declared.cell.Cell.{Cell as Place};
 ghost use Rattle.mp_redo.specs.Joins.{HaveAnswered, AreLike};

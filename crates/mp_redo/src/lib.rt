@@ -23,7 +23,7 @@ mod marks;
 mod news;
 mod opening;
 mod prefix;
-mod redo;
+mod redoing;
 mod responding;
 mod ring;
 mod set_wires;
@@ -37,7 +37,7 @@ mod work;
 mod work_entries;
 mod work_entry;
 
-pub use redo::redo;
+pub use redoing::redo;
 pub use work::Work;
 pub use work_entries::WorkEntries;
 pub use work_entry::WorkEntry;
