@@ -37,3 +37,5 @@ pub mod LeftLemmas
 pub mod QueueLemmas
 pub mod StretchLemmas
 pub mod DueLemmas
+pub mod LeaveLemmas
+pub mod CrossLemmas

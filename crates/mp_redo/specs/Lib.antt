@@ -19,3 +19,4 @@ pub mod Steps
 pub mod Closing
 pub mod Windows
 pub mod Joins
+pub mod Leaving
