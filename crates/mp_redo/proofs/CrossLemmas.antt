@@ -1,11 +1,10 @@
 -- From one block to the next, one module after the other.
-use Rattle.std.proofs.Common.{◌≡◌, ◌≢◌, ℕ, ◌+◌, ◌-◌, ◌<◌, ◌≤◌, true, false, List, Some, None, IsSome, is_some, length, ap, sym, subst, ◌∙◌, arith, inl, inr}
+use Rattle.std.proofs.Common.{◌≡◌, ◌≢◌, ℕ, ◌+◌, ◌<◌, ◌≤◌, true, false, List, Option, Some, None, IsSome, is_some, length, refl, ap, sym, subst, ◌∙◌, arith, inl, inr}
 use Rattle.std.specs.List.{Contains}
-use Rattle.std.proofs.lemmas.Bool.{cases_Bool, cases_eq}
+use Rattle.std.proofs.lemmas.Bool.{cases_eq}
 use Rattle.mp_records.specs.declared.ids.ModuleId.{ModuleId}
 use Rattle.mp_records.specs.declared.module_record.ModuleRecord.{ModuleRecord}
 use Rattle.mp_netlist.specs.Circuit.{Circuit, IsCircuit, module_at}
-use Rattle.mp_model.specs.Reach.{IsApart}
 use Rattle.mp_model.proofs.SlotLemmas.{slot_within}
 use Rattle.mp_engine.specs.Checkpoints.{IsBorder}
 use Rattle.mp_engine.specs.Outcomes.{Outcome}
@@ -15,16 +14,17 @@ use Rattle.mp_redo.specs.declared.ledger.Ledger.{Ledger}
 use Rattle.mp_redo.specs.declared.line.Line.{Line}
 use Rattle.mp_redo.specs.declared.stretch.Stretch.{Stretch}
 use Rattle.mp_redo.specs.Closing.{HasClosed}
-use Rattle.mp_redo.specs.Keeping.{AreLedgers, IsLedgerAt}
-use Rattle.mp_redo.specs.Leaving.{IsBack, HasLeft, ended, HasEnded, HasHandedBack, AreCellsTo, IsCrossing}
-use Rattle.mp_redo.specs.Ledgers.{ledger_at}
-use Rattle.mp_redo.specs.Redoing.{cell_at, looks_at, IsCellAt, IsWatching, IsListening, IsOpenAt, AreOpen, IsBefore}
+use Rattle.mp_redo.specs.Keeping.{AreLedgers, IsLedgerAt, IsNextBorder, CanKeepAll}
+use Rattle.mp_redo.specs.Leaving.{IsBack, HasLeft, ended, HasEnded, HasHandedBack, IsCrossing}
+use Rattle.mp_redo.specs.Ledgers.{ledger_at, IsOwn}
+use Rattle.mp_redo.specs.Redoing.{cell_at, looks_at, IsCellAt, IsOpenAt, AreOpen, IsBefore}
 use Rattle.mp_redo.specs.Revisions.{IsRevision}
 use Rattle.mp_redo.specs.Rings.{AreKept}
 use Rattle.mp_redo.specs.Steps.{GoesOnWatching}
 use Rattle.mp_redo.specs.Stretches.{stretch_at, IsPart, IsIn, HasBegun, EndsWithWindow, AreStretchesTo}
 use Rattle.mp_redo.specs.Work.{IsWindow}
 use Rattle.mp_redo.proofs.CloseLemmas.{closed_lines}
+use Rattle.mp_redo.proofs.KeepLemmas.{own_later}
 use Rattle.mp_redo.proofs.LeaveLemmas.{stays, leaves}
 
 -- ---- stretches
@@ -112,8 +112,7 @@ closed_stretch new time m place cells now stretches after are stands live is lef
         let was = are.opened k there (sym (ap (λ (x : Cell). x.live) cell) ∙ on) in
         let j = was.0 in
         let apart : j ≢ place = λ e. other (sym was.2.own ∙ ap (λ i. (stretch_at stretches i).«module».0) e ∙ mine) in
-        let same = ends.others j apart in
-        (
+        let same = ends.others j apart in (
           j,
           ap (λ (x : Cell). x.stretch) cell ∙ was.1,
           record {
@@ -129,8 +128,8 @@ closed_stretch new time m place cells now stretches after are stands live is lef
   ];
   over = λ k within past.
       let apart : k ≢ place = λ e.
-              let end : (stretch_at after k).last_end ≡ time = ap (λ j. (stretch_at after j).last_end) e ∙ ap (λ (s : Stretch). s.last_end) ends.here in
-              omega (arith, end, past) in
+      let end : (stretch_at after k).last_end ≡ time = ap (λ j. (stretch_at after j).last_end) e ∙ ap (λ (s : Stretch). s.last_end) ends.here in
+      omega (arith, end, past) in
       let there = ends.others k apart in
       let was = are.over k (let size = ends.places in omega (arith, size, within)) (subst (λ (s : Stretch). time < s.last_end) there past) in
       let other : (stretch_at stretches k).«module».0 ≢ m = λ e. apart (same_place (sym was.1 ∙ ap (λ j. (cell_at cells j).stretch) e ∙ is)) in
@@ -272,3 +271,14 @@ crossing_ends old new run block time count cells lines looks ledgers stretches l
   first = λ zero m live. absurd (omega (arith, zero, later));
   fresh = is.fresh;
 }
+
+-- at the next border the ledgers of live modules can keep a state
+pub can_keep : (new : Circuit) (run : Outcome) (block time : ℕ) (cells : List Cell) (ledgers : List Ledger) → IsNextBorder new block time → AreLedgers new run block cells ledgers → CanKeepAll new cells ledgers time
+can_keep new run block time cells ledgers next are m stands live = by (module_at new m) refl stands
+  where
+    by : (slot : Option ModuleRecord) → module_at new m ≡ slot → IsSome slot → IsOwn (ledger_at ledgers m) time (time + 1)
+    by None at is = cc
+    by (Some r) at is =
+        let later = next.later in
+        let below = next.below in
+        own_later (ledger_at ledgers m) (block + 1) time new.horizon (time + 1) (omega (arith, later)) (omega (arith, below)) ((are.each m r at).ready live)

@@ -1,19 +1,18 @@
 -- At a border modules are evaluated no longer, or go on in the next block.
-use Rattle.std.proofs.Common.{◌≡◌, ◌≢◌, ℕ, ◌+◌, ◌-◌, ◌<◌, ◌≤◌, true, false, List, Some, IsSome, length, ap, sym, subst, ◌∙◌, arith, inl, inr}
+use Rattle.std.proofs.Common.{◌≡◌, ℕ, ◌+◌, ◌-◌, ◌<◌, true, false, Some, sym, subst, ◌∙◌, arith, inl, inr}
 use Rattle.std.proofs.lemmas.Bool.{cases_Bool}
 use Rattle.mp_records.specs.declared.module_record.ModuleRecord.{ModuleRecord}
 use Rattle.mp_netlist.specs.Slots.{slot_at}
 use Rattle.mp_netlist.specs.Circuit.{Circuit, IsCircuit, module_at}
 use Rattle.mp_model.specs.Waves.{state}
-use Rattle.mp_engine.specs.Checkpoints.{state_before, IsBorder}
+use Rattle.mp_engine.specs.Checkpoints.{IsBorder}
 use Rattle.mp_engine.specs.Outcomes.{Outcome}
 use Rattle.mp_engine.specs.Runs.{IsRun}
 use Rattle.mp_redo.specs.declared.cell.Cell.{Cell}
 use Rattle.mp_redo.specs.Leaving.{IsBack}
 use Rattle.mp_redo.specs.Ledgers.{state_in}
 use Rattle.mp_redo.specs.Redoing.{IsWorking, IsCellAt}
-use Rattle.mp_redo.specs.Revisions.{IsRevision, IsKept}
-use Rattle.mp_redo.specs.Work.{Differs}
+use Rattle.mp_redo.specs.Revisions.{IsRevision}
 use Rattle.mp_redo.proofs.LineLemmas.{before_is, idle_agrees, idle_kept}
 use Rattle.mp_redo.proofs.OverLemmas.{old_state}
 

@@ -71,7 +71,7 @@ fn cross_one(
     Ok(())
 }
 
-/// All modules do.
+/// The modules of all numbers do.
 fn cross_all(
     old: &Netlist,
     run: &Run,
@@ -146,5 +146,12 @@ pub(crate) fn cross_border(
     ensures stretches { OnOk result (AreStretchesTo old.now new.now time stretches.new.items) }
     ensures open { OnOk result (AreOpen new.now time cells.new.items stretches.new.items) }
 {
-    Err(AllocError)
+    let _old_horizon = old.horizon();
+    let _horizon = new.horizon();
+    keep_states(new, cells.as_slice(), ledgers, time)?;
+    cross_all(
+        old, run, new, readers, block, time, cells, lines, looks, ledgers, stretches,
+    )?;
+    keep_live(live, cells.as_slice());
+    Ok(())
 }

@@ -1,4 +1,4 @@
-use Rattle.std.proofs.Common.{rules, ◌≡◌, ◌+◌, ◌<◌, ◌≤◌, true, Some, None, is_some, length, ap, sym, subst, ◌∙◌, arith}
+use Rattle.std.proofs.Common.{rules, ◌≡◌, ◌+◌, ◌<◌, true, Some, None, is_some, length, ap, sym, subst, ◌∙◌, arith}
 use Rattle.std.proofs.lemmas.List.{get_or_read}
 use Rattle.mp_netlist.specs.Circuit.{module_at}
 use Rattle.mp_model.proofs.SlotLemmas.{slot_within}
@@ -24,13 +24,13 @@ returns-then-not-is_back-clause-crossing c =
     one_stays c.args.old.now c.args.new.now c.horizon-old_horizon.ensures.form c.horizon-horizon.ensures.form c.requires.revision c.args.run.now c.requires.run c.args.block c.args.time c.requires.border c.requires.later c.requires.below
     m cells c.args.lines.now.items c.args.looks.now.items c.args.ledgers.now.items c.args.stretches.now.items c.requires.crossing
     (λ r at back.
-        let within = slot_within c.args.new.now.modules m r at in
-        let places = c.requires.crossing.modules.places in
-        let low : m < length cells = omega (arith, within, places) in
-        let read : cell_at cells m ≡ c.index.result.now = sym (get_or_read cells m c.index.result.now low c.index.ensures no_cell) in
-        let is = c.is_back.ensures.1 (subst (λ (x : Cell). IsBack c.args.run.now c.args.time m x) read back) in
-        let not = c.if-not-is_back.true in
-        cc)
+    let within = slot_within c.args.new.now.modules m r at in
+    let places = c.requires.crossing.modules.places in
+    let low : m < length cells = omega (arith, within, places) in
+    let read : cell_at cells m ≡ c.index.result.now = sym (get_or_read cells m c.index.result.now low c.index.ensures no_cell) in
+    let is = c.is_back.ensures.1 (subst (λ (x : Cell). IsBack c.args.run.now c.args.time m x) read back) in
+    let not = c.if-not-is_back.true in
+    cc)
 
 pub unreachable-requires : goal.unreachable-requires
 unreachable-requires c =
