@@ -43,3 +43,5 @@ pub mod JoinLemmas
 pub mod JoinWorkLemmas
 pub mod AgainLemmas
 pub mod WindowEndLemmas
+pub mod LeaveLemmas
+pub mod CrossLemmas

@@ -20,3 +20,4 @@ pub mod Closing
 pub mod Windows
 pub mod Joins
 pub mod Opened
+pub mod Leaving

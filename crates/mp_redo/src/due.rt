@@ -27,7 +27,7 @@ use std::collections::VecDeque;
 use std::sync::Wait;
 
 /// The state of a module that a run kept for a time, or a blank one.
-fn old_state(run: &Run, id: ModuleId, time: u32) -> Memory
+pub(crate) fn old_state(run: &Run, id: ModuleId, time: u32) -> Memory
     ensures { result ≡ state_in (slot_at run.now.kept id.0) time }
 {
     match run.checkpoints(id) {
