@@ -37,3 +37,4 @@ pub mod LeftLemmas
 pub mod QueueLemmas
 pub mod StretchLemmas
 pub mod DueLemmas
+pub mod FirstLemmas

@@ -1,5 +1,5 @@
 -- What holds of a re-evaluation between two windows.
-use Rattle.std.specs.Prelude.{◌≡◌, ◌≢◌, ◌⊎◌, ℕ, ◌+◌, ◌-◌, ◌<◌, ◌≤◌, Bool, true, false, List, [], Some, None, length, slice_index_or, if◌then◌else◌}
+use Rattle.std.specs.Prelude.{◌≡◌, ◌≢◌, ◌⊎◌, ℕ, ◌+◌, ◌-◌, ◌<◌, ◌≤◌, Bool, true, false, List, [], Some, None, IsSome, length, slice_index_or, if◌then◌else◌}
 use Rattle.std.specs.List.{Contains}
 use Rattle.mp_modules.specs.Memories.{blank}
 use Rattle.mp_records.specs.declared.ids.ModuleId.{ModuleId}
@@ -105,12 +105,12 @@ pub record IsOpenAt (new : Circuit) (stretches : List Stretch) (m k : ℕ) : Typ
   pub own : (stretch_at stretches k).«module».0 ≡ m
   pub on : (stretch_at stretches k).last_end ≡ new.horizon
 
--- a live module's stretch is open, another module has none, and no other stretch goes on
+-- the stretch of a live module that stands is open, one that isn't live has none, and no other stretch goes on
 pub record AreOpen (new : Circuit) (t : ℕ) (cells : List Cell) (stretches : List Stretch) : Type 0 where
-  pub opened : (m : ℕ) → (cell_at cells m).live ≡ true → (k : ℕ) × ((cell_at cells m).stretch ≡ Some k) × IsOpenAt new stretches m k
+  pub opened : (m : ℕ) → IsSome (module_at new m) → (cell_at cells m).live ≡ true → (k : ℕ) × ((cell_at cells m).stretch ≡ Some k) × IsOpenAt new stretches m k
   pub closed : (m : ℕ) → (cell_at cells m).live ≡ false → (cell_at cells m).stretch ≡ None
   pub over : (k : ℕ) → k < length stretches → t < (stretch_at stretches k).last_end →
-      (let m = (stretch_at stretches k).«module».0 in ((cell_at cells m).live ≡ true) × ((cell_at cells m).stretch ≡ Some k))
+      (let m = (stretch_at stretches k).«module».0 in ((cell_at cells m).live ≡ true) × ((cell_at cells m).stretch ≡ Some k) × IsSome (module_at new m))
 
 -- before the window that begins at t, in the block that begins at c
 pub record IsBefore (old new : Circuit) (run : Outcome) (c t : ℕ) (cells : List Cell) (lines : List Line) (looks : List (List ModuleId)) : Type 0 where
