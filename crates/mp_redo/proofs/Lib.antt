@@ -45,3 +45,4 @@ pub mod AgainLemmas
 pub mod WindowEndLemmas
 pub mod LeaveLemmas
 pub mod CrossLemmas
+pub mod FirstLemmas
