@@ -46,3 +46,5 @@ pub mod WindowEndLemmas
 pub mod LeaveLemmas
 pub mod CrossLemmas
 pub mod FirstLemmas
+pub mod SortLemmas
+pub mod CourseLemmas

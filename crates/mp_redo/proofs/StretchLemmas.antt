@@ -5,7 +5,7 @@ use Rattle.mp_netlist.specs.Circuit.{Circuit, IsCircuit}
 use Rattle.mp_redo.specs.declared.work_entry.WorkEntry.{WorkEntry}
 use Rattle.mp_redo.specs.declared.stretch.Stretch.{Stretch}
 use Rattle.mp_redo.specs.Work.{block_of, IsWindow, WorksFrom, IsEntry}
-use Rattle.mp_redo.specs.Merges.{first_entry, most_entries}
+use Rattle.mp_redo.specs.Merges.{IsStretch, first_entry, most_entries}
 use Rattle.mp_redo.specs.Stretches.{stretch_at, IsPart, EndsWithWindow, AreStretches, AreInOrder, StretchesAreWork, HasBegun}
 use Rattle.mp_redo.proofs.WindowLemmas.{window_within}
 use Rattle.mp_redo.proofs.EntryLemmas.{works_once}
@@ -122,6 +122,17 @@ module _ (old new : Circuit) (ok : IsCircuit new) (stretches : List Stretch) (ar
 
   tiled : All (IsTiled new) stretches
   tiled = all_from (IsTiled new) stretches tiled_at
+
+  -- they are stretches, of which no two have the first entry of one module that ends at one time
+  pub each_is : All (IsStretch new.horizon) stretches
+  each_is = λ k d within. (tiled k d within).is
+
+  pub first_once : (k j : ℕ) → k < length stretches → j < length stretches → (stretch_at stretches j).«module».0 ≡ (stretch_at stretches k).«module».0
+      → (stretch_at stretches k).first_end ≡ (stretch_at stretches j).first_end → k ≡ j
+  first_once k j one other same together =
+      let s = stretch_at stretches k in
+      let t = stretch_at stretches j in
+      alone k j s.«module».0 s.from t.from s.first_end one other (refl, inl (refl, refl)) (same, inl (refl, together))
 
   abbrev no_entry : WorkEntry
   no_entry = record { «module» = record { 0 = 0 }; from = 0; to = 0 }

@@ -21,3 +21,4 @@ pub mod Windows
 pub mod Joins
 pub mod Opened
 pub mod Leaving
+pub mod Courses

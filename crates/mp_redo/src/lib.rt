@@ -7,6 +7,7 @@ mod border;
 mod cell;
 mod closing;
 mod comparing;
+mod course;
 mod cutting;
 mod drivers;
 mod due;
