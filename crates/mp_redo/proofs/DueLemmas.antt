@@ -1,9 +1,10 @@
 -- A module that is due in a window.
-use Rattle.std.proofs.Common.{◌≡◌, ◌≢◌, ℕ, ◌+◌, ◌-◌, ◌<◌, ◌≤◌, Bool, true, false, List, Some, None, length, slice_set, ap, sym, subst, ◌∙◌, arith, inl, inr}
+use Rattle.std.proofs.Common.{◌≡◌, ◌≢◌, ℕ, ◌+◌, ◌-◌, ◌<◌, ◌≤◌, Bool, true, false, List, Some, None, ◌∷◌, suc, length, drop, slice_index_or, slice_set, refl, ap, sym, subst, ◌∙◌, arith, inl, inr}
 use Rattle.std.specs.List.{Contains}
 use Rattle.std.proofs.lemmas.Bool.{cases_eq}
 use Rattle.std.proofs.lemmas.List.{get_or-set_same, get_or-set_other}
 use Rattle.std.proofs.Math.ListN.{length-set}
+use Rattle.std.proofs.Math.Seq.{drop-cons}
 use Rattle.mp_modules.specs.declared.memory.Memory.{Memory}
 use Rattle.mp_records.specs.declared.ids.ModuleId.{ModuleId}
 use Rattle.mp_records.specs.declared.ports.Input.{Input}
@@ -11,14 +12,11 @@ use Rattle.mp_records.specs.declared.module_record.ModuleRecord.{ModuleRecord}
 use Rattle.mp_records.specs.Outputs.{delay_of}
 use Rattle.mp_netlist.specs.Slots.{slot_at}
 use Rattle.mp_netlist.specs.Circuit.{Circuit, IsCircuit, Drives, module_at}
-use Rattle.mp_model.specs.Reach.{IsApart}
-use Rattle.mp_model.specs.Waves.{level}
 use Rattle.mp_model.proofs.SlotLemmas.{some_within, slot_within}
-use Rattle.mp_engine.specs.Checkpoints.{state_before}
-use Rattle.mp_engine.specs.Marks.{is_marked}
+use Rattle.mp_engine.specs.Marks.{is_marked, AreListed}
 use Rattle.mp_engine.specs.Outcomes.{Outcome, wave_of}
 use Rattle.mp_engine.specs.Runs.{IsRun}
-use Rattle.mp_engine.proofs.MarkLemmas.{marked_within}
+use Rattle.mp_engine.proofs.MarkLemmas.{marked_within, listed_rest}
 use Rattle.mp_redo.specs.declared.cell.Cell.{Cell}
 use Rattle.mp_redo.specs.declared.line.Line.{Line}
 use Rattle.mp_redo.specs.Answers.{IsHeardBy}
@@ -27,7 +25,8 @@ use Rattle.mp_redo.specs.Lines.{level_in, IsOwn}
 use Rattle.mp_redo.specs.Revisions.{IsRevision, IsKept}
 use Rattle.mp_redo.specs.Redoing.{level_at, line_at, cell_at, no_cell, answered_to, IsWorking, IsCellAt, AreLines, IsDuring}
 use Rattle.mp_redo.specs.Steps.{IsAt, IsStep, AreReady, GoesOn, GoesOnFrom, GoesOnWatching}
-use Rattle.mp_redo.specs.Windows.{IsShort}
+use Rattle.mp_redo.specs.Joins.{HaveAnswered, live_cell}
+use Rattle.mp_redo.specs.Windows.{IsShort, HearOther}
 use Rattle.mp_redo.proofs.ApartLemmas.{apart_where, alike_where}
 use Rattle.mp_redo.proofs.DuringLemmas.{answered_here, answered_other, listed_still, during_answered, during_quiet}
 use Rattle.mp_redo.proofs.HeardLemmas.{heard_now}
@@ -35,6 +34,61 @@ use Rattle.mp_redo.proofs.LineLemmas.{output_stands, idle_kept, line_on}
 use Rattle.mp_redo.proofs.MarkedLemmas.{answered_least, answered_marked, working_on}
 use Rattle.mp_redo.proofs.OverLemmas.{begin_state}
 
+-- the marked modules are among the rest when one more has lost its mark
+pub listed_next : (marks after : List Bool) (due : List ModuleId) (i : ℕ) → i < length due → after ≡ slice_set marks (slice_index_or due i (record { 0 = 0 })).0 false
+    → AreListed marks (drop i due) → AreListed after (drop (i + 1) due)
+listed_next marks after due i low cleared are =
+    let d : ModuleId = record { 0 = 0 } in
+    let here : ModuleId = slice_index_or due i d in
+    let next : suc i ≡ i + 1 = omega arith in
+    let split : drop i due ≡ here ∷ drop (i + 1) due = drop-cons due i d low ∙ ap (λ k. here ∷ drop k due) next in
+    subst (λ xs. AreListed xs (drop (i + 1) due)) (sym cleared) (listed_rest marks here (drop (i + 1) due) (subst (AreListed marks) split are))
+
+pub length_next : (marks after : List Bool) (due : List ModuleId) (i : ℕ) → after ≡ slice_set marks (slice_index_or due i (record { 0 = 0 })).0 false → length after ≡ length marks
+length_next marks after due i cleared = ap length cleared ∙ (let d : ModuleId = record { 0 = 0 } in length-set marks (slice_index_or due i d).0 false)
+
+-- none has answered
+pub answered_none : (due : List ModuleId) (cells : List Cell) → HaveAnswered due cells cells
+answered_none due cells = record { places = refl; live = λ m live. live; touched = λ m. refl; stretch = λ m. refl; others = λ m none. refl }
+
+-- more have answered
+pub answered_more : (due : List ModuleId) (cells after later : List Cell) → HaveAnswered due cells after → HaveAnswered due after later → HaveAnswered due cells later
+answered_more due cells after later first second = record {
+  places = second.places ∙ first.places;
+  live = λ m live. second.live m (first.live m live);
+  touched = λ m. second.touched m ∙ first.touched m;
+  stretch = λ m. second.stretch m ∙ first.stretch m;
+  others = λ m none. second.others m none ∙ first.others m none;
+}
+
+-- one has answered
+pub answered_one : (due : List ModuleId) (cells : List Cell) (m : ℕ) (memory : Memory) → Contains due (record { 0 = m }) → m < length cells
+    → HaveAnswered due cells (slice_set cells m (live_cell (cell_at cells m) memory))
+answered_one due cells m memory has within = record {
+  places = length-set cells m now;
+  live = λ k live. elim (cases_eq k m) as (λ _. (cell_at (slice_set cells m now) k).live ≡ true) [
+    | inl same ↦ ap (λ (x : Cell). x.live) (here k same)
+    | inr other ↦ ap (λ (x : Cell). x.live) (there k other) ∙ live
+  ];
+  touched = λ k. elim (cases_eq k m) as (λ _. (cell_at (slice_set cells m now) k).touched ≡ (cell_at cells k).touched) [
+    | inl same ↦ ap (λ (x : Cell). x.touched) (here k same) ∙ ap (λ j. (cell_at cells j).touched) (sym same)
+    | inr other ↦ ap (λ (x : Cell). x.touched) (there k other)
+  ];
+  stretch = λ k. elim (cases_eq k m) as (λ _. (cell_at (slice_set cells m now) k).stretch ≡ (cell_at cells k).stretch) [
+    | inl same ↦ ap (λ (x : Cell). x.stretch) (here k same) ∙ ap (λ j. (cell_at cells j).stretch) (sym same)
+    | inr other ↦ ap (λ (x : Cell). x.stretch) (there k other)
+  ];
+  others = λ k none. there k (λ same. none (subst (λ j. Contains due (record { 0 = j })) (sym same) has));
+}
+  where
+    now : Cell
+    now = live_cell (cell_at cells m) memory
+
+    here : (k : ℕ) → k ≡ m → cell_at (slice_set cells m now) k ≡ now
+    here k same = ap (cell_at (slice_set cells m now)) same ∙ get_or-set_same cells m now no_cell within
+
+    there : (k : ℕ) → k ≢ m → cell_at (slice_set cells m now) k ≡ cell_at cells k
+    there k other = get_or-set_other cells m k now no_cell other
 
 module _ (old new : Circuit) (old_ok : IsCircuit old) (new_ok : IsCircuit new) (revised : IsRevision old new) (run : Outcome) (is_run : IsRun old run) (c from to : ℕ) (window : IsShort new c from to)
     (due : List ModuleId) (marks : List Bool) (cells : List Cell) (lines : List Line) (looks : List (List ModuleId)) (during : IsDuring old new run c from to due marks cells lines looks)
@@ -49,7 +103,7 @@ module _ (old new : Circuit) (old_ok : IsCircuit old) (new_ok : IsCircuit new) (
     cell_was : IsCellAt old new c from m r (cell_at cells m)
     cell_was = subst (λ t. IsCellAt old new c t m r (cell_at cells m)) (answered_marked from to marks m marked) (during.modules.each m r at)
 
-    cell_within : m < length cells
+    pub cell_within : m < length cells
     cell_within = let low = slot_within new.modules m r at in let places = during.modules.places in omega (arith, low, places)
 
     pub due_heard : IsHeardBy new run lines r to
@@ -80,8 +134,8 @@ module _ (old new : Circuit) (old_ok : IsCircuit old) (new_ok : IsCircuit new) (
     kept : (cell_at cells m).live ≡ false → IsKept old new m r
     kept quiet = record { before = idle_kept old new c from from m r (cell_at cells m) cell_was (cell_was.quiet quiet); after = at }
 
-    abbrev pub live_with : Memory → Cell
-    live_with memory = record { live = true; touched = (cell_at cells m).touched; memory = memory; stretch = (cell_at cells m).stretch }
+    abbrev live_with : Memory → Cell
+    live_with memory = live_cell (cell_at cells m) memory
 
     now_live : (memory : Memory) → IsWorking old new c m to → IsAt new m to r memory → IsCellAt old new c to m r (live_with memory)
     now_live memory works is = record {
@@ -111,7 +165,7 @@ module _ (old new : Circuit) (old_ok : IsCircuit old) (new_ok : IsCircuit new) (
         (λ times later step are. wires m times later cells (slice_set cells m (live_with memory)) (due_live live) step are) watching
 
     pub joining_answers : (cell_at cells m).live ≡ false → (memory : Memory) → IsAt new m to r memory
-        → ((i : Input) × Contains r.inputs i × ((t : ℕ) × (from ≤ t) × (t < to) × (level_at run lines i.wire.0 (t - i.delay) ≢ level_in (wave_of run i.wire.0) (t - i.delay))))
+        → HearOther run lines r.inputs from to
         → (given : List Line) (lists : List (List ModuleId)) → GoesOnFrom new run lines given r (state_in (slot_at run.kept m) c) c to
         → GoesOnWatching new run to lines given looks lists → IsDuring old new run c from to due (slice_set marks m false) (slice_set cells m (live_with memory)) given lists
     joining_answers quiet memory is other given lists wires watching =

@@ -58,7 +58,7 @@ module _ (old new : Circuit) (old_ok : IsCircuit old) (new_ok : IsCircuit new) (
   }
 
   -- the state before a border that the old run kept
-  old_state : (m b : ℕ) (r : ModuleRecord) → module_at old m ≡ Some r → IsBorder b → b < old.horizon → state_in (slot_at run.kept m) b ≡ state_before old m r b
+  pub old_state : (m b : ℕ) (r : ModuleRecord) → module_at old m ≡ Some r → IsBorder b → b < old.horizon → state_in (slot_at run.kept m) b ≡ state_before old m r b
   old_state m b r at border low = by (slot_at run.kept m) (opened (nat_lt b run.horizon && b % 1024 == 0) (is.checkpoints m b ∙ told ∙ ap (option_map (λ (x : ModuleRecord). state_before old m x b)) at))
     where
       test : (nat_lt b old.horizon && b % 1024 == 0) ≡ true

@@ -1,9 +1,14 @@
 -- Modules that have joined those that are evaluated again.
 use Rattle.std.specs.Prelude.{◌≡◌, ℕ, true, List, length}
 use Rattle.std.specs.List.{Contains}
+use Rattle.mp_modules.specs.declared.memory.Memory.{Memory}
 use Rattle.mp_records.specs.declared.ids.ModuleId.{ModuleId}
 use Rattle.mp_redo.specs.declared.cell.Cell.{Cell}
 use Rattle.mp_redo.specs.Redoing.{cell_at}
+
+-- the cell of a module that is live with a state
+abbrev pub live_cell : Cell → Memory → Cell
+live_cell cell memory = record { live = true; touched = cell.touched; memory = memory; stretch = cell.stretch }
 
 -- cells after those of some modules have answered: who was live is live, no stretch has been opened yet, and the others are as they were
 pub record HaveAnswered (due : List ModuleId) (cells after : List Cell) : Type 0 where

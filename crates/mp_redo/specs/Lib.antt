@@ -19,4 +19,6 @@ pub mod Steps
 pub mod Closing
 pub mod Windows
 pub mod Joins
+pub mod Opened
+pub mod Leaving
 pub mod Courses

@@ -16,6 +16,7 @@ mod giving;
 mod joining;
 mod keeping;
 pub mod laws;
+mod leaving;
 mod ledger;
 mod line;
 mod looking;

@@ -22,7 +22,15 @@ use std::alloc::{AllocError, Global};
 use std::collections::VecDeque;
 use std::sync::Wait;
 
-/// The modules that look at their inputs in a window are listed as due, answer for the window, and look again.
+/// These modules pass the gate, each for the units from one time to before another.
+fn pass_gate<R: Wait, G: Gate>(rt: &R, gate: &G, live: &[ModuleId], from: u32, to: u32) {
+    for id in live {
+        gate.enter(rt, *id, from, to);
+    }
+}
+
+/// The live modules pass the gate for a window. The modules that look at their inputs in it are listed as due, answer for the window, and
+/// look again.
 pub(crate) fn run_window<R: Wait, G: Gate>(
     rt: &R,
     alloc: Global,
@@ -55,5 +63,29 @@ pub(crate) fn run_window<R: Wait, G: Gate>(
     ensures cells { OnOk result (HaveAnswered due.new.items cells.old.items cells.new.items) }
     ensures before { OnOk result (IsBefore old.now new.now run.now block to cells.new.items lines.new.items looks.new.items) }
 {
-    Err(AllocError)
+    // Their contracts tell that the netlists are well formed.
+    let _old_horizon = old.horizon();
+    let _horizon = new.horizon();
+    pass_gate(rt, gate, live, from, to);
+    due.clear();
+    take_lists(looks, marks, due, to - from)?;
+    answer_all(
+        rt,
+        alloc,
+        gate,
+        old,
+        run,
+        new,
+        readers,
+        block,
+        from,
+        to,
+        due.as_slice(),
+        marks,
+        cells,
+        lines,
+        looks,
+    )?;
+    look_all(run, new, lines.as_slice(), due.as_slice(), to, looks)?;
+    Ok(())
 }
