@@ -21,14 +21,14 @@ use Rattle.mp_redo.specs.Steps.{IsStep, GoesOnWatching}
 use Rattle.mp_redo.proofs.LineLemmas.{one_delay, idle_kept, idle_line, line_on}
 use Rattle.mp_redo.proofs.MarkedLemmas.{answered_marked}
 
-answered_other : (from to : ℕ) (marks : List Bool) (m k : ℕ) → (k ≡ m → ⊥) → answered_to from to (slice_set marks m false) k ≡ answered_to from to marks k
+pub answered_other : (from to : ℕ) (marks : List Bool) (m k : ℕ) → (k ≡ m → ⊥) → answered_to from to (slice_set marks m false) k ≡ answered_to from to marks k
 answered_other from to marks m k other = ap (λ (b : Bool). cond b from to) (get_or-set_other marks m k false false other)
 
-answered_here : (from to : ℕ) (marks : List Bool) (m : ℕ) → m < length marks → answered_to from to (slice_set marks m false) m ≡ to
+pub answered_here : (from to : ℕ) (marks : List Bool) (m : ℕ) → m < length marks → answered_to from to (slice_set marks m false) m ≡ to
 answered_here from to marks m within = ap (λ (b : Bool). cond b from to) (get_or-set_same marks m false false within)
 
 -- the marked modules stay listed
-listed_still : (marks : List Bool) (m : ℕ) (due : List ModuleId) → m < length marks → AreListed marks due → AreListed (slice_set marks m false) due
+pub listed_still : (marks : List Bool) (m : ℕ) (due : List ModuleId) → m < length marks → AreListed marks due → AreListed (slice_set marks m false) due
 listed_still marks m due within are k is = elim (cases_eq k m) as (λ _. Contains due (record { 0 = k })) [
   | inl same ↦
       let here : is_marked (slice_set marks m false) m ≡ true = subst (λ j. is_marked (slice_set marks m false) j ≡ true) same is in

@@ -26,7 +26,7 @@ at_work_later old new ok m from to later entry over same = by entry.works
     by (inr joins) = apart joins.1.0 (omega (arith, joins.1.1, within.0)) joins.1.2 joins.1.3
 
 -- the window that ends earlier ends before the other begins
-ends_before : (n : Circuit) → IsCircuit n → (start to later end : ℕ) → IsWindow n start to → IsWindow n later end → to < end → to ≤ later
+pub ends_before : (n : Circuit) → IsCircuit n → (start to later end : ℕ) → IsWindow n start to → IsWindow n later end → to < end → to ≤ later
 ends_before n ok start to later end first second less = elim (cases_lt start later) as (λ _. to ≤ later) [
   | inl before ↦ windows_apart n ok start to later end first second before
   | inr not ↦ elim (cases_eq later start) as (λ _. to ≤ later) [
@@ -38,7 +38,7 @@ ends_before n ok start to later end first second less = elim (cases_lt start lat
   ]
 ]
 
-begins_with : (n : Circuit) → IsCircuit n → (start to later end : ℕ) → IsWindow n start to → IsWindow n later end → to ≡ end → start ≡ later
+pub begins_with : (n : Circuit) → IsCircuit n → (start to later end : ℕ) → IsWindow n start to → IsWindow n later end → to ≡ end → start ≡ later
 begins_with n ok start to later end first second same = elim (cases_eq start later) as (λ _. start ≡ later) [
   | inl one ↦ one
   | inr other ↦ elim (cases_lt start later) as (λ _. start ≡ later) [

@@ -119,15 +119,25 @@ first_more cells ledgers ledger i end d within size is are k low = elim (cases_e
 abbrev pub IsNext : ℕ → Cell → Ledger → Ledger → Type 0
 IsNext time cell ledger after = (new : Circuit) (run : Outcome) (t m : ℕ) (r : ModuleRecord) → IsNextBorder new t time → IsStateAt new run time m r cell → IsLedgerAt new run t m r cell.live ledger → IsLedgerAt new run time m r cell.live after
 
+-- what the ledgers of modules below a number have become, of those of some
+abbrev pub AreNext : (ℕ → Type 0) → ℕ → ℕ → List Cell → List Ledger → List Ledger → Type 0
+AreNext P i time cells first ledgers = (k : ℕ) → k < i → P k → IsNext time (cell_at cells k) (ledger_at first k) (ledger_at ledgers k)
+
 -- one ledger more at a border
-pub next_more : (cells : List Cell) (first ledgers : List Ledger) (ledger after : Ledger) (i time : ℕ) (d : Cell) → i < length cells → i < length ledgers → ledger ≡ get_or ledgers i ledger → ledger_at ledgers i ≡ ledger_at first i
-    → IsNext time (get_or cells i d) ledger after → ((k : ℕ) → k < i → IsNext time (cell_at cells k) (ledger_at first k) (ledger_at ledgers k))
-    → (k : ℕ) → k < i + 1 → IsNext time (cell_at cells k) (ledger_at first k) (ledger_at (slice_set ledgers i after) k)
-next_more cells first ledgers ledger after i time d within low read left is are k less = elim (cases_eq k i) as (λ _. IsNext time (cell_at cells k) (ledger_at first k) (ledger_at (slice_set ledgers i after) k)) [
+pub next_more : (P : ℕ → Type 0) (cells : List Cell) (first ledgers : List Ledger) (ledger after : Ledger) (i time : ℕ) (d : Cell) → i < length cells → i < length ledgers → ledger ≡ get_or ledgers i ledger → ledger_at ledgers i ≡ ledger_at first i
+    → IsNext time (get_or cells i d) ledger after → AreNext P i time cells first ledgers → AreNext P (i + 1) time cells first (slice_set ledgers i after)
+next_more P cells first ledgers ledger after i time d within low read left is are k less holds = elim (cases_eq k i) as (λ _. IsNext time (cell_at cells k) (ledger_at first k) (ledger_at (slice_set ledgers i after) k)) [
   | inl same ↦
       let old : ledger ≡ ledger_at first i = read ∙ get_or_default ledgers i ledger Old low ∙ left in
       subst (λ j. IsNext time (cell_at cells j) (ledger_at first j) (ledger_at (slice_set ledgers i after) j)) (sym same)
       (subst (IsNext time (cell_at cells i) (ledger_at first i)) (sym (get_or-set_same ledgers i after Old low))
       (subst (λ l. IsNext time (cell_at cells i) l after) old (subst (λ (x : Cell). IsNext time x ledger after) (get_or_default cells i d no_cell within) is)))
-  | inr other ↦ subst (IsNext time (cell_at cells k) (ledger_at first k)) (sym (get_or-set_other ledgers i k after Old other)) (are k (omega (arith, less, other)))
+  | inr other ↦ subst (IsNext time (cell_at cells k) (ledger_at first k)) (sym (get_or-set_other ledgers i k after Old other)) (are k (omega (arith, less, other)) holds)
+]
+
+-- one that isn't among them
+pub next_none : (P : ℕ → Type 0) (cells : List Cell) (first ledgers : List Ledger) (i time : ℕ) → (P i → ⊥) → AreNext P i time cells first ledgers → AreNext P (i + 1) time cells first ledgers
+next_none P cells first ledgers i time not are k less holds = elim (cases_eq k i) as (λ _. IsNext time (cell_at cells k) (ledger_at first k) (ledger_at ledgers k)) [
+  | inl same ↦ absurd (not (subst P same holds))
+  | inr other ↦ are k (omega (arith, less, other)) holds
 ]

@@ -36,3 +36,15 @@ pub mod PartLemmas
 pub mod LeftLemmas
 pub mod QueueLemmas
 pub mod StretchLemmas
+pub mod DueLemmas
+pub mod LikeLemmas
+pub mod OpenedLemmas
+pub mod JoinLemmas
+pub mod JoinWorkLemmas
+pub mod AgainLemmas
+pub mod WindowEndLemmas
+pub mod LeaveLemmas
+pub mod CrossLemmas
+pub mod FirstLemmas
+pub mod SortLemmas
+pub mod CourseLemmas

@@ -18,12 +18,13 @@ use Rattle.mp_redo.specs.declared.ledger.Ledger.{Ledger}
 use Rattle.mp_redo.specs.declared.line.Line.{Line}
 use Rattle.mp_redo.specs.Endings.{IsEndAt, IsOver}
 use Rattle.mp_redo.specs.Keeping.{AreLedgers, AreStatesAt}
-use Rattle.mp_redo.specs.Redoing.{cell_at, AreCells, AreLines, IsWorking}
+use Rattle.mp_redo.specs.Redoing.{cell_at, AreCells, AreLines, IsWorking, IsCellAt}
 use Rattle.mp_redo.specs.Revisions.{IsRevision, IsKept}
 use Rattle.mp_redo.specs.Ledgers.{state_in}
 use Rattle.mp_redo.proofs.SameLemmas.{same, same_memories}
 use Rattle.mp_redo.proofs.StayLemmas.{built_same}
 use Rattle.mp_redo.proofs.LineLemmas.{before_is, idle_agrees, idle_kept}
+use Rattle.mp_redo.proofs.MarkedLemmas.{working_on}
 
 module _ (old new : Circuit) (old_ok : IsCircuit old) (new_ok : IsCircuit new) (revised : IsRevision old new) (run : Outcome) (is : IsRun old run) where
   -- the last state of a module
@@ -57,7 +58,7 @@ module _ (old new : Circuit) (old_ok : IsCircuit old) (new_ok : IsCircuit new) (
   }
 
   -- the state before a border that the old run kept
-  old_state : (m b : ℕ) (r : ModuleRecord) → module_at old m ≡ Some r → IsBorder b → b < old.horizon → state_in (slot_at run.kept m) b ≡ state_before old m r b
+  pub old_state : (m b : ℕ) (r : ModuleRecord) → module_at old m ≡ Some r → IsBorder b → b < old.horizon → state_in (slot_at run.kept m) b ≡ state_before old m r b
   old_state m b r at border low = by (slot_at run.kept m) (opened (nat_lt b run.horizon && b % 1024 == 0) (is.checkpoints m b ∙ told ∙ ap (option_map (λ (x : ModuleRecord). state_before old m x b)) at))
     where
       test : (nat_lt b old.horizon && b % 1024 == 0) ≡ true
@@ -74,6 +75,17 @@ module _ (old new : Circuit) (old_ok : IsCircuit old) (new_ok : IsCircuit new) (
       by None e = absurd (none-some (state_before old m r b) e)
       by (Some ks) e = same_Some (kept_at ks b blank) (state_before old m r b) e
 
+  -- the states of a module that isn't at work up to a time agree before it
+  agree : (c b m : ℕ) (r : ModuleRecord) → IsKept old new m r → (IsWorking old new c m b → ⊥) → c ≤ b → state_before old m r b ≡ state_before new m r b
+  agree c zero m r kept idle le = ap start (built_same old new old_ok new_ok revised m r kept)
+  agree c (suc u) m r kept idle le = elim (cases_lt u c) as (λ _. state old m u ≡ state new m u) [
+    | inl first ↦
+        let at : u + 1 ≡ c = omega arith in
+        same (state old m u) (state new m u) (same_memories (state old m u) (state new m u))
+        (λ differ. idle (inr (inl (record { part = r; kept = kept; last = u; before = at; differ = differ }))))
+    | inr past ↦ idle_agrees old new old_ok new_ok revised c (suc u) m r kept idle u past (omega arith)
+  ]
+
   -- at a border up to which all units are answered, the states before it
   pub states_at : (c b : ℕ) (cells : List Cell) → c ≤ b → IsBorder b → b < new.horizon → AreCells old new c (λ m. b) cells → AreStatesAt new run b cells
   states_at c b cells le border low are m r at =
@@ -86,13 +98,12 @@ module _ (old new : Circuit) (old_ok : IsCircuit old) (new_ok : IsCircuit new) (
             let same = revised.horizon in
             old_state m b r was border (omega (arith, low, same)) ∙ agree c b m r (record { before = was; after = at }) idle le;
       }
-    where
-      agree : (c b m : ℕ) (r : ModuleRecord) → IsKept old new m r → (IsWorking old new c m b → ⊥) → c ≤ b → state_before old m r b ≡ state_before new m r b
-      agree c zero m r kept idle le = ap start (built_same old new old_ok new_ok revised m r kept)
-      agree c (suc u) m r kept idle le = elim (cases_lt u c) as (λ _. state old m u ≡ state new m u) [
-        | inl first ↦
-            let at : u + 1 ≡ c = omega arith in
-            same (state old m u) (state new m u) (same_memories (state old m u) (state new m u))
-            (λ differ. idle (inr (inl (record { part = r; kept = kept; last = u; before = at; differ = differ }))))
-        | inr past ↦ idle_agrees old new old_ok new_ok revised c (suc u) m r kept idle u past (omega arith)
-      ]
+
+  -- so they are, of a module that isn't live, at its block's begin
+  pub begin_state : (c t m : ℕ) (r : ModuleRecord) (cell : Cell) → c ≤ t → IsBorder c → c < new.horizon → module_at new m ≡ Some r → IsCellAt old new c t m r cell → cell.live ≡ false
+      → state_in (slot_at run.kept m) c ≡ state_before new m r c
+  begin_state c t m r cell le border low at is quiet =
+      let idle = is.quiet quiet in
+      let was = idle_kept old new c t t m r cell is idle in
+      let same = revised.horizon in
+      old_state m c r was border (omega (arith, low, same)) ∙ agree c c m r (record { before = was; after = at }) (λ works. idle (working_on old new c c t m le works)) (omega arith)

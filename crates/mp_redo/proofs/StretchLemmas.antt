@@ -5,8 +5,8 @@ use Rattle.mp_netlist.specs.Circuit.{Circuit, IsCircuit}
 use Rattle.mp_redo.specs.declared.work_entry.WorkEntry.{WorkEntry}
 use Rattle.mp_redo.specs.declared.stretch.Stretch.{Stretch}
 use Rattle.mp_redo.specs.Work.{block_of, IsWindow, WorksFrom, IsEntry}
-use Rattle.mp_redo.specs.Merges.{first_entry, most_entries}
-use Rattle.mp_redo.specs.Stretches.{stretch_at, IsPart, EndsWithWindow, AreStretches, AreInOrder, StretchesAreWork}
+use Rattle.mp_redo.specs.Merges.{IsStretch, first_entry, most_entries}
+use Rattle.mp_redo.specs.Stretches.{stretch_at, IsPart, EndsWithWindow, AreStretches, AreInOrder, StretchesAreWork, HasBegun}
 use Rattle.mp_redo.proofs.WindowLemmas.{window_within}
 use Rattle.mp_redo.proofs.EntryLemmas.{works_once}
 use Rattle.mp_redo.proofs.PartLemmas.{next_begins, IsTiled, IsOf, IsInSome}
@@ -71,7 +71,11 @@ module _ (old new : Circuit) (ok : IsCircuit new) (stretches : List Stretch) (ar
   ends_by m from to k within is = by is.1
     where
       by : IsPart new (stretch_at stretches k) from to → to ≤ new.horizon
-      by (inl first) = let low = are.windows k within in let e = first.1 in omega (arith, low, e)
+      by (inl first) = begun (are.begun k within)
+        where
+          begun : HasBegun new new.horizon (stretch_at stretches k) → to ≤ new.horizon
+          begun (inl low) = let e = first.1 in omega (arith, low, e)
+          begun (inr now) = let end = now.2 in let e = first.1 in omega (arith, end, e)
       by (inr other) = window_by from to other.0
 
   entry_of : (m from to k : ℕ) → k < length stretches → IsOf new (stretch_at stretches k) m from to → IsEntry old new m from to
@@ -118,6 +122,17 @@ module _ (old new : Circuit) (ok : IsCircuit new) (stretches : List Stretch) (ar
 
   tiled : All (IsTiled new) stretches
   tiled = all_from (IsTiled new) stretches tiled_at
+
+  -- they are stretches, of which no two have the first entry of one module that ends at one time
+  pub each_is : All (IsStretch new.horizon) stretches
+  each_is = λ k d within. (tiled k d within).is
+
+  pub first_once : (k j : ℕ) → k < length stretches → j < length stretches → (stretch_at stretches j).«module».0 ≡ (stretch_at stretches k).«module».0
+      → (stretch_at stretches k).first_end ≡ (stretch_at stretches j).first_end → k ≡ j
+  first_once k j one other same together =
+      let s = stretch_at stretches k in
+      let t = stretch_at stretches j in
+      alone k j s.«module».0 s.from t.from s.first_end one other (refl, inl (refl, refl)) (same, inl (refl, together))
 
   abbrev no_entry : WorkEntry
   no_entry = record { «module» = record { 0 = 0 }; from = 0; to = 0 }

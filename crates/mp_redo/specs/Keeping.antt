@@ -1,5 +1,5 @@
 -- The states that are kept while modules answer.
-use Rattle.std.specs.Prelude.{◌≡◌, ℕ, ◌+◌, ◌<◌, ◌≤◌, Bool, true, false, List, Some, length}
+use Rattle.std.specs.Prelude.{◌≡◌, ℕ, ◌+◌, ◌<◌, ◌≤◌, Bool, true, false, List, Some, IsSome, length}
 use Rattle.mp_records.specs.declared.module_record.ModuleRecord.{ModuleRecord}
 use Rattle.mp_netlist.specs.Slots.{slot_at}
 use Rattle.mp_netlist.specs.Circuit.{Circuit, module_at}
@@ -38,6 +38,6 @@ pub record IsNextBorder (new : Circuit) (t time : ℕ) : Type 0 where
 abbrev pub AreStatesAt : Circuit → Outcome → ℕ → List Cell → Type 0
 AreStatesAt new run time cells = (m : ℕ) (r : ModuleRecord) → module_at new m ≡ Some r → IsStateAt new run time m r (cell_at cells m)
 
--- each live module's ledger can keep a state of this time
-abbrev pub CanKeepAll : List Cell → List Ledger → ℕ → Type 0
-CanKeepAll cells ledgers time = (m : ℕ) → m < length ledgers → (cell_at cells m).live ≡ true → IsOwn (ledger_at ledgers m) time (time + 1)
+-- the ledger of each live module that stands can keep a state of this time
+abbrev pub CanKeepAll : Circuit → List Cell → List Ledger → ℕ → Type 0
+CanKeepAll new cells ledgers time = (m : ℕ) → IsSome (module_at new m) → (cell_at cells m).live ≡ true → IsOwn (ledger_at ledgers m) time (time + 1)

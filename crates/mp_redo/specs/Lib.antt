@@ -17,3 +17,8 @@ pub mod Telling
 pub mod Keeping
 pub mod Steps
 pub mod Closing
+pub mod Windows
+pub mod Joins
+pub mod Opened
+pub mod Leaving
+pub mod Courses

@@ -1,5 +1,5 @@
 -- What holds of a re-evaluation between two windows.
-use Rattle.std.specs.Prelude.{◌≡◌, ◌≢◌, ◌⊎◌, ℕ, ◌+◌, ◌-◌, ◌<◌, ◌≤◌, Bool, true, false, List, [], Some, length, slice_index_or, if◌then◌else◌}
+use Rattle.std.specs.Prelude.{◌≡◌, ◌≢◌, ◌⊎◌, ℕ, ◌+◌, ◌-◌, ◌<◌, ◌≤◌, Bool, true, false, List, [], Some, None, IsSome, length, slice_index_or, if◌then◌else◌}
 use Rattle.std.specs.List.{Contains}
 use Rattle.mp_modules.specs.Memories.{blank}
 use Rattle.mp_records.specs.declared.ids.ModuleId.{ModuleId}
@@ -21,7 +21,7 @@ use Rattle.mp_redo.specs.Stretches.{stretch_at}
 use Rattle.mp_redo.specs.Work.{Differs, IsApartIn}
 
 abbrev pub no_cell : Cell
-no_cell = record { live = false; touched = false; memory = blank; stretch = 0 }
+no_cell = record { live = false; touched = false; memory = blank; stretch = None }
 
 abbrev pub cell_at : List Cell → ℕ → Cell
 cell_at cells m = slice_index_or cells m no_cell
@@ -99,12 +99,18 @@ abbrev pub IsListening : Circuit → Outcome → ℕ → List Line → List (Lis
 IsListening new run t lines looks m = (input : Input) → IsInput new m input → (x : ℕ) →
     t ≤ x + 1 + input.delay → x + 1 + input.delay < new.horizon → IsNews run lines input.wire.0 x → IsLooking looks m (x + 1 + input.delay - t)
 
--- a live module is in its last stretch, which isn't closed; and no other stretch goes on
+-- the stretch at a place is this module's, and goes on to the horizon
+pub record IsOpenAt (new : Circuit) (stretches : List Stretch) (m k : ℕ) : Type 0 where
+  pub within : k < length stretches
+  pub own : (stretch_at stretches k).«module».0 ≡ m
+  pub on : (stretch_at stretches k).last_end ≡ new.horizon
+
+-- the stretch of a live module that stands is open, one that isn't live has none, and no other stretch goes on
 pub record AreOpen (new : Circuit) (t : ℕ) (cells : List Cell) (stretches : List Stretch) : Type 0 where
-  pub within : (m : ℕ) → (cell_at cells m).live ≡ true → (cell_at cells m).stretch < length stretches
-  pub own : (m : ℕ) → (cell_at cells m).live ≡ true → (stretch_at stretches (cell_at cells m).stretch).«module».0 ≡ m
-  pub on : (m : ℕ) → (cell_at cells m).live ≡ true → new.horizon ≤ (stretch_at stretches (cell_at cells m).stretch).last_end
-  pub over : (k : ℕ) → k < length stretches → (let s = stretch_at stretches k in t < s.last_end → ((cell_at cells s.«module».0).live ≡ true) × ((cell_at cells s.«module».0).stretch ≡ k))
+  pub opened : (m : ℕ) → IsSome (module_at new m) → (cell_at cells m).live ≡ true → (k : ℕ) × ((cell_at cells m).stretch ≡ Some k) × IsOpenAt new stretches m k
+  pub closed : (m : ℕ) → (cell_at cells m).live ≡ false → (cell_at cells m).stretch ≡ None
+  pub over : (k : ℕ) → k < length stretches → t < (stretch_at stretches k).last_end →
+      (let m = (stretch_at stretches k).«module».0 in ((cell_at cells m).live ≡ true) × ((cell_at cells m).stretch ≡ Some k) × IsSome (module_at new m))
 
 -- before the window that begins at t, in the block that begins at c
 pub record IsBefore (old new : Circuit) (run : Outcome) (c t : ℕ) (cells : List Cell) (lines : List Line) (looks : List (List ModuleId)) : Type 0 where

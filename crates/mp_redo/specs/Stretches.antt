@@ -3,7 +3,7 @@ use Rattle.std.specs.Prelude.{◌≡◌, ◌⊎◌, ℕ, ◌+◌, ◌<◌, ◌�
 use Rattle.mp_netlist.specs.Circuit.{Circuit, IsCircuit}
 use Rattle.mp_netlist.specs.Delays.{least_delay}
 use Rattle.mp_redo.specs.declared.stretch.Stretch.{Stretch}
-use Rattle.mp_redo.specs.Work.{IsWindow, IsEntry, ComesBefore, IsWork}
+use Rattle.mp_redo.specs.Work.{window_end, IsWindow, IsEntry, ComesBefore, IsWork}
 use Rattle.mp_redo.specs.Merges.{first_entry, entries_left}
 
 -- the stretch of no module
@@ -28,12 +28,16 @@ pub record IsIn (new : Circuit) (stretches : List Stretch) (m from to k : ℕ) :
 abbrev pub EndsWithWindow : Circuit → Stretch → Type 0
 EndsWithWindow new s = (s.last_end ≡ new.horizon) ⊎ ((start : ℕ) × IsWindow new start s.last_end)
 
+-- its first entry ends up to a time, or, before anything is evaluated, it begins with the first window
+abbrev pub HasBegun : Circuit → ℕ → Stretch → Type 0
+HasBegun new end s = (s.first_end ≤ end) ⊎ ((end ≡ 0) × (s.from ≡ 0) × (s.first_end ≡ window_end new 0))
+
 -- all work that ends up to a time is in just one stretch, and what is in one is work
 pub record AreStretchesTo (old new : Circuit) (end : ℕ) (stretches : List Stretch) : Type 0 where
   pub known : (m from to : ℕ) → to ≤ end → IsEntry old new m from to → (k : ℕ) × IsIn new stretches m from to k
   pub only : (m from to k : ℕ) → to ≤ end → IsIn new stretches m from to k → IsEntry old new m from to
   pub once : (m from to k j : ℕ) → to ≤ end → IsIn new stretches m from to k → IsIn new stretches m from to j → k ≡ j
-  pub windows : (k : ℕ) → k < length stretches → (stretch_at stretches k).first_end ≤ end
+  pub begun : (k : ℕ) → k < length stretches → HasBegun new end (stretch_at stretches k)
   pub ends : (k : ℕ) → k < length stretches → EndsWithWindow new (stretch_at stretches k)
 
 -- so it is of all work

@@ -9,7 +9,7 @@ ghost use Rattle.mp_redo.specs.Ledgers.{IsInOrder, IsOwn};
 use crate::cell::Cell;
 use crate::ledger::Ledger;
 use mp_engine::{Checkpoints, Run};
-use mp_netlist::ModuleId;
+use mp_netlist::{ModuleId, Netlist};
 use std::alloc::{AllocError, Global};
 
 /// The ledger of a module before time 0: of a live one it has the state in which it starts, and can be given more up to an end.
@@ -83,18 +83,23 @@ pub(crate) fn first_ledgers(
     Ok(ledgers)
 }
 
-/// At the next border the states of all live modules before it are kept.
+/// At the next border the states before it are kept of all live modules that stand.
 pub(crate) fn keep_states(
+    netlist: &Netlist,
     cells: &[Cell],
     ledgers: &mut Vec<Ledger>,
     time: u32,
 ) -> Result<(), AllocError>
-    requires places { length ledgers.old.items ≡ length cells.now }
-    requires can { CanKeepAll cells.now ledgers.old.items time }
-    ensures { OnOk result ((new : Circuit) (run : Outcome) (t : ℕ) → length cells.now ≡ length new.modules → IsNextBorder new t time → AreStatesAt new run time cells.now → AreLedgers new run t cells.now ledgers.old.items → AreLedgers new run time cells.now ledgers.new.items) }
+    requires places { length ledgers.old.items ≡ length netlist.now.modules }
+    requires cells { length cells.now ≡ length netlist.now.modules }
+    requires can { CanKeepAll netlist.now cells.now ledgers.old.items time }
+    ensures { OnOk result ((run : Outcome) (t : ℕ) → IsNextBorder netlist.now t time → AreStatesAt netlist.now run time cells.now → AreLedgers netlist.now run t cells.now ledgers.old.items → AreLedgers netlist.now run time cells.now ledgers.new.items) }
 {
-    for m in 0..ledgers.len() {
-        keep_state(&mut ledgers[m], &cells[m], time)?;
+    for number in 0..netlist.module_slots() {
+        let m = number as usize;
+        if let Some(_) = netlist.module(ModuleId(number)) {
+            keep_state(&mut ledgers[m], &cells[m], time)?;
+        }
     }
     Ok(())
 }

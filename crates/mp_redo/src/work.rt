@@ -32,7 +32,9 @@ impl Model for Work {
 impl Work {
     ghost use Rattle.std.specs.Prelude.{◌<◌, [], All};
     ghost use Rattle.mp_redo.specs.Merges.{IsStretch, entries_left};
+    ghost use Rattle.mp_redo.specs.Stretches.{AreStretches};
     ghost use Rattle.mp_redo.specs.WholeWork.{whole_work};
+    ghost use Rattle.mp_redo.specs.Work.{IsWork};
 
     /// No work.
     pub fn none(alloc: Global) -> Self
@@ -57,6 +59,16 @@ impl Work {
             horizon,
             stretches,
         }
+    }
+
+    /// The work of which these are all stretches, in whatever order.
+    pub(crate) fn of_change(old: &Netlist, new: &Netlist, stretches: Vec<Stretch>) -> Self
+        requires { AreStretches old.now new.now stretches.items }
+        ensures { IsWork old.now new.now result }
+    {
+        let mut sorted = stretches;
+        sorted.sort_unstable_by_key(|stretch| (stretch.first_end, stretch.module.0));
+        Work::of(new.least_delay(), new.horizon(), sorted)
     }
 
     /// Each module that stands once, by number, from time 0 to the horizon.

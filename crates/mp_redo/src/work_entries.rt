@@ -94,7 +94,7 @@ fn go_on(begun: &mut VecDeque<Stretch>, least: u32, horizon: u32, stretch: &Stre
 }
 
 /// Where the window ends that begins at a time before the horizon.
-fn window_end(least: u32, horizon: u32, from: u32) -> u32
+pub(crate) fn window_end(least: u32, horizon: u32, from: u32) -> u32
     ensures { result ≡ end_of_window least horizon from }
 {
     let (start, wide) = (u64::from(from), u64::from(least));

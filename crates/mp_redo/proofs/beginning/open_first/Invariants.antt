@@ -1,0 +1,6 @@
+use Rattle.mp_redo.proofs.FirstLemmas.{AreFirst}
+use Rattle.mp_redo.proofs.beginning.open_first.Given as goal
+
+-- those of the modules so far
+abbrev pub invariant-loop-m : goal.invariant-loop-m
+invariant-loop-m l = AreFirst l.new l.first_end l.horizon l.m l.fn.cells.items l.cells.items l.stretches.items

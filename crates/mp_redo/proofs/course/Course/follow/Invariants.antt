@@ -1,0 +1,15 @@
+use Rattle.std.proofs.Common.{◌≡◌, ◌-◌, ◌<◌, ◌≤◌}
+use Rattle.mp_redo.specs.Courses.{last_block, IsCourse}
+use Rattle.mp_redo.specs.Work.{window_of}
+use Rattle.mp_redo.proofs.course.Course.follow.Given as goal
+
+-- the windows before are followed, and the next one begins here
+abbrev pub invariant-loop-from : goal.invariant-loop-from
+invariant-loop-from g l = record {
+  low : l.from ≤ l.new.horizon;
+  begins : l.from < l.new.horizon → window_of l.new l.from ≡ l.from;
+  course : IsCourse l.old l.new l.run (last_block l.new l.from) l.from l.self;
+}
+
+abbrev pub decreases-loop-from : goal.decreases-loop-from
+decreases-loop-from g l = l.horizon - l.from

@@ -1,0 +1,30 @@
+use Rattle.std.proofs.Common.{ℕ, ◌+◌, ◌<◌, ◌≤◌, ◌∷◌, [], take, slice_index_or, sym, subst, arith, inl, inr}
+use Rattle.std.specs.List.{Contains}
+use Rattle.std.proofs.lemmas.List.{take_more, take_all}
+use Rattle.std.proofs.lemmas.List.Elements.{Contains-append_cases}
+use Rattle.mp_records.specs.declared.ports.Input.{Input}
+use Rattle.mp_engine.proofs.MarkLemmas.{none_in, contains_cons}
+use Rattle.mp_redo.specs.Redoing.{IsNews}
+use Rattle.mp_redo.proofs.looking.first_news.Goals as goal
+
+pub loop-input-preserved : goal.loop-input-preserved
+loop-input-preserved c = λ input has x late low news.
+    let inputs = c.args.inputs.now in
+    let i = c.loop-input.input-index in
+    let d : Input = record { wire = record { 0 = 0 }; delay = 0 } in
+    let here : Input = slice_index_or inputs i d in
+    let least = c.min-first.ensures in
+    elim (Contains-append_cases (take i inputs) (here ∷ []) input (subst (λ xs. Contains xs input) (take_more inputs i d c.loop-input-test.true) has)) as (λ _. c.min-first.result ≤ x + 1 + input.delay) [
+      | inl earlier ↦ let was = c.loop-input.invariant input earlier x late low news in omega (arith, least, was)
+      | inr now ↦ elim (contains_cons here input [] now) as (λ _. c.min-first.result ≤ x + 1 + input.delay) [
+        | inl same ↦
+            let heard = subst (λ (j : Input). (x : ℕ) → c.args.to ≤ x + 1 + j.delay → x + 1 + j.delay < c.args.end → IsNews c.args.run.now c.args.lines.now j.wire.0 x → c.input_news.result ≤ x + 1 + j.delay) same
+            c.input_news.ensures x late low news in
+            omega (arith, least, heard)
+        | inr none ↦ absurd (none_in input none)
+      ]
+    ]
+
+pub returns : goal.returns
+returns c = λ input has.
+    c.loop-input.invariant input (subst (λ xs. Contains xs input) (sym (take_all c.loop-input.input-index c.args.inputs.now c.loop-input-test.false)) has)

@@ -1,0 +1,24 @@
+-- A re-evaluation on its way from window to window.
+use Rattle.std.specs.Prelude.{◌≡◌, ℕ, ◌-◌, ◌≤◌, false, length, min}
+use Rattle.mp_netlist.specs.Circuit.{Circuit}
+use Rattle.mp_engine.specs.Marks.{is_marked}
+use Rattle.mp_engine.specs.Outcomes.{Outcome}
+use Rattle.mp_redo.specs.declared.course.Course.{Course}
+use Rattle.mp_redo.specs.Keeping.{AreLedgers}
+use Rattle.mp_redo.specs.Redoing.{AreOpen, IsBefore}
+use Rattle.mp_redo.specs.Stretches.{AreStretchesTo}
+use Rattle.mp_redo.specs.Work.{block_of}
+
+-- where a block begins: that of a time below the horizon, and at the horizon the last one
+abbrev pub last_block : Circuit → ℕ → ℕ
+last_block n t = block_of (min t (n.horizon - 1))
+
+-- before the window that begins at t, in the block that begins at c, where no module is marked
+pub record IsCourse (old new : Circuit) (run : Outcome) (c t : ℕ) (course : Course) : Type 0 where
+  pub before : IsBefore old new run c t course.cells.items course.lines.items course.looks.items
+  pub kept : AreLedgers new run c course.cells.items course.ledgers.items
+  pub stretches : AreStretchesTo old new t course.stretches.items
+  pub opened : AreOpen new t course.cells.items course.stretches.items
+  pub room : 1024 ≤ length course.looks.items
+  pub marks : length course.marks.items ≡ length new.modules
+  pub free : (m : ℕ) → is_marked course.marks.items m ≡ false
