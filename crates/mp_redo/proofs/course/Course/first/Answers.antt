@@ -6,7 +6,8 @@ use Rattle.mp_redo.specs.declared.line.Line.{Line}
 use Rattle.mp_redo.specs.Keeping.{AreLedgers, AreStatesAt}
 use Rattle.mp_redo.specs.Redoing.{AreCells, AreLines, IsBefore}
 use Rattle.mp_redo.proofs.OverLemmas.{states_at}
-use Rattle.mp_redo.proofs.CourseLemmas.{like_before, like_ledgers}
+use Rattle.mp_redo.proofs.LikeLemmas.{before_like}
+use Rattle.mp_redo.proofs.CourseLemmas.{ledgers_like}
 use Rattle.mp_redo.proofs.course.Course.first.Goals as goal
 
 pub returns : goal.returns
@@ -33,8 +34,8 @@ returns c =
     let states = states_at old new c.horizon-horizon.ensures.form new_ok revised run is_run 0 0 cells (omega arith) refl (omega (arith, low, end)) are in
     let work = opened.stretches old new_ok are c.in_ok-cells.ensures.unopened in
     record {
-      before = like_before new run cells c.open_first.new.cells.items opened.cells old 0 0 lines looks (told old run are given);
-      kept = like_ledgers new run cells c.open_first.new.cells.items opened.cells 0 ledgers (kept new run (sym end) are.places states);
+      before = before_like old new run 0 0 cells c.open_first.new.cells.items lines looks opened.cells (told old run are given);
+      kept = ledgers_like new run 0 cells c.open_first.new.cells.items ledgers opened.cells (kept new run (sym end) are.places states);
       stretches = work.0;
       opened = work.1;
       room = c.in_ok-looks.ensures.some;
