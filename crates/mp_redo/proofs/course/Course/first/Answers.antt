@@ -1,8 +1,6 @@
-use Rattle.std.proofs.Common.{◌≡◌, ℕ, ◌≤◌, List, [], length, ap, refl, sym, subst, ◌∙◌, arith}
+use Rattle.std.proofs.Common.{◌≡◌, length, refl, sym, ◌∙◌, arith}
 use Rattle.mp_engine.specs.Outcomes.{Outcome}
 use Rattle.mp_netlist.specs.Circuit.{Circuit}
-use Rattle.mp_redo.specs.declared.cell.Cell.{Cell}
-use Rattle.mp_redo.specs.declared.line.Line.{Line}
 use Rattle.mp_redo.specs.Keeping.{AreLedgers, AreStatesAt}
 use Rattle.mp_redo.specs.Redoing.{AreCells, AreLines, IsBefore}
 use Rattle.mp_redo.proofs.OverLemmas.{states_at}
@@ -26,9 +24,9 @@ returns c =
     let are : AreCells old new 0 (λ m. 0) cells = c.in_ok-cells.ensures.cells in
     let given : AreLines new run (λ m. 0) cells lines = rw c.as_slice.ensures.value at (c.in_ok-lines.ensures run is_run) in
     let told : (o : Circuit) (r : Outcome) → AreCells o new 0 (λ m. 0) cells → AreLines new r (λ m. 0) cells lines → IsBefore o new r 0 0 cells lines looks =
-        rw (c.as_slice-2.ensures.value, c.as_slice-3.ensures.value) at c.in_ok-looks.ensures.before in
+    rw (c.as_slice-2.ensures.value, c.as_slice-3.ensures.value) at c.in_ok-looks.ensures.before in
     let kept : (n : Circuit) (r : Outcome) → n.horizon ≡ c.horizon.result → length cells ≡ length n.modules → AreStatesAt n r 0 cells → AreLedgers n r 0 cells ledgers =
-        rw c.as_slice-4.ensures.value at c.in_ok-ledgers.ensures in
+    rw c.as_slice-4.ensures.value at c.in_ok-ledgers.ensures in
     let low = c.horizon.ensures.low in
     let end = c.horizon.ensures.value in
     let states = states_at old new c.horizon-horizon.ensures.form new_ok revised run is_run 0 0 cells (omega arith) refl (omega (arith, low, end)) are in
