@@ -116,24 +116,75 @@ def built(kind, params, width):
     return stateful[kind](*params)
 
 
-def waves(netlist):
-    """The lines of `mpwb waves`. A netlist has `horizon`, `wires` (name, width, level), `modules` (kind, params, inputs, outputs; an input is
-    a wire's number and a delay, an output a wire's number or None and a delay) and `stimuli` (by wire's number, a list of pairs)."""
-    levels = [[level] * netlist.horizon for _, _, level in netlist.wires]
+def state_of(module, now, outputs):
+    """All that a module's next step can depend on, and what it shows."""
+    return tuple(now), tuple(outputs), getattr(module, "served", getattr(module, "owner", None)), getattr(module, "waits", None)
+
+
+def evaluated(netlist):
+    """The levels of each wire by number and time, and the inputs and states of each module by number and time; None where none stands. A
+    netlist has `horizon`, `wires` (name, width, level), `modules` (kind, params, inputs, outputs; an input is a wire's number and a delay, an
+    output a wire's number or None and a delay) and `stimuli` (by wire's number, a list of pairs); None is a place without wire or module."""
+    levels = [wire and [wire[2]] * netlist.horizon for wire in netlist.wires]
     for wire, pairs in netlist.stimuli.items():
         for time, value in pairs:
             levels[wire][time:] = [value] * (netlist.horizon - time)
-    modules = [(built(kind, params, netlist.wires[inputs[0][0]][1]), inputs, outputs) for kind, params, inputs, outputs in netlist.modules]
-    before = [None] * len(modules)
+    modules = [(number, *found) for number, found in enumerate(netlist.modules) if found]
+    modules = [(number, built(kind, params, netlist.wires[inputs[0][0]][1]), inputs, outputs) for number, kind, params, inputs, outputs in modules]
+    states = [found and [] for found in netlist.modules]
     for time in range(netlist.horizon):
-        for number, (module, inputs, outputs) in enumerate(modules):
+        for number, module, inputs, outputs in modules:
             now = [levels[wire][time - delay] if time >= delay else netlist.wires[wire][2] for wire, delay in inputs]
-            for (wire, delay), level in zip(outputs, module.step(before[number], now)):
+            before = states[number][-1][0] if time else None
+            given = module.step(before, now)
+            for (wire, delay), level in zip(outputs, given):
                 if wire is not None and time + delay < netlist.horizon:
                     levels[wire][time + delay] = level
-            before[number] = now
+            states[number].append(state_of(module, now, given))
+    return levels, states
+
+
+def lines_of(netlist, levels):
+    """The lines of `mpwb waves`."""
     lines = []
-    for (name, _, _), line in zip(netlist.wires, levels):
-        changes = [f" {t}={line[t]}" for t in range(1, netlist.horizon) if line[t] != line[t - 1]]
-        lines.append(f"{name} {line[0]}{''.join(changes)}\n")
+    for wire, line in zip(netlist.wires, levels):
+        if wire:
+            changes = [f" {t}={line[t]}" for t in range(1, netlist.horizon) if line[t] != line[t - 1]]
+            lines.append(f"{wire[0]} {line[0]}{''.join(changes)}\n")
     return "".join(lines)
+
+
+def waves(netlist):
+    """The lines of `mpwb waves`, from time 0."""
+    return lines_of(netlist, evaluated(netlist)[0])
+
+
+BLOCK = 1024
+
+
+def windows(netlist):
+    """The windows of a netlist, each with the begin of its block."""
+    delays = [delay for found in netlist.modules if found for wire, delay in found[3] if wire is not None]
+    least = min(delays, default=netlist.horizon)
+    start = 0
+    while start < netlist.horizon:
+        block = start - start % BLOCK
+        end = min(start + least, block + BLOCK, netlist.horizon)
+        yield block, start, end
+        start = end
+
+
+def work(old, old_states, new, new_states):
+    """What is evaluated again where one netlist was made of another: (module, from, to) in order. In no window twice; a module whose record
+    isn't the same in both always, another from where its inputs differ, or its states before a block."""
+    numbers = [number for number, found in enumerate(new.modules) if found]
+    same = {number for number in numbers if number < len(old.modules) and old.modules[number] == new.modules[number]}
+    entries, at_work = [], set()
+    for block, start, end in windows(new):
+        if start == block:
+            differ = {number for number in same if block and old_states[number][block - 1] != new_states[number][block - 1]}
+            at_work = {number for number in numbers if number not in same} | differ
+        apart = {n for n in same - at_work if any(old_states[n][t][0] != new_states[n][t][0] for t in range(start, end))}
+        entries += [(number, start if number in at_work else block, end) for number in sorted(at_work | apart)]
+        at_work = at_work | apart
+    return entries
