@@ -3,3 +3,4 @@ pub mod Chunks
 pub mod Stories
 pub mod Sessions
 pub mod Versions
+pub mod LastWork

@@ -1,7 +1,6 @@
 //! Sessions: a netlist, the edits that are accepted on it one after the other, and the version after each of them.
 #![tactic(auto)]
 
-mod evaluation;
 mod history;
 mod prepared;
 mod same;

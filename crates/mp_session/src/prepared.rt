@@ -29,7 +29,7 @@ impl Model for Prepared {
     ghost use Rattle.std.specs.Arc.{arc_value};
     ghost use Rattle.mp_session.specs.Stories.{present, one_more};
     ghost use Rattle.mp_engine.specs.Runs.{IsRun};
-    ghost use Rattle.mp_redo.specs.WholeWork.{whole_work};
+    ghost use Rattle.mp_redo.specs.Work.{IsWork};
     ghost use Rattle.mp_session.specs.Sessions.{Step};
 
     ghost Value = { Step };
@@ -38,8 +38,8 @@ impl Model for Prepared {
 
     ghost invariant = { λ prepared. (arc_value prepared.next ≡ one_more (arc_value prepared.before) (arc_value prepared.edit))
         × IsRun (present (arc_value prepared.next)) prepared.run
-        × (prepared.work ≡ whole_work (present (arc_value prepared.next)))
-        × (prepared.kept_work ≡ whole_work (present (arc_value prepared.next))) };
+        × IsWork (present (arc_value prepared.before)) (present (arc_value prepared.next)) prepared.work
+        × (prepared.kept_work ≡ prepared.work) };
 }
 
 impl Prepared {

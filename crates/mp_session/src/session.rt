@@ -1,21 +1,21 @@
 //! A netlist that is edited, and its present version.
 ghost use Rattle.std.specs.Prelude.{◌≡◌, IfOk};
 
-use crate::evaluation::evaluated;
 use crate::history::MAX_EDITS;
 use crate::prepared::Prepared;
 use crate::version::Version;
 use mp_engine::{Run, evaluate};
 use mp_netlist::{Edit, EditError, Netlist};
 use mp_phase::{Crew, Gate};
-use mp_redo::Work;
+use mp_redo::laws::edits_revise;
+use mp_redo::{Work, redo};
 use std::alloc::{AllocError, Global};
 use std::marker::Model;
 use std::sync::{Arc, Wait};
 use std::thread::Threads;
 
-/// A netlist and the edits that were accepted on it: its present version with its run, and the crew and the gate with which each version's
-/// run is computed.
+/// A netlist and the edits that were accepted on it: its present version with its run, the crew with which the first run was computed, and
+/// the gate that modules pass. An edit's run is computed on the calling thread, from the run before it.
 #[derive(Drop)]
 pub struct Session<G: Gate> {
     alloc: Global,
@@ -34,19 +34,22 @@ impl<G: Gate> Model for Session<G> {
 
     ghost use Rattle.mp_engine.specs.Runs.{IsRun};
     ghost use Rattle.mp_session.specs.Stories.{present};
+    ghost use Rattle.mp_session.specs.LastWork.{IsLastWork};
 
     ghost view = { λ session. record { story = arc_value session.version; last_work = session.last_work } };
 
-    ghost invariant = { λ session. IsRun (present (arc_value session.version)) session.run };
+    ghost invariant = { λ session. IsRun (present (arc_value session.version)) session.run × IsLastWork (arc_value session.version) session.last_work };
 }
 
 impl<G: Gate> Session<G> {
     ghost use Rattle.std.specs.Prelude.{◌≡◌, ◌<◌, ◌≤◌, Ok, IfOk, IfErr, OnOk, OnErr, length};
     ghost use Rattle.std.specs.Arc.{arc_value};
     ghost use Rattle.mp_netlist.specs.Edits.{RefusedBy, after};
+    ghost use Rattle.mp_engine.specs.Runs.{IsRun};
     ghost use Rattle.mp_session.specs.Limits.{max_edits};
     ghost use Rattle.mp_session.specs.Stories.{present, judged, one_more};
-    ghost use Rattle.mp_redo.specs.WholeWork.{whole_work};
+    ghost use Rattle.mp_redo.specs.Work.{IsWork};
+    ghost use Rattle.mp_session.specs.LastWork.{IsLastWork};
     ghost use Rattle.mp_session.specs.Sessions.{opened};
 
     /// A session on a copy of this netlist, with no edits. It may wait, as an evaluation may.
@@ -82,14 +85,15 @@ impl<G: Gate> Session<G> {
 
     /// The work of the last edit that was accepted, and none before the first.
     pub fn last_work(&self) -> &Work
-        ensures { result.now ≡ self.now.last_work }
+        ensures value { result.now ≡ self.now.last_work }
+        ensures work { IsLastWork self.now.story result.now }
     {
         &self.last_work
     }
 
     /// Judges the edit after the session's edits, and makes all that its commit needs. It is refused for the first check that it fails;
     /// else as `HistoryFull` after `MAX_EDITS` edits; else for want of memory, which for a batch of 1 to 256 edits may come in place of the
-    /// others. It may wait, as an evaluation may.
+    /// others. It may wait, as a gate may.
     pub fn prepare<R: Threads + Wait + Sync>(
         &self,
         rt: &R,
@@ -106,11 +110,12 @@ impl<G: Gate> Session<G> {
         Ok(self.prepared_copy(rt, edit, next)?)
     }
 
-    /// Makes the prepared edit. It takes no memory and waits for nobody.
+    /// Makes the prepared edit, and gives its work: all that the change has to evaluate again, in order. It takes no memory and waits for
+    /// nobody.
     pub fn commit(&mut self, prepared: Prepared) -> Work
         requires { prepared.before ≡ self.old.story }
         ensures story { self.new.story ≡ one_more self.old.story prepared.edit }
-        ensures work { result ≡ whole_work (present self.new.story) }
+        ensures work { IsWork (present self.old.story) (present self.new.story) result }
         ensures last { self.new.last_work ≡ result }
     {
         let Prepared {
@@ -137,7 +142,7 @@ impl<G: Gate> Session<G> {
         G: Sync,
         ensures story { OnOk result (self.new.story ≡ one_more self.old.story edit.now) }
         ensures accepted { OnOk result (judged self.old.story edit.now ≡ Ok (present self.new.story)) }
-        ensures work { IfOk result (λ work. work ≡ whole_work (present self.new.story)) }
+        ensures work { IfOk result (IsWork (present self.old.story) (present self.new.story)) }
         ensures last { IfOk result (λ work. self.new.last_work ≡ work) }
         ensures refused { IfErr result (RefusedBy edit.now (judged self.old.story edit.now)) }
         ensures err { OnErr result (self.new ≡ self.old) }
@@ -152,7 +157,7 @@ impl<G: Gate> Session<G> {
         G: Sync,
         ensures story { OnOk result (self.new.story ≡ one_more self.old.story edit) }
         ensures accepted { OnOk result (judged self.old.story edit ≡ Ok (present self.new.story)) }
-        ensures work { IfOk result (λ work. work ≡ whole_work (present self.new.story)) }
+        ensures work { IfOk result (IsWork (present self.old.story) (present self.new.story)) }
         ensures last { IfOk result (λ work. self.new.last_work ≡ work) }
         ensures refused { IfErr result (RefusedBy edit (judged self.old.story edit)) }
         ensures err { OnErr result (self.new ≡ self.old) }
@@ -193,14 +198,12 @@ impl<G: Gate> Session<G> {
     }
 
     /// A copy of the edit with the version of the netlist after it.
-    fn prepared_copy<R: Threads + Wait + Sync>(
+    fn prepared_copy<R: Wait>(
         &self,
         rt: &R,
         edit: &Edit,
         next: Netlist,
     ) -> Result<Prepared, AllocError>
-    where
-        G: Sync,
         requires accepted { after (present self.now.story) edit.now ≡ Ok next }
         requires room { length self.now.story.edits < max_edits }
         ensures fits { IfOk result (λ prepared. prepared.before ≡ self.now.story) }
@@ -211,22 +214,36 @@ impl<G: Gate> Session<G> {
     }
 
     /// The edit with the version of the netlist after it.
-    fn prepared<R: Threads + Wait + Sync>(
-        &self,
-        rt: &R,
-        edit: Edit,
-        next: Netlist,
-    ) -> Result<Prepared, AllocError>
-    where
-        G: Sync,
+    fn prepared<R: Wait>(&self, rt: &R, edit: Edit, next: Netlist) -> Result<Prepared, AllocError>
         requires accepted { after (present self.now.story) edit ≡ Ok next }
         requires room { length self.now.story.edits < max_edits }
         ensures fits { IfOk result (λ prepared. prepared.before ≡ self.now.story) }
         ensures edit { IfOk result (λ prepared. prepared.edit ≡ edit) }
         ensures next { OnOk result (present (one_more self.now.story edit) ≡ next) }
     {
+        edits_revise();
+        let now = self.version.now();
+        let (run, work) = redo(rt, self.alloc, now, &self.run, &next, &self.gate)?;
+        self.evaluated(edit, next, run, work)
+    }
+
+    /// The edit with the version of the netlist after it, which was evaluated: this is its run, and that the work of the edit.
+    fn evaluated(
+        &self,
+        edit: Edit,
+        next: Netlist,
+        run: Run,
+        work: Work,
+    ) -> Result<Prepared, AllocError>
+        requires accepted { after (present self.now.story) edit ≡ Ok next }
+        requires room { length self.now.story.edits < max_edits }
+        requires run { IsRun next run }
+        requires work { IsWork (present self.now.story) next work }
+        ensures fits { IfOk result (λ prepared. prepared.before ≡ self.now.story) }
+        ensures edit { IfOk result (λ prepared. prepared.edit ≡ edit) }
+        ensures next { OnOk result (present (one_more self.now.story edit) ≡ next) }
+    {
         let edit = Arc::new(self.alloc, edit)?;
-        let (run, work) = evaluated(rt, self.alloc, &next, &self.crew, &self.gate)?;
         let kept_work = work.copy()?;
         let waves = run.waves().share(self.alloc)?;
         let version = self

@@ -1,4 +1,4 @@
-//! A session of a buffer with a stimulus, and a full one.
+//! A session of a buffer with a stimulus, one of a chain of buffers, and a full one.
 use crate::{MAX_EDITS, Session, Version};
 use mp_engine::OpenGate;
 use mp_modules::Kind;
@@ -6,11 +6,12 @@ use mp_netlist::{
     Changes, Edit, EditError, InputName, InputNames, ModuleId, Name, Netlist, OutputName,
     OutputNames, Params, SingleEdit, WireId,
 };
-use mp_phase::Crew;
+use mp_phase::{Crew, Gate};
 use mp_redo::WorkEntry;
 use std::alloc::{AllocError, Global};
 use std::process::Abort;
 use std::sync::Wait;
+use std::sync::atomic::{AtomicU64, Ordering};
 use std::test::Fail;
 use std::thread::Threads;
 
@@ -26,18 +27,24 @@ fn wire(alloc: Global, text: &str) -> Result<SingleEdit, AllocError> {
     })
 }
 
-/// A buffer from the wire a to the wire y, with a delay of 3 units.
-fn buffer(alloc: Global) -> Result<SingleEdit, AllocError> {
+/// A buffer of this name from one wire to another.
+fn buffer(
+    alloc: Global,
+    text: &str,
+    from: &str,
+    to: &str,
+    delay: u64,
+) -> Result<SingleEdit, AllocError> {
     let input = InputName {
-        wire: name(alloc, "a")?,
+        wire: name(alloc, from)?,
         delay: 0,
     };
     let output = OutputName {
-        wire: Some(name(alloc, "y")?),
-        delay: 3,
+        wire: Some(name(alloc, to)?),
+        delay,
     };
     Ok(SingleEdit::AddModule {
-        name: name(alloc, "b")?,
+        name: name(alloc, text)?,
         kind: Kind::Buf,
         params: Params::new(Vec::new(alloc)),
         inputs: InputNames::new(vec![in alloc; input]?),
@@ -67,12 +74,21 @@ fn stimulus(alloc: Global, changes: &[(u64, u64)]) -> Result<SingleEdit, AllocEr
 }
 
 /// Why the session refuses the edit. It alone owns one where it ends, since each end spells out how an edit is let go.
-fn refusal(
+fn refusal<G: Gate + Sync>(
     rt: &(impl Threads + Wait + Sync),
-    session: &mut Session<OpenGate>,
+    session: &mut Session<G>,
     edit: SingleEdit,
 ) -> Option<EditError> {
     session.apply(rt, &Edit::Single(edit)).err()
+}
+
+/// The first module is evaluated again from one time to before another.
+fn entry(from: u32, to: u32) -> WorkEntry {
+    WorkEntry {
+        module: ModuleId(0),
+        from,
+        to,
+    }
 }
 
 fn changes_of(version: &Version, wire: u32) -> &[(u32, u64)] {
@@ -99,7 +115,10 @@ fn buffer_session(
     let mut session = opened(rt, alloc, 20)?;
     assert_eq!(rt; refusal(rt, &mut session, wire(alloc, "a")?), None);
     assert_eq!(rt; refusal(rt, &mut session, wire(alloc, "y")?), None);
-    assert_eq!(rt; refusal(rt, &mut session, buffer(alloc)?), None);
+    assert_eq!(rt;
+        refusal(rt, &mut session, buffer(alloc, "b", "a", "y", 3)?),
+        None
+    );
     Ok(session)
 }
 
@@ -118,17 +137,86 @@ fn refused_edits(rt: HostRuntime) -> Result<(), Fail> {
     assert_eq!(rt; refused, Some(EditError::BadDelay));
     let refused = refusal(&rt, &mut session, removal(alloc, "a")?);
     assert_eq!(rt; refused, Some(EditError::StillUsed));
-    let whole = WorkEntry {
-        module: ModuleId(0),
-        from: 0,
-        to: 20,
-    };
     let mut entries = session.last_work().entries()?;
-    assert_eq!(rt; entries.next(), Some(whole));
+    assert_eq!(rt; entries.next(), Some(entry(0, 18)));
+    assert_eq!(rt; entries.next(), Some(entry(18, 20)));
     assert_eq!(rt; entries.next(), None);
     let version = session.version();
     assert_eq!(rt; version.number(), 4);
     assert!(rt; changes_of(version, 1) == [(19, 1)].as_slice());
+    Ok(())
+}
+
+/// Counts the windows that the first module of the chain works in when its input changes at 50, and all others.
+#[derive(Drop)]
+struct Counting<'a> {
+    expected: &'a AtomicU64,
+    others: &'a AtomicU64,
+}
+
+impl Gate for Counting<'_> {
+    fn enter<R: Wait>(&self, _rt: &R, module: ModuleId, from: u32, to: u32) {
+        let first = from == 0 && to == 52;
+        let later = from >= 52 && to.checked_sub(from) == Some(2);
+        let count = if module == ModuleId(0) && (first || later) {
+            self.expected
+        } else {
+            self.others
+        };
+        count.fetch_add(1, Ordering::SeqCst);
+    }
+}
+
+/// Whether the netlist takes the edit.
+fn accepts(netlist: &mut Netlist, edit: SingleEdit) -> bool {
+    netlist.apply(&Edit::Single(edit)).is_ok()
+}
+
+/// A buffer of 4 units from a to y, and two of 2 units in a row from c over z to v.
+fn chain(rt: &impl Abort, alloc: Global) -> Result<Netlist, Fail> {
+    let mut netlist = Netlist::empty(alloc, 100)?;
+    for text in ["a", "c", "y", "z", "v"] {
+        assert!(rt; accepts(&mut netlist, wire(alloc, text)?));
+    }
+    for (text, from, to, delay) in [
+        ("b1", "a", "y", 4),
+        ("b2", "c", "z", 2),
+        ("b3", "z", "v", 2),
+    ] {
+        assert!(rt; accepts(&mut netlist, buffer(alloc, text, from, to, delay)?));
+    }
+    Ok(netlist)
+}
+
+/// Only the module that the change reaches is evaluated again, and only for the work's entries. The same edit again makes no work.
+#[test]
+fn incremental_chain(rt: HostRuntime) -> Result<(), Fail> {
+    let alloc = rt.alloc();
+    let (expected, others) = (AtomicU64::new(0), AtomicU64::new(0));
+    let gate = Counting {
+        expected: &expected,
+        others: &others,
+    };
+    let netlist = chain(&rt, alloc)?;
+    let mut session = Session::open(&rt, alloc, &netlist, Crew::new(2, 64)?, gate)?;
+    for calls in [25, 0] {
+        expected.store(0, Ordering::SeqCst);
+        others.store(0, Ordering::SeqCst);
+        assert_eq!(rt;
+            refusal(&rt, &mut session, stimulus(alloc, &[(50, 1)])?),
+            None
+        );
+        assert_eq!(rt; expected.load(Ordering::SeqCst), calls);
+        assert_eq!(rt; others.load(Ordering::SeqCst), 0);
+        let mut entries = session.last_work().entries()?;
+        for number in 0..calls {
+            let end = 52 + 2 * number as u32;
+            let begin = if number == 0 { 0 } else { end - 2 };
+            assert_eq!(rt; entries.next(), Some(entry(begin, end)));
+        }
+        assert_eq!(rt; entries.next(), None);
+        assert!(rt; changes_of(session.version(), 2) == [(54, 1)].as_slice());
+    }
     Ok(())
 }
 

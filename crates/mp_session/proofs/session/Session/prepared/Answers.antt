@@ -1,0 +1,10 @@
+use Rattle.std.proofs.Common.{◌≡◌, sym, subst, rules}
+use Rattle.mp_netlist.specs.Circuit.{Circuit}
+use Rattle.mp_redo.specs.Revisions.{IsRevision}
+use Rattle.mp_session.specs.Stories.{present}
+use Rattle.mp_session.proofs.session.Session.prepared.Goals as goal
+
+pub redo-requires-clause-revision : goal.redo-requires-clause-revision
+redo-requires-clause-revision g c =
+    let here : c.now-now.result.now ≡ present c.args.self.now.story = search rules in
+    subst (λ (n : Circuit). IsRevision n c.args.next) (sym here) (c.edits_revise.ensures (present c.args.self.now.story) c.args.next c.args.edit c.requires.accepted)
