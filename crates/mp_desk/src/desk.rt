@@ -65,9 +65,8 @@ impl<G: Gate, L: DeskName, R: Wait + Drop> Desk<G, L, R> {
             blank,
         } = parts;
         let count = for_designers.len() as u32;
-        let opening = session.version().number();
         let (mut book, mut share) = blank.open::<L>();
-        book.add(&mut share, opening as u64);
+        book.add(&mut share, session.version().number() as u64);
         let (Ok(designers), Ok(viewers)) = (
             designers_at(alloc, for_designers, session.version(), &mut share),
             viewers_at(
@@ -77,28 +76,34 @@ impl<G: Gate, L: DeskName, R: Wait + Drop> Desk<G, L, R> {
                 publication.published().front(),
             ),
         ) else {
-            return Err(DeskRefused {
-                cause: DeskCause::OutOfMemory,
-                session,
-            });
+            return Err(DeskRefused::new(DeskCause::OutOfMemory, session));
         };
-        let keeper = Mutex::new(Keeper {
+        let keeper = Keeper {
             session,
             head,
             publication,
             book,
             share,
-        });
-        let desk = Desk {
-            keeper,
-            opening,
-            designers: count,
         };
         Ok(Staffed {
-            desk,
+            desk: Desk::over(keeper, count),
             designers,
             viewers,
         })
+    }
+
+    /// The desk that has this under its lock, with so many designers.
+    fn over(keeper: Keeper<G, L, R>, designers: u32) -> Desk<G, L, R>
+        requires opening { length keeper.story.edits ≡ L.opening }
+        requires designers { designers + 1 ≡ L.parts }
+        ensures { result ≡ record { opening = length keeper.story.edits; designers = designers } }
+    {
+        let opening = keeper.session.version().number();
+        Desk {
+            keeper: Mutex::new(keeper),
+            opening,
+            designers,
+        }
     }
 
     /// The number of the version with which the desk was opened.

@@ -42,7 +42,9 @@ impl<G: Gate, R: Wait + Drop> Model for DeskParts<G, R> {
 }
 
 impl<G: Gate, R: Wait + Drop> DeskParts<G, R> {
-    ghost use Rattle.std.specs.Prelude.{◌≤◌, ◌<◌, IfOk, IfErr};
+    ghost use Rattle.std.specs.Prelude.{◌≤◌, ◌<◌, ◌↔◌, IfOk, IfErr};
+    ghost use Rattle.mp_desk.specs.declared.desk_refused.DeskCause.TheVariants.{BadCount};
+    ghost use Rattle.mp_desk.specs.Holders.{IsBadCount};
 
     /// The parts of a desk for so many designers and viewers. `BadCount` where there are not 1 to 8 of the first or not 1 to 32 of the others,
     /// `OutOfMemory` where memory is wanting, and `NoPlace` where a reader has no place: then the session is handed back.
@@ -57,35 +59,24 @@ impl<G: Gate, R: Wait + Drop> DeskParts<G, R> {
         ensures counts { IfOk result (λ p. (p.designers ≡ designers) × (p.viewers ≡ viewers)) }
         ensures range { IfOk result (λ p. (0 < designers) × (designers ≤ 8) × (0 < viewers) × (viewers ≤ 32)) }
         ensures refused { IfErr result (λ r. r.session ≡ session) }
+        ensures bad_count { IfErr result (λ r. (r.cause ≡ BadCount) ↔ IsBadCount designers viewers) }
     {
         if designers == 0 || designers > MAX_DESIGNERS || viewers == 0 || viewers > MAX_VIEWERS {
-            return Err(DeskRefused {
-                cause: DeskCause::BadCount,
-                session,
-            });
+            return Err(DeskRefused::new(DeskCause::BadCount, session));
         }
         let places = (designers + viewers) as usize;
         let Some((head, front)) = begun(session.version()) else {
-            return Err(DeskRefused {
-                cause: DeskCause::OutOfMemory,
-                session,
-            });
+            return Err(DeskRefused::new(DeskCause::OutOfMemory, session));
         };
         let Ok(mut publication) = Publication::new(rt, alloc, session.version(), &front, places)
         else {
-            return Err(DeskRefused {
-                cause: DeskCause::OutOfMemory,
-                session,
-            });
+            return Err(DeskRefused::new(DeskCause::OutOfMemory, session));
         };
         let (Ok(for_designers), Ok(for_viewers)) = (
             publication.places(alloc, designers),
             publication.places(alloc, viewers),
         ) else {
-            return Err(DeskRefused {
-                cause: DeskCause::NoPlace,
-                session,
-            });
+            return Err(DeskRefused::new(DeskCause::NoPlace, session));
         };
         Ok(DeskParts {
             alloc,

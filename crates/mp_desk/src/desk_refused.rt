@@ -1,4 +1,6 @@
 //! Why no desk was made.
+ghost use Rattle.std.specs.Prelude.{◌≡◌};
+
 use mp_phase::Gate;
 use mp_session::Session;
 use thiserror::Error;
@@ -22,4 +24,13 @@ pub enum DeskCause {
 pub struct DeskRefused<G: Gate> {
     pub cause: DeskCause,
     pub session: Session<G>,
+}
+
+impl<G: Gate> DeskRefused<G> {
+    pub(crate) fn new(cause: DeskCause, session: Session<G>) -> DeskRefused<G>
+        ensures cause { result.cause ≡ cause }
+        ensures session { result.session ≡ session }
+    {
+        DeskRefused { cause, session }
+    }
 }

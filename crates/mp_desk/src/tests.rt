@@ -1,4 +1,7 @@
 //! Two designers and a viewer at one desk.
+mod beside;
+mod full;
+
 ghost use Rattle.std.specs.Prelude.{◌≡◌, ◌+◌, length};
 
 use crate::{

@@ -49,8 +49,8 @@ pub fn meet<R: Threads + Wait + Sync>(
     match DeskParts::new(rt, alloc, session, blocks.len() as u32, viewers) {
         Ok(parts) => Ok(at_desk::<Brand, _>(rt, alloc, parts, blocks)?),
         Err(refused) => match refused.cause {
-            // The counts are in their ranges, so `BadCount` doesn't come.
-            DeskCause::OutOfMemory | DeskCause::BadCount => Err(MeetingFault::OutOfMemory),
+            DeskCause::BadCount => unreachable!(),
+            DeskCause::OutOfMemory => Err(MeetingFault::OutOfMemory),
             DeskCause::NoPlace => Err(MeetingFault::NoPlace),
         },
     }
