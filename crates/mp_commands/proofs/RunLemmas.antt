@@ -20,7 +20,7 @@ use Rattle.mp_commands.specs.declared.run_fault.RunFault.TheVariants.{Text, BadC
 use Rattle.mp_commands.specs.Limits.{max_input, max_taken}
 use Rattle.mp_commands.specs.OptionLimits.{has_valid_crew}
 use Rattle.mp_commands.specs.Outputs.{output_of, waves_text, waves_output, dump_output, report_output}
-use Rattle.mp_commands.specs.RunFaults.{fault_of_text, fault_at, fault_of_take, counted_reads}
+use Rattle.mp_commands.specs.RunFaults.{fault_of_text, fault_at, fault_of_take, counted_reads, counted_writes}
 use Rattle.mp_commands.specs.Runs.{HasInput, Wrote, Puts, AppendsPart, Refuses, comes_first}
 
 -- ---- one byte more than a text may have is enough to read
@@ -127,6 +127,29 @@ refused_read written read valid error (inr same) = by error.code
     by texts.TooLong = told
     by texts.BadFormat = told
     by texts.OutOfMemory = tt
+
+-- no device had a fault then
+pub counted_reads-refused : {T : Type 0} (r : Result T RunFault) (fault : RunFault) (output : Result (List ℕ) RunFault) (n : ℕ) → r ≡ Err fault → Refuses output fault → counted_reads r n ≡ n
+counted_reads-refused {T} r fault output n e h = subst (λ (x : Result T RunFault). counted_reads x n ≡ n) (sym e) (by fault h)
+  where
+    by : (f : RunFault) → Refuses output f → counted_reads {T = T} (Err f) n ≡ n
+    by (Text error) h = refl
+    by BadCount h = refl
+    by ReadFailed h = absurd h
+    by WriteFailed h = refl
+    by OutOfMemory h = refl
+    by NoPlace h = refl
+
+pub counted_writes-refused : {T : Type 0} (r : Result T RunFault) (fault : RunFault) (output : Result (List ℕ) RunFault) (n : ℕ) → r ≡ Err fault → Refuses output fault → counted_writes r n ≡ n
+counted_writes-refused {T} r fault output n e h = subst (λ (x : Result T RunFault). counted_writes x n ≡ n) (sym e) (by fault h)
+  where
+    by : (f : RunFault) → Refuses output f → counted_writes {T = T} (Err f) n ≡ n
+    by (Text error) h = refl
+    by BadCount h = refl
+    by ReadFailed h = refl
+    by WriteFailed h = absurd h
+    by OutOfMemory h = refl
+    by NoPlace h = refl
 
 -- ---- a run that began to write
 

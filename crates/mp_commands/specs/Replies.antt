@@ -1,5 +1,5 @@
 -- What the lines of a script are answered.
-use Rattle.std.specs.Prelude.{◌≡◌, ℕ, Bool, true, false, List, [], ◌∷◌, ◌++◌, Option, Some, None, Result, Ok, Err, ◌&&◌, if◌then◌else◌, codes, unwrap_or, OnOk}
+use Rattle.std.specs.Prelude.{◌≡◌, ℕ, ◌+◌, Bool, true, false, List, [], ◌∷◌, ◌++◌, Option, Some, None, Result, Ok, Err, ◌&&◌, if◌then◌else◌, codes, unwrap_or, OnOk}
 use Rattle.std.specs.Fmt.{decimal}
 use Rattle.mp_records.specs.declared.edit.Edit.{Edit}
 use Rattle.mp_records.specs.declared.edit_error.EditError.{EditError}
@@ -24,7 +24,7 @@ use Rattle.mp_commands.specs.RunFaults.{numbered}
 use Rattle.mp_commands.specs.Runs.{Puts}
 use Rattle.mp_commands.specs.Outputs.{slot_line, waves_text}
 use Rattle.mp_commands.specs.WorkLines.{work_text}
-use Rattle.mp_commands.specs.Keepers.{Kept, kept_after}
+use Rattle.mp_commands.specs.Keepers.{Kept, judged, IsKeptAfter}
 
 -- `accepted` and how many edits were
 abbrev pub accepted_text : ℕ → List ℕ
@@ -52,14 +52,14 @@ abbrev pub is_fault : LineError → Bool
 is_fault lines.OutOfMemory = false
 is_fault error = true
 
--- the reply to an edit that met no want of memory
-abbrev pub judged_text : Result Kept EditError → List ℕ
-judged_text (Err error) = refused_text error
-judged_text (Ok kept) = accepted_text kept.accepted
+-- the netlist after an edit, or why the edit is refused, where its memory was wanting or not
+abbrev pub outcome : Bool → Kept → Edit → Result Circuit EditError
+outcome wanting kept edit = if wanting && may_want edit (judged kept edit) then Err OutOfMemory else judged kept edit
 
--- the reply to an edit, where its memory was wanting or not
-abbrev pub edit_text : Bool → Edit → Result Kept EditError → List ℕ
-edit_text wanting edit judged = if wanting && may_want edit judged then refused_text OutOfMemory else judged_text judged
+-- the reply to an edit
+abbrev pub edit_text : Kept → Result Circuit EditError → List ℕ
+edit_text kept (Err error) = refused_text error
+edit_text kept (Ok n) = accepted_text (kept.accepted + 1)
 
 -- the line of a wire, where it stands
 abbrev pub wire_text : Circuit → Option ℕ → List ℕ
@@ -78,42 +78,32 @@ answer_text kept Work = work_text kept.netlist kept.work
 -- the reply to a line that was read or not: a line without words has none
 abbrev pub reply_to : Bool → Kept → Result Line LineError → List ℕ
 reply_to wanting kept (Ok Empty) = []
-reply_to wanting kept (Ok (Change edit)) = edit_text wanting edit (kept_after kept edit)
+reply_to wanting kept (Ok (Change edit)) = edit_text kept (outcome wanting kept edit)
 reply_to wanting kept (Ok (Ask question)) = answer_text kept question
 reply_to wanting kept (Err error) = unread_text error
 
--- what is kept after an edit that met no want of memory
-abbrev pub kept_or : Kept → Result Kept EditError → Kept
-kept_or kept (Err error) = kept
-kept_or kept (Ok next) = next
-
--- what is kept after an edit, where its memory was wanting or not
-abbrev pub unless_wanting : Bool → Kept → Edit → Result Kept EditError → Kept
-unless_wanting wanting kept edit judged = if wanting && may_want edit judged then kept else kept_or kept judged
-
 -- what is kept after a line: only an edit changes it
-abbrev pub next_kept : Bool → Kept → Result Line LineError → Kept
-next_kept wanting kept (Ok (Change edit)) = unless_wanting wanting kept edit (kept_after kept edit)
-next_kept wanting kept line = kept
+abbrev pub IsKeptNext : Bool → Kept → Result Line LineError → Kept → Type 0
+IsKeptNext wanting old (Ok (Change edit)) new = IsKeptAfter old (outcome wanting old edit) new
+IsKeptNext wanting old line new = new ≡ old
 
 -- the reply to a line, and what is kept after it
 unfoldable pub reply : Bool → Kept → List ℕ → List ℕ
 reply wanting kept line = reply_to wanting kept (line_at line)
 
-unfoldable pub kept_next : Bool → Kept → List ℕ → Kept
-kept_next wanting kept line = next_kept wanting kept (line_at line)
+unfoldable pub IsNext : Bool → Kept → List ℕ → Kept → Type 0
+IsNext wanting old line new = IsKeptNext wanting old (line_at line) new
 
 -- an edit was made or refused, and this is the reply to it
 abbrev pub Changed : List ℕ → Kept → Kept → Edit → Type 0
-Changed text old new edit =
-    (wanting : Bool) × (text ≡ edit_text wanting edit (kept_after old edit)) × (new ≡ unless_wanting wanting old edit (kept_after old edit))
+Changed text old new edit = (wanting : Bool) × (text ≡ edit_text old (outcome wanting old edit)) × IsKeptAfter old (outcome wanting old edit) new
 
 -- a line that was read was answered, or a part of its reply was put
 abbrev pub PutsReply : Result (Unit {0}) RunFault → Option (List ℕ) → Option (List ℕ) → List ℕ → List ℕ → Kept → Kept → Line → Type 0
-PutsReply result old new held rest kept next line =
-    (wanting : Bool) × Puts result old new held rest (reply_to wanting kept (Ok line)) × OnOk result (next ≡ next_kept wanting kept (Ok line))
+PutsReply result old new held rest kept now line =
+    (wanting : Bool) × (next : Kept) × IsKeptNext wanting kept (Ok line) next × Puts result old new held rest (reply_to wanting kept (Ok line)) × OnOk result (now ≡ next)
 
 -- a line was answered, or a part of its reply was put
 abbrev pub Answers : Result (Unit {0}) RunFault → Option (List ℕ) → Option (List ℕ) → List ℕ → List ℕ → Kept → Kept → List ℕ → Type 0
-Answers result old new held rest kept next line =
-    (wanting : Bool) × Puts result old new held rest (reply wanting kept line) × OnOk result (next ≡ kept_next wanting kept line)
+Answers result old new held rest kept now line =
+    (wanting : Bool) × (next : Kept) × IsNext wanting kept line next × Puts result old new held rest (reply wanting kept line) × OnOk result (now ≡ next)

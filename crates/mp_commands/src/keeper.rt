@@ -31,7 +31,7 @@ impl Keeper {
     ghost use Rattle.std.specs.Prelude.{◌≡◌, Ok, IfOk, IfErr, OnOk, OnErr};
     ghost use Rattle.mp_netlist.specs.Edits.{RefusedBy};
     ghost use Rattle.mp_model.specs.Waves.{AreWavesOf};
-    ghost use Rattle.mp_commands.specs.Keepers.{opened, kept_after};
+    ghost use Rattle.mp_commands.specs.Keepers.{opened, judged, IsOneMore};
 
     /// The netlist before the first edit.
     pub fn new<R: Threads + Wait + Sync>(
@@ -75,11 +75,12 @@ impl Keeper {
     }
 
     /// Makes the edit, and tells how many were accepted so far. A refused edit, for the first check that it fails, for a full history or for
-    /// want of memory, changes neither the netlist nor its waves. A batch counts as one.
+    /// want of memory, changes neither the netlist nor its waves and work. A batch counts as one.
     pub fn change<R: Threads + Wait + Sync>(&mut self, rt: &R, edit: Edit) -> Result<u32, EditError>
-        ensures ok { OnOk result (kept_after self.old edit ≡ Ok self.new) }
+        ensures ok { OnOk result (judged self.old edit ≡ Ok self.new.netlist) }
+        ensures one_more { OnOk result (IsOneMore self.old self.new) }
         ensures count { IfOk result (λ accepted. accepted ≡ self.new.accepted) }
-        ensures refused { IfErr result (RefusedBy edit (kept_after self.old edit)) }
+        ensures refused { IfErr result (RefusedBy edit (judged self.old edit)) }
         ensures err { OnErr result (self.new ≡ self.old) }
     {
         self.session.take(rt, edit)?;

@@ -1,5 +1,5 @@
 //! The command `play`.
-ghost use Rattle.std.specs.Prelude.{◌≡◌, ◌-◌, ◌^◌, ◌<◌, true, false, [], IfOk, IfErr};
+ghost use Rattle.std.specs.Prelude.{◌≡◌, ℕ, ◌-◌, ◌^◌, ◌<◌, true, false, List, IfOk, IfErr};
 ghost use Rattle.mp_streams.specs.StreamBytes.{ConsumesUpTo};
 ghost use Rattle.mp_words.specs.Lines.{lines_of};
 ghost use Rattle.mp_commands.specs.Limits.{max_taken};
@@ -52,7 +52,7 @@ fn opened<'a, R: Threads + Wait + Sync>(
     options: &Options,
 ) -> Result<(Keeper, &'a [u8]), RunFault>
     ensures opened { IfOk result (λ both. Opens input.now options.now both.0 both.1.now) }
-    ensures refused { IfErr result (Refuses (play_output [] input.now options.now)) }
+    ensures refused { IfErr result (λ fault. (text : List ℕ) → Refuses (play_output text input.now options.now) fault) }
 {
     if input.len() > MAX_INPUT {
         return Err(RunFault::Text(TextError {

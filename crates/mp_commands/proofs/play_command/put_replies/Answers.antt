@@ -1,4 +1,4 @@
-use Rattle.std.proofs.Common.{◌≡◌, ◌<◌, [], length, ◌++◌, refl, subst, ◌∙◌, rules}
+use Rattle.std.proofs.Common.{◌≡◌, ◌<◌, [], length, ◌++◌, refl, sym, subst, ◌∙◌, rules}
 use Rattle.std.proofs.lemmas.Result.{err_from_is_err_and}
 use Rattle.mp_streams.proofs.BufferLemmas.{passed_none, passed_both}
 use Rattle.mp_words.specs.Lines.{lines_of}
@@ -19,7 +19,7 @@ returns-in_err-put_reply-clause-written g c =
     let here = subst (λ lines. ArePlayed c.args.keeper.now c.loop-rest.keeper (lines_of c.args.script.now) lines played.0) (c.first_line.ensures.lines some) played.1 in
     let answered = c.in_err-put_reply.ensures.answered in
     let p = err_from_is_err_and c.from_residual.result c.from_residual.ensures.1 in
-    rw (p.1, p.2) (replies_part c.in_err-put_reply.field-0.0 _ _ _ (lines_of c.first_line.result.1.now) _ played.0 answered.0 _ _ _ _ _ c.put_reply.new.buffer here played.2 answered.1)
+    rw (p.1, p.2) (replies_part c.in_err-put_reply.field-0.0 _ _ answered.1 _ (lines_of c.first_line.result.1.now) _ played.0 answered.0 _ _ _ _ _ c.put_reply.new.buffer here played.2 answered.2 answered.3)
 
 pub loop-rest-preserved : goal.loop-rest-preserved
 loop-rest-preserved g c =
@@ -28,9 +28,10 @@ loop-rest-preserved g c =
     let here = subst (λ lines. ArePlayed c.args.keeper.now c.loop-rest.keeper (lines_of c.args.script.now) lines played.0) (c.first_line.ensures.lines some) played.1 in
     let answered = c.in_ok-put_reply.ensures.answered in
     let text = reply answered.0 c.loop-rest.keeper c.first_line.result.0.now in
-    let more = one_more _ _ _ _ _ _ played.0 text answered.0 here refl answered.2 in
+    let more = one_more _ _ answered.1 _ (lines_of c.first_line.result.1.now) _ played.0 answered.0 here answered.2 in
+    let now = subst (λ k. ArePlayed c.args.keeper.now k (lines_of c.args.script.now) (lines_of c.first_line.result.1.now) (played.0 ++ text)) (sym answered.4) more in
     record {
-      played = (played.0 ++ text, more, passed_both _ _ _ _ _ played.0 text _ played.2 answered.1);
+      played = (played.0 ++ text, now, passed_both _ _ _ _ _ played.0 text _ played.2 answered.3);
       faults = c.in_ok-put_reply.ensures.faults ∙ c.loop-rest.invariant.faults;
     }
 
