@@ -35,6 +35,7 @@ pub(crate) struct Course {
 
 impl Course {
     ghost use Rattle.std.specs.Prelude.{◌≡◌, ◌-◌, ◌<◌, IfOk, OnOk};
+    ghost use Rattle.mp_netlist.specs.Delays.{least_delay};
     ghost use Rattle.mp_depend.specs.Known.{AreReaders};
     ghost use Rattle.mp_engine.specs.Checkpoints.{IsBorder};
     ghost use Rattle.mp_engine.specs.Runs.{IsRun};
@@ -95,14 +96,16 @@ impl Course {
         ensures { OnOk result (IsCourse old.now new.now run.now (last_block new.now new.now.horizon) new.now.horizon self.new) }
     {
         let horizon = new.horizon();
+        // It looks at all modules: once, and not for each window.
+        let least = new.least_delay();
         let mut from = 0;
         while from < horizon {
-            from = self.go_on(rt, alloc, gate, old, run, new, readers, from)?;
+            from = self.go_on(rt, alloc, gate, old, run, new, readers, least, from)?;
         }
         Ok(())
     }
 
-    /// The window that begins at a time, and the block's end where it ends there; it returns the end.
+    /// The window that begins at a time, where the least delay is known, and the block's end where it ends there; it returns the end.
     fn go_on<R: Wait, G: Gate>(
         &mut self,
         rt: &R,
@@ -112,8 +115,10 @@ impl Course {
         run: &Run,
         new: &Netlist,
         readers: &Readers,
+        least: u32,
         from: u32,
     ) -> Result<u32, AllocError>
+        requires least { least ≡ least_delay new.now }
         requires revision { IsRevision old.now new.now }
         requires run { IsRun old.now run.now }
         requires rows { AreReaders new.now readers.now }
@@ -123,7 +128,7 @@ impl Course {
         ensures before { IfOk result (λ to. IsCourse old.now new.now run.now (last_block new.now to) to self.new) }
     {
         let horizon = new.horizon();
-        let to = window_end(new.least_delay(), horizon, from);
+        let to = window_end(least, horizon, from);
         self.pass(rt, alloc, gate, old, run, new, readers, from, to)?;
         if to < horizon && to.is_multiple_of(CHECKPOINT_UNITS) {
             self.cross(old, run, new, readers, to)?;

@@ -10,7 +10,7 @@ cross-requires-clause-later g c =
     let new = c.args.new.now in
     let from = c.args.from in
     let to = c.window_end-to.result in
-    let window = ended_window new c.least_delay.result c.horizon-horizon.result from to c.least_delay.ensures c.horizon-horizon.ensures.value c.window_end-to.ensures c.requires.window in
+    let window = ended_window new c.args.least c.horizon-horizon.result from to c.requires.least c.horizon-horizon.ensures.value c.window_end-to.ensures c.requires.window in
     let within = window_within new c.horizon-horizon.ensures.form from to window in
     omega (arith, within.1)
 
@@ -19,7 +19,7 @@ cross-requires-clause-before g c =
     let new = c.args.new.now in
     let from = c.args.from in
     let to = c.window_end-to.result in
-    let window = ended_window new c.least_delay.result c.horizon-horizon.result from to c.least_delay.ensures c.horizon-horizon.ensures.value c.window_end-to.ensures c.requires.window in
+    let window = ended_window new c.args.least c.horizon-horizon.result from to c.requires.least c.horizon-horizon.ensures.value c.window_end-to.ensures c.requires.window in
     let same = same_before new c.horizon-horizon.ensures.form from to window in
     subst (λ block. IsCourse c.args.old.now new c.args.run.now block to c.pass.new.self) (sym same) c.in_ok-pass.ensures
 
@@ -36,7 +36,7 @@ returns-else-to-horizon-clause-before g c =
     let new = c.args.new.now in
     let from = c.args.from in
     let to = c.window_end-to.result in
-    let window = ended_window new c.least_delay.result c.horizon-horizon.result from to c.least_delay.ensures c.horizon-horizon.ensures.value c.window_end-to.ensures c.requires.window in
+    let window = ended_window new c.args.least c.horizon-horizon.result from to c.requires.least c.horizon-horizon.ensures.value c.window_end-to.ensures c.requires.window in
     let not : to < new.horizon → to % 1024 ≡ 0 → ⊥ = λ below border. elim c.else-to-horizon.branch as (λ _. ⊥) [
       | else-to-horizon-via-then-to-horizon+else-is_multiple_of w ↦ let clash : false ≡ true = sym w.if-is_multiple_of.false ∙ w.is_multiple_of.ensures.1 border in let no : ⊥ = cc in no
       | else-to-horizon-via-else-to-horizon w ↦ let past = w.if-to-horizon.false in let same = c.horizon-horizon.ensures.value in omega (arith, below, past, same)
