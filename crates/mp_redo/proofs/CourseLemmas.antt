@@ -1,71 +1,27 @@
 -- A re-evaluation goes on from window to window.
-use Rattle.std.proofs.Common.{◌≡◌, ◌⊎◌, ℕ, ◌+◌, ◌-◌, ◌%◌, ◌<◌, ◌≤◌, List, refl, ap, sym, subst, ◌∙◌, min, arith, inl, inr}
+use Rattle.std.proofs.Common.{◌≡◌, ℕ, ◌+◌, ◌-◌, ◌%◌, ◌<◌, ◌≤◌, List, ap, sym, subst, ◌∙◌, arith, inl, inr}
 use Rattle.std.proofs.lemmas.Bool.{cases_lt, cases_eq}
-use Rattle.mp_records.specs.declared.ids.ModuleId.{ModuleId}
 use Rattle.mp_netlist.specs.Circuit.{Circuit, IsCircuit}
 use Rattle.mp_netlist.specs.Delays.{least_delay}
 use Rattle.mp_engine.specs.Checkpoints.{IsBorder}
 use Rattle.mp_engine.specs.Outcomes.{Outcome}
 use Rattle.mp_redo.specs.declared.cell.Cell.{Cell}
 use Rattle.mp_redo.specs.declared.ledger.Ledger.{Ledger}
-use Rattle.mp_redo.specs.declared.line.Line.{Line}
 use Rattle.mp_redo.specs.Courses.{last_block}
 use Rattle.mp_redo.specs.Joins.{AreLike}
 use Rattle.mp_redo.specs.Keeping.{IsLedgerAt, IsNextBorder, AreLedgers}
 use Rattle.mp_redo.specs.Ledgers.{ledger_at}
 use Rattle.mp_redo.specs.Merges.{end_of_window}
-use Rattle.mp_redo.specs.Redoing.{AreCells, AreLines, IsWatching, IsBefore}
 use Rattle.mp_redo.specs.Windows.{IsShort}
 use Rattle.mp_redo.specs.Work.{block_of, window_of, window_end, IsWindow}
 use Rattle.mp_redo.proofs.WindowLemmas.{window_within, window_cover}
 
--- ---- cells that differ at most in their stretches
-
-module _ (new : Circuit) (run : Outcome) (cells after : List Cell) (alike : AreLike cells after) where
-  like_cells : (old : Circuit) (c t : ℕ) → AreCells old new c (λ m. t) cells → AreCells old new c (λ m. t) after
-  like_cells old c t are = record {
-    places = alike.places ∙ are.places;
-    each = λ m r at.
-        let cell = are.each m r at in
-        record {
-          live = λ live. cell.live (sym (alike.live m) ∙ live);
-          quiet = λ quiet. cell.quiet (sym (alike.live m) ∙ quiet);
-          memory = λ live. alike.memory m ∙ cell.memory (sym (alike.live m) ∙ live);
-          touched = λ is. cell.touched (sym (alike.touched m) ∙ is);
-          kept = λ not. cell.kept (sym (alike.touched m) ∙ not);
-        };
-  }
-
-  like_lines : (t : ℕ) (lines : List Line) → AreLines new run (λ m. t) cells lines → AreLines new run (λ m. t) after lines
-  like_lines t lines are = record {
-    places = are.places;
-    each = λ w within.
-        let line = are.each w within in
-        record {
-          right = line.right;
-          ready = λ m p drives live. line.ready m p drives (sym (alike.live m) ∙ live);
-          follows = λ m p drives quiet. line.follows m p drives (sym (alike.live m) ∙ quiet);
-        };
-  }
-
-  like_watching : (lines : List Line) (m : ℕ) → IsWatching new after lines m → IsWatching new cells lines m
-  like_watching lines m (inl live) = inl (sym (alike.live m) ∙ live)
-  like_watching lines m (inr reads) = inr reads
-
-  pub like_before : (old : Circuit) (c t : ℕ) (lines : List Line) (looks : List (List ModuleId)) → IsBefore old new run c t cells lines looks → IsBefore old new run c t after lines looks
-  like_before old c t lines looks before = record {
-    modules = like_cells old c t before.modules;
-    wires = like_lines t lines before.wires;
-    listening = λ m watching. before.listening m (like_watching lines m watching);
-    first = λ start m live. before.first start m (sym (alike.live m) ∙ live);
-    fresh = λ m u quiet. before.fresh m u (sym (alike.live m) ∙ quiet);
-  }
-
-  pub like_ledgers : (t : ℕ) (ledgers : List Ledger) → AreLedgers new run t cells ledgers → AreLedgers new run t after ledgers
-  like_ledgers t ledgers are = record {
-    places = are.places;
-    each = λ m r at. subst (λ live. IsLedgerAt new run t m r live (ledger_at ledgers m)) (sym (alike.live m)) (are.each m r at);
-  }
+-- a ledger follows who is live
+pub ledgers_like : (new : Circuit) (run : Outcome) (t : ℕ) (cells after : List Cell) (ledgers : List Ledger) → AreLike cells after → AreLedgers new run t cells ledgers → AreLedgers new run t after ledgers
+ledgers_like new run t cells after ledgers like are = record {
+  places = are.places;
+  each = λ m r at. subst (λ live. IsLedgerAt new run t m r live (ledger_at ledgers m)) (sym (like.live m)) (are.each m r at);
+}
 
 -- ---- windows and blocks
 

@@ -1,4 +1,4 @@
-use Rattle.std.proofs.Common.{List, ℕ, ◌≡◌, ◌≤◌, subst, sym, refl}
+use Rattle.std.proofs.Common.{List, ◌≤◌, subst, sym}
 use Rattle.mp_redo.specs.Courses.{last_block}
 use Rattle.mp_redo.specs.declared.cell.Cell.{Cell}
 use Rattle.mp_redo.specs.Endings.{IsOver}

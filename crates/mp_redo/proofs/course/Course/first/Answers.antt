@@ -1,12 +1,11 @@
-use Rattle.std.proofs.Common.{◌≡◌, ℕ, ◌≤◌, List, [], length, ap, refl, sym, subst, ◌∙◌, arith}
+use Rattle.std.proofs.Common.{◌≡◌, length, refl, sym, ◌∙◌, arith}
 use Rattle.mp_engine.specs.Outcomes.{Outcome}
 use Rattle.mp_netlist.specs.Circuit.{Circuit}
-use Rattle.mp_redo.specs.declared.cell.Cell.{Cell}
-use Rattle.mp_redo.specs.declared.line.Line.{Line}
 use Rattle.mp_redo.specs.Keeping.{AreLedgers, AreStatesAt}
 use Rattle.mp_redo.specs.Redoing.{AreCells, AreLines, IsBefore}
 use Rattle.mp_redo.proofs.OverLemmas.{states_at}
-use Rattle.mp_redo.proofs.CourseLemmas.{like_before, like_ledgers}
+use Rattle.mp_redo.proofs.LikeLemmas.{before_like}
+use Rattle.mp_redo.proofs.CourseLemmas.{ledgers_like}
 use Rattle.mp_redo.proofs.course.Course.first.Goals as goal
 
 pub returns : goal.returns
@@ -25,16 +24,16 @@ returns c =
     let are : AreCells old new 0 (λ m. 0) cells = c.in_ok-cells.ensures.cells in
     let given : AreLines new run (λ m. 0) cells lines = rw c.as_slice.ensures.value at (c.in_ok-lines.ensures run is_run) in
     let told : (o : Circuit) (r : Outcome) → AreCells o new 0 (λ m. 0) cells → AreLines new r (λ m. 0) cells lines → IsBefore o new r 0 0 cells lines looks =
-        rw (c.as_slice-2.ensures.value, c.as_slice-3.ensures.value) at c.in_ok-looks.ensures.before in
+    rw (c.as_slice-2.ensures.value, c.as_slice-3.ensures.value) at c.in_ok-looks.ensures.before in
     let kept : (n : Circuit) (r : Outcome) → n.horizon ≡ c.horizon.result → length cells ≡ length n.modules → AreStatesAt n r 0 cells → AreLedgers n r 0 cells ledgers =
-        rw c.as_slice-4.ensures.value at c.in_ok-ledgers.ensures in
+    rw c.as_slice-4.ensures.value at c.in_ok-ledgers.ensures in
     let low = c.horizon.ensures.low in
     let end = c.horizon.ensures.value in
     let states = states_at old new c.horizon-horizon.ensures.form new_ok revised run is_run 0 0 cells (omega arith) refl (omega (arith, low, end)) are in
     let work = opened.stretches old new_ok are c.in_ok-cells.ensures.unopened in
     record {
-      before = like_before new run cells c.open_first.new.cells.items opened.cells old 0 0 lines looks (told old run are given);
-      kept = like_ledgers new run cells c.open_first.new.cells.items opened.cells 0 ledgers (kept new run (sym end) are.places states);
+      before = before_like old new run 0 0 cells c.open_first.new.cells.items lines looks opened.cells (told old run are given);
+      kept = ledgers_like new run 0 cells c.open_first.new.cells.items ledgers opened.cells (kept new run (sym end) are.places states);
       stretches = work.0;
       opened = work.1;
       room = c.in_ok-looks.ensures.some;

@@ -1,6 +1,6 @@
-use Rattle.std.proofs.Common.{◌≡◌, ◌<◌, ◌⊎◌, inl, inr, refl, sym, subst, arith, ◌-◌, ◌≤◌}
+use Rattle.std.proofs.Common.{◌≡◌, ◌<◌, ◌⊎◌, inl, inr, refl, sym, subst, arith}
 use Rattle.mp_redo.specs.Courses.{last_block, IsCourse}
-use Rattle.mp_redo.specs.Work.{block_of, window_of, window_end, IsWindow}
+use Rattle.mp_redo.specs.Work.{window_of, window_end, IsWindow}
 use Rattle.mp_redo.proofs.WindowLemmas.{window_within}
 use Rattle.mp_redo.proofs.PartLemmas.{next_begins}
 use Rattle.mp_redo.proofs.CourseLemmas.{first_block, inner_block}
@@ -42,7 +42,7 @@ loop-from-preserved g c =
     let window : IsWindow new from to = record { below = below; begins = c.loop-from.invariant.begins below; ends = refl } in
     let end = c.in_ok-from.ensures.end in
     let next : to < new.horizon → (to ≡ new.horizon) ⊎ (window_of new to ≡ to) → window_of new to ≡ to =
-        λ before either. elim either as (λ _. window_of new to ≡ to) [ inl last ↦ absurd (omega (arith, before, last)) | inr begins ↦ begins ] in
+    λ before either. elim either as (λ _. window_of new to ≡ to) [ inl last ↦ absurd (omega (arith, before, last)) | inr begins ↦ begins ] in
     record {
       low = omega (arith, end);
       begins = subst (λ t. t < new.horizon → window_of new t ≡ t) (sym end) (λ before. next before (next_begins new c.horizon-horizon.ensures.form from to window));

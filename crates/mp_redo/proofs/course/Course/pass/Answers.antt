@@ -1,9 +1,10 @@
-use Rattle.std.proofs.Common.{◌≡◌, ℕ, ◌+◌, ◌<◌, ◌≤◌, List, refl, ◌∙◌, subst, sym, arith}
+use Rattle.std.proofs.Common.{List, refl, ◌∙◌, subst, sym, arith}
 use Rattle.mp_records.specs.declared.ids.ModuleId.{ModuleId}
 use Rattle.mp_redo.specs.Joins.{HaveAnswered}
 use Rattle.mp_redo.specs.Work.{block_of}
 use Rattle.mp_redo.proofs.WindowLemmas.{window_within}
-use Rattle.mp_redo.proofs.CourseLemmas.{window_short, window_room, like_before}
+use Rattle.mp_redo.proofs.CourseLemmas.{window_short, window_room}
+use Rattle.mp_redo.proofs.LikeLemmas.{before_like}
 use Rattle.mp_redo.proofs.course.Course.pass.Goals as goal
 
 pub run_window-requires-clause-window : goal.run_window-requires-clause-window
@@ -31,10 +32,10 @@ returns g c =
     let passed = c.in_ok-run_window.ensures in
     let joined = c.in_ok-open_joined.ensures in
     let answered : HaveAnswered c.as_slice-2.result.now before c.run_window.new.cells.items =
-        subst (λ (due : List ModuleId). HaveAnswered due before c.run_window.new.cells.items) (sym c.as_slice-2.ensures.value) passed.cells in
+    subst (λ (due : List ModuleId). HaveAnswered due before c.run_window.new.cells.items) (sym c.as_slice-2.ensures.value) passed.cells in
     let work = joined.stretches old c.args.from before c.horizon-horizon.ensures.form c.requires.window refl answered course.before.modules passed.before.modules course.stretches course.opened in
     record {
-      before = like_before new run c.run_window.new.cells.items c.open_joined.new.cells.items joined.cells old block c.args.to c.run_window.new.lines.items c.run_window.new.looks.items passed.before;
+      before = before_like old new run block c.args.to c.run_window.new.cells.items c.open_joined.new.cells.items c.run_window.new.lines.items c.run_window.new.looks.items joined.cells passed.before;
       kept = joined.ledgers c.args.from before course.opened answered course.kept;
       stretches = work.0;
       opened = work.1;
