@@ -187,14 +187,27 @@ fn assert_work(rt: &impl Abort, expected: &[WorkEntry], work: &Work) -> Result<(
     Ok(())
 }
 
-/// The netlist with the row's change.
-fn changed(alloc: Global, old: &Netlist, row: &Row) -> Result<Netlist, Fail>
+/// The netlist after an edit.
+fn after_edit(old: &Netlist, edit: &Edit) -> Result<Netlist, Fail>
     ensures { IfOk result (λ new. IsRevision old.now new) }
 {
     edits_revise();
     let mut new = old.copy()?;
-    take(&mut new, edit_of(alloc, &row.change)?)?;
+    new.apply(edit)?;
     Ok(new)
+}
+
+/// An edit ends here, since each end spells out how an edit is let go.
+fn let_go(_edit: Edit) {}
+
+/// The netlist with the row's change.
+fn changed(alloc: Global, old: &Netlist, row: &Row) -> Result<Netlist, Fail>
+    ensures { IfOk result (λ new. IsRevision old.now new) }
+{
+    let edit = Edit::Single(edit_of(alloc, &row.change)?);
+    let new = after_edit(old, &edit);
+    let_go(edit);
+    new
 }
 
 /// The run of a changed netlist, by a re-evaluation that has just the work of these spans and passes the gate for just its entries.
@@ -220,13 +233,39 @@ fn redone(
     Ok(found)
 }
 
-/// The re-evaluation after the row's change finds what is known. Where the same change is made once more, nothing changes, with no work.
+/// Where the same change is made once more, nothing changes, with no work.
+fn assert_same_again(
+    rt: &(impl Abort + Wait),
+    alloc: Global,
+    old: &Netlist,
+    run: &Run,
+    row: &Row,
+) -> Result<(), Fail>
+    requires { IsRun old.now run.now }
+{
+    let new = changed(alloc, old, row)?;
+    redone(rt, alloc, old, run, &new, row, &[])?;
+    Ok(())
+}
+
+/// The re-evaluation after the row's change finds what is known.
+fn assert_change(
+    rt: &(impl Abort + Wait),
+    alloc: Global,
+    old: &Netlist,
+    run: &Run,
+    row: &Row,
+) -> Result<(), Fail>
+    requires { IsRun old.now run.now }
+{
+    let new = changed(alloc, old, row)?;
+    let found = redone(rt, alloc, old, run, &new, row, row.work)?;
+    assert_same_again(rt, alloc, &new, &found, row)
+}
+
+/// The re-evaluation after the row's change finds what is known, and nothing where the same change is made once more.
 pub(super) fn assert_row(rt: &(impl Abort + Wait), alloc: Global, row: &Row) -> Result<(), Fail> {
     let old = netlist_of(alloc, row)?;
     let run = evaluate_here(rt, alloc, &old, &OpenGate)?;
-    let new = changed(alloc, &old, row)?;
-    let found = redone(rt, alloc, &old, &run, &new, row, row.work)?;
-    let same = changed(alloc, &new, row)?;
-    redone(rt, alloc, &new, &found, &same, row, &[])?;
-    Ok(())
+    assert_change(rt, alloc, &old, &run, row)
 }

@@ -37,6 +37,7 @@ fn span(module: u32, from: u32, to: u32, units: u32) -> Span {
 /// Only the buffer that reads the changed wire works.
 #[test]
 fn incremental_chain(rt: HostRuntime) -> Result<(), Fail> {
+    let y = [(54, 1)];
     let row = Row {
         horizon: 100,
         wires: &["a", "c", "y", "z", "v"],
@@ -47,7 +48,7 @@ fn incremental_chain(rt: HostRuntime) -> Result<(), Fail> {
         ],
         signals: &[],
         change: Change::Signal(signal("a", &[(50, 1)])),
-        waves: &[(2, &[(54, 1)]), (3, &[]), (4, &[])],
+        waves: &[(2, &y)],
         work: &[span(0, 0, 52, 52), span(0, 52, 100, 2)],
     };
     assert_row(&rt, rt.alloc(), &row)
@@ -56,6 +57,8 @@ fn incremental_chain(rt: HostRuntime) -> Result<(), Fail> {
 /// A changed delay reaches the buffer behind.
 #[test]
 fn delay_edit_work(rt: HostRuntime) -> Result<(), Fail> {
+    let y = [(2, 1)];
+    let z = [(6, 1)];
     let row = Row {
         horizon: 10,
         wires: &["a", "y", "z"],
@@ -68,7 +71,7 @@ fn delay_edit_work(rt: HostRuntime) -> Result<(), Fail> {
             part: "b1",
             delay: 1,
         },
-        waves: &[(1, &[(2, 1)]), (2, &[(6, 1)])],
+        waves: &[(1, &y), (2, &z)],
         work: &[
             span(0, 0, 3, 1),
             span(1, 0, 3, 3),
@@ -108,13 +111,15 @@ fn two_stage_control(rt: HostRuntime) -> Result<(), Fail> {
         inputs: &[("q1", 0), ("ack", 0)],
         outputs: &[("q2", 2)],
     };
+    let q1 = [(3, 1), (7, 0)];
+    let q2 = [(5, 1), (13, 0)];
     let row = Row {
         horizon: 20,
         wires: &["r", "ack", "q1", "q2"],
         parts: &[stage, next],
         signals: &[signal("r", &[(1, 1), (4, 0)]), signal("ack", &[(10, 1)])],
         change: Change::Signal(signal("ack", &[(11, 1)])),
-        waves: &[(2, &[(3, 1), (7, 0)]), (3, &[(5, 1), (13, 0)])],
+        waves: &[(2, &q1), (3, &q2)],
         work: &[
             span(1, 0, 12, 12),
             span(0, 0, 14, 14),
