@@ -8,6 +8,10 @@ use mp_netlist::ModuleId;
 use std::process::Abort;
 use std::test::Fail;
 
+mod counting_gate;
+mod row;
+mod rows;
+
 fn stretch(module: u32, from: u32, first_end: u32, last_end: u32) -> Stretch
     ensures { result ≡ record { «module» = record { 0 = «module» }; from = from; first_end = first_end; last_end = last_end } }
 {
