@@ -12,6 +12,12 @@ def control_pipeline(stages, horizon):
     return "\n".join(lines) + "\n"
 
 
+def slow_pipeline(stages, delay, horizon):
+    """A control pipeline with a source and a sink of its own, in which all delays are the same."""
+    lines = control_pipeline(stages, horizon).splitlines()
+    return "\n".join(line.rpartition("/")[0] + f"/{delay}" if "/" in line else line for line in lines) + "\n"
+
+
 def ring(modules, delay, horizon):
     """A ring of one inverter and buffers: one event runs round it."""
     lines = [f"horizon {horizon}"] + [f"wire w{i} 1 0" for i in range(modules)]
@@ -20,10 +26,18 @@ def ring(modules, delay, horizon):
     return "\n".join(lines) + "\n"
 
 
-def oscillators(modules, horizon):
-    """Inverters that each read their own output: each changes in every unit."""
+def rings(count, size, delay, horizon):
+    """Rings of so many inverters, an odd number: each is always busy."""
+    lines = [f"horizon {horizon}"] + [f"wire r{i}_{j} 1 {j % 2}" for i in range(count) for j in range(size)]
+    for i in range(count):
+        lines += [f"module n{i}_{j} NOT : r{i}_{j} > r{i}_{(j + 1) % size}/{delay}" for j in range(size)]
+    return "\n".join(lines) + "\n"
+
+
+def oscillators(modules, horizon, delay=1):
+    """Inverters that each read their own output: each changes whenever its delay has passed."""
     lines = [f"horizon {horizon}"] + [f"wire w{i} 1 0" for i in range(modules)]
-    lines += [f"module m{i} NOT : w{i} > w{i}/1" for i in range(modules)]
+    lines += [f"module m{i} NOT : w{i} > w{i}/{delay}" for i in range(modules)]
     return "\n".join(lines) + "\n"
 
 

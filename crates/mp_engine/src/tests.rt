@@ -12,11 +12,11 @@ use std::sync::atomic::{AtomicU64, Ordering};
 use std::test::Fail;
 use std::thread::Threads;
 
-fn name(alloc: Global, text: &str) -> Result<Name, AllocError> {
+pub(crate) fn name(alloc: Global, text: &str) -> Result<Name, AllocError> {
     Ok(Name::new(String::from_str(alloc, text)?))
 }
 
-fn wire(alloc: Global, text: &str) -> Result<SingleEdit, AllocError> {
+pub(crate) fn wire(alloc: Global, text: &str) -> Result<SingleEdit, AllocError> {
     Ok(SingleEdit::AddWire {
         name: name(alloc, text)?,
         width: 1,
@@ -44,7 +44,7 @@ fn inverter(alloc: Global, text: &str) -> Result<SingleEdit, AllocError> {
 }
 
 /// Whether the netlist takes the edit. It alone owns one where it ends, since each end spells out how an edit is let go.
-fn accepts(netlist: &mut Netlist, edit: SingleEdit) -> bool {
+pub(crate) fn accepts(netlist: &mut Netlist, edit: SingleEdit) -> bool {
     netlist.apply(&Edit::Single(edit)).is_ok()
 }
 

@@ -1,5 +1,6 @@
 pub mod TableLemmas
 pub mod DriverLemmas
+pub mod DrivenLemmas
 pub mod DelayLemmas
 pub mod NameLemmas
 pub mod UseLemmas

@@ -11,4 +11,5 @@ pub mod Edits
 pub mod Replays
 pub mod Records
 pub mod DriverSearch
+pub mod DrivenWires
 pub mod Laws

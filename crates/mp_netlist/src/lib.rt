@@ -3,6 +3,7 @@
 
 mod driver;
 pub mod laws;
+mod module_table;
 mod netlist;
 mod new_error;
 mod record_changes;

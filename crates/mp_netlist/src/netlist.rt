@@ -11,6 +11,7 @@ mod readers;
 mod uses;
 mod widths;
 
+use crate::module_table::ModuleTable;
 use crate::new_error::NewError;
 use crate::table::Table;
 use mp_records::{BundleId, BundleRecord, ModuleId, ModuleRecord, WireId, WireRecord};
@@ -43,7 +44,7 @@ pub const MAX_BATCH: usize = 256;
 pub struct Netlist {
     horizon: u32,
     wires: Table<WireRecord>,
-    modules: Table<ModuleRecord>,
+    modules: ModuleTable,
     bundles: Table<BundleRecord>,
 }
 
@@ -79,7 +80,7 @@ impl Netlist {
         Ok(Netlist {
             horizon: horizon as u32,
             wires: Table::new(alloc),
-            modules: Table::new(alloc),
+            modules: ModuleTable::new(alloc),
             bundles: Table::new(alloc),
         })
     }

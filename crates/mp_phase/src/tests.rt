@@ -1,3 +1,5 @@
+use crate::line::Line;
+use crate::worker::work;
 use crate::{BadCount, Crew, Done, Gate, Hands, OpenGate, Plan, Task, Work, run_here};
 use mp_modules::{CoreModule, EventModule};
 use mp_netlist::ModuleId;
@@ -8,6 +10,8 @@ use std::process::Abort;
 use std::sync::Wait;
 use std::sync::atomic::{AtomicU64, Ordering};
 use std::test::Fail;
+use std::thread;
+use std::thread::Threads;
 
 /// A module with one input, which rises at 2, over the first four units.
 fn task(alloc: Global, module: u32, kind: CoreModule) -> Result<Task, AllocError> {
@@ -210,6 +214,48 @@ fn goes_on_after_want_of_memory(rt: HostRuntime) -> Result<(), Fail> {
         assert!(rt; refused);
         let doubled = doubled?;
         assert_eq!(rt; doubled.as_slice(), [2, 4, 6, 8, 10, 12, 14].as_slice());
+    }
+    Ok(())
+}
+
+/// How many workers of a crew are started in `doubled_without`, the missing one included.
+const LINES: u32 = 3;
+
+/// Numbers doubled by a crew whose worker at a place was never started, so that nothing can be sent to it.
+fn doubled_without<R: Threads + Wait + Sync>(
+    rt: &R,
+    alloc: Global,
+    missing: u32,
+) -> Result<Vec<u32>, AllocError> {
+    thread::scope(
+        thread::scope_env(),
+        rt,
+        |scope| -> Result<Vec<u32>, AllocError> {
+            let mut hands = Hands::none(alloc, &OpenGate, 1);
+            for place in 0..LINES {
+                let (line, jobs) = Line::new(alloc)?;
+                if place != missing {
+                    let _ = scope.spawn(move || work(rt, alloc, &OpenGate, &jobs, 0));
+                }
+                hands.add(line)?;
+            }
+            let doubled = hands.run(rt, numbers(alloc, &[1, 2, 3, 4, 5, 6, 7])?);
+            drop(hands);
+            doubled
+        },
+    )
+}
+
+/// Whichever worker wasn't started, its share is done on the calling thread.
+#[test]
+fn does_the_share_of_a_missing_worker(rt: HostRuntime) -> Result<(), Fail> {
+    for missing in 0..LINES {
+        let doubled = doubled_without(&rt, rt.alloc(), missing)?;
+        assert_eq!(rt;
+            doubled.as_slice(),
+            [2, 4, 6, 8, 10, 12, 14].as_slice(),
+            "{missing}"
+        );
     }
     Ok(())
 }

@@ -22,6 +22,9 @@ impl Netlist {
             // No port drives such a wire, and texts may set one wire many times.
             return Driver::Stimulus;
         }
+        if !self.modules.may_drive(wire) {
+            return Driver::Nothing;
+        }
         driver_among(modules, wire)
     }
 

@@ -8,7 +8,7 @@ use Rattle.mp_engine.proofs.stimuli.settings_of.Goals as goal
 use Rattle.mp_engine.proofs.stimuli.settings_of.Goals.{then-not-is_heard+in_ok-add_stimulus, else-not-is_heard}
 
 pub loop-w-init : goal.loop-w-init
-loop-w-init c = subst (AreSetBelow c.args.region.now c.args.heard.now 0) (sym c.new-list.ensures.items) (below_none c.args.region.now c.args.heard.now)
+loop-w-init c = subst (AreSetBelow c.args.region.now c.args.heard.now 0) (sym c.in_ok-list.ensures.items) (below_none c.args.region.now c.args.heard.now)
 
 pub loop-w-preserved : goal.loop-w-preserved
 loop-w-preserved c =

@@ -1,4 +1,4 @@
-use Rattle.std.proofs.Common.{◌≡◌, ℕ, All, Option, Some, None, slice_index_or, is_some, true, false, sym, ap, subst, ◌∙◌, arith}
+use Rattle.std.proofs.Common.{◌≡◌, ℕ, All, Option, Some, None, slice_index_or, is_some, true, false, sym, ap, subst, ◌∙◌, arith, rules}
 use Rattle.std.proofs.lemmas.List.{get_or_default}
 use Rattle.mp_modules.proofs.KindLemmas.{few_outputs}
 use Rattle.mp_records.specs.declared.module_record.ModuleRecord.{ModuleRecord}
@@ -30,3 +30,10 @@ returns c =
     let unset : is_some (stimulus_at (circuit_of c.self.inside) c.args.wire.0) ≡ false =
     subst (λ (n : Circuit). is_some (stimulus_at n c.args.wire.0) ≡ false) (sym c.self.view_is) (sym c.has_stimulus.ensures ∙ c.if-has_stimulus.false) in
     rw (← c.self.view_is) (c.driver_among.ensures ∙ ap (λ slots. driver_from 0 slots c.args.wire.0 Nothing) c.as_slice-modules.ensures ∙ portless_driver (circuit_of c.self.inside) c.args.wire.0 unset)
+
+pub returns-then-not-may_drive : goal.returns-then-not-may_drive
+returns-then-not-may_drive c =
+    let unset : is_some (stimulus_at (circuit_of c.self.inside) c.args.wire.0) ≡ false =
+    subst (λ (n : Circuit). is_some (stimulus_at n c.args.wire.0) ≡ false) (sym c.self.view_is) (sym c.has_stimulus.ensures ∙ c.if-has_stimulus.false) in
+    let unmarked : c.may_drive.result ≡ false = search rules in
+    rw (← c.self.view_is) (sym (c.may_drive.ensures unmarked) ∙ portless_driver (circuit_of c.self.inside) c.args.wire.0 unset)
