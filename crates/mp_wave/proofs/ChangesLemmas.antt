@@ -1,5 +1,5 @@
 -- Lemmas on the changes of a level over time, and the wave that they make.
-use Rattle.std.proofs.Common.{◌≡◌, ◌≢◌, ℕ, ◌+◌, ◌-◌, ◌<◌, ◌≤◌, Bool, true, false, cond, List, [], ◌∷◌, ◌++◌, ◌==◌, zero, suc, refl, ap, sym, subst, ◌∙◌, arith, inl, inr, append_assoc, append-nil, add-zero, add-suc, add-one, zero-add, add_assoc}
+use Rattle.std.proofs.Common.{◌≡◌, ◌≢◌, ℕ, ◌+◌, ◌<◌, ◌≤◌, Bool, true, false, cond, List, [], ◌∷◌, ◌++◌, ◌==◌, zero, suc, refl, ap, sym, subst, ◌∙◌, arith, inl, inr, append_assoc, append-nil, add-zero, add-suc, add-one, zero-add, add_assoc}
 use Rattle.std.proofs.lemmas.Bool.{eqb-true, eqb-false, cases_lt}
 use Rattle.mp_wave.specs.Waveform.{Waveform, IsWaveform, AreChanges, level_from, level_of, last_from, last_time, held_from, change_after, changes_after, wave_upto}
 use Rattle.mp_wave.proofs.WaveformLemmas.{nat_le-true, nat_le-false, last_from-append, last_time-append, AreChanges-earlier, AreChanges-append, level_from-append_later, level_from-append_over}

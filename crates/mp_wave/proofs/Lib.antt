@@ -4,3 +4,4 @@ pub mod FaultsLemmas
 pub mod BuildingLemmas
 pub mod PrefixLemmas
 pub mod DifferenceLemmas
+pub mod SearchLemmas

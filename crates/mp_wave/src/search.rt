@@ -1,9 +1,58 @@
 //! Searches in lists of changes.
 
-ghost use Rattle.std.specs.Prelude.{◌≡◌, ◌≢◌, ℕ, ◌<◌, ◌≤◌, ◌↔◌, IsTrue, length};
+ghost use Rattle.std.specs.Prelude.{◌≡◌, ◌≢◌, ℕ, ◌<◌, ◌≤◌, ◌↔◌, IsTrue, true, false, nat_le, nat_lt, drop, length};
+ghost use Rattle.std.specs.List.{AllWithin};
 ghost use Rattle.std.specs.List.Sorted.{IsNonDecreasingBy};
 ghost use Rattle.mp_wave.specs.Waveform.{AreChanges, level_from, later_than, earlier_than};
 ghost use Rattle.mp_wave.specs.Faults.{pair_at};
+
+/// How many of the last changes are looked at before the others: in a wave that is being built what is looked for is mostly among them.
+const LAST_FEW: usize = 8;
+
+/// How many changes are passed over at once, none of which is later than a time.
+fn passed(changes: &[(u32, u64)], time: u32) -> usize
+    requires { IsNonDecreasingBy (λ (c : ℕ × ℕ). c.0) changes.now }
+    ensures bound { result ≤ length changes.now }
+    ensures early { AllWithin (λ (c : ℕ × ℕ). c.0 ≤ time) changes.now 0 result }
+{
+    let first = changes.len().saturating_sub(LAST_FEW);
+    match changes.get(first) {
+        Some(change) if change.0 <= time => first,
+        _ => 0,
+    }
+}
+
+/// The changes from a place on.
+fn from_place(changes: &[(u32, u64)], place: usize) -> &[(u32, u64)]
+    requires { place ≤ length changes.now }
+    ensures { result.now ≡ drop place changes.now }
+{
+    &changes[place..]
+}
+
+/// How many of the changes aren't later than a time.
+pub(crate) fn count_upto(changes: &[(u32, u64)], time: u32) -> usize
+    requires { IsNonDecreasingBy (λ (c : ℕ × ℕ). c.0) changes.now }
+    ensures bound { result ≤ length changes.now }
+    ensures early { AllWithin (λ (c : ℕ × ℕ). nat_le c.0 time ≡ true) changes.now 0 result }
+    ensures late { AllWithin (λ (c : ℕ × ℕ). nat_le c.0 time ≡ false) changes.now result (length changes.now) }
+{
+    let first = passed(changes, time);
+    first + from_place(changes, first).partition_point(|change| change.0 <= time)
+}
+
+/// How many of the changes are earlier than a time.
+fn count_before(changes: &[(u32, u64)], time: u32) -> usize
+    requires { IsNonDecreasingBy (λ (c : ℕ × ℕ). c.0) changes.now }
+    ensures bound { result ≤ length changes.now }
+    ensures early { AllWithin (λ (c : ℕ × ℕ). nat_lt c.0 time ≡ true) changes.now 0 result }
+    ensures late { AllWithin (λ (c : ℕ × ℕ). nat_lt c.0 time ≡ false) changes.now result (length changes.now) }
+{
+    match changes.last() {
+        Some(last) if last.0 < time => changes.len(),
+        _ => changes.partition_point(|change| change.0 < time),
+    }
+}
 
 /// The changes later than a time.
 pub(crate) fn later_than(changes: &[(u32, u64)], time: u32) -> &[(u32, u64)]
@@ -11,7 +60,7 @@ pub(crate) fn later_than(changes: &[(u32, u64)], time: u32) -> &[(u32, u64)]
     ensures value { result.now ≡ later_than time changes.now }
     ensures sorted { IsNonDecreasingBy (λ (c : ℕ × ℕ). c.0) result.now }
 {
-    let count = changes.partition_point(|change| change.0 <= time);
+    let count = count_upto(changes, time);
     &changes[count..]
 }
 
@@ -20,7 +69,7 @@ pub(crate) fn earlier_than(changes: &[(u32, u64)], time: u32) -> &[(u32, u64)]
     requires { IsNonDecreasingBy (λ (c : ℕ × ℕ). c.0) changes.now }
     ensures { result.now ≡ earlier_than time changes.now }
 {
-    let count = changes.partition_point(|change| change.0 < time);
+    let count = count_before(changes, time);
     &changes[..count]
 }
 

@@ -4,7 +4,7 @@ ghost use Rattle.std.specs.Prelude.{◌≡◌, ◌≢◌, ℕ, ◌<◌, ◌^◌,
 ghost use Rattle.mp_wave.specs.Waveform.{AreChanges};
 ghost use Rattle.mp_wave.specs.Faults.{IsCause, IsChange, IsFirstFault};
 
-use crate::search::{agree_until, earlier_than, later_than};
+use crate::search::{agree_until, count_upto, earlier_than, later_than};
 use crate::{WaveCause, WaveError};
 use std::alloc::{AllocError, Global};
 use std::marker::Model;
@@ -76,7 +76,7 @@ impl Wave {
         ensures form { IsWaveform self.now }
     {
         let changes = self.changes.as_slice();
-        let count = changes.partition_point(|change| change.0 <= time);
+        let count = count_upto(changes, time);
         if count == 0 {
             return self.initial;
         }
