@@ -19,6 +19,6 @@ pub record IsCourse (old new : Circuit) (run : Outcome) (c t : ℕ) (course : Co
   pub kept : AreLedgers new run c course.cells.items course.ledgers.items
   pub stretches : AreStretchesTo old new t course.stretches.items
   pub opened : AreOpen new t course.cells.items course.stretches.items
-  pub room : 1024 ≤ length course.looks.items
+  pub room : min 1024 new.horizon ≤ length course.looks.items
   pub marks : length course.marks.items ≡ length new.modules
   pub free : (m : ℕ) → is_marked course.marks.items m ≡ false

@@ -1,5 +1,5 @@
 //! A re-evaluation before time 0: the touched modules are live.
-ghost use Rattle.std.specs.Prelude.{◌≡◌, ◌≢◌, ◌↔◌, ℕ, ◌<◌, ◌≤◌, ◌++◌, ◌∷◌, [], true, false, Some, None, IsSome, IsTrue, IfOk, OnOk, length, slice_set};
+ghost use Rattle.std.specs.Prelude.{◌≡◌, ◌≢◌, ◌↔◌, ℕ, ◌<◌, ◌≤◌, ◌++◌, ◌∷◌, [], true, false, Some, None, IsSome, IsTrue, IfOk, OnOk, length, min, slice_set};
 ghost use Rattle.std.specs.List.{Contains};
 ghost use Rattle.mp_records.specs.declared.ids.ModuleId.{ModuleId as Id};
 ghost use Rattle.mp_records.specs.declared.module_record.ModuleRecord.{ModuleRecord as Part};
@@ -116,11 +116,12 @@ pub(crate) fn first_looks(
     lines: &[Line],
 ) -> Result<VecDeque<Looks>, AllocError>
     requires rows { AreReaders new.now readers.now }
-    ensures some { IfOk result (λ looks. 1024 ≤ length looks.items) }
+    ensures some { IfOk result (λ looks. min 1024 new.now.horizon ≤ length looks.items) }
     ensures before { IfOk result (λ looks. (old : Circuit) (run : Outcome) → AreCells old new.now 0 (λ m. 0) cells.now → AreLines new.now run (λ m. 0) cells.now lines.now
         → IsBefore old new.now run 0 0 cells.now lines.now looks.items) }
 {
-    let mut looks = empty_lists(alloc, CHECKPOINT_UNITS)?;
+    // No window is longer.
+    let mut looks = empty_lists(alloc, CHECKPOINT_UNITS.min(new.horizon()))?;
     enter_live(&mut looks, cells, new.module_slots())?;
     tell_readers(&mut looks, readers, lines, new.wire_slots())?;
     Ok(looks)

@@ -14,7 +14,8 @@ pub run_window-requires-clause-room : goal.run_window-requires-clause-room
 run_window-requires-clause-room g c =
     let room = c.requires.before.room in
     let near = window_room c.args.new.now c.horizon-horizon.ensures.form c.args.from c.args.to c.requires.window in
-    omega (arith, room, near)
+    let ends = c.requires.window.ends in
+    omega (arith, room, near, ends)
 
 pub open_joined-requires-clause-block : goal.open_joined-requires-clause-block
 open_joined-requires-clause-block g c =
