@@ -20,8 +20,7 @@ impl Options {
     ghost use Rattle.mp_commands.specs.OptionLimits.{has_valid_crew};
     ghost use Rattle.mp_commands.specs.Desks.{has_valid_desk};
 
-    /// Whether there are 1 to 16 workers for 1 to 4,096 tasks at least. The viewers are not looked
-    /// at.
+    /// Whether there are 1 to 16 workers, and 1 to 4,096 modules are the least for which they are called on. The viewers are not looked at.
     pub fn has_valid_crew(&self) -> bool
         ensures { result ≡ has_valid_crew self.now }
     {
@@ -46,7 +45,7 @@ impl Options {
         self.crew()
     }
 
-    /// The crew of these workers and tasks, where there is a valid one.
+    /// The crew of these numbers, where there is a valid one.
     pub(crate) fn crew(&self) -> Option<Crew>
         ensures { is_some result ≡ has_valid_crew self.now }
     {

@@ -1,4 +1,4 @@
-//! What an edit depends on: which modules it touches, who reads each wire, and from where a module can be evaluated again.
+//! What depends on an edit: which modules it touches, who reads each wire, and from where a module can be evaluated again.
 #![tactic(auto)]
 
 mod readers;

@@ -39,7 +39,7 @@ impl<G: Gate, L: DeskName, R: Wait + Drop> Model for Desk<G, L, R> {
 }
 
 impl<G: Gate, L: DeskName, R: Wait + Drop> Desk<G, L, R> {
-    ghost use Rattle.std.specs.Prelude.{◌+◌, length, vec_len, All, IfOk, IfErr};
+    ghost use Rattle.std.specs.Prelude.{◌≢◌, ◌+◌, length, vec_len, All, IfOk, IfErr};
     ghost use Rattle.mp_desk.specs.Extending.{Extends};
     ghost use Rattle.mp_desk.specs.Holders.{fresh_designer, fresh_viewer, ExtendsEach, accepted_by};
 
@@ -125,6 +125,8 @@ impl<G: Gate, L: DeskName, R: Wait + Drop> Desk<G, L, R> {
         ensures seen { IfOk result (λ s. ExtendsEach s.story designers.items) }
         ensures read { IfOk result (λ s. All (λ v. Extends s.story v.last) viewers.old) }
         ensures counted { IfOk result (λ s. length s.story.edits ≡ self.opening + accepted_by designers.items) }
+        ensures complete { IfOk result (λ _. vec_len designers ≡ self.designers) }
+        ensures incomplete { IfErr result (λ _. vec_len designers ≢ self.designers) }
         ensures refused { IfErr result (λ r. (r.desk ≡ self) × (r.designers ≡ designers)) }
     {
         if designers.len() != self.designers as usize {

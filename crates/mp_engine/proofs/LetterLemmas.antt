@@ -1,8 +1,8 @@
 -- What parts tell each other is all that they hear.
 use Rattle.std.proofs.Common.{◌≡◌, ◌≢◌, ◌⊎◌, ℕ, ◌+◌, ◌<◌, ◌≤◌, Bool, true, false, cond, ◌==◌, ◌||◌, List, [], ◌∷◌, ◌++◌, map, length, take, slice_index_or, slice_set, zero, suc, refl, ap, sym, subst, ◌∙◌, arith, inl, inr}
 use Rattle.std.specs.List.{Contains, list_any}
-use Rattle.std.proofs.lemmas.Bool.{cases_eq, cases_Bool, eq-eqb, eqb-true, and_parts}
-use Rattle.std.proofs.lemmas.List.{get_or_default, get_or-set_same, get_or-set_other, get_or-map, take_more}
+use Rattle.std.proofs.lemmas.Bool.{cases_eq, cases_lt, cases_Bool, eq-eqb, eqb-true, and_parts}
+use Rattle.std.proofs.lemmas.List.{get_or_default, get_or_past, get_or-set_same, get_or-set_other, get_or-map, take_more}
 use Rattle.std.proofs.lemmas.List.Elements.{Contains-append_left, Contains-push, Contains-push_cases}
 use Rattle.mp_records.specs.Outputs.{delay_of}
 use Rattle.mp_netlist.specs.declared.driver.Driver.{Driver}
@@ -25,7 +25,7 @@ use Rattle.std.proofs.Math.ListN.{length-set}
 use Rattle.mp_engine.specs.Calendars.{IsChange, IsExact, IsDelivered, entry_of, heard_until}
 use Rattle.mp_engine.specs.Divisions.{heard_by, IsDivision}
 use Rattle.mp_engine.specs.Engines.{IsAfter}
-use Rattle.mp_engine.specs.Letters.{letter_of, is_sent, IsOfList, IsOfCalendar, IsOfParts, AreLetters, AreEntered, AreTidings}
+use Rattle.mp_engine.specs.Letters.{letter_of, is_sent, IsOfList, IsOfCalendar, IsOfParts, IsNear, IsTelling, AreLetters, AreEntered, AreTidings}
 use Rattle.mp_engine.specs.Marks.{is_marked, delivered}
 use Rattle.mp_engine.specs.Regions.{home_of, region}
 use Rattle.mp_engine.specs.Stations.{calendar_of, AreStations}
@@ -116,6 +116,76 @@ part_told wires heards span calendars part a b c first second =
       | inl same ↦ inr (subst (λ k. IsOfCalendar wires heards k span (slice_index_or calendars k []) l) same is.told)
       | inr other ↦ inl (record { part = is.part; low = let low = is.low in omega (arith, low, other); told = is.told })
     ]) first second
+
+-- letters of a calendar whose later lists are empty
+pub telling_all : (wires : List ℕ) (heards : List (List Bool)) (part few span : ℕ) (lists : List (List Entry)) (letters : List Letter) → few ≤ span → (few < span → length lists ≤ few)
+    → AreLetters (IsOfCalendar wires heards part few lists) [] letters → IsTelling wires heards part span lists letters
+telling_all wires heards part few span lists letters low all are = record {
+  told = λ l is. elim (cases_lt l.ahead few) as (λ _. Contains letters l) [
+    | inl near ↦ are.told l (record { near = near; listed = is.listed; sent = is.sent })
+    | inr past ↦
+        let near = is.near in
+        let few_lists = all (omega (arith, near, past)) in
+        absurd (none_in l.entry (subst (λ xs. Contains xs l.entry) (get_or_past lists l.ahead [] (omega (arith, few_lists, past))) is.listed))
+  ];
+  others = λ l has near. elim (are.others l has) as (λ _. IsOfCalendar wires heards part span lists l) [
+    | inl none ↦ absurd (none_in l none)
+    | inr is ↦ record { near = near; listed = is.listed; sent = is.sent }
+  ];
+}
+
+pub telling_less : (wires : List ℕ) (heards : List (List Bool)) (part less span : ℕ) (lists : List (List Entry)) (letters : List Letter) → less ≤ span → IsTelling wires heards part span lists letters
+    → IsTelling wires heards part less lists letters
+telling_less wires heards part less span lists letters low is = record {
+  told = λ l of. is.told l (record { near = let near = of.near in omega (arith, near, low); listed = of.listed; sent = of.sent });
+  others = λ l has near. let of = is.others l has (omega (arith, near, low)) in record { near = near; listed = of.listed; sent = of.sent };
+}
+
+-- what is near in a part's letters is of its calendar
+pub near_told : (wires : List ℕ) (heards : List (List Bool)) (part span : ℕ) (lists : List (List Entry)) (letters a b : List Letter) → IsTelling wires heards part span lists letters → AreLetters (IsNear span letters) a b
+    → AreLetters (IsOfCalendar wires heards part span lists) a b
+near_told wires heards part span lists letters a b is are = record {
+  kept = are.kept;
+  told = λ l of. are.told l (is.told l of, of.near);
+  others = λ l has. elim (are.others l has) as (λ _. Contains a l ⊎ IsOfCalendar wires heards part span lists l) [
+    | inl before ↦ inl before
+    | inr near ↦ inr (is.others l near.0 near.1)
+  ];
+}
+
+-- one letter more
+pub near_pushed : (span : ℕ) (list : List Letter) (i : ℕ) (d : Letter) (old now : List Letter) → i < length list → (slice_index_or list i d).ahead < span
+    → AreLetters (IsNear span (take i list)) old now → AreLetters (IsNear span (take (i + 1) list)) old (now ++ slice_index_or list i d ∷ [])
+near_pushed span list i d old now within near are =
+    let x = slice_index_or list i d in
+    let more : take (i + 1) list ≡ take i list ++ x ∷ [] = take_more list i d within in
+    letters_more (IsNear span (take i list)) (λ l. l ≡ x) (IsNear span (take (i + 1) list)) old now (now ++ x ∷ [])
+    (λ l is. (subst (λ xs. Contains xs l) (sym more) (Contains-append_left (take i list) (x ∷ []) l is.0), is.1))
+    (λ l same. subst (IsNear span (take (i + 1) list)) (sym same) (subst (λ xs. Contains xs x) (sym more) (Contains-push (take i list) x), near))
+    (λ l is. elim (Contains-push_cases (take i list) x l (subst (λ xs. Contains xs l) more is.0)) as (λ _. IsNear span (take i list) l ⊎ (l ≡ x)) [
+      | inl before ↦ inl (before, is.1)
+      | inr same ↦ inr (sym same)
+    ]) are (record {
+      kept = λ l has. Contains-append_left now (x ∷ []) l has;
+      told = λ l same. subst (Contains (now ++ x ∷ [])) (sym same) (Contains-push now x);
+      others = λ l has. elim (Contains-push_cases now x l has) as (λ _. Contains now l ⊎ (l ≡ x)) [
+        | inl before ↦ inl before
+        | inr same ↦ inr (sym same)
+      ];
+    })
+
+pub near_skipped : (span : ℕ) (list : List Letter) (i : ℕ) (d : Letter) (old now : List Letter) → i < length list → ((slice_index_or list i d).ahead < span → ⊥)
+    → AreLetters (IsNear span (take i list)) old now → AreLetters (IsNear span (take (i + 1) list)) old now
+near_skipped span list i d old now within far are =
+    let x = slice_index_or list i d in
+    let more : take (i + 1) list ≡ take i list ++ x ∷ [] = take_more list i d within in
+    letters_more (IsNear span (take i list)) (λ l. ⊥) (IsNear span (take (i + 1) list)) old now now
+    (λ l is. (subst (λ xs. Contains xs l) (sym more) (Contains-append_left (take i list) (x ∷ []) l is.0), is.1))
+    (λ l no. absurd no)
+    (λ l is. elim (Contains-push_cases (take i list) x l (subst (λ xs. Contains xs l) more is.0)) as (λ _. IsNear span (take i list) l ⊎ ⊥) [
+      | inl before ↦ inl (before, is.1)
+      | inr same ↦ inr (far (subst (λ (y : Letter). y.ahead < span) (sym same) is.1))
+    ]) are (letters_none (λ l. ⊥) now (λ l no. no))
 
 pub entered_none : (heard : List Bool) (lists : List (List Entry)) → AreEntered heard [] lists lists
 entered_none heard lists = record { places = refl; kept = λ k e has. has; told = λ l has is. absurd (none_in l has); others = λ k e has. inl has }

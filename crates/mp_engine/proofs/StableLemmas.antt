@@ -1,5 +1,5 @@
 -- What merely holds of an evaluation, and of parts, holds.
-use Rattle.std.proofs.Common.{◌≡◌, ℕ, ◌+◌, ◌<◌, ◌≤◌, ◌⊎◌, Bool, false, List, [], ◌∷◌, Option, Some, None, slice_index_or, zero, suc, refl, ap, ◌∙◌, arith, inl, inr}
+use Rattle.std.proofs.Common.{◌≡◌, ℕ, ◌+◌, ◌<◌, ◌≤◌, ◌⊎◌, Bool, true, false, List, [], ◌∷◌, Option, Some, None, slice_index_or, zero, suc, refl, ap, ◌∙◌, arith, inl, inr}
 use Rattle.std.specs.List.{Contains}
 use native.Mathlib.Bridge.{le_prop}
 use Rattle.std.proofs.Math.Logic.{∥∥₁_elim, ∥∥₁_map}
@@ -9,15 +9,17 @@ use Rattle.mp_netlist.specs.Circuit.{Circuit}
 use Rattle.mp_model.specs.Waves.{level}
 use Rattle.mp_engine.specs.declared.entry.Entry.{Entry}
 use Rattle.mp_engine.specs.declared.engine.Engine.{Engine}
+use Rattle.mp_engine.specs.declared.letters.Letter.{Letter}
 use Rattle.mp_engine.specs.declared.stimuli.Setting.{Setting}
 use Rattle.mp_engine.specs.declared.station.Station.{Station}
 use Rattle.mp_engine.specs.declared.tap.Tap.{Tap}
 use Rattle.mp_engine.specs.Divisions.{heard_by, IsWireAtHome, IsDivision}
 use Rattle.mp_engine.specs.Engines.{IsAfter, IsSteady}
+use Rattle.mp_engine.specs.Letters.{letter_of, IsTelling}
 use Rattle.mp_engine.specs.Marks.{is_marked}
 use Rattle.mp_engine.specs.Regions.{home_of}
 use Rattle.mp_engine.specs.Settings.{AreFrom, left_of}
-use Rattle.mp_engine.specs.Stations.{AreStations, AreSteady}
+use Rattle.mp_engine.specs.Stations.{AreStations, AreSteady, AreTelling}
 use Rattle.mp_engine.specs.Taps.{tap_of, IsCalled}
 use Rattle.mp_engine.proofs.MarkLemmas.{none_in, contains_cons}
 
@@ -221,6 +223,38 @@ merely_stations n homes heards parts t stations are h = record {
     heard = are.heard k d low;
     after = merely_after _ t _ (are.each k d low) (∥∥₁_map h (λ (a : AreStations n homes heards parts t stations). (a.each k d low).after));
   };
+}
+
+-- what parts tell
+tell_letter : (x y : Letter) → (y ≡ x) ⊎ (y ≡ x → ⊥)
+tell_letter x y = elim (cases_eq y.ahead x.ahead) as (λ _. (y ≡ x) ⊎ (y ≡ x → ⊥)) [
+  | inr other ↦ inr (λ same. other (ap (λ (l : Letter). l.ahead) same))
+  | inl ahead ↦ elim (tell_entry x.entry y.entry) as (λ _. (y ≡ x) ⊎ (y ≡ x → ⊥)) [
+    | inr other ↦ inr (λ same. other (ap (λ (l : Letter). l.entry) same))
+    | inl entry ↦ inl (ap (λ k. letter_of k y.entry) ahead ∙ ap (letter_of x.ahead) entry)
+  ]
+]
+
+merely_true : (b : Bool) → ∥ b ≡ true ∥₁ → b ≡ true
+merely_true b h = elim (cases_Bool b) as (λ _. b ≡ true) [
+  | inl is ↦ is
+  | inr not ↦ absurd (∥∥₁_elim h (hlevel le_prop) (λ is. let no : ⊥ = cc in no))
+]
+
+merely_telling : (wires : List ℕ) (heards : List (List Bool)) (part span : ℕ) (lists : List (List Entry)) (letters : List Letter) → ∥ IsTelling wires heards part span lists letters ∥₁
+    → IsTelling wires heards part span lists letters
+merely_telling wires heards part span lists letters h = record {
+  told = λ l is. merely_has l (tell_letter l) letters (∥∥₁_map h (λ (a : IsTelling wires heards part span lists letters). a.told l is));
+  others = λ l has near. record {
+    near = near;
+    listed = merely_has l.entry (tell_entry l.entry) _ (∥∥₁_map h (λ (a : IsTelling wires heards part span lists letters). (a.others l has near).listed));
+    sent = merely_true _ (∥∥₁_map h (λ (a : IsTelling wires heards part span lists letters). (a.others l has near).sent));
+  };
+}
+
+pub merely_all_telling : (wires : List ℕ) (heards : List (List Bool)) (parts span : ℕ) (stations : List Station) → ∥ AreTelling wires heards parts span stations ∥₁ → AreTelling wires heards parts span stations
+merely_all_telling wires heards parts span stations h = record {
+  each = λ k d low. merely_telling wires heards k span _ _ (∥∥₁_map h (λ (a : AreTelling wires heards parts span stations). a.each k d low));
 }
 
 -- a division

@@ -6,15 +6,18 @@ use Rattle.std.proofs.lemmas.List.{drop_more, length-drop, length_push, get_or-d
 use Rattle.mp_netlist.specs.Circuit.{Circuit}
 use Rattle.mp_phase.specs.Phase.{AreDone}
 use Rattle.mp_phase.proofs.PhaseLemmas.{are_done-length, are_done-at}
+use Rattle.mp_engine.specs.declared.division.Division.{Division}
 use Rattle.mp_engine.specs.declared.entry.Entry.{Entry}
 use Rattle.mp_engine.specs.declared.part_run.PartRun.{PartRun}
 use Rattle.mp_engine.specs.declared.station.Station.{Station}
 use Rattle.mp_engine.specs.declared.window.Window.{Window}
 use Rattle.mp_engine.specs.Divisions.{heard_by, AreRuns}
 use Rattle.mp_engine.specs.Engines.{IsAfter}
+use Rattle.mp_engine.specs.Letters.{IsTelling}
 use Rattle.mp_engine.specs.PartRuns.{IsPartRun}
 use Rattle.mp_engine.specs.Regions.{region}
-use Rattle.mp_engine.specs.Stations.{calendar_of, IsStation, AreStations, IsToPass, AreToPass, IsPassed}
+use Rattle.mp_engine.specs.Stations.{calendar_of, IsStation, AreStations, AreTelling, IsToPass, AreToPass, IsToTell, AreToTell, IsPassed}
+use Rattle.mp_engine.proofs.LetterLemmas.{telling_less}
 
 -- what is left of a list when the first are taken
 module _ {A : Type 0} (xs left : List A) (k : ℕ) (is : left ≡ drop k xs) where
@@ -91,3 +94,37 @@ pub has_lists : (n : Circuit) (homes : List ℕ) (heards : List (List Bool)) (pa
 has_lists n homes heards parts t [] are k low = absurd (let no : ⊥ = omega (arith, low) in no)
 has_lists n homes heards parts t (d ∷ ds) are k low =
     subst (λ (lists : List (List Entry)). 0 < length lists) (sym (get_or-map calendar_of (d ∷ ds) k d [] low)) ((are.each k d (let places = are.places in omega (arith, places, low))).after.ready.some)
+
+-- what parts tell
+pub telling_push : (wires : List ℕ) (heards : List (List Bool)) (parts span : ℕ) (stations new : List Station) (station : Station) → new ≡ stations ++ station ∷ [] → length stations ≡ parts → AreTelling wires heards parts span stations
+    → IsTelling wires heards parts span (calendar_of station) station.letters.items → AreTelling wires heards (parts + 1) span new
+telling_push wires heards parts span stations new station is places are last = subst (AreTelling wires heards (parts + 1) span) (sym is) (record {
+  each = each_push (λ k (s : Station). IsTelling wires heards k span (calendar_of s) s.letters.items) stations station parts places are.each last;
+})
+
+pub to_tell_push : (whole : Division) (parts units : ℕ) (windows new : List Window) (window : Window) → new ≡ windows ++ window ∷ [] → length windows ≡ parts → AreToTell whole parts units windows
+    → IsToTell whole units parts window → AreToTell whole (parts + 1) units new
+to_tell_push whole parts units windows new window is places are last = subst (AreToTell whole (parts + 1) units) (sym is) (record {
+  each = each_push (λ k w. IsToTell whole units k w) windows window parts places are.each last;
+})
+
+pub all_telling : (whole : Division) (parts units : ℕ) (windows : List Window) (stations : List Station) → length windows ≡ parts → AreToTell whole parts units windows → AreDone IsPassed windows stations
+    → AreTelling whole.wires.items whole.heard.items parts units stations
+all_telling whole parts units [] stations places are done = record {
+  each = λ k d low. absurd (let no : ⊥ = omega (arith, places, low) in no);
+}
+all_telling whole parts units (w ∷ ws) stations places are done = record {
+  each = λ k d low.
+      let passed = are_done-at IsPassed (w ∷ ws) stations k w d done (omega (arith, places, low)) in
+      let to = are.each k w low in
+      let s = slice_index_or stations k d in
+      let here = (slice_index_or (w ∷ ws) k w).division.now in
+      subst (λ (x : Division). IsTelling x.wires.items x.heard.items k units (calendar_of s) s.letters.items) to.division
+      (subst (λ j. IsTelling here.wires.items here.heard.items j units (calendar_of s) s.letters.items) to.part
+      (subst (λ j. IsTelling here.wires.items here.heard.items (slice_index_or (w ∷ ws) k w).part j (calendar_of s) s.letters.items) to.span passed.telling));
+}
+
+pub all_telling_less : (wires : List ℕ) (heards : List (List Bool)) (parts less span : ℕ) (stations : List Station) → less ≤ span → AreTelling wires heards parts span stations → AreTelling wires heards parts less stations
+all_telling_less wires heards parts less span stations low are = record {
+  each = λ k d in_parts. telling_less wires heards k less span (calendar_of (slice_index_or stations k d)) (slice_index_or stations k d).letters.items low (are.each k d in_parts);
+}

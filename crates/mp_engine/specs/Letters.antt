@@ -34,6 +34,15 @@ pub record IsOfParts (wires : List ℕ) (heards : List (List Bool)) (span : ℕ)
   pub low : part < count
   pub told : IsOfCalendar wires heards part span (slice_index_or calendars part []) l
 
+-- just these letters tell of the first lists of a part's calendar; others may be for later units
+pub record IsTelling (wires : List ℕ) (heards : List (List Bool)) (part span : ℕ) (lists : List (List Entry)) (letters : List Letter) : Type 0 where
+  pub told : (l : Letter) → IsOfCalendar wires heards part span lists l → Contains letters l
+  pub others : (l : Letter) → Contains letters l → l.ahead < span → IsOfCalendar wires heards part span lists l
+
+-- it is among these letters, for one of the first units
+abbrev pub IsNear : ℕ → List Letter → Letter → Type 0
+IsNear span letters l = Contains letters l × l.ahead < span
+
 -- just such letters are added
 pub record AreLetters (Kind : Letter → Type 0) (letters new : List Letter) : Type 0 where
   pub kept : (l : Letter) → Contains letters l → Contains new l

@@ -6,10 +6,10 @@ ghost use Rattle.mp_engine.specs.Divisions.{IsDivision, heard_by};
 ghost use Rattle.mp_engine.specs.Engines.{IsAfter};
 ghost use Rattle.mp_engine.specs.Letters.{AreTidings};
 ghost use Rattle.mp_engine.specs.Regions.{region};
-ghost use Rattle.mp_engine.specs.Stations.{AreStations, AreSteady, AreToPass, calendar_of};
+ghost use Rattle.mp_engine.specs.Stations.{AreStations, AreSteady, AreTelling, AreToPass, AreToTell, IsToTell, calendar_of};
 
 use crate::division::Division;
-use crate::letters::{Letter, hear, letters_of};
+use crate::letters::{Letter, hear, lesser, letters_of};
 use crate::station::Station;
 use crate::window::Window;
 use mp_netlist::Netlist;
@@ -26,6 +26,7 @@ pub(crate) struct Course<'a> {
     pub stations: Vec<Station<'a>>,
     pub ghost divided: { ∥ IsDivision netlist.now division.now.homes.items division.now.wires.items division.now.heard.items division.now.parts ∥₁ },
     pub ghost steady: { AreSteady netlist.now division.now.homes.items division.now.heard.items division.now.parts 0 stations.items },
+    pub ghost telling: { ∥ AreTelling division.now.wires.items division.now.heard.items division.now.parts (least_delay netlist.now) stations.items ∥₁ },
     pub ghost begun: { ∥ AreStations netlist.now division.now.homes.items division.now.heard.items division.now.parts 0 stations.items ∥₁ },
 }
 
@@ -67,6 +68,7 @@ fn pass_all<'a, R: Wait, G: Gate>(
 ) -> Result<Vec<Station<'a>>, AllocError>
     requires divided { IsDivision netlist.now division.now.homes.items division.now.wires.items division.now.heard.items division.now.parts }
     requires begun { AreStations netlist.now division.now.homes.items division.now.heard.items division.now.parts 0 stations.items }
+    requires telling { AreTelling division.now.wires.items division.now.heard.items division.now.parts (least_delay netlist.now) stations.items }
     ensures { IfOk result (λ stations. AreStations netlist.now division.now.homes.items division.now.heard.items division.now.parts (netlist.now.horizon - 1) stations.items) }
 {
     let horizon = netlist.horizon();
@@ -84,6 +86,7 @@ fn pass_all<'a, R: Wait, G: Gate>(
             letters.as_slice(),
             from,
             span,
+            delay,
         )?;
         stations = hands.run(rt, windows)?;
         from += span;
@@ -106,27 +109,16 @@ fn span_of(stations: &[Station<'_>], most: u32) -> u32
     span
 }
 
-fn lesser(span: u32, lists: usize) -> u32
-    ensures first { result ≤ span }
-    ensures second { result ≤ lists }
-    ensures some { 0 < span → 0 < lists → 0 < result }
-{
-    if lists < span as usize {
-        lists as u32
-    } else {
-        span
-    }
-}
-
-/// The window of each part, with what it hears.
+/// The window of each part, with what it hears. Then each is to tell of so many units that come next.
 fn windows_of<'a>(
     alloc: Global,
     netlist: &Netlist,
-    division: &Division,
+    division: &'a Division,
     stations: Vec<Station<'a>>,
     letters: &[Letter],
     from: u32,
     span: u32,
+    next: u32,
 ) -> Result<Vec<Window<'a>>, AllocError>
     requires form { IsCircuit netlist.now }
     requires divided { IsDivision netlist.now division.now.homes.items division.now.wires.items division.now.heard.items division.now.parts }
@@ -136,23 +128,31 @@ fn windows_of<'a>(
     requires before { AreStations netlist.now division.now.homes.items division.now.heard.items division.now.parts (from - 1) stations.items }
     requires tidings { (k : ℕ) → k < division.now.parts → AreTidings (region netlist.now division.now.homes.items k (heard_by division.now.heard.items k)) (heard_by division.now.heard.items k)
         (from - 1) (from + span) (length (slice_index_or (map calendar_of stations.items) k [])) letters.now }
-    ensures { IfOk result (λ windows. AreToPass netlist.now division.now.homes.items division.now.heard.items division.now.parts from (from + span) windows.items) }
+    ensures pass { IfOk result (λ windows. AreToPass netlist.now division.now.homes.items division.now.heard.items division.now.parts from (from + span) windows.items) }
+    ensures tell { IfOk result (λ windows. AreToTell division.now division.now.parts next windows.items) }
 {
     let mut left = stations;
     let mut windows = Vec::new(alloc);
+    let mut part = 0;
     while !left.is_empty() {
         let station = left.remove(0);
-        windows.push(window_of(station, letters, from, from + span)?)?;
+        let until = from + span;
+        let window = window_of(station, letters, from, until, division, part, next)?;
+        windows.push(window)?;
+        part += 1;
     }
     Ok(windows)
 }
 
-/// The window of a part from one time to before another, of which it hears by these letters.
+/// The window of a part from one time to before another, of which it hears by these letters. Then it is to tell of so many units.
 fn window_of<'a>(
     station: Station<'a>,
     letters: &[Letter],
     from: u32,
     until: u32,
+    division: &'a Division,
+    part: u32,
+    span: u32,
 ) -> Result<Window<'a>, AllocError>
     requires form { IsCircuit station.region }
     requires later { 0 < from }
@@ -164,9 +164,24 @@ fn window_of<'a>(
     ensures heard { IfOk result (λ window. window.station.engine.heard ≡ station.entry.engine.heard) }
     ensures until { IfOk result (λ window. window.station.engine.known ≡ until) }
     ensures after { IfOk result (λ window. IsAfter station.entry.region (from - 1) window.station.engine) }
+    ensures tell { IfOk result (λ window. IsToTell division.now span part window) }
 {
-    let Station { region, mut engine } = station;
+    let Station {
+        region,
+        mut engine,
+        letters: told,
+    } = station;
     hear(&region, &mut engine, letters, from - 1, until)?;
-    let station = Station { region, engine };
-    Ok(Window { station, from })
+    let station = Station {
+        region,
+        engine,
+        letters: told,
+    };
+    Ok(Window {
+        station,
+        from,
+        division,
+        part,
+        span,
+    })
 }

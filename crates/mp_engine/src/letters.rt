@@ -3,10 +3,10 @@ ghost use Rattle.std.specs.Prelude.{◌≡◌, ◌≤◌, ◌<◌, ℕ, true, fa
 ghost use Rattle.std.specs.List.{Contains, list_any};
 ghost use Rattle.mp_netlist.specs.Circuit.{IsCircuit};
 ghost use Rattle.mp_engine.specs.Engines.{IsAfter};
-ghost use Rattle.mp_engine.specs.Letters.{IsOfList, IsOfCalendar, IsOfParts, AreLetters, AreEntered, AreTidings, is_sent};
+ghost use Rattle.mp_engine.specs.Letters.{IsOfList, IsOfCalendar, IsOfParts, IsNear, IsTelling, AreLetters, AreEntered, AreTidings, is_sent};
 ghost use Rattle.mp_engine.specs.Marks.{is_marked};
 ghost use Rattle.mp_engine.specs.Regions.{home_of};
-ghost use Rattle.mp_engine.specs.Stations.{calendar_of};
+ghost use Rattle.mp_engine.specs.Stations.{calendar_of, AreTelling};
 ghost use Rattle.mp_engine.specs.declared.letters.Letter.{Letter as Told};
 
 use crate::calendar::enter;
@@ -85,6 +85,48 @@ fn add_calendar(
     Ok(())
 }
 
+/// What a part tells of so many units that come next, in the place of what it told before.
+pub(crate) fn tell(
+    division: &Division,
+    part: u32,
+    span: u32,
+    calendar: &VecDeque<Entries>,
+    letters: &mut Vec<Letter>,
+) -> Result<(), AllocError>
+    ensures { OnOk result (IsTelling division.now.wires.items division.now.heard.items part span calendar.now.items letters.new.items) }
+{
+    letters.clear();
+    let lists = lesser(span, calendar.len());
+    add_calendar(division, part, lists as usize, calendar, letters)?;
+    Ok(())
+}
+
+/// The lesser of a span and a number of lists.
+pub(crate) fn lesser(span: u32, lists: usize) -> u32
+    ensures first { result ≤ span }
+    ensures second { result ≤ lists }
+    ensures either { result < span → lists ≤ result }
+    ensures some { 0 < span → 0 < lists → 0 < result }
+{
+    if lists < span as usize {
+        lists as u32
+    } else {
+        span
+    }
+}
+
+/// Adds those of the letters that are for the first units.
+fn add_near(told: &[Letter], span: usize, letters: &mut Vec<Letter>) -> Result<(), AllocError>
+    ensures { OnOk result (AreLetters (IsNear span told.now) letters.old.items letters.new.items) }
+{
+    for letter in told {
+        if letter.ahead < span {
+            letters.push(*letter)?;
+        }
+    }
+    Ok(())
+}
+
 /// What all parts tell of so many units.
 pub(crate) fn letters_of(
     alloc: Global,
@@ -93,13 +135,13 @@ pub(crate) fn letters_of(
     span: usize,
 ) -> Result<Vec<Letter>, AllocError>
     requires places { length stations.now ≡ division.now.parts }
-    requires room { (k : ℕ) → k < division.now.parts → span ≤ length (slice_index_or (map calendar_of stations.now) k []) }
+    requires telling { AreTelling division.now.wires.items division.now.heard.items division.now.parts span stations.now }
     ensures { IfOk result (λ letters. AreLetters (IsOfParts division.now.wires.items division.now.heard.items span (map calendar_of stations.now) division.now.parts) [] letters.items) }
 {
     let mut letters = Vec::new(alloc);
     for part in 0..division.parts {
-        let calendar = &stations[part as usize].engine.calendar;
-        add_calendar(division, part, span, calendar, &mut letters)?;
+        let told = stations[part as usize].letters.as_slice();
+        add_near(told, span, &mut letters)?;
     }
     Ok(letters)
 }

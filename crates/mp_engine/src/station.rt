@@ -1,16 +1,19 @@
 //! A part of a netlist on its way.
 ghost use Rattle.std.specs.Prelude.{◌≡◌, ◌-◌, IfOk};
 ghost use Rattle.mp_netlist.specs.Circuit.{IsCircuit};
+ghost use Rattle.mp_netlist.specs.Delays.{least_delay};
 ghost use Rattle.mp_engine.specs.Divisions.{AreRuns, IsDivision};
 ghost use Rattle.mp_engine.specs.Engines.{IsAfter};
+ghost use Rattle.mp_engine.specs.Letters.{IsTelling};
 ghost use Rattle.mp_engine.specs.Regions.{HasStimuli};
-ghost use Rattle.mp_engine.specs.Stations.{AreStations, IsStation};
+ghost use Rattle.mp_engine.specs.Stations.{AreStations, AreTelling, IsStation, calendar_of};
 
 use crate::division::Division;
 use crate::engine::Engine;
 use crate::finishing::finished;
 use crate::gate::pass_gate;
 use crate::heard::heard_by;
+use crate::letters::{Letter, tell};
 use crate::part_run::PartRun;
 use crate::region::Region;
 use crate::starting::start;
@@ -20,14 +23,15 @@ use mp_phase::Gate;
 use std::alloc::{AllocError, Global};
 use std::sync::Wait;
 
-/// A part of a netlist, and its evaluation so far.
+/// A part of a netlist, its evaluation so far, and what it tells the others next.
 #[derive(Drop)]
 pub(crate) struct Station<'a> {
     pub region: Region<'a>,
     pub engine: Engine,
+    pub letters: Vec<Letter>,
 }
 
-/// The parts of a netlist after time 0. Each has room for the changes of a window.
+/// The parts of a netlist after time 0. Each has room for the changes of a window, and tells of one.
 pub(crate) fn stations_of<'a, R: Wait, G: Gate>(
     rt: &R,
     alloc: Global,
@@ -36,7 +40,8 @@ pub(crate) fn stations_of<'a, R: Wait, G: Gate>(
     division: &'a Division,
 ) -> Result<Vec<Station<'a>>, AllocError>
     requires { IsDivision netlist.now division.now.homes.items division.now.wires.items division.now.heard.items division.now.parts }
-    ensures { IfOk result (λ stations. AreStations netlist.now division.now.homes.items division.now.heard.items division.now.parts 0 stations.items) }
+    ensures begun { IfOk result (λ stations. AreStations netlist.now division.now.homes.items division.now.heard.items division.now.parts 0 stations.items) }
+    ensures telling { IfOk result (λ stations. AreTelling division.now.wires.items division.now.heard.items division.now.parts (least_delay netlist.now) stations.items) }
 {
     let room = netlist.least_delay();
     let mut stations = Vec::new(alloc);
@@ -56,12 +61,19 @@ fn station_of<'a, R: Wait, G: Gate>(
     room: u32,
 ) -> Result<Station<'a>, AllocError>
     requires { IsDivision netlist.now division.now.homes.items division.now.wires.items division.now.heard.items division.now.parts }
-    ensures { IfOk result (λ station. IsStation netlist.now division.now.homes.items division.now.heard.items 0 part station) }
+    ensures begun { IfOk result (λ station. IsStation netlist.now division.now.homes.items division.now.heard.items 0 part station) }
+    ensures telling { IfOk result (λ station. IsTelling division.now.wires.items division.now.heard.items part room (calendar_of station) station.letters.items) }
 {
     let heard = heard_by(division.heard.as_slice(), part);
     let region = Region::new(netlist, division.homes.as_slice(), part, heard);
     let engine = begun(rt, alloc, netlist, &region, gate, heard, room)?;
-    Ok(Station { region, engine })
+    let mut letters = Vec::new(alloc);
+    tell(division, part, room, &engine.calendar, &mut letters)?;
+    Ok(Station {
+        region,
+        engine,
+        letters,
+    })
 }
 
 /// The evaluation of a part after time 0.
@@ -104,7 +116,7 @@ pub(crate) fn runs_of(
     let mut runs = Vec::new(alloc);
     while !left.is_empty() {
         let station = left.remove(0);
-        let Station { region, engine } = station;
+        let Station { region, engine, .. } = station;
         runs.push(finished(alloc, &region, engine)?)?;
     }
     Ok(runs)

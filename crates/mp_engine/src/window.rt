@@ -3,17 +3,22 @@
 ghost use Rattle.std.specs.Prelude.{◌-◌, ◌<◌, ◌≤◌};
 ghost use Rattle.mp_engine.specs.Engines.{IsAfter, IsSteady};
 
+use crate::division::Division;
 use crate::evaluation::run_units;
+use crate::letters::tell;
 use crate::station::Station;
 use mp_phase::{Gate, Work};
 use std::alloc::{AllocError, Global};
 use std::sync::Wait;
 
-/// A part of a netlist, to be run from a time to before which it knows what it hears.
+/// A part of a netlist, to be run from a time to before which it knows what it hears. Then it is to tell of so many units.
 #[derive(Drop)]
 pub(crate) struct Window<'a> {
     pub station: Station<'a>,
     pub from: u32,
+    pub division: &'a Division,
+    pub part: u32,
+    pub span: u32,
     pub ghost later: { 0 < from },
     pub ghost some: { from < station.engine.known },
     pub ghost within: { station.engine.known ≤ station.region.horizon },
@@ -38,12 +43,28 @@ impl<'a> Work for Window<'a> {
         alloc: Global,
         gate: &G,
     ) -> Result<Station<'a>, AllocError> {
-        let Window { station, from, .. } = self;
-        let Station { region, mut engine } = station;
+        let Window {
+            station,
+            from,
+            division,
+            part,
+            span,
+            ..
+        } = self;
+        let Station {
+            region,
+            mut engine,
+            mut letters,
+        } = station;
         engine.answers = 0;
         let until = engine.known;
         let _horizon = region.horizon();
         run_units(rt, &region, &mut engine, gate, from, until)?;
-        Ok(Station { region, engine })
+        tell(division, part, span, &engine.calendar, &mut letters)?;
+        Ok(Station {
+            region,
+            engine,
+            letters,
+        })
     }
 }

@@ -88,6 +88,7 @@ fn held<L: DeskName + Send + Sync, R: Threads + Wait + Sync + Send + Drop>(
 ) -> Result<Met, AllocError>
     requires count { vec_len staffed.designers ≡ length blocks.now }
     requires some { 0 < length blocks.now }
+    requires all { staffed.desk.designers ≡ vec_len staffed.designers }
     requires fresh { All (λ d. d.accepted ≡ 0) staffed.designers.items }
     requires opening { staffed.desk.opening ≡ 0 }
     ensures met { IfOk result (λ met. (base : Circuit) → All (λ d. d ≡ fresh_designer (opening base)) staffed.designers.items → IsMeeting base (lines_of_each blocks.now) met.session.story met.tallies.items met.numbers.items) }
@@ -108,7 +109,6 @@ fn held<L: DeskName + Send + Sync, R: Threads + Wait + Sync + Send + Drop>(
             tallies,
             numbers,
         }),
-        // All designers are given, so this doesn't come.
-        Err(_) => Err(AllocError),
+        Err(_) => unreachable!(),
     }
 }

@@ -3,7 +3,7 @@
 use mp_netlist::ModuleId;
 use std::sync::Wait;
 
-/// Is passed before each answer of a module, and may make it wait.
+/// Is passed by a module before it answers for some units, and may make it wait.
 pub trait Gate: Drop {
     /// The module is about to answer for the units from one time to before another.
     fn enter<R: Wait>(&self, rt: &R, module: ModuleId, from: u32, to: u32);

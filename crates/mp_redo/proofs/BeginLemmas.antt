@@ -1,4 +1,4 @@
--- A window begins.
+-- A short span begins.
 use Rattle.std.proofs.Common.{◌≡◌, ℕ, ◌+◌, ◌<◌, ◌≤◌, Bool, true, List, Some, length, arith, inl, inr}
 use Rattle.std.proofs.lemmas.Bool.{cases_lt}
 use Rattle.mp_records.specs.declared.ids.ModuleId.{ModuleId}
@@ -12,7 +12,7 @@ use Rattle.mp_engine.specs.Runs.{IsRun}
 use Rattle.mp_redo.specs.declared.cell.Cell.{Cell}
 use Rattle.mp_redo.specs.declared.line.Line.{Line}
 use Rattle.mp_redo.specs.Revisions.{IsRevision}
-use Rattle.mp_redo.specs.Redoing.{IsLooking, IsListening, IsBefore, IsDuring}
+use Rattle.mp_redo.specs.Redoing.{cell_at, IsLooking, IsListening, IsBefore, IsDuring}
 use Rattle.mp_redo.specs.Rings.{AreTaken}
 use Rattle.mp_redo.proofs.ListenLemmas.{listening_taken}
 use Rattle.mp_redo.proofs.MarkedLemmas.{still_cells, still_lines}
@@ -24,9 +24,9 @@ pub window_begins : (old new : Circuit) → IsCircuit old → IsCircuit new → 
 window_begins old new old_ok new_ok revised run is_run c from to count cells lines looks lists marks after due new_due before block some short within next size listed taken = record {
   modules = still_cells old new old_ok new_ok revised run is_run c from to cells lines looks before block some short within after all;
   wires = still_lines old new old_ok new_ok revised run is_run c from to cells lines looks before block some short within after all;
-  listening = λ m free watching. elim (cases_lt m (length marks)) as (λ _. IsListening new run to lines lists m) [
-    | inl here ↦ listening_taken new run from to count lines looks lists marks after due new_due m next taken
-        (λ k low has. free (taken.listed listed m (taken.told k m low here has))) (before.listening m watching)
+  listening = λ m free. elim (cases_lt m (length marks)) as (λ _. IsListening new run (cell_at cells m).live to lines lists m) [
+    | inl here ↦ listening_taken new run (cell_at cells m).live from to count lines looks lists marks after due new_due m next taken
+        (λ k low has. free (taken.listed listed m (taken.told k m low here has))) (before.listening m)
     | inr past ↦ (λ i is x late low news. absurd (let stands = slot_within new.modules m is.part is.stands in omega (arith, stands, past, size)))
   ];
   listed = taken.listed listed;

@@ -1,5 +1,5 @@
 -- A re-evaluation goes on from window to window.
-use Rattle.std.proofs.Common.{◌≡◌, ℕ, ◌+◌, ◌-◌, ◌%◌, ◌<◌, ◌≤◌, List, ap, sym, subst, ◌∙◌, arith, inl, inr}
+use Rattle.std.proofs.Common.{◌≡◌, ℕ, ◌-◌, ◌%◌, ◌<◌, ◌≤◌, List, ap, sym, subst, ◌∙◌, arith, inl, inr}
 use Rattle.std.proofs.lemmas.Bool.{cases_lt, cases_eq}
 use Rattle.mp_netlist.specs.Circuit.{Circuit, IsCircuit}
 use Rattle.mp_netlist.specs.Delays.{least_delay}
@@ -12,9 +12,9 @@ use Rattle.mp_redo.specs.Joins.{AreLike}
 use Rattle.mp_redo.specs.Keeping.{IsLedgerAt, IsNextBorder, AreLedgers}
 use Rattle.mp_redo.specs.Ledgers.{ledger_at}
 use Rattle.mp_redo.specs.Merges.{end_of_window}
-use Rattle.mp_redo.specs.Windows.{IsShort}
+use Rattle.mp_redo.specs.Windows.{IsShort, IsWindows}
 use Rattle.mp_redo.specs.Work.{block_of, window_of, window_end, IsWindow}
-use Rattle.mp_redo.proofs.WindowLemmas.{window_within, window_cover}
+use Rattle.mp_redo.proofs.WindowLemmas.{window_within, window_cover, same_block}
 
 -- a ledger follows who is live
 pub ledgers_like : (new : Circuit) (run : Outcome) (t : ℕ) (cells after : List Cell) (ledgers : List Ledger) → AreLike cells after → AreLedgers new run t cells ledgers → AreLedgers new run t after ledgers
@@ -44,23 +44,22 @@ module _ (new : Circuit) (ok : IsCircuit new) (from to : ℕ) (window : IsWindow
         within = omega (arith, ends);
       }
 
-  pub window_room : to ≤ from + 1024
-  window_room = let within = window_within new ok from to window in omega (arith, within.0, within.2)
-
+module _ (new : Circuit) (from to : ℕ) (windows : IsWindows new from to) where
   pub same_before : block_of (to - 1) ≡ block_of from
-  same_before = let within = window_within new ok from to window in omega (arith, within.0, within.1, within.2)
+  same_before = same_block from to windows.later windows.block
 
-  -- a window that doesn't end with its block, or does at the horizon
+  -- windows that don't end with their block, or do at the horizon
   pub same_after : (to < new.horizon → to % 1024 ≡ 0 → ⊥) → last_block new to ≡ block_of from
   same_after not =
-      let within = window_within new ok from to window in
-      let ends = window.ends in
+      let later = windows.later in
+      let block = windows.block in
+      let end = windows.within in
       elim (cases_lt to new.horizon) as (λ _. last_block new to ≡ block_of from) [
         | inl below ↦ elim (cases_eq (to % 1024) 0) as (λ _. last_block new to ≡ block_of from) [
           | inl whole ↦ absurd (not below whole)
-          | inr inside ↦ omega (arith, within.0, within.1, within.2, below, inside)
+          | inr inside ↦ omega (arith, later, block, below, inside)
         ]
-        | inr past ↦ omega (arith, within.0, within.1, within.2, ends, past)
+        | inr past ↦ omega (arith, later, block, end, past)
       ]
 
 -- the window that ends at a border

@@ -1,26 +1,26 @@
 -- From one block to the next, one module after the other.
-use Rattle.std.proofs.Common.{◌≡◌, ◌≢◌, ℕ, ◌+◌, ◌<◌, ◌≤◌, true, false, List, Option, Some, None, IsSome, is_some, length, refl, ap, sym, subst, ◌∙◌, arith, inl, inr}
-use Rattle.std.specs.List.{Contains}
-use Rattle.std.proofs.lemmas.Bool.{cases_eq}
+use Rattle.std.proofs.Common.{◌≡◌, ◌≢◌, ◌⊎◌, ℕ, ◌+◌, ◌<◌, ◌≤◌, Bool, true, false, cond, List, [], ◌∷◌, Option, Some, None, IsSome, is_some, length, refl, ap, sym, subst, ◌∙◌, arith, inl, inr}
+use Rattle.std.specs.List.{Contains, filter}
+use Rattle.std.proofs.lemmas.Bool.{cases_eq, cases_Bool}
+use Rattle.std.proofs.lemmas.List.Elements.{Contains-append_right}
 use Rattle.mp_records.specs.declared.ids.ModuleId.{ModuleId}
 use Rattle.mp_records.specs.declared.module_record.ModuleRecord.{ModuleRecord}
 use Rattle.mp_netlist.specs.Circuit.{Circuit, IsCircuit, module_at}
-use Rattle.mp_model.proofs.SlotLemmas.{slot_within}
 use Rattle.mp_engine.specs.Checkpoints.{IsBorder}
 use Rattle.mp_engine.specs.Outcomes.{Outcome}
 use Rattle.mp_engine.specs.Runs.{IsRun}
+use Rattle.mp_engine.proofs.MarkLemmas.{none_in, contains_cons}
 use Rattle.mp_redo.specs.declared.cell.Cell.{Cell}
 use Rattle.mp_redo.specs.declared.ledger.Ledger.{Ledger}
 use Rattle.mp_redo.specs.declared.line.Line.{Line}
 use Rattle.mp_redo.specs.declared.stretch.Stretch.{Stretch}
 use Rattle.mp_redo.specs.Closing.{HasClosed}
 use Rattle.mp_redo.specs.Keeping.{AreLedgers, IsLedgerAt, IsNextBorder, CanKeepAll}
-use Rattle.mp_redo.specs.Leaving.{IsBack, HasLeft, ended, HasEnded, HasHandedBack, IsCrossing}
+use Rattle.mp_redo.specs.Leaving.{IsBack, HasLeft, ended, HasEnded, HasHandedBack, IsOverAt, IsCrossing}
 use Rattle.mp_redo.specs.Ledgers.{ledger_at, IsOwn}
-use Rattle.mp_redo.specs.Redoing.{cell_at, looks_at, IsCellAt, IsOpenAt, AreOpen, IsBefore}
+use Rattle.mp_redo.specs.Redoing.{cell_at, looks_at, IsCellAt, IsListening, IsOpenAt, AreOpen, IsListed, IsBefore}
 use Rattle.mp_redo.specs.Revisions.{IsRevision}
-use Rattle.mp_redo.specs.Rings.{AreKept}
-use Rattle.mp_redo.specs.Steps.{GoesOnWatching}
+use Rattle.mp_redo.specs.Steps.{GoesOnListening}
 use Rattle.mp_redo.specs.Stretches.{stretch_at, IsPart, IsIn, HasBegun, EndsWithWindow, AreStretchesTo}
 use Rattle.mp_redo.specs.Work.{IsWindow}
 use Rattle.mp_redo.proofs.CloseLemmas.{closed_lines}
@@ -180,97 +180,118 @@ left_ledgers new run time m cells after ledgers later are live left handed = rec
 module _ (old new : Circuit) (old_ok : IsCircuit old) (new_ok : IsCircuit new) (revised : IsRevision old new) (run : Outcome) (is_run : IsRun old run)
     (block time : ℕ) (border : IsBorder time) (later : block < time) (low : time < new.horizon)
     (m : ℕ) (cells : List Cell) (lines : List Line) (looks : List (List ModuleId)) (ledgers : List Ledger) (stretches : List Stretch)
-    (is : IsCrossing old new run block time m cells lines looks ledgers stretches) where
-  -- a module that goes on, or doesn't stand
-  pub one_stays : ((r : ModuleRecord) → module_at new m ≡ Some r → IsBack run time m (cell_at cells m) → ⊥) → IsCrossing old new run block time (m + 1) cells lines looks ledgers stretches
-  one_stays not = record {
-    modules = record {
-      places = is.modules.places;
-      over = λ k r under at. elim (cases_eq k m) as (λ _. IsCellAt old new time time k r (cell_at cells k)) [
-        | inl same ↦
-            let there : module_at new m ≡ Some r = subst (λ j. module_at new j ≡ Some r) same at in
-            subst (λ j. IsCellAt old new time time j r (cell_at cells j)) (sym same)
-            (stays old new old_ok new_ok revised run is_run block time border later low m r there (cell_at cells m) (is.modules.still m r (omega arith) there) (not r there))
-        | inr other ↦ is.modules.over k r (omega (arith, under, other)) at
-      ];
-      still = λ k r up at. is.modules.still k r (omega (arith, up)) at;
-    };
-    wires = is.wires;
-    listening = is.listening;
-    fresh = is.fresh;
-    kept = is.kept;
-    worked = is.worked;
-    opened = is.opened;
-  }
+    (is : IsCrossing old new run block time cells lines looks ledgers stretches) where
+  positive : 0 < time
+  positive = omega (arith, later)
+
+  -- a module that goes on, or isn't live, or doesn't stand
+  pub one_stays : ((r : ModuleRecord) → module_at new m ≡ Some r → IsBack run time m (cell_at cells m) → ⊥) → IsOverAt old new time cells m
+  one_stays not r at = elim (is.modules.each m r at) as (λ _. IsCellAt old new time time m r (cell_at cells m)) [
+    | inl still ↦ stays old new old_ok new_ok revised run is_run block time border positive low m r at (cell_at cells m) still later (not r at)
+    | inr over ↦ over
+  ]
 
   -- a module whose state is the old run's again
   module _ (r : ModuleRecord) (at : module_at new m ≡ Some r) (back : IsBack run time m (cell_at cells m)) (after : List Cell) (left : HasLeft cells after m) where
-    left_cell : (k : ℕ) (s : ModuleRecord) → k < m + 1 → module_at new k ≡ Some s → IsCellAt old new time time k s (cell_at after k)
-    left_cell k s under stands = elim (cases_eq k m) as (λ _. IsCellAt old new time time k s (cell_at after k)) [
-      | inl same ↦
-          let there : module_at new m ≡ Some s = subst (λ j. module_at new j ≡ Some s) same stands in
-          subst (λ j. IsCellAt old new time time j s (cell_at after j)) (sym same)
-          (leaves old new old_ok new_ok revised run is_run block time border later low m s there (cell_at cells m) (is.modules.still m s (omega arith) there) back (cell_at after m) left.live left.touched)
-      | inr other ↦ subst (IsCellAt old new time time k s) (sym (left.others k other)) (is.modules.over k s (omega (arith, under, other)) stands)
+    pub one_over : IsOverAt old new time after m
+    one_over s there = elim (is.modules.each m s there) as (λ _. IsCellAt old new time time m s (cell_at after m)) [
+      | inl still ↦ leaves old new old_ok new_ok revised run is_run block time border positive low m s there (cell_at cells m) still back (cell_at after m) left.live left.touched
+      | inr over ↦ leaves old new old_ok new_ok revised run is_run time time border positive low m s there (cell_at cells m) over back (cell_at after m) left.live left.touched
     ]
 
-    pub one_leaves : (now : List Line) (lists : List (List ModuleId)) (held : List Ledger) (done : List Stretch) (place start : ℕ) → HasClosed lines now r.outputs time (length r.outputs) → AreKept looks lists
-        → Contains (looks_at lists 0) (record { 0 = m }) → GoesOnWatching new run time lines now looks lists → HasHandedBack ledgers held m time → (cell_at cells m).stretch ≡ Some place
-        → HasEnded stretches done place time → IsWindow new start time → IsCrossing old new run block time (m + 1) after now lists held done
-    one_leaves now lists held done place start closed kept looking watching handed at_place ends window = record {
+    left_cell : (k : ℕ) (s : ModuleRecord) → module_at new k ≡ Some s → IsCellAt old new block time k s (cell_at after k) ⊎ IsCellAt old new time time k s (cell_at after k)
+    left_cell k s stands = elim (cases_eq k m) as (λ _. IsCellAt old new block time k s (cell_at after k) ⊎ IsCellAt old new time time k s (cell_at after k)) [
+      | inl same ↦
+          let there : module_at new m ≡ Some s = subst (λ j. module_at new j ≡ Some s) same stands in
+          inr (subst (λ j. IsCellAt old new time time j s (cell_at after j)) (sym same) (one_over s there))
+      | inr other ↦ subst (λ (x : Cell). IsCellAt old new block time k s x ⊎ IsCellAt old new time time k s x) (sym (left.others k other)) (is.modules.each k s stands)
+    ]
+
+    pub one_leaves : (now : List Line) (lists : List (List ModuleId)) (held : List Ledger) (done : List Stretch) (place start : ℕ) → HasClosed lines now r.outputs time (length r.outputs) → Contains (looks_at lists 0) (record { 0 = m })
+        → GoesOnListening new run time lines now looks lists → HasHandedBack ledgers held m time → (cell_at cells m).stretch ≡ Some place
+        → HasEnded stretches done place time → IsWindow new start time → IsCrossing old new run block time after now lists held done
+    one_leaves now lists held done place start closed looking goes handed at_place ends window = record {
       modules = record {
         places = left.places ∙ is.modules.places;
-        over = left_cell;
-        still = λ k s up stands. subst (IsCellAt old new block time k s) (sym (left.others k (omega (arith, up)))) (is.modules.still k s (omega (arith, up)) stands);
+        each = left_cell;
       };
       wires = closed_lines new new_ok run time m r cells after lines now at closed left.others left.live is.wires;
-      listening = λ k watches. watching k cells after (was_live k) (is.listening k) watches;
-      fresh = λ k u off next apart. elim (cases_eq k m) as (λ _. Contains (looks_at lists 0) (record { 0 = k })) [
-        | inl same ↦ subst (λ j. Contains (looks_at lists 0) (record { 0 = j })) (sym same) looking
-        | inr other ↦ kept 0 k (is.fresh k u (sym (ap (λ (x : Cell). x.live) (left.others k other)) ∙ off) next apart)
+      listening = λ k. elim (cases_eq k m) as (λ _. IsListening new run (cell_at after k).live time now lists k) [
+        | inl same ↦ subst (λ j. IsListening new run (cell_at after j).live time now lists j) (sym same) (λ input has x from below news. (0, omega arith, looking))
+        | inr other ↦ subst (λ (x : Cell). IsListening new run x.live time now lists k) (sym (left.others k other)) (goes k (cell_at cells k).live (is.listening k))
       ];
       kept = left_ledgers new run time m cells after ledgers held is.kept back.live left handed;
       worked = ended_work old new stretches done place time ends (let end = (open_on new time m place cells stretches is.opened (ap is_some at) back.live at_place).on in omega (arith, end, low)) start window is.worked;
       opened = closed_stretch new time m place cells after stretches done is.opened (ap is_some at) back.live at_place left ends;
     }
-      where
-        was_live : (k : ℕ) → (cell_at after k).live ≡ true → (cell_at cells k).live ≡ true
-        was_live k on = elim (cases_eq k m) as (λ _. (cell_at cells k).live ≡ true) [
-          | inl same ↦ ap (λ j. (cell_at cells j).live) same ∙ back.live
-          | inr other ↦ sym (ap (λ (x : Cell). x.live) (left.others k other)) ∙ on
-        ]
 
--- before the first module, when states have been kept
+-- when states have been kept
 pub crossing_begins : (old new : Circuit) (run : Outcome) (block time : ℕ) (cells : List Cell) (lines : List Line) (looks : List (List ModuleId)) (ledgers : List Ledger) (stretches : List Stretch)
     → IsBefore old new run block time cells lines looks → AreLedgers new run time cells ledgers → AreStretchesTo old new time stretches → AreOpen new time cells stretches
-    → IsCrossing old new run block time 0 cells lines looks ledgers stretches
+    → IsCrossing old new run block time cells lines looks ledgers stretches
 crossing_begins old new run block time cells lines looks ledgers stretches before kept worked opened = record {
-  modules = record {
-    places = before.modules.places;
-    over = λ m r under at. absurd (omega (arith, under));
-    still = λ m r up at. before.modules.each m r at;
-  };
+  modules = record { places = before.modules.places; each = λ m r at. inl (before.modules.each m r at) };
   wires = before.wires;
   listening = before.listening;
-  fresh = before.fresh;
   kept = kept;
   worked = worked;
   opened = opened;
 }
 
--- behind the last one
-pub crossing_ends : (old new : Circuit) (run : Outcome) (block time count : ℕ) (cells : List Cell) (lines : List Line) (looks : List (List ModuleId)) (ledgers : List Ledger) (stretches : List Stretch)
-    → block < time → length new.modules ≤ count → IsCrossing old new run block time count cells lines looks ledgers stretches → IsBefore old new run time time cells lines looks
-crossing_ends old new run block time count cells lines looks ledgers stretches later all is = record {
+-- what is over at one module and as it was at the others is over where it was
+pub over_more : (old new : Circuit) (time m : ℕ) (cells after : List Cell) → IsOverAt old new time after m → ((k : ℕ) → k ≢ m → cell_at after k ≡ cell_at cells k)
+    → (k : ℕ) → IsOverAt old new time cells k → IsOverAt old new time after k
+over_more old new time m cells after over others k was r at = elim (cases_eq k m) as (λ _. IsCellAt old new time time k r (cell_at after k)) [
+  | inl same ↦
+      let there : module_at new m ≡ Some r = subst (λ j. module_at new j ≡ Some r) same at in
+      subst (λ j. IsCellAt old new time time j r (cell_at after j)) (sym same) (over r there)
+  | inr other ↦ subst (IsCellAt old new time time k r) (sym (others k other)) (was r at)
+]
+
+-- live modules are listed also after one of the list
+pub listed_more : (new : Circuit) (live : List ModuleId) (m : ℕ) (cells after : List Cell) → Contains live (record { 0 = m }) → ((k : ℕ) → k ≢ m → cell_at after k ≡ cell_at cells k)
+    → IsListed new cells live → IsListed new after live
+listed_more new live m cells after has others are k stands on = elim (cases_eq k m) as (λ _. Contains live (record { 0 = k })) [
+  | inl same ↦ subst (λ j. Contains live (record { 0 = j })) (sym same) has
+  | inr other ↦ are k stands (sym (ap (λ (x : Cell). x.live) (others k other)) ∙ on)
+]
+
+-- when the listed modules are over
+pub crossing_ends : (old new : Circuit) → IsCircuit old → IsCircuit new → IsRevision old new → (run : Outcome) → IsRun old run → (block time : ℕ) → IsBorder time → block < time → time < new.horizon
+    → (live : List ModuleId) (cells : List Cell) (lines : List Line) (looks : List (List ModuleId)) (ledgers : List Ledger) (stretches : List Stretch)
+    → IsListed new cells live → ((m : ℕ) → Contains live (record { 0 = m }) → IsOverAt old new time cells m)
+    → IsCrossing old new run block time cells lines looks ledgers stretches → IsBefore old new run time time cells lines looks
+crossing_ends old new old_ok new_ok revised run is_run block time border later low live cells lines looks ledgers stretches listed over is = record {
   modules = record {
     places = is.modules.places;
-    each = λ m r at. is.modules.over m r (let within = slot_within new.modules m r at in omega (arith, within, all)) at;
+    each = λ m r at. elim (cases_Bool (cell_at cells m).live) as (λ _. IsCellAt old new time time m r (cell_at cells m)) [
+      | inl on ↦ over m (listed m (ap is_some at) on) r at
+      | inr off ↦
+          one_stays old new old_ok new_ok revised run is_run block time border later low m cells lines looks ledgers stretches is
+          (λ s there back. let live = back.live in cc) r at
+    ];
   };
   wires = is.wires;
   listening = is.listening;
   first = λ zero m live. absurd (omega (arith, zero, later));
-  fresh = is.fresh;
 }
+
+-- the live modules of a list that has those are listed
+pub listed_kept : (new : Circuit) (cells : List Cell) (live after : List ModuleId) → IsListed new cells live
+    → ((m : ℕ) → Contains live (record { 0 = m }) → (cell_at cells m).live ≡ true → Contains after (record { 0 = m })) → IsListed new cells after
+listed_kept new cells live after are keeps m stands on = keeps m (are m stands on) on
+
+-- a filter keeps what passes it
+pub filter_keeps : {A : Type 0} (test : A → Bool) (xs : List A) (x : A) → test x ≡ true → Contains xs x → Contains (filter test xs) x
+filter_keeps test [] x passes has = absurd (none_in x has)
+filter_keeps test (y ∷ ys) x passes has = elim (contains_cons y x ys has) as (λ _. Contains (filter test (y ∷ ys)) x) [
+  | inl same ↦ let here : test y ≡ true = ap test same ∙ passes in rw here (subst (λ z. Contains (z ∷ filter test ys) x) (sym same) (0, omega arith, refl))
+  | inr more ↦ by (test y) (filter_keeps test ys x passes more)
+]
+  where
+    by : (b : Bool) → Contains (filter test ys) x → Contains (cond b (y ∷ filter test ys) (filter test ys)) x
+    by true has = Contains-append_right (y ∷ []) (filter test ys) x has
+    by false has = has
 
 -- at the next border the ledgers of live modules can keep a state
 pub can_keep : (new : Circuit) (run : Outcome) (block time : ℕ) (cells : List Cell) (ledgers : List Ledger) → IsNextBorder new block time → AreLedgers new run block cells ledgers → CanKeepAll new cells ledgers time

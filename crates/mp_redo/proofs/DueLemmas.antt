@@ -1,8 +1,9 @@
--- A module that is due in a window.
-use Rattle.std.proofs.Common.{◌≡◌, ◌≢◌, ℕ, ◌+◌, ◌-◌, ◌<◌, ◌≤◌, Bool, true, false, List, Some, None, ◌∷◌, suc, length, drop, slice_index_or, slice_set, refl, ap, sym, subst, ◌∙◌, arith, inl, inr}
+-- A module that is due in a short span.
+use Rattle.std.proofs.Common.{◌≡◌, ◌≢◌, ℕ, ◌+◌, ◌-◌, ◌<◌, ◌≤◌, ◌⊎◌, Bool, true, false, List, [], Some, None, ◌∷◌, suc, length, drop, take, slice_index_or, slice_set, refl, ap, sym, subst, ◌∙◌, arith, inl, inr}
 use Rattle.std.specs.List.{Contains}
 use Rattle.std.proofs.lemmas.Bool.{cases_eq}
-use Rattle.std.proofs.lemmas.List.{get_or-set_same, get_or-set_other}
+use Rattle.std.proofs.lemmas.List.{get_or-set_same, get_or-set_other, take_more}
+use Rattle.std.proofs.lemmas.List.Elements.{Contains-append_cases}
 use Rattle.std.proofs.Math.ListN.{length-set}
 use Rattle.std.proofs.Math.Seq.{drop-cons}
 use Rattle.mp_modules.specs.declared.memory.Memory.{Memory}
@@ -16,7 +17,7 @@ use Rattle.mp_model.proofs.SlotLemmas.{some_within, slot_within}
 use Rattle.mp_engine.specs.Marks.{is_marked, AreListed}
 use Rattle.mp_engine.specs.Outcomes.{Outcome, wave_of}
 use Rattle.mp_engine.specs.Runs.{IsRun}
-use Rattle.mp_engine.proofs.MarkLemmas.{marked_within, listed_rest}
+use Rattle.mp_engine.proofs.MarkLemmas.{none_in, contains_cons, marked_within, listed_rest}
 use Rattle.mp_redo.specs.declared.cell.Cell.{Cell}
 use Rattle.mp_redo.specs.declared.line.Line.{Line}
 use Rattle.mp_redo.specs.Answers.{IsHeardBy}
@@ -24,9 +25,10 @@ use Rattle.mp_redo.specs.Ledgers.{state_in}
 use Rattle.mp_redo.specs.Lines.{level_in, IsOwn}
 use Rattle.mp_redo.specs.Revisions.{IsRevision, IsKept}
 use Rattle.mp_redo.specs.Redoing.{level_at, line_at, cell_at, no_cell, answered_to, IsWorking, IsCellAt, AreLines, IsDuring}
-use Rattle.mp_redo.specs.Steps.{IsAt, IsStep, AreReady, GoesOn, GoesOnFrom, GoesOnWatching}
+use Rattle.mp_redo.specs.Steps.{IsAt, IsStep, AreReady, GoesOn, GoesOnFrom, GoesOnListening}
 use Rattle.mp_redo.specs.Joins.{HaveAnswered, live_cell}
-use Rattle.mp_redo.specs.Windows.{IsShort, HearOther}
+use Rattle.mp_redo.specs.Windows.{IsShort}
+use Rattle.mp_model.specs.Reach.{IsApart}
 use Rattle.mp_redo.proofs.ApartLemmas.{apart_where, alike_where}
 use Rattle.mp_redo.proofs.DuringLemmas.{answered_here, answered_other, listed_still, during_answered, during_quiet}
 use Rattle.mp_redo.proofs.HeardLemmas.{heard_now}
@@ -48,12 +50,12 @@ pub length_next : (marks after : List Bool) (due : List ModuleId) (i : ℕ) → 
 length_next marks after due i cleared = ap length cleared ∙ (let d : ModuleId = record { 0 = 0 } in length-set marks (slice_index_or due i d).0 false)
 
 -- none has answered
-pub answered_none : (due : List ModuleId) (cells : List Cell) → HaveAnswered due cells cells
-answered_none due cells = record { places = refl; live = λ m live. live; touched = λ m. refl; stretch = λ m. refl; others = λ m none. refl }
+pub answered_none : (joined : List ModuleId) (cells : List Cell) → HaveAnswered joined cells cells
+answered_none joined cells = record { places = refl; live = λ m live. live; touched = λ m. refl; stretch = λ m. refl; others = λ m none. refl }
 
 -- more have answered
-pub answered_more : (due : List ModuleId) (cells after later : List Cell) → HaveAnswered due cells after → HaveAnswered due after later → HaveAnswered due cells later
-answered_more due cells after later first second = record {
+pub answered_more : (joined : List ModuleId) (cells after later : List Cell) → HaveAnswered joined cells after → HaveAnswered joined after later → HaveAnswered joined cells later
+answered_more joined cells after later first second = record {
   places = second.places ∙ first.places;
   live = λ m live. second.live m (first.live m live);
   touched = λ m. second.touched m ∙ first.touched m;
@@ -61,10 +63,20 @@ answered_more due cells after later first second = record {
   others = λ m none. second.others m none ∙ first.others m none;
 }
 
--- one has answered
-pub answered_one : (due : List ModuleId) (cells : List Cell) (m : ℕ) (memory : Memory) → Contains due (record { 0 = m }) → m < length cells
-    → HaveAnswered due cells (slice_set cells m (live_cell (cell_at cells m) memory))
-answered_one due cells m memory has within = record {
+-- those that joined are among more
+pub answered_among : (joined all : List ModuleId) (cells after : List Cell) → ((m : ℕ) → Contains joined (record { 0 = m }) → Contains all (record { 0 = m })) → HaveAnswered joined cells after → HaveAnswered all cells after
+answered_among joined all cells after among done = record {
+  places = done.places;
+  live = done.live;
+  touched = done.touched;
+  stretch = done.stretch;
+  others = λ m none. done.others m (λ has. none (among m has));
+}
+
+-- one has answered, which has joined or was live
+pub answered_one : (joined : List ModuleId) (cells : List Cell) (m : ℕ) (memory : Memory) → ((Contains joined (record { 0 = m }) → ⊥) → (cell_at cells m).live ≡ true) → m < length cells
+    → HaveAnswered joined cells (slice_set cells m (live_cell (cell_at cells m) memory))
+answered_one joined cells m memory unless within = record {
   places = length-set cells m now;
   live = λ k live. elim (cases_eq k m) as (λ _. (cell_at (slice_set cells m now) k).live ≡ true) [
     | inl same ↦ ap (λ (x : Cell). x.live) (here k same)
@@ -78,7 +90,12 @@ answered_one due cells m memory has within = record {
     | inl same ↦ ap (λ (x : Cell). x.stretch) (here k same) ∙ ap (λ j. (cell_at cells j).stretch) (sym same)
     | inr other ↦ ap (λ (x : Cell). x.stretch) (there k other)
   ];
-  others = λ k none. there k (λ same. none (subst (λ j. Contains due (record { 0 = j })) (sym same) has));
+  others = λ k none. elim (cases_eq k m) as (λ _. (cell_at (slice_set cells m now) k).live ≡ (cell_at cells k).live) [
+    | inl same ↦
+        ap (λ (x : Cell). x.live) (here k same)
+        ∙ sym (ap (λ j. (cell_at cells j).live) same ∙ unless (λ has. none (subst (λ j. Contains joined (record { 0 = j })) (sym same) has)))
+    | inr other ↦ ap (λ (x : Cell). x.live) (there k other)
+  ];
 }
   where
     now : Cell
@@ -89,6 +106,28 @@ answered_one due cells m memory has within = record {
 
     there : (k : ℕ) → k ≢ m → cell_at (slice_set cells m now) k ≡ cell_at cells k
     there k other = get_or-set_other cells m k now no_cell other
+
+-- one more of the modules that are due
+pub due_next : (due : List ModuleId) (i m : ℕ) → i < length due → Contains (take (i + 1) due) (record { 0 = m }) → Contains (take i due) (record { 0 = m }) ⊎ (m ≡ (slice_index_or due i (record { 0 = 0 })).0)
+due_next due i m low has =
+    let d : ModuleId = record { 0 = 0 } in
+    let here : ModuleId = slice_index_or due i d in
+    elim (Contains-append_cases (take i due) (here ∷ []) (record { 0 = m }) (subst (λ xs. Contains xs (record { 0 = m })) (take_more due i d low) has)) as (λ _. Contains (take i due) (record { 0 = m }) ⊎ (m ≡ here.0)) [
+      | inl earlier ↦ inl earlier
+      | inr now ↦ elim (contains_cons here (record { 0 = m }) [] now) as (λ _. Contains (take i due) (record { 0 = m }) ⊎ (m ≡ here.0)) [
+        | inl same ↦ inr (sym (ap (λ (x : ModuleId). x.0) same))
+        | inr none ↦ absurd (none_in (let id : ModuleId = record { 0 = m } in id) none)
+      ]
+    ]
+
+-- what a module hears up to a unit's end, by the lines
+pub heard_by : (new : Circuit) → IsCircuit new → (run : Outcome) (c from to : ℕ) → IsShort new c from to → (marks : List Bool) (cells : List Cell) (lines : List Line)
+    → AreLines new run (answered_to from to marks) cells lines → (m : ℕ) (r : ModuleRecord) → module_at new m ≡ Some r → IsHeardBy new run lines r to
+heard_by new ok run c from to window marks cells lines wires m r at i t has below =
+    let some = window.some in
+    let within = window.within in
+    let short = window.short in
+    heard_now new ok run (answered_to from to marks) cells lines wires from (λ k. answered_least from to marks k (omega (arith, some))) m t r i at has (omega (arith, below, within)) (omega (arith, below, short))
 
 module _ (old new : Circuit) (old_ok : IsCircuit old) (new_ok : IsCircuit new) (revised : IsRevision old new) (run : Outcome) (is_run : IsRun old run) (c from to : ℕ) (window : IsShort new c from to)
     (due : List ModuleId) (marks : List Bool) (cells : List Cell) (lines : List Line) (looks : List (List ModuleId)) (during : IsDuring old new run c from to due marks cells lines looks)
@@ -107,10 +146,7 @@ module _ (old new : Circuit) (old_ok : IsCircuit old) (new_ok : IsCircuit new) (
     cell_within = let low = slot_within new.modules m r at in let places = during.modules.places in omega (arith, low, places)
 
     pub due_heard : IsHeardBy new run lines r to
-    due_heard i t has below =
-        let within = window.within in
-        let short = window.short in
-        heard_now new new_ok run (answered_to from to marks) cells lines during.wires from least m t r i at has (omega (arith, below, within)) (omega (arith, below, short))
+    due_heard = heard_by new new_ok run c from to window marks cells lines during.wires m r at
 
     pub due_ready : (cell_at cells m).live ≡ true → AreReady lines r.outputs from new.horizon
     due_ready live p w wire =
@@ -148,33 +184,34 @@ module _ (old new : Circuit) (old_ok : IsCircuit old) (new_ok : IsCircuit new) (
 
     answers : (memory : Memory) → IsWorking old new c m to → IsAt new m to r memory → (given : List Line) (lists : List (List ModuleId))
         → ((times later : ℕ → ℕ) → IsStep times later cells (slice_set cells m (live_with memory)) m from to → AreLines new run times cells lines → AreLines new run later (slice_set cells m (live_with memory)) given)
-        → GoesOnWatching new run to lines given looks lists → IsDuring old new run c from to due (slice_set marks m false) (slice_set cells m (live_with memory)) given lists
-    answers memory works is given lists wires watching =
+        → GoesOnListening new run to lines given looks lists → IsDuring old new run c from to due (slice_set marks m false) (slice_set cells m (live_with memory)) given lists
+    answers memory works is given lists wires listens =
         let here : live_with memory ≡ cell_at (slice_set cells m (live_with memory)) m = sym (get_or-set_same cells m (live_with memory) no_cell cell_within) in
         during_answered old new run c from to due marks cells lines looks during m r at marked rise (slice_set cells m (live_with memory)) given lists
         (subst (IsCellAt old new c to m r) here (now_live memory works is))
         (ap (λ (x : Cell). x.live) (sym here))
         (λ k other. get_or-set_other cells m k (live_with memory) no_cell other)
         (length-set cells m (live_with memory))
-        wires watching
+        wires listens
 
     pub live_answers : (cell_at cells m).live ≡ true → (memory : Memory) → IsAt new m to r memory → (given : List Line) (lists : List (List ModuleId)) → GoesOn new run lines given r (cell_at cells m).memory from to
-        → GoesOnWatching new run to lines given looks lists → IsDuring old new run c from to due (slice_set marks m false) (slice_set cells m (live_with memory)) given lists
-    live_answers live memory is given lists wires watching =
+        → GoesOnListening new run to lines given looks lists → IsDuring old new run c from to due (slice_set marks m false) (slice_set cells m (live_with memory)) given lists
+    live_answers live memory is given lists wires listens =
         answers memory (working_on old new c from to m rise (cell_was.live live)) is given lists
-        (λ times later step are. wires m times later cells (slice_set cells m (live_with memory)) (due_live live) step are) watching
+        (λ times later step are. wires m times later cells (slice_set cells m (live_with memory)) (due_live live) step are) listens
+
+    pub apart_at : (cell_at cells m).live ≡ false → (t : ℕ) → t < to → (i : Input) → Contains r.inputs i → level_at run lines i.wire.0 (t - i.delay) ≢ level_in (wave_of run i.wire.0) (t - i.delay) → IsApart old new m t
+    apart_at quiet t below i has differ =
+        apart_where old new old_ok new_ok revised run is_run m r (kept quiet) (answered_to from to marks) cells lines during.wires from to least window.short window.within i has t below differ
 
     pub joining_answers : (cell_at cells m).live ≡ false → (memory : Memory) → IsAt new m to r memory
-        → HearOther run lines r.inputs from to
+        → (t : ℕ) → from ≤ t → t < to → IsApart old new m t
         → (given : List Line) (lists : List (List ModuleId)) → GoesOnFrom new run lines given r (state_in (slot_at run.kept m) c) c to
-        → GoesOnWatching new run to lines given looks lists → IsDuring old new run c from to due (slice_set marks m false) (slice_set cells m (live_with memory)) given lists
-    joining_answers quiet memory is other given lists wires watching =
-        let found = other.2 in
-        let apart = apart_where old new old_ok new_ok revised run is_run m r (kept quiet) (answered_to from to marks) cells lines during.wires from to least window.short window.within other.0 other.1 found.0 found.2 found.3 in
+        → GoesOnListening new run to lines given looks lists → IsDuring old new run c from to due (slice_set marks m false) (slice_set cells m (live_with memory)) given lists
+    joining_answers quiet memory is t late below apart given lists wires listens =
         let block = window.block in
-        let late = found.1 in
-        answers memory (inr (inr (found.0, omega (arith, block, late), found.2, apart))) is given lists
-        (λ times later step are. wires m from times later cells (slice_set cells m (live_with memory)) (due_quiet quiet) block step are) watching
+        answers memory (inr (inr (t, omega (arith, block, late), below, apart))) is given lists
+        (λ times later step are. wires m from times later cells (slice_set cells m (live_with memory)) (due_quiet quiet) block step are) listens
 
     pub quiet_stays : (cell_at cells m).live ≡ false → ((i : Input) → Contains r.inputs i → (t : ℕ) → from ≤ t → t < to → level_at run lines i.wire.0 (t - i.delay) ≡ level_in (wave_of run i.wire.0) (t - i.delay))
         → IsDuring old new run c from to due (slice_set marks m false) cells lines looks

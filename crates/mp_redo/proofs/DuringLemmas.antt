@@ -1,4 +1,4 @@
--- One more module has answered in a window.
+-- One more module has answered in a short span.
 use Rattle.std.proofs.Common.{◌≡◌, ◌≢◌, ℕ, ◌+◌, ◌<◌, ◌≤◌, Bool, true, false, cond, List, Some, length, slice_set, ap, sym, subst, ◌∙◌, arith, inl, inr}
 use Rattle.std.specs.List.{Contains}
 use Rattle.std.proofs.lemmas.Bool.{cases_lt, cases_eq}
@@ -16,8 +16,8 @@ use Rattle.mp_engine.proofs.MarkLemmas.{marked_within}
 use Rattle.mp_redo.specs.declared.cell.Cell.{Cell}
 use Rattle.mp_redo.specs.declared.line.Line.{Line}
 use Rattle.mp_redo.specs.Revisions.{IsRevision}
-use Rattle.mp_redo.specs.Redoing.{level_at, cell_at, answered_to, IsWorking, IsCellAt, AreLines, IsDuring}
-use Rattle.mp_redo.specs.Steps.{IsStep, GoesOnWatching}
+use Rattle.mp_redo.specs.Redoing.{level_at, cell_at, answered_to, IsWorking, IsCellAt, AreLines, IsListening, IsDuring}
+use Rattle.mp_redo.specs.Steps.{IsStep, GoesOnListening}
 use Rattle.mp_redo.proofs.LineLemmas.{one_delay, idle_kept, idle_line, line_on}
 use Rattle.mp_redo.proofs.MarkedLemmas.{answered_marked}
 
@@ -52,9 +52,9 @@ module _ (old new : Circuit) (run : Outcome) (c from to : ℕ) (due : List Modul
   pub during_answered : (after : List Cell) (given : List Line) (lists : List (List ModuleId)) → IsCellAt old new c to m r (cell_at after m) → (cell_at after m).live ≡ true
       → ((k : ℕ) → k ≢ m → cell_at after k ≡ cell_at cells k) → length after ≡ length cells
       → ((times later : ℕ → ℕ) → IsStep times later cells after m from to → AreLines new run times cells lines → AreLines new run later after given)
-      → GoesOnWatching new run to lines given looks lists
+      → GoesOnListening new run to lines given looks lists
       → IsDuring old new run c from to due (slice_set marks m false) after given lists
-  during_answered after given lists here live others places wires watching = record {
+  during_answered after given lists here live others places wires listens = record {
     modules = record {
       places = places ∙ during.modules.places;
       each = λ k s stands. elim (cases_eq k m) as (λ _. IsCellAt old new c (answered_to from to (slice_set marks m false) k) k s (cell_at after k)) [
@@ -75,9 +75,9 @@ module _ (old new : Circuit) (run : Outcome) (c from to : ℕ) (due : List Modul
       same_cells = others;
       live = live;
     }) during.wires;
-    listening = λ k free watches.
+    listening = λ k free.
         let other : k ≢ m = λ same. free (subst (λ j. Contains due (record { 0 = j })) (sym same) is_due) in
-        watching k cells after (λ on. ap (λ (x : Cell). x.live) (sym (others k other)) ∙ on) (during.listening k free) watches;
+        subst (λ (x : Cell). IsListening new run x.live to given lists k) (sym (others k other)) (listens k (cell_at cells k).live (during.listening k free));
     listed = listed_still marks m due within during.listed;
   }
 

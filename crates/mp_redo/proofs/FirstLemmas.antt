@@ -1,11 +1,12 @@
 -- A re-evaluation before time 0: its cells, who looks first, and the first stretches.
 use Rattle.std.proofs.Common.{◌≡◌, ◌≢◌, ℕ, ◌+◌, ◌-◌, ◌<◌, ◌≤◌, Bool, true, false, List, [], ◌∷◌, ◌++◌, Some, None, IsSome, length, slice_set, refl, ap, sym, subst, ◌∙◌, arith, inl, inr}
 use Rattle.std.specs.List.{Contains}
-use Rattle.std.proofs.lemmas.Bool.{cases_eq, cases_lt}
+use Rattle.std.proofs.lemmas.Bool.{cases_eq, cases_lt, cases_Bool}
 use Rattle.std.proofs.lemmas.List.{get_or_past, get_or_push, get_or_append_left, get_or-set_same, get_or-set_other, length_push}
 use Rattle.std.proofs.lemmas.List.Elements.{Contains-append_left, Contains-append_cases, Contains-push}
 use Rattle.std.proofs.Math.ListN.{length-set}
 use Rattle.mp_records.specs.declared.ids.ModuleId.{ModuleId}
+use Rattle.mp_records.specs.declared.ports.Input.{Input}
 use Rattle.mp_records.specs.declared.module_record.ModuleRecord.{ModuleRecord}
 use Rattle.mp_netlist.specs.Circuit.{Circuit, IsCircuit, module_at}
 use Rattle.mp_netlist.specs.Delays.{least_delay}
@@ -15,13 +16,14 @@ use Rattle.mp_depend.specs.Known.{AreReaders}
 use Rattle.mp_depend.specs.Rows.{row_at}
 use Rattle.mp_engine.specs.Checkpoints.{state_before}
 use Rattle.mp_engine.specs.Marks.{is_marked}
-use Rattle.mp_engine.specs.Outcomes.{Outcome}
+use Rattle.mp_engine.specs.Outcomes.{Outcome, wave_of}
 use Rattle.mp_engine.proofs.MarkLemmas.{none_in, contains_cons}
 use Rattle.mp_redo.specs.declared.cell.Cell.{Cell}
 use Rattle.mp_redo.specs.declared.line.Line.{Line}
-use Rattle.mp_redo.specs.declared.line.Line.TheVariants.{Old}
-use Rattle.mp_redo.specs.Redoing.{no_cell, cell_at, line_at, looks_at, IsWorking, IsCellAt, AreCells, AreLines, IsTracked, IsWatching, IsLooking, AreOpen, IsBefore}
+use Rattle.mp_redo.specs.declared.line.Line.TheVariants.{Old, Own}
+use Rattle.mp_redo.specs.Redoing.{no_cell, cell_at, line_at, looks_at, IsWorking, IsCellAt, AreCells, AreLines, IsInput, IsTracked, IsNews, IsLooking, AreOpen, IsBefore}
 use Rattle.mp_redo.specs.declared.stretch.Stretch.{Stretch}
+use Rattle.mp_redo.specs.Lines.{level_in, line_level}
 use Rattle.mp_redo.specs.Joins.{AreLike}
 use Rattle.mp_redo.specs.Stretches.{no_stretch, stretch_at, IsPart, IsIn, AreStretchesTo}
 use Rattle.mp_redo.specs.Merges.{end_of_window}
@@ -85,6 +87,15 @@ tracked_within lines w tracked = elim (cases_lt w (length lines)) as (λ _. w < 
   | inr past ↦ absurd (subst IsTracked (get_or_past lines w Old past) tracked)
 ]
 
+-- a line that isn't the old wave isn't the old run's
+other_tracked : (run : Outcome) (live : Bool) (lines : List Line) (w x : ℕ) → live ≡ false → IsNews run live lines w x → IsTracked (line_at lines w)
+other_tracked run true lines w x quiet news = let no : ⊥ = cc in absurd no
+other_tracked run false lines w x quiet news = by (line_at lines w) news
+  where
+    by : (line : Line) → (line_level line (wave_of run w) (x + 1) ≡ level_in (wave_of run w) (x + 1) → ⊥) → IsTracked line
+    by Old differ = absurd (differ refl)
+    by (Own wave until) differ = tt
+
 -- where the live modules look first, and the readers of lines that aren't the old run's
 pub first_before : (old new : Circuit) (run : Outcome) (rows : List (List (ModuleId × ℕ))) (cells : List Cell) (lines : List Line) (looks : List (List ModuleId)) → AreReaders new rows
     → ((m : ℕ) → m < length new.modules → (cell_at cells m).live ≡ true → IsLooking looks m 0)
@@ -93,17 +104,20 @@ pub first_before : (old new : Circuit) (run : Outcome) (rows : List (List (Modul
 first_before old new run rows cells lines looks are entered told cells_are lines_are = record {
   modules = cells_are;
   wires = lines_are;
-  listening = λ m watching i is x late low news. looking_later looks m 0 (x + 1 + i.delay - 0) (omega arith) (looks_now m watching);
-  first = λ e m live. first_list m (looks_now m (inl live));
-  fresh = λ m u quiet e apart. let no : ⊥ = omega (arith, e) in absurd no;
+  listening = λ m i is x late low news. looking_later looks m 0 (x + 1 + i.delay - 0) (omega arith) (elim (cases_Bool (cell_at cells m).live) as (λ _. IsLooking looks m 0) [
+    | inl live ↦ live_looks m live
+    | inr quiet ↦ reader_looks m i is x (other_tracked run (cell_at cells m).live lines i.wire.0 x quiet news)
+  ]);
+  first = λ e m live. first_list m (live_looks m live);
 }
   where
-    looks_now : (m : ℕ) → IsWatching new cells lines m → IsLooking looks m 0
-    looks_now m (inl live) = entered m (let within = live_within cells m live in let same = cells_are.places in omega (arith, within, same)) live
-    looks_now m (inr reads) =
-        let i = reads.0 in
-        let reader = is_reader new m i reads.1 in
-        told i.wire.0 (record { 0 = m }, reader.0) (let within = tracked_within lines i.wire.0 reads.2 in let same = lines_are.places in omega (arith, within, same)) reads.2
+    live_looks : (m : ℕ) → (cell_at cells m).live ≡ true → IsLooking looks m 0
+    live_looks m live = entered m (let within = live_within cells m live in let same = cells_are.places in omega (arith, within, same)) live
+
+    reader_looks : (m : ℕ) (i : Input) → IsInput new m i → (x : ℕ) → IsTracked (line_at lines i.wire.0) → IsLooking looks m 0
+    reader_looks m i is x tracked =
+        let reader = is_reader new m i is in
+        told i.wire.0 (record { 0 = m }, reader.0) (let within = tracked_within lines i.wire.0 tracked in let same = lines_are.places in omega (arith, within, same)) tracked
         (subst (λ xs. Contains xs (record { 0 = m }, reader.0)) (sym (are i.wire.0)) reader.1)
 
     first_list : (m : ℕ) → IsLooking looks m 0 → Contains (looks_at looks 0) (record { 0 = m })

@@ -109,14 +109,18 @@ given_more lines next new outputs answers end a b p apart within can given place
         (takes w wire (subst (λ l. CanTake l (slice_index_or answers p []) (output_in outputs p).delay end a b) (sym same) (can p w within wire).1))
 
 -- and it can do so
-pub can_next : (lines next : List Line) (outputs : List Output) (answers : List (List (ℕ × ℕ))) (end a b p w : ℕ) → AreApart outputs → p < length outputs → CanGive lines outputs answers end a b
-    → HasGiven lines next outputs answers end a b p → (output_in outputs p).wire ≡ Some (record { 0 = w }) → (w < length next) × CanTakeSome (line_at next w) (slice_index_or answers p []) (output_in outputs p).delay end
-can_next lines next outputs answers end a b p w apart within can given wire =
+pub can_here : (lines next : List Line) (outputs : List Output) (answers : List (List (ℕ × ℕ))) (end a b p w : ℕ) → AreApart outputs → p < length outputs → CanGive lines outputs answers end a b
+    → HasGiven lines next outputs answers end a b p → (output_in outputs p).wire ≡ Some (record { 0 = w }) → (w < length next) × CanTake (line_at next w) (slice_index_or answers p []) (output_in outputs p).delay end a b
+can_here lines next outputs answers end a b p w apart within can given wire =
     let same : line_at next w ≡ line_at lines w = given.others w (λ q low other. let e = apart q p w other wire in omega (arith, e, low)) in
     let able = can p w within wire in
     let places = given.places in
     let first = able.0 in
-    (omega (arith, places, first), (a, b, subst (λ l. CanTake l (slice_index_or answers p []) (output_in outputs p).delay end a b) (sym same) able.1))
+    (omega (arith, places, first), subst (λ l. CanTake l (slice_index_or answers p []) (output_in outputs p).delay end a b) (sym same) able.1)
+
+pub can_next : (lines next : List Line) (outputs : List Output) (answers : List (List (ℕ × ℕ))) (end a b p w : ℕ) → AreApart outputs → p < length outputs → CanGive lines outputs answers end a b
+    → HasGiven lines next outputs answers end a b p → (output_in outputs p).wire ≡ Some (record { 0 = w }) → (w < length next) × CanTakeSome (line_at next w) (slice_index_or answers p []) (output_in outputs p).delay end
+can_next lines next outputs answers end a b p w apart within can given wire = let able = can_here lines next outputs answers end a b p w apart within can given wire in (able.0, (a, b, able.1))
 
 -- what was given, in terms of the module's outputs
 pub given_as : (lines new : List Line) (os outputs : List Output) (xs answers : List (List (ℕ × ℕ))) (h end a b : ℕ) → os ≡ outputs → xs ≡ answers → h ≡ end

@@ -1,5 +1,5 @@
--- What a module hears at its inputs in a window, by the lines of the wires.
-use Rattle.std.proofs.Common.{◌≡◌, ℕ, ◌+◌, ◌-◌, ◌<◌, ◌≤◌, List, [], ◌∷◌, Option, Some, None, IsSome, map, length, suc, refl, ap, sym, subst, ◌∙◌, arith, inl, inr}
+-- What a module hears at its inputs in a short span, by the lines of the wires.
+use Rattle.std.proofs.Common.{◌≡◌, ℕ, ◌+◌, ◌-◌, ◌<◌, ◌≤◌, Bool, true, false, List, [], ◌∷◌, Option, Some, None, IsSome, map, length, suc, refl, ap, sym, subst, ◌∙◌, arith, inl, inr}
 use Rattle.std.specs.List.{Contains}
 use Rattle.std.proofs.lemmas.Bool.{cases_lt, cases_eq}
 use Rattle.mp_wave.specs.Waveform.{Waveform}
@@ -19,8 +19,8 @@ use Rattle.mp_engine.specs.Outcomes.{Outcome, wave_of}
 use Rattle.mp_engine.specs.Runs.{IsRun}
 use Rattle.mp_redo.specs.declared.cell.Cell.{Cell}
 use Rattle.mp_redo.specs.declared.line.Line.{Line}
-use Rattle.mp_redo.specs.Lines.{level_in}
-use Rattle.mp_redo.specs.Redoing.{level_at, AreLines, IsGiven, IsInput, IsListening, IsLooking, IsNews}
+use Rattle.mp_redo.specs.Lines.{level_in, line_level}
+use Rattle.mp_redo.specs.Redoing.{level_at, line_at, AreLines, IsGiven, IsInput, IsListening, IsLooking, IsNews}
 
 -- the wire at an input stands
 pub input_stands : (n : Circuit) → IsCircuit n → (m : ℕ) (r : ModuleRecord) (i : Input) → module_at n m ≡ Some r → Contains r.inputs i → IsSome (wire_at n i.wire.0)
@@ -67,24 +67,27 @@ module _ (n : Circuit) (ok : IsCircuit n) (run : Outcome) (times : ℕ → ℕ) 
       ]
       ∙ sym (heard_now m u r i at has (omega (arith, low)) (omega (arith, near)))
 
--- where there is no news, neither the line nor the old wave changes
-pub no_news : (run : Outcome) (lines : List Line) (w x : ℕ) → (IsNews run lines w x → ⊥) → (level_at run lines w (x + 1) ≡ level_at run lines w x) × (level_in (wave_of run w) (x + 1) ≡ level_in (wave_of run w) x)
-no_news run lines w x none = (
-  elim (cases_eq (level_at run lines w (x + 1)) (level_at run lines w x)) as (λ _. level_at run lines w (x + 1) ≡ level_at run lines w x) [
-    | inl same ↦ same
-    | inr differ ↦ absurd (none (inl differ))
-  ],
-  elim (cases_eq (level_in (wave_of run w) (x + 1)) (level_in (wave_of run w) x)) as (λ _. level_in (wave_of run w) (x + 1) ≡ level_in (wave_of run w) x) [
-    | inl same ↦ same
-    | inr differ ↦ absurd (none (inr differ))
-  ],
-)
+-- where there is no news for a live module, the line doesn't change
+pub no_news : (run : Outcome) (live : Bool) (lines : List Line) (w x : ℕ) → live ≡ true → (IsNews run live lines w x → ⊥) → level_at run lines w (x + 1) ≡ level_at run lines w x
+no_news run true lines w x is none = elim (cases_eq (level_at run lines w (x + 1)) (level_at run lines w x)) as (λ _. level_at run lines w (x + 1) ≡ level_at run lines w x) [
+  | inl same ↦ same
+  | inr differ ↦ absurd (none differ)
+]
+no_news run false lines w x is none = let no : ⊥ = cc in absurd no
+
+-- where there is none for another, the line is the old wave
+pub no_other : (run : Outcome) (live : Bool) (lines : List Line) (w x : ℕ) → live ≡ false → (IsNews run live lines w x → ⊥) → level_at run lines w (x + 1) ≡ level_in (wave_of run w) (x + 1)
+no_other run true lines w x is none = let no : ⊥ = cc in absurd no
+no_other run false lines w x is none = elim (cases_eq (level_at run lines w (x + 1)) (level_in (wave_of run w) (x + 1))) as (λ _. level_at run lines w (x + 1) ≡ level_in (wave_of run w) (x + 1)) [
+  | inl same ↦ same
+  | inr differ ↦ absurd (none differ)
+]
 
 -- a module that listens and doesn't look in a window hears no news in it
-pub unheard : (n : Circuit) (run : Outcome) (from count : ℕ) (lines : List Line) (looks : List (List ModuleId)) (m : ℕ) → IsListening n run from lines looks m
+pub unheard : (n : Circuit) (run : Outcome) (live : Bool) (from count : ℕ) (lines : List Line) (looks : List (List ModuleId)) (m : ℕ) → IsListening n run live from lines looks m
     → ((ahead : ℕ) → ahead < count → IsLooking looks m ahead → ⊥) → (i : Input) → IsInput n m i → (x : ℕ) → from ≤ x + 1 + i.delay → x + 1 + i.delay < from + count → x + 1 + i.delay < n.horizon
-    → IsNews run lines i.wire.0 x → ⊥
-unheard n run from count lines looks m listens none i is x late near low news = none (x + 1 + i.delay - from) (omega (arith, late, near)) (listens i is x late low news)
+    → IsNews run live lines i.wire.0 x → ⊥
+unheard n run live from count lines looks m listens none i is x late near low news = none (x + 1 + i.delay - from) (omega (arith, late, near)) (listens i is x late low news)
 
 -- the old wave of a wire that stood has its levels
 pub old_level : (n : Circuit) (run : Outcome) → IsRun n run → (w t : ℕ) → IsSome (wire_at n w) → t < n.horizon → level_in (wave_of run w) t ≡ level n w t
@@ -93,3 +96,17 @@ old_level n run is w t stands low = ap (λ (x : Option Waveform). level_in x t) 
     by : (slot : Option WireRecord) → IsSome slot → level_in (slot_wave n w slot) t ≡ level n w t
     by None none = absurd (no_some (let slot : Option WireRecord = None in slot) refl none)
     by (Some r) some = levels_of_wave (level n w) (n.horizon - 1) t (omega (arith, low))
+
+-- whoever hears news hears it no earlier than a time before which a line has none
+pub no_earlier : (run : Outcome) (live : Bool) (line : Line) (lines : List Line) (w x time : ℕ) → line ≡ line_at lines w
+    → (live ≡ true → x + 1 < time → line_level line (wave_of run w) (x + 1) ≡ line_level line (wave_of run w) x)
+    → (live ≡ false → x + 1 < time → line_level line (wave_of run w) (x + 1) ≡ level_in (wave_of run w) (x + 1))
+    → IsNews run live lines w x → time ≤ x + 1
+no_earlier run true line lines w x time is own other news = elim (cases_lt (x + 1) time) as (λ _. time ≤ x + 1) [
+  | inl early ↦ absurd (news (subst (λ l. line_level l (wave_of run w) (x + 1) ≡ line_level l (wave_of run w) x) is (own refl early)))
+  | inr late ↦ late
+]
+no_earlier run false line lines w x time is own other news = elim (cases_lt (x + 1) time) as (λ _. time ≤ x + 1) [
+  | inl early ↦ absurd (news (subst (λ l. line_level l (wave_of run w) (x + 1) ≡ level_in (wave_of run w) (x + 1)) is (other refl early)))
+  | inr late ↦ late
+]

@@ -1,5 +1,5 @@
 -- Modules join: their stretches are open, and their ledgers are their own.
-use Rattle.std.proofs.Common.{◌≡◌, ℕ, ◌<◌, true, false, List, Some, None, IsSome, length, ap, sym, subst, ◌∙◌, arith, inl, inr}
+use Rattle.std.proofs.Common.{◌≡◌, ◌⊎◌, ℕ, ◌<◌, true, false, List, Some, None, IsSome, length, ap, sym, subst, ◌∙◌, arith, inl, inr}
 use Rattle.std.specs.List.{Contains}
 use Rattle.std.proofs.lemmas.Bool.{cases_Bool, cases_lt, both_ways, false_from_ne_true}
 use Rattle.std.proofs.lemmas.Option.{none-some}
@@ -13,14 +13,14 @@ use Rattle.mp_redo.specs.declared.stretch.Stretch.{Stretch}
 use Rattle.mp_redo.specs.Joins.{HaveAnswered, AreLike}
 use Rattle.mp_redo.specs.Keeping.{IsLedgerAt, AreLedgers}
 use Rattle.mp_redo.specs.Ledgers.{ledger_at}
-use Rattle.mp_redo.specs.Opened.{IsJoining, HasNew, HaveOpened, HaveJoined}
-use Rattle.mp_redo.specs.Redoing.{cell_at, IsOpenAt, AreOpen}
+use Rattle.mp_redo.specs.Opened.{HasNoStretch, HasNew, HaveOpened, HaveJoined}
+use Rattle.mp_redo.specs.Redoing.{cell_at, IsOpenAt, AreOpen, IsListed}
 use Rattle.mp_redo.specs.Stretches.{stretch_at}
 use Rattle.mp_redo.proofs.StayLemmas.{some_is}
 
 -- ---- which modules are live where some have answered
 
-module _ (new : Circuit) (from : ℕ) (due : List ModuleId) (before cells : List Cell) (stretches : List Stretch) (have : HaveAnswered due before cells) (goes : AreOpen new from before stretches) where
+module _ (new : Circuit) (from : ℕ) (joined : List ModuleId) (before cells : List Cell) (stretches : List Stretch) (have : HaveAnswered joined before cells) (goes : AreOpen new from before stretches) where
   -- a module that stands and has no stretch wasn't live before
   pub dark_before : (m : ℕ) → IsSome (module_at new m) → (cell_at cells m).stretch ≡ None → (cell_at before m).live ≡ false
   dark_before m stands none = false_from_ne_true (cell_at before m).live (λ on.
@@ -30,20 +30,19 @@ module _ (new : Circuit) (from : ℕ) (due : List ModuleId) (before cells : List
   pub dark_still : (m : ℕ) → (cell_at cells m).live ≡ false → (cell_at before m).live ≡ false
   dark_still m off = false_from_ne_true (cell_at before m).live (λ on. both_ways (cell_at cells m).live off (have.live m on))
 
-  module _ (after : List Cell) (done : (m : ℕ) → Contains due (record { 0 = m }) → IsJoining new after m → ⊥) where
+  module _ (after : List Cell) (done : (m : ℕ) → Contains joined (record { 0 = m }) → HasNoStretch new after m → ⊥) where
     -- where no module is left joining, one that has become live isn't as it was
     pub left_alone : (m : ℕ) → IsSome (module_at new m) → (cell_at cells m).live ≡ true → (cell_at before m).live ≡ false → cell_at after m ≡ cell_at cells m → ⊥
     left_alone m stands on off same =
-        let joins : IsJoining new after m = record { stands = stands; live = ap (λ (x : Cell). x.live) same ∙ on; none = ap (λ (x : Cell). x.stretch) same ∙ have.stretch m ∙ goes.closed m off } in
-        let left : cell_at cells m ≡ cell_at before m = have.others m (λ is. done m is joins) in
-        both_ways (cell_at before m).live off (ap (λ (x : Cell). x.live) (sym left) ∙ on)
+        let joins : HasNoStretch new after m = record { stands = stands; live = ap (λ (x : Cell). x.live) same ∙ on; none = ap (λ (x : Cell). x.stretch) same ∙ have.stretch m ∙ goes.closed m off } in
+        both_ways (cell_at before m).live off (sym (have.others m (λ is. done m is joins)) ∙ on)
 
     -- the ledgers of those that have joined are their own
     pub joined_ledgers : (run : Outcome) (block : ℕ) (ledgers later : List Ledger) → AreLike cells after → HaveJoined new run block cells after ledgers later
         → AreLedgers new run block before ledgers → AreLedgers new run block after later
-    joined_ledgers run block ledgers later like joined are = record {
-      places = joined.places ∙ are.places;
-      each = λ m r stands. elim (joined.each m) as (λ _. IsLedgerAt new run block m r (cell_at after m).live (ledger_at later m)) [
+    joined_ledgers run block ledgers later like taken are = record {
+      places = taken.places ∙ are.places;
+      each = λ m r stands. elim (taken.each m) as (λ _. IsLedgerAt new run block m r (cell_at after m).live (ledger_at later m)) [
         | inl same ↦
             subst (λ l. IsLedgerAt new run block m r (cell_at after m).live l) (sym same.1)
             (subst (λ b. IsLedgerAt new run block m r b (ledger_at ledgers m)) (was m r stands same.0) (are.each m r stands))
@@ -59,21 +58,34 @@ module _ (new : Circuit) (from : ℕ) (due : List ModuleId) (before cells : List
           | inr off ↦ off ∙ sym (like.live m ∙ false_from_ne_true (cell_at cells m).live (λ on. left_alone m (some_is (module_at new m) r stands) on off same))
         ]
 
+    -- and they are listed as live with those that were
+    pub joined_listed : (live now : List ModuleId) → AreLike cells after → ((m : ℕ) → HasNoStretch new cells m → HasNoStretch new after m ⊎ Contains now (record { 0 = m }))
+        → ((m : ℕ) → Contains live (record { 0 = m }) → Contains now (record { 0 = m })) → IsListed new before live → IsListed new after now
+    joined_listed live now like either more listed m stands on = elim (cases_Bool (cell_at before m).live) as (λ _. Contains now (record { 0 = m })) [
+      | inl was ↦ more m (listed m stands was)
+      | inr off ↦
+          let lives : (cell_at cells m).live ≡ true = sym (like.live m) ∙ on in
+          elim (either m (record { stands = stands; live = lives; none = have.stretch m ∙ goes.closed m off })) as (λ _. Contains now (record { 0 = m })) [
+            | inl joins ↦ absurd (both_ways (cell_at before m).live off (sym (have.others m (λ is. done m is joins)) ∙ lives))
+            | inr is ↦ is
+          ]
+    ]
+
 -- ---- which stretches are open
 
-module _ (new : Circuit) (from to block : ℕ) (due : List ModuleId) (before cells after : List Cell) (stretches opened : List Stretch) (have : HaveAnswered due before cells) (goes : AreOpen new from before stretches)
-    (rel : HaveOpened new block to cells after stretches opened) (done : (m : ℕ) → Contains due (record { 0 = m }) → IsJoining new after m → ⊥) where
+module _ (new : Circuit) (from to block : ℕ) (joined : List ModuleId) (before cells after : List Cell) (stretches opened : List Stretch) (have : HaveAnswered joined before cells) (goes : AreOpen new from before stretches)
+    (rel : HaveOpened new block to cells after stretches opened) (done : (m : ℕ) → Contains joined (record { 0 = m }) → HasNoStretch new after m → ⊥) where
   -- who was live keeps its stretch
   pub kept_place : (m : ℕ) → IsSome (module_at new m) → (cell_at before m).live ≡ true → (cell_at after m).stretch ≡ (cell_at before m).stretch
   kept_place m stands on = elim (rel.each m) as (λ _. (cell_at after m).stretch ≡ (cell_at before m).stretch) [
     | inl same ↦ ap (λ (x : Cell). x.stretch) same ∙ have.stretch m
-    | inr found ↦ absurd (both_ways (cell_at before m).live (dark_before new from due before cells stretches have goes m stands found.1.joins.none) on)
+    | inr found ↦ absurd (both_ways (cell_at before m).live (dark_before new from joined before cells stretches have goes m stands found.1.joins.none) on)
   ]
 
   -- who has become live has a new one
   pub new_place : (m : ℕ) → IsSome (module_at new m) → (cell_at cells m).live ≡ true → (cell_at before m).live ≡ false → (k : ℕ) × HasNew new block to cells after (length stretches) opened m k
   new_place m stands on off = elim (rel.each m) as (λ _. (k : ℕ) × HasNew new block to cells after (length stretches) opened m k) [
-    | inl same ↦ absurd (left_alone new from due before cells stretches have goes after done m stands on off same)
+    | inl same ↦ absurd (left_alone new from joined before cells stretches have goes after done m stands on off same)
     | inr found ↦ found
   ]
 
@@ -122,7 +134,7 @@ module _ (new : Circuit) (from to block : ℕ) (due : List ModuleId) (before cel
     closed = λ m off.
         let was : (cell_at cells m).live ≡ false = sym (rel.like.live m) ∙ off in
         elim (rel.each m) as (λ _. (cell_at after m).stretch ≡ None) [
-          | inl same ↦ ap (λ (x : Cell). x.stretch) same ∙ have.stretch m ∙ goes.closed m (dark_still new from due before cells stretches have goes m was)
+          | inl same ↦ ap (λ (x : Cell). x.stretch) same ∙ have.stretch m ∙ goes.closed m (dark_still new from joined before cells stretches have goes m was)
           | inr found ↦ absurd (both_ways (cell_at cells m).live was found.1.joins.live)
         ];
     over = λ k within later. elim (cases_lt k (length stretches)) as (λ _. IsOver k (stretch_at opened k)) [

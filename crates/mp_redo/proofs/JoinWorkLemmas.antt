@@ -8,7 +8,7 @@ use Rattle.mp_netlist.specs.Circuit.{Circuit, IsCircuit, module_at}
 use Rattle.mp_redo.specs.declared.cell.Cell.{Cell}
 use Rattle.mp_redo.specs.declared.stretch.Stretch.{Stretch}
 use Rattle.mp_redo.specs.Joins.{HaveAnswered}
-use Rattle.mp_redo.specs.Opened.{IsJoining, stretch_from, HaveOpened}
+use Rattle.mp_redo.specs.Opened.{HasNoStretch, stretch_from, HaveOpened}
 use Rattle.mp_redo.specs.Redoing.{cell_at, IsWorking, AreCells, AreOpen}
 use Rattle.mp_redo.specs.Stretches.{stretch_at, IsPart, IsIn, EndsWithWindow, HasBegun, AreStretchesTo}
 use Rattle.mp_redo.specs.Work.{block_of, window_end, IsWindow, IsApartIn, IsAtWork, WorksFrom, IsEntry}
@@ -28,8 +28,8 @@ working_stands old new c m t (inr (inl differs)) = some_is (module_at new m) dif
 working_stands old new c m t (inr (inr found)) = found.3.after
 
 module _ (old new : Circuit) (ok : IsCircuit new) (from to block : ℕ) (window : IsWindow new from to) (same : block ≡ block_of from)
-    (due : List ModuleId) (before cells after : List Cell) (stretches opened : List Stretch) (have : HaveAnswered due before cells) (goes : AreOpen new from before stretches)
-    (rel : HaveOpened new block to cells after stretches opened) (done : (m : ℕ) → Contains due (record { 0 = m }) → IsJoining new after m → ⊥)
+    (joined : List ModuleId) (before cells after : List Cell) (stretches opened : List Stretch) (have : HaveAnswered joined before cells) (goes : AreOpen new from before stretches)
+    (rel : HaveOpened new block to cells after stretches opened) (done : (m : ℕ) → Contains joined (record { 0 = m }) → HasNoStretch new after m → ⊥)
     (at_from : AreCells old new block (λ m. from) before) (at_to : AreCells old new block (λ m. to) cells) (are : AreStretchesTo old new from stretches) where
   less : from < to
   less = (window_within new ok from to window).1
@@ -131,12 +131,12 @@ module _ (old new : Circuit) (ok : IsCircuit new) (from to block : ℕ) (window 
       absurd (omega (arith, some, high, low))
 
   -- a new stretch of the module
-  new_is : (m a b k : ℕ) → length stretches ≤ k → b ≤ to → IsIn new opened m a b k → IsJoining new cells m × ((cell_at after m).stretch ≡ Some k) × (a ≡ block) × (b ≡ to)
+  new_is : (m a b k : ℕ) → length stretches ≤ k → b ≤ to → IsIn new opened m a b k → HasNoStretch new cells m × ((cell_at after m).stretch ≡ Some k) × (a ≡ block) × (b ≡ to)
   new_is m a b k high low is =
       let found = rel.news k high is.within in
       let one : found.0 ≡ m = sym (ap (λ (s : Stretch). s.«module».0) found.1.is) ∙ is.part in
       let first = new_first found.0 a b low (subst (λ (s : Stretch). IsPart new s a b) found.1.is is.at) in
-      (subst (IsJoining new cells) one found.1.joins, subst (λ j. (cell_at after j).stretch ≡ Some k) one found.1.place, first.0, first.1)
+      (subst (HasNoStretch new cells) one found.1.joins, subst (λ j. (cell_at after j).stretch ≡ Some k) one found.1.place, first.0, first.1)
 
   -- ---- work is in a stretch
 
@@ -158,7 +158,7 @@ module _ (old new : Circuit) (ok : IsCircuit new) (from to block : ℕ) (window 
       let off : (cell_at before m).live ≡ false = false_from_ne_true (cell_at before m).live (λ on. joins.0 (was_at_work m stands on)) in
       let begins = apart.1 in
       let on = now_live m stands (inr (inr (apart.0, omega (arith, begins), apart.2, apart.3))) in
-      let found = new_place new from to block due before cells after stretches opened have goes rel done m stands on off in
+      let found = new_place new from to block joined before cells after stretches opened have goes rel done m stands on off in
       let is = found.1.is in
       let part : IsPart new (stretch_from new m block to) a to = inl (joins.2 ∙ sym same, refl) in
       (found.0, record { within = found.1.within; part = ap (λ (s : Stretch). s.«module».0) is; at = subst (λ (s : Stretch). IsPart new s a to) (sym is) part })
@@ -193,7 +193,7 @@ module _ (old new : Circuit) (ok : IsCircuit new) (from to block : ℕ) (window 
     | inr high ↦
         let found = new_is m a b k high low is in
         let joins = found.0 in
-        let idle = was_idle m joins.stands (dark_before new from due before cells stretches have goes m joins.stands joins.none) in
+        let idle = was_idle m joins.stands (dark_before new from joined before cells stretches have goes m joins.stands joins.none) in
         entry_here m a b found.3 (inr (idle, first_apart m idle (now_at_work m joins.stands joins.live), found.2 ∙ same))
   ]
 
@@ -206,7 +206,7 @@ module _ (old new : Circuit) (ok : IsCircuit new) (from to block : ℕ) (window 
         let ends = old_late k a b within late low was.at in
         let over = goes.over k within ends.2 in
         let j = (stretch_at stretches k).«module».0 in
-        subst (λ i. (cell_at after i).stretch ≡ Some k) was.part (kept_place new from to block due before cells after stretches opened have goes rel done j over.2 over.0 ∙ over.1)
+        subst (λ i. (cell_at after i).stretch ≡ Some k) was.part (kept_place new from to block joined before cells after stretches opened have goes rel done j over.2 over.0 ∙ over.1)
     | inr high ↦ (new_is m a b k high low is).1
   ]
 
@@ -246,5 +246,5 @@ module _ (old new : Circuit) (ok : IsCircuit new) (from to block : ℕ) (window 
   pub joined_stretches : AreStretchesTo old new to opened × AreOpen new to after opened
   joined_stretches = (
     record { known = known; only = only; once = once; begun = begun; ends = ends },
-    open_after new from to block due before cells after stretches opened have goes rel done less,
+    open_after new from to block joined before cells after stretches opened have goes rel done less,
   )

@@ -17,10 +17,10 @@ use Rattle.mp_redo.proofs.LineLemmas.{before_is, idle_agrees, idle_kept}
 use Rattle.mp_redo.proofs.OverLemmas.{old_state}
 
 module _ (old new : Circuit) (old_ok : IsCircuit old) (new_ok : IsCircuit new) (revised : IsRevision old new) (run : Outcome) (is_run : IsRun old run)
-    (block time : ℕ) (border : IsBorder time) (later : block < time) (low : time < new.horizon)
+    (block time : ℕ) (border : IsBorder time) (positive : 0 < time) (low : time < new.horizon)
     (m : ℕ) (r : ModuleRecord) (at : module_at new m ≡ Some r) (cell : Cell) (is : IsCellAt old new block time m r cell) where
   last : time - 1 + 1 ≡ time
-  last = omega (arith, later)
+  last = omega (arith, positive)
 
   -- the old run kept the old state
   old_is : module_at old m ≡ Some r → state_in (slot_at run.kept m) time ≡ state old m (time - 1)
@@ -45,18 +45,18 @@ module _ (old new : Circuit) (old_ok : IsCircuit old) (new_ok : IsCircuit new) (
   ]
 
   -- one that wasn't at work isn't
-  rests_on : (IsWorking old new block m time → ⊥) → IsWorking old new time m time → ⊥
-  rests_on idle (inl touched) = idle (inl touched)
-  rests_on idle (inr (inl differs)) =
+  rests_on : block < time → (IsWorking old new block m time → ⊥) → IsWorking old new time m time → ⊥
+  rests_on later idle (inl touched) = idle (inl touched)
+  rests_on later idle (inr (inl differs)) =
       let was = idle_kept old new block time time m r cell is idle in
       let next = differs.before in
       differs.differ (idle_agrees old new old_ok new_ok revised block time m r (record { before = was; after = at }) idle differs.last (omega (arith, next, later)) (omega (arith, next)))
-  rests_on idle (inr (inr found)) = let from = found.1 in let below = found.2 in omega (arith, from, below)
+  rests_on later idle (inr (inr found)) = let from = found.1 in let below = found.2 in omega (arith, from, below)
 
-  pub stays : (IsBack run time m cell → ⊥) → IsCellAt old new time time m r cell
-  stays not = record {
+  pub stays : block < time → (IsBack run time m cell → ⊥) → IsCellAt old new time time m r cell
+  stays later not = record {
     live = works_on not;
-    quiet = λ quiet. rests_on (is.quiet quiet);
+    quiet = λ quiet. rests_on later (is.quiet quiet);
     memory = is.memory;
     touched = is.touched;
     kept = is.kept;

@@ -48,3 +48,7 @@ pub mod CrossLemmas
 pub mod FirstLemmas
 pub mod SortLemmas
 pub mod CourseLemmas
+pub mod UnitLemmas
+pub mod ListedLemmas
+pub mod TaskLemmas
+pub mod IdleLemmas

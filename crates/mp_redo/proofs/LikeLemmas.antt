@@ -1,5 +1,5 @@
 -- What is known of cells is known of cells that are alike.
-use Rattle.std.proofs.Common.{◌≡◌, ℕ, List, sym, ◌∙◌, inl, inr}
+use Rattle.std.proofs.Common.{◌≡◌, ℕ, List, sym, subst, ◌∙◌}
 use Rattle.mp_records.specs.declared.ids.ModuleId.{ModuleId}
 use Rattle.mp_netlist.specs.Circuit.{Circuit}
 use Rattle.mp_engine.specs.Outcomes.{Outcome}
@@ -7,7 +7,7 @@ use Rattle.mp_redo.specs.declared.cell.Cell.{Cell}
 use Rattle.mp_redo.specs.declared.line.Line.{Line}
 use Rattle.mp_redo.specs.declared.stretch.Stretch.{Stretch}
 use Rattle.mp_redo.specs.Joins.{AreLike}
-use Rattle.mp_redo.specs.Redoing.{cell_at, AreCells, AreLines, IsWatching, AreOpen, IsBefore}
+use Rattle.mp_redo.specs.Redoing.{cell_at, AreCells, AreLines, IsListening, AreOpen, IsBefore}
 
 pub cells_like : (old new : Circuit) (c : ℕ) (times : ℕ → ℕ) (cells after : List Cell) → AreLike cells after → AreCells old new c times cells → AreCells old new c times after
 cells_like old new c times cells after like are = record {
@@ -35,19 +35,14 @@ lines_like new run times cells after lines like are = record {
       };
 }
 
-pub watching_like : (new : Circuit) (cells after : List Cell) (lines : List Line) (m : ℕ) → AreLike cells after → IsWatching new after lines m → IsWatching new cells lines m
-watching_like new cells after lines m like (inl on) = inl (sym (like.live m) ∙ on)
-watching_like new cells after lines m like (inr reads) = inr reads
-
 -- before a window too
 pub before_like : (old new : Circuit) (run : Outcome) (c t : ℕ) (cells after : List Cell) (lines : List Line) (looks : List (List ModuleId)) → AreLike cells after
     → IsBefore old new run c t cells lines looks → IsBefore old new run c t after lines looks
 before_like old new run c t cells after lines looks like before = record {
   modules = cells_like old new c (λ m. t) cells after like before.modules;
   wires = lines_like new run (λ m. t) cells after lines like before.wires;
-  listening = λ m watching. before.listening m (watching_like new cells after lines m like watching);
+  listening = λ m. subst (λ live. IsListening new run live t lines looks m) (sym (like.live m)) (before.listening m);
   first = λ zero m on. before.first zero m (sym (like.live m) ∙ on);
-  fresh = λ m u off. before.fresh m u (sym (like.live m) ∙ off);
 }
 
 -- which stretches are open is known from who is live and who has which

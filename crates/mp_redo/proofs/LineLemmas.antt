@@ -25,7 +25,7 @@ use Rattle.mp_redo.specs.declared.line.Line.{Line}
 use Rattle.mp_redo.specs.declared.line.Line.TheVariants.{Old, Own}
 use Rattle.mp_redo.specs.Lines.{level_in, line_level, IsOwn}
 use Rattle.mp_redo.specs.Revisions.{IsRevision, IsKept, AgreeBefore, IsDrivenAlike}
-use Rattle.mp_redo.specs.Redoing.{level_at, line_at, IsWorking, IsCellAt, IsGiven, IsLineAt, IsTracked}
+use Rattle.mp_redo.specs.Redoing.{level_at, line_at, IsWorking, IsCellAt, IsGiven, IsLineAt}
 use Rattle.mp_redo.proofs.HeardLemmas.{old_level}
 use Rattle.mp_redo.proofs.LevelLemmas.{levels_stay}
 use Rattle.mp_redo.proofs.SameLemmas.{same, same_memories}
@@ -49,10 +49,6 @@ own_held (Own wave until) old next end a t own near low below =
 pub own_later : (line : Line) (next later end : ℕ) → next ≤ later → IsOwn line next end → IsOwn line later end
 own_later Old next later end le own = own
 own_later (Own wave until) next later end le own = (own.0, omega (arith, own.1, le), own.2)
-
-pub own_tracked : (line : Line) (next end : ℕ) → IsOwn line next end → IsTracked line
-own_tracked Old next end own = absurd own
-own_tracked (Own wave until) next end own = tt
 
 pub own_shorter : (line : Line) (next end sooner : ℕ) → sooner ≤ end → IsOwn line next end → IsOwn line next sooner
 own_shorter Old next end sooner le own = own

@@ -1,4 +1,4 @@
--- When a window begins: the modules that don't look in it have answered.
+-- When a short span begins: the modules that don't look in it have answered.
 use Rattle.std.proofs.Common.{◌≡◌, ◌⊎◌, ℕ, ◌+◌, ◌-◌, ◌<◌, ◌≤◌, Bool, true, false, cond, List, Some, zero, suc, refl, ap, sym, subst, ◌∙◌, arith, inl, inr}
 use Rattle.std.proofs.lemmas.Bool.{cases_lt, cases_Bool}
 use Rattle.mp_records.specs.declared.ids.ModuleId.{ModuleId}

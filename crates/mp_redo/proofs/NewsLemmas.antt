@@ -1,8 +1,8 @@
 -- When a wave changes next.
-use Rattle.std.proofs.Common.{◌≡◌, ℕ, ◌+◌, ◌<◌, ◌≤◌, List, [], ◌∷◌, length, slice_index_or, refl, sym, ◌∙◌, arith}
-use Rattle.std.proofs.lemmas.Bool.{lt-leb}
-use Rattle.mp_wave.specs.Waveform.{Waveform, IsWaveform, level_from, level_of, between}
-use Rattle.mp_wave.proofs.PrefixLemmas.{cut_levels}
+use Rattle.std.proofs.Common.{◌≡◌, ℕ, ◌+◌, ◌-◌, ◌<◌, ◌≤◌, List, [], ◌∷◌, zero, suc, length, slice_index_or, refl, ap, sym, subst, ◌∙◌, arith, inl, inr}
+use Rattle.std.proofs.lemmas.Bool.{cases_eq, lt-leb}
+use Rattle.mp_wave.specs.Waveform.{Waveform, IsWaveform, level_from, level_of, last_time, between}
+use Rattle.mp_wave.proofs.PrefixLemmas.{cut_levels, level_from-over}
 
 early : (changes : List (ℕ × ℕ)) (before t : ℕ) → (0 < length changes → t < (slice_index_or changes 0 (0, 0)).0) → level_from before changes t ≡ before
 early [] before t first = refl
@@ -16,3 +16,32 @@ no_change wave after end x form first from below =
     ∙ early (between after end wave.changes) (level_of wave after) (x + 1) first
     ∙ sym (early (between after end wave.changes) (level_of wave after) x (λ some. let f = first some in omega (arith, f)))
     ∙ cut_levels wave after end x form from (omega (arith, below))
+
+-- two levels that are alike once, and then stay, are alike
+pub alike_on : (f g : ℕ → ℕ) (first last : ℕ) → f first ≡ g first → ((x : ℕ) → first ≤ x → x + 1 < last → f (x + 1) ≡ f x) → ((x : ℕ) → first ≤ x → x + 1 < last → g (x + 1) ≡ g x)
+    → (x : ℕ) → first ≤ x → x < last → f x ≡ g x
+alike_on f g first last same own old zero from below = let e : first ≡ 0 = omega (arith, from) in subst (λ k. f k ≡ g k) e same
+alike_on f g first last same own old (suc x) from below = elim (cases_eq first (suc x)) as (λ _. f (suc x) ≡ g (suc x)) [
+  | inl here ↦ subst (λ k. f k ≡ g k) here same
+  | inr other ↦
+      let late : first ≤ x = omega (arith, from, other) in
+      let low : x + 1 < last = omega (arith, below) in
+      let e : x + 1 ≡ suc x = omega arith in
+      subst (λ k. f k ≡ g k) e (own x late low ∙ alike_on f g first last same own old x late (omega (arith, below)) ∙ sym (old x late low))
+]
+
+-- the time of the last change
+last_at : (time : ℕ) (changes : List (ℕ × ℕ)) → 0 < length changes → last_time time changes ≡ (slice_index_or changes (length changes - 1) (0, 0)).0
+last_at time [] some = absurd (let no : ⊥ = omega (arith, some) in no)
+last_at time (c ∷ []) some = refl
+last_at time (c ∷ d ∷ cs) some =
+    let e : length (c ∷ d ∷ cs) - 1 ≡ suc (length (d ∷ cs) - 1) = omega arith in
+    last_at c.0 (d ∷ cs) (omega arith) ∙ sym (ap (λ k. (slice_index_or (c ∷ d ∷ cs) k (0, 0)).0) e)
+
+-- from the last change on a wave keeps its level
+pub over_last : (wave : Waveform) (after x : ℕ) → IsWaveform wave → 0 < length wave.changes → (slice_index_or wave.changes (length wave.changes - 1) (0, 0)).0 ≤ after → after ≤ x
+    → level_of wave (x + 1) ≡ level_of wave x
+over_last wave after x form some last from =
+    let is = last_at 0 wave.changes some in
+    level_from-over 0 wave.initial (x + 1) wave.changes form (omega (arith, is, last, from))
+    ∙ sym (level_from-over 0 wave.initial x wave.changes form (omega (arith, is, last, from)))

@@ -10,7 +10,7 @@ use Rattle.mp_redo.specs.declared.stretch.Stretch.{Stretch}
 use Rattle.mp_redo.specs.Joins.{AreLike}
 use Rattle.mp_redo.specs.Keeping.{IsLedgerAt}
 use Rattle.mp_redo.specs.Ledgers.{ledger_at}
-use Rattle.mp_redo.specs.Opened.{IsJoining, HasNew, HaveOpened, HasJoined, HaveJoined}
+use Rattle.mp_redo.specs.Opened.{HasNoStretch, HasNew, HaveOpened, HasJoined, HaveJoined}
 use Rattle.mp_redo.specs.Redoing.{cell_at}
 
 -- cells that are like those that are like others
@@ -23,8 +23,8 @@ like_then cells next after one other = record {
 }
 
 -- who is joining after some have been opened was joining before
-pub joined_before : (new : Circuit) (from to : ℕ) (cells after : List Cell) (stretches opened : List Stretch) → HaveOpened new from to cells after stretches opened → (m : ℕ) → IsJoining new after m → IsJoining new cells m
-joined_before new from to cells after stretches opened rel m joins = elim (rel.each m) as (λ _. IsJoining new cells m) [
+pub joined_before : (new : Circuit) (from to : ℕ) (cells after : List Cell) (stretches opened : List Stretch) → HaveOpened new from to cells after stretches opened → (m : ℕ) → HasNoStretch new after m → HasNoStretch new cells m
+joined_before new from to cells after stretches opened rel m joins = elim (rel.each m) as (λ _. HasNoStretch new cells m) [
   | inl same ↦ record {
     stands = joins.stands;
     live = ap (λ (x : Cell). x.live) (sym same) ∙ joins.live;

@@ -39,7 +39,7 @@ taken_none lists marks due = record {
   listed = λ are. are;
 }
 
-at_next : (lists : List (List ModuleId)) (k : ℕ) → slice_index_or (drop 1 lists ++ [] ∷ []) k [] ≡ slice_index_or lists (k + 1) []
+pub at_next : (lists : List (List ModuleId)) (k : ℕ) → slice_index_or (drop 1 lists ++ [] ∷ []) k [] ≡ slice_index_or lists (k + 1) []
 at_next lists k =
     let rest = drop 1 lists in
     let e : 1 + k ≡ k + 1 = omega arith in

@@ -1,4 +1,4 @@
--- Modules that don't look at their inputs in a window.
+-- Modules that don't look at their inputs in a short span.
 use Rattle.std.proofs.Common.{◌≡◌, ℕ, ◌+◌, ◌-◌, ◌<◌, ◌≤◌, true, false, List, [], ◌∷◌, Some, map, zero, suc, refl, ap, sym, subst, ◌∙◌, arith, inl, inr}
 use Rattle.std.specs.List.{Contains}
 use Rattle.std.proofs.lemmas.Bool.{cases_lt, cases_eq}
@@ -18,11 +18,10 @@ use Rattle.mp_engine.specs.Outcomes.{Outcome, wave_of}
 use Rattle.mp_engine.specs.Runs.{IsRun}
 use Rattle.mp_redo.specs.declared.cell.Cell.{Cell}
 use Rattle.mp_redo.specs.declared.line.Line.{Line}
-use Rattle.mp_redo.specs.declared.line.Line.TheVariants.{Old, Own}
-use Rattle.mp_redo.specs.Lines.{level_in, line_level}
+use Rattle.mp_redo.specs.Lines.{level_in}
 use Rattle.mp_redo.specs.Revisions.{IsRevision, IsKept}
-use Rattle.mp_redo.specs.Redoing.{level_at, line_at, cell_at, IsListening, IsLooking, IsTracked, IsBefore}
-use Rattle.mp_redo.proofs.HeardLemmas.{input_stands, map_same, heard_now, heard_on, no_news, unheard, old_level}
+use Rattle.mp_redo.specs.Redoing.{level_at, cell_at, IsNews, IsLooking, IsBefore}
+use Rattle.mp_redo.proofs.HeardLemmas.{input_stands, map_same, heard_now, heard_on, no_news, no_other, unheard, old_level}
 use Rattle.mp_redo.proofs.LevelLemmas.{initials_same}
 use Rattle.mp_redo.proofs.StayLemmas.{old_inputs, new_inputs, together}
 
@@ -68,19 +67,17 @@ module _ (old new : Circuit) (old_ok : IsCircuit old) (new_ok : IsCircuit new) (
     (c from to : ℕ) (cells : List Cell) (lines : List Line) (looks : List (List ModuleId)) (before : IsBefore old new run c from cells lines looks)
     (short : to ≤ from + least_delay new) (within : to ≤ new.horizon) (m : ℕ) (r : ModuleRecord) (at : module_at new m ≡ Some r)
     (none : (ahead : ℕ) → from + ahead < to → IsLooking looks m ahead → ⊥) where
-  -- a module that listens hears no news
-  quiet_input : IsListening new run from lines looks m → (i : Input) → Contains r.inputs i → (u x : ℕ) → from ≤ u + 1 → u + 1 < to → x + 1 + i.delay ≡ u + 1
-      → (level_at run lines i.wire.0 (x + 1) ≡ level_at run lines i.wire.0 x) × (level_in (wave_of run i.wire.0) (x + 1) ≡ level_in (wave_of run i.wire.0) x)
-  quiet_input listens i has u x late below e = no_news run lines i.wire.0 x
-      (unheard new run from (to - from) lines looks m listens (λ ahead low. none ahead (omega (arith, low))) i (record { part = r; stands = at; has = has }) x
-      (omega (arith, e, late)) (omega (arith, e, below)) (omega (arith, e, below, within)))
+  -- a module that doesn't look hears no news
+  no_input_news : (i : Input) → Contains r.inputs i → (x : ℕ) → from ≤ x + 1 + i.delay → x + 1 + i.delay < to → IsNews run (cell_at cells m).live lines i.wire.0 x → ⊥
+  no_input_news i has x late below = unheard new run (cell_at cells m).live from (to - from) lines looks m (before.listening m) (λ ahead low. none ahead (omega (arith, low)))
+      i (record { part = r; stands = at; has = has }) x late (omega (arith, late, below)) (omega (arith, below, within))
 
   -- a live one keeps its state
   pub state_stays : (cell_at cells m).live ≡ true → (u : ℕ) → from ≤ u + 1 → u + 1 < to → state new m (u + 1) ≡ state new m u
   state_stays live u late below = same_inputs new new_ok m u r at
       (map_same (λ i. input_by new (level new) i (u + 1)) (λ i. input_by new (level new) i u) r.inputs (λ i has.
       heard_on new new_ok run (λ k. from) cells lines before.wires from (λ k. omega arith) m u r i at has (omega (arith, below, within)) (omega (arith, below, short))
-      (λ x e. (quiet_input (before.listening m (inl live)) i has u x late below e).0)))
+      (λ x e. no_news run (cell_at cells m).live lines i.wire.0 x live (no_input_news i has x (omega (arith, e, late)) (omega (arith, e, below))))))
 
   pub states_same : (cell_at cells m).live ≡ true → (last : ℕ) → last + 1 ≡ from → (t : ℕ) → last ≤ t → t < to → state new m t ≡ state new m last
   states_same live last next t low below = span_same (state new m) last to (λ u over under. state_stays live u (omega (arith, next, over)) under) t low below
@@ -97,51 +94,19 @@ module _ (old new : Circuit) (old_ok : IsCircuit old) (new_ok : IsCircuit new) (
     new_input : (i : Input) → Contains r.inputs i → (t : ℕ) → t < to → input_by new (level new) i t ≡ level_at run lines i.wire.0 (t - i.delay)
     new_input i has t below = heard_now new new_ok run (λ k. from) cells lines before.wires from (λ k. omega arith) m t r i at has (omega (arith, below, within)) (omega (arith, below, short))
 
-    -- what is heard alike in one unit is so in the next
-    alike_next : (u : ℕ) → from ≤ u + 1 → u + 1 < to → IsHeardAlike old new r u → IsHeardAlike old new r (u + 1)
-    alike_next u late below alike i has = by (line_at lines w) refl
-      where
-        w : ℕ
-        w = i.wire.0
-
-        old_on : (level_in (wave_of run w) (u + 1 - i.delay) ≡ level_in (wave_of run w) (u - i.delay)) → input_by old (level old) i (u + 1) ≡ input_by old (level old) i u
-        old_on stays = old_input i has (u + 1) (omega (arith, below, within)) ∙ stays ∙ sym (old_input i has u (omega (arith, below, within)))
-
-        new_on : (level_at run lines w (u + 1 - i.delay) ≡ level_at run lines w (u - i.delay)) → input_by new (level new) i (u + 1) ≡ input_by new (level new) i u
-        new_on stays = new_input i has (u + 1) below ∙ stays ∙ sym (new_input i has u (omega (arith, below)))
-
-        by : (line : Line) → line_at lines w ≡ line → input_by old (level old) i (u + 1) ≡ input_by new (level new) i (u + 1)
-        by Old is = old_input i has (u + 1) (omega (arith, below, within)) ∙ sym (ap (λ x. line_level x (wave_of run w) (u + 1 - i.delay)) is) ∙ sym (new_input i has (u + 1) below)
-        by (Own wave until) is = elim (cases_lt u i.delay) as (λ _. input_by old (level old) i (u + 1) ≡ input_by new (level new) i (u + 1)) [
-          | inl early ↦
-              let e : u + 1 - i.delay ≡ u - i.delay = omega (arith, early) in
-              old_on (ap (level_in (wave_of run w)) e) ∙ alike i has ∙ sym (new_on (ap (level_at run lines w) e))
-          | inr over ↦
-              let e : u + 1 - i.delay ≡ u - i.delay + 1 = omega (arith, over) in
-              let listens = before.listening m (inr (i, record { part = r; stands = at; has = has }, subst (λ x. IsTracked x) (sym is) tt)) in
-              let quiet = quiet_input listens i has u (u - i.delay) late below (omega (arith, over)) in
-              old_on (ap (level_in (wave_of run w)) e ∙ quiet.1) ∙ alike i has ∙ sym (new_on (ap (level_at run lines w) e ∙ quiet.0))
-        ]
-
-    alike_begin : (cell_at cells m).live ≡ false → from < to → IsHeardAlike old new r from
-    alike_begin quiet some = by from refl
-      where
-        by : (t : ℕ) → t ≡ from → IsHeardAlike old new r from
-        by zero e = subst (IsHeardAlike old new r) e (alike_first old new old_ok new_ok revised m r kept)
-        by (suc u) e =
-            let next : u + 1 ≡ from = omega (arith, e) in
-            let not : IsApart old new m u → ⊥ = λ apart. none 0 (omega (arith, some)) (0, omega arith, before.fresh m u quiet next apart) in
-            subst (IsHeardAlike old new r) next (alike_next u (omega (arith, next)) (omega (arith, next, some)) (alike_from old new old_ok new_ok revised m r kept u not))
-
-    alike_all : (cell_at cells m).live ≡ false → (t : ℕ) → from ≤ t → t < to → IsHeardAlike old new r t
-    alike_all quiet zero late below = let e : from ≡ 0 = omega (arith, late) in subst (IsHeardAlike old new r) e (alike_begin quiet (omega (arith, late, below)))
-    alike_all quiet (suc u) late below = elim (cases_eq (suc u) from) as (λ _. IsHeardAlike old new r (suc u)) [
-      | inl same_time ↦ subst (IsHeardAlike old new r) (sym same_time) (alike_begin quiet (omega (arith, late, below)))
-      | inr later ↦
-          let e : u + 1 ≡ suc u = omega arith in
-          subst (IsHeardAlike old new r) e (alike_next u (omega (arith, late)) (omega (arith, below)) (alike_all quiet u (omega (arith, late, later)) (omega (arith, below))))
+    -- one that isn't live hears the same: the initial levels, or the old wave
+    alike_quiet : (cell_at cells m).live ≡ false → (t : ℕ) → from ≤ t → t < to → IsHeardAlike old new r t
+    alike_quiet quiet t late below i has = elim (cases_lt i.delay t) as (λ _. input_by old (level old) i t ≡ input_by new (level new) i t) [
+      | inl over ↦
+          let e : t - i.delay ≡ t - i.delay - 1 + 1 = omega (arith, over) in
+          let other = no_other run (cell_at cells m).live lines i.wire.0 (t - i.delay - 1) quiet (no_input_news i has (t - i.delay - 1) (omega (arith, over, late)) (omega (arith, over, below))) in
+          old_input i has t (omega (arith, below, within)) ∙ ap (level_in (wave_of run i.wire.0)) e ∙ sym other ∙ ap (level_at run lines i.wire.0) (sym e) ∙ sym (new_input i has t below)
+      | inr early ↦
+          let e : t - i.delay ≡ 0 - i.delay = omega (arith, early) in
+          input_is old old_ok i t ∙ ap (level old i.wire.0) e ∙ sym (input_is old old_ok i 0) ∙ alike_first old new old_ok new_ok revised m r kept i has
+          ∙ input_is new new_ok i 0 ∙ ap (level new i.wire.0) (sym e) ∙ sym (input_is new new_ok i t)
     ]
 
     -- one that isn't live isn't apart
     pub not_apart : (cell_at cells m).live ≡ false → (t : ℕ) → from ≤ t → t < to → IsApart old new m t → ⊥
-    not_apart quiet t late below = alike_not old new old_ok new_ok revised m r kept t (alike_all quiet t late below)
+    not_apart quiet t late below = alike_not old new old_ok new_ok revised m r kept t (alike_quiet quiet t late below)

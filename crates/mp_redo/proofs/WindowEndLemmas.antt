@@ -1,12 +1,11 @@
--- A window ends.
-use Rattle.std.proofs.Common.{◌≡◌, ◌⊎◌, ℕ, ◌+◌, ◌<◌, ◌≤◌, Bool, false, List, [], ◌∷◌, Option, Some, None, IsSome, suc, refl, ap, subst, arith, inl, inr}
+-- A short span ends.
+use Rattle.std.proofs.Common.{◌≡◌, ◌⊎◌, ℕ, ◌+◌, ◌<◌, ◌≤◌, Bool, false, List, [], ◌∷◌, Some, suc, ap, subst, arith, inl, inr}
 use Rattle.std.specs.List.{Contains}
 use Rattle.std.proofs.lemmas.Bool.{cases_eq}
 use Rattle.mp_records.specs.declared.ids.ModuleId.{ModuleId}
 use Rattle.mp_records.specs.declared.module_record.ModuleRecord.{ModuleRecord}
 use Rattle.mp_records.specs.Outputs.{delay_of}
 use Rattle.mp_netlist.specs.Circuit.{Circuit, module_at}
-use Rattle.mp_model.specs.Reach.{IsApart}
 use Rattle.mp_engine.specs.Marks.{is_marked, AreListed}
 use Rattle.mp_engine.specs.Outcomes.{Outcome}
 use Rattle.mp_engine.proofs.MarkLemmas.{none_in, contains_cons}
@@ -39,7 +38,7 @@ is_listed m (id ∷ due) = elim (cases_eq id.0 m) as (λ _. Contains (id ∷ due
 -- where all modules have answered and those that did look again, the next window can begin
 pub window_ends : (old new : Circuit) (run : Outcome) (c from to : ℕ) (due : List ModuleId) (marks : List Bool) (cells : List Cell) (lines : List Line) (looks lists : List (List ModuleId))
     → IsDuring old new run c from to due marks cells lines looks → c ≤ from → from < to → ((m : ℕ) → is_marked marks m ≡ false)
-    → AreKept looks lists → ((m : ℕ) → Contains due (record { 0 = m }) → IsListening new run to lines lists m)
+    → AreKept looks lists → ((m : ℕ) → Contains due (record { 0 = m }) → IsListening new run (cell_at cells m).live to lines lists m)
     → IsBefore old new run c to cells lines lists
 window_ends old new run c from to due marks cells lines looks lists during block some free kept again = record {
   modules = record {
@@ -50,12 +49,11 @@ window_ends old new run c from to due marks cells lines looks lists during block
     places = during.wires.places;
     each = λ w low. line w (during.wires.each w low);
   };
-  listening = λ m watching. elim (is_listed m due) as (λ _. IsListening new run to lines lists m) [
+  listening = λ m. elim (is_listed m due) as (λ _. IsListening new run (cell_at cells m).live to lines lists m) [
     | inl is ↦ again m is
-    | inr not ↦ listening_kept new run to lines looks lists m kept (during.listening m not watching)
+    | inr not ↦ listening_kept new run (cell_at cells m).live to lines looks lists m kept (during.listening m not)
   ];
   first = λ zero. absurd (omega (arith, some, zero));
-  fresh = λ m u quiet next apart. let none : ⊥ = together m u quiet next apart in absurd none;
 }
   where
     all : (m : ℕ) → answered_to from to marks m ≡ to
@@ -70,11 +68,3 @@ window_ends old new run c from to due marks cells lines looks lists during block
       ready = λ m p drives live. subst (λ t. IsOwn (line_at lines w) (t + delay_of drives.part p) new.horizon) (all m) (is.ready m p drives live);
       follows = λ m p drives quiet t late. is.follows m p drives quiet t (let e = all m in omega (arith, e, late));
     }
-
-    -- one that isn't live wasn't apart in the window's last unit
-    together : (m u : ℕ) → (cell_at cells m).live ≡ false → u + 1 ≡ to → IsApart old new m u → ⊥
-    together m u quiet next apart = by (module_at new m) refl
-      where
-        by : (slot : Option ModuleRecord) → module_at new m ≡ slot → ⊥
-        by None e = let there = subst IsSome e apart.after in let no : ⊥ = cc in no
-        by (Some r) e = (here m r e).quiet quiet (inr (inr (u, omega (arith, next, some, block), omega (arith, next), apart)))

@@ -1,4 +1,4 @@
--- What modules answer in a window.
+-- What modules answer in some units.
 use Rattle.std.specs.Prelude.{◌≡◌, ℕ, ◌+◌, ◌-◌, ◌^◌, ◌<◌, ◌≤◌, List, [], Option, Some, length, slice_index_or}
 use Rattle.std.specs.List.{Contains}
 use Rattle.mp_records.specs.declared.ports.Input.{Input}

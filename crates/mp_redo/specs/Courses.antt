@@ -5,7 +5,7 @@ use Rattle.mp_engine.specs.Marks.{is_marked}
 use Rattle.mp_engine.specs.Outcomes.{Outcome}
 use Rattle.mp_redo.specs.declared.course.Course.{Course}
 use Rattle.mp_redo.specs.Keeping.{AreLedgers}
-use Rattle.mp_redo.specs.Redoing.{AreOpen, IsBefore}
+use Rattle.mp_redo.specs.Redoing.{AreOpen, IsBefore, IsListed}
 use Rattle.mp_redo.specs.Stretches.{AreStretchesTo}
 use Rattle.mp_redo.specs.Work.{block_of}
 
@@ -19,6 +19,7 @@ pub record IsCourse (old new : Circuit) (run : Outcome) (c t : ℕ) (course : Co
   pub kept : AreLedgers new run c course.cells.items course.ledgers.items
   pub stretches : AreStretchesTo old new t course.stretches.items
   pub opened : AreOpen new t course.cells.items course.stretches.items
+  pub listed : IsListed new course.cells.items course.live.items
   pub room : min 1024 new.horizon ≤ length course.looks.items
   pub marks : length course.marks.items ≡ length new.modules
   pub free : (m : ℕ) → is_marked course.marks.items m ≡ false

@@ -1,8 +1,12 @@
 -- Modules that have joined those that are evaluated again.
-use Rattle.std.specs.Prelude.{◌≡◌, ℕ, true, List, length}
+use Rattle.std.specs.Prelude.{◌≡◌, ◌⊎◌, ℕ, true, false, Bool, List, Some, IsSome, length}
 use Rattle.std.specs.List.{Contains}
 use Rattle.mp_modules.specs.declared.memory.Memory.{Memory}
 use Rattle.mp_records.specs.declared.ids.ModuleId.{ModuleId}
+use Rattle.mp_records.specs.declared.module_record.ModuleRecord.{ModuleRecord}
+use Rattle.mp_netlist.specs.Circuit.{Circuit, module_at}
+use Rattle.mp_model.specs.Reach.{IsApart}
+use Rattle.mp_engine.specs.Marks.{is_marked}
 use Rattle.mp_redo.specs.declared.cell.Cell.{Cell}
 use Rattle.mp_redo.specs.Redoing.{cell_at}
 
@@ -10,13 +14,25 @@ use Rattle.mp_redo.specs.Redoing.{cell_at}
 abbrev pub live_cell : Cell → Memory → Cell
 live_cell cell memory = record { live = true; touched = cell.touched; memory = memory; stretch = cell.stretch }
 
--- cells after those of some modules have answered: who was live is live, no stretch has been opened yet, and the others are as they were
-pub record HaveAnswered (due : List ModuleId) (cells after : List Cell) : Type 0 where
+-- cells after some modules have joined and live ones have answered: who was live is live, no stretch has been opened yet, and nobody else
+-- is live than before
+pub record HaveAnswered (joined : List ModuleId) (cells after : List Cell) : Type 0 where
   pub places : length after ≡ length cells
   pub live : (m : ℕ) → (cell_at cells m).live ≡ true → (cell_at after m).live ≡ true
   pub touched : (m : ℕ) → (cell_at after m).touched ≡ (cell_at cells m).touched
   pub stretch : (m : ℕ) → (cell_at after m).stretch ≡ (cell_at cells m).stretch
-  pub others : (m : ℕ) → (Contains due (record { 0 = m }) → ⊥) → cell_at after m ≡ cell_at cells m
+  pub others : (m : ℕ) → (Contains joined (record { 0 = m }) → ⊥) → (cell_at after m).live ≡ (cell_at cells m).live
+
+-- the module stands, isn't live, and is apart at a time
+pub record IsToJoin (old new : Circuit) (time : ℕ) (cells : List Cell) (m : ℕ) : Type 0 where
+  pub part : ModuleRecord
+  pub stands : module_at new m ≡ Some part
+  pub quiet : (cell_at cells m).live ≡ false
+  pub apart : IsApart old new m time
+
+-- if the module is marked it is listed, or it stands and is live
+abbrev pub IsSettled : Circuit → List Cell → List ModuleId → List Bool → ℕ → Type 0
+IsSettled new cells listed marks m = is_marked marks m ≡ true → Contains listed (record { 0 = m }) ⊎ (IsSome (module_at new m) × ((cell_at cells m).live ≡ true))
 
 -- cells that differ at most in their stretches
 pub record AreLike (cells after : List Cell) : Type 0 where

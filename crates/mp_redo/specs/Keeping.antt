@@ -1,8 +1,10 @@
 -- The states that are kept while modules answer.
-use Rattle.std.specs.Prelude.{◌≡◌, ℕ, ◌+◌, ◌<◌, ◌≤◌, Bool, true, false, List, Some, IsSome, length}
+use Rattle.std.specs.Prelude.{◌≡◌, ℕ, ◌+◌, ◌<◌, ◌≤◌, Bool, true, false, List, Option, Some, IsSome, length}
+use Rattle.mp_modules.specs.declared.memory.Memory.{Memory}
 use Rattle.mp_records.specs.declared.module_record.ModuleRecord.{ModuleRecord}
 use Rattle.mp_netlist.specs.Slots.{slot_at}
 use Rattle.mp_netlist.specs.Circuit.{Circuit, module_at}
+use Rattle.mp_engine.specs.declared.checkpoints.Checkpoint.{Checkpoint}
 use Rattle.mp_engine.specs.Checkpoints.{state_before, IsBorder}
 use Rattle.mp_engine.specs.Outcomes.{Outcome}
 use Rattle.mp_redo.specs.declared.cell.Cell.{Cell}
@@ -22,6 +24,12 @@ pub record IsLedgerAt (new : Circuit) (run : Outcome) (t m : ℕ) (r : ModuleRec
 pub record AreLedgers (new : Circuit) (run : Outcome) (t : ℕ) (cells : List Cell) (ledgers : List Ledger) : Type 0 where
   pub places : length ledgers ≡ length new.modules
   pub each : (m : ℕ) (r : ModuleRecord) → module_at new m ≡ Some r → IsLedgerAt new run t m r (cell_at cells m).live (ledger_at ledgers m)
+
+-- from a time on a ledger has this state, as far as it can be given states, and before it those that it had
+pub record HasKept (time : ℕ) (memory : Memory) (ledger after : Ledger) : Type 0 where
+  pub own : (end : ℕ) → IsOwn ledger time end → IsOwn after time end
+  pub before : (old : Option (List Checkpoint)) (c : ℕ) → c < time → ledger_state after old c ≡ ledger_state ledger old c
+  pub state : (old : Option (List Checkpoint)) (c : ℕ) → time ≤ c → IsOwn ledger time (c + 1) → ledger_state after old c ≡ memory
 
 -- the module's state before the unit of a border is that of its cell where this is live, and else the one that the old run kept
 pub record IsStateAt (new : Circuit) (run : Outcome) (time m : ℕ) (r : ModuleRecord) (cell : Cell) : Type 0 where

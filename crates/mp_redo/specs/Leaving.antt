@@ -1,11 +1,9 @@
 -- At a border modules whose states are those of the old run again are evaluated no longer, one after the other.
-use Rattle.std.specs.Prelude.{◌≡◌, ◌≢◌, ℕ, ◌+◌, ◌<◌, ◌≤◌, true, false, List, Some, None, length}
-use Rattle.std.specs.List.{Contains}
+use Rattle.std.specs.Prelude.{◌≡◌, ◌≢◌, ◌⊎◌, ℕ, true, false, List, Some, None, length}
 use Rattle.mp_records.specs.declared.ids.ModuleId.{ModuleId}
 use Rattle.mp_records.specs.declared.module_record.ModuleRecord.{ModuleRecord}
 use Rattle.mp_netlist.specs.Slots.{slot_at}
 use Rattle.mp_netlist.specs.Circuit.{Circuit, module_at}
-use Rattle.mp_model.specs.Reach.{IsApart}
 use Rattle.mp_engine.specs.Outcomes.{Outcome}
 use Rattle.mp_redo.specs.declared.cell.Cell.{Cell}
 use Rattle.mp_redo.specs.declared.ledger.Ledger.{Ledger}
@@ -13,7 +11,7 @@ use Rattle.mp_redo.specs.declared.line.Line.{Line}
 use Rattle.mp_redo.specs.declared.stretch.Stretch.{Stretch}
 use Rattle.mp_redo.specs.Keeping.{AreLedgers, IsLedgerAt}
 use Rattle.mp_redo.specs.Ledgers.{state_in, ledger_at}
-use Rattle.mp_redo.specs.Redoing.{cell_at, looks_at, IsCellAt, AreLines, IsWatching, IsListening, AreOpen}
+use Rattle.mp_redo.specs.Redoing.{cell_at, IsCellAt, AreLines, IsListening, AreOpen}
 use Rattle.mp_redo.specs.Stretches.{stretch_at, AreStretchesTo}
 
 -- a live module whose record hasn't changed has the state that the old run kept for a time
@@ -46,18 +44,20 @@ pub record HasHandedBack (ledgers after : List Ledger) (m time : ℕ) : Type 0 w
   pub here : (new : Circuit) (run : Outcome) (r : ModuleRecord) → IsLedgerAt new run time m r true (ledger_at ledgers m) → IsLedgerAt new run time m r false (ledger_at after m)
   pub others : (k : ℕ) → k ≢ m → ledger_at after k ≡ ledger_at ledgers k
 
--- the modules below a number are in the block that begins at a time, and the others at the end of the block before
-pub record AreCellsTo (old new : Circuit) (block time count : ℕ) (cells : List Cell) : Type 0 where
+-- the module of a number, if one stands, is in the block that begins at a time
+abbrev pub IsOverAt : Circuit → Circuit → ℕ → List Cell → ℕ → Type 0
+IsOverAt old new time cells m = (r : ModuleRecord) → module_at new m ≡ Some r → IsCellAt old new time time m r (cell_at cells m)
+
+-- each module is still at the end of the block before, or in the block that begins at a time
+pub record AreCellsTo (old new : Circuit) (block time : ℕ) (cells : List Cell) : Type 0 where
   pub places : length cells ≡ length new.modules
-  pub over : (m : ℕ) (r : ModuleRecord) → m < count → module_at new m ≡ Some r → IsCellAt old new time time m r (cell_at cells m)
-  pub still : (m : ℕ) (r : ModuleRecord) → count ≤ m → module_at new m ≡ Some r → IsCellAt old new block time m r (cell_at cells m)
+  pub each : (m : ℕ) (r : ModuleRecord) → module_at new m ≡ Some r → IsCellAt old new block time m r (cell_at cells m) ⊎ IsCellAt old new time time m r (cell_at cells m)
 
 -- so it is at a border where states have been kept, and all else is as between two windows
-pub record IsCrossing (old new : Circuit) (run : Outcome) (block time count : ℕ) (cells : List Cell) (lines : List Line) (looks : List (List ModuleId)) (ledgers : List Ledger) (stretches : List Stretch) : Type 0 where
-  pub modules : AreCellsTo old new block time count cells
+pub record IsCrossing (old new : Circuit) (run : Outcome) (block time : ℕ) (cells : List Cell) (lines : List Line) (looks : List (List ModuleId)) (ledgers : List Ledger) (stretches : List Stretch) : Type 0 where
+  pub modules : AreCellsTo old new block time cells
   pub wires : AreLines new run (λ m. time) cells lines
-  pub listening : (m : ℕ) → IsWatching new cells lines m → IsListening new run time lines looks m
-  pub fresh : (m u : ℕ) → (cell_at cells m).live ≡ false → u + 1 ≡ time → IsApart old new m u → Contains (looks_at looks 0) (record { 0 = m })
+  pub listening : (m : ℕ) → IsListening new run (cell_at cells m).live time lines looks m
   pub kept : AreLedgers new run time cells ledgers
   pub worked : AreStretchesTo old new time stretches
   pub opened : AreOpen new time cells stretches

@@ -4,6 +4,7 @@ pub mod Work
 pub mod Lines
 pub mod Stretches
 pub mod Redoing
+pub mod Changes
 pub mod Merges
 pub mod WholeWork
 pub mod Rings
@@ -13,6 +14,7 @@ pub mod Drivers
 pub mod Starts
 pub mod Ledgers
 pub mod Endings
+pub mod Tasks
 pub mod Telling
 pub mod Keeping
 pub mod Steps

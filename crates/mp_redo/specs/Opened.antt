@@ -13,7 +13,7 @@ use Rattle.mp_redo.specs.Redoing.{cell_at}
 use Rattle.mp_redo.specs.Stretches.{stretch_at}
 
 -- the module stands and is live, and no stretch of it has been opened yet
-pub record IsJoining (new : Circuit) (cells : List Cell) (m : ℕ) : Type 0 where
+pub record HasNoStretch (new : Circuit) (cells : List Cell) (m : ℕ) : Type 0 where
   pub stands : IsSome (module_at new m)
   pub live : (cell_at cells m).live ≡ true
   pub none : (cell_at cells m).stretch ≡ None
@@ -22,15 +22,15 @@ pub record IsJoining (new : Circuit) (cells : List Cell) (m : ℕ) : Type 0 wher
 abbrev pub stretch_from : Circuit → ℕ → ℕ → ℕ → Stretch
 stretch_from new m from to = record { «module» = record { 0 = m }; from = from; first_end = to; last_end = new.horizon }
 
--- a module that was joining has such a stretch at a place that isn't among the first ones
+-- a live module that had no stretch has such a one at a place that isn't among the first ones
 pub record HasNew (new : Circuit) (from to : ℕ) (cells after : List Cell) (first : ℕ) (opened : List Stretch) (m k : ℕ) : Type 0 where
   pub behind : first ≤ k
   pub within : k < length opened
   pub is : stretch_at opened k ≡ stretch_from new m from to
   pub place : (cell_at after m).stretch ≡ Some k
-  pub joins : IsJoining new cells m
+  pub joins : HasNoStretch new cells m
 
--- behind the stretches that there were are those of modules that were joining, and each other cell is as it was
+-- behind the stretches that there were are those of live modules that had none, and each other cell is as it was
 pub record HaveOpened (new : Circuit) (from to : ℕ) (cells after : List Cell) (stretches opened : List Stretch) : Type 0 where
   pub like : AreLike cells after
   pub more : length stretches ≤ length opened
@@ -38,9 +38,9 @@ pub record HaveOpened (new : Circuit) (from to : ℕ) (cells after : List Cell) 
   pub news : (k : ℕ) → length stretches ≤ k → k < length opened → (m : ℕ) × HasNew new from to cells after (length stretches) opened m k
   pub each : (m : ℕ) → (cell_at after m ≡ cell_at cells m) ⊎ ((k : ℕ) × HasNew new from to cells after (length stretches) opened m k)
 
--- a module that was joining has a stretch, and its ledger can be given its states behind a block's begin
+-- a live module that had no stretch has one, and its ledger can be given its states behind a block's begin
 pub record HasJoined (new : Circuit) (run : Outcome) (block : ℕ) (cells after : List Cell) (m : ℕ) (ledger later : Ledger) : Type 0 where
-  pub joins : IsJoining new cells m
+  pub joins : HasNoStretch new cells m
   pub some : (cell_at after m).stretch ≡ None → ⊥
   pub takes : (r : ModuleRecord) → IsLedgerAt new run block m r false ledger → IsLedgerAt new run block m r true later
 

@@ -1,4 +1,4 @@
--- What holds of a re-evaluation between two windows.
+-- What holds of a re-evaluation between two units.
 use Rattle.std.specs.Prelude.{◌≡◌, ◌≢◌, ◌⊎◌, ℕ, ◌+◌, ◌-◌, ◌<◌, ◌≤◌, Bool, true, false, List, [], Some, None, IsSome, length, slice_index_or, if◌then◌else◌}
 use Rattle.std.specs.List.{Contains}
 use Rattle.mp_modules.specs.Memories.{blank}
@@ -8,7 +8,7 @@ use Rattle.mp_records.specs.declared.module_record.ModuleRecord.{ModuleRecord}
 use Rattle.mp_records.specs.Outputs.{delay_of}
 use Rattle.mp_netlist.specs.Circuit.{Circuit, Drives, module_at}
 use Rattle.mp_model.specs.Waves.{level}
-use Rattle.mp_model.specs.Reach.{IsApart, IsTouched}
+use Rattle.mp_model.specs.Reach.{IsTouched}
 use Rattle.mp_engine.specs.Checkpoints.{state_before}
 use Rattle.mp_engine.specs.Marks.{is_marked, AreListed}
 use Rattle.mp_engine.specs.Outcomes.{Outcome, wave_of}
@@ -36,7 +36,7 @@ level_at run lines w t = line_level (line_at lines w) (wave_of run w) t
 abbrev pub looks_at : List (List ModuleId) → ℕ → List ModuleId
 looks_at looks k = slice_index_or looks k []
 
--- to which time a module has answered in a window from one time to another: those that are marked are still to answer
+-- to which time a module has answered, from one time on: those that are marked are still to answer
 abbrev pub answered_to : ℕ → ℕ → List Bool → ℕ → ℕ
 answered_to from to marks m = if is_marked marks m then from else to
 
@@ -82,22 +82,19 @@ abbrev pub IsTracked : Line → Type 0
 IsTracked Old = ⊥
 IsTracked (Own wave until) = Unit {0}
 
--- the module is live, or reads a wire that has a wave of its own
-abbrev pub IsWatching : Circuit → List Cell → List Line → ℕ → Type 0
-IsWatching new cells lines m = ((cell_at cells m).live ≡ true) ⊎ ((input : Input) × IsInput new m input × IsTracked (line_at lines input.wire.0))
-
--- the line of the wire changes after x, or its old wave does
-abbrev pub IsNews : Outcome → List Line → ℕ → ℕ → Type 0
-IsNews run lines w x = (level_at run lines w (x + 1) ≢ level_at run lines w x) ⊎ (level_in (wave_of run w) (x + 1) ≢ level_in (wave_of run w) x)
+-- what a module looks for at a wire: a live one that the line changes after x, and another that it isn't the old wave then
+abbrev pub IsNews : Outcome → Bool → List Line → ℕ → ℕ → Type 0
+IsNews run true lines w x = level_at run lines w (x + 1) ≢ level_at run lines w x
+IsNews run false lines w x = level_at run lines w (x + 1) ≢ level_in (wave_of run w) (x + 1)
 
 -- the module looks at its inputs within so many units
 abbrev pub IsLooking : List (List ModuleId) → ℕ → ℕ → Type 0
 IsLooking looks m ahead = (k : ℕ) × (k ≤ ahead) × Contains (looks_at looks k) (record { 0 = m })
 
--- from the time t on, the module looks before it hears news
-abbrev pub IsListening : Circuit → Outcome → ℕ → List Line → List (List ModuleId) → ℕ → Type 0
-IsListening new run t lines looks m = (input : Input) → IsInput new m input → (x : ℕ) →
-    t ≤ x + 1 + input.delay → x + 1 + input.delay < new.horizon → IsNews run lines input.wire.0 x → IsLooking looks m (x + 1 + input.delay - t)
+-- from the time t on, the module, which is live or not, looks before it hears news
+abbrev pub IsListening : Circuit → Outcome → Bool → ℕ → List Line → List (List ModuleId) → ℕ → Type 0
+IsListening new run live t lines looks m = (input : Input) → IsInput new m input → (x : ℕ) →
+    t ≤ x + 1 + input.delay → x + 1 + input.delay < new.horizon → IsNews run live lines input.wire.0 x → IsLooking looks m (x + 1 + input.delay - t)
 
 -- the stretch at a place is this module's, and goes on to the horizon
 pub record IsOpenAt (new : Circuit) (stretches : List Stretch) (m k : ℕ) : Type 0 where
@@ -112,18 +109,21 @@ pub record AreOpen (new : Circuit) (t : ℕ) (cells : List Cell) (stretches : Li
   pub over : (k : ℕ) → k < length stretches → t < (stretch_at stretches k).last_end →
       (let m = (stretch_at stretches k).«module».0 in ((cell_at cells m).live ≡ true) × ((cell_at cells m).stretch ≡ Some k) × IsSome (module_at new m))
 
--- before the window that begins at t, in the block that begins at c
+-- the live modules that stand are listed
+abbrev pub IsListed : Circuit → List Cell → List ModuleId → Type 0
+IsListed new cells live = (m : ℕ) → IsSome (module_at new m) → (cell_at cells m).live ≡ true → Contains live (record { 0 = m })
+
+-- before the unit t, in the block that begins at c
 pub record IsBefore (old new : Circuit) (run : Outcome) (c t : ℕ) (cells : List Cell) (lines : List Line) (looks : List (List ModuleId)) : Type 0 where
   pub modules : AreCells old new c (λ m. t) cells
   pub wires : AreLines new run (λ m. t) cells lines
-  pub listening : (m : ℕ) → IsWatching new cells lines m → IsListening new run t lines looks m
+  pub listening : (m : ℕ) → IsListening new run (cell_at cells m).live t lines looks m
   pub first : t ≡ 0 → (m : ℕ) → (cell_at cells m).live ≡ true → Contains (looks_at looks 0) (record { 0 = m })
-  pub fresh : (m u : ℕ) → (cell_at cells m).live ≡ false → u + 1 ≡ t → IsApart old new m u → Contains (looks_at looks 0) (record { 0 = m })
 
--- in the window from one time to another: the modules that aren't marked have answered, and those that aren't among the due ones
--- listen from the window's end on
+-- from one time to another, no later than the least delay after it: the modules that aren't marked have answered, and those that aren't
+-- among the due ones listen from the end on
 pub record IsDuring (old new : Circuit) (run : Outcome) (c from to : ℕ) (due : List ModuleId) (marks : List Bool) (cells : List Cell) (lines : List Line) (looks : List (List ModuleId)) : Type 0 where
   pub modules : AreCells old new c (answered_to from to marks) cells
   pub wires : AreLines new run (answered_to from to marks) cells lines
-  pub listening : (m : ℕ) → (Contains due (record { 0 = m }) → ⊥) → IsWatching new cells lines m → IsListening new run to lines looks m
+  pub listening : (m : ℕ) → (Contains due (record { 0 = m }) → ⊥) → IsListening new run (cell_at cells m).live to lines looks m
   pub listed : AreListed marks due

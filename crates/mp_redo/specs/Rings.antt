@@ -1,9 +1,17 @@
 -- Lists of modules for the units to come, the next first.
-use Rattle.std.specs.Prelude.{◌≡◌, ℕ, ◌+◌, ◌<◌, Bool, true, List, length}
+use Rattle.std.specs.Prelude.{◌≡◌, ◌⊎◌, ℕ, ◌+◌, ◌<◌, ◌≤◌, Bool, true, List, [], length}
 use Rattle.std.specs.List.{Contains}
 use Rattle.mp_records.specs.declared.ids.ModuleId.{ModuleId}
 use Rattle.mp_engine.specs.Marks.{is_marked, AreListed}
 use Rattle.mp_redo.specs.Redoing.{looks_at}
+
+-- a list of modules for each of some units
+pub record Lists : Type 0 where
+  pub items : List (List ModuleId)
+
+-- the lists before a first place and from a last one on have no modules
+abbrev pub IsIdle : ℕ → ℕ → List (List ModuleId) → Type 0
+IsIdle first last lists = (k : ℕ) → k < first ⊎ last ≤ k → looks_at lists k ≡ []
 
 -- no list has lost a module
 abbrev pub AreKept : List (List ModuleId) → List (List ModuleId) → Type 0

@@ -1,17 +1,20 @@
--- One module answers in a window.
-use Rattle.std.specs.Prelude.{◌≡◌, ◌≢◌, ℕ, ◌+◌, ◌≤◌, true, List, Some}
+-- One module answers in some units.
+use Rattle.std.specs.Prelude.{◌≡◌, ◌≢◌, ℕ, ◌+◌, ◌≤◌, Bool, true, List, [], Some, map}
+use Rattle.std.specs.List.{range_with_len}
+use Rattle.mp_modules.specs.Memories.{output_of}
 use Rattle.mp_modules.specs.declared.memory.Memory.{Memory}
 use Rattle.mp_records.specs.declared.ids.ModuleId.{ModuleId}
 use Rattle.mp_records.specs.declared.ports.Output.{Output}
 use Rattle.mp_records.specs.declared.module_record.ModuleRecord.{ModuleRecord}
 use Rattle.mp_records.specs.Outputs.{output_in}
 use Rattle.mp_netlist.specs.Circuit.{Circuit, module_at}
+use Rattle.mp_response.specs.Span.{extended}
 use Rattle.mp_engine.specs.Checkpoints.{state_before}
 use Rattle.mp_engine.specs.Outcomes.{Outcome}
 use Rattle.mp_redo.specs.declared.cell.Cell.{Cell}
 use Rattle.mp_redo.specs.declared.line.Line.{Line}
 use Rattle.mp_redo.specs.Lines.{IsOwn}
-use Rattle.mp_redo.specs.Redoing.{line_at, cell_at, AreLines, IsListening, IsWatching}
+use Rattle.mp_redo.specs.Redoing.{line_at, cell_at, AreLines, IsListening}
 
 -- the module stands, with this state before a time
 pub record IsAt (n : Circuit) (m t : ℕ) (r : ModuleRecord) (memory : Memory) : Type 0 where
@@ -35,9 +38,9 @@ abbrev pub GoesOn : Circuit → Outcome → List Line → List Line → ModuleRe
 GoesOn n run lines new r memory from to = (m : ℕ) (times later : ℕ → ℕ) (cells after : List Cell) → IsAt n m from r memory → IsStep times later cells after m from to →
     AreLines n run times cells lines → AreLines n run later after new
 
--- whoever listens goes on listening
+-- whoever listens, live or not, goes on listening
 abbrev pub GoesOnListening : Circuit → Outcome → ℕ → List Line → List Line → List (List ModuleId) → List (List ModuleId) → Type 0
-GoesOnListening n run to lines new looks after = (k : ℕ) → IsListening n run to lines looks k → IsListening n run to new after k
+GoesOnListening n run to lines new looks after = (k : ℕ) (live : Bool) → IsListening n run live to lines looks k → IsListening n run live to new after k
 
 -- a module has this record, and this state before a time
 abbrev pub StandsSomewhere : Circuit → ModuleRecord → ℕ → Memory → Type 0
@@ -48,7 +51,6 @@ abbrev pub GoesOnFrom : Circuit → Outcome → List Line → List Line → Modu
 GoesOnFrom n run lines new r memory from to = (m begin : ℕ) (times later : ℕ → ℕ) (cells after : List Cell) → IsAt n m from r memory → from ≤ begin → IsStep times later cells after m begin to →
     AreLines n run times cells lines → AreLines n run later after new
 
--- whoever listened if it was watching does so when it is
-abbrev pub GoesOnWatching : Circuit → Outcome → ℕ → List Line → List Line → List (List ModuleId) → List (List ModuleId) → Type 0
-GoesOnWatching n run to lines new looks after = (k : ℕ) (cells now : List Cell) → ((cell_at now k).live ≡ true → (cell_at cells k).live ≡ true) →
-    (IsWatching n cells lines k → IsListening n run to lines looks k) → IsWatching n now new k → IsListening n run to new after k
+-- the changes of so many outputs in one unit, from one state to another
+abbrev pub unit_answers : ℕ → ℕ → Memory → Memory → List (List (ℕ × ℕ))
+unit_answers count time before after = map (λ p. extended [] time (output_of before p) (output_of after p)) (range_with_len 0 count)

@@ -1,14 +1,9 @@
 -- Windows as they are followed.
-use Rattle.std.specs.Prelude.{◌≢◌, ℕ, ◌+◌, ◌-◌, ◌<◌, ◌≤◌, List}
-use Rattle.std.specs.List.{Contains}
-use Rattle.mp_records.specs.declared.ports.Input.{Input}
+use Rattle.std.specs.Prelude.{◌≡◌, ℕ, ◌+◌, ◌<◌, ◌≤◌}
 use Rattle.mp_netlist.specs.Circuit.{Circuit}
 use Rattle.mp_netlist.specs.Delays.{least_delay}
 use Rattle.mp_engine.specs.Checkpoints.{IsBorder}
-use Rattle.mp_engine.specs.Outcomes.{Outcome, wave_of}
-use Rattle.mp_redo.specs.declared.line.Line.{Line}
-use Rattle.mp_redo.specs.Lines.{level_in}
-use Rattle.mp_redo.specs.Redoing.{level_at}
+use Rattle.mp_redo.specs.Work.{block_of, window_of}
 
 -- from one time to another no later than the least delay after it, in the block that begins at c
 pub record IsShort (n : Circuit) (c from to : ℕ) : Type 0 where
@@ -18,7 +13,9 @@ pub record IsShort (n : Circuit) (c from to : ℕ) : Type 0 where
   pub short : to ≤ from + least_delay n
   pub within : to ≤ n.horizon
 
--- at a time from one to before another, what is heard at one of these inputs isn't what was heard in the old run
-abbrev pub HearOther : Outcome → List Line → List Input → ℕ → ℕ → Type 0
-HearOther run lines inputs from to = (i : Input) × Contains inputs i × ((t : ℕ) × (from ≤ t) × (t < to) ×
-    (level_at run lines i.wire.0 (t - i.delay) ≢ level_in (wave_of run i.wire.0) (t - i.delay)))
+-- from one time to a later one in the same block, where the next window begins or the horizon is
+pub record IsWindows (n : Circuit) (from to : ℕ) : Type 0 where
+  pub later : from < to
+  pub block : to ≤ block_of from + 1024
+  pub within : to ≤ n.horizon
+  pub begins : to < n.horizon → window_of n to ≡ to

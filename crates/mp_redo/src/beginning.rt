@@ -11,15 +11,15 @@ ghost use Rattle.mp_engine.specs.Checkpoints.{state_before};
 ghost use Rattle.mp_engine.specs.Marks.{is_marked};
 ghost use Rattle.mp_engine.specs.Outcomes.{Outcome};
 ghost use Rattle.mp_redo.specs.Joins.{AreLike};
-ghost use Rattle.mp_redo.specs.Redoing.{cell_at, line_at, IsCellAt, AreCells, AreLines, AreOpen, IsBefore, IsTracked, IsLooking};
+ghost use Rattle.mp_redo.specs.Redoing.{cell_at, line_at, IsCellAt, AreCells, AreLines, AreOpen, IsBefore, IsTracked, IsListed, IsLooking};
 ghost use Rattle.mp_redo.specs.Revisions.{IsRevision};
 ghost use Rattle.mp_redo.specs.Rings.{AreKept};
 ghost use Rattle.mp_redo.specs.Stretches.{AreStretchesTo};
 
-use crate::cell::Cell;
+use crate::cell::{Cell, is_live};
 use crate::line::Line;
-use crate::looks::Looks;
-use crate::ring::{enter, tell};
+use crate::listing::{enter, tell};
+use crate::ring::Ring;
 use crate::stretch::Stretch;
 use crate::work_entries::window_end;
 use mp_depend::{Readers, touched};
@@ -28,7 +28,6 @@ use mp_model::built;
 use mp_modules::{EventModule, Memory};
 use mp_netlist::{ModuleId, Netlist, WireId};
 use std::alloc::{AllocError, Global};
-use std::collections::VecDeque;
 
 /// The cells of all modules by number: those of touched modules are live, in the states in which they start.
 pub(crate) fn first_cells(
@@ -114,56 +113,36 @@ pub(crate) fn first_looks(
     readers: &Readers,
     cells: &[Cell],
     lines: &[Line],
-) -> Result<VecDeque<Looks>, AllocError>
+) -> Result<Ring, AllocError>
     requires rows { AreReaders new.now readers.now }
     ensures some { IfOk result (λ looks. min 1024 new.now.horizon ≤ length looks.items) }
     ensures before { IfOk result (λ looks. (old : Circuit) (run : Outcome) → AreCells old new.now 0 (λ m. 0) cells.now → AreLines new.now run (λ m. 0) cells.now lines.now
         → IsBefore old new.now run 0 0 cells.now lines.now looks.items) }
 {
-    // No window is longer.
-    let mut looks = empty_lists(alloc, CHECKPOINT_UNITS.min(new.horizon()))?;
+    // No more units are passed at once.
+    let mut looks = Ring::new(alloc, CHECKPOINT_UNITS.min(new.horizon()))?;
     enter_live(&mut looks, cells, new.module_slots())?;
     tell_readers(&mut looks, readers, lines, new.wire_slots())?;
     Ok(looks)
 }
 
-/// So many lists, without modules.
-fn empty_lists(alloc: Global, count: u32) -> Result<VecDeque<Looks>, AllocError>
-    ensures { IfOk result (λ looks. length looks.items ≡ count) }
-{
-    let mut looks = VecDeque::with_capacity(alloc, count as usize)?;
-    for _unit in 0..count {
-        looks.push_back(Looks::new(alloc))?;
-    }
-    Ok(looks)
-}
-
 /// Those of the first modules that are live look in the next unit.
-fn enter_live(looks: &mut VecDeque<Looks>, cells: &[Cell], count: u32) -> Result<(), AllocError>
+fn enter_live(looks: &mut Ring, cells: &[Cell], count: u32) -> Result<(), AllocError>
     requires { 0 < length looks.old.items }
     ensures places { OnOk result (length looks.new.items ≡ length looks.old.items) }
     ensures live { OnOk result ((m : ℕ) → m < count → (cell_at cells.now m).live ≡ true → IsLooking looks.new.items m 0) }
 {
     for m in 0..count {
-        if is_live(cells, m) {
+        if is_live(cells, ModuleId(m)) {
             enter(looks, 0, ModuleId(m))?;
         }
     }
     Ok(())
 }
 
-fn is_live(cells: &[Cell], number: u32) -> bool
-    ensures { result ≡ (cell_at cells.now number).live }
-{
-    match cells.get(number as usize) {
-        Some(cell) => cell.live,
-        None => false,
-    }
-}
-
 /// The readers of those of the first wires whose lines aren't the old run's look in the next unit.
 fn tell_readers(
-    looks: &mut VecDeque<Looks>,
+    looks: &mut Ring,
     readers: &Readers,
     lines: &[Line],
     count: u32,
@@ -211,6 +190,7 @@ pub(crate) fn open_first(
     ensures cells { OnOk result (AreLike cells.old.items cells.new.items) }
     ensures stretches { OnOk result ((old : Circuit) → IsCircuit new.now → AreCells old new.now 0 (λ m. 0) cells.old.items → ((m : ℕ) → (cell_at cells.old.items m).stretch ≡ None)
         → AreStretchesTo old new.now 0 stretches.new.items × AreOpen new.now 0 cells.new.items stretches.new.items) }
+    ensures listed { OnOk result (IsListed new.now cells.new.items live.new.items) }
 {
     let horizon = new.horizon();
     let first_end = window_end(new.least_delay(), horizon, 0);
@@ -229,7 +209,7 @@ fn is_live_part(netlist: &Netlist, cells: &[Cell], id: ModuleId) -> bool
     ensures { IsTrue result ↔ (IsSome (module_at netlist.now id.0) × ((cell_at cells.now id.0).live ≡ true)) }
 {
     match netlist.module(id) {
-        Some(_) => is_live(cells, id.0),
+        Some(_) => is_live(cells, id),
         None => false,
     }
 }

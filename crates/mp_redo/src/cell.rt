@@ -1,5 +1,6 @@
 //! A module while a change of its netlist is followed.
 use mp_modules::Memory;
+use mp_netlist::ModuleId;
 
 /// Whether the module is live, that is evaluated again, and whether its record has changed. Of a live one its state now, and the place
 /// of its stretch of work once this has been opened.
@@ -9,4 +10,38 @@ pub(crate) struct Cell {
     pub touched: bool,
     pub memory: Memory,
     pub stretch: Option<usize>,
+}
+
+ghost use Rattle.std.specs.Prelude.{◌≡◌, ◌<◌, length, slice_set};
+ghost use Rattle.mp_redo.specs.Joins.{live_cell};
+ghost use Rattle.mp_redo.specs.Redoing.{cell_at};
+
+/// Whether a module is live. One without a cell isn't.
+pub(crate) fn is_live(cells: &[Cell], id: ModuleId) -> bool
+    ensures { result ≡ (cell_at cells.now id.0).live }
+{
+    match cells.get(id.0 as usize) {
+        Some(cell) => cell.live,
+        None => false,
+    }
+}
+
+/// A module's state. Where it has no cell, a blank one.
+pub(crate) fn memory_of(cells: &[Cell], id: ModuleId) -> Memory
+    ensures { result ≡ (cell_at cells.now id.0).memory }
+{
+    match cells.get(id.0 as usize) {
+        Some(cell) => cell.memory,
+        None => Memory::with_one_output(&[], 0),
+    }
+}
+
+/// A module is live with a state.
+pub(crate) fn set_live(cells: &mut Vec<Cell>, id: ModuleId, memory: Memory)
+    requires { id.0 < length cells.old.items }
+    ensures { cells.new.items ≡ slice_set cells.old.items id.0 (live_cell (cell_at cells.old.items id.0) memory) }
+{
+    let cell = &mut cells[id.0 as usize];
+    cell.live = true;
+    cell.memory = memory;
 }

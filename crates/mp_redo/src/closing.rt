@@ -11,7 +11,7 @@ ghost use Rattle.mp_redo.specs.Redoing.{line_at, level_at};
 use crate::line::Line;
 use mp_netlist::Output;
 
-/// From a time after the output's delay on, the levels of the wire at an output, if it has one, are those of the old run.
+/// From the output's delay after a time on, the levels of the wire at an output, if it has one, are those of the old run.
 fn close_output(lines: &mut Vec<Line>, output: Output, from: u32)
     requires wire { (w : ℕ) → output.wire ≡ Some (record { 0 = w }) → w < length lines.old.items }
     requires low { from + output.delay < 2 ^ 32 }

@@ -2,65 +2,67 @@
 use crate::beginning::{first_cells, first_looks, open_first};
 use crate::border::cross_border;
 use crate::cell::Cell;
-use crate::joining::open_joined;
+use crate::change::Change;
+use crate::joined::open_joined;
 use crate::keeping::first_ledgers;
 use crate::ledger::Ledger;
 use crate::line::Line;
-use crate::looks::Looks;
+use crate::ring::Ring;
 use crate::starting::first_lines;
 use crate::stretch::Stretch;
-use crate::window::run_window;
+use crate::unit::{pass_gate, run_unit};
 use crate::work_entries::window_end;
-use mp_depend::Readers;
-use mp_engine::{CHECKPOINT_UNITS, Run};
-use mp_netlist::{ModuleId, Netlist};
-use mp_phase::Gate;
+use mp_engine::CHECKPOINT_UNITS;
+use mp_netlist::ModuleId;
+use mp_phase::{Crew, Gate};
 use std::alloc::{AllocError, Global};
-use std::collections::VecDeque;
 use std::sync::Wait;
+use std::thread::Threads;
 
 /// The cells and ledgers of all modules and the lines of all wires, by number, who looks at the inputs when, and the stretches of work so
-/// far. Besides the modules that are live, and those that are due in a window, which are marked until they have answered.
+/// far. Besides the modules that are live, those that are due in a unit, which are marked until they have answered, those of them that
+/// join, and those that have joined in a window.
 #[derive(Drop)]
 pub(crate) struct Course {
     pub cells: Vec<Cell>,
     pub lines: Vec<Line>,
-    pub looks: VecDeque<Looks>,
+    pub looks: Ring,
     pub ledgers: Vec<Ledger>,
     pub stretches: Vec<Stretch>,
     pub live: Vec<ModuleId>,
     pub due: Vec<ModuleId>,
+    pub joining: Vec<ModuleId>,
+    pub joined: Vec<ModuleId>,
     pub marks: Vec<bool>,
 }
 
 impl Course {
-    ghost use Rattle.std.specs.Prelude.{◌≡◌, ◌-◌, ◌<◌, IfOk, OnOk};
+    ghost use Rattle.std.specs.Prelude.{◌≡◌, ℕ, ◌+◌, ◌-◌, ◌<◌, ◌≤◌, [], false, IfOk, OnOk, length};
     ghost use Rattle.mp_netlist.specs.Delays.{least_delay};
-    ghost use Rattle.mp_depend.specs.Known.{AreReaders};
     ghost use Rattle.mp_engine.specs.Checkpoints.{IsBorder};
-    ghost use Rattle.mp_engine.specs.Runs.{IsRun};
+    ghost use Rattle.mp_engine.specs.Marks.{is_marked};
+    ghost use Rattle.mp_redo.specs.Changes.{IsChange};
     ghost use Rattle.mp_redo.specs.Courses.{last_block, IsCourse};
-    ghost use Rattle.mp_redo.specs.Revisions.{IsRevision};
-    ghost use Rattle.mp_redo.specs.Work.{block_of, window_end, IsWindow};
+    ghost use Rattle.mp_redo.specs.Joins.{HaveAnswered};
+    ghost use Rattle.mp_redo.specs.Redoing.{looks_at, IsBefore};
+    ghost use Rattle.mp_redo.specs.Windows.{IsShort, IsWindows};
+    ghost use Rattle.mp_redo.specs.Work.{block_of, window_end, window_of, IsWindow};
 
     /// Before time 0.
-    pub(crate) fn first(
-        alloc: Global,
-        old: &Netlist,
-        run: &Run,
-        new: &Netlist,
-        readers: &Readers,
-    ) -> Result<Self, AllocError>
-        requires revision { IsRevision old.now new.now }
-        requires run { IsRun old.now run.now }
-        requires rows { AreReaders new.now readers.now }
-        ensures { IfOk result (λ course. IsCourse old.now new.now run.now 0 0 course) }
+    pub(crate) fn first(alloc: Global, change: &Change<'_>) -> Result<Self, AllocError>
+        requires { IsChange change.now }
+        ensures { IfOk result (λ course. IsCourse change.now.old.now change.now.new.now change.now.run.now 0 0 course) }
     {
-        // Its contract tells that the netlist is well formed.
-        let _horizon = old.horizon();
-        let mut cells = first_cells(alloc, old, new)?;
-        let lines = first_lines(alloc, old, new, cells.as_slice())?;
-        let looks = first_looks(alloc, new, readers, cells.as_slice(), lines.as_slice())?;
+        let new = change.new;
+        let mut cells = first_cells(alloc, change.old, new)?;
+        let lines = first_lines(alloc, change.old, new, cells.as_slice())?;
+        let looks = first_looks(
+            alloc,
+            new,
+            change.readers,
+            cells.as_slice(),
+            lines.as_slice(),
+        )?;
         let ledgers = first_ledgers(alloc, cells.as_slice(), new.horizon())?;
         let mut stretches = Vec::new(alloc);
         let mut live = Vec::new(alloc);
@@ -74,116 +76,141 @@ impl Course {
             stretches,
             live,
             due: Vec::new(alloc),
+            joining: Vec::new(alloc),
+            joined: Vec::new(alloc),
             marks,
         })
     }
 
     /// From time 0 to the horizon.
-    pub(crate) fn follow<R: Wait, G: Gate>(
+    pub(crate) fn follow<R: Threads + Wait + Sync, G: Gate + Sync>(
         &mut self,
         rt: &R,
         alloc: Global,
+        crew: &Crew,
         gate: &G,
-        old: &Netlist,
-        run: &Run,
-        new: &Netlist,
-        readers: &Readers,
+        change: &Change<'_>,
     ) -> Result<(), AllocError>
-        requires revision { IsRevision old.now new.now }
-        requires run { IsRun old.now run.now }
-        requires rows { AreReaders new.now readers.now }
-        requires first { IsCourse old.now new.now run.now 0 0 self.old }
-        ensures { OnOk result (IsCourse old.now new.now run.now (last_block new.now new.now.horizon) new.now.horizon self.new) }
+        requires change { IsChange change.now }
+        requires first { IsCourse change.now.old.now change.now.new.now change.now.run.now 0 0 self.old }
+        ensures { OnOk result (IsCourse change.now.old.now change.now.new.now change.now.run.now (last_block change.now.new.now change.now.new.now.horizon) change.now.new.now.horizon self.new) }
     {
-        let horizon = new.horizon();
+        let horizon = change.new.horizon();
         // It looks at all modules: once, and not for each window.
-        let least = new.least_delay();
+        let least = change.new.least_delay();
         let mut from = 0;
         while from < horizon {
-            from = self.go_on(rt, alloc, gate, old, run, new, readers, least, from)?;
+            from = self.go_on(rt, alloc, crew, gate, change, least, from)?;
         }
         Ok(())
     }
 
-    /// The window that begins at a time, where the least delay is known, and the block's end where it ends there; it returns the end.
-    fn go_on<R: Wait, G: Gate>(
+    /// Goes through the windows of `pass_on`, and crosses the border where they end with a block; it returns the time at which they end.
+    fn go_on<R: Threads + Wait + Sync, G: Gate + Sync>(
         &mut self,
         rt: &R,
         alloc: Global,
+        crew: &Crew,
         gate: &G,
-        old: &Netlist,
-        run: &Run,
-        new: &Netlist,
-        readers: &Readers,
+        change: &Change<'_>,
         least: u32,
         from: u32,
     ) -> Result<u32, AllocError>
-        requires least { least ≡ least_delay new.now }
-        requires revision { IsRevision old.now new.now }
-        requires run { IsRun old.now run.now }
-        requires rows { AreReaders new.now readers.now }
-        requires window { IsWindow new.now from (window_end new.now from) }
-        requires before { IsCourse old.now new.now run.now (block_of from) from self.old }
-        ensures end { IfOk result (λ to. to ≡ window_end new.now from) }
-        ensures before { IfOk result (λ to. IsCourse old.now new.now run.now (last_block new.now to) to self.new) }
+        requires least { least ≡ least_delay change.now.new.now }
+        requires change { IsChange change.now }
+        requires window { IsWindow change.now.new.now from (window_end change.now.new.now from) }
+        requires before { IsCourse change.now.old.now change.now.new.now change.now.run.now (block_of from) from self.old }
+        ensures windows { IfOk result (IsWindows change.now.new.now from) }
+        ensures before { IfOk result (λ to. IsCourse change.now.old.now change.now.new.now change.now.run.now (last_block change.now.new.now to) to self.new) }
     {
-        let horizon = new.horizon();
-        let to = window_end(least, horizon, from);
-        self.pass(rt, alloc, gate, old, run, new, readers, from, to)?;
+        let horizon = change.new.horizon();
+        let to = self.pass_on(rt, alloc, crew, gate, change, least, from)?;
         if to < horizon && to.is_multiple_of(CHECKPOINT_UNITS) {
-            self.cross(old, run, new, readers, to)?;
+            self.cross(change, to)?;
         }
         Ok(to)
     }
 
-    /// A window.
-    fn pass<R: Wait, G: Gate>(
+    /// Passes at once the windows from a time on in which nobody is live and nobody looks, as far as the block goes; where there are none,
+    /// goes through the window that begins then. The least delay is given. It returns the end.
+    fn pass_on<R: Threads + Wait + Sync, G: Gate + Sync>(
         &mut self,
         rt: &R,
         alloc: Global,
+        crew: &Crew,
         gate: &G,
-        old: &Netlist,
-        run: &Run,
-        new: &Netlist,
-        readers: &Readers,
+        change: &Change<'_>,
+        least: u32,
+        from: u32,
+    ) -> Result<u32, AllocError>
+        requires least { least ≡ least_delay change.now.new.now }
+        requires change { IsChange change.now }
+        requires window { IsWindow change.now.new.now from (window_end change.now.new.now from) }
+        requires before { IsCourse change.now.old.now change.now.new.now change.now.run.now (block_of from) from self.old }
+        ensures windows { IfOk result (IsWindows change.now.new.now from) }
+        ensures before { IfOk result (λ to. IsCourse change.now.old.now change.now.new.now change.now.run.now (block_of from) to self.new) }
+    {
+        let horizon = change.new.horizon();
+        let idle_end = self.idle_end(change, least, horizon, from);
+        if from < idle_end {
+            self.looks.move_up((idle_end - from) as usize);
+            return Ok(idle_end);
+        }
+        let to = window_end(least, horizon, from);
+        self.pass(rt, alloc, crew, gate, change, from, to)?;
+        Ok(to)
+    }
+
+    /// Where nobody is live, the last time of the block, its end included, at which a window begins and before which, from a time on, nobody
+    /// looks; else that time.
+    fn idle_end(&self, change: &Change<'_>, least: u32, horizon: u32, from: u32) -> u32
+        requires least { least ≡ least_delay change.now.new.now }
+        requires end { horizon ≡ change.now.new.now.horizon }
+        requires change { IsChange change.now }
+        requires window { IsWindow change.now.new.now from (window_end change.now.new.now from) }
+        requires before { IsCourse change.now.old.now change.now.new.now change.now.run.now (block_of from) from self.now }
+        ensures windows { from < result → IsWindows change.now.new.now from result }
+        ensures idle { (k : ℕ) → from + k < result → looks_at self.now.looks.items k ≡ [] }
+    {
+        if !self.live.is_empty() {
+            return from;
+        }
+        let most = (CHECKPOINT_UNITS - from % CHECKPOINT_UNITS).min(horizon - from);
+        let units = self.looks.idle_units(most);
+        let time = from + units;
+        if units == most {
+            return time;
+        }
+        time - time % CHECKPOINT_UNITS % least
+    }
+
+    /// A window: the live modules pass the gate for it, it is gone through unit by unit, and the stretches of the modules that have joined
+    /// in it are opened.
+    fn pass<R: Threads + Wait + Sync, G: Gate + Sync>(
+        &mut self,
+        rt: &R,
+        alloc: Global,
+        crew: &Crew,
+        gate: &G,
+        change: &Change<'_>,
         from: u32,
         to: u32,
     ) -> Result<(), AllocError>
-        requires revision { IsRevision old.now new.now }
-        requires run { IsRun old.now run.now }
-        requires rows { AreReaders new.now readers.now }
-        requires window { IsWindow new.now from to }
-        requires before { IsCourse old.now new.now run.now (block_of from) from self.old }
-        ensures { OnOk result (IsCourse old.now new.now run.now (block_of from) to self.new) }
+        requires change { IsChange change.now }
+        requires window { IsWindow change.now.new.now from to }
+        requires before { IsCourse change.now.old.now change.now.new.now change.now.run.now (block_of from) from self.old }
+        ensures { OnOk result (IsCourse change.now.old.now change.now.new.now change.now.run.now (block_of from) to self.new) }
     {
-        // Its contract tells that the netlist is well formed.
-        let _horizon = new.horizon();
         let block = from - from % CHECKPOINT_UNITS;
-        run_window(
-            rt,
-            alloc,
-            gate,
-            old,
-            run,
-            new,
-            readers,
-            block,
-            from,
-            to,
-            self.live.as_slice(),
-            &mut self.due,
-            &mut self.marks,
-            &mut self.cells,
-            &mut self.lines,
-            &mut self.looks,
-        )?;
+        pass_gate(rt, gate, self.live.as_slice(), from, to);
+        self.run_units(rt, alloc, crew, gate, change, block, from, to)?;
         open_joined(
             alloc,
-            run,
-            new,
+            change.run,
+            change.new,
             block,
             to,
-            self.due.as_slice(),
+            self.joined.as_slice(),
             &mut self.cells,
             &mut self.ledgers,
             &mut self.stretches,
@@ -192,32 +219,68 @@ impl Course {
         Ok(())
     }
 
-    /// From the end of a block to the next one.
-    fn cross(
+    /// The units of a window, one after the other. Who has joined is listed.
+    fn run_units<R: Threads + Wait + Sync, G: Gate + Sync>(
         &mut self,
-        old: &Netlist,
-        run: &Run,
-        new: &Netlist,
-        readers: &Readers,
-        time: u32,
+        rt: &R,
+        alloc: Global,
+        crew: &Crew,
+        gate: &G,
+        change: &Change<'_>,
+        block: u32,
+        from: u32,
+        to: u32,
     ) -> Result<(), AllocError>
-        requires revision { IsRevision old.now new.now }
-        requires run { IsRun old.now run.now }
-        requires rows { AreReaders new.now readers.now }
+        requires change { IsChange change.now }
+        requires window { IsShort change.now.new.now block from to }
+        requires some { 0 < length self.old.looks.items }
+        requires marks { length self.old.marks.items ≡ length change.now.new.now.modules }
+        requires free { (m : ℕ) → is_marked self.old.marks.items m ≡ false }
+        requires before { IsBefore change.now.old.now change.now.new.now change.now.run.now block from self.old.cells.items self.old.lines.items self.old.looks.items }
+        ensures places { OnOk result (length self.new.looks.items ≡ length self.old.looks.items) }
+        ensures marks { OnOk result (length self.new.marks.items ≡ length self.old.marks.items) }
+        ensures free { OnOk result ((m : ℕ) → is_marked self.new.marks.items m ≡ false) }
+        ensures cells { OnOk result (HaveAnswered self.new.joined.items self.old.cells.items self.new.cells.items) }
+        ensures before { OnOk result (IsBefore change.now.old.now change.now.new.now change.now.run.now block to self.new.cells.items self.new.lines.items self.new.looks.items) }
+        ensures ledgers { self.new.ledgers ≡ self.old.ledgers }
+        ensures stretches { self.new.stretches ≡ self.old.stretches }
+        ensures live { self.new.live ≡ self.old.live }
+    {
+        self.joined.clear();
+        for time in from..to {
+            run_unit(
+                rt,
+                alloc,
+                crew,
+                gate,
+                change,
+                block,
+                time,
+                to,
+                &mut self.due,
+                &mut self.joining,
+                &mut self.joined,
+                &mut self.marks,
+                &mut self.cells,
+                &mut self.lines,
+                &mut self.looks,
+            )?;
+        }
+        Ok(())
+    }
+
+    /// From the end of a block to the next one.
+    fn cross(&mut self, change: &Change<'_>, time: u32) -> Result<(), AllocError>
+        requires change { IsChange change.now }
         requires border { IsBorder time }
         requires later { 0 < time }
-        requires within { time < new.now.horizon }
-        requires before { IsCourse old.now new.now run.now (block_of (time - 1)) time self.old }
-        ensures { OnOk result (IsCourse old.now new.now run.now time time self.new) }
+        requires within { time < change.now.new.now.horizon }
+        requires before { IsCourse change.now.old.now change.now.new.now change.now.run.now (block_of (time - 1)) time self.old }
+        ensures { OnOk result (IsCourse change.now.old.now change.now.new.now change.now.run.now time time self.new) }
     {
-        // Its contract tells that the netlist is well formed.
-        let _horizon = new.horizon();
         let block = (time - 1) - (time - 1) % CHECKPOINT_UNITS;
         cross_border(
-            old,
-            run,
-            new,
-            readers,
+            change,
             block,
             time,
             &mut self.cells,

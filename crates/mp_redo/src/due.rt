@@ -1,30 +1,25 @@
-//! The modules that are due in a window answer.
-ghost use Rattle.std.specs.Prelude.{◌≡◌, ℕ, ◌<◌, true, false, Some, IfOk, OnOk, length, slice_set};
+//! The modules that are due in a unit: those that are live answer, and of the others those that are to join are listed.
+ghost use Rattle.std.specs.Prelude.{◌≡◌, ℕ, ◌+◌, ◌<◌, ◌⊎◌, true, false, Some, None, IsSome, [], OnOk, length, slice_set};
 ghost use Rattle.std.specs.List.{Contains};
-ghost use Rattle.mp_depend.specs.Known.{AreReaders};
 ghost use Rattle.mp_engine.specs.Marks.{is_marked};
-ghost use Rattle.mp_engine.specs.Runs.{IsRun};
-ghost use Rattle.mp_netlist.specs.Circuit.{IsCircuit, module_at};
+ghost use Rattle.mp_netlist.specs.Circuit.{module_at};
 ghost use Rattle.mp_netlist.specs.Slots.{slot_at};
-ghost use Rattle.mp_redo.specs.Joins.{HaveAnswered, live_cell};
+ghost use Rattle.mp_redo.specs.Changes.{IsChange};
+ghost use Rattle.mp_redo.specs.Joins.{HaveAnswered, IsSettled, IsToJoin, live_cell};
 ghost use Rattle.mp_redo.specs.Ledgers.{state_in};
 ghost use Rattle.mp_redo.specs.Redoing.{cell_at, IsDuring};
-ghost use Rattle.mp_redo.specs.Revisions.{IsRevision};
-ghost use Rattle.mp_redo.specs.Windows.{IsShort, HearOther};
+ghost use Rattle.mp_redo.specs.Windows.{IsShort};
 
-use crate::answering::{answer_joining, answer_live};
-use crate::cell::Cell;
+use crate::cell::{Cell, is_live, memory_of, set_live};
+use crate::change::Change;
 use crate::comparing::hear_other;
 use crate::line::Line;
-use crate::looks::Looks;
-use mp_depend::Readers;
+use crate::ring::Ring;
+use crate::stepping::answer_live;
 use mp_engine::Run;
 use mp_modules::Memory;
-use mp_netlist::{ModuleId, ModuleRecord, Netlist};
-use mp_phase::Gate;
-use std::alloc::{AllocError, Global};
-use std::collections::VecDeque;
-use std::sync::Wait;
+use mp_netlist::{ModuleId, ModuleRecord};
+use std::alloc::AllocError;
 
 /// The state of a module that a run kept for a time, or a blank one.
 pub(crate) fn old_state(run: &Run, id: ModuleId, time: u32) -> Memory
@@ -36,37 +31,8 @@ pub(crate) fn old_state(run: &Run, id: ModuleId, time: u32) -> Memory
     }
 }
 
-/// The cell of a module. Where it has none, one that isn't live.
-fn cell_of(cells: &[Cell], id: ModuleId) -> Cell
-    ensures { result ≡ cell_at cells.now id.0 }
-{
-    match cells.get(id.0 as usize) {
-        Some(cell) => *cell,
-        None => Cell {
-            live: false,
-            touched: false,
-            memory: Memory::with_one_output(&[], 0),
-            stretch: None,
-        },
-    }
-}
-
-/// A module is live with a state.
-fn set_live(cells: &mut Vec<Cell>, id: ModuleId, memory: Memory)
-    requires { id.0 < length cells.old.items }
-    ensures { cells.new.items ≡ slice_set cells.old.items id.0 (live_cell (cell_at cells.old.items id.0) memory) }
-{
-    let cell = cell_of(cells.as_slice(), id);
-    cells[id.0 as usize] = Cell {
-        live: true,
-        touched: cell.touched,
-        memory,
-        stretch: cell.stretch,
-    };
-}
-
 /// Whether a module has a mark.
-fn has_mark(marks: &[bool], id: ModuleId) -> bool
+pub(crate) fn has_mark(marks: &[bool], id: ModuleId) -> bool
     ensures { result ≡ is_marked marks.now id.0 }
 {
     match marks.get(id.0 as usize) {
@@ -76,290 +42,211 @@ fn has_mark(marks: &[bool], id: ModuleId) -> bool
 }
 
 /// Takes a module's mark away.
-fn clear_mark(marks: &mut Vec<bool>, id: ModuleId)
+pub(crate) fn clear_mark(marks: &mut Vec<bool>, id: ModuleId)
     requires { id.0 < length marks.old.items }
     ensures { marks.new.items ≡ slice_set marks.old.items id.0 false }
 {
     marks[id.0 as usize] = false;
 }
 
-/// A marked module that is live answers from the window's begin on.
+/// A marked module that is live answers.
 fn answer_as_live(
-    alloc: Global,
-    old: &Netlist,
-    run: &Run,
-    new: &Netlist,
-    readers: &Readers,
+    change: &Change<'_>,
     block: u32,
-    from: u32,
-    to: u32,
+    time: u32,
     due: &[ModuleId],
-    marks: &[bool],
     id: ModuleId,
     found: &ModuleRecord,
+    marks: &mut Vec<bool>,
     cells: &mut Vec<Cell>,
     lines: &mut Vec<Line>,
-    looks: &mut VecDeque<Looks>,
+    looks: &mut Ring,
 ) -> Result<(), AllocError>
-    requires old_form { IsCircuit old.now }
-    requires form { IsCircuit new.now }
-    requires revision { IsRevision old.now new.now }
-    requires run { IsRun old.now run.now }
-    requires rows { AreReaders new.now readers.now }
-    requires window { IsShort new.now block from to }
+    requires change { IsChange change.now }
+    requires unit { IsShort change.now.new.now block time (time + 1) }
     requires some { 0 < length looks.old.items }
-    requires during { IsDuring old.now new.now run.now block from to due.now marks.now cells.old.items lines.old.items looks.old.items }
-    requires marked { is_marked marks.now id.0 ≡ true }
-    requires stands { module_at new.now id.0 ≡ Some found.now }
+    requires during { IsDuring change.now.old.now change.now.new.now change.now.run.now block time (time + 1) due.now marks.old.items cells.old.items lines.old.items looks.old.items }
+    requires marked { is_marked marks.old.items id.0 ≡ true }
+    requires stands { module_at change.now.new.now id.0 ≡ Some found.now }
     requires live { (cell_at cells.old.items id.0).live ≡ true }
     ensures places { OnOk result (length looks.new.items ≡ length looks.old.items) }
-    ensures cells { OnOk result (HaveAnswered due.now cells.old.items cells.new.items) }
-    ensures during { OnOk result (IsDuring old.now new.now run.now block from to due.now (slice_set marks.now id.0 false) cells.new.items lines.new.items looks.new.items) }
+    ensures marks { OnOk result (marks.new.items ≡ slice_set marks.old.items id.0 false) }
+    ensures cells { OnOk result (HaveAnswered [] cells.old.items cells.new.items) }
+    ensures during { OnOk result (IsDuring change.now.old.now change.now.new.now change.now.run.now block time (time + 1) due.now marks.new.items cells.new.items lines.new.items looks.new.items) }
 {
-    let memory = cell_of(cells.as_slice(), id).memory;
+    let memory = memory_of(cells.as_slice(), id);
     let after = answer_live(
-        alloc, new, run, readers, lines, looks, found, memory, from, to,
+        change.new,
+        change.run,
+        change.readers,
+        lines,
+        looks,
+        found,
+        memory,
+        time,
     )?;
     set_live(cells, id, after);
+    clear_mark(marks, id);
     Ok(())
 }
 
-/// A marked module that isn't live and hears anything else than in the old run joins: it answers from the block's begin on.
-fn answer_as_joining(
-    alloc: Global,
-    old: &Netlist,
-    run: &Run,
-    new: &Netlist,
-    readers: &Readers,
+/// Those of the modules that are due that are live answer.
+pub(crate) fn answer_live_ones(
+    change: &Change<'_>,
     block: u32,
-    from: u32,
-    to: u32,
+    time: u32,
     due: &[ModuleId],
-    marks: &[bool],
-    id: ModuleId,
-    found: &ModuleRecord,
+    marks: &mut Vec<bool>,
     cells: &mut Vec<Cell>,
     lines: &mut Vec<Line>,
-    looks: &mut VecDeque<Looks>,
+    looks: &mut Ring,
 ) -> Result<(), AllocError>
-    requires old_form { IsCircuit old.now }
-    requires form { IsCircuit new.now }
-    requires revision { IsRevision old.now new.now }
-    requires run { IsRun old.now run.now }
-    requires rows { AreReaders new.now readers.now }
-    requires window { IsShort new.now block from to }
+    requires change { IsChange change.now }
+    requires unit { IsShort change.now.new.now block time (time + 1) }
     requires some { 0 < length looks.old.items }
-    requires during { IsDuring old.now new.now run.now block from to due.now marks.now cells.old.items lines.old.items looks.old.items }
-    requires marked { is_marked marks.now id.0 ≡ true }
-    requires stands { module_at new.now id.0 ≡ Some found.now }
-    requires quiet { (cell_at cells.old.items id.0).live ≡ false }
-    requires other { HearOther run.now lines.old.items found.now.inputs from to }
+    requires during { IsDuring change.now.old.now change.now.new.now change.now.run.now block time (time + 1) due.now marks.old.items cells.old.items lines.old.items looks.old.items }
     ensures places { OnOk result (length looks.new.items ≡ length looks.old.items) }
-    ensures cells { OnOk result (HaveAnswered due.now cells.old.items cells.new.items) }
-    ensures during { OnOk result (IsDuring old.now new.now run.now block from to due.now (slice_set marks.now id.0 false) cells.new.items lines.new.items looks.new.items) }
+    ensures left { OnOk result ((m : ℕ) → is_marked marks.new.items m ≡ true → (is_marked marks.old.items m ≡ true) × (IsSome (module_at change.now.new.now m) → (cell_at cells.old.items m).live ≡ false)) }
+    ensures marks { OnOk result (length marks.new.items ≡ length marks.old.items) }
+    ensures cells { OnOk result (HaveAnswered [] cells.old.items cells.new.items) }
+    ensures during { OnOk result (IsDuring change.now.old.now change.now.new.now change.now.run.now block time (time + 1) due.now marks.new.items cells.new.items lines.new.items looks.new.items) }
 {
-    let memory = old_state(run, id, block);
-    let after = answer_joining(
-        alloc, new, run, readers, lines, looks, found, memory, block, to,
-    )?;
-    set_live(cells, id, after);
-    Ok(())
-}
-
-/// A marked module that isn't live joins if it hears anything else than in the old run. Before it answers it passes the gate.
-fn answer_if_other<R: Wait, G: Gate>(
-    rt: &R,
-    alloc: Global,
-    gate: &G,
-    old: &Netlist,
-    run: &Run,
-    new: &Netlist,
-    readers: &Readers,
-    block: u32,
-    from: u32,
-    to: u32,
-    due: &[ModuleId],
-    marks: &[bool],
-    id: ModuleId,
-    found: &ModuleRecord,
-    cells: &mut Vec<Cell>,
-    lines: &mut Vec<Line>,
-    looks: &mut VecDeque<Looks>,
-) -> Result<(), AllocError>
-    requires old_form { IsCircuit old.now }
-    requires form { IsCircuit new.now }
-    requires revision { IsRevision old.now new.now }
-    requires run { IsRun old.now run.now }
-    requires rows { AreReaders new.now readers.now }
-    requires window { IsShort new.now block from to }
-    requires some { 0 < length looks.old.items }
-    requires during { IsDuring old.now new.now run.now block from to due.now marks.now cells.old.items lines.old.items looks.old.items }
-    requires marked { is_marked marks.now id.0 ≡ true }
-    requires stands { module_at new.now id.0 ≡ Some found.now }
-    requires quiet { (cell_at cells.old.items id.0).live ≡ false }
-    ensures places { OnOk result (length looks.new.items ≡ length looks.old.items) }
-    ensures cells { OnOk result (HaveAnswered due.now cells.old.items cells.new.items) }
-    ensures during { OnOk result (IsDuring old.now new.now run.now block from to due.now (slice_set marks.now id.0 false) cells.new.items lines.new.items looks.new.items) }
-{
-    if hear_other(
-        alloc,
-        run,
-        lines.as_slice(),
-        found.inputs.as_slice(),
-        from,
-        to,
-    )? {
-        gate.enter(rt, id, block, to);
-        answer_as_joining(
-            alloc, old, run, new, readers, block, from, to, due, marks, id, found, cells, lines,
-            looks,
-        )?;
+    for id in due {
+        answer_if_live(change, block, time, due, *id, marks, cells, lines, looks)?;
     }
     Ok(())
 }
 
-/// A marked module answers, if it stands.
-fn answer_marked<R: Wait, G: Gate>(
-    rt: &R,
-    alloc: Global,
-    gate: &G,
-    old: &Netlist,
-    run: &Run,
-    new: &Netlist,
-    readers: &Readers,
+/// A module answers if it is marked, stands and is live.
+fn answer_if_live(
+    change: &Change<'_>,
     block: u32,
-    from: u32,
-    to: u32,
-    due: &[ModuleId],
-    marks: &[bool],
-    id: ModuleId,
-    cells: &mut Vec<Cell>,
-    lines: &mut Vec<Line>,
-    looks: &mut VecDeque<Looks>,
-) -> Result<(), AllocError>
-    requires old_form { IsCircuit old.now }
-    requires form { IsCircuit new.now }
-    requires revision { IsRevision old.now new.now }
-    requires run { IsRun old.now run.now }
-    requires rows { AreReaders new.now readers.now }
-    requires window { IsShort new.now block from to }
-    requires some { 0 < length looks.old.items }
-    requires during { IsDuring old.now new.now run.now block from to due.now marks.now cells.old.items lines.old.items looks.old.items }
-    requires marked { is_marked marks.now id.0 ≡ true }
-    ensures places { OnOk result (length looks.new.items ≡ length looks.old.items) }
-    ensures cells { OnOk result (HaveAnswered due.now cells.old.items cells.new.items) }
-    ensures during { OnOk result (IsDuring old.now new.now run.now block from to due.now (slice_set marks.now id.0 false) cells.new.items lines.new.items looks.new.items) }
-{
-    let Some(found) = new.module(id) else {
-        return Ok(());
-    };
-    if cell_of(cells.as_slice(), id).live {
-        answer_as_live(
-            alloc, old, run, new, readers, block, from, to, due, marks, id, found, cells, lines,
-            looks,
-        )
-    } else {
-        answer_if_other(
-            rt, alloc, gate, old, run, new, readers, block, from, to, due, marks, id, found, cells,
-            lines, looks,
-        )
-    }
-}
-
-/// One of the modules that are due in a window answers, if it hasn't yet: from the window's begin on where it's live, and from the
-/// block's begin on where it isn't, but hears anything else than in the old run.
-fn answer_due<R: Wait, G: Gate>(
-    rt: &R,
-    alloc: Global,
-    gate: &G,
-    old: &Netlist,
-    run: &Run,
-    new: &Netlist,
-    readers: &Readers,
-    block: u32,
-    from: u32,
-    to: u32,
+    time: u32,
     due: &[ModuleId],
     id: ModuleId,
     marks: &mut Vec<bool>,
     cells: &mut Vec<Cell>,
     lines: &mut Vec<Line>,
-    looks: &mut VecDeque<Looks>,
+    looks: &mut Ring,
 ) -> Result<(), AllocError>
-    requires old_form { IsCircuit old.now }
-    requires form { IsCircuit new.now }
-    requires revision { IsRevision old.now new.now }
-    requires run { IsRun old.now run.now }
-    requires rows { AreReaders new.now readers.now }
-    requires window { IsShort new.now block from to }
+    requires change { IsChange change.now }
+    requires unit { IsShort change.now.new.now block time (time + 1) }
     requires some { 0 < length looks.old.items }
-    requires during { IsDuring old.now new.now run.now block from to due.now marks.old.items cells.old.items lines.old.items looks.old.items }
+    requires during { IsDuring change.now.old.now change.now.new.now change.now.run.now block time (time + 1) due.now marks.old.items cells.old.items lines.old.items looks.old.items }
     ensures places { OnOk result (length looks.new.items ≡ length looks.old.items) }
-    ensures marks { OnOk result (marks.new.items ≡ slice_set marks.old.items id.0 false) }
-    ensures cells { OnOk result (HaveAnswered due.now cells.old.items cells.new.items) }
-    ensures during { OnOk result (IsDuring old.now new.now run.now block from to due.now marks.new.items cells.new.items lines.new.items looks.new.items) }
+    ensures marks { OnOk result (length marks.new.items ≡ length marks.old.items) }
+    ensures fewer { OnOk result ((m : ℕ) → is_marked marks.new.items m ≡ true → is_marked marks.old.items m ≡ true) }
+    ensures left { OnOk result (is_marked marks.new.items id.0 ≡ true → IsSome (module_at change.now.new.now id.0) → (cell_at cells.old.items id.0).live ≡ false) }
+    ensures cells { OnOk result (HaveAnswered [] cells.old.items cells.new.items) }
+    ensures during { OnOk result (IsDuring change.now.old.now change.now.new.now change.now.run.now block time (time + 1) due.now marks.new.items cells.new.items lines.new.items looks.new.items) }
 {
-    if has_mark(marks.as_slice(), id) {
-        answer_marked(
-            rt,
-            alloc,
-            gate,
-            old,
-            run,
-            new,
-            readers,
-            block,
-            from,
-            to,
-            due,
-            marks.as_slice(),
-            id,
-            cells,
-            lines,
-            looks,
-        )?;
+    if !has_mark(marks.as_slice(), id) || !is_live(cells.as_slice(), id) {
+        return Ok(());
+    }
+    let Some(found) = change.new.module(id) else {
+        return Ok(());
+    };
+    answer_as_live(
+        change, block, time, due, id, found, marks, cells, lines, looks,
+    )
+}
+
+/// A module that isn't live is listed to join where it hears anything else than in the old run. Else it has answered.
+fn find_quiet(
+    change: &Change<'_>,
+    block: u32,
+    time: u32,
+    due: &[ModuleId],
+    id: ModuleId,
+    found: &ModuleRecord,
+    joining: &mut Vec<ModuleId>,
+    marks: &mut Vec<bool>,
+    cells: &[Cell],
+    lines: &[Line],
+    looks: &Ring,
+) -> Result<(), AllocError>
+    requires change { IsChange change.now }
+    requires unit { IsShort change.now.new.now block time (time + 1) }
+    requires during { IsDuring change.now.old.now change.now.new.now change.now.run.now block time (time + 1) due.now marks.old.items cells.now lines.now looks.now.items }
+    requires marked { is_marked marks.old.items id.0 ≡ true }
+    requires stands { module_at change.now.new.now id.0 ≡ Some found.now }
+    requires quiet { (cell_at cells.now id.0).live ≡ false }
+    ensures marks { OnOk result (length marks.new.items ≡ length marks.old.items) }
+    ensures joins { OnOk result ((m : ℕ) → Contains joining.new.items (record { 0 = m }) → Contains joining.old.items (record { 0 = m }) ⊎ IsToJoin change.now.old.now change.now.new.now time cells.now m) }
+    ensures settled { OnOk result (IsSettled change.now.new.now cells.now joining.new.items marks.new.items id.0) }
+    ensures others { OnOk result ((m : ℕ) → IsSettled change.now.new.now cells.now joining.old.items marks.old.items m → IsSettled change.now.new.now cells.now joining.new.items marks.new.items m) }
+    ensures during { OnOk result (IsDuring change.now.old.now change.now.new.now change.now.run.now block time (time + 1) due.now marks.new.items cells.now lines.now looks.now.items) }
+{
+    if hear_other(change.run, lines, found.inputs.as_slice(), time) {
+        joining.push(id)?;
+    } else {
         clear_mark(marks, id);
     }
     Ok(())
 }
 
-/// All modules that are due in a window answer.
-pub(crate) fn answer_all<R: Wait, G: Gate>(
-    rt: &R,
-    alloc: Global,
-    gate: &G,
-    old: &Netlist,
-    run: &Run,
-    new: &Netlist,
-    readers: &Readers,
+/// A marked module is listed to join, or has answered, or is live.
+fn find_one(
+    change: &Change<'_>,
     block: u32,
-    from: u32,
-    to: u32,
+    time: u32,
     due: &[ModuleId],
+    id: ModuleId,
+    joining: &mut Vec<ModuleId>,
     marks: &mut Vec<bool>,
-    cells: &mut Vec<Cell>,
-    lines: &mut Vec<Line>,
-    looks: &mut VecDeque<Looks>,
+    cells: &[Cell],
+    lines: &[Line],
+    looks: &Ring,
 ) -> Result<(), AllocError>
-    requires revision { IsRevision old.now new.now }
-    requires run { IsRun old.now run.now }
-    requires rows { AreReaders new.now readers.now }
-    requires window { IsShort new.now block from to }
-    requires some { 0 < length looks.old.items }
-    requires during { IsDuring old.now new.now run.now block from to due.now marks.old.items cells.old.items lines.old.items looks.old.items }
-    ensures places { OnOk result (length looks.new.items ≡ length looks.old.items) }
+    requires change { IsChange change.now }
+    requires unit { IsShort change.now.new.now block time (time + 1) }
+    requires during { IsDuring change.now.old.now change.now.new.now change.now.run.now block time (time + 1) due.now marks.old.items cells.now lines.now looks.now.items }
     ensures marks { OnOk result (length marks.new.items ≡ length marks.old.items) }
-    ensures free { OnOk result ((m : ℕ) → is_marked marks.new.items m ≡ false) }
-    ensures cells { OnOk result (HaveAnswered due.now cells.old.items cells.new.items) }
-    ensures during { OnOk result (IsDuring old.now new.now run.now block from to due.now marks.new.items cells.new.items lines.new.items looks.new.items) }
+    ensures joins { OnOk result ((m : ℕ) → Contains joining.new.items (record { 0 = m }) → Contains joining.old.items (record { 0 = m }) ⊎ IsToJoin change.now.old.now change.now.new.now time cells.now m) }
+    ensures settled { OnOk result (IsSettled change.now.new.now cells.now joining.new.items marks.new.items id.0) }
+    ensures others { OnOk result ((m : ℕ) → IsSettled change.now.new.now cells.now joining.old.items marks.old.items m → IsSettled change.now.new.now cells.now joining.new.items marks.new.items m) }
+    ensures during { OnOk result (IsDuring change.now.old.now change.now.new.now change.now.run.now block time (time + 1) due.now marks.new.items cells.now lines.now looks.now.items) }
 {
-    // Their contracts tell that the netlists are well formed.
-    let _old_horizon = old.horizon();
-    let _horizon = new.horizon();
+    if !has_mark(marks.as_slice(), id) {
+        return Ok(());
+    }
+    let Some(found) = change.new.module(id) else {
+        clear_mark(marks, id);
+        return Ok(());
+    };
+    if is_live(cells, id) {
+        return Ok(());
+    }
+    find_quiet(
+        change, block, time, due, id, found, joining, marks, cells, lines, looks,
+    )
+}
+
+/// Of the modules that are due, those that aren't live and hear anything else than in the old run are listed to join. The others that
+/// aren't live have answered, and so have those that don't stand.
+pub(crate) fn find_joining(
+    change: &Change<'_>,
+    block: u32,
+    time: u32,
+    due: &[ModuleId],
+    joining: &mut Vec<ModuleId>,
+    marks: &mut Vec<bool>,
+    cells: &[Cell],
+    lines: &[Line],
+    looks: &Ring,
+) -> Result<(), AllocError>
+    requires change { IsChange change.now }
+    requires unit { IsShort change.now.new.now block time (time + 1) }
+    requires none { joining.old.items ≡ [] }
+    requires during { IsDuring change.now.old.now change.now.new.now change.now.run.now block time (time + 1) due.now marks.old.items cells.now lines.now looks.now.items }
+    ensures marks { OnOk result (length marks.new.items ≡ length marks.old.items) }
+    ensures joins { OnOk result ((m : ℕ) → Contains joining.new.items (record { 0 = m }) → IsToJoin change.now.old.now change.now.new.now time cells.now m) }
+    ensures left { OnOk result ((m : ℕ) → is_marked marks.new.items m ≡ true → Contains joining.new.items (record { 0 = m }) ⊎ (IsSome (module_at change.now.new.now m) × ((cell_at cells.now m).live ≡ true))) }
+    ensures during { OnOk result (IsDuring change.now.old.now change.now.new.now change.now.run.now block time (time + 1) due.now marks.new.items cells.now lines.now looks.now.items) }
+{
     for id in due {
-        answer_due(
-            rt, alloc, gate, old, run, new, readers, block, from, to, due, *id, marks, cells,
-            lines, looks,
+        find_one(
+            change, block, time, due, *id, joining, marks, cells, lines, looks,
         )?;
     }
     Ok(())

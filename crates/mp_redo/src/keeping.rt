@@ -3,7 +3,7 @@ ghost use Rattle.std.specs.Prelude.{◌≡◌, ℕ, ◌+◌, ◌<◌, ◌^◌, t
 ghost use Rattle.mp_records.specs.declared.module_record.ModuleRecord.{ModuleRecord as Part};
 ghost use Rattle.mp_netlist.specs.Circuit.{Circuit};
 ghost use Rattle.mp_engine.specs.Outcomes.{Outcome};
-ghost use Rattle.mp_redo.specs.Keeping.{IsLedgerAt, IsStateAt, IsNextBorder};
+ghost use Rattle.mp_redo.specs.Keeping.{IsLedgerAt, IsStateAt, IsNextBorder, HasKept};
 ghost use Rattle.mp_redo.specs.Ledgers.{IsInOrder, IsOwn};
 
 use crate::cell::Cell;
@@ -25,10 +25,11 @@ pub(crate) fn first_ledger(alloc: Global, cell: &Cell, end: u32) -> Result<Ledge
     Ok(Ledger::Own { kept, until: end })
 }
 
-/// At the next border a live module's state before it is kept.
+/// A live module's state is kept from a time on.
 pub(crate) fn keep_state(ledger: &mut Ledger, cell: &Cell, time: u32) -> Result<(), AllocError>
     requires { cell.now.live ≡ true → IsOwn ledger.old time (time + 1) }
-    ensures { OnOk result ((new : Circuit) (run : Outcome) (t m : ℕ) (r : Part) → IsNextBorder new t time → IsStateAt new run time m r cell.now → IsLedgerAt new run t m r cell.now.live ledger.old → IsLedgerAt new run time m r cell.now.live ledger.new) }
+    ensures live { OnOk result (cell.now.live ≡ true → HasKept time cell.now.memory ledger.old ledger.new) }
+    ensures others { OnOk result (cell.now.live ≡ false → ledger.new ≡ ledger.old) }
 {
     if cell.live {
         ledger.keep(time, cell.memory)?;
@@ -36,7 +37,7 @@ pub(crate) fn keep_state(ledger: &mut Ledger, cell: &Cell, time: u32) -> Result<
     Ok(())
 }
 
-/// A module becomes live: from its block's begin on the states that are kept up to an end are its own.
+/// A module becomes live: behind its block's begin the states that are kept up to an end are its own.
 pub(crate) fn join_ledger(
     alloc: Global,
     run: &Run,
@@ -65,7 +66,7 @@ pub(crate) fn leave_ledger(ledger: &mut Ledger, time: u32)
 ghost use Rattle.std.specs.Prelude.{Some, length};
 ghost use Rattle.mp_netlist.specs.Circuit.{module_at};
 ghost use Rattle.mp_redo.specs.Keeping.{AreLedgers, AreStatesAt, CanKeepAll};
-ghost use Rattle.mp_redo.specs.Redoing.{cell_at};
+ghost use Rattle.mp_redo.specs.Redoing.{cell_at, IsListed};
 
 /// The first ledgers of all modules, by number.
 pub(crate) fn first_ledgers(
@@ -83,9 +84,10 @@ pub(crate) fn first_ledgers(
     Ok(ledgers)
 }
 
-/// At the next border the states before it are kept of all live modules that stand.
+/// At the next border the states before it are kept of all live modules that stand, which are listed.
 pub(crate) fn keep_states(
     netlist: &Netlist,
+    live: &[ModuleId],
     cells: &[Cell],
     ledgers: &mut Vec<Ledger>,
     time: u32,
@@ -93,11 +95,12 @@ pub(crate) fn keep_states(
     requires places { length ledgers.old.items ≡ length netlist.now.modules }
     requires cells { length cells.now ≡ length netlist.now.modules }
     requires can { CanKeepAll netlist.now cells.now ledgers.old.items time }
+    requires listed { IsListed netlist.now cells.now live.now }
     ensures { OnOk result ((run : Outcome) (t : ℕ) → IsNextBorder netlist.now t time → AreStatesAt netlist.now run time cells.now → AreLedgers netlist.now run t cells.now ledgers.old.items → AreLedgers netlist.now run time cells.now ledgers.new.items) }
 {
-    for number in 0..netlist.module_slots() {
-        let m = number as usize;
-        if let Some(_) = netlist.module(ModuleId(number)) {
+    for id in live {
+        if let Some(_) = netlist.module(*id) {
+            let m = id.0 as usize;
             keep_state(&mut ledgers[m], &cells[m], time)?;
         }
     }

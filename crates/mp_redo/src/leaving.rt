@@ -7,6 +7,8 @@ use crate::cell::Cell;
 use crate::due::old_state;
 use crate::keeping::leave_ledger;
 use crate::ledger::Ledger;
+use crate::listing::enter;
+use crate::ring::Ring;
 use crate::stretch::Stretch;
 use mp_engine::Run;
 use mp_netlist::ModuleId;
@@ -54,17 +56,14 @@ ghost use Rattle.mp_engine.specs.Outcomes.{Outcome};
 ghost use Rattle.mp_redo.specs.Closing.{HasClosed};
 ghost use Rattle.mp_redo.specs.Redoing.{looks_at};
 ghost use Rattle.mp_redo.specs.Rings.{AreKept};
-ghost use Rattle.mp_redo.specs.Steps.{GoesOnWatching};
+ghost use Rattle.mp_redo.specs.Steps.{GoesOnListening};
 
 use crate::closing::close_all;
 use crate::line::Line;
-use crate::looks::Looks;
-use crate::ring::enter;
-use crate::telling::wake_outputs;
+use crate::waking::wake_outputs;
 use mp_depend::Readers;
 use mp_netlist::{ModuleRecord, Netlist};
 use std::alloc::AllocError;
-use std::collections::VecDeque;
 
 /// The lines of a module's wires are handed back at a time. Who reads them looks, and so does the module.
 pub(crate) fn leave_wires(
@@ -74,7 +73,7 @@ pub(crate) fn leave_wires(
     id: ModuleId,
     time: u32,
     lines: &mut Vec<Line>,
-    looks: &mut VecDeque<Looks>,
+    looks: &mut Ring,
 ) -> Result<(), AllocError>
     requires form { IsCircuit netlist.now }
     requires stands { module_at netlist.now id.0 ≡ Some found.now }
@@ -86,7 +85,7 @@ pub(crate) fn leave_wires(
     ensures kept { OnOk result (AreKept looks.old.items looks.new.items) }
     ensures looking { OnOk result (Contains (looks_at looks.new.items 0) id) }
     ensures closed { OnOk result (HasClosed lines.old.items lines.new.items found.now.outputs time (length found.now.outputs)) }
-    ensures watching { OnOk result ((run : Outcome) → GoesOnWatching netlist.now run time lines.old.items lines.new.items looks.old.items looks.new.items) }
+    ensures listening { OnOk result ((run : Outcome) → GoesOnListening netlist.now run time lines.old.items lines.new.items looks.old.items looks.new.items) }
 {
     let outputs = found.outputs.as_slice();
     close_all(lines, outputs, time);

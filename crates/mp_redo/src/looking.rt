@@ -2,66 +2,69 @@
 ghost use Rattle.std.specs.Prelude.{◌≡◌, ℕ, ◌+◌, ◌<◌, ◌≤◌, OnOk, length};
 ghost use Rattle.std.specs.List.{Contains};
 ghost use Rattle.mp_records.specs.declared.ports.Input.{Input as Port};
-ghost use Rattle.mp_redo.specs.Redoing.{IsListening, IsNews};
+ghost use Rattle.mp_redo.specs.Redoing.{cell_at, IsListening, IsNews};
 ghost use Rattle.mp_redo.specs.Rings.{AreKept};
 
+use crate::cell::{Cell, is_live};
+use crate::change::Change;
 use crate::line::Line;
-use crate::looks::Looks;
+use crate::listing::enter;
 use crate::news::next_news;
-use crate::ring::enter;
+use crate::ring::Ring;
 use mp_engine::Run;
-use mp_netlist::{Input, ModuleId, Netlist, WireId};
+use mp_netlist::{Input, ModuleId, WireId};
 use std::alloc::AllocError;
-use std::collections::VecDeque;
 
 /// The first time after another, or an end that comes first, at which a wire has news, or a time before that.
-fn wire_news(run: &Run, lines: &[Line], wire: WireId, after: u32, end: u32) -> u32
-    ensures { (x : ℕ) → after ≤ x → x + 1 < end → IsNews run.now lines.now wire.0 x → result ≤ x + 1 }
+fn wire_news(run: &Run, live: bool, lines: &[Line], wire: WireId, after: u32, end: u32) -> u32
+    ensures { (x : ℕ) → after ≤ x → x + 1 < end → IsNews run.now live lines.now wire.0 x → result ≤ x + 1 }
 {
     match lines.get(wire.0 as usize) {
-        Some(line) => next_news(line, run, wire, after, end),
-        None => next_news(&Line::Old, run, wire, after, end),
+        Some(line) => next_news(live, line, run, wire, after, end),
+        None => next_news(live, &Line::Old, run, wire, after, end),
     }
 }
 
 /// The first unit from a time on in which an input hears news, if it does so before an end, or a unit before that.
-fn input_news(run: &Run, lines: &[Line], input: Input, to: u32, end: u32) -> u32
-    ensures { (x : ℕ) → to ≤ x + 1 + input.delay → x + 1 + input.delay < end → IsNews run.now lines.now input.wire.0 x → result ≤ x + 1 + input.delay }
+fn input_news(run: &Run, live: bool, lines: &[Line], input: Input, to: u32, end: u32) -> u32
+    ensures { (x : ℕ) → to ≤ x + 1 + input.delay → x + 1 + input.delay < end → IsNews run.now live lines.now input.wire.0 x → result ≤ x + 1 + input.delay }
 {
     let after = to.saturating_sub(input.delay).saturating_sub(1);
-    wire_news(run, lines, input.wire, after, end).saturating_add(input.delay)
+    wire_news(run, live, lines, input.wire, after, end).saturating_add(input.delay)
 }
 
 /// The same of the first of these inputs that does, or the end.
-fn first_news(run: &Run, lines: &[Line], inputs: &[Input], to: u32, end: u32) -> u32
-    ensures { (input : Port) → Contains inputs.now input → (x : ℕ) → to ≤ x + 1 + input.delay → x + 1 + input.delay < end → IsNews run.now lines.now input.wire.0 x → result ≤ x + 1 + input.delay }
+fn first_news(run: &Run, live: bool, lines: &[Line], inputs: &[Input], to: u32, end: u32) -> u32
+    ensures { (input : Port) → Contains inputs.now input → (x : ℕ) → to ≤ x + 1 + input.delay → x + 1 + input.delay < end → IsNews run.now live lines.now input.wire.0 x → result ≤ x + 1 + input.delay }
 {
     let mut first = end;
     for input in inputs {
-        first = first.min(input_news(run, lines, *input, to, end));
+        first = first.min(input_news(run, live, lines, *input, to, end));
     }
     first
 }
 
 /// The module is listed for the first unit from a time on in which one of its inputs hears news, or for one before that.
 fn look_again(
-    run: &Run,
-    new: &Netlist,
+    change: &Change<'_>,
+    cells: &[Cell],
     lines: &[Line],
     id: ModuleId,
     to: u32,
-    looks: &mut VecDeque<Looks>,
+    looks: &mut Ring,
 ) -> Result<(), AllocError>
     requires { 0 < length looks.old.items }
     ensures places { OnOk result (length looks.new.items ≡ length looks.old.items) }
     ensures kept { OnOk result (AreKept looks.old.items looks.new.items) }
-    ensures listening { OnOk result (IsListening new.now run.now to lines.now looks.new.items id.0) }
+    ensures listening { OnOk result (IsListening change.now.new.now change.now.run.now (cell_at cells.now id.0).live to lines.now looks.new.items id.0) }
 {
-    let Some(found) = new.module(id) else {
+    let Some(found) = change.new.module(id) else {
         return Ok(());
     };
-    let end = new.horizon();
-    let first = first_news(run, lines, found.inputs.as_slice(), to, end);
+    let end = change.new.horizon();
+    let live = is_live(cells, id);
+    let inputs = found.inputs.as_slice();
+    let first = first_news(change.run, live, lines, inputs, to, end);
     if first < end {
         enter(looks, first.saturating_sub(to) as usize, id)?;
     }
@@ -70,21 +73,20 @@ fn look_again(
 
 /// These modules are listed for the first unit from a time on in which one of their inputs hears news, or for one before that.
 pub(crate) fn look_all(
-    run: &Run,
-    new: &Netlist,
+    change: &Change<'_>,
+    cells: &[Cell],
     lines: &[Line],
     due: &[ModuleId],
     to: u32,
-    looks: &mut VecDeque<Looks>,
+    looks: &mut Ring,
 ) -> Result<(), AllocError>
-    requires some { 0 < length looks.old.items }
-    requires within { to ≤ new.now.horizon }
+    requires { 0 < length looks.old.items }
     ensures places { OnOk result (length looks.new.items ≡ length looks.old.items) }
     ensures kept { OnOk result (AreKept looks.old.items looks.new.items) }
-    ensures listening { OnOk result ((m : ℕ) → Contains due.now (record { 0 = m }) → IsListening new.now run.now to lines.now looks.new.items m) }
+    ensures listening { OnOk result ((m : ℕ) → Contains due.now (record { 0 = m }) → IsListening change.now.new.now change.now.run.now (cell_at cells.now m).live to lines.now looks.new.items m) }
 {
     for id in due {
-        look_again(run, new, lines, *id, to, looks)?;
+        look_again(change, cells, lines, *id, to, looks)?;
     }
     Ok(())
 }

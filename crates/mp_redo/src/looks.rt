@@ -1,5 +1,5 @@
 //! The modules that look at their inputs in one unit of time.
-ghost use Rattle.std.specs.Prelude.{◌≡◌, ◌++◌, ◌∷◌, [], OnOk};
+ghost use Rattle.std.specs.Prelude.{◌≡◌, ◌++◌, ◌∷◌, [], true, OnOk};
 
 use mp_netlist::ModuleId;
 use std::alloc::{AllocError, Global};
@@ -32,6 +32,12 @@ impl Looks {
         ensures { result.now ≡ self.now }
     {
         self.list.as_slice()
+    }
+
+    pub(crate) fn is_empty(&self) -> bool
+        ensures { result ≡ true → self.now ≡ [] }
+    {
+        self.list.is_empty()
     }
 
     pub(crate) fn push(&mut self, id: ModuleId) -> Result<(), AllocError>

@@ -1,5 +1,5 @@
-//! When a line, or the wave that its wire had, changes next.
-ghost use Rattle.std.specs.Prelude.{◌≡◌, ℕ, ◌+◌, ◌<◌, ◌≤◌};
+//! When a line brings news next.
+ghost use Rattle.std.specs.Prelude.{◌≡◌, ℕ, ◌+◌, ◌<◌, ◌≤◌, true, false};
 ghost use Rattle.mp_wave.specs.Waveform.{level_of};
 ghost use Rattle.mp_engine.specs.Outcomes.{wave_of};
 ghost use Rattle.mp_redo.specs.Lines.{level_in, line_level};
@@ -11,6 +11,17 @@ use mp_wave::Wave;
 
 /// The first change of a wave after a time, or an end that comes first.
 fn next_change(wave: &Wave, after: u32, end: u32) -> u32
+    ensures { (x : ℕ) → after ≤ x → x + 1 < result → x + 1 < end → level_of wave.now (x + 1) ≡ level_of wave.now x }
+{
+    match wave.changes().last() {
+        // Mostly nothing has changed since.
+        Some(last) if after < last.0 => first_between(wave, after, end),
+        _ => end,
+    }
+}
+
+/// The same, by a search.
+fn first_between(wave: &Wave, after: u32, end: u32) -> u32
     ensures { (x : ℕ) → after ≤ x → x + 1 < result → x + 1 < end → level_of wave.now (x + 1) ≡ level_of wave.now x }
 {
     match wave.changes_between(after, end).first() {
@@ -45,11 +56,40 @@ fn next_own(line: &Line, run: &Run, wire: WireId, after: u32, end: u32) -> u32
     }
 }
 
-/// The first time after another, or an end that comes first, at which a line or the wave that its wire had in a run changes, or a time
-/// before that.
-pub(crate) fn next_news(line: &Line, run: &Run, wire: WireId, after: u32, end: u32) -> u32
-    ensures own { (x : ℕ) → after ≤ x → x + 1 < result → x + 1 < end → line_level line.now (wave_of run.now wire.0) (x + 1) ≡ line_level line.now (wave_of run.now wire.0) x }
-    ensures old { (x : ℕ) → after ≤ x → x + 1 < result → x + 1 < end → level_in (wave_of run.now wire.0) (x + 1) ≡ level_in (wave_of run.now wire.0) x }
+/// The first time after another, or an end that comes first, at which a line isn't the wave that its wire had in a run, or a time before
+/// that.
+fn next_other(line: &Line, run: &Run, wire: WireId, after: u32, end: u32) -> u32
+    ensures { (x : ℕ) → after ≤ x → x + 1 < result → x + 1 < end → line_level line.now (wave_of run.now wire.0) (x + 1) ≡ level_in (wave_of run.now wire.0) (x + 1) }
 {
-    next_own(line, run, wire, after, end).min(next_old(run, wire, after, end))
+    let Line::Own { until, .. } = line else {
+        return end;
+    };
+    let first = after.saturating_add(1);
+    if *until <= first {
+        return end;
+    }
+    if line.differs_at(run, wire, first) {
+        return first;
+    }
+    next_own(line, run, wire, first, end).min(next_old(run, wire, first, end))
+}
+
+/// The first time after another, or an end that comes first, at which a module, live or not, has news of a wire by its line, or a time
+/// before that.
+pub(crate) fn next_news(
+    live: bool,
+    line: &Line,
+    run: &Run,
+    wire: WireId,
+    after: u32,
+    end: u32,
+) -> u32
+    ensures own { live ≡ true → (x : ℕ) → after ≤ x → x + 1 < result → x + 1 < end → line_level line.now (wave_of run.now wire.0) (x + 1) ≡ line_level line.now (wave_of run.now wire.0) x }
+    ensures other { live ≡ false → (x : ℕ) → after ≤ x → x + 1 < result → x + 1 < end → line_level line.now (wave_of run.now wire.0) (x + 1) ≡ level_in (wave_of run.now wire.0) (x + 1) }
+{
+    if live {
+        next_own(line, run, wire, after, end)
+    } else {
+        next_other(line, run, wire, after, end)
+    }
 }

@@ -10,8 +10,8 @@ use mp_engine::Run;
 use mp_netlist::Output;
 use std::alloc::{AllocError, Global};
 
-/// The line of the wire at an output, if it has one, is its own from a time after the output's delay on, with the levels before that
-/// it had.
+/// The line of the wire at an output, if it has one, is its own from the output's delay after a time on, and has the levels before that it
+/// had.
 fn open_output(
     alloc: Global,
     run: &Run,

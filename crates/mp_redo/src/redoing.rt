@@ -4,24 +4,28 @@ ghost use Rattle.mp_engine.specs.Runs.{IsRun};
 ghost use Rattle.mp_redo.specs.Revisions.{IsRevision};
 ghost use Rattle.mp_redo.specs.Work.{IsWork};
 
+use crate::change::Change;
 use crate::course::Course;
 use crate::finishing::finished;
 use crate::work::Work;
 use mp_depend::Readers;
 use mp_engine::Run;
 use mp_netlist::Netlist;
-use mp_phase::Gate;
+use mp_phase::{Crew, Gate};
 use std::alloc::{AllocError, Global};
 use std::sync::Wait;
+use std::thread::Threads;
 
-/// The run of a netlist that was made of another, by the run of that one; and what of it was evaluated, on the calling thread. A module passes
-/// the gate for each entry of the work. Where memory runs out, the old run stays.
-pub fn redo<R: Wait, G: Gate>(
+/// The run of a netlist that was made of another, by the run of that one; and what of it was evaluated. Modules that begin to work in the
+/// same unit do so on the threads of the crew, where they are as many as it shares out. A module passes the gate for each entry of the
+/// work. Where memory runs out, the old run stays.
+pub fn redo<R: Threads + Wait + Sync, G: Gate + Sync>(
     rt: &R,
     alloc: Global,
     old: &Netlist,
     run: &Run,
     new: &Netlist,
+    crew: &Crew,
     gate: &G,
 ) -> Result<(Run, Work), AllocError>
     requires revision { IsRevision old.now new.now }
@@ -33,8 +37,14 @@ pub fn redo<R: Wait, G: Gate>(
     let _old_horizon = old.horizon();
     let _new_horizon = new.horizon();
     let readers = Readers::build(alloc, new)?;
-    let mut course = Course::first(alloc, old, run, new, &readers)?;
-    course.follow(rt, alloc, gate, old, run, new, &readers)?;
+    let change = Change {
+        old,
+        run,
+        new,
+        readers: &readers,
+    };
+    let mut course = Course::first(alloc, &change)?;
+    course.follow(rt, alloc, crew, gate, &change)?;
     let Course {
         cells,
         lines,

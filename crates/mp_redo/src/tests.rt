@@ -9,6 +9,7 @@ use std::process::Abort;
 use std::test::Fail;
 
 mod counting_gate;
+mod meeting;
 mod row;
 mod rows;
 

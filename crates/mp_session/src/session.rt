@@ -14,8 +14,8 @@ use std::marker::Model;
 use std::sync::{Arc, Wait};
 use std::thread::Threads;
 
-/// A netlist and the edits that were accepted on it: its present version with its run, the crew with which the first run was computed, and
-/// the gate that modules pass. An edit's run is computed on the calling thread, from the run before it.
+/// A netlist and the edits that were accepted on it: its present version with its run, the crew on whose threads runs are computed, and the
+/// gate that modules pass. An edit's run is computed from the run before it.
 #[derive(Drop)]
 pub struct Session<G: Gate> {
     alloc: Global,
@@ -93,7 +93,7 @@ impl<G: Gate> Session<G> {
 
     /// Judges the edit after the session's edits, and makes all that its commit needs. It is refused for the first check that it fails;
     /// else as `HistoryFull` after `MAX_EDITS` edits; else for want of memory, which for a batch of 1 to 256 edits may come in place of the
-    /// others. It may wait, as a gate may.
+    /// others. It may wait, as a gate and a crew may.
     pub fn prepare<R: Threads + Wait + Sync>(
         &self,
         rt: &R,
@@ -198,12 +198,14 @@ impl<G: Gate> Session<G> {
     }
 
     /// A copy of the edit with the version of the netlist after it.
-    fn prepared_copy<R: Wait>(
+    fn prepared_copy<R: Threads + Wait + Sync>(
         &self,
         rt: &R,
         edit: &Edit,
         next: Netlist,
     ) -> Result<Prepared, AllocError>
+    where
+        G: Sync,
         requires accepted { after (present self.now.story) edit.now ≡ Ok next }
         requires room { length self.now.story.edits < max_edits }
         ensures fits { IfOk result (λ prepared. prepared.before ≡ self.now.story) }
@@ -214,7 +216,14 @@ impl<G: Gate> Session<G> {
     }
 
     /// The edit with the version of the netlist after it.
-    fn prepared<R: Wait>(&self, rt: &R, edit: Edit, next: Netlist) -> Result<Prepared, AllocError>
+    fn prepared<R: Threads + Wait + Sync>(
+        &self,
+        rt: &R,
+        edit: Edit,
+        next: Netlist,
+    ) -> Result<Prepared, AllocError>
+    where
+        G: Sync,
         requires accepted { after (present self.now.story) edit ≡ Ok next }
         requires room { length self.now.story.edits < max_edits }
         ensures fits { IfOk result (λ prepared. prepared.before ≡ self.now.story) }
@@ -223,7 +232,9 @@ impl<G: Gate> Session<G> {
     {
         edits_revise();
         let now = self.version.now();
-        let (run, work) = redo(rt, self.alloc, now, &self.run, &next, &self.gate)?;
+        let (run, work) = redo(
+            rt, self.alloc, now, &self.run, &next, &self.crew, &self.gate,
+        )?;
         self.evaluated(edit, next, run, work)
     }
 

@@ -14,10 +14,12 @@ use mp_netlist::{
     Changes, Edit, InputName, InputNames, ModuleId, Name, Netlist, OutputName, OutputNames, Params,
     SingleEdit, WireId,
 };
+use mp_phase::Crew;
 use std::alloc::{AllocError, Global};
 use std::process::Abort;
 use std::sync::Wait;
 use std::test::Fail;
+use std::thread::Threads;
 
 /// A module: its ports are wires with their delays.
 #[derive(Clone, Copy)]
@@ -134,7 +136,7 @@ fn take(netlist: &mut Netlist, edit: SingleEdit) -> Result<(), Fail> {
     Ok(())
 }
 
-fn netlist_of(alloc: Global, row: &Row) -> Result<Netlist, Fail> {
+pub(super) fn netlist_of(alloc: Global, row: &Row) -> Result<Netlist, Fail> {
     let mut netlist = Netlist::empty(alloc, row.horizon)?;
     for wire in row.wires {
         take(&mut netlist, add_wire(alloc, wire)?)?;
@@ -169,7 +171,7 @@ fn entries_of(alloc: Global, spans: &[Span]) -> Result<Vec<WorkEntry>, AllocErro
     Ok(entries)
 }
 
-fn assert_waves(rt: &impl Abort, row: &Row, run: &Run) {
+pub(super) fn assert_waves(rt: &impl Abort, row: &Row, run: &Run) {
     for (wire, changes) in row.waves {
         let Some(wave) = run.wave(WireId(*wire)) else {
             panic!(rt; "no wave");
@@ -201,7 +203,7 @@ fn after_edit(old: &Netlist, edit: &Edit) -> Result<Netlist, Fail>
 fn let_go(_edit: Edit) {}
 
 /// The netlist with the row's change.
-fn changed(alloc: Global, old: &Netlist, row: &Row) -> Result<Netlist, Fail>
+pub(super) fn changed(alloc: Global, old: &Netlist, row: &Row) -> Result<Netlist, Fail>
     ensures { IfOk result (λ new. IsRevision old.now new) }
 {
     let edit = Edit::Single(edit_of(alloc, &row.change)?);
@@ -212,11 +214,12 @@ fn changed(alloc: Global, old: &Netlist, row: &Row) -> Result<Netlist, Fail>
 
 /// The run of a changed netlist, by a re-evaluation that has just the work of these spans and passes the gate for just its entries.
 fn redone(
-    rt: &(impl Abort + Wait),
+    rt: &(impl Abort + Threads + Wait + Sync),
     alloc: Global,
     old: &Netlist,
     run: &Run,
     new: &Netlist,
+    crew: &Crew,
     row: &Row,
     spans: &[Span],
 ) -> Result<Run, Fail>
@@ -226,7 +229,7 @@ fn redone(
 {
     let expected = entries_of(alloc, spans)?;
     let gate = CountingGate::new(alloc, expected.as_slice())?;
-    let (found, work) = redo(rt, alloc, old, run, new, &gate)?;
+    let (found, work) = redo(rt, alloc, old, run, new, crew, &gate)?;
     assert_waves(rt, row, &found);
     assert_work(rt, expected.as_slice(), &work)?;
     gate.assert_passed(rt);
@@ -235,37 +238,54 @@ fn redone(
 
 /// Where the same change is made once more, nothing changes, with no work.
 fn assert_same_again(
-    rt: &(impl Abort + Wait),
+    rt: &(impl Abort + Threads + Wait + Sync),
     alloc: Global,
     old: &Netlist,
     run: &Run,
+    crew: &Crew,
     row: &Row,
 ) -> Result<(), Fail>
     requires { IsRun old.now run.now }
 {
     let new = changed(alloc, old, row)?;
-    redone(rt, alloc, old, run, &new, row, &[])?;
+    redone(rt, alloc, old, run, &new, crew, row, &[])?;
     Ok(())
 }
 
 /// The re-evaluation after the row's change finds what is known.
 fn assert_change(
-    rt: &(impl Abort + Wait),
+    rt: &(impl Abort + Threads + Wait + Sync),
     alloc: Global,
     old: &Netlist,
     run: &Run,
+    crew: &Crew,
     row: &Row,
 ) -> Result<(), Fail>
     requires { IsRun old.now run.now }
 {
     let new = changed(alloc, old, row)?;
-    let found = redone(rt, alloc, old, run, &new, row, row.work)?;
-    assert_same_again(rt, alloc, &new, &found, row)
+    let found = redone(rt, alloc, old, run, &new, crew, row, row.work)?;
+    assert_same_again(rt, alloc, &new, &found, crew, row)
 }
 
-/// The re-evaluation after the row's change finds what is known, and nothing where the same change is made once more.
-pub(super) fn assert_row(rt: &(impl Abort + Wait), alloc: Global, row: &Row) -> Result<(), Fail> {
+/// The re-evaluation after the row's change by a crew finds what is known, and nothing where the same change is made once more.
+fn assert_by(
+    rt: &(impl Abort + Threads + Wait + Sync),
+    alloc: Global,
+    crew: &Crew,
+    row: &Row,
+) -> Result<(), Fail> {
     let old = netlist_of(alloc, row)?;
     let run = evaluate_here(rt, alloc, &old, &OpenGate)?;
-    assert_change(rt, alloc, &old, &run, row)
+    assert_change(rt, alloc, &old, &run, crew, row)
+}
+
+/// What is known of the row's change is so whether modules join on the calling thread or on two.
+pub(super) fn assert_row(
+    rt: &(impl Abort + Threads + Wait + Sync),
+    alloc: Global,
+    row: &Row,
+) -> Result<(), Fail> {
+    assert_by(rt, alloc, &Crew::new(1, 64)?, row)?;
+    assert_by(rt, alloc, &Crew::new(2, 1)?, row)
 }

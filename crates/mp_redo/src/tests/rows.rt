@@ -5,9 +5,10 @@ use std::alloc::Global;
 use std::process::Abort;
 use std::sync::Wait;
 use std::test::Fail;
+use std::thread::Threads;
 
 /// A buffer from one wire to another.
-fn buffer<'a>(
+pub(super) fn buffer<'a>(
     name: &'a str,
     inputs: &'a [(&'a str, u64)],
     outputs: &'a [(&'a str, u64)],
@@ -21,7 +22,7 @@ fn buffer<'a>(
     }
 }
 
-fn signal<'a>(wire: &'a str, changes: &'a [(u64, u64)]) -> Signal<'a> {
+pub(super) fn signal<'a>(wire: &'a str, changes: &'a [(u64, u64)]) -> Signal<'a> {
     Signal { wire, changes }
 }
 
@@ -137,7 +138,7 @@ fn two_stage_control(rt: HostRuntime) -> Result<(), Fail> {
 
 /// A buffer of width 1 with a delay of 3, whose input wire is set anew.
 fn assert_buffer(
-    rt: &(impl Abort + Wait),
+    rt: &(impl Abort + Threads + Wait + Sync),
     alloc: Global,
     horizon: u64,
     before: &[(u64, u64)],
@@ -216,7 +217,7 @@ fn rejoining_twice(rt: HostRuntime) -> Result<(), Fail> {
 
 /// A TOGGLE whose input wire is set anew; at first it rises at 1,500.
 fn assert_toggle(
-    rt: &(impl Abort + Wait),
+    rt: &(impl Abort + Threads + Wait + Sync),
     alloc: Global,
     after: &[(u64, u64)],
     dot: &[(u32, u64)],

@@ -6,9 +6,9 @@ use Rattle.mp_engine.specs.declared.station.Station.{Station}
 use Rattle.mp_engine.specs.Divisions.{heard_by}
 use Rattle.mp_engine.specs.Letters.{AreLetters, AreTidings, IsOfParts}
 use Rattle.mp_engine.specs.Regions.{region}
-use Rattle.mp_engine.specs.Stations.{calendar_of, AreStations}
+use Rattle.mp_engine.specs.Stations.{calendar_of, AreStations, AreTelling}
 use Rattle.mp_engine.proofs.LetterLemmas.{divided_tidings}
-use Rattle.mp_engine.proofs.StationLemmas.{all_passed, has_lists}
+use Rattle.mp_engine.proofs.StationLemmas.{all_passed, all_telling, all_telling_less, has_lists}
 use Rattle.mp_engine.proofs.course.pass_all.Goals as goal
 
 pub span_of-span-requires-clause-some : goal.span_of-span-requires-clause-some
@@ -24,6 +24,17 @@ span_of-span-requires-clause-lists g c =
     let division = c.args.division.now in
     subst (λ (stations : List Station). (k : ℕ) → k < length stations → 0 < length (slice_index_or (map calendar_of stations) k [])) (sym c.as_slice.ensures.value)
     (has_lists c.args.netlist.now division.homes.items division.heard.items division.parts (c.loop-from.from - 1) c.loop-from.stations.items c.loop-from.invariant.passed)
+
+pub letters_of-requires-clause-telling : goal.letters_of-requires-clause-telling
+letters_of-requires-clause-telling g c =
+    let division = c.args.division.now in
+    let span = c.span_of-span.result in
+    let most = c.span_of-span.ensures.most in
+    let least = c.min.ensures in
+    let delay = c.least_delay-delay.ensures in
+    let short : span ≤ least_delay c.args.netlist.now = omega (arith, most, least, delay) in
+    subst (AreTelling division.wires.items division.heard.items division.parts span) (sym c.as_slice-in-loop-from.ensures.value)
+    (all_telling_less division.wires.items division.heard.items division.parts span (least_delay c.args.netlist.now) c.loop-from.stations.items short c.loop-from.invariant.telling)
 
 pub windows_of-requires-clause-tidings : goal.windows_of-requires-clause-tidings
 windows_of-requires-clause-tidings g c = λ k low.
@@ -65,7 +76,9 @@ loop-from-preserved g c =
     record {
       later = omega (arith, later);
       low = omega (arith, most, least, test);
-      passed = all_passed c.args.netlist.now division.homes.items division.heard.items division.parts from (from + span) c.in_ok-windows.windows.items c.in_ok-stations.stations.items c.in_ok-windows.ensures c.in_ok-stations.ensures;
+      passed = all_passed c.args.netlist.now division.homes.items division.heard.items division.parts from (from + span) c.in_ok-windows.windows.items c.in_ok-stations.stations.items c.in_ok-windows.ensures.pass c.in_ok-stations.ensures;
+      telling = subst (λ u. AreTelling division.wires.items division.heard.items division.parts u c.in_ok-stations.stations.items) c.least_delay-delay.ensures
+          (all_telling division division.parts c.least_delay-delay.result c.in_ok-windows.windows.items c.in_ok-stations.stations.items c.in_ok-windows.ensures.pass.places c.in_ok-windows.ensures.tell c.in_ok-stations.ensures);
     }
 
 pub returns : goal.returns

@@ -1,4 +1,4 @@
-use Rattle.std.proofs.Common.{◌≡◌, ◌+◌, ◌-◌, ◌<◌, ◌≤◌, Bool, Vec, Global, List, [], map, length, drop, slice_index_or, rules, ap, sym, subst, ◌∙◌, arith}
+use Rattle.std.proofs.Common.{◌≡◌, ◌+◌, ◌-◌, ◌<◌, ◌≤◌, Bool, Vec, Global, List, [], map, length, drop, slice_index_or, rules, refl, ap, sym, subst, ◌∙◌, arith}
 use Rattle.std.proofs.lemmas.List.{get_or-map, length_push}
 use Rattle.mp_netlist.specs.Circuit.{Circuit, IsCircuit}
 use Rattle.mp_engine.specs.declared.entry.Entry.{Entry}
@@ -6,10 +6,10 @@ use Rattle.mp_engine.specs.Divisions.{heard_by}
 use Rattle.mp_engine.specs.Engines.{IsAfter}
 use Rattle.mp_engine.specs.Letters.{AreTidings}
 use Rattle.mp_engine.specs.Regions.{region}
-use Rattle.mp_engine.specs.Stations.{calendar_of, IsStation, AreToPass}
+use Rattle.mp_engine.specs.Stations.{calendar_of, IsStation, AreToPass, IsToTell, AreToTell}
 use Rattle.mp_engine.proofs.MergeLemmas.{divided_apart}
 use Rattle.mp_engine.proofs.RegionLemmas.{region_is}
-use Rattle.mp_engine.proofs.StationLemmas.{left_low, left_first, left_rest, left_none, to_pass_push}
+use Rattle.mp_engine.proofs.StationLemmas.{left_low, left_first, left_rest, left_none, to_pass_push, to_tell_push}
 use Rattle.mp_engine.proofs.course.windows_of.Goals as goal
 
 pub window_of-requires-clause-form : goal.window_of-requires-clause-form
@@ -100,8 +100,8 @@ loop-left-preserved c =
     let part_low : k < division.parts = (let places = c.requires.before.places in omega (arith, places, low)) in
     let there = region n homes k (heard_by heards k) in
     let is : IsStation n homes heards (c.args.from - 1) k x = subst (IsStation n homes heards (c.args.from - 1) k) (sym (left_first stations left k c.loop-left.invariant.left x c.remove-station.ensures.value)) (c.requires.before.each k x part_low) in
-    let window = c.in_ok-window_of.field-0 in
-    let made = c.in_ok-window_of.ensures in
+    let window = c.in_ok-window.window in
+    let made = c.in_ok-window.ensures in
     let windows = c.push.new.self.items in
     let size : length windows ≡ k + 1 = ap length c.in_ok-push.ensures.items ∙ length_push c.loop-left.windows.items window in
     let passing = to_pass_push n homes heards k c.args.from (c.args.from + c.args.span) c.loop-left.windows.items windows window c.in_ok-push.ensures.items c.loop-left.invariant.made (record {
@@ -115,11 +115,14 @@ loop-left-preserved c =
     record {
       left = c.remove-station.ensures.items ∙ left_rest stations left k c.loop-left.invariant.left x some ∙ ap (λ j. drop j stations) (sym size);
       few = omega (arith, size, part_low);
+      part = let part = c.loop-left.invariant.part in omega (arith, part, size);
       made = subst (λ j. AreToPass n homes heards j c.args.from (c.args.from + c.args.span) windows) (sym size) passing;
+      tell = subst (λ j. AreToTell division j c.args.next windows) (sym size)
+          (to_tell_push division k c.args.next c.loop-left.windows.items windows window c.in_ok-push.ensures.items refl c.loop-left.invariant.tell (subst (λ j. IsToTell division c.args.next j window) c.loop-left.invariant.part made.tell));
     }
 
-pub returns : goal.returns
-returns c =
+pub returns-clause-pass : goal.returns-clause-pass
+returns-clause-pass c =
     let division = c.args.division.now in
     let stations = c.args.stations.items in
     let windows = c.loop-left.windows.items in
@@ -127,3 +130,13 @@ returns c =
     let most = left_none stations c.loop-left.left.items (length windows) c.loop-left.invariant.left none in
     let all : length windows ≡ division.parts = (let few = c.loop-left.invariant.few in let places = c.requires.before.places in omega (arith, most, few, places)) in
     subst (λ j. AreToPass c.args.netlist.now division.homes.items division.heard.items j c.args.from (c.args.from + c.args.span) windows) all c.loop-left.invariant.made
+
+pub returns-clause-tell : goal.returns-clause-tell
+returns-clause-tell c =
+    let division = c.args.division.now in
+    let stations = c.args.stations.items in
+    let windows = c.loop-left.windows.items in
+    let none : length c.loop-left.left.items ≡ 0 = search rules in
+    let most = left_none stations c.loop-left.left.items (length windows) c.loop-left.invariant.left none in
+    let all : length windows ≡ division.parts = (let few = c.loop-left.invariant.few in let places = c.requires.before.places in omega (arith, most, few, places)) in
+    subst (λ j. AreToTell division j c.args.next windows) all c.loop-left.invariant.tell

@@ -6,6 +6,7 @@ invariant_of-course g c =
     let division = c.args.division.now in
     record {
       divided = ∣ c.requires ∣₁;
-      steady = all_steady c.args.netlist.now division.homes.items division.heard.items division.parts 0 c.in_ok-stations.stations.items c.in_ok-stations.ensures;
-      begun = ∣ c.in_ok-stations.ensures ∣₁;
+      steady = all_steady c.args.netlist.now division.homes.items division.heard.items division.parts 0 c.in_ok-stations.stations.items c.in_ok-stations.ensures.begun;
+      begun = ∣ c.in_ok-stations.ensures.begun ∣₁;
+      telling = ∣ c.in_ok-stations.ensures.telling ∣₁;
     }

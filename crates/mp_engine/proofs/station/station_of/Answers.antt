@@ -19,8 +19,8 @@ pub begun-requires : goal.begun-requires
 begun-requires g c =
     subst (λ (r : Circuit). HasStimuli c.args.netlist.now r c.heard_by-heard.result.now) (sym c.new-region.ensures) (has_stimuli c.args.netlist.now c.as_slice-2.result.now c.args.part c.heard_by-heard.result.now)
 
-pub returns : goal.returns
-returns g c =
+pub returns-clause-begun : goal.returns-clause-begun
+returns-clause-begun g c =
     let n = c.args.netlist.now in
     let division = c.args.division.now in
     let heard : c.heard_by-heard.result.now ≡ heard_by division.heard.items c.args.part = c.heard_by-heard.ensures ∙ ap (λ (hs : List (List Bool)). heard_by hs c.args.part) c.as_slice.ensures.value in

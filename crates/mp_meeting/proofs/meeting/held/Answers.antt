@@ -12,8 +12,8 @@ use Rattle.mp_meeting.proofs.meeting.held.Goals as goal
 pub race-sittings-requires-clause-fresh : goal.race-sittings-requires-clause-fresh
 race-sittings-requires-clause-fresh g c κs within = seated_fresh c.args.staffed.designers.items c.in_ok-sittings.sittings.items c.in_ok-sittings.ensures
 
-pub returns-in-Ok-clause-met : goal.returns-in-Ok-clause-met
-returns-in-Ok-clause-met g c = λ base fresh.
+pub returns-clause-met : goal.returns-clause-met
+returns-clause-met g c = λ base fresh.
     let now : Story = c.in-Ok.session.story in
     let blocks = c.args.blocks.now in
     let ds : List Working = c.args.staffed.designers.items in

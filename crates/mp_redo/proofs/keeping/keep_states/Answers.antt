@@ -1,49 +1,57 @@
-use Rattle.std.proofs.Common.{rules, ◌≡◌, ◌<◌, None, IsSome, is_some, length, ap, ◌∙◌, arith}
+use Rattle.std.proofs.Common.{rules, ◌≡◌, ◌<◌, None, IsSome, is_some, length, slice_index_or, ap, ◌∙◌, arith}
 use Rattle.std.proofs.Math.ListN.{length-set}
-use Rattle.std.proofs.lemmas.List.{get_or-set_other}
+use Rattle.mp_records.specs.declared.ids.ModuleId.{ModuleId}
 use Rattle.mp_netlist.specs.Circuit.{module_at}
-use Rattle.mp_model.proofs.SlotLemmas.{slot_within}
-use Rattle.mp_redo.specs.declared.ledger.Ledger.TheVariants.{Old}
-use Rattle.mp_redo.proofs.KeepLemmas.{next_more, next_none}
+use Rattle.mp_redo.proofs.KeepLemmas.{all_kept, set_kept, each_more, done_more, done_none, place_within}
 use Rattle.mp_redo.proofs.keeping.keep_states.Goals as goal
 use Rattle.mp_redo.proofs.keeping.keep_states.Goals.{in-Some+in_ok-keep_state, in_default}
 
-pub loop-number-preserved : goal.loop-number-preserved
-loop-number-preserved c =
-    let ledgers = c.loop-number.ledgers.items in
-    let m = c.loop-number.number in
-    let places = c.loop-number.invariant.places in
+pub loop-id-preserved : goal.loop-id-preserved
+loop-id-preserved c =
+    let n = c.args.netlist.now in
+    let live = c.args.live.now in
+    let cells = c.args.cells.now in
+    let first = c.args.ledgers.now.items in
+    let ledgers = c.loop-id.ledgers.items in
+    let i = c.loop-id.id-index in
+    let d : ModuleId = record { 0 = 0 } in
+    let id : ModuleId = slice_index_or live i d in
+    let places = c.loop-id.invariant.places in
     let size = c.requires.places in
-    let cells = c.requires.cells in
-    let count = c.module_slots-number-end.ensures.value in
-    let test = c.loop-number-test.true in
-    let low : m < length ledgers = omega (arith, places, size, count, test) in
+    let count = c.requires.cells in
     elim c.match-module.branch [
       | in-Some+in_ok-keep_state w ↦
           let after = w.keep_state.new.ledger in
+          let stands : IsSome (module_at n id.0) = search rules in
+          let within = place_within n id.0 stands in
+          let low : id.0 < length ledgers = omega (arith, within, places, size) in
+          let here = set_kept c.args.time id.0 cells first ledgers w.index_mut.result.now after _ (omega (arith, within, count)) low w.index_mut.ensures.value w.in_ok-keep_state.ensures.live w.in_ok-keep_state.ensures.others
+          (c.loop-id.invariant.each id.0) in
           rw w.ledgers-is (record {
-            places = length-set ledgers m after ∙ places;
-            done = next_more (λ k. IsSome (module_at c.args.netlist.now k)) c.args.cells.now c.args.ledgers.now.items ledgers w.index_mut.result.now after m c.args.time _ (omega (arith, low, places, size, cells)) low w.index_mut.ensures.value
-                (c.loop-number.invariant.left m (omega arith)) w.in_ok-keep_state.ensures c.loop-number.invariant.done;
-            left = λ k past. get_or-set_other ledgers m k after Old (omega (arith, past)) ∙ c.loop-number.invariant.left k (omega (arith, past));
+            places = length-set ledgers id.0 after ∙ places;
+            each = each_more c.args.time id.0 cells first ledgers after low here.0 c.loop-id.invariant.each;
+            done = done_more n c.args.time i live d cells first ledgers after c.loop-id-test.true low here.1 c.loop-id.invariant.done;
           })
       | in_default w ↦
-          let none : module_at c.args.netlist.now m ≡ None = search rules in
-          let absent : IsSome (module_at c.args.netlist.now m) → ⊥ = λ is. cc (ap is_some none) in
+          let none : module_at n id.0 ≡ None = search rules in
+          let absent : IsSome (module_at n id.0) → ⊥ = λ is. cc (ap is_some none) in
           rw w.ledgers-is (record {
             places = places;
-            done = next_none (λ k. IsSome (module_at c.args.netlist.now k)) c.args.cells.now c.args.ledgers.now.items ledgers m c.args.time absent c.loop-number.invariant.done;
-            left = λ k past. c.loop-number.invariant.left k (omega (arith, past));
+            each = c.loop-id.invariant.each;
+            done = done_none n c.args.time i live d cells first ledgers c.loop-id-test.true absent c.loop-id.invariant.done;
           })
     ]
 
 pub returns : goal.returns
 returns c run t next at are =
-    let count = c.module_slots-number-end.ensures.value in
-    let end = c.loop-number-test.false in
-    record {
-      places = c.loop-number.invariant.places ∙ are.places;
-      each = λ m r stands.
-          let within = slot_within c.args.netlist.now.modules m r stands in
-          c.loop-number.invariant.done m (omega (arith, within, count, end)) (ap is_some stands) c.args.netlist.now run t m r next (at m r stands) (are.each m r stands);
-    }
+    let n = c.args.netlist.now in
+    let cells = c.args.cells.now in
+    let first = c.args.ledgers.now.items in
+    let ledgers = c.loop-id.ledgers.items in
+    let end = c.loop-id-test.false in
+    all_kept n run t c.args.time cells first ledgers c.loop-id.invariant.places c.loop-id.invariant.each
+    (λ k stands on.
+    let has = c.requires.listed k stands on in
+    let within = has.1 in
+    c.loop-id.invariant.done k has.0 (record { 0 = k }) (omega (arith, end, within)) (ap (λ (x : ModuleId). x.0) has.2) stands on)
+    next at are

@@ -1,13 +1,13 @@
-use Rattle.std.proofs.Common.{◌≡◌, ◌≤◌, ℕ, IsSome, length}
-use Rattle.mp_netlist.specs.Circuit.{module_at}
+use Rattle.std.proofs.Common.{◌≡◌, ℕ, length}
 use Rattle.mp_redo.specs.Ledgers.{ledger_at}
-use Rattle.mp_redo.proofs.KeepLemmas.{AreNext}
+use Rattle.mp_redo.specs.Redoing.{cell_at}
+use Rattle.mp_redo.proofs.KeepLemmas.{IsKeptOrSame, AreKeptTo}
 use Rattle.mp_redo.proofs.keeping.keep_states.Given as goal
 
 -- those so far, and the others are as they were
-abbrev pub invariant-loop-number : goal.invariant-loop-number
-invariant-loop-number l = record {
+abbrev pub invariant-loop-id : goal.invariant-loop-id
+invariant-loop-id l = record {
   places : length l.ledgers.items ≡ length l.fn.ledgers.items;
-  done : AreNext (λ k. IsSome (module_at l.netlist k)) l.number l.time l.cells l.fn.ledgers.items l.ledgers.items;
-  left : (k : ℕ) → l.number ≤ k → ledger_at l.ledgers.items k ≡ ledger_at l.fn.ledgers.items k;
+  each : (k : ℕ) → IsKeptOrSame l.time (cell_at l.cells k) (ledger_at l.fn.ledgers.items k) (ledger_at l.ledgers.items k);
+  done : AreKeptTo l.netlist l.time l.live l.id-index l.cells l.fn.ledgers.items l.ledgers.items;
 }

@@ -9,7 +9,7 @@ use Rattle.mp_redo.specs.Redoing.{looks_at}
 use Rattle.mp_redo.specs.Telling.{AreWoken}
 use Rattle.mp_redo.proofs.AnswerLemmas.{outputs_apart, delay_ok}
 use Rattle.mp_redo.proofs.LineLemmas.{output_stands}
-use Rattle.mp_redo.proofs.ListenLemmas.{watching_on}
+use Rattle.mp_redo.proofs.ListenLemmas.{listening_woken}
 use Rattle.mp_redo.proofs.RingLemmas.{kept_twice}
 use Rattle.mp_redo.proofs.leaving.leave_wires.Goals as goal
 
@@ -40,8 +40,8 @@ returns-clause-looking c =
     let first : look.0 ≡ 0 = let low = look.1 in omega (arith, low) in
     c.in_ok-wake_outputs.ensures.kept 0 c.args.id.0 (subst (λ k. Contains (looks_at c.enter.new.looks.items k) c.args.id) first look.2)
 
-pub returns-clause-watching : goal.returns-clause-watching
-returns-clause-watching c = λ run.
+pub returns-clause-listening : goal.returns-clause-listening
+returns-clause-listening c = λ run.
     let n = c.args.netlist.now in
     let r = c.args.found.now in
     let lines = c.args.lines.now.items in
@@ -49,6 +49,6 @@ returns-clause-watching c = λ run.
     let lists = c.wake_outputs.new.looks.items in
     let closed : HasClosed lines new r.outputs c.args.time (length r.outputs) = subst (λ os. HasClosed lines new os c.args.time (length os)) c.as_slice-outputs.ensures c.close_all.ensures in
     let woken : AreWoken c.args.readers.now r.outputs lists (length r.outputs) = subst (λ os. AreWoken c.args.readers.now os lists (length os)) c.as_slice-outputs.ensures c.in_ok-wake_outputs.ensures.woken in
-    watching_on n c.requires.form run c.args.readers.now c.args.time c.args.id.0 r c.requires.stands lines new c.args.looks.now.items lists c.requires.rows
+    listening_woken n c.requires.form run c.args.readers.now c.args.time c.args.id.0 r c.requires.stands lines new c.args.looks.now.items lists c.requires.rows
     (λ w none. closed.others w (λ p low wire. none p wire))
     (kept_twice c.args.looks.now.items c.enter.new.looks.items lists c.in_ok-enter.ensures.kept c.in_ok-wake_outputs.ensures.kept) woken

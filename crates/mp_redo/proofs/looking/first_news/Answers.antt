@@ -18,7 +18,7 @@ loop-input-preserved c = λ input has x late low news.
       | inl earlier ↦ let was = c.loop-input.invariant input earlier x late low news in omega (arith, least, was)
       | inr now ↦ elim (contains_cons here input [] now) as (λ _. c.min-first.result ≤ x + 1 + input.delay) [
         | inl same ↦
-            let heard = subst (λ (j : Input). (x : ℕ) → c.args.to ≤ x + 1 + j.delay → x + 1 + j.delay < c.args.end → IsNews c.args.run.now c.args.lines.now j.wire.0 x → c.input_news.result ≤ x + 1 + j.delay) same
+            let heard = subst (λ (j : Input). (x : ℕ) → c.args.to ≤ x + 1 + j.delay → x + 1 + j.delay < c.args.end → IsNews c.args.run.now c.args.live c.args.lines.now j.wire.0 x → c.input_news.result ≤ x + 1 + j.delay) same
             c.input_news.ensures x late low news in
             omega (arith, least, heard)
         | inr none ↦ absurd (none_in input none)

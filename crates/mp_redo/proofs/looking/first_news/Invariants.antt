@@ -7,4 +7,4 @@ use Rattle.mp_redo.proofs.looking.first_news.Given as goal
 -- no input so far hears news earlier
 abbrev pub invariant-loop-input : goal.invariant-loop-input
 invariant-loop-input l = (input : Input) → Contains (take l.input-index l.inputs) input → (x : ℕ) →
-    l.to ≤ x + 1 + input.delay → x + 1 + input.delay < l.end → IsNews l.run l.lines input.wire.0 x → l.first ≤ x + 1 + input.delay
+    l.to ≤ x + 1 + input.delay → x + 1 + input.delay < l.end → IsNews l.run l.live l.lines input.wire.0 x → l.first ≤ x + 1 + input.delay

@@ -10,12 +10,12 @@ use Rattle.mp_redo.proofs.course.Course.first.Goals as goal
 
 pub returns : goal.returns
 returns c =
-    let old = c.args.old.now in
-    let new = c.args.new.now in
-    let run = c.args.run.now in
+    let old = c.args.change.now.old.now in
+    let new = c.args.change.now.new.now in
+    let run = c.args.change.now.run.now in
     let revised = c.requires.revision in
     let is_run = c.requires.run in
-    let new_ok = c.horizon.ensures.form in
+    let new_ok = c.requires.form in
     let cells = c.in_ok-cells.cells.items in
     let lines = c.in_ok-lines.lines.items in
     let looks = c.in_ok-looks.looks.items in
@@ -29,13 +29,14 @@ returns c =
     rw c.as_slice-4.ensures.value at c.in_ok-ledgers.ensures in
     let low = c.horizon.ensures.low in
     let end = c.horizon.ensures.value in
-    let states = states_at old new c.horizon-horizon.ensures.form new_ok revised run is_run 0 0 cells (omega arith) refl (omega (arith, low, end)) are in
+    let states = states_at old new c.requires.old_form new_ok revised run is_run 0 0 cells (omega arith) refl (omega (arith, low, end)) are in
     let work = opened.stretches old new_ok are c.in_ok-cells.ensures.unopened in
     record {
       before = before_like old new run 0 0 cells c.open_first.new.cells.items lines looks opened.cells (told old run are given);
       kept = ledgers_like new run 0 cells c.open_first.new.cells.items ledgers opened.cells (kept new run (sym end) are.places states);
       stretches = work.0;
       opened = work.1;
+      listed = opened.listed;
       room = c.in_ok-looks.ensures.some;
       marks = c.in_ok-marks.ensures.places ∙ c.module_slots.ensures.value;
       free = c.in_ok-marks.ensures.free;

@@ -6,9 +6,9 @@ use Rattle.mp_redo.proofs.course.Course.follow.Given as goal
 -- the windows before are followed, and the next one begins here
 abbrev pub invariant-loop-from : goal.invariant-loop-from
 invariant-loop-from g l = record {
-  low : l.from ≤ l.new.horizon;
-  begins : l.from < l.new.horizon → window_of l.new l.from ≡ l.from;
-  course : IsCourse l.old l.new l.run (last_block l.new l.from) l.from l.self;
+  low : l.from ≤ l.change.new.now.horizon;
+  begins : l.from < l.change.new.now.horizon → window_of l.change.new.now l.from ≡ l.from;
+  course : IsCourse l.change.old.now l.change.new.now l.change.run.now (last_block l.change.new.now l.from) l.from l.self;
 }
 
 abbrev pub decreases-loop-from : goal.decreases-loop-from

@@ -5,6 +5,6 @@ use Rattle.mp_session.specs.Stories.{present}
 use Rattle.mp_session.proofs.session.Session.prepared.Goals as goal
 
 pub redo-requires-clause-revision : goal.redo-requires-clause-revision
-redo-requires-clause-revision g c =
+redo-requires-clause-revision g c = λ asked lives.
     let here : c.now-now.result.now ≡ present c.args.self.now.story = search rules in
     subst (λ (n : Circuit). IsRevision n c.args.next) (sym here) (c.edits_revise.ensures (present c.args.self.now.story) c.args.next c.args.edit c.requires.accepted)

@@ -1,0 +1,239 @@
+-- Windows in which nobody looks are passed at once.
+use Rattle.std.proofs.Common.{◌≡◌, ℕ, ◌+◌, ◌-◌, ◌<◌, ◌≤◌, Bool, false, List, [], ◌∷◌, ◌++◌, length, drop, take, zero, suc, refl, ap, sym, subst, ◌∙◌, arith, inl, inr}
+use Rattle.std.specs.List.{Contains}
+use Rattle.std.proofs.lemmas.Bool.{cases_lt}
+use Rattle.std.proofs.lemmas.List.{get_or_append_left, get_or-append_right, get_or-drop, get_or-take, get_or_past, length-drop, length-take, length-append}
+use Rattle.mp_records.specs.declared.ids.ModuleId.{ModuleId}
+use Rattle.mp_netlist.specs.Circuit.{Circuit, IsCircuit}
+use Rattle.mp_engine.specs.Marks.{is_marked}
+use Rattle.mp_engine.specs.Outcomes.{Outcome}
+use Rattle.mp_engine.specs.Runs.{IsRun}
+use Rattle.mp_engine.proofs.MarkLemmas.{none_in}
+use Rattle.mp_redo.specs.declared.cell.Cell.{Cell}
+use Rattle.mp_redo.specs.declared.line.Line.{Line}
+use Rattle.mp_redo.specs.declared.stretch.Stretch.{Stretch}
+use Rattle.mp_redo.specs.Opened.{HaveOpened}
+use Rattle.mp_redo.specs.Redoing.{looks_at, cell_at, AreOpen, IsBefore, IsDuring}
+use Rattle.mp_redo.specs.Revisions.{IsRevision}
+use Rattle.mp_redo.specs.Rings.{AreKept, AreTaken}
+use Rattle.mp_redo.specs.Stretches.{AreStretchesTo}
+use Rattle.mp_redo.specs.Windows.{IsWindows}
+use Rattle.mp_redo.specs.Work.{block_of, window_of, window_end, IsWindow}
+use Rattle.mp_redo.proofs.AgainLemmas.{listening_kept}
+use Rattle.mp_redo.proofs.BeginLemmas.{window_begins}
+use Rattle.mp_redo.proofs.CourseLemmas.{window_short}
+use Rattle.mp_redo.proofs.JoinWorkLemmas.{joined_stretches}
+use Rattle.mp_redo.proofs.PartLemmas.{next_begins}
+use Rattle.mp_redo.proofs.RingLemmas.{at_next}
+use Rattle.mp_redo.proofs.UnitLemmas.{answered_none}
+use Rattle.mp_redo.proofs.WindowEndLemmas.{listed_none, window_ends}
+use Rattle.mp_redo.proofs.WindowLemmas.{window_within, window_cover, windows_apart}
+
+-- ---- lists move up
+
+moved : ℕ → List (List ModuleId) → List (List ModuleId)
+moved zero lists = lists
+moved (suc k) lists = moved k (drop 1 lists ++ [] ∷ [])
+
+moved_places : (count : ℕ) (lists : List (List ModuleId)) → 0 < length lists → length (moved count lists) ≡ length lists
+unfolding moved
+moved_places zero lists some = refl
+moved_places (suc count) lists some = moved_places count (drop 1 lists ++ [] ∷ []) (let e = one in omega (arith, e, some)) ∙ one
+  where
+    one : length (drop 1 lists ++ [] ∷ []) ≡ length lists
+    one = simp (length-append, length-drop) (omega (arith, some))
+
+moved_at : (count : ℕ) (lists : List (List ModuleId)) (k : ℕ) → looks_at (moved count lists) k ≡ looks_at lists (k + count)
+unfolding moved
+moved_at zero lists k = let e : k ≡ k + 0 = omega arith in ap (looks_at lists) e
+moved_at (suc count) lists k =
+    let e : k + count + 1 ≡ k + suc count = omega arith in
+    moved_at count (drop 1 lists ++ [] ∷ []) k ∙ at_next lists (k + count) ∙ ap (looks_at lists) e
+
+nobody : (m : ℕ) (list : List ModuleId) → list ≡ [] → Contains list (record { 0 = m }) → ⊥
+nobody m list none has = none_in (let id : ModuleId = record { 0 = m } in id) (subst (λ xs. Contains xs (record { 0 = m })) none has)
+
+moved_taken : (count : ℕ) (lists : List (List ModuleId)) (marks : List Bool) → 0 < length lists → ((k : ℕ) → k < count → looks_at lists k ≡ [])
+    → AreTaken count lists (moved count lists) marks marks [] []
+moved_taken count lists marks some idle = record {
+  places = moved_places count lists some;
+  marks_same = refl;
+  kept = λ m is. is;
+  told = λ k m low within has. absurd (nobody m (looks_at lists k) (idle k low) has);
+  moved = λ k m has. subst (λ xs. Contains xs (record { 0 = m })) (sym (moved_at count lists k)) has;
+  listed = λ are. are;
+}
+
+-- lists that are turned round so that the first ones, without modules, are the last
+pub turned_at : (count : ℕ) (lists : List (List ModuleId)) → count ≤ length lists → ((k : ℕ) → k < count → looks_at lists k ≡ []) → (k : ℕ)
+    → looks_at (drop count lists ++ take count lists) k ≡ looks_at lists (k + count)
+turned_at count lists room idle k = elim (cases_lt k (length (drop count lists))) as (λ _. looks_at (drop count lists ++ take count lists) k ≡ looks_at lists (k + count)) [
+  | inl within ↦ get_or_append_left (drop count lists) (take count lists) [] k within ∙ rest
+  | inr past ↦
+      get_or-append_right (drop count lists) (take count lists) (length (drop count lists)) k [] refl past
+      ∙ first (k - length (drop count lists)) ∙ sym (get_or_past (drop count lists) k [] past) ∙ rest
+]
+  where
+    rest : looks_at (drop count lists) k ≡ looks_at lists (k + count)
+    rest = let e : count + k ≡ k + count = omega arith in get_or-drop count lists k [] ∙ ap (looks_at lists) e
+
+    first : (j : ℕ) → looks_at (take count lists) j ≡ []
+    first j = elim (cases_lt j count) as (λ _. looks_at (take count lists) j ≡ []) [
+      | inl low ↦ get_or-take count lists j [] low ∙ idle j low
+      | inr high ↦ get_or_past (take count lists) j [] (let size = length-take count lists in omega (arith, size, high))
+    ]
+
+-- ---- where windows end
+
+pub idle_windows : (new : Circuit) → IsCircuit new → (from time : ℕ) → time < block_of from + 1024 → time < new.horizon → from < window_of new time → IsWindows new from (window_of new time)
+idle_windows new ok from time inside below later =
+    let cover = window_cover new ok time below in
+    record { later = later; block = omega (arith, cover.1, inside); within = omega (arith, cover.1, below); begins = λ before. cover.0.begins }
+
+pub one_is : (new : Circuit) → IsCircuit new → (from to : ℕ) → IsWindow new from to → IsWindows new from to
+one_is new ok from to window =
+    let within = window_within new ok from to window in
+    let ends = window.ends in
+    record {
+      later = within.1;
+      block = within.2;
+      within = omega (arith, ends);
+      begins = λ below. elim (next_begins new ok from to window) as (λ _. window_of new to ≡ to) [
+        | inl last ↦ absurd (omega (arith, below, last))
+        | inr is ↦ is
+      ];
+    }
+
+-- ---- window by window
+
+module _ (old new : Circuit) (old_ok : IsCircuit old) (ok : IsCircuit new) (revised : IsRevision old new) (run : Outcome) (is_run : IsRun old run)
+    (block : ℕ) (cells : List Cell) (lines : List Line) (stretches : List Stretch) (marks : List Bool) (size : length marks ≡ length new.modules) (free : (m : ℕ) → is_marked marks m ≡ false) where
+  -- before a time, with these lists
+  record IsIdleAt (t : ℕ) (looks : List (List ModuleId)) : Type 0 where
+    pub before : IsBefore old new run block t cells lines looks
+    pub worked : AreStretchesTo old new t stretches
+    pub opened : AreOpen new t cells stretches
+
+  one_window : (t to : ℕ) → IsWindow new t to → block ≡ block_of t → (looks : List (List ModuleId)) → 0 < length looks → ((k : ℕ) → t + k < to → looks_at looks k ≡ [])
+      → IsIdleAt t looks → IsIdleAt to (moved (to - t) looks)
+  one_window t to window same looks some idle is = record { before = over; worked = work.0; opened = work.1 }
+    where
+      lists : List (List ModuleId)
+      lists = moved (to - t) looks
+
+      less : t < to
+      less = (window_within new ok t to window).1
+
+      inside : block ≤ t
+      inside = let within = window_within new ok t to window in omega (arith, same, within.0)
+
+      during : IsDuring old new run block t to [] marks cells lines lists
+      during =
+          let short = window_short new ok t to window in
+          window_begins old new old_ok ok revised run is_run block t to (to - t) cells lines looks lists marks marks [] [] is.before inside less short.short short.within (let l = less in omega (arith, l))
+          size (listed_none marks [] free) (moved_taken (to - t) looks marks some (λ k low. idle k (omega (arith, low))))
+
+      over : IsBefore old new run block to cells lines lists
+      over = window_ends old new run block t to [] marks cells lines lists lists during inside less free (λ k m has. has)
+          (λ m has. absurd (none_in (let id : ModuleId = record { 0 = m } in id) has))
+
+      none : HaveOpened new block to cells cells stretches stretches
+      none = record {
+        like = record { places = refl; live = λ m. refl; touched = λ m. refl; memory = λ m. refl };
+        more = omega arith;
+        olds = λ k low. refl;
+        news = λ k high low. absurd (omega (arith, high, low));
+        each = λ m. inl refl;
+      }
+
+      work : AreStretchesTo old new to stretches × AreOpen new to cells stretches
+      work = joined_stretches old new ok t to block window same [] cells cells cells stretches stretches (answered_none [] cells) is.opened none
+          (λ m has. absurd (none_in (let id : ModuleId = record { 0 = m } in id) has)) is.before.modules over.modules is.worked
+
+  -- a window that begins before windows end ends with them, or before
+  ends_within : (t from to : ℕ) → IsWindow new t (window_end new t) → t < to → IsWindows new from to → window_end new t ≤ to
+  ends_within t from to window less windows = elim (cases_lt to new.horizon) as (λ _. window_end new t ≤ to) [
+    | inl below ↦ windows_apart new ok t (window_end new t) to (window_end new to) window (record { below = below; begins = windows.begins below; ends = refl }) less
+    | inr past ↦ omega (arith, past)
+  ]
+
+  -- up to where windows end, with some lists that have moved up so far
+  abbrev IsIdleTo : ℕ → ℕ → List (List ModuleId) → Type 0
+  IsIdleTo t to looks = (lists : List (List ModuleId)) × IsIdleAt to lists × ((k : ℕ) → looks_at lists k ≡ looks_at looks (k + (to - t)))
+
+  idle_there : (t to : ℕ) → t ≡ to → (looks : List (List ModuleId)) → IsIdleAt t looks → IsIdleTo t to looks
+  idle_there t to e looks is = (looks, subst (λ x. IsIdleAt x looks) e is, λ k. let z : k ≡ k + (to - t) = omega (arith, e) in ap (looks_at looks) z)
+
+  module _ (from to : ℕ) (same : block ≡ block_of from) (windows : IsWindows new from to) where
+    next : (t : ℕ) → from ≤ t → t < to → window_of new t ≡ t → (looks : List (List ModuleId)) → 0 < length looks → ((k : ℕ) → t + k < to → looks_at looks k ≡ []) → IsIdleAt t looks
+        → ((end : ℕ) (lists : List (List ModuleId)) → t < end → end ≤ to → window_of new end ≡ end → 0 < length lists → ((k : ℕ) → end + k < to → looks_at lists k ≡ []) → IsIdleAt end lists → IsIdleTo end to lists)
+        → IsIdleTo t to looks
+    next t low less begins looks some idle is again = elim (cases_lt end to) as (λ _. IsIdleTo t to looks) [
+      | inl more ↦
+          let rest = again end lists some_time reach (begun more) (let e = moved_places (end - t) looks some in omega (arith, e, some))
+          (λ k early. moved_at (end - t) looks k ∙ idle (k + (end - t)) (omega (arith, early, some_time))) here in
+          (rest.0, rest.1, λ k. let e : k + (to - end) + (end - t) ≡ k + (to - t) = omega (arith, some_time, more) in rest.2 k ∙ moved_at (end - t) looks (k + (to - end)) ∙ ap (looks_at looks) e)
+      | inr last ↦
+          let e : end ≡ to = omega (arith, last, reach) in
+          (lists, subst (λ x. IsIdleAt x lists) e here, λ k. moved_at (end - t) looks k ∙ ap (λ x. looks_at looks (k + (x - t))) e)
+    ]
+      where
+        end : ℕ
+        end = window_end new t
+
+        inside : to ≤ new.horizon
+        inside = windows.within
+
+        window : IsWindow new t end
+        window = record { below = omega (arith, less, inside); begins = begins; ends = refl }
+
+        some_time : t < end
+        some_time = (window_within new ok t end window).1
+
+        reach : end ≤ to
+        reach = ends_within t from to window less windows
+
+        same_here : block ≡ block_of t
+        same_here = let over = windows.block in omega (arith, same, low, less, over)
+
+        lists : List (List ModuleId)
+        lists = moved (end - t) looks
+
+        here : IsIdleAt end lists
+        here = one_window t end window same_here looks some (λ k early. idle k (omega (arith, early, reach))) is
+
+        begun : end < to → window_of new end ≡ end
+        begun more = elim (next_begins new ok t end window) as (λ _. window_of new end ≡ end) [
+          | inl past ↦ absurd (omega (arith, past, more, inside))
+          | inr is ↦ is
+        ]
+
+    windows_on : (fuel t : ℕ) → to ≤ t + fuel → from ≤ t → t ≤ to → window_of new t ≡ t → (looks : List (List ModuleId)) → 0 < length looks
+        → ((k : ℕ) → t + k < to → looks_at looks k ≡ []) → IsIdleAt t looks → IsIdleTo t to looks
+    windows_on zero t enough low high begins looks some idle is = idle_there t to (omega (arith, enough, high)) looks is
+    windows_on (suc fuel) t enough low high begins looks some idle is = elim (cases_lt t to) as (λ _. IsIdleTo t to looks) [
+      | inl less ↦
+          next t low less begins looks some idle is
+          (λ end lists later reach begun more none then. windows_on fuel end (omega (arith, enough, later)) (omega (arith, low, later)) reach begun lists more none then)
+      | inr not ↦ idle_there t to (omega (arith, not, high)) looks is
+    ]
+
+  listed_alike : (to : ℕ) (lists after : List (List ModuleId)) → ((k : ℕ) → looks_at after k ≡ looks_at lists k) → IsBefore old new run block to cells lines lists → IsBefore old new run block to cells lines after
+  listed_alike to lists after alike is = record {
+    modules = is.modules;
+    wires = is.wires;
+    listening = λ m. listening_kept new run (cell_at cells m).live to lines lists after m kept (is.listening m);
+    first = λ zero m live. kept 0 m (is.first zero m live);
+  }
+    where
+      kept : AreKept lists after
+      kept = λ k m has. subst (λ xs. Contains xs (record { 0 = m })) (sym (alike k)) has
+
+  pub idle_passed : (from to : ℕ) → window_of new from ≡ from → block ≡ block_of from → IsWindows new from to → (looks after : List (List ModuleId)) → 0 < length looks
+      → ((k : ℕ) → from + k < to → looks_at looks k ≡ []) → ((k : ℕ) → looks_at after k ≡ looks_at looks (k + (to - from)))
+      → IsBefore old new run block from cells lines looks → AreStretchesTo old new from stretches → AreOpen new from cells stretches
+      → IsBefore old new run block to cells lines after × AreStretchesTo old new to stretches × AreOpen new to cells stretches
+  idle_passed from to begins same windows looks after some idle up before worked opened =
+      let later = windows.later in
+      let on = windows_on from to same windows (to - from) from (omega (arith, later)) (omega arith) (omega (arith, later)) begins looks some idle (record { before = before; worked = worked; opened = opened }) in
+      (listed_alike to on.0 after (λ k. up k ∙ sym (on.2 k)) on.1.before, on.1.worked, on.1.opened)

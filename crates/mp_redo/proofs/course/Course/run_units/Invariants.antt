@@ -1,0 +1,19 @@
+use Rattle.std.proofs.Common.{◌≡◌, ℕ, ◌≤◌, false, length}
+use Rattle.mp_engine.specs.Marks.{is_marked}
+use Rattle.mp_redo.specs.Joins.{HaveAnswered}
+use Rattle.mp_redo.specs.Redoing.{IsBefore}
+use Rattle.mp_redo.proofs.course.Course.run_units.Given as goal
+
+-- the units before are gone through
+abbrev pub invariant-loop-time : goal.invariant-loop-time
+invariant-loop-time g l = record {
+  low : l.from ≤ l.time;
+  places : length l.self.looks.items ≡ length l.fn.self.looks.items;
+  marks : length l.self.marks.items ≡ length l.fn.self.marks.items;
+  free : (m : ℕ) → is_marked l.self.marks.items m ≡ false;
+  cells : HaveAnswered l.self.joined.items l.fn.self.cells.items l.self.cells.items;
+  before : IsBefore l.change.old.now l.change.new.now l.change.run.now l.block l.time l.self.cells.items l.self.lines.items l.self.looks.items;
+  ledgers : l.self.ledgers ≡ l.fn.self.ledgers;
+  stretches : l.self.stretches ≡ l.fn.self.stretches;
+  live : l.self.live ≡ l.fn.self.live;
+}

@@ -1,0 +1,15 @@
+use Rattle.std.proofs.Common.{◌≡◌, ◌+◌, length}
+use Rattle.mp_redo.specs.Answers.{HasGiven}
+use Rattle.mp_redo.specs.Rings.{AreKept}
+use Rattle.mp_redo.specs.Steps.{unit_answers}
+use Rattle.mp_redo.specs.Telling.{AreTold}
+use Rattle.mp_redo.proofs.stepping.step_outputs.Given as goal
+
+-- the first outputs have given and told
+abbrev pub invariant-loop-p : goal.invariant-loop-p
+invariant-loop-p l = record {
+  places : length l.looks.items ≡ length l.fn.looks.items;
+  kept : AreKept l.fn.looks.items l.looks.items;
+  given : HasGiven l.fn.lines.items l.lines.items l.outputs (unit_answers (length l.outputs) l.time l.before l.after) l.end l.time (l.time + 1) l.p;
+  told : AreTold l.readers l.outputs (unit_answers (length l.outputs) l.time l.before l.after) (l.time + 1) l.looks.items l.p;
+}

@@ -1,0 +1,13 @@
+//! A change of a netlist.
+use mp_depend::Readers;
+use mp_engine::Run;
+use mp_netlist::Netlist;
+
+/// A netlist with its run, and the netlist that has become of it, with the readers of this one's wires.
+#[derive(Clone, Copy)]
+pub(crate) struct Change<'a> {
+    pub old: &'a Netlist,
+    pub run: &'a Run,
+    pub new: &'a Netlist,
+    pub readers: &'a Readers,
+}

@@ -1,0 +1,176 @@
+//! A live module answers in one unit.
+ghost use Rattle.std.specs.Prelude.{◌≡◌, ℕ, ◌+◌, ◌<◌, IfOk, OnOk, length};
+ghost use Rattle.mp_netlist.specs.Circuit.{IsCircuit, IsModule};
+ghost use Rattle.mp_depend.specs.Known.{AreReaders};
+ghost use Rattle.mp_redo.specs.Answers.{IsHeardBy};
+ghost use Rattle.mp_redo.specs.Rings.{AreKept};
+ghost use Rattle.mp_redo.specs.Steps.{IsAt, AreReady, GoesOn, GoesOnListening, StandsSomewhere};
+
+use crate::giving::give;
+use crate::line::{Line, run_level};
+use crate::listing::tell;
+use crate::ring::Ring;
+use mp_depend::Readers;
+use mp_engine::Run;
+use mp_model::built;
+use mp_modules::{EventModule, MOST_INPUTS, Memory};
+use mp_netlist::{Input, ModuleRecord, Netlist, Output};
+use std::alloc::AllocError;
+
+/// A live module answers at a time, from its state before: gives the outputs that change to the lines of their wires, and tells who
+/// reads them. Its state then.
+pub(crate) fn answer_live(
+    netlist: &Netlist,
+    run: &Run,
+    readers: &Readers,
+    lines: &mut Vec<Line>,
+    looks: &mut Ring,
+    found: &ModuleRecord,
+    memory: Memory,
+    time: u32,
+) -> Result<Memory, AllocError>
+    requires form { IsCircuit netlist.now }
+    requires part { IsModule netlist.now found.now }
+    requires stands { StandsSomewhere netlist.now found.now time memory }
+    requires within { time < netlist.now.horizon }
+    requires places { length lines.old.items ≡ length netlist.now.wires }
+    requires heard { IsHeardBy netlist.now run.now lines.old.items found.now (time + 1) }
+    requires ready { AreReady lines.old.items found.now.outputs time netlist.now.horizon }
+    requires rows { AreReaders netlist.now readers.now }
+    requires some { 0 < length looks.old.items }
+    ensures memory { IfOk result (λ after. (m : ℕ) → IsAt netlist.now m time found.now memory → IsAt netlist.now m (time + 1) found.now after) }
+    ensures places { OnOk result (length looks.new.items ≡ length looks.old.items) }
+    ensures kept { OnOk result (AreKept looks.old.items looks.new.items) }
+    ensures wires { OnOk result (GoesOn netlist.now run.now lines.old.items lines.new.items found.now memory time (time + 1)) }
+    ensures listening { OnOk result (GoesOnListening netlist.now run.now (time + 1) lines.old.items lines.new.items looks.old.items looks.new.items) }
+{
+    let after = next_memory(netlist, run, lines.as_slice(), found, memory, time);
+    let outputs = found.outputs.as_slice();
+    let end = netlist.horizon();
+    step_outputs(lines, looks, readers, outputs, &memory, &after, time, end)?;
+    Ok(after)
+}
+
+ghost use Rattle.std.specs.Prelude.{◌-◌, ◌≤◌, map, take};
+ghost use Rattle.mp_records.specs.declared.ports.Input.{Input as Port};
+ghost use Rattle.mp_model.specs.Levels.{built};
+ghost use Rattle.mp_response.specs.Span.{next_state};
+ghost use Rattle.mp_redo.specs.Redoing.{level_at};
+
+/// The state of a module at a time, from its state before and the levels that it hears.
+fn next_memory(
+    netlist: &Netlist,
+    run: &Run,
+    lines: &[Line],
+    found: &ModuleRecord,
+    memory: Memory,
+    time: u32,
+) -> Memory
+    requires form { IsCircuit netlist.now }
+    requires part { IsModule netlist.now found.now }
+    ensures { result ≡ next_state (built netlist.now found.now) memory (map (λ (i : Port). level_at run.now lines.now i.wire.0 (time - i.delay)) found.now.inputs) time }
+{
+    let part = built(netlist, found);
+    let inputs = found.inputs.as_slice();
+    let mut now = [0; MOST_INPUTS];
+    hear_all(run, lines, time, inputs, &mut now);
+    if time == 0 {
+        part.settle(&now[..inputs.len()])
+    } else {
+        part.step(memory, &now[..inputs.len()])
+    }
+}
+
+/// Writes the levels that are heard at these inputs into their places.
+fn hear_all(run: &Run, lines: &[Line], time: u32, inputs: &[Input], now: &mut [u64; MOST_INPUTS])
+    requires few { length inputs.now ≤ MOST_INPUTS }
+    ensures { take (length inputs.now) now.new ≡ map (λ (i : Port). level_at run.now lines.now i.wire.0 (time - i.delay)) inputs.now }
+{
+    for (p, input) in inputs.iter().enumerate() {
+        now[p] = hear(run, lines, time, *input);
+    }
+}
+
+/// The level that is heard at an input.
+fn hear(run: &Run, lines: &[Line], time: u32, input: Input) -> u64
+    ensures { result ≡ level_at run.now lines.now input.wire.0 (time - input.delay) }
+{
+    let before = time.saturating_sub(input.delay);
+    match lines.get(input.wire.0 as usize) {
+        Some(line) => line.level_at(run, input.wire, before),
+        None => run_level(run, input.wire, before),
+    }
+}
+
+ghost use Rattle.std.specs.Prelude.{[], ◌∷◌, Some, if◌then◌else◌};
+ghost use Rattle.mp_response.specs.Span.{extended};
+ghost use Rattle.mp_redo.specs.Answers.{AreApart, CanGive, CanTake, HasGiven, HasTaken};
+ghost use Rattle.mp_redo.specs.Redoing.{line_at};
+ghost use Rattle.mp_redo.specs.Steps.{unit_answers};
+ghost use Rattle.mp_redo.specs.Telling.{IsTold, AreTold};
+
+/// All outputs give the levels that change in a unit to the lines of their wires, and tell who reads them.
+fn step_outputs(
+    lines: &mut Vec<Line>,
+    looks: &mut Ring,
+    readers: &Readers,
+    outputs: &[Output],
+    before: &Memory,
+    after: &Memory,
+    time: u32,
+    end: u32,
+) -> Result<(), AllocError>
+    requires apart { AreApart outputs.now }
+    requires able { CanGive lines.old.items outputs.now (unit_answers (length outputs.now) time before.now after.now) end time (time + 1) }
+    requires some { 0 < length looks.old.items }
+    ensures places { OnOk result (length looks.new.items ≡ length looks.old.items) }
+    ensures kept { OnOk result (AreKept looks.old.items looks.new.items) }
+    ensures given { OnOk result (HasGiven lines.old.items lines.new.items outputs.now (unit_answers (length outputs.now) time before.now after.now) end time (time + 1) (length outputs.now)) }
+    ensures told { OnOk result (AreTold readers.now outputs.now (unit_answers (length outputs.now) time before.now after.now) (time + 1) looks.new.items (length outputs.now)) }
+{
+    for p in 0..outputs.len() {
+        let (was, is) = (before.output(p), after.output(p));
+        step_output(lines, looks, readers, outputs[p], was, is, time, end)?;
+    }
+    Ok(())
+}
+
+/// One output does so.
+fn step_output(
+    lines: &mut Vec<Line>,
+    looks: &mut Ring,
+    readers: &Readers,
+    output: Output,
+    was: u64,
+    is: u64,
+    time: u32,
+    end: u32,
+) -> Result<(), AllocError>
+    requires wire { (w : ℕ) → output.wire ≡ Some (record { 0 = w }) → (w < length lines.old.items) × CanTake (line_at lines.old.items w) (extended [] time was is) output.delay end time (time + 1) }
+    requires some { 0 < length looks.old.items }
+    ensures places { OnOk result (length looks.new.items ≡ length looks.old.items) }
+    ensures kept { OnOk result (AreKept looks.old.items looks.new.items) }
+    ensures wires { OnOk result (length lines.new.items ≡ length lines.old.items) }
+    ensures taken { OnOk result ((w : ℕ) → output.wire ≡ Some (record { 0 = w }) →
+        HasTaken (line_at lines.old.items w) (line_at lines.new.items w) (extended [] time was is) output.delay end time (time + 1)) }
+    ensures others { OnOk result ((w : ℕ) → (output.wire ≡ Some (record { 0 = w }) → ⊥) → line_at lines.new.items w ≡ line_at lines.old.items w) }
+    ensures told { OnOk result (IsTold readers.now output (extended [] time was is) (time + 1) looks.new.items) }
+{
+    let Some(wire) = output.wire else {
+        return Ok(());
+    };
+    if !counts(was, is, time) {
+        return Ok(());
+    }
+    let line = &mut lines[wire.0 as usize];
+    give(line, &[(time, is)], output.delay, end)?;
+    tell(looks, output.delay as usize - 1, readers.of(wire))?;
+    Ok(())
+}
+
+/// Whether an output has a change in a unit: another level than before, or any at time 0.
+fn counts(was: u64, is: u64, time: u32) -> bool
+    ensures { extended [] time was is ≡ (if result then (time, is) ∷ [] else []) }
+{
+    time == 0 || was != is
+}
