@@ -38,10 +38,13 @@ last_at time (c ∷ d ∷ cs) some =
     let e : length (c ∷ d ∷ cs) - 1 ≡ suc (length (d ∷ cs) - 1) = omega arith in
     last_at c.0 (d ∷ cs) (omega arith) ∙ sym (ap (λ k. (slice_index_or (c ∷ d ∷ cs) k (0, 0)).0) e)
 
--- from the last change on a wave keeps its level
+-- from the time of the last change on a wave keeps its level
+pub over_time : (wave : Waveform) (after x : ℕ) → IsWaveform wave → last_time 0 wave.changes ≤ after → after ≤ x → level_of wave (x + 1) ≡ level_of wave x
+over_time wave after x form last from =
+    level_from-over 0 wave.initial (x + 1) wave.changes form (omega (arith, last, from))
+    ∙ sym (level_from-over 0 wave.initial x wave.changes form (omega (arith, last, from)))
+
+-- so it does from the last change on
 pub over_last : (wave : Waveform) (after x : ℕ) → IsWaveform wave → 0 < length wave.changes → (slice_index_or wave.changes (length wave.changes - 1) (0, 0)).0 ≤ after → after ≤ x
     → level_of wave (x + 1) ≡ level_of wave x
-over_last wave after x form some last from =
-    let is = last_at 0 wave.changes some in
-    level_from-over 0 wave.initial (x + 1) wave.changes form (omega (arith, is, last, from))
-    ∙ sym (level_from-over 0 wave.initial x wave.changes form (omega (arith, is, last, from)))
+over_last wave after x form some last from = over_time wave after x form (let is = last_at 0 wave.changes some in omega (arith, is, last)) from

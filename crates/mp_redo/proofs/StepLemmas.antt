@@ -24,7 +24,7 @@ use Rattle.mp_redo.specs.declared.line.Line.{Line}
 use Rattle.mp_redo.specs.Redoing.{level_at}
 use Rattle.mp_redo.specs.Answers.{IsHeardBy, CanGive, HasGiven, HasOpened}
 use Rattle.mp_redo.specs.Rings.{AreKept}
-use Rattle.mp_redo.specs.Steps.{IsAt, AreReady, GoesOn, GoesOnFrom, GoesOnListening, unit_answers}
+use Rattle.mp_redo.specs.Steps.{IsAt, AreReady, GoesOn, GoesOnFrom, GoesOnListening, stepped, unit_answers}
 use Rattle.mp_redo.specs.Telling.{AreTold}
 use Rattle.mp_redo.proofs.HeardLemmas.{map_same}
 use Rattle.mp_redo.proofs.LineLemmas.{output_stands}
@@ -114,3 +114,11 @@ module _ (n : Circuit) (ok : IsCircuit n) (r : ModuleRecord) (memory : Memory) (
       listening_given n run rows from to lines given looks new r.outputs piece.outputs are
       (λ p w wire. (delay_ok r.outputs p (ok.modules_ok m r at.stands).delays (port_within r.outputs p w wire)).0)
       ready gave kept told (at_output n ok m r at.stands)
+
+-- a module that steps on the levels of lines has its state of the next unit
+pub steps_to : (n : Circuit) → IsCircuit n → (r : ModuleRecord) → IsModule n r → (run : Outcome) (lines : List Line) (t : ℕ) → IsHeardBy n run lines r (t + 1)
+    → (memory after : Memory) → after ≡ stepped n run lines r memory t → (m : ℕ) → IsAt n m t r memory → IsAt n m (t + 1) r after
+steps_to n ok r form run lines t heard memory after is m at =
+    let piece = unit_piece (built n r) (inputs_by n (level n) r) memory t (length r.outputs) after in
+    let span = heard_span n r form run lines lines t refl heard memory after is in
+    ends_at n ok r memory t (t + 1) piece span (omega arith) m at

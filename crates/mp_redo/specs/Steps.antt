@@ -1,25 +1,35 @@
 -- One module answers in some units.
-use Rattle.std.specs.Prelude.{◌≡◌, ◌≢◌, ℕ, ◌+◌, ◌≤◌, Bool, true, List, [], Some, map}
+use Rattle.std.specs.Prelude.{◌≡◌, ◌≢◌, ℕ, ◌+◌, ◌-◌, ◌≤◌, Bool, true, List, [], Some, map}
 use Rattle.std.specs.List.{range_with_len}
 use Rattle.mp_modules.specs.Memories.{output_of}
 use Rattle.mp_modules.specs.declared.memory.Memory.{Memory}
 use Rattle.mp_records.specs.declared.ids.ModuleId.{ModuleId}
+use Rattle.mp_records.specs.declared.ports.Input.{Input}
 use Rattle.mp_records.specs.declared.ports.Output.{Output}
 use Rattle.mp_records.specs.declared.module_record.ModuleRecord.{ModuleRecord}
 use Rattle.mp_records.specs.Outputs.{output_in}
 use Rattle.mp_netlist.specs.Circuit.{Circuit, module_at}
-use Rattle.mp_response.specs.Span.{extended}
+use Rattle.mp_model.specs.Levels.{built}
+use Rattle.mp_response.specs.Span.{extended, next_state}
 use Rattle.mp_engine.specs.Checkpoints.{state_before}
 use Rattle.mp_engine.specs.Outcomes.{Outcome}
 use Rattle.mp_redo.specs.declared.cell.Cell.{Cell}
 use Rattle.mp_redo.specs.declared.line.Line.{Line}
 use Rattle.mp_redo.specs.Lines.{IsOwn}
-use Rattle.mp_redo.specs.Redoing.{line_at, cell_at, AreLines, IsListening}
+use Rattle.mp_redo.specs.Redoing.{level_at, line_at, cell_at, AreLines, IsListening}
 
 -- the module stands, with this state before a time
 pub record IsAt (n : Circuit) (m t : ℕ) (r : ModuleRecord) (memory : Memory) : Type 0 where
   pub stands : module_at n m ≡ Some r
   pub state : memory ≡ state_before n m r t
+
+-- the levels that a module hears at a time, as the lines have them
+abbrev pub heard_by : Outcome → List Line → ModuleRecord → ℕ → List ℕ
+heard_by run lines r t = map (λ (i : Input). level_at run lines i.wire.0 (t - i.delay)) r.inputs
+
+-- the state of a module at a time, from its state before and the levels that it hears
+abbrev pub stepped : Circuit → Outcome → List Line → ModuleRecord → Memory → ℕ → Memory
+stepped n run lines r memory t = next_state (built n r) memory (heard_by run lines r t) t
 
 -- one module goes on from a time to another and is live then, and the others stay as they are
 pub record IsStep (times later : ℕ → ℕ) (cells after : List Cell) (m from to : ℕ) : Type 0 where

@@ -14,8 +14,9 @@ use crate::cell::{Cell, is_live, memory_of, set_live};
 use crate::change::Change;
 use crate::comparing::hear_other;
 use crate::line::Line;
+use crate::parts::part_at;
 use crate::ring::Ring;
-use crate::stepping::answer_live;
+use crate::stepping::{give_outputs, next_memory};
 use mp_engine::Run;
 use mp_modules::Memory;
 use mp_netlist::{ModuleId, ModuleRecord};
@@ -74,19 +75,14 @@ fn answer_as_live(
     ensures cells { OnOk result (HaveAnswered [] cells.old.items cells.new.items) }
     ensures during { OnOk result (IsDuring change.now.old.now change.now.new.now change.now.run.now block time (time + 1) due.now marks.new.items cells.new.items lines.new.items looks.new.items) }
 {
-    let memory = memory_of(cells.as_slice(), id);
-    let after = answer_live(
-        change.new,
-        change.run,
-        change.readers,
-        lines,
-        looks,
-        found,
-        memory,
-        time,
-    )?;
+    let Some(part) = part_at(change.parts, id) else {
+        unreachable!();
+    };
+    let before = memory_of(cells.as_slice(), id);
+    let after = next_memory(change, lines.as_slice(), found, part, &before, time);
     set_live(cells, id, after);
     clear_mark(marks, id);
+    give_outputs(change, lines, looks, found, &before, &after, time)?;
     Ok(())
 }
 

@@ -29,6 +29,7 @@ mod looks;
 mod marks;
 mod news;
 mod opening;
+mod parts;
 mod prefix;
 mod redoing;
 mod ring;

@@ -7,7 +7,7 @@ ghost use Rattle.mp_redo.specs.Lines.{level_in, line_level};
 use crate::line::Line;
 use mp_engine::Run;
 use mp_netlist::WireId;
-use mp_wave::Wave;
+use mp_wave::{Wave, WaveBuilder};
 
 /// The first change of a wave after a time, or an end that comes first.
 fn next_change(wave: &Wave, after: u32, end: u32) -> u32
@@ -30,6 +30,17 @@ fn first_between(wave: &Wave, after: u32, end: u32) -> u32
     }
 }
 
+/// The same of a wave that is built.
+fn next_built(own: &WaveBuilder, after: u32, end: u32) -> u32
+    ensures { (x : ℕ) → after ≤ x → x + 1 < result → x + 1 < end → level_of own.now.wave (x + 1) ≡ level_of own.now.wave x }
+{
+    // Mostly nothing has been given since, and then its changes needn't be looked at.
+    if own.next_time() - 1 <= after {
+        return end;
+    }
+    next_change(own.wave(), after, end)
+}
+
 /// The same of the wave that a wire had in a run.
 fn next_old(run: &Run, wire: WireId, after: u32, end: u32) -> u32
     ensures { (x : ℕ) → after ≤ x → x + 1 < result → x + 1 < end → level_in (wave_of run.now wire.0) (x + 1) ≡ level_in (wave_of run.now wire.0) x }
@@ -50,7 +61,7 @@ fn next_own(line: &Line, run: &Run, wire: WireId, after: u32, end: u32) -> u32
             if *until <= after {
                 next_old(run, wire, after, end)
             } else {
-                next_change(own.wave(), after, end).min(*until)
+                next_built(own, after, end).min(*until)
             }
         }
     }

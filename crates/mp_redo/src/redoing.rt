@@ -7,6 +7,7 @@ ghost use Rattle.mp_redo.specs.Work.{IsWork};
 use crate::change::Change;
 use crate::course::Course;
 use crate::finishing::finished;
+use crate::parts::parts_of;
 use crate::work::Work;
 use mp_depend::Readers;
 use mp_engine::Run;
@@ -37,11 +38,14 @@ pub fn redo<R: Threads + Wait + Sync, G: Gate + Sync>(
     let _old_horizon = old.horizon();
     let _new_horizon = new.horizon();
     let readers = Readers::build(alloc, new)?;
+    let built = parts_of(alloc, new)?;
+    let parts = built.as_slice();
     let change = Change {
         old,
         run,
         new,
         readers: &readers,
+        parts,
     };
     let mut course = Course::first(alloc, &change)?;
     course.follow(rt, alloc, crew, gate, &change)?;

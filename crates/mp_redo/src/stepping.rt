@@ -1,83 +1,89 @@
 //! A live module answers in one unit.
-ghost use Rattle.std.specs.Prelude.{◌≡◌, ℕ, ◌+◌, ◌<◌, IfOk, OnOk, length};
-ghost use Rattle.mp_netlist.specs.Circuit.{IsCircuit, IsModule};
-ghost use Rattle.mp_depend.specs.Known.{AreReaders};
+ghost use Rattle.std.specs.Prelude.{◌≡◌, ℕ, ◌+◌, ◌<◌, OnOk, length};
+ghost use Rattle.mp_netlist.specs.Circuit.{IsModule};
 ghost use Rattle.mp_redo.specs.Answers.{IsHeardBy};
+ghost use Rattle.mp_redo.specs.Changes.{IsChange};
 ghost use Rattle.mp_redo.specs.Rings.{AreKept};
-ghost use Rattle.mp_redo.specs.Steps.{IsAt, AreReady, GoesOn, GoesOnListening, StandsSomewhere};
+ghost use Rattle.mp_redo.specs.Steps.{AreReady, GoesOn, GoesOnListening, StandsSomewhere, stepped};
 
+use crate::change::Change;
 use crate::giving::give;
 use crate::line::{Line, run_level};
 use crate::listing::tell;
 use crate::ring::Ring;
 use mp_depend::Readers;
 use mp_engine::Run;
-use mp_model::built;
 use mp_modules::{EventModule, MOST_INPUTS, Memory};
-use mp_netlist::{Input, ModuleRecord, Netlist, Output};
+use mp_netlist::{Input, ModuleRecord, Output};
+use mp_storage::AnyModule;
 use std::alloc::AllocError;
 
-/// A live module answers at a time, from its state before: gives the outputs that change to the lines of their wires, and tells who
-/// reads them. Its state then.
-pub(crate) fn answer_live(
-    netlist: &Netlist,
-    run: &Run,
-    readers: &Readers,
+/// The outputs of a live module that change at a time, with its state, give their levels to the lines of their wires, and tell who reads
+/// them.
+pub(crate) fn give_outputs(
+    change: &Change<'_>,
     lines: &mut Vec<Line>,
     looks: &mut Ring,
     found: &ModuleRecord,
-    memory: Memory,
+    before: &Memory,
+    after: &Memory,
     time: u32,
-) -> Result<Memory, AllocError>
-    requires form { IsCircuit netlist.now }
-    requires part { IsModule netlist.now found.now }
-    requires stands { StandsSomewhere netlist.now found.now time memory }
-    requires within { time < netlist.now.horizon }
-    requires places { length lines.old.items ≡ length netlist.now.wires }
-    requires heard { IsHeardBy netlist.now run.now lines.old.items found.now (time + 1) }
-    requires ready { AreReady lines.old.items found.now.outputs time netlist.now.horizon }
-    requires rows { AreReaders netlist.now readers.now }
+) -> Result<(), AllocError>
+    requires change { IsChange change.now }
+    requires part { IsModule change.now.new.now found.now }
+    requires stands { StandsSomewhere change.now.new.now found.now time before.now }
+    requires state { after.now ≡ stepped change.now.new.now change.now.run.now lines.old.items found.now before.now time }
+    requires within { time < change.now.new.now.horizon }
+    requires places { length lines.old.items ≡ length change.now.new.now.wires }
+    requires heard { IsHeardBy change.now.new.now change.now.run.now lines.old.items found.now (time + 1) }
+    requires ready { AreReady lines.old.items found.now.outputs time change.now.new.now.horizon }
     requires some { 0 < length looks.old.items }
-    ensures memory { IfOk result (λ after. (m : ℕ) → IsAt netlist.now m time found.now memory → IsAt netlist.now m (time + 1) found.now after) }
     ensures places { OnOk result (length looks.new.items ≡ length looks.old.items) }
     ensures kept { OnOk result (AreKept looks.old.items looks.new.items) }
-    ensures wires { OnOk result (GoesOn netlist.now run.now lines.old.items lines.new.items found.now memory time (time + 1)) }
-    ensures listening { OnOk result (GoesOnListening netlist.now run.now (time + 1) lines.old.items lines.new.items looks.old.items looks.new.items) }
+    ensures wires { OnOk result (GoesOn change.now.new.now change.now.run.now lines.old.items lines.new.items found.now before.now time (time + 1)) }
+    ensures listening { OnOk result (GoesOnListening change.now.new.now change.now.run.now (time + 1) lines.old.items lines.new.items looks.old.items looks.new.items) }
 {
-    let after = next_memory(netlist, run, lines.as_slice(), found, memory, time);
     let outputs = found.outputs.as_slice();
-    let end = netlist.horizon();
-    step_outputs(lines, looks, readers, outputs, &memory, &after, time, end)?;
-    Ok(after)
+    let end = change.new.horizon();
+    step_outputs(
+        lines,
+        looks,
+        change.readers,
+        outputs,
+        before,
+        after,
+        time,
+        end,
+    )?;
+    Ok(())
 }
 
 ghost use Rattle.std.specs.Prelude.{◌-◌, ◌≤◌, map, take};
 ghost use Rattle.mp_records.specs.declared.ports.Input.{Input as Port};
 ghost use Rattle.mp_model.specs.Levels.{built};
-ghost use Rattle.mp_response.specs.Span.{next_state};
 ghost use Rattle.mp_redo.specs.Redoing.{level_at};
 
-/// The state of a module at a time, from its state before and the levels that it hears.
-fn next_memory(
-    netlist: &Netlist,
-    run: &Run,
+/// The state of a live module at a time, from its state before and the levels that it hears.
+#[inline(always)]
+pub(crate) fn next_memory(
+    change: &Change<'_>,
     lines: &[Line],
     found: &ModuleRecord,
-    memory: Memory,
+    part: &AnyModule,
+    memory: &Memory,
     time: u32,
 ) -> Memory
-    requires form { IsCircuit netlist.now }
-    requires part { IsModule netlist.now found.now }
-    ensures { result ≡ next_state (built netlist.now found.now) memory (map (λ (i : Port). level_at run.now lines.now i.wire.0 (time - i.delay)) found.now.inputs) time }
+    requires form { IsModule change.now.new.now found.now }
+    requires part { part.now ≡ built change.now.new.now found.now }
+    ensures { result ≡ stepped change.now.new.now change.now.run.now lines.now found.now memory.now time }
 {
-    let part = built(netlist, found);
     let inputs = found.inputs.as_slice();
     let mut now = [0; MOST_INPUTS];
-    hear_all(run, lines, time, inputs, &mut now);
+    hear_all(change.run, lines, time, inputs, &mut now);
     if time == 0 {
         part.settle(&now[..inputs.len()])
     } else {
-        part.step(memory, &now[..inputs.len()])
+        part.step(*memory, &now[..inputs.len()])
     }
 }
 
