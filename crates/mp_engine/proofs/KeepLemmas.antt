@@ -1,5 +1,5 @@
 -- Lists of states that go on with a state or with another list.
-use Rattle.std.proofs.Common.{◌≡◌, ℕ, ◌<◌, ◌≤◌, List, [], ◌∷◌, ◌++◌, nat_le, nat_lt, length, suc, refl, ap, sym, ◌∙◌, arith, inl, inr, append_assoc}
+use Rattle.std.proofs.Common.{◌≡◌, ℕ, ◌<◌, ◌≤◌, List, [], ◌∷◌, ◌++◌, nat_le, suc, refl, ap, sym, ◌∙◌, arith, inl, inr, append_assoc}
 use Rattle.std.specs.Prelude.{All}
 use Rattle.std.proofs.lemmas.Bool.{cases_Bool, cases_lt, lt-ltb, le-ltb}
 use Rattle.std.proofs.lemmas.List.Elements.{All-push, All-weaker, All-nil, All-cons}
@@ -8,7 +8,6 @@ use Rattle.mp_modules.specs.declared.memory.Memory.{Memory}
 use Rattle.mp_modules.specs.Memories.{blank}
 use Rattle.mp_engine.specs.declared.checkpoints.Checkpoint.{Checkpoint}
 use Rattle.mp_engine.specs.Checkpoints.{kept_at, last_kept, kept_before, KeepsFrom, KeepsBetween}
-use Rattle.mp_engine.proofs.CheckpointLemmas.{kept_at-last}
 
 -- what comes behind a later one isn't seen
 pub kept_at-later : (ks more : List Checkpoint) (k : Checkpoint) (c : ℕ) (before : Memory) → c < k.time → kept_at (ks ++ (k ∷ more)) c before ≡ kept_at ks c before

@@ -78,6 +78,7 @@ pub record IsInput (n : Circuit) (m : ℕ) (input : Input) : Type 0 where
   pub stands : module_at n m ≡ Some part
   pub has : Contains part.inputs input
 
+-- the line has levels of its own
 abbrev pub IsTracked : Line → Type 0
 IsTracked Old = ⊥
 IsTracked (Own wave until) = Unit {0}

@@ -24,12 +24,12 @@ pub record IsAt (n : Circuit) (m t : ℕ) (r : ModuleRecord) (memory : Memory) :
   pub state : memory ≡ state_before n m r t
 
 -- the levels that a module hears at a time, as the lines have them
-abbrev pub heard_by : Outcome → List Line → ModuleRecord → ℕ → List ℕ
-heard_by run lines r t = map (λ (i : Input). level_at run lines i.wire.0 (t - i.delay)) r.inputs
+abbrev pub heard_levels : Outcome → List Line → ModuleRecord → ℕ → List ℕ
+heard_levels run lines r t = map (λ (i : Input). level_at run lines i.wire.0 (t - i.delay)) r.inputs
 
 -- the state of a module at a time, from its state before and the levels that it hears
 abbrev pub stepped : Circuit → Outcome → List Line → ModuleRecord → Memory → ℕ → Memory
-stepped n run lines r memory t = next_state (built n r) memory (heard_by run lines r t) t
+stepped n run lines r memory t = next_state (built n r) memory (heard_levels run lines r t) t
 
 -- one module goes on from a time to another and is live then, and the others stay as they are
 pub record IsStep (times later : ℕ → ℕ) (cells after : List Cell) (m from to : ℕ) : Type 0 where
