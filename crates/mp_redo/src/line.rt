@@ -42,7 +42,7 @@ impl Line {
             Line::Old => run_level(run, wire, time),
             Line::Own { wave: own, until } => {
                 if time < *until {
-                    own.wave().level_at(time)
+                    own.level_at(time)
                 } else {
                     run_level(run, wire, time)
                 }

@@ -65,6 +65,14 @@ fn wave_values_built(rt: HostRuntime) -> Result<(), Fail> {
 }
 
 #[test]
+fn wave_values_while_built(rt: HostRuntime) -> Result<(), Fail> {
+    let mut builder = WaveBuilder::new(rt.alloc(), 0);
+    builder.push_level(2, 1)?;
+    assert!(rt; builder.level_at(1) == 0 && builder.level_at(2) == 1 && builder.level_at(9) == 1);
+    Ok(())
+}
+
+#[test]
 fn wave_values_copied(rt: HostRuntime) -> Result<(), Fail> {
     let wave = wave_of(rt.alloc(), &[(2, 1), (6, 0)])?;
     let copy = wave.copy()?;

@@ -27,7 +27,7 @@ impl Model for WaveBuilder {
 }
 
 impl WaveBuilder {
-    ghost use Rattle.mp_wave.specs.Waveform.{IsWaveform, held_from, kept_before};
+    ghost use Rattle.mp_wave.specs.Waveform.{IsWaveform, held_from, kept_before, level_of};
     ghost use Rattle.mp_wave.specs.Building.{IsBuilding};
 
     /// A wave of which the level at time 0 is known, held so far.
@@ -80,6 +80,16 @@ impl WaveBuilder {
         ensures form { IsBuilding self.now }
     {
         self.next_time
+    }
+
+    /// The level at a time, the last one held. From the last given time on it is answered without a search.
+    pub fn level_at(&self, time: u32) -> u64
+        ensures { result ≡ level_of self.now.wave time }
+    {
+        if time >= self.next_time - 1 {
+            return self.level;
+        }
+        self.wave.level_at(time)
     }
 
     /// The wave so far, its last level held.

@@ -27,9 +27,9 @@ const WAVES: &str = "Writes the wave of each wire of a netlist";
 
 const WAVES_LONG: &str = "\
 Reads a netlist's text of at most 4194304 bytes from standard input: a line `horizon H`, with H from \
-1 to 65536, and then the lines `wire NAME WIDTH LEVEL`, `module NAME KIND PARAM .. : IN .. > \
-OUT/DELAY ..`, where an input with a delay is `IN/E`, `stim WIRE T=V ..` and `bundle NAME REQ ACK \
-DATA SETUP`.
+1 to 65536, or to 1048576 behind a first line `format 2`, and then the lines `wire NAME WIDTH LEVEL`, \
+`module NAME KIND PARAM .. : IN .. > OUT/DELAY ..`, where an input with a delay is `IN/E`, `stim WIRE \
+T=V ..` and `bundle NAME REQ ACK DATA SETUP`.
 
 Writes a line for each wire, by number, on standard output: `NAME INITIAL T=V ..`, with its level at \
 time 0 and its level V from each time T on at which it changes below the horizon.
@@ -66,8 +66,9 @@ const PLAY_LONG: &str = "\
 Reads from standard input, at most 4194304 bytes, a netlist's text as `waves` does, then a line \
 `---`, and behind it a script. Its lines are edits: `wire`, `module`, `stim` and `bundle` as in a \
 text, `remove wire NAME`, `remove module NAME`, `remove bundle NAME`, `input MODULE PORT WIRE`, \
-`output MODULE PORT WIRE` (or `-` for no wire), `indelay MODULE PORT E`, `delay MODULE PORT D` and \
-`clear WIRE`; and questions: `wave WIRE`, `waves`, `text`, `report`, `dump` and `work`.
+`output MODULE PORT WIRE` (or `-` for no wire), `indelay MODULE PORT E`, `delay MODULE PORT D`, \
+`clear WIRE`, and `batch EDIT ; EDIT ..`, which makes up to 256 of them as one; and questions: \
+`wave WIRE`, `waves`, `text`, `report`, `dump` and `work`.
 
 Answers each line in turn on standard output: an edit by `accepted N`, with how many edits were \
 accepted so far, or `refused CODE NAME`, which changes nothing; a question by the wire's line, the \
