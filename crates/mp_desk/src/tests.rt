@@ -37,9 +37,20 @@ fn rise(alloc: Global, text: &str, time: u64) -> Result<SingleEdit, AllocError> 
     })
 }
 
-/// Whether the netlist takes the edit. It alone owns one where it ends, since each end spells out how an edit is let go.
+/// Whether the netlist takes the edit.
+fn allows(netlist: &mut Netlist, edit: &Edit) -> bool {
+    netlist.apply(edit).is_ok()
+}
+
+/// The same of one that it owns, and does no more: each end of a function spells out how an edit is let go.
 fn accepts(netlist: &mut Netlist, edit: SingleEdit) -> bool {
-    netlist.apply(&Edit::Single(edit)).is_ok()
+    allows(netlist, &Edit::Single(edit))
+}
+
+fn add_wires(rt: &impl Abort, alloc: Global, netlist: &mut Netlist) -> Result<(), Fail> {
+    assert!(rt; accepts(netlist, wire(alloc, "a")?));
+    assert!(rt; accepts(netlist, wire(alloc, "b")?));
+    Ok(())
 }
 
 fn opened(
@@ -47,8 +58,7 @@ fn opened(
     alloc: Global,
 ) -> Result<Session<OpenGate>, Fail> {
     let mut netlist = Netlist::empty(alloc, 20)?;
-    assert!(rt; accepts(&mut netlist, wire(alloc, "a")?));
-    assert!(rt; accepts(&mut netlist, wire(alloc, "b")?));
+    add_wires(rt, alloc, &mut netlist)?;
     Ok(Session::open(rt, alloc, &netlist, Crew::new(2, 1)?, OpenGate)?)
 }
 
@@ -166,7 +176,16 @@ fn submitted<L: DeskName, R: Threads + Wait + Sync + Drop>(
     me: &mut Designer<L>,
     edit: Result<SingleEdit, AllocError>,
 ) -> Option<Notice<L>> {
-    let receipt = desk.submit(rt, me, &Edit::Single(edit.ok()?)).ok()?;
+    notice_of(rt, desk, me, &Edit::Single(edit.ok()?))
+}
+
+fn notice_of<L: DeskName, R: Threads + Wait + Sync + Drop>(
+    rt: &R,
+    desk: &Desk<OpenGate, L, R>,
+    me: &mut Designer<L>,
+    edit: &Edit,
+) -> Option<Notice<L>> {
+    let receipt = desk.submit(rt, me, edit).ok()?;
     Some(receipt.notice)
 }
 

@@ -26,7 +26,7 @@ pub(crate) struct Division {
 const LEAST_CUT: u32 = 2;
 
 /// Divides a netlist among the threads of a crew. There is nothing to divide where one thread is to do all, and where all modules are
-/// connected and aren't cut.
+/// connected and aren't cut. Few modules, and few units, don't regain what it costs.
 pub(crate) fn divide(
     alloc: Global,
     netlist: &Netlist,
@@ -34,7 +34,7 @@ pub(crate) fn divide(
 ) -> Result<Option<Division>, AllocError>
     ensures { IfOk result (λ found. IfSome found (λ division. IsDivision netlist.now division.homes.items division.wires.items division.heard.items division.parts)) }
 {
-    if crew.count() == 1 || netlist.module_slots() < crew.least() {
+    if crew.count() == 1 || netlist.module_slots().min(netlist.horizon()) < crew.least() {
         return Ok(None);
     }
     let cut = netlist.least_delay() >= LEAST_CUT;

@@ -96,7 +96,7 @@ impl Track {
     fn level_at(&self, time: u32) -> u64
         ensures { result ≡ level_of self.now.wave time }
     {
-        self.builder.wave().level_at(time)
+        self.builder.level_at(time)
     }
 
     /// Goes on to the next unit of time, which is this one.

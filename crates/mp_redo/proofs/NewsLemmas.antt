@@ -1,8 +1,9 @@
 -- When a wave changes next.
-use Rattle.std.proofs.Common.{◌≡◌, ℕ, ◌+◌, ◌-◌, ◌<◌, ◌≤◌, List, [], ◌∷◌, zero, suc, length, slice_index_or, refl, ap, sym, subst, ◌∙◌, arith, inl, inr}
+use Rattle.std.proofs.Common.{◌≡◌, ℕ, ◌+◌, ◌-◌, ◌<◌, ◌≤◌, List, [], ◌∷◌, ◌++◌, zero, suc, length, slice_index_or, refl, ap, sym, subst, ◌∙◌, arith, inl, inr}
 use Rattle.std.proofs.lemmas.Bool.{cases_eq, lt-leb}
-use Rattle.mp_wave.specs.Waveform.{Waveform, IsWaveform, level_from, level_of, last_time, between}
+use Rattle.mp_wave.specs.Waveform.{Waveform, IsWaveform, AreChanges, level_from, level_of, last_time, between}
 use Rattle.mp_wave.proofs.PrefixLemmas.{cut_levels, level_from-over}
+use Rattle.mp_wave.proofs.WaveformLemmas.{level_from-append_later}
 
 early : (changes : List (ℕ × ℕ)) (before t : ℕ) → (0 < length changes → t < (slice_index_or changes 0 (0, 0)).0) → level_from before changes t ≡ before
 early [] before t first = refl
@@ -31,7 +32,7 @@ alike_on f g first last same own old (suc x) from below = elim (cases_eq first (
 ]
 
 -- the time of the last change
-last_at : (time : ℕ) (changes : List (ℕ × ℕ)) → 0 < length changes → last_time time changes ≡ (slice_index_or changes (length changes - 1) (0, 0)).0
+pub last_at : (time : ℕ) (changes : List (ℕ × ℕ)) → 0 < length changes → last_time time changes ≡ (slice_index_or changes (length changes - 1) (0, 0)).0
 last_at time [] some = absurd (let no : ⊥ = omega (arith, some) in no)
 last_at time (c ∷ []) some = refl
 last_at time (c ∷ d ∷ cs) some =
@@ -44,7 +45,17 @@ over_time wave after x form last from =
     level_from-over 0 wave.initial (x + 1) wave.changes form (omega (arith, last, from))
     ∙ sym (level_from-over 0 wave.initial x wave.changes form (omega (arith, last, from)))
 
--- so it does from the last change on
-pub over_last : (wave : Waveform) (after x : ℕ) → IsWaveform wave → 0 < length wave.changes → (slice_index_or wave.changes (length wave.changes - 1) (0, 0)).0 ≤ after → after ≤ x
-    → level_of wave (x + 1) ≡ level_of wave x
-over_last wave after x form some last from = over_time wave after x form (let is = last_at 0 wave.changes some in omega (arith, is, last)) from
+-- the first ones of some changes are changes
+first_part : (time level : ℕ) (xs ys : List (ℕ × ℕ)) → AreChanges time level (xs ++ ys) → AreChanges time level xs
+first_part time level [] ys are = tt
+first_part time level (c ∷ xs) ys (later, other, rest) = (later, other, first_part c.0 c.1 xs ys rest)
+
+-- up to the last change a wave keeps the level that it has from the one before
+pub before_last : (initial : ℕ) (rest : List (ℕ × ℕ)) (last : ℕ × ℕ) (after x : ℕ) → AreChanges 0 initial (rest ++ last ∷ []) → last_time 0 rest ≤ after → after ≤ x → x + 1 < last.0
+    → level_from initial (rest ++ last ∷ []) (x + 1) ≡ level_from initial (rest ++ last ∷ []) x
+before_last initial rest last after x form over from below =
+    let first = first_part 0 initial rest (last ∷ []) form in
+    level_from-append_later initial (x + 1) rest (last ∷ []) (λ v. early (last ∷ []) v (x + 1) (λ some. below))
+    ∙ level_from-over 0 initial (x + 1) rest first (omega (arith, over, from))
+    ∙ sym (level_from-over 0 initial x rest first (omega (arith, over, from)))
+    ∙ sym (level_from-append_later initial x rest (last ∷ []) (λ v. early (last ∷ []) v x (λ some. omega (arith, below))))

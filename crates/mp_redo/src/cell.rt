@@ -36,6 +36,14 @@ pub(crate) fn memory_of(cells: &[Cell], id: ModuleId) -> Memory
     }
 }
 
+/// The state of a module that has a cell.
+pub(crate) fn state_of(cells: &[Cell], id: ModuleId) -> &Memory
+    requires { id.0 < length cells.now }
+    ensures { result.now ≡ (cell_at cells.now id.0).memory }
+{
+    &cells[id.0 as usize].memory
+}
+
 /// A module is live with a state.
 pub(crate) fn set_live(cells: &mut Vec<Cell>, id: ModuleId, memory: Memory)
     requires { id.0 < length cells.old.items }

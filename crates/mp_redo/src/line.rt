@@ -35,18 +35,13 @@ impl Line {
     ghost use Rattle.mp_redo.specs.Prefixes.{IsUpTo};
 
     /// The level at a time.
+    #[inline(always)]
     pub(crate) fn level_at(&self, run: &Run, wire: WireId, time: u32) -> u64
         ensures { result ≡ line_level self.now (wave_of run.now wire.0) time }
     {
         match self {
-            Line::Old => run_level(run, wire, time),
-            Line::Own { wave: own, until } => {
-                if time < *until {
-                    own.level_at(time)
-                } else {
-                    run_level(run, wire, time)
-                }
-            }
+            Line::Own { wave: own, until } if time < *until => own.level_at(time),
+            _ => run_level(run, wire, time),
         }
     }
 

@@ -1,6 +1,6 @@
 //! When a line brings news next.
 ghost use Rattle.std.specs.Prelude.{◌≡◌, ℕ, ◌+◌, ◌<◌, ◌≤◌, true, false};
-ghost use Rattle.mp_wave.specs.Waveform.{level_of};
+ghost use Rattle.mp_wave.specs.Waveform.{last_time, level_of};
 ghost use Rattle.mp_engine.specs.Outcomes.{wave_of};
 ghost use Rattle.mp_redo.specs.Lines.{level_in, line_level};
 
@@ -9,18 +9,38 @@ use mp_engine::Run;
 use mp_netlist::WireId;
 use mp_wave::{Wave, WaveBuilder};
 
-/// The first change of a wave after a time, or an end that comes first.
-fn next_change(wave: &Wave, after: u32, end: u32) -> u32
-    ensures { (x : ℕ) → after ≤ x → x + 1 < result → x + 1 < end → level_of wave.now (x + 1) ≡ level_of wave.now x }
+/// The time of the last change, 0 where there is none.
+fn last_time(changes: &[(u32, u64)]) -> u32
+    ensures { result ≡ last_time 0 changes.now }
 {
-    match wave.changes().last() {
-        // Mostly nothing has changed since.
-        Some(last) if after < last.0 => first_between(wave, after, end),
-        _ => end,
+    match changes.last() {
+        Some(change) => change.0,
+        None => 0,
     }
 }
 
+// What live modules ask is inlined; what is asked seldom is kept apart.
+
+/// The first change of a wave after a time, or an end that comes first.
+#[inline(always)]
+fn next_change(wave: &Wave, after: u32, end: u32) -> u32
+    ensures { (x : ℕ) → after ≤ x → x + 1 < result → x + 1 < end → level_of wave.now (x + 1) ≡ level_of wave.now x }
+{
+    let Some((last, before)) = wave.changes().split_last() else {
+        return end;
+    };
+    // Mostly nothing has changed since, or but once.
+    if last.0 <= after {
+        return end;
+    }
+    if after < last_time(before) {
+        return first_between(wave, after, end);
+    }
+    end.min(last.0)
+}
+
 /// The same, by a search.
+#[inline(never)]
 fn first_between(wave: &Wave, after: u32, end: u32) -> u32
     ensures { (x : ℕ) → after ≤ x → x + 1 < result → x + 1 < end → level_of wave.now (x + 1) ≡ level_of wave.now x }
 {
@@ -31,6 +51,7 @@ fn first_between(wave: &Wave, after: u32, end: u32) -> u32
 }
 
 /// The same of a wave that is built.
+#[inline(always)]
 fn next_built(own: &WaveBuilder, after: u32, end: u32) -> u32
     ensures { (x : ℕ) → after ≤ x → x + 1 < result → x + 1 < end → level_of own.now.wave (x + 1) ≡ level_of own.now.wave x }
 {
@@ -42,6 +63,7 @@ fn next_built(own: &WaveBuilder, after: u32, end: u32) -> u32
 }
 
 /// The same of the wave that a wire had in a run.
+#[inline(never)]
 fn next_old(run: &Run, wire: WireId, after: u32, end: u32) -> u32
     ensures { (x : ℕ) → after ≤ x → x + 1 < result → x + 1 < end → level_in (wave_of run.now wire.0) (x + 1) ≡ level_in (wave_of run.now wire.0) x }
 {
@@ -52,6 +74,7 @@ fn next_old(run: &Run, wire: WireId, after: u32, end: u32) -> u32
 }
 
 /// The same of a line, or a time before that.
+#[inline(always)]
 fn next_own(line: &Line, run: &Run, wire: WireId, after: u32, end: u32) -> u32
     ensures { (x : ℕ) → after ≤ x → x + 1 < result → x + 1 < end → line_level line.now (wave_of run.now wire.0) (x + 1) ≡ line_level line.now (wave_of run.now wire.0) x }
 {
@@ -69,6 +92,7 @@ fn next_own(line: &Line, run: &Run, wire: WireId, after: u32, end: u32) -> u32
 
 /// The first time after another, or an end that comes first, at which a line isn't the wave that its wire had in a run, or a time before
 /// that.
+#[inline(never)]
 fn next_other(line: &Line, run: &Run, wire: WireId, after: u32, end: u32) -> u32
     ensures { (x : ℕ) → after ≤ x → x + 1 < result → x + 1 < end → line_level line.now (wave_of run.now wire.0) (x + 1) ≡ level_in (wave_of run.now wire.0) (x + 1) }
 {
@@ -87,6 +111,7 @@ fn next_other(line: &Line, run: &Run, wire: WireId, after: u32, end: u32) -> u32
 
 /// The first time after another, or an end that comes first, at which a module, live or not, has news of a wire by its line, or a time
 /// before that.
+#[inline(always)]
 pub(crate) fn next_news(
     live: bool,
     line: &Line,

@@ -1,4 +1,6 @@
 //! A session of a buffer with a stimulus, one of a chain of buffers, and a full one.
+ghost use Rattle.std.specs.Prelude.{◌≤◌};
+
 use crate::{MAX_EDITS, Session, Version};
 use mp_engine::OpenGate;
 use mp_modules::Kind;
@@ -73,13 +75,22 @@ fn stimulus(alloc: Global, changes: &[(u64, u64)]) -> Result<SingleEdit, AllocEr
     })
 }
 
-/// Why the session refuses the edit. It alone owns one where it ends, since each end spells out how an edit is let go.
+/// Why the session refuses the edit.
+fn refusal_of<G: Gate + Sync>(
+    rt: &(impl Threads + Wait + Sync),
+    session: &mut Session<G>,
+    edit: &Edit,
+) -> Option<EditError> {
+    session.apply(rt, edit).err()
+}
+
+/// The same of one that it owns, as no other function here does where it calls a session: each end spells out how an edit is let go.
 fn refusal<G: Gate + Sync>(
     rt: &(impl Threads + Wait + Sync),
     session: &mut Session<G>,
     edit: SingleEdit,
 ) -> Option<EditError> {
-    session.apply(rt, &Edit::Single(edit)).err()
+    refusal_of(rt, session, &Edit::Single(edit))
 }
 
 /// The first module is evaluated again from one time to before another.
@@ -108,35 +119,38 @@ fn opened(
     Ok(Session::open(rt, alloc, &netlist, crew, OpenGate)?)
 }
 
-fn buffer_session(
+fn add_buffer(
     rt: &(impl Abort + Threads + Wait + Sync),
     alloc: Global,
-) -> Result<Session<OpenGate>, Fail> {
-    let mut session = opened(rt, alloc, 20)?;
-    assert_eq!(rt; refusal(rt, &mut session, wire(alloc, "a")?), None);
-    assert_eq!(rt; refusal(rt, &mut session, wire(alloc, "y")?), None);
-    assert_eq!(rt;
-        refusal(rt, &mut session, buffer(alloc, "b", "a", "y", 3)?),
-        None
-    );
-    Ok(session)
+    session: &mut Session<OpenGate>,
+) -> Result<(), Fail> {
+    assert_eq!(rt; refusal(rt, session, wire(alloc, "a")?), None);
+    assert_eq!(rt; refusal(rt, session, wire(alloc, "y")?), None);
+    let added = buffer(alloc, "b", "a", "y", 3)?;
+    assert_eq!(rt; refusal(rt, session, added), None);
+    Ok(())
 }
 
-#[test]
-fn refused_edits(rt: HostRuntime) -> Result<(), Fail> {
-    let alloc = rt.alloc();
-    let mut session = buffer_session(&rt, alloc)?;
+fn assert_refusals(
+    rt: &(impl Abort + Threads + Wait + Sync),
+    alloc: Global,
+    session: &mut Session<OpenGate>,
+) -> Result<(), Fail> {
     for (times, error) in [
         ([(0, 1)], Some(EditError::BadStimulus)),
         ([(20, 1)], Some(EditError::BadStimulus)),
         ([(16, 1)], None),
     ] {
-        assert_eq!(rt; refusal(&rt, &mut session, stimulus(alloc, &times)?), error);
+        assert_eq!(rt; refusal(rt, session, stimulus(alloc, &times)?), error);
     }
-    let refused = refusal(&rt, &mut session, delay(alloc, 0)?);
+    let refused = refusal(rt, session, delay(alloc, 0)?);
     assert_eq!(rt; refused, Some(EditError::BadDelay));
-    let refused = refusal(&rt, &mut session, removal(alloc, "a")?);
+    let refused = refusal(rt, session, removal(alloc, "a")?);
     assert_eq!(rt; refused, Some(EditError::StillUsed));
+    Ok(())
+}
+
+fn assert_buffer(rt: &impl Abort, session: &Session<OpenGate>) -> Result<(), Fail> {
     let mut entries = session.last_work().entries()?;
     assert_eq!(rt; entries.next(), Some(entry(0, 18)));
     assert_eq!(rt; entries.next(), Some(entry(18, 20)));
@@ -144,6 +158,16 @@ fn refused_edits(rt: HostRuntime) -> Result<(), Fail> {
     let version = session.version();
     assert_eq!(rt; version.number(), 4);
     assert!(rt; changes_of(version, 1) == [(19, 1)].as_slice());
+    Ok(())
+}
+
+#[test]
+fn refused_edits(rt: HostRuntime) -> Result<(), Fail> {
+    let alloc = rt.alloc();
+    let mut session = opened(&rt, alloc, 20)?;
+    add_buffer(&rt, alloc, &mut session)?;
+    assert_refusals(&rt, alloc, &mut session)?;
+    assert_buffer(&rt, &session)?;
     Ok(())
 }
 
@@ -168,27 +192,64 @@ impl Gate for Counting<'_> {
 }
 
 /// Whether the netlist takes the edit.
+fn takes(netlist: &mut Netlist, edit: &Edit) -> bool {
+    netlist.apply(edit).is_ok()
+}
+
 fn accepts(netlist: &mut Netlist, edit: SingleEdit) -> bool {
-    netlist.apply(&Edit::Single(edit)).is_ok()
+    takes(netlist, &Edit::Single(edit))
 }
 
 /// A buffer of 4 units from a to y, and two of 2 units in a row from c over z to v.
-fn chain(rt: &impl Abort, alloc: Global) -> Result<Netlist, Fail> {
-    let mut netlist = Netlist::empty(alloc, 100)?;
+fn add_chain(rt: &impl Abort, alloc: Global, netlist: &mut Netlist) -> Result<(), Fail> {
     for text in ["a", "c", "y", "z", "v"] {
-        assert!(rt; accepts(&mut netlist, wire(alloc, text)?));
+        assert!(rt; accepts(netlist, wire(alloc, text)?));
     }
     for (text, from, to, delay) in [
         ("b1", "a", "y", 4),
         ("b2", "c", "z", 2),
         ("b3", "z", "v", 2),
     ] {
-        assert!(rt; accepts(&mut netlist, buffer(alloc, text, from, to, delay)?));
+        assert!(rt; accepts(netlist, buffer(alloc, text, from, to, delay)?));
     }
-    Ok(netlist)
+    Ok(())
+}
+
+/// The work of so many windows, and the wave behind the first buffer.
+fn assert_chain(rt: &impl Abort, session: &Session<Counting<'_>>, windows: u32) -> Result<(), Fail>
+    requires { windows ≤ 25 }
+{
+    let mut entries = session.last_work().entries()?;
+    for number in 0..windows {
+        let end = 52 + 2 * number;
+        let begin = if number == 0 { 0 } else { end - 2 };
+        assert_eq!(rt; entries.next(), Some(entry(begin, end)));
+    }
+    assert_eq!(rt; entries.next(), None);
+    assert!(rt; changes_of(session.version(), 2) == [(54, 1)].as_slice());
+    Ok(())
 }
 
 /// Only the module that the change reaches is evaluated again, and only for the work's entries. The same edit again makes no work.
+fn assert_incremental(
+    rt: &(impl Abort + Threads + Wait + Sync),
+    alloc: Global,
+    session: &mut Session<Counting<'_>>,
+    expected: &AtomicU64,
+    others: &AtomicU64,
+) -> Result<(), Fail> {
+    for windows in [25u32, 0] {
+        expected.store(0, Ordering::SeqCst);
+        others.store(0, Ordering::SeqCst);
+        let refused = refusal(rt, session, stimulus(alloc, &[(50, 1)])?);
+        assert_eq!(rt; refused, None);
+        assert_eq!(rt; expected.load(Ordering::SeqCst), u64::from(windows));
+        assert_eq!(rt; others.load(Ordering::SeqCst), 0);
+        assert_chain(rt, session, windows)?;
+    }
+    Ok(())
+}
+
 #[test]
 fn incremental_chain(rt: HostRuntime) -> Result<(), Fail> {
     let alloc = rt.alloc();
@@ -197,26 +258,27 @@ fn incremental_chain(rt: HostRuntime) -> Result<(), Fail> {
         expected: &expected,
         others: &others,
     };
-    let netlist = chain(&rt, alloc)?;
+    let mut netlist = Netlist::empty(alloc, 100)?;
+    add_chain(&rt, alloc, &mut netlist)?;
     let mut session = Session::open(&rt, alloc, &netlist, Crew::new(2, 64)?, gate)?;
-    for calls in [25, 0] {
-        expected.store(0, Ordering::SeqCst);
-        others.store(0, Ordering::SeqCst);
-        assert_eq!(rt;
-            refusal(&rt, &mut session, stimulus(alloc, &[(50, 1)])?),
-            None
-        );
-        assert_eq!(rt; expected.load(Ordering::SeqCst), calls);
-        assert_eq!(rt; others.load(Ordering::SeqCst), 0);
-        let mut entries = session.last_work().entries()?;
-        for number in 0..calls {
-            let end = 52 + 2 * number as u32;
-            let begin = if number == 0 { 0 } else { end - 2 };
-            assert_eq!(rt; entries.next(), Some(entry(begin, end)));
-        }
-        assert_eq!(rt; entries.next(), None);
-        assert!(rt; changes_of(session.version(), 2) == [(54, 1)].as_slice());
+    assert_incremental(&rt, alloc, &mut session, &expected, &others)?;
+    Ok(())
+}
+
+fn assert_full(
+    rt: &(impl Abort + Threads + Wait + Sync),
+    alloc: Global,
+    session: &mut Session<OpenGate>,
+) -> Result<(), Fail> {
+    assert_eq!(rt; refusal(rt, session, wire(alloc, "a")?), None);
+    for _ in 1..MAX_EDITS {
+        assert_eq!(rt; refusal(rt, session, stimulus(alloc, &[])?), None);
     }
+    let one_more = refusal(rt, session, stimulus(alloc, &[])?);
+    assert_eq!(rt; one_more, Some(EditError::HistoryFull));
+    let unknown = refusal(rt, session, removal(alloc, "nobody")?);
+    assert_eq!(rt; unknown, Some(EditError::NoSuchWire));
+    assert_eq!(rt; session.version().number(), MAX_EDITS);
     Ok(())
 }
 
@@ -224,14 +286,6 @@ fn incremental_chain(rt: HostRuntime) -> Result<(), Fail> {
 fn full_history(rt: HostRuntime) -> Result<(), Fail> {
     let alloc = rt.alloc();
     let mut session = opened(&rt, alloc, 2)?;
-    assert_eq!(rt; refusal(&rt, &mut session, wire(alloc, "a")?), None);
-    for _ in 1..MAX_EDITS {
-        assert_eq!(rt; refusal(&rt, &mut session, stimulus(alloc, &[])?), None);
-    }
-    let one_more = refusal(&rt, &mut session, stimulus(alloc, &[])?);
-    assert_eq!(rt; one_more, Some(EditError::HistoryFull));
-    let unknown = refusal(&rt, &mut session, removal(alloc, "nobody")?);
-    assert_eq!(rt; unknown, Some(EditError::NoSuchWire));
-    assert_eq!(rt; session.version().number(), MAX_EDITS);
+    assert_full(&rt, alloc, &mut session)?;
     Ok(())
 }

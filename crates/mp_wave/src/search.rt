@@ -9,17 +9,33 @@ ghost use Rattle.mp_wave.specs.Faults.{pair_at};
 /// How many of the last changes are looked at before the others: in a wave that is being built what is looked for is mostly among them.
 const LAST_FEW: usize = 8;
 
-/// How many changes are passed over at once, none of which is later than a time.
+/// How many of these are looked at first: mostly it is at the end.
+const LAST_TWO: usize = 2;
+
+/// How many changes are passed over at once, none of which is later than a time: all but so many of the last, or none.
+fn passed_but(changes: &[(u32, u64)], last: usize, time: u32) -> usize
+    requires { IsNonDecreasingBy (λ (c : ℕ × ℕ). c.0) changes.now }
+    ensures bound { result ≤ length changes.now }
+    ensures early { AllWithin (λ (c : ℕ × ℕ). c.0 ≤ time) changes.now 0 result }
+{
+    let first = changes.len().saturating_sub(last);
+    match changes.get(first) {
+        Some(change) if change.0 <= time => first,
+        _ => 0,
+    }
+}
+
+/// How many are, all but as few of the last as it can be.
 fn passed(changes: &[(u32, u64)], time: u32) -> usize
     requires { IsNonDecreasingBy (λ (c : ℕ × ℕ). c.0) changes.now }
     ensures bound { result ≤ length changes.now }
     ensures early { AllWithin (λ (c : ℕ × ℕ). c.0 ≤ time) changes.now 0 result }
 {
-    let first = changes.len().saturating_sub(LAST_FEW);
-    match changes.get(first) {
-        Some(change) if change.0 <= time => first,
-        _ => 0,
+    let most = passed_but(changes, LAST_TWO, time);
+    if most > 0 {
+        return most;
     }
+    passed_but(changes, LAST_FEW, time)
 }
 
 /// The changes from a place on.

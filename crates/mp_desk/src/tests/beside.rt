@@ -87,15 +87,24 @@ fn buffer(
     })
 }
 
-/// Two buffers.
-fn buffers(rt: &impl Abort, alloc: Global) -> Result<Netlist, Fail> {
-    let mut netlist = Netlist::empty(alloc, 20)?;
+fn add_buffers(rt: &impl Abort, alloc: Global, netlist: &mut Netlist) -> Result<(), Fail> {
     for text in ["a", "b", "y", "z"] {
-        assert!(rt; accepts(&mut netlist, wire(alloc, text)?));
+        assert!(rt; accepts(netlist, wire(alloc, text)?));
     }
-    assert!(rt; accepts(&mut netlist, buffer(alloc, "m", "a", "y", 3)?));
-    assert!(rt; accepts(&mut netlist, buffer(alloc, "n", "b", "z", 4)?));
-    Ok(netlist)
+    assert!(rt; accepts(netlist, buffer(alloc, "m", "a", "y", 3)?));
+    assert!(rt; accepts(netlist, buffer(alloc, "n", "b", "z", 4)?));
+    Ok(())
+}
+
+/// A session of two buffers.
+fn held_session(
+    rt: &(impl Abort + Threads + Wait + Sync),
+    alloc: Global,
+    gate: Holding,
+) -> Result<Session<Holding>, Fail> {
+    let mut netlist = Netlist::empty(alloc, 20)?;
+    add_buffers(rt, alloc, &mut netlist)?;
+    Ok(Session::open(rt, alloc, &netlist, Crew::new(2, 1)?, gate)?)
 }
 
 /// The edits of one designer.
@@ -173,8 +182,7 @@ fn read_beside_submit(rt: HostRuntime) -> Result<(), Fail> {
     let gate = Holding {
         stage: Arc::try_clone(&stage)?,
     };
-    let netlist = buffers(&rt, alloc)?;
-    let session = Session::open(&rt, alloc, &netlist, Crew::new(2, 1)?, gate)?;
+    let session = held_session(&rt, alloc, gate)?;
     let parts = DeskParts::new(&rt, alloc, session, 1, 1)
         .ok()
         .ok_or("no parts")?;

@@ -36,16 +36,21 @@ fn removal(alloc: Global, text: &str) -> Result<SingleEdit, AllocError> {
     })
 }
 
+fn crowd(rt: &impl Abort, alloc: Global, netlist: &mut Netlist) -> Result<(), Fail> {
+    for number in 1..MAX_WIRES {
+        let text = format!(in alloc; "w{number}")?;
+        assert!(rt; accepts(netlist, wire(alloc, text.as_str())?));
+    }
+    Ok(())
+}
+
 /// A session of all wires but one that a netlist may have.
 fn crowded(
     rt: &(impl Abort + Threads + Wait + Sync),
     alloc: Global,
 ) -> Result<Session<OpenGate>, Fail> {
     let mut netlist = Netlist::empty(alloc, 1)?;
-    for number in 1..MAX_WIRES {
-        let text = format!(in alloc; "w{number}")?;
-        assert!(rt; accepts(&mut netlist, wire(alloc, text.as_str())?));
-    }
+    crowd(rt, alloc, &mut netlist)?;
     Ok(Session::open(rt, alloc, &netlist, Crew::new(2, 64)?, OpenGate)?)
 }
 
@@ -58,6 +63,18 @@ fn takes(
     session.take(rt, Edit::Single(edit)).is_ok()
 }
 
+fn lengthen(
+    rt: &(impl Abort + Threads + Wait + Sync),
+    alloc: Global,
+    session: &mut Session<OpenGate>,
+) -> Result<(), Fail> {
+    assert!(rt; takes(rt, session, wire(alloc, "a")?));
+    for _ in 2..MAX_EDITS {
+        assert!(rt; takes(rt, session, quiet(alloc)?));
+    }
+    Ok(())
+}
+
 /// A session of all edits but one that a session may have.
 fn long(
     rt: &(impl Abort + Threads + Wait + Sync),
@@ -65,10 +82,7 @@ fn long(
 ) -> Result<Session<OpenGate>, Fail> {
     let netlist = Netlist::empty(alloc, 1)?;
     let mut session = Session::open(rt, alloc, &netlist, Crew::new(2, 64)?, OpenGate)?;
-    assert!(rt; takes(rt, &mut session, wire(alloc, "a")?));
-    for _ in 2..MAX_EDITS {
-        assert!(rt; takes(rt, &mut session, quiet(alloc)?));
-    }
+    lengthen(rt, alloc, &mut session)?;
     Ok(session)
 }
 

@@ -23,7 +23,7 @@ give_outputs-requires-clause-ready c = due_ready c.args.change.now.old.now c.arg
 pub returns-clause-cells : goal.returns-clause-cells
 returns-clause-cells c =
     subst (HaveAnswered [] c.args.cells.now.items) (sym c.set_live.ensures)
-    (answered_one [] c.args.cells.now.items c.args.id.0 c.next_memory-after.result (λ none. c.requires.live) (cell_within c.args.change.now.old.now c.args.change.now.new.now c.requires.change.old_form c.requires.change.form c.requires.change.revision c.args.change.now.run.now c.requires.change.run c.args.block c.args.time (c.args.time + 1) c.requires.unit c.args.due.now c.args.marks.now.items c.args.cells.now.items c.args.lines.now.items c.args.looks.now.items c.requires.during c.args.id.0 c.requires.marked c.args.found.now c.requires.stands))
+    (answered_one [] c.args.cells.now.items c.args.id.0 c.next_memory-memory.result (λ none. c.requires.live) (cell_within c.args.change.now.old.now c.args.change.now.new.now c.requires.change.old_form c.requires.change.form c.requires.change.revision c.args.change.now.run.now c.requires.change.run c.args.block c.args.time (c.args.time + 1) c.requires.unit c.args.due.now c.args.marks.now.items c.args.cells.now.items c.args.lines.now.items c.args.looks.now.items c.requires.during c.args.id.0 c.requires.marked c.args.found.now c.requires.stands))
 
 pub returns-clause-during : goal.returns-clause-during
 returns-clause-during c =
@@ -32,11 +32,11 @@ returns-clause-during c =
     let run = c.args.change.now.run.now in
     let r = c.args.found.now in
     let t = c.args.time in
-    let after = c.next_memory-after.result in
+    let after = c.next_memory-memory.result in
     let memory : c.memory_of-before.result ≡ (cell_at c.args.cells.now.items m).memory = c.memory_of-before.ensures ∙ ap (λ xs. (cell_at xs m).memory) c.as_slice.ensures.value in
     let done = c.in_ok-give_outputs.ensures in
     let is : IsAt n m t r c.memory_of-before.result = subst (λ (x : Memory). IsAt n m t r x) (sym memory) (due_live c.args.change.now.old.now c.args.change.now.new.now c.requires.change.old_form c.requires.change.form c.requires.change.revision c.args.change.now.run.now c.requires.change.run c.args.block c.args.time (c.args.time + 1) c.requires.unit c.args.due.now c.args.marks.now.items c.args.cells.now.items c.args.lines.now.items c.args.looks.now.items c.requires.during c.args.id.0 c.requires.marked c.args.found.now c.requires.stands c.requires.live) in
-    let value : after ≡ stepped n run c.args.lines.now.items r c.memory_of-before.result t = subst (λ (ls : List Line). after ≡ stepped n run ls r c.memory_of-before.result t) c.as_slice-2.ensures.value c.next_memory-after.ensures in
+    let value : after ≡ stepped n run c.args.lines.now.items r c.memory_of-before.result t = subst (λ (ls : List Line). after ≡ stepped n run ls r c.memory_of-before.result t) c.as_slice-2.ensures.value c.next_memory-memory.ensures in
     let heard = due_heard c.args.change.now.old.now c.args.change.now.new.now c.requires.change.old_form c.requires.change.form c.requires.change.revision c.args.change.now.run.now c.requires.change.run c.args.block c.args.time (c.args.time + 1) c.requires.unit c.args.due.now c.args.marks.now.items c.args.cells.now.items c.args.lines.now.items c.args.looks.now.items c.requires.during c.args.id.0 c.requires.marked c.args.found.now c.requires.stands in
     let now : IsAt n m (t + 1) r after = steps_to n c.requires.change.form r (c.requires.change.form.modules_ok m r c.requires.stands) run c.args.lines.now.items t heard c.memory_of-before.result after value m is in
     let wires = subst (λ (x : Memory). GoesOn n run c.args.lines.now.items c.give_outputs.new.lines.items r x t (t + 1)) memory done.wires in

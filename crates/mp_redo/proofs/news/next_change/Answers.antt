@@ -1,13 +1,24 @@
-use Rattle.std.proofs.Common.{ℕ, ◌-◌, ◌<◌, ◌≤◌, List, length, slice_index_or, subst}
-use Rattle.mp_redo.proofs.NewsLemmas.{over_last}
+use Rattle.std.proofs.Common.{◌≡◌, ℕ, ◌+◌, List, [], ◌∷◌, ◌++◌, ap, sym, subst, ◌∙◌, arith}
+use Rattle.mp_wave.specs.Waveform.{AreChanges, level_from, last_time}
+use Rattle.mp_wave.proofs.WaveformLemmas.{last_time-append}
+use Rattle.mp_redo.proofs.NewsLemmas.{before_last, over_time}
 use Rattle.mp_redo.proofs.news.next_change.Goals as goal
 
-pub returns-in_default : goal.returns-in_default
-returns-in_default c = λ x from less below.
+pub returns-then-last-after : goal.returns-then-last-after
+returns-then-last-after c = λ x from less below.
     let wave = c.args.wave.now in
-    let same = c.changes.ensures.value in
-    let item = c.in-Some.ensures.item.3 in
-    let early = c.if-after-last.false in
-    let past = subst (λ (p : ℕ × ℕ). p.0 ≤ c.args.after) (item.1 (0, 0)) early in
-    over_last wave c.args.after x c.changes.ensures.form (subst (λ (xs : List (ℕ × ℕ)). 0 < length xs) same item.0)
-    (subst (λ (xs : List (ℕ × ℕ)). (slice_index_or xs (length xs - 1) (0, 0)).0 ≤ c.args.after) same past) from
+    let rest = c.in-Some.before.now in
+    let last = c.in-Some.last.now in
+    let parts : wave.changes ≡ rest ++ last ∷ [] = sym c.changes.ensures.value ∙ c.in-Some.ensures.cases.0 in
+    let over : last_time 0 wave.changes ≡ last.0 = ap (last_time 0) parts ∙ last_time-append 0 rest (last ∷ []) in
+    over_time wave c.args.after x c.changes.ensures.form (omega (arith, over, c.if-last-after.true)) from
+
+pub returns : goal.returns
+returns c = λ x from less below.
+    let wave = c.args.wave.now in
+    let rest = c.in-Some.before.now in
+    let last = c.in-Some.last.now in
+    let parts : wave.changes ≡ rest ++ last ∷ [] = sym c.changes.ensures.value ∙ c.in-Some.ensures.cases.0 in
+    subst (λ (xs : List (ℕ × ℕ)). level_from wave.initial xs (x + 1) ≡ level_from wave.initial xs x) (sym parts)
+    (before_last wave.initial rest last c.args.after x (subst (AreChanges 0 wave.initial) parts c.changes.ensures.form)
+    (omega (arith, c.last_time.ensures, c.if-after-last_time.false)) from (omega (arith, c.min.ensures, less)))

@@ -1,7 +1,7 @@
 use Rattle.std.proofs.Common.{◌<◌, ℕ, length, ap, sym, arith}
 use Rattle.std.proofs.lemmas.Bool.{ltb-true}
 use Rattle.std.proofs.lemmas.List.{get_or_read}
-use Rattle.mp_wave.proofs.search.passed.Goals as goal
+use Rattle.mp_wave.proofs.search.passed_but.Goals as goal
 
 pub returns-in-Some-clause-early : goal.returns-in-Some-clause-early
 returns-in-Some-clause-early c = λ k d low less.
