@@ -18,8 +18,6 @@ mod replies;
 mod report_command;
 mod report_lines;
 mod run_fault;
-#[cfg(test)]
-mod tests;
 mod wave_lines;
 mod waves_command;
 mod work_lines;

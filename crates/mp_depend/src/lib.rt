@@ -4,8 +4,6 @@
 mod readers;
 mod records;
 mod row;
-#[cfg(test)]
-mod tests;
 mod touch;
 
 pub use readers::Readers;

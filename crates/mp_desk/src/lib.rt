@@ -20,8 +20,6 @@ mod receipt;
 mod showing;
 mod staffed;
 mod staffing;
-#[cfg(test)]
-mod tests;
 mod viewer;
 
 pub use close_refused::{CloseCause, CloseRefused};

@@ -6,8 +6,6 @@ mod evaluation;
 pub mod examples;
 mod finding;
 pub mod laws;
-#[cfg(test)]
-mod tests;
 mod track;
 mod waves;
 

@@ -14,8 +14,6 @@ mod memory;
 mod merge;
 mod rendezvous;
 mod select;
-#[cfg(test)]
-mod tests;
 mod toggle;
 
 pub use core_module::CoreModule;

@@ -8,8 +8,6 @@ mod netlist;
 mod new_error;
 mod record_changes;
 mod table;
-#[cfg(test)]
-mod tests;
 
 pub use driver::Driver;
 pub use mp_records::{

@@ -14,8 +14,6 @@ mod port_names;
 mod ports;
 mod single_edit;
 mod stimulus;
-#[cfg(test)]
-mod tests;
 mod wire_record;
 
 pub use batch::Batch;

@@ -38,8 +38,6 @@ mod starting;
 mod stepping;
 mod stretch;
 mod tasks;
-#[cfg(test)]
-mod tests;
 mod unit;
 mod waking;
 mod work;

@@ -10,8 +10,6 @@ pub mod laws;
 mod outputs;
 mod piece;
 mod span;
-#[cfg(test)]
-mod tests;
 
 pub use changes::Changes;
 pub use findings::Findings;

@@ -8,8 +8,6 @@ mod same_edit;
 mod same_record;
 mod same_version;
 mod session;
-#[cfg(test)]
-mod tests;
 mod version;
 
 pub use history::{History, MAX_EDITS};

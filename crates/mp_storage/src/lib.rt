@@ -5,8 +5,6 @@ mod any_module;
 mod computed;
 pub mod laws;
 mod reg;
-#[cfg(test)]
-mod tests;
 
 pub use any_module::AnyModule;
 pub use computed::Computed;

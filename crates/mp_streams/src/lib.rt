@@ -9,8 +9,6 @@ mod sink;
 mod source;
 mod take_error;
 mod taking;
-#[cfg(test)]
-mod tests;
 mod write_buffer;
 mod write_sink;
 

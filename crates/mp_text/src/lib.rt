@@ -30,5 +30,3 @@ pub use text_code::TextCode;
 pub use text_error::TextError;
 pub use writing::{put_netlist, write_netlist};
 
-#[cfg(test)]
-mod tests;

@@ -3,8 +3,6 @@
 
 pub mod laws;
 mod search;
-#[cfg(test)]
-mod tests;
 mod wave;
 mod wave_builder;
 mod wave_error;

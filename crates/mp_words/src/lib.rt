@@ -6,8 +6,6 @@ mod line;
 mod line_error;
 mod number;
 mod pieces;
-#[cfg(test)]
-mod tests;
 mod wave_line;
 mod word;
 mod word_list;

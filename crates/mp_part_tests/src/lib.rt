@@ -1,0 +1,25 @@
+//! Tests of the crates that an evaluation stands on, by what they export, and what tests make netlists of. They are a crate of their own since a
+//! crate with tests is proved twice.
+#![tactic(auto)]
+
+pub mod making;
+#[cfg(test)]
+mod model;
+#[cfg(test)]
+mod modules;
+#[cfg(test)]
+mod netlist;
+#[cfg(test)]
+mod records;
+#[cfg(test)]
+mod response;
+#[cfg(test)]
+mod storage;
+#[cfg(test)]
+mod streams;
+#[cfg(test)]
+mod text;
+#[cfg(test)]
+mod wave;
+#[cfg(test)]
+mod words;

@@ -1,0 +1,198 @@
+//! Devices that give and take bytes in small parts, and devices that fail.
+ghost use Rattle.std.specs.Prelude.{◌≡◌, ◌-◌, ◌^◌, ◌<◌, ◌∷◌, []};
+
+use mp_streams::{
+    Failed, Piece, ReadSource, Sink, Source, TakeError, WriteBuffer, WriteSink, put_all, take_all,
+};
+use std::alloc::Global;
+use std::io;
+use std::io::{Read, Write};
+use std::test::Fail;
+
+const TEXT: &[u8] = b"horizon 20\n";
+
+/// Gives one byte at each read, and fails once the reads are used up.
+#[derive(Drop)]
+struct SmallReader {
+    given: usize,
+    reads: usize,
+}
+
+impl Read for SmallReader {
+    fn read(&mut self, room: &mut [u8]) -> io::Result<usize> {
+        if self.reads == 0 {
+            return Err(io::Error::other("no more reads"));
+        }
+        self.reads -= 1;
+        if room.is_empty() || self.given >= TEXT.len() {
+            return Ok(0);
+        }
+        room[0] = TEXT[self.given];
+        self.given += 1;
+        Ok(1)
+    }
+}
+
+/// Takes bytes a few at a time. Once its room is used up, it fails or takes none.
+#[derive(Drop)]
+struct SmallWriter {
+    taken: Vec<u8>,
+    most: usize,
+    room: usize,
+    fails: bool,
+}
+
+impl Write for SmallWriter {
+    fn write(&mut self, bytes: &[u8]) -> io::Result<usize> {
+        if self.room == 0 && self.fails {
+            return Err(io::Error::other("no more room"));
+        }
+        let count = bytes.len().min(self.most).min(self.room);
+        self.taken.extend_from_slice(&bytes[..count])?;
+        self.room -= count;
+        Ok(count)
+    }
+
+    fn flush(&mut self) -> io::Result<()> {
+        Ok(())
+    }
+}
+
+fn small_writer(alloc: Global, most: usize, room: usize, fails: bool) -> WriteSink<SmallWriter>
+    ensures { result.faults ≡ 0 }
+{
+    WriteSink::new(SmallWriter {
+        taken: Vec::new(alloc),
+        most,
+        room,
+        fails,
+    })
+}
+
+#[test]
+fn a_byte_at_a_time(rt: HostRuntime) {
+    for limit in [100, 12, 11, 10, 1, 0] {
+        let mut source = ReadSource::new(SmallReader {
+            given: 0,
+            reads: 100,
+        });
+        let text = take_all(rt.alloc(), &mut source, limit).unwrap_or(Vec::new(rt.alloc()));
+        assert_eq!(rt;
+            text.as_slice(),
+            &TEXT[..limit.min(TEXT.len())],
+            "at {limit}"
+        );
+        assert_eq!(rt; source.faults(), 0);
+    }
+    let mut sink = small_writer(rt.alloc(), 1, 100, true);
+    assert_eq!(rt; put_all(&mut sink, TEXT), Ok(()));
+    assert_eq!(rt; sink.faults(), 0);
+    assert_eq!(rt; sink.into_inner().taken.as_slice(), TEXT);
+}
+
+#[test]
+fn each_read_fails(rt: HostRuntime) {
+    for reads in 0..TEXT.len() + 1 {
+        let mut source = ReadSource::new(SmallReader { given: 0, reads });
+        let failed = matches!(
+            take_all(rt.alloc(), &mut source, 100),
+            Err(TakeError::Failed)
+        );
+        assert!(rt; failed, "at {reads}");
+        assert_eq!(rt; source.faults(), 1);
+    }
+}
+
+#[test]
+fn seven_bytes_and_a_fault(rt: HostRuntime) {
+    for (most, fails) in [(100, true), (100, false), (2, true), (1, false)] {
+        let mut sink = small_writer(rt.alloc(), most, 7, fails);
+        assert_eq!(rt; put_all(&mut sink, TEXT), Err(Failed));
+        assert_eq!(rt; sink.faults(), 1);
+        assert_eq!(rt; sink.into_inner().taken.as_slice(), b"horizon".as_slice());
+    }
+}
+
+/// Puts the text, the filling and the text again through the buffer.
+fn put_through(
+    buffer: &mut WriteBuffer,
+    sink: &mut WriteSink<SmallWriter>,
+    filling: &[u8],
+) -> Result<(), Failed>
+    requires { sink.old.faults < 2 ^ 64 - 1 }
+{
+    buffer.push(sink, TEXT)?;
+    buffer.push(sink, filling)?;
+    buffer.push(sink, TEXT)?;
+    buffer.flush(sink)
+}
+
+#[test]
+fn through_a_buffer(rt: HostRuntime) -> Result<(), Fail> {
+    for (length, room) in [
+        (0, 100_000),
+        (65_530, 100_000),
+        (70_000, 100_000),
+        (0, 7),
+        (65_530, 20),
+        (65_530, 65_545),
+        (70_000, 70_015),
+    ] {
+        let filling = vec![in rt.alloc(); b'a'; length]?;
+        let mut whole = Vec::from_slice(rt.alloc(), TEXT)?;
+        whole.extend_from_slice(filling.as_slice())?;
+        whole.extend_from_slice(TEXT)?;
+        let mut buffer = WriteBuffer::new(rt.alloc())?;
+        let mut sink = small_writer(rt.alloc(), 1, room, true);
+        let ended = put_through(&mut buffer, &mut sink, filling.as_slice());
+        let most = room.min(whole.len());
+        assert_eq!(rt; ended.is_ok(), most == whole.len());
+        assert!(rt; sink.into_inner().taken.as_slice() == &whole.as_slice()[..most]);
+    }
+    Ok(())
+}
+
+/// Writes an `a`.
+struct Letter;
+
+impl Piece for Letter {
+    ghost text = { λ _. 97 ∷ [] };
+
+    fn write(&self, room: &mut [u8], at: usize) -> usize {
+        room[at] = b'a';
+        at + 1
+    }
+}
+
+/// Puts so many letters through the buffer.
+fn put_letters(
+    buffer: &mut WriteBuffer,
+    sink: &mut WriteSink<SmallWriter>,
+    count: usize,
+) -> Result<(), Failed>
+    requires { sink.old.faults < 2 ^ 64 - 1 }
+{
+    'letters: for _ in 0..count {
+        buffer.push_piece(sink, &Letter)?;
+    }
+    buffer.flush(sink)
+}
+
+#[test]
+fn pieces_through_a_buffer(rt: HostRuntime) -> Result<(), Fail> {
+    for (count, room) in [
+        (65_473, 100_000),
+        (65_600, 100_000),
+        (65_600, 7),
+        (65_600, 65_500),
+    ] {
+        let whole = vec![in rt.alloc(); b'a'; count]?;
+        let mut buffer = WriteBuffer::new(rt.alloc())?;
+        let mut sink = small_writer(rt.alloc(), 70_000, room, true);
+        let ended = put_letters(&mut buffer, &mut sink, count);
+        let most = room.min(count);
+        assert_eq!(rt; ended.is_ok(), most == count);
+        assert!(rt; sink.into_inner().taken.as_slice() == &whole.as_slice()[..most]);
+    }
+    Ok(())
+}

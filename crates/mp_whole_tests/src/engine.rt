@@ -1,0 +1,123 @@
+//! Small netlists whose waves and states were worked out by hand.
+mod rows;
+
+use mp_engine::{Crew, Gate, OpenGate, Run, evaluate};
+use mp_modules::Kind;
+use mp_netlist::{
+    InputName, InputNames, ModuleId, Netlist, OutputName, OutputNames, Params, SingleEdit, WireId,
+};
+use mp_part_tests::making::{accepts, name, wire};
+use std::alloc::{AllocError, Global};
+use std::process::Abort;
+use std::sync::Wait;
+use std::sync::atomic::{AtomicU64, Ordering};
+use std::test::Fail;
+use std::thread::Threads;
+
+/// An inverter that hears its own output 200 units later than it changes, which is 300 units after the answer.
+fn inverter(alloc: Global, text: &str) -> Result<SingleEdit, AllocError> {
+    let input = InputName {
+        wire: name(alloc, text)?,
+        delay: 200,
+    };
+    let output = OutputName {
+        wire: Some(name(alloc, text)?),
+        delay: 300,
+    };
+    Ok(SingleEdit::AddModule {
+        name: name(alloc, text)?,
+        kind: Kind::Not,
+        params: Params::new(Vec::new(alloc)),
+        inputs: InputNames::new(vec![in alloc; input]?),
+        outputs: OutputNames::new(vec![in alloc; output]?),
+    })
+}
+
+/// Adds two inverters, each with a wire of its own.
+fn add_loops(rt: &impl Abort, alloc: Global, netlist: &mut Netlist) -> Result<(), AllocError> {
+    for text in ["y", "z"] {
+        assert!(rt; accepts(netlist, wire(alloc, text)?));
+        assert!(rt; accepts(netlist, inverter(alloc, text)?));
+    }
+    Ok(())
+}
+
+/// The level of the inverter's output before its delay, before the unit of a checkpoint.
+fn output_before(run: &Run, id: ModuleId, time: u32) -> Option<u64> {
+    let memory = run.checkpoint(id, time)?;
+    Some(memory.output(0))
+}
+
+fn assert_loop(rt: &impl Abort, run: &Run, number: u32) {
+    let Some(wave) = run.wave(WireId(number)) else {
+        panic!(rt; "no wave");
+    };
+    assert!(rt; wave.changes() == [(300, 1), (800, 0), (1300, 1), (1800, 0)].as_slice());
+    assert!(rt; output_before(run, ModuleId(number), 1024) == Some(1));
+    assert!(rt; output_before(run, ModuleId(number), 1023) == None);
+}
+
+/// Counts the calls at time 0 that look for each other.
+#[derive(Drop)]
+struct Meeting {
+    entered: AtomicU64,
+    met: AtomicU64,
+}
+
+/// How often a call looks for the other.
+const LOOKS: u32 = 100_000_000;
+
+impl Gate for Meeting {
+    fn enter<R: Wait>(&self, _rt: &R, _module: ModuleId, from: u32, _to: u32) {
+        if from > 0 {
+            return;
+        }
+        self.entered.fetch_add(1, Ordering::SeqCst);
+        for _ in 0..LOOKS {
+            if self.entered.load(Ordering::SeqCst) == 2 {
+                self.met.fetch_add(1, Ordering::SeqCst);
+                return;
+            }
+        }
+    }
+}
+
+/// Both loops have the waves that they are to have, by so many workers.
+fn assert_loops<R: Abort + Threads + Wait + Sync, G: Gate + Sync>(
+    rt: &R,
+    alloc: Global,
+    netlist: &Netlist,
+    count: u32,
+    gate: &G,
+) -> Result<(), Fail> {
+    let crew = Crew::new(count, 1)?;
+    let run = evaluate(rt, alloc, netlist, &crew, gate)?;
+    assert_loop(rt, &run, 0);
+    assert_loop(rt, &run, 1);
+    Ok(())
+}
+
+/// Loops that share no wire have the same waves by any number of workers, and two workers meet in their first unit.
+fn assert_all<R: Abort + Threads + Wait + Sync>(
+    rt: &R,
+    alloc: Global,
+    netlist: &Netlist,
+) -> Result<(), Fail> {
+    for count in [1, 2, 16] {
+        assert_loops(rt, alloc, netlist, count, &OpenGate)?;
+    }
+    let gate = Meeting {
+        entered: AtomicU64::new(0),
+        met: AtomicU64::new(0),
+    };
+    assert_loops(rt, alloc, netlist, 2, &gate)?;
+    assert_eq!(rt; gate.met.load(Ordering::SeqCst), 2);
+    Ok(())
+}
+
+#[test]
+fn late_self_loops(rt: HostRuntime) -> Result<(), Fail> {
+    let mut netlist = Netlist::empty(rt.alloc(), 2000)?;
+    add_loops(&rt, rt.alloc(), &mut netlist)?;
+    assert_all(&rt, rt.alloc(), &netlist)
+}
