@@ -16,6 +16,7 @@ use Rattle.mp_redo.specs.Redoing.{cell_at, IsLooking, IsListening, IsBefore, IsD
 use Rattle.mp_redo.specs.Rings.{AreTaken}
 use Rattle.mp_redo.proofs.ListenLemmas.{listening_taken}
 use Rattle.mp_redo.proofs.MarkedLemmas.{still_cells, still_lines}
+use Rattle.mp_redo.proofs.TellLemmas.{telling_taken}
 
 -- where the lists of a window's units are taken, the modules that aren't marked have answered for the window
 pub window_begins : (old new : Circuit) → IsCircuit old → IsCircuit new → IsRevision old new → (run : Outcome) → IsRun old run → (c from to count : ℕ) (cells : List Cell) (lines : List Line) (looks lists : List (List ModuleId))
@@ -29,6 +30,7 @@ window_begins old new old_ok new_ok revised run is_run c from to count cells lin
         (λ k low has. free (taken.listed listed m (taken.told k m low here has))) (before.listening m)
     | inr past ↦ (λ i is x late low news. absurd (let stands = slot_within new.modules m is.part is.stands in omega (arith, stands, past, size)))
   ];
+  telling = telling_taken new run from to count lines looks lists marks after due new_due next taken before.telling;
   listed = taken.listed listed;
 }
   where

@@ -12,7 +12,7 @@ use Rattle.mp_model.specs.Waves.{level}
 use Rattle.mp_engine.specs.Outcomes.{Outcome, wave_of}
 use Rattle.mp_redo.specs.declared.cell.Cell.{Cell}
 use Rattle.mp_redo.specs.declared.line.Line.{Line}
-use Rattle.mp_redo.specs.Lines.{level_in, line_level, IsOwn}
+use Rattle.mp_redo.specs.Lines.{is_told, level_in, line_level, IsOwn}
 use Rattle.mp_redo.specs.Prefixes.{switched}
 use Rattle.mp_redo.specs.Redoing.{line_at, level_at, cell_at, AreLines, IsLineAt}
 use Rattle.mp_redo.specs.Answers.{AreApart}
@@ -25,14 +25,16 @@ pub closed_none : (lines : List Line) (outputs : List Output) (a : ℕ) → HasC
 closed_none lines outputs a = record {
   places = refl;
   closed = λ p w low wire run t. absurd (omega (arith, low));
+  untold = λ p w low wire. absurd (omega (arith, low));
   others = λ w none. refl;
 }
 
 pub closed_more : (lines next new : List Line) (outputs : List Output) (a p : ℕ) → AreApart outputs → HasClosed lines next outputs a p → length new ≡ length next
     → ((w : ℕ) → (output_in outputs p).wire ≡ Some (record { 0 = w }) → (run : Outcome) (t : ℕ) → level_at run new w t ≡ switched (a + (output_in outputs p).delay) (level_at run next w) (level_in (wave_of run w)) t)
+    → ((w : ℕ) → (output_in outputs p).wire ≡ Some (record { 0 = w }) → is_told (line_at new w) ≡ false)
     → ((w : ℕ) → ((output_in outputs p).wire ≡ Some (record { 0 = w }) → ⊥) → line_at new w ≡ line_at next w)
     → HasClosed lines new outputs a (p + 1)
-closed_more lines next new outputs a p apart closed places now others = record {
+closed_more lines next new outputs a p apart closed places now untold others = record {
   places = places ∙ closed.places;
   closed = λ q w low wire run t. elim (cases_eq q p) as (λ _. level_at run new w t ≡ switched (a + (output_in outputs q).delay) (level_at run lines w) (level_in (wave_of run w)) t) [
     | inl same ↦
@@ -43,6 +45,10 @@ closed_more lines next new outputs a p apart closed places now others = record {
     | inr differ ↦
         ap (λ l. line_level l (wave_of run w) t) (others w (λ mine. differ (apart q p w wire mine)))
         ∙ closed.closed q w (omega (arith, low, differ)) wire run t
+  ];
+  untold = λ q w low wire. elim (cases_eq q p) as (λ _. is_told (line_at new w) ≡ false) [
+    | inl same ↦ untold w (subst (λ k. (output_in outputs k).wire ≡ Some (record { 0 = w })) same wire)
+    | inr differ ↦ ap is_told (others w (λ mine. differ (apart q p w wire mine))) ∙ closed.untold q w (omega (arith, low, differ)) wire
   ];
   others = λ w none. others w (none p (omega arith)) ∙ closed.others w (λ q low. none q (omega (arith, low)));
 }

@@ -20,7 +20,7 @@ use Rattle.mp_redo.specs.Leaving.{IsBack, HasLeft, ended, HasEnded, HasHandedBac
 use Rattle.mp_redo.specs.Ledgers.{ledger_at, IsOwn}
 use Rattle.mp_redo.specs.Redoing.{cell_at, looks_at, IsCellAt, IsListening, IsOpenAt, AreOpen, IsListed, IsBefore}
 use Rattle.mp_redo.specs.Revisions.{IsRevision}
-use Rattle.mp_redo.specs.Steps.{GoesOnListening}
+use Rattle.mp_redo.specs.Steps.{GoesOnListening, GoesOnTelling}
 use Rattle.mp_redo.specs.Stretches.{stretch_at, IsPart, IsIn, HasBegun, EndsWithWindow, AreStretchesTo}
 use Rattle.mp_redo.specs.Work.{IsWindow}
 use Rattle.mp_redo.proofs.CloseLemmas.{closed_lines}
@@ -208,9 +208,9 @@ module _ (old new : Circuit) (old_ok : IsCircuit old) (new_ok : IsCircuit new) (
     ]
 
     pub one_leaves : (now : List Line) (lists : List (List ModuleId)) (held : List Ledger) (done : List Stretch) (place start : ℕ) → HasClosed lines now r.outputs time (length r.outputs) → Contains (looks_at lists 0) (record { 0 = m })
-        → GoesOnListening new run time lines now looks lists → HasHandedBack ledgers held m time → (cell_at cells m).stretch ≡ Some place
+        → GoesOnListening new run time lines now looks lists → GoesOnTelling new run time lines now looks lists → HasHandedBack ledgers held m time → (cell_at cells m).stretch ≡ Some place
         → HasEnded stretches done place time → IsWindow new start time → IsCrossing old new run block time after now lists held done
-    one_leaves now lists held done place start closed looking goes handed at_place ends window = record {
+    one_leaves now lists held done place start closed looking goes tells handed at_place ends window = record {
       modules = record {
         places = left.places ∙ is.modules.places;
         each = left_cell;
@@ -220,6 +220,7 @@ module _ (old new : Circuit) (old_ok : IsCircuit old) (new_ok : IsCircuit new) (
         | inl same ↦ subst (λ j. IsListening new run (cell_at after j).live time now lists j) (sym same) (λ input has x from below news. (0, omega arith, looking))
         | inr other ↦ subst (λ (x : Cell). IsListening new run x.live time now lists k) (sym (left.others k other)) (goes k (cell_at cells k).live (is.listening k))
       ];
+      telling = tells is.telling;
       kept = left_ledgers new run time m cells after ledgers held is.kept back.live left handed;
       worked = ended_work old new stretches done place time ends (let end = (open_on new time m place cells stretches is.opened (ap is_some at) back.live at_place).on in omega (arith, end, low)) start window is.worked;
       opened = closed_stretch new time m place cells after stretches done is.opened (ap is_some at) back.live at_place left ends;
@@ -233,6 +234,7 @@ crossing_begins old new run block time cells lines looks ledgers stretches befor
   modules = record { places = before.modules.places; each = λ m r at. inl (before.modules.each m r at) };
   wires = before.wires;
   listening = before.listening;
+  telling = before.telling;
   kept = kept;
   worked = worked;
   opened = opened;
@@ -273,6 +275,7 @@ crossing_ends old new old_ok new_ok revised run is_run block time border later l
   };
   wires = is.wires;
   listening = is.listening;
+  telling = is.telling;
   first = λ zero m live. absurd (omega (arith, zero, later));
 }
 

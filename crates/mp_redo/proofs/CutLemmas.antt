@@ -1,5 +1,5 @@
 -- Pieces of lines.
-use Rattle.std.proofs.Common.{◌≡◌, ◌≢◌, ℕ, ◌+◌, ◌-◌, ◌<◌, ◌≤◌, List, [], ◌∷◌, ◌++◌, Option, refl, ap, sym, subst, ◌∙◌, arith, inl, inr}
+use Rattle.std.proofs.Common.{Bool, ◌≡◌, ◌≢◌, ℕ, ◌+◌, ◌-◌, ◌<◌, ◌≤◌, List, [], ◌∷◌, ◌++◌, Option, refl, ap, sym, subst, ◌∙◌, arith, inl, inr}
 use Rattle.std.proofs.lemmas.Bool.{cases_lt}
 use Rattle.mp_wave.specs.Waveform.{Waveform, AreChanges, level_from, level_of, last_from, last_time}
 use Rattle.mp_wave.specs.Building.{Building}
@@ -65,7 +65,7 @@ module _ (from border to : ℕ) (first second : InPiece) (middle : List (ℕ × 
   ]
 
 -- what an input hears of a line of its own
-pub heard : (own : Building) (until delay border t : ℕ) (line : Line) (old : Option Waveform) (one other : ℕ → ℕ) → line ≡ Own own until → 0 < until → border ≡ until + delay
+pub heard : (own : Building) (until delay border t : ℕ) {told : Bool} (line : Line) (old : Option Waveform) (one other : ℕ → ℕ) → line ≡ Own own until told → 0 < until → border ≡ until + delay
     → (t < border → one t ≡ level_of own.wave (t - delay)) → (border ≤ t → other t ≡ level_in old (t - delay)) → switched border one other t ≡ line_level line old (t - delay)
 heard own until delay border t line old one other is some sum before after = elim (cases_lt t border) as (λ _. switched border one other t ≡ line_level line old (t - delay)) [
   | inl less ↦

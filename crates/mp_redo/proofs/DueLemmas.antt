@@ -25,7 +25,7 @@ use Rattle.mp_redo.specs.Ledgers.{state_in}
 use Rattle.mp_redo.specs.Lines.{level_in, IsOwn}
 use Rattle.mp_redo.specs.Revisions.{IsRevision, IsKept}
 use Rattle.mp_redo.specs.Redoing.{level_at, line_at, cell_at, no_cell, answered_to, IsWorking, IsCellAt, AreLines, IsDuring}
-use Rattle.mp_redo.specs.Steps.{IsAt, IsStep, AreReady, GoesOn, GoesOnFrom, GoesOnListening}
+use Rattle.mp_redo.specs.Steps.{IsAt, IsStep, AreReady, GoesOn, GoesOnFrom, GoesOnListening, GoesOnTelling}
 use Rattle.mp_redo.specs.Joins.{HaveAnswered, live_cell}
 use Rattle.mp_redo.specs.Windows.{IsShort}
 use Rattle.mp_model.specs.Reach.{IsApart}
@@ -184,21 +184,21 @@ module _ (old new : Circuit) (old_ok : IsCircuit old) (new_ok : IsCircuit new) (
 
     answers : (memory : Memory) → IsWorking old new c m to → IsAt new m to r memory → (given : List Line) (lists : List (List ModuleId))
         → ((times later : ℕ → ℕ) → IsStep times later cells (slice_set cells m (live_with memory)) m from to → AreLines new run times cells lines → AreLines new run later (slice_set cells m (live_with memory)) given)
-        → GoesOnListening new run to lines given looks lists → IsDuring old new run c from to due (slice_set marks m false) (slice_set cells m (live_with memory)) given lists
-    answers memory works is given lists wires listens =
+        → GoesOnListening new run to lines given looks lists → GoesOnTelling new run to lines given looks lists → IsDuring old new run c from to due (slice_set marks m false) (slice_set cells m (live_with memory)) given lists
+    answers memory works is given lists wires listens tells =
         let here : live_with memory ≡ cell_at (slice_set cells m (live_with memory)) m = sym (get_or-set_same cells m (live_with memory) no_cell cell_within) in
         during_answered old new run c from to due marks cells lines looks during m r at marked rise (slice_set cells m (live_with memory)) given lists
         (subst (IsCellAt old new c to m r) here (now_live memory works is))
         (ap (λ (x : Cell). x.live) (sym here))
         (λ k other. get_or-set_other cells m k (live_with memory) no_cell other)
         (length-set cells m (live_with memory))
-        wires listens
+        wires listens tells
 
     pub live_answers : (cell_at cells m).live ≡ true → (memory : Memory) → IsAt new m to r memory → (given : List Line) (lists : List (List ModuleId)) → GoesOn new run lines given r (cell_at cells m).memory from to
-        → GoesOnListening new run to lines given looks lists → IsDuring old new run c from to due (slice_set marks m false) (slice_set cells m (live_with memory)) given lists
-    live_answers live memory is given lists wires listens =
+        → GoesOnListening new run to lines given looks lists → GoesOnTelling new run to lines given looks lists → IsDuring old new run c from to due (slice_set marks m false) (slice_set cells m (live_with memory)) given lists
+    live_answers live memory is given lists wires listens tells =
         answers memory (working_on old new c from to m rise (cell_was.live live)) is given lists
-        (λ times later step are. wires m times later cells (slice_set cells m (live_with memory)) (due_live live) step are) listens
+        (λ times later step are. wires m times later cells (slice_set cells m (live_with memory)) (due_live live) step are) listens tells
 
     pub apart_at : (cell_at cells m).live ≡ false → (t : ℕ) → t < to → (i : Input) → Contains r.inputs i → level_at run lines i.wire.0 (t - i.delay) ≢ level_in (wave_of run i.wire.0) (t - i.delay) → IsApart old new m t
     apart_at quiet t below i has differ =
@@ -207,11 +207,11 @@ module _ (old new : Circuit) (old_ok : IsCircuit old) (new_ok : IsCircuit new) (
     pub joining_answers : (cell_at cells m).live ≡ false → (memory : Memory) → IsAt new m to r memory
         → (t : ℕ) → from ≤ t → t < to → IsApart old new m t
         → (given : List Line) (lists : List (List ModuleId)) → GoesOnFrom new run lines given r (state_in (slot_at run.kept m) c) c to
-        → GoesOnListening new run to lines given looks lists → IsDuring old new run c from to due (slice_set marks m false) (slice_set cells m (live_with memory)) given lists
-    joining_answers quiet memory is t late below apart given lists wires listens =
+        → GoesOnListening new run to lines given looks lists → GoesOnTelling new run to lines given looks lists → IsDuring old new run c from to due (slice_set marks m false) (slice_set cells m (live_with memory)) given lists
+    joining_answers quiet memory is t late below apart given lists wires listens tells =
         let block = window.block in
         answers memory (inr (inr (t, omega (arith, block, late), below, apart))) is given lists
-        (λ times later step are. wires m from times later cells (slice_set cells m (live_with memory)) (due_quiet quiet) block step are) listens
+        (λ times later step are. wires m from times later cells (slice_set cells m (live_with memory)) (due_quiet quiet) block step are) listens tells
 
     pub quiet_stays : (cell_at cells m).live ≡ false → ((i : Input) → Contains r.inputs i → (t : ℕ) → from ≤ t → t < to → level_at run lines i.wire.0 (t - i.delay) ≡ level_in (wave_of run i.wire.0) (t - i.delay))
         → IsDuring old new run c from to due (slice_set marks m false) cells lines looks
@@ -231,6 +231,7 @@ module _ (old new : Circuit) (old_ok : IsCircuit old) (new_ok : IsCircuit new) (
           (λ k p drives t past below under. let e = answered_other from to marks m k (not_here k drives.part drives.stands) in absurd (let no : ⊥ = omega (arith, e, past, below) in no)) (during.wires.each w low);
     };
     listening = during.listening;
+    telling = during.telling;
     listed = listed_still marks m due mark_within during.listed;
   }
     where

@@ -17,7 +17,7 @@ use Rattle.mp_redo.specs.declared.cell.Cell.{Cell}
 use Rattle.mp_redo.specs.declared.line.Line.{Line}
 use Rattle.mp_redo.specs.Revisions.{IsRevision}
 use Rattle.mp_redo.specs.Redoing.{level_at, cell_at, answered_to, IsWorking, IsCellAt, AreLines, IsListening, IsDuring}
-use Rattle.mp_redo.specs.Steps.{IsStep, GoesOnListening}
+use Rattle.mp_redo.specs.Steps.{IsStep, GoesOnListening, GoesOnTelling}
 use Rattle.mp_redo.proofs.LineLemmas.{one_delay, idle_kept, idle_line, line_on}
 use Rattle.mp_redo.proofs.MarkedLemmas.{answered_marked}
 
@@ -52,9 +52,9 @@ module _ (old new : Circuit) (run : Outcome) (c from to : ℕ) (due : List Modul
   pub during_answered : (after : List Cell) (given : List Line) (lists : List (List ModuleId)) → IsCellAt old new c to m r (cell_at after m) → (cell_at after m).live ≡ true
       → ((k : ℕ) → k ≢ m → cell_at after k ≡ cell_at cells k) → length after ≡ length cells
       → ((times later : ℕ → ℕ) → IsStep times later cells after m from to → AreLines new run times cells lines → AreLines new run later after given)
-      → GoesOnListening new run to lines given looks lists
+      → GoesOnListening new run to lines given looks lists → GoesOnTelling new run to lines given looks lists
       → IsDuring old new run c from to due (slice_set marks m false) after given lists
-  during_answered after given lists here live others places wires listens = record {
+  during_answered after given lists here live others places wires listens tells = record {
     modules = record {
       places = places ∙ during.modules.places;
       each = λ k s stands. elim (cases_eq k m) as (λ _. IsCellAt old new c (answered_to from to (slice_set marks m false) k) k s (cell_at after k)) [
@@ -78,6 +78,7 @@ module _ (old new : Circuit) (run : Outcome) (c from to : ℕ) (due : List Modul
     listening = λ k free.
         let other : k ≢ m = λ same. free (subst (λ j. Contains due (record { 0 = j })) (sym same) is_due) in
         subst (λ (x : Cell). IsListening new run x.live to given lists k) (sym (others k other)) (listens k (cell_at cells k).live (during.listening k free));
+    telling = tells during.telling;
     listed = listed_still marks m due within during.listed;
   }
 
@@ -100,6 +101,7 @@ module _ (old new : Circuit) (run : Outcome) (c from to : ℕ) (due : List Modul
       each = λ w low. line_on new new_ok run (answered_to from to marks) (answered_to from to (slice_set marks m false)) cells lines w more (λ k p drives t past below under. idle_level w low k p drives t past below under) (during.wires.each w low);
     };
     listening = during.listening;
+    telling = during.telling;
     listed = listed_still marks m due within during.listed;
   }
     where

@@ -21,7 +21,7 @@ use Rattle.mp_engine.proofs.MarkLemmas.{none_in, contains_cons}
 use Rattle.mp_redo.specs.declared.cell.Cell.{Cell}
 use Rattle.mp_redo.specs.declared.line.Line.{Line}
 use Rattle.mp_redo.specs.declared.line.Line.TheVariants.{Old, Own}
-use Rattle.mp_redo.specs.Redoing.{no_cell, cell_at, line_at, looks_at, IsWorking, IsCellAt, AreCells, AreLines, IsInput, IsTracked, IsNews, IsLooking, AreOpen, IsBefore}
+use Rattle.mp_redo.specs.Redoing.{no_cell, cell_at, line_at, looks_at, IsWorking, IsCellAt, AreCells, AreLines, AreUntold, IsInput, IsTracked, IsNews, IsLooking, AreOpen, IsBefore}
 use Rattle.mp_redo.specs.declared.stretch.Stretch.{Stretch}
 use Rattle.mp_redo.specs.Lines.{level_in, line_level}
 use Rattle.mp_redo.specs.Joins.{AreLike}
@@ -33,6 +33,7 @@ use Rattle.mp_redo.proofs.RingLemmas.{looking_kept}
 use Rattle.mp_redo.proofs.WindowLemmas.{window_within}
 use Rattle.mp_redo.proofs.HearerLemmas.{is_reader}
 use Rattle.mp_redo.proofs.ListenLemmas.{looking_later}
+use Rattle.mp_redo.proofs.TellLemmas.{telling_none}
 
 -- before time 0 only a touched module is at work
 pub only_touched : (old new : Circuit) (m : ℕ) → IsWorking old new 0 m 0 → IsTouched old new m
@@ -94,20 +95,21 @@ other_tracked run false lines w x quiet news = by (line_at lines w) news
   where
     by : (line : Line) → (line_level line (wave_of run w) (x + 1) ≡ level_in (wave_of run w) (x + 1) → ⊥) → IsTracked line
     by Old differ = absurd (differ refl)
-    by (Own wave until) differ = tt
+    by (Own wave until told) differ = tt
 
 -- where the live modules look first, and the readers of lines that aren't the old run's
 pub first_before : (old new : Circuit) (run : Outcome) (rows : List (List (ModuleId × ℕ))) (cells : List Cell) (lines : List Line) (looks : List (List ModuleId)) → AreReaders new rows
     → ((m : ℕ) → m < length new.modules → (cell_at cells m).live ≡ true → IsLooking looks m 0)
     → ((w : ℕ) (reader : ModuleId × ℕ) → w < length new.wires → IsTracked (line_at lines w) → Contains (row_at rows w) reader → IsLooking looks reader.0.0 0)
-    → AreCells old new 0 (λ m. 0) cells → AreLines new run (λ m. 0) cells lines → IsBefore old new run 0 0 cells lines looks
-first_before old new run rows cells lines looks are entered told cells_are lines_are = record {
+    → AreUntold lines → AreCells old new 0 (λ m. 0) cells → AreLines new run (λ m. 0) cells lines → IsBefore old new run 0 0 cells lines looks
+first_before old new run rows cells lines looks are entered told untold cells_are lines_are = record {
   modules = cells_are;
   wires = lines_are;
   listening = λ m i is x late low news. looking_later looks m 0 (x + 1 + i.delay - 0) (omega arith) (elim (cases_Bool (cell_at cells m).live) as (λ _. IsLooking looks m 0) [
     | inl live ↦ live_looks m live
     | inr quiet ↦ reader_looks m i is x (other_tracked run (cell_at cells m).live lines i.wire.0 x quiet news)
   ]);
+  telling = telling_none new run 0 lines looks untold;
   first = λ e m live. first_list m (live_looks m live);
 }
   where

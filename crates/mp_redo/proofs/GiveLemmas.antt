@@ -1,11 +1,12 @@
 -- A line is given changes, one after the other.
-use Rattle.std.proofs.Common.{◌≡◌, ℕ, ◌+◌, ◌-◌, ◌<◌, ◌≤◌, List, [], ◌∷◌, Option, Some, length, slice_index_or, zero, suc, refl, ap, sym, subst, ◌∙◌, arith, inl, inr}
+use Rattle.std.proofs.Common.{◌≡◌, ℕ, ◌+◌, ◌-◌, ◌<◌, ◌≤◌, List, [], ◌∷◌, Option, Some, None, length, slice_index_or, zero, suc, refl, ap, sym, subst, ◌∙◌, arith, inl, inr}
 use Rattle.std.proofs.lemmas.Bool.{cases_lt, cases_eq, le-leb, lt-leb}
 use Rattle.mp_wave.specs.Waveform.{Waveform, level_from}
 use Rattle.mp_response.specs.Pieces.{put_off}
 use Rattle.mp_model.specs.Tracks.{AreTimesIn}
 use Rattle.mp_redo.specs.declared.line.Line.{Line}
-use Rattle.mp_redo.specs.Lines.{line_level, IsOwn}
+use Rattle.mp_redo.specs.Lines.{is_told, line_level, IsOwn}
+use Rattle.mp_records.specs.declared.ids.WireId.{WireId}
 use Rattle.mp_records.specs.declared.ports.Output.{Output}
 use Rattle.mp_records.specs.Outputs.{output_in}
 use Rattle.mp_redo.specs.Redoing.{line_at}
@@ -73,6 +74,21 @@ pub read_output : (outputs : List Output) (p : ℕ) (d : Output) → p < length 
 read_output [] p d within = absurd (let no : ⊥ = omega (arith, within) in no)
 read_output (o ∷ os) zero d within = refl
 read_output (o ∷ os) (suc p) d within = read_output os p d (omega (arith, within))
+
+-- the line of any wire is told as before
+pub same_flag : (output : Output) (lines new : List Line) (w : ℕ) → (output.wire ≡ Some (record { 0 = w }) → is_told (line_at new w) ≡ is_told (line_at lines w))
+    → ((output.wire ≡ Some (record { 0 = w }) → ⊥) → line_at new w ≡ line_at lines w) → is_told (line_at new w) ≡ is_told (line_at lines w)
+same_flag output lines new w here others = by output.wire refl
+  where
+    by : (wire : Option WireId) → output.wire ≡ wire → is_told (line_at new w) ≡ is_told (line_at lines w)
+    by None e = ap is_told (others (λ is. let no : ⊥ = cc in no))
+    by (Some v) e = elim (cases_eq v.0 w) as (λ _. is_told (line_at new w) ≡ is_told (line_at lines w)) [
+      | inl same ↦ here (e ∙ ap (λ (k : ℕ). let x : WireId = record { 0 = k } in Some x) same)
+      | inr differ ↦ ap is_told (others (λ is.
+          let both : Some v ≡ Some (let x : WireId = record { 0 = w } in x) = sym e ∙ is in
+          let one : v ≡ record { 0 = w } = cc in
+          differ (ap (λ (x : WireId). x.0) one)))
+    ]
 
 pub given_none : (lines : List Line) (outputs : List Output) (answers : List (List (ℕ × ℕ))) (end a b : ℕ) → HasGiven lines lines outputs answers end a b 0
 given_none lines outputs answers end a b = record {

@@ -1,8 +1,8 @@
--- Windows in which nobody looks are passed at once.
-use Rattle.std.proofs.Common.{◌≡◌, ℕ, ◌+◌, ◌-◌, ◌<◌, ◌≤◌, Bool, false, List, [], ◌∷◌, ◌++◌, length, drop, take, zero, suc, refl, ap, sym, subst, ◌∙◌, arith, inl, inr}
+-- Units and windows in which nobody looks are passed at once.
+use Rattle.std.proofs.Common.{◌≡◌, ℕ, ◌+◌, ◌-◌, ◌<◌, ◌≤◌, Bool, false, List, [], ◌∷◌, ◌++◌, length, drop, zero, suc, refl, ap, sym, subst, ◌∙◌, arith, inl, inr}
 use Rattle.std.specs.List.{Contains}
 use Rattle.std.proofs.lemmas.Bool.{cases_lt}
-use Rattle.std.proofs.lemmas.List.{get_or_append_left, get_or-append_right, get_or-drop, get_or-take, get_or_past, length-drop, length-take, length-append}
+use Rattle.std.proofs.lemmas.List.{ext_get_or, length-drop, length-append}
 use Rattle.mp_records.specs.declared.ids.ModuleId.{ModuleId}
 use Rattle.mp_netlist.specs.Circuit.{Circuit, IsCircuit}
 use Rattle.mp_engine.specs.Marks.{is_marked}
@@ -13,13 +13,12 @@ use Rattle.mp_redo.specs.declared.cell.Cell.{Cell}
 use Rattle.mp_redo.specs.declared.line.Line.{Line}
 use Rattle.mp_redo.specs.declared.stretch.Stretch.{Stretch}
 use Rattle.mp_redo.specs.Opened.{HaveOpened}
-use Rattle.mp_redo.specs.Redoing.{looks_at, cell_at, AreOpen, IsBefore, IsDuring}
+use Rattle.mp_redo.specs.Redoing.{looks_at, AreOpen, IsBefore, IsDuring}
 use Rattle.mp_redo.specs.Revisions.{IsRevision}
-use Rattle.mp_redo.specs.Rings.{AreKept, AreTaken}
+use Rattle.mp_redo.specs.Rings.{AreTaken}
 use Rattle.mp_redo.specs.Stretches.{AreStretchesTo}
-use Rattle.mp_redo.specs.Windows.{IsWindows}
+use Rattle.mp_redo.specs.Windows.{IsShort, IsWindows}
 use Rattle.mp_redo.specs.Work.{block_of, window_of, window_end, IsWindow}
-use Rattle.mp_redo.proofs.AgainLemmas.{listening_kept}
 use Rattle.mp_redo.proofs.BeginLemmas.{window_begins}
 use Rattle.mp_redo.proofs.CourseLemmas.{window_short}
 use Rattle.mp_redo.proofs.JoinWorkLemmas.{joined_stretches}
@@ -50,6 +49,21 @@ moved_at (suc count) lists k =
     let e : k + count + 1 ≡ k + suc count = omega arith in
     moved_at count (drop 1 lists ++ [] ∷ []) k ∙ at_next lists (k + count) ∙ ap (looks_at lists) e
 
+moved_none : (t to : ℕ) → to ≤ t → (lists : List (List ModuleId)) → moved (to - t) lists ≡ lists
+unfolding moved
+moved_none t to le lists = let none : to - t ≡ 0 = omega (arith, le) in ap (λ k. moved k lists) none
+
+moved_more : (first rest both : ℕ) → first + rest ≡ both → (lists : List (List ModuleId)) → moved rest (moved first lists) ≡ moved both lists
+unfolding moved
+moved_more zero rest both e lists = let same : rest ≡ both = omega (arith, e) in ap (λ k. moved k lists) same
+moved_more (suc first) rest both e lists =
+    let same : suc (first + rest) ≡ both = omega (arith, e) in
+    moved_more first rest (first + rest) refl (drop 1 lists ++ [] ∷ []) ∙ ap (λ k. moved k lists) same
+
+-- lists that have moved up so are these
+moved_is : (count : ℕ) (lists after : List (List ModuleId)) → 0 < length lists → length after ≡ length lists → ((k : ℕ) → looks_at after k ≡ looks_at lists (k + count)) → moved count lists ≡ after
+moved_is count lists after some places up = ext_get_or [] (moved count lists) after (moved_places count lists some ∙ sym places) (λ k low. moved_at count lists k ∙ sym (up k))
+
 nobody : (m : ℕ) (list : List ModuleId) → list ≡ [] → Contains list (record { 0 = m }) → ⊥
 nobody m list none has = none_in (let id : ModuleId = record { 0 = m } in id) (subst (λ xs. Contains xs (record { 0 = m })) none has)
 
@@ -64,24 +78,43 @@ moved_taken count lists marks some idle = record {
   listed = λ are. are;
 }
 
--- lists that are turned round so that the first ones, without modules, are the last
-pub turned_at : (count : ℕ) (lists : List (List ModuleId)) → count ≤ length lists → ((k : ℕ) → k < count → looks_at lists k ≡ []) → (k : ℕ)
-    → looks_at (drop count lists ++ take count lists) k ≡ looks_at lists (k + count)
-turned_at count lists room idle k = elim (cases_lt k (length (drop count lists))) as (λ _. looks_at (drop count lists ++ take count lists) k ≡ looks_at lists (k + count)) [
-  | inl within ↦ get_or_append_left (drop count lists) (take count lists) [] k within ∙ rest
-  | inr past ↦
-      get_or-append_right (drop count lists) (take count lists) (length (drop count lists)) k [] refl past
-      ∙ first (k - length (drop count lists)) ∙ sym (get_or_past (drop count lists) k [] past) ∙ rest
-]
-  where
-    rest : looks_at (drop count lists) k ≡ looks_at lists (k + count)
-    rest = let e : count + k ≡ k + count = omega arith in get_or-drop count lists k [] ∙ ap (looks_at lists) e
+-- ---- unit by unit
 
-    first : (j : ℕ) → looks_at (take count lists) j ≡ []
-    first j = elim (cases_lt j count) as (λ _. looks_at (take count lists) j ≡ []) [
-      | inl low ↦ get_or-take count lists j [] low ∙ idle j low
-      | inr high ↦ get_or_past (take count lists) j [] (let size = length-take count lists in omega (arith, size, high))
-    ]
+module _ (old new : Circuit) (old_ok : IsCircuit old) (ok : IsCircuit new) (revised : IsRevision old new) (run : Outcome) (is_run : IsRun old run)
+    (block : ℕ) (cells : List Cell) (lines : List Line) (marks : List Bool) (size : length marks ≡ length new.modules) (free : (m : ℕ) → is_marked marks m ≡ false) where
+  some_units : (t to : ℕ) → IsShort new block t to → (looks : List (List ModuleId)) → 0 < length looks → ((k : ℕ) → t + k < to → looks_at looks k ≡ [])
+      → IsBefore old new run block t cells lines looks → IsBefore old new run block to cells lines (moved (to - t) looks)
+  some_units t to short looks some idle before =
+      window_ends old new run block t to [] marks cells lines lists lists during short.block short.some free (λ k m has. has) (λ m has. absurd (none_in (let id : ModuleId = record { 0 = m } in id) has))
+    where
+      lists : List (List ModuleId)
+      lists = moved (to - t) looks
+
+      during : IsDuring old new run block t to [] marks cells lines lists
+      during =
+          let less = short.some in
+          window_begins old new old_ok ok revised run is_run block t to (to - t) cells lines looks lists marks marks [] [] before short.block less short.short short.within (omega (arith, less))
+          size (listed_none marks [] free) (moved_taken (to - t) looks marks some (λ k low. idle k (omega (arith, low))))
+
+  -- some units of a short span, or none
+  pub units_passed : (from end : ℕ) → IsShort new block from end → (t to : ℕ) → from ≤ t → t ≤ to → to ≤ end → (looks after : List (List ModuleId)) → 0 < length looks → length after ≡ length looks
+      → ((k : ℕ) → t + k < to → looks_at looks k ≡ []) → ((k : ℕ) → looks_at after k ≡ looks_at looks (k + (to - t)))
+      → IsBefore old new run block t cells lines looks → IsBefore old new run block to cells lines after
+  units_passed from end short t to low le high looks after some places idle up before =
+      subst (IsBefore old new run block to cells lines) (moved_is (to - t) looks after some places up)
+      (elim (cases_lt t to) as (λ _. IsBefore old new run block to cells lines (moved (to - t) looks)) [
+        | inl less ↦ some_units t to (part less) looks some idle before
+        | inr not ↦
+            let same : t ≡ to = omega (arith, le, not) in
+            subst (IsBefore old new run block to cells lines) (sym (moved_none t to not looks)) (subst (λ x. IsBefore old new run block x cells lines looks) same before)
+      ])
+    where
+      part : t < to → IsShort new block t to
+      part less =
+          let first = short.block in
+          let all = short.short in
+          let last = short.within in
+          record { border = short.border; block = omega (arith, first, low); some = less; short = omega (arith, all, low, high); within = omega (arith, last, high) }
 
 -- ---- where windows end
 
@@ -118,24 +151,8 @@ module _ (old new : Circuit) (old_ok : IsCircuit old) (ok : IsCircuit new) (revi
       → IsIdleAt t looks → IsIdleAt to (moved (to - t) looks)
   one_window t to window same looks some idle is = record { before = over; worked = work.0; opened = work.1 }
     where
-      lists : List (List ModuleId)
-      lists = moved (to - t) looks
-
-      less : t < to
-      less = (window_within new ok t to window).1
-
-      inside : block ≤ t
-      inside = let within = window_within new ok t to window in omega (arith, same, within.0)
-
-      during : IsDuring old new run block t to [] marks cells lines lists
-      during =
-          let short = window_short new ok t to window in
-          window_begins old new old_ok ok revised run is_run block t to (to - t) cells lines looks lists marks marks [] [] is.before inside less short.short short.within (let l = less in omega (arith, l))
-          size (listed_none marks [] free) (moved_taken (to - t) looks marks some (λ k low. idle k (omega (arith, low))))
-
-      over : IsBefore old new run block to cells lines lists
-      over = window_ends old new run block t to [] marks cells lines lists lists during inside less free (λ k m has. has)
-          (λ m has. absurd (none_in (let id : ModuleId = record { 0 = m } in id) has))
+      over : IsBefore old new run block to cells lines (moved (to - t) looks)
+      over = some_units old new old_ok ok revised run is_run block cells lines marks size free t to (subst (λ c. IsShort new c t to) (sym same) (window_short new ok t to window)) looks some idle is.before
 
       none : HaveOpened new block to cells cells stretches stretches
       none = record {
@@ -157,12 +174,12 @@ module _ (old new : Circuit) (old_ok : IsCircuit old) (ok : IsCircuit new) (revi
     | inr past ↦ omega (arith, past)
   ]
 
-  -- up to where windows end, with some lists that have moved up so far
+  -- up to where windows end
   abbrev IsIdleTo : ℕ → ℕ → List (List ModuleId) → Type 0
-  IsIdleTo t to looks = (lists : List (List ModuleId)) × IsIdleAt to lists × ((k : ℕ) → looks_at lists k ≡ looks_at looks (k + (to - t)))
+  IsIdleTo t to looks = IsIdleAt to (moved (to - t) looks)
 
   idle_there : (t to : ℕ) → t ≡ to → (looks : List (List ModuleId)) → IsIdleAt t looks → IsIdleTo t to looks
-  idle_there t to e looks is = (looks, subst (λ x. IsIdleAt x looks) e is, λ k. let z : k ≡ k + (to - t) = omega (arith, e) in ap (looks_at looks) z)
+  idle_there t to e looks is = subst (IsIdleAt to) (sym (moved_none t to (omega (arith, e)) looks)) (subst (λ x. IsIdleAt x looks) e is)
 
   module _ (from to : ℕ) (same : block ≡ block_of from) (windows : IsWindows new from to) where
     next : (t : ℕ) → from ≤ t → t < to → window_of new t ≡ t → (looks : List (List ModuleId)) → 0 < length looks → ((k : ℕ) → t + k < to → looks_at looks k ≡ []) → IsIdleAt t looks
@@ -170,12 +187,10 @@ module _ (old new : Circuit) (old_ok : IsCircuit old) (ok : IsCircuit new) (revi
         → IsIdleTo t to looks
     next t low less begins looks some idle is again = elim (cases_lt end to) as (λ _. IsIdleTo t to looks) [
       | inl more ↦
-          let rest = again end lists some_time reach (begun more) (let e = moved_places (end - t) looks some in omega (arith, e, some))
-          (λ k early. moved_at (end - t) looks k ∙ idle (k + (end - t)) (omega (arith, early, some_time))) here in
-          (rest.0, rest.1, λ k. let e : k + (to - end) + (end - t) ≡ k + (to - t) = omega (arith, some_time, more) in rest.2 k ∙ moved_at (end - t) looks (k + (to - end)) ∙ ap (looks_at looks) e)
-      | inr last ↦
-          let e : end ≡ to = omega (arith, last, reach) in
-          (lists, subst (λ x. IsIdleAt x lists) e here, λ k. moved_at (end - t) looks k ∙ ap (λ x. looks_at looks (k + (x - t))) e)
+          subst (IsIdleAt to) (moved_more (end - t) (to - end) (to - t) (omega (arith, some_time, more)) looks)
+          (again end lists some_time reach (begun more) (let e = moved_places (end - t) looks some in omega (arith, e, some))
+          (λ k early. moved_at (end - t) looks k ∙ idle (k + (end - t)) (omega (arith, early, some_time))) here)
+      | inr last ↦ let e : end ≡ to = omega (arith, last, reach) in subst (λ x. IsIdleTo t x looks) e here
     ]
       where
         end : ℕ
@@ -218,22 +233,11 @@ module _ (old new : Circuit) (old_ok : IsCircuit old) (ok : IsCircuit new) (revi
       | inr not ↦ idle_there t to (omega (arith, not, high)) looks is
     ]
 
-  listed_alike : (to : ℕ) (lists after : List (List ModuleId)) → ((k : ℕ) → looks_at after k ≡ looks_at lists k) → IsBefore old new run block to cells lines lists → IsBefore old new run block to cells lines after
-  listed_alike to lists after alike is = record {
-    modules = is.modules;
-    wires = is.wires;
-    listening = λ m. listening_kept new run (cell_at cells m).live to lines lists after m kept (is.listening m);
-    first = λ zero m live. kept 0 m (is.first zero m live);
-  }
-    where
-      kept : AreKept lists after
-      kept = λ k m has. subst (λ xs. Contains xs (record { 0 = m })) (sym (alike k)) has
-
-  pub idle_passed : (from to : ℕ) → window_of new from ≡ from → block ≡ block_of from → IsWindows new from to → (looks after : List (List ModuleId)) → 0 < length looks
+  pub idle_passed : (from to : ℕ) → window_of new from ≡ from → block ≡ block_of from → IsWindows new from to → (looks after : List (List ModuleId)) → 0 < length looks → length after ≡ length looks
       → ((k : ℕ) → from + k < to → looks_at looks k ≡ []) → ((k : ℕ) → looks_at after k ≡ looks_at looks (k + (to - from)))
       → IsBefore old new run block from cells lines looks → AreStretchesTo old new from stretches → AreOpen new from cells stretches
       → IsBefore old new run block to cells lines after × AreStretchesTo old new to stretches × AreOpen new to cells stretches
-  idle_passed from to begins same windows looks after some idle up before worked opened =
+  idle_passed from to begins same windows looks after some places idle up before worked opened =
       let later = windows.later in
       let on = windows_on from to same windows (to - from) from (omega (arith, later)) (omega arith) (omega (arith, later)) begins looks some idle (record { before = before; worked = worked; opened = opened }) in
-      (listed_alike to on.0 after (λ k. up k ∙ sym (on.2 k)) on.1.before, on.1.worked, on.1.opened)
+      (subst (IsBefore old new run block to cells lines) (moved_is (to - from) looks after some places up) on.before, on.worked, on.opened)

@@ -7,7 +7,6 @@ pub mod WorkLemmas
 pub mod EntryLemmas
 pub mod OrderLemmas
 pub mod MergeLemmas
-pub mod WholeLemmas
 pub mod PrefixLemmas
 pub mod PushLemmas
 pub mod CutLemmas
@@ -49,6 +48,7 @@ pub mod FirstLemmas
 pub mod SortLemmas
 pub mod CourseLemmas
 pub mod UnitLemmas
+pub mod TellLemmas
 pub mod ListedLemmas
 pub mod TaskLemmas
 pub mod IdleLemmas

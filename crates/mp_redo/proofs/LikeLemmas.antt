@@ -42,6 +42,7 @@ before_like old new run c t cells after lines looks like before = record {
   modules = cells_like old new c (λ m. t) cells after like before.modules;
   wires = lines_like new run (λ m. t) cells after lines like before.wires;
   listening = λ m. subst (λ live. IsListening new run live t lines looks m) (sym (like.live m)) (before.listening m);
+  telling = before.telling;
   first = λ zero m on. before.first zero m (sym (like.live m) ∙ on);
 }
 

@@ -38,7 +38,7 @@ before_is n m t u r next = let e : suc u ≡ t = omega (arith, next) in subst (�
 -- a line that can still be given from a time on holds its last level
 pub own_held : (line : Line) (old : Option Waveform) (next end a t : ℕ) → IsOwn line next end → next ≤ a + 1 → a ≤ t → t < end → line_level line old t ≡ line_level line old a
 own_held Old old next end a t own near low below = absurd own
-own_held (Own wave until) old next end a t own near low below =
+own_held (Own wave until told) old next end a t own near low below =
     let form = own.0.form in
     let over = own.0.over in
     let first : t < until = omega (arith, own.2, below) in
@@ -48,11 +48,11 @@ own_held (Own wave until) old next end a t own near low below =
 
 pub own_later : (line : Line) (next later end : ℕ) → next ≤ later → IsOwn line next end → IsOwn line later end
 own_later Old next later end le own = own
-own_later (Own wave until) next later end le own = (own.0, omega (arith, own.1, le), own.2)
+own_later (Own wave until told) next later end le own = (own.0, omega (arith, own.1, le), own.2)
 
 pub own_shorter : (line : Line) (next end sooner : ℕ) → sooner ≤ end → IsOwn line next end → IsOwn line next sooner
 own_shorter Old next end sooner le own = own
-own_shorter (Own wave until) next end sooner le own = (own.0, own.1, omega (arith, own.2, le))
+own_shorter (Own wave until told) next end sooner le own = (own.0, own.1, omega (arith, own.2, le))
 
 -- a wire has one driver, with one delay
 pub one_delay : (n : Circuit) → IsCircuit n → (m p k q w : ℕ) (one : Drives n m p w) (other : Drives n k q w) → delay_of other.part q ≡ delay_of one.part p

@@ -1,11 +1,11 @@
 -- Lines are taken over, one output after the other.
-use Rattle.std.proofs.Common.{◌≡◌, ℕ, ◌+◌, ◌<◌, List, Some, length, refl, ap, sym, subst, ◌∙◌, arith, inl, inr}
+use Rattle.std.proofs.Common.{◌≡◌, ℕ, ◌+◌, ◌<◌, false, List, Some, length, refl, ap, sym, subst, ◌∙◌, arith, inl, inr}
 use Rattle.std.proofs.lemmas.Bool.{cases_eq}
 use Rattle.mp_records.specs.declared.ports.Output.{Output}
 use Rattle.mp_records.specs.Outputs.{output_in}
 use Rattle.mp_engine.specs.Outcomes.{Outcome, wave_of}
 use Rattle.mp_redo.specs.declared.line.Line.{Line}
-use Rattle.mp_redo.specs.Lines.{line_level, IsOwn}
+use Rattle.mp_redo.specs.Lines.{is_told, line_level, IsOwn}
 use Rattle.mp_redo.specs.Redoing.{line_at, level_at}
 use Rattle.mp_redo.specs.Answers.{HasOpened, HasOpenedTo, AreApart}
 use Rattle.mp_redo.proofs.AnswerLemmas.{port_within}
@@ -15,15 +15,17 @@ opened_none run lines outputs end a = record {
   places = refl;
   own = λ p w low wire. absurd (omega (arith, low));
   before = λ p w low wire t early under. absurd (omega (arith, low));
+  untold = λ p w low wire. absurd (omega (arith, low));
   others = λ w none. refl;
 }
 
 pub opened_more : (run : Outcome) (lines next new : List Line) (outputs : List Output) (end a p : ℕ) → AreApart outputs → HasOpenedTo run lines next outputs end a p → length new ≡ length next
     → ((w : ℕ) → (output_in outputs p).wire ≡ Some (record { 0 = w }) → IsOwn (line_at new w) (a + (output_in outputs p).delay) end)
     → ((w t : ℕ) → (output_in outputs p).wire ≡ Some (record { 0 = w }) → t < a + (output_in outputs p).delay → t < end → level_at run new w t ≡ level_at run next w t)
+    → ((w : ℕ) → (output_in outputs p).wire ≡ Some (record { 0 = w }) → is_told (line_at new w) ≡ false)
     → ((w : ℕ) → ((output_in outputs p).wire ≡ Some (record { 0 = w }) → ⊥) → line_at new w ≡ line_at next w)
     → HasOpenedTo run lines new outputs end a (p + 1)
-opened_more run lines next new outputs end a p apart opened places own before others = record {
+opened_more run lines next new outputs end a p apart opened places own before untold others = record {
   places = places ∙ opened.places;
   own = λ q w low wire. elim (cases_eq q p) as (λ _. IsOwn (line_at new w) (a + (output_in outputs q).delay) end) [
     | inl same ↦ subst (λ k. IsOwn (line_at new w) (a + (output_in outputs k).delay) end) (sym same) (own w (subst (λ k. (output_in outputs k).wire ≡ Some (record { 0 = w })) same wire))
@@ -38,6 +40,10 @@ opened_more run lines next new outputs end a p apart opened places own before ot
     | inr differ ↦
         ap (λ l. line_level l (wave_of run w) t) (others w (λ mine. differ (apart q p w wire mine)))
         ∙ opened.before q w (omega (arith, low, differ)) wire t early under
+  ];
+  untold = λ q w low wire. elim (cases_eq q p) as (λ _. is_told (line_at new w) ≡ false) [
+    | inl same ↦ untold w (subst (λ k. (output_in outputs k).wire ≡ Some (record { 0 = w })) same wire)
+    | inr differ ↦ ap is_told (others w (λ mine. differ (apart q p w wire mine))) ∙ opened.untold q w (omega (arith, low, differ)) wire
   ];
   others = λ w none. others w (none p (omega arith)) ∙ opened.others w (λ q low. none q (omega (arith, low)));
 }

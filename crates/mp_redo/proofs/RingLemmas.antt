@@ -18,9 +18,12 @@ kept_entered lists place id within = λ k m has. elim (cases_eq k place) as (λ 
   | inr differ ↦ subst (λ xs. Contains xs (record { 0 = m })) (sym (get_or-set_other lists place k (slice_index_or lists place [] ++ id ∷ []) [] differ)) has
 ]
 
+pub place_entered : (lists : List (List ModuleId)) (place : ℕ) (id : ModuleId) → place < length lists → Contains (looks_at (slice_set lists place (slice_index_or lists place [] ++ id ∷ [])) place) id
+place_entered lists place id within = subst (λ xs. Contains xs id) (sym (get_or-set_same lists place (slice_index_or lists place [] ++ id ∷ []) [] within)) (Contains-push (slice_index_or lists place []) id)
+
 pub looking_entered : (lists : List (List ModuleId)) (place ahead : ℕ) (id : ModuleId) → place < length lists → place ≤ ahead → IsLooking (slice_set lists place (slice_index_or lists place [] ++ id ∷ [])) id.0 ahead
 looking_entered lists place ahead id within low =
-    (place, low, subst (λ xs. Contains xs id) (sym (get_or-set_same lists place (slice_index_or lists place [] ++ id ∷ []) [] within)) (Contains-push (slice_index_or lists place []) id))
+    (place, low, place_entered lists place id within)
 
 pub looking_kept : (lists new : List (List ModuleId)) (m ahead : ℕ) → AreKept lists new → IsLooking lists m ahead → IsLooking new m ahead
 looking_kept lists new m ahead kept is = (is.0, is.1, kept is.0 m is.2)

@@ -1,7 +1,7 @@
 -- The lines of wires before anything is evaluated again.
 use Rattle.std.proofs.Common.{◌≡◌, ℕ, ◌+◌, ◌-◌, ◌^◌, ◌<◌, Bool, true, false, cond, List, [], ◌∷◌, ◌++◌, Option, Some, None, IsSome, IfSome, length, refl, ap, sym, subst, ◌∙◌, arith, inl, inr}
-use Rattle.std.proofs.lemmas.Bool.{cases_eq, lt-ltb}
-use Rattle.std.proofs.lemmas.List.{get_or_append_left, get_or_push}
+use Rattle.std.proofs.lemmas.Bool.{cases_eq, cases_lt, lt-ltb}
+use Rattle.std.proofs.lemmas.List.{get_or_append_left, get_or_past, get_or_push}
 use Rattle.mp_wave.specs.Waveform.{level_from, level_of}
 use Rattle.mp_wave.specs.Building.{Building, IsBuilding}
 use Rattle.mp_modules.specs.Memories.{output_of}
@@ -26,10 +26,10 @@ use Rattle.mp_engine.specs.Runs.{IsRun}
 use Rattle.mp_redo.specs.declared.cell.Cell.{Cell}
 use Rattle.mp_redo.specs.declared.line.Line.{Line}
 use Rattle.mp_redo.specs.declared.line.Line.TheVariants.{Old, Own}
-use Rattle.mp_redo.specs.Lines.{level_in, line_level}
+use Rattle.mp_redo.specs.Lines.{is_told, level_in, line_level}
 use Rattle.mp_redo.specs.Revisions.{IsRevision, IsDrivenAlike}
 use Rattle.mp_redo.specs.Stays.{SourceAgrees}
-use Rattle.mp_redo.specs.Redoing.{cell_at, line_at, AreCells, AreLines}
+use Rattle.mp_redo.specs.Redoing.{cell_at, line_at, AreCells, AreLines, AreUntold}
 use Rattle.mp_redo.specs.Starts.{IsSetAlike, IsFirstLine}
 use Rattle.mp_redo.proofs.HeardLemmas.{old_level}
 use Rattle.mp_redo.proofs.LevelLemmas.{levels_stay}
@@ -111,8 +111,9 @@ module _ (old new : Circuit) (old_ok : IsCircuit old) (new_ok : IsCircuit new) (
   ]
 
   -- the wire of a touched module
-  pub touched_line : (m p : ℕ) (drives : Drives new m p w) (own : Building) → (cell_at cells m).touched ≡ true → own ≡ unchanged (initial_of (wire_at new w)) → IsFirstLine old new cells w (Own own new.horizon)
+  pub touched_line : (m p : ℕ) (drives : Drives new m p w) (own : Building) → (cell_at cells m).touched ≡ true → own ≡ unchanged (initial_of (wire_at new w)) → IsFirstLine old new cells w (Own own new.horizon false)
   touched_line m p drives own touched is = record {
+    untold = refl;
     right = λ run runs t low given.
         rw (lt-ltb t new.horizon low) (ap (λ (b : Building). level_of b.wave t) is ∙ sym (early_level new new_ok m p w t drives (let early = given m p drives in omega (arith, early))));
     ready = λ k q other live. (subst IsBuilding (sym is) (first_building (initial_of (wire_at new w))), (let next = ap (λ (b : Building). b.next) is in omega (arith, next)), omega arith);
@@ -126,6 +127,7 @@ module _ (old new : Circuit) (old_ok : IsCircuit old) (new_ok : IsCircuit new) (
   -- the wire of another
   pub untouched_line : (m p : ℕ) (drives : Drives new m p w) → (cell_at cells m).touched ≡ false → IsFirstLine old new cells w Old
   untouched_line m p drives untouched = record {
+    untold = refl;
     right = λ run runs t low given.
         let early = given m p drives in
         old_right old new old_ok new_ok revised run runs w t (driven_alike old new old_ok new_ok m p w drives was) low
@@ -150,6 +152,7 @@ module _ (old new : Circuit) (old_ok : IsCircuit old) (new_ok : IsCircuit new) (
   -- a wire that is set as before
   pub same_line : ((m p : ℕ) → Drives new m p w → ⊥) → IsSetAlike old new w → IsFirstLine old new cells w Old
   same_line none alike = record {
+    untold = refl;
     right = λ run runs t low given.
         old_right old new old_ok new_ok revised run runs w t (set_alike old new new_ok w alike none) low
         (λ m p u r found at sum. absurd (none m.0 p (finds_only_ports new w p m found)));
@@ -158,8 +161,9 @@ module _ (old new : Circuit) (old_ok : IsCircuit old) (new_ok : IsCircuit new) (
   }
 
   -- a wire that is set otherwise
-  pub set_line : ((m p : ℕ) → Drives new m p w → ⊥) → (own : Building) → ((t : ℕ) → level_of own.wave t ≡ stimulus_level (stimulus_at new w) (initial_of (wire_at new w)) t) → IsFirstLine old new cells w (Own own new.horizon)
+  pub set_line : ((m p : ℕ) → Drives new m p w → ⊥) → (own : Building) → ((t : ℕ) → level_of own.wave t ≡ stimulus_level (stimulus_at new w) (initial_of (wire_at new w)) t) → IsFirstLine old new cells w (Own own new.horizon false)
   set_line none own levels = record {
+    untold = refl;
     right = λ run runs t low given. rw (lt-ltb t new.horizon low) (levels t ∙ sym (level_set new new_ok w t none));
     ready = λ m p drives live. absurd (none m p drives);
     follows = λ m p drives idle. absurd (none m p drives);
@@ -180,6 +184,13 @@ lines_are old new ok cells lines size are run runs = record {
         follows = λ m p drives idle t le. ap (λ l. line_level l (wave_of run w) t) (line.follows m p drives idle);
       };
 }
+
+-- nobody is told of them
+pub lines_untold : (old new : Circuit) (cells : List Cell) (lines : List Line) → ((w : ℕ) → w < length lines → IsFirstLine old new cells w (line_at lines w)) → AreUntold lines
+lines_untold old new cells lines are w = elim (cases_lt w (length lines)) as (λ _. is_told (line_at lines w) ≡ false) [
+  | inl within ↦ (are w within).untold
+  | inr past ↦ ap is_told (get_or_past lines w Old past)
+]
 
 -- one line more
 pub lines_more : (old new : Circuit) (cells : List Cell) (lines : List Line) (line : Line) (w : ℕ) → length lines ≡ w → ((k : ℕ) → k < w → IsFirstLine old new cells k (line_at lines k)) → IsFirstLine old new cells w line

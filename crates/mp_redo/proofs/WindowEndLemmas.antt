@@ -16,6 +16,7 @@ use Rattle.mp_redo.specs.Redoing.{cell_at, line_at, answered_to, IsCellAt, IsLin
 use Rattle.mp_redo.specs.Rings.{AreKept}
 use Rattle.mp_redo.proofs.AgainLemmas.{listening_kept}
 use Rattle.mp_redo.proofs.MarkedLemmas.{answered_unmarked}
+use Rattle.mp_redo.proofs.TellLemmas.{telling_kept}
 
 -- where no module is marked, every marked one is listed
 pub listed_none : (marks : List Bool) (due : List ModuleId) → ((m : ℕ) → is_marked marks m ≡ false) → AreListed marks due
@@ -53,6 +54,7 @@ window_ends old new run c from to due marks cells lines looks lists during block
     | inl is ↦ again m is
     | inr not ↦ listening_kept new run (cell_at cells m).live to lines looks lists m kept (during.listening m not)
   ];
+  telling = telling_kept new run to lines looks lists kept during.telling;
   first = λ zero. absurd (omega (arith, some, zero));
 }
   where

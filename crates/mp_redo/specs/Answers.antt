@@ -1,5 +1,5 @@
 -- What modules answer in some units.
-use Rattle.std.specs.Prelude.{◌≡◌, ℕ, ◌+◌, ◌-◌, ◌^◌, ◌<◌, ◌≤◌, List, [], Option, Some, length, slice_index_or}
+use Rattle.std.specs.Prelude.{◌≡◌, ℕ, ◌+◌, ◌-◌, ◌^◌, ◌<◌, ◌≤◌, false, List, [], Option, Some, length, slice_index_or}
 use Rattle.std.specs.List.{Contains}
 use Rattle.mp_records.specs.declared.ports.Input.{Input}
 use Rattle.mp_records.specs.declared.module_record.ModuleRecord.{ModuleRecord}
@@ -11,7 +11,7 @@ use Rattle.mp_redo.specs.declared.line.Line.{Line}
 use Rattle.mp_wave.specs.Waveform.{Waveform, level_from}
 use Rattle.mp_response.specs.Pieces.{put_off}
 use Rattle.mp_model.specs.Tracks.{AreTimesIn}
-use Rattle.mp_redo.specs.Lines.{line_level, IsOwn}
+use Rattle.mp_redo.specs.Lines.{is_told, line_level, IsOwn}
 use Rattle.mp_records.specs.declared.ports.Output.{Output}
 use Rattle.mp_records.specs.Outputs.{output_in}
 use Rattle.mp_redo.specs.Redoing.{level_at, line_at}
@@ -70,4 +70,5 @@ pub record HasOpenedTo (run : Outcome) (lines new : List Line) (outputs : List O
   pub own : (p w : ℕ) → p < count → (output_in outputs p).wire ≡ Some (record { 0 = w }) → IsOwn (line_at new w) (a + (output_in outputs p).delay) end
   pub before : (p w : ℕ) → p < count → (output_in outputs p).wire ≡ Some (record { 0 = w }) → (t : ℕ) → t < a + (output_in outputs p).delay → t < end →
       level_at run new w t ≡ level_at run lines w t
+  pub untold : (p w : ℕ) → p < count → (output_in outputs p).wire ≡ Some (record { 0 = w }) → is_told (line_at new w) ≡ false
   pub others : (w : ℕ) → ((p : ℕ) → p < count → (output_in outputs p).wire ≡ Some (record { 0 = w }) → ⊥) → line_at new w ≡ line_at lines w

@@ -1,10 +1,10 @@
 -- Lines are handed back by a module that is evaluated again no longer.
-use Rattle.std.specs.Prelude.{◌≡◌, ℕ, ◌+◌, ◌<◌, List, Some, length}
+use Rattle.std.specs.Prelude.{◌≡◌, ℕ, ◌+◌, ◌<◌, false, List, Some, length}
 use Rattle.mp_records.specs.declared.ports.Output.{Output}
 use Rattle.mp_records.specs.Outputs.{output_in}
 use Rattle.mp_engine.specs.Outcomes.{Outcome, wave_of}
 use Rattle.mp_redo.specs.declared.line.Line.{Line}
-use Rattle.mp_redo.specs.Lines.{level_in}
+use Rattle.mp_redo.specs.Lines.{is_told, level_in}
 use Rattle.mp_redo.specs.Prefixes.{switched}
 use Rattle.mp_redo.specs.Redoing.{line_at, level_at}
 
@@ -14,4 +14,5 @@ pub record HasClosed (lines new : List Line) (outputs : List Output) (a count : 
   pub places : length new ≡ length lines
   pub closed : (p w : ℕ) → p < count → (output_in outputs p).wire ≡ Some (record { 0 = w }) → (run : Outcome) (t : ℕ) →
       level_at run new w t ≡ switched (a + (output_in outputs p).delay) (level_at run lines w) (level_in (wave_of run w)) t
+  pub untold : (p w : ℕ) → p < count → (output_in outputs p).wire ≡ Some (record { 0 = w }) → is_told (line_at new w) ≡ false
   pub others : (w : ℕ) → ((p : ℕ) → p < count → (output_in outputs p).wire ≡ Some (record { 0 = w }) → ⊥) → line_at new w ≡ line_at lines w

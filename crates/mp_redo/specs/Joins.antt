@@ -30,9 +30,9 @@ pub record IsToJoin (old new : Circuit) (time : ℕ) (cells : List Cell) (m : �
   pub quiet : (cell_at cells m).live ≡ false
   pub apart : IsApart old new m time
 
--- if the module is marked it is listed, or it stands and is live
-abbrev pub IsSettled : Circuit → List Cell → List ModuleId → List Bool → ℕ → Type 0
-IsSettled new cells listed marks m = is_marked marks m ≡ true → Contains listed (record { 0 = m }) ⊎ (IsSome (module_at new m) × ((cell_at cells m).live ≡ true))
+-- if the module is marked it is listed
+abbrev pub IsSettled : List ModuleId → List Bool → ℕ → Type 0
+IsSettled listed marks m = is_marked marks m ≡ true → Contains listed (record { 0 = m })
 
 -- cells that differ at most in their stretches
 pub record AreLike (cells after : List Cell) : Type 0 where

@@ -11,7 +11,7 @@ use Rattle.mp_redo.specs.declared.line.Line.{Line}
 use Rattle.mp_redo.specs.declared.stretch.Stretch.{Stretch}
 use Rattle.mp_redo.specs.Keeping.{AreLedgers, IsLedgerAt}
 use Rattle.mp_redo.specs.Ledgers.{state_in, ledger_at}
-use Rattle.mp_redo.specs.Redoing.{cell_at, IsCellAt, AreLines, IsListening, AreOpen}
+use Rattle.mp_redo.specs.Redoing.{cell_at, IsCellAt, AreLines, AreTelling, IsListening, AreOpen}
 use Rattle.mp_redo.specs.Stretches.{stretch_at, AreStretchesTo}
 
 -- a live module whose record hasn't changed has the state that the old run kept for a time
@@ -58,6 +58,7 @@ pub record IsCrossing (old new : Circuit) (run : Outcome) (block time : ℕ) (ce
   pub modules : AreCellsTo old new block time cells
   pub wires : AreLines new run (λ m. time) cells lines
   pub listening : (m : ℕ) → IsListening new run (cell_at cells m).live time lines looks m
+  pub telling : AreTelling new run time lines looks
   pub kept : AreLedgers new run time cells ledgers
   pub worked : AreStretchesTo old new time stretches
   pub opened : AreOpen new time cells stretches

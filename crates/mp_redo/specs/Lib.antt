@@ -6,7 +6,6 @@ pub mod Stretches
 pub mod Redoing
 pub mod Changes
 pub mod Merges
-pub mod WholeWork
 pub mod Rings
 pub mod Prefixes
 pub mod Answers

@@ -16,7 +16,7 @@ use Rattle.mp_redo.specs.declared.cell.Cell.{Cell}
 use Rattle.mp_redo.specs.declared.line.Line.{Line}
 use Rattle.mp_redo.specs.declared.line.Line.TheVariants.{Old, Own}
 use Rattle.mp_redo.specs.declared.stretch.Stretch.{Stretch}
-use Rattle.mp_redo.specs.Lines.{level_in, line_level, IsOwn}
+use Rattle.mp_redo.specs.Lines.{is_told, level_in, line_level, IsOwn}
 use Rattle.mp_redo.specs.Stretches.{stretch_at}
 use Rattle.mp_redo.specs.Work.{Differs, IsApartIn}
 
@@ -81,7 +81,7 @@ pub record IsInput (n : Circuit) (m : ℕ) (input : Input) : Type 0 where
 -- the line has levels of its own
 abbrev pub IsTracked : Line → Type 0
 IsTracked Old = ⊥
-IsTracked (Own wave until) = Unit {0}
+IsTracked (Own wave until told) = Unit {0}
 
 -- what a module looks for at a wire: a live one that the line changes after x, and another that it isn't the old wave then
 abbrev pub IsNews : Outcome → Bool → List Line → ℕ → ℕ → Type 0
@@ -96,6 +96,18 @@ IsLooking looks m ahead = (k : ℕ) × (k ≤ ahead) × Contains (looks_at looks
 abbrev pub IsListening : Circuit → Outcome → Bool → ℕ → List Line → List (List ModuleId) → ℕ → Type 0
 IsListening new run live t lines looks m = (input : Input) → IsInput new m input → (x : ℕ) →
     t ≤ x + 1 + input.delay → x + 1 + input.delay < new.horizon → IsNews run live lines input.wire.0 x → IsLooking looks m (x + 1 + input.delay - t)
+
+-- from the time t on: where the line of a wire is told, whoever reads the wire without a delay looks just when it changes
+abbrev pub IsTelling : Circuit → Outcome → ℕ → List Line → List (List ModuleId) → ℕ → Type 0
+IsTelling new run t lines looks w = is_told (line_at lines w) ≡ true → (m : ℕ) (input : Input) → IsInput new m input → input.wire.0 ≡ w → input.delay ≡ 0 →
+    (x : ℕ) → t ≤ x + 1 → x + 1 < new.horizon → IsNews run true lines w x → Contains (looks_at looks (x + 1 - t)) (record { 0 = m })
+
+abbrev pub AreTelling : Circuit → Outcome → ℕ → List Line → List (List ModuleId) → Type 0
+AreTelling new run t lines looks = (w : ℕ) → IsTelling new run t lines looks w
+
+-- no line is told
+abbrev pub AreUntold : List Line → Type 0
+AreUntold lines = (w : ℕ) → is_told (line_at lines w) ≡ false
 
 -- the stretch at a place is this module's, and goes on to the horizon
 pub record IsOpenAt (new : Circuit) (stretches : List Stretch) (m k : ℕ) : Type 0 where
@@ -119,6 +131,7 @@ pub record IsBefore (old new : Circuit) (run : Outcome) (c t : ℕ) (cells : Lis
   pub modules : AreCells old new c (λ m. t) cells
   pub wires : AreLines new run (λ m. t) cells lines
   pub listening : (m : ℕ) → IsListening new run (cell_at cells m).live t lines looks m
+  pub telling : AreTelling new run t lines looks
   pub first : t ≡ 0 → (m : ℕ) → (cell_at cells m).live ≡ true → Contains (looks_at looks 0) (record { 0 = m })
 
 -- from one time to another, no later than the least delay after it: the modules that aren't marked have answered, and those that aren't
@@ -127,4 +140,5 @@ pub record IsDuring (old new : Circuit) (run : Outcome) (c from to : ℕ) (due :
   pub modules : AreCells old new c (answered_to from to marks) cells
   pub wires : AreLines new run (answered_to from to marks) cells lines
   pub listening : (m : ℕ) → (Contains due (record { 0 = m }) → ⊥) → IsListening new run (cell_at cells m).live to lines looks m
+  pub telling : AreTelling new run to lines looks
   pub listed : AreListed marks due

@@ -7,7 +7,7 @@ use Rattle.mp_engine.specs.Runs.{IsRun}
 use Rattle.mp_redo.specs.declared.cell.Cell.{Cell}
 use Rattle.mp_redo.specs.declared.line.Line.{Line}
 use Rattle.mp_redo.specs.declared.line.Line.TheVariants.{Old}
-use Rattle.mp_redo.specs.Lines.{line_level, IsOwn}
+use Rattle.mp_redo.specs.Lines.{is_told, line_level, IsOwn}
 use Rattle.mp_redo.specs.Redoing.{cell_at, IsGiven}
 
 -- the wire stands in both netlists, and no port of the old one drives it, and the same stimulus is set on it, or nothing
@@ -17,9 +17,10 @@ pub record IsSetAlike (old new : Circuit) (w : ℕ) : Type 0 where
   pub portless : (m p : ℕ) → Drives old m p w → ⊥
   pub stimulus : stimulus_at old w ≡ stimulus_at new w
 
--- the line is right at each time that no module has to answer for; it is its own where a live module drives the wire, and the old one
+-- nobody is told of the line, and it is right at each time that no module has to answer for; it is its own where a live module drives the wire, and the old one
 -- where another does
 pub record IsFirstLine (old new : Circuit) (cells : List Cell) (w : ℕ) (line : Line) : Type 0 where
+  pub untold : is_told line ≡ false
   pub right : (run : Outcome) → IsRun old run → (t : ℕ) → t < new.horizon → IsGiven new (λ m. 0) w t → line_level line (wave_of run w) t ≡ level new w t
   pub ready : (m p : ℕ) → Drives new m p w → (cell_at cells m).live ≡ true → IsOwn line 1 new.horizon
   pub follows : (m p : ℕ) → Drives new m p w → (cell_at cells m).live ≡ false → line ≡ Old

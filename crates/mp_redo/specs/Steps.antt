@@ -16,7 +16,7 @@ use Rattle.mp_engine.specs.Outcomes.{Outcome}
 use Rattle.mp_redo.specs.declared.cell.Cell.{Cell}
 use Rattle.mp_redo.specs.declared.line.Line.{Line}
 use Rattle.mp_redo.specs.Lines.{IsOwn}
-use Rattle.mp_redo.specs.Redoing.{level_at, line_at, cell_at, AreLines, IsListening}
+use Rattle.mp_redo.specs.Redoing.{level_at, line_at, cell_at, AreLines, AreTelling, IsListening}
 
 -- the module stands, with this state before a time
 pub record IsAt (n : Circuit) (m t : ℕ) (r : ModuleRecord) (memory : Memory) : Type 0 where
@@ -51,6 +51,10 @@ GoesOn n run lines new r memory from to = (m : ℕ) (times later : ℕ → ℕ) 
 -- whoever listens, live or not, goes on listening
 abbrev pub GoesOnListening : Circuit → Outcome → ℕ → List Line → List Line → List (List ModuleId) → List (List ModuleId) → Type 0
 GoesOnListening n run to lines new looks after = (k : ℕ) (live : Bool) → IsListening n run live to lines looks k → IsListening n run live to new after k
+
+-- and whoever reads told lines is listed as before
+abbrev pub GoesOnTelling : Circuit → Outcome → ℕ → List Line → List Line → List (List ModuleId) → List (List ModuleId) → Type 0
+GoesOnTelling n run to lines new looks after = AreTelling n run to lines looks → AreTelling n run to new after
 
 -- a module has this record, and this state before a time
 abbrev pub StandsSomewhere : Circuit → ModuleRecord → ℕ → Memory → Type 0

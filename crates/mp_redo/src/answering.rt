@@ -6,7 +6,7 @@ ghost use Rattle.mp_model.specs.Waves.{level};
 ghost use Rattle.mp_response.specs.Span.{IsSpan};
 ghost use Rattle.mp_depend.specs.Known.{AreReaders};
 ghost use Rattle.mp_redo.specs.Rings.{AreKept};
-ghost use Rattle.mp_redo.specs.Steps.{IsAt, GoesOnFrom, GoesOnListening, StandsSomewhere};
+ghost use Rattle.mp_redo.specs.Steps.{IsAt, GoesOnFrom, GoesOnListening, GoesOnTelling, StandsSomewhere};
 
 use crate::giving::give_all;
 use crate::line::Line;
@@ -49,6 +49,7 @@ pub(crate) fn join_lines(
     ensures kept { OnOk result (AreKept looks.old.items looks.new.items) }
     ensures wires { OnOk result (GoesOnFrom netlist.now run.now lines.old.items lines.new.items found.now memory from to) }
     ensures listening { OnOk result (GoesOnListening netlist.now run.now to lines.old.items lines.new.items looks.old.items looks.new.items) }
+    ensures telling { OnOk result (GoesOnTelling netlist.now run.now to lines.old.items lines.new.items looks.old.items looks.new.items) }
 {
     let outputs = found.outputs.as_slice();
     open_all(alloc, run, lines, outputs, from, netlist.horizon())?;

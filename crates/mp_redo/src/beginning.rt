@@ -11,7 +11,7 @@ ghost use Rattle.mp_engine.specs.Checkpoints.{state_before};
 ghost use Rattle.mp_engine.specs.Marks.{is_marked};
 ghost use Rattle.mp_engine.specs.Outcomes.{Outcome};
 ghost use Rattle.mp_redo.specs.Joins.{AreLike};
-ghost use Rattle.mp_redo.specs.Redoing.{cell_at, line_at, IsCellAt, AreCells, AreLines, AreOpen, IsBefore, IsTracked, IsListed, IsLooking};
+ghost use Rattle.mp_redo.specs.Redoing.{cell_at, line_at, IsCellAt, AreCells, AreLines, AreUntold, AreOpen, IsBefore, IsTracked, IsListed, IsLooking};
 ghost use Rattle.mp_redo.specs.Revisions.{IsRevision};
 ghost use Rattle.mp_redo.specs.Rings.{AreKept};
 ghost use Rattle.mp_redo.specs.Stretches.{AreStretchesTo};
@@ -115,6 +115,7 @@ pub(crate) fn first_looks(
     lines: &[Line],
 ) -> Result<Ring, AllocError>
     requires rows { AreReaders new.now readers.now }
+    requires untold { AreUntold lines.now }
     ensures some { IfOk result (λ looks. min 1024 new.now.horizon ≤ length looks.items) }
     ensures before { IfOk result (λ looks. (old : Circuit) (run : Outcome) → AreCells old new.now 0 (λ m. 0) cells.now → AreLines new.now run (λ m. 0) cells.now lines.now
         → IsBefore old new.now run 0 0 cells.now lines.now looks.items) }

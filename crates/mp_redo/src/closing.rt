@@ -1,10 +1,10 @@
 //! Lines are handed back by a module that is evaluated again no longer.
-ghost use Rattle.std.specs.Prelude.{◌≡◌, ℕ, ◌+◌, ◌^◌, ◌<◌, Some, length};
+ghost use Rattle.std.specs.Prelude.{◌≡◌, ℕ, ◌+◌, ◌^◌, ◌<◌, false, Some, length};
 ghost use Rattle.mp_records.specs.Outputs.{output_in};
 ghost use Rattle.mp_engine.specs.Outcomes.{Outcome, wave_of};
 ghost use Rattle.mp_redo.specs.Answers.{AreApart};
 ghost use Rattle.mp_redo.specs.Closing.{HasClosed};
-ghost use Rattle.mp_redo.specs.Lines.{level_in};
+ghost use Rattle.mp_redo.specs.Lines.{is_told, level_in};
 ghost use Rattle.mp_redo.specs.Prefixes.{switched};
 ghost use Rattle.mp_redo.specs.Redoing.{line_at, level_at};
 
@@ -18,6 +18,7 @@ fn close_output(lines: &mut Vec<Line>, output: Output, from: u32)
     ensures places { length lines.new.items ≡ length lines.old.items }
     ensures closed { (w : ℕ) → output.wire ≡ Some (record { 0 = w }) → (run : Outcome) (t : ℕ) →
         level_at run lines.new.items w t ≡ switched (from + output.delay) (level_at run lines.old.items w) (level_in (wave_of run w)) t }
+    ensures untold { (w : ℕ) → output.wire ≡ Some (record { 0 = w }) → is_told (line_at lines.new.items w) ≡ false }
     ensures others { (w : ℕ) → (output.wire ≡ Some (record { 0 = w }) → ⊥) → line_at lines.new.items w ≡ line_at lines.old.items w }
 {
     if let Some(wire) = output.wire {

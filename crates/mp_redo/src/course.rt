@@ -219,7 +219,7 @@ impl Course {
         Ok(())
     }
 
-    /// The units of a window, one after the other. Who has joined is listed.
+    /// The units of a window, one after the other, but those in which nobody looks are passed at once. Who has joined is listed.
     fn run_units<R: Threads + Wait + Sync, G: Gate + Sync>(
         &mut self,
         rt: &R,
@@ -234,6 +234,7 @@ impl Course {
         requires change { IsChange change.now }
         requires window { IsShort change.now.new.now block from to }
         requires some { 0 < length self.old.looks.items }
+        requires room { to ≤ from + length self.old.looks.items }
         requires marks { length self.old.marks.items ≡ length change.now.new.now.modules }
         requires free { (m : ℕ) → is_marked self.old.marks.items m ≡ false }
         requires before { IsBefore change.now.old.now change.now.new.now change.now.run.now block from self.old.cells.items self.old.lines.items self.old.looks.items }
@@ -247,7 +248,8 @@ impl Course {
         ensures live { self.new.live ≡ self.old.live }
     {
         self.joined.clear();
-        for time in from..to {
+        let mut time = pass_idle(&mut self.looks, from, to);
+        while time < to {
             run_unit(
                 rt,
                 alloc,
@@ -265,6 +267,7 @@ impl Course {
                 &mut self.lines,
                 &mut self.looks,
             )?;
+            time = pass_idle(&mut self.looks, time + 1, to);
         }
         Ok(())
     }
@@ -294,8 +297,24 @@ impl Course {
     }
 }
 
-ghost use Rattle.std.specs.Prelude.{◌≡◌, ℕ, false, IfOk, length};
+ghost use Rattle.std.specs.Prelude.{◌≡◌, ℕ, ◌+◌, ◌-◌, ◌<◌, ◌≤◌, false, [], IfOk, length};
 ghost use Rattle.mp_engine.specs.Marks.{is_marked};
+ghost use Rattle.mp_redo.specs.Redoing.{looks_at};
+
+/// Passes at once the units from a time on in which nobody looks, up to another time. It returns where they end.
+fn pass_idle(looks: &mut Ring, from: u32, to: u32) -> u32
+    requires order { from ≤ to }
+    requires room { to ≤ from + length looks.old.items }
+    ensures low { from ≤ result }
+    ensures within { result ≤ to }
+    ensures idle { (k : ℕ) → from + k < result → looks_at looks.old.items k ≡ [] }
+    ensures places { length looks.new.items ≡ length looks.old.items }
+    ensures moved { (k : ℕ) → looks_at looks.new.items k ≡ looks_at looks.old.items (k + (result - from)) }
+{
+    let units = looks.idle_units(to - from);
+    looks.move_up(units as usize);
+    from + units
+}
 
 /// No module is marked.
 fn unmarked(alloc: Global, modules: usize) -> Result<Vec<bool>, AllocError>

@@ -27,7 +27,12 @@ pub(crate) fn cut(
     ensures form { IfOk result (λ piece. IsInPiece from to piece) }
     ensures levels { IfOk result (λ piece. (t : ℕ) → from ≤ t → t < to → piece_level piece t ≡ line_level line.now (wave_of run.now wire.0) (t - delay)) }
 {
-    let Line::Own { wave: own, until } = line else {
+    let Line::Own {
+        wave: own,
+        until,
+        ..
+    } = line
+    else {
         return cut_run(alloc, run, wire, delay, from, to);
     };
     let border = until.saturating_add(delay);

@@ -88,67 +88,6 @@ fn answer_as_live(
     Ok(())
 }
 
-/// Those of the modules that are due that are live answer.
-pub(crate) fn answer_live_ones(
-    change: &Change<'_>,
-    block: u32,
-    time: u32,
-    due: &[ModuleId],
-    marks: &mut Vec<bool>,
-    cells: &mut Vec<Cell>,
-    lines: &mut Vec<Line>,
-    looks: &mut Ring,
-) -> Result<(), AllocError>
-    requires change { IsChange change.now }
-    requires unit { IsShort change.now.new.now block time (time + 1) }
-    requires some { 0 < length looks.old.items }
-    requires during { IsDuring change.now.old.now change.now.new.now change.now.run.now block time (time + 1) due.now marks.old.items cells.old.items lines.old.items looks.old.items }
-    ensures places { OnOk result (length looks.new.items ≡ length looks.old.items) }
-    ensures left { OnOk result ((m : ℕ) → is_marked marks.new.items m ≡ true → (is_marked marks.old.items m ≡ true) × (IsSome (module_at change.now.new.now m) → (cell_at cells.old.items m).live ≡ false)) }
-    ensures marks { OnOk result (length marks.new.items ≡ length marks.old.items) }
-    ensures cells { OnOk result (HaveAnswered [] cells.old.items cells.new.items) }
-    ensures during { OnOk result (IsDuring change.now.old.now change.now.new.now change.now.run.now block time (time + 1) due.now marks.new.items cells.new.items lines.new.items looks.new.items) }
-{
-    for id in due {
-        answer_if_live(change, block, time, due, *id, marks, cells, lines, looks)?;
-    }
-    Ok(())
-}
-
-/// A module answers if it is marked, stands and is live.
-fn answer_if_live(
-    change: &Change<'_>,
-    block: u32,
-    time: u32,
-    due: &[ModuleId],
-    id: ModuleId,
-    marks: &mut Vec<bool>,
-    cells: &mut Vec<Cell>,
-    lines: &mut Vec<Line>,
-    looks: &mut Ring,
-) -> Result<(), AllocError>
-    requires change { IsChange change.now }
-    requires unit { IsShort change.now.new.now block time (time + 1) }
-    requires some { 0 < length looks.old.items }
-    requires during { IsDuring change.now.old.now change.now.new.now change.now.run.now block time (time + 1) due.now marks.old.items cells.old.items lines.old.items looks.old.items }
-    ensures places { OnOk result (length looks.new.items ≡ length looks.old.items) }
-    ensures marks { OnOk result (length marks.new.items ≡ length marks.old.items) }
-    ensures fewer { OnOk result ((m : ℕ) → is_marked marks.new.items m ≡ true → is_marked marks.old.items m ≡ true) }
-    ensures left { OnOk result (is_marked marks.new.items id.0 ≡ true → IsSome (module_at change.now.new.now id.0) → (cell_at cells.old.items id.0).live ≡ false) }
-    ensures cells { OnOk result (HaveAnswered [] cells.old.items cells.new.items) }
-    ensures during { OnOk result (IsDuring change.now.old.now change.now.new.now change.now.run.now block time (time + 1) due.now marks.new.items cells.new.items lines.new.items looks.new.items) }
-{
-    if !has_mark(marks.as_slice(), id) || !is_live(cells.as_slice(), id) {
-        return Ok(());
-    }
-    let Some(found) = change.new.module(id) else {
-        return Ok(());
-    };
-    answer_as_live(
-        change, block, time, due, id, found, marks, cells, lines, looks,
-    )
-}
-
 /// A module that isn't live is listed to join where it hears anything else than in the old run. Else it has answered.
 fn find_quiet(
     change: &Change<'_>,
@@ -171,8 +110,8 @@ fn find_quiet(
     requires quiet { (cell_at cells.now id.0).live ≡ false }
     ensures marks { OnOk result (length marks.new.items ≡ length marks.old.items) }
     ensures joins { OnOk result ((m : ℕ) → Contains joining.new.items (record { 0 = m }) → Contains joining.old.items (record { 0 = m }) ⊎ IsToJoin change.now.old.now change.now.new.now time cells.now m) }
-    ensures settled { OnOk result (IsSettled change.now.new.now cells.now joining.new.items marks.new.items id.0) }
-    ensures others { OnOk result ((m : ℕ) → IsSettled change.now.new.now cells.now joining.old.items marks.old.items m → IsSettled change.now.new.now cells.now joining.new.items marks.new.items m) }
+    ensures settled { OnOk result (IsSettled joining.new.items marks.new.items id.0) }
+    ensures others { OnOk result ((m : ℕ) → IsSettled joining.old.items marks.old.items m → IsSettled joining.new.items marks.new.items m) }
     ensures during { OnOk result (IsDuring change.now.old.now change.now.new.now change.now.run.now block time (time + 1) due.now marks.new.items cells.now lines.now looks.now.items) }
 {
     if hear_other(change.run, lines, found.inputs.as_slice(), time) {
@@ -183,8 +122,8 @@ fn find_quiet(
     Ok(())
 }
 
-/// A marked module is listed to join, or has answered, or is live.
-fn find_one(
+/// A marked module that is live answers, and another is listed to join or has answered. Where none stands there is nothing to answer.
+fn answer_one(
     change: &Change<'_>,
     block: u32,
     time: u32,
@@ -192,18 +131,21 @@ fn find_one(
     id: ModuleId,
     joining: &mut Vec<ModuleId>,
     marks: &mut Vec<bool>,
-    cells: &[Cell],
-    lines: &[Line],
-    looks: &Ring,
+    cells: &mut Vec<Cell>,
+    lines: &mut Vec<Line>,
+    looks: &mut Ring,
 ) -> Result<(), AllocError>
     requires change { IsChange change.now }
     requires unit { IsShort change.now.new.now block time (time + 1) }
-    requires during { IsDuring change.now.old.now change.now.new.now change.now.run.now block time (time + 1) due.now marks.old.items cells.now lines.now looks.now.items }
+    requires some { 0 < length looks.old.items }
+    requires during { IsDuring change.now.old.now change.now.new.now change.now.run.now block time (time + 1) due.now marks.old.items cells.old.items lines.old.items looks.old.items }
+    ensures places { OnOk result (length looks.new.items ≡ length looks.old.items) }
     ensures marks { OnOk result (length marks.new.items ≡ length marks.old.items) }
-    ensures joins { OnOk result ((m : ℕ) → Contains joining.new.items (record { 0 = m }) → Contains joining.old.items (record { 0 = m }) ⊎ IsToJoin change.now.old.now change.now.new.now time cells.now m) }
-    ensures settled { OnOk result (IsSettled change.now.new.now cells.now joining.new.items marks.new.items id.0) }
-    ensures others { OnOk result ((m : ℕ) → IsSettled change.now.new.now cells.now joining.old.items marks.old.items m → IsSettled change.now.new.now cells.now joining.new.items marks.new.items m) }
-    ensures during { OnOk result (IsDuring change.now.old.now change.now.new.now change.now.run.now block time (time + 1) due.now marks.new.items cells.now lines.now looks.now.items) }
+    ensures joins { OnOk result ((m : ℕ) → Contains joining.new.items (record { 0 = m }) → Contains joining.old.items (record { 0 = m }) ⊎ IsToJoin change.now.old.now change.now.new.now time cells.old.items m) }
+    ensures settled { OnOk result (IsSettled joining.new.items marks.new.items id.0) }
+    ensures others { OnOk result ((m : ℕ) → IsSettled joining.old.items marks.old.items m → IsSettled joining.new.items marks.new.items m) }
+    ensures cells { OnOk result (HaveAnswered [] cells.old.items cells.new.items) }
+    ensures during { OnOk result (IsDuring change.now.old.now change.now.new.now change.now.run.now block time (time + 1) due.now marks.new.items cells.new.items lines.new.items looks.new.items) }
 {
     if !has_mark(marks.as_slice(), id) {
         return Ok(());
@@ -212,38 +154,53 @@ fn find_one(
         clear_mark(marks, id);
         return Ok(());
     };
-    if is_live(cells, id) {
-        return Ok(());
+    if is_live(cells.as_slice(), id) {
+        return answer_as_live(
+            change, block, time, due, id, found, marks, cells, lines, looks,
+        );
     }
     find_quiet(
-        change, block, time, due, id, found, joining, marks, cells, lines, looks,
+        change,
+        block,
+        time,
+        due,
+        id,
+        found,
+        joining,
+        marks,
+        cells.as_slice(),
+        lines.as_slice(),
+        looks,
     )
 }
 
-/// Of the modules that are due, those that aren't live and hear anything else than in the old run are listed to join. The others that
-/// aren't live have answered, and so have those that don't stand.
-pub(crate) fn find_joining(
+/// Of the modules that are due, the live ones answer, and those of the others that hear anything else than in the old run are listed to join.
+/// All that aren't listed have answered then.
+pub(crate) fn answer_or_list(
     change: &Change<'_>,
     block: u32,
     time: u32,
     due: &[ModuleId],
     joining: &mut Vec<ModuleId>,
     marks: &mut Vec<bool>,
-    cells: &[Cell],
-    lines: &[Line],
-    looks: &Ring,
+    cells: &mut Vec<Cell>,
+    lines: &mut Vec<Line>,
+    looks: &mut Ring,
 ) -> Result<(), AllocError>
     requires change { IsChange change.now }
     requires unit { IsShort change.now.new.now block time (time + 1) }
+    requires some { 0 < length looks.old.items }
     requires none { joining.old.items ≡ [] }
-    requires during { IsDuring change.now.old.now change.now.new.now change.now.run.now block time (time + 1) due.now marks.old.items cells.now lines.now looks.now.items }
+    requires during { IsDuring change.now.old.now change.now.new.now change.now.run.now block time (time + 1) due.now marks.old.items cells.old.items lines.old.items looks.old.items }
+    ensures places { OnOk result (length looks.new.items ≡ length looks.old.items) }
     ensures marks { OnOk result (length marks.new.items ≡ length marks.old.items) }
-    ensures joins { OnOk result ((m : ℕ) → Contains joining.new.items (record { 0 = m }) → IsToJoin change.now.old.now change.now.new.now time cells.now m) }
-    ensures left { OnOk result ((m : ℕ) → is_marked marks.new.items m ≡ true → Contains joining.new.items (record { 0 = m }) ⊎ (IsSome (module_at change.now.new.now m) × ((cell_at cells.now m).live ≡ true))) }
-    ensures during { OnOk result (IsDuring change.now.old.now change.now.new.now change.now.run.now block time (time + 1) due.now marks.new.items cells.now lines.now looks.now.items) }
+    ensures joins { OnOk result ((m : ℕ) → Contains joining.new.items (record { 0 = m }) → IsToJoin change.now.old.now change.now.new.now time cells.new.items m) }
+    ensures left { OnOk result ((m : ℕ) → is_marked marks.new.items m ≡ true → Contains joining.new.items (record { 0 = m })) }
+    ensures cells { OnOk result (HaveAnswered [] cells.old.items cells.new.items) }
+    ensures during { OnOk result (IsDuring change.now.old.now change.now.new.now change.now.run.now block time (time + 1) due.now marks.new.items cells.new.items lines.new.items looks.new.items) }
 {
     for id in due {
-        find_one(
+        answer_one(
             change, block, time, due, *id, joining, marks, cells, lines, looks,
         )?;
     }

@@ -101,8 +101,8 @@ fn shared_wave(
 {
     match line {
         Line::Old => old_wave(alloc, run, wire),
-        Line::Own { wave, until } => {
-            let line = Line::Own { wave, until };
+        Line::Own { wave, until, told } => {
+            let line = Line::Own { wave, until, told };
             let built = line.into_wave(alloc, run, wire, end)?;
             Ok(Arc::new(alloc, built.finish())?)
         }

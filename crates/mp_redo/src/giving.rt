@@ -1,6 +1,7 @@
 //! Lines are given what modules answer.
-ghost use Rattle.std.specs.Prelude.{ℕ, OnOk};
+ghost use Rattle.std.specs.Prelude.{◌≡◌, ℕ, OnOk};
 ghost use Rattle.mp_redo.specs.Answers.{CanTake, HasTaken, CanTakeSome};
+ghost use Rattle.mp_redo.specs.Lines.{is_told};
 
 use crate::line::Line;
 use std::alloc::AllocError;
@@ -14,7 +15,8 @@ pub(crate) fn give(
     end: u32,
 ) -> Result<(), AllocError>
     requires { CanTakeSome line.old changes.now delay end }
-    ensures { OnOk result ((a b : ℕ) → CanTake line.old changes.now delay end a b → HasTaken line.old line.new changes.now delay end a b) }
+    ensures taken { OnOk result ((a b : ℕ) → CanTake line.old changes.now delay end a b → HasTaken line.old line.new changes.now delay end a b) }
+    ensures told { OnOk result (is_told line.new ≡ is_told line.old) }
 {
     let mut rest = changes;
     while let Some((change, later)) = rest.split_first() {
@@ -28,7 +30,7 @@ pub(crate) fn give(
     Ok(())
 }
 
-ghost use Rattle.std.specs.Prelude.{◌≡◌, ◌<◌, ◌≤◌, [], Some, length, slice_index_or};
+ghost use Rattle.std.specs.Prelude.{◌<◌, ◌≤◌, [], Some, length, slice_index_or};
 ghost use Rattle.mp_records.specs.Outputs.{output_in};
 ghost use Rattle.mp_redo.specs.Redoing.{line_at};
 ghost use Rattle.mp_redo.specs.Answers.{CanGive, CanGiveSome, HasGiven, AreApart};
@@ -48,6 +50,7 @@ fn give_output(
     ensures taken { OnOk result ((w a b : ℕ) → output.wire ≡ Some (record { 0 = w }) → CanTake (line_at lines.old.items w) changes.now output.delay end a b →
         HasTaken (line_at lines.old.items w) (line_at lines.new.items w) changes.now output.delay end a b) }
     ensures others { OnOk result ((w : ℕ) → (output.wire ≡ Some (record { 0 = w }) → ⊥) → line_at lines.new.items w ≡ line_at lines.old.items w) }
+    ensures told { OnOk result ((w : ℕ) → output.wire ≡ Some (record { 0 = w }) → is_told (line_at lines.new.items w) ≡ is_told (line_at lines.old.items w)) }
 {
     match output.wire {
         Some(wire) => give(
@@ -70,7 +73,8 @@ pub(crate) fn give_all(
     requires ports { length answers.now ≡ length outputs.now }
     requires apart { AreApart outputs.now }
     requires able { CanGiveSome lines.old.items outputs.now answers.now end }
-    ensures { OnOk result ((a b : ℕ) → CanGive lines.old.items outputs.now answers.now end a b → HasGiven lines.old.items lines.new.items outputs.now answers.now end a b (length outputs.now)) }
+    ensures given { OnOk result ((a b : ℕ) → CanGive lines.old.items outputs.now answers.now end a b → HasGiven lines.old.items lines.new.items outputs.now answers.now end a b (length outputs.now)) }
+    ensures told { OnOk result ((w : ℕ) → is_told (line_at lines.new.items w) ≡ is_told (line_at lines.old.items w)) }
 {
     for p in 0..outputs.len() {
         give_output(lines, outputs[p], &answers[p], end)?;

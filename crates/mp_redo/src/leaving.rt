@@ -56,7 +56,7 @@ ghost use Rattle.mp_engine.specs.Outcomes.{Outcome};
 ghost use Rattle.mp_redo.specs.Closing.{HasClosed};
 ghost use Rattle.mp_redo.specs.Redoing.{looks_at};
 ghost use Rattle.mp_redo.specs.Rings.{AreKept};
-ghost use Rattle.mp_redo.specs.Steps.{GoesOnListening};
+ghost use Rattle.mp_redo.specs.Steps.{GoesOnListening, GoesOnTelling};
 
 use crate::closing::close_all;
 use crate::line::Line;
@@ -86,6 +86,7 @@ pub(crate) fn leave_wires(
     ensures looking { OnOk result (Contains (looks_at looks.new.items 0) id) }
     ensures closed { OnOk result (HasClosed lines.old.items lines.new.items found.now.outputs time (length found.now.outputs)) }
     ensures listening { OnOk result ((run : Outcome) → GoesOnListening netlist.now run time lines.old.items lines.new.items looks.old.items looks.new.items) }
+    ensures telling { OnOk result ((run : Outcome) → GoesOnTelling netlist.now run time lines.old.items lines.new.items looks.old.items looks.new.items) }
 {
     let outputs = found.outputs.as_slice();
     close_all(lines, outputs, time);

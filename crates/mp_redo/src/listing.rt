@@ -2,19 +2,12 @@
 ghost use Rattle.std.specs.Prelude.{◌≡◌, ◌<◌, ◌≤◌, ℕ, OnOk, length};
 ghost use Rattle.std.specs.List.{Contains};
 ghost use Rattle.mp_records.specs.declared.ids.ModuleId.{ModuleId as Id};
-ghost use Rattle.mp_redo.specs.Redoing.{IsLooking};
+ghost use Rattle.mp_redo.specs.Redoing.{looks_at, IsLooking};
 ghost use Rattle.mp_redo.specs.Rings.{AreKept, AreTaken};
 
 use crate::ring::Ring;
 use mp_netlist::ModuleId;
 use std::alloc::AllocError;
-
-fn smaller(one: usize, other: usize) -> usize
-    ensures first { result ≤ one }
-    ensures second { result ≤ other }
-{
-    if one < other { one } else { other }
-}
 
 /// Lists a module for the unit that comes so many units after the next, or before that where no list lies so far ahead.
 pub(crate) fn enter(looks: &mut Ring, ahead: usize, id: ModuleId) -> Result<(), AllocError>
@@ -22,8 +15,9 @@ pub(crate) fn enter(looks: &mut Ring, ahead: usize, id: ModuleId) -> Result<(), 
     ensures places { OnOk result (length looks.new.items ≡ length looks.old.items) }
     ensures kept { OnOk result (AreKept looks.old.items looks.new.items) }
     ensures looking { OnOk result (IsLooking looks.new.items id.0 ahead) }
+    ensures exact { OnOk result (ahead < length looks.old.items → Contains (looks_at looks.new.items ahead) id) }
 {
-    let place = smaller(ahead, looks.len() - 1);
+    let place = ahead.min(looks.len() - 1);
     looks.put(place, id)?;
     Ok(())
 }
@@ -38,6 +32,7 @@ pub(crate) fn tell(
     ensures places { OnOk result (length looks.new.items ≡ length looks.old.items) }
     ensures kept { OnOk result (AreKept looks.old.items looks.new.items) }
     ensures told { OnOk result ((reader : Id × ℕ) → Contains readers.now reader → IsLooking looks.new.items reader.0.0 ahead) }
+    ensures exact { OnOk result (ahead < length looks.old.items → (reader : Id × ℕ) → Contains readers.now reader → Contains (looks_at looks.new.items ahead) (record { 0 = reader.0.0 })) }
 {
     for reader in readers {
         enter(looks, ahead, reader.0)?;

@@ -1,9 +1,10 @@
 //! Modules that have looked at their inputs look again when they can hear news.
-ghost use Rattle.std.specs.Prelude.{◌≡◌, ℕ, ◌+◌, ◌<◌, ◌≤◌, OnOk, length};
+ghost use Rattle.std.specs.Prelude.{◌≡◌, ◌⊎◌, ℕ, ◌+◌, ◌<◌, ◌≤◌, true, OnOk, length};
 ghost use Rattle.std.specs.List.{Contains};
 ghost use Rattle.mp_records.specs.declared.ports.Input.{Input as Port};
-ghost use Rattle.mp_redo.specs.Redoing.{cell_at, IsListening, IsNews};
+ghost use Rattle.mp_redo.specs.Redoing.{cell_at, AreTelling, IsListening, IsNews};
 ghost use Rattle.mp_redo.specs.Rings.{AreKept};
+ghost use Rattle.mp_redo.specs.Telling.{IsToldTo};
 
 use crate::cell::{Cell, is_live};
 use crate::change::Change;
@@ -33,13 +34,36 @@ fn input_news(run: &Run, live: bool, lines: &[Line], input: Input, to: u32, end:
     wire_news(run, live, lines, input.wire, after, end).saturating_add(input.delay)
 }
 
-/// The same of the first of these inputs that does, or the end.
+/// Whether a module is listed for each change that it hears at an input: it is live, and the line of the wire is told.
+fn is_told_to(live: bool, lines: &[Line], input: Input) -> bool
+    ensures { result ≡ true → IsToldTo live lines.now input }
+{
+    if !live || input.delay > 0 {
+        return false;
+    }
+    match lines.get(input.wire.0 as usize) {
+        Some(line) => line.is_told(),
+        None => false,
+    }
+}
+
+/// The same, but the end for an input that the module is told of, which needn't be asked.
+fn untold_news(run: &Run, live: bool, lines: &[Line], input: Input, to: u32, end: u32) -> u32
+    ensures { IsToldTo live lines.now input ⊎ ((x : ℕ) → to ≤ x + 1 + input.delay → x + 1 + input.delay < end → IsNews run.now live lines.now input.wire.0 x → result ≤ x + 1 + input.delay) }
+{
+    if is_told_to(live, lines, input) {
+        return end;
+    }
+    input_news(run, live, lines, input, to, end)
+}
+
+/// The same of the first of these inputs, or the end.
 fn first_news(run: &Run, live: bool, lines: &[Line], inputs: &[Input], to: u32, end: u32) -> u32
-    ensures { (input : Port) → Contains inputs.now input → (x : ℕ) → to ≤ x + 1 + input.delay → x + 1 + input.delay < end → IsNews run.now live lines.now input.wire.0 x → result ≤ x + 1 + input.delay }
+    ensures { (input : Port) → Contains inputs.now input → IsToldTo live lines.now input ⊎ ((x : ℕ) → to ≤ x + 1 + input.delay → x + 1 + input.delay < end → IsNews run.now live lines.now input.wire.0 x → result ≤ x + 1 + input.delay) }
 {
     let mut first = end;
     for input in inputs {
-        first = first.min(input_news(run, live, lines, *input, to, end));
+        first = first.min(untold_news(run, live, lines, *input, to, end));
     }
     first
 }
@@ -53,7 +77,8 @@ fn look_again(
     to: u32,
     looks: &mut Ring,
 ) -> Result<(), AllocError>
-    requires { 0 < length looks.old.items }
+    requires some { 0 < length looks.old.items }
+    requires telling { AreTelling change.now.new.now change.now.run.now to lines.now looks.old.items }
     ensures places { OnOk result (length looks.new.items ≡ length looks.old.items) }
     ensures kept { OnOk result (AreKept looks.old.items looks.new.items) }
     ensures listening { OnOk result (IsListening change.now.new.now change.now.run.now (cell_at cells.now id.0).live to lines.now looks.new.items id.0) }
@@ -80,7 +105,8 @@ pub(crate) fn look_all(
     to: u32,
     looks: &mut Ring,
 ) -> Result<(), AllocError>
-    requires { 0 < length looks.old.items }
+    requires some { 0 < length looks.old.items }
+    requires telling { AreTelling change.now.new.now change.now.run.now to lines.now looks.old.items }
     ensures places { OnOk result (length looks.new.items ≡ length looks.old.items) }
     ensures kept { OnOk result (AreKept looks.old.items looks.new.items) }
     ensures listening { OnOk result ((m : ℕ) → Contains due.now (record { 0 = m }) → IsListening change.now.new.now change.now.run.now (cell_at cells.now m).live to lines.now looks.new.items m) }

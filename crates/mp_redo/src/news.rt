@@ -80,7 +80,11 @@ fn next_own(line: &Line, run: &Run, wire: WireId, after: u32, end: u32) -> u32
 {
     match line {
         Line::Old => next_old(run, wire, after, end),
-        Line::Own { wave: own, until } => {
+        Line::Own {
+            wave: own,
+            until,
+            ..
+        } => {
             if *until <= after {
                 next_old(run, wire, after, end)
             } else {

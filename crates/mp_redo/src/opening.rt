@@ -1,7 +1,7 @@
 //! Lines are taken over by a module that is evaluated again.
-ghost use Rattle.std.specs.Prelude.{◌≡◌, ℕ, ◌+◌, ◌^◌, ◌<◌, ◌≤◌, Some, OnOk, length};
+ghost use Rattle.std.specs.Prelude.{◌≡◌, ℕ, ◌+◌, ◌^◌, ◌<◌, ◌≤◌, false, Some, OnOk, length};
 ghost use Rattle.mp_records.specs.Outputs.{output_in};
-ghost use Rattle.mp_redo.specs.Lines.{IsOwn};
+ghost use Rattle.mp_redo.specs.Lines.{is_told, IsOwn};
 ghost use Rattle.mp_redo.specs.Redoing.{line_at, level_at};
 ghost use Rattle.mp_redo.specs.Answers.{HasOpenedTo, AreApart};
 
@@ -27,6 +27,7 @@ fn open_output(
     ensures own { OnOk result ((w : ℕ) → output.wire ≡ Some (record { 0 = w }) → IsOwn (line_at lines.new.items w) (from + output.delay) end) }
     ensures before { OnOk result ((w t : ℕ) → output.wire ≡ Some (record { 0 = w }) → t < from + output.delay → t < end →
         level_at run.now lines.new.items w t ≡ level_at run.now lines.old.items w t) }
+    ensures untold { OnOk result ((w : ℕ) → output.wire ≡ Some (record { 0 = w }) → is_told (line_at lines.new.items w) ≡ false) }
     ensures others { OnOk result ((w : ℕ) → (output.wire ≡ Some (record { 0 = w }) → ⊥) → line_at lines.new.items w ≡ line_at lines.old.items w) }
 {
     match output.wire {

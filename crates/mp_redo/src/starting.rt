@@ -1,10 +1,11 @@
 //! The lines of all wires before anything is evaluated again.
-ghost use Rattle.std.specs.Prelude.{◌≡◌, ℕ, IfOk};
+ghost use Rattle.std.specs.Prelude.{◌≡◌, ℕ, false, IfOk};
 ghost use Rattle.mp_netlist.specs.Drivers.{driver};
 ghost use Rattle.mp_engine.specs.Outcomes.{Outcome};
 ghost use Rattle.mp_engine.specs.Runs.{IsRun};
 ghost use Rattle.mp_redo.specs.Drivers.{driver_in};
-ghost use Rattle.mp_redo.specs.Redoing.{AreCells, AreLines, cell_at};
+ghost use Rattle.mp_redo.specs.declared.line.Line.TheVariants.{Own};
+ghost use Rattle.mp_redo.specs.Redoing.{AreCells, AreLines, AreUntold, cell_at};
 ghost use Rattle.mp_redo.specs.Revisions.{IsRevision};
 ghost use Rattle.mp_redo.specs.Starts.{IsFirstLine};
 
@@ -26,7 +27,8 @@ pub(crate) fn first_lines(
 ) -> Result<Vec<Line>, AllocError>
     requires revision { IsRevision old.now new.now }
     requires cells { AreCells old.now new.now 0 (λ m. 0) cells.now }
-    ensures { IfOk result (λ lines. (run : Outcome) → IsRun old.now run → AreLines new.now run (λ m. 0) cells.now lines.items) }
+    ensures lines { IfOk result (λ lines. (run : Outcome) → IsRun old.now run → AreLines new.now run (λ m. 0) cells.now lines.items) }
+    ensures untold { IfOk result (λ lines. AreUntold lines.items) }
 {
     // Its contract tells that the netlist is well formed.
     let _horizon = new.horizon();
@@ -72,7 +74,7 @@ fn first_line(
     if let Driver::Port(id, _) = is {
         if is_touched(cells, id.0) {
             let wave = WaveBuilder::new(alloc, initial_level(new, wire));
-            return Ok(Line::Own { wave, until });
+            return Ok(own_line(wave, until));
         }
         return Ok(Line::Old);
     }
@@ -80,7 +82,18 @@ fn first_line(
         return Ok(Line::Old);
     }
     let wave = set_wave(alloc, new, wire)?;
-    Ok(Line::Own { wave, until })
+    Ok(own_line(wave, until))
+}
+
+/// A line with a wave of its own up to a time, of which nobody has been told.
+fn own_line(wave: WaveBuilder, until: u32) -> Line
+    ensures { result ≡ Own wave until false }
+{
+    Line::Own {
+        wave,
+        until,
+        told: false,
+    }
 }
 
 fn is_touched(cells: &[Cell], number: u32) -> bool

@@ -4,7 +4,7 @@ ghost use Rattle.mp_netlist.specs.Circuit.{IsModule};
 ghost use Rattle.mp_redo.specs.Answers.{IsHeardBy};
 ghost use Rattle.mp_redo.specs.Changes.{IsChange};
 ghost use Rattle.mp_redo.specs.Rings.{AreKept};
-ghost use Rattle.mp_redo.specs.Steps.{AreReady, GoesOn, GoesOnListening, StandsSomewhere, stepped};
+ghost use Rattle.mp_redo.specs.Steps.{AreReady, GoesOn, GoesOnListening, GoesOnTelling, StandsSomewhere, stepped};
 
 use crate::change::Change;
 use crate::giving::give;
@@ -42,6 +42,7 @@ pub(crate) fn give_outputs(
     ensures kept { OnOk result (AreKept looks.old.items looks.new.items) }
     ensures wires { OnOk result (GoesOn change.now.new.now change.now.run.now lines.old.items lines.new.items found.now before.now time (time + 1)) }
     ensures listening { OnOk result (GoesOnListening change.now.new.now change.now.run.now (time + 1) lines.old.items lines.new.items looks.old.items looks.new.items) }
+    ensures telling { OnOk result (GoesOnTelling change.now.new.now change.now.run.now (time + 1) lines.old.items lines.new.items looks.old.items looks.new.items) }
 {
     let outputs = found.outputs.as_slice();
     let end = change.new.horizon();
@@ -108,12 +109,13 @@ fn hear(run: &Run, lines: &[Line], time: u32, input: Input) -> u64
     }
 }
 
-ghost use Rattle.std.specs.Prelude.{[], ◌∷◌, Some, if◌then◌else◌};
+ghost use Rattle.std.specs.Prelude.{[], ◌∷◌, ◌⊎◌, true, Some, if◌then◌else◌};
 ghost use Rattle.mp_response.specs.Span.{extended};
-ghost use Rattle.mp_redo.specs.Answers.{AreApart, CanGive, CanTake, HasGiven, HasTaken};
+ghost use Rattle.mp_redo.specs.Answers.{AreApart, CanGive, CanTake, CanTakeSome, HasGiven, HasTaken};
 ghost use Rattle.mp_redo.specs.Redoing.{line_at};
 ghost use Rattle.mp_redo.specs.Steps.{unit_answers};
-ghost use Rattle.mp_redo.specs.Telling.{IsTold, AreTold};
+ghost use Rattle.mp_redo.specs.Lines.{is_told, IsOwn};
+ghost use Rattle.mp_redo.specs.Telling.{IsTold, AreTold, KeepsTelling};
 
 /// All outputs give the levels that change in a unit to the lines of their wires, and tell who reads them.
 fn step_outputs(
@@ -133,6 +135,7 @@ fn step_outputs(
     ensures kept { OnOk result (AreKept looks.old.items looks.new.items) }
     ensures given { OnOk result (HasGiven lines.old.items lines.new.items outputs.now (unit_answers (length outputs.now) time before.now after.now) end time (time + 1) (length outputs.now)) }
     ensures told { OnOk result (AreTold readers.now outputs.now (unit_answers (length outputs.now) time before.now after.now) (time + 1) looks.new.items (length outputs.now)) }
+    ensures telling { OnOk result (KeepsTelling readers.now end (time + 1) lines.old.items lines.new.items looks.old.items looks.new.items) }
 {
     for p in 0..outputs.len() {
         let (was, is) = (before.output(p), after.output(p));
@@ -161,6 +164,7 @@ fn step_output(
         HasTaken (line_at lines.old.items w) (line_at lines.new.items w) (extended [] time was is) output.delay end time (time + 1)) }
     ensures others { OnOk result ((w : ℕ) → (output.wire ≡ Some (record { 0 = w }) → ⊥) → line_at lines.new.items w ≡ line_at lines.old.items w) }
     ensures told { OnOk result (IsTold readers.now output (extended [] time was is) (time + 1) looks.new.items) }
+    ensures telling { OnOk result (KeepsTelling readers.now end (time + 1) lines.old.items lines.new.items looks.old.items looks.new.items) }
 {
     let Some(wire) = output.wire else {
         return Ok(());
@@ -168,9 +172,31 @@ fn step_output(
     if !counts(was, is, time) {
         return Ok(());
     }
+    let ahead = output.delay as usize - 1;
     let line = &mut lines[wire.0 as usize];
-    give(line, &[(time, is)], output.delay, end)?;
-    tell(looks, output.delay as usize - 1, readers.of(wire))?;
+    give_one(line, time, is, output.delay, end, ahead < looks.len())?;
+    tell(looks, ahead, readers.of(wire))?;
+    Ok(())
+}
+
+/// A line has a level from a delay after a time on. It is told where whoever reads its wire can be listed for then, and it was told or has
+/// no other change to come.
+fn give_one(
+    line: &mut Line,
+    time: u32,
+    level: u64,
+    delay: u32,
+    end: u32,
+    has_list: bool,
+) -> Result<(), AllocError>
+    requires { CanTakeSome line.old ((time, level) ∷ []) delay end }
+    ensures taken { OnOk result ((a b : ℕ) → CanTake line.old ((time, level) ∷ []) delay end a b → HasTaken line.old line.new ((time, level) ∷ []) delay end a b) }
+    ensures list { OnOk result (is_told line.new ≡ true → has_list ≡ true) }
+    ensures told { OnOk result (is_told line.new ≡ true → (is_told line.old ≡ true) ⊎ ((next last : ℕ) → IsOwn line.old next last → IsOwn line.old (time + 1) last)) }
+{
+    let tells = line.is_told_after(time, has_list);
+    line.set_told(tells);
+    give(line, &[(time, level)], delay, end)?;
     Ok(())
 }
 

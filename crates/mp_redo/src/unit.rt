@@ -9,7 +9,7 @@ ghost use Rattle.mp_redo.specs.Windows.{IsShort};
 
 use crate::cell::Cell;
 use crate::change::Change;
-use crate::due::{answer_live_ones, find_joining};
+use crate::due::answer_or_list;
 use crate::joins::join_all;
 use crate::line::Line;
 use crate::listing::take_lists;
@@ -56,18 +56,9 @@ fn answer_due<R: Threads + Wait + Sync, G: Gate + Sync>(
     ensures cells { OnOk result (HaveAnswered joining.new.items cells.old.items cells.new.items) }
     ensures during { OnOk result (IsDuring change.now.old.now change.now.new.now change.now.run.now block time (time + 1) due.now marks.new.items cells.new.items lines.new.items looks.new.items) }
 {
-    find_joining(
-        change,
-        block,
-        time,
-        due,
-        joining,
-        marks,
-        cells.as_slice(),
-        lines.as_slice(),
-        looks,
+    answer_or_list(
+        change, block, time, due, joining, marks, cells, lines, looks,
     )?;
-    answer_live_ones(change, block, time, due, marks, cells, lines, looks)?;
     join_all(
         rt,
         alloc,

@@ -3,7 +3,7 @@ ghost use Rattle.std.specs.Prelude.{◌≡◌, IfOk};
 
 use crate::stretch::Stretch;
 use crate::work_entries::WorkEntries;
-use mp_netlist::{ModuleId, Netlist};
+use mp_netlist::Netlist;
 use std::alloc::{AllocError, Global};
 use std::marker::Model;
 
@@ -33,7 +33,6 @@ impl Work {
     ghost use Rattle.std.specs.Prelude.{◌<◌, [], All};
     ghost use Rattle.mp_redo.specs.Merges.{IsStretch, entries_left};
     ghost use Rattle.mp_redo.specs.Stretches.{AreStretches};
-    ghost use Rattle.mp_redo.specs.WholeWork.{whole_work};
     ghost use Rattle.mp_redo.specs.Work.{IsWork};
 
     /// No work.
@@ -69,30 +68,6 @@ impl Work {
         let mut sorted = stretches;
         sorted.sort_unstable_by_key(|stretch| (stretch.first_end, stretch.module.0));
         Work::of(new.least_delay(), new.horizon(), sorted)
-    }
-
-    /// Each module that stands once, by number, from time 0 to the horizon.
-    pub fn whole(alloc: Global, netlist: &Netlist) -> Result<Self, AllocError>
-        ensures { IfOk result (λ work. work ≡ whole_work netlist.now) }
-    {
-        let horizon = netlist.horizon();
-        let mut stretches = Vec::with_capacity(alloc, netlist.module_slots() as usize)?;
-        for number in 0..netlist.module_slots() {
-            let id = ModuleId(number);
-            if let Some(_) = netlist.module(id) {
-                stretches.push(Stretch {
-                    module: id,
-                    from: 0,
-                    first_end: horizon,
-                    last_end: horizon,
-                })?;
-            }
-        }
-        Ok(Work {
-            least: netlist.least_delay(),
-            horizon,
-            stretches,
-        })
     }
 
     /// The same work once more.

@@ -1,12 +1,13 @@
 use Rattle.std.proofs.Common.{◌≡◌, ◌+◌, ◌^◌, ◌<◌, ◌≤◌, Some, length, sym, subst, ap, ◌∙◌, arith}
 use Rattle.mp_records.specs.Outputs.{output_in}
-use Rattle.mp_redo.specs.Answers.{CanGive, AreApart}
+use Rattle.mp_redo.specs.Answers.{CanGive, HasOpenedTo, AreApart}
 use Rattle.mp_redo.specs.Telling.{AreWoken}
-use Rattle.mp_redo.proofs.AnswerLemmas.{outputs_apart, delay_ok}
+use Rattle.mp_redo.proofs.AnswerLemmas.{outputs_apart, delay_ok, port_within}
 use Rattle.mp_redo.proofs.GiveLemmas.{given_as}
 use Rattle.mp_redo.proofs.ListenLemmas.{listening_woken}
 use Rattle.mp_redo.proofs.OpenLemmas.{opened_as}
 use Rattle.mp_redo.proofs.StepLemmas.{ends_at, stand, ports_alike, able, goes_on_from}
+use Rattle.mp_redo.proofs.TellLemmas.{telling_untold}
 use Rattle.mp_redo.proofs.answering.join_lines.Goals as goal
 
 pub open_all-requires-clause-apart : goal.open_all-requires-clause-apart
@@ -83,7 +84,7 @@ returns-clause-wires c =
     let new = c.give_all.new.lines.items in
     let at = c.requires.stands in
     let can = able n c.requires.form r c.args.memory a b piece c.requires.answered rise c.args.run.now lines opened has c.requires.places c.requires.within c.requires.part at.0 at.1 in
-    let gave = given_as opened new c.as_slice-outputs.result.now r.outputs c.ports.result.now piece.outputs c.horizon-2.result n.horizon a b c.as_slice-outputs.ensures c.ports.ensures c.horizon-2.ensures.value c.in_ok-give_all.ensures can in
+    let gave = given_as opened new c.as_slice-outputs.result.now r.outputs c.ports.result.now piece.outputs c.horizon-2.result n.horizon a b c.as_slice-outputs.ensures c.ports.ensures c.horizon-2.ensures.value c.in_ok-give_all.ensures.given can in
     goes_on_from n c.requires.form r c.args.memory a b piece c.requires.answered rise c.args.run.now lines opened has c.requires.places c.requires.within new gave
 
 pub returns-clause-listening : goal.returns-clause-listening
@@ -100,9 +101,30 @@ returns-clause-listening c =
     let new = c.give_all.new.lines.items in
     let at = c.requires.stands in
     let can = able n c.requires.form r c.args.memory a b piece c.requires.answered rise c.args.run.now lines opened has c.requires.places c.requires.within c.requires.part at.0 at.1 in
-    let gave = given_as opened new c.as_slice-outputs.result.now r.outputs c.ports.result.now piece.outputs c.horizon-2.result n.horizon a b c.as_slice-outputs.ensures c.ports.ensures c.horizon-2.ensures.value c.in_ok-give_all.ensures can in
+    let gave = given_as opened new c.as_slice-outputs.result.now r.outputs c.ports.result.now piece.outputs c.horizon-2.result n.horizon a b c.as_slice-outputs.ensures c.ports.ensures c.horizon-2.ensures.value c.in_ok-give_all.ensures.given can in
     let lists = c.wake_outputs.new.looks.items in
     let woken : AreWoken c.args.readers.now r.outputs lists (length r.outputs) = subst (λ os. AreWoken c.args.readers.now os lists (length os)) c.as_slice-outputs.ensures c.in_ok-wake_outputs.ensures.woken in
     listening_woken n c.requires.form c.args.run.now c.args.readers.now b at.0 r at.1.stands lines new c.args.looks.now.items lists c.requires.rows
     (λ w none. gave.others w (λ p low wire. none p wire) ∙ has.others w none)
     c.in_ok-wake_outputs.ensures.kept woken
+
+pub returns-clause-telling : goal.returns-clause-telling
+returns-clause-telling c =
+    let n = c.args.netlist.now in
+    let r = c.args.found.now in
+    let lines = c.args.lines.now.items in
+    let opened = c.open_all.new.lines.items in
+    let piece = c.args.piece.now in
+    let a = c.args.from in
+    let b = c.args.to in
+    let rise : a ≤ b = let s = c.requires.span in omega (arith, s) in
+    let has = opened_as c.args.run.now lines opened c.as_slice-outputs.result.now r.outputs c.horizon.result n.horizon a c.as_slice-outputs.ensures c.horizon.ensures.value c.in_ok-open_all.ensures in
+    let new = c.give_all.new.lines.items in
+    let at = c.requires.stands in
+    let can = able n c.requires.form r c.args.memory a b piece c.requires.answered rise c.args.run.now lines opened has c.requires.places c.requires.within c.requires.part at.0 at.1 in
+    let gave = given_as opened new c.as_slice-outputs.result.now r.outputs c.ports.result.now piece.outputs c.horizon-2.result n.horizon a b c.as_slice-outputs.ensures c.ports.ensures c.horizon-2.ensures.value c.in_ok-give_all.ensures.given can in
+    let lists = c.wake_outputs.new.looks.items in
+    let opens = subst (λ os. HasOpenedTo c.args.run.now lines opened os c.horizon.result a (length os)) c.as_slice-outputs.ensures c.in_ok-open_all.ensures in
+    telling_untold n c.requires.form c.args.run.now b at.0 r at.1.stands lines new c.args.looks.now.items lists c.in_ok-wake_outputs.ensures.kept
+    (λ p w wire. c.in_ok-give_all.ensures.told w ∙ opens.untold p w (port_within r.outputs p w wire) wire)
+    (λ w none. gave.others w (λ p low wire. none p wire) ∙ has.others w none)

@@ -14,4 +14,4 @@ returns-clause-before c old run cells_are lines_are =
     first_before old new run rows c.args.cells.now c.args.lines.now looks c.requires.rows
     (λ m low live. looking_kept lists looks m 0 told.kept (entered.live m (subst (λ n. m < n) (sym c.module_slots.ensures.value) low) live))
     (subst (AreHeard rows c.args.lines.now looks) c.wire_slots.ensures.value told.told)
-    cells_are lines_are
+    c.requires.untold cells_are lines_are

@@ -102,7 +102,7 @@ returns-clause-crossing c =
     m cells c.args.lines.now.items c.args.looks.now.items c.args.ledgers.now.items c.args.stretches.now.items c.requires.crossing
     r at back c.leave_cell.new.cells.items c.leave_cell.ensures
     c.leave_wires.new.lines.items c.leave_wires.new.looks.items c.hand_ledger_back.new.ledgers.items c.end_stretch.new.stretches.items c.in-Some-stretch.place c.requires.window.0
-    told.closed told.looking (told.listening change.run.now) c.hand_ledger_back.ensures here c.end_stretch.ensures c.requires.window.1
+    told.closed told.looking (told.listening change.run.now) (told.telling change.run.now) c.hand_ledger_back.ensures here c.end_stretch.ensures c.requires.window.1
 
 pub returns-clause-over : goal.returns-clause-over
 returns-clause-over c =

@@ -40,6 +40,7 @@ loop-p-preserved c =
     let was : (w : ℕ) → (output_in outputs p).wire ≡ Some (record { 0 = w }) → (slice_index_or outputs p d).wire ≡ Some (record { 0 = w }) = λ w wire. subst (λ (o : Output). o.wire ≡ Some (record { 0 = w })) (sym same) wire in
     closed_more c.args.lines.now.items lines new outputs c.args.from p c.requires.apart c.loop-p.invariant done.places
     (λ w wire run t. subst (λ (o : Output). level_at run new w t ≡ switched (c.args.from + o.delay) (level_at run lines w) (level_in (wave_of run w)) t) same (done.closed w (was w wire) run t))
+    (λ w wire. done.untold w (was w wire))
     (λ w none. done.others w (λ wire. none (subst (λ (o : Output). o.wire ≡ Some (record { 0 = w })) same wire)))
 
 pub returns : goal.returns

@@ -42,4 +42,4 @@ returns-clause-during c =
     let wires = subst (λ (x : Memory). GoesOn n run c.args.lines.now.items c.give_outputs.new.lines.items r x t (t + 1)) memory done.wires in
     subst (λ ms. IsDuring c.args.change.now.old.now n run c.args.block t (t + 1) c.args.due.now ms c.set_live.new.cells.items c.give_outputs.new.lines.items c.give_outputs.new.looks.items) (sym c.clear_mark.ensures)
     (subst (λ xs. IsDuring c.args.change.now.old.now n run c.args.block t (t + 1) c.args.due.now (slice_set c.args.marks.now.items m false) xs c.give_outputs.new.lines.items c.give_outputs.new.looks.items) (sym c.set_live.ensures)
-    (live_answers c.args.change.now.old.now c.args.change.now.new.now c.requires.change.old_form c.requires.change.form c.requires.change.revision c.args.change.now.run.now c.requires.change.run c.args.block c.args.time (c.args.time + 1) c.requires.unit c.args.due.now c.args.marks.now.items c.args.cells.now.items c.args.lines.now.items c.args.looks.now.items c.requires.during c.args.id.0 c.requires.marked c.args.found.now c.requires.stands c.requires.live after now c.give_outputs.new.lines.items c.give_outputs.new.looks.items wires done.listening))
+    (live_answers c.args.change.now.old.now c.args.change.now.new.now c.requires.change.old_form c.requires.change.form c.requires.change.revision c.args.change.now.run.now c.requires.change.run c.args.block c.args.time (c.args.time + 1) c.requires.unit c.args.due.now c.args.marks.now.items c.args.cells.now.items c.args.lines.now.items c.args.looks.now.items c.requires.during c.args.id.0 c.requires.marked c.args.found.now c.requires.stands c.requires.live after now c.give_outputs.new.lines.items c.give_outputs.new.looks.items wires done.listening done.telling))

@@ -1,4 +1,4 @@
-use Rattle.std.proofs.Common.{◌≡◌, ℕ, ◌+◌, ◌<◌, List, [], ◌∷◌, length, refl, sym, subst, arith}
+use Rattle.std.proofs.Common.{◌≡◌, ℕ, ◌+◌, ◌<◌, List, [], ◌∷◌, length, refl, sym, subst, ◌∙◌, arith}
 use Rattle.mp_redo.specs.Lines.{IsOwn}
 use Rattle.mp_redo.specs.Answers.{CanTake, HasTaken}
 use Rattle.mp_redo.proofs.LineLemmas.{own_later, own_shorter}
@@ -9,8 +9,8 @@ none_of : (xs : List (ℕ × ℕ)) → length xs ≡ 0 → xs ≡ []
 none_of [] none = refl
 none_of (x ∷ xs) none = absurd (let no : ⊥ = omega (arith, none) in no)
 
-pub returns-then-time-end : goal.returns-then-time-end
-returns-then-time-end c = λ a b can.
+pub returns-then-time-end-clause-taken : goal.returns-then-time-end-clause-taken
+returns-then-time-end-clause-taken c = λ a b can.
     let rest = c.loop-change.rest.now in
     let e : rest ≡ c.in-Some.change.now ∷ c.in-Some.later.now = c.in-Some.ensures.cases.0 in
     c.loop-change.invariant.all c.loop-change.line a b can (λ d able.
@@ -18,8 +18,8 @@ returns-then-time-end c = λ a b can.
     (took_past c.loop-change.line c.in-Some.later.now c.in-Some.change.now.0 c.in-Some.change.now.1 c.args.delay c.args.end d b (omega arith)
     (subst (λ xs. CanTake c.loop-change.line xs c.args.delay c.args.end d b) e able)))
 
-pub returns : goal.returns
-returns c = λ a b can.
+pub returns-clause-taken : goal.returns-clause-taken
+returns-clause-taken c = λ a b can.
     let rest = c.loop-change.rest.now in
     let e : rest ≡ [] = none_of rest c.in_default.ensures.cases in
     c.loop-change.invariant.all c.loop-change.line a b can (λ d able.
@@ -53,4 +53,5 @@ loop-change-preserved c =
           (took_more line next new later x v delay end d b low here done.before
           (λ old. done.level old (x + delay) (omega arith) (own_shorter line (x + delay) end (x + delay + 1) (omega (arith, low)) (owns d b here)))
           (taken (x + 1) (can_more line next later x v delay end d b here own))));
+      told = done.told ∙ c.loop-change.invariant.told;
     }

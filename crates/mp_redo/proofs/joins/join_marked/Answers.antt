@@ -53,4 +53,4 @@ returns-clause-during c =
     subst (λ ms. IsDuring old new run c.args.block time (time + 1) c.args.due.now ms c.set_live.new.cells.items given lists) (sym c.clear_mark.ensures)
     (subst (λ xs. IsDuring old new run c.args.block time (time + 1) c.args.due.now (slice_set c.args.marks.now.items m false) xs given lists) (sym c.set_live.ensures)
     (joining_answers old new c.requires.change.old_form c.requires.change.form c.requires.change.revision run c.requires.change.run c.args.block time (time + 1) c.requires.unit c.args.due.now c.args.marks.now.items c.args.cells.now.items c.args.lines.now.items c.args.looks.now.items c.requires.during c.args.id.0 c.requires.marked c.args.found.now c.requires.stands joins.quiet c.in_ok-after.after (done.memory m is)
-    time (omega arith) (omega arith) joins.apart given lists wires done.listening))
+    time (omega arith) (omega arith) joins.apart given lists wires done.listening done.telling))

@@ -7,10 +7,11 @@ use Rattle.mp_redo.specs.Answers.{AreApart}
 use Rattle.mp_redo.specs.Closing.{HasClosed}
 use Rattle.mp_redo.specs.Redoing.{looks_at}
 use Rattle.mp_redo.specs.Telling.{AreWoken}
-use Rattle.mp_redo.proofs.AnswerLemmas.{outputs_apart, delay_ok}
+use Rattle.mp_redo.proofs.AnswerLemmas.{outputs_apart, delay_ok, port_within}
 use Rattle.mp_redo.proofs.LineLemmas.{output_stands}
 use Rattle.mp_redo.proofs.ListenLemmas.{listening_woken}
 use Rattle.mp_redo.proofs.RingLemmas.{kept_twice}
+use Rattle.mp_redo.proofs.TellLemmas.{telling_untold}
 use Rattle.mp_redo.proofs.leaving.leave_wires.Goals as goal
 
 pub close_all-requires-clause-apart : goal.close_all-requires-clause-apart
@@ -52,3 +53,16 @@ returns-clause-listening c = λ run.
     listening_woken n c.requires.form run c.args.readers.now c.args.time c.args.id.0 r c.requires.stands lines new c.args.looks.now.items lists c.requires.rows
     (λ w none. closed.others w (λ p low wire. none p wire))
     (kept_twice c.args.looks.now.items c.enter.new.looks.items lists c.in_ok-enter.ensures.kept c.in_ok-wake_outputs.ensures.kept) woken
+
+pub returns-clause-telling : goal.returns-clause-telling
+returns-clause-telling c = λ run.
+    let n = c.args.netlist.now in
+    let r = c.args.found.now in
+    let lines = c.args.lines.now.items in
+    let new = c.close_all.new.lines.items in
+    let lists = c.wake_outputs.new.looks.items in
+    let closed : HasClosed lines new r.outputs c.args.time (length r.outputs) = subst (λ os. HasClosed lines new os c.args.time (length os)) c.as_slice-outputs.ensures c.close_all.ensures in
+    telling_untold n c.requires.form run c.args.time c.args.id.0 r c.requires.stands lines new c.args.looks.now.items lists
+    (kept_twice c.args.looks.now.items c.enter.new.looks.items lists c.in_ok-enter.ensures.kept c.in_ok-wake_outputs.ensures.kept)
+    (λ p w wire. closed.untold p w (port_within r.outputs p w wire) wire)
+    (λ w none. closed.others w (λ p low wire. none p wire))

@@ -4,7 +4,7 @@ use Rattle.std.proofs.lemmas.List.{take_more, take_all}
 use Rattle.std.proofs.lemmas.List.Elements.{Contains-append_cases}
 use Rattle.mp_records.specs.declared.ids.ModuleId.{ModuleId}
 use Rattle.mp_engine.proofs.MarkLemmas.{none_in, contains_cons}
-use Rattle.mp_redo.specs.Redoing.{IsLooking}
+use Rattle.mp_redo.specs.Redoing.{looks_at, IsLooking}
 use Rattle.mp_redo.proofs.RingLemmas.{looking_kept, kept_twice}
 use Rattle.mp_redo.proofs.listing.tell.Goals as goal
 
@@ -27,8 +27,19 @@ loop-reader-preserved c =
           | inr none ↦ absurd (none_in reader none)
         ]
       ];
+      exact = λ within reader has. elim (Contains-append_cases (take i readers) (here ∷ []) reader (subst (λ xs. Contains xs reader) (take_more readers i d c.loop-reader-test.true) has)) as (λ _. Contains (looks_at lists c.args.ahead) (record { 0 = reader.0.0 })) [
+        | inl earlier ↦ done.kept c.args.ahead reader.0.0 (inv.exact within reader earlier)
+        | inr now ↦ elim (contains_cons here reader [] now) as (λ _. Contains (looks_at lists c.args.ahead) (record { 0 = reader.0.0 })) [
+          | inl same ↦ subst (λ (x : ModuleId × ℕ). Contains (looks_at lists c.args.ahead) (record { 0 = x.0.0 })) same (done.exact (let places = inv.places in omega (arith, within, places)))
+          | inr none ↦ absurd (none_in reader none)
+        ]
+      ];
     }
 
 pub returns-clause-told : goal.returns-clause-told
 returns-clause-told c = λ reader has.
     c.loop-reader.invariant.told reader (subst (λ xs. Contains xs reader) (sym (take_all c.loop-reader.reader-index c.args.readers.now (omega arith))) has)
+
+pub returns-clause-exact : goal.returns-clause-exact
+returns-clause-exact c = λ within reader has.
+    c.loop-reader.invariant.exact within reader (subst (λ xs. Contains xs reader) (sym (take_all c.loop-reader.reader-index c.args.readers.now (omega arith))) has)

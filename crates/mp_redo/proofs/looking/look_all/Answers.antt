@@ -7,7 +7,12 @@ use Rattle.mp_engine.proofs.MarkLemmas.{none_in, contains_cons}
 use Rattle.mp_redo.specs.Redoing.{cell_at, IsListening}
 use Rattle.mp_redo.proofs.AgainLemmas.{listening_kept}
 use Rattle.mp_redo.proofs.RingLemmas.{kept_twice}
+use Rattle.mp_redo.proofs.TellLemmas.{telling_kept}
 use Rattle.mp_redo.proofs.looking.look_all.Goals as goal
+
+pub look_again-requires-clause-telling : goal.look_again-requires-clause-telling
+look_again-requires-clause-telling c =
+    telling_kept c.args.change.now.new.now c.args.change.now.run.now c.args.to c.args.lines.now c.args.looks.now.items c.loop-id.looks.items c.loop-id.invariant.kept c.requires.telling
 
 pub loop-id-preserved : goal.loop-id-preserved
 loop-id-preserved c =

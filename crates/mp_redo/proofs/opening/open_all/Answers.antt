@@ -46,6 +46,7 @@ loop-p-preserved c =
     opened_more run c.args.lines.now.items lines new outputs c.args.end c.args.from p c.requires.apart c.loop-p.invariant done.places
     (λ w wire. subst (λ (o : Output). IsOwn (line_at new w) (c.args.from + o.delay) c.args.end) same (done.own w (was w wire)))
     (λ w t wire early under. done.before w t (was w wire) (subst (λ (o : Output). t < c.args.from + o.delay) (sym same) early) under)
+    (λ w wire. done.untold w (was w wire))
     (λ w none. done.others w (λ wire. none (subst (λ (o : Output). o.wire ≡ Some (record { 0 = w })) same wire)))
 
 pub returns : goal.returns

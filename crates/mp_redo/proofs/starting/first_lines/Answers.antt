@@ -3,7 +3,7 @@ use Rattle.std.proofs.lemmas.List.{length_push}
 use Rattle.mp_redo.specs.declared.line.Line.{Line}
 use Rattle.mp_redo.specs.Redoing.{line_at}
 use Rattle.mp_redo.specs.Starts.{IsFirstLine}
-use Rattle.mp_redo.proofs.StartLemmas.{lines_are, lines_more}
+use Rattle.mp_redo.proofs.StartLemmas.{lines_are, lines_more, lines_untold}
 use Rattle.mp_redo.proofs.starting.first_lines.Goals as goal
 
 pub loop-w-preserved : goal.loop-w-preserved
@@ -21,11 +21,16 @@ loop-w-preserved c =
           (lines_more old new cells lines line w c.loop-w.invariant.places c.loop-w.invariant.each c.in_ok-first_line.ensures k low);
     }
 
-pub returns : goal.returns
-returns c run is =
+pub returns-clause-lines : goal.returns-clause-lines
+returns-clause-lines c run is =
     let new = c.args.new.now in
     let lines = c.loop-w.lines.items in
     let end = c.wire_slots-w-end.ensures.value in
     let over : c.loop-w.w ≡ length new.wires = omega (arith, end) in
     lines_are c.args.old.now new c.horizon-horizon.ensures.form c.args.cells.now lines (c.loop-w.invariant.places ∙ over)
     (λ w low. c.loop-w.invariant.each w (omega (arith, over, low))) run is
+
+pub returns-clause-untold : goal.returns-clause-untold
+returns-clause-untold c =
+    let places = c.loop-w.invariant.places in
+    lines_untold c.args.old.now c.args.new.now c.args.cells.now c.loop-w.lines.items (λ w low. c.loop-w.invariant.each w (omega (arith, places, low)))

@@ -72,3 +72,7 @@ returns-clause-listening c =
     let told : AreTold rows r.outputs piece.outputs (t + 1) lists (length r.outputs)
     = subst (λ os. AreTold rows os (unit_answers (length os) t memory after) (t + 1) lists (length os)) c.as_slice-outputs.ensures c.in_ok-step_outputs.ensures.told in
     goes_on_listening n c.requires.change.form r memory t (t + 1) piece span (omega arith) at.0 at.1 run rows lines new looks lists c.requires.change.rows c.requires.ready gave c.in_ok-step_outputs.ensures.kept told
+
+pub returns-clause-telling : goal.returns-clause-telling
+returns-clause-telling c tells =
+    c.in_ok-step_outputs.ensures.telling c.args.change.now.new.now c.args.change.now.run.now c.requires.change.rows (sym c.horizon-end.ensures.value) tells

@@ -1,14 +1,17 @@
-use Rattle.std.proofs.Common.{◌≡◌, ◌+◌, ◌-◌, [], ◌∷◌, slice_set, sym, ap, subst, arith}
+use Rattle.std.proofs.Common.{◌≡◌, ◌⊎◌, ◌+◌, ◌-◌, ◌<◌, true, [], ◌∷◌, length, slice_set, sym, ap, subst, ◌∙◌, arith, inl, inr}
 use Rattle.std.specs.List.{Contains}
-use Rattle.std.proofs.lemmas.List.{get_or_read, get_or-set_same}
+use Rattle.std.proofs.lemmas.Bool.{ltb-true}
+use Rattle.std.proofs.lemmas.List.{get_or_read, get_or-set_same, get_or-set_other}
 use Rattle.mp_records.specs.declared.ids.WireId.{WireId}
 use Rattle.mp_depend.specs.Rows.{row_at}
 use Rattle.mp_response.specs.Span.{extended}
 use Rattle.mp_redo.specs.declared.line.Line.TheVariants.{Old}
 use Rattle.mp_redo.specs.Answers.{CanTake, HasTaken}
+use Rattle.mp_redo.specs.Lines.{is_told, IsOwn}
 use Rattle.mp_redo.specs.Redoing.{line_at, IsLooking}
 use Rattle.mp_redo.specs.Telling.{first_time}
 use Rattle.mp_redo.proofs.GiveLemmas.{took_none}
+use Rattle.mp_redo.proofs.TellLemmas.{telling_given}
 use Rattle.mp_redo.proofs.stepping.step_output.Goals as goal
 
 pub returns-then-not-counts-clause-taken : goal.returns-then-not-counts-clause-taken
@@ -21,6 +24,9 @@ returns-then-not-counts-clause-taken c = λ w wire.
     subst (λ xs. HasTaken line line xs d end t (t + 1)) (sym none)
     (took_none line d end t (t + 1) (subst (λ xs. CanTake line xs d end t (t + 1)) none (c.requires.wire w wire).1))
 
+pub overflow_sub-ahead : goal.overflow_sub-ahead
+overflow_sub-ahead c = let late = (c.requires.wire c.in-Some.wire.0 c.in-Some.is).1.late in omega (arith, late)
+
 pub index_mut-line-requires : goal.index_mut-line-requires
 index_mut-line-requires c = let low = (c.requires.wire c.in-Some.wire.0 c.in-Some.is).0 in omega (arith, low, c.args.lines.now.ok)
 
@@ -28,7 +34,7 @@ pub returns-clause-taken : goal.returns-clause-taken
 returns-clause-taken c = λ w wire.
     let lines = c.args.lines.now.items in
     let v = c.in-Some.wire.0 in
-    let given = c.give.new.line in
+    let given = c.give_one.new.line in
     let new = slice_set lines v given in
     let t = c.args.time in
     let d = c.args.output.delay in
@@ -42,7 +48,7 @@ returns-clause-taken c = λ w wire.
     let here : HasTaken (line_at lines v) (line_at new v) changes d end t (t + 1)
     = subst (λ xs. HasTaken (line_at lines v) (line_at new v) xs d end t (t + 1)) (sym one)
     (subst (λ l. HasTaken (line_at lines v) l ((t, c.args.is) ∷ []) d end t (t + 1)) (sym set)
-    (subst (λ l. HasTaken l given ((t, c.args.is) ∷ []) d end t (t + 1)) read (c.in_ok-give.ensures t (t + 1) able))) in
+    (subst (λ l. HasTaken l given ((t, c.args.is) ∷ []) d end t (t + 1)) read (c.in_ok-give_one.ensures.taken t (t + 1) able))) in
     let is : c.in-Some.wire ≡ record { 0 = w } = let e = c.in-Some.is in cc in
     subst (λ u. HasTaken (line_at lines u) (line_at new u) changes d end t (t + 1)) (ap (λ (x : WireId). x.0) is) here
 
@@ -58,3 +64,33 @@ returns-clause-told c = λ w reader wire some has.
     let row = c.of.ensures in
     subst (IsLooking c.tell.new.looks.items reader.0.0) ahead (c.in_ok-tell.ensures.told reader
     (subst (λ xs. Contains xs reader) (sym row) (subst (λ (x : WireId). Contains (row_at c.args.readers.now x.0) reader) (sym is) has)))
+
+pub returns-clause-telling : goal.returns-clause-telling
+returns-clause-telling c n run rows high tells =
+    let lines = c.args.lines.now.items in
+    let v = c.in-Some.wire.0 in
+    let given = c.give_one.new.line in
+    let new = slice_set lines v given in
+    let t = c.args.time in
+    let d = c.args.output.delay in
+    let changes = (t, c.args.is) ∷ [] in
+    let one : extended [] t c.args.was c.args.is ≡ changes = c.if-not-counts.ensures in
+    let can = c.requires.wire v c.in-Some.is in
+    let read : c.index_mut-line.result.now ≡ line_at lines v = get_or_read lines v c.index_mut-line.result.now can.0 c.index_mut-line.ensures.value Old in
+    let set : line_at new v ≡ given = get_or-set_same lines v given Old can.0 in
+    let able = subst (λ l. CanTake l changes d c.args.end t (t + 1)) (sym read) (subst (λ xs. CanTake (line_at lines v) xs d c.args.end t (t + 1)) one can.1) in
+    let taken : HasTaken (line_at lines v) (line_at new v) changes d n.horizon t (t + 1)
+    = subst (λ h. HasTaken (line_at lines v) (line_at new v) changes d h t (t + 1)) (sym high)
+    (subst (λ l. HasTaken (line_at lines v) l changes d c.args.end t (t + 1)) (sym set)
+    (subst (λ l. HasTaken l given changes d c.args.end t (t + 1)) read (c.in_ok-give_one.ensures.taken t (t + 1) able))) in
+    telling_given n run c.args.readers.now rows lines new c.args.looks.now.items c.tell.new.looks.items v t c.args.is d taken
+    (λ w differ. get_or-set_other lines v w given Old differ)
+    c.in_ok-tell.ensures.kept
+    (λ on. elim (c.in_ok-give_one.ensures.told (sym (ap is_told set) ∙ on)) as (λ _. (is_told (line_at lines v) ≡ true) ⊎ IsOwn (line_at lines v) (t + 1) n.horizon) [
+      | inl earlier ↦ inl (subst (λ l. is_told l ≡ true) read earlier)
+      | inr over ↦ inr (subst (λ l. IsOwn l (t + 1) n.horizon) read (over (t + d) n.horizon (subst (λ l. IsOwn l (t + d) n.horizon) (sym read) (subst (IsOwn (line_at lines v) (t + d)) (sym high) can.1.own))))
+    ])
+    (λ on reader has.
+    let low : d - 1 < length c.args.looks.now.items = subst (λ k. d - 1 < k) c.len.ensures (ltb-true (d - 1) c.len.result (c.in_ok-give_one.ensures.list (sym (ap is_told set) ∙ on))) in
+    c.in_ok-tell.ensures.exact low reader (subst (λ xs. Contains xs reader) (sym c.of.ensures) has))
+    tells

@@ -36,6 +36,7 @@ loop-p-init c = record {
   places = refl;
   kept = λ k m has. has;
   given = given_none c.args.lines.now.items c.args.outputs.now (unit_answers (length c.args.outputs.now) c.args.time c.args.before.now c.args.after.now) c.args.end c.args.time (c.args.time + 1);
+  telling = λ n run rows high tells. tells;
   told = λ p low. absurd (omega (arith, low));
 }
 
@@ -71,6 +72,7 @@ loop-p-preserved c =
           (subst (λ (o : Output). HasTaken (line_at lines w) (line_at new w) (extended [] t c.output-was.result c.output-is.result) o.delay end t (t + 1)) output
           (done.taken w (subst (λ (o : Output). o.wire ≡ Some (record { 0 = w })) (sym output) wire))))
           (λ w none. done.others w (λ wire. none (subst (λ (o : Output). o.wire ≡ Some (record { 0 = w })) output wire)));
+      telling = λ n run rows high tells. done.telling n run rows high (inv.telling n run rows high tells);
       told = λ q low. elim (cases_eq q p) as (λ _. IsTold rows (output_in outputs q) (slice_index_or answers q []) (t + 1) lists) [
         | inl same ↦ subst (λ k. IsTold rows (output_in outputs k) (slice_index_or answers k []) (t + 1) lists) (sym same) here
         | inr differ ↦ λ w reader wire some has.

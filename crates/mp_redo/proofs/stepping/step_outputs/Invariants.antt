@@ -2,7 +2,7 @@ use Rattle.std.proofs.Common.{◌≡◌, ◌+◌, length}
 use Rattle.mp_redo.specs.Answers.{HasGiven}
 use Rattle.mp_redo.specs.Rings.{AreKept}
 use Rattle.mp_redo.specs.Steps.{unit_answers}
-use Rattle.mp_redo.specs.Telling.{AreTold}
+use Rattle.mp_redo.specs.Telling.{AreTold, KeepsTelling}
 use Rattle.mp_redo.proofs.stepping.step_outputs.Given as goal
 
 -- the first outputs have given and told
@@ -11,5 +11,6 @@ invariant-loop-p l = record {
   places : length l.looks.items ≡ length l.fn.looks.items;
   kept : AreKept l.fn.looks.items l.looks.items;
   given : HasGiven l.fn.lines.items l.lines.items l.outputs (unit_answers (length l.outputs) l.time l.before l.after) l.end l.time (l.time + 1) l.p;
+  telling : KeepsTelling l.readers l.end (l.time + 1) l.fn.lines.items l.lines.items l.fn.looks.items l.looks.items;
   told : AreTold l.readers l.outputs (unit_answers (length l.outputs) l.time l.before l.after) (l.time + 1) l.looks.items l.p;
 }

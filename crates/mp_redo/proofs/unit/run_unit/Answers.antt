@@ -1,7 +1,7 @@
 use Rattle.std.proofs.Common.{◌+◌, refl, sym, subst, ◌∙◌}
 use Rattle.std.specs.List.{Contains}
 use Rattle.std.proofs.lemmas.List.Elements.{Contains-append_right}
-use Rattle.mp_redo.specs.Redoing.{cell_at, IsListening, IsDuring}
+use Rattle.mp_redo.specs.Redoing.{cell_at, AreTelling, IsListening, IsDuring}
 use Rattle.mp_redo.proofs.BeginLemmas.{window_begins}
 use Rattle.mp_redo.proofs.DueLemmas.{answered_among}
 use Rattle.mp_redo.proofs.WindowEndLemmas.{listed_none, window_ends}
@@ -24,6 +24,10 @@ answer_due-requires-clause-during g c κs within =
     subst (λ due. IsDuring old new run block time (time + 1) due marks cells lines lists) (sym c.as_slice.ensures.value)
     (window_begins old new change.old_form change.form change.revision run change.run block time (time + 1) 1 cells lines c.args.looks.now.items lists c.args.marks.now.items marks due c.take_lists.new.due.items
     c.requires.before unit.block unit.some unit.short unit.within refl c.requires.marks (listed_none c.args.marks.now.items due c.requires.free) c.in_ok-take_lists.ensures)
+
+pub look_all-requires-clause-telling : goal.look_all-requires-clause-telling
+look_all-requires-clause-telling g c =
+    subst (λ lines. AreTelling c.args.change.now.new.now c.args.change.now.run.now (c.args.time + 1) lines c.answer_due.new.looks.items) (sym c.as_slice-4.ensures.value) c.in_ok-answer_due.ensures.during.telling
 
 pub returns-clause-cells : goal.returns-clause-cells
 returns-clause-cells g c =

@@ -1,12 +1,15 @@
-use Rattle.std.proofs.Common.{◌≡◌, length, refl, sym, ◌∙◌, arith}
+use Rattle.std.proofs.Common.{◌≡◌, length, refl, sym, subst, ◌∙◌, arith}
 use Rattle.mp_engine.specs.Outcomes.{Outcome}
 use Rattle.mp_netlist.specs.Circuit.{Circuit}
 use Rattle.mp_redo.specs.Keeping.{AreLedgers, AreStatesAt}
-use Rattle.mp_redo.specs.Redoing.{AreCells, AreLines, IsBefore}
+use Rattle.mp_redo.specs.Redoing.{AreCells, AreLines, AreUntold, IsBefore}
 use Rattle.mp_redo.proofs.OverLemmas.{states_at}
 use Rattle.mp_redo.proofs.LikeLemmas.{before_like}
 use Rattle.mp_redo.proofs.CourseLemmas.{ledgers_like}
 use Rattle.mp_redo.proofs.course.Course.first.Goals as goal
+
+pub first_looks-requires-clause-untold : goal.first_looks-requires-clause-untold
+first_looks-requires-clause-untold c = subst AreUntold (sym c.as_slice-3.ensures.value) c.in_ok-lines.ensures.untold
 
 pub returns : goal.returns
 returns c =
@@ -22,7 +25,7 @@ returns c =
     let ledgers = c.in_ok-ledgers.ledgers.items in
     let opened = c.in_ok-open_first.ensures in
     let are : AreCells old new 0 (λ m. 0) cells = c.in_ok-cells.ensures.cells in
-    let given : AreLines new run (λ m. 0) cells lines = rw c.as_slice.ensures.value at (c.in_ok-lines.ensures run is_run) in
+    let given : AreLines new run (λ m. 0) cells lines = rw c.as_slice.ensures.value at (c.in_ok-lines.ensures.lines run is_run) in
     let told : (o : Circuit) (r : Outcome) → AreCells o new 0 (λ m. 0) cells → AreLines new r (λ m. 0) cells lines → IsBefore o new r 0 0 cells lines looks =
     rw (c.as_slice-2.ensures.value, c.as_slice-3.ensures.value) at c.in_ok-looks.ensures.before in
     let kept : (n : Circuit) (r : Outcome) → n.horizon ≡ c.horizon.result → length cells ≡ length n.modules → AreStatesAt n r 0 cells → AreLedgers n r 0 cells ledgers =

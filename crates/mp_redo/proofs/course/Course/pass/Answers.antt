@@ -19,6 +19,12 @@ run_units-requires-clause-some g c =
     let below = c.requires.window.below in
     omega (arith, room, below)
 
+pub run_units-requires-clause-room : goal.run_units-requires-clause-room
+run_units-requires-clause-room g c κs within =
+    let room = c.requires.before.room in
+    let ends = c.requires.window.ends in
+    omega (arith, room, ends)
+
 pub open_joined-requires-clause-places : goal.open_joined-requires-clause-places
 open_joined-requires-clause-places g c =
     let same : c.run_units.new.self.ledgers.items ≡ c.args.self.now.ledgers.items = cc (c.in_ok-run_units.ensures.ledgers) in

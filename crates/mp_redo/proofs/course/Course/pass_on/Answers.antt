@@ -18,7 +18,7 @@ returns-then-from-idle_end-clause-before g c =
     let after = c.move_up.new.self.items in
     let up = c.move_up.ensures in
     let done = idle_passed change.old.now change.new.now form.old_form form.form form.revision change.run.now form.run _ now.cells.items now.lines.items now.stretches.items now.marks.items is.marks is.free
-    from to c.requires.window.begins refl (idle.windows c.if-from-idle_end.true) looks after (omega (arith, below, room)) idle.idle up.moved is.before is.stretches is.opened in
+    from to c.requires.window.begins refl (idle.windows c.if-from-idle_end.true) looks after (omega (arith, below, room)) up.places idle.idle up.moved is.before is.stretches is.opened in
     record {
       before = done.0;
       kept = is.kept;

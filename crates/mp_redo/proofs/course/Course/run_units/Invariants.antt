@@ -1,4 +1,4 @@
-use Rattle.std.proofs.Common.{◌≡◌, ℕ, ◌≤◌, false, length}
+use Rattle.std.proofs.Common.{◌≡◌, ℕ, ◌-◌, ◌≤◌, false, length}
 use Rattle.mp_engine.specs.Marks.{is_marked}
 use Rattle.mp_redo.specs.Joins.{HaveAnswered}
 use Rattle.mp_redo.specs.Redoing.{IsBefore}
@@ -8,6 +8,7 @@ use Rattle.mp_redo.proofs.course.Course.run_units.Given as goal
 abbrev pub invariant-loop-time : goal.invariant-loop-time
 invariant-loop-time g l = record {
   low : l.from ≤ l.time;
+  within : l.time ≤ l.to;
   places : length l.self.looks.items ≡ length l.fn.self.looks.items;
   marks : length l.self.marks.items ≡ length l.fn.self.marks.items;
   free : (m : ℕ) → is_marked l.self.marks.items m ≡ false;
@@ -17,3 +18,6 @@ invariant-loop-time g l = record {
   stretches : l.self.stretches ≡ l.fn.self.stretches;
   live : l.self.live ≡ l.fn.self.live;
 }
+
+abbrev pub decreases-loop-time : goal.decreases-loop-time
+decreases-loop-time g l = l.to - l.time
