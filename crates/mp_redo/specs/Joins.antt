@@ -1,5 +1,5 @@
 -- Modules that have joined those that are evaluated again.
-use Rattle.std.specs.Prelude.{◌≡◌, ◌⊎◌, ℕ, true, false, Bool, List, Some, IsSome, length}
+use Rattle.std.specs.Prelude.{◌≡◌, ℕ, true, false, Bool, List, Some, length}
 use Rattle.std.specs.List.{Contains}
 use Rattle.mp_modules.specs.declared.memory.Memory.{Memory}
 use Rattle.mp_records.specs.declared.ids.ModuleId.{ModuleId}

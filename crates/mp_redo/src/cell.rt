@@ -26,16 +26,6 @@ pub(crate) fn is_live(cells: &[Cell], id: ModuleId) -> bool
     }
 }
 
-/// A module's state. Where it has no cell, a blank one.
-pub(crate) fn memory_of(cells: &[Cell], id: ModuleId) -> Memory
-    ensures { result ≡ (cell_at cells.now id.0).memory }
-{
-    match cells.get(id.0 as usize) {
-        Some(cell) => cell.memory,
-        None => Memory::with_one_output(&[], 0),
-    }
-}
-
 /// The state of a module that has a cell.
 pub(crate) fn state_of(cells: &[Cell], id: ModuleId) -> &Memory
     requires { id.0 < length cells.now }

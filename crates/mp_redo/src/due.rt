@@ -10,7 +10,7 @@ ghost use Rattle.mp_redo.specs.Ledgers.{state_in};
 ghost use Rattle.mp_redo.specs.Redoing.{cell_at, IsDuring};
 ghost use Rattle.mp_redo.specs.Windows.{IsShort};
 
-use crate::cell::{Cell, is_live, memory_of, set_live, state_of};
+use crate::cell::{Cell, is_live, set_live, state_of};
 use crate::change::Change;
 use crate::comparing::hear_other;
 use crate::line::Line;
@@ -78,13 +78,12 @@ fn answer_as_live(
     let Some(part) = part_at(change.parts, id) else {
         unreachable!();
     };
-    let before = memory_of(cells.as_slice(), id);
-    let memory = next_memory(change, lines.as_slice(), found, part, &before, time);
-    set_live(cells, id, memory);
+    // Read where it is kept, since a state is large to copy.
+    let before = state_of(cells.as_slice(), id);
+    let after = next_memory(change, lines.as_slice(), found, part, before, time);
+    give_outputs(change, lines, looks, found, before, &after, time)?;
+    set_live(cells, id, after);
     clear_mark(marks, id);
-    // Read where it is kept: a copy of what was written just before would have to wait for it.
-    let after = state_of(cells.as_slice(), id);
-    give_outputs(change, lines, looks, found, &before, after, time)?;
     Ok(())
 }
 

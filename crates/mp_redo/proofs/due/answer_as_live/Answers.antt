@@ -1,5 +1,11 @@
-use Rattle.std.proofs.Common.{◌≡◌, ◌+◌, List, [], slice_set, false, sym, subst, ap, ◌∙◌}
+use Rattle.std.proofs.Common.{◌≡◌, ◌+◌, ◌<◌, length, option_map, Some, None, List, [], slice_set, false, sym, subst, ap, ◌∙◌}
+use Rattle.std.specs.Option.{option_copied}
+use Rattle.std.proofs.lemmas.List.{get_or-map}
+use Rattle.std.proofs.lemmas.Option.{same_Some}
 use Rattle.mp_modules.specs.declared.memory.Memory.{Memory}
+use Rattle.mp_netlist.specs.Slots.{slot_at}
+use Rattle.mp_model.specs.Levels.{built}
+use Rattle.mp_model.proofs.SlotLemmas.{slot_within}
 use Rattle.mp_redo.specs.declared.line.Line.{Line}
 use Rattle.mp_redo.specs.Joins.{HaveAnswered}
 use Rattle.mp_redo.specs.Redoing.{cell_at, IsDuring}
@@ -8,10 +14,29 @@ use Rattle.mp_redo.proofs.StepLemmas.{steps_to}
 use Rattle.mp_redo.proofs.DueLemmas.{cell_within, due_heard, due_ready, due_live, live_answers, answered_one}
 use Rattle.mp_redo.proofs.due.answer_as_live.Goals as goal
 
+pub state_of-before-requires : goal.state_of-before-requires
+state_of-before-requires c =
+    subst (λ xs. c.args.id.0 < length xs) (sym c.as_slice.ensures.value)
+    (cell_within c.args.change.now.old.now c.args.change.now.new.now c.requires.change.old_form c.requires.change.form c.requires.change.revision c.args.change.now.run.now c.requires.change.run c.args.block c.args.time (c.args.time + 1) c.requires.unit c.args.due.now c.args.marks.now.items c.args.cells.now.items c.args.lines.now.items c.args.looks.now.items c.requires.during c.args.id.0 c.requires.marked c.args.found.now c.requires.stands)
+
+pub next_memory-after-requires-clause-form : goal.next_memory-after-requires-clause-form
+next_memory-after-requires-clause-form c = c.requires.change.form.modules_ok c.args.id.0 c.args.found.now c.requires.stands
+
+pub next_memory-after-requires-clause-part : goal.next_memory-after-requires-clause-part
+next_memory-after-requires-clause-part c =
+    let n = c.args.change.now.new.now in
+    let r = c.args.found.now in
+    let m = c.args.id.0 in
+    let low = slot_within n.modules m r c.requires.stands in
+    let both : Some c.in-Some.part.now ≡ Some (built n r) =
+    ap option_copied (sym c.in-Some.is) ∙ c.part_at.ensures ∙ ap (λ xs. slot_at xs m) c.requires.change.parts
+    ∙ get_or-map (option_map (built n)) n.modules m None None low ∙ ap (option_map (built n)) c.requires.stands in
+    same_Some c.in-Some.part.now (built n r) both
+
 pub give_outputs-requires-clause-stands : goal.give_outputs-requires-clause-stands
 give_outputs-requires-clause-stands c =
     let m = c.args.id.0 in
-    let memory : (cell_at c.args.cells.now.items m).memory ≡ c.memory_of-before.result = ap (λ xs. (cell_at xs m).memory) (sym c.as_slice.ensures.value) ∙ sym c.memory_of-before.ensures in
+    let memory : (cell_at c.args.cells.now.items m).memory ≡ c.state_of-before.result.now = ap (λ xs. (cell_at xs m).memory) (sym c.as_slice.ensures.value) ∙ sym c.state_of-before.ensures in
     (m, subst (λ (x : Memory). IsAt c.args.change.now.new.now m c.args.time c.args.found.now x) memory (due_live c.args.change.now.old.now c.args.change.now.new.now c.requires.change.old_form c.requires.change.form c.requires.change.revision c.args.change.now.run.now c.requires.change.run c.args.block c.args.time (c.args.time + 1) c.requires.unit c.args.due.now c.args.marks.now.items c.args.cells.now.items c.args.lines.now.items c.args.looks.now.items c.requires.during c.args.id.0 c.requires.marked c.args.found.now c.requires.stands c.requires.live))
 
 pub give_outputs-requires-clause-heard : goal.give_outputs-requires-clause-heard
@@ -23,7 +48,7 @@ give_outputs-requires-clause-ready c = due_ready c.args.change.now.old.now c.arg
 pub returns-clause-cells : goal.returns-clause-cells
 returns-clause-cells c =
     subst (HaveAnswered [] c.args.cells.now.items) (sym c.set_live.ensures)
-    (answered_one [] c.args.cells.now.items c.args.id.0 c.next_memory-memory.result (λ none. c.requires.live) (cell_within c.args.change.now.old.now c.args.change.now.new.now c.requires.change.old_form c.requires.change.form c.requires.change.revision c.args.change.now.run.now c.requires.change.run c.args.block c.args.time (c.args.time + 1) c.requires.unit c.args.due.now c.args.marks.now.items c.args.cells.now.items c.args.lines.now.items c.args.looks.now.items c.requires.during c.args.id.0 c.requires.marked c.args.found.now c.requires.stands))
+    (answered_one [] c.args.cells.now.items c.args.id.0 c.next_memory-after.result (λ none. c.requires.live) (cell_within c.args.change.now.old.now c.args.change.now.new.now c.requires.change.old_form c.requires.change.form c.requires.change.revision c.args.change.now.run.now c.requires.change.run c.args.block c.args.time (c.args.time + 1) c.requires.unit c.args.due.now c.args.marks.now.items c.args.cells.now.items c.args.lines.now.items c.args.looks.now.items c.requires.during c.args.id.0 c.requires.marked c.args.found.now c.requires.stands))
 
 pub returns-clause-during : goal.returns-clause-during
 returns-clause-during c =
@@ -32,13 +57,13 @@ returns-clause-during c =
     let run = c.args.change.now.run.now in
     let r = c.args.found.now in
     let t = c.args.time in
-    let after = c.next_memory-memory.result in
-    let memory : c.memory_of-before.result ≡ (cell_at c.args.cells.now.items m).memory = c.memory_of-before.ensures ∙ ap (λ xs. (cell_at xs m).memory) c.as_slice.ensures.value in
+    let after = c.next_memory-after.result in
+    let memory : c.state_of-before.result.now ≡ (cell_at c.args.cells.now.items m).memory = c.state_of-before.ensures ∙ ap (λ xs. (cell_at xs m).memory) c.as_slice.ensures.value in
     let done = c.in_ok-give_outputs.ensures in
-    let is : IsAt n m t r c.memory_of-before.result = subst (λ (x : Memory). IsAt n m t r x) (sym memory) (due_live c.args.change.now.old.now c.args.change.now.new.now c.requires.change.old_form c.requires.change.form c.requires.change.revision c.args.change.now.run.now c.requires.change.run c.args.block c.args.time (c.args.time + 1) c.requires.unit c.args.due.now c.args.marks.now.items c.args.cells.now.items c.args.lines.now.items c.args.looks.now.items c.requires.during c.args.id.0 c.requires.marked c.args.found.now c.requires.stands c.requires.live) in
-    let value : after ≡ stepped n run c.args.lines.now.items r c.memory_of-before.result t = subst (λ (ls : List Line). after ≡ stepped n run ls r c.memory_of-before.result t) c.as_slice-2.ensures.value c.next_memory-memory.ensures in
+    let is : IsAt n m t r c.state_of-before.result.now = subst (λ (x : Memory). IsAt n m t r x) (sym memory) (due_live c.args.change.now.old.now c.args.change.now.new.now c.requires.change.old_form c.requires.change.form c.requires.change.revision c.args.change.now.run.now c.requires.change.run c.args.block c.args.time (c.args.time + 1) c.requires.unit c.args.due.now c.args.marks.now.items c.args.cells.now.items c.args.lines.now.items c.args.looks.now.items c.requires.during c.args.id.0 c.requires.marked c.args.found.now c.requires.stands c.requires.live) in
+    let value : after ≡ stepped n run c.args.lines.now.items r c.state_of-before.result.now t = subst (λ (ls : List Line). after ≡ stepped n run ls r c.state_of-before.result.now t) c.as_slice-2.ensures.value c.next_memory-after.ensures in
     let heard = due_heard c.args.change.now.old.now c.args.change.now.new.now c.requires.change.old_form c.requires.change.form c.requires.change.revision c.args.change.now.run.now c.requires.change.run c.args.block c.args.time (c.args.time + 1) c.requires.unit c.args.due.now c.args.marks.now.items c.args.cells.now.items c.args.lines.now.items c.args.looks.now.items c.requires.during c.args.id.0 c.requires.marked c.args.found.now c.requires.stands in
-    let now : IsAt n m (t + 1) r after = steps_to n c.requires.change.form r (c.requires.change.form.modules_ok m r c.requires.stands) run c.args.lines.now.items t heard c.memory_of-before.result after value m is in
+    let now : IsAt n m (t + 1) r after = steps_to n c.requires.change.form r (c.requires.change.form.modules_ok m r c.requires.stands) run c.args.lines.now.items t heard c.state_of-before.result.now after value m is in
     let wires = subst (λ (x : Memory). GoesOn n run c.args.lines.now.items c.give_outputs.new.lines.items r x t (t + 1)) memory done.wires in
     subst (λ ms. IsDuring c.args.change.now.old.now n run c.args.block t (t + 1) c.args.due.now ms c.set_live.new.cells.items c.give_outputs.new.lines.items c.give_outputs.new.looks.items) (sym c.clear_mark.ensures)
     (subst (λ xs. IsDuring c.args.change.now.old.now n run c.args.block t (t + 1) c.args.due.now (slice_set c.args.marks.now.items m false) xs c.give_outputs.new.lines.items c.give_outputs.new.looks.items) (sym c.set_live.ensures)

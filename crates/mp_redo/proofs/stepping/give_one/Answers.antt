@@ -1,4 +1,4 @@
-use Rattle.std.proofs.Common.{◌≡◌, true, [], ◌∷◌, ap, sym, subst, ◌∙◌}
+use Rattle.std.proofs.Common.{[], ◌∷◌, ap, sym, subst, ◌∙◌}
 use Rattle.mp_redo.specs.Lines.{is_told}
 use Rattle.mp_redo.specs.Answers.{CanTake, CanTakeSome, HasTaken}
 use Rattle.mp_redo.proofs.TellLemmas.{can_take_with, has_taken_with, is_told_with}

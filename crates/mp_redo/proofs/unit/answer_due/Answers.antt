@@ -1,10 +1,8 @@
-use Rattle.std.proofs.Common.{◌+◌, sym, subst}
+use Rattle.std.proofs.Common.{subst}
 use Rattle.std.proofs.lemmas.Result.{on_ok_weaker}
 use Rattle.std.specs.List.{Contains}
 use Rattle.mp_records.specs.declared.ids.ModuleId.{ModuleId}
 use Rattle.mp_engine.proofs.MarkLemmas.{none_in}
-use Rattle.mp_redo.specs.Joins.{IsToJoin}
-use Rattle.mp_redo.specs.Redoing.{IsDuring}
 use Rattle.mp_redo.proofs.UnitLemmas.{answered_then}
 use Rattle.mp_redo.proofs.unit.answer_due.Goals as goal
 
