@@ -143,7 +143,7 @@ fn request(command: Command, found: &ArgMatches<'_>, viewers: u32) -> Request {
         command,
         options: Options {
             workers: found.get_one::<u32>("workers").unwrap_or(2),
-            least: found.get_one::<u32>("least").unwrap_or(64),
+            least: found.get_one::<u32>("least").unwrap_or(128),
             viewers,
         },
     }
@@ -190,7 +190,7 @@ fn with_crew<'a>(alloc: Global, command: Parser<'a>) -> Result<Parser<'a>, Alloc
     let workers = number(alloc, "workers")
         .default_value("2")
         .help("How many workers there are, 1 to 16");
-    let least = number(alloc, "least").default_value("64").help(
+    let least = number(alloc, "least").default_value("128").help(
         "With fewer modules than these the workers are not called on, 1 to 4096",
     );
     command.arg(workers)?.arg(least)
