@@ -29,4 +29,3 @@ pub use stated_line::read_line;
 pub use text_code::TextCode;
 pub use text_error::TextError;
 pub use writing::{put_netlist, write_netlist};
-
