@@ -1,3 +1,4 @@
+pub mod IndexLemmas
 pub mod TableLemmas
 pub mod DriverLemmas
 pub mod DrivenLemmas

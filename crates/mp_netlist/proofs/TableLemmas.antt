@@ -1,8 +1,7 @@
 -- The look-up of a name among slots, and what each change of a slot does to the names and to their table.
-use Rattle.std.proofs.Common.{◌≡◌, ℕ, zero, suc, ◌+◌, ◌-◌, ◌<◌, ◌≤◌, ◌↔◌, Bool, true, false, cond, List, [], ◌∷◌, ◌++◌, length, get_or, Option, None, Some, option_map, MatchOption, is_some, is_none, unwrap_or, ◌⊎◌, inl, inr, refl, sym, ap, subst, ◌∙◌, arith, true≢false, String, string_bytes, length-append}
-use Rattle.std.proofs.Math.ListN.{set}
-use Rattle.std.specs.Map.{lookup}
-use Rattle.std.specs.List.{AllZip, position_from}
+use Rattle.std.proofs.Common.{◌≡◌, ℕ, zero, suc, ◌+◌, ◌-◌, ◌<◌, ◌≤◌, ◌↔◌, Bool, true, false, cond, List, [], ◌∷◌, ◌++◌, length, get_or, Option, None, Some, option_map, MatchOption, is_some, is_none, unwrap_or, ◌⊎◌, inl, inr, refl, sym, ap, subst, ◌∙◌, arith, true≢false, length-append}
+use Rattle.std.proofs.Math.ListN.{set, length-set}
+use Rattle.std.specs.List.{position_from}
 use Rattle.std.specs.Str.{bytes_eq}
 use Rattle.std.specs.Option.{option_and_then}
 use Rattle.std.proofs.lemmas.List.{get_or_past, get_or_push, get_or_append_left, get_or-set_same, get_or-set_other}
@@ -10,7 +9,7 @@ use Rattle.std.proofs.lemmas.Slice.Eq.{bytes_eq-Decides}
 use Rattle.std.proofs.lemmas.Bool.{cases_lt, cases_eq}
 use Rattle.mp_records.specs.Names.{is_name}
 use Rattle.mp_netlist.specs.Slots.{has_name, number_named}
-use Rattle.mp_netlist.specs.Tables.{Finds, IsTable}
+use Rattle.mp_netlist.specs.Tables.{standing_number, HadName, IsTable}
 
 module _ {X : Type 0} (p : X → Bool) (d : X) (none : p d ≡ false) where
   -- what the first place that passes is, or that none passes
@@ -92,14 +91,6 @@ same_name a b = (bytes_eq-Decides a b).0
 pub equal_name : (a b : List ℕ) → a ≡ b → bytes_eq a b ≡ true
 equal_name a b = (bytes_eq-Decides a b).1
 
--- a map whose entries are clones of another's has the same look-ups
-pub lookup-clone : {X Y : Type 0} (es ds : List (String Y × X)) (bs : List ℕ) → AllZip (λ p q. (string_bytes q.0 ≡ string_bytes p.0) × (q.1 ≡ p.1)) es ds
-    → lookup (λ k. bytes_eq bs (string_bytes k)) ds ≡ lookup (λ k. bytes_eq bs (string_bytes k)) es
-lookup-clone [] [] bs all = refl
-lookup-clone [] (d ∷ ds) bs all = absurd all
-lookup-clone (e ∷ es) [] bs all = absurd all
-lookup-clone (e ∷ es) (d ∷ ds) bs all = rw (all.0.0, all.0.1, lookup-clone es ds bs all.1) refl
-
 module _ {R : Type 0} (name_of : R → List ℕ) where
   -- what has a name is not an empty slot
   nobody : (q : List ℕ) {A : Type 0} → (slot : Option R) → slot ≡ None → has_name name_of q slot ≡ true → A
@@ -126,10 +117,47 @@ module _ {R : Type 0} (name_of : R → List ℕ) where
   pub named_within : (slots : List (Option R)) (name : List ℕ) (number : ℕ) → number_named name_of slots name ≡ Some number → number < length slots
   named_within slots name number found = standing name slots number (named_has slots name number found)
 
-  -- the table answers the look-up of the definition
-  pub looked_up : (slots : List (Option R)) (look : List ℕ → Option ℕ) → IsTable name_of slots look → (name : List ℕ) → look name ≡ number_named name_of slots name
-  unfolding number_named
-  looked_up slots look table name = search_from_lookup (has_name name_of name) None refl slots (look name) (table name)
+  -- what has a name stands
+  has_stands : (name : List ℕ) (slot : Option R) → has_name name_of name slot ≡ true → is_some slot ≡ true
+  has_stands name None has = absurd (true≢false (sym has))
+  has_stands name (Some thing) has = refl
+
+  -- with its slot a look-up finds just the thing that has the name
+  standing_has : (slots : List (Option R)) (look : List ℕ → Option ℕ) → IsTable name_of slots look → (name : List ℕ) (i : ℕ)
+      → (standing_number slots (look name) ≡ Some i) ↔ (has_name name_of name (get_or slots i None) ≡ true)
+  standing_has slots look table name i = by (look name) refl
+    where
+      at : (k : ℕ) (b : Bool) → look name ≡ Some k → is_some (get_or slots k None) ≡ b → (cond b (Some k) None ≡ Some i) ↔ (has_name name_of name (get_or slots i None) ≡ true)
+      at k true is stands = (
+        λ h. let same : k ≡ i = cc in subst (λ j. has_name name_of name (get_or slots j None) ≡ true) same ((table.found name k is).1 stands),
+        λ h. sym is ∙ table.finds name i h,
+      )
+      at k false is gone = (
+        λ h. cc,
+        λ h.
+            let other = table.finds name i h in
+            let same : i ≡ k = cc in
+            absurd (true≢false (sym (has_stands name (get_or slots i None) h) ∙ ap (λ j. is_some (get_or slots j None)) same ∙ gone)),
+      )
+
+      by : (found : Option ℕ) → look name ≡ found → (standing_number slots found ≡ Some i) ↔ (has_name name_of name (get_or slots i None) ≡ true)
+      by None is = (λ h. cc, λ h. let other = table.finds name i h in cc)
+      by (Some k) is = at k (is_some (get_or slots k None)) is refl
+
+  -- with the slots the table answers the look-up of the definition
+  module _ (slots : List (Option R)) (look : List ℕ → Option ℕ) (table : IsTable name_of slots look) (name : List ℕ) where
+    looked_up : standing_number slots (look name) ≡ number_named name_of slots name
+    unfolding number_named
+    looked_up = search_from_lookup (has_name name_of name) None refl slots (standing_number slots (look name)) (standing_has slots look table name)
+
+    pub number_stands : (k : ℕ) → look name ≡ Some k → is_some (get_or slots k None) ≡ true → Some k ≡ number_named name_of slots name
+    number_stands k is stands = sym (ap (standing_number slots) is ∙ ap (λ b. cond b (Some k) None) stands) ∙ looked_up
+
+    pub number_gone : (k : ℕ) → look name ≡ Some k → is_some (get_or slots k None) ≡ false → None ≡ number_named name_of slots name
+    number_gone k is gone = sym (ap (standing_number slots) is ∙ ap (λ b. cond b (Some k) None) gone) ∙ looked_up
+
+    pub number_unknown : look name ≡ None → None ≡ number_named name_of slots name
+    number_unknown is = sym (ap (standing_number slots) is) ∙ looked_up
 
   -- what is known of a thing that a name finds
   pub record IsNamed (slots : List (Option R)) (name : List ℕ) : Type 0 where
@@ -156,95 +184,12 @@ module _ {R : Type 0} (name_of : R → List ℕ) where
       by None found = absurd (true≢false (sym is ∙ ap is_some found))
       by (Some k) found = named_at slots name k (get_or slots k None) found refl
 
-  Finds-push : (name q : List ℕ) (slots : List (Option R)) (thing : R) (look : List ℕ → Option ℕ) (number : ℕ) → name_of thing ≡ name → look name ≡ None
-      → ((n : ℕ) → Finds name_of slots q (look q) n) → Finds name_of (slots ++ Some thing ∷ []) q (cond (bytes_eq name q) (Some (length slots)) (look q)) number
-  Finds-push name q slots thing look number same free old = by (bytes_eq name q) refl (pushed_at slots (Some thing) number)
-    where
-      by : (b : Bool) → bytes_eq name q ≡ b → PushedAt slots (Some thing) number
-          → Finds name_of (slots ++ Some thing ∷ []) q (cond b (Some (length slots)) (look q)) number
-      by true e at =
-          let is : q ≡ name = sym (same_name name q e) in
-          let none : look q ≡ None = ap look is ∙ free in (
-            λ h. let here : length slots ≡ number = cc in
-                ap (has_name name_of q) (get_or_push slots (Some thing) None number here) ∙ equal_name q (name_of thing) (is ∙ sym same),
-            λ h. elim at [
-              | inl w ↦ let was = (old number).1 (sym (ap (has_name name_of q) w.1) ∙ h) in cc
-              | inr (inl w) ↦ ap Some (sym w.0)
-              | inr (inr w) ↦ nobody q _ w.1 h
-            ],
-          )
-      by false e at = (
-        λ h. let was = (old number).0 h in
-            ap (has_name name_of q) (get_or_append_left slots _ None number (standing q slots number was)) ∙ was,
-        λ h. elim at [
-          | inl w ↦ (old number).1 (sym (ap (has_name name_of q) w.1) ∙ h)
-          | inr (inl w) ↦
-              let is : q ≡ name_of thing = same_name q (name_of thing) (sym (ap (has_name name_of q) w.1) ∙ h) in
-              absurd (true≢false (sym (equal_name name q (sym (is ∙ same))) ∙ e))
-          | inr (inr w) ↦ nobody q _ w.1 h
-        ],
-      )
-
-  Finds-clear : (name q : List ℕ) (slots : List (Option R)) (look : List ℕ → Option ℕ) (i number : ℕ) → look name ≡ Some i
-      → IsTable name_of slots look → Finds name_of (set slots i None) q (cond (bytes_eq name q) None (look q)) number
-  Finds-clear name q slots look i number found old = by (bytes_eq name q) refl (cases_eq number i)
-    where
-      there : has_name name_of name (get_or slots i None) ≡ true
-      there = (old name i).0 found
-
-      within : i < length slots
-      within = standing name slots i there
-
-      by : (b : Bool) → bytes_eq name q ≡ b → (number ≡ i) ⊎ (number ≡ i → ⊥) → Finds name_of (set slots i None) q (cond b None (look q)) number
-      by true e (inl here) = (λ h. cc, λ h. nobody q _ (ap (λ n. get_or (set slots i None) n None) here ∙ get_or-set_same slots i None None within) h)
-      by true e (inr other) =
-          let is : q ≡ name = sym (same_name name q e) in (
-            λ h. cc,
-            λ h. let was = (old q number).1 (sym (ap (has_name name_of q) (get_or-set_other slots i number None None other)) ∙ h) in
-                let first : look q ≡ Some i = ap look is ∙ found in
-                let same : number ≡ i = cc in
-                absurd (other same),
-          )
-      by false e (inl here) = (
-        λ h. let was = ap (λ n. has_name name_of q (get_or slots n None)) (sym here) ∙ (old q number).0 h in
-            absurd (true≢false (sym (equal_name name q (one_name name q (get_or slots i None) there was)) ∙ e)),
-        λ h. nobody q _ (ap (λ n. get_or (set slots i None) n None) here ∙ get_or-set_same slots i None None within) h,
-      )
-      by false e (inr other) =
-          let same = ap (has_name name_of q) (get_or-set_other slots i number None None other) in
-          (λ h. same ∙ (old q number).0 h, λ h. (old q number).1 (sym same ∙ h))
-
-  Finds-rewrite : (q : List ℕ) (slots : List (Option R)) (found : Option ℕ) (i : ℕ) (slot : Option R) (number : ℕ)
-      → i < length slots → has_name name_of q slot ≡ has_name name_of q (get_or slots i None) → Finds name_of slots q found number → Finds name_of (set slots i slot) q found number
-  Finds-rewrite q slots found i slot number within same old = by (cases_eq number i)
-    where
-      by : (number ≡ i) ⊎ (number ≡ i → ⊥) → Finds name_of (set slots i slot) q found number
-      by (inl here) =
-          let at : has_name name_of q (get_or (set slots i slot) number None) ≡ has_name name_of q (get_or slots number None)
-          = ap (λ n. has_name name_of q (get_or (set slots i slot) n None)) here ∙ ap (has_name name_of q) (get_or-set_same slots i slot None within) ∙ same ∙ ap (λ n. has_name name_of q (get_or slots n None)) (sym here) in
-          (λ h. at ∙ old.0 h, λ h. old.1 (sym at ∙ h))
-      by (inr other) =
-          let at = ap (has_name name_of q) (get_or-set_other slots i number slot None other) in
-          (λ h. at ∙ old.0 h, λ h. old.1 (sym at ∙ h))
-
-  -- a thing of a new name goes last, and the table gets the name
-  pub IsTable-push : (name : List ℕ) (slots : List (Option R)) (thing : R) (look new : List ℕ → Option ℕ) → name_of thing ≡ name → look name ≡ None
-      → IsTable name_of slots look → ((q : List ℕ) → new q ≡ cond (bytes_eq name q) (Some (length slots)) (look q)) → IsTable name_of (slots ++ Some thing ∷ []) new
-  IsTable-push name slots thing look new same free table is q number = rw (is q) (Finds-push name q slots thing look number same free (table q))
-
-  -- the thing of a name goes, and the name with it
-  pub IsTable-clear : (name : List ℕ) (slots : List (Option R)) (look new : List ℕ → Option ℕ) (i : ℕ) → look name ≡ Some i
-      → IsTable name_of slots look → ((q : List ℕ) → new q ≡ cond (bytes_eq name q) None (look q)) → IsTable name_of (set slots i None) new
-  IsTable-clear name slots look new i found table is q number = rw (is q) (Finds-clear name q slots look i number found table)
-
-  -- a thing is written over by one of its name
-  pub IsTable-rewrite : (slots : List (Option R)) (look : List ℕ → Option ℕ) (i : ℕ) (slot : Option R) → i < length slots
-      → ((q : List ℕ) → has_name name_of q slot ≡ has_name name_of q (get_or slots i None)) → IsTable name_of slots look → IsTable name_of (set slots i slot) look
-  IsTable-rewrite slots look i slot within same table q number = Finds-rewrite q slots (look q) i slot number within (same q) (table q number)
-
   -- a table with the same look-ups
   pub IsTable-copy : (slots : List (Option R)) (look new : List ℕ → Option ℕ) → ((q : List ℕ) → new q ≡ look q) → IsTable name_of slots look → IsTable name_of slots new
-  IsTable-copy slots look new is table q number = rw (is q) (table q number)
+  IsTable-copy slots look new is table = record {
+    finds = λ q number has. is q ∙ table.finds q number has;
+    found = λ q number at. table.found q number (sym (is q) ∙ at);
+  }
 
   -- where a look-up finds nothing no thing has the name
   pub named_none : (slots : List (Option R)) (name : List ℕ) → is_none (number_named name_of slots name) ≡ true → (i : ℕ) → has_name name_of name (get_or slots i None) ≡ false
@@ -254,6 +199,72 @@ module _ {R : Type 0} (name_of : R → List ℕ) where
       by : (found : Option ℕ) → is_none found ≡ true → IsFirst (has_name name_of name) None refl 0 slots found → has_name name_of name (get_or slots i None) ≡ false
       by None none first = first i
       by (Some k) none first = cc
+
+  -- a thing of a new name goes last, and the table gets the name
+  module _ (name : List ℕ) (slots : List (Option R)) (thing : R) (look : List ℕ → Option ℕ) (same : name_of thing ≡ name)
+      (free : is_none (number_named name_of slots name) ≡ true) (table : IsTable name_of slots look) where
+    finds-push : (q : List ℕ) (number : ℕ) (b : Bool) → bytes_eq name q ≡ b → PushedAt slots (Some thing) number
+        → has_name name_of q (get_or (slots ++ Some thing ∷ []) number None) ≡ true → cond b (Some (length slots)) (look q) ≡ Some number
+    finds-push q number true e (inl w) has =
+        let had = subst (λ n. has_name name_of n (get_or slots number None) ≡ true) (sym (same_name name q e)) (sym (ap (has_name name_of q) w.1) ∙ has) in
+        absurd (true≢false (sym had ∙ named_none slots name free number))
+    finds-push q number true e (inr (inl w)) has = ap Some (sym w.0)
+    finds-push q number false e (inl w) has = table.finds q number (sym (ap (has_name name_of q) w.1) ∙ has)
+    finds-push q number false e (inr (inl w)) has =
+        let is : q ≡ name_of thing = same_name q (name_of thing) (sym (ap (has_name name_of q) w.1) ∙ has) in
+        absurd (true≢false (sym (equal_name name q (sym (is ∙ same))) ∙ e))
+    finds-push q number b e (inr (inr w)) has = nobody q _ w.1 has
+
+    found-push : (q : List ℕ) (number : ℕ) (b : Bool) → bytes_eq name q ≡ b → cond b (Some (length slots)) (look q) ≡ Some number
+        → HadName name_of (slots ++ Some thing ∷ []) q number
+    found-push q number true e is =
+        let last : length slots ≡ number = cc in (
+          rw length-append (omega arith),
+          λ stands. ap (has_name name_of q) (get_or_push slots (Some thing) None number last) ∙ equal_name q (name_of thing) (sym (same ∙ same_name name q e)),
+        )
+    found-push q number false e is =
+        let was = table.found q number is in
+        let here = get_or_append_left slots (Some thing ∷ []) None number was.0 in (
+          rw length-append (omega (arith, was.0)),
+          λ stands. ap (has_name name_of q) here ∙ was.1 (sym (ap is_some here) ∙ stands),
+        )
+
+    pub IsTable-push : (new : List ℕ → Option ℕ) → ((q : List ℕ) → new q ≡ cond (bytes_eq name q) (Some (length slots)) (look q))
+        → IsTable name_of (slots ++ Some thing ∷ []) new
+    IsTable-push new is = record {
+      finds = λ q number has. is q ∙ finds-push q number (bytes_eq name q) refl (pushed_at slots (Some thing) number) has;
+      found = λ q number at. found-push q number (bytes_eq name q) refl (sym (is q) ∙ at);
+    }
+
+  -- a thing goes, or is written over by one of its name
+  module _ (slots : List (Option R)) (look : List ℕ → Option ℕ) (i : ℕ) (slot : Option R) (within : i < length slots)
+      (kept : (q : List ℕ) → has_name name_of q slot ≡ true → has_name name_of q (get_or slots i None) ≡ true) (table : IsTable name_of slots look) where
+    finds-rewrite : (q : List ℕ) (number : ℕ) → RewrittenAt slots i slot number → has_name name_of q (get_or (set slots i slot) number None) ≡ true → look q ≡ Some number
+    finds-rewrite q number (inl w) has =
+        table.finds q number (subst (λ k. has_name name_of q (get_or slots k None) ≡ true) (sym w.0) (kept q (sym (ap (has_name name_of q) w.1) ∙ has)))
+    finds-rewrite q number (inr w) has = table.finds q number (sym (ap (has_name name_of q) w.1) ∙ has)
+
+    still_has : (q : List ℕ) (s : Option R) → slot ≡ s → (is_some (get_or slots i None) ≡ true → has_name name_of q (get_or slots i None) ≡ true)
+        → is_some s ≡ true → has_name name_of q s ≡ true
+    still_has q None is was stands = absurd (true≢false (sym stands))
+    still_has q (Some s) is was stands =
+        let own = kept (name_of s) (ap (has_name name_of (name_of s)) is ∙ equal_name (name_of s) (name_of s) refl) in
+        equal_name q (name_of s) (one_name q (name_of s) (get_or slots i None) (was (has_stands (name_of s) (get_or slots i None) own)) own)
+
+    found-rewrite : (q : List ℕ) (number : ℕ) → RewrittenAt slots i slot number → look q ≡ Some number → HadName name_of (set slots i slot) q number
+    found-rewrite q number (inl w) is =
+        let was = table.found q number is in
+        let there = subst (λ k. is_some (get_or slots k None) ≡ true → has_name name_of q (get_or slots k None) ≡ true) w.0 was.1 in
+        (rw length-set was.0, λ stands. ap (has_name name_of q) w.1 ∙ still_has q slot refl there (sym (ap is_some w.1) ∙ stands))
+    found-rewrite q number (inr w) is =
+        let was = table.found q number is in
+        (rw length-set was.0, λ stands. ap (has_name name_of q) w.1 ∙ was.1 (sym (ap is_some w.1) ∙ stands))
+
+    pub IsTable-rewrite : IsTable name_of (set slots i slot) look
+    IsTable-rewrite = record {
+      finds = λ q number has. finds-rewrite q number (rewritten_at slots i slot within number) has;
+      found = λ q number is. found-rewrite q number (rewritten_at slots i slot within number) is;
+    }
 
   -- each thing that stands has a name
   abbrev pub AreNamed : List (Option R) → Type 0

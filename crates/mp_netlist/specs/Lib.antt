@@ -13,3 +13,4 @@ pub mod Records
 pub mod DriverSearch
 pub mod DrivenWires
 pub mod Laws
+pub mod Indexes

@@ -2,6 +2,7 @@
 #![tactic(auto)]
 
 mod driver;
+mod index;
 pub mod laws;
 mod module_table;
 mod netlist;

@@ -83,12 +83,11 @@ impl ModuleTable {
         self.table.push(added)
     }
 
-    /// Takes away the module of this name and number. The number stays empty.
-    pub fn remove(&mut self, name: &str, number: u32)
-        requires { number_named (λ (r : Record). r.name) self.old name.now ≡ Some number }
+    /// Takes away the module of this number. The number stays empty.
+    pub fn remove(&mut self, number: u32)
         ensures { self.new ≡ slice_set self.old number None }
     {
-        self.table.remove(name, number);
+        self.table.remove(number);
     }
 
     /// Changes what stands in the slot of this number.

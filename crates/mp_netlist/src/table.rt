@@ -1,7 +1,7 @@
 //! Things by number and by name.
-ghost use Rattle.std.specs.Prelude.{◌≡◌, ◌<◌, List, ℕ, None, option_map, slice_index_or, slice_set, vec_len};
+ghost use Rattle.std.specs.Prelude.{◌≡◌, ◌<◌, List, ℕ, None, is_some, option_map, slice_index_or, slice_set, vec_len};
 
-use indexmap::IndexMap;
+use crate::index::Index;
 use mp_records::Name;
 use std::alloc::{AllocError, Global};
 use std::marker::Model;
@@ -28,23 +28,24 @@ pub trait Change<R: Named>: Drop {
     ghost keeps_name: { (change : Self) (thing : R) → R.name_of (changed change thing) ≡ R.name_of thing };
 }
 
-/// Things by number, from 0 in order of adding, and by name.
+/// Things by number, from 0 in order of adding, and by name. The number of a thing that went may stay in the index, since its slot stays
+/// empty.
 #[derive(Drop)]
 pub struct Table<R: Named> {
     slots: Vec<Option<R>>,
-    numbers: IndexMap<String, u32>,
+    index: Index,
 }
 
 impl<R: Named> Model for Table<R> {
     ghost use Rattle.std.specs.Prelude.{List, Option};
-    ghost use Rattle.indexmap.specs.IndexMap.{get_by_text};
+    ghost use Rattle.mp_netlist.specs.Indexes.{number_in};
     ghost use Rattle.mp_netlist.specs.Tables.{IsTable};
 
     ghost Value = { List (Option R) };
 
     ghost view = { λ table. table.slots.items };
 
-    ghost invariant = { λ table. IsTable R.name_of table.slots.items (get_by_text table.numbers) };
+    ghost invariant = { λ table. IsTable R.name_of table.slots.items (number_in table.index) };
 }
 
 impl<R: Named> Table<R> {
@@ -58,7 +59,7 @@ impl<R: Named> Table<R> {
     {
         Table {
             slots: Vec::new(alloc),
-            numbers: IndexMap::new(alloc),
+            index: Index::new(),
         }
     }
 
@@ -76,9 +77,9 @@ impl<R: Named> Table<R> {
     pub fn number_named(&self, name: &str) -> Option<u32>
         ensures { result ≡ number_named R.name_of self.now name.now }
     {
-        match self.numbers.get(name) {
-            Some(number) => Some(*number),
-            None => None,
+        match self.index.get(name) {
+            Some(number) if stands(self.slots.as_slice(), number) => Some(number),
+            _ => None,
         }
     }
 
@@ -90,20 +91,20 @@ impl<R: Named> Table<R> {
         ensures err { OnErr result (self.new ≡ self.old) }
     {
         let number = self.slots.len() as u32;
-        let key = added.name().clone()?.into_string();
+        let alloc = *self.slots.allocator();
         self.slots.reserve(1)?;
-        self.numbers.insert(key, number)?;
+        self.index.insert(alloc, added.name().as_str(), number)?;
         self.slots.push(Some(added)).unwrap();
         Ok(())
     }
 
-    /// Takes away the thing of this name and number. The number stays empty.
-    pub fn remove(&mut self, name: &str, number: u32)
-        requires { number_named R.name_of self.old name.now ≡ Some number }
+    /// Takes away the thing of this number. The number stays empty.
+    pub fn remove(&mut self, number: u32)
         ensures { self.new ≡ slice_set self.old number None }
     {
-        let _ = self.numbers.swap_remove(name);
-        clear(&mut self.slots, number as usize);
+        if (number as usize) < self.slots.len() {
+            clear(&mut self.slots, number as usize);
+        }
     }
 
     /// Changes what stands in the slot of this number.
@@ -121,7 +122,7 @@ impl<R: Named> Table<R> {
     {
         Ok(Table {
             slots: Vec::from_clones(*self.slots.allocator(), self.slots.as_slice())?,
-            numbers: self.numbers.clone()?,
+            index: self.index.copy()?,
         })
     }
 
@@ -142,6 +143,16 @@ impl<R: Named> Table<R> {
     /// Where its memory is from.
     pub fn allocator(&self) -> Global {
         *self.slots.allocator()
+    }
+}
+
+/// Whether something stands in the slot of this number.
+fn stands<T>(slots: &[Option<T>], number: u32) -> bool
+    ensures { result ≡ is_some (slice_index_or slots.now number None) }
+{
+    match slots.get(number as usize) {
+        Some(slot) => slot.is_some(),
+        None => false,
     }
 }
 

@@ -114,7 +114,7 @@ impl Netlist {
         ensures { self.new ≡ with_wire self.old (wire_id self.old name.now).0 None }
     {
         let id = self.id_of(name);
-        self.wires.remove(name.as_str(), id.0);
+        self.wires.remove(id.0);
     }
 
     fn add_module(
@@ -153,7 +153,7 @@ impl Netlist {
         ensures { self.new ≡ with_module self.old (module_id self.old name.now).0 None }
     {
         let id = self.module_id(name);
-        self.modules.remove(name.as_str(), id.0);
+        self.modules.remove(id.0);
     }
 
     fn add_bundle(
@@ -192,7 +192,7 @@ impl Netlist {
         ensures { self.new ≡ with_bundle self.old (bundle_id self.old name.now).0 None }
     {
         let id = self.bundle_id(name);
-        self.bundles.remove(name.as_str(), id.0);
+        self.bundles.remove(id.0);
     }
 
     fn rewire_input(&mut self, name: &Name, port: u64, wire: &Name)

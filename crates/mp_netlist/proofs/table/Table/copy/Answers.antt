@@ -1,7 +1,7 @@
 use Rattle.std.proofs.Common.{◌≡◌, Some, None, refl, ap, subst, sym, ◌∙◌}
-use Rattle.indexmap.specs.IndexMap.{get_by_text}
+use Rattle.mp_netlist.specs.Indexes.{number_in}
 use Rattle.mp_netlist.specs.Tables.{IsTable}
-use Rattle.mp_netlist.proofs.TableLemmas.{IsTable-copy, lookup-clone}
+use Rattle.mp_netlist.proofs.TableLemmas.{IsTable-copy}
 use Rattle.mp_netlist.proofs.table.Table.copy.Goals as goal
 
 pub invariant_of-result : goal.invariant_of-result
@@ -13,6 +13,5 @@ invariant_of-result g c =
       | None ↦ elim [ None ↦ λ h. refl | Some y ↦ λ h. absurd h ]
       | Some x ↦ elim [ None ↦ λ h. absurd h | Some y ↦ λ h. ap Some (g.met.R.Named.clones_equal x y h) ]
     ]) ∙ c.as_slice.ensures.value in
-    subst (λ slots. IsTable name_of slots (get_by_text c.in_ok-clone.field-0)) (sym items)
-    (IsTable-copy name_of old.slots.items (get_by_text old.numbers) (get_by_text c.in_ok-clone.field-0)
-    (λ q. lookup-clone old.numbers.entries c.in_ok-clone.field-0.entries q c.in_ok-clone.ensures.cases) c.self.invariant)
+    subst (λ slots. IsTable name_of slots (number_in c.in_ok-copy.field-0)) (sym items)
+    (IsTable-copy name_of old.slots.items (number_in old.index) (number_in c.in_ok-copy.field-0) c.in_ok-copy.ensures c.self.invariant)

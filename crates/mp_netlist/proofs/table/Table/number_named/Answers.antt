@@ -1,9 +1,24 @@
-use Rattle.std.proofs.Common.{◌∙◌}
-use Rattle.mp_netlist.proofs.TableLemmas.{looked_up}
+use Rattle.std.proofs.Common.{◌≡◌, true, false, None, Some, is_some, get_or, rules}
+use Rattle.mp_netlist.specs.Indexes.{number_in}
+use Rattle.mp_netlist.proofs.TableLemmas.{number_stands, number_gone, number_unknown}
 use Rattle.mp_netlist.proofs.table.Table.number_named.Goals as goal
 
 pub returns-in-Some : goal.returns-in-Some
-returns-in-Some g c = rw (← c.self.view_is) (c.in-Some.ensures.value ∙ looked_up g.R.Named.name_of _ _ c.self.invariant c.args.name.now)
+returns-in-Some g c =
+    let table = c.self.inside in
+    let at : number_in table.index c.args.name.now ≡ Some c.in-Some.number = search rules in
+    let stands : is_some (get_or table.slots.items c.in-Some.number None) ≡ true = search rules in
+    rw (← c.self.view_is) (number_stands g.R.Named.name_of table.slots.items (number_in table.index) c.self.invariant c.args.name.now c.in-Some.number at stands)
 
-pub returns-in-None : goal.returns-in-None
-returns-in-None g c = rw (← c.self.view_is) (c.in-None.ensures.value ∙ looked_up g.R.Named.name_of _ _ c.self.invariant c.args.name.now)
+pub returns-in_default : goal.returns-in_default
+returns-in_default g c =
+    let table = c.self.inside in
+    let at : number_in table.index c.args.name.now ≡ Some c.in-Some.number = search rules in
+    let gone : is_some (get_or table.slots.items c.in-Some.number None) ≡ false = search rules in
+    rw (← c.self.view_is) (number_gone g.R.Named.name_of table.slots.items (number_in table.index) c.self.invariant c.args.name.now c.in-Some.number at gone)
+
+pub returns-in_default-2 : goal.returns-in_default-2
+returns-in_default-2 g c =
+    let table = c.self.inside in
+    let none : number_in table.index c.args.name.now ≡ None = search rules in
+    rw (← c.self.view_is) (number_unknown g.R.Named.name_of table.slots.items (number_in table.index) c.self.invariant c.args.name.now none)

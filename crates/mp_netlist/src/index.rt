@@ -1,0 +1,89 @@
+//! Numbers by name.
+ghost use Rattle.std.specs.Prelude.{◌≡◌, List, ℕ, cond, None, Some, IfOk, OnOk, OnErr, string_bytes};
+ghost use Rattle.std.specs.Str.{bytes_eq};
+ghost use Rattle.std.specs.Arc.{arc_value};
+ghost use Rattle.indexmap.specs.IndexMap.{get_by_text};
+
+use indexmap::IndexMap;
+use std::alloc::{AllocError, Global};
+use std::sync::Arc;
+
+/// Numbers by name. Copies share them until one of them gets another name.
+#[derive(Drop)]
+pub struct Index {
+    numbers: Option<Arc<IndexMap<String, u32>, Global>>,
+}
+
+impl Index {
+    ghost use Rattle.std.specs.Prelude.{◌≡◌, List, ℕ, cond, None, Some, OnOk, OnErr, IfOk};
+    ghost use Rattle.std.specs.Str.{bytes_eq};
+    ghost use Rattle.mp_netlist.specs.Indexes.{number_in};
+
+    /// Without a name.
+    pub fn new() -> Index
+        ensures { (name : List ℕ) → number_in result name ≡ None }
+    {
+        Index { numbers: None }
+    }
+
+    /// The number of this name.
+    pub fn get(&self, name: &str) -> Option<u32>
+        ensures { result ≡ number_in self.now name.now }
+    {
+        match &self.numbers {
+            Some(shared) => shared.get(name).copied(),
+            None => None,
+        }
+    }
+
+    /// Sets the number of this name. On an error each name keeps its number.
+    pub fn insert(&mut self, alloc: Global, name: &str, number: u32) -> Result<(), AllocError>
+        ensures ok { OnOk result ((other : List ℕ) → number_in self.new other ≡ cond (bytes_eq name.now other) (Some number) (number_in self.old other)) }
+        ensures err { OnErr result ((other : List ℕ) → number_in self.new other ≡ number_in self.old other) }
+    {
+        let key = String::from_str(alloc, name)?;
+        match &mut self.numbers {
+            Some(shared) => insert_shared(shared, key, number)?,
+            None => self.numbers = Some(first(alloc, key, number)?),
+        }
+        Ok(())
+    }
+
+    /// The same once more.
+    pub fn copy(&self) -> Result<Index, AllocError>
+        ensures { IfOk result (λ copy. (name : List ℕ) → number_in copy name ≡ number_in self.now name) }
+    {
+        match &self.numbers {
+            Some(shared) => Ok(Index {
+                numbers: Some(Arc::try_clone(shared)?),
+            }),
+            None => Ok(Index { numbers: None }),
+        }
+    }
+}
+
+/// Sets the number of a name, in a copy where others look there too.
+fn insert_shared(
+    shared: &mut Arc<IndexMap<String, u32>, Global>,
+    name: String,
+    number: u32,
+) -> Result<(), AllocError>
+    ensures ok { OnOk result ((other : List ℕ) → get_by_text (arc_value shared.new) other ≡ cond (bytes_eq (string_bytes name) other) (Some number) (get_by_text (arc_value shared.old) other)) }
+    ensures err { OnErr result ((other : List ℕ) → get_by_text (arc_value shared.new) other ≡ get_by_text (arc_value shared.old) other) }
+{
+    Arc::make_mut(shared)?.insert(name, number)?;
+    Ok(())
+}
+
+/// The number of one name.
+fn first(
+    alloc: Global,
+    name: String,
+    number: u32,
+) -> Result<Arc<IndexMap<String, u32>, Global>, AllocError>
+    ensures { IfOk result (λ shared. (other : List ℕ) → get_by_text (arc_value shared) other ≡ cond (bytes_eq (string_bytes name) other) (Some number) None) }
+{
+    let mut numbers = IndexMap::new(alloc);
+    numbers.insert(name, number)?;
+    Ok(Arc::new(alloc, numbers)?)
+}
