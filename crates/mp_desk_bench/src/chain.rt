@@ -56,7 +56,7 @@ fn make(netlist: &mut Netlist, edit: SingleEdit) -> Result<(), EditError> {
 }
 
 fn name(alloc: Global, letter: &str, number: u32) -> Result<Name, AllocError> {
-    Ok(Name::new(format!(in alloc; "{letter}{number}")?))
+    Name::new(format!(in alloc; "{letter}{number}")?)
 }
 
 fn wire(alloc: Global, number: u32) -> Result<SingleEdit, AllocError> {

@@ -8,7 +8,7 @@ use std::alloc::{AllocError, Global};
 
 /// A name of this text.
 pub fn name(alloc: Global, text: &str) -> Result<Name, AllocError> {
-    Ok(Name::new(String::from_str(alloc, text)?))
+    Name::new(String::from_str(alloc, text)?)
 }
 
 /// A wire of one bit, at 0 before time 0.

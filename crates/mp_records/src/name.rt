@@ -3,21 +3,23 @@ ghost use Rattle.std.specs.Prelude.{◌≡◌, IfOk, string_bytes};
 ghost use Rattle.mp_records.specs.Names.{is_name, is_name_byte, begins_with_letter};
 ghost use Rattle.std.specs.List.{list_all};
 
-use std::alloc::AllocError;
+use std::alloc::{AllocError, Global};
 use std::marker::Model;
+use std::sync::Arc;
 
-/// A text that names something, or is meant to.
+/// A text that names something, or is meant to. Clones share the text.
 #[derive(Drop)]
 pub struct Name {
-    text: String,
+    text: Arc<String, Global>,
 }
 
 impl Model for Name {
     ghost use Rattle.std.specs.Prelude.{List, ℕ, string_bytes};
+    ghost use Rattle.std.specs.Arc.{arc_value};
 
     ghost Value = { List ℕ };
 
-    ghost view = { λ name. string_bytes name.text };
+    ghost view = { λ name. string_bytes (arc_value name.text) };
 }
 
 impl Clone for Name {
@@ -25,28 +27,26 @@ impl Clone for Name {
 
     fn clone(&self) -> Result<Self, AllocError> {
         Ok(Name {
-            text: self.text.clone()?,
+            text: Arc::try_clone(&self.text)?,
         })
     }
 }
 
 impl Name {
-    pub fn new(text: String) -> Self
-        ensures { result ≡ string_bytes text }
+    /// The name of this text. The error comes where memory is wanting.
+    pub fn new(text: String) -> Result<Self, AllocError>
+        ensures { IfOk result (λ name. name ≡ string_bytes text) }
     {
-        Name { text }
+        let alloc = *text.allocator();
+        Ok(Name {
+            text: Arc::new(alloc, text)?,
+        })
     }
 
     pub fn as_str(&self) -> &str
         ensures { result.now ≡ self.now }
     {
         self.text.as_str()
-    }
-
-    pub fn into_string(self) -> String
-        ensures { string_bytes result ≡ self }
-    {
-        self.text
     }
 
     #[tactic(auto, unfolding(crate::specs::Names::is_name))]
