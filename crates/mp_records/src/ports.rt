@@ -2,20 +2,22 @@
 ghost use Rattle.std.specs.Prelude.{◌≡◌, slice_set};
 
 use crate::ids::WireId;
+use arrayvec::ArrayVec;
+use mp_modules::{MOST_INPUTS, MOST_OUTPUTS};
 use std::alloc::AllocError;
 use std::marker::Model;
 
 /// An input port: the wire that it reads, and its transport delay in units. A level of the wire reaches the module so much later.
-#[derive(Clone, Copy, Debug, PartialEq, Eq)]
+#[derive(Clone, Copy, Debug, Default, PartialEq, Eq)]
 pub struct Input {
     pub wire: WireId,
     pub delay: u32,
 }
 
-/// The inputs of a module, by port.
+/// The inputs of a module, by port. They stand in place, without a block of memory of their own.
 #[derive(Drop)]
 pub struct Inputs {
-    ports: Vec<Input>,
+    ports: ArrayVec<Input, MOST_INPUTS>,
 }
 
 impl Model for Inputs {
@@ -32,7 +34,7 @@ impl Clone for Inputs {
 
     fn clone(&self) -> Result<Self, AllocError> {
         Ok(Inputs {
-            ports: Vec::from_slice(*self.ports.allocator(), self.ports.as_slice())?,
+            ports: self.ports.clone()?,
         })
     }
 }
@@ -41,7 +43,7 @@ impl Inputs {
     ghost use Rattle.mp_records.specs.Inputs.{input_in};
 
     /// These input ports, the first being port 0.
-    pub fn new(ports: Vec<Input>) -> Self
+    pub fn new(ports: ArrayVec<Input, MOST_INPUTS>) -> Self
         ensures { result ≡ ports.items }
     {
         Inputs { ports }
@@ -58,8 +60,8 @@ impl Inputs {
     pub(crate) fn set_wire(&mut self, port: usize, wire: WireId)
         ensures { self.new ≡ slice_set self.old port (record (input_in self.old port) { wire = wire }) }
     {
-        if port < self.ports.len() {
-            self.ports[port].wire = wire;
+        if let Some(found) = self.ports.get_mut(port) {
+            found.wire = wire;
         }
     }
 
@@ -67,23 +69,23 @@ impl Inputs {
     pub(crate) fn set_delay(&mut self, port: usize, delay: u32)
         ensures { self.new ≡ slice_set self.old port (record (input_in self.old port) { delay = delay }) }
     {
-        if port < self.ports.len() {
-            self.ports[port].delay = delay;
+        if let Some(found) = self.ports.get_mut(port) {
+            found.delay = delay;
         }
     }
 }
 
 /// An output port: the wire that it drives, if any, and its transport delay in units.
-#[derive(Clone, Copy, Debug, PartialEq, Eq)]
+#[derive(Clone, Copy, Debug, Default, PartialEq, Eq)]
 pub struct Output {
     pub wire: Option<WireId>,
     pub delay: u32,
 }
 
-/// The outputs of a module, by port.
+/// The outputs of a module, by port. They stand in place, as inputs do.
 #[derive(Drop)]
 pub struct Outputs {
-    ports: Vec<Output>,
+    ports: ArrayVec<Output, MOST_OUTPUTS>,
 }
 
 impl Model for Outputs {
@@ -100,7 +102,7 @@ impl Clone for Outputs {
 
     fn clone(&self) -> Result<Self, AllocError> {
         Ok(Outputs {
-            ports: Vec::from_slice(*self.ports.allocator(), self.ports.as_slice())?,
+            ports: self.ports.clone()?,
         })
     }
 }
@@ -109,7 +111,7 @@ impl Outputs {
     ghost use Rattle.mp_records.specs.Outputs.{output_in};
 
     /// These output ports, the first being port 0.
-    pub fn new(ports: Vec<Output>) -> Self
+    pub fn new(ports: ArrayVec<Output, MOST_OUTPUTS>) -> Self
         ensures { result ≡ ports.items }
     {
         Outputs { ports }
@@ -126,8 +128,8 @@ impl Outputs {
     pub(crate) fn set_wire(&mut self, port: usize, wire: Option<WireId>)
         ensures { self.new ≡ slice_set self.old port (record (output_in self.old port) { wire = wire }) }
     {
-        if port < self.ports.len() {
-            self.ports[port].wire = wire;
+        if let Some(found) = self.ports.get_mut(port) {
+            found.wire = wire;
         }
     }
 
@@ -135,8 +137,8 @@ impl Outputs {
     pub(crate) fn set_delay(&mut self, port: usize, delay: u32)
         ensures { self.new ≡ slice_set self.old port (record (output_in self.old port) { delay = delay }) }
     {
-        if port < self.ports.len() {
-            self.ports[port].delay = delay;
+        if let Some(found) = self.ports.get_mut(port) {
+            found.delay = delay;
         }
     }
 }

@@ -133,8 +133,8 @@ impl Netlist {
             name: name.clone()?,
             kind,
             params: params.clone()?,
-            inputs: self.inputs_of(inputs)?,
-            outputs: self.outputs_of(outputs)?,
+            inputs: self.inputs_of(inputs),
+            outputs: self.outputs_of(outputs),
         };
         self.put_module(added)
     }

@@ -7,15 +7,15 @@ ghost use Rattle.mp_netlist.specs.Edits.{are_distinct, driven_names};
 
 use crate::driver::Driver;
 use crate::netlist::Netlist;
-use mp_modules::Kind;
+use arrayvec::ArrayVec;
+use mp_modules::{Kind, MOST_INPUTS, MOST_OUTPUTS};
 use mp_records::{
     Input, InputName, InputNames, Inputs, ModuleId, Name, Output, OutputName, OutputNames, Outputs,
     WireId,
 };
-use std::alloc::AllocError;
 
 impl Netlist {
-    ghost use Rattle.std.specs.Prelude.{◌≡◌, ◌&&◌, is_some, map, option_map, IfOk, IsTrue};
+    ghost use Rattle.std.specs.Prelude.{◌≡◌, ◌≤◌, ◌&&◌, is_some, length, map, option_map, IsTrue};
     ghost use Rattle.std.specs.List.{list_all};
     ghost use Rattle.mp_netlist.specs.Edits.{are_distinct, is_input_delay, is_delay, input_of, output_of, inputs_stand, stands, wire_id, width_named, is_undriven, driven_names, new_width, inputs_fit, output_fits, outputs_fit, output_stands, output_is_free};
 
@@ -199,33 +199,35 @@ impl Netlist {
     }
 
     /// The input ports, at the wires that the inputs name.
-    pub(crate) fn inputs_of(&self, inputs: &InputNames) -> Result<Inputs, AllocError>
-        requires { IsTrue (list_all (λ i. is_input_delay i.delay) inputs.now) }
-        ensures { IfOk result (λ ports. ports ≡ map (input_of self.now) inputs.now) }
+    pub(crate) fn inputs_of(&self, inputs: &InputNames) -> Inputs
+        requires few { length inputs.now ≤ MOST_INPUTS }
+        requires delays { IsTrue (list_all (λ i. is_input_delay i.delay) inputs.now) }
+        ensures { result ≡ map (input_of self.now) inputs.now }
     {
-        let mut ports = Vec::new(self.modules.allocator());
+        let mut ports = ArrayVec::new();
         for port in inputs.as_slice() {
             ports.push(Input {
                 wire: self.id_of(&port.wire),
                 delay: port.delay as u32,
-            })?;
+            });
         }
-        Ok(Inputs::new(ports))
+        Inputs::new(ports)
     }
 
     /// The output ports, at the wires that the outputs name.
-    pub(crate) fn outputs_of(&self, outputs: &OutputNames) -> Result<Outputs, AllocError>
-        requires { IsTrue (list_all (λ o. is_delay o.delay) outputs.now) }
-        ensures { IfOk result (λ ports. ports ≡ map (output_of self.now) outputs.now) }
+    pub(crate) fn outputs_of(&self, outputs: &OutputNames) -> Outputs
+        requires few { length outputs.now ≤ MOST_OUTPUTS }
+        requires delays { IsTrue (list_all (λ o. is_delay o.delay) outputs.now) }
+        ensures { result ≡ map (output_of self.now) outputs.now }
     {
-        let mut ports = Vec::new(self.modules.allocator());
+        let mut ports = ArrayVec::new();
         for port in outputs.as_slice() {
             ports.push(Output {
                 wire: port.wire.as_ref().map(|name| self.id_of(name)),
                 delay: port.delay as u32,
-            })?;
+            });
         }
-        Ok(Outputs::new(ports))
+        Outputs::new(ports)
     }
 }
 
