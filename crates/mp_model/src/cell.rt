@@ -19,10 +19,10 @@ impl Cell {
     pub(crate) fn answer(&mut self, time: u32, levels: &[u64])
         ensures { self.new ≡ after_answer self.old time levels.now }
     {
-        self.memory = if time == 0 {
-            self.part.settle(levels)
+        if time == 0 {
+            self.memory = self.part.settle(levels);
         } else {
-            self.part.step(self.memory, levels)
-        };
+            self.part.step(&mut self.memory, levels);
+        }
     }
 }

@@ -88,23 +88,25 @@ impl EventModule for CoreModule {
     }
 
     fn settle(&self, levels: &[u64]) -> Memory {
-        self.step(self.start().seen(levels), levels)
+        let mut memory = self.start().seen(levels);
+        self.step(&mut memory, levels);
+        memory
     }
 
-    // Inlined, so that the state is written where it is kept: a copy of what was written just before would have to wait for it.
+    // Inlined, so that the kinds that come most often write just what changes, where it is kept.
     #[inline(always)]
-    fn step(&self, memory: Memory, levels: &[u64]) -> Memory {
+    fn step(&self, memory: &mut Memory, levels: &[u64]) {
         match *self {
-            CoreModule::Buf => Memory::with_one_output(levels, level_at(levels, 0)),
+            CoreModule::Buf => memory.set_one_output(levels, level_at(levels, 0)),
             CoreModule::Not => {
-                Memory::with_one_output(levels, 1u64.saturating_sub(level_at(levels, 0)))
+                memory.set_one_output(levels, 1u64.saturating_sub(level_at(levels, 0)));
             }
-            CoreModule::Xor => Memory::with_one_output(levels, merged(levels)),
-            CoreModule::C(c) => Memory::with_one_output(levels, c.join(memory.output(0), levels)),
-            CoreModule::Toggle => toggle_step(memory, levels),
-            CoreModule::Select => select_step(memory, levels),
-            CoreModule::Call => call_step(memory, levels),
-            CoreModule::Arbiter => arbiter_step(memory, levels),
+            CoreModule::Xor => memory.set_one_output(levels, merged(levels)),
+            CoreModule::C(c) => memory.set_one_output(levels, c.join(memory.output(0), levels)),
+            CoreModule::Toggle => *memory = toggle_step(*memory, levels),
+            CoreModule::Select => *memory = select_step(*memory, levels),
+            CoreModule::Call => *memory = call_step(*memory, levels),
+            CoreModule::Arbiter => *memory = arbiter_step(*memory, levels),
         }
     }
 

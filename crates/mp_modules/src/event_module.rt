@@ -33,9 +33,9 @@ pub trait EventModule {
     fn settle(&self, levels: &[u64]) -> Memory
         ensures { result ≡ settled self.now levels.now };
 
-    /// The state at a time from 1 on, after that of the unit before, where the input ports have these levels.
-    fn step(&self, memory: Memory, levels: &[u64]) -> Memory
-        ensures { result ≡ stepped self.now memory levels.now };
+    /// A state goes on to that of the next unit, at a time from 1 on, where the input ports have these levels.
+    fn step(&self, memory: &mut Memory, levels: &[u64])
+        ensures { memory.new ≡ stepped self.now memory.old levels.now };
 
     /// The level of an output in a state, before the output's delay, and 0 where there is no such port.
     fn out(&self, memory: Memory, port: usize) -> u64

@@ -109,6 +109,26 @@ impl Memory {
         Memory::with_outputs(levels, [output, 0, 0])
     }
 
+    /// Becomes the state of a module that serves nobody, with these levels at its inputs and outputs.
+    #[inline(always)]
+    pub fn set_outputs(&mut self, levels: &[u64], outputs: [u64; MOST_OUTPUTS])
+        ensures { self.new ≡ with_outputs levels.now outputs }
+    {
+        self.inputs = input_levels(levels);
+        self.outputs = outputs;
+        self.served = Client::Nobody;
+        self.waiting.first = false;
+        self.waiting.second = false;
+    }
+
+    /// Becomes the state of a module that serves nobody, with these levels at its inputs and one output.
+    #[inline(always)]
+    pub fn set_one_output(&mut self, levels: &[u64], output: u64)
+        ensures { self.new ≡ with_one_output levels.now output }
+    {
+        self.set_outputs(levels, [output, 0, 0]);
+    }
+
     /// The level of an output before its delay, 0 where there is no such port.
     pub fn output(&self, port: usize) -> u64
         ensures { result ≡ output_of self.now port }

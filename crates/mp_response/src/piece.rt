@@ -60,10 +60,11 @@ fn next_state(part: &AnyModule, memory: &Memory, levels: &[u64], time: u32) -> M
     ensures { result ≡ next_state part.now memory.now levels.now time }
 {
     if time == 0 {
-        part.settle(levels)
-    } else {
-        part.step(*memory, levels)
+        return part.settle(levels);
     }
+    let mut next = *memory;
+    part.step(&mut next, levels);
+    next
 }
 
 /// What is found at a unit.

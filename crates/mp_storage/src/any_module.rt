@@ -132,7 +132,7 @@ impl EventModule for AnyModule {
     // Inlined, as the steps of the modules without data are.
     #[inline(always)]
     #[tactic(auto, unfolding(crate::specs::AnyModules::step))]
-    fn step(&self, memory: Memory, levels: &[u64]) -> Memory {
+    fn step(&self, memory: &mut Memory, levels: &[u64]) {
         match self {
             AnyModule::Core(part) => part.step(memory, levels),
             AnyModule::Reg(part) => part.step(memory, levels),

@@ -74,12 +74,14 @@ impl EventModule for Computed {
     }
 
     fn settle(&self, levels: &[u64]) -> Memory {
-        self.step(self.start().seen(levels), levels)
+        let mut memory = self.start().seen(levels);
+        self.step(&mut memory, levels);
+        memory
     }
 
     #[inline(always)]
-    fn step(&self, _memory: Memory, levels: &[u64]) -> Memory {
-        Memory::with_one_output(levels, self.output(levels))
+    fn step(&self, memory: &mut Memory, levels: &[u64]) {
+        memory.set_one_output(levels, self.output(levels));
     }
 
     fn out(&self, memory: Memory, port: usize) -> u64 {

@@ -38,12 +38,14 @@ impl EventModule for Reg {
     }
 
     fn settle(&self, levels: &[u64]) -> Memory {
-        self.step(self.start().seen(levels), levels)
+        let mut memory = self.start().seen(levels);
+        self.step(&mut memory, levels);
+        memory
     }
 
-    fn step(&self, memory: Memory, levels: &[u64]) -> Memory {
+    fn step(&self, memory: &mut Memory, levels: &[u64]) {
         let held = latched(memory.output(0), levels);
-        Memory::with_outputs(levels, [held, level_at(levels, 1), level_at(levels, 2)])
+        memory.set_outputs(levels, [held, level_at(levels, 1), level_at(levels, 2)]);
     }
 
     fn out(&self, memory: Memory, port: usize) -> u64 {
