@@ -9,9 +9,6 @@ ghost use Rattle.mp_wave.specs.Faults.{pair_at};
 /// How many of the last changes are looked at before the others: in a wave that is being built what is looked for is mostly among them.
 const LAST_FEW: usize = 8;
 
-/// How many of these are looked at first: mostly it is at the end.
-const LAST_TWO: usize = 2;
-
 /// How many changes are passed over at once, none of which is later than a time: all but so many of the last, or none.
 fn passed_but(changes: &[(u32, u64)], last: usize, time: u32) -> usize
     requires { IsNonDecreasingBy (λ (c : ℕ × ℕ). c.0) changes.now }
@@ -25,19 +22,6 @@ fn passed_but(changes: &[(u32, u64)], last: usize, time: u32) -> usize
     }
 }
 
-/// How many are, all but as few of the last as it can be.
-fn passed(changes: &[(u32, u64)], time: u32) -> usize
-    requires { IsNonDecreasingBy (λ (c : ℕ × ℕ). c.0) changes.now }
-    ensures bound { result ≤ length changes.now }
-    ensures early { AllWithin (λ (c : ℕ × ℕ). c.0 ≤ time) changes.now 0 result }
-{
-    let most = passed_but(changes, LAST_TWO, time);
-    if most > 0 {
-        return most;
-    }
-    passed_but(changes, LAST_FEW, time)
-}
-
 /// The changes from a place on.
 fn from_place(changes: &[(u32, u64)], place: usize) -> &[(u32, u64)]
     requires { place ≤ length changes.now }
@@ -46,15 +30,36 @@ fn from_place(changes: &[(u32, u64)], place: usize) -> &[(u32, u64)]
     &changes[place..]
 }
 
+/// How many of the changes aren't later than a time, by a search.
+#[inline(never)]
+fn search_upto(changes: &[(u32, u64)], time: u32) -> usize
+    requires { IsNonDecreasingBy (λ (c : ℕ × ℕ). c.0) changes.now }
+    ensures bound { result ≤ length changes.now }
+    ensures early { AllWithin (λ (c : ℕ × ℕ). nat_le c.0 time ≡ true) changes.now 0 result }
+    ensures late { AllWithin (λ (c : ℕ × ℕ). nat_le c.0 time ≡ false) changes.now result (length changes.now) }
+{
+    let first = passed_but(changes, LAST_FEW, time);
+    first + from_place(changes, first).partition_point(|change| change.0 <= time)
+}
+
 /// How many of the changes aren't later than a time.
+#[inline(always)]
 pub(crate) fn count_upto(changes: &[(u32, u64)], time: u32) -> usize
     requires { IsNonDecreasingBy (λ (c : ℕ × ℕ). c.0) changes.now }
     ensures bound { result ≤ length changes.now }
     ensures early { AllWithin (λ (c : ℕ × ℕ). nat_le c.0 time ≡ true) changes.now 0 result }
     ensures late { AllWithin (λ (c : ℕ × ℕ). nat_le c.0 time ≡ false) changes.now result (length changes.now) }
 {
-    let first = passed(changes, time);
-    first + from_place(changes, first).partition_point(|change| change.0 <= time)
+    // Mostly it is all of them, or all but the last.
+    let count = changes.len();
+    if count < 2 || time < changes[count - 2].0 {
+        return search_upto(changes, time);
+    }
+    if time < changes[count - 1].0 {
+        count - 1
+    } else {
+        count
+    }
 }
 
 /// How many of the changes are earlier than a time.

@@ -83,6 +83,7 @@ impl WaveBuilder {
     }
 
     /// The level at a time, the last one held. From the last given time on it is answered without a search.
+    #[inline(always)]
     pub fn level_at(&self, time: u32) -> u64
         ensures { result ≡ level_of self.now.wave time }
     {
