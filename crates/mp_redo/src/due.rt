@@ -10,13 +10,13 @@ ghost use Rattle.mp_redo.specs.Ledgers.{state_in};
 ghost use Rattle.mp_redo.specs.Redoing.{cell_at, IsDuring};
 ghost use Rattle.mp_redo.specs.Windows.{IsShort};
 
-use crate::cell::{Cell, is_live, set_live, state_of};
+use crate::cell::{Cell, is_live, state_of};
 use crate::change::Change;
 use crate::comparing::hear_other;
 use crate::line::Line;
 use crate::parts::part_at;
 use crate::ring::Ring;
-use crate::stepping::{give_outputs, next_memory};
+use crate::stepping::{give_outputs, go_on};
 use mp_engine::Run;
 use mp_modules::Memory;
 use mp_netlist::{ModuleId, ModuleRecord};
@@ -78,11 +78,10 @@ fn answer_as_live(
     let Some(part) = part_at(change.parts, id) else {
         unreachable!();
     };
-    // Read where it is kept, since a state is large to copy.
-    let before = state_of(cells.as_slice(), id);
-    let after = next_memory(change, lines.as_slice(), found, part, before, time);
-    give_outputs(change, lines, looks, found, before, &after, time)?;
-    set_live(cells, id, after);
+    let before = *state_of(cells.as_slice(), id);
+    go_on(change, lines.as_slice(), cells, id, found, part, time);
+    let after = state_of(cells.as_slice(), id);
+    give_outputs(change, lines, looks, found, &before, after, time)?;
     clear_mark(marks, id);
     Ok(())
 }

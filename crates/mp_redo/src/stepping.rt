@@ -6,6 +6,7 @@ ghost use Rattle.mp_redo.specs.Changes.{IsChange};
 ghost use Rattle.mp_redo.specs.Rings.{AreKept};
 ghost use Rattle.mp_redo.specs.Steps.{AreReady, GoesOn, GoesOnListening, GoesOnTelling, StandsSomewhere, stepped};
 
+use crate::cell::Cell;
 use crate::change::Change;
 use crate::giving::give;
 use crate::line::{Line, run_level};
@@ -14,7 +15,7 @@ use crate::ring::Ring;
 use mp_depend::Readers;
 use mp_engine::Run;
 use mp_modules::{EventModule, MOST_INPUTS, Memory};
-use mp_netlist::{Input, ModuleRecord, Output};
+use mp_netlist::{Input, ModuleId, ModuleRecord, Output};
 use mp_storage::AnyModule;
 use std::alloc::AllocError;
 
@@ -59,32 +60,39 @@ pub(crate) fn give_outputs(
     Ok(())
 }
 
-ghost use Rattle.std.specs.Prelude.{◌-◌, ◌≤◌, map, take};
+ghost use Rattle.std.specs.Prelude.{◌-◌, ◌≤◌, map, take, slice_set};
 ghost use Rattle.mp_records.specs.declared.ports.Input.{Input as Port};
 ghost use Rattle.mp_model.specs.Levels.{built};
-ghost use Rattle.mp_redo.specs.Redoing.{level_at};
+ghost use Rattle.mp_redo.specs.Joins.{live_cell};
+ghost use Rattle.mp_redo.specs.Redoing.{cell_at, level_at};
 
-/// The state of a live module at a time, from its state before and the levels that it hears.
+/// A module is live and goes on to its state at a time, from its state before and the levels that it hears.
 #[inline(always)]
-pub(crate) fn next_memory(
+pub(crate) fn go_on(
     change: &Change<'_>,
     lines: &[Line],
+    cells: &mut Vec<Cell>,
+    id: ModuleId,
     found: &ModuleRecord,
     part: &AnyModule,
-    memory: &Memory,
     time: u32,
-) -> Memory
+)
     requires form { IsModule change.now.new.now found.now }
     requires part { part.now ≡ built change.now.new.now found.now }
-    ensures { result ≡ stepped change.now.new.now change.now.run.now lines.now found.now memory.now time }
+    requires place { id.0 < length cells.old.items }
+    ensures { cells.new.items ≡ slice_set cells.old.items id.0 (live_cell (cell_at cells.old.items id.0)
+        (stepped change.now.new.now change.now.run.now lines.now found.now (cell_at cells.old.items id.0).memory time)) }
 {
     let inputs = found.inputs.as_slice();
     let mut now = [0; MOST_INPUTS];
     hear_all(change.run, lines, time, inputs, &mut now);
+    let heard = &now[..inputs.len()];
+    let cell = &mut cells[id.0 as usize];
+    cell.live = true;
     if time == 0 {
-        part.settle(&now[..inputs.len()])
+        cell.memory = part.settle(heard);
     } else {
-        part.step(*memory, &now[..inputs.len()])
+        part.step(&mut cell.memory, heard);
     }
 }
 

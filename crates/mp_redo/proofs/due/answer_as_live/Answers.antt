@@ -1,29 +1,30 @@
-use Rattle.std.proofs.Common.{◌≡◌, ◌+◌, ◌<◌, length, option_map, Some, None, List, [], slice_set, false, sym, subst, ap, ◌∙◌}
+use Rattle.std.proofs.Common.{◌≡◌, ◌+◌, ◌<◌, length, option_map, ℕ, Some, None, List, [], slice_set, false, refl, sym, subst, ap, ◌∙◌, arith}
 use Rattle.std.specs.Option.{option_copied}
-use Rattle.std.proofs.lemmas.List.{get_or-map}
+use Rattle.std.proofs.lemmas.List.{get_or-map, get_or-set_same, length-set}
 use Rattle.std.proofs.lemmas.Option.{same_Some}
 use Rattle.mp_modules.specs.declared.memory.Memory.{Memory}
 use Rattle.mp_netlist.specs.Slots.{slot_at}
 use Rattle.mp_model.specs.Levels.{built}
 use Rattle.mp_model.proofs.SlotLemmas.{slot_within}
+use Rattle.mp_redo.specs.declared.cell.Cell.{Cell}
 use Rattle.mp_redo.specs.declared.line.Line.{Line}
-use Rattle.mp_redo.specs.Joins.{HaveAnswered}
+use Rattle.mp_redo.specs.Joins.{HaveAnswered, live_cell}
 use Rattle.mp_redo.specs.Redoing.{cell_at, IsDuring}
 use Rattle.mp_redo.specs.Steps.{IsAt, GoesOn, stepped}
 use Rattle.mp_redo.proofs.StepLemmas.{steps_to}
 use Rattle.mp_redo.proofs.DueLemmas.{cell_within, due_heard, due_ready, due_live, live_answers, answered_one}
 use Rattle.mp_redo.proofs.due.answer_as_live.Goals as goal
 
-pub state_of-before-requires : goal.state_of-before-requires
-state_of-before-requires c =
+pub state_of-requires : goal.state_of-requires
+state_of-requires c =
     subst (λ xs. c.args.id.0 < length xs) (sym c.as_slice.ensures.value)
     (cell_within c.args.change.now.old.now c.args.change.now.new.now c.requires.change.old_form c.requires.change.form c.requires.change.revision c.args.change.now.run.now c.requires.change.run c.args.block c.args.time (c.args.time + 1) c.requires.unit c.args.due.now c.args.marks.now.items c.args.cells.now.items c.args.lines.now.items c.args.looks.now.items c.requires.during c.args.id.0 c.requires.marked c.args.found.now c.requires.stands)
 
-pub next_memory-after-requires-clause-form : goal.next_memory-after-requires-clause-form
-next_memory-after-requires-clause-form c = c.requires.change.form.modules_ok c.args.id.0 c.args.found.now c.requires.stands
+pub go_on-requires-clause-form : goal.go_on-requires-clause-form
+go_on-requires-clause-form c = c.requires.change.form.modules_ok c.args.id.0 c.args.found.now c.requires.stands
 
-pub next_memory-after-requires-clause-part : goal.next_memory-after-requires-clause-part
-next_memory-after-requires-clause-part c =
+pub go_on-requires-clause-part : goal.go_on-requires-clause-part
+go_on-requires-clause-part c =
     let n = c.args.change.now.new.now in
     let r = c.args.found.now in
     let m = c.args.id.0 in
@@ -33,10 +34,43 @@ next_memory-after-requires-clause-part c =
     ∙ get_or-map (option_map (built n)) n.modules m None None low ∙ ap (option_map (built n)) c.requires.stands in
     same_Some c.in-Some.part.now (built n r) both
 
+pub go_on-requires-clause-place : goal.go_on-requires-clause-place
+go_on-requires-clause-place c =
+    cell_within c.args.change.now.old.now c.args.change.now.new.now c.requires.change.old_form c.requires.change.form c.requires.change.revision c.args.change.now.run.now c.requires.change.run c.args.block c.args.time (c.args.time + 1) c.requires.unit c.args.due.now c.args.marks.now.items c.args.cells.now.items c.args.lines.now.items c.args.looks.now.items c.requires.during c.args.id.0 c.requires.marked c.args.found.now c.requires.stands
+
+pub state_of-after-requires : goal.state_of-after-requires
+state_of-after-requires c =
+    let m = c.args.id.0 in
+    let cells = c.args.cells.now.items in
+    let within = cell_within c.args.change.now.old.now c.args.change.now.new.now c.requires.change.old_form c.requires.change.form c.requires.change.revision c.args.change.now.run.now c.requires.change.run c.args.block c.args.time (c.args.time + 1) c.requires.unit c.args.due.now c.args.marks.now.items c.args.cells.now.items c.args.lines.now.items c.args.looks.now.items c.requires.during c.args.id.0 c.requires.marked c.args.found.now c.requires.stands in
+    let size = ap length c.as_slice-3.ensures.value ∙ ap length c.go_on.ensures ∙ length-set cells m _ in
+    omega (arith, within, size)
+
+
+-- the state of a cell that was written
+written : (cells new slice : List Cell) (m : ℕ) (before after : Memory) (next : Memory → Memory) → m < length cells → new ≡ slice_set cells m (live_cell (cell_at cells m) (next (cell_at cells m).memory)) → slice ≡ new
+    → after ≡ (cell_at slice m).memory → before ≡ (cell_at cells m).memory → after ≡ next before
+written cells new slice m before after next within is same read was =
+    read ∙ ap (λ xs. (cell_at xs m).memory) (same ∙ is) ∙ ap (λ (x : Cell). x.memory) (get_or-set_same cells m _ _ within) ∙ ap next (sym was)
+
+pub give_outputs-requires-clause-state : goal.give_outputs-requires-clause-state
+give_outputs-requires-clause-state c =
+    let n = c.args.change.now.new.now in
+    let run = c.args.change.now.run.now in
+    let cells = c.args.cells.now.items in
+    let m = c.args.id.0 in
+    let r = c.args.found.now in
+    let t = c.args.time in
+    let within = cell_within c.args.change.now.old.now c.args.change.now.new.now c.requires.change.old_form c.requires.change.form c.requires.change.revision c.args.change.now.run.now c.requires.change.run c.args.block c.args.time (c.args.time + 1) c.requires.unit c.args.due.now c.args.marks.now.items c.args.cells.now.items c.args.lines.now.items c.args.looks.now.items c.requires.during c.args.id.0 c.requires.marked c.args.found.now c.requires.stands in
+    let before : c.state_of.result.now ≡ (cell_at cells m).memory = c.state_of.ensures ∙ ap (λ xs. (cell_at xs m).memory) c.as_slice.ensures.value in
+    let now : c.go_on.new.cells.items ≡ slice_set cells m (live_cell (cell_at cells m) (stepped n run c.args.lines.now.items r (cell_at cells m).memory t))
+    = subst (λ (ls : List Line). c.go_on.new.cells.items ≡ slice_set cells m (live_cell (cell_at cells m) (stepped n run ls r (cell_at cells m).memory t))) c.as_slice-2.ensures.value c.go_on.ensures in
+    written cells c.go_on.new.cells.items c.as_slice-3.result.now m c.state_of.result.now c.state_of-after.result.now (λ (x : Memory). stepped n run c.args.lines.now.items r x t) within now c.as_slice-3.ensures.value c.state_of-after.ensures before
+
 pub give_outputs-requires-clause-stands : goal.give_outputs-requires-clause-stands
 give_outputs-requires-clause-stands c =
     let m = c.args.id.0 in
-    let memory : (cell_at c.args.cells.now.items m).memory ≡ c.state_of-before.result.now = ap (λ xs. (cell_at xs m).memory) (sym c.as_slice.ensures.value) ∙ sym c.state_of-before.ensures in
+    let memory : (cell_at c.args.cells.now.items m).memory ≡ c.state_of.result.now = ap (λ xs. (cell_at xs m).memory) (sym c.as_slice.ensures.value) ∙ sym c.state_of.ensures in
     (m, subst (λ (x : Memory). IsAt c.args.change.now.new.now m c.args.time c.args.found.now x) memory (due_live c.args.change.now.old.now c.args.change.now.new.now c.requires.change.old_form c.requires.change.form c.requires.change.revision c.args.change.now.run.now c.requires.change.run c.args.block c.args.time (c.args.time + 1) c.requires.unit c.args.due.now c.args.marks.now.items c.args.cells.now.items c.args.lines.now.items c.args.looks.now.items c.requires.during c.args.id.0 c.requires.marked c.args.found.now c.requires.stands c.requires.live))
 
 pub give_outputs-requires-clause-heard : goal.give_outputs-requires-clause-heard
@@ -47,24 +81,28 @@ give_outputs-requires-clause-ready c = due_ready c.args.change.now.old.now c.arg
 
 pub returns-clause-cells : goal.returns-clause-cells
 returns-clause-cells c =
-    subst (HaveAnswered [] c.args.cells.now.items) (sym c.set_live.ensures)
-    (answered_one [] c.args.cells.now.items c.args.id.0 c.next_memory-after.result (λ none. c.requires.live) (cell_within c.args.change.now.old.now c.args.change.now.new.now c.requires.change.old_form c.requires.change.form c.requires.change.revision c.args.change.now.run.now c.requires.change.run c.args.block c.args.time (c.args.time + 1) c.requires.unit c.args.due.now c.args.marks.now.items c.args.cells.now.items c.args.lines.now.items c.args.looks.now.items c.requires.during c.args.id.0 c.requires.marked c.args.found.now c.requires.stands))
+    subst (HaveAnswered [] c.args.cells.now.items) (sym c.go_on.ensures)
+    (answered_one [] c.args.cells.now.items c.args.id.0 _ (λ none. c.requires.live) (cell_within c.args.change.now.old.now c.args.change.now.new.now c.requires.change.old_form c.requires.change.form c.requires.change.revision c.args.change.now.run.now c.requires.change.run c.args.block c.args.time (c.args.time + 1) c.requires.unit c.args.due.now c.args.marks.now.items c.args.cells.now.items c.args.lines.now.items c.args.looks.now.items c.requires.during c.args.id.0 c.requires.marked c.args.found.now c.requires.stands))
 
 pub returns-clause-during : goal.returns-clause-during
 returns-clause-during c =
     let m = c.args.id.0 in
     let n = c.args.change.now.new.now in
     let run = c.args.change.now.run.now in
+    let cells = c.args.cells.now.items in
+    let lines = c.args.lines.now.items in
     let r = c.args.found.now in
     let t = c.args.time in
-    let after = c.next_memory-after.result in
-    let memory : c.state_of-before.result.now ≡ (cell_at c.args.cells.now.items m).memory = c.state_of-before.ensures ∙ ap (λ xs. (cell_at xs m).memory) c.as_slice.ensures.value in
+    let was : Memory = (cell_at cells m).memory in
+    let after : Memory = stepped n run lines r was t in
+    let memory : c.state_of.result.now ≡ was = c.state_of.ensures ∙ ap (λ xs. (cell_at xs m).memory) c.as_slice.ensures.value in
     let done = c.in_ok-give_outputs.ensures in
-    let is : IsAt n m t r c.state_of-before.result.now = subst (λ (x : Memory). IsAt n m t r x) (sym memory) (due_live c.args.change.now.old.now c.args.change.now.new.now c.requires.change.old_form c.requires.change.form c.requires.change.revision c.args.change.now.run.now c.requires.change.run c.args.block c.args.time (c.args.time + 1) c.requires.unit c.args.due.now c.args.marks.now.items c.args.cells.now.items c.args.lines.now.items c.args.looks.now.items c.requires.during c.args.id.0 c.requires.marked c.args.found.now c.requires.stands c.requires.live) in
-    let value : after ≡ stepped n run c.args.lines.now.items r c.state_of-before.result.now t = subst (λ (ls : List Line). after ≡ stepped n run ls r c.state_of-before.result.now t) c.as_slice-2.ensures.value c.next_memory-after.ensures in
+    let is : IsAt n m t r was = due_live c.args.change.now.old.now c.args.change.now.new.now c.requires.change.old_form c.requires.change.form c.requires.change.revision c.args.change.now.run.now c.requires.change.run c.args.block c.args.time (c.args.time + 1) c.requires.unit c.args.due.now c.args.marks.now.items c.args.cells.now.items c.args.lines.now.items c.args.looks.now.items c.requires.during c.args.id.0 c.requires.marked c.args.found.now c.requires.stands c.requires.live in
     let heard = due_heard c.args.change.now.old.now c.args.change.now.new.now c.requires.change.old_form c.requires.change.form c.requires.change.revision c.args.change.now.run.now c.requires.change.run c.args.block c.args.time (c.args.time + 1) c.requires.unit c.args.due.now c.args.marks.now.items c.args.cells.now.items c.args.lines.now.items c.args.looks.now.items c.requires.during c.args.id.0 c.requires.marked c.args.found.now c.requires.stands in
-    let now : IsAt n m (t + 1) r after = steps_to n c.requires.change.form r (c.requires.change.form.modules_ok m r c.requires.stands) run c.args.lines.now.items t heard c.state_of-before.result.now after value m is in
-    let wires = subst (λ (x : Memory). GoesOn n run c.args.lines.now.items c.give_outputs.new.lines.items r x t (t + 1)) memory done.wires in
-    subst (λ ms. IsDuring c.args.change.now.old.now n run c.args.block t (t + 1) c.args.due.now ms c.set_live.new.cells.items c.give_outputs.new.lines.items c.give_outputs.new.looks.items) (sym c.clear_mark.ensures)
-    (subst (λ xs. IsDuring c.args.change.now.old.now n run c.args.block t (t + 1) c.args.due.now (slice_set c.args.marks.now.items m false) xs c.give_outputs.new.lines.items c.give_outputs.new.looks.items) (sym c.set_live.ensures)
+    let now : IsAt n m (t + 1) r after = steps_to n c.requires.change.form r (c.requires.change.form.modules_ok m r c.requires.stands) run lines t heard was after refl m is in
+    let wires = subst (λ (x : Memory). GoesOn n run lines c.give_outputs.new.lines.items r x t (t + 1)) memory done.wires in
+    let stepped_cells : c.go_on.new.cells.items ≡ slice_set cells m (live_cell (cell_at cells m) after)
+    = subst (λ (ls : List Line). c.go_on.new.cells.items ≡ slice_set cells m (live_cell (cell_at cells m) (stepped n run ls r was t))) c.as_slice-2.ensures.value c.go_on.ensures in
+    subst (λ ms. IsDuring c.args.change.now.old.now n run c.args.block t (t + 1) c.args.due.now ms c.go_on.new.cells.items c.give_outputs.new.lines.items c.give_outputs.new.looks.items) (sym c.clear_mark.ensures)
+    (subst (λ xs. IsDuring c.args.change.now.old.now n run c.args.block t (t + 1) c.args.due.now (slice_set c.args.marks.now.items m false) xs c.give_outputs.new.lines.items c.give_outputs.new.looks.items) (sym stepped_cells)
     (live_answers c.args.change.now.old.now c.args.change.now.new.now c.requires.change.old_form c.requires.change.form c.requires.change.revision c.args.change.now.run.now c.requires.change.run c.args.block c.args.time (c.args.time + 1) c.requires.unit c.args.due.now c.args.marks.now.items c.args.cells.now.items c.args.lines.now.items c.args.looks.now.items c.requires.during c.args.id.0 c.requires.marked c.args.found.now c.requires.stands c.requires.live after now c.give_outputs.new.lines.items c.give_outputs.new.looks.items wires done.listening done.telling))
