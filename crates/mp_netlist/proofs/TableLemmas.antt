@@ -96,14 +96,6 @@ module _ {R : Type 0} (name_of : R → List ℕ) where
   nobody : (q : List ℕ) {A : Type 0} → (slot : Option R) → slot ≡ None → has_name name_of q slot ≡ true → A
   nobody q slot e h = absurd (true≢false (sym h ∙ ap (has_name name_of q) e))
 
-  -- a place where a thing stands is within the slots
-  pub standing : (name : List ℕ) (slots : List (Option R)) (number : ℕ) → has_name name_of name (get_or slots number None) ≡ true → number < length slots
-  standing name slots number has = by (cases_lt number (length slots))
-    where
-      by : (number < length slots) ⊎ (length slots ≤ number) → number < length slots
-      by (inl h) = h
-      by (inr h) = let e : has_name name_of name None ≡ true = rw get_or_past at has in cc
-
   -- one thing has one name
   pub one_name : (a b : List ℕ) (slot : Option R) → has_name name_of a slot ≡ true → has_name name_of b slot ≡ true → a ≡ b
   one_name a b None has other = absurd (true≢false (sym has))
@@ -113,9 +105,6 @@ module _ {R : Type 0} (name_of : R → List ℕ) where
   pub named_has : (slots : List (Option R)) (name : List ℕ) (number : ℕ) → number_named name_of slots name ≡ Some number → has_name name_of name (get_or slots number None) ≡ true
   unfolding number_named
   named_has slots name number = place_passes (has_name name_of name) None refl slots number
-
-  pub named_within : (slots : List (Option R)) (name : List ℕ) (number : ℕ) → number_named name_of slots name ≡ Some number → number < length slots
-  named_within slots name number found = standing name slots number (named_has slots name number found)
 
   -- what has a name stands
   has_stands : (name : List ℕ) (slot : Option R) → has_name name_of name slot ≡ true → is_some slot ≡ true
