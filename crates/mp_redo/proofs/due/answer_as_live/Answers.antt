@@ -46,7 +46,6 @@ state_of-after-requires c =
     let size = ap length c.as_slice-3.ensures.value ∙ ap length c.go_on.ensures ∙ length-set cells m _ in
     omega (arith, within, size)
 
-
 -- the state of a cell that was written
 written : (cells new slice : List Cell) (m : ℕ) (before after : Memory) (next : Memory → Memory) → m < length cells → new ≡ slice_set cells m (live_cell (cell_at cells m) (next (cell_at cells m).memory)) → slice ≡ new
     → after ≡ (cell_at slice m).memory → before ≡ (cell_at cells m).memory → after ≡ next before
