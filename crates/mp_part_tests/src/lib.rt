@@ -1,5 +1,5 @@
-//! Tests of the crates that an evaluation stands on, by what they export, and what tests make netlists of. They are a crate of their own since a
-//! crate with tests is proved twice.
+//! Tests of the crates that an evaluation stands on and of those that read and write words and texts, by what they export; and what tests make
+//! netlists of. They are a crate of their own since a crate with tests is proved twice.
 #![tactic(auto)]
 
 pub mod making;

@@ -1,10 +1,51 @@
-//! What tests make netlists of: wires of one bit that are 0 at first, and modules by the names of their wires.
+//! What tests make of data: edits, and netlists of wires of one bit that are 0 at first. What they own, as an edit or a netlist, they let go by
+//! `drop` and at one place, since at each other end of a function the proof spells out how each part of it is let go.
 use mp_modules::Kind;
 use mp_netlist::{
     Changes, Edit, InputName, InputNames, Name, Netlist, OutputName, OutputNames, Params,
     SingleEdit,
 };
 use std::alloc::{AllocError, Global};
+
+/// A module: its ports are at wires, each with a delay in units.
+#[derive(Clone, Copy)]
+pub struct Part<'a> {
+    pub name: &'a str,
+    pub kind: Kind,
+    pub params: &'a [u64],
+    pub inputs: &'a [(&'a str, u64)],
+    pub outputs: &'a [(&'a str, u64)],
+}
+
+/// What is set on a wire from outside, at times in units.
+#[derive(Clone, Copy)]
+pub struct Signal<'a> {
+    pub wire: &'a str,
+    pub changes: &'a [(u64, u64)],
+}
+
+/// A change of one thing in a netlist.
+#[derive(Clone, Copy)]
+pub enum Change<'a> {
+    /// A new wire.
+    Wire(&'a str),
+    /// The end of a wire.
+    Removal(&'a str),
+    /// A new module.
+    Part(Part<'a>),
+    Signal(Signal<'a>),
+    /// The delay of a module's first output, in units.
+    Delay { part: &'a str, delay: u64 },
+}
+
+/// A netlist that runs for so many units: its wires, and what is at them.
+#[derive(Clone, Copy)]
+pub struct Plan<'a> {
+    pub horizon: u64,
+    pub wires: &'a [&'a str],
+    pub parts: &'a [Part<'a>],
+    pub signals: &'a [Signal<'a>],
+}
 
 /// A name of this text.
 pub fn name(alloc: Global, text: &str) -> Result<Name, AllocError> {
@@ -20,13 +61,6 @@ pub fn wire(alloc: Global, text: &str) -> Result<SingleEdit, AllocError> {
     })
 }
 
-/// The end of a wire.
-pub fn removal(alloc: Global, text: &str) -> Result<SingleEdit, AllocError> {
-    Ok(SingleEdit::RemoveWire {
-        wire: name(alloc, text)?,
-    })
-}
-
 /// A wire is set at times, in units, from outside.
 pub fn stimulus(
     alloc: Global,
@@ -39,47 +73,112 @@ pub fn stimulus(
     })
 }
 
-/// Inputs at these wires without a delay.
-pub fn inputs(alloc: Global, texts: &[&str]) -> Result<InputNames, AllocError> {
-    let mut ports = Vec::new(alloc);
-    for text in texts {
+/// Inputs at these wires, each with its delay in units.
+pub fn inputs(alloc: Global, ports: &[(&str, u64)]) -> Result<InputNames, AllocError> {
+    let mut all = Vec::new(alloc);
+    for (text, delay) in ports {
         let wire = name(alloc, text)?;
-        ports.push(InputName { wire, delay: 0 })?;
+        all.push(InputName {
+            wire,
+            delay: *delay,
+        })?;
     }
-    Ok(InputNames::new(ports))
+    Ok(InputNames::new(all))
 }
 
-/// An output that drives the wire after a delay in units.
-pub fn output(alloc: Global, text: &str, delay: u64) -> Result<OutputNames, AllocError> {
-    let wire = Some(name(alloc, text)?);
-    Ok(OutputNames::new(vec![in alloc; OutputName { wire, delay }]?))
+/// Outputs that drive these wires, each after its delay in units.
+fn outputs(alloc: Global, ports: &[(&str, u64)]) -> Result<OutputNames, AllocError> {
+    let mut all = Vec::new(alloc);
+    for (text, delay) in ports {
+        let wire = Some(name(alloc, text)?);
+        all.push(OutputName {
+            wire,
+            delay: *delay,
+        })?;
+    }
+    Ok(OutputNames::new(all))
 }
 
-/// A buffer of this name from one wire to another.
-pub fn buffer(
-    alloc: Global,
-    text: &str,
-    from: &str,
-    to: &str,
-    delay: u64,
-) -> Result<SingleEdit, AllocError> {
-    let inputs = inputs(alloc, &[from])?;
-    let outputs = output(alloc, to, delay)?;
+/// A new module.
+pub fn module(alloc: Global, part: &Part<'_>) -> Result<SingleEdit, AllocError> {
+    let inputs = inputs(alloc, part.inputs)?;
+    let outputs = outputs(alloc, part.outputs)?;
     Ok(SingleEdit::AddModule {
-        name: name(alloc, text)?,
-        kind: Kind::Buf,
-        params: Params::new(Vec::new(alloc)),
+        name: name(alloc, part.name)?,
+        kind: part.kind,
+        params: Params::new(part.params.to_vec(alloc)?),
         inputs,
         outputs,
     })
 }
 
-/// Whether the netlist takes the edit.
-pub fn takes(netlist: &mut Netlist, edit: &Edit) -> bool {
-    netlist.apply(edit).is_ok()
+impl Change<'_> {
+    fn single(&self, alloc: Global) -> Result<SingleEdit, AllocError> {
+        match self {
+            Change::Wire(text) => wire(alloc, text),
+            Change::Removal(text) => Ok(SingleEdit::RemoveWire {
+                wire: name(alloc, text)?,
+            }),
+            Change::Part(part) => module(alloc, part),
+            Change::Signal(signal) => stimulus(alloc, signal.wire, signal.changes),
+            Change::Delay { part, delay } => Ok(SingleEdit::SetDelay {
+                module: name(alloc, part)?,
+                port: 0,
+                delay: *delay,
+            }),
+        }
+    }
+
+    /// The change as an edit.
+    pub fn edit(&self, alloc: Global) -> Result<Edit, AllocError> {
+        Ok(Edit::Single(self.single(alloc)?))
+    }
 }
 
-/// The same of one that it owns, and does no more: each end of a function spells out how an edit is let go.
-pub fn accepts(netlist: &mut Netlist, edit: SingleEdit) -> bool {
-    takes(netlist, &Edit::Single(edit))
+/// Whether the netlist takes the edit.
+fn takes(netlist: &mut Netlist, edit: Edit) -> bool {
+    let taken = netlist.apply(&edit).is_ok();
+    drop(edit);
+    taken
+}
+
+/// Whether there was memory for the edit, and the netlist takes it.
+pub fn accepts(netlist: &mut Netlist, edit: Result<SingleEdit, AllocError>) -> bool {
+    match edit {
+        Ok(edit) => takes(netlist, Edit::Single(edit)),
+        Err(_) => false,
+    }
+}
+
+impl Plan<'_> {
+    /// Whether an empty netlist takes all that is planned.
+    fn fills(&self, alloc: Global, netlist: &mut Netlist) -> bool {
+        for text in self.wires {
+            if !accepts(netlist, wire(alloc, text)) {
+                return false;
+            }
+        }
+        for part in self.parts {
+            if !accepts(netlist, module(alloc, part)) {
+                return false;
+            }
+        }
+        for signal in self.signals {
+            if !accepts(netlist, stimulus(alloc, signal.wire, signal.changes)) {
+                return false;
+            }
+        }
+        true
+    }
+
+    /// The netlist, where there is memory and no edit is refused.
+    pub fn netlist(&self, alloc: Global) -> Option<Netlist> {
+        let mut netlist = Netlist::empty(alloc, self.horizon).ok()?;
+        if self.fills(alloc, &mut netlist) {
+            Some(netlist)
+        } else {
+            drop(netlist);
+            None
+        }
+    }
 }

@@ -1,33 +1,41 @@
 //! The waves of a netlist, where there is memory.
-use crate::making::{accepts, inputs, name, output, wire};
+use crate::making::{Part, Plan};
 use mp_model::plain_waves;
 use mp_modules::Kind;
-use mp_netlist::{Netlist, Params, SingleEdit};
-use std::alloc::{AllocError, Global};
+use mp_netlist::Netlist;
+use std::alloc::Global;
 use std::test::Fail;
 
 /// An inverter that reads its own output.
-fn inverter(alloc: Global) -> Result<SingleEdit, AllocError> {
-    let inputs = inputs(alloc, &["y"])?;
-    let outputs = output(alloc, "y", 1)?;
-    Ok(SingleEdit::AddModule {
-        name: name(alloc, "y")?,
+static SELF_LOOP: Plan<'static> = Plan {
+    horizon: 5,
+    wires: &["y"],
+    parts: &[Part {
+        name: "y",
         kind: Kind::Not,
-        params: Params::new(Vec::new(alloc)),
-        inputs,
-        outputs,
-    })
+        params: &[],
+        inputs: &[("y", 0)],
+        outputs: &[("y", 1)],
+    }],
+    signals: &[],
+};
+
+/// Whether the netlist has one wire, with these changes.
+fn has_wave(alloc: Global, netlist: &Netlist, changes: &[(u32, u64)]) -> Result<bool, Fail> {
+    let waves = plain_waves(alloc, netlist)?;
+    let has = match waves.as_slice() {
+        [Some(wave)] => wave.changes() == changes,
+        _ => false,
+    };
+    drop(waves);
+    Ok(has)
 }
 
 #[test]
 fn self_loop(rt: HostRuntime) -> Result<(), Fail> {
-    let mut netlist = Netlist::empty(rt.alloc(), 5)?;
-    assert!(rt; accepts(&mut netlist, wire(rt.alloc(), "y")?));
-    assert!(rt; accepts(&mut netlist, inverter(rt.alloc())?));
-    let waves = plain_waves(rt.alloc(), &netlist)?;
-    let [Some(wave)] = waves.as_slice() else {
-        panic!(rt; "one wave");
-    };
-    assert!(rt; wave.changes() == [(1, 1), (2, 0), (3, 1), (4, 0)].as_slice());
+    let netlist = SELF_LOOP.netlist(rt.alloc()).ok_or("no netlist")?;
+    let has = has_wave(rt.alloc(), &netlist, &[(1, 1), (2, 0), (3, 1), (4, 0)]);
+    drop(netlist);
+    assert!(rt; has?);
     Ok(())
 }

@@ -1,9 +1,7 @@
 //! The control of two stages, tables that are full, and refusals in words.
-use crate::making::{inputs, name, output, stimulus, wire};
+use crate::making::{Part, module, name, stimulus, wire};
 use mp_modules::Kind;
-use mp_netlist::{
-    Batch, Driver, Edit, EditError, ModuleId, Netlist, NewError, Params, SingleEdit, WireId,
-};
+use mp_netlist::{Batch, Driver, Edit, EditError, ModuleId, Netlist, NewError, SingleEdit, WireId};
 use std::alloc::{AllocError, Global};
 use std::process::Abort;
 use std::test::Fail;
@@ -11,20 +9,18 @@ use std::test::Fail;
 /// The control of a stage: a C-element of the request before it and, inverted, the acknowledge behind it.
 fn stage(
     alloc: Global,
-    text: &str,
-    reads: &[&str],
-    drives: &str,
+    name: &str,
+    inputs: &[(&str, u64)],
+    outputs: &[(&str, u64)],
 ) -> Result<SingleEdit, AllocError> {
-    let inputs = inputs(alloc, reads)?;
-    let outputs = output(alloc, drives, 2)?;
-    let params = Params::new(vec![in alloc; 0, 0, 1]?);
-    Ok(SingleEdit::AddModule {
-        name: name(alloc, text)?,
+    let stage = Part {
+        name,
         kind: Kind::C,
-        params,
+        params: &[0, 0, 1],
         inputs,
         outputs,
-    })
+    };
+    module(alloc, &stage)
 }
 
 fn bundle(alloc: Global, text: &str) -> Result<SingleEdit, AllocError> {
@@ -60,9 +56,9 @@ fn adds_stages(rt: &impl Abort, alloc: Global, net: &mut Netlist) -> Result<(), 
     for text in ["r", "ack", "q1", "q2"] {
         assert_eq!(rt; refusal(net, wire(alloc, text)?), None);
     }
-    let first = stage(alloc, "c1", &["r", "q2"], "q1")?;
+    let first = stage(alloc, "c1", &[("r", 0), ("q2", 0)], &[("q1", 2)])?;
     assert_eq!(rt; refusal(net, first), None);
-    let second = stage(alloc, "c2", &["q1", "ack"], "q2")?;
+    let second = stage(alloc, "c2", &[("q1", 0), ("ack", 0)], &[("q2", 2)])?;
     assert_eq!(rt; refusal(net, second), None);
     let request = stimulus(alloc, "r", &[(1, 1), (4, 0)])?;
     assert_eq!(rt; refusal(net, request), None);
