@@ -3,44 +3,37 @@ mod rows;
 
 use mp_engine::{Crew, Gate, OpenGate, Run, evaluate};
 use mp_modules::Kind;
-use mp_netlist::{
-    InputName, InputNames, ModuleId, Netlist, OutputName, OutputNames, Params, SingleEdit, WireId,
-};
-use mp_part_tests::making::{accepts, name, wire};
-use std::alloc::{AllocError, Global};
+use mp_netlist::{ModuleId, Netlist, WireId};
+use mp_part_tests::making::{Part, Plan};
+use std::alloc::Global;
 use std::process::Abort;
 use std::sync::Wait;
 use std::sync::atomic::{AtomicU64, Ordering};
 use std::test::Fail;
 use std::thread::Threads;
 
-/// An inverter that hears its own output 200 units later than it changes, which is 300 units after the answer.
-fn inverter(alloc: Global, text: &str) -> Result<SingleEdit, AllocError> {
-    let input = InputName {
-        wire: name(alloc, text)?,
-        delay: 200,
-    };
-    let output = OutputName {
-        wire: Some(name(alloc, text)?),
-        delay: 300,
-    };
-    Ok(SingleEdit::AddModule {
-        name: name(alloc, text)?,
-        kind: Kind::Not,
-        params: Params::new(Vec::new(alloc)),
-        inputs: InputNames::new(vec![in alloc; input]?),
-        outputs: OutputNames::new(vec![in alloc; output]?),
-    })
-}
-
-/// Adds two inverters, each with a wire of its own.
-fn add_loops(rt: &impl Abort, alloc: Global, netlist: &mut Netlist) -> Result<(), AllocError> {
-    for text in ["y", "z"] {
-        assert!(rt; accepts(netlist, wire(alloc, text)?));
-        assert!(rt; accepts(netlist, inverter(alloc, text)?));
-    }
-    Ok(())
-}
+/// Two inverters, each with a wire of its own. It hears its own output 200 units later than that changes, which is 300 units after the answer.
+static LOOPS: Plan<'static> = Plan {
+    horizon: 2000,
+    wires: &["y", "z"],
+    parts: &[
+        Part {
+            name: "y",
+            kind: Kind::Not,
+            params: &[],
+            inputs: &[("y", 200)],
+            outputs: &[("y", 300)],
+        },
+        Part {
+            name: "z",
+            kind: Kind::Not,
+            params: &[],
+            inputs: &[("z", 200)],
+            outputs: &[("z", 300)],
+        },
+    ],
+    signals: &[],
+};
 
 /// The level of the inverter's output before its delay, before the unit of a checkpoint.
 fn output_before(run: &Run, id: ModuleId, time: u32) -> Option<u64> {
@@ -94,6 +87,7 @@ fn assert_loops<R: Abort + Threads + Wait + Sync, G: Gate + Sync>(
     let run = evaluate(rt, alloc, netlist, &crew, gate)?;
     assert_loop(rt, &run, 0);
     assert_loop(rt, &run, 1);
+    drop(run);
     Ok(())
 }
 
@@ -117,7 +111,8 @@ fn assert_all<R: Abort + Threads + Wait + Sync>(
 
 #[test]
 fn late_self_loops(rt: HostRuntime) -> Result<(), Fail> {
-    let mut netlist = Netlist::empty(rt.alloc(), 2000)?;
-    add_loops(&rt, rt.alloc(), &mut netlist)?;
-    assert_all(&rt, rt.alloc(), &netlist)
+    let netlist = LOOPS.netlist(rt.alloc()).ok_or("no netlist")?;
+    let shown = assert_all(&rt, rt.alloc(), &netlist);
+    drop(netlist);
+    shown
 }

@@ -1,0 +1,5 @@
+//! Tests of commands, by what their crate exports. They are a crate of their own since a crate with tests is proved twice.
+#![tactic(auto)]
+
+#[cfg(test)]
+mod commands;

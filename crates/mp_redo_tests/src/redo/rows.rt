@@ -1,0 +1,333 @@
+//! Small netlists with a change, whose waves and work were worked out by hand.
+use super::row::{Row, Span, assert_row};
+use mp_modules::Kind;
+use mp_part_tests::making::{Change, Part, Plan, Signal};
+use std::test::Fail;
+
+static INCREMENTAL_CHAIN: Row<'static> = Row {
+    plan: Plan {
+        horizon: 100,
+        wires: &["a", "c", "y", "z", "v"],
+        parts: &[
+            Part {
+                name: "b1",
+                kind: Kind::Buf,
+                params: &[],
+                inputs: &[("a", 0)],
+                outputs: &[("y", 4)],
+            },
+            Part {
+                name: "b2",
+                kind: Kind::Buf,
+                params: &[],
+                inputs: &[("c", 0)],
+                outputs: &[("z", 2)],
+            },
+            Part {
+                name: "b3",
+                kind: Kind::Buf,
+                params: &[],
+                inputs: &[("z", 0)],
+                outputs: &[("v", 2)],
+            },
+        ],
+        signals: &[],
+    },
+    change: Change::Signal(Signal {
+        wire: "a",
+        changes: &[(50, 1)],
+    }),
+    waves: &[(2, &[(54, 1)])],
+    work: &[Span(0, 0, 52, 52), Span(0, 52, 100, 2)],
+};
+
+/// Only the buffer that reads the changed wire works.
+#[test]
+fn incremental_chain(rt: HostRuntime) -> Result<(), Fail> {
+    assert_row(&rt, rt.alloc(), &INCREMENTAL_CHAIN)
+}
+
+static DELAY_EDIT_WORK: Row<'static> = Row {
+    plan: Plan {
+        horizon: 10,
+        wires: &["a", "y", "z"],
+        parts: &[
+            Part {
+                name: "b1",
+                kind: Kind::Buf,
+                params: &[],
+                inputs: &[("a", 0)],
+                outputs: &[("y", 4)],
+            },
+            Part {
+                name: "b2",
+                kind: Kind::Buf,
+                params: &[],
+                inputs: &[("y", 0)],
+                outputs: &[("z", 4)],
+            },
+        ],
+        signals: &[Signal {
+            wire: "a",
+            changes: &[(1, 1)],
+        }],
+    },
+    change: Change::Delay {
+        part: "b1",
+        delay: 1,
+    },
+    waves: &[(1, &[(2, 1)]), (2, &[(6, 1)])],
+    work: &[
+        Span(0, 0, 3, 1),
+        Span(1, 0, 3, 3),
+        Span(0, 3, 4, 1),
+        Span(1, 3, 4, 1),
+        Span(0, 4, 5, 1),
+        Span(1, 4, 5, 1),
+        Span(0, 5, 6, 1),
+        Span(1, 5, 6, 1),
+        Span(0, 6, 7, 1),
+        Span(1, 6, 7, 1),
+        Span(0, 7, 8, 1),
+        Span(1, 7, 8, 1),
+        Span(0, 8, 9, 1),
+        Span(1, 8, 9, 1),
+        Span(0, 9, 10, 1),
+        Span(1, 9, 10, 1),
+    ],
+};
+
+/// A changed delay reaches the buffer behind.
+#[test]
+fn delay_edit_work(rt: HostRuntime) -> Result<(), Fail> {
+    assert_row(&rt, rt.alloc(), &DELAY_EDIT_WORK)
+}
+
+static TWO_STAGE_CONTROL: Row<'static> = Row {
+    plan: Plan {
+        horizon: 20,
+        wires: &["r", "ack", "q1", "q2"],
+        parts: &[
+            Part {
+                name: "c1",
+                kind: Kind::C,
+                params: &[0, 0, 1],
+                inputs: &[("r", 0), ("q2", 0)],
+                outputs: &[("q1", 2)],
+            },
+            Part {
+                name: "c2",
+                kind: Kind::C,
+                params: &[0, 0, 1],
+                inputs: &[("q1", 0), ("ack", 0)],
+                outputs: &[("q2", 2)],
+            },
+        ],
+        signals: &[
+            Signal {
+                wire: "r",
+                changes: &[(1, 1), (4, 0)],
+            },
+            Signal {
+                wire: "ack",
+                changes: &[(10, 1)],
+            },
+        ],
+    },
+    change: Change::Signal(Signal {
+        wire: "ack",
+        changes: &[(11, 1)],
+    }),
+    waves: &[(2, &[(3, 1), (7, 0)]), (3, &[(5, 1), (13, 0)])],
+    work: &[
+        Span(1, 0, 12, 12),
+        Span(0, 0, 14, 14),
+        Span(1, 12, 14, 2),
+        Span(0, 14, 16, 2),
+        Span(1, 14, 16, 2),
+        Span(0, 16, 18, 2),
+        Span(1, 16, 18, 2),
+        Span(0, 18, 20, 2),
+        Span(1, 18, 20, 2),
+    ],
+};
+
+/// The control of a micropipeline of two stages, acknowledged a unit later: only what the acknowledge tells is found anew.
+#[test]
+fn two_stage_control(rt: HostRuntime) -> Result<(), Fail> {
+    assert_row(&rt, rt.alloc(), &TWO_STAGE_CONTROL)
+}
+
+/// A buffer that hears nothing.
+const QUIET: Plan<'static> = Plan {
+    horizon: 2000,
+    wires: &["a", "y"],
+    parts: &[Part {
+        name: "b",
+        kind: Kind::Buf,
+        params: &[],
+        inputs: &[("a", 0)],
+        outputs: &[("y", 3)],
+    }],
+    signals: &[Signal {
+        wire: "a",
+        changes: &[],
+    }],
+};
+
+static CHECKPOINT_RESUME: Row<'static> = Row {
+    plan: QUIET,
+    change: Change::Signal(Signal {
+        wire: "a",
+        changes: &[(1500, 1)],
+    }),
+    waves: &[(1, &[(1503, 1)])],
+    work: &[Span(0, 1024, 1501, 477), Span(0, 1501, 2000, 3)],
+};
+
+/// A late change is evaluated from the last kept state on.
+#[test]
+fn checkpoint_resume(rt: HostRuntime) -> Result<(), Fail> {
+    assert_row(&rt, rt.alloc(), &CHECKPOINT_RESUME)
+}
+
+static REJOINING: Row<'static> = Row {
+    plan: QUIET,
+    change: Change::Signal(Signal {
+        wire: "a",
+        changes: &[(100, 1), (200, 0)],
+    }),
+    waves: &[(1, &[(103, 1), (203, 0)])],
+    work: &[Span(0, 0, 102, 102), Span(0, 102, 1024, 3)],
+};
+
+/// What the buffer hears ends as before within its first block.
+#[test]
+fn rejoining(rt: HostRuntime) -> Result<(), Fail> {
+    assert_row(&rt, rt.alloc(), &REJOINING)
+}
+
+static REJOINING_TWICE: Row<'static> = Row {
+    plan: QUIET,
+    change: Change::Signal(Signal {
+        wire: "a",
+        changes: &[(100, 1), (200, 0), (1500, 1)],
+    }),
+    waves: &[(1, &[(103, 1), (203, 0), (1503, 1)])],
+    work: &[
+        Span(0, 0, 102, 102),
+        Span(0, 102, 1024, 3),
+        Span(0, 1024, 1501, 477),
+        Span(0, 1501, 2000, 3),
+    ],
+};
+
+/// It hears something else again in the next block.
+#[test]
+fn rejoining_twice(rt: HostRuntime) -> Result<(), Fail> {
+    assert_row(&rt, rt.alloc(), &REJOINING_TWICE)
+}
+
+/// A TOGGLE whose input rises at 1,500.
+const TOGGLE: Plan<'static> = Plan {
+    horizon: 2000,
+    wires: &["a", "p", "q"],
+    parts: &[Part {
+        name: "t",
+        kind: Kind::Toggle,
+        params: &[],
+        inputs: &[("a", 0)],
+        outputs: &[("p", 3), ("q", 3)],
+    }],
+    signals: &[Signal {
+        wire: "a",
+        changes: &[(1500, 1)],
+    }],
+};
+
+static STATE_STAYS_DIFFERENT: Row<'static> = Row {
+    plan: TOGGLE,
+    change: Change::Signal(Signal {
+        wire: "a",
+        changes: &[(100, 1), (1500, 0)],
+    }),
+    waves: &[(1, &[(103, 1)]), (2, &[(1503, 1)])],
+    work: &[
+        Span(0, 0, 102, 102),
+        Span(0, 102, 1024, 3),
+        Span(0, 1024, 2000, 3),
+    ],
+};
+
+/// Its state stays another, though it hears the same for a whole block.
+#[test]
+fn state_stays_different(rt: HostRuntime) -> Result<(), Fail> {
+    assert_row(&rt, rt.alloc(), &STATE_STAYS_DIFFERENT)
+}
+
+static STATE_COMES_BACK: Row<'static> = Row {
+    plan: TOGGLE,
+    change: Change::Signal(Signal {
+        wire: "a",
+        changes: &[(100, 1), (101, 0), (102, 1), (103, 0), (1500, 1)],
+    }),
+    waves: &[
+        (1, &[(103, 1), (105, 0), (1503, 1)]),
+        (2, &[(104, 1), (106, 0)]),
+    ],
+    work: &[Span(0, 0, 102, 102), Span(0, 102, 1024, 3)],
+};
+
+/// Four events leave it with the state that it has without them.
+#[test]
+fn state_comes_back(rt: HostRuntime) -> Result<(), Fail> {
+    assert_row(&rt, rt.alloc(), &STATE_COMES_BACK)
+}
+
+/// A buffer hears its input 4 units late.
+const LATE: Plan<'static> = Plan {
+    horizon: 20,
+    wires: &["a", "y"],
+    parts: &[Part {
+        name: "b",
+        kind: Kind::Buf,
+        params: &[],
+        inputs: &[("a", 4)],
+        outputs: &[("y", 3)],
+    }],
+    signals: &[Signal {
+        wire: "a",
+        changes: &[(2, 1), (5, 0)],
+    }],
+};
+
+static INPUT_DELAYS: Row<'static> = Row {
+    plan: LATE,
+    change: Change::Signal(Signal {
+        wire: "a",
+        changes: &[(2, 1), (6, 0)],
+    }),
+    waves: &[(1, &[(9, 1), (13, 0)])],
+    work: &[Span(0, 0, 12, 12), Span(0, 12, 20, 3)],
+};
+
+#[test]
+fn input_delays(rt: HostRuntime) -> Result<(), Fail> {
+    assert_row(&rt, rt.alloc(), &INPUT_DELAYS)
+}
+
+static INPUT_DELAYS_PAST_HORIZON: Row<'static> = Row {
+    plan: LATE,
+    change: Change::Signal(Signal {
+        wire: "a",
+        changes: &[(2, 1), (5, 0), (17, 1)],
+    }),
+    waves: &[(1, &[(9, 1), (12, 0)])],
+    work: &[],
+};
+
+/// What it would hear behind the horizon makes no work.
+#[test]
+fn input_delays_past_horizon(rt: HostRuntime) -> Result<(), Fail> {
+    assert_row(&rt, rt.alloc(), &INPUT_DELAYS_PAST_HORIZON)
+}

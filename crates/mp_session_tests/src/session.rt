@@ -1,0 +1,333 @@
+//! A session of a buffer with a stimulus, one of a chain of buffers, and a full one.
+use mp_engine::OpenGate;
+use mp_modules::Kind;
+use mp_netlist::{EditError, ModuleId, Netlist, WireId};
+use mp_part_tests::making::{Change, Part, Plan, Signal};
+use mp_phase::{Crew, Gate};
+use mp_redo::{Work, WorkEntries, WorkEntry};
+use mp_session::{MAX_EDITS, Session, Version};
+use std::alloc::{AllocError, Global};
+use std::sync::Wait;
+use std::sync::atomic::{AtomicU64, Ordering};
+use std::test::Fail;
+use std::thread::Threads;
+
+/// A session of a netlist, which is let go.
+fn opened<G: Gate + Sync>(
+    rt: &(impl Threads + Wait + Sync),
+    alloc: Global,
+    netlist: Netlist,
+    crew: Crew,
+    gate: G,
+) -> Result<Session<G>, AllocError> {
+    let session = Session::open(rt, alloc, &netlist, crew, gate);
+    drop(netlist);
+    session
+}
+
+/// Whether the session takes the edit, or refuses it as this.
+fn answers<G: Gate + Sync>(
+    rt: &(impl Threads + Wait + Sync),
+    alloc: Global,
+    session: &mut Session<G>,
+    change: &Change<'_>,
+    refusal: Option<EditError>,
+) -> bool {
+    match change.edit(alloc) {
+        Ok(edit) => {
+            let found = session.apply(rt, &edit).err();
+            drop(edit);
+            found == refusal
+        }
+        Err(_) => false,
+    }
+}
+
+/// Whether it answers so to one edit after the other.
+fn answers_all(
+    rt: &(impl Threads + Wait + Sync),
+    alloc: Global,
+    session: &mut Session<OpenGate>,
+    edits: &[(Change<'_>, Option<EditError>)],
+) -> bool {
+    for (change, refusal) in edits {
+        if !answers(rt, alloc, session, change, *refusal) {
+            return false;
+        }
+    }
+    true
+}
+
+/// Entries of the first module: from one time, to before another, each of so many units.
+#[derive(Clone, Copy)]
+struct Piece(u32, u32, u32);
+
+/// Whether these entries come next.
+fn come_next(entries: &mut WorkEntries, piece: &Piece) -> bool {
+    let Piece(begin, end, units) = *piece;
+    let mut from = begin;
+    for _ in begin..end {
+        if from >= end {
+            break;
+        }
+        let to = from.saturating_add(units).min(end);
+        let entry = WorkEntry {
+            module: ModuleId(0),
+            from,
+            to,
+        };
+        if entries.next() != Some(entry) {
+            return false;
+        }
+        from = to;
+    }
+    true
+}
+
+/// Whether these entries are all.
+fn are_all(entries: &mut WorkEntries, pieces: &[Piece]) -> bool {
+    for piece in pieces {
+        if !come_next(entries, piece) {
+            return false;
+        }
+    }
+    entries.next() == None
+}
+
+/// Whether the work has just these entries.
+fn has_entries(work: &Work, pieces: &[Piece]) -> bool {
+    match work.entries() {
+        Ok(mut entries) => {
+            let same = are_all(&mut entries, pieces);
+            drop(entries);
+            same
+        }
+        Err(_) => false,
+    }
+}
+
+/// Whether the version is of this number, and has these changes of a wire.
+fn is_version(version: &Version, number: u32, wire: u32, changes: &[(u32, u64)]) -> bool {
+    match version.wave(WireId(wire)) {
+        Some(wave) => version.number() == number && wave.changes() == changes,
+        None => false,
+    }
+}
+
+static BUFFER_EDITS: [(Change<'static>, Option<EditError>); 8] = [
+    (Change::Wire("a"), None),
+    (Change::Wire("y"), None),
+    (
+        Change::Part(Part {
+            name: "b",
+            kind: Kind::Buf,
+            params: &[],
+            inputs: &[("a", 0)],
+            outputs: &[("y", 3)],
+        }),
+        None,
+    ),
+    (
+        Change::Signal(Signal {
+            wire: "a",
+            changes: &[(0, 1)],
+        }),
+        Some(EditError::BadStimulus),
+    ),
+    (
+        Change::Signal(Signal {
+            wire: "a",
+            changes: &[(20, 1)],
+        }),
+        Some(EditError::BadStimulus),
+    ),
+    (
+        Change::Signal(Signal {
+            wire: "a",
+            changes: &[(16, 1)],
+        }),
+        None,
+    ),
+    (
+        Change::Delay {
+            part: "b",
+            delay: 0,
+        },
+        Some(EditError::BadDelay),
+    ),
+    (Change::Removal("a"), Some(EditError::StillUsed)),
+];
+
+/// Whether the work and the version are those of the last edit that was taken.
+fn is_at_buffer(session: &Session<OpenGate>) -> bool {
+    has_entries(session.last_work(), &[Piece(0, 18, 18), Piece(18, 20, 2)])
+        && is_version(session.version(), 4, 1, &[(19, 1)])
+}
+
+#[test]
+fn refused_edits(rt: HostRuntime) -> Result<(), Fail> {
+    let alloc = rt.alloc();
+    let crew = Crew::new(2, 64)?;
+    let netlist = Netlist::empty(alloc, 20)?;
+    let mut session = opened(&rt, alloc, netlist, crew, OpenGate)?;
+    let shown = answers_all(&rt, alloc, &mut session, &BUFFER_EDITS) && is_at_buffer(&session);
+    drop(session);
+    assert!(rt; shown);
+    Ok(())
+}
+
+/// Counts the windows that the first module of the chain works in when its input changes at 50, and all others.
+#[derive(Clone, Copy, Drop)]
+struct Counting<'a> {
+    expected: &'a AtomicU64,
+    others: &'a AtomicU64,
+}
+
+impl Gate for Counting<'_> {
+    fn enter<R: Wait>(&self, _rt: &R, module: ModuleId, from: u32, to: u32) {
+        let first = from == 0 && to == 52;
+        let later = from >= 52 && to.checked_sub(from) == Some(2);
+        let count = if module == ModuleId(0) && (first || later) {
+            self.expected
+        } else {
+            self.others
+        };
+        count.fetch_add(1, Ordering::SeqCst);
+    }
+}
+
+/// A buffer of 4 units from a to y, and two of 2 units in a row from c over z to v.
+static CHAIN: Plan<'static> = Plan {
+    horizon: 100,
+    wires: &["a", "c", "y", "z", "v"],
+    parts: &[
+        Part {
+            name: "b1",
+            kind: Kind::Buf,
+            params: &[],
+            inputs: &[("a", 0)],
+            outputs: &[("y", 4)],
+        },
+        Part {
+            name: "b2",
+            kind: Kind::Buf,
+            params: &[],
+            inputs: &[("c", 0)],
+            outputs: &[("z", 2)],
+        },
+        Part {
+            name: "b3",
+            kind: Kind::Buf,
+            params: &[],
+            inputs: &[("z", 0)],
+            outputs: &[("v", 2)],
+        },
+    ],
+    signals: &[],
+};
+
+static RISE: Change<'static> = Change::Signal(Signal {
+    wire: "a",
+    changes: &[(50, 1)],
+});
+
+/// Whether the first buffer's input, set to rise at 50, has modules pass the gate in just so many windows, which are the work, and leads to the
+/// version of this number.
+fn rises(
+    rt: &(impl Threads + Wait + Sync),
+    alloc: Global,
+    session: &mut Session<Counting<'_>>,
+    gate: Counting<'_>,
+    windows: u64,
+    pieces: &[Piece],
+    number: u32,
+) -> bool {
+    gate.expected.store(0, Ordering::SeqCst);
+    gate.others.store(0, Ordering::SeqCst);
+    answers(rt, alloc, session, &RISE, None)
+        && gate.expected.load(Ordering::SeqCst) == windows
+        && gate.others.load(Ordering::SeqCst) == 0
+        && has_entries(session.last_work(), pieces)
+        && is_version(session.version(), number, 2, &[(54, 1)])
+}
+
+/// Whether only the module that the change reaches is evaluated again, and only for the work's entries, and the same edit again makes no work.
+fn rises_twice(
+    rt: &(impl Threads + Wait + Sync),
+    alloc: Global,
+    session: &mut Session<Counting<'_>>,
+    gate: Counting<'_>,
+) -> bool {
+    rises(
+        rt,
+        alloc,
+        session,
+        gate,
+        25,
+        &[Piece(0, 52, 52), Piece(52, 100, 2)],
+        1,
+    ) && rises(rt, alloc, session, gate, 0, &[], 2)
+}
+
+#[test]
+fn incremental_chain(rt: HostRuntime) -> Result<(), Fail> {
+    let alloc = rt.alloc();
+    let (expected, others) = (AtomicU64::new(0), AtomicU64::new(0));
+    let gate = Counting {
+        expected: &expected,
+        others: &others,
+    };
+    let crew = Crew::new(2, 64)?;
+    let netlist = CHAIN.netlist(alloc).ok_or("no netlist")?;
+    let mut session = opened(&rt, alloc, netlist, crew, gate)?;
+    let shown = rises_twice(&rt, alloc, &mut session, gate);
+    drop(session);
+    assert!(rt; shown);
+    Ok(())
+}
+
+/// Sets nothing on the wire.
+static QUIET: Change<'static> = Change::Signal(Signal {
+    wire: "a",
+    changes: &[],
+});
+
+static LAST_EDITS: [(Change<'static>, Option<EditError>); 2] = [
+    (
+        Change::Signal(Signal {
+            wire: "a",
+            changes: &[],
+        }),
+        Some(EditError::HistoryFull),
+    ),
+    (Change::Removal("nobody"), Some(EditError::NoSuchWire)),
+];
+
+/// Whether the session takes as many edits as a session may have, and no more.
+fn fills(
+    rt: &(impl Threads + Wait + Sync),
+    alloc: Global,
+    session: &mut Session<OpenGate>,
+) -> bool {
+    if !answers(rt, alloc, session, &Change::Wire("a"), None) {
+        return false;
+    }
+    for _ in 1..MAX_EDITS {
+        if !answers(rt, alloc, session, &QUIET, None) {
+            return false;
+        }
+    }
+    answers_all(rt, alloc, session, &LAST_EDITS) && session.version().number() == MAX_EDITS
+}
+
+#[test]
+fn full_history(rt: HostRuntime) -> Result<(), Fail> {
+    let alloc = rt.alloc();
+    let crew = Crew::new(2, 64)?;
+    let netlist = Netlist::empty(alloc, 2)?;
+    let mut session = opened(&rt, alloc, netlist, crew, OpenGate)?;
+    let shown = fills(&rt, alloc, &mut session);
+    drop(session);
+    assert!(rt; shown);
+    Ok(())
+}
