@@ -48,6 +48,8 @@ pub mod FirstLemmas
 pub mod SortLemmas
 pub mod CourseLemmas
 pub mod UnitLemmas
+pub mod TurnLemmas
+pub mod LookingLemmas
 pub mod TellLemmas
 pub mod ListedLemmas
 pub mod TaskLemmas

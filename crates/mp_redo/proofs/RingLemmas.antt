@@ -3,27 +3,28 @@ use Rattle.std.proofs.Common.{◌≡◌, ℕ, ◌+◌, ◌<◌, ◌≤◌, Bool,
 use Rattle.std.specs.List.{Contains}
 use Rattle.std.proofs.lemmas.Bool.{cases_eq, cases_lt}
 use Rattle.std.proofs.lemmas.List.{get_or-set_same, get_or-set_other, get_or_append_left, get_or-drop, get_or_past, length-drop, length-append}
-use Rattle.std.proofs.lemmas.List.Elements.{Contains-append_left, Contains-push}
+use Rattle.std.proofs.lemmas.List.Elements.{Contains-append_left, Contains-append_right}
 use Rattle.mp_records.specs.declared.ids.ModuleId.{ModuleId}
 use Rattle.mp_engine.specs.Marks.{is_marked, AreAdded}
 use Rattle.mp_redo.specs.Redoing.{looks_at, IsLooking}
 use Rattle.mp_redo.specs.Rings.{AreKept, AreTaken}
 
-pub kept_entered : (lists : List (List ModuleId)) (place : ℕ) (id : ModuleId) → place < length lists → AreKept lists (slice_set lists place (slice_index_or lists place [] ++ id ∷ []))
-kept_entered lists place id within = λ k m has. elim (cases_eq k place) as (λ _. Contains (slice_index_or (slice_set lists place (slice_index_or lists place [] ++ id ∷ [])) k []) (record { 0 = m })) [
+pub kept_entered : (lists : List (List ModuleId)) (place : ℕ) (more : List ModuleId) → place < length lists → AreKept lists (slice_set lists place (slice_index_or lists place [] ++ more))
+kept_entered lists place more within = λ k m has. elim (cases_eq k place) as (λ _. Contains (slice_index_or (slice_set lists place (slice_index_or lists place [] ++ more)) k []) (record { 0 = m })) [
   | inl same ↦
-      subst (λ j. Contains (slice_index_or (slice_set lists place (slice_index_or lists place [] ++ id ∷ [])) j []) (record { 0 = m })) (sym same)
-      (subst (λ xs. Contains xs (record { 0 = m })) (sym (get_or-set_same lists place (slice_index_or lists place [] ++ id ∷ []) [] within))
-      (Contains-append_left (slice_index_or lists place []) (id ∷ []) (record { 0 = m }) (subst (λ j. Contains (slice_index_or lists j []) (record { 0 = m })) same has)))
-  | inr differ ↦ subst (λ xs. Contains xs (record { 0 = m })) (sym (get_or-set_other lists place k (slice_index_or lists place [] ++ id ∷ []) [] differ)) has
+      subst (λ j. Contains (slice_index_or (slice_set lists place (slice_index_or lists place [] ++ more)) j []) (record { 0 = m })) (sym same)
+      (subst (λ xs. Contains xs (record { 0 = m })) (sym (get_or-set_same lists place (slice_index_or lists place [] ++ more) [] within))
+      (Contains-append_left (slice_index_or lists place []) more (record { 0 = m }) (subst (λ j. Contains (slice_index_or lists j []) (record { 0 = m })) same has)))
+  | inr differ ↦ subst (λ xs. Contains xs (record { 0 = m })) (sym (get_or-set_other lists place k (slice_index_or lists place [] ++ more) [] differ)) has
 ]
 
-pub place_entered : (lists : List (List ModuleId)) (place : ℕ) (id : ModuleId) → place < length lists → Contains (looks_at (slice_set lists place (slice_index_or lists place [] ++ id ∷ [])) place) id
-place_entered lists place id within = subst (λ xs. Contains xs id) (sym (get_or-set_same lists place (slice_index_or lists place [] ++ id ∷ []) [] within)) (Contains-push (slice_index_or lists place []) id)
+pub place_entered : (lists : List (List ModuleId)) (place : ℕ) (more : List ModuleId) (id : ModuleId) → place < length lists → Contains more id → Contains (looks_at (slice_set lists place (slice_index_or lists place [] ++ more)) place) id
+place_entered lists place more id within has =
+    subst (λ xs. Contains xs id) (sym (get_or-set_same lists place (slice_index_or lists place [] ++ more) [] within)) (Contains-append_right (slice_index_or lists place []) more id has)
 
-pub looking_entered : (lists : List (List ModuleId)) (place ahead : ℕ) (id : ModuleId) → place < length lists → place ≤ ahead → IsLooking (slice_set lists place (slice_index_or lists place [] ++ id ∷ [])) id.0 ahead
-looking_entered lists place ahead id within low =
-    (place, low, place_entered lists place id within)
+pub looking_entered : (lists : List (List ModuleId)) (place ahead : ℕ) (more : List ModuleId) (id : ModuleId) → place < length lists → place ≤ ahead → Contains more id
+    → IsLooking (slice_set lists place (slice_index_or lists place [] ++ more)) id.0 ahead
+looking_entered lists place ahead more id within low has = (place, low, place_entered lists place more id within has)
 
 pub looking_kept : (lists new : List (List ModuleId)) (m ahead : ℕ) → AreKept lists new → IsLooking lists m ahead → IsLooking new m ahead
 looking_kept lists new m ahead kept is = (is.0, is.1, kept is.0 m is.2)

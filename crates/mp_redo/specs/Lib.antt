@@ -23,3 +23,4 @@ pub mod Joins
 pub mod Opened
 pub mod Leaving
 pub mod Courses
+pub mod Looking

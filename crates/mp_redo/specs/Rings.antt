@@ -1,5 +1,5 @@
 -- Lists of modules for the units to come, the next first.
-use Rattle.std.specs.Prelude.{◌≡◌, ◌⊎◌, ℕ, ◌+◌, ◌<◌, ◌≤◌, Bool, true, List, [], length}
+use Rattle.std.specs.Prelude.{◌≡◌, ◌⊎◌, ℕ, ◌+◌, ◌-◌, ◌<◌, ◌≤◌, ◌++◌, Bool, true, List, [], drop, length, take, nat_lt, if◌then◌else◌}
 use Rattle.std.specs.List.{Contains}
 use Rattle.mp_records.specs.declared.ids.ModuleId.{ModuleId}
 use Rattle.mp_engine.specs.Marks.{is_marked, AreListed}
@@ -8,6 +8,14 @@ use Rattle.mp_redo.specs.Redoing.{looks_at}
 -- a list of modules for each of some units
 pub record Lists : Type 0 where
   pub items : List (List ModuleId)
+
+-- lists that stand in a circle, from a start on
+abbrev pub turned : ℕ → List (List ModuleId) → List (List ModuleId)
+turned start lists = drop start lists ++ take start lists
+
+-- where the one at a place from the start on stands, among so many
+abbrev pub turned_place : ℕ → ℕ → ℕ → ℕ
+turned_place start count place = if nat_lt place (count - start) then start + place else place - (count - start)
 
 -- the lists before a first place and from a last one on have no modules
 abbrev pub IsIdle : ℕ → ℕ → List (List ModuleId) → Type 0

@@ -21,7 +21,7 @@ use std::thread::Threads;
 
 /// The cells and ledgers of all modules and the lines of all wires, by number, who looks at the inputs when, and the stretches of work so
 /// far. Besides the modules that are live, those that are due in a unit, which are marked until they have answered, those of them that
-/// join, and those that have joined in a window.
+/// join, those of them that look again, and those that have joined in a window.
 #[derive(Drop)]
 pub(crate) struct Course {
     pub cells: Vec<Cell>,
@@ -32,6 +32,7 @@ pub(crate) struct Course {
     pub live: Vec<ModuleId>,
     pub due: Vec<ModuleId>,
     pub joining: Vec<ModuleId>,
+    pub looking: Vec<ModuleId>,
     pub joined: Vec<ModuleId>,
     pub marks: Vec<bool>,
 }
@@ -77,6 +78,7 @@ impl Course {
             live,
             due: Vec::new(alloc),
             joining: Vec::new(alloc),
+            looking: Vec::new(alloc),
             joined: Vec::new(alloc),
             marks,
         })
@@ -266,6 +268,7 @@ impl Course {
                 &mut self.cells,
                 &mut self.lines,
                 &mut self.looks,
+                &mut self.looking,
             )?;
             time = pass_idle(&mut self.looks, time + 1, to);
         }

@@ -1,5 +1,5 @@
 //! The modules that are due in a unit: those that are live answer, and of the others those that are to join are listed.
-ghost use Rattle.std.specs.Prelude.{◌≡◌, ℕ, ◌+◌, ◌<◌, ◌⊎◌, true, false, Some, None, IsSome, [], OnOk, length, slice_set};
+ghost use Rattle.std.specs.Prelude.{◌≡◌, ℕ, ◌+◌, ◌<◌, ◌⊎◌, ◌++◌, ◌∷◌, true, false, Some, None, IsSome, [], OnOk, length, slice_set, if◌then◌else◌};
 ghost use Rattle.std.specs.List.{Contains};
 ghost use Rattle.mp_engine.specs.Marks.{is_marked};
 ghost use Rattle.mp_netlist.specs.Circuit.{module_at};
@@ -7,6 +7,7 @@ ghost use Rattle.mp_netlist.specs.Slots.{slot_at};
 ghost use Rattle.mp_redo.specs.Changes.{IsChange};
 ghost use Rattle.mp_redo.specs.Joins.{HaveAnswered, IsSettled, IsToJoin, live_cell};
 ghost use Rattle.mp_redo.specs.Ledgers.{state_in};
+ghost use Rattle.mp_redo.specs.Looking.{StillHear, WillHear};
 ghost use Rattle.mp_redo.specs.Redoing.{cell_at, IsDuring};
 ghost use Rattle.mp_redo.specs.Windows.{IsShort};
 
@@ -50,7 +51,7 @@ pub(crate) fn clear_mark(marks: &mut Vec<bool>, id: ModuleId)
     marks[id.0 as usize] = false;
 }
 
-/// A marked module that is live answers.
+/// A marked module that is live answers. It looks again, unless it is told of each change to come at its inputs.
 fn answer_as_live(
     change: &Change<'_>,
     block: u32,
@@ -62,6 +63,7 @@ fn answer_as_live(
     cells: &mut Vec<Cell>,
     lines: &mut Vec<Line>,
     looks: &mut Ring,
+    looking: &mut Vec<ModuleId>,
 ) -> Result<(), AllocError>
     requires change { IsChange change.now }
     requires unit { IsShort change.now.new.now block time (time + 1) }
@@ -73,20 +75,34 @@ fn answer_as_live(
     ensures places { OnOk result (length looks.new.items ≡ length looks.old.items) }
     ensures marks { OnOk result (marks.new.items ≡ slice_set marks.old.items id.0 false) }
     ensures cells { OnOk result (HaveAnswered [] cells.old.items cells.new.items) }
+    ensures hears { OnOk result (WillHear change.now.new.now change.now.run.now (time + 1) looking.new.items cells.new.items lines.new.items looks.new.items id.0) }
+    ensures still { OnOk result (StillHear change.now.new.now change.now.run.now (time + 1) looking.old.items cells.old.items lines.old.items looks.old.items looking.new.items cells.new.items lines.new.items looks.new.items) }
     ensures during { OnOk result (IsDuring change.now.old.now change.now.new.now change.now.run.now block time (time + 1) due.now marks.new.items cells.new.items lines.new.items looks.new.items) }
 {
     let Some(part) = part_at(change.parts, id) else {
         unreachable!();
     };
     let before = *state_of(cells.as_slice(), id);
-    go_on(change, lines.as_slice(), cells, id, found, part, time);
+    let told = go_on(change, lines.as_slice(), cells, id, found, part, time);
     let after = state_of(cells.as_slice(), id);
     give_outputs(change, lines, looks, found, &before, after, time)?;
     clear_mark(marks, id);
+    list_untold(looking, id, told)?;
+    Ok(())
+}
+
+/// Lists a module that is to look again, which it needn't where it is told of each change to come at its inputs.
+fn list_untold(looking: &mut Vec<ModuleId>, id: ModuleId, told: bool) -> Result<(), AllocError>
+    ensures { OnOk result (looking.new.items ≡ (if told then looking.old.items else looking.old.items ++ id ∷ [])) }
+{
+    if !told {
+        looking.push(id)?;
+    }
     Ok(())
 }
 
 /// A module that isn't live is listed to join where it hears anything else than in the old run. Else it has answered.
+#[inline(never)]
 fn find_quiet(
     change: &Change<'_>,
     block: u32,
@@ -120,7 +136,8 @@ fn find_quiet(
     Ok(())
 }
 
-/// A marked module that is live answers, and another is listed to join or has answered. Where none stands there is nothing to answer.
+/// A marked module that is live answers, and another is listed to join or has answered. Where none stands there is nothing to answer. It
+/// looks again, unless it is live and told of each change to come at its inputs.
 fn answer_one(
     change: &Change<'_>,
     block: u32,
@@ -132,6 +149,7 @@ fn answer_one(
     cells: &mut Vec<Cell>,
     lines: &mut Vec<Line>,
     looks: &mut Ring,
+    looking: &mut Vec<ModuleId>,
 ) -> Result<(), AllocError>
     requires change { IsChange change.now }
     requires unit { IsShort change.now.new.now block time (time + 1) }
@@ -143,20 +161,25 @@ fn answer_one(
     ensures settled { OnOk result (IsSettled joining.new.items marks.new.items id.0) }
     ensures others { OnOk result ((m : ℕ) → IsSettled joining.old.items marks.old.items m → IsSettled joining.new.items marks.new.items m) }
     ensures cells { OnOk result (HaveAnswered [] cells.old.items cells.new.items) }
+    ensures hears { OnOk result (WillHear change.now.new.now change.now.run.now (time + 1) looking.new.items cells.new.items lines.new.items looks.new.items id.0) }
+    ensures still { OnOk result (StillHear change.now.new.now change.now.run.now (time + 1) looking.old.items cells.old.items lines.old.items looks.old.items looking.new.items cells.new.items lines.new.items looks.new.items) }
     ensures during { OnOk result (IsDuring change.now.old.now change.now.new.now change.now.run.now block time (time + 1) due.now marks.new.items cells.new.items lines.new.items looks.new.items) }
 {
     if !has_mark(marks.as_slice(), id) {
+        list_untold(looking, id, false)?;
         return Ok(());
     }
     let Some(found) = change.new.module(id) else {
         clear_mark(marks, id);
+        list_untold(looking, id, false)?;
         return Ok(());
     };
     if is_live(cells.as_slice(), id) {
         return answer_as_live(
-            change, block, time, due, id, found, marks, cells, lines, looks,
+            change, block, time, due, id, found, marks, cells, lines, looks, looking,
         );
     }
+    list_untold(looking, id, false)?;
     find_quiet(
         change,
         block,
@@ -169,11 +192,12 @@ fn answer_one(
         cells.as_slice(),
         lines.as_slice(),
         looks,
-    )
+    )?;
+    Ok(())
 }
 
 /// Of the modules that are due, the live ones answer, and those of the others that hear anything else than in the old run are listed to join.
-/// All that aren't listed have answered then.
+/// All that aren't listed have answered then. Those of all that aren't told of each change to come at their inputs are to look again.
 pub(crate) fn answer_or_list(
     change: &Change<'_>,
     block: u32,
@@ -184,6 +208,7 @@ pub(crate) fn answer_or_list(
     cells: &mut Vec<Cell>,
     lines: &mut Vec<Line>,
     looks: &mut Ring,
+    looking: &mut Vec<ModuleId>,
 ) -> Result<(), AllocError>
     requires change { IsChange change.now }
     requires unit { IsShort change.now.new.now block time (time + 1) }
@@ -195,11 +220,12 @@ pub(crate) fn answer_or_list(
     ensures joins { OnOk result ((m : ℕ) → Contains joining.new.items (record { 0 = m }) → IsToJoin change.now.old.now change.now.new.now time cells.new.items m) }
     ensures left { OnOk result ((m : ℕ) → is_marked marks.new.items m ≡ true → Contains joining.new.items (record { 0 = m })) }
     ensures cells { OnOk result (HaveAnswered [] cells.old.items cells.new.items) }
+    ensures hear { OnOk result ((m : ℕ) → Contains due.now (record { 0 = m }) → WillHear change.now.new.now change.now.run.now (time + 1) looking.new.items cells.new.items lines.new.items looks.new.items m) }
     ensures during { OnOk result (IsDuring change.now.old.now change.now.new.now change.now.run.now block time (time + 1) due.now marks.new.items cells.new.items lines.new.items looks.new.items) }
 {
     for id in due {
         answer_one(
-            change, block, time, due, *id, joining, marks, cells, lines, looks,
+            change, block, time, due, *id, joining, marks, cells, lines, looks, looking,
         )?;
     }
     Ok(())

@@ -7,6 +7,7 @@ ghost use Rattle.mp_phase.specs.Phase.{AreDone};
 ghost use Rattle.mp_redo.specs.Changes.{IsChange};
 ghost use Rattle.mp_redo.specs.Joins.{HaveAnswered, IsToJoin};
 ghost use Rattle.mp_redo.specs.Redoing.{IsDuring};
+ghost use Rattle.mp_redo.specs.Steps.{GoesOnListening};
 ghost use Rattle.mp_redo.specs.Tasks.{IsAnswerOf};
 ghost use Rattle.mp_redo.specs.Windows.{IsShort};
 
@@ -50,6 +51,7 @@ fn join_marked(
     ensures places { OnOk result (length looks.new.items ≡ length looks.old.items) }
     ensures marks { OnOk result (marks.new.items ≡ slice_set marks.old.items id.0 false) }
     ensures cells { OnOk result (HaveAnswered (id ∷ []) cells.old.items cells.new.items) }
+    ensures listening { OnOk result (GoesOnListening change.now.new.now change.now.run.now (time + 1) lines.old.items lines.new.items looks.old.items looks.new.items) }
     ensures during { OnOk result (IsDuring change.now.old.now change.now.new.now change.now.run.now block time (time + 1) due.now marks.new.items cells.new.items lines.new.items looks.new.items) }
 {
     let memory = old_state(change.run, id, block);
@@ -94,6 +96,7 @@ fn join_one(
     ensures places { OnOk result (length looks.new.items ≡ length looks.old.items) }
     ensures marks { OnOk result (marks.new.items ≡ slice_set marks.old.items id.0 false) }
     ensures cells { OnOk result (HaveAnswered (id ∷ []) cells.old.items cells.new.items) }
+    ensures listening { OnOk result (GoesOnListening change.now.new.now change.now.run.now (time + 1) lines.old.items lines.new.items looks.old.items looks.new.items) }
     ensures during { OnOk result (IsDuring change.now.old.now change.now.new.now change.now.run.now block time (time + 1) due.now marks.new.items cells.new.items lines.new.items looks.new.items) }
 {
     if !has_mark(marks.as_slice(), id) {
@@ -133,6 +136,7 @@ fn join_each(
     ensures marks { OnOk result (length marks.new.items ≡ length marks.old.items) }
     ensures free { OnOk result ((m : ℕ) → is_marked marks.new.items m ≡ false) }
     ensures cells { OnOk result (HaveAnswered joining.now cells.old.items cells.new.items) }
+    ensures listening { OnOk result (GoesOnListening change.now.new.now change.now.run.now (time + 1) lines.old.items lines.new.items looks.old.items looks.new.items) }
     ensures during { OnOk result (IsDuring change.now.old.now change.now.new.now change.now.run.now block time (time + 1) due.now marks.new.items cells.new.items lines.new.items looks.new.items) }
 {
     for k in 0..joining.len() {
@@ -173,6 +177,7 @@ pub(crate) fn join_all<R: Threads + Wait + Sync, G: Gate + Sync>(
     ensures marks { OnOk result (length marks.new.items ≡ length marks.old.items) }
     ensures free { OnOk result ((m : ℕ) → is_marked marks.new.items m ≡ false) }
     ensures cells { OnOk result (HaveAnswered joining.now cells.old.items cells.new.items) }
+    ensures listening { OnOk result (GoesOnListening change.now.new.now change.now.run.now (time + 1) lines.old.items lines.new.items looks.old.items looks.new.items) }
     ensures during { OnOk result (IsDuring change.now.old.now change.now.new.now change.now.run.now block time (time + 1) due.now marks.new.items cells.new.items lines.new.items looks.new.items) }
 {
     if joining.is_empty() {

@@ -22,6 +22,7 @@ ghost use Rattle.mp_engine.specs.Outcomes.{wave_of};
 ghost use Rattle.mp_redo.specs.Lines.{level_in};
 
 /// The level that a wire had in a run at a time, 0 where there was none.
+#[inline(never)]
 pub(crate) fn run_level(run: &Run, wire: WireId, time: u32) -> u64
     ensures { result ≡ level_in (wave_of run.now wire.0) time }
 {
@@ -51,6 +52,15 @@ impl Line {
             } if time < *until => own.level_at(time),
             _ => run_level(run, wire, time),
         }
+    }
+
+    /// The level at a time, and whether it is told.
+    #[inline(always)]
+    pub(crate) fn heard_at(&self, run: &Run, wire: WireId, time: u32) -> (u64, bool)
+        ensures level { result.0 ≡ line_level self.now (wave_of run.now wire.0) time }
+        ensures told { result.1 ≡ is_told self.now }
+    {
+        (self.level_at(run, wire, time), self.is_told())
     }
 
     /// Whether the level at a time is another than in the old run.

@@ -23,6 +23,7 @@ pub(crate) fn enter(looks: &mut Ring, ahead: usize, id: ModuleId) -> Result<(), 
 }
 
 /// Lists readers of a wire, each a module and a port, for the unit that comes so many units after the next, or before that.
+#[inline(always)]
 pub(crate) fn tell(
     looks: &mut Ring,
     ahead: usize,
@@ -34,9 +35,8 @@ pub(crate) fn tell(
     ensures told { OnOk result ((reader : Id × ℕ) → Contains readers.now reader → IsLooking looks.new.items reader.0.0 ahead) }
     ensures exact { OnOk result (ahead < length looks.old.items → (reader : Id × ℕ) → Contains readers.now reader → Contains (looks_at looks.new.items ahead) (record { 0 = reader.0.0 })) }
 {
-    for reader in readers {
-        enter(looks, ahead, reader.0)?;
-    }
+    let place = ahead.min(looks.len() - 1);
+    looks.put_readers(place, readers)?;
     Ok(())
 }
 

@@ -101,7 +101,7 @@ pub(crate) fn look_all(
     change: &Change<'_>,
     cells: &[Cell],
     lines: &[Line],
-    due: &[ModuleId],
+    looking: &[ModuleId],
     to: u32,
     looks: &mut Ring,
 ) -> Result<(), AllocError>
@@ -109,9 +109,9 @@ pub(crate) fn look_all(
     requires telling { AreTelling change.now.new.now change.now.run.now to lines.now looks.old.items }
     ensures places { OnOk result (length looks.new.items ≡ length looks.old.items) }
     ensures kept { OnOk result (AreKept looks.old.items looks.new.items) }
-    ensures listening { OnOk result ((m : ℕ) → Contains due.now (record { 0 = m }) → IsListening change.now.new.now change.now.run.now (cell_at cells.now m).live to lines.now looks.new.items m) }
+    ensures listening { OnOk result ((m : ℕ) → Contains looking.now (record { 0 = m }) → IsListening change.now.new.now change.now.run.now (cell_at cells.now m).live to lines.now looks.new.items m) }
 {
-    for id in due {
+    for id in looking {
         look_again(change, cells, lines, *id, to, looks)?;
     }
     Ok(())

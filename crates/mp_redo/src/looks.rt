@@ -1,6 +1,4 @@
 //! The modules that look at their inputs in one unit of time.
-ghost use Rattle.std.specs.Prelude.{◌≡◌, ◌++◌, ◌∷◌, [], true, OnOk};
-
 use mp_netlist::ModuleId;
 use std::alloc::{AllocError, Global};
 use std::marker::Model;
@@ -20,6 +18,9 @@ impl Model for Looks {
 }
 
 impl Looks {
+    ghost use Rattle.std.specs.Prelude.{◌≡◌, ◌++◌, ◌∷◌, ℕ, [], true, OnOk, map};
+    ghost use Rattle.mp_records.specs.declared.ids.ModuleId.{ModuleId as Id};
+
     pub(crate) fn new(alloc: Global) -> Self
         ensures { result ≡ [] }
     {
@@ -44,6 +45,16 @@ impl Looks {
         ensures { OnOk result (self.new ≡ self.old ++ id ∷ []) }
     {
         self.list.push(id)?;
+        Ok(())
+    }
+
+    /// Adds the modules of these readers, each a module and a port.
+    pub(crate) fn push_readers(&mut self, readers: &[(ModuleId, u32)]) -> Result<(), AllocError>
+        ensures { OnOk result (self.new ≡ self.old ++ map (λ (reader : Id × ℕ). reader.0) readers.now) }
+    {
+        for reader in readers {
+            self.list.push(reader.0)?;
+        }
         Ok(())
     }
 

@@ -60,13 +60,19 @@ pub(crate) fn give_outputs(
     Ok(())
 }
 
-ghost use Rattle.std.specs.Prelude.{◌-◌, ◌≤◌, map, take, slice_set};
+ghost use Rattle.std.specs.Prelude.{◌-◌, ◌≤◌, true, map, take, slice_set};
+ghost use Rattle.std.specs.List.{Contains};
 ghost use Rattle.mp_records.specs.declared.ports.Input.{Input as Port};
 ghost use Rattle.mp_model.specs.Levels.{built};
 ghost use Rattle.mp_redo.specs.Joins.{live_cell};
+ghost use Rattle.mp_storage.specs.AnyModules.{settle};
 ghost use Rattle.mp_redo.specs.Redoing.{cell_at, level_at};
+ghost use Rattle.mp_redo.specs.Telling.{IsToldTo};
 
-/// A module is live and goes on to its state at a time, from its state before and the levels that it hears.
+// What a live module asks in each unit is inlined; what is asked seldom is kept apart.
+
+/// A module is live and goes on to its state at a time, from its state before and the levels that it hears. Whether it is told of each
+/// change to come at its inputs.
 #[inline(always)]
 pub(crate) fn go_on(
     change: &Change<'_>,
@@ -76,48 +82,74 @@ pub(crate) fn go_on(
     found: &ModuleRecord,
     part: &AnyModule,
     time: u32,
-)
+) -> bool
     requires form { IsModule change.now.new.now found.now }
     requires part { part.now ≡ built change.now.new.now found.now }
     requires place { id.0 < length cells.old.items }
-    ensures { cells.new.items ≡ slice_set cells.old.items id.0 (live_cell (cell_at cells.old.items id.0)
+    ensures cells { cells.new.items ≡ slice_set cells.old.items id.0 (live_cell (cell_at cells.old.items id.0)
         (stepped change.now.new.now change.now.run.now lines.now found.now (cell_at cells.old.items id.0).memory time)) }
+    ensures told { result ≡ true → (input : Port) → Contains found.now.inputs input → IsToldTo true lines.now input }
 {
     let inputs = found.inputs.as_slice();
     let mut now = [0; MOST_INPUTS];
-    hear_all(change.run, lines, time, inputs, &mut now);
+    let told = hear_all(change.run, lines, time, inputs, &mut now);
     let heard = &now[..inputs.len()];
     let cell = &mut cells[id.0 as usize];
     cell.live = true;
     if time == 0 {
-        cell.memory = part.settle(heard);
+        cell.memory = settled(part, heard);
     } else {
         part.step(&mut cell.memory, heard);
     }
+    told
 }
 
-/// Writes the levels that are heard at these inputs into their places.
-fn hear_all(run: &Run, lines: &[Line], time: u32, inputs: &[Input], now: &mut [u64; MOST_INPUTS])
-    requires few { length inputs.now ≤ MOST_INPUTS }
-    ensures { take (length inputs.now) now.new ≡ map (λ (i : Port). level_at run.now lines.now i.wire.0 (time - i.delay)) inputs.now }
+/// The state at time 0, where the input ports have these levels.
+#[inline(never)]
+fn settled(part: &AnyModule, levels: &[u64]) -> Memory
+    ensures { result ≡ settle part.now levels.now }
 {
-    for (p, input) in inputs.iter().enumerate() {
-        now[p] = hear(run, lines, time, *input);
-    }
+    part.settle(levels)
 }
 
-/// The level that is heard at an input.
-fn hear(run: &Run, lines: &[Line], time: u32, input: Input) -> u64
-    ensures { result ≡ level_at run.now lines.now input.wire.0 (time - input.delay) }
+/// Writes the levels that are heard at these inputs into their places. Whether a live module with these inputs is told of each change to
+/// come at them.
+fn hear_all(
+    run: &Run,
+    lines: &[Line],
+    time: u32,
+    inputs: &[Input],
+    now: &mut [u64; MOST_INPUTS],
+) -> bool
+    requires few { length inputs.now ≤ MOST_INPUTS }
+    ensures levels { take (length inputs.now) now.new ≡ map (λ (i : Port). level_at run.now lines.now i.wire.0 (time - i.delay)) inputs.now }
+    ensures told { result ≡ true → (input : Port) → Contains inputs.now input → IsToldTo true lines.now input }
+{
+    let mut all_told = true;
+    for (p, input) in inputs.iter().enumerate() {
+        let (level, told) = hear(run, lines, time, *input);
+        now[p] = level;
+        all_told = all_told && told;
+    }
+    all_told
+}
+
+/// The level that is heard at an input, and whether a live module is told of each change to come at it.
+fn hear(run: &Run, lines: &[Line], time: u32, input: Input) -> (u64, bool)
+    ensures level { result.0 ≡ level_at run.now lines.now input.wire.0 (time - input.delay) }
+    ensures told { result.1 ≡ true → IsToldTo true lines.now input }
 {
     let before = time.saturating_sub(input.delay);
     match lines.get(input.wire.0 as usize) {
-        Some(line) => line.level_at(run, input.wire, before),
-        None => run_level(run, input.wire, before),
+        Some(line) => {
+            let (level, told) = line.heard_at(run, input.wire, before);
+            (level, told && input.delay == 0)
+        }
+        None => (run_level(run, input.wire, before), false),
     }
 }
 
-ghost use Rattle.std.specs.Prelude.{[], ◌∷◌, ◌⊎◌, true, Some, if◌then◌else◌};
+ghost use Rattle.std.specs.Prelude.{[], ◌∷◌, ◌⊎◌, Some, if◌then◌else◌};
 ghost use Rattle.mp_response.specs.Span.{extended};
 ghost use Rattle.mp_redo.specs.Answers.{AreApart, CanGive, CanTake, CanTakeSome, HasGiven, HasTaken};
 ghost use Rattle.mp_redo.specs.Redoing.{line_at};
@@ -189,6 +221,7 @@ fn step_output(
 
 /// A line has a level from a delay after a time on. It is told where whoever reads its wire can be listed for then, and it was told or has
 /// no other change to come.
+#[inline(always)]
 fn give_one(
     line: &mut Line,
     time: u32,

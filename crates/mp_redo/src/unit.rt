@@ -4,6 +4,7 @@ ghost use Rattle.std.specs.List.{Contains};
 ghost use Rattle.mp_engine.specs.Marks.{is_marked};
 ghost use Rattle.mp_redo.specs.Changes.{IsChange};
 ghost use Rattle.mp_redo.specs.Joins.{HaveAnswered};
+ghost use Rattle.mp_redo.specs.Looking.{WillHear};
 ghost use Rattle.mp_redo.specs.Redoing.{IsBefore, IsDuring};
 ghost use Rattle.mp_redo.specs.Windows.{IsShort};
 
@@ -28,7 +29,7 @@ pub(crate) fn pass_gate<R: Wait, G: Gate>(rt: &R, gate: &G, live: &[ModuleId], f
     }
 }
 
-/// The modules that are due answer: the live ones, and those that are to join, which are listed.
+/// The modules that are due answer: the live ones, and those that are to join, which are listed. So are those that are to look again.
 fn answer_due<R: Threads + Wait + Sync, G: Gate + Sync>(
     rt: &R,
     alloc: Global,
@@ -44,6 +45,7 @@ fn answer_due<R: Threads + Wait + Sync, G: Gate + Sync>(
     cells: &mut Vec<Cell>,
     lines: &mut Vec<Line>,
     looks: &mut Ring,
+    looking: &mut Vec<ModuleId>,
 ) -> Result<(), AllocError>
     requires change { IsChange change.now }
     requires unit { IsShort change.now.new.now block time (time + 1) }
@@ -54,10 +56,11 @@ fn answer_due<R: Threads + Wait + Sync, G: Gate + Sync>(
     ensures marks { OnOk result (length marks.new.items ≡ length marks.old.items) }
     ensures free { OnOk result ((m : ℕ) → is_marked marks.new.items m ≡ false) }
     ensures cells { OnOk result (HaveAnswered joining.new.items cells.old.items cells.new.items) }
+    ensures hear { OnOk result ((m : ℕ) → Contains due.now (record { 0 = m }) → WillHear change.now.new.now change.now.run.now (time + 1) looking.new.items cells.new.items lines.new.items looks.new.items m) }
     ensures during { OnOk result (IsDuring change.now.old.now change.now.new.now change.now.run.now block time (time + 1) due.now marks.new.items cells.new.items lines.new.items looks.new.items) }
 {
     answer_or_list(
-        change, block, time, due, joining, marks, cells, lines, looks,
+        change, block, time, due, joining, marks, cells, lines, looks, looking,
     )?;
     join_all(
         rt,
@@ -74,11 +77,13 @@ fn answer_due<R: Threads + Wait + Sync, G: Gate + Sync>(
         cells,
         lines,
         looks,
-    )
+    )?;
+    Ok(())
 }
 
 /// The modules that look at their inputs in the unit at a time are listed as due: the live ones answer, those that are to join are listed
-/// and do so, and all look again. Those that have joined are added to the joined ones.
+/// and do so, and all that aren't told of each change to come at their inputs look again. Those that have joined are added to the joined
+/// ones.
 pub(crate) fn run_unit<R: Threads + Wait + Sync, G: Gate + Sync>(
     rt: &R,
     alloc: Global,
@@ -95,6 +100,7 @@ pub(crate) fn run_unit<R: Threads + Wait + Sync, G: Gate + Sync>(
     cells: &mut Vec<Cell>,
     lines: &mut Vec<Line>,
     looks: &mut Ring,
+    looking: &mut Vec<ModuleId>,
 ) -> Result<(), AllocError>
     requires change { IsChange change.now }
     requires unit { IsShort change.now.new.now block time (time + 1) }
@@ -111,6 +117,7 @@ pub(crate) fn run_unit<R: Threads + Wait + Sync, G: Gate + Sync>(
 {
     due.clear();
     joining.clear();
+    looking.clear();
     take_lists(looks, marks, due, 1)?;
     answer_due(
         rt,
@@ -127,13 +134,14 @@ pub(crate) fn run_unit<R: Threads + Wait + Sync, G: Gate + Sync>(
         cells,
         lines,
         looks,
+        looking,
     )?;
     joined.extend_from_slice(joining.as_slice())?;
     look_all(
         change,
         cells.as_slice(),
         lines.as_slice(),
-        due.as_slice(),
+        looking.as_slice(),
         time + 1,
         looks,
     )?;

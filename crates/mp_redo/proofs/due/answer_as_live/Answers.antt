@@ -1,4 +1,4 @@
-use Rattle.std.proofs.Common.{◌≡◌, ◌+◌, ◌<◌, length, option_map, ℕ, Some, None, List, [], slice_set, false, refl, sym, subst, ap, ◌∙◌, arith}
+use Rattle.std.proofs.Common.{◌≡◌, ◌+◌, ◌<◌, length, option_map, ℕ, true, Some, None, List, [], slice_set, false, refl, sym, subst, ap, ◌∙◌, arith}
 use Rattle.std.specs.Option.{option_copied}
 use Rattle.std.proofs.lemmas.List.{get_or-map, get_or-set_same, length-set}
 use Rattle.std.proofs.lemmas.Option.{same_Some}
@@ -11,6 +11,8 @@ use Rattle.mp_redo.specs.declared.line.Line.{Line}
 use Rattle.mp_redo.specs.Joins.{HaveAnswered, live_cell}
 use Rattle.mp_redo.specs.Redoing.{cell_at, IsDuring}
 use Rattle.mp_redo.specs.Steps.{IsAt, GoesOn, stepped}
+use Rattle.mp_redo.specs.Telling.{IsToldTo}
+use Rattle.mp_redo.proofs.LookingLemmas.{hears_told, listed_more, still_hear, told_listens}
 use Rattle.mp_redo.proofs.StepLemmas.{steps_to}
 use Rattle.mp_redo.proofs.DueLemmas.{cell_within, due_heard, due_ready, due_live, live_answers, answered_one}
 use Rattle.mp_redo.proofs.due.answer_as_live.Goals as goal
@@ -20,11 +22,11 @@ state_of-requires c =
     subst (λ xs. c.args.id.0 < length xs) (sym c.as_slice.ensures.value)
     (cell_within c.args.change.now.old.now c.args.change.now.new.now c.requires.change.old_form c.requires.change.form c.requires.change.revision c.args.change.now.run.now c.requires.change.run c.args.block c.args.time (c.args.time + 1) c.requires.unit c.args.due.now c.args.marks.now.items c.args.cells.now.items c.args.lines.now.items c.args.looks.now.items c.requires.during c.args.id.0 c.requires.marked c.args.found.now c.requires.stands)
 
-pub go_on-requires-clause-form : goal.go_on-requires-clause-form
-go_on-requires-clause-form c = c.requires.change.form.modules_ok c.args.id.0 c.args.found.now c.requires.stands
+pub go_on-told-requires-clause-form : goal.go_on-told-requires-clause-form
+go_on-told-requires-clause-form c = c.requires.change.form.modules_ok c.args.id.0 c.args.found.now c.requires.stands
 
-pub go_on-requires-clause-part : goal.go_on-requires-clause-part
-go_on-requires-clause-part c =
+pub go_on-told-requires-clause-part : goal.go_on-told-requires-clause-part
+go_on-told-requires-clause-part c =
     let n = c.args.change.now.new.now in
     let r = c.args.found.now in
     let m = c.args.id.0 in
@@ -34,8 +36,8 @@ go_on-requires-clause-part c =
     ∙ get_or-map (option_map (built n)) n.modules m None None low ∙ ap (option_map (built n)) c.requires.stands in
     same_Some c.in-Some.part.now (built n r) both
 
-pub go_on-requires-clause-place : goal.go_on-requires-clause-place
-go_on-requires-clause-place c =
+pub go_on-told-requires-clause-place : goal.go_on-told-requires-clause-place
+go_on-told-requires-clause-place c =
     cell_within c.args.change.now.old.now c.args.change.now.new.now c.requires.change.old_form c.requires.change.form c.requires.change.revision c.args.change.now.run.now c.requires.change.run c.args.block c.args.time (c.args.time + 1) c.requires.unit c.args.due.now c.args.marks.now.items c.args.cells.now.items c.args.lines.now.items c.args.looks.now.items c.requires.during c.args.id.0 c.requires.marked c.args.found.now c.requires.stands
 
 pub state_of-after-requires : goal.state_of-after-requires
@@ -43,7 +45,7 @@ state_of-after-requires c =
     let m = c.args.id.0 in
     let cells = c.args.cells.now.items in
     let within = cell_within c.args.change.now.old.now c.args.change.now.new.now c.requires.change.old_form c.requires.change.form c.requires.change.revision c.args.change.now.run.now c.requires.change.run c.args.block c.args.time (c.args.time + 1) c.requires.unit c.args.due.now c.args.marks.now.items c.args.cells.now.items c.args.lines.now.items c.args.looks.now.items c.requires.during c.args.id.0 c.requires.marked c.args.found.now c.requires.stands in
-    let size = ap length c.as_slice-3.ensures.value ∙ ap length c.go_on.ensures ∙ length-set cells m _ in
+    let size = ap length c.as_slice-3.ensures.value ∙ ap length c.go_on-told.ensures.cells ∙ length-set cells m _ in
     omega (arith, within, size)
 
 -- the state of a cell that was written
@@ -62,9 +64,9 @@ give_outputs-requires-clause-state c =
     let t = c.args.time in
     let within = cell_within c.args.change.now.old.now c.args.change.now.new.now c.requires.change.old_form c.requires.change.form c.requires.change.revision c.args.change.now.run.now c.requires.change.run c.args.block c.args.time (c.args.time + 1) c.requires.unit c.args.due.now c.args.marks.now.items c.args.cells.now.items c.args.lines.now.items c.args.looks.now.items c.requires.during c.args.id.0 c.requires.marked c.args.found.now c.requires.stands in
     let before : c.state_of.result.now ≡ (cell_at cells m).memory = c.state_of.ensures ∙ ap (λ xs. (cell_at xs m).memory) c.as_slice.ensures.value in
-    let now : c.go_on.new.cells.items ≡ slice_set cells m (live_cell (cell_at cells m) (stepped n run c.args.lines.now.items r (cell_at cells m).memory t))
-    = subst (λ (ls : List Line). c.go_on.new.cells.items ≡ slice_set cells m (live_cell (cell_at cells m) (stepped n run ls r (cell_at cells m).memory t))) c.as_slice-2.ensures.value c.go_on.ensures in
-    written cells c.go_on.new.cells.items c.as_slice-3.result.now m c.state_of.result.now c.state_of-after.result.now (λ (x : Memory). stepped n run c.args.lines.now.items r x t) within now c.as_slice-3.ensures.value c.state_of-after.ensures before
+    let now : c.go_on-told.new.cells.items ≡ slice_set cells m (live_cell (cell_at cells m) (stepped n run c.args.lines.now.items r (cell_at cells m).memory t))
+    = subst (λ (ls : List Line). c.go_on-told.new.cells.items ≡ slice_set cells m (live_cell (cell_at cells m) (stepped n run ls r (cell_at cells m).memory t))) c.as_slice-2.ensures.value c.go_on-told.ensures.cells in
+    written cells c.go_on-told.new.cells.items c.as_slice-3.result.now m c.state_of.result.now c.state_of-after.result.now (λ (x : Memory). stepped n run c.args.lines.now.items r x t) within now c.as_slice-3.ensures.value c.state_of-after.ensures before
 
 pub give_outputs-requires-clause-stands : goal.give_outputs-requires-clause-stands
 give_outputs-requires-clause-stands c =
@@ -80,7 +82,7 @@ give_outputs-requires-clause-ready c = due_ready c.args.change.now.old.now c.arg
 
 pub returns-clause-cells : goal.returns-clause-cells
 returns-clause-cells c =
-    subst (HaveAnswered [] c.args.cells.now.items) (sym c.go_on.ensures)
+    subst (HaveAnswered [] c.args.cells.now.items) (sym c.go_on-told.ensures.cells)
     (answered_one [] c.args.cells.now.items c.args.id.0 _ (λ none. c.requires.live) (cell_within c.args.change.now.old.now c.args.change.now.new.now c.requires.change.old_form c.requires.change.form c.requires.change.revision c.args.change.now.run.now c.requires.change.run c.args.block c.args.time (c.args.time + 1) c.requires.unit c.args.due.now c.args.marks.now.items c.args.cells.now.items c.args.lines.now.items c.args.looks.now.items c.requires.during c.args.id.0 c.requires.marked c.args.found.now c.requires.stands))
 
 pub returns-clause-during : goal.returns-clause-during
@@ -100,8 +102,34 @@ returns-clause-during c =
     let heard = due_heard c.args.change.now.old.now c.args.change.now.new.now c.requires.change.old_form c.requires.change.form c.requires.change.revision c.args.change.now.run.now c.requires.change.run c.args.block c.args.time (c.args.time + 1) c.requires.unit c.args.due.now c.args.marks.now.items c.args.cells.now.items c.args.lines.now.items c.args.looks.now.items c.requires.during c.args.id.0 c.requires.marked c.args.found.now c.requires.stands in
     let now : IsAt n m (t + 1) r after = steps_to n c.requires.change.form r (c.requires.change.form.modules_ok m r c.requires.stands) run lines t heard was after refl m is in
     let wires = subst (λ (x : Memory). GoesOn n run lines c.give_outputs.new.lines.items r x t (t + 1)) memory done.wires in
-    let stepped_cells : c.go_on.new.cells.items ≡ slice_set cells m (live_cell (cell_at cells m) after)
-    = subst (λ (ls : List Line). c.go_on.new.cells.items ≡ slice_set cells m (live_cell (cell_at cells m) (stepped n run ls r was t))) c.as_slice-2.ensures.value c.go_on.ensures in
-    subst (λ ms. IsDuring c.args.change.now.old.now n run c.args.block t (t + 1) c.args.due.now ms c.go_on.new.cells.items c.give_outputs.new.lines.items c.give_outputs.new.looks.items) (sym c.clear_mark.ensures)
+    let stepped_cells : c.go_on-told.new.cells.items ≡ slice_set cells m (live_cell (cell_at cells m) after)
+    = subst (λ (ls : List Line). c.go_on-told.new.cells.items ≡ slice_set cells m (live_cell (cell_at cells m) (stepped n run ls r was t))) c.as_slice-2.ensures.value c.go_on-told.ensures.cells in
+    subst (λ ms. IsDuring c.args.change.now.old.now n run c.args.block t (t + 1) c.args.due.now ms c.go_on-told.new.cells.items c.give_outputs.new.lines.items c.give_outputs.new.looks.items) (sym c.clear_mark.ensures)
     (subst (λ xs. IsDuring c.args.change.now.old.now n run c.args.block t (t + 1) c.args.due.now (slice_set c.args.marks.now.items m false) xs c.give_outputs.new.lines.items c.give_outputs.new.looks.items) (sym stepped_cells)
     (live_answers c.args.change.now.old.now c.args.change.now.new.now c.requires.change.old_form c.requires.change.form c.requires.change.revision c.args.change.now.run.now c.requires.change.run c.args.block c.args.time (c.args.time + 1) c.requires.unit c.args.due.now c.args.marks.now.items c.args.cells.now.items c.args.lines.now.items c.args.looks.now.items c.requires.during c.args.id.0 c.requires.marked c.args.found.now c.requires.stands c.requires.live after now c.give_outputs.new.lines.items c.give_outputs.new.looks.items wires done.listening done.telling))
+
+pub returns-clause-hears : goal.returns-clause-hears
+returns-clause-hears c =
+    let m = c.args.id.0 in
+    let n = c.args.change.now.new.now in
+    let run = c.args.change.now.run.now in
+    let lines = c.args.lines.now.items in
+    let given = c.give_outputs.new.lines.items in
+    let lists = c.give_outputs.new.looks.items in
+    let cells = c.go_on-told.new.cells.items in
+    let done = c.in_ok-give_outputs.ensures in
+    let answered : HaveAnswered [] c.args.cells.now.items cells
+    = subst (HaveAnswered [] c.args.cells.now.items) (sym c.go_on-told.ensures.cells) (answered_one [] c.args.cells.now.items m _ (λ none. c.requires.live) (cell_within c.args.change.now.old.now c.args.change.now.new.now c.requires.change.old_form c.requires.change.form c.requires.change.revision c.args.change.now.run.now c.requires.change.run c.args.block c.args.time (c.args.time + 1) c.requires.unit c.args.due.now c.args.marks.now.items c.args.cells.now.items c.args.lines.now.items c.args.looks.now.items c.requires.during c.args.id.0 c.requires.marked c.args.found.now c.requires.stands)) in
+    hears_told n run (c.args.time + 1) c.args.looking.now.items c.list_untold.new.looking.items cells given lists c.args.id c.go_on-told.result c.in_ok-list_untold.ensures (answered.live m c.requires.live)
+    (λ told. done.listening m true (told_listens n run (c.args.time + 1) lines c.args.looks.now.items m c.args.found.now c.requires.stands c.requires.during.telling
+    (λ i has. subst (λ (ls : List Line). IsToldTo true ls i) c.as_slice-2.ensures.value (c.go_on-told.ensures.told told i has))))
+
+pub returns-clause-still : goal.returns-clause-still
+returns-clause-still c =
+    let n = c.args.change.now.new.now in
+    let run = c.args.change.now.run.now in
+    let cells = c.go_on-told.new.cells.items in
+    let answered : HaveAnswered [] c.args.cells.now.items cells
+    = subst (HaveAnswered [] c.args.cells.now.items) (sym c.go_on-told.ensures.cells) (answered_one [] c.args.cells.now.items c.args.id.0 _ (λ none. c.requires.live) (cell_within c.args.change.now.old.now c.args.change.now.new.now c.requires.change.old_form c.requires.change.form c.requires.change.revision c.args.change.now.run.now c.requires.change.run c.args.block c.args.time (c.args.time + 1) c.requires.unit c.args.due.now c.args.marks.now.items c.args.cells.now.items c.args.lines.now.items c.args.looks.now.items c.requires.during c.args.id.0 c.requires.marked c.args.found.now c.requires.stands)) in
+    still_hear n run (c.args.time + 1) c.args.looking.now.items c.list_untold.new.looking.items c.args.cells.now.items cells c.args.lines.now.items c.give_outputs.new.lines.items c.args.looks.now.items c.give_outputs.new.looks.items
+    (listed_more c.args.looking.now.items c.list_untold.new.looking.items c.args.id c.go_on-told.result c.in_ok-list_untold.ensures) answered.live c.in_ok-give_outputs.ensures.listening

@@ -1,9 +1,10 @@
-use Rattle.std.proofs.Common.{[], refl, sym, subst, ◌∙◌, arith, inl, inr}
+use Rattle.std.proofs.Common.{ℕ, ◌+◌, [], refl, sym, subst, ◌∙◌, arith, inl, inr}
 use Rattle.std.specs.List.{Contains}
 use Rattle.std.proofs.lemmas.List.{take_all}
 use Rattle.mp_records.specs.declared.ids.ModuleId.{ModuleId}
 use Rattle.mp_engine.proofs.MarkLemmas.{none_in}
 use Rattle.mp_redo.specs.Joins.{IsSettled, IsToJoin}
+use Rattle.mp_redo.specs.Looking.{WillHear}
 use Rattle.mp_redo.proofs.DueLemmas.{answered_none, answered_more, due_next}
 use Rattle.mp_redo.proofs.UnitLemmas.{still_joins}
 use Rattle.mp_redo.proofs.due.answer_or_list.Goals as goal
@@ -14,6 +15,7 @@ loop-id-init c = record {
   marks = refl;
   joins = λ m has. absurd (none_in (let id : ModuleId = record { 0 = m } in id) (subst (λ xs. Contains xs (record { 0 = m })) c.requires.none has));
   settled = λ m has. absurd (none_in (let id : ModuleId = record { 0 = m } in id) has);
+  hear = λ m has. absurd (none_in (let id : ModuleId = record { 0 = m } in id) has);
   cells = answered_none [] c.args.cells.now.items;
   during = c.requires.during;
 }
@@ -37,6 +39,7 @@ loop-id-preserved c =
     let marks = c.answer_one.new.marks.items in
     let cells = c.loop-id.cells.items in
     let after = c.answer_one.new.cells.items in
+    let hears = λ (m : ℕ). WillHear new c.args.change.now.run.now (time + 1) c.answer_one.new.looking.items after c.answer_one.new.lines.items c.answer_one.new.looks.items m in
     record {
       places = done.places ∙ inv.places;
       marks = done.marks ∙ inv.marks;
@@ -47,6 +50,10 @@ loop-id-preserved c =
       settled = λ m has. elim (due_next due i m c.loop-id-test.true has) as (λ _. IsSettled listed marks m) [
         | inl before ↦ done.others m (inv.settled m before)
         | inr same ↦ subst (IsSettled listed marks) (sym same) done.settled
+      ];
+      hear = λ m has. elim (due_next due i m c.loop-id-test.true has) as (λ _. hears m) [
+        | inl before ↦ done.still m (inv.hear m before)
+        | inr same ↦ subst hears (sym same) done.hears
       ];
       cells = answered_more [] c.args.cells.now.items cells after inv.cells done.cells;
       during = done.during;
@@ -65,6 +72,9 @@ pub returns-clause-left : goal.returns-clause-left
 returns-clause-left c = λ m is.
     let inv = c.loop-id.invariant in
     inv.settled m (subst (λ xs. Contains xs (record { 0 = m })) (sym (take_all c.loop-id.id-index c.args.due.now c.loop-id-test.false)) (inv.during.listed m is)) is
+
+pub returns-clause-hear : goal.returns-clause-hear
+returns-clause-hear c = λ m has. c.loop-id.invariant.hear m (subst (λ xs. Contains xs (record { 0 = m })) (sym (take_all c.loop-id.id-index c.args.due.now c.loop-id-test.false)) has)
 
 pub returns-clause-cells : goal.returns-clause-cells
 returns-clause-cells c = c.loop-id.invariant.cells

@@ -1,6 +1,7 @@
 use Rattle.std.proofs.Common.{◌≡◌, ℕ, [], ◌+◌, length, take}
 use Rattle.std.specs.List.{Contains}
 use Rattle.mp_redo.specs.Joins.{HaveAnswered, IsSettled, IsToJoin}
+use Rattle.mp_redo.specs.Looking.{WillHear}
 use Rattle.mp_redo.specs.Redoing.{IsDuring}
 use Rattle.mp_redo.proofs.due.answer_or_list.Given as goal
 
@@ -11,6 +12,7 @@ invariant-loop-id l = record {
   marks : length l.marks.items ≡ length l.fn.marks.items;
   joins : (m : ℕ) → Contains l.joining.items (record { 0 = m }) → IsToJoin l.change.old.now l.change.new.now l.time l.cells.items m;
   settled : (m : ℕ) → Contains (take l.id-index l.due) (record { 0 = m }) → IsSettled l.joining.items l.marks.items m;
+  hear : (m : ℕ) → Contains (take l.id-index l.due) (record { 0 = m }) → WillHear l.change.new.now l.change.run.now (l.time + 1) l.looking.items l.cells.items l.lines.items l.looks.items m;
   cells : HaveAnswered [] l.fn.cells.items l.cells.items;
   during : IsDuring l.change.old.now l.change.new.now l.change.run.now l.block l.time (l.time + 1) l.due l.marks.items l.cells.items l.lines.items l.looks.items;
 }

@@ -16,6 +16,7 @@ loop-k-init c = record {
   rest = c.requires.left;
   still = λ m is. (is, refl);
   cells = answered_none c.args.joining.now c.args.cells.now.items;
+  listening = λ m live listens. listens;
   during = c.requires.during;
 }
 
@@ -54,6 +55,7 @@ loop-k-preserved c =
           let one = marked_still marks after cells later id done.marks done.cells m is in
           let before = inv.still m one.0 in (before.0, one.1 ∙ before.1);
       cells = answered_more joining c.args.cells.now.items cells later inv.cells (answered_among (id ∷ []) joining cells later (λ m has. one_of joining k m low has) done.cells);
+      listening = λ m live listens. done.listening m live (inv.listening m live listens);
       during = done.during;
     }
 

@@ -16,10 +16,10 @@ look_again-requires-clause-telling c =
 
 pub loop-id-preserved : goal.loop-id-preserved
 loop-id-preserved c =
-    let due = c.args.due.now in
+    let looking = c.args.looking.now in
     let i = c.loop-id.id-index in
     let d : ModuleId = record { 0 = 0 } in
-    let here : ModuleId = slice_index_or due i d in
+    let here : ModuleId = slice_index_or looking i d in
     let inv = c.loop-id.invariant in
     let done = c.in_ok-look_again.ensures in
     let was = c.loop-id.looks.items in
@@ -28,7 +28,7 @@ loop-id-preserved c =
     record {
       places = done.places ∙ inv.places;
       kept = kept_twice c.args.looks.now.items was lists inv.kept done.kept;
-      listening = λ m has. elim (Contains-append_cases (take i due) (here ∷ []) (record { 0 = m }) (subst (λ xs. Contains xs (record { 0 = m })) (take_more due i d c.loop-id-test.true) has)) as (λ _. listens lists m) [
+      listening = λ m has. elim (Contains-append_cases (take i looking) (here ∷ []) (record { 0 = m }) (subst (λ xs. Contains xs (record { 0 = m })) (take_more looking i d c.loop-id-test.true) has)) as (λ _. listens lists m) [
         | inl earlier ↦ listening_kept c.args.change.now.new.now c.args.change.now.run.now (cell_at c.args.cells.now m).live c.args.to c.args.lines.now was lists m done.kept (inv.listening m earlier)
         | inr now ↦ elim (contains_cons here (record { 0 = m }) [] now) as (λ _. listens lists m) [
           | inl same ↦ subst (λ (id : ModuleId). listens lists id.0) same done.listening
@@ -39,4 +39,4 @@ loop-id-preserved c =
 
 pub returns-clause-listening : goal.returns-clause-listening
 returns-clause-listening c = λ m has.
-    c.loop-id.invariant.listening m (subst (λ xs. Contains xs (record { 0 = m })) (sym (take_all c.loop-id.id-index c.args.due.now c.loop-id-test.false)) has)
+    c.loop-id.invariant.listening m (subst (λ xs. Contains xs (record { 0 = m })) (sym (take_all c.loop-id.id-index c.args.looking.now c.loop-id-test.false)) has)

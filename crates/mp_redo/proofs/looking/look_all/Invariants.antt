@@ -9,5 +9,5 @@ abbrev pub invariant-loop-id : goal.invariant-loop-id
 invariant-loop-id l = record {
   places : length l.looks.items ≡ length l.fn.looks.items;
   kept : AreKept l.fn.looks.items l.looks.items;
-  listening : (m : ℕ) → Contains (take l.id-index l.due) (record { 0 = m }) → IsListening l.change.new.now l.change.run.now (cell_at l.cells m).live l.to l.lines l.looks.items m;
+  listening : (m : ℕ) → Contains (take l.id-index l.looking) (record { 0 = m }) → IsListening l.change.new.now l.change.run.now (cell_at l.cells m).live l.to l.lines l.looks.items m;
 }

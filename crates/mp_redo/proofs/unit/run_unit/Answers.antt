@@ -1,9 +1,11 @@
-use Rattle.std.proofs.Common.{◌+◌, refl, sym, subst, ◌∙◌}
+use Rattle.std.proofs.Common.{◌+◌, true, refl, sym, subst}
 use Rattle.std.specs.List.{Contains}
 use Rattle.std.proofs.lemmas.List.Elements.{Contains-append_right}
 use Rattle.mp_redo.specs.Redoing.{cell_at, AreTelling, IsListening, IsDuring}
+use Rattle.mp_redo.proofs.AgainLemmas.{listening_kept}
 use Rattle.mp_redo.proofs.BeginLemmas.{window_begins}
 use Rattle.mp_redo.proofs.DueLemmas.{answered_among}
+use Rattle.mp_redo.proofs.LookingLemmas.{all_listen}
 use Rattle.mp_redo.proofs.WindowEndLemmas.{listed_none, window_ends}
 use Rattle.mp_redo.proofs.unit.run_unit.Goals as goal
 
@@ -47,10 +49,16 @@ returns-clause-before g c =
     let due = c.as_slice.result.now in
     let lists = c.look_all.new.looks.items in
     let done = c.in_ok-look_all.ensures in
-    let same = c.as_slice.ensures.value ∙ sym c.as_slice-5.ensures.value in
+    let looking = c.answer_due.new.looking.items in
+    let looks = c.answer_due.new.looks.items in
+    let lines = c.answer_due.new.lines.items in
     window_ends c.args.change.now.old.now new run c.args.block time (time + 1) due c.answer_due.new.marks.items cells c.answer_due.new.lines.items c.answer_due.new.looks.items lists
     c.in_ok-answer_due.ensures.during c.requires.unit.block c.requires.unit.some c.in_ok-answer_due.ensures.free done.kept
     (λ m has.
-    subst (λ cells. IsListening new run (cell_at cells m).live (time + 1) c.answer_due.new.lines.items lists m) c.as_slice-3.ensures.value
+    all_listen new run (time + 1) looking cells lines looks lists m
+    (listening_kept new run true (time + 1) lines looks lists m done.kept)
+    (λ is.
+    subst (λ cells. IsListening new run (cell_at cells m).live (time + 1) lines lists m) c.as_slice-3.ensures.value
     (subst (λ lines. IsListening new run (cell_at c.as_slice-3.result.now m).live (time + 1) lines lists m) c.as_slice-4.ensures.value
-    (done.listening m (subst (λ xs. Contains xs (record { 0 = m })) same has))))
+    (done.listening m (subst (λ xs. Contains xs (record { 0 = m })) (sym c.as_slice-5.ensures.value) is))))
+    (c.in_ok-answer_due.ensures.hear m has))
