@@ -1,4 +1,4 @@
-use Rattle.std.proofs.Common.{ℕ, ◌+◌, subst}
+use Rattle.std.proofs.Common.{◌+◌, subst}
 use Rattle.std.specs.List.{Contains}
 use Rattle.mp_records.specs.declared.ids.ModuleId.{ModuleId}
 use Rattle.mp_engine.proofs.MarkLemmas.{none_in}

@@ -1,5 +1,4 @@
-use Rattle.std.proofs.Common.{◌≡◌, ◌⊎◌, ℕ, ◌+◌, ◌-◌, ◌<◌, ◌≤◌, List, [], length, ap, sym, subst, ◌∙◌, arith, inl, inr}
-use Rattle.mp_records.specs.declared.ids.ModuleId.{ModuleId}
+use Rattle.std.proofs.Common.{◌≡◌, ◌⊎◌, ℕ, ◌+◌, ◌-◌, ◌<◌, ◌≤◌, [], length, ap, sym, subst, ◌∙◌, arith, inl, inr}
 use Rattle.mp_redo.specs.Redoing.{looks_at}
 use Rattle.mp_redo.specs.Rings.{Lists, turned, turned_place, IsIdle}
 use Rattle.mp_redo.proofs.TurnLemmas.{idle_moved, length_turned, place_upto, turned_moved}
