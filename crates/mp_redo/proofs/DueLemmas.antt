@@ -49,6 +49,17 @@ listed_next marks after due i low cleared are =
 pub length_next : (marks after : List Bool) (due : List ModuleId) (i : ℕ) → after ≡ slice_set marks (slice_index_or due i (record { 0 = 0 })).0 false → length after ≡ length marks
 length_next marks after due i cleared = ap length cleared ∙ (let d : ModuleId = record { 0 = 0 } in length-set marks (slice_index_or due i d).0 false)
 
+-- who is marked when one is no longer is another, and was before
+pub marked_was : (marks : List Bool) (k m : ℕ) → is_marked (slice_set marks k false) m ≡ true → (m ≢ k) × (is_marked marks m ≡ true)
+marked_was marks k m is = elim (cases_eq m k) as (λ _. (m ≢ k) × (is_marked marks m ≡ true)) [
+  | inl same ↦
+      let here : is_marked (slice_set marks k false) k ≡ true = subst (λ j. is_marked (slice_set marks k false) j ≡ true) same is in
+      let within = marked_within (slice_set marks k false) k here in
+      let none = get_or-set_same marks k false false (let e = length-set marks k false in omega (arith, within, e)) in
+      let no : ⊥ = cc in absurd no
+  | inr other ↦ (other, sym (get_or-set_other marks k m false false other) ∙ is)
+]
+
 -- none has answered
 pub answered_none : (joined : List ModuleId) (cells : List Cell) → HaveAnswered joined cells cells
 answered_none joined cells = record { places = refl; live = λ m live. live; touched = λ m. refl; stretch = λ m. refl; others = λ m none. refl }

@@ -24,7 +24,7 @@ use Rattle.mp_redo.proofs.CourseLemmas.{window_short}
 use Rattle.mp_redo.proofs.JoinWorkLemmas.{joined_stretches}
 use Rattle.mp_redo.proofs.PartLemmas.{next_begins}
 use Rattle.mp_redo.proofs.RingLemmas.{at_next}
-use Rattle.mp_redo.proofs.UnitLemmas.{answered_none}
+use Rattle.mp_redo.proofs.DueLemmas.{answered_none}
 use Rattle.mp_redo.proofs.WindowEndLemmas.{listed_none, window_ends}
 use Rattle.mp_redo.proofs.WindowLemmas.{window_within, window_cover, windows_apart}
 

@@ -23,19 +23,20 @@ told_listens n run t lines looks m r at tells told i is x late low news =
     let same : is.part ≡ r = same_Some is.part r (sym is.stands ∙ at) in
     told_looking n run true t lines looks m i tells is (told i (subst (λ (q : ModuleRecord). Contains q.inputs i) same is.has)) x late low news
 
--- the others are listed
+-- whoever was listed to look still is
 pub listed_more : (looking later : List ModuleId) (id : ModuleId) (told : Bool) → later ≡ (if told then looking else looking ++ id ∷ []) → (m : ℕ) → Contains looking (record { 0 = m }) → Contains later (record { 0 = m })
 listed_more looking later id true is m has = subst (λ xs. Contains xs (record { 0 = m })) (sym is) has
 listed_more looking later id false is m has = subst (λ xs. Contains xs (record { 0 = m })) (sym is) (Contains-append_left looking (id ∷ []) (record { 0 = m }) has)
 
-pub hears_told : (n : Circuit) (run : Outcome) (t : ℕ) (looking later : List ModuleId) (cells : List Cell) (lines : List Line) (looks : List (List ModuleId)) (id : ModuleId) (told : Bool)
-    → later ≡ (if told then looking else looking ++ id ∷ []) → (cell_at cells id.0).live ≡ true → (told ≡ true → IsListening n run true t lines looks id.0) → WillHear n run t later cells lines looks id.0
-hears_told n run t looking later cells lines looks id true is live listens = inr (live, listens refl)
-hears_told n run t looking later cells lines looks id false is live listens = inl (subst (λ xs. Contains xs id) (sym is) (Contains-push looking id))
-
+-- a module that is listed will hear, and so does one that isn't since it is told
 pub hears_listed : (n : Circuit) (run : Outcome) (t : ℕ) (looking later : List ModuleId) (cells : List Cell) (lines : List Line) (looks : List (List ModuleId)) (id : ModuleId)
     → later ≡ looking ++ id ∷ [] → WillHear n run t later cells lines looks id.0
 hears_listed n run t looking later cells lines looks id is = inl (subst (λ xs. Contains xs id) (sym is) (Contains-push looking id))
+
+pub hears_told : (n : Circuit) (run : Outcome) (t : ℕ) (looking later : List ModuleId) (cells : List Cell) (lines : List Line) (looks : List (List ModuleId)) (id : ModuleId) (told : Bool)
+    → later ≡ (if told then looking else looking ++ id ∷ []) → (cell_at cells id.0).live ≡ true → (told ≡ true → IsListening n run true t lines looks id.0) → WillHear n run t later cells lines looks id.0
+hears_told n run t looking later cells lines looks id true is live listens = inr (live, listens refl)
+hears_told n run t looking later cells lines looks id false is live listens = hears_listed n run t looking later cells lines looks id is
 
 -- whoever will hear still does when others answer
 pub still_hear : (n : Circuit) (run : Outcome) (t : ℕ) (looking later : List ModuleId) (cells after : List Cell) (lines given : List Line) (looks lists : List (List ModuleId))

@@ -1,9 +1,7 @@
 -- What modules that join do, as tasks.
-use Rattle.std.proofs.Common.{◌≡◌, ℕ, ◌+◌, ◌-◌, ◌<◌, ◌≤◌, true, false, Bool, List, [], ◌∷◌, ◌++◌, length, map, take, slice_index_or, slice_set, ap, sym, subst, ◌∙◌, arith, inl, inr}
+use Rattle.std.proofs.Common.{◌≡◌, ℕ, ◌+◌, ◌-◌, ◌<◌, ◌≤◌, true, false, Bool, List, [], ◌∷◌, ◌++◌, length, map, take, slice_index_or, slice_set, ap, sym, subst, ◌∙◌, inl, inr}
 use Rattle.std.specs.List.{Contains}
-use Rattle.std.proofs.lemmas.Bool.{cases_eq}
-use Rattle.std.proofs.lemmas.List.{get_or-set_same, get_or-set_other, get_or_default, take_more}
-use Rattle.std.proofs.Math.ListN.{length-set}
+use Rattle.std.proofs.lemmas.List.{get_or_default, take_more}
 use Rattle.mp_records.specs.declared.ids.ModuleId.{ModuleId}
 use Rattle.mp_modules.specs.declared.memory.Memory.{Memory}
 use Rattle.mp_storage.specs.declared.any_module.AnyModule.{AnyModule}
@@ -19,7 +17,7 @@ use Rattle.mp_phase.specs.Phase.{AreDone}
 use Rattle.mp_phase.proofs.PhaseLemmas.{are_done-push}
 use Rattle.mp_engine.specs.Marks.{is_marked}
 use Rattle.mp_engine.specs.Outcomes.{Outcome}
-use Rattle.mp_engine.proofs.MarkLemmas.{none_in, contains_cons, marked_within}
+use Rattle.mp_engine.proofs.MarkLemmas.{none_in, contains_cons}
 use Rattle.mp_redo.specs.declared.cell.Cell.{Cell}
 use Rattle.mp_redo.specs.declared.line.Line.{Line}
 use Rattle.mp_redo.specs.Answers.{IsHeardBy}
@@ -27,7 +25,7 @@ use Rattle.mp_redo.specs.Joins.{HaveAnswered, IsToJoin}
 use Rattle.mp_redo.specs.Redoing.{level_at, cell_at, answered_to, AreLines}
 use Rattle.mp_redo.specs.Tasks.{CanAnswer}
 use Rattle.mp_redo.specs.Windows.{IsShort}
-use Rattle.mp_redo.proofs.DueLemmas.{heard_by}
+use Rattle.mp_redo.proofs.DueLemmas.{heard_by, marked_was}
 use Rattle.mp_redo.proofs.HeardLemmas.{map_same}
 
 -- what is made of what is made of each
@@ -77,18 +75,10 @@ one_of ids k m low has =
 -- whoever is still marked when another has joined was, and is as live as before
 pub marked_still : (marks after : List Bool) (cells later : List Cell) (id : ModuleId) → after ≡ slice_set marks id.0 false → HaveAnswered (id ∷ []) cells later → (m : ℕ) → is_marked after m ≡ true
     → (is_marked marks m ≡ true) × ((cell_at later m).live ≡ (cell_at cells m).live)
-marked_still marks after cells later id cleared done m is = elim (cases_eq m id.0) as (λ _. (is_marked marks m ≡ true) × ((cell_at later m).live ≡ (cell_at cells m).live)) [
-  | inl same ↦
-      let here : is_marked (slice_set marks id.0 false) id.0 ≡ true = subst (λ k. is_marked (slice_set marks id.0 false) k ≡ true) same set in
-      let within = marked_within (slice_set marks id.0 false) id.0 here in
-      let none = get_or-set_same marks id.0 false false (let e = length-set marks id.0 false in omega (arith, within, e)) in
-      let no : ⊥ = cc in absurd no
-  | inr other ↦ (sym (get_or-set_other marks id.0 m false false other) ∙ set, done.others m (λ has. other (only has)))
-]
+marked_still marks after cells later id cleared done m is =
+    let was = marked_was marks id.0 m (subst (λ xs. is_marked xs m ≡ true) cleared is) in
+    (was.1, done.others m (λ has. was.0 (only has)))
   where
-    set : is_marked (slice_set marks id.0 false) m ≡ true
-    set = subst (λ xs. is_marked xs m ≡ true) cleared is
-
     only : Contains (id ∷ []) (record { 0 = m }) → m ≡ id.0
     only has = elim (contains_cons id (record { 0 = m }) [] has) as (λ _. m ≡ id.0) [
       | inl one ↦ sym (ap (λ (x : ModuleId). x.0) one)

@@ -229,25 +229,34 @@ pub idle_moved : (first last count : ℕ) (lists new : List (List ModuleId)) →
 idle_moved first last count lists new idle moved k (inl low) = moved k ∙ idle (k + count) (inl (omega (arith, low)))
 idle_moved first last count lists new idle moved k (inr high) = moved k ∙ idle (k + count) (inr (omega (arith, high)))
 
--- ---- a list at a place
+-- ---- a list at a place of a circle, seen as lists from its start on
 
-pub put_idle : (start : ℕ) (lists : List (List ModuleId)) (place at first last next end : ℕ) (list : List ModuleId) → start ≤ length lists → place < length lists → at ≡ turned_place start (length lists) place
-    → IsIdle first last (turned start lists) → ((k : ℕ) → k < next ⊎ end ≤ k → (k < first ⊎ last ≤ k) × (k ≢ place))
-    → (start ≤ length (slice_set lists at list)) × IsIdle next end (turned start (slice_set lists at list))
-put_idle start lists place at first last next end list low less is idle wide = (
-  let e = length-set lists at list in omega (arith, e, low),
-  λ k out.
-      ap (λ p. looks_at (turned start (slice_set lists p list)) k) is
-      ∙ ap (λ xs. looks_at xs k) (turned_set start lists place list low less)
-      ∙ idle_set first last next end place (turned start lists) list idle wide k out,
-)
+module _ (start : ℕ) (lists items : List (List ModuleId)) (place count at : ℕ) (low : start ≤ length lists) (seen : items ≡ turned start lists) (all : count ≡ length lists) (less : place < length items)
+    (is : at ≡ turned_place start count place) where
+  short : place < length lists
+  short = let e = ap length seen ∙ length_turned start lists low in omega (arith, less, e)
 
-pub put_there : (start : ℕ) (lists items : List (List ModuleId)) (place at : ℕ) (was list more : List ModuleId) → items ≡ turned start lists → start ≤ length lists → place < length lists
-    → at ≡ turned_place start (length lists) place → was ≡ looks_at lists at → list ≡ was ++ more → turned start (slice_set lists at list) ≡ slice_set items place (looks_at items place ++ more)
-put_there start lists items place at was list more same low less is read added =
-    let here : list ≡ looks_at items place ++ more
-    = added ∙ ap (λ xs. xs ++ more) (read ∙ ap (looks_at lists) is ∙ sym (turned_at start lists place low less) ∙ ap (λ xs. looks_at xs place) (sym same)) in
-    ap (λ p. turned start (slice_set lists p list)) is
-    ∙ turned_set start lists place list low less
-    ∙ ap (slice_set (turned start lists) place) here
-    ∙ ap (λ xs. slice_set xs place (looks_at items place ++ more)) (sym same)
+  here : at ≡ turned_place start (length lists) place
+  here = is ∙ ap (λ n. turned_place start n place) all
+
+  pub put_within : at < length lists
+  put_within = subst (λ p. p < length lists) (sym here) (place_within start (length lists) place low short)
+
+  pub put_idle : (first last next end : ℕ) (list : List ModuleId) → IsIdle first last (turned start lists) → ((k : ℕ) → k < next ⊎ end ≤ k → (k < first ⊎ last ≤ k) × (k ≢ place))
+      → (start ≤ length (slice_set lists at list)) × IsIdle next end (turned start (slice_set lists at list))
+  put_idle first last next end list idle wide = (
+    let e = length-set lists at list in omega (arith, e, low),
+    λ k out.
+        ap (λ p. looks_at (turned start (slice_set lists p list)) k) here
+        ∙ ap (λ xs. looks_at xs k) (turned_set start lists place list low short)
+        ∙ idle_set first last next end place (turned start lists) list idle wide k out,
+  )
+
+  pub put_there : (was list more : List ModuleId) → was ≡ looks_at lists at → list ≡ was ++ more → turned start (slice_set lists at list) ≡ slice_set items place (looks_at items place ++ more)
+  put_there was list more read added =
+      let new : list ≡ looks_at items place ++ more
+      = added ∙ ap (λ xs. xs ++ more) (read ∙ ap (looks_at lists) here ∙ sym (turned_at start lists place low short) ∙ ap (λ xs. looks_at xs place) (sym seen)) in
+      ap (λ p. turned start (slice_set lists p list)) here
+      ∙ turned_set start lists place list low short
+      ∙ ap (slice_set (turned start lists) place) new
+      ∙ ap (λ xs. slice_set xs place (looks_at items place ++ more)) (sym seen)

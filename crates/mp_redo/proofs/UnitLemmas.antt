@@ -1,20 +1,14 @@
 -- One unit after the other.
-use Rattle.std.proofs.Common.{◌≡◌, ℕ, Bool, true, false, List, [], length, slice_set, refl, sym, subst, ◌∙◌, arith, inl, inr}
+use Rattle.std.proofs.Common.{◌≡◌, ℕ, List, [], ◌∙◌}
 use Rattle.std.specs.List.{Contains}
-use Rattle.std.proofs.lemmas.Bool.{cases_eq, cases_lt, true≢false}
-use Rattle.std.proofs.lemmas.List.{get_or-set_same, get_or-set_other, get_or_past, length-set}
 use Rattle.mp_records.specs.declared.ids.ModuleId.{ModuleId}
 use Rattle.mp_netlist.specs.Circuit.{Circuit}
-use Rattle.mp_engine.specs.Marks.{is_marked}
 use Rattle.mp_engine.proofs.MarkLemmas.{none_in}
 use Rattle.mp_redo.specs.declared.cell.Cell.{Cell}
 use Rattle.mp_redo.specs.Joins.{HaveAnswered, IsToJoin}
 use Rattle.mp_redo.specs.Redoing.{cell_at}
 
 -- ---- cells after one and then the other
-
-pub answered_none : (joined : List ModuleId) (cells : List Cell) → HaveAnswered joined cells cells
-answered_none joined cells = record { places = refl; live = λ m on. on; touched = λ m. refl; stretch = λ m. refl; others = λ m not. refl }
 
 pub answered_then : (first second joined : List ModuleId) (cells next after : List Cell) → ((m : ℕ) → Contains first (record { 0 = m }) → Contains joined (record { 0 = m }))
     → ((m : ℕ) → Contains second (record { 0 = m }) → Contains joined (record { 0 = m })) → HaveAnswered first cells next → HaveAnswered second next after → HaveAnswered joined cells after
@@ -25,19 +19,6 @@ answered_then first second joined cells next after in_first in_second one other 
   stretch = λ m. other.stretch m ∙ one.stretch m;
   others = λ m not. other.others m (λ is. not (in_second m is)) ∙ one.others m (λ is. not (in_first m is));
 }
-
--- who is marked when one isn't any longer was before
-pub marked_was : (marks : List Bool) (k m : ℕ) → is_marked (slice_set marks k false) m ≡ true → is_marked marks m ≡ true
-marked_was marks k m is = elim (cases_eq m k) as (λ _. is_marked marks m ≡ true) [
-  | inl same ↦ absurd (true≢false (sym (subst (λ j. is_marked (slice_set marks k false) j ≡ true) same is) ∙ not))
-  | inr other ↦ sym (get_or-set_other marks k m false false other) ∙ is
-]
-  where
-    not : is_marked (slice_set marks k false) k ≡ false
-    not = elim (cases_lt k (length marks)) as (λ _. is_marked (slice_set marks k false) k ≡ false) [
-      | inl within ↦ get_or-set_same marks k false false within
-      | inr past ↦ get_or_past (slice_set marks k false) k false (let e = length-set marks k false in omega (arith, e, past))
-    ]
 
 -- ---- who is to join
 

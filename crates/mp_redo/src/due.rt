@@ -51,7 +51,7 @@ pub(crate) fn clear_mark(marks: &mut Vec<bool>, id: ModuleId)
     marks[id.0 as usize] = false;
 }
 
-/// A marked module that is live answers. It looks again, unless it is told of each change to come at its inputs.
+/// A marked module that is live answers. It is listed to look again, unless it is told of each change to come at its inputs.
 fn answer_as_live(
     change: &Change<'_>,
     block: u32,
@@ -137,7 +137,7 @@ fn find_quiet(
 }
 
 /// A marked module that is live answers, and another is listed to join or has answered. Where none stands there is nothing to answer. It
-/// looks again, unless it is live and told of each change to come at its inputs.
+/// is listed to look again, unless it is live and told of each change to come at its inputs.
 fn answer_one(
     change: &Change<'_>,
     block: u32,
@@ -197,7 +197,7 @@ fn answer_one(
 }
 
 /// Of the modules that are due, the live ones answer, and those of the others that hear anything else than in the old run are listed to join.
-/// All that aren't listed have answered then. Those of all that aren't told of each change to come at their inputs are to look again.
+/// All that aren't listed have answered then. Those of all that aren't told of each change to come at their inputs are listed to look again.
 pub(crate) fn answer_or_list(
     change: &Change<'_>,
     block: u32,

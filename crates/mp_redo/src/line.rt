@@ -54,15 +54,6 @@ impl Line {
         }
     }
 
-    /// The level at a time, and whether it is told.
-    #[inline(always)]
-    pub(crate) fn heard_at(&self, run: &Run, wire: WireId, time: u32) -> (u64, bool)
-        ensures level { result.0 ≡ line_level self.now (wave_of run.now wire.0) time }
-        ensures told { result.1 ≡ is_told self.now }
-    {
-        (self.level_at(run, wire, time), self.is_told())
-    }
-
     /// Whether the level at a time is another than in the old run.
     pub(crate) fn differs_at(&self, run: &Run, wire: WireId, time: u32) -> bool
         ensures { IsTrue result ↔ (line_level self.now (wave_of run.now wire.0) time ≢ level_in (wave_of run.now wire.0) time) }

@@ -141,10 +141,10 @@ fn hear(run: &Run, lines: &[Line], time: u32, input: Input) -> (u64, bool)
 {
     let before = time.saturating_sub(input.delay);
     match lines.get(input.wire.0 as usize) {
-        Some(line) => {
-            let (level, told) = line.heard_at(run, input.wire, before);
-            (level, told && input.delay == 0)
-        }
+        Some(line) => (
+            line.level_at(run, input.wire, before),
+            line.is_told() && input.delay == 0,
+        ),
         None => (run_level(run, input.wire, before), false),
     }
 }

@@ -2,9 +2,8 @@ use Rattle.std.proofs.Common.{◌≡◌, ◌+◌, true, false, ap, sym, subst, �
 use Rattle.std.proofs.lemmas.Result.{on_ok_weaker}
 use Rattle.mp_engine.specs.Marks.{is_marked}
 use Rattle.mp_redo.specs.Redoing.{IsDuring}
-use Rattle.mp_redo.proofs.DueLemmas.{absent_stays}
+use Rattle.mp_redo.proofs.DueLemmas.{absent_stays, marked_was}
 use Rattle.mp_redo.proofs.LookingLemmas.{hears_listed, listed_more, still_hear}
-use Rattle.mp_redo.proofs.UnitLemmas.{marked_was}
 use Rattle.mp_redo.proofs.due.answer_one.Goals as goal
 
 pub returns-then-not-has_mark-clause-hears : goal.returns-then-not-has_mark-clause-hears
@@ -31,7 +30,7 @@ returns-in_default-clause-during c =
 
 pub returns-then-is_live-clause-others : goal.returns-then-is_live-clause-others
 returns-then-is_live-clause-others c =
-    on_ok_weaker c.answer_as_live.result (λ cleared m settled is. settled (marked_was c.args.marks.now.items c.args.id.0 m (sym (ap (λ ms. is_marked ms m) cleared) ∙ is))) c.answer_as_live.ensures.marks
+    on_ok_weaker c.answer_as_live.result (λ cleared m settled is. settled (marked_was c.args.marks.now.items c.args.id.0 m (sym (ap (λ ms. is_marked ms m) cleared) ∙ is)).1) c.answer_as_live.ensures.marks
 
 pub returns-clause-hears : goal.returns-clause-hears
 returns-clause-hears c =

@@ -1,7 +1,8 @@
 use Rattle.std.proofs.Common.{◌≡◌, ◌+◌, refl, subst, arith, ◌∙◌}
 use Rattle.mp_redo.specs.Redoing.{IsBefore}
+use Rattle.mp_redo.proofs.DueLemmas.{answered_none}
 use Rattle.mp_redo.proofs.IdleLemmas.{units_passed}
-use Rattle.mp_redo.proofs.UnitLemmas.{answered_none, answered_then}
+use Rattle.mp_redo.proofs.UnitLemmas.{answered_then}
 use Rattle.mp_redo.proofs.course.Course.run_units.Goals as goal
 
 pub loop-time-init : goal.loop-time-init
