@@ -56,7 +56,8 @@ fn make(netlist: &mut Netlist, edit: SingleEdit) -> Result<(), EditError> {
 }
 
 fn name(alloc: Global, letter: &str, number: u32) -> Result<Name, AllocError> {
-    Name::new(format!(in alloc; "{letter}{number}")?)
+    let text = format!(in alloc; "{letter}{number}")?;
+    Name::new(alloc, text.as_str())
 }
 
 fn wire(alloc: Global, number: u32) -> Result<SingleEdit, AllocError> {

@@ -49,7 +49,7 @@ pub struct Plan<'a> {
 
 /// A name of this text.
 pub fn name(alloc: Global, text: &str) -> Result<Name, AllocError> {
-    Name::new(String::from_str(alloc, text)?)
+    Name::new(alloc, text)
 }
 
 /// A wire of one bit, at 0 before time 0.

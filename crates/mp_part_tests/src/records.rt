@@ -14,7 +14,7 @@ fn stimulus(rt: HostRuntime) -> Result<(), Fail> {
 
 /// A batch of one edit: wire `a` is set to 1 at time 19.
 fn late(alloc: Global) -> Result<Edit, AllocError> {
-    let wire = Name::new(String::from_str(alloc, "a")?)?;
+    let wire = Name::new(alloc, "a")?;
     let set = SingleEdit::SetStimulus {
         wire,
         changes: Changes::new(vec![in alloc; (19, 1)]?),

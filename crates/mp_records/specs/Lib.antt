@@ -1,4 +1,5 @@
 pub mod Names
+pub mod NameTexts
 pub mod Stimuli
 pub mod EditErrors
 pub mod Inputs

@@ -1,25 +1,37 @@
 //! The text by which a thing is named.
-ghost use Rattle.std.specs.Prelude.{◌≡◌, IfOk, string_bytes};
+ghost use Rattle.std.specs.Prelude.{◌≡◌, IfOk};
 ghost use Rattle.mp_records.specs.Names.{is_name, is_name_byte, begins_with_letter};
 ghost use Rattle.std.specs.List.{list_all};
 
+use arrayvec::ArrayString;
 use std::alloc::{AllocError, Global};
 use std::marker::Model;
 use std::sync::Arc;
 
-/// A text that names something, or is meant to. Clones share the text.
+/// How long a text may be to stand in place. Few names are longer, and an edit is larger by each byte.
+const IN_PLACE: usize = 16;
+
+/// A text that names something, or is meant to. A short one stands in place, without a block of memory, and clones share a long one.
 #[derive(Drop)]
 pub struct Name {
-    text: Arc<String, Global>,
+    text: Text,
+}
+
+/// Where the text of a name stands.
+#[derive(Drop)]
+enum Text {
+    Short(ArrayString<IN_PLACE>),
+    Long(Arc<String, Global>),
 }
 
 impl Model for Name {
-    ghost use Rattle.std.specs.Prelude.{List, ℕ, string_bytes};
-    ghost use Rattle.std.specs.Arc.{arc_value};
+    ghost use Rattle.std.specs.Prelude.{List, ℕ};
 
     ghost Value = { List ℕ };
 
-    ghost view = { λ name. string_bytes (arc_value name.text) };
+    ghost use Rattle.mp_records.specs.NameTexts.{text_bytes};
+
+    ghost view = { λ name. text_bytes name.text };
 }
 
 impl Clone for Name {
@@ -27,26 +39,34 @@ impl Clone for Name {
 
     fn clone(&self) -> Result<Self, AllocError> {
         Ok(Name {
-            text: Arc::try_clone(&self.text)?,
+            text: match &self.text {
+                Text::Short(text) => Text::Short(*text),
+                Text::Long(text) => Text::Long(Arc::try_clone(text)?),
+            },
         })
     }
 }
 
 impl Name {
     /// The name of this text. The error comes where memory is wanting.
-    pub fn new(text: String) -> Result<Self, AllocError>
-        ensures { IfOk result (λ name. name ≡ string_bytes text) }
+    pub fn new(alloc: Global, text: &str) -> Result<Self, AllocError>
+        ensures { IfOk result (λ name. name ≡ text.now) }
     {
-        let alloc = *text.allocator();
         Ok(Name {
-            text: Arc::new(alloc, text)?,
+            text: match ArrayString::from(text) {
+                Ok(short) => Text::Short(short),
+                Err(_) => Text::Long(Arc::new(alloc, String::from_str(alloc, text)?)?),
+            },
         })
     }
 
     pub fn as_str(&self) -> &str
         ensures { result.now ≡ self.now }
     {
-        self.text.as_str()
+        match &self.text {
+            Text::Short(text) => text.as_str(),
+            Text::Long(text) => text.as_str(),
+        }
     }
 
     #[tactic(auto, unfolding(crate::specs::Names::is_name))]
@@ -54,7 +74,7 @@ impl Name {
     pub fn is_valid(&self) -> bool
         ensures { result ≡ is_name self.now }
     {
-        let bytes = self.text.as_bytes();
+        let bytes = self.as_str().as_bytes();
         begins_with_letter(bytes) && bytes.len() <= 32 && all_name_bytes(bytes)
     }
 }

@@ -46,7 +46,7 @@ pub fn name_of(alloc: Global, word: &[u8]) -> Result<Name, AllocError>
     ensures { IfOk result (λ name. name ≡ word.now) }
 {
     match str::from_utf8(word) {
-        Ok(text) => Name::new(String::from_str(alloc, text)?),
+        Ok(text) => Name::new(alloc, text),
         Err(_) => unreachable!(),
     }
 }
