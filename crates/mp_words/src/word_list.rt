@@ -103,7 +103,7 @@ pub fn numbers(alloc: Global, words: &[&[u8]]) -> Result<Vec<u64>, LineError>
 pub fn changes(alloc: Global, words: &[&[u8]]) -> Result<Vec<(u64, u64)>, LineError>
     ensures { Gives OutOfMemory (λ changes. changes.items) result (each_word change_word (texts words.now)) }
 {
-    let mut changes = Vec::new(alloc);
+    let mut changes = Vec::with_capacity(alloc, words.len())?;
     for word in words {
         let change = change_word(word)?;
         changes.push(change)?;

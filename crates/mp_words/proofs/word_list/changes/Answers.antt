@@ -7,7 +7,7 @@ use Rattle.mp_words.proofs.word_list.changes.Goals as goal
 pub returns-in_err-change : goal.returns-in_err-change
 returns-in_err-change c =
     let failed = each_err change_word c.args.words.now c.loop-word.word-index _ c.loop-word.changes.items c.in_err-change.field-0.0 (omega arith) c.loop-word.invariant (sym c.in_err-change.ensures) in
-    let p = err_from_is_err_and c.from_residual.result c.from_residual.ensures.1 in
+    let p = err_from_is_err_and c.from_residual-in_err-change.result c.from_residual-in_err-change.ensures.1 in
     rw (p.1, p.2) (inr failed)
 
 pub loop-word-preserved : goal.loop-word-preserved
