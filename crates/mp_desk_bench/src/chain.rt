@@ -4,8 +4,8 @@ ghost use Rattle.std.specs.Prelude.{◌<◌};
 use anyhow::Result;
 use mp_modules::Kind;
 use mp_netlist::{
-    Changes, Edit, EditError, InputName, InputNames, Name, Netlist, OutputName, OutputNames,
-    Params, SingleEdit,
+    Boxed, Changes, Edit, EditError, InputName, InputNames, Name, Netlist, NewModule, OutputName,
+    OutputNames, Params, SingleEdit,
 };
 use std::alloc::{AllocError, Global};
 
@@ -78,11 +78,12 @@ fn buffer(alloc: Global, number: u32) -> Result<SingleEdit, AllocError> {
         wire: Some(name(alloc, "w", number.saturating_add(1))?),
         delay: 1,
     };
-    Ok(SingleEdit::AddModule {
+    let added = NewModule {
         name: name(alloc, "b", number)?,
         kind: Kind::Buf,
         params: Params::new(Vec::new(alloc)),
         inputs: InputNames::new(vec![in alloc; input]?),
         outputs: OutputNames::new(vec![in alloc; output]?),
-    })
+    };
+    Ok(SingleEdit::AddModule(Boxed::new(alloc, added)?))
 }

@@ -2,12 +2,11 @@
 use Rattle.std.proofs.Common.{◌≡◌, ℕ, zero, suc, ◌<◌, ◌≤◌, Bool, true, false, ◌==◌, cond, List, [], ◌∷◌, length, Option, Some, None, option_map, is_none, is_some, ◌&&◌, refl, sym, ap, subst, ◌∙◌, arith}
 use Rattle.std.specs.Prelude.{nat_le}
 use Rattle.std.proofs.lemmas.Bool.{and_parts, eqb-true, ltb-true, leb-true, not-true, both_ways}
-use Rattle.mp_modules.specs.declared.kind.Kind.{Kind}
 use Rattle.mp_modules.specs.Kinds.{are_params, input_count, output_count, input_width, output_width}
 use Rattle.std.specs.List.{list_all, All}
 use Rattle.std.specs.Option.{IfSome}
-use Rattle.mp_records.specs.declared.port_names.InputName.{InputName}
-use Rattle.mp_records.specs.declared.port_names.OutputName.{OutputName}
+use Rattle.mp_records.specs.declared.new_module.NewModule.{NewModule}
+use Rattle.mp_records.specs.declared.new_bundle.NewBundle.{NewBundle}
 use Rattle.mp_records.specs.declared.single_edit.SingleEdit.{SingleEdit}
 use Rattle.mp_records.specs.declared.single_edit.SingleEdit.TheVariants.{AddWire, RemoveWire, AddModule, RemoveModule, AddBundle, RemoveBundle, RewireInput, RewireOutput, SetInputDelay, SetDelay, SetStimulus, ClearStimulus}
 use Rattle.mp_records.specs.declared.edit_error.EditError.{EditError}
@@ -106,23 +105,22 @@ IsCircuit-without_wire n ok name none =
     (λ used. absurd (both_ways _ free.unused used)) (λ m p drives. refl)
 
 -- what the checks of a new module tell
-pub record IsNewModule (n : Circuit) (name : List ℕ) (kind : Kind) (params : List ℕ) (inputs : List InputName) (outputs : List OutputName) : Type 0 where
-  pub named : is_name name ≡ true
-  pub free : is_none (module_named n name) ≡ true
-  pub ports : ArePorts n kind inputs outputs
-  pub ranged : are_params kind (new_width n kind inputs) params ≡ true
+pub record IsNewModule (n : Circuit) (new : NewModule) : Type 0 where
+  pub named : is_name new.name ≡ true
+  pub free : is_none (module_named n new.name) ≡ true
+  pub ports : ArePorts n new.kind new.inputs new.outputs
+  pub ranged : are_params new.kind (new_width n new.kind new.inputs) new.params ≡ true
   pub room : length n.modules < max_modules
 
-pub is_new_module : (n : Circuit) (name : List ℕ) (kind : Kind) (params : List ℕ) (inputs : List InputName) (outputs : List OutputName)
-    → module_refusal n name kind params inputs outputs ≡ None → IsNewModule n name kind params inputs outputs
-is_new_module n name kind params inputs outputs none =
-    let all = all_pass (module_checks n name kind params inputs outputs) none in
-    let counts = and_parts (length inputs == input_count kind) (length outputs == output_count kind) all.1.1.0 in
-    let stand = and_parts (inputs_stand n inputs) (list_all (stands n) (driven_names outputs)) all.1.1.1.0 in
-    let width = new_width n kind inputs in
-    let widths = and_parts (inputs_fit n kind width inputs) (outputs_fit n kind width outputs) all.1.1.1.1.0 in
+pub is_new_module : (n : Circuit) (new : NewModule) → module_refusal n new ≡ None → IsNewModule n new
+is_new_module n new none =
+    let all = all_pass (module_checks n new) none in
+    let counts = and_parts (length new.inputs == input_count new.kind) (length new.outputs == output_count new.kind) all.1.1.0 in
+    let stand = and_parts (inputs_stand n new.inputs) (list_all (stands n) (driven_names new.outputs)) all.1.1.1.0 in
+    let width = new_width n new.kind new.inputs in
+    let widths = and_parts (inputs_fit n new.kind width new.inputs) (outputs_fit n new.kind width new.outputs) all.1.1.1.1.0 in
     let rest = all.1.1.1.1.1 in
-    let drivers = and_parts (list_all (is_undriven n) (driven_names outputs)) (are_distinct (driven_names outputs)) rest.1.1.0 in
+    let drivers = and_parts (list_all (is_undriven n) (driven_names new.outputs)) (are_distinct (driven_names new.outputs)) rest.1.1.0 in
     record {
       named = all.0;
       free = all.1.0;
@@ -141,12 +139,10 @@ is_new_module n name kind params inputs outputs none =
       room = ltb-true (length n.modules) max_modules rest.1.1.1.0;
     }
 
-pub IsCircuit-with_new_module : (n : Circuit) → IsCircuit n → (name : List ℕ) (kind : Kind) (params : List ℕ) (inputs : List InputName) (outputs : List OutputName)
-    → module_refusal n name kind params inputs outputs ≡ None → IsCircuit (with_new_module n (new_module n name kind params inputs outputs))
-IsCircuit-with_new_module n ok name kind params inputs outputs none =
-    let new = is_new_module n name kind params inputs outputs none in
-    IsCircuit-add_module n ok _ (IsModule-new n name kind params inputs outputs new.ports new.ranged) new.named new.free
-    (new_distinct n name kind params inputs outputs new.ports) (new_undriven n name kind params inputs outputs new.ports) new.room
+pub IsCircuit-with_new_module : (n : Circuit) → IsCircuit n → (new : NewModule) → module_refusal n new ≡ None → IsCircuit (with_new_module n (new_module n new))
+IsCircuit-with_new_module n ok new none =
+    let is = is_new_module n new none in
+    IsCircuit-add_module n ok _ (IsModule-new n new is.ports is.ranged) is.named is.free (new_distinct n new is.ports) (new_undriven n new is.ports) is.room
 
 pub IsCircuit-without_module : (n : Circuit) → IsCircuit n → (name : List ℕ) → ModuleStands n name → IsCircuit (with_module n (module_id n name).0 None)
 IsCircuit-without_module n ok name part =
@@ -156,49 +152,47 @@ pub going_module : (n : Circuit) (name : List ℕ) → module_removal_refusal n 
 going_module n name none = module_stands_from n name (all_pass (module_removal_checks n name) none).0
 
 -- what the checks of a new bundle tell
-pub record IsNewBundle (n : Circuit) (name request acknowledge payload : List ℕ) (setup : ℕ) : Type 0 where
-  pub named : is_name name ≡ true
-  pub free : is_none (bundle_named n name) ≡ true
-  pub requests : Stands n request
-  pub acknowledges : Stands n acknowledge
-  pub pays : Stands n payload
-  pub request_wide : width_named n request ≡ 1
-  pub acknowledge_wide : width_named n acknowledge ≡ 1
-  pub early : setup ≤ max_setup
+pub record IsNewBundle (n : Circuit) (new : NewBundle) : Type 0 where
+  pub named : is_name new.name ≡ true
+  pub free : is_none (bundle_named n new.name) ≡ true
+  pub requests : Stands n new.request
+  pub acknowledges : Stands n new.acknowledge
+  pub pays : Stands n new.payload
+  pub request_wide : width_named n new.request ≡ 1
+  pub acknowledge_wide : width_named n new.acknowledge ≡ 1
+  pub early : new.setup ≤ max_setup
   pub room : length n.bundles < max_bundles
 
-pub is_new_bundle : (n : Circuit) (name request acknowledge payload : List ℕ) (setup : ℕ) → bundle_refusal n name request acknowledge payload setup ≡ None
-    → IsNewBundle n name request acknowledge payload setup
-is_new_bundle n name request acknowledge payload setup none =
-    let all = all_pass (bundle_checks n name request acknowledge payload setup) none in
-    let stand = and_parts (stands n request && stands n acknowledge) (stands n payload) all.1.1.0 in
-    let both = and_parts (stands n request) (stands n acknowledge) stand.0 in
-    let wide = and_parts (width_named n request == 1) (width_named n acknowledge == 1) all.1.1.1.0 in
+pub is_new_bundle : (n : Circuit) (new : NewBundle) → bundle_refusal n new ≡ None → IsNewBundle n new
+is_new_bundle n new none =
+    let all = all_pass (bundle_checks n new) none in
+    let stand = and_parts (stands n new.request && stands n new.acknowledge) (stands n new.payload) all.1.1.0 in
+    let both = and_parts (stands n new.request) (stands n new.acknowledge) stand.0 in
+    let wide = and_parts (width_named n new.request == 1) (width_named n new.acknowledge == 1) all.1.1.1.0 in
     record {
       named = all.0;
       free = all.1.0;
-      requests = stands_from n request both.0;
-      acknowledges = stands_from n acknowledge both.1;
-      pays = stands_from n payload stand.1;
+      requests = stands_from n new.request both.0;
+      acknowledges = stands_from n new.acknowledge both.1;
+      pays = stands_from n new.payload stand.1;
       request_wide = eqb-true _ _ wide.0;
       acknowledge_wide = eqb-true _ _ wide.1;
-      early = leb-true setup max_setup all.1.1.1.1.0;
+      early = leb-true new.setup max_setup all.1.1.1.1.0;
       room = ltb-true (length n.bundles) max_bundles all.1.1.1.1.1.0;
     }
 
-pub IsCircuit-with_new_bundle : (n : Circuit) → IsCircuit n → (name request acknowledge payload : List ℕ) (setup : ℕ) → bundle_refusal n name request acknowledge payload setup ≡ None
-    → IsCircuit (with_new_bundle n (new_bundle n name request acknowledge payload setup))
-IsCircuit-with_new_bundle n ok name request acknowledge payload setup none =
-    let new = is_new_bundle n name request acknowledge payload setup none in
-    let early = new.early in
-    IsCircuit-add_bundle n ok (new_bundle n name request acknowledge payload setup)
+pub IsCircuit-with_new_bundle : (n : Circuit) → IsCircuit n → (new : NewBundle) → bundle_refusal n new ≡ None → IsCircuit (with_new_bundle n (new_bundle n new))
+IsCircuit-with_new_bundle n ok new none =
+    let is = is_new_bundle n new none in
+    let early = is.early in
+    IsCircuit-add_bundle n ok (new_bundle n new)
     (record {
-      request = stands_wide n request new.requests 1 new.request_wide;
-      acknowledge = stands_wide n acknowledge new.acknowledges 1 new.acknowledge_wide;
-      payload = ap is_some new.pays.at;
+      request = stands_wide n new.request is.requests 1 is.request_wide;
+      acknowledge = stands_wide n new.acknowledge is.acknowledges 1 is.acknowledge_wide;
+      payload = ap is_some is.pays.at;
       setup = omega arith;
     })
-    new.named new.free new.room
+    is.named is.free is.room
 
 pub going_bundle : (n : Circuit) (name : List ℕ) → bundle_removal_refusal n name ≡ None → BundleStands n name
 going_bundle n name none = bundle_stands_from n name (all_pass (bundle_removal_checks n name) none).0
@@ -368,9 +362,9 @@ pub IsCircuit-edited : (n : Circuit) → IsCircuit n → (edit : SingleEdit) →
 unfolding refusal edited
 IsCircuit-edited n ok (AddWire name width level) none = IsCircuit-with_new_wire n ok name width level none
 IsCircuit-edited n ok (RemoveWire name) none = IsCircuit-without_wire n ok name none
-IsCircuit-edited n ok (AddModule name kind params inputs outputs) none = IsCircuit-with_new_module n ok name kind params inputs outputs none
+IsCircuit-edited n ok (AddModule new) none = IsCircuit-with_new_module n ok new none
 IsCircuit-edited n ok (RemoveModule name) none = IsCircuit-without_module n ok name (going_module n name none)
-IsCircuit-edited n ok (AddBundle name request acknowledge payload setup) none = IsCircuit-with_new_bundle n ok name request acknowledge payload setup none
+IsCircuit-edited n ok (AddBundle new) none = IsCircuit-with_new_bundle n ok new none
 IsCircuit-edited n ok (RemoveBundle name) none = IsCircuit-remove_bundle n ok (bundle_id n name).0 (bundle_within n name (going_bundle n name none))
 IsCircuit-edited n ok (RewireInput name port wire) none = IsCircuit-reread n ok name port wire none
 IsCircuit-edited n ok (RewireOutput name port wire) none = IsCircuit-redirected n ok name port wire none

@@ -11,6 +11,7 @@ use Rattle.mp_modules.specs.declared.kind.Kind.{Kind}
 use Rattle.mp_modules.specs.Kinds.{input_count, output_count, has_width, input_width, output_width, are_params}
 use Rattle.mp_records.specs.declared.ids.WireId.{WireId}
 use Rattle.mp_records.specs.declared.module_record.ModuleRecord.{ModuleRecord}
+use Rattle.mp_records.specs.declared.new_module.NewModule.{NewModule}
 use Rattle.mp_records.specs.declared.ports.Input.{Input}
 use Rattle.mp_records.specs.declared.ports.Output.{Output}
 use Rattle.mp_records.specs.declared.port_names.InputName.{InputName}
@@ -52,92 +53,92 @@ pub record ArePorts (n : Circuit) (kind : Kind) (inputs : List InputName) (outpu
   pub undriven : list_all (is_undriven n) (driven_names outputs) ≡ true
   pub distinct : are_distinct (driven_names outputs) ≡ true
 
-module _ (n : Circuit) (name : List ℕ) (kind : Kind) (params : List ℕ) (inputs : List InputName) (outputs : List OutputName) (ports : ArePorts n kind inputs outputs) where
-  abbrev new : ModuleRecord
-  new = new_module n name kind params inputs outputs
+module _ (n : Circuit) (new : NewModule) (ports : ArePorts n new.kind new.inputs new.outputs) where
+  abbrev added : ModuleRecord
+  added = new_module n new
 
-  input_stands : (p : ℕ) → p < length inputs → Stands n (get_or inputs p nowhere).wire
+  input_stands : (p : ℕ) → p < length new.inputs → Stands n (get_or new.inputs p nowhere).wire
   input_stands p here =
-      stands_from n _ (and_at (list_all (λ (i : InputName). stands n i.wire)) (λ (i : InputName). stands n i.wire) refl (λ _ _. refl) inputs p nowhere here ports.reads_stand)
+      stands_from n _ (and_at (list_all (λ (i : InputName). stands n i.wire)) (λ (i : InputName). stands n i.wire) refl (λ _ _. refl) new.inputs p nowhere here ports.reads_stand)
 
   first_is : (names : List InputName) → 0 < length names → first_width n names ≡ width_named n (get_or names 0 nowhere).wire
   first_is [] some = absurd (omega arith)
   first_is (first ∷ rest) some = refl
 
-  width_is : module_width n new ≡ new_width n kind inputs
+  width_is : module_width n added ≡ new_width n new.kind new.inputs
   width_is =
-      let some : 0 < length inputs = omega (arith, ports.inputs_count, some_input kind) in
+      let some : 0 < length new.inputs = omega (arith, ports.inputs_count, some_input new.kind) in
       let wire = input_stands 0 some in
-      let here = ap (λ (i : Input). i.wire.0) (get_or-map (input_of n) inputs 0 nowhere no_input some) in
-      let same = ap (λ w. width_of (wire_at n w)) here ∙ ap width_of wire.at ∙ sym wire.width ∙ sym (first_is inputs some) in
-      ap (λ width. cond (has_width kind) width 1) same
+      let here = ap (λ (i : Input). i.wire.0) (get_or-map (input_of n) new.inputs 0 nowhere no_input some) in
+      let same = ap (λ w. width_of (wire_at n w)) here ∙ ap width_of wire.at ∙ sym wire.width ∙ sym (first_is new.inputs some) in
+      ap (λ width. cond (has_width new.kind) width 1) same
 
-  reads : (p : ℕ) (i : Input) → p < length (map (input_of n) inputs) → HasWidth n (slice_index_or (map (input_of n) inputs) p i).wire.0 (input_width kind (module_width n new) p)
+  reads : (p : ℕ) (i : Input) → p < length (map (input_of n) new.inputs) → HasWidth n (slice_index_or (map (input_of n) new.inputs) p i).wire.0 (input_width new.kind (module_width n added) p)
   reads p i long =
-      let here : p < length inputs = omega (arith, length-map inputs (input_of n)) in
-      let test : ℕ × InputName → Bool = λ port. width_named n port.1.wire == input_width kind (new_width n kind inputs) port.0 in
-      let fits = eqb-true _ _ (counted_pass test inputs nowhere p ports.inputs_wide here) in
-      let at = get_or-map (input_of n) inputs p nowhere i here in
-      let wide = stands_wide n _ (input_stands p here) _ (fits ∙ ap (λ width. input_width kind width p) (sym width_is)) in
-      subst (λ (j : Input). HasWidth n j.wire.0 (input_width kind (module_width n new) p)) (sym at) wide
+      let here : p < length new.inputs = omega (arith, length-map new.inputs (input_of n)) in
+      let test : ℕ × InputName → Bool = λ port. width_named n port.1.wire == input_width new.kind (new_width n new.kind new.inputs) port.0 in
+      let fits = eqb-true _ _ (counted_pass test new.inputs nowhere p ports.inputs_wide here) in
+      let at = get_or-map (input_of n) new.inputs p nowhere i here in
+      let wide = stands_wide n _ (input_stands p here) _ (fits ∙ ap (λ width. input_width new.kind width p) (sym width_is)) in
+      subst (λ (j : Input). HasWidth n j.wire.0 (input_width new.kind (module_width n added) p)) (sym at) wide
 
   -- an output port of the new module is that of the edit
-  port_is : (p : ℕ) → output_at new p ≡ output_of n (get_or outputs p no_name)
-  port_is p = by (cases_lt p (length outputs))
+  port_is : (p : ℕ) → output_at added p ≡ output_of n (get_or new.outputs p no_name)
+  port_is p = by (cases_lt p (length new.outputs))
     where
-      by : (p < length outputs) ⊎ (length outputs ≤ p) → output_at new p ≡ output_of n (get_or outputs p no_name)
-      by (inl here) = get_or-map (output_of n) outputs p no_name (record { wire = None; delay = 1 }) here
+      by : (p < length new.outputs) ⊎ (length new.outputs ≤ p) → output_at added p ≡ output_of n (get_or new.outputs p no_name)
+      by (inl here) = get_or-map (output_of n) new.outputs p no_name (record { wire = None; delay = 1 }) here
       by (inr past) =
-          let long : length (map (output_of n) outputs) ≤ p = omega (arith, length-map outputs (output_of n)) in
-          get_or_past (map (output_of n) outputs) p (record { wire = None; delay = 1 }) long ∙ sym (ap (output_of n) (get_or_past outputs p no_name past))
+          let long : length (map (output_of n) new.outputs) ≤ p = omega (arith, length-map new.outputs (output_of n)) in
+          get_or_past (map (output_of n) new.outputs) p (record { wire = None; delay = 1 }) long ∙ sym (ap (output_of n) (get_or_past new.outputs p no_name past))
 
-  wire_is : (p : ℕ) → (output_at new p).wire ≡ option_map (wire_id n) (get_or outputs p no_name).wire
+  wire_is : (p : ℕ) → (output_at added p).wire ≡ option_map (wire_id n) (get_or new.outputs p no_name).wire
   wire_is p = ap (λ (o : Output). o.wire) (port_is p)
 
   -- a port that names a wire is within the ports
-  named_within : (p : ℕ) (q : List ℕ) → (get_or outputs p no_name).wire ≡ Some q → p < length outputs
-  named_within p q at = by (cases_lt p (length outputs))
+  named_within : (p : ℕ) (q : List ℕ) → (get_or new.outputs p no_name).wire ≡ Some q → p < length new.outputs
+  named_within p q at = by (cases_lt p (length new.outputs))
     where
-      by : (p < length outputs) ⊎ (length outputs ≤ p) → p < length outputs
+      by : (p < length new.outputs) ⊎ (length new.outputs ≤ p) → p < length new.outputs
       by (inl here) = here
-      by (inr past) = let none = sym (ap (λ (o : OutputName). o.wire) (get_or_past outputs p no_name past)) ∙ at in cc
+      by (inr past) = let none = sym (ap (λ (o : OutputName). o.wire) (get_or_past new.outputs p no_name past)) ∙ at in cc
 
-  port_stands : (p : ℕ) (q : List ℕ) → (get_or outputs p no_name).wire ≡ Some q → Stands n q
-  port_stands p q at = stands_from n q (driven_pass (stands n) outputs p q ports.outputs_stand at)
+  port_stands : (p : ℕ) (q : List ℕ) → (get_or new.outputs p no_name).wire ≡ Some q → Stands n q
+  port_stands p q at = stands_from n q (driven_pass (stands n) new.outputs p q ports.outputs_stand at)
 
-  port_wide : (p : ℕ) (q : List ℕ) → (get_or outputs p no_name).wire ≡ Some q → width_named n q ≡ output_width kind (module_width n new) p
+  port_wide : (p : ℕ) (q : List ℕ) → (get_or new.outputs p no_name).wire ≡ Some q → width_named n q ≡ output_width new.kind (module_width n added) p
   port_wide p q at =
-      let fits = counted_pass (λ (port : ℕ × OutputName). output_fits n port.1.wire (output_width kind (new_width n kind inputs) port.0)) outputs no_name p ports.outputs_wide (named_within p q at) in
-      let here = subst (λ wire. output_fits n wire (output_width kind (new_width n kind inputs) p) ≡ true) at fits in
-      eqb-true _ _ here ∙ ap (λ width. output_width kind width p) (sym width_is)
+      let fits = counted_pass (λ (port : ℕ × OutputName). output_fits n port.1.wire (output_width new.kind (new_width n new.kind new.inputs) port.0)) new.outputs no_name p ports.outputs_wide (named_within p q at) in
+      let here = subst (λ wire. output_fits n wire (output_width new.kind (new_width n new.kind new.inputs) p) ≡ true) at fits in
+      eqb-true _ _ here ∙ ap (λ width. output_width new.kind width p) (sym width_is)
 
-  drives : (p : ℕ) → IfSome (output_at new p).wire (λ w. HasWidth n w.0 (output_width kind (module_width n new) p))
-  drives p = subst (λ wire. IfSome wire (λ (w : WireId). HasWidth n w.0 (output_width kind (module_width n new) p))) (sym (wire_is p)) (by (get_or outputs p no_name).wire refl)
+  drives : (p : ℕ) → IfSome (output_at added p).wire (λ w. HasWidth n w.0 (output_width new.kind (module_width n added) p))
+  drives p = subst (λ wire. IfSome wire (λ (w : WireId). HasWidth n w.0 (output_width new.kind (module_width n added) p))) (sym (wire_is p)) (by (get_or new.outputs p no_name).wire refl)
     where
-      by : (wire : Option (List ℕ)) → (get_or outputs p no_name).wire ≡ wire → IfSome (option_map (wire_id n) wire) (λ (w : WireId). HasWidth n w.0 (output_width kind (module_width n new) p))
+      by : (wire : Option (List ℕ)) → (get_or new.outputs p no_name).wire ≡ wire → IfSome (option_map (wire_id n) wire) (λ (w : WireId). HasWidth n w.0 (output_width new.kind (module_width n added) p))
       by None at = tt
       by (Some q) at = stands_wide n q (port_stands p q at) _ (port_wide p q at)
 
-  both_delays : (list_all (λ (i : InputName). is_input_delay i.delay) inputs ≡ true) × (list_all (λ (o : OutputName). is_delay o.delay) outputs ≡ true)
+  both_delays : (list_all (λ (i : InputName). is_input_delay i.delay) new.inputs ≡ true) × (list_all (λ (o : OutputName). is_delay o.delay) new.outputs ≡ true)
   both_delays = and_parts _ _ ports.delays
 
-  input_delays : All (λ (i : Input). IsInputDelay i.delay) (map (input_of n) inputs)
+  input_delays : All (λ (i : Input). IsInputDelay i.delay) (map (input_of n) new.inputs)
   input_delays k d long =
-      let here : k < length inputs = omega (arith, length-map inputs (input_of n)) in
-      let is = and_at (list_all (λ (i : InputName). is_input_delay i.delay)) (λ (i : InputName). is_input_delay i.delay) refl (λ _ _. refl) inputs k nowhere here both_delays.0 in
-      subst (λ (i : Input). IsInputDelay i.delay) (sym (get_or-map (input_of n) inputs k nowhere d here)) (input_delay_at _ is)
+      let here : k < length new.inputs = omega (arith, length-map new.inputs (input_of n)) in
+      let is = and_at (list_all (λ (i : InputName). is_input_delay i.delay)) (λ (i : InputName). is_input_delay i.delay) refl (λ _ _. refl) new.inputs k nowhere here both_delays.0 in
+      subst (λ (i : Input). IsInputDelay i.delay) (sym (get_or-map (input_of n) new.inputs k nowhere d here)) (input_delay_at _ is)
 
-  delays : All (λ (o : Output). IsDelay o.delay) (map (output_of n) outputs)
+  delays : All (λ (o : Output). IsDelay o.delay) (map (output_of n) new.outputs)
   delays k d long =
-      let here : k < length outputs = omega (arith, length-map outputs (output_of n)) in
-      let is = and_at (list_all (λ (o : OutputName). is_delay o.delay)) (λ (o : OutputName). is_delay o.delay) refl (λ _ _. refl) outputs k no_name here both_delays.1 in
-      subst (λ (o : Output). IsDelay o.delay) (sym (get_or-map (output_of n) outputs k no_name d here)) (delay_at _ is)
+      let here : k < length new.outputs = omega (arith, length-map new.outputs (output_of n)) in
+      let is = and_at (list_all (λ (o : OutputName). is_delay o.delay)) (λ (o : OutputName). is_delay o.delay) refl (λ _ _. refl) new.outputs k no_name here both_delays.1 in
+      subst (λ (o : Output). IsDelay o.delay) (sym (get_or-map (output_of n) new.outputs k no_name d here)) (delay_at _ is)
 
-  pub IsModule-new : are_params kind (new_width n kind inputs) params ≡ true → IsModule n new
+  pub IsModule-new : are_params new.kind (new_width n new.kind new.inputs) new.params ≡ true → IsModule n added
   IsModule-new ranged = record {
-    inputs = length-map inputs (input_of n) ∙ ports.inputs_count;
-    outputs = length-map outputs (output_of n) ∙ ports.outputs_count;
-    params = ap (λ width. are_params kind width params) width_is ∙ ranged;
+    inputs = length-map new.inputs (input_of n) ∙ ports.inputs_count;
+    outputs = length-map new.outputs (output_of n) ∙ ports.outputs_count;
+    params = ap (λ width. are_params new.kind width new.params) width_is ∙ ranged;
     input_delays = input_delays;
     delays = delays;
     reads = reads;
@@ -147,24 +148,24 @@ module _ (n : Circuit) (name : List ℕ) (kind : Kind) (params : List ℕ) (inpu
   -- the name of the wire that a port of the new module has
   pub record Named (p w : ℕ) : Type 0 where
     pub called : List ℕ
-    pub port : (get_or outputs p no_name).wire ≡ Some called
+    pub port : (get_or new.outputs p no_name).wire ≡ Some called
     pub id : (wire_id n called).0 ≡ w
 
-  port_named : (p w : ℕ) → (output_at new p).wire ≡ Some (record { 0 = w }) → Named p w
-  port_named p w at = by (get_or outputs p no_name).wire refl (sym (wire_is p) ∙ at)
+  port_named : (p w : ℕ) → (output_at added p).wire ≡ Some (record { 0 = w }) → Named p w
+  port_named p w at = by (get_or new.outputs p no_name).wire refl (sym (wire_is p) ∙ at)
     where
-      by : (wire : Option (List ℕ)) → (get_or outputs p no_name).wire ≡ wire → option_map (wire_id n) wire ≡ Some (record { 0 = w }) → Named p w
+      by : (wire : Option (List ℕ)) → (get_or new.outputs p no_name).wire ≡ wire → option_map (wire_id n) wire ≡ Some (record { 0 = w }) → Named p w
       by None port is = cc
       by (Some q) port is = let same : wire_id n q ≡ record { 0 = w } = cc in record { called = q; port = port; id = ap (λ (v : WireId). v.0) same }
 
-  pub new_undriven : (p w : ℕ) → (output_at new p).wire ≡ Some (record { 0 = w }) → is_nothing (driver n w) ≡ true
+  pub new_undriven : (p w : ℕ) → (output_at added p).wire ≡ Some (record { 0 = w }) → is_nothing (driver n w) ≡ true
   new_undriven p w at =
       let found = port_named p w at in
-      subst (λ v. is_nothing (driver n v) ≡ true) found.id (driven_pass (is_undriven n) outputs p found.called ports.undriven found.port)
+      subst (λ v. is_nothing (driver n v) ≡ true) found.id (driven_pass (is_undriven n) new.outputs p found.called ports.undriven found.port)
 
-  pub new_distinct : (p q w : ℕ) → (output_at new p).wire ≡ Some (record { 0 = w }) → (output_at new q).wire ≡ Some (record { 0 = w }) → p ≡ q
+  pub new_distinct : (p q w : ℕ) → (output_at added p).wire ≡ Some (record { 0 = w }) → (output_at added q).wire ≡ Some (record { 0 = w }) → p ≡ q
   new_distinct p q w first second =
       let a = port_named p w first in
       let b = port_named q w second in
       let same = one_wire n a.called b.called (port_stands p a.called a.port) (port_stands q b.called b.port) (a.id ∙ sym b.id) in
-      distinct_ports outputs p q a.called ports.distinct a.port (b.port ∙ ap Some (sym same))
+      distinct_ports new.outputs p q a.called ports.distinct a.port (b.port ∙ ap Some (sym same))

@@ -14,6 +14,8 @@ use Rattle.mp_records.specs.declared.ports.Input.{Input}
 use Rattle.mp_records.specs.declared.ports.Output.{Output}
 use Rattle.mp_records.specs.declared.port_names.InputName.{InputName}
 use Rattle.mp_records.specs.declared.port_names.OutputName.{OutputName}
+use Rattle.mp_records.specs.declared.new_module.NewModule.{NewModule}
+use Rattle.mp_records.specs.declared.new_bundle.NewBundle.{NewBundle}
 use Rattle.mp_records.specs.declared.edit.Edit.{Edit}
 use Rattle.mp_records.specs.declared.edit.Edit.TheVariants.{Single, Batch}
 use Rattle.mp_records.specs.declared.single_edit.SingleEdit.{SingleEdit}
@@ -177,21 +179,21 @@ abbrev pub wire_removal_refusal : Circuit → List ℕ → Option EditError
 wire_removal_refusal n name = first_failing (wire_removal_checks n name)
 
 -- the checks of a new module, in order
-abbrev pub module_checks : Circuit → List ℕ → Kind → List ℕ → List InputName → List OutputName → List (Bool × EditError)
-module_checks n name kind params inputs outputs =
-    (is_name name, BadName)
-    ∷ (is_none (module_named n name), NameTaken)
-    ∷ (length inputs == input_count kind && length outputs == output_count kind, WrongPorts)
-    ∷ (inputs_stand n inputs && list_all (stands n) (driven_names outputs), NoSuchWire)
-    ∷ (inputs_fit n kind (new_width n kind inputs) inputs && outputs_fit n kind (new_width n kind inputs) outputs, WidthMismatch)
-    ∷ (are_params kind (new_width n kind inputs) params, BadParam)
-    ∷ (delays_fit inputs outputs, BadDelay)
-    ∷ (list_all (is_undriven n) (driven_names outputs) && are_distinct (driven_names outputs), AlreadyDriven)
+abbrev pub module_checks : Circuit → NewModule → List (Bool × EditError)
+module_checks n new =
+    (is_name new.name, BadName)
+    ∷ (is_none (module_named n new.name), NameTaken)
+    ∷ (length new.inputs == input_count new.kind && length new.outputs == output_count new.kind, WrongPorts)
+    ∷ (inputs_stand n new.inputs && list_all (stands n) (driven_names new.outputs), NoSuchWire)
+    ∷ (inputs_fit n new.kind (new_width n new.kind new.inputs) new.inputs && outputs_fit n new.kind (new_width n new.kind new.inputs) new.outputs, WidthMismatch)
+    ∷ (are_params new.kind (new_width n new.kind new.inputs) new.params, BadParam)
+    ∷ (delays_fit new.inputs new.outputs, BadDelay)
+    ∷ (list_all (is_undriven n) (driven_names new.outputs) && are_distinct (driven_names new.outputs), AlreadyDriven)
     ∷ (nat_lt (length n.modules) max_modules, TableFull)
     ∷ []
 
-abbrev pub module_refusal : Circuit → List ℕ → Kind → List ℕ → List InputName → List OutputName → Option EditError
-module_refusal n name kind params inputs outputs = first_failing (module_checks n name kind params inputs outputs)
+abbrev pub module_refusal : Circuit → NewModule → Option EditError
+module_refusal n new = first_failing (module_checks n new)
 
 -- the checks before a module goes
 abbrev pub module_removal_checks : Circuit → List ℕ → List (Bool × EditError)
@@ -201,18 +203,18 @@ abbrev pub module_removal_refusal : Circuit → List ℕ → Option EditError
 module_removal_refusal n name = first_failing (module_removal_checks n name)
 
 -- the checks of a new bundle, in order
-abbrev pub bundle_checks : Circuit → List ℕ → List ℕ → List ℕ → List ℕ → ℕ → List (Bool × EditError)
-bundle_checks n name request acknowledge payload setup =
-    (is_name name, BadName)
-    ∷ (is_none (bundle_named n name), NameTaken)
-    ∷ (stands n request && stands n acknowledge && stands n payload, NoSuchWire)
-    ∷ (width_named n request == 1 && width_named n acknowledge == 1, WidthMismatch)
-    ∷ (nat_le setup max_setup, BadParam)
+abbrev pub bundle_checks : Circuit → NewBundle → List (Bool × EditError)
+bundle_checks n new =
+    (is_name new.name, BadName)
+    ∷ (is_none (bundle_named n new.name), NameTaken)
+    ∷ (stands n new.request && stands n new.acknowledge && stands n new.payload, NoSuchWire)
+    ∷ (width_named n new.request == 1 && width_named n new.acknowledge == 1, WidthMismatch)
+    ∷ (nat_le new.setup max_setup, BadParam)
     ∷ (nat_lt (length n.bundles) max_bundles, TableFull)
     ∷ []
 
-abbrev pub bundle_refusal : Circuit → List ℕ → List ℕ → List ℕ → List ℕ → ℕ → Option EditError
-bundle_refusal n name request acknowledge payload setup = first_failing (bundle_checks n name request acknowledge payload setup)
+abbrev pub bundle_refusal : Circuit → NewBundle → Option EditError
+bundle_refusal n new = first_failing (bundle_checks n new)
 
 -- the checks before a bundle goes
 abbrev pub bundle_removal_checks : Circuit → List ℕ → List (Bool × EditError)
@@ -293,9 +295,9 @@ clearing_refusal n name = first_failing (clearing_checks n name)
 unfoldable pub refusal : Circuit → SingleEdit → Option EditError
 refusal n (AddWire name width level) = wire_refusal n name width level
 refusal n (RemoveWire name) = wire_removal_refusal n name
-refusal n (AddModule name kind params inputs outputs) = module_refusal n name kind params inputs outputs
+refusal n (AddModule new) = module_refusal n new
 refusal n (RemoveModule name) = module_removal_refusal n name
-refusal n (AddBundle name request acknowledge payload setup) = bundle_refusal n name request acknowledge payload setup
+refusal n (AddBundle new) = bundle_refusal n new
 refusal n (RemoveBundle name) = bundle_removal_refusal n name
 refusal n (RewireInput name port wire) = input_refusal n name port wire
 refusal n (RewireOutput name port wire) = output_refusal n name port wire
@@ -331,9 +333,9 @@ input_of n i = record { wire = wire_id n i.wire; delay = i.delay }
 abbrev pub output_of : Circuit → OutputName → Output
 output_of n o = record { wire = option_map (wire_id n) o.wire; delay = o.delay }
 
-abbrev pub new_module : Circuit → List ℕ → Kind → List ℕ → List InputName → List OutputName → ModuleRecord
-new_module n name kind params inputs outputs =
-    record { name = name; kind = kind; params = params; inputs = map (input_of n) inputs; outputs = map (output_of n) outputs }
+abbrev pub new_module : Circuit → NewModule → ModuleRecord
+new_module n new =
+    record { name = new.name; kind = new.kind; params = new.params; inputs = map (input_of n) new.inputs; outputs = map (output_of n) new.outputs }
 
 abbrev pub with_new_module : Circuit → ModuleRecord → Circuit
 with_new_module n r = record n { modules = n.modules ++ Some r ∷ [] }
@@ -348,9 +350,15 @@ without_stimulus wire = record wire { stimulus = None }
 abbrev pub with_wire : Circuit → ℕ → Option WireRecord → Circuit
 with_wire n w wire = record n { wires = slice_set n.wires w wire }
 
-abbrev pub new_bundle : Circuit → List ℕ → List ℕ → List ℕ → List ℕ → ℕ → BundleRecord
-new_bundle n name request acknowledge payload setup =
-    record { name = name; request = wire_id n request; acknowledge = wire_id n acknowledge; payload = wire_id n payload; setup = setup }
+abbrev pub new_bundle : Circuit → NewBundle → BundleRecord
+new_bundle n new =
+    record {
+      name = new.name;
+      request = wire_id n new.request;
+      acknowledge = wire_id n new.acknowledge;
+      payload = wire_id n new.payload;
+      setup = new.setup;
+    }
 
 abbrev pub with_new_bundle : Circuit → BundleRecord → Circuit
 with_new_bundle n r = record n { bundles = n.bundles ++ Some r ∷ [] }
@@ -367,9 +375,9 @@ with_module n m part = record n { modules = slice_set n.modules m part }
 unfoldable pub edited : Circuit → SingleEdit → Circuit
 edited n (AddWire name width level) = with_new_wire n name width level
 edited n (RemoveWire name) = with_wire n (wire_id n name).0 None
-edited n (AddModule name kind params inputs outputs) = with_new_module n (new_module n name kind params inputs outputs)
+edited n (AddModule new) = with_new_module n (new_module n new)
 edited n (RemoveModule name) = with_module n (module_id n name).0 None
-edited n (AddBundle name request acknowledge payload setup) = with_new_bundle n (new_bundle n name request acknowledge payload setup)
+edited n (AddBundle new) = with_new_bundle n (new_bundle n new)
 edited n (RemoveBundle name) = with_bundle n (bundle_id n name).0 None
 edited n (RewireInput name port wire) =
     with_module n (module_id n name).0 (option_map (with_input port (wire_id n wire)) (module_at n (module_id n name).0))
@@ -415,8 +423,8 @@ after n (Batch edits) = if is_batch edits then after_each 1 n edits else Err Bad
 -- the edits of one thing that take memory: those that add a thing, and that which sets a stimulus
 abbrev pub single_takes_memory : SingleEdit → Bool
 single_takes_memory (AddWire name width level) = true
-single_takes_memory (AddModule name kind params inputs outputs) = true
-single_takes_memory (AddBundle name request acknowledge payload setup) = true
+single_takes_memory (AddModule new) = true
+single_takes_memory (AddBundle new) = true
 single_takes_memory (SetStimulus name changes) = true
 single_takes_memory _ = false
 

@@ -12,9 +12,9 @@ mod table;
 
 pub use driver::Driver;
 pub use mp_records::{
-    Batch, BundleId, BundleRecord, Changes, Edit, EditError, Input, InputName, InputNames, Inputs,
-    ModuleId, ModuleRecord, Name, Output, OutputName, OutputNames, Outputs, Params, SingleEdit,
-    Stimulus, WireId, WireRecord,
+    Batch, Boxed, BundleId, BundleRecord, Changes, Edit, EditError, Input, InputName, InputNames,
+    Inputs, ModuleId, ModuleRecord, Name, NewBundle, NewModule, Output, OutputName, OutputNames,
+    Outputs, Params, SingleEdit, Stimulus, WireId, WireRecord,
 };
 pub use netlist::{
     MAX_BATCH, MAX_BUNDLES, MAX_DELAY, MAX_HORIZON, MAX_MODULES, MAX_SETUP, MAX_WIRES, Netlist,

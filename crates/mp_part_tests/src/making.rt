@@ -2,8 +2,8 @@
 //! `drop` and at one place, since at each other end of a function the proof spells out how each part of it is let go.
 use mp_modules::Kind;
 use mp_netlist::{
-    Changes, Edit, InputName, InputNames, Name, Netlist, OutputName, OutputNames, Params,
-    SingleEdit,
+    Boxed, Changes, Edit, InputName, InputNames, Name, Netlist, NewModule, OutputName, OutputNames,
+    Params, SingleEdit,
 };
 use std::alloc::{AllocError, Global};
 
@@ -103,13 +103,14 @@ fn outputs(alloc: Global, ports: &[(&str, u64)]) -> Result<OutputNames, AllocErr
 pub fn module(alloc: Global, part: &Part<'_>) -> Result<SingleEdit, AllocError> {
     let inputs = inputs(alloc, part.inputs)?;
     let outputs = outputs(alloc, part.outputs)?;
-    Ok(SingleEdit::AddModule {
+    let added = NewModule {
         name: name(alloc, part.name)?,
         kind: part.kind,
         params: Params::new(part.params.to_vec(alloc)?),
         inputs,
         outputs,
-    })
+    };
+    Ok(SingleEdit::AddModule(Boxed::new(alloc, added)?))
 }
 
 impl Change<'_> {

@@ -1,7 +1,10 @@
 //! The control of two stages, tables that are full, and refusals in words.
 use crate::making::{Part, module, name, stimulus, wire};
 use mp_modules::Kind;
-use mp_netlist::{Batch, Driver, Edit, EditError, ModuleId, Netlist, NewError, SingleEdit, WireId};
+use mp_netlist::{
+    Batch, Boxed, Driver, Edit, EditError, ModuleId, Netlist, NewBundle, NewError, SingleEdit,
+    WireId,
+};
 use std::alloc::{AllocError, Global};
 use std::process::Abort;
 use std::test::Fail;
@@ -24,16 +27,14 @@ fn stage(
 }
 
 fn bundle(alloc: Global, text: &str) -> Result<SingleEdit, AllocError> {
-    let name = name(alloc, text)?;
-    let request = self::name(alloc, "r")?;
-    let acknowledge = self::name(alloc, "ack")?;
-    Ok(SingleEdit::AddBundle {
-        name,
-        request,
-        acknowledge,
-        payload: self::name(alloc, "q1")?,
+    let added = NewBundle {
+        name: name(alloc, text)?,
+        request: name(alloc, "r")?,
+        acknowledge: name(alloc, "ack")?,
+        payload: name(alloc, "q1")?,
         setup: 2,
-    })
+    };
+    Ok(SingleEdit::AddBundle(Boxed::new(alloc, added)?))
 }
 
 /// Why the netlist refuses the edit. It alone owns an edit where it ends, since each end spells out how an edit is let go.

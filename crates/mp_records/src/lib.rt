@@ -2,6 +2,7 @@
 #![tactic(auto)]
 
 mod batch;
+mod boxed;
 mod bundle_record;
 mod changes;
 mod edit;
@@ -9,6 +10,8 @@ mod edit_error;
 mod ids;
 mod module_record;
 mod name;
+mod new_bundle;
+mod new_module;
 mod params;
 mod port_names;
 mod ports;
@@ -17,6 +20,7 @@ mod stimulus;
 mod wire_record;
 
 pub use batch::Batch;
+pub use boxed::Boxed;
 pub use bundle_record::BundleRecord;
 pub use changes::Changes;
 pub use edit::Edit;
@@ -24,6 +28,8 @@ pub use edit_error::EditError;
 pub use ids::{BundleId, ModuleId, WireId};
 pub use module_record::ModuleRecord;
 pub use name::Name;
+pub use new_bundle::NewBundle;
+pub use new_module::NewModule;
 pub use params::Params;
 pub use port_names::{InputName, InputNames, OutputName, OutputNames};
 pub use ports::{Input, Inputs, Output, Outputs};

@@ -1,11 +1,12 @@
 //! The edits of one thing.
+use crate::boxed::Boxed;
 use crate::changes::Changes;
 use crate::name::Name;
-use crate::params::Params;
-use crate::port_names::{InputNames, OutputNames};
-use mp_modules::Kind;
+use crate::new_bundle::NewBundle;
+use crate::new_module::NewModule;
 
 /// A change of one thing in a netlist. It names things by their present names, and its numbers may be out of range: the edit is refused then.
+/// What adds a module or a bundle names much, and stands in a block of its own, so that the other edits are small.
 #[derive(Clone, Drop)]
 pub enum SingleEdit {
     /// Adds a wire of a new name, with a width in bits and an initial level.
@@ -19,25 +20,13 @@ pub enum SingleEdit {
         wire: Name,
     },
     /// Adds a module of a new name, whose ports are at wires that stand.
-    AddModule {
-        name: Name,
-        kind: Kind,
-        params: Params,
-        inputs: InputNames,
-        outputs: OutputNames,
-    },
+    AddModule(Boxed<NewModule>),
     /// Removes a module. The wires that it drove have no driver then.
     RemoveModule {
         module: Name,
     },
-    /// Adds a bundle of a new name, with its setup in units.
-    AddBundle {
-        name: Name,
-        request: Name,
-        acknowledge: Name,
-        payload: Name,
-        setup: u64,
-    },
+    /// Adds a bundle of a new name, whose wires stand.
+    AddBundle(Boxed<NewBundle>),
     /// Removes a bundle.
     RemoveBundle {
         bundle: Name,

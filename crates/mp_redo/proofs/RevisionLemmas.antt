@@ -115,9 +115,9 @@ kept_edited : (n : Circuit) (edit : SingleEdit) → AreKept n (edited n edit)
 unfolding edited
 kept_edited n (AddWire name width level) = wire_added n (record { name = name; width = width; initial = level; stimulus = None })
 kept_edited n (RemoveWire name) = wire_written n (wire_id n name).0 None (slot_emptied (wire_at n (wire_id n name).0))
-kept_edited n (AddModule name kind params inputs outputs) = module_added n (new_module n name kind params inputs outputs)
+kept_edited n (AddModule new) = module_added n (new_module n new)
 kept_edited n (RemoveModule name) = module_written n _ _
-kept_edited n (AddBundle name request acknowledge payload setup) = record { horizon = refl; wires = omega arith; modules = omega arith; slots = λ w low. slot_same (wire_at n w) }
+kept_edited n (AddBundle new) = record { horizon = refl; wires = omega arith; modules = omega arith; slots = λ w low. slot_same (wire_at n w) }
 kept_edited n (RemoveBundle name) = record { horizon = refl; wires = omega arith; modules = omega arith; slots = λ w low. slot_same (wire_at n w) }
 kept_edited n (RewireInput name port wire) = module_written n _ _
 kept_edited n (RewireOutput name port wire) = module_written n _ _

@@ -4,7 +4,9 @@ ghost use Rattle.mp_engine.specs.Runs.{IsRun};
 use mp_depend::{Records, touched};
 use mp_engine::{OpenGate, Run, evaluate_here};
 use mp_modules::Kind;
-use mp_netlist::{ModuleId, Netlist, OutputName, OutputNames, Params, SingleEdit, WireId};
+use mp_netlist::{
+    Boxed, ModuleId, Netlist, NewModule, OutputName, OutputNames, Params, SingleEdit, WireId,
+};
 use mp_part_tests::making::{accepts, inputs, name, wire};
 use std::alloc::{AllocError, Global};
 use std::sync::Wait;
@@ -18,13 +20,14 @@ fn merge(alloc: Global) -> Result<SingleEdit, AllocError> {
     };
     let outputs = vec![in alloc; output]?;
     let inputs = inputs(alloc, &[("y", 0), ("y", 2)])?;
-    Ok(SingleEdit::AddModule {
+    let added = NewModule {
         name: name(alloc, "y")?,
         kind: Kind::Xor,
         params: Params::new(Vec::new(alloc)),
         inputs,
         outputs: OutputNames::new(outputs),
-    })
+    };
+    Ok(SingleEdit::AddModule(Boxed::new(alloc, added)?))
 }
 
 /// Whether the records tell of both ports, and of the states before times 0 and 1,024.

@@ -3,10 +3,7 @@ ghost use Rattle.std.specs.Prelude.{◌≡◌, IsTrue, ◌↔◌};
 ghost use Rattle.mp_records.specs.declared.single_edit.SingleEdit.TheVariants.{AddWire, RemoveWire, AddModule, RemoveModule, AddBundle, RemoveBundle, RewireInput, RewireOutput, SetInputDelay, SetDelay, SetStimulus, ClearStimulus};
 
 use crate::same::{Same, same_list, same_option};
-use mp_modules::Kind;
-use mp_netlist::{
-    Changes, Edit, InputName, InputNames, Name, OutputName, OutputNames, Params, SingleEdit,
-};
+use mp_netlist::{Changes, Edit, InputName, Name, NewBundle, NewModule, OutputName, SingleEdit};
 
 impl Same for InputName {
     fn same(&self, other: &Self) -> bool {
@@ -23,6 +20,26 @@ impl Same for OutputName {
 impl Same for (u64, u64) {
     fn same(&self, other: &Self) -> bool {
         self.0 == other.0 && self.1 == other.1
+    }
+}
+
+impl Same for NewModule {
+    fn same(&self, other: &Self) -> bool {
+        self.name.same(&other.name)
+            && self.kind == other.kind
+            && self.params.as_slice() == other.params.as_slice()
+            && same_list(self.inputs.as_slice(), other.inputs.as_slice())
+            && same_list(self.outputs.as_slice(), other.outputs.as_slice())
+    }
+}
+
+impl Same for NewBundle {
+    fn same(&self, other: &Self) -> bool {
+        self.name.same(&other.name)
+            && self.request.same(&other.request)
+            && self.acknowledge.same(&other.acknowledge)
+            && self.payload.same(&other.payload)
+            && self.setup == other.setup
     }
 }
 
@@ -46,21 +63,9 @@ impl Same for SingleEdit {
         match self {
             SingleEdit::AddWire { name, width, level } => adds_wire(other, name, *width, *level),
             SingleEdit::RemoveWire { wire } => removes_wire(other, wire),
-            SingleEdit::AddModule {
-                name,
-                kind,
-                params,
-                inputs,
-                outputs,
-            } => adds_module(other, name, *kind, params, inputs, outputs),
+            SingleEdit::AddModule(new) => adds_module(other, new.get()),
             SingleEdit::RemoveModule { module } => removes_module(other, module),
-            SingleEdit::AddBundle {
-                name,
-                request,
-                acknowledge,
-                payload,
-                setup,
-            } => adds_bundle(other, name, request, acknowledge, payload, *setup),
+            SingleEdit::AddBundle(new) => adds_bundle(other, new.get()),
             SingleEdit::RemoveBundle { bundle } => removes_bundle(other, bundle),
             SingleEdit::RewireInput { module, port, wire } => rewires_input(
                 other, module, *port, wire,
@@ -104,30 +109,11 @@ fn removes_wire(edit: &SingleEdit, named: &Name) -> bool
     }
 }
 
-fn adds_module(
-    edit: &SingleEdit,
-    named: &Name,
-    sort: Kind,
-    numbers: &Params,
-    reads: &InputNames,
-    drives: &OutputNames,
-) -> bool
-    ensures { IsTrue result ↔ (AddModule named.now sort numbers.now reads.now drives.now ≡ edit.now) }
+fn adds_module(edit: &SingleEdit, added: &NewModule) -> bool
+    ensures { IsTrue result ↔ (AddModule added.now ≡ edit.now) }
 {
     match edit {
-        SingleEdit::AddModule {
-            name,
-            kind,
-            params,
-            inputs,
-            outputs,
-        } => {
-            named.same(name)
-                && sort == *kind
-                && numbers.as_slice() == params.as_slice()
-                && same_list(reads.as_slice(), inputs.as_slice())
-                && same_list(drives.as_slice(), outputs.as_slice())
-        }
+        SingleEdit::AddModule(new) => added.same(new.get()),
         _ => false,
     }
 }
@@ -141,30 +127,11 @@ fn removes_module(edit: &SingleEdit, named: &Name) -> bool
     }
 }
 
-fn adds_bundle(
-    edit: &SingleEdit,
-    named: &Name,
-    asks: &Name,
-    answers: &Name,
-    carries: &Name,
-    units: u64,
-) -> bool
-    ensures { IsTrue result ↔ (AddBundle named.now asks.now answers.now carries.now units ≡ edit.now) }
+fn adds_bundle(edit: &SingleEdit, added: &NewBundle) -> bool
+    ensures { IsTrue result ↔ (AddBundle added.now ≡ edit.now) }
 {
     match edit {
-        SingleEdit::AddBundle {
-            name,
-            request,
-            acknowledge,
-            payload,
-            setup,
-        } => {
-            named.same(name)
-                && asks.same(request)
-                && answers.same(acknowledge)
-                && carries.same(payload)
-                && units == *setup
-        }
+        SingleEdit::AddBundle(new) => added.same(new.get()),
         _ => false,
     }
 }

@@ -16,7 +16,7 @@ use Rattle.mp_netlist.specs.Limits.{max_bundles, max_setup}
 use Rattle.mp_netlist.specs.Circuit.{Circuit, IsCircuit, IsBundle, bundle_at, HasNames}
 use Rattle.mp_netlist.specs.Edits.{refusal, edited, after_single, stands, width_named, bundle_checks, new_bundle}
 use Rattle.mp_text.specs.Written.{wire_name}
-use Rattle.mp_text.specs.RoundTrips.{bundle_edits}
+use Rattle.mp_text.specs.RoundTrips.{bundle_by_name, bundle_edits}
 use Rattle.mp_text.proofs.SlotLemmas.{All-flat_map, All-from_flat_map, Unnamed, named_nowhere, front_unnamed}
 use Rattle.mp_text.proofs.StageLemmas.{none_failing, and_both, is_done, Reaches, Reaches-none, Reaches-one, Steps, stage}
 use Rattle.mp_text.proofs.WireStageLemmas.{made, HasWires, HasWires-compact, IsBack, is_back}
@@ -27,11 +27,11 @@ bundle_name r = r.name
 
 -- the edit that adds a bundle by name
 abbrev added : Circuit → BundleRecord → SingleEdit
-added n r = AddBundle r.name (wire_name n r.request) (wire_name n r.acknowledge) (wire_name n r.payload) r.setup
+added n r = AddBundle (bundle_by_name n r)
 
 -- the edit adds no bundle of this name
 abbrev AddsNone : List ℕ → SingleEdit → Type 0
-AddsNone q (AddBundle name request acknowledge payload setup) = bytes_eq q name ≡ false
+AddsNone q (AddBundle new) = bytes_eq q new.name ≡ false
 AddsNone q _ = Unit {0}
 
 module _ (n : Circuit) (circuit : IsCircuit n) (named : HasNames n) (modules : List (Option ModuleRecord)) where
@@ -85,7 +85,7 @@ module _ (n : Circuit) (circuit : IsCircuit n) (named : HasNames n) (modules : L
         All-weaker (λ slot. All (AddsNone r.name) (bundle_edits c slot)) (Unnamed bundle_name r.name) slot_adds bundles (All-from_flat_map (AddsNone r.name) (bundle_edits c) bundles now)
 
     abbrev new : BundleRecord
-    new = new_bundle c r.name (wire_name n r.request) (wire_name n r.acknowledge) (wire_name n r.payload) r.setup
+    new = new_bundle c (bundle_by_name n r)
 
     bundle_done : after_single c (added n r) ≡ Ok (bundled (bundles ++ Some new ∷ []))
     unfolding refusal edited
@@ -102,14 +102,10 @@ module _ (n : Circuit) (circuit : IsCircuit n) (named : HasNames n) (modules : L
         let within : length front < max_bundles = omega (arith, ap length split, length-append front (Some r ∷ back), circuit.bundles_few) in
         let room = lt-ltb (length bundles) max_bundles (omega (arith, few)) in
         is_done c (added n r)
-        (none_failing (bundle_checks c r.name first second third r.setup) (named.bundles (length front) r at, (free, (found, (wide, (early, (room, tt)))))))
+        (none_failing (bundle_checks c (bundle_by_name n r)) (named.bundles (length front) r at, (free, (found, (wide, (early, (room, tt)))))))
 
     added_again : added c new ≡ added n r
-    added_again =
-        let setup = r.setup in
-        ap (λ name. AddBundle r.name name (wire_name c new.acknowledge) (wire_name c new.payload) setup) request.name
-        ∙ ap (λ name. AddBundle r.name (wire_name n r.request) name (wire_name c new.payload) setup) acknowledge.name
-        ∙ ap (λ name. AddBundle r.name (wire_name n r.request) (wire_name n r.acknowledge) name setup) payload.name
+    added_again = rw (request.name, acknowledge.name, payload.name) refl
 
     same_more : flat_map (bundle_edits (bundled [])) (bundles ++ Some new ∷ []) ≡ flat_map (bundle_edits n) (front ++ Some r ∷ [])
     same_more =

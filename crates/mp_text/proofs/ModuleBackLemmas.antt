@@ -24,7 +24,7 @@ use Rattle.mp_netlist.specs.Circuit.{Circuit, IsCircuit, IsModule, IsDelay, IsIn
 use Rattle.mp_text.specs.Statements.{is_mark}
 use Rattle.mp_words.specs.WordLists.{input_word, output_word}
 use Rattle.mp_text.specs.Written.{module_line, wire_name, delay_text, input_text, output_name, output_text}
-use Rattle.mp_text.specs.RoundTrips.{module_edits, input_by_name, output_by_name}
+use Rattle.mp_text.specs.RoundTrips.{module_by_name, module_edits, input_by_name, output_by_name}
 use Rattle.mp_words.proofs.PlainLemmas.{IsPlain, IsPlain-append, IsPlain-decimal, IsPlain-name, both}
 use Rattle.mp_words.proofs.ReadBackLemmas.{input_back, late_input_back, no_wire_back, wire_back}
 use Rattle.mp_text.proofs.StatementBackLemmas.{name_no_greater, module_stated}
@@ -149,7 +149,7 @@ module _ (n : Circuit) (circuit : IsCircuit n) (named : HasNames n) where
         let first : IsPlain (codes "module") = record { some = omega arith; plain = refl } in
         record {
           each = leads_line (codes "module") (r.name ∷ word_of r.kind ∷ (params_words ++ (codes ":" ∷ (input_words ++ (codes ">" ∷ output_words)))))
-              (AddModule r.name r.kind r.params (map (input_by_name n) r.inputs) (map (output_by_name n) r.outputs)) first plain_words stated;
+              (AddModule (module_by_name n r)) first plain_words stated;
         }
 
   module_slot : (m : ℕ) (slot : Option ModuleRecord) → module_at n m ≡ slot → SlotLeads (module_line n) (module_edits n) slot

@@ -23,7 +23,7 @@ use Rattle.mp_netlist.specs.Edits.{refusal, edited, after_single, stands, wire_i
 use Rattle.mp_netlist.proofs.PortLemmas.{no_name}
 use Rattle.mp_modules.proofs.KindLemmas.{some_input}
 use Rattle.mp_text.specs.Written.{wire_name}
-use Rattle.mp_text.specs.RoundTrips.{module_edits, input_by_name, output_by_name}
+use Rattle.mp_text.specs.RoundTrips.{module_by_name, module_edits, input_by_name, output_by_name}
 use Rattle.mp_text.proofs.SlotLemmas.{All-flat_map, All-from_flat_map, list_all_from, Unnamed, named_nowhere, front_unnamed}
 use Rattle.mp_text.proofs.StageLemmas.{none_failing, and_both, is_done, Reaches, Reaches-none, Reaches-one, Steps, stage}
 use Rattle.mp_text.proofs.OutputLemmas.{output_named, is_output, added, DrivesNone, AddsNone, undriven_by_name, drives_none, is_nothing_driven, driven_all, driven_distinct, counted_all}
@@ -152,7 +152,7 @@ module _ (n c : Circuit) (has : HasWires n c) (r : ModuleRecord) (is : IsModule 
       (All-from_get_or (λ o. output_by_name c (output_of c (output_by_name n o)) ≡ output_by_name n o) r.outputs (record { wire = None; delay = 1 })
       (λ p within. output_again (output_in r.outputs p).delay p (output_in r.outputs p).wire refl))
 
-  pub added_again : added c (new_module c r.name r.kind r.params input_names output_names) ≡ added n r
+  pub added_again : added c (new_module c (module_by_name n r)) ≡ added n r
   added_again = rw (inputs_again, outputs_again) refl
 
 module _ (n : Circuit) (circuit : IsCircuit n) (named : HasNames n) where
@@ -235,7 +235,7 @@ module _ (n : Circuit) (circuit : IsCircuit n) (named : HasNames n) where
         All-weaker (λ slot. All (AddsNone r.name) (module_edits c slot)) (Unnamed module_name r.name) slot_adds modules (All-from_flat_map (AddsNone r.name) (module_edits c) modules now)
 
     abbrev new : ModuleRecord
-    new = new_module c r.name r.kind r.params (map (input_by_name n) r.inputs) (map (output_by_name n) r.outputs)
+    new = new_module c (module_by_name n r)
 
     module_done : after_single c (added n r) ≡ Ok (moduled (modules ++ Some new ∷ []))
     unfolding refusal edited
@@ -253,7 +253,7 @@ module _ (n : Circuit) (circuit : IsCircuit n) (named : HasNames n) where
         let within : length front < max_modules = omega (arith, ap length split, length-append front (Some r ∷ back), circuit.modules_few) in
         let room = lt-ltb (length modules) max_modules (omega (arith, few)) in
         is_done c (added n r)
-        (none_failing (module_checks c r.name r.kind r.params inputs outputs)
+        (none_failing (module_checks c (module_by_name n r))
         (named.modules (length front) r at, (free, (counts, (found, (wide, (params_ranged n c has r is, (delays_low n c has r is, (free_outputs, (room, tt))))))))))
 
     same_more : flat_map (module_edits (moduled [])) (modules ++ Some new ∷ []) ≡ flat_map (module_edits n) (front ++ Some r ∷ [])

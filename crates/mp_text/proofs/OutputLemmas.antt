@@ -18,7 +18,7 @@ use Rattle.mp_netlist.proofs.TableLemmas.{slot_within}
 use Rattle.mp_netlist.proofs.DriverLemmas.{driven_by}
 use Rattle.mp_netlist.proofs.PortLemmas.{no_name}
 use Rattle.mp_text.specs.Written.{name_in, wire_name}
-use Rattle.mp_text.specs.RoundTrips.{input_by_name, output_by_name, module_edits}
+use Rattle.mp_text.specs.RoundTrips.{output_by_name, module_by_name, module_edits}
 use Rattle.mp_text.proofs.SlotLemmas.{All-flat_map, All-from_flat_map, list_all_from, unequal_name}
 use Rattle.mp_text.proofs.StageLemmas.{and_both}
 
@@ -49,16 +49,16 @@ is_output n outputs p q is = by (output_in outputs p).wire refl (sym (output_nam
 
 -- the edit that adds a module by name
 abbrev pub added : Circuit → ModuleRecord → SingleEdit
-added n r = AddModule r.name r.kind r.params (map (input_by_name n) r.inputs) (map (output_by_name n) r.outputs)
+added n r = AddModule (module_by_name n r)
 
 -- the edit adds no output of this name
 abbrev pub DrivesNone : List ℕ → SingleEdit → Type 0
-DrivesNone q (AddModule name kind params inputs outputs) = (p : ℕ) → (get_or outputs p no_name).wire ≡ Some q → ⊥
+DrivesNone q (AddModule new) = (p : ℕ) → (get_or new.outputs p no_name).wire ≡ Some q → ⊥
 DrivesNone q _ = Unit {0}
 
 -- the edit adds no module of this name
 abbrev pub AddsNone : List ℕ → SingleEdit → Type 0
-AddsNone q (AddModule name kind params inputs outputs) = bytes_eq q name ≡ false
+AddsNone q (AddModule new) = bytes_eq q new.name ≡ false
 AddsNone q _ = Unit {0}
 
 -- no port drives a wire whose name no output has

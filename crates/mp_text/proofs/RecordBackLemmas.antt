@@ -17,7 +17,7 @@ use Rattle.mp_netlist.specs.Circuit.{Circuit, IsCircuit, wire_at, bundle_at, Has
 use Rattle.mp_words.specs.WordLists.{change_word}
 use Rattle.mp_words.specs.WaveLines.{pair_text}
 use Rattle.mp_text.specs.Written.{wire_line, stimulus_line, bundle_line, stimulus_words, name_in, wire_name}
-use Rattle.mp_text.specs.RoundTrips.{wire_edits, stimulus_edits, set_edits, bundle_edits}
+use Rattle.mp_text.specs.RoundTrips.{wire_edits, stimulus_edits, set_edits, bundle_by_name, bundle_edits}
 use Rattle.mp_words.proofs.PlainLemmas.{IsPlain, IsPlain-append, IsPlain-decimal, IsPlain-name, both}
 use Rattle.mp_words.proofs.ReadBackLemmas.{change_back}
 use Rattle.mp_text.proofs.StatementBackLemmas.{wire_stated, stimulus_stated, bundle_stated}
@@ -75,8 +75,7 @@ module _ (n : Circuit) (circuit : IsCircuit n) (named : HasNames n) where
       (All-cons IsPlain (wire_name n r.payload) (decimal r.setup ∷ []) payload (All-cons IsPlain (decimal r.setup) [] (IsPlain-decimal r.setup setup) (All-nil IsPlain))))) in
       let first : IsPlain (codes "bundle") = record { some = omega arith; plain = refl } in
       record {
-        each = leads_line (codes "bundle") words (AddBundle r.name (wire_name n r.request) (wire_name n r.acknowledge) (wire_name n r.payload) r.setup) first plain
-            (bundle_stated r.name (wire_name n r.request) (wire_name n r.acknowledge) (wire_name n r.payload) r.setup setup);
+        each = leads_line (codes "bundle") words (AddBundle (bundle_by_name n r)) first plain (bundle_stated (bundle_by_name n r) setup);
       }
 
   pub bundle_slots : All (SlotLeads (bundle_line n) (bundle_edits n)) n.bundles

@@ -11,6 +11,8 @@ use Rattle.mp_modules.specs.Kinds.{word_of}
 use Rattle.mp_modules.proofs.WordLemmas.{by_word}
 use Rattle.mp_records.specs.declared.port_names.InputName.{InputName}
 use Rattle.mp_records.specs.declared.port_names.OutputName.{OutputName}
+use Rattle.mp_records.specs.declared.new_module.NewModule.{NewModule}
+use Rattle.mp_records.specs.declared.new_bundle.NewBundle.{NewBundle}
 use Rattle.mp_records.specs.declared.single_edit.SingleEdit.TheVariants.{AddWire, AddModule, AddBundle, SetStimulus}
 use Rattle.mp_records.specs.Names.{is_name, is_name_byte, begins_with_letter}
 use Rattle.mp_words.specs.WordLists.{number_word, change_word, input_word, output_word}
@@ -38,10 +40,10 @@ wire_stated name width level narrow low =
     let l = number_back level low in
     rw (w, l) refl
 
-pub bundle_stated : (name request acknowledge payload : List ℕ) (setup : ℕ) → setup < 2 ^ 64
-    → statement_of (codes "bundle" ∷ name ∷ request ∷ acknowledge ∷ payload ∷ decimal setup ∷ []) ≡ Change (Ok (AddBundle name request acknowledge payload setup))
+pub bundle_stated : (new : NewBundle) → new.setup < 2 ^ 64
+    → statement_of (codes "bundle" ∷ new.name ∷ new.request ∷ new.acknowledge ∷ new.payload ∷ decimal new.setup ∷ []) ≡ Change (Ok (AddBundle new))
 unfolding statement_of stated_edit bundle_edit
-bundle_stated name request acknowledge payload setup low = let s = number_back setup low in rw s refl
+bundle_stated new low = let s = number_back new.setup low in rw s refl
 
 pub stimulus_stated : (name : List ℕ) (changes : List (ℕ × ℕ)) → All (λ change. change_word (pair_text change) ≡ Ok change) changes
     → statement_of (codes "stim" ∷ name ∷ map pair_text changes) ≡ Change (Ok (SetStimulus name changes))
@@ -84,10 +86,13 @@ module _ {I O : Type 0} (name : List ℕ) (kind : Kind) (params : List ℕ) (inp
     (input : I → List ℕ) (hear : I → InputName) (output : O → List ℕ) (see : O → OutputName)
     (low : All (λ p. p < 2 ^ 64) params) (unmarked : All (λ i. is_mark 62 (input i) ≡ false) inputs) (heard : All (λ i. input_word (input i) ≡ Ok (hear i)) inputs) (reads : All (λ o. output_word (output o) ≡ Ok (see o)) outputs)
     (some_inputs : 0 < length inputs) (some_outputs : 0 < length outputs) where
+  abbrev new : NewModule
+  new = record { name = name; kind = kind; params = params; inputs = map hear inputs; outputs = map see outputs }
+
   abbrev back : List (List ℕ)
   back = map input inputs ++ (codes ">" ∷ map output outputs)
 
-  pub module_stated : statement_of (codes "module" ∷ name ∷ word_of kind ∷ (map decimal params ++ (codes ":" ∷ back))) ≡ Change (Ok (AddModule name kind params (map hear inputs) (map see outputs)))
+  pub module_stated : statement_of (codes "module" ∷ name ∷ word_of kind ∷ (map decimal params ++ (codes ":" ∷ back))) ≡ Change (Ok (AddModule new))
   unfolding statement_of stated_edit module_edit parts_edit
   module_stated =
       let no_colon = All-map (λ w. is_mark 58 w ≡ false) decimal params (All-weaker (λ p. p < 2 ^ 64) (λ p. is_mark 58 (decimal p) ≡ false) number_no_colon params low) in

@@ -8,6 +8,8 @@ use Rattle.mp_records.specs.declared.ports.Input.{Input}
 use Rattle.mp_records.specs.declared.ports.Output.{Output}
 use Rattle.mp_records.specs.declared.port_names.InputName.{InputName}
 use Rattle.mp_records.specs.declared.port_names.OutputName.{OutputName}
+use Rattle.mp_records.specs.declared.new_module.NewModule.{NewModule}
+use Rattle.mp_records.specs.declared.new_bundle.NewBundle.{NewBundle}
 use Rattle.mp_records.specs.declared.single_edit.SingleEdit.{SingleEdit}
 use Rattle.mp_records.specs.declared.single_edit.SingleEdit.TheVariants.{AddWire, AddModule, AddBundle, SetStimulus}
 use Rattle.mp_netlist.specs.Circuit.{Circuit, IsCircuit}
@@ -28,9 +30,14 @@ input_by_name n input = record { wire = wire_name n input.wire; delay = input.de
 abbrev pub output_by_name : Circuit → Output → OutputName
 output_by_name n output = record { wire = option_map (wire_name n) output.wire; delay = output.delay }
 
+-- a module with its wires' names
+abbrev pub module_by_name : Circuit → ModuleRecord → NewModule
+module_by_name n r =
+    record { name = r.name; kind = r.kind; params = r.params; inputs = map (input_by_name n) r.inputs; outputs = map (output_by_name n) r.outputs }
+
 abbrev pub module_edits : Circuit → Option ModuleRecord → List SingleEdit
 module_edits n None = []
-module_edits n (Some r) = AddModule r.name r.kind r.params (map (input_by_name n) r.inputs) (map (output_by_name n) r.outputs) ∷ []
+module_edits n (Some r) = AddModule (module_by_name n r) ∷ []
 
 abbrev pub set_edits : List ℕ → Option (List (ℕ × ℕ)) → List SingleEdit
 set_edits name None = []
@@ -41,9 +48,20 @@ abbrev pub stimulus_edits : Option WireRecord → List SingleEdit
 stimulus_edits None = []
 stimulus_edits (Some r) = set_edits r.name r.stimulus
 
+-- a bundle with its wires' names
+abbrev pub bundle_by_name : Circuit → BundleRecord → NewBundle
+bundle_by_name n r =
+    record {
+      name = r.name;
+      request = wire_name n r.request;
+      acknowledge = wire_name n r.acknowledge;
+      payload = wire_name n r.payload;
+      setup = r.setup;
+    }
+
 abbrev pub bundle_edits : Circuit → Option BundleRecord → List SingleEdit
 bundle_edits n None = []
-bundle_edits n (Some r) = AddBundle r.name (wire_name n r.request) (wire_name n r.acknowledge) (wire_name n r.payload) r.setup ∷ []
+bundle_edits n (Some r) = AddBundle (bundle_by_name n r) ∷ []
 
 -- the edits that add the records of a netlist by name: wires, modules, stimuli by wire and bundles, each by number
 abbrev pub edits_by_name : Circuit → List SingleEdit

@@ -39,7 +39,7 @@ parts_edit name kind params inputs outputs =
       numbers ← each_word number_word params
       reads ← each_word input_word inputs
       drives ← each_word output_word outputs
-      Ok (AddModule name k numbers reads drives))
+      Ok (AddModule (record { name = name; kind = k; params = numbers; inputs = reads; outputs = drives })))
 
 -- a word of one byte alone
 abbrev pub is_mark : ℕ → List ℕ → Bool
@@ -64,7 +64,7 @@ stimulus_edit (wire ∷ words) = do
 unfoldable pub bundle_edit : List (List ℕ) → Result SingleEdit LineError
 bundle_edit (name ∷ request ∷ acknowledge ∷ payload ∷ setup ∷ []) = do
   s ← number_word setup
-  Ok (AddBundle name request acknowledge payload s)
+  Ok (AddBundle (record { name = name; request = request; acknowledge = acknowledge; payload = payload; setup = s }))
 bundle_edit _ = Err WordCount
 
 -- the first word of an edit that texts and scripts have

@@ -8,7 +8,9 @@ ghost use Rattle.mp_text.specs.Statements.{stated_edit, wire_edit, parts_edit, m
 
 use crate::edit_word::EditWord;
 use mp_modules::Kind;
-use mp_netlist::{Changes, InputNames, OutputNames, Params, SingleEdit};
+use mp_netlist::{
+    Boxed, Changes, InputNames, NewBundle, NewModule, OutputNames, Params, SingleEdit,
+};
 use mp_words::{LineError, changes, inputs, name_of, number_word, numbers, outputs};
 use std::alloc::Global;
 
@@ -69,14 +71,14 @@ fn bundle_edit(alloc: Global, words: &[&[u8]]) -> Result<SingleEdit, LineError>
     let [name, request, acknowledge, payload, setup] = words else {
         return Err(LineError::WordCount);
     };
-    let setup = number_word(setup)?;
-    Ok(SingleEdit::AddBundle {
+    let bundle = NewBundle {
+        setup: number_word(setup)?,
         name: name_of(alloc, name)?,
         request: name_of(alloc, request)?,
         acknowledge: name_of(alloc, acknowledge)?,
         payload: name_of(alloc, payload)?,
-        setup,
-    })
+    };
+    Ok(SingleEdit::AddBundle(Boxed::new(alloc, bundle)?))
 }
 
 /// The edit of the words behind `module`.
@@ -111,17 +113,14 @@ fn parts_edit(
     if ins.is_empty() || outs.is_empty() {
         return Err(LineError::WordCount);
     }
-    let kind = kind_word(kind)?;
-    let params = numbers(alloc, params)?;
-    let inputs = inputs(alloc, ins)?;
-    let outputs = outputs(alloc, outs)?;
-    Ok(SingleEdit::AddModule {
+    let module = NewModule {
+        kind: kind_word(kind)?,
+        params: Params::new(numbers(alloc, params)?),
+        inputs: InputNames::new(inputs(alloc, ins)?),
+        outputs: OutputNames::new(outputs(alloc, outs)?),
         name: name_of(alloc, name)?,
-        kind,
-        params: Params::new(params),
-        inputs: InputNames::new(inputs),
-        outputs: OutputNames::new(outputs),
-    })
+    };
+    Ok(SingleEdit::AddModule(Boxed::new(alloc, module)?))
 }
 
 fn kind_word(word: &[u8]) -> Result<Kind, LineError>

@@ -3,10 +3,9 @@ use crate::netlist::Netlist;
 use crate::record_changes::{
     NewDelay, NewInput, NewInputDelay, NewOutput, NewStimulus, NoStimulus,
 };
-use mp_modules::Kind;
 use mp_records::{
-    BundleRecord, Changes, Edit, EditError, InputNames, ModuleRecord, Name, OutputNames, Params,
-    SingleEdit, WireRecord,
+    BundleRecord, Changes, Edit, EditError, ModuleRecord, Name, NewBundle, NewModule, SingleEdit,
+    WireRecord,
 };
 use std::alloc::AllocError;
 
@@ -48,21 +47,9 @@ impl Netlist {
         match edit {
             SingleEdit::AddWire { name, width, level } => self.add_wire(name, *width, *level)?,
             SingleEdit::RemoveWire { wire } => self.remove_wire(wire),
-            SingleEdit::AddModule {
-                name,
-                kind,
-                params,
-                inputs,
-                outputs,
-            } => self.add_module(name, *kind, params, inputs, outputs)?,
+            SingleEdit::AddModule(new) => self.add_module(new.get())?,
             SingleEdit::RemoveModule { module } => self.remove_module(module),
-            SingleEdit::AddBundle {
-                name,
-                request,
-                acknowledge,
-                payload,
-                setup,
-            } => self.add_bundle(name, request, acknowledge, payload, *setup)?,
+            SingleEdit::AddBundle(new) => self.add_bundle(new.get())?,
             SingleEdit::RemoveBundle { bundle } => self.remove_bundle(bundle),
             SingleEdit::RewireInput { module, port, wire } => self.rewire_input(
                 module, *port, wire,
@@ -117,24 +104,17 @@ impl Netlist {
         self.wires.remove(id.0);
     }
 
-    fn add_module(
-        &mut self,
-        name: &Name,
-        kind: Kind,
-        params: &Params,
-        inputs: &InputNames,
-        outputs: &OutputNames,
-    ) -> Result<(), AllocError>
-        requires { module_refusal self.old name.now kind params.now inputs.now outputs.now ≡ None }
-        ensures ok { OnOk result (self.new ≡ with_new_module self.old (new_module self.old name.now kind params.now inputs.now outputs.now)) }
+    fn add_module(&mut self, new: &NewModule) -> Result<(), AllocError>
+        requires { module_refusal self.old new.now ≡ None }
+        ensures ok { OnOk result (self.new ≡ with_new_module self.old (new_module self.old new.now)) }
         ensures err { OnErr result (self.new ≡ self.old) }
     {
         let added = ModuleRecord {
-            name: name.clone()?,
-            kind,
-            params: params.clone()?,
-            inputs: self.inputs_of(inputs),
-            outputs: self.outputs_of(outputs),
+            name: new.name.clone()?,
+            kind: new.kind,
+            params: new.params.clone()?,
+            inputs: self.inputs_of(&new.inputs),
+            outputs: self.outputs_of(&new.outputs),
         };
         self.put_module(added)
     }
@@ -156,24 +136,17 @@ impl Netlist {
         self.modules.remove(id.0);
     }
 
-    fn add_bundle(
-        &mut self,
-        name: &Name,
-        request: &Name,
-        acknowledge: &Name,
-        payload: &Name,
-        setup: u64,
-    ) -> Result<(), AllocError>
-        requires { bundle_refusal self.old name.now request.now acknowledge.now payload.now setup ≡ None }
-        ensures ok { OnOk result (self.new ≡ with_new_bundle self.old (new_bundle self.old name.now request.now acknowledge.now payload.now setup)) }
+    fn add_bundle(&mut self, new: &NewBundle) -> Result<(), AllocError>
+        requires { bundle_refusal self.old new.now ≡ None }
+        ensures ok { OnOk result (self.new ≡ with_new_bundle self.old (new_bundle self.old new.now)) }
         ensures err { OnErr result (self.new ≡ self.old) }
     {
         let added = BundleRecord {
-            name: name.clone()?,
-            request: self.id_of(request),
-            acknowledge: self.id_of(acknowledge),
-            payload: self.id_of(payload),
-            setup: setup as u32,
+            name: new.name.clone()?,
+            request: self.id_of(&new.request),
+            acknowledge: self.id_of(&new.acknowledge),
+            payload: self.id_of(&new.payload),
+            setup: new.setup as u32,
         };
         self.put_bundle(added)
     }

@@ -13,7 +13,8 @@ use crate::netlist::{
 };
 use mp_modules::{Kind, fits_width};
 use mp_records::{
-    Batch, Changes, Edit, EditError, InputNames, Name, OutputNames, Params, SingleEdit,
+    Batch, Changes, Edit, EditError, InputNames, Name, NewBundle, NewModule, OutputNames,
+    SingleEdit,
 };
 
 impl Netlist {
@@ -40,21 +41,9 @@ impl Netlist {
         match edit {
             SingleEdit::AddWire { name, width, level } => self.check_wire(name, *width, *level),
             SingleEdit::RemoveWire { wire } => self.check_wire_removal(wire),
-            SingleEdit::AddModule {
-                name,
-                kind,
-                params,
-                inputs,
-                outputs,
-            } => self.check_module(name, *kind, params, inputs, outputs),
+            SingleEdit::AddModule(new) => self.check_module(new.get()),
             SingleEdit::RemoveModule { module } => self.check_module_removal(module),
-            SingleEdit::AddBundle {
-                name,
-                request,
-                acknowledge,
-                payload,
-                setup,
-            } => self.check_bundle(name, request, acknowledge, payload, *setup),
+            SingleEdit::AddBundle(new) => self.check_bundle(new.get()),
             SingleEdit::RemoveBundle { bundle } => self.check_bundle_removal(bundle),
             SingleEdit::RewireInput { module, port, wire } => self.check_input(module, *port, wire),
             SingleEdit::RewireOutput { module, port, wire } => self.check_output(
@@ -108,39 +97,32 @@ impl Netlist {
         Ok(())
     }
 
-    fn check_module(
-        &self,
-        name: &Name,
-        kind: Kind,
-        params: &Params,
-        inputs: &InputNames,
-        outputs: &OutputNames,
-    ) -> Result<(), EditError>
-        ensures { result_err result ≡ module_refusal self.now name.now kind params.now inputs.now outputs.now }
+    fn check_module(&self, new: &NewModule) -> Result<(), EditError>
+        ensures { result_err result ≡ module_refusal self.now new.now }
     {
-        if !name.is_valid() {
+        if !new.name.is_valid() {
             return Err(EditError::BadName);
         }
-        if self.module_named(name.as_str()).is_some() {
+        if self.module_named(new.name.as_str()).is_some() {
             return Err(EditError::NameTaken);
         }
-        if !has_ports(kind, inputs, outputs) {
+        if !has_ports(new.kind, &new.inputs, &new.outputs) {
             return Err(EditError::WrongPorts);
         }
-        if !self.ports_stand(inputs, outputs) {
+        if !self.ports_stand(&new.inputs, &new.outputs) {
             return Err(EditError::NoSuchWire);
         }
-        let width = self.new_width(kind, inputs);
-        if !self.ports_fit(kind, width, inputs, outputs) {
+        let width = self.new_width(new.kind, &new.inputs);
+        if !self.ports_fit(new.kind, width, &new.inputs, &new.outputs) {
             return Err(EditError::WidthMismatch);
         }
-        if !kind.accepts(width, params.as_slice()) {
+        if !new.kind.accepts(width, new.params.as_slice()) {
             return Err(EditError::BadParam);
         }
-        if !delays_fit(inputs, outputs) {
+        if !delays_fit(&new.inputs, &new.outputs) {
             return Err(EditError::BadDelay);
         }
-        if !self.outputs_are_free(outputs) {
+        if !self.outputs_are_free(&new.outputs) {
             return Err(EditError::AlreadyDriven);
         }
         if self.modules.len() >= MAX_MODULES {
@@ -158,29 +140,25 @@ impl Netlist {
         Ok(())
     }
 
-    fn check_bundle(
-        &self,
-        name: &Name,
-        request: &Name,
-        acknowledge: &Name,
-        payload: &Name,
-        setup: u64,
-    ) -> Result<(), EditError>
-        ensures { result_err result ≡ bundle_refusal self.now name.now request.now acknowledge.now payload.now setup }
+    fn check_bundle(&self, new: &NewBundle) -> Result<(), EditError>
+        ensures { result_err result ≡ bundle_refusal self.now new.now }
     {
-        if !name.is_valid() {
+        if !new.name.is_valid() {
             return Err(EditError::BadName);
         }
-        if self.bundle_stands(name) {
+        if self.bundle_stands(&new.name) {
             return Err(EditError::NameTaken);
         }
-        if !(self.stands(request) && self.stands(acknowledge) && self.stands(payload)) {
+        let wires_stand = self.stands(&new.request)
+            && self.stands(&new.acknowledge)
+            && self.stands(&new.payload);
+        if !wires_stand {
             return Err(EditError::NoSuchWire);
         }
-        if self.width_of(request) != 1 || self.width_of(acknowledge) != 1 {
+        if self.width_of(&new.request) != 1 || self.width_of(&new.acknowledge) != 1 {
             return Err(EditError::WidthMismatch);
         }
-        if setup > MAX_SETUP {
+        if new.setup > MAX_SETUP {
             return Err(EditError::BadParam);
         }
         if self.bundles.len() >= MAX_BUNDLES {

@@ -5,4 +5,4 @@ pub put_module-requires-clause-fits : goal.put_module-requires-clause-fits
 put_module-requires-clause-fits c =
     λ ok.
     rw (c.in_ok-clone.ensures.cases, c.in_ok-clone-2.ensures.cases, c.inputs_of.ensures, c.outputs_of.ensures)
-    (IsCircuit-with_new_module c.args.self.now ok c.args.name.now c.args.kind c.args.params.now c.args.inputs.now c.args.outputs.now c.requires)
+    (IsCircuit-with_new_module c.args.self.now ok c.args.new.now c.requires)

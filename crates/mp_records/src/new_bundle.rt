@@ -1,0 +1,12 @@
+//! A bundle that is to be added.
+use crate::name::Name;
+
+/// A bundle that is to be: its name, its wires by name, and its setup in units.
+#[derive(Clone, Drop)]
+pub struct NewBundle {
+    pub name: Name,
+    pub request: Name,
+    pub acknowledge: Name,
+    pub payload: Name,
+    pub setup: u64,
+}

@@ -1,0 +1,15 @@
+//! A module that is to be added.
+use crate::name::Name;
+use crate::params::Params;
+use crate::port_names::{InputNames, OutputNames};
+use mp_modules::Kind;
+
+/// A module that is to be: its name, its kind with the parameters, and its ports at wires by name.
+#[derive(Clone, Drop)]
+pub struct NewModule {
+    pub name: Name,
+    pub kind: Kind,
+    pub params: Params,
+    pub inputs: InputNames,
+    pub outputs: OutputNames,
+}
