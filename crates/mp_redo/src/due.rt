@@ -44,9 +44,9 @@ pub(crate) fn has_mark(marks: &[bool], id: ModuleId) -> bool
 }
 
 /// Takes a module's mark away.
-pub(crate) fn clear_mark(marks: &mut Vec<bool>, id: ModuleId)
-    requires { id.0 < length marks.old.items }
-    ensures { marks.new.items ≡ slice_set marks.old.items id.0 false }
+fn clear_mark(marks: &mut [bool], id: ModuleId)
+    requires { id.0 < length marks.old }
+    ensures { marks.new ≡ slice_set marks.old id.0 false }
 {
     marks[id.0 as usize] = false;
 }
@@ -59,32 +59,32 @@ fn answer_as_live(
     due: &[ModuleId],
     id: ModuleId,
     found: &ModuleRecord,
-    marks: &mut Vec<bool>,
-    cells: &mut Vec<Cell>,
-    lines: &mut Vec<Line>,
+    marks: &mut [bool],
+    cells: &mut [Cell],
+    lines: &mut [Line],
     looks: &mut Ring,
     looking: &mut Vec<ModuleId>,
 ) -> Result<(), AllocError>
     requires change { IsChange change.now }
     requires unit { IsShort change.now.new.now block time (time + 1) }
     requires some { 0 < length looks.old.items }
-    requires during { IsDuring change.now.old.now change.now.new.now change.now.run.now block time (time + 1) due.now marks.old.items cells.old.items lines.old.items looks.old.items }
-    requires marked { is_marked marks.old.items id.0 ≡ true }
+    requires during { IsDuring change.now.old.now change.now.new.now change.now.run.now block time (time + 1) due.now marks.old cells.old lines.old looks.old.items }
+    requires marked { is_marked marks.old id.0 ≡ true }
     requires stands { module_at change.now.new.now id.0 ≡ Some found.now }
-    requires live { (cell_at cells.old.items id.0).live ≡ true }
+    requires live { (cell_at cells.old id.0).live ≡ true }
     ensures places { OnOk result (length looks.new.items ≡ length looks.old.items) }
-    ensures marks { OnOk result (marks.new.items ≡ slice_set marks.old.items id.0 false) }
-    ensures cells { OnOk result (HaveAnswered [] cells.old.items cells.new.items) }
-    ensures hears { OnOk result (WillHear change.now.new.now change.now.run.now (time + 1) looking.new.items cells.new.items lines.new.items looks.new.items id.0) }
-    ensures still { OnOk result (StillHear change.now.new.now change.now.run.now (time + 1) looking.old.items cells.old.items lines.old.items looks.old.items looking.new.items cells.new.items lines.new.items looks.new.items) }
-    ensures during { OnOk result (IsDuring change.now.old.now change.now.new.now change.now.run.now block time (time + 1) due.now marks.new.items cells.new.items lines.new.items looks.new.items) }
+    ensures marks { OnOk result (marks.new ≡ slice_set marks.old id.0 false) }
+    ensures cells { OnOk result (HaveAnswered [] cells.old cells.new) }
+    ensures hears { OnOk result (WillHear change.now.new.now change.now.run.now (time + 1) looking.new.items cells.new lines.new looks.new.items id.0) }
+    ensures still { OnOk result (StillHear change.now.new.now change.now.run.now (time + 1) looking.old.items cells.old lines.old looks.old.items looking.new.items cells.new lines.new looks.new.items) }
+    ensures during { OnOk result (IsDuring change.now.old.now change.now.new.now change.now.run.now block time (time + 1) due.now marks.new cells.new lines.new looks.new.items) }
 {
     let Some(part) = part_at(change.parts, id) else {
         unreachable!();
     };
-    let before = *state_of(cells.as_slice(), id);
-    let told = go_on(change, lines.as_slice(), cells, id, found, part, time);
-    let after = state_of(cells.as_slice(), id);
+    let before = *state_of(cells, id);
+    let told = go_on(change, lines, cells, id, found, part, time);
+    let after = state_of(cells, id);
     give_outputs(change, lines, looks, found, &before, after, time)?;
     clear_mark(marks, id);
     list_untold(looking, id, told)?;
@@ -111,22 +111,22 @@ fn find_quiet(
     id: ModuleId,
     found: &ModuleRecord,
     joining: &mut Vec<ModuleId>,
-    marks: &mut Vec<bool>,
+    marks: &mut [bool],
     cells: &[Cell],
     lines: &[Line],
     looks: &Ring,
 ) -> Result<(), AllocError>
     requires change { IsChange change.now }
     requires unit { IsShort change.now.new.now block time (time + 1) }
-    requires during { IsDuring change.now.old.now change.now.new.now change.now.run.now block time (time + 1) due.now marks.old.items cells.now lines.now looks.now.items }
-    requires marked { is_marked marks.old.items id.0 ≡ true }
+    requires during { IsDuring change.now.old.now change.now.new.now change.now.run.now block time (time + 1) due.now marks.old cells.now lines.now looks.now.items }
+    requires marked { is_marked marks.old id.0 ≡ true }
     requires stands { module_at change.now.new.now id.0 ≡ Some found.now }
     requires quiet { (cell_at cells.now id.0).live ≡ false }
-    ensures marks { OnOk result (length marks.new.items ≡ length marks.old.items) }
+    ensures marks { OnOk result (length marks.new ≡ length marks.old) }
     ensures joins { OnOk result ((m : ℕ) → Contains joining.new.items (record { 0 = m }) → Contains joining.old.items (record { 0 = m }) ⊎ IsToJoin change.now.old.now change.now.new.now time cells.now m) }
-    ensures settled { OnOk result (IsSettled joining.new.items marks.new.items id.0) }
-    ensures others { OnOk result ((m : ℕ) → IsSettled joining.old.items marks.old.items m → IsSettled joining.new.items marks.new.items m) }
-    ensures during { OnOk result (IsDuring change.now.old.now change.now.new.now change.now.run.now block time (time + 1) due.now marks.new.items cells.now lines.now looks.now.items) }
+    ensures settled { OnOk result (IsSettled joining.new.items marks.new id.0) }
+    ensures others { OnOk result ((m : ℕ) → IsSettled joining.old.items marks.old m → IsSettled joining.new.items marks.new m) }
+    ensures during { OnOk result (IsDuring change.now.old.now change.now.new.now change.now.run.now block time (time + 1) due.now marks.new cells.now lines.now looks.now.items) }
 {
     if hear_other(change.run, lines, found.inputs.as_slice(), time) {
         joining.push(id)?;
@@ -145,27 +145,27 @@ fn answer_one(
     due: &[ModuleId],
     id: ModuleId,
     joining: &mut Vec<ModuleId>,
-    marks: &mut Vec<bool>,
-    cells: &mut Vec<Cell>,
-    lines: &mut Vec<Line>,
+    marks: &mut [bool],
+    cells: &mut [Cell],
+    lines: &mut [Line],
     looks: &mut Ring,
     looking: &mut Vec<ModuleId>,
 ) -> Result<(), AllocError>
     requires change { IsChange change.now }
     requires unit { IsShort change.now.new.now block time (time + 1) }
     requires some { 0 < length looks.old.items }
-    requires during { IsDuring change.now.old.now change.now.new.now change.now.run.now block time (time + 1) due.now marks.old.items cells.old.items lines.old.items looks.old.items }
+    requires during { IsDuring change.now.old.now change.now.new.now change.now.run.now block time (time + 1) due.now marks.old cells.old lines.old looks.old.items }
     ensures places { OnOk result (length looks.new.items ≡ length looks.old.items) }
-    ensures marks { OnOk result (length marks.new.items ≡ length marks.old.items) }
-    ensures joins { OnOk result ((m : ℕ) → Contains joining.new.items (record { 0 = m }) → Contains joining.old.items (record { 0 = m }) ⊎ IsToJoin change.now.old.now change.now.new.now time cells.old.items m) }
-    ensures settled { OnOk result (IsSettled joining.new.items marks.new.items id.0) }
-    ensures others { OnOk result ((m : ℕ) → IsSettled joining.old.items marks.old.items m → IsSettled joining.new.items marks.new.items m) }
-    ensures cells { OnOk result (HaveAnswered [] cells.old.items cells.new.items) }
-    ensures hears { OnOk result (WillHear change.now.new.now change.now.run.now (time + 1) looking.new.items cells.new.items lines.new.items looks.new.items id.0) }
-    ensures still { OnOk result (StillHear change.now.new.now change.now.run.now (time + 1) looking.old.items cells.old.items lines.old.items looks.old.items looking.new.items cells.new.items lines.new.items looks.new.items) }
-    ensures during { OnOk result (IsDuring change.now.old.now change.now.new.now change.now.run.now block time (time + 1) due.now marks.new.items cells.new.items lines.new.items looks.new.items) }
+    ensures marks { OnOk result (length marks.new ≡ length marks.old) }
+    ensures joins { OnOk result ((m : ℕ) → Contains joining.new.items (record { 0 = m }) → Contains joining.old.items (record { 0 = m }) ⊎ IsToJoin change.now.old.now change.now.new.now time cells.old m) }
+    ensures settled { OnOk result (IsSettled joining.new.items marks.new id.0) }
+    ensures others { OnOk result ((m : ℕ) → IsSettled joining.old.items marks.old m → IsSettled joining.new.items marks.new m) }
+    ensures cells { OnOk result (HaveAnswered [] cells.old cells.new) }
+    ensures hears { OnOk result (WillHear change.now.new.now change.now.run.now (time + 1) looking.new.items cells.new lines.new looks.new.items id.0) }
+    ensures still { OnOk result (StillHear change.now.new.now change.now.run.now (time + 1) looking.old.items cells.old lines.old looks.old.items looking.new.items cells.new lines.new looks.new.items) }
+    ensures during { OnOk result (IsDuring change.now.old.now change.now.new.now change.now.run.now block time (time + 1) due.now marks.new cells.new lines.new looks.new.items) }
 {
-    if !has_mark(marks.as_slice(), id) {
+    if !has_mark(marks, id) {
         list_untold(looking, id, false)?;
         return Ok(());
     }
@@ -174,24 +174,14 @@ fn answer_one(
         list_untold(looking, id, false)?;
         return Ok(());
     };
-    if is_live(cells.as_slice(), id) {
+    if is_live(cells, id) {
         return answer_as_live(
             change, block, time, due, id, found, marks, cells, lines, looks, looking,
         );
     }
     list_untold(looking, id, false)?;
     find_quiet(
-        change,
-        block,
-        time,
-        due,
-        id,
-        found,
-        joining,
-        marks,
-        cells.as_slice(),
-        lines.as_slice(),
-        looks,
+        change, block, time, due, id, found, joining, marks, cells, lines, looks,
     )?;
     Ok(())
 }
@@ -222,6 +212,47 @@ pub(crate) fn answer_or_list(
     ensures cells { OnOk result (HaveAnswered [] cells.old.items cells.new.items) }
     ensures hear { OnOk result ((m : ℕ) → Contains due.now (record { 0 = m }) → WillHear change.now.new.now change.now.run.now (time + 1) looking.new.items cells.new.items lines.new.items looks.new.items m) }
     ensures during { OnOk result (IsDuring change.now.old.now change.now.new.now change.now.run.now block time (time + 1) due.now marks.new.items cells.new.items lines.new.items looks.new.items) }
+{
+    answer_each(
+        change,
+        block,
+        time,
+        due,
+        joining,
+        marks.as_mut_slice(),
+        cells.as_mut_slice(),
+        lines.as_mut_slice(),
+        looks,
+        looking,
+    )?;
+    Ok(())
+}
+
+/// The same, where the marks, cells and lines are given as slices: where they stand need not be read anew for each module then.
+fn answer_each(
+    change: &Change<'_>,
+    block: u32,
+    time: u32,
+    due: &[ModuleId],
+    joining: &mut Vec<ModuleId>,
+    marks: &mut [bool],
+    cells: &mut [Cell],
+    lines: &mut [Line],
+    looks: &mut Ring,
+    looking: &mut Vec<ModuleId>,
+) -> Result<(), AllocError>
+    requires change { IsChange change.now }
+    requires unit { IsShort change.now.new.now block time (time + 1) }
+    requires some { 0 < length looks.old.items }
+    requires none { joining.old.items ≡ [] }
+    requires during { IsDuring change.now.old.now change.now.new.now change.now.run.now block time (time + 1) due.now marks.old cells.old lines.old looks.old.items }
+    ensures places { OnOk result (length looks.new.items ≡ length looks.old.items) }
+    ensures marks { OnOk result (length marks.new ≡ length marks.old) }
+    ensures joins { OnOk result ((m : ℕ) → Contains joining.new.items (record { 0 = m }) → IsToJoin change.now.old.now change.now.new.now time cells.new m) }
+    ensures left { OnOk result ((m : ℕ) → is_marked marks.new m ≡ true → Contains joining.new.items (record { 0 = m })) }
+    ensures cells { OnOk result (HaveAnswered [] cells.old cells.new) }
+    ensures hear { OnOk result ((m : ℕ) → Contains due.now (record { 0 = m }) → WillHear change.now.new.now change.now.run.now (time + 1) looking.new.items cells.new lines.new looks.new.items m) }
+    ensures during { OnOk result (IsDuring change.now.old.now change.now.new.now change.now.run.now block time (time + 1) due.now marks.new cells.new lines.new looks.new.items) }
 {
     for id in due {
         answer_one(

@@ -30,7 +30,30 @@ pub(crate) fn give(
     Ok(())
 }
 
-ghost use Rattle.std.specs.Prelude.{◌<◌, ◌≤◌, [], Some, length, slice_index_or};
+ghost use Rattle.std.specs.Prelude.{[], ◌∷◌};
+
+/// From a delay after a time on the line has a level, where that is before an end.
+#[inline(always)]
+pub(crate) fn give_change(
+    line: &mut Line,
+    time: u32,
+    level: u64,
+    delay: u32,
+    end: u32,
+) -> Result<(), AllocError>
+    requires { CanTakeSome line.old ((time, level) ∷ []) delay end }
+    ensures taken { OnOk result ((a b : ℕ) → CanTake line.old ((time, level) ∷ []) delay end a b → HasTaken line.old line.new ((time, level) ∷ []) delay end a b) }
+    ensures told { OnOk result (is_told line.new ≡ is_told line.old) }
+{
+    let from = time + delay;
+    if from >= end {
+        return Ok(());
+    }
+    line.push_level(from, level)?;
+    Ok(())
+}
+
+ghost use Rattle.std.specs.Prelude.{◌<◌, ◌≤◌, Some, length, slice_index_or};
 ghost use Rattle.mp_records.specs.Outputs.{output_in};
 ghost use Rattle.mp_redo.specs.Redoing.{line_at};
 ghost use Rattle.mp_redo.specs.Answers.{CanGive, CanGiveSome, HasGiven, AreApart};

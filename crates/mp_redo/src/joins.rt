@@ -14,7 +14,7 @@ ghost use Rattle.mp_redo.specs.Windows.{IsShort};
 use crate::answering::join_lines;
 use crate::cell::{Cell, set_live};
 use crate::change::Change;
-use crate::due::{clear_mark, has_mark, old_state};
+use crate::due::{has_mark, old_state};
 use crate::line::Line;
 use crate::ring::Ring;
 use crate::tasks::{pieces_by, tasks_of};
@@ -69,7 +69,7 @@ fn join_marked(
         time + 1,
     )?;
     set_live(cells, id, after);
-    clear_mark(marks, id);
+    marks[id.0 as usize] = false;
     Ok(())
 }
 

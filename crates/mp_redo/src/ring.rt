@@ -67,6 +67,7 @@ impl Ring {
     }
 
     /// Adds the modules of these readers, each a module and a port, to the list at a place.
+    #[inline(always)]
     pub(crate) fn put_readers(
         &mut self,
         place: usize,

@@ -8,7 +8,7 @@ ghost use Rattle.mp_redo.specs.Steps.{AreReady, GoesOn, GoesOnListening, GoesOnT
 
 use crate::cell::Cell;
 use crate::change::Change;
-use crate::giving::give;
+use crate::giving::give_change;
 use crate::line::{Line, run_level};
 use crate::listing::tell;
 use crate::ring::Ring;
@@ -23,7 +23,7 @@ use std::alloc::AllocError;
 /// them.
 pub(crate) fn give_outputs(
     change: &Change<'_>,
-    lines: &mut Vec<Line>,
+    lines: &mut [Line],
     looks: &mut Ring,
     found: &ModuleRecord,
     before: &Memory,
@@ -33,17 +33,17 @@ pub(crate) fn give_outputs(
     requires change { IsChange change.now }
     requires part { IsModule change.now.new.now found.now }
     requires stands { StandsSomewhere change.now.new.now found.now time before.now }
-    requires state { after.now ≡ stepped change.now.new.now change.now.run.now lines.old.items found.now before.now time }
+    requires state { after.now ≡ stepped change.now.new.now change.now.run.now lines.old found.now before.now time }
     requires within { time < change.now.new.now.horizon }
-    requires places { length lines.old.items ≡ length change.now.new.now.wires }
-    requires heard { IsHeardBy change.now.new.now change.now.run.now lines.old.items found.now (time + 1) }
-    requires ready { AreReady lines.old.items found.now.outputs time change.now.new.now.horizon }
+    requires places { length lines.old ≡ length change.now.new.now.wires }
+    requires heard { IsHeardBy change.now.new.now change.now.run.now lines.old found.now (time + 1) }
+    requires ready { AreReady lines.old found.now.outputs time change.now.new.now.horizon }
     requires some { 0 < length looks.old.items }
     ensures places { OnOk result (length looks.new.items ≡ length looks.old.items) }
     ensures kept { OnOk result (AreKept looks.old.items looks.new.items) }
-    ensures wires { OnOk result (GoesOn change.now.new.now change.now.run.now lines.old.items lines.new.items found.now before.now time (time + 1)) }
-    ensures listening { OnOk result (GoesOnListening change.now.new.now change.now.run.now (time + 1) lines.old.items lines.new.items looks.old.items looks.new.items) }
-    ensures telling { OnOk result (GoesOnTelling change.now.new.now change.now.run.now (time + 1) lines.old.items lines.new.items looks.old.items looks.new.items) }
+    ensures wires { OnOk result (GoesOn change.now.new.now change.now.run.now lines.old lines.new found.now before.now time (time + 1)) }
+    ensures listening { OnOk result (GoesOnListening change.now.new.now change.now.run.now (time + 1) lines.old lines.new looks.old.items looks.new.items) }
+    ensures telling { OnOk result (GoesOnTelling change.now.new.now change.now.run.now (time + 1) lines.old lines.new looks.old.items looks.new.items) }
 {
     let outputs = found.outputs.as_slice();
     let end = change.new.horizon();
@@ -77,7 +77,7 @@ ghost use Rattle.mp_redo.specs.Telling.{IsToldTo};
 pub(crate) fn go_on(
     change: &Change<'_>,
     lines: &[Line],
-    cells: &mut Vec<Cell>,
+    cells: &mut [Cell],
     id: ModuleId,
     found: &ModuleRecord,
     part: &AnyModule,
@@ -85,9 +85,9 @@ pub(crate) fn go_on(
 ) -> bool
     requires form { IsModule change.now.new.now found.now }
     requires part { part.now ≡ built change.now.new.now found.now }
-    requires place { id.0 < length cells.old.items }
-    ensures cells { cells.new.items ≡ slice_set cells.old.items id.0 (live_cell (cell_at cells.old.items id.0)
-        (stepped change.now.new.now change.now.run.now lines.now found.now (cell_at cells.old.items id.0).memory time)) }
+    requires place { id.0 < length cells.old }
+    ensures cells { cells.new ≡ slice_set cells.old id.0 (live_cell (cell_at cells.old id.0)
+        (stepped change.now.new.now change.now.run.now lines.now found.now (cell_at cells.old id.0).memory time)) }
     ensures told { result ≡ true → (input : Port) → Contains found.now.inputs input → IsToldTo true lines.now input }
 {
     let inputs = found.inputs.as_slice();
@@ -139,13 +139,21 @@ fn hear(run: &Run, lines: &[Line], time: u32, input: Input) -> (u64, bool)
     ensures level { result.0 ≡ level_at run.now lines.now input.wire.0 (time - input.delay) }
     ensures told { result.1 ≡ true → IsToldTo true lines.now input }
 {
+    match lines.get(input.wire.0 as usize) {
+        Some(line) if input.delay == 0 => (line.level_at(run, input.wire, time), line.is_told()),
+        _ => (late_level(run, lines, time, input), false),
+    }
+}
+
+/// The level that is heard at an input.
+#[inline(never)]
+fn late_level(run: &Run, lines: &[Line], time: u32, input: Input) -> u64
+    ensures { result ≡ level_at run.now lines.now input.wire.0 (time - input.delay) }
+{
     let before = time.saturating_sub(input.delay);
     match lines.get(input.wire.0 as usize) {
-        Some(line) => (
-            line.level_at(run, input.wire, before),
-            line.is_told() && input.delay == 0,
-        ),
-        None => (run_level(run, input.wire, before), false),
+        Some(line) => line.level_at(run, input.wire, before),
+        None => run_level(run, input.wire, before),
     }
 }
 
@@ -159,7 +167,7 @@ ghost use Rattle.mp_redo.specs.Telling.{IsTold, AreTold, KeepsTelling};
 
 /// All outputs give the levels that change in a unit to the lines of their wires, and tell who reads them.
 fn step_outputs(
-    lines: &mut Vec<Line>,
+    lines: &mut [Line],
     looks: &mut Ring,
     readers: &Readers,
     outputs: &[Output],
@@ -169,13 +177,13 @@ fn step_outputs(
     end: u32,
 ) -> Result<(), AllocError>
     requires apart { AreApart outputs.now }
-    requires able { CanGive lines.old.items outputs.now (unit_answers (length outputs.now) time before.now after.now) end time (time + 1) }
+    requires able { CanGive lines.old outputs.now (unit_answers (length outputs.now) time before.now after.now) end time (time + 1) }
     requires some { 0 < length looks.old.items }
     ensures places { OnOk result (length looks.new.items ≡ length looks.old.items) }
     ensures kept { OnOk result (AreKept looks.old.items looks.new.items) }
-    ensures given { OnOk result (HasGiven lines.old.items lines.new.items outputs.now (unit_answers (length outputs.now) time before.now after.now) end time (time + 1) (length outputs.now)) }
+    ensures given { OnOk result (HasGiven lines.old lines.new outputs.now (unit_answers (length outputs.now) time before.now after.now) end time (time + 1) (length outputs.now)) }
     ensures told { OnOk result (AreTold readers.now outputs.now (unit_answers (length outputs.now) time before.now after.now) (time + 1) looks.new.items (length outputs.now)) }
-    ensures telling { OnOk result (KeepsTelling readers.now end (time + 1) lines.old.items lines.new.items looks.old.items looks.new.items) }
+    ensures telling { OnOk result (KeepsTelling readers.now end (time + 1) lines.old lines.new looks.old.items looks.new.items) }
 {
     for p in 0..outputs.len() {
         let (was, is) = (before.output(p), after.output(p));
@@ -186,7 +194,7 @@ fn step_outputs(
 
 /// One output does so.
 fn step_output(
-    lines: &mut Vec<Line>,
+    lines: &mut [Line],
     looks: &mut Ring,
     readers: &Readers,
     output: Output,
@@ -195,16 +203,16 @@ fn step_output(
     time: u32,
     end: u32,
 ) -> Result<(), AllocError>
-    requires wire { (w : ℕ) → output.wire ≡ Some (record { 0 = w }) → (w < length lines.old.items) × CanTake (line_at lines.old.items w) (extended [] time was is) output.delay end time (time + 1) }
+    requires wire { (w : ℕ) → output.wire ≡ Some (record { 0 = w }) → (w < length lines.old) × CanTake (line_at lines.old w) (extended [] time was is) output.delay end time (time + 1) }
     requires some { 0 < length looks.old.items }
     ensures places { OnOk result (length looks.new.items ≡ length looks.old.items) }
     ensures kept { OnOk result (AreKept looks.old.items looks.new.items) }
-    ensures wires { OnOk result (length lines.new.items ≡ length lines.old.items) }
+    ensures wires { OnOk result (length lines.new ≡ length lines.old) }
     ensures taken { OnOk result ((w : ℕ) → output.wire ≡ Some (record { 0 = w }) →
-        HasTaken (line_at lines.old.items w) (line_at lines.new.items w) (extended [] time was is) output.delay end time (time + 1)) }
-    ensures others { OnOk result ((w : ℕ) → (output.wire ≡ Some (record { 0 = w }) → ⊥) → line_at lines.new.items w ≡ line_at lines.old.items w) }
+        HasTaken (line_at lines.old w) (line_at lines.new w) (extended [] time was is) output.delay end time (time + 1)) }
+    ensures others { OnOk result ((w : ℕ) → (output.wire ≡ Some (record { 0 = w }) → ⊥) → line_at lines.new w ≡ line_at lines.old w) }
     ensures told { OnOk result (IsTold readers.now output (extended [] time was is) (time + 1) looks.new.items) }
-    ensures telling { OnOk result (KeepsTelling readers.now end (time + 1) lines.old.items lines.new.items looks.old.items looks.new.items) }
+    ensures telling { OnOk result (KeepsTelling readers.now end (time + 1) lines.old lines.new looks.old.items looks.new.items) }
 {
     let Some(wire) = output.wire else {
         return Ok(());
@@ -237,7 +245,7 @@ fn give_one(
 {
     let tells = line.is_told_after(time, has_list);
     line.set_told(tells);
-    give(line, &[(time, level)], delay, end)?;
+    give_change(line, time, level, delay, end)?;
     Ok(())
 }
 

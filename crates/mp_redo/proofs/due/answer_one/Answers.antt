@@ -8,12 +8,12 @@ use Rattle.mp_redo.proofs.due.answer_one.Goals as goal
 
 pub returns-then-not-has_mark-clause-hears : goal.returns-then-not-has_mark-clause-hears
 returns-then-not-has_mark-clause-hears c =
-    hears_listed c.args.change.now.new.now c.args.change.now.run.now (c.args.time + 1) c.args.looking.now.items c.list_untold.new.looking.items c.args.cells.now.items c.args.lines.now.items c.args.looks.now.items c.args.id c.in_ok-list_untold.ensures
+    hears_listed c.args.change.now.new.now c.args.change.now.run.now (c.args.time + 1) c.args.looking.now.items c.list_untold.new.looking.items c.args.cells.now c.args.lines.now c.args.looks.now.items c.args.id c.in_ok-list_untold.ensures
 
 pub returns-then-not-has_mark-clause-still : goal.returns-then-not-has_mark-clause-still
 returns-then-not-has_mark-clause-still c =
-    let cells = c.args.cells.now.items in
-    let lines = c.args.lines.now.items in
+    let cells = c.args.cells.now in
+    let lines = c.args.lines.now in
     let looks = c.args.looks.now.items in
     let later = c.list_untold.new.looking.items in
     still_hear c.args.change.now.new.now c.args.change.now.run.now (c.args.time + 1) c.args.looking.now.items later cells cells lines lines looks looks (listed_more c.args.looking.now.items later c.args.id false c.in_ok-list_untold.ensures) (λ m is. is) (λ m live listens. listens)
@@ -24,14 +24,14 @@ returns-in_default-clause-during c =
     let new = c.args.change.now.new.now in
     let run = c.args.change.now.run.now in
     let time = c.args.time in
-    let marked : is_marked c.args.marks.now.items c.args.id.0 ≡ true = sym (c.has_mark.ensures ∙ ap (λ xs. is_marked xs c.args.id.0) c.as_slice.ensures.value) ∙ c.if-not-has_mark.false in
-    subst (λ ms. IsDuring old new run c.args.block time (time + 1) c.args.due.now ms c.args.cells.now.items c.args.lines.now.items c.args.looks.now.items) (sym c.clear_mark.ensures)
-    (absent_stays old new c.requires.change.old_form c.requires.change.form c.requires.change.revision run c.requires.change.run c.args.block time (time + 1) c.requires.unit c.args.due.now c.args.marks.now.items c.args.cells.now.items c.args.lines.now.items c.args.looks.now.items c.requires.during c.args.id.0 marked (sym c.in_default.ensures.value))
+    let marked : is_marked c.args.marks.now c.args.id.0 ≡ true = sym c.has_mark.ensures ∙ c.if-not-has_mark.false in
+    subst (λ ms. IsDuring old new run c.args.block time (time + 1) c.args.due.now ms c.args.cells.now c.args.lines.now c.args.looks.now.items) (sym c.clear_mark.ensures)
+    (absent_stays old new c.requires.change.old_form c.requires.change.form c.requires.change.revision run c.requires.change.run c.args.block time (time + 1) c.requires.unit c.args.due.now c.args.marks.now c.args.cells.now c.args.lines.now c.args.looks.now.items c.requires.during c.args.id.0 marked (sym c.in_default.ensures.value))
 
 pub returns-then-is_live-clause-others : goal.returns-then-is_live-clause-others
 returns-then-is_live-clause-others c =
-    on_ok_weaker c.answer_as_live.result (λ cleared m settled is. settled (marked_was c.args.marks.now.items c.args.id.0 m (sym (ap (λ ms. is_marked ms m) cleared) ∙ is)).1) c.answer_as_live.ensures.marks
+    on_ok_weaker c.answer_as_live.result (λ cleared m settled is. settled (marked_was c.args.marks.now c.args.id.0 m (sym (ap (λ ms. is_marked ms m) cleared) ∙ is)).1) c.answer_as_live.ensures.marks
 
 pub returns-clause-hears : goal.returns-clause-hears
 returns-clause-hears c =
-    hears_listed c.args.change.now.new.now c.args.change.now.run.now (c.args.time + 1) c.args.looking.now.items c.list_untold-2.new.looking.items c.args.cells.now.items c.args.lines.now.items c.args.looks.now.items c.args.id c.in_ok-list_untold-3.ensures
+    hears_listed c.args.change.now.new.now c.args.change.now.run.now (c.args.time + 1) c.args.looking.now.items c.list_untold-2.new.looking.items c.args.cells.now c.args.lines.now c.args.looks.now.items c.args.id c.in_ok-list_untold-3.ensures

@@ -24,7 +24,7 @@ returns-in_ok-push-clause-joins c = λ m has.
       stands = c.requires.stands;
       quiet = c.requires.quiet;
       apart =
-          apart_at old new c.requires.change.old_form c.requires.change.form c.requires.change.revision c.args.change.now.run.now c.requires.change.run c.args.block time (time + 1) c.requires.unit c.args.due.now c.args.marks.now.items cells c.args.lines.now c.args.looks.now.items c.requires.during c.args.id.0 c.requires.marked c.args.found.now c.requires.stands c.requires.quiet
+          apart_at old new c.requires.change.old_form c.requires.change.form c.requires.change.revision c.args.change.now.run.now c.requires.change.run c.args.block time (time + 1) c.requires.unit c.args.due.now c.args.marks.now cells c.args.lines.now c.args.looks.now.items c.requires.during c.args.id.0 c.requires.marked c.args.found.now c.requires.stands c.requires.quiet
           time (omega arith) other.0 (subst (λ xs. Contains xs other.0) c.as_slice.ensures other.1) other.2;
     } in
     elim (Contains-append_cases listed (id ∷ []) (record { 0 = m }) (subst (λ xs. Contains xs (record { 0 = m })) c.in_ok-push.ensures.items has)) as (λ _. Contains listed (record { 0 = m }) ⊎ IsToJoin old new time cells m) [
@@ -44,5 +44,5 @@ returns-else-hear_other-clause-during c =
     let lines = c.args.lines.now in
     let same = c.hear_other.ensures.same c.if-hear_other.false in
     subst (λ ms. IsDuring old new run c.args.block time (time + 1) c.args.due.now ms c.args.cells.now lines c.args.looks.now.items) (sym c.clear_mark.ensures)
-    (quiet_stays old new c.requires.change.old_form c.requires.change.form c.requires.change.revision run c.requires.change.run c.args.block time (time + 1) c.requires.unit c.args.due.now c.args.marks.now.items c.args.cells.now lines c.args.looks.now.items c.requires.during c.args.id.0 c.requires.marked c.args.found.now c.requires.stands c.requires.quiet
+    (quiet_stays old new c.requires.change.old_form c.requires.change.form c.requires.change.revision run c.requires.change.run c.args.block time (time + 1) c.requires.unit c.args.due.now c.args.marks.now c.args.cells.now lines c.args.looks.now.items c.requires.during c.args.id.0 c.requires.marked c.args.found.now c.requires.stands c.requires.quiet
     (λ i has t late below. subst (λ u. level_at run lines i.wire.0 (u - i.delay) ≡ level_in (wave_of run i.wire.0) (u - i.delay)) (omega (arith, late, below)) (same i (subst (λ xs. Contains xs i) (sym c.as_slice.ensures) has))))

@@ -50,7 +50,6 @@ returns-clause-during c =
     let joins = c.requires.joins in
     let is = subst (IsAt new m c.args.block c.args.found.now) (sym c.old_state-memory.ensures) (due_quiet old new c.requires.change.old_form c.requires.change.form c.requires.change.revision run c.requires.change.run c.args.block time (time + 1) c.requires.unit c.args.due.now c.args.marks.now.items c.args.cells.now.items c.args.lines.now.items c.args.looks.now.items c.requires.during c.args.id.0 c.requires.marked c.args.found.now c.requires.stands joins.quiet) in
     let wires = subst (λ (s : Memory). GoesOnFrom new run c.args.lines.now.items given c.args.found.now s c.args.block (time + 1)) c.old_state-memory.ensures done.wires in
-    subst (λ ms. IsDuring old new run c.args.block time (time + 1) c.args.due.now ms c.set_live.new.cells.items given lists) (sym c.clear_mark.ensures)
     (subst (λ xs. IsDuring old new run c.args.block time (time + 1) c.args.due.now (slice_set c.args.marks.now.items m false) xs given lists) (sym c.set_live.ensures)
     (joining_answers old new c.requires.change.old_form c.requires.change.form c.requires.change.revision run c.requires.change.run c.args.block time (time + 1) c.requires.unit c.args.due.now c.args.marks.now.items c.args.cells.now.items c.args.lines.now.items c.args.looks.now.items c.requires.during c.args.id.0 c.requires.marked c.args.found.now c.requires.stands joins.quiet c.in_ok-after.after (done.memory m is)
     time (omega arith) (omega arith) joins.apart given lists wires done.listening done.telling))

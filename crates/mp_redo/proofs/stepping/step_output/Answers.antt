@@ -1,7 +1,7 @@
-use Rattle.std.proofs.Common.{◌≡◌, ◌⊎◌, ◌+◌, ◌-◌, ◌<◌, true, [], ◌∷◌, length, slice_set, sym, ap, subst, ◌∙◌, arith, inl, inr}
+use Rattle.std.proofs.Common.{◌≡◌, ◌⊎◌, ◌+◌, ◌-◌, ◌<◌, true, [], ◌∷◌, length, slice_set, slice_index_or, sym, ap, subst, ◌∙◌, arith, inl, inr}
 use Rattle.std.specs.List.{Contains}
 use Rattle.std.proofs.lemmas.Bool.{ltb-true}
-use Rattle.std.proofs.lemmas.List.{get_or_read, get_or-set_same, get_or-set_other}
+use Rattle.std.proofs.lemmas.List.{get_or_default, get_or-set_same, get_or-set_other}
 use Rattle.mp_records.specs.declared.ids.WireId.{WireId}
 use Rattle.mp_depend.specs.Rows.{row_at}
 use Rattle.mp_response.specs.Span.{extended}
@@ -16,7 +16,7 @@ use Rattle.mp_redo.proofs.stepping.step_output.Goals as goal
 
 pub returns-then-not-counts-clause-taken : goal.returns-then-not-counts-clause-taken
 returns-then-not-counts-clause-taken c = λ w wire.
-    let line = line_at c.args.lines.now.items w in
+    let line = line_at c.args.lines.now w in
     let t = c.args.time in
     let d = c.args.output.delay in
     let end = c.args.end in
@@ -27,12 +27,12 @@ returns-then-not-counts-clause-taken c = λ w wire.
 pub overflow_sub-ahead : goal.overflow_sub-ahead
 overflow_sub-ahead c = let late = (c.requires.wire c.in-Some.wire.0 c.in-Some.is).1.late in omega (arith, late)
 
-pub index_mut-line-requires : goal.index_mut-line-requires
-index_mut-line-requires c = let low = (c.requires.wire c.in-Some.wire.0 c.in-Some.is).0 in omega (arith, low, c.args.lines.now.ok)
+pub bounds-lines-wire : goal.bounds-lines-wire
+bounds-lines-wire c = let low = (c.requires.wire c.in-Some.wire.0 c.in-Some.is).0 in omega (arith, low)
 
 pub returns-clause-taken : goal.returns-clause-taken
 returns-clause-taken c = λ w wire.
-    let lines = c.args.lines.now.items in
+    let lines = c.args.lines.now in
     let v = c.in-Some.wire.0 in
     let given = c.give_one.new.line in
     let new = slice_set lines v given in
@@ -42,7 +42,7 @@ returns-clause-taken c = λ w wire.
     let changes = extended [] t c.args.was c.args.is in
     let one : changes ≡ (t, c.args.is) ∷ [] = c.if-not-counts.ensures in
     let can = c.requires.wire v c.in-Some.is in
-    let read : c.index_mut-line.result.now ≡ line_at lines v = get_or_read lines v c.index_mut-line.result.now can.0 c.index_mut-line.ensures.value Old in
+    let read : slice_index_or lines v c.index-lines-wire.result ≡ line_at lines v = get_or_default lines v c.index-lines-wire.result Old can.0 in
     let set : line_at new v ≡ given = get_or-set_same lines v given Old can.0 in
     let able = subst (λ l. CanTake l ((t, c.args.is) ∷ []) d end t (t + 1)) (sym read) (subst (λ xs. CanTake (line_at lines v) xs d end t (t + 1)) one can.1) in
     let here : HasTaken (line_at lines v) (line_at new v) changes d end t (t + 1)
@@ -67,7 +67,7 @@ returns-clause-told c = λ w reader wire some has.
 
 pub returns-clause-telling : goal.returns-clause-telling
 returns-clause-telling c n run rows high tells =
-    let lines = c.args.lines.now.items in
+    let lines = c.args.lines.now in
     let v = c.in-Some.wire.0 in
     let given = c.give_one.new.line in
     let new = slice_set lines v given in
@@ -76,7 +76,7 @@ returns-clause-telling c n run rows high tells =
     let changes = (t, c.args.is) ∷ [] in
     let one : extended [] t c.args.was c.args.is ≡ changes = c.if-not-counts.ensures in
     let can = c.requires.wire v c.in-Some.is in
-    let read : c.index_mut-line.result.now ≡ line_at lines v = get_or_read lines v c.index_mut-line.result.now can.0 c.index_mut-line.ensures.value Old in
+    let read : slice_index_or lines v c.index-lines-wire.result ≡ line_at lines v = get_or_default lines v c.index-lines-wire.result Old can.0 in
     let set : line_at new v ≡ given = get_or-set_same lines v given Old can.0 in
     let able = subst (λ l. CanTake l changes d c.args.end t (t + 1)) (sym read) (subst (λ xs. CanTake (line_at lines v) xs d c.args.end t (t + 1)) one can.1) in
     let taken : HasTaken (line_at lines v) (line_at new v) changes d n.horizon t (t + 1)

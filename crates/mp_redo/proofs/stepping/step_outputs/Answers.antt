@@ -15,7 +15,7 @@ use Rattle.mp_redo.proofs.stepping.step_outputs.Goals as goal
 
 pub step_output-requires-clause-wire : goal.step_output-requires-clause-wire
 step_output-requires-clause-wire c = λ w wire.
-    let next = c.loop-p.lines.items in
+    let next = c.loop-p.lines in
     let outputs = c.args.outputs.now in
     let t = c.args.time in
     let end = c.args.end in
@@ -28,14 +28,14 @@ step_output-requires-clause-wire c = λ w wire.
     = unit_answer (length outputs) t c.args.before.now c.args.after.now p within
     ∙ ap (λ v. extended [] t v (output_of c.args.after.now p)) (sym c.output-was.ensures)
     ∙ ap (extended [] t c.output-was.result) (sym c.output-is.ensures) in
-    let can = can_here c.args.lines.now.items next outputs answers end t (t + 1) p w c.requires.apart within c.requires.able c.loop-p.invariant.given (subst (λ (o : Output). o.wire ≡ Some (record { 0 = w })) output wire) in
+    let can = can_here c.args.lines.now next outputs answers end t (t + 1) p w c.requires.apart within c.requires.able c.loop-p.invariant.given (subst (λ (o : Output). o.wire ≡ Some (record { 0 = w })) output wire) in
     (can.0, subst (λ xs. CanTake (line_at next w) xs (slice_index_or outputs p d).delay end t (t + 1)) answer (subst (λ (o : Output). CanTake (line_at next w) (slice_index_or answers p []) o.delay end t (t + 1)) (sym output) can.1))
 
 pub loop-p-init : goal.loop-p-init
 loop-p-init c = record {
   places = refl;
   kept = λ k m has. has;
-  given = given_none c.args.lines.now.items c.args.outputs.now (unit_answers (length c.args.outputs.now) c.args.time c.args.before.now c.args.after.now) c.args.end c.args.time (c.args.time + 1);
+  given = given_none c.args.lines.now c.args.outputs.now (unit_answers (length c.args.outputs.now) c.args.time c.args.before.now c.args.after.now) c.args.end c.args.time (c.args.time + 1);
   telling = λ n run rows high tells. tells;
   told = λ p low. absurd (omega (arith, low));
 }
@@ -45,8 +45,8 @@ loop-p-preserved c =
     let inv = c.loop-p.invariant in
     let done = c.in_ok-step_output.ensures in
     let outputs = c.args.outputs.now in
-    let lines = c.loop-p.lines.items in
-    let new = c.step_output.new.lines.items in
+    let lines = c.loop-p.lines in
+    let new = c.step_output.new.lines in
     let lists = c.step_output.new.looks.items in
     let rows = c.args.readers.now in
     let t = c.args.time in
@@ -66,7 +66,7 @@ loop-p-preserved c =
     record {
       places = done.places ∙ inv.places;
       kept = kept_twice c.args.looks.now.items c.loop-p.looks.items lists inv.kept done.kept;
-      given = given_more c.args.lines.now.items lines new outputs answers end t (t + 1) p c.requires.apart within c.requires.able inv.given done.wires
+      given = given_more c.args.lines.now lines new outputs answers end t (t + 1) p c.requires.apart within c.requires.able inv.given done.wires
           (λ w wire able.
           subst (λ xs. HasTaken (line_at lines w) (line_at new w) xs (output_in outputs p).delay end t (t + 1)) (sym answer)
           (subst (λ (o : Output). HasTaken (line_at lines w) (line_at new w) (extended [] t c.output-was.result c.output-is.result) o.delay end t (t + 1)) output
@@ -85,7 +85,7 @@ pub returns-clause-given : goal.returns-clause-given
 returns-clause-given c =
     let e : c.loop-p.p ≡ length c.args.outputs.now = omega (arith, c.loop-p.auto.p-end, c.loop-p-test.false) in
     let answers = unit_answers (length c.args.outputs.now) c.args.time c.args.before.now c.args.after.now in
-    subst (HasGiven c.args.lines.now.items c.loop-p.lines.items c.args.outputs.now answers c.args.end c.args.time (c.args.time + 1)) e c.loop-p.invariant.given
+    subst (HasGiven c.args.lines.now c.loop-p.lines c.args.outputs.now answers c.args.end c.args.time (c.args.time + 1)) e c.loop-p.invariant.given
 
 pub returns-clause-told : goal.returns-clause-told
 returns-clause-told c =

@@ -10,7 +10,7 @@ abbrev pub invariant-loop-p : goal.invariant-loop-p
 invariant-loop-p l = record {
   places : length l.looks.items ≡ length l.fn.looks.items;
   kept : AreKept l.fn.looks.items l.looks.items;
-  given : HasGiven l.fn.lines.items l.lines.items l.outputs (unit_answers (length l.outputs) l.time l.before l.after) l.end l.time (l.time + 1) l.p;
-  telling : KeepsTelling l.readers l.end (l.time + 1) l.fn.lines.items l.lines.items l.fn.looks.items l.looks.items;
+  given : HasGiven l.fn.lines l.lines l.outputs (unit_answers (length l.outputs) l.time l.before l.after) l.end l.time (l.time + 1) l.p;
+  telling : KeepsTelling l.readers l.end (l.time + 1) l.fn.lines l.lines l.fn.looks.items l.looks.items;
   told : AreTold l.readers l.outputs (unit_answers (length l.outputs) l.time l.before l.after) (l.time + 1) l.looks.items l.p;
 }

@@ -7,7 +7,7 @@ use Rattle.mp_redo.specs.Joins.{IsSettled, IsToJoin}
 use Rattle.mp_redo.specs.Looking.{WillHear}
 use Rattle.mp_redo.proofs.DueLemmas.{answered_none, answered_more, due_next}
 use Rattle.mp_redo.proofs.UnitLemmas.{still_joins}
-use Rattle.mp_redo.proofs.due.answer_or_list.Goals as goal
+use Rattle.mp_redo.proofs.due.answer_each.Goals as goal
 
 pub loop-id-init : goal.loop-id-init
 loop-id-init c = record {
@@ -16,7 +16,7 @@ loop-id-init c = record {
   joins = λ m has. absurd (none_in (let id : ModuleId = record { 0 = m } in id) (subst (λ xs. Contains xs (record { 0 = m })) c.requires.none has));
   settled = λ m has. absurd (none_in (let id : ModuleId = record { 0 = m } in id) has);
   hear = λ m has. absurd (none_in (let id : ModuleId = record { 0 = m } in id) has);
-  cells = answered_none [] c.args.cells.now.items;
+  cells = answered_none [] c.args.cells.now;
   during = c.requires.during;
 }
 
@@ -36,10 +36,10 @@ loop-id-preserved c =
     let inv = c.loop-id.invariant in
     let done = c.in_ok-answer_one.ensures in
     let listed = c.answer_one.new.joining.items in
-    let marks = c.answer_one.new.marks.items in
-    let cells = c.loop-id.cells.items in
-    let after = c.answer_one.new.cells.items in
-    let hears = λ (m : ℕ). WillHear new c.args.change.now.run.now (time + 1) c.answer_one.new.looking.items after c.answer_one.new.lines.items c.answer_one.new.looks.items m in
+    let marks = c.answer_one.new.marks in
+    let cells = c.loop-id.cells in
+    let after = c.answer_one.new.cells in
+    let hears = λ (m : ℕ). WillHear new c.args.change.now.run.now (time + 1) c.answer_one.new.looking.items after c.answer_one.new.lines c.answer_one.new.looks.items m in
     record {
       places = done.places ∙ inv.places;
       marks = done.marks ∙ inv.marks;
@@ -55,7 +55,7 @@ loop-id-preserved c =
         | inl before ↦ done.still m (inv.hear m before)
         | inr same ↦ subst hears (sym same) done.hears
       ];
-      cells = answered_more [] c.args.cells.now.items cells after inv.cells done.cells;
+      cells = answered_more [] c.args.cells.now cells after inv.cells done.cells;
       during = done.during;
     }
 
