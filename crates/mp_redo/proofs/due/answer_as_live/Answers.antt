@@ -7,11 +7,9 @@ use Rattle.mp_netlist.specs.Slots.{slot_at}
 use Rattle.mp_model.specs.Levels.{built}
 use Rattle.mp_model.proofs.SlotLemmas.{slot_within}
 use Rattle.mp_redo.specs.declared.cell.Cell.{Cell}
-use Rattle.mp_redo.specs.declared.line.Line.{Line}
 use Rattle.mp_redo.specs.Joins.{HaveAnswered, live_cell}
 use Rattle.mp_redo.specs.Redoing.{cell_at, IsDuring}
 use Rattle.mp_redo.specs.Steps.{IsAt, GoesOn, stepped}
-use Rattle.mp_redo.specs.Telling.{IsToldTo}
 use Rattle.mp_redo.proofs.LookingLemmas.{hears_told, listed_more, still_hear, told_listens}
 use Rattle.mp_redo.proofs.StepLemmas.{steps_to}
 use Rattle.mp_redo.proofs.DueLemmas.{cell_within, due_heard, due_ready, due_live, live_answers, answered_one}

@@ -1,6 +1,5 @@
-use Rattle.std.proofs.Common.{◌≡◌, ℕ, ◌+◌, ◌<◌, [], ◌∷◌, arith}
+use Rattle.std.proofs.Common.{◌+◌, ◌<◌, [], arith}
 use Rattle.mp_redo.specs.Lines.{IsOwn}
-use Rattle.mp_redo.specs.Answers.{CanTake, HasTaken}
 use Rattle.mp_redo.proofs.LineLemmas.{own_later, own_shorter}
 use Rattle.mp_redo.proofs.GiveLemmas.{took_none, took_past, took_more, can_more}
 use Rattle.mp_redo.proofs.giving.give_change.Goals as goal
