@@ -1,4 +1,4 @@
-use Rattle.std.proofs.Common.{◌≡◌, ◌≤◌, map, take, length}
+use Rattle.std.proofs.Common.{◌≡◌, map, take}
 use Rattle.std.specs.Arc.{arc_value}
 use Rattle.mp_session.proofs.history.with_room.Given as goal
 

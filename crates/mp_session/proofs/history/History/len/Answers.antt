@@ -1,4 +1,4 @@
-use Rattle.std.proofs.Common.{◌≡◌, ◌+◌, ◌*◌, ◌≤◌, ap, length, arith}
+use Rattle.std.proofs.Common.{ap, length, arith}
 use Rattle.std.specs.Arc.{arc_value}
 use Rattle.mp_session.proofs.ChunkLemmas.{length_chunks}
 use Rattle.mp_session.proofs.history.History.len.Goals as goal

@@ -1,6 +1,4 @@
-use Rattle.std.proofs.Common.{◌≡◌}
 use Rattle.std.specs.Arc.{arc_value}
-use Rattle.mp_session.specs.Stories.{Story}
 use Rattle.mp_session.proofs.StoryLemmas.{AreNext, next_version, next_present}
 use Rattle.mp_session.proofs.version.Version.next.Goals as goal
 
