@@ -141,13 +141,13 @@ fn hear(run: &Run, lines: &[Line], time: u32, input: Input) -> (u64, bool)
 {
     match lines.get(input.wire.0 as usize) {
         Some(line) if input.delay == 0 => (line.level_at(run, input.wire, time), line.is_told()),
-        _ => (late_level(run, lines, time, input), false),
+        _ => (delayed_level(run, lines, time, input), false),
     }
 }
 
-/// The level that is heard at an input.
+/// The level that is heard at any input: as few have a delay, it is kept apart.
 #[inline(never)]
-fn late_level(run: &Run, lines: &[Line], time: u32, input: Input) -> u64
+fn delayed_level(run: &Run, lines: &[Line], time: u32, input: Input) -> u64
     ensures { result ≡ level_at run.now lines.now input.wire.0 (time - input.delay) }
 {
     let before = time.saturating_sub(input.delay);
