@@ -1,5 +1,5 @@
 //! The text by which a thing is named.
-ghost use Rattle.std.specs.Prelude.{◌≡◌, IfOk};
+ghost use Rattle.std.specs.Prelude.{◌≡◌, ◌≤◌, IfOk, IsOk, length};
 ghost use Rattle.mp_records.specs.Names.{is_name, is_name_byte, begins_with_letter};
 ghost use Rattle.std.specs.List.{list_all};
 
@@ -48,9 +48,10 @@ impl Clone for Name {
 }
 
 impl Name {
-    /// The name of this text. The error comes where memory is wanting.
+    /// The name of this text. The error comes where memory is wanting, and never for a text of at most 16 bytes.
     pub fn new(alloc: Global, text: &str) -> Result<Self, AllocError>
-        ensures { IfOk result (λ name. name ≡ text.now) }
+        ensures value { IfOk result (λ name. name ≡ text.now) }
+        ensures short { length text.now ≤ IN_PLACE → IsOk result }
     {
         Ok(Name {
             text: match ArrayString::from(text) {

@@ -6,7 +6,8 @@ use crate::new_bundle::NewBundle;
 use crate::new_module::NewModule;
 
 /// A change of one thing in a netlist. It names things by their present names, and its numbers may be out of range: the edit is refused then.
-/// What adds a module or a bundle names much, and stands in a block of its own, so that the other edits are small.
+/// What adds a module or a bundle names much, and stands in a block of its own, as does the second name of an edit that has two, so that
+/// each edit is small.
 #[derive(Clone, Drop)]
 pub enum SingleEdit {
     /// Adds a wire of a new name, with a width in bits and an initial level.
@@ -35,13 +36,13 @@ pub enum SingleEdit {
     RewireInput {
         module: Name,
         port: u64,
-        wire: Name,
+        wire: Boxed<Name>,
     },
     /// Lets an output port drive another wire of its width, or none. The port keeps its delay.
     RewireOutput {
         module: Name,
         port: u64,
-        wire: Option<Name>,
+        wire: Option<Boxed<Name>>,
     },
     /// Sets the transport delay of an input port, in units.
     SetInputDelay {
