@@ -4,8 +4,8 @@ use crate::record_changes::{
     NewDelay, NewInput, NewInputDelay, NewOutput, NewStimulus, NoStimulus,
 };
 use mp_records::{
-    BundleRecord, Changes, Edit, EditError, ModuleRecord, Name, NewBundle, NewModule, SingleEdit,
-    WireRecord,
+    Boxed, BundleRecord, Changes, Edit, EditError, ModuleRecord, Name, NewBundle, NewModule,
+    SingleEdit, WireRecord,
 };
 use std::alloc::AllocError;
 
@@ -52,7 +52,9 @@ impl Netlist {
             SingleEdit::AddBundle(new) => self.add_bundle(new.get())?,
             SingleEdit::RemoveBundle { bundle } => self.remove_bundle(bundle),
             SingleEdit::RewireInput { module, port, wire } => self.rewire_input(
-                module, *port, wire,
+                module,
+                *port,
+                wire.get(),
             ),
             SingleEdit::RewireOutput { module, port, wire } => self.rewire_output(
                 module, *port, wire,
@@ -179,7 +181,7 @@ impl Netlist {
         self.modules.change(id.0, NewInput { port, wire: read });
     }
 
-    fn rewire_output(&mut self, name: &Name, port: u64, wire: &Option<Name>)
+    fn rewire_output(&mut self, name: &Name, port: u64, wire: &Option<Boxed<Name>>)
         requires { output_refusal self.old name.now port wire.now ≡ None }
         ensures { self.new ≡ with_module self.old (module_id self.old name.now).0
             (option_map (with_output port (option_map (wire_id self.old) wire.now)) (module_at self.old (module_id self.old name.now).0)) }

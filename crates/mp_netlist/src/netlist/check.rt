@@ -5,6 +5,7 @@ ghost use Rattle.mp_modules.specs.Kinds.{input_count, output_count};
 ghost use Rattle.mp_records.specs.declared.port_names.InputName.{InputName};
 ghost use Rattle.mp_records.specs.declared.port_names.OutputName.{OutputName};
 ghost use Rattle.std.specs.Result.{result_err};
+ghost use Rattle.mp_netlist.specs.Drivers.{is_free_for};
 ghost use Rattle.mp_netlist.specs.Edits.{first_failing, batch_checks, delays_fit, is_input_delay, is_delay};
 
 use crate::driver::Driver;
@@ -13,8 +14,8 @@ use crate::netlist::{
 };
 use mp_modules::{Kind, fits_width};
 use mp_records::{
-    Batch, Changes, Edit, EditError, InputNames, Name, NewBundle, NewModule, OutputNames,
-    SingleEdit,
+    Batch, Boxed, Changes, Edit, EditError, InputNames, ModuleId, Name, NewBundle, NewModule,
+    OutputNames, SingleEdit,
 };
 
 impl Netlist {
@@ -45,7 +46,11 @@ impl Netlist {
             SingleEdit::RemoveModule { module } => self.check_module_removal(module),
             SingleEdit::AddBundle(new) => self.check_bundle(new.get()),
             SingleEdit::RemoveBundle { bundle } => self.check_bundle_removal(bundle),
-            SingleEdit::RewireInput { module, port, wire } => self.check_input(module, *port, wire),
+            SingleEdit::RewireInput { module, port, wire } => self.check_input(
+                module,
+                *port,
+                wire.get(),
+            ),
             SingleEdit::RewireOutput { module, port, wire } => self.check_output(
                 module, *port, wire,
             ),
@@ -88,10 +93,10 @@ impl Netlist {
     fn check_wire_removal(&self, name: &Name) -> Result<(), EditError>
         ensures { result_err result ≡ wire_removal_refusal self.now name.now }
     {
-        if !self.stands(name) {
+        let Some(id) = self.wire_named(name.as_str()) else {
             return Err(EditError::NoSuchWire);
-        }
-        if self.is_used(self.id_of(name)) {
+        };
+        if self.is_used(id) {
             return Err(EditError::StillUsed);
         }
         Ok(())
@@ -134,7 +139,7 @@ impl Netlist {
     fn check_module_removal(&self, name: &Name) -> Result<(), EditError>
         ensures { result_err result ≡ module_removal_refusal self.now name.now }
     {
-        if !self.module_stands(name) {
+        if self.module_named(name.as_str()).is_none() {
             return Err(EditError::NoSuchModule);
         }
         Ok(())
@@ -179,37 +184,45 @@ impl Netlist {
     fn check_input(&self, name: &Name, port: u64, wire: &Name) -> Result<(), EditError>
         ensures { result_err result ≡ input_refusal self.now name.now port wire.now }
     {
-        if !self.module_stands(name) {
+        let Some(id) = self.module_named(name.as_str()) else {
             return Err(EditError::NoSuchModule);
-        }
-        if port >= self.input_ports(name) {
+        };
+        if port >= self.input_ports(id) {
             return Err(EditError::BadPort);
         }
-        if !self.stands(wire) {
+        let Some(read) = self.wire_named(wire.as_str()) else {
             return Err(EditError::NoSuchWire);
-        }
-        if self.width_of(wire) != self.input_width(name, port) {
+        };
+        if self.wire_width(read) != self.input_width(id, port) {
             return Err(EditError::WidthMismatch);
         }
         Ok(())
     }
 
-    fn check_output(&self, name: &Name, port: u64, wire: &Option<Name>) -> Result<(), EditError>
+    fn check_output(
+        &self,
+        name: &Name,
+        port: u64,
+        wire: &Option<Boxed<Name>>,
+    ) -> Result<(), EditError>
         ensures { result_err result ≡ output_refusal self.now name.now port wire.now }
     {
-        if !self.module_stands(name) {
+        let Some(id) = self.module_named(name.as_str()) else {
             return Err(EditError::NoSuchModule);
-        }
-        if port >= self.output_ports(name) {
+        };
+        if port >= self.output_ports(id) {
             return Err(EditError::BadPort);
         }
-        if !self.output_stands(wire) {
+        let Some(wire) = wire else {
+            return Ok(());
+        };
+        let Some(driven) = self.wire_named(wire.get().as_str()) else {
             return Err(EditError::NoSuchWire);
-        }
-        if !self.output_fits(wire, self.output_width(name, port)) {
+        };
+        if self.wire_width(driven) != self.output_width(id, port) {
             return Err(EditError::WidthMismatch);
         }
-        if !self.output_is_free(self.module_id(name), port, wire) {
+        if !is_free_for(id, port, self.driver_of(driven)) {
             return Err(EditError::AlreadyDriven);
         }
         Ok(())
@@ -218,10 +231,10 @@ impl Netlist {
     fn check_input_delay(&self, name: &Name, port: u64, delay: u64) -> Result<(), EditError>
         ensures { result_err result ≡ input_delay_refusal self.now name.now port delay }
     {
-        if !self.module_stands(name) {
+        let Some(id) = self.module_named(name.as_str()) else {
             return Err(EditError::NoSuchModule);
-        }
-        if port >= self.input_ports(name) {
+        };
+        if port >= self.input_ports(id) {
             return Err(EditError::BadPort);
         }
         if delay > MAX_DELAY {
@@ -233,10 +246,10 @@ impl Netlist {
     fn check_delay(&self, name: &Name, port: u64, delay: u64) -> Result<(), EditError>
         ensures { result_err result ≡ delay_refusal self.now name.now port delay }
     {
-        if !self.module_stands(name) {
+        let Some(id) = self.module_named(name.as_str()) else {
             return Err(EditError::NoSuchModule);
-        }
-        if port >= self.output_ports(name) {
+        };
+        if port >= self.output_ports(id) {
             return Err(EditError::BadPort);
         }
         if !is_delay(delay) {
@@ -248,13 +261,13 @@ impl Netlist {
     fn check_stimulus(&self, wire: &Name, changes: &Changes) -> Result<(), EditError>
         ensures { result_err result ≡ stimulus_refusal self.now wire.now changes.now }
     {
-        if !self.stands(wire) {
+        let Some(id) = self.wire_named(wire.as_str()) else {
             return Err(EditError::NoSuchWire);
-        }
-        if let Driver::Port(_, _) = self.driver_of(self.id_of(wire)) {
+        };
+        if let Driver::Port(_, _) = self.driver_of(id) {
             return Err(EditError::AlreadyDriven);
         }
-        let width = self.width_of(wire);
+        let width = self.wire_width(id);
         if !changes.is_valid(u64::from(self.horizon), u64::from(width)) {
             return Err(EditError::BadStimulus);
         }
@@ -264,10 +277,10 @@ impl Netlist {
     fn check_clearing(&self, wire: &Name) -> Result<(), EditError>
         ensures { result_err result ≡ clearing_refusal self.now wire.now }
     {
-        if !self.stands(wire) {
+        let Some(id) = self.wire_named(wire.as_str()) else {
             return Err(EditError::NoSuchWire);
-        }
-        if !self.has_stimulus(self.id_of(wire)) {
+        };
+        if !self.has_stimulus(id) {
             return Err(EditError::NoStimulus);
         }
         Ok(())
@@ -283,6 +296,17 @@ fn check_batch(batch: &Batch) -> Result<(), EditError>
         return Err(EditError::BadBatch);
     }
     Ok(())
+}
+
+/// Whether the driver is nothing, or just that port of that module.
+fn is_free_for(id: ModuleId, port: u64, driver: Driver) -> bool
+    ensures { result ≡ is_free_for id.0 port driver }
+{
+    match driver {
+        Driver::Nothing => true,
+        Driver::Stimulus => false,
+        Driver::Port(other, output) => other.0 == id.0 && u64::from(output) == port,
+    }
 }
 
 /// Whether there are as many inputs and outputs as the kind has.

@@ -1,19 +1,12 @@
-//! The modules and bundles that an edit names.
+//! The modules and bundles that an edit names, and the ports of such a module.
 
 use crate::netlist::Netlist;
-use mp_records::{BundleId, ModuleId, ModuleRecord, Name};
+use mp_records::{BundleId, ModuleId, Name};
 
 impl Netlist {
     ghost use Rattle.std.specs.Prelude.{◌≡◌};
-    ghost use Rattle.std.specs.Option.{option_copied};
-    ghost use Rattle.mp_netlist.specs.Edits.{module_stands, module_id, module_of, bundle_stands, bundle_id, input_ports, output_ports, input_width_of, output_width_of};
-
-    /// Whether a module of the name stands.
-    pub(crate) fn module_stands(&self, name: &Name) -> bool
-        ensures { result ≡ module_stands self.now name.now }
-    {
-        self.module_named(name.as_str()).is_some()
-    }
+    ghost use Rattle.mp_netlist.specs.Circuit.{module_at};
+    ghost use Rattle.mp_netlist.specs.Edits.{module_id, bundle_stands, bundle_id, input_ports, output_ports, input_width_of, output_width_of};
 
     /// The number of the module that has the name, 0 where none has.
     pub(crate) fn module_id(&self, name: &Name) -> ModuleId
@@ -42,41 +35,31 @@ impl Netlist {
         }
     }
 
-    /// The module that has the name.
-    fn module_of(&self, name: &Name) -> Option<&ModuleRecord>
-        ensures { option_copied result ≡ module_of self.now name.now }
+    /// How many input ports the module of this number has, 0 where none stands.
+    pub(crate) fn input_ports(&self, id: ModuleId) -> u64
+        ensures { result ≡ input_ports (module_at self.now id.0) }
     {
-        match self.module_named(name.as_str()) {
-            Some(id) => self.module(id),
-            None => None,
-        }
-    }
-
-    /// How many input ports the module has that has the name, 0 where none has.
-    pub(crate) fn input_ports(&self, name: &Name) -> u64
-        ensures { result ≡ input_ports (module_of self.now name.now) }
-    {
-        match self.module_of(name) {
+        match self.module(id) {
             Some(found) => found.inputs.as_slice().len() as u64,
             None => 0,
         }
     }
 
-    /// How many output ports the module has that has the name, 0 where none has.
-    pub(crate) fn output_ports(&self, name: &Name) -> u64
-        ensures { result ≡ output_ports (module_of self.now name.now) }
+    /// How many output ports the module of this number has, 0 where none stands.
+    pub(crate) fn output_ports(&self, id: ModuleId) -> u64
+        ensures { result ≡ output_ports (module_at self.now id.0) }
     {
-        match self.module_of(name) {
+        match self.module(id) {
             Some(found) => found.outputs.as_slice().len() as u64,
             None => 0,
         }
     }
 
-    /// The width of an input port of the module that has the name, 0 where none has.
-    pub(crate) fn input_width(&self, name: &Name, port: u64) -> u32
-        ensures { result ≡ input_width_of self.now (module_of self.now name.now) port }
+    /// The width of an input port of the module of this number, 0 where none stands.
+    pub(crate) fn input_width(&self, id: ModuleId, port: u64) -> u32
+        ensures { result ≡ input_width_of self.now (module_at self.now id.0) port }
     {
-        match self.module_of(name) {
+        match self.module(id) {
             Some(found) => found
                 .kind
                 .input_width(self.module_width(found), port as usize),
@@ -84,11 +67,11 @@ impl Netlist {
         }
     }
 
-    /// The width of an output port of the module that has the name, 0 where none has.
-    pub(crate) fn output_width(&self, name: &Name, port: u64) -> u32
-        ensures { result ≡ output_width_of self.now (module_of self.now name.now) port }
+    /// The width of an output port of the module of this number, 0 where none stands.
+    pub(crate) fn output_width(&self, id: ModuleId, port: u64) -> u32
+        ensures { result ≡ output_width_of self.now (module_at self.now id.0) port }
     {
-        match self.module_of(name) {
+        match self.module(id) {
             Some(found) => found
                 .kind
                 .output_width(self.module_width(found), port as usize),

@@ -2,7 +2,6 @@
 ghost use Rattle.std.specs.Prelude.{◌≡◌};
 ghost use Rattle.std.specs.List.{list_any};
 ghost use Rattle.std.specs.Str.{bytes_eq};
-ghost use Rattle.mp_netlist.specs.Drivers.{is_free_for};
 ghost use Rattle.mp_netlist.specs.Edits.{are_distinct, driven_names};
 
 use crate::driver::Driver;
@@ -10,14 +9,14 @@ use crate::netlist::Netlist;
 use arrayvec::ArrayVec;
 use mp_modules::{Kind, MOST_INPUTS, MOST_OUTPUTS};
 use mp_records::{
-    Input, InputName, InputNames, Inputs, ModuleId, Name, Output, OutputName, OutputNames, Outputs,
+    Boxed, Input, InputName, InputNames, Inputs, Name, Output, OutputName, OutputNames, Outputs,
     WireId,
 };
 
 impl Netlist {
     ghost use Rattle.std.specs.Prelude.{◌≡◌, ◌≤◌, ◌&&◌, is_some, length, map, option_map, IsTrue};
     ghost use Rattle.std.specs.List.{list_all};
-    ghost use Rattle.mp_netlist.specs.Edits.{are_distinct, is_input_delay, is_delay, input_of, output_of, inputs_stand, stands, wire_id, width_named, is_undriven, driven_names, new_width, inputs_fit, output_fits, outputs_fit, output_stands, output_is_free};
+    ghost use Rattle.mp_netlist.specs.Edits.{are_distinct, is_input_delay, is_delay, input_of, output_of, inputs_stand, stands, wire_id, width_named, is_undriven, driven_names, new_width, inputs_fit, outputs_fit};
 
     /// Whether a wire of the name stands.
     pub(crate) fn stands(&self, name: &Name) -> bool
@@ -37,11 +36,11 @@ impl Netlist {
     }
 
     /// The number of the wire that is to be driven, if any is named.
-    pub(crate) fn driven_id(&self, wire: &Option<Name>) -> Option<WireId>
+    pub(crate) fn driven_id(&self, wire: &Option<Boxed<Name>>) -> Option<WireId>
         ensures { result ≡ option_map (wire_id self.now) wire.now }
     {
         match wire {
-            Some(name) => Some(self.id_of(name)),
+            Some(name) => Some(self.id_of(name.get())),
             None => None,
         }
     }
@@ -50,11 +49,8 @@ impl Netlist {
     pub(crate) fn width_of(&self, name: &Name) -> u32
         ensures { result ≡ width_named self.now name.now }
     {
-        let Some(id) = self.wire_named(name.as_str()) else {
-            return 0;
-        };
-        match self.wire(id) {
-            Some(found) => found.width,
+        match self.wire_named(name.as_str()) {
+            Some(id) => self.wire_width(id),
             None => 0,
         }
     }
@@ -64,36 +60,6 @@ impl Netlist {
         ensures { result ≡ is_undriven self.now name.now }
     {
         matches!(self.driver_of(self.id_of(name)), Driver::Nothing)
-    }
-
-    /// Whether a wire that is to be driven stands, if any is named.
-    pub(crate) fn output_stands(&self, wire: &Option<Name>) -> bool
-        ensures { result ≡ output_stands self.now wire.now }
-    {
-        match wire {
-            Some(name) => self.stands(name),
-            None => true,
-        }
-    }
-
-    /// Whether a wire that is to be driven has the width, if any is named.
-    pub(crate) fn output_fits(&self, wire: &Option<Name>, width: u32) -> bool
-        ensures { result ≡ output_fits self.now wire.now width }
-    {
-        match wire {
-            Some(name) => self.width_of(name) == width,
-            None => true,
-        }
-    }
-
-    /// Whether a wire that is to be driven by this port has no other driver, if any is named.
-    pub(crate) fn output_is_free(&self, id: ModuleId, port: u64, wire: &Option<Name>) -> bool
-        ensures { result ≡ output_is_free self.now id.0 port wire.now }
-    {
-        match wire {
-            Some(name) => is_free_for(id, port, self.driver_of(self.id_of(name))),
-            None => true,
-        }
     }
 
     /// Whether each wire that is to be read stands.
@@ -228,17 +194,6 @@ impl Netlist {
             });
         }
         Outputs::new(ports)
-    }
-}
-
-/// Whether the driver is nothing, or just that port of that module.
-fn is_free_for(id: ModuleId, port: u64, driver: Driver) -> bool
-    ensures { result ≡ is_free_for id.0 port driver }
-{
-    match driver {
-        Driver::Nothing => true,
-        Driver::Stimulus => false,
-        Driver::Port(other, output) => other.0 == id.0 && u64::from(output) == port,
     }
 }
 

@@ -1,4 +1,4 @@
-//! The width of a module.
+//! The widths of wires and modules.
 ghost use Rattle.std.specs.Prelude.{◌≡◌};
 ghost use Rattle.mp_records.specs.Inputs.{input_in};
 
@@ -7,7 +7,17 @@ use mp_records::{Input, ModuleRecord, WireId};
 
 impl Netlist {
     ghost use Rattle.std.specs.Prelude.{◌≡◌};
-    ghost use Rattle.mp_netlist.specs.Circuit.{module_width};
+    ghost use Rattle.mp_netlist.specs.Circuit.{wire_at, width_of, module_width};
+
+    /// The width of the wire of this number, 0 where none stands.
+    pub(crate) fn wire_width(&self, id: WireId) -> u32
+        ensures { result ≡ width_of (wire_at self.now id.0) }
+    {
+        match self.wire(id) {
+            Some(found) => found.width,
+            None => 0,
+        }
+    }
 
     /// The width of a module: that of the wire at its first input where its kind has ports of any width, and else 1.
     pub fn module_width(&self, found: &ModuleRecord) -> u32
@@ -16,11 +26,7 @@ impl Netlist {
         if !found.kind.has_width() {
             return 1;
         }
-        let first = first_wire(found.inputs.as_slice());
-        match self.wire(first) {
-            Some(wire) => wire.width,
-            None => 0,
-        }
+        self.wire_width(first_wire(found.inputs.as_slice()))
     }
 }
 
