@@ -1,14 +1,16 @@
 //! The edits that scripts alone have.
+ghost use Rattle.std.specs.Prelude.{◌≡◌, IfOk, IsAscii};
 ghost use Rattle.mp_words.specs.declared.line_error.LineError.TheVariants.{OutOfMemory};
 ghost use Rattle.mp_words.specs.Reads.{Gives};
+ghost use Rattle.mp_words.specs.WordLists.{wire_or_none};
 ghost use Rattle.mp_words.specs.Words.{texts, AreAscii};
 ghost use Rattle.mp_text.specs.SingleEdits.{removal, input_edit, output_edit, input_delay_edit, delay_edit, clearing, single_edit};
 
 use crate::single_word::SingleWord;
 use crate::stated_edit::stated_edit;
-use mp_netlist::SingleEdit;
+use mp_netlist::{Boxed, Name, SingleEdit};
 use mp_words::{LineError, name_of, number_word, wire_or_none};
-use std::alloc::Global;
+use std::alloc::{AllocError, Global};
 
 /// The edit of a first word and the words behind it.
 #[tactic(auto, unfolding(crate::specs::SingleEdits::single_edit))]
@@ -71,7 +73,7 @@ fn input_edit(alloc: Global, words: &[&[u8]]) -> Result<SingleEdit, LineError>
     Ok(SingleEdit::RewireInput {
         module: name_of(alloc, part)?,
         port,
-        wire: name_of(alloc, wire)?,
+        wire: Boxed::new(alloc, name_of(alloc, wire)?)?,
     })
 }
 
@@ -88,8 +90,19 @@ fn output_edit(alloc: Global, words: &[&[u8]]) -> Result<SingleEdit, LineError>
     Ok(SingleEdit::RewireOutput {
         module: name_of(alloc, part)?,
         port,
-        wire: wire_or_none(alloc, wire)?,
+        wire: driven_wire(alloc, wire)?,
     })
+}
+
+/// The wire that is named, in a block of its own, where `-` names none. The error comes where memory is wanting.
+fn driven_wire(alloc: Global, name: &[u8]) -> Result<Option<Boxed<Name>>, AllocError>
+    requires { IsAscii name.now }
+    ensures { IfOk result (λ wire. wire ≡ wire_or_none name.now) }
+{
+    match wire_or_none(alloc, name)? {
+        Some(wire) => Ok(Some(Boxed::new(alloc, wire)?)),
+        None => Ok(None),
+    }
 }
 
 /// The edit of the words behind `indelay`.
