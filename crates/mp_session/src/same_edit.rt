@@ -3,7 +3,15 @@ ghost use Rattle.std.specs.Prelude.{◌≡◌, IsTrue, ◌↔◌};
 ghost use Rattle.mp_records.specs.declared.single_edit.SingleEdit.TheVariants.{AddWire, RemoveWire, AddModule, RemoveModule, AddBundle, RemoveBundle, RewireInput, RewireOutput, SetInputDelay, SetDelay, SetStimulus, ClearStimulus};
 
 use crate::same::{Same, same_list, same_option};
-use mp_netlist::{Changes, Edit, InputName, Name, NewBundle, NewModule, OutputName, SingleEdit};
+use mp_netlist::{
+    Boxed, Changes, Edit, InputName, Name, NewBundle, NewModule, OutputName, SingleEdit,
+};
+
+impl Same for Boxed<Name> {
+    fn same(&self, other: &Self) -> bool {
+        self.get().same(other.get())
+    }
+}
 
 impl Same for InputName {
     fn same(&self, other: &Self) -> bool {
@@ -68,7 +76,10 @@ impl Same for SingleEdit {
             SingleEdit::AddBundle(new) => adds_bundle(other, new.get()),
             SingleEdit::RemoveBundle { bundle } => removes_bundle(other, bundle),
             SingleEdit::RewireInput { module, port, wire } => rewires_input(
-                other, module, *port, wire,
+                other,
+                module,
+                *port,
+                wire.get(),
             ),
             SingleEdit::RewireOutput { module, port, wire } => rewires_output(
                 other, module, *port, wire,
@@ -150,13 +161,13 @@ fn rewires_input(edit: &SingleEdit, named: &Name, place: u64, read: &Name) -> bo
 {
     match edit {
         SingleEdit::RewireInput { module, port, wire } => {
-            named.same(module) && place == *port && read.same(wire)
+            named.same(module) && place == *port && read.same(wire.get())
         }
         _ => false,
     }
 }
 
-fn rewires_output(edit: &SingleEdit, named: &Name, place: u64, driven: &Option<Name>) -> bool
+fn rewires_output(edit: &SingleEdit, named: &Name, place: u64, driven: &Option<Boxed<Name>>) -> bool
     ensures { IsTrue result ↔ (RewireOutput named.now place driven.now ≡ edit.now) }
 {
     match edit {
