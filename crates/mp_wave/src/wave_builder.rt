@@ -41,14 +41,15 @@ impl WaveBuilder {
         }
     }
 
-    /// A wave of which the levels before a time are known: those of another wave, the last of them held so far.
+    /// A wave of which the levels before a time are known: those of another wave, the last of them held so far. It has room for as many
+    /// changes as the other wave has.
     pub fn from_prefix(alloc: Global, wave: &Wave, upto: u32) -> Result<Self, AllocError>
         requires { 0 < upto }
         ensures value { IfOk result (λ builder. builder ≡ record { wave = kept_before upto wave.now; next = upto }) }
         ensures form { IsWaveform wave.now }
     {
         let level = wave.level_at(upto - 1);
-        let changes = Vec::from_slice(alloc, wave.changes_before(upto))?;
+        let changes = with_room(alloc, wave.changes_before(upto), wave.changes().len())?;
         Ok(WaveBuilder {
             wave: Wave::of_changes(wave.initial(), changes),
             level,
@@ -109,4 +110,17 @@ impl WaveBuilder {
         let WaveBuilder { wave, .. } = self;
         wave
     }
+}
+
+/// The same changes once more, with room for so many in all.
+fn with_room(
+    alloc: Global,
+    changes: &[(u32, u64)],
+    room: usize,
+) -> Result<Vec<(u32, u64)>, AllocError>
+    ensures { IfOk result (λ copy. copy.items ≡ changes.now) }
+{
+    let mut copy = Vec::with_capacity(alloc, room)?;
+    copy.extend_from_slice(changes)?;
+    Ok(copy)
 }
