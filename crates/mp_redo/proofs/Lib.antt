@@ -12,6 +12,7 @@ pub mod PushLemmas
 pub mod CutLemmas
 pub mod HeardLemmas
 pub mod StillLemmas
+pub mod LateLevelLemmas
 pub mod LineLemmas
 pub mod MarkedLemmas
 pub mod RingLemmas

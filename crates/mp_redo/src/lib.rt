@@ -29,6 +29,7 @@ mod looks;
 mod marks;
 mod news;
 mod opening;
+mod own_wave;
 mod parts;
 mod prefix;
 mod redoing;

@@ -1,4 +1,5 @@
 //! A wire's levels after a change of its netlist, over its wave before.
+use crate::own_wave::OwnWave;
 use crate::prefix::{run_after, run_before};
 use mp_engine::Run;
 use mp_netlist::WireId;
@@ -11,7 +12,7 @@ use std::alloc::{AllocError, Global};
 pub(crate) enum Line {
     Old,
     Own {
-        wave: WaveBuilder,
+        wave: OwnWave,
         until: u32,
         told: bool,
     },
@@ -33,7 +34,7 @@ pub(crate) fn run_level(run: &Run, wire: WireId, time: u32) -> u64
 }
 
 impl Line {
-    ghost use Rattle.std.specs.Prelude.{◌≡◌, ◌≢◌, ◌↔◌, ◌⊎◌, ℕ, ◌+◌, ◌-◌, ◌<◌, ◌≤◌, Option, nat_lt, if◌then◌else◌, true, false, IfOk, OnOk, IsTrue};
+    ghost use Rattle.std.specs.Prelude.{◌≡◌, ◌≢◌, ◌↔◌, ◌⊎◌, ℕ, ◌+◌, ◌-◌, ◌<◌, ◌≤◌, Option, nat_lt, if◌then◌else◌, true, false, IfOk, IfSome, OnOk, IsTrue};
     ghost use Rattle.mp_wave.specs.Waveform.{Waveform};
     ghost use Rattle.mp_engine.specs.Outcomes.{wave_of};
     ghost use Rattle.mp_redo.specs.Lines.{is_told, level_in, line_level, with_told, IsOwn};
@@ -51,6 +52,21 @@ impl Line {
                 ..
             } if time < *until => own.level_at(time),
             _ => run_level(run, wire, time),
+        }
+    }
+
+    /// The level at a time, where it is told without a search.
+    #[inline(always)]
+    pub(crate) fn late_level(&self, time: u32) -> Option<u64>
+        ensures { IfSome result (λ level. (old : Option Waveform) → level ≡ line_level self.now old time) }
+    {
+        match self {
+            Line::Own {
+                wave: own,
+                until,
+                ..
+            } if time < *until => own.late_level(time),
+            _ => None,
         }
     }
 
@@ -82,7 +98,7 @@ impl Line {
                 if until == 0 {
                     run_before(alloc, run, wire, end)
                 } else {
-                    run_after(alloc, own, until, run, wire, end)
+                    run_after(alloc, own.into_built(), until, run, wire, end)
                 }
             }
         }
@@ -107,7 +123,7 @@ impl Line {
         let line = std::mem::replace(self, Line::Old);
         let own = line.into_wave(alloc, run, wire, from)?;
         *self = Line::Own {
-            wave: own,
+            wave: OwnWave::new(own),
             until: end,
             told: false,
         };

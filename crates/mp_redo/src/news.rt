@@ -5,9 +5,10 @@ ghost use Rattle.mp_engine.specs.Outcomes.{wave_of};
 ghost use Rattle.mp_redo.specs.Lines.{level_in, line_level};
 
 use crate::line::Line;
+use crate::own_wave::OwnWave;
 use mp_engine::Run;
 use mp_netlist::WireId;
-use mp_wave::{Wave, WaveBuilder};
+use mp_wave::Wave;
 
 /// The time of the last change, 0 where there is none.
 fn last_time(changes: &[(u32, u64)]) -> u32
@@ -52,7 +53,7 @@ fn first_between(wave: &Wave, after: u32, end: u32) -> u32
 
 /// The same of a wave that is built.
 #[inline(always)]
-fn next_built(own: &WaveBuilder, after: u32, end: u32) -> u32
+fn next_built(own: &OwnWave, after: u32, end: u32) -> u32
     ensures { (x : ℕ) → after ≤ x → x + 1 < result → x + 1 < end → level_of own.now.wave (x + 1) ≡ level_of own.now.wave x }
 {
     // Mostly nothing has been given since, and then its changes needn't be looked at.

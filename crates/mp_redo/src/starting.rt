@@ -12,6 +12,7 @@ ghost use Rattle.mp_redo.specs.Starts.{IsFirstLine};
 use crate::cell::Cell;
 use crate::drivers::drivers_of;
 use crate::line::Line;
+use crate::own_wave::OwnWave;
 use crate::set_wires::{initial_level, is_set_alike, set_wave};
 use mp_netlist::{Driver, Netlist, WireId};
 use mp_wave::WaveBuilder;
@@ -90,7 +91,7 @@ fn own_line(wave: WaveBuilder, until: u32) -> Line
     ensures { result ≡ Own wave until false }
 {
     Line::Own {
-        wave,
+        wave: OwnWave::new(wave),
         until,
         told: false,
     }

@@ -60,7 +60,8 @@ pub(crate) fn give_outputs(
     Ok(())
 }
 
-ghost use Rattle.std.specs.Prelude.{◌-◌, ◌≤◌, true, map, take, slice_set};
+ghost use Rattle.std.specs.Prelude.{◌-◌, ◌≤◌, true, IfSome, map, take, slice_set};
+ghost use Rattle.mp_engine.specs.Outcomes.{Outcome};
 ghost use Rattle.std.specs.List.{Contains};
 ghost use Rattle.mp_records.specs.declared.ports.Input.{Input as Port};
 ghost use Rattle.mp_model.specs.Levels.{built};
@@ -139,21 +140,39 @@ fn hear(run: &Run, lines: &[Line], time: u32, input: Input) -> (u64, bool)
     ensures level { result.0 ≡ level_at run.now lines.now input.wire.0 (time - input.delay) }
     ensures told { result.1 ≡ true → IsToldTo true lines.now input }
 {
-    match lines.get(input.wire.0 as usize) {
-        Some(line) if input.delay == 0 => (line.level_at(run, input.wire, time), line.is_told()),
-        _ => (delayed_level(run, lines, time, input), false),
+    match hear_late(lines, time, input) {
+        Some(heard) => heard,
+        None => hear_any(run, lines, time, input),
     }
 }
 
-/// The level that is heard at any input: as few have a delay, it is kept apart.
+/// The same, where the input has no delay and the level is told without a search.
+#[inline(always)]
+fn hear_late(lines: &[Line], time: u32, input: Input) -> Option<(u64, bool)>
+    ensures level { IfSome result (λ heard. (run : Outcome) → heard.0 ≡ level_at run lines.now input.wire.0 (time - input.delay)) }
+    ensures told { IfSome result (λ heard. heard.1 ≡ true → IsToldTo true lines.now input) }
+{
+    if input.delay != 0 {
+        return None;
+    }
+    let line = lines.get(input.wire.0 as usize)?;
+    let level = line.late_level(time)?;
+    Some((level, line.is_told()))
+}
+
+/// The same at any input: as this is asked seldom, it is kept apart.
 #[inline(never)]
-fn delayed_level(run: &Run, lines: &[Line], time: u32, input: Input) -> u64
-    ensures { result ≡ level_at run.now lines.now input.wire.0 (time - input.delay) }
+fn hear_any(run: &Run, lines: &[Line], time: u32, input: Input) -> (u64, bool)
+    ensures level { result.0 ≡ level_at run.now lines.now input.wire.0 (time - input.delay) }
+    ensures told { result.1 ≡ true → IsToldTo true lines.now input }
 {
     let before = time.saturating_sub(input.delay);
     match lines.get(input.wire.0 as usize) {
-        Some(line) => line.level_at(run, input.wire, before),
-        None => run_level(run, input.wire, before),
+        Some(line) => (
+            line.level_at(run, input.wire, before),
+            input.delay == 0 && line.is_told(),
+        ),
+        None => (run_level(run, input.wire, before), false),
     }
 }
 
