@@ -1,5 +1,5 @@
 -- One module answers in some units.
-use Rattle.std.specs.Prelude.{◌≡◌, ◌≢◌, ℕ, ◌+◌, ◌-◌, ◌≤◌, Bool, true, List, [], Some, map}
+use Rattle.std.specs.Prelude.{◌≡◌, ◌≢◌, ℕ, ◌+◌, ◌-◌, ◌≤◌, Bool, true, List, [], Some, length, map}
 use Rattle.std.specs.List.{range_with_len}
 use Rattle.mp_modules.specs.Memories.{output_of}
 use Rattle.mp_modules.specs.declared.memory.Memory.{Memory}
@@ -15,8 +15,11 @@ use Rattle.mp_engine.specs.Checkpoints.{state_before}
 use Rattle.mp_engine.specs.Outcomes.{Outcome}
 use Rattle.mp_redo.specs.declared.cell.Cell.{Cell}
 use Rattle.mp_redo.specs.declared.line.Line.{Line}
+use Rattle.mp_redo.specs.Answers.{HasGiven}
 use Rattle.mp_redo.specs.Lines.{IsOwn}
 use Rattle.mp_redo.specs.Redoing.{level_at, line_at, cell_at, AreLines, AreTelling, IsListening}
+use Rattle.mp_redo.specs.Rings.{AreKept}
+use Rattle.mp_redo.specs.Telling.{AreTold, KeepsTelling}
 
 -- the module stands, with this state before a time
 pub record IsAt (n : Circuit) (m t : ℕ) (r : ModuleRecord) (memory : Memory) : Type 0 where
@@ -68,3 +71,11 @@ GoesOnFrom n run lines new r memory from to = (m begin : ℕ) (times later : ℕ
 -- the changes of so many outputs in one unit, from one state to another
 abbrev pub unit_answers : ℕ → ℕ → Memory → Memory → List (List (ℕ × ℕ))
 unit_answers count time before after = map (λ p. extended [] time (output_of before p) (output_of after p)) (range_with_len 0 count)
+
+-- all outputs gave the levels that change in one unit, from one state to another, to the lines of their wires, and told who reads them
+pub record HaveStepped (rows : List (List (ModuleId × ℕ))) (outputs : List Output) (before after : Memory) (time end : ℕ) (lines new : List Line) (looks lists : List (List ModuleId)) : Type 0 where
+  pub places : length lists ≡ length looks
+  pub kept : AreKept looks lists
+  pub given : HasGiven lines new outputs (unit_answers (length outputs) time before after) end time (time + 1) (length outputs)
+  pub told : AreTold rows outputs (unit_answers (length outputs) time before after) (time + 1) lists (length outputs)
+  pub telling : KeepsTelling rows end (time + 1) lines new looks lists

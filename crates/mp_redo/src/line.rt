@@ -180,6 +180,7 @@ impl Line {
     }
 
     /// From a time on this level, which the line can still be given.
+    #[inline(always)]
     pub(crate) fn push_level(&mut self, time: u32, level: u64) -> Result<(), AllocError>
         requires { IsOwn self.old time (time + 1) }
         ensures own { OnOk result ((end : ℕ) → IsOwn self.old time end → IsOwn self.new (time + 1) end) }

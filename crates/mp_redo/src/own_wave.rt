@@ -48,6 +48,7 @@ impl OwnWave {
     }
 
     /// From this time on the level is this one. Where memory runs out, the wave stays as it was.
+    #[inline(always)]
     pub(crate) fn push_level(&mut self, time: u32, level: u64) -> Result<(), AllocError>
         requires later { self.old.next ≤ time }
         requires last { time < 2 ^ 32 - 1 }

@@ -180,7 +180,7 @@ ghost use Rattle.std.specs.Prelude.{[], ◌∷◌, ◌⊎◌, Some, if◌then◌
 ghost use Rattle.mp_response.specs.Span.{extended};
 ghost use Rattle.mp_redo.specs.Answers.{AreApart, CanGive, CanTake, CanTakeSome, HasGiven, HasTaken};
 ghost use Rattle.mp_redo.specs.Redoing.{line_at};
-ghost use Rattle.mp_redo.specs.Steps.{unit_answers};
+ghost use Rattle.mp_redo.specs.Steps.{unit_answers, HaveStepped};
 ghost use Rattle.mp_redo.specs.Lines.{is_told, IsOwn};
 ghost use Rattle.mp_redo.specs.Telling.{IsTold, AreTold, KeepsTelling};
 
@@ -198,11 +198,51 @@ fn step_outputs(
     requires apart { AreApart outputs.now }
     requires able { CanGive lines.old outputs.now (unit_answers (length outputs.now) time before.now after.now) end time (time + 1) }
     requires some { 0 < length looks.old.items }
-    ensures places { OnOk result (length looks.new.items ≡ length looks.old.items) }
-    ensures kept { OnOk result (AreKept looks.old.items looks.new.items) }
-    ensures given { OnOk result (HasGiven lines.old lines.new outputs.now (unit_answers (length outputs.now) time before.now after.now) end time (time + 1) (length outputs.now)) }
-    ensures told { OnOk result (AreTold readers.now outputs.now (unit_answers (length outputs.now) time before.now after.now) (time + 1) looks.new.items (length outputs.now)) }
-    ensures telling { OnOk result (KeepsTelling readers.now end (time + 1) lines.old lines.new looks.old.items looks.new.items) }
+    ensures { OnOk result (HaveStepped readers.now outputs.now before.now after.now time end lines.old lines.new looks.old.items looks.new.items) }
+{
+    if time == 0 {
+        first_outputs(lines, looks, readers, outputs, before, after, time, end)
+    } else {
+        each_output(lines, looks, readers, outputs, before, after, time, end)
+    }
+}
+
+/// The same where it is asked seldom, at time 0, and so kept apart: elsewhere it need not be asked of each output whether this is that time.
+#[inline(never)]
+fn first_outputs(
+    lines: &mut [Line],
+    looks: &mut Ring,
+    readers: &Readers,
+    outputs: &[Output],
+    before: &Memory,
+    after: &Memory,
+    time: u32,
+    end: u32,
+) -> Result<(), AllocError>
+    requires apart { AreApart outputs.now }
+    requires able { CanGive lines.old outputs.now (unit_answers (length outputs.now) time before.now after.now) end time (time + 1) }
+    requires some { 0 < length looks.old.items }
+    ensures { OnOk result (HaveStepped readers.now outputs.now before.now after.now time end lines.old lines.new looks.old.items looks.new.items) }
+{
+    each_output(lines, looks, readers, outputs, before, after, time, end)
+}
+
+/// The same at any time.
+#[inline(always)]
+fn each_output(
+    lines: &mut [Line],
+    looks: &mut Ring,
+    readers: &Readers,
+    outputs: &[Output],
+    before: &Memory,
+    after: &Memory,
+    time: u32,
+    end: u32,
+) -> Result<(), AllocError>
+    requires apart { AreApart outputs.now }
+    requires able { CanGive lines.old outputs.now (unit_answers (length outputs.now) time before.now after.now) end time (time + 1) }
+    requires some { 0 < length looks.old.items }
+    ensures { OnOk result (HaveStepped readers.now outputs.now before.now after.now time end lines.old lines.new looks.old.items looks.new.items) }
 {
     for p in 0..outputs.len() {
         let (was, is) = (before.output(p), after.output(p));
@@ -212,6 +252,7 @@ fn step_outputs(
 }
 
 /// One output does so.
+#[inline(always)]
 fn step_output(
     lines: &mut [Line],
     looks: &mut Ring,

@@ -11,7 +11,7 @@ use Rattle.mp_redo.specs.Telling.{IsTold, AreTold, first_time}
 use Rattle.mp_redo.proofs.GiveLemmas.{given_none, given_more, can_here, read_output}
 use Rattle.mp_redo.proofs.RingLemmas.{looking_kept, kept_twice}
 use Rattle.mp_redo.proofs.StepLemmas.{unit_answer}
-use Rattle.mp_redo.proofs.stepping.step_outputs.Goals as goal
+use Rattle.mp_redo.proofs.stepping.each_output.Goals as goal
 
 pub step_output-requires-clause-wire : goal.step_output-requires-clause-wire
 step_output-requires-clause-wire c = λ w wire.
@@ -81,14 +81,15 @@ loop-p-preserved c =
       ];
     }
 
-pub returns-clause-given : goal.returns-clause-given
-returns-clause-given c =
+pub returns : goal.returns
+returns c =
+    let inv = c.loop-p.invariant in
     let e : c.loop-p.p ≡ length c.args.outputs.now = omega (arith, c.loop-p.auto.p-end, c.loop-p-test.false) in
     let answers = unit_answers (length c.args.outputs.now) c.args.time c.args.before.now c.args.after.now in
-    subst (HasGiven c.args.lines.now c.loop-p.lines c.args.outputs.now answers c.args.end c.args.time (c.args.time + 1)) e c.loop-p.invariant.given
-
-pub returns-clause-told : goal.returns-clause-told
-returns-clause-told c =
-    let e : c.loop-p.p ≡ length c.args.outputs.now = omega (arith, c.loop-p.auto.p-end, c.loop-p-test.false) in
-    let answers = unit_answers (length c.args.outputs.now) c.args.time c.args.before.now c.args.after.now in
-    subst (AreTold c.args.readers.now c.args.outputs.now answers (c.args.time + 1) c.loop-p.looks.items) e c.loop-p.invariant.told
+    record {
+      places = inv.places;
+      kept = inv.kept;
+      given = subst (HasGiven c.args.lines.now c.loop-p.lines c.args.outputs.now answers c.args.end c.args.time (c.args.time + 1)) e inv.given;
+      told = subst (AreTold c.args.readers.now c.args.outputs.now answers (c.args.time + 1) c.loop-p.looks.items) e inv.told;
+      telling = inv.telling;
+    }

@@ -3,7 +3,7 @@ use Rattle.mp_redo.specs.Answers.{HasGiven}
 use Rattle.mp_redo.specs.Rings.{AreKept}
 use Rattle.mp_redo.specs.Steps.{unit_answers}
 use Rattle.mp_redo.specs.Telling.{AreTold, KeepsTelling}
-use Rattle.mp_redo.proofs.stepping.step_outputs.Given as goal
+use Rattle.mp_redo.proofs.stepping.each_output.Given as goal
 
 -- the first outputs have given and told
 abbrev pub invariant-loop-p : goal.invariant-loop-p
