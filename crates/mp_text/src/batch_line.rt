@@ -47,7 +47,7 @@ fn each_part(alloc: Global, parts: &[&[&[u8]]]) -> Result<Batch, LineError>
     requires { All (λ part. AreAscii part.now) parts.now }
     ensures { Gives OutOfMemory (λ batch. batch) result (each_part (part_texts parts.now)) }
 {
-    let mut edits = Vec::new(alloc);
+    let mut edits = Vec::with_capacity(alloc, parts.len())?;
     for part in parts {
         let edit = part_edit(alloc, part)?;
         edits.push(edit)?;

@@ -10,7 +10,7 @@ part_edit-requires c = All-get_or (λ part. AreAscii part.now) c.args.parts.now 
 
 pub returns-in_err-edit : goal.returns-in_err-edit
 returns-in_err-edit c =
-    let p = err_from_is_err_and c.from_residual.result c.from_residual.ensures.1 in
+    let p = err_from_is_err_and c.from_residual-in_err-edit.result c.from_residual-in_err-edit.ensures.1 in
     elim c.in_err-edit.ensures [
       | inl memory ↦ rw (p.1, p.2) (inl memory)
       | inr failed ↦ rw (p.1, p.2) (inr (part_err c.args.parts.now c.loop-part.part-index _ c.loop-part.edits.items c.in_err-edit.field-0.0 (omega arith) c.loop-part.invariant failed))
