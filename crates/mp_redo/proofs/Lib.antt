@@ -15,6 +15,7 @@ pub mod StillLemmas
 pub mod LateLevelLemmas
 pub mod LineLemmas
 pub mod MarkedLemmas
+pub mod ModuleLemmas
 pub mod RingLemmas
 pub mod GiveLemmas
 pub mod DriverLemmas

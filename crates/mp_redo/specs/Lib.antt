@@ -8,6 +8,7 @@ pub mod Redoing
 pub mod Changes
 pub mod Merges
 pub mod Rings
+pub mod Parts
 pub mod Prefixes
 pub mod Answers
 pub mod Drivers

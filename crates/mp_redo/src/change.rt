@@ -1,16 +1,16 @@
 //! A change of a netlist.
+use crate::parts::Part;
 use mp_depend::Readers;
 use mp_engine::Run;
 use mp_netlist::Netlist;
-use mp_storage::AnyModule;
 
 /// A netlist with its run, and the netlist that has become of it, with the readers of this one's wires and
-/// its event modules by number.
+/// its modules by number.
 #[derive(Clone, Copy)]
 pub(crate) struct Change<'a> {
     pub old: &'a Netlist,
     pub run: &'a Run,
     pub new: &'a Netlist,
     pub readers: &'a Readers,
-    pub parts: &'a [Option<AnyModule>],
+    pub parts: &'a [Option<Part<'a>>],
 }

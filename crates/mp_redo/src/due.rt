@@ -2,6 +2,7 @@
 ghost use Rattle.std.specs.Prelude.{◌≡◌, ℕ, ◌+◌, ◌<◌, ◌⊎◌, ◌++◌, ◌∷◌, true, false, Some, None, IsSome, [], OnOk, length, slice_set, if◌then◌else◌};
 ghost use Rattle.std.specs.List.{Contains};
 ghost use Rattle.mp_engine.specs.Marks.{is_marked};
+ghost use Rattle.mp_model.specs.Levels.{built};
 ghost use Rattle.mp_netlist.specs.Circuit.{module_at};
 ghost use Rattle.mp_netlist.specs.Slots.{slot_at};
 ghost use Rattle.mp_redo.specs.Changes.{IsChange};
@@ -21,6 +22,7 @@ use crate::stepping::{give_outputs, go_on};
 use mp_engine::Run;
 use mp_modules::Memory;
 use mp_netlist::{ModuleId, ModuleRecord};
+use mp_storage::AnyModule;
 use std::alloc::AllocError;
 
 /// The state of a module that a run kept for a time, or a blank one.
@@ -59,6 +61,7 @@ fn answer_as_live(
     due: &[ModuleId],
     id: ModuleId,
     found: &ModuleRecord,
+    part: &AnyModule,
     marks: &mut [bool],
     cells: &mut [Cell],
     lines: &mut [Line],
@@ -71,6 +74,7 @@ fn answer_as_live(
     requires during { IsDuring change.now.old.now change.now.new.now change.now.run.now block time (time + 1) due.now marks.old cells.old lines.old looks.old.items }
     requires marked { is_marked marks.old id.0 ≡ true }
     requires stands { module_at change.now.new.now id.0 ≡ Some found.now }
+    requires part { part.now ≡ built change.now.new.now found.now }
     requires live { (cell_at cells.old id.0).live ≡ true }
     ensures places { OnOk result (length looks.new.items ≡ length looks.old.items) }
     ensures marks { OnOk result (marks.new ≡ slice_set marks.old id.0 false) }
@@ -79,9 +83,6 @@ fn answer_as_live(
     ensures still { OnOk result (StillHear change.now.new.now change.now.run.now (time + 1) looking.old.items cells.old lines.old looks.old.items looking.new.items cells.new lines.new looks.new.items) }
     ensures during { OnOk result (IsDuring change.now.old.now change.now.new.now change.now.run.now block time (time + 1) due.now marks.new cells.new lines.new looks.new.items) }
 {
-    let Some(part) = part_at(change.parts, id) else {
-        unreachable!();
-    };
     let before = *state_of(cells, id);
     let told = go_on(change, lines, cells, id, found, part, time);
     let after = state_of(cells, id);
@@ -169,19 +170,40 @@ fn answer_one(
         list_untold(looking, id, false)?;
         return Ok(());
     }
-    let Some(found) = change.new.module(id) else {
+    let Some(found) = part_at(change.parts, id) else {
         clear_mark(marks, id);
         list_untold(looking, id, false)?;
         return Ok(());
     };
     if is_live(cells, id) {
         return answer_as_live(
-            change, block, time, due, id, found, marks, cells, lines, looks, looking,
+            change,
+            block,
+            time,
+            due,
+            id,
+            found.record,
+            &found.module,
+            marks,
+            cells,
+            lines,
+            looks,
+            looking,
         );
     }
     list_untold(looking, id, false)?;
     find_quiet(
-        change, block, time, due, id, found, joining, marks, cells, lines, looks,
+        change,
+        block,
+        time,
+        due,
+        id,
+        found.record,
+        joining,
+        marks,
+        cells,
+        lines,
+        looks,
     )?;
     Ok(())
 }

@@ -1,22 +1,29 @@
-//! The event modules that a netlist's records stand for.
-ghost use Rattle.std.specs.Prelude.{◌≡◌, IfOk, map, option_map};
-ghost use Rattle.mp_model.specs.Levels.{built};
+//! The modules of a netlist, with the event modules that their records stand for.
+ghost use Rattle.std.specs.Prelude.{◌≡◌, IfOk, option_map};
 ghost use Rattle.mp_netlist.specs.Circuit.{IsCircuit};
 ghost use Rattle.mp_netlist.specs.Slots.{slot_at};
+ghost use Rattle.mp_redo.specs.Parts.{told_by, with_built, AreParts};
 ghost use Rattle.std.specs.Option.{option_copied};
 
 use mp_model::built;
-use mp_netlist::{ModuleId, Netlist};
+use mp_netlist::{ModuleId, ModuleRecord, Netlist};
 use mp_storage::AnyModule;
 use std::alloc::{AllocError, Global};
 
-/// The event module of each module of a netlist, by number, so that none is made anew for each answer.
-pub(crate) fn parts_of(
+/// A module's record, and the event module that it stands for.
+#[derive(Drop)]
+pub(crate) struct Part<'a> {
+    pub record: &'a ModuleRecord,
+    pub module: AnyModule,
+}
+
+/// The modules of a netlist by number, so that none is made anew, or looked up in the netlist, for each answer.
+pub(crate) fn parts_of<'a>(
     alloc: Global,
-    netlist: &Netlist,
-) -> Result<Vec<Option<AnyModule>>, AllocError>
+    netlist: &'a Netlist,
+) -> Result<Vec<Option<Part<'a>>>, AllocError>
     requires { IsCircuit netlist.now }
-    ensures { IfOk result (λ parts. parts.items ≡ map (option_map (built netlist.now)) netlist.now.modules) }
+    ensures { IfOk result (λ parts. AreParts netlist.now parts.items) }
 {
     let mut parts = Vec::new(alloc);
     for m in 0..netlist.module_slots() {
@@ -25,16 +32,19 @@ pub(crate) fn parts_of(
     Ok(parts)
 }
 
-fn part_of(netlist: &Netlist, id: ModuleId) -> Option<AnyModule>
+fn part_of<'a>(netlist: &'a Netlist, id: ModuleId) -> Option<Part<'a>>
     requires { IsCircuit netlist.now }
-    ensures { result ≡ option_map (built netlist.now) (slot_at netlist.now.modules id.0) }
+    ensures { option_map told_by result ≡ option_map (with_built netlist.now) (slot_at netlist.now.modules id.0) }
 {
     let found = netlist.module(id)?;
-    Some(built(netlist, found))
+    Some(Part {
+        record: found,
+        module: built(netlist, found),
+    })
 }
 
-/// The event module at a number, if there is one.
-pub(crate) fn part_at(parts: &[Option<AnyModule>], id: ModuleId) -> Option<&AnyModule>
+/// The module at a number, if there is one.
+pub(crate) fn part_at<'a, 'b>(parts: &'b [Option<Part<'a>>], id: ModuleId) -> Option<&'b Part<'a>>
     ensures { option_copied result ≡ slot_at parts.now id.0 }
 {
     match parts.get(id.0 as usize) {

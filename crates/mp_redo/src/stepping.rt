@@ -178,11 +178,11 @@ fn hear_any(run: &Run, lines: &[Line], time: u32, input: Input) -> (u64, bool)
 
 ghost use Rattle.std.specs.Prelude.{[], ◌∷◌, ◌⊎◌, Some, if◌then◌else◌};
 ghost use Rattle.mp_response.specs.Span.{extended};
-ghost use Rattle.mp_redo.specs.Answers.{AreApart, CanGive, CanTake, CanTakeSome, HasGiven, HasTaken};
+ghost use Rattle.mp_redo.specs.Answers.{AreApart, CanGive, CanTake, CanTakeSome, HasTaken};
 ghost use Rattle.mp_redo.specs.Redoing.{line_at};
 ghost use Rattle.mp_redo.specs.Steps.{unit_answers, HaveStepped};
 ghost use Rattle.mp_redo.specs.Lines.{is_told, IsOwn};
-ghost use Rattle.mp_redo.specs.Telling.{IsTold, AreTold, KeepsTelling};
+ghost use Rattle.mp_redo.specs.Telling.{IsTold, KeepsTelling};
 
 /// All outputs give the levels that change in a unit to the lines of their wires, and tell who reads them.
 fn step_outputs(

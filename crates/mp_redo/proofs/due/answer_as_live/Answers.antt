@@ -1,11 +1,6 @@
-use Rattle.std.proofs.Common.{◌≡◌, ◌+◌, ◌<◌, length, option_map, ℕ, true, Some, None, List, [], slice_set, false, refl, sym, subst, ap, ◌∙◌, arith}
-use Rattle.std.specs.Option.{option_copied}
-use Rattle.std.proofs.lemmas.List.{get_or-map, get_or-set_same, length-set}
-use Rattle.std.proofs.lemmas.Option.{same_Some}
+use Rattle.std.proofs.Common.{◌≡◌, ◌+◌, ◌<◌, length, ℕ, true, List, [], slice_set, false, refl, sym, subst, ap, ◌∙◌, arith}
+use Rattle.std.proofs.lemmas.List.{get_or-set_same, length-set}
 use Rattle.mp_modules.specs.declared.memory.Memory.{Memory}
-use Rattle.mp_netlist.specs.Slots.{slot_at}
-use Rattle.mp_model.specs.Levels.{built}
-use Rattle.mp_model.proofs.SlotLemmas.{slot_within}
 use Rattle.mp_redo.specs.declared.cell.Cell.{Cell}
 use Rattle.mp_redo.specs.Joins.{HaveAnswered, live_cell}
 use Rattle.mp_redo.specs.Redoing.{cell_at, IsDuring}
@@ -21,17 +16,6 @@ state_of-requires c =
 
 pub go_on-told-requires-clause-form : goal.go_on-told-requires-clause-form
 go_on-told-requires-clause-form c = c.requires.change.form.modules_ok c.args.id.0 c.args.found.now c.requires.stands
-
-pub go_on-told-requires-clause-part : goal.go_on-told-requires-clause-part
-go_on-told-requires-clause-part c =
-    let n = c.args.change.now.new.now in
-    let r = c.args.found.now in
-    let m = c.args.id.0 in
-    let low = slot_within n.modules m r c.requires.stands in
-    let both : Some c.in-Some.part.now ≡ Some (built n r) =
-    ap option_copied (sym c.in-Some.is) ∙ c.part_at.ensures ∙ ap (λ xs. slot_at xs m) c.requires.change.parts
-    ∙ get_or-map (option_map (built n)) n.modules m None None low ∙ ap (option_map (built n)) c.requires.stands in
-    same_Some c.in-Some.part.now (built n r) both
 
 pub go_on-told-requires-clause-place : goal.go_on-told-requires-clause-place
 go_on-told-requires-clause-place c =

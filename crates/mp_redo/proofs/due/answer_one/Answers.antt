@@ -1,9 +1,11 @@
 use Rattle.std.proofs.Common.{◌≡◌, ◌+◌, true, false, ap, sym, subst, ◌∙◌}
+use Rattle.std.specs.Option.{option_copied}
 use Rattle.std.proofs.lemmas.Result.{on_ok_weaker}
 use Rattle.mp_engine.specs.Marks.{is_marked}
 use Rattle.mp_redo.specs.Redoing.{IsDuring}
 use Rattle.mp_redo.proofs.DueLemmas.{absent_stays, marked_was}
 use Rattle.mp_redo.proofs.LookingLemmas.{hears_listed, listed_more, still_hear}
+use Rattle.mp_redo.proofs.ModuleLemmas.{none_found, part_found}
 use Rattle.mp_redo.proofs.due.answer_one.Goals as goal
 
 pub returns-then-not-has_mark-clause-hears : goal.returns-then-not-has_mark-clause-hears
@@ -26,7 +28,19 @@ returns-in_default-clause-during c =
     let time = c.args.time in
     let marked : is_marked c.args.marks.now c.args.id.0 ≡ true = sym c.has_mark.ensures ∙ c.if-not-has_mark.false in
     subst (λ ms. IsDuring old new run c.args.block time (time + 1) c.args.due.now ms c.args.cells.now c.args.lines.now c.args.looks.now.items) (sym c.clear_mark.ensures)
-    (absent_stays old new c.requires.change.old_form c.requires.change.form c.requires.change.revision run c.requires.change.run c.args.block time (time + 1) c.requires.unit c.args.due.now c.args.marks.now c.args.cells.now c.args.lines.now c.args.looks.now.items c.requires.during c.args.id.0 marked (sym c.in_default.ensures.value))
+    (absent_stays old new c.requires.change.old_form c.requires.change.form c.requires.change.revision run c.requires.change.run c.args.block time (time + 1) c.requires.unit c.args.due.now c.args.marks.now c.args.cells.now c.args.lines.now c.args.looks.now.items c.requires.during c.args.id.0 marked (none_found new c.args.change.now.parts.now c.requires.change.parts c.args.id.0 (sym c.in_default.ensures)))
+
+pub answer_as_live-requires-clause-stands : goal.answer_as_live-requires-clause-stands
+answer_as_live-requires-clause-stands c =
+    (part_found c.args.change.now.new.now c.args.change.now.parts.now c.requires.change.parts c.args.id.0 c.in-Some.found.now (sym (ap option_copied (sym c.in-Some.is) ∙ c.part_at.ensures))).0
+
+pub answer_as_live-requires-clause-part : goal.answer_as_live-requires-clause-part
+answer_as_live-requires-clause-part c =
+    (part_found c.args.change.now.new.now c.args.change.now.parts.now c.requires.change.parts c.args.id.0 c.in-Some.found.now (sym (ap option_copied (sym c.in-Some.is) ∙ c.part_at.ensures))).1
+
+pub find_quiet-requires-clause-stands : goal.find_quiet-requires-clause-stands
+find_quiet-requires-clause-stands c =
+    (part_found c.args.change.now.new.now c.args.change.now.parts.now c.requires.change.parts c.args.id.0 c.in-Some.found.now (sym (ap option_copied (sym c.in-Some.is) ∙ c.part_at.ensures))).0
 
 pub returns-then-is_live-clause-others : goal.returns-then-is_live-clause-others
 returns-then-is_live-clause-others c =

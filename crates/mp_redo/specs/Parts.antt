@@ -1,0 +1,19 @@
+-- The modules of a netlist, each with the event module that its record stands for.
+use Rattle.std.specs.Prelude.{◌≡◌, List, Option, map, option_map}
+use Rattle.mp_records.specs.declared.module_record.ModuleRecord.{ModuleRecord}
+use Rattle.mp_storage.specs.declared.any_module.AnyModule.{AnyModule}
+use Rattle.mp_model.specs.Levels.{built}
+use Rattle.mp_netlist.specs.Circuit.{Circuit}
+use Rattle.mp_redo.specs.declared.parts.Part.{Part}
+
+-- a part's record and event module, without where the record lies in memory
+abbrev pub told_by : Part → ModuleRecord × AnyModule
+told_by part = (part.record.now, part.module)
+
+-- a record with the event module that it stands for
+abbrev pub with_built : Circuit → ModuleRecord → ModuleRecord × AnyModule
+with_built n r = (r, built n r)
+
+-- the parts are the netlist's modules, by number
+abbrev pub AreParts : Circuit → List (Option Part) → Type 0
+AreParts n parts = map (option_map told_by) parts ≡ map (option_map (with_built n)) n.modules
