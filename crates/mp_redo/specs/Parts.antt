@@ -6,7 +6,7 @@ use Rattle.mp_model.specs.Levels.{built}
 use Rattle.mp_netlist.specs.Circuit.{Circuit}
 use Rattle.mp_redo.specs.declared.parts.Part.{Part}
 
--- a part's record and event module, without where the record lies in memory
+-- what a part tells: its record, without where that lies in memory, and its event module
 abbrev pub told_by : Part → ModuleRecord × AnyModule
 told_by part = (part.record.now, part.module)
 

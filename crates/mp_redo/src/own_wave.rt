@@ -6,7 +6,8 @@ use std::alloc::AllocError;
 use std::marker::Model;
 
 /// A wave that grows at its end. The level from the last given time on is told without a search, and so is the one from the time given before
-/// it up to that: most levels that modules hear are one of these.
+/// it up to that: most levels that modules hear are one of these. What the builder knows of the last one stands here too, beside the other,
+/// since both are asked for each input that is heard.
 #[derive(Drop)]
 pub(crate) struct OwnWave {
     built: WaveBuilder,
