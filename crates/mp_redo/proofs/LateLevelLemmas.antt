@@ -8,7 +8,7 @@ use Rattle.mp_model.specs.Tracks.{held_on}
 use Rattle.mp_redo.specs.LateLevels.{AreLate}
 use Rattle.mp_redo.proofs.PrefixLemmas.{held_building}
 
--- one level is told of a wave that was just built
+-- one level is known of a wave that was just built
 pub late_at_first : (built : Building) (from level : ℕ) → IsBuilding built → built.next ≡ from + 1 → level ≡ level_of built.wave from → AreLate built from level from level
 late_at_first built from level is given here = record {
   form = is;

@@ -1,4 +1,4 @@
--- The levels that a wave had late, which are told without a search.
+-- The levels that a wave had late, which are known without a search.
 use Rattle.std.specs.Prelude.{◌≡◌, ℕ, ◌+◌, ◌<◌, ◌≤◌}
 use Rattle.mp_wave.specs.Waveform.{level_of}
 use Rattle.mp_wave.specs.Building.{Building, IsBuilding}

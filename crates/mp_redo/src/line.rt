@@ -55,7 +55,7 @@ impl Line {
         }
     }
 
-    /// The level at a time, where it is told without a search.
+    /// The level at a time, where it is known without a search.
     #[inline(always)]
     pub(crate) fn late_level(&self, time: u32) -> Option<u64>
         ensures { IfSome result (λ level. (old : Option Waveform) → level ≡ line_level self.now old time) }

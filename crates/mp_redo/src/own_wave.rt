@@ -5,7 +5,7 @@ use mp_wave::{Wave, WaveBuilder};
 use std::alloc::AllocError;
 use std::marker::Model;
 
-/// A wave that grows at its end. The level from the last given time on is told without a search, and so is the one from the time given before
+/// A wave that grows at its end. The level from the last given time on is known without a search, and so is the one from the time given before
 /// it up to that: most levels that modules hear are one of these. What the builder knows of the last one stands here too, beside the other,
 /// since both are asked for each input that is heard.
 #[derive(Drop)]
@@ -64,7 +64,7 @@ impl OwnWave {
         Ok(())
     }
 
-    /// The level at a time, where it is told without a search.
+    /// The level at a time, where it is known without a search.
     #[inline(always)]
     pub(crate) fn late_level(&self, time: u32) -> Option<u64>
         ensures { IfSome result (λ level. level ≡ level_of self.now.wave time) }

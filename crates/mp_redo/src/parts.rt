@@ -2,7 +2,7 @@
 ghost use Rattle.std.specs.Prelude.{◌≡◌, IfOk, option_map};
 ghost use Rattle.mp_netlist.specs.Circuit.{IsCircuit};
 ghost use Rattle.mp_netlist.specs.Slots.{slot_at};
-ghost use Rattle.mp_redo.specs.Parts.{told_by, with_built, AreParts};
+ghost use Rattle.mp_redo.specs.Parts.{record_and_module, with_built, AreParts};
 ghost use Rattle.std.specs.Option.{option_copied};
 
 use mp_model::built;
@@ -34,7 +34,7 @@ pub(crate) fn parts_of<'a>(
 
 fn part_of<'a>(netlist: &'a Netlist, id: ModuleId) -> Option<Part<'a>>
     requires { IsCircuit netlist.now }
-    ensures { option_map told_by result ≡ option_map (with_built netlist.now) (slot_at netlist.now.modules id.0) }
+    ensures { option_map record_and_module result ≡ option_map (with_built netlist.now) (slot_at netlist.now.modules id.0) }
 {
     let found = netlist.module(id)?;
     Some(Part {

@@ -146,7 +146,7 @@ fn hear(run: &Run, lines: &[Line], time: u32, input: Input) -> (u64, bool)
     }
 }
 
-/// The same, where the input has no delay and the level is told without a search.
+/// The same, where the input has no delay and the level is known without a search.
 #[inline(always)]
 fn hear_late(lines: &[Line], time: u32, input: Input) -> Option<(u64, bool)>
     ensures level { IfSome result (λ heard. (run : Outcome) → heard.0 ≡ level_at run lines.now input.wire.0 (time - input.delay)) }
