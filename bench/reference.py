@@ -1,4 +1,26 @@
-"""The model (`docs/MODEL.md`) read once more, in Python: the waves of a netlist, computed unit by unit from time 0."""
+"""The model (`docs/MODEL.md`) read once more, in Python: the waves, the findings and the work of a netlist, computed unit by unit from time 0."""
+import bisect
+
+# kind: the bounds of its parameters, and the widths of its inputs and outputs, as functions of the module's width
+KINDS = {
+    "BUF": lambda w: ([], [w], [w]),
+    "NOT": lambda w: ([], [1], [1]),
+    "XOR": lambda w: ([], [1, 1], [1]),
+    "C": lambda w: ([2, 2, 2], [1, 1], [1]),
+    "TOGGLE": lambda w: ([], [1], [1, 1]),
+    "SELECT": lambda w: ([], [1, 1], [1, 1]),
+    "CALL": lambda w: ([], [1, 1, 1], [1, 1, 1]),
+    "ARBITER": lambda w: ([], [1, 1, 1, 1], [1, 1]),
+    "REG": lambda w: ([1 << w], [w, 1, 1], [w, 1, 1]),
+    "ADDC": lambda w: ([1 << w], [w], [w]),
+    "XORC": lambda w: ([1 << w], [w], [w]),
+    "SUM": lambda w: ([], [w, w], [w]),
+    "BIT": lambda w: ([w], [w], [1]),
+}
+
+# the codes of findings, by number
+CODES = """merge-collision withdrawn select-unstable call-overlap done-without-call repeat-request done-without-grant capture-while-held
+pass-while-open data-at-capture data-while-busy setup request-while-busy ack-while-idle""".split()
 
 
 def event(before, now, port):
@@ -6,29 +28,51 @@ def event(before, now, port):
     return before is not None and before[port] != now[port]
 
 
-class Combination:
+class Module:
+    """A module between two units. A step gives its outputs, and adds what it finds to `found`."""
+
+    def __init__(self):
+        self.found = set()
+
+    def find(self, code, holds):
+        if holds:
+            self.found.add(code)
+
+
+class Combination(Module):
     """A module whose output is a function of its inputs."""
 
     def __init__(self, function):
+        super().__init__()
         self.function = function
 
     def step(self, before, now):
         return [self.function(*now)]
 
 
-class CElement:
+class Merge(Module):
+    def step(self, before, now):
+        self.find("merge-collision", event(before, now, 0) and event(before, now, 1))
+        return [now[0] ^ now[1]]
+
+
+class CElement(Module):
     def __init__(self, init, bubble_a, bubble_b):
+        super().__init__()
         self.q, self.bubbles = init, (bubble_a, bubble_b)
 
     def step(self, before, now):
+        for port, bubble in enumerate(self.bubbles):
+            self.find("withdrawn", event(before, now, port) and before[port] ^ bubble != self.q)
         a, b = (1 - level if bubble else level for level, bubble in zip(now, self.bubbles))
         if a == b:
             self.q = a
         return [self.q]
 
 
-class Toggle:
+class Toggle(Module):
     def __init__(self):
+        super().__init__()
         self.outputs, self.turn = [0, 0], 0
 
     def step(self, before, now):
@@ -38,33 +82,39 @@ class Toggle:
         return list(self.outputs)
 
 
-class Select:
+class Select(Module):
     def __init__(self):
+        super().__init__()
         self.outputs = [0, 0]
 
     def step(self, before, now):
+        self.find("select-unstable", event(before, now, 0) and event(before, now, 1))
         if event(before, now, 0):
             self.outputs[0 if now[1] == 1 else 1] ^= 1
         return list(self.outputs)
 
 
-class Call:
+class Call(Module):
     def __init__(self):
+        super().__init__()
         self.outputs, self.served = [0, 0, 0], None
 
     def step(self, before, now):
+        self.find("done-without-call", event(before, now, 2) and self.served is None)
         if event(before, now, 2) and self.served is not None:
             self.outputs[1 + self.served] ^= 1
             self.served = None
         for client in (0, 1):
+            self.find("call-overlap", event(before, now, client) and self.served is not None)
             if event(before, now, client) and self.served is None:
                 self.outputs[0] ^= 1
                 self.served = client
         return list(self.outputs)
 
 
-class Arbiter:
+class Arbiter(Module):
     def __init__(self):
+        super().__init__()
         self.outputs, self.owner, self.waits = [0, 0], None, None
 
     def grant(self, port):
@@ -73,12 +123,15 @@ class Arbiter:
 
     def step(self, before, now):
         waited = self.waits
+        for port in (0, 1):
+            self.find("done-without-grant", event(before, now, 2 + port) and self.owner != port)
         if self.owner is not None and event(before, now, 2 + self.owner):
             self.owner = None
         if self.owner is None and waited is not None:
             self.grant(waited)
             self.waits = None
         for port in (0, 1):
+            self.find("repeat-request", event(before, now, port) and port in (self.owner, self.waits))
             if event(before, now, port) and self.owner != port and self.waits != port:
                 if self.owner is None:
                     self.grant(port)
@@ -87,12 +140,17 @@ class Arbiter:
         return list(self.outputs)
 
 
-class Register:
+class Register(Module):
     def __init__(self, init):
+        super().__init__()
         self.q = init
 
     def step(self, before, now):
         data, capture, pass_on = now
+        was_open = before is not None and before[1] == before[2]
+        self.find("capture-while-held", event(before, now, 1) and not was_open)
+        self.find("pass-while-open", event(before, now, 2) and was_open)
+        self.find("data-at-capture", event(before, now, 0) and was_open and capture != pass_on)
         if capture == pass_on:
             self.q = data
         return [self.q, capture, pass_on]
@@ -104,7 +162,6 @@ def built(kind, params, width):
     combinations = {
         "BUF": lambda a: a,
         "NOT": lambda a: 1 - a,
-        "XOR": lambda a, b: a ^ b,
         "ADDC": lambda a: (a + params[0]) % modulus,
         "XORC": lambda a: a ^ params[0],
         "SUM": lambda a, b: (a + b) % modulus,
@@ -112,7 +169,7 @@ def built(kind, params, width):
     }
     if kind in combinations:
         return Combination(combinations[kind])
-    stateful = {"C": CElement, "TOGGLE": Toggle, "SELECT": Select, "CALL": Call, "ARBITER": Arbiter, "REG": Register}
+    stateful = {"XOR": Merge, "C": CElement, "TOGGLE": Toggle, "SELECT": Select, "CALL": Call, "ARBITER": Arbiter, "REG": Register}
     return stateful[kind](*params)
 
 
@@ -122,8 +179,8 @@ def state_of(module, now, outputs):
 
 
 def evaluated(netlist):
-    """The levels of each wire by number and time, and the inputs and states of each module by number and time; None where none stands. A
-    netlist has `horizon`, `wires` (name, width, level), `modules` (kind, params, inputs, outputs; an input is a wire's number and a delay, an
+    """The levels of each wire by number and time, and the inputs and states of each module by number and time; None where none stands; and
+    what is found at modules, as time, number and codes. A netlist has `horizon`, `wires` (name, width, level), `modules` (kind, params, inputs, outputs; an input is a wire's number and a delay, an
     output a wire's number or None and a delay) and `stimuli` (by wire's number, a list of pairs); None is a place without wire or module."""
     levels = [wire and [wire[2]] * netlist.horizon for wire in netlist.wires]
     for wire, pairs in netlist.stimuli.items():
@@ -131,7 +188,7 @@ def evaluated(netlist):
             levels[wire][time:] = [value] * (netlist.horizon - time)
     modules = [(number, *found) for number, found in enumerate(netlist.modules) if found]
     modules = [(number, built(kind, params, netlist.wires[inputs[0][0]][1]), inputs, outputs) for number, kind, params, inputs, outputs in modules]
-    states = [found and [] for found in netlist.modules]
+    states, findings = [found and [] for found in netlist.modules], []
     for time in range(netlist.horizon):
         for number, module, inputs, outputs in modules:
             now = [levels[wire][time - delay] if time >= delay else netlist.wires[wire][2] for wire, delay in inputs]
@@ -141,22 +198,30 @@ def evaluated(netlist):
                 if wire is not None and time + delay < netlist.horizon:
                     levels[wire][time + delay] = level
             states[number].append(state_of(module, now, given))
-    return levels, states
+            findings += [(time, number, module.found)] if module.found else []
+            module.found = set()
+    return levels, states, findings
 
 
-def lines_of(netlist, levels):
-    """The lines of `mpwb waves`."""
-    lines = []
-    for wire, line in zip(netlist.wires, levels):
-        if wire:
-            changes = [f" {t}={line[t]}" for t in range(1, netlist.horizon) if line[t] != line[t - 1]]
-            lines.append(f"{wire[0]} {line[0]}{''.join(changes)}\n")
-    return "".join(lines)
+def found_at(bundle, levels):
+    """What is found at a bundle, as pairs of a time and a code."""
+    request, acknowledge, data = (levels[wire] for wire in bundle[1:4])
+    changes = [[time for time in range(1, len(line)) if line[time] != line[time - 1]] for line in (request, acknowledge, data)]
+    requests = changes[0] + [len(request) + bundle[4]]
+    was_busy = lambda time: request[time - 1] != acknowledge[time - 1]
+    found = [(time, "data-while-busy") for time in changes[2] if was_busy(time)]
+    found += [(time, "setup") for time in changes[2] if requests[bisect.bisect_left(requests, time)] - time <= bundle[4]]
+    found += [(time, "request-while-busy") for time in changes[0] if was_busy(time)]
+    return found + [(time, "ack-while-idle") for time in changes[1] if not was_busy(time)]
 
 
-def waves(netlist):
-    """The lines of `mpwb waves`, from time 0."""
-    return lines_of(netlist, evaluated(netlist)[0])
+def findings(netlist, levels, at_modules):
+    """All findings in order, as time, sort, number and code, from those at modules. A netlist has `bundles` too (name, request, acknowledge,
+    data, setup)."""
+    found = [(time, "module", number, code) for time, number, codes in at_modules for code in codes]
+    for number, bundle in enumerate(netlist.bundles):
+        found += [(time, "bundle", number, code) for time, code in (found_at(bundle, levels) if bundle else [])]
+    return sorted(found, key=lambda one: (one[0], one[1] == "bundle", one[2], CODES.index(one[3])))
 
 
 BLOCK = 1024

@@ -1,9 +1,8 @@
-//! Devices that take and give few bytes at a time, and that fail in mid-stream.
-use mp_commands::{Options, RunFault, run_play, run_waves};
+//! What commands write, on devices that take and give few bytes at a time, and that fail in mid-stream.
+use crate::devices::{SmallReader, SmallWriter};
+use mp_commands::{Options, RunFault, run_desk, run_dump, run_play, run_report, run_waves};
 use mp_streams::{ReadSource, Sink, Source, WriteSink};
 use std::alloc::Global;
-use std::io;
-use std::io::{Read, Write};
 use std::sync::Wait;
 use std::thread::Threads;
 
@@ -18,6 +17,20 @@ const BUF: &[u8] = b"horizon 20\nwire a 1 0\nwire y 1 0\nmodule b BUF : a > y/3\
 const SCRIPT: &[u8] =
     b"horizon 20\nwire a 1 0\nwire y 1 0\nmodule b BUF : a > y/3\nstim a 2=1 5=0\n---\ndelay b 0 2\nwave y\n";
 
+const MERGE: &[u8] =
+    b"horizon 10\nwire a 1 0\nwire b 1 0\nwire y 1 0\nmodule x XOR : a b > y/1\nstim a 4=1\nstim b 4=1\n";
+
+const TWO_DESIGNERS: &[u8] =
+    b"horizon 20\nwire a 1 0\nwire b 1 0\nwire y 1 0\nwire z 1 0\nmodule m BUF : a > y/3\nmodule n BUF : b > z/4\n---\nstim a 2=1\nstim a 2=1 5=0\ndelay m 0 2\n---\nstim b 1=1\ndelay n 0 1\nstim b 3=1\n";
+
+/// What two designers and two viewers come to.
+const MET: &[u8] =
+    b"designer 1 accepted 3 refused 0\ndesigner 2 accepted 3 refused 0\nviewer 1 saw 6\nviewer 2 saw 6\na 0 2=1 5=0\nb 0 3=1\ny 0 4=1 7=0\nz 0 4=1\n";
+
+/// The dump of a buffer.
+const DUMP: &[u8] =
+    b"$timescale 1 ns $end\n$scope module top $end\n$var wire 1 ! a $end\n$var wire 1 \" y $end\n$upscope $end\n$enddefinitions $end\n#0\n$dumpvars\n0!\n0\"\n$end\n#2\n1!\n#5\n0!\n1\"\n#8\n0\"\n#20\n";
+
 const QUESTIONS: &[u8] =
     b"horizon 20\nwire a 1 0\nwire y 1 0\nmodule b BUF : a > y/3\nstim a 2=1 5=0\n---\ntext\ndump\n";
 
@@ -25,88 +38,80 @@ const QUESTIONS: &[u8] =
 const SHOWN: &[u8] =
     b"horizon 20\nwire a 1 0\nwire y 1 0\nmodule b BUF : a > y/3\nstim a 2=1 5=0\n$timescale 1 ns $end\n$scope module top $end\n$var wire 1 ! a $end\n$var wire 1 \" y $end\n$upscope $end\n$enddefinitions $end\n#0\n$dumpvars\n0!\n0\"\n$end\n#2\n1!\n#5\n0!\n1\"\n#8\n0\"\n#20\n";
 
-/// Gives the bytes one at a time, and fails once the reads are used up.
-#[derive(Drop)]
-struct SmallReader<'a> {
-    bytes: &'a [u8],
-    reads: usize,
+#[derive(Clone, Copy)]
+enum Command {
+    Waves,
+    Report,
+    Dump,
+    Desk,
 }
 
-impl Read for SmallReader<'_> {
-    fn read(&mut self, room: &mut [u8]) -> io::Result<usize> {
-        if self.reads == 0 {
-            return Err(io::Error::other("no more reads"));
-        }
-        self.reads -= 1;
-        match self.bytes {
-            [first, rest @ ..] if !room.is_empty() => {
-                room[0] = *first;
-                self.bytes = rest;
-                Ok(1)
-            }
-            _ => Ok(0),
-        }
-    }
-}
+/// A command with its input and how much room a writer has, how it ends, and what is written.
+type Run<'a> = (Command, &'a [u8], usize, Result<(), RunFault>, &'a [u8]);
 
-/// Takes the bytes one at a time, and none once its room is used up.
-#[derive(Drop)]
-struct SmallWriter {
-    taken: Vec<u8>,
-    room: usize,
-}
-
-impl Write for SmallWriter {
-    fn write(&mut self, bytes: &[u8]) -> io::Result<usize> {
-        if self.room == 0 || bytes.is_empty() {
-            return Ok(0);
-        }
-        self.taken.push(bytes[0])?;
-        self.room -= 1;
-        Ok(1)
-    }
-
-    fn flush(&mut self) -> io::Result<()> {
-        Ok(())
-    }
-}
-
-/// How many reads a reader has and how much room a writer, how a run over both ends, and what is written.
-type Run = (usize, usize, Result<(), RunFault>, &'static [u8]);
-
-/// Whether a run ends so.
-fn ends(rt: &(impl Threads + Wait + Sync), alloc: Global, run: &Run) -> bool {
-    let (reads, room, ended, text) = *run;
-    let mut source = ReadSource::new(SmallReader { bytes: BUF, reads });
+/// Whether a run ends so, with a reader that has so many reads.
+fn ends(rt: &(impl Threads + Wait + Sync), alloc: Global, run: &Run<'_>, reads: usize) -> bool {
+    let (command, bytes, room, ended, text) = *run;
+    let mut source = ReadSource::new(SmallReader { bytes, reads });
     let mut sink = WriteSink::new(SmallWriter {
         taken: Vec::new(alloc),
         room,
     });
-    let end = run_waves(rt, alloc, &mut source, &mut sink, &CREW);
+    let end = match command {
+        Command::Waves => run_waves(rt, alloc, &mut source, &mut sink, &CREW),
+        Command::Report => run_report(rt, alloc, &mut source, &mut sink, &CREW),
+        Command::Dump => run_dump(rt, alloc, &mut source, &mut sink, &CREW),
+        Command::Desk => run_desk(rt, alloc, &mut source, &mut sink, &CREW),
+    };
     let faults = source.faults() + sink.faults();
     let writer = sink.into_inner();
     end == ended && faults == ended.is_err() as u64 && writer.taken.as_slice() == text
 }
 
-static RUNS: [Run; 3] = [
-    (1000, 1000, Ok(()), b"a 0 2=1 5=0\ny 0 5=1 8=0\n"),
-    (1000, 7, Err(RunFault::WriteFailed), b"a 0 2=1"),
-    (1000, 0, Err(RunFault::WriteFailed), b""),
+/// What commands write that have room for it.
+static WHOLE: [Run<'static>; 4] = [
+    (
+        Command::Waves,
+        BUF,
+        1000,
+        Ok(()),
+        b"a 0 2=1 5=0\ny 0 5=1 8=0\n",
+    ),
+    (
+        Command::Report,
+        MERGE,
+        1000,
+        Ok(()),
+        b"4 module x merge-collision\n",
+    ),
+    (Command::Dump, BUF, 1000, Ok(()), DUMP),
+    (Command::Desk, TWO_DESIGNERS, 1000, Ok(()), MET),
 ];
 
-fn all_end(rt: &(impl Threads + Wait + Sync), alloc: Global, runs: &[Run]) -> bool {
-    for run in runs {
-        if !ends(rt, alloc, run) {
+/// Whether the run ends so, and a front of what it writes is written where there is room for that alone.
+fn all_end(rt: &(impl Threads + Wait + Sync), alloc: Global, whole: &Run<'_>) -> bool {
+    let (command, bytes, _, _, text) = *whole;
+    for room in [0, 1, 7] {
+        let front = &text[..room.min(text.len())];
+        let cut = (command, bytes, room, Err(RunFault::WriteFailed), front);
+        if !ends(rt, alloc, &cut, 1000) {
             return false;
         }
     }
-    true
+    ends(rt, alloc, whole, 1000)
 }
 
-/// Whether no run ends well whose reader doesn't tell its end.
-fn all_fail(rt: &(impl Threads + Wait + Sync), alloc: Global) -> bool {
+/// Whether no run of the command ends well whose reader doesn't tell its end.
+fn all_fail(rt: &(impl Threads + Wait + Sync), alloc: Global, command: Command) -> bool {
+    let failed = (
+        command,
+        BUF,
+        1000,
+        Err(RunFault::ReadFailed),
+        b"".as_slice(),
+    );
     for reads in 0..BUF.len() + 1 {
-        if !ends(rt, alloc, &(reads, 1000, Err(RunFault::ReadFailed), b"")) {
+        if !ends(rt, alloc, &failed, reads) {
             return false;
         }
     }
@@ -114,9 +119,11 @@ fn all_fail(rt: &(impl Threads + Wait + Sync), alloc: Global) -> bool {
 }
 
 #[test]
-fn waves_on_small_devices(rt: HostRuntime) {
-    assert!(rt; all_end(&rt, rt.alloc(), &RUNS));
-    assert!(rt; all_fail(&rt, rt.alloc()));
+fn on_small_devices(rt: HostRuntime) {
+    for whole in &WHOLE {
+        assert!(rt; all_end(&rt, rt.alloc(), whole));
+        assert!(rt; all_fail(&rt, rt.alloc(), whole.0));
+    }
 }
 
 /// A script, how much room a writer has, how a run of the script ends, and what is written.

@@ -1,5 +1,5 @@
 -- What `desk` writes for its input.
-use Rattle.std.specs.Prelude.{◌≡◌, ◌⊎◌, ℕ, ◌+◌, Bool, List, [], ◌∷◌, ◌++◌, length, drop, Option, Result, Ok, Err, IsOk, IsOkAnd, ◌&&◌, nat_le, if◌then◌else◌, codes}
+use Rattle.std.specs.Prelude.{◌≡◌, ◌⊎◌, ℕ, ◌+◌, Bool, List, [], ◌∷◌, ◌++◌, length, drop, Option, Result, Ok, Err, IsOk, IsOkAnd, ◌&&◌, if◌then◌else◌, codes}
 use Rattle.std.specs.Fmt.{decimal}
 use Rattle.std.specs.Io.KnownBytes.{Appends, Keeps}
 use Rattle.mp_streams.specs.StreamBytes.{AppendsPrefix}
@@ -9,12 +9,12 @@ use Rattle.mp_text.specs.declared.text_error.TextError.{TextError}
 use Rattle.mp_words.specs.Lines.{lines_of}
 use Rattle.mp_words.specs.Divisions.{parts_of}
 use Rattle.mp_session.specs.Stories.{Story}
+use Rattle.mp_desk.specs.DeskSizes.{is_desk_size}
 use Rattle.mp_meeting.specs.declared.tally.Tally.{Tally}
 use Rattle.mp_meeting.specs.Meetings.{IsMeeting}
 use Rattle.mp_commands.specs.declared.options.Options.{Options}
 use Rattle.mp_commands.specs.declared.run_fault.RunFault.{RunFault}
 use Rattle.mp_commands.specs.declared.run_fault.RunFault.TheVariants.{Text, BadCount, ReadFailed, WriteFailed, OutOfMemory, NoPlace}
-use Rattle.mp_commands.specs.Limits.{max_designers, max_viewers}
 use Rattle.mp_commands.specs.OptionLimits.{has_valid_crew}
 use Rattle.mp_commands.specs.Outputs.{waves_text}
 use Rattle.mp_commands.specs.Plays.{first_netlist}
@@ -26,8 +26,7 @@ blocks_of input = drop 1 (parts_of (lines_of input))
 
 -- 1 to 8 designers and 1 to 32 viewers, and a crew
 abbrev pub has_valid_desk : ℕ → Options → Bool
-has_valid_desk designers options =
-    has_valid_crew options && (nat_le 1 designers && (nat_le designers max_designers && (nat_le 1 options.viewers && nat_le options.viewers max_viewers)))
+has_valid_desk designers options = has_valid_crew options && is_desk_size designers options.viewers
 
 -- the netlist and the designers' blocks
 pub record Opening : Type 0 where

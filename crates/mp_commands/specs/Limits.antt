@@ -14,14 +14,6 @@ max_taken = max_input + 1
 abbrev pub max_workers : ℕ
 max_workers = 16
 
--- how many designers a desk may have
-abbrev pub max_designers : ℕ
-max_designers = 8
-
--- how many viewers a desk may have
-abbrev pub max_viewers : ℕ
-max_viewers = 32
-
 -- of how many tasks at least the workers may be called on
 abbrev pub max_least : ℕ
 max_least = 4096

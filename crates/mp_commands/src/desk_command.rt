@@ -104,9 +104,9 @@ fn met_over<R: Threads + Wait + Sync>(
     ensures viewers { IfOk result (λ met. vec_len met.numbers ≡ options.now.viewers) }
     ensures refused { IfErr result (Hinders (opening_of (lines_of_each blocks.now) options.now (Ok netlist.now))) }
 {
-    let Some(crew) = options.desk_crew(blocks.len()) else {
+    let Some((crew, size)) = options.desk_crew(blocks.len()) else {
         return Err(RunFault::BadCount);
     };
     let session = Session::open(rt, alloc, netlist, crew, OpenGate)?;
-    Ok(meet(rt, alloc, session, blocks, options.viewers)?)
+    Ok(meet(rt, alloc, session, blocks, size)?)
 }

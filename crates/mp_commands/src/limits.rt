@@ -10,11 +10,5 @@ pub const MAX_TAKEN: usize = MAX_INPUT + 1;
 /// How many workers there may be.
 pub const MAX_WORKERS: u32 = 16;
 
-/// How many designers a desk may have.
-pub const MAX_DESIGNERS: usize = 8;
-
-/// How many viewers a desk may have.
-pub const MAX_VIEWERS: u32 = 32;
-
 /// Of how many tasks at least the workers may be called on.
 pub const MAX_LEAST: u32 = 4096;

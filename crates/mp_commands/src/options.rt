@@ -1,7 +1,8 @@
 //! How a run is made.
 ghost use Rattle.std.specs.Prelude.{◌≡◌};
 
-use crate::limits::{MAX_DESIGNERS, MAX_LEAST, MAX_VIEWERS, MAX_WORKERS};
+use crate::limits::{MAX_LEAST, MAX_WORKERS};
+use mp_desk::DeskSize;
 use mp_phase::Crew;
 
 /// The numbers that a run is given. Any number may be asked for.
@@ -16,7 +17,7 @@ pub struct Options {
 }
 
 impl Options {
-    ghost use Rattle.std.specs.Prelude.{◌<◌, ◌≤◌, is_some, IfSome};
+    ghost use Rattle.std.specs.Prelude.{is_some, IfSome};
     ghost use Rattle.mp_commands.specs.OptionLimits.{has_valid_crew};
     ghost use Rattle.mp_commands.specs.Desks.{has_valid_desk};
 
@@ -30,19 +31,13 @@ impl Options {
             && self.least <= MAX_LEAST
     }
 
-    /// The crew of a desk with so many designers, where that has 1 to 8, 1 to 32 viewers and a valid crew.
-    pub(crate) fn desk_crew(&self, designers: usize) -> Option<Crew>
+    /// The crew of a desk with so many designers, and its size, where that has 1 to 8 of them, 1 to 32 viewers and a valid crew.
+    pub(crate) fn desk_crew(&self, designers: usize) -> Option<(Crew, DeskSize)>
         ensures valid { is_some result ≡ has_valid_desk designers self.now }
-        ensures range { IfSome result (λ _. (0 < designers) × (designers ≤ 8) × (0 < self.now.viewers) × (self.now.viewers ≤ 32)) }
+        ensures size { IfSome result (λ both. (both.1.designers ≡ designers) × (both.1.viewers ≡ self.now.viewers)) }
     {
-        if designers < 1
-            || designers > MAX_DESIGNERS
-            || self.viewers < 1
-            || self.viewers > MAX_VIEWERS
-        {
-            return None;
-        }
-        self.crew()
+        let size = DeskSize::new(designers, self.viewers as usize).ok()?;
+        Some((self.crew()?, size))
     }
 
     /// The crew of these numbers, where there is a valid one.

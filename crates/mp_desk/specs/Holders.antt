@@ -1,5 +1,5 @@
 -- What contracts see of a desk, and of those who work at it.
-use Rattle.std.specs.Prelude.{◌≡◌, ◌⊎◌, ◌<◌, ◌∷◌, [], ℕ, ◌+◌, List}
+use Rattle.std.specs.Prelude.{◌≡◌, ◌⊎◌, ◌∷◌, [], ℕ, ◌+◌, List}
 use Rattle.logbook.specs.Pages.{Book}
 use Rattle.mp_records.specs.declared.edit.Edit.{Edit}
 use Rattle.mp_records.specs.declared.edit_error.EditError.{EditError}
@@ -26,10 +26,6 @@ pub record Parts : Type 0 where
   pub viewers : ℕ
   pub book : Book
   pub ledger : ℕ
-
--- there are not 1 to 8 designers, or not 1 to 32 viewers
-abbrev pub IsBadCount : ℕ → ℕ → Type 0
-IsBadCount designers viewers = (designers ≡ 0) ⊎ (8 < designers) ⊎ (viewers ≡ 0) ⊎ (32 < viewers)
 
 -- a desk: the number of the version with which it was opened, and how many designers it has
 pub record Opened : Type 0 where

@@ -1,5 +1,6 @@
 pub mod Extending
 pub mod Chronicles
 pub mod Knowing
+pub mod DeskSizes
 pub mod Holders
 pub mod Worlds

@@ -24,7 +24,7 @@ use std::thread::Threads;
 pub struct Desk<G: Gate, L: DeskName, R: Wait + Drop> {
     keeper: Mutex<Keeper<G, L, R>>,
     opening: u32,
-    designers: u32,
+    designers: usize,
 }
 
 impl<G: Gate, L: DeskName, R: Wait + Drop> Model for Desk<G, L, R> {
@@ -42,8 +42,9 @@ impl<G: Gate, L: DeskName, R: Wait + Drop> Desk<G, L, R> {
     ghost use Rattle.std.specs.Prelude.{◌≢◌, ◌+◌, length, vec_len, All, IfOk, IfErr};
     ghost use Rattle.mp_desk.specs.Extending.{Extends};
     ghost use Rattle.mp_desk.specs.Holders.{fresh_designer, fresh_viewer, ExtendsEach, accepted_by};
+    ghost use Rattle.mp_desk.specs.declared.desk_refused.DeskCause.TheVariants.{OutOfMemory};
 
-    /// Opens the desk under the name that the caller picked for these parts. `OutOfMemory` where memory is wanting: then the session is handed
+    /// Opens the desk under the name that the caller picked for these parts. It is refused for want of memory alone: then the session is handed
     /// back.
     pub fn open(parts: DeskParts<G, R>) -> Result<Staffed<G, L, R>, DeskRefused<G>>
         requires history { parts.book ≡ L.history }
@@ -54,6 +55,7 @@ impl<G: Gate, L: DeskName, R: Wait + Drop> Desk<G, L, R> {
         ensures designers { IfOk result (λ s. (vec_len s.designers ≡ parts.designers) × All (λ d. d ≡ fresh_designer parts.session.story) s.designers.items) }
         ensures viewers { IfOk result (λ s. (vec_len s.viewers ≡ parts.viewers) × All (λ v. v ≡ fresh_viewer parts.session.story) s.viewers.items) }
         ensures refused { IfErr result (λ r. r.session ≡ parts.session) }
+        ensures wanting { IfErr result (λ r. r.cause ≡ OutOfMemory) }
     {
         let DeskParts {
             alloc,
@@ -64,7 +66,7 @@ impl<G: Gate, L: DeskName, R: Wait + Drop> Desk<G, L, R> {
             viewers: for_viewers,
             blank,
         } = parts;
-        let count = for_designers.len() as u32;
+        let count = for_designers.len();
         let (mut book, mut share) = blank.open::<L>();
         book.add(&mut share, session.version().number() as u64);
         let (Ok(designers), Ok(viewers)) = (
@@ -93,7 +95,7 @@ impl<G: Gate, L: DeskName, R: Wait + Drop> Desk<G, L, R> {
     }
 
     /// The desk that has this under its lock, with so many designers.
-    fn over(keeper: Keeper<G, L, R>, designers: u32) -> Desk<G, L, R>
+    fn over(keeper: Keeper<G, L, R>, designers: usize) -> Desk<G, L, R>
         requires opening { length keeper.story.edits ≡ L.opening }
         requires designers { designers + 1 ≡ L.parts }
         ensures { result ≡ record { opening = length keeper.story.edits; designers = designers } }
@@ -129,7 +131,7 @@ impl<G: Gate, L: DeskName, R: Wait + Drop> Desk<G, L, R> {
         ensures incomplete { IfErr result (λ _. vec_len designers ≢ self.designers) }
         ensures refused { IfErr result (λ r. (r.desk ≡ self) × (r.designers ≡ designers)) }
     {
-        if designers.len() != self.designers as usize {
+        if designers.len() != self.designers {
             return Err(CloseRefused {
                 cause: CloseCause::MissingPass,
                 desk: self,

@@ -1,12 +1,14 @@
 //! A desk, where designers submit edits of one session and viewers read its versions without waiting.
 #![tactic(auto)]
 
+mod beginning;
 mod chronicle;
 mod close_refused;
 mod designer;
 mod desk;
 mod desk_parts;
 mod desk_refused;
+mod desk_size;
 mod front;
 mod keeper;
 pub mod laws;
@@ -27,6 +29,7 @@ pub use designer::Designer;
 pub use desk::Desk;
 pub use desk_parts::DeskParts;
 pub use desk_refused::{DeskCause, DeskRefused};
+pub use desk_size::{BadDeskSize, DeskSize, MAX_DESIGNERS, MAX_VIEWERS};
 pub use name::DeskName;
 pub use notice::Notice;
 pub use pass::ReadError;

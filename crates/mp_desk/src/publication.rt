@@ -15,6 +15,10 @@ use std::sync::{Arc, Wait};
 
 type RuledWriter = Writer<Published, Published, Known, Extending>;
 
+/// There was no place for a reader.
+#[derive(Clone, Copy)]
+pub(crate) struct NoPlace;
+
 /// The one writer. It keeps the handle, since its drop waits for readers in mid-read. A contract sees what is published.
 pub(crate) struct Publication<R: Wait + Drop> {
     writer: RuledWriter,
@@ -41,7 +45,7 @@ impl<R: Wait + Drop> Model for Publication<R> {
 }
 
 impl<R: Wait + Drop> Publication<R> {
-    ghost use Rattle.std.specs.Prelude.{◌<◌, ◌^◌, All, IfOk, length, vec_len};
+    ghost use Rattle.std.specs.Prelude.{◌<◌, ◌≤◌, ◌^◌, All, IfOk, length, vec_len, vec_capacity};
     ghost use Rattle.std.specs.Arc.{arc_value};
 
     /// Publishes a first version, with room for so many readers.
@@ -72,28 +76,32 @@ impl<R: Wait + Drop> Publication<R> {
         Ok(Publication { writer, rt })
     }
 
-    /// A place for one more reader, which starts from what is published.
-    pub(crate) fn place(&mut self) -> Result<Pass, AllocError>
+    /// A place for one more reader, which starts from what is published. It takes no memory.
+    pub(crate) fn place(&mut self) -> Result<Pass, NoPlace>
         ensures same { self.new ≡ self.old }
         ensures place { IfOk result (λ p. p ≡ self.old ∷ []) }
     {
-        let mut reader = self.writer.factory().reader()?;
+        let Ok(mut reader) = self.writer.factory().reader() else {
+            return Err(NoPlace);
+        };
         reader.learn::<Starts>(self.writer.tell::<Starts>());
         Ok(Pass { reader })
     }
 
-    /// So many places.
-    pub(crate) fn places(&mut self, alloc: Global, count: u32) -> Result<Vec<Pass>, AllocError>
+    /// So many places, in a list that has room for them. It takes no memory.
+    pub(crate) fn places(&mut self, list: Vec<Pass>, count: usize) -> Result<Vec<Pass>, NoPlace>
+        requires empty { list.items ≡ [] }
+        requires room { count ≤ vec_capacity list }
         ensures same { self.new ≡ self.old }
         ensures count { IfOk result (λ v. vec_len v ≡ count) }
         ensures each { IfOk result (λ v. All (λ p. p ≡ self.old ∷ []) v.items) }
     {
-        let mut places = Vec::new(alloc);
+        let mut list = list;
         for _i in 0..count {
             let place = self.place()?;
-            places.push(place)?;
+            list.push_reserved(place);
         }
-        Ok(places)
+        Ok(list)
     }
 
     /// What is published.

@@ -6,7 +6,7 @@ mod work;
 
 use anyhow::{Context, Result, bail, ensure};
 use chain::Chain;
-use mp_desk::DeskParts;
+use mp_desk::{DeskParts, DeskSize};
 use mp_phase::{Crew, OpenGate};
 use mp_session::Session;
 use std::alloc::Global;
@@ -65,7 +65,8 @@ fn staffed<R: Threads + Wait + Sync>(
     call: Call,
     rounds: u32,
 ) -> Result<Done> {
-    match DeskParts::new(rt, alloc, opened(rt, alloc, chain)?, 1, 1) {
+    let size = DeskSize::new(1, 1)?;
+    match DeskParts::new(rt, alloc, opened(rt, alloc, chain)?, size) {
         Ok(parts) => at_desk::<Brand, _>(rt, alloc, parts, chain, call, rounds),
         Err(refused) => bail!("{}", refused.cause),
     }

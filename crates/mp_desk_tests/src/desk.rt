@@ -1,12 +1,16 @@
 //! Two designers and a viewer at one desk.
 mod beside;
+mod buffers;
+mod closing;
 mod full;
+mod notices;
+mod refused;
+mod trials;
 
 ghost use Rattle.std.specs.Prelude.{◌≡◌, ◌+◌, length};
 
 use mp_desk::{
-    CloseCause, CloseRefused, Designer, Desk, DeskCause, DeskName, DeskParts, DeskRefused, Notice,
-    ReadError, Receipt, Staffed, Viewer,
+    Designer, Desk, DeskName, DeskParts, DeskSize, Notice, ReadError, Receipt, Staffed, Viewer,
 };
 use mp_netlist::{EditError, Netlist};
 use mp_part_tests::making::{Change, Plan, Signal};
@@ -50,6 +54,17 @@ fn submit<G: Gate + Sync, L: DeskName, R: Threads + Wait + Sync + Drop>(
     }
 }
 
+/// Whether the edit is accepted.
+fn submits<G: Gate + Sync, L: DeskName, R: Threads + Wait + Sync + Drop>(
+    rt: &R,
+    alloc: Global,
+    desk: &Desk<G, L, R>,
+    me: &mut Designer<L>,
+    change: &Change<'_>,
+) -> bool {
+    submit(rt, alloc, desk, me, change).err().is_none()
+}
+
 /// The number of the version that the viewer reads.
 fn number_read<L: DeskName>(viewer: &mut Viewer<L>) -> Option<u32> {
     match viewer.read() {
@@ -74,8 +89,9 @@ fn two_wires(rt: &(impl Threads + Wait + Sync), alloc: Global) -> Result<Session
 
 #[test]
 fn two_designers(rt: HostRuntime) -> Result<(), Fail> {
+    let size = DeskSize::new(2, 1)?;
     let session = two_wires(&rt, rt.alloc())?;
-    let parts = DeskParts::new(&rt, rt.alloc(), session, 2, 1)
+    let parts = DeskParts::new(&rt, rt.alloc(), session, size)
         .ok()
         .ok_or("no parts")?;
     at_desk::<Brand, _>(&rt, rt.alloc(), parts)
@@ -212,122 +228,4 @@ fn are_shut<L: DeskName>(viewers: &mut [Viewer<L>]) -> bool {
         }
     }
     true
-}
-
-#[test]
-fn desk_refusals(rt: HostRuntime) -> Result<(), Fail> {
-    let session = two_wires(&rt, rt.alloc())?;
-    let session = all_refused(&rt, rt.alloc(), session).ok_or("a bad count was taken")?;
-    let parts = DeskParts::new(&rt, rt.alloc(), session, 2, 1)
-        .ok()
-        .ok_or("no parts")?;
-    close_without_all::<Brand, _>(&rt, parts)
-}
-
-/// The session, where it is handed back for these counts.
-fn refused<R: Wait + Drop>(
-    rt: R,
-    alloc: Global,
-    session: Session<OpenGate>,
-    designers: u32,
-    viewers: u32,
-) -> Option<Session<OpenGate>> {
-    let DeskRefused { cause, session } = DeskParts::new(
-        rt, alloc, session, designers, viewers,
-    ).err()?;
-    if cause == DeskCause::BadCount {
-        Some(session)
-    } else {
-        drop(session);
-        None
-    }
-}
-
-/// The session, where it is handed back for each bad count.
-fn all_refused<R: Wait + Copy>(
-    rt: R,
-    alloc: Global,
-    session: Session<OpenGate>,
-) -> Option<Session<OpenGate>> {
-    let session = refused(rt, alloc, session, 0, 1)?;
-    let session = refused(rt, alloc, session, 9, 1)?;
-    let session = refused(rt, alloc, session, 1, 0)?;
-    refused(rt, alloc, session, 1, 33)
-}
-
-fn close_without_all<L: DeskName, R: Wait + Abort + Copy>(
-    rt: R,
-    parts: DeskParts<OpenGate, R>,
-) -> Result<(), Fail>
-    requires history { parts.book ≡ L.history }
-    requires ledger { parts.ledger ≡ L.name }
-    requires shares { parts.designers + 1 ≡ L.parts }
-    requires opening { length parts.session.story.edits ≡ L.opening }
-{
-    let staffed = Desk::<OpenGate, L, R>::open(parts).ok().ok_or("no desk")?;
-    let Staffed {
-        desk,
-        designers,
-        mut viewers,
-    } = staffed;
-    let closes = closes_with_all(&rt, desk, designers, viewers.as_mut_slice());
-    drop(viewers);
-    assert!(rt; closes);
-    Ok(())
-}
-
-/// Whether the desk isn't closed where a designer is missing, and is closed with all of them.
-fn closes_with_all<L: DeskName, R: Wait + Drop>(
-    rt: &R,
-    desk: Desk<OpenGate, L, R>,
-    designers: Vec<Designer<L>>,
-    viewers: &mut [Viewer<L>],
-) -> bool {
-    let mut others = designers;
-    let missing = others.pop();
-    match handed_back(rt, desk, others, viewers) {
-        Some((desk, others)) => closes(rt, desk, with(others, missing), viewers),
-        None => {
-            drop(missing);
-            false
-        }
-    }
-}
-
-/// The desk and the designers, where it isn't closed with these.
-fn handed_back<L: DeskName, R: Wait + Drop>(
-    rt: &R,
-    desk: Desk<OpenGate, L, R>,
-    designers: Vec<Designer<L>>,
-    viewers: &mut [Viewer<L>],
-) -> Option<(Desk<OpenGate, L, R>, Vec<Designer<L>>)> {
-    let CloseRefused {
-        cause: CloseCause::MissingPass,
-        desk,
-        designers,
-    } = desk.close(rt, designers, viewers).err()?;
-    Some((desk, designers))
-}
-
-/// The items with one more, where there is one and memory for it.
-fn with<T: Drop>(items: Vec<T>, item: Option<T>) -> Option<Vec<T>> {
-    let mut items = items;
-    items.push(item?).ok()?;
-    Some(items)
-}
-
-/// Whether there are designers, with whom the desk is closed.
-fn closes<L: DeskName, R: Wait + Drop>(
-    rt: &R,
-    desk: Desk<OpenGate, L, R>,
-    designers: Option<Vec<Designer<L>>>,
-    viewers: &mut [Viewer<L>],
-) -> bool {
-    match designers {
-        Some(designers) => desk.close(rt, designers, viewers).err().is_none(),
-        None => {
-            drop(desk);
-            false
-        }
-    }
 }

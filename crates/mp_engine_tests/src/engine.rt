@@ -50,9 +50,56 @@ fn assert_loop(rt: &impl Abort, run: &Run, number: u32) {
     assert!(rt; output_before(run, ModuleId(number), 1023) == None);
 }
 
-/// Counts the calls at time 0 that look for each other.
+/// Two buffers that read one wire.
+static BUFFERS: Plan<'static> = Plan {
+    horizon: 20,
+    wires: &["a", "y1", "y2"],
+    parts: &[
+        Part {
+            name: "b1",
+            kind: Kind::Buf,
+            params: &[],
+            inputs: &[("a", 0)],
+            outputs: &[("y1", 3)],
+        },
+        Part {
+            name: "b2",
+            kind: Kind::Buf,
+            params: &[],
+            inputs: &[("a", 0)],
+            outputs: &[("y2", 4)],
+        },
+    ],
+    signals: &[],
+};
+
+/// Two inverters that read each other's output: both answer at each even time.
+static CONNECTED: Plan<'static> = Plan {
+    horizon: 20,
+    wires: &["y", "z"],
+    parts: &[
+        Part {
+            name: "y",
+            kind: Kind::Not,
+            params: &[],
+            inputs: &[("z", 0)],
+            outputs: &[("y", 2)],
+        },
+        Part {
+            name: "z",
+            kind: Kind::Not,
+            params: &[],
+            inputs: &[("y", 0)],
+            outputs: &[("z", 2)],
+        },
+    ],
+    signals: &[],
+};
+
+/// Counts the calls at one time that look for each other.
 #[derive(Drop)]
 struct Meeting {
+    time: u32,
     entered: AtomicU64,
     met: AtomicU64,
 }
@@ -60,9 +107,20 @@ struct Meeting {
 /// How often a call looks for the other.
 const LOOKS: u32 = 100_000_000;
 
+impl Meeting {
+    /// Nobody came yet.
+    fn at(time: u32) -> Self {
+        Meeting {
+            time,
+            entered: AtomicU64::new(0),
+            met: AtomicU64::new(0),
+        }
+    }
+}
+
 impl Gate for Meeting {
     fn enter<R: Wait>(&self, _rt: &R, _module: ModuleId, from: u32, _to: u32) {
-        if from > 0 {
+        if from != self.time {
             return;
         }
         self.entered.fetch_add(1, Ordering::SeqCst);
@@ -100,10 +158,7 @@ fn assert_all<R: Abort + Threads + Wait + Sync>(
     for count in [1, 2, 16] {
         assert_loops(rt, alloc, netlist, count, &OpenGate)?;
     }
-    let gate = Meeting {
-        entered: AtomicU64::new(0),
-        met: AtomicU64::new(0),
-    };
+    let gate = Meeting::at(0);
     assert_loops(rt, alloc, netlist, 2, &gate)?;
     assert_eq!(rt; gate.met.load(Ordering::SeqCst), 2);
     Ok(())
@@ -115,4 +170,32 @@ fn late_self_loops(rt: HostRuntime) -> Result<(), Fail> {
     let shown = assert_all(&rt, rt.alloc(), &netlist);
     drop(netlist);
     shown
+}
+
+/// The two modules of a netlist are answered by two workers at the same time.
+fn assert_meeting<R: Abort + Threads + Wait + Sync>(
+    rt: &R,
+    alloc: Global,
+    plan: &Plan<'_>,
+    time: u32,
+) -> Result<(), Fail> {
+    let crew = Crew::new(2, 1)?;
+    let gate = Meeting::at(time);
+    let netlist = plan.netlist(alloc).ok_or("no netlist")?;
+    let run = evaluate(rt, alloc, &netlist, &crew, &gate);
+    drop(netlist);
+    drop(run?);
+    assert_eq!(rt; gate.met.load(Ordering::SeqCst), 2);
+    Ok(())
+}
+
+#[test]
+fn two_workers_meet(rt: HostRuntime) -> Result<(), Fail> {
+    assert_meeting(&rt, rt.alloc(), &BUFFERS, 0)
+}
+
+/// They answer window by window, after one thread has looked at the first units alone.
+#[test]
+fn connected_modules_meet(rt: HostRuntime) -> Result<(), Fail> {
+    assert_meeting(&rt, rt.alloc(), &CONNECTED, 6)
 }

@@ -1,17 +1,18 @@
 //! A meeting from its beginning to its end.
-ghost use Rattle.std.specs.Prelude.{◌≡◌, ◌+◌, ◌<◌, ◌≤◌, vec_len, length, All, IfOk};
+ghost use Rattle.std.specs.Prelude.{◌≡◌, ◌+◌, ◌<◌, vec_len, length, All, IfOk, IfErr};
 ghost use Rattle.mp_netlist.specs.Circuit.{Circuit};
 ghost use Rattle.mp_words.specs.Divisions.{lines_of_each};
 ghost use Rattle.mp_session.specs.Stories.{opening};
 ghost use Rattle.mp_desk.specs.Holders.{fresh_designer};
 ghost use Rattle.mp_meeting.specs.Meetings.{IsMeeting};
+ghost use Rattle.mp_meeting.specs.declared.meeting_fault.MeetingFault.TheVariants.{OutOfMemory};
 
 use crate::meeting_fault::MeetingFault;
 use crate::race::race;
 use crate::reading::last_reads;
 use crate::seats::{risen, seated};
 use crate::tally::Tally;
-use mp_desk::{Desk, DeskCause, DeskName, DeskParts, Staffed};
+use mp_desk::{Desk, DeskName, DeskParts, DeskSize, Staffed};
 use mp_phase::OpenGate;
 use mp_session::Session;
 use std::alloc::{AllocError, Global};
@@ -31,38 +32,33 @@ pub struct Met {
 }
 
 /// Has a designer for each block submit its lines, and viewers read 100 times, all on threads of their own; a part whose thread can't be
-/// started is done on the calling thread. Then each viewer learns of each designer's last edit, and reads once more. `NoPlace` where there is
-/// no place for a viewer or designer, and `OutOfMemory` where memory is wanting for any of them.
+/// started is done on the calling thread. Then each viewer learns of each designer's last edit, and reads once more. `OutOfMemory` where
+/// memory is wanting for any of them, and `NoPlace` where there is memory, but no place for a viewer or designer.
 pub fn meet<R: Threads + Wait + Sync>(
     rt: &R,
     alloc: Global,
     session: Session<OpenGate>,
     blocks: &[&[u8]],
-    viewers: u32,
+    size: DeskSize,
 ) -> Result<Met, MeetingFault>
     requires fresh { session.story ≡ opening session.story.base }
-    requires designers { (0 < length blocks.now) × (length blocks.now ≤ 8) }
-    requires viewers { (0 < viewers) × (viewers ≤ 32) }
+    requires designers { size.designers ≡ length blocks.now }
     ensures met { IfOk result (λ met. IsMeeting session.story.base (lines_of_each blocks.now) met.session.story met.tallies.items met.numbers.items) }
-    ensures viewers { IfOk result (λ met. vec_len met.numbers ≡ viewers) }
+    ensures viewers { IfOk result (λ met. vec_len met.numbers ≡ size.viewers) }
 {
-    match DeskParts::new(rt, alloc, session, blocks.len() as u32, viewers) {
-        Ok(parts) => Ok(at_desk::<Brand, _>(rt, alloc, parts, blocks)?),
-        Err(refused) => match refused.cause {
-            DeskCause::BadCount => unreachable!(),
-            DeskCause::OutOfMemory => Err(MeetingFault::OutOfMemory),
-            DeskCause::NoPlace => Err(MeetingFault::NoPlace),
-        },
+    match DeskParts::new(rt, alloc, session, size) {
+        Ok(parts) => at_desk::<Brand, _>(rt, alloc, parts, blocks),
+        Err(refused) => Err(MeetingFault::from(refused.cause)),
     }
 }
 
-/// The meeting at the desk that these parts make.
+/// The meeting at the desk that these parts make. It is refused for want of memory alone.
 fn at_desk<L: DeskName + Send + Sync, R: Threads + Wait + Sync + Send + Copy>(
     rt: R,
     alloc: Global,
     parts: DeskParts<OpenGate, R>,
     blocks: &[&[u8]],
-) -> Result<Met, AllocError>
+) -> Result<Met, MeetingFault>
     requires history { parts.book ≡ L.history }
     requires ledger { parts.ledger ≡ L.name }
     requires shares { parts.designers + 1 ≡ L.parts }
@@ -72,10 +68,11 @@ fn at_desk<L: DeskName + Send + Sync, R: Threads + Wait + Sync + Send + Copy>(
     requires blocks { parts.designers ≡ length blocks.now }
     ensures met { IfOk result (λ met. IsMeeting parts.session.story.base (lines_of_each blocks.now) met.session.story met.tallies.items met.numbers.items) }
     ensures viewers { IfOk result (λ met. vec_len met.numbers ≡ parts.viewers) }
+    ensures wanting { IfErr result (λ fault. fault ≡ OutOfMemory) }
 {
     match Desk::<OpenGate, L, R>::open(parts) {
-        Ok(staffed) => held(&rt, alloc, staffed, blocks),
-        Err(_) => Err(AllocError),
+        Ok(staffed) => Ok(held(&rt, alloc, staffed, blocks)?),
+        Err(refused) => Err(MeetingFault::from(refused.cause)),
     }
 }
 

@@ -4,16 +4,11 @@ ghost use Rattle.mp_meeting.specs.Sittings.{begun, WorkedEach};
 
 use crate::reading::read_often;
 use crate::sitting::Sitting;
-use mp_desk::{Desk, DeskName, Viewer};
+use mp_desk::{Desk, DeskName, MAX_DESIGNERS, MAX_VIEWERS, Viewer};
 use mp_phase::OpenGate;
 use std::alloc::Global;
 use std::sync::Wait;
 use std::thread::{Threads, for_each_mut, join};
-
-/// How many threads designers have at most, and viewers: one each.
-const DESIGNERS: usize = 8;
-
-const VIEWERS: usize = 32;
 
 /// Has each designer submit its lines and each viewer read, each on a thread of its own where one can be made.
 pub(crate) fn race<L: DeskName + Send + Sync, R: Threads + Wait + Sync + Send + Drop>(
@@ -75,7 +70,7 @@ fn submit_all<L: DeskName + Send + Sync, R: Threads + Wait + Sync + Send + Drop>
     for_each_mut(
         rt,
         sittings,
-        DESIGNERS,
+        MAX_DESIGNERS,
         &|place, sitting: &mut Sitting<L>|
             requires { (place < length blocks.now) × (sitting.now ≡ begun sitting.now.seen) }
         { sitting.work(rt, alloc, desk, blocks[place]) },
@@ -97,5 +92,5 @@ fn read<L: DeskName + Send + Sync, R: Threads + Sync>(
 fn read_all<L: DeskName + Send + Sync, R: Threads + Sync>(rt: &R, viewers: &mut [Viewer<L>])
     ensures { length viewers.new ≡ length viewers.old }
 {
-    for_each_mut(rt, viewers, VIEWERS, &|_, viewer| read_often(viewer));
+    for_each_mut(rt, viewers, MAX_VIEWERS, &|_, viewer| read_often(viewer));
 }

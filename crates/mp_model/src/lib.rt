@@ -1,4 +1,4 @@
-//! What netlists mean, and how that is computed unit by unit. The crate hands on the sinks and sources of `mp_streams`.
+//! What netlists mean, and how that is computed unit by unit.
 #![tactic(auto)]
 
 mod cell;
@@ -11,5 +11,4 @@ mod waves;
 
 pub use evaluation::{built, plain_waves};
 pub use finding::{Finding, Place};
-pub use mp_streams::{Failed, ReadSource, Sink, Source, TakeError, WriteSink, put_all, take_all};
 pub use waves::Waves;

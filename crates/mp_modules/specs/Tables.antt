@@ -1,7 +1,5 @@
 -- What each kind of module without data does. A level of an input is that at its port, 0 where there is none.
-use Rattle.std.specs.Prelude.{ℕ, ◌-◌, List, [], Option, Some, None, slice_index, ◌==◌, if◌then◌else◌}
-use Rattle.mp_modules.specs.declared.kind.Kind.{Kind}
-use Rattle.mp_modules.specs.declared.kind.Kind.TheVariants as kinds
+use Rattle.std.specs.Prelude.{ℕ, ◌-◌, List, [], slice_index, ◌==◌, if◌then◌else◌}
 use Rattle.mp_modules.specs.declared.core_module.CoreModule.{CoreModule}
 use Rattle.mp_modules.specs.declared.core_module.CoreModule.TheVariants as parts
 use Rattle.mp_modules.specs.declared.memory.Memory.{Memory}
@@ -56,15 +54,3 @@ found _ memory x = no_findings
 -- a C-element from its parameters
 abbrev pub rendezvous : List ℕ → Rendezvous
 rendezvous params = record { initial = slice_index params 0 == 1; bubble_a = slice_index params 1 == 1; bubble_b = slice_index params 2 == 1 }
-
--- the module of a kind with these parameters, where the kind holds no data
-abbrev pub part_of : Kind → List ℕ → Option CoreModule
-part_of kinds.Buf params = Some parts.Buf
-part_of kinds.Not params = Some parts.Not
-part_of kinds.Xor params = Some parts.Xor
-part_of kinds.C params = Some (parts.C (rendezvous params))
-part_of kinds.Toggle params = Some parts.Toggle
-part_of kinds.Select params = Some parts.Select
-part_of kinds.Call params = Some parts.Call
-part_of kinds.Arbiter params = Some parts.Arbiter
-part_of _ params = None

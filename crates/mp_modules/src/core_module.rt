@@ -1,14 +1,12 @@
 //! The modules that hold no data.
-ghost use Rattle.std.specs.Prelude.{◌≡◌, None, if◌then◌else◌};
-ghost use Rattle.mp_modules.specs.Kinds.{are_params};
-ghost use Rattle.mp_modules.specs.Tables.{first_output, part_of};
+ghost use Rattle.std.specs.Prelude.{◌≡◌};
+ghost use Rattle.mp_modules.specs.Tables.{first_output};
 
 use crate::arbiter::{arbiter_step, is_done_without_grant, is_repeat_request};
 use crate::call::{call_step, is_done_without_call, is_overlap};
 use crate::event_module::EventModule;
 use crate::finding_code::FindingCode;
 use crate::finding_set::FindingSet;
-use crate::kind::Kind;
 use crate::memory::{Memory, level_at};
 use crate::merge::{is_collision, merged};
 use crate::rendezvous::Rendezvous;
@@ -29,26 +27,6 @@ pub enum CoreModule {
 }
 
 impl CoreModule {
-    /// The module of a kind with these parameters, and nothing where the kind doesn't accept them or holds data.
-    pub fn of(kind: Kind, params: &[u64]) -> Option<CoreModule>
-        ensures { result ≡ (if are_params kind 1 params.now then part_of kind params.now else None) }
-    {
-        if !kind.accepts(1, params) {
-            return None;
-        }
-        match kind {
-            Kind::Buf => Some(CoreModule::Buf),
-            Kind::Not => Some(CoreModule::Not),
-            Kind::Xor => Some(CoreModule::Xor),
-            Kind::C => Some(CoreModule::C(Rendezvous::from_params(params))),
-            Kind::Toggle => Some(CoreModule::Toggle),
-            Kind::Select => Some(CoreModule::Select),
-            Kind::Call => Some(CoreModule::Call),
-            Kind::Arbiter => Some(CoreModule::Arbiter),
-            Kind::Reg | Kind::AddC | Kind::XorC | Kind::Sum | Kind::Bit => None,
-        }
-    }
-
     fn first_output(self) -> u64
         ensures { result ≡ first_output self }
     {

@@ -1,5 +1,4 @@
 pub mod Limits
-pub mod NewErrors
 pub mod Slots
 pub mod Tables
 pub mod Circuit

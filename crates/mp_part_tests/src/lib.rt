@@ -2,6 +2,8 @@
 //! netlists of. They are a crate of their own since a crate with tests is proved twice.
 #![tactic(auto)]
 
+#[cfg(test)]
+mod copies;
 pub mod making;
 #[cfg(test)]
 mod model;

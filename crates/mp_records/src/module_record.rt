@@ -23,19 +23,8 @@ pub struct ModuleRecord {
 
 impl ModuleRecord {
     ghost use Rattle.std.specs.Prelude.{◌≡◌};
-    ghost use Rattle.mp_records.specs.Outputs.{delay_of};
     ghost use Rattle.mp_records.specs.NamedWires.{module_names};
     ghost use Rattle.mp_records.specs.PortChanges.{with_input, with_input_delay, with_output, with_delay};
-
-    /// The transport delay of an output port in units, 1 where there is no such port.
-    pub fn delay(&self, port: u32) -> u32
-        ensures { result ≡ delay_of self.now port }
-    {
-        match self.outputs.as_slice().get(port as usize) {
-            Some(output) => output.delay,
-            None => 1,
-        }
-    }
 
     /// Whether an input or an output is at the wire.
     pub fn names(&self, wire: WireId) -> bool

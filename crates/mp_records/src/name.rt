@@ -51,7 +51,7 @@ impl Name {
     /// The name of this text. The error comes where memory is wanting, and never for a text of at most 16 bytes.
     pub fn new(alloc: Global, text: &str) -> Result<Self, AllocError>
         ensures value { IfOk result (λ name. name ≡ text.now) }
-        ensures short { length text.now ≤ IN_PLACE → IsOk result }
+        ensures short { length text.now ≤ 16 → IsOk result }
     {
         Ok(Name {
             text: match ArrayString::from(text) {

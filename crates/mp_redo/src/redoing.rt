@@ -17,9 +17,10 @@ use std::alloc::{AllocError, Global};
 use std::sync::Wait;
 use std::thread::Threads;
 
-/// The run of a netlist that was made of another, by the run of that one; and what of it was evaluated. Modules that begin to work in the
-/// same unit do so on the threads of the crew, where they are as many as it shares out. A module passes the gate for each entry of the
-/// work. Where memory runs out, the old run stays.
+/// The run of a netlist that was made of another, by the run of that one; and what of it was evaluated. Touched modules are evaluated from
+/// time 0 on. Any other joins in the unit in which it first hears anything else than in the old run: those that join in the same unit answer
+/// up to it on the threads of the crew, where they are as many as it shares out. The calling thread does all else. A module passes the gate
+/// for each entry of the work. Where memory runs out, the old run stays.
 pub fn redo<R: Threads + Wait + Sync, G: Gate + Sync>(
     rt: &R,
     alloc: Global,

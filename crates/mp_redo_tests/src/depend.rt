@@ -35,6 +35,7 @@ fn are_known(records: &Records) -> bool {
     let part = ModuleId(0);
     records.readers(WireId(0)) == [(part, 0), (part, 1)].as_slice()
         && records.resume_point(part, 1023) == Some(0)
+        && records.resume_point(part, 1024) == Some(1024)
         && records.resume_point(part, 1500) == Some(1024)
         && records.resume_point(part, 5000) == Some(1024)
         && records.resume_point(ModuleId(1), 0) == None

@@ -14,8 +14,9 @@ use std::marker::Model;
 use std::sync::{Arc, Wait};
 use std::thread::Threads;
 
-/// A netlist and the edits that were accepted on it: its present version with its run, the crew on whose threads runs are computed, and the
-/// gate that modules pass. An edit's run is computed from the run before it.
+/// A netlist and the edits that were accepted on it: its present version with its run, a crew, and the gate that modules pass. The first run
+/// is computed on the threads of the crew. An edit's run is computed from the run before it, on the calling thread; only modules that the edit
+/// doesn't touch and that join in the same unit, since they hear anything new there, answer up to it on the threads of the crew.
 #[derive(Drop)]
 pub struct Session<G: Gate> {
     alloc: Global,

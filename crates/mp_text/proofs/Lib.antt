@@ -18,3 +18,4 @@ pub mod StimulusStageLemmas
 pub mod BundleStageLemmas
 pub mod SameRecordLemmas
 mod PartLemmas
+mod LineStartLemmas

@@ -7,6 +7,7 @@ pub mod Texts
 pub mod SingleEdits
 pub mod Batches
 pub mod ScriptLines
+pub mod LineStarts
 pub mod Laws
 pub mod Written
 pub mod Sections

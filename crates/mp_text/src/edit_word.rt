@@ -16,6 +16,7 @@ pub enum EditWord {
 impl EditWord {
     ghost use Rattle.std.specs.Prelude.{◌≡◌};
     ghost use Rattle.mp_text.specs.Statements.{edit_word};
+    ghost use Rattle.mp_text.specs.LineStarts.{statement_takes};
 
     /// What the word is as such a first word, where it is one.
     pub fn from_word(word: &[u8]) -> Option<EditWord>
@@ -31,6 +32,18 @@ impl EditWord {
             Some(EditWord::Bundle)
         } else {
             None
+        }
+    }
+
+    /// Whether so many words may stand behind it.
+    pub fn takes(self, count: usize) -> bool
+        ensures { result ≡ statement_takes self count }
+    {
+        match self {
+            EditWord::Wire => count == 3,
+            EditWord::Module => count >= 6,
+            EditWord::Stimulus => count >= 1,
+            EditWord::Bundle => count == 5,
         }
     }
 }

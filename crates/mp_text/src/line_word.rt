@@ -25,6 +25,7 @@ pub enum LineWord {
 impl LineWord {
     ghost use Rattle.std.specs.Prelude.{◌≡◌};
     ghost use Rattle.mp_text.specs.ScriptLines.{line_word};
+    ghost use Rattle.mp_text.specs.LineStarts.{takes};
 
     /// What the word is as such a first word, where it is one.
     pub fn from_word(word: &[u8]) -> Option<LineWord>
@@ -46,6 +47,19 @@ impl LineWord {
             Some(LineWord::Work)
         } else {
             Some(LineWord::Single(SingleWord::from_word(word)?))
+        }
+    }
+
+    /// Whether so many words may stand behind it.
+    pub fn takes(self, count: usize) -> bool
+        ensures { result ≡ takes self count }
+    {
+        match self {
+            LineWord::Single(word) => word.takes(count),
+            LineWord::Batch => count >= 1,
+            LineWord::Wave => count == 1,
+            LineWord::Waves | LineWord::Text | LineWord::Report | LineWord::Dump | LineWord::Work =>
+                count == 0,
         }
     }
 }

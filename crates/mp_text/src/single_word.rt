@@ -23,6 +23,7 @@ pub enum SingleWord {
 impl SingleWord {
     ghost use Rattle.std.specs.Prelude.{◌≡◌};
     ghost use Rattle.mp_text.specs.SingleEdits.{single_word};
+    ghost use Rattle.mp_text.specs.LineStarts.{single_takes};
 
     /// What the word is as such a first word, where it is one.
     pub fn from_word(word: &[u8]) -> Option<SingleWord>
@@ -42,6 +43,19 @@ impl SingleWord {
             Some(SingleWord::Clear)
         } else {
             Some(SingleWord::Stated(EditWord::from_word(word)?))
+        }
+    }
+
+    /// Whether so many words may stand behind it.
+    pub fn takes(self, count: usize) -> bool
+        ensures { result ≡ single_takes self count }
+    {
+        match self {
+            SingleWord::Stated(word) => word.takes(count),
+            SingleWord::Remove => count == 2,
+            SingleWord::Input | SingleWord::Output | SingleWord::InputDelay | SingleWord::Delay =>
+                count == 3,
+            SingleWord::Clear => count == 1,
         }
     }
 }

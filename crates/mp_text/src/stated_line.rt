@@ -1,16 +1,17 @@
 //! Reading a script's line.
-ghost use Rattle.std.specs.Prelude.{◌≡◌};
+ghost use Rattle.std.specs.Prelude.{◌≡◌, IfErr};
 ghost use Rattle.mp_words.specs.declared.line_error.LineError.TheVariants.{OutOfMemory};
 ghost use Rattle.mp_words.specs.Reads.{Gives};
 ghost use Rattle.mp_words.specs.Words.{texts, AreAscii};
-ghost use Rattle.mp_text.specs.ScriptLines.{line_at, line_of, stated_line, wave_question, bare_question};
+ghost use Rattle.mp_text.specs.LineStarts.{HasForm};
+ghost use Rattle.mp_text.specs.ScriptLines.{line_at, stated_line, wave_question, bare_question};
 
 use crate::batch_line::batch;
 use crate::line_word::LineWord;
 use crate::script_edit::single_edit;
 use crate::script_line::{Line, Question};
 use mp_netlist::Edit;
-use mp_words::{LineError, line_words, name_of};
+use mp_words::{LineError, first_word, is_plain, name_of, word_count, words};
 use std::alloc::Global;
 
 /// What a line of a script says, which is given without its line feed: an edit, as in a netlist's
@@ -19,29 +20,29 @@ use std::alloc::Global;
 /// Else its first fault: a byte that is not allowed, also in a comment (`NotAscii`); a first word
 /// that no line has (`UnknownStatement`); the number or shape of the words (`WordCount`); a kind
 /// that is none (`UnknownStatement`); a word that is not the number or pair that it should be
-/// (`BadNumber`). The parts of a batch are looked at in turn. `OutOfMemory` says that memory was wanting. Whether the netlist takes the edit is
+/// (`BadNumber`). The parts of a batch are looked at in turn. Whether the netlist takes the edit is
 /// not looked at.
-#[tactic(auto, unfolding(crate::specs::ScriptLines::line_at))]
+///
+/// `OutOfMemory` says that memory was wanting. It comes only for a line whose bytes are allowed,
+/// whose first word is one that lines have, and with as many words behind it as may stand there.
 pub fn read_line(alloc: Global, line: &[u8]) -> Result<Line, LineError>
-    ensures { Gives OutOfMemory (λ line. line) result (line_at line.now) }
+    ensures read { Gives OutOfMemory (λ line. line) result (line_at line.now) }
+    ensures wanting { IfErr result (λ error. error ≡ OutOfMemory → HasForm line.now) }
 {
-    let words = line_words(alloc, line)?;
-    line_of(alloc, words.as_slice())
-}
-
-/// The line of its words.
-#[tactic(auto, unfolding(crate::specs::ScriptLines::line_of))]
-fn line_of(alloc: Global, words: &[&[u8]]) -> Result<Line, LineError>
-    requires { AreAscii words.now }
-    ensures { Gives OutOfMemory (λ line. line) result (line_of (texts words.now)) }
-{
-    let [word, others @ ..] = words else {
+    if !is_plain(line) {
+        return Err(LineError::NotAscii);
+    }
+    let Some(word) = first_word(line) else {
         return Ok(Line::Empty);
     };
-    match LineWord::from_word(word) {
-        Some(first) => stated_line(alloc, first, others),
-        None => Err(LineError::UnknownStatement),
+    let Some(first) = LineWord::from_word(word) else {
+        return Err(LineError::UnknownStatement);
+    };
+    if !first.takes(word_count(line) - 1) {
+        return Err(LineError::WordCount);
     }
+    let words = words(alloc, line)?;
+    stated_line(alloc, first, &words.as_slice()[1..])
 }
 
 /// The line of a first word and the words behind it.

@@ -1,18 +1,23 @@
 -- Codes and numbers as words, and what they are read as.
 use Rattle.std.proofs.Common.{◌≡◌, ◌≢◌, ℕ, ◌+◌, ◌-◌, ◌*◌, ◌/◌, ◌%◌, ◌^◌, ◌<◌, ◌≤◌, Bool, true, false, cond, nat_lt, List, [], ◌∷◌, ◌++◌, length, zero, suc, decimal, refl, sym, ap, subst, ◌∙◌, add-one, arith}
 use Rattle.std.specs.Prelude.{codes}
-use Rattle.std.specs.Char.{digit_value}
+use Rattle.std.specs.Char.{digit_value, is_ascii_digit}
 use Rattle.std.specs.List.{list_all}
 use Rattle.std.specs.Str.{bytes_eq}
 use Rattle.std.specs.Str.Parse.{AllDigits, digits_value_after, digits_value}
+use Rattle.std.proofs.lemmas.Bool.{lt-ltb}
 use Rattle.std.proofs.lemmas.Bool.Decides.{nat_tests}
+use Rattle.std.proofs.lemmas.List.{length-append}
+use Rattle.std.proofs.lemmas.List.Folds.{list_all-append}
 use Rattle.std.proofs.lemmas.Fmt.{decimal_is_IsNumeral}
 use Rattle.std.proofs.lemmas.Nat.{mod-pow-add}
 use Rattle.std.proofs.lemmas.Slice.Eq.{bytes_eq-Decides}
 use Rattle.mp_records.specs.Names.{is_name}
+use Rattle.mp_words.proofs.DecimalLemmas.{decimal_digits}
 use Rattle.mp_words.proofs.PlainLemmas.{IsPlain, IsPlain-decimal, IsPlain-name, is_plain_byte, list_all-passing, both}
 use Rattle.mp_vcd.specs.Codes.{digits_of, code}
 use Rattle.mp_vcd.specs.Values.{bit, bits}
+use Rattle.mp_vcd.specs.Readings.{is_made_of, is_binary, is_printed}
 
 -- ---- words
 
@@ -175,3 +180,55 @@ bits_solid zero level = refl
 bits_solid (suc width) level =
     let high : nat_lt 32 (bit level) ≡ true = grind (arith, nat_tests) in
     bits_solid-append (bits width (level / 2)) (bit level) (bits_solid width (level / 2)) high
+
+-- ---- of what words are made
+
+pub decimal_made : (n : ℕ) → n < 2 ^ 64 → is_made_of is_ascii_digit (decimal n) ≡ true
+decimal_made n fits =
+    let some : nat_lt 0 (length (decimal n)) ≡ true = lt-ltb 0 (length (decimal n)) (IsSolid-decimal n fits).some in
+    let digits = decimal_digits n fits in
+    rw (some, digits) refl
+
+digit_printed : (n : ℕ) → is_printed (33 + n % 94) ≡ true
+digit_printed n = grind (arith, nat_tests)
+
+digits_printed : (most n : ℕ) → list_all is_printed (digits_of most n) ≡ true
+digits_printed zero n = refl
+digits_printed (suc most) n = let here = digit_printed n in rw here (by (nat_lt n 94) (digits_printed most (n / 94)))
+  where
+    by : (test : Bool) → list_all is_printed (digits_of most (n / 94)) ≡ true → list_all is_printed (cond test [] (digits_of most (n / 94))) ≡ true
+    by true rest = refl
+    by false rest = rest
+
+code_printed : (w : ℕ) → list_all is_printed (code w) ≡ true
+unfolding code
+code_printed w = digits_printed (suc w) w
+
+pub code_made : (w : ℕ) → is_made_of is_printed (code w) ≡ true
+code_made w =
+    let some : nat_lt 0 (length (code w)) ≡ true = lt-ltb 0 (length (code w)) (IsSolid-code w).some in
+    let all = code_printed w in
+    rw (some, all) refl
+
+bits_all : (width level : ℕ) → list_all is_binary (bits width level) ≡ true
+unfolding bits
+bits_all zero level = refl
+bits_all (suc width) level =
+    let last : is_binary (bit level) ≡ true = grind (arith, nat_tests) in
+    let rest = bits_all width (level / 2) in
+    list_all-append is_binary (bits width (level / 2)) (bit level ∷ []) ∙ rw (rest, last) refl
+
+pub length-bits : (width level : ℕ) → length (bits width level) ≡ width
+unfolding bits
+length-bits zero level = refl
+length-bits (suc width) level = length-append (bits width (level / 2)) (bit level ∷ []) ∙ ap (λ k. k + 1) (length-bits width (level / 2)) ∙ add-one width
+
+pub bits_made : (width level : ℕ) → 1 ≤ width → is_made_of is_binary (bits width level) ≡ true
+bits_made width level wide =
+    let some : nat_lt 0 (length (bits width level)) ≡ true = lt-ltb 0 (length (bits width level)) (omega (arith, length-bits width level, wide)) in
+    let all = bits_all width level in
+    rw (some, all) refl
+
+pub one_bit : (level : ℕ) → bits 1 level ≡ bit level ∷ []
+unfolding bits
+one_bit level = refl

@@ -1,26 +1,37 @@
 -- The whole of a dump, read.
-use Rattle.std.proofs.Common.{◌≡◌, ℕ, ◌+◌, ◌-◌, ◌<◌, ◌≤◌, List, [], ◌∷◌, ◌++◌, append_assoc, append-nil, length, map, Option, None, Some, suc, refl, sym, ap, subst, ◌∙◌, add-zero, zero-add, arith}
-use Rattle.std.specs.Prelude.{codes}
+use Rattle.std.proofs.Common.{◌≡◌, ℕ, ◌+◌, ◌-◌, ◌<◌, ◌≤◌, inl, inr, Bool, true, false, ◌&&◌, List, [], ◌∷◌, ◌++◌, append_assoc, append-nil, length, map, Option, None, Some, suc, refl, sym, ap, subst, ◌∙◌, add-zero, zero-add, arith}
+use Rattle.std.specs.Prelude.{codes, ◌||◌}
 use Rattle.std.proofs.Math.Nat.{mod-eq_of_lt}
-use Rattle.std.specs.List.{flat_map}
+use Rattle.std.proofs.lemmas.Bool.{le-leb}
+use Rattle.std.specs.List.{flat_map, list_any}
 use Rattle.mp_records.specs.declared.wire_record.WireRecord.{WireRecord}
 use Rattle.mp_netlist.specs.Limits.{max_wires}
 use Rattle.mp_netlist.specs.Circuit.{Circuit, IsCircuit, wire_at, width_of}
 use Rattle.mp_netlist.specs.Slots.{slot_at}
 use Rattle.mp_vcd.specs.Codes.{code}
 use Rattle.mp_vcd.specs.Dumps.{standing, standing_from, slot_declaration, declaration, value_at, time_mark, line, opening_lines, block_start, dump}
-use Rattle.mp_vcd.specs.Readings.{words, Variable, Given, Reading, read_words, reading}
+use Rattle.mp_vcd.specs.Readings.{words, Variable, Given, Outside, Inside, Reading, nothing_read, takes, read_words, reading}
 use Rattle.mp_vcd.specs.Laws.{name_of, variable, SaysLevels, IsReadBack}
-use Rattle.mp_vcd.proofs.ReadingLemmas.{Leads, leads_none, leads_both, leads_as, declaring, leads_declaration, leads_time, valued}
-use Rattle.mp_vcd.proofs.LevelReadLemmas.{given_at, leads_values, stands_in, knows_first, Units, leads_units}
+use Rattle.mp_vcd.proofs.CodeReadLemmas.{same_bytes}
+use Rattle.mp_vcd.proofs.ReadingLemmas.{Leads, leads_none, leads_both, leads_as, declaring, declared_as, leads_declaration, leads_time, valued, HasVariable}
+use Rattle.mp_vcd.proofs.LevelReadLemmas.{In, given_at, leads_values, stands_in, stands_of, AreReadable, knows_first, Units, leads_units}
 use Rattle.mp_model.proofs.LevelFitLemmas.{level_fits}
 use Rattle.mp_vcd.proofs.DumpLemmas.{units}
+
+-- ---- tests
+
+both_true : {a b : Bool} → a ≡ true → b ≡ true → a && b ≡ true
+both_true first second = rw (first, second) refl
+
+or_right : (a b : Bool) → b ≡ true → a || b ≡ true
+or_right true b second = refl
+or_right false b second = second
 
 -- ---- the declarations
 
 module _ (n : Circuit) (circuit : IsCircuit n) where
-  variable_stands : (w : ℕ) (r : WireRecord) → wire_at n w ≡ Some r → variable n w ≡ record { width = r.width; code = code w; name = r.name }
-  variable_stands w r stands = ap (λ slot. record { width = width_of slot; code = code w; name = name_of slot }) stands
+  variable_stands : (w : ℕ) (r : WireRecord) → wire_at n w ≡ Some r → variable n w ≡ declared_as w r
+  variable_stands w r stands = ap (λ slot. record { scopes = codes "top" ∷ []; width = width_of slot; code = code w; name = name_of slot }) stands
 
   declared_wire : (vs : List Variable) (w : ℕ) (r : WireRecord) → wire_at n w ≡ Some r → w < max_wires → Leads (declaring vs) (declaration n w) (declaring (vs ++ variable n w ∷ []))
   declared_wire vs w r stands few =
@@ -41,20 +52,20 @@ module _ (n : Circuit) (circuit : IsCircuit n) where
 
 -- ---- the lines between
 
-starts : Leads (declaring []) opening_lines (declaring [])
+starts : Leads nothing_read opening_lines (declaring [])
 starts = record { each = λ rest. refl }
 
-block_starts : (vs : List Variable) → Leads (declaring vs) block_start (valued vs 0 [])
+block_starts : (vs : List Variable) → Leads (declaring vs) block_start (valued Inside vs 0 [])
 block_starts vs = record { each = λ rest. refl }
 
-block_ends : (vs : List Variable) (given : List Given) → Leads (valued vs 0 given) (line (codes "$end")) (valued vs 0 given)
+block_ends : (vs : List Variable) (given : List Given) → Leads (valued Inside vs 0 given) (line (codes "$end")) (valued Outside vs 0 given)
 block_ends vs given = record { each = λ rest. refl }
 
 -- ---- the whole
 
-leads_all : (text : List ℕ) (to : Reading) → Leads (declaring []) text to → reading text ≡ to
+leads_all : (text : List ℕ) (to : Reading) → Leads nothing_read text to → reading text ≡ to
 unfolding reading
-leads_all text to leads = ap (λ l. read_words (words l) (declaring [])) (sym (append-nil text)) ∙ leads.each []
+leads_all text to leads = ap (λ l. read_words (words l) nothing_read) (sym (append-nil text)) ∙ leads.each []
 
 module _ (n : Circuit) (circuit : IsCircuit n) where
   abbrev all_variables : List Variable
@@ -63,25 +74,46 @@ module _ (n : Circuit) (circuit : IsCircuit n) where
   abbrev first_given : List Given
   first_given = given_at n 0 (standing n) []
 
-  all_units : Units n all_variables (valued all_variables 0 first_given) (units n) (0 + (n.horizon - 1))
-  all_units = leads_units n all_variables (n.horizon - 1) 0 0 first_given (omega (arith, circuit.horizon_high)) (knows_first n)
+  has_variable : (w : ℕ) (ws : List ℕ) → In w ws → HasVariable (map (variable n) ws) w (width_of (wire_at n w))
+  has_variable w [] within = absurd within
+  has_variable w (v ∷ ws) (inl same) = λ digits few.
+      let own : takes (code w) digits (variable n v) ≡ true =
+      subst (λ u. takes (code u) digits (variable n v) ≡ true) same (both_true (same_bytes (code v)) (le-leb (length digits) (width_of (wire_at n v)) (subst (λ u. length digits ≤ width_of (wire_at n u)) (sym same) few))) in
+      rw own refl
+  has_variable w (v ∷ ws) (inr later) = λ digits few.
+      let rest = has_variable w ws later digits few in
+      or_right (takes (code w) digits (variable n v)) (list_any (takes (code w) digits) (map (variable n) ws)) rest
 
-  leads_dump : Leads (declaring []) (dump n) (valued all_variables n.horizon all_units.given)
+  all_readable : AreReadable n all_variables (standing n)
+  all_readable w within =
+      let wire = stands_of n w within in
+      let width = ap width_of wire.1 in
+      let ok = circuit.wires_ok w wire.0 wire.1 in
+      record {
+        wide = omega (arith, ok.wide, width);
+        declared = has_variable w (standing n) within;
+      }
+
+  all_units : Units n all_variables (valued Outside all_variables 0 first_given) (units n) (0 + (n.horizon - 1))
+  all_units = leads_units n all_variables (n.horizon - 1) 0 0 first_given all_readable (omega arith) (omega (arith, circuit.horizon_high)) (knows_first n)
+
+  leads_dump : Leads nothing_read (dump n) (valued Outside all_variables n.horizon all_units.given)
   unfolding dump
   leads_dump =
       let vs = all_variables in
-      let end = leads_time vs all_units.time n.horizon all_units.given (omega (arith, circuit.horizon_high)) in
+      let end = leads_time vs all_units.time n.horizon all_units.given (omega (arith, all_units.upto, circuit.horizon_low)) (omega (arith, circuit.horizon_high)) in
       let changes = leads_both _ _ _ (units n) (time_mark n.horizon) all_units.leads end in
       let over = leads_both _ _ _ (line (codes "$end")) _ (block_ends vs first_given) changes in
-      let levels = leads_both _ _ _ (flat_map (value_at n 0) (standing n)) _ (leads_values n vs 0 (standing n) []) over in
+      let levels = leads_both _ _ _ (flat_map (value_at n 0) (standing n)) _ (leads_values Inside n vs 0 (standing n) [] all_readable) over in
       let block = leads_both _ _ _ block_start _ (block_starts vs) levels in
       let stands : (i : ℕ) (r : WireRecord) → slot_at n.wires i ≡ Some r → wire_at n (0 + i) ≡ Some r = λ i r at. ap (wire_at n) (zero-add i) ∙ at in
       let all = leads_both _ _ _ (flat_map (declaration n) (standing n)) _ (leads_declarations n circuit [] 0 n.wires (omega (arith, circuit.wires_few)) stands) block in
       leads_both _ _ _ opening_lines _ starts all
 
-  says : SaysLevels n (valued all_variables n.horizon all_units.given)
+  says : SaysLevels n (valued Outside all_variables n.horizon all_units.given)
   says = record {
     whole = refl;
+    unit = refl;
     variables = refl;
     levels = λ w t wire stands below. all_units.knows.before w t (stands_in n w wire stands) (omega (arith, below)) ∙ ap Some (mod-eq_of_lt (level_fits n circuit w t));
     horizon = refl;

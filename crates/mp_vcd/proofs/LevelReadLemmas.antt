@@ -11,9 +11,9 @@ use Rattle.mp_netlist.specs.Slots.{slot_at}
 use Rattle.mp_model.specs.Waves.{level}
 use Rattle.mp_vcd.specs.Codes.{code}
 use Rattle.mp_vcd.specs.Dumps.{standing, standing_from, if_stands, value_at, is_changed, changed, marked, unit_text, time_mark}
-use Rattle.mp_vcd.specs.Readings.{Variable, Given, Reading, value_of}
+use Rattle.mp_vcd.specs.Readings.{Variable, Given, Side, Outside, Reading, value_of}
 use Rattle.mp_vcd.proofs.CodeReadLemmas.{own_codes, same_bytes}
-use Rattle.mp_vcd.proofs.ReadingLemmas.{Leads, leads_none, leads_both, leads_time, leads_value, valued, giving}
+use Rattle.mp_vcd.proofs.ReadingLemmas.{Leads, leads_none, leads_both, leads_time, leads_value, valued, giving, HasVariable}
 
 -- the bits of a wire's level, as many as the wire has
 abbrev pub level_bits : Circuit → ℕ → ℕ → ℕ
@@ -25,23 +25,6 @@ level_bits n w t = level n w t % 2 ^ width_of (wire_at n w)
 abbrev pub given_at : Circuit → ℕ → List ℕ → List Given → List Given
 given_at n t [] given = given
 given_at n t (w ∷ ws) given = given_at n t ws (giving t w (level_bits n w t) ∷ given)
-
-pub leads_values : (n : Circuit) (vs : List Variable) (t : ℕ) (ws : List ℕ) (given : List Given) → Leads (valued vs t given) (flat_map (value_at n t) ws) (valued vs t (given_at n t ws given))
-leads_values n vs t [] given = leads_none (valued vs t given)
-leads_values n vs t (w ∷ ws) given =
-    leads_both (valued vs t given) (valued vs t (giving t w (level_bits n w t) ∷ given)) _ (value_at n t w) (flat_map (value_at n t) ws)
-    (leads_value vs t w (level n w t) given (width_of (wire_at n w))) (leads_values n vs t ws (giving t w (level_bits n w t) ∷ given))
-
--- the time at the end of a unit
-abbrev marked_time : ℕ → ℕ → List ℕ → ℕ
-marked_time before t [] = before
-marked_time before t (w ∷ ws) = t
-
-leads_marked : (n : Circuit) (vs : List Variable) (before t : ℕ) (ws : List ℕ) (given : List Given) → t < 2 ^ 64
-    → Leads (valued vs before given) (marked n t ws) (valued vs (marked_time before t ws) (given_at n t ws given))
-leads_marked n vs before t [] given fits = leads_none (valued vs before given)
-leads_marked n vs before t (w ∷ ws) given fits =
-    leads_both (valued vs before given) (valued vs t given) _ (time_mark t) (flat_map (value_at n t) (w ∷ ws)) (leads_time vs before t given fits) (leads_values n vs t (w ∷ ws) given)
 
 -- ---- wires among others
 
@@ -58,6 +41,15 @@ in_filter p w (v ∷ ws) (inr later) passes = by (p v) (in_filter p w ws later p
     by true rest = inr rest
     by false rest = rest
 
+filter_in : (p : ℕ → Bool) (w : ℕ) (ws : List ℕ) → In w (filter p ws) → In w ws
+filter_in p w [] within = within
+filter_in p w (v ∷ ws) within = by (p v) (filter_in p w ws) within
+  where
+    by : (test : Bool) → (In w (filter p ws) → In w ws) → In w (cond test (v ∷ filter p ws) (filter p ws)) → In w (v ∷ ws)
+    by true rest (inl same) = inl same
+    by true rest (inr later) = inr (rest later)
+    by false rest later = inr (rest later)
+
 behind_slot : (k w : ℕ) (slot : Option WireRecord) (others : List ℕ) → In w others → In w (if_stands k slot others)
 behind_slot k w None others within = within
 behind_slot k w (Some r) others within = inr within
@@ -71,6 +63,54 @@ in_standing k (suc i) (slot ∷ slots) r stands =
 
 pub stands_in : (n : Circuit) (w : ℕ) (r : WireRecord) → wire_at n w ≡ Some r → In w (standing n)
 stands_in n w r stands = subst (λ v. In v (standing n)) (zero-add w) (in_standing 0 w n.wires r stands)
+
+standing_in : (k w : ℕ) (slots : List (Option WireRecord)) → In w (standing_from k slots) → (i : ℕ) × (r : WireRecord) × (k + i ≡ w) × (slot_at slots i ≡ Some r)
+standing_in k w [] within = absurd within
+standing_in k w (None ∷ slots) within = let found = standing_in (k + 1) w slots within in (suc found.0, found.1, omega (arith, found.2), found.3)
+standing_in k w (Some r ∷ slots) (inl same) = (0, r, omega (arith, same), refl)
+standing_in k w (Some r ∷ slots) (inr later) = let found = standing_in (k + 1) w slots later in (suc found.0, found.1, omega (arith, found.2), found.3)
+
+-- a wire that is among those that stand does stand
+pub stands_of : (n : Circuit) (w : ℕ) → In w (standing n) → (r : WireRecord) × (wire_at n w ≡ Some r)
+stands_of n w within =
+    let found = standing_in 0 w n.wires within in
+    let same : w ≡ found.0 = omega (arith, found.2) in
+    (found.1, ap (wire_at n) same ∙ found.3)
+
+-- ---- the values of some wires, read
+
+-- a variable is declared for the wire, which has one bit or more
+pub record IsReadable (n : Circuit) (vs : List Variable) (w : ℕ) : Type 0 where
+  pub wide : 1 ≤ width_of (wire_at n w)
+  pub declared : HasVariable vs w (width_of (wire_at n w))
+
+abbrev pub AreReadable : Circuit → List Variable → List ℕ → Type 0
+AreReadable n vs ws = (w : ℕ) → In w ws → IsReadable n vs w
+
+pub leads_values : (side : Side) (n : Circuit) (vs : List Variable) (t : ℕ) (ws : List ℕ) (given : List Given) → AreReadable n vs ws
+    → Leads (valued side vs t given) (flat_map (value_at n t) ws) (valued side vs t (given_at n t ws given))
+leads_values side n vs t [] given each = leads_none (valued side vs t given)
+leads_values side n vs t (w ∷ ws) given each =
+    let here = each w (inl refl) in
+    leads_both (valued side vs t given) (valued side vs t (giving t w (level_bits n w t) ∷ given)) _ (value_at n t w) (flat_map (value_at n t) ws)
+    (leads_value side vs t w (level n w t) given (width_of (wire_at n w)) here.wide here.declared)
+    (leads_values side n vs t ws (giving t w (level_bits n w t) ∷ given) (λ v within. each v (inr within)))
+
+-- the time at the end of a unit
+abbrev marked_time : ℕ → ℕ → List ℕ → ℕ
+marked_time before t [] = before
+marked_time before t (w ∷ ws) = t
+
+marked_upto : (before t : ℕ) (ws : List ℕ) → before ≤ t → marked_time before t ws ≤ t
+marked_upto before t [] early = early
+marked_upto before t (w ∷ ws) early = omega arith
+
+leads_marked : (n : Circuit) (vs : List Variable) (before t : ℕ) (ws : List ℕ) (given : List Given) → before < t → t < 2 ^ 64 → AreReadable n vs ws
+    → Leads (valued Outside vs before given) (marked n t ws) (valued Outside vs (marked_time before t ws) (given_at n t ws given))
+leads_marked n vs before t [] given later fits each = leads_none (valued Outside vs before given)
+leads_marked n vs before t (w ∷ ws) given later fits each =
+    leads_both (valued Outside vs before given) (valued Outside vs t given) _ (time_mark t) (flat_map (value_at n t) (w ∷ ws)) (leads_time vs before t given later fits)
+    (leads_values Outside n vs t (w ∷ ws) given each)
 
 -- ---- the values of a code
 
@@ -164,28 +204,33 @@ module _ (n : Circuit) (t : ℕ) (given : List Given) (known : Knows n t given) 
 -- the units lead to a reading that knows the levels up to the last of them
 pub record Units (n : Circuit) (vs : List Variable) (from : Reading) (text : List ℕ) (last : ℕ) : Type 0 where
   pub time : ℕ
+  pub upto : time ≤ last
   pub given : List Given
-  pub leads : Leads from text (valued vs time given)
+  pub leads : Leads from text (valued Outside vs time given)
   pub knows : Knows n last given
 
-pub leads_units : (n : Circuit) (vs : List Variable) (k t before : ℕ) (given : List Given) → t + k < 2 ^ 64 → Knows n t given
-    → Units n vs (valued vs before given) (flat_map (unit_text n) (range_with_len (t + 1) k)) (t + k)
-leads_units n vs zero t before given fits known = record {
+pub leads_units : (n : Circuit) (vs : List Variable) (k t before : ℕ) (given : List Given) → AreReadable n vs (standing n) → before ≤ t → t + k < 2 ^ 64 → Knows n t given
+    → Units n vs (valued Outside vs before given) (flat_map (unit_text n) (range_with_len (t + 1) k)) (t + k)
+leads_units n vs zero t before given each early fits known = record {
   time = before;
+  upto = omega (arith, early);
   given = given;
-  leads = leads_none (valued vs before given);
+  leads = leads_none (valued Outside vs before given);
   knows = subst (λ s. Knows n s given) (sym (add-zero t)) known;
 }
-leads_units n vs (suc k) t before given fits known =
-    let next = given_at n (t + 1) (changed n (t + 1)) given in
-    let here = valued vs (marked_time before (t + 1) (changed n (t + 1))) next in
-    let rest = leads_units n vs k (t + 1) (marked_time before (t + 1) (changed n (t + 1))) next (omega (arith, fits)) (knows_next n t given known) in
+leads_units n vs (suc k) t before given each early fits known =
+    let ws = changed n (t + 1) in
+    let next = given_at n (t + 1) ws given in
+    let time = marked_time before (t + 1) ws in
+    let rest = leads_units n vs k (t + 1) time next each (marked_upto before (t + 1) ws (omega (arith, early))) (omega (arith, fits)) (knows_next n t given known) in
     let same : t + 1 + k ≡ t + suc k = omega arith in
     record {
       time = rest.time;
+      upto = omega (arith, rest.upto);
       given = rest.given;
       leads =
-          leads_both (valued vs before given) here _ (unit_text n (t + 1)) (flat_map (unit_text n) (range_with_len (t + 1 + 1) k))
-          (leads_marked n vs before (t + 1) (changed n (t + 1)) given (omega (arith, fits))) rest.leads;
+          leads_both (valued Outside vs before given) (valued Outside vs time next) _ (unit_text n (t + 1)) (flat_map (unit_text n) (range_with_len (t + 1 + 1) k))
+          (leads_marked n vs before (t + 1) ws given (omega (arith, early)) (omega (arith, fits)) (λ w within. each w (filter_in (is_changed n (t + 1)) w (standing n) within)))
+          rest.leads;
       knows = subst (λ s. Knows n s rest.given) same rest.knows;
     }

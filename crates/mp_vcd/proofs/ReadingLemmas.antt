@@ -1,10 +1,11 @@
 -- What the parts of a dump say to a reader.
-use Rattle.std.proofs.Common.{◌≡◌, ℕ, ◌+◌, ◌%◌, ◌^◌, ◌<◌, ◌==◌, Bool, true, false, cond, nat_lt, List, [], ◌∷◌, ◌++◌, append_assoc, append-nil, length, Some, zero, suc, decimal, refl, sym, ap, subst, ◌∙◌, arith}
+use Rattle.std.proofs.Common.{◌≤◌, ◌≡◌, ℕ, ◌+◌, ◌%◌, ◌^◌, ◌<◌, ◌==◌, Bool, true, false, cond, nat_lt, List, [], ◌∷◌, ◌++◌, append_assoc, append-nil, length, Some, None, zero, suc, decimal, refl, sym, ap, subst, ◌∙◌, arith}
 use Rattle.std.specs.Prelude.{codes}
-use Rattle.std.specs.Char.{is_ascii_whitespace}
-use Rattle.std.specs.List.{list_all}
+use Rattle.std.specs.Char.{is_ascii_digit, is_ascii_whitespace}
+use Rattle.std.specs.List.{list_all, list_any}
 use Rattle.std.specs.Str.{bytes_eq}
 use Rattle.std.specs.Str.Parse.{digits_value}
+use Rattle.std.proofs.lemmas.Bool.{eqb-true, lt-ltb}
 use Rattle.std.proofs.lemmas.Bool.Decides.{nat_tests}
 use Rattle.mp_records.specs.declared.wire_record.WireRecord.{WireRecord}
 use Rattle.mp_records.specs.Names.{is_name}
@@ -12,8 +13,8 @@ use Rattle.mp_words.proofs.PlainLemmas.{both}
 use Rattle.mp_vcd.specs.Codes.{code}
 use Rattle.mp_vcd.specs.Values.{bit, bits, value_line}
 use Rattle.mp_vcd.specs.Dumps.{slot_declaration, time_mark}
-use Rattle.mp_vcd.specs.Readings.{word_first, words_from, words, Variable, Given, Reading, BetweenDeclarations, InDeclaration, AmongValues, BehindVector, word_in, read_words}
-use Rattle.mp_vcd.proofs.CodeReadLemmas.{IsSolid, IsSolid-decimal, IsSolid-name, IsSolid-code, solid_behind, code_solid, bits_solid, decimal_not_end, name_not_end, code_not_end, decimal_read, bits_read}
+use Rattle.mp_vcd.specs.Readings.{word_first, words_from, words, is_made_of, is_printed, Variable, Given, Side, Outside, Inside, Reading, BetweenDeclarations, InDeclaration, AmongValues, BehindDigits, at_place, with_time, takes, with_value, word_in, read_words}
+use Rattle.mp_vcd.proofs.CodeReadLemmas.{IsSolid, IsSolid-decimal, IsSolid-name, IsSolid-code, solid_behind, code_solid, bits_solid, decimal_not_end, name_not_end, code_not_end, decimal_read, bits_read, decimal_made, code_made, bits_made, length-bits, one_bit}
 
 -- ---- words
 
@@ -59,16 +60,19 @@ leads_as r s t xs ys same there leads = record { each = λ rest. ap (λ l. read_
 -- ---- declarations
 
 abbrev pub declaring : List Variable → Reading
-declaring vs = record { place = BetweenDeclarations; variables = vs; time = 0; given = [] }
+declaring vs = record { place = BetweenDeclarations; unit = Some (1, codes "ns"); scopes = codes "top" ∷ []; variables = vs; time = None; given = [] }
 
 abbrev in_var : List Variable → List (List ℕ) → Reading
-in_var vs ws = record { place = InDeclaration (codes "$var" ∷ codes "wire" ∷ ws); variables = vs; time = 0; given = [] }
+in_var vs ws = at_place (InDeclaration (codes "$var") (codes "wire" ∷ ws)) (declaring vs)
 
-goes_on : (vs : List Variable) (ws : List (List ℕ)) (word : List ℕ) → bytes_eq word (codes "$end") ≡ false → word_in (InDeclaration (codes "$var" ∷ codes "wire" ∷ ws)) word (in_var vs ws) ≡ in_var vs (ws ++ word ∷ [])
+goes_on : (vs : List Variable) (ws : List (List ℕ)) (word : List ℕ) → bytes_eq word (codes "$end") ≡ false
+    → word_in (InDeclaration (codes "$var") (codes "wire" ∷ ws)) word (in_var vs ws) ≡ in_var vs (ws ++ word ∷ [])
 goes_on vs ws word other = rw other refl
 
-var_end : (vs : List Variable) (a b c : List ℕ) → Leads (in_var vs (a ∷ b ∷ c ∷ [])) (codes "$end" ++ 10 ∷ []) (declaring (vs ++ record { width = digits_value 10 a; code = b; name = c } ∷ []))
-var_end vs a b c = record { each = λ rest. refl }
+var_end : (vs : List Variable) (width code name : List ℕ) → is_made_of is_ascii_digit width ≡ true → is_made_of is_printed code ≡ true
+    → Leads (in_var vs (width ∷ code ∷ name ∷ [])) (codes "$end" ++ 10 ∷ [])
+    (declaring (vs ++ record { scopes = codes "top" ∷ []; width = digits_value 10 width; code = code; name = name } ∷ []))
+var_end vs width code name number printed = record { each = λ rest. rw (number, printed) refl }
 
 var_word : (vs : List Variable) (ws : List (List ℕ)) (t : Reading) (word more : List ℕ) → IsSolid word → bytes_eq word (codes "$end") ≡ false → Leads (in_var vs (ws ++ word ∷ [])) more t → Leads (in_var vs ws) (word ++ 32 ∷ more) t
 var_word vs ws t word more solid other later = leads_word (in_var vs ws) t word 32 more solid refl (subst (λ (r : Reading). Leads r more t) (sym (goes_on vs ws word other)) later)
@@ -76,61 +80,97 @@ var_word vs ws t word more solid other later = leads_word (in_var vs ws) t word 
 var_start : (vs : List Variable) → Leads (declaring vs) (codes "$var wire ") (in_var vs [])
 var_start vs = record { each = λ rest. refl }
 
+-- the variable of a wire with this record
+abbrev pub declared_as : ℕ → WireRecord → Variable
+declared_as w r = record { scopes = codes "top" ∷ []; width = r.width; code = code w; name = r.name }
+
 pub leads_declaration : (vs : List Variable) (w : ℕ) (r : WireRecord) → w < 8836 → r.width < 2 ^ 64 → is_name r.name ≡ true
-    → Leads (declaring vs) (slot_declaration w (Some r)) (declaring (vs ++ record { width = r.width; code = code w; name = r.name } ∷ []))
+    → Leads (declaring vs) (slot_declaration w (Some r)) (declaring (vs ++ declared_as w r ∷ []))
 leads_declaration vs w r few narrow valid =
-    let over = var_end vs (decimal r.width) (code w) r.name in
+    let over = var_end vs (decimal r.width) (code w) r.name (decimal_made r.width narrow) (code_made w) in
     let name = var_word vs (decimal r.width ∷ code w ∷ []) _ r.name (codes "$end" ++ 10 ∷ []) (IsSolid-name r.name valid) (name_not_end r.name valid) over in
     let own = var_word vs (decimal r.width ∷ []) _ (code w) _ (IsSolid-code w) (code_not_end w few) name in
     let width = var_word vs [] _ (decimal r.width) _ (IsSolid-decimal r.width narrow) (decimal_not_end r.width narrow) own in
     let all = leads_both (declaring vs) (in_var vs []) _ (codes "$var wire ") _ (var_start vs) width in
-    leads_as (declaring vs) _ _ (slot_declaration w (Some r)) (slot_declaration w (Some r)) refl (ap (λ k. declaring (vs ++ record { width = k; code = code w; name = r.name } ∷ [])) (decimal_read r.width narrow)) all
+    leads_as (declaring vs) _ _ (slot_declaration w (Some r)) (slot_declaration w (Some r)) refl
+    (ap (λ k. declaring (vs ++ record { scopes = codes "top" ∷ []; width = k; code = code w; name = r.name } ∷ [])) (decimal_read r.width narrow)) all
 
 -- ---- times and values
 
-abbrev pub valued : List Variable → ℕ → List Given → Reading
-valued vs t given = record { place = AmongValues; variables = vs; time = t; given = given }
+abbrev pub valued : Side → List Variable → ℕ → List Given → Reading
+valued side vs t given = record { place = AmongValues side; unit = Some (1, codes "ns"); scopes = []; variables = vs; time = Some t; given = given }
 
-pub leads_time : (vs : List Variable) (t new : ℕ) (given : List Given) → new < 2 ^ 64 → Leads (valued vs t given) (time_mark new) (valued vs new given)
-leads_time vs t new given fits =
+time_read : (vs : List Variable) (t new : ℕ) (given : List Given) → t < new → new < 2 ^ 64 → with_time (decimal new) (valued Outside vs t given) ≡ valued Outside vs new given
+time_read vs t new given later fits =
+    let digits = decimal_made new fits in
+    let read = decimal_read new fits in
+    let rises = lt-ltb t new later in
+    rw (digits, read, rises) refl
+
+pub leads_time : (vs : List Variable) (t new : ℕ) (given : List Given) → t < new → new < 2 ^ 64 → Leads (valued Outside vs t given) (time_mark new) (valued Outside vs new given)
+leads_time vs t new given later fits =
     let word = solid_behind 35 (decimal new) (omega arith) (IsSolid-decimal new fits).solid in
-    let there : valued vs (digits_value 10 (decimal new)) given ≡ valued vs new given = ap (λ k. valued vs k given) (decimal_read new fits) in
-    leads_word (valued vs t given) (valued vs new given) (35 ∷ decimal new) 10 [] word refl (subst (λ (r : Reading). Leads r [] (valued vs new given)) (sym there) (leads_none (valued vs new given)))
+    leads_word (valued Outside vs t given) (valued Outside vs new given) (35 ∷ decimal new) 10 [] word refl
+    (subst (λ (r : Reading). Leads r [] (valued Outside vs new given)) (sym (time_read vs t new given later fits)) (leads_none (valued Outside vs new given)))
 
 abbrev pub giving : ℕ → ℕ → ℕ → Given
 giving t w value = record { time = t; code = code w; value = value }
 
-module _ (vs : List Variable) (t w level : ℕ) (given : List Given) where
-  scalar_word : (d : ℕ) → d < 2 → word_in AmongValues ((48 + d) ∷ code w) (valued vs t given) ≡ valued vs t (giving t w d ∷ given)
-  scalar_word zero few = refl
-  scalar_word (suc zero) few = refl
-  scalar_word (suc (suc d)) few = absurd (omega (arith, few))
+-- the variables have one of this code, with so many bits
+abbrev pub HasVariable : List Variable → ℕ → ℕ → Type 0
+HasVariable vs w width = (digits : List ℕ) → length digits ≤ width → list_any (takes (code w) digits) vs ≡ true
 
-  leads_scalar : Leads (valued vs t given) (bit level ∷ [] ++ (code w ++ 10 ∷ [])) (valued vs t (giving t w (level % 2) ∷ given))
-  leads_scalar =
+module _ (side : Side) (vs : List Variable) (t w level : ℕ) (given : List Given) (width : ℕ) (wide : 1 ≤ width) (declared : HasVariable vs w width) where
+  -- a code behind the bits of a level
+  code_read : (digits : List ℕ) → digits ≡ bits width level → with_value (Some t) (code w) digits (valued side vs t given) ≡ valued side vs t (giving t w (level % 2 ^ width) ∷ given)
+  code_read digits same =
+      let few : length digits ≤ width = omega (arith, ap length same, length-bits width level) in
+      let takes_it = declared digits few in
+      let value = ap (digits_value 2) same ∙ bits_read width level in
+      rw (takes_it, value) refl
+
+  scalar_word : (d : ℕ) → d < 2 → word_in (AmongValues side) ((48 + d) ∷ code w) (valued side vs t given) ≡ with_value (Some t) (code w) ((48 + d) ∷ []) (valued side vs t given)
+  scalar_word = by side
+    where
+      by : (s : Side) (d : ℕ) → d < 2 → word_in (AmongValues s) ((48 + d) ∷ code w) (valued s vs t given) ≡ with_value (Some t) (code w) ((48 + d) ∷ []) (valued s vs t given)
+      by Outside zero few = refl
+      by Outside (suc zero) few = refl
+      by Outside (suc (suc d)) few = absurd (omega (arith, few))
+      by Inside zero few = refl
+      by Inside (suc zero) few = refl
+      by Inside (suc (suc d)) few = absurd (omega (arith, few))
+
+  leads_scalar : width ≡ 1 → Leads (valued side vs t given) (bit level ∷ [] ++ (code w ++ 10 ∷ [])) (valued side vs t (giving t w (level % 2 ^ width) ∷ given))
+  leads_scalar one =
       let high : 32 < bit level = omega arith in
-      let there = scalar_word (level % 2) (omega arith) in
-      leads_word (valued vs t given) _ (bit level ∷ code w) 10 [] (solid_behind (bit level) (code w) high (code_solid w)) refl
-      (subst (λ (r : Reading). Leads r [] (valued vs t (giving t w (level % 2) ∷ given))) (sym there) (leads_none (valued vs t (giving t w (level % 2) ∷ given))))
+      let there = scalar_word (level % 2) (omega arith) ∙ code_read (bit level ∷ []) (sym (ap (λ k. bits k level) one ∙ one_bit level)) in
+      leads_word (valued side vs t given) _ (bit level ∷ code w) 10 [] (solid_behind (bit level) (code w) high (code_solid w)) refl
+      (subst (λ (r : Reading). Leads r [] (valued side vs t (giving t w (level % 2 ^ width) ∷ given))) (sym there) (leads_none (valued side vs t (giving t w (level % 2 ^ width) ∷ given))))
 
-  leads_vector : (width : ℕ) → Leads (valued vs t given) ((98 ∷ (bits width level ++ 32 ∷ [])) ++ (code w ++ 10 ∷ [])) (valued vs t (giving t w (level % 2 ^ width) ∷ given))
-  leads_vector width =
-      let to = valued vs t (giving t w (level % 2 ^ width) ∷ given) in
-      let there : giving t w (digits_value 2 (bits width level)) ≡ giving t w (level % 2 ^ width) = ap (giving t w) (bits_read width level) in
-      let behind : Reading = record { place = BehindVector (digits_value 2 (bits width level)); variables = vs; time = t; given = given } in
+  abbrev behind : Reading
+  behind = at_place (BehindDigits side (bits width level)) (valued side vs t given)
+
+  vector_word : word_in (AmongValues side) (98 ∷ bits width level) (valued side vs t given) ≡ behind
+  vector_word = by side
+    where
+      by : (s : Side) → word_in (AmongValues s) (98 ∷ bits width level) (valued s vs t given) ≡ at_place (BehindDigits s (bits width level)) (valued s vs t given)
+      by Outside = let made = bits_made width level wide in rw made refl
+      by Inside = let made = bits_made width level wide in rw made refl
+
+  leads_vector : Leads (valued side vs t given) ((98 ∷ (bits width level ++ 32 ∷ [])) ++ (code w ++ 10 ∷ [])) (valued side vs t (giving t w (level % 2 ^ width) ∷ given))
+  leads_vector =
+      let to = valued side vs t (giving t w (level % 2 ^ width) ∷ given) in
       let own : Leads behind (code w ++ 10 ∷ []) to =
-      leads_word behind to (code w) 10 [] (IsSolid-code w) refl
-      (subst (λ (g : Given). Leads (valued vs t (g ∷ given)) [] to) (sym there) (leads_none to)) in
+      leads_word behind to (code w) 10 [] (IsSolid-code w) refl (subst (λ (r : Reading). Leads r [] to) (sym (code_read (bits width level) refl)) (leads_none to)) in
       let vector = solid_behind 98 (bits width level) (omega arith) (bits_solid width level) in
-      let all = leads_word (valued vs t given) to (98 ∷ bits width level) 32 (code w ++ 10 ∷ []) vector refl own in
-      leads_as (valued vs t given) to to _ _ (sym (append_assoc (98 ∷ bits width level) (32 ∷ []) (code w ++ 10 ∷ []))) refl all
+      let all = leads_word (valued side vs t given) to (98 ∷ bits width level) 32 (code w ++ 10 ∷ []) vector refl
+      (subst (λ (r : Reading). Leads r (code w ++ 10 ∷ []) to) (sym vector_word) own) in
+      leads_as (valued side vs t given) to to _ _ (sym (append_assoc (98 ∷ bits width level) (32 ∷ []) (code w ++ 10 ∷ []))) refl all
 
-  pub leads_value : (width : ℕ) → Leads (valued vs t given) (value_line width w level) (valued vs t (giving t w (level % 2 ^ width) ∷ given))
-  leads_value width = by (width == 1) refl
+  pub leads_value : Leads (valued side vs t given) (value_line width w level) (valued side vs t (giving t w (level % 2 ^ width) ∷ given))
+  leads_value = by (width == 1) refl
     where
       by : (test : Bool) → (width == 1) ≡ test
-          → Leads (valued vs t given) (cond test (bit level ∷ []) (98 ∷ (bits width level ++ 32 ∷ [])) ++ (code w ++ 10 ∷ [])) (valued vs t (giving t w (level % 2 ^ width) ∷ given))
-      by true test =
-          let one : width ≡ 1 = grind (arith, nat_tests) in
-          subst (λ k. Leads (valued vs t given) (bit level ∷ [] ++ (code w ++ 10 ∷ [])) (valued vs t (giving t w (level % 2 ^ k) ∷ given))) (sym one) leads_scalar
-      by false test = leads_vector width
+          → Leads (valued side vs t given) (cond test (bit level ∷ []) (98 ∷ (bits width level ++ 32 ∷ [])) ++ (code w ++ 10 ∷ [])) (valued side vs t (giving t w (level % 2 ^ width) ∷ given))
+      by true test = leads_scalar (eqb-true width 1 test)
+      by false test = leads_vector

@@ -1,27 +1,28 @@
 -- What a dump says to a reader.
-use Rattle.std.specs.Prelude.{◌≡◌, ℕ, ◌<◌, List, [], map, Option, Some, None}
+use Rattle.std.specs.Prelude.{◌≡◌, ℕ, ◌<◌, List, [], ◌∷◌, map, codes, Option, Some, None}
 use Rattle.mp_records.specs.declared.wire_record.WireRecord.{WireRecord}
 use Rattle.mp_netlist.specs.Circuit.{Circuit, IsCircuit, wire_at, width_of}
 use Rattle.mp_model.specs.Waves.{level}
 use Rattle.mp_vcd.specs.Codes.{code}
 use Rattle.mp_vcd.specs.Dumps.{standing, dump}
-use Rattle.mp_vcd.specs.Readings.{Variable, Reading, AmongValues, reading, value_of}
+use Rattle.mp_vcd.specs.Readings.{Variable, Reading, AmongValues, Outside, reading, value_of}
 
 abbrev pub name_of : Option WireRecord → List ℕ
 name_of None = []
 name_of (Some wire) = wire.name
 
--- the variable of a wire
+-- the variable of a wire, in the one scope
 abbrev pub variable : Circuit → ℕ → Variable
-variable n w = record { width = width_of (wire_at n w); code = code w; name = name_of (wire_at n w) }
+variable n w = record { scopes = codes "top" ∷ []; width = width_of (wire_at n w); code = code w; name = name_of (wire_at n w) }
 
--- each word stands where it can and the last command is over, the wires that stand are the variables, each has its level at each time
--- below the horizon, and the time at the end is the horizon
+-- each word stands where it can and every command is over, a unit is a nanosecond, the wires that stand are the variables, each has its level
+-- at each time below the horizon, and the time at the end is the horizon
 pub record SaysLevels (n : Circuit) (r : Reading) : Type 0 where
-  pub whole : r.place ≡ AmongValues
+  pub whole : r.place ≡ AmongValues Outside
+  pub unit : r.unit ≡ Some (1, codes "ns")
   pub variables : r.variables ≡ map (variable n) (standing n)
   pub levels : (w t : ℕ) (wire : WireRecord) → wire_at n w ≡ Some wire → t < n.horizon → value_of (code w) t r.given ≡ Some (level n w t)
-  pub horizon : r.time ≡ n.horizon
+  pub horizon : r.time ≡ Some n.horizon
 
 -- the dump of each well-formed netlist says its levels
 abbrev pub IsReadBack : Type 0

@@ -1,11 +1,12 @@
 -- Facts about words.
-use Rattle.std.proofs.Common.{ℕ, ◌<◌, Bool, ◌==◌, true, false, cond, List, [], ◌∷◌, ◌-◌, ◌≡◌, Bor, length, drop, take, IsAscii, All, sym, subst}
-use Rattle.std.specs.List.{slice_split, onto_first, position_or_len}
+use Rattle.std.proofs.Common.{ℕ, ◌<◌, Bool, ◌==◌, true, false, cond, List, [], ◌∷◌, ◌-◌, ◌≡◌, Bor, length, drop, take, IsAscii, All, sym, subst, Some, refl}
+use Rattle.std.specs.Prelude.{slice_get, filter}
+use Rattle.std.specs.List.{slice_split, onto_first, position_or_len, find}
 use Rattle.std.proofs.lemmas.List.Elements.{All-cons, All-nil, All-head, All-tail, All-filter}
 use Rattle.std.proofs.lemmas.Str.Ascii.{IsAscii-nil, IsAscii-cons, All-from_ascii}
 use Rattle.std.proofs.lemmas.Str.{IsAscii-take}
 use Rattle.mp_words.specs.Words.{words_of, is_word, is_gap, statement_part, texts, AreAscii}
-use Rattle.std.proofs.lemmas.List.{take_rest}
+use Rattle.std.proofs.lemmas.List.{take_rest, drop-map}
 use Rattle.std.proofs.lemmas.List.Elements.{All-drop}
 
 All-onto_first : (b : ℕ) (parts : List (List ℕ)) → b < 128 → All IsAscii parts → All IsAscii (onto_first b parts)
@@ -40,3 +41,20 @@ texts_ascii ws line same ascii = All-texts ws (subst (All IsAscii) (sym same) (w
 -- the words behind the first k
 pub rest_ascii : (ws : List (Bor (List ℕ))) (k : ℕ) → AreAscii ws → AreAscii (take (length ws - k) (drop k ws))
 rest_ascii ws k all = rw (take_rest ws k) (All-drop (λ w. IsAscii w.now) k ws all)
+
+-- what a search finds is the first that a filter keeps
+first_kept : {X : Type 0} (p : X → Bool) (xs : List X) → find p xs ≡ slice_get (filter p xs) 0
+first_kept p [] = refl
+first_kept p (x ∷ xs) = by (p x) (first_kept p xs)
+  where
+    by : (b : Bool) → find p xs ≡ slice_get (filter p xs) 0 → cond b (Some x) (find p xs) ≡ slice_get (cond b (x ∷ filter p xs) (filter p xs)) 0
+    by true later = refl
+    by false later = later
+
+pub first_word_of : (line : List ℕ) → find is_word (slice_split is_gap (statement_part line)) ≡ slice_get (words_of line) 0
+unfolding words_of
+first_word_of line = first_kept is_word (slice_split is_gap (statement_part line))
+
+-- the texts of the words behind the first k
+pub texts_behind : (ws : List (Bor (List ℕ))) (k : ℕ) → texts (take (length ws - k) (drop k ws)) ≡ drop k (texts ws)
+texts_behind ws k = rw (take_rest ws k) (sym (drop-map (λ (w : Bor (List ℕ)). w.now) k ws))

@@ -11,8 +11,8 @@ mod word;
 mod word_list;
 
 pub use division::{divided, parts};
-pub use line::{first_line, line_words};
+pub use line::{first_line, is_plain, line_words};
 pub use line_error::LineError;
 pub use wave_line::{push_changes, push_number, put_changes, put_wave_line};
-pub use word::name_of;
+pub use word::{first_word, name_of, word_count, words};
 pub use word_list::{changes, inputs, number_word, numbers, outputs, wire_or_none};

@@ -45,7 +45,7 @@ pub fn line_words<'a>(alloc: Global, line: &'a [u8]) -> Result<Vec<&'a [u8]>, Li
 }
 
 /// Whether each byte may stand in a line, in a comment too.
-fn is_plain(line: &[u8]) -> bool
+pub fn is_plain(line: &[u8]) -> bool
     ensures value { result ≡ list_all is_allowed line.now }
     ensures ascii { IsTrue result → IsAscii line.now }
 {

@@ -1,6 +1,8 @@
 //! The words of a line.
-ghost use Rattle.std.specs.Prelude.{◌≡◌, ◌<◌, ◌==◌, length, position, IfOk, IfSome, IsAscii};
-ghost use Rattle.mp_words.specs.Words.{words_of, texts, is_gap, statement_part, AreAscii};
+ghost use Rattle.std.specs.Prelude.{◌≡◌, ◌<◌, ◌==◌, length, position, IfOk, IfSome, IsAscii, slice_get};
+ghost use Rattle.std.specs.List.{find, slice_split};
+ghost use Rattle.std.specs.Option.{option_copied};
+ghost use Rattle.mp_words.specs.Words.{words_of, texts, is_gap, is_word, statement_part, AreAscii};
 
 use mp_records::Name;
 use std::alloc::{AllocError, Global};
@@ -15,6 +17,32 @@ pub fn words<'a>(alloc: Global, line: &'a [u8]) -> Result<Vec<&'a [u8]>, AllocEr
         .split(|byte| is_gap(*byte))
         .filter(|part| !part.is_empty())
         .collect(alloc)
+}
+
+/// The first word before a comment, where there is one. It takes no memory.
+pub fn first_word(line: &[u8]) -> Option<&[u8]>
+    ensures { option_copied result ≡ slice_get (words_of line.now) 0 }
+{
+    first_part(line)
+}
+
+fn first_part(line: &[u8]) -> Option<&[u8]>
+    ensures { option_copied result ≡ find is_word (slice_split is_gap (statement_part line.now)) }
+{
+    before_comment(line)
+        .split(|byte| is_gap(*byte))
+        .find(|part| !part.is_empty())
+}
+
+/// How many words stand before a comment. It takes no memory.
+#[tactic(auto, unfolding(crate::specs::Words::words_of))]
+pub fn word_count(line: &[u8]) -> usize
+    ensures { result ≡ length (words_of line.now) }
+{
+    before_comment(line)
+        .split(|byte| is_gap(*byte))
+        .filter(|part| !part.is_empty())
+        .count()
 }
 
 fn is_gap(byte: u8) -> bool

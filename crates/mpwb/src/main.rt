@@ -1,18 +1,17 @@
 //! The workbench for micropipelines.
 #![tactic(auto)]
 
-mod command_line;
-mod request;
+ghost use Rattle.std.specs.Prelude.{◌-◌, ◌^◌, ◌<◌};
 
-use command_line::{read_words, tell};
 use mp_commands::{
-    RunFault, exit_status, fault_line, run_desk, run_dump, run_play, run_report, run_waves,
+    Options, RunFault, exit_status, fault_line, run_desk, run_dump, run_play, run_report, run_waves,
 };
-use mp_streams::{ReadSource, WriteSink};
-use request::{Command, Request};
+use mp_request::{Command, Request, TellError, read_words, tell};
+use mp_streams::{ReadSource, Source, WriteSink};
+use std::fs::File;
 use std::io::ErrorKind;
 use std::process::ExitCode;
-use std::rt::Runtime;
+use std::rt::{Files, Runtime};
 use std::sync::Wait;
 use std::thread::Threads;
 use std::{env, io, str};
@@ -43,22 +42,53 @@ fn answer<R: Runtime + Threads + Wait + Sync + AllocGlobal>(rt: &R) -> Result<u8
             run(rt, &request)?;
             Ok(0)
         }
-        Err(error) => tell(rt, &error),
+        Err(error) => tell(rt, &error).map_err(fault_of_telling),
     }
 }
 
-fn run<R: Input + Print + Threads + Wait + Sync + AllocGlobal>(
+/// Opens the input and runs the command on it. `ReadFailed` comes where the file can't be opened.
+fn run<R: Runtime + Threads + Wait + Sync + AllocGlobal>(
     rt: &R,
-    request: &Request,
+    request: &Request<'_>,
 ) -> Result<(), RunFault> {
-    let mut source = ReadSource::new(rt.reader());
+    match request.file {
+        None => run_on(rt, ReadSource::new(rt.reader()), request),
+        Some(path) => match File::open(rt, path) {
+            Ok(file) => run_on(rt, ReadSource::new(file), request),
+            Err(error) if error.kind() == ErrorKind::OutOfMemory => Err(RunFault::OutOfMemory),
+            Err(_) => Err(RunFault::ReadFailed),
+        },
+    }
+}
+
+/// Runs the command on the source.
+fn run_on<R: Print + Threads + Wait + Sync + AllocGlobal, S: Source + Drop>(
+    rt: &R,
+    mut source: S,
+    request: &Request<'_>,
+) -> Result<(), RunFault>
+    requires { S.fault_count source < 2 ^ 64 - 1 }
+{
     let mut sink = WriteSink::new(io::writer(rt));
+    let options = Options {
+        workers: request.workers,
+        least: request.least,
+        viewers: request.viewers,
+    };
     match request.command {
-        Command::Waves => run_waves(rt, rt.alloc(), &mut source, &mut sink, &request.options),
-        Command::Report => run_report(rt, rt.alloc(), &mut source, &mut sink, &request.options),
-        Command::Dump => run_dump(rt, rt.alloc(), &mut source, &mut sink, &request.options),
-        Command::Play => run_play(rt, rt.alloc(), &mut source, &mut sink, &request.options),
-        Command::Desk => run_desk(rt, rt.alloc(), &mut source, &mut sink, &request.options),
+        Command::Waves => run_waves(rt, rt.alloc(), &mut source, &mut sink, &options),
+        Command::Report => run_report(rt, rt.alloc(), &mut source, &mut sink, &options),
+        Command::Dump => run_dump(rt, rt.alloc(), &mut source, &mut sink, &options),
+        Command::Play => run_play(rt, rt.alloc(), &mut source, &mut sink, &options),
+        Command::Desk => run_desk(rt, rt.alloc(), &mut source, &mut sink, &options),
+    }
+}
+
+/// The fault of a run that couldn't tell what it had to.
+fn fault_of_telling(error: TellError) -> RunFault {
+    match error {
+        TellError::OutOfMemory => RunFault::OutOfMemory,
+        TellError::WriteFailed => RunFault::WriteFailed,
     }
 }
 

@@ -1,13 +1,12 @@
 //! A viewer that reads while an edit is evaluated, and after each edit.
 ghost use Rattle.std.specs.Prelude.{◌≡◌, ◌+◌, length};
 
-use super::{number_read, opened, submit};
-use mp_desk::{Designer, Desk, DeskName, DeskParts, Staffed, Viewer};
-use mp_modules::Kind;
-use mp_netlist::{Edit, ModuleId, SingleEdit};
-use mp_part_tests::making::{Change, Part, Plan, Signal};
+use super::buffers::{BUFFERS, FIRST, SECOND, THIRD, ends_with};
+use super::{number_read, opened, submits};
+use mp_desk::{Designer, Desk, DeskName, DeskParts, DeskSize, Staffed, Viewer};
+use mp_netlist::ModuleId;
+use mp_part_tests::making::Change;
 use mp_phase::{Crew, Gate};
-use mp_session::Version;
 use std::alloc::Global;
 use std::marker::Brand;
 use std::process::Abort;
@@ -60,77 +59,6 @@ impl Gate for Holding {
     }
 }
 
-/// Two buffers.
-static BUFFERS: Plan<'static> = Plan {
-    horizon: 20,
-    wires: &["a", "b", "y", "z"],
-    parts: &[
-        Part {
-            name: "m",
-            kind: Kind::Buf,
-            params: &[],
-            inputs: &[("a", 0)],
-            outputs: &[("y", 3)],
-        },
-        Part {
-            name: "n",
-            kind: Kind::Buf,
-            params: &[],
-            inputs: &[("b", 0)],
-            outputs: &[("z", 4)],
-        },
-    ],
-    signals: &[],
-};
-
-/// The edits of the designer.
-static FIRST: Change<'static> = Change::Signal(Signal {
-    wire: "a",
-    changes: &[(2, 1)],
-});
-
-static SECOND: Change<'static> = Change::Signal(Signal {
-    wire: "a",
-    changes: &[(2, 1), (5, 0)],
-});
-
-static THIRD: Change<'static> = Change::Delay {
-    part: "m",
-    delay: 2,
-};
-
-/// Whether the edit sets the same stimulus, or the same delay.
-fn is_set(edit: &SingleEdit, change: &Change<'_>) -> bool {
-    match change {
-        Change::Signal(signal) => match edit {
-            SingleEdit::SetStimulus { wire, changes } => {
-                wire.as_str() == signal.wire && changes.as_slice() == signal.changes
-            }
-            _ => false,
-        },
-        Change::Delay { part, delay } => match edit {
-            SingleEdit::SetDelay {
-                module,
-                port,
-                delay: set,
-            } => module.as_str() == *part && *port == 0 && set == delay,
-            _ => false,
-        },
-        _ => false,
-    }
-}
-
-/// Whether the edit is the last of the version.
-fn ends_with(version: &Version, change: &Change<'_>) -> bool {
-    match version.number().checked_sub(1) {
-        Some(last) => match version.edits().get(last) {
-            Some(Edit::Single(edit)) => is_set(edit, change),
-            _ => false,
-        },
-        None => false,
-    }
-}
-
 #[test]
 fn read_beside_submit(rt: HostRuntime) -> Result<(), Fail> {
     let alloc = rt.alloc();
@@ -139,9 +67,10 @@ fn read_beside_submit(rt: HostRuntime) -> Result<(), Fail> {
     let gate = Holding {
         stage: Arc::try_clone(&stage)?,
     };
+    let size = DeskSize::new(1, 1)?;
     let netlist = BUFFERS.netlist(alloc).ok_or("no netlist")?;
     let session = opened(&rt, alloc, netlist, crew, gate)?;
-    let parts = DeskParts::new(&rt, alloc, session, 1, 1)
+    let parts = DeskParts::new(&rt, alloc, session, size)
         .ok()
         .ok_or("no parts")?;
     at_desk::<Brand, _>(&rt, alloc, parts, &stage)
@@ -192,17 +121,6 @@ fn is_read<L: DeskName + Send + Sync, R: Threads + Wait + Sync + Send + Drop>(
         && reads(viewer, &SECOND)
         && submits(rt, alloc, desk, me, &THIRD)
         && reads(viewer, &THIRD)
-}
-
-/// Whether the edit is accepted.
-fn submits<L: DeskName, R: Threads + Wait + Sync + Drop>(
-    rt: &R,
-    alloc: Global,
-    desk: &Desk<Holding, L, R>,
-    me: &mut Designer<L>,
-    change: &Change<'_>,
-) -> bool {
-    submit(rt, alloc, desk, me, change).err().is_none()
 }
 
 /// Whether the viewer reads a version that ends with the edit.

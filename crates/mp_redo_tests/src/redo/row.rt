@@ -4,8 +4,9 @@ ghost use Rattle.mp_engine.specs.Runs.{IsRun};
 ghost use Rattle.mp_redo.specs.Revisions.{IsRevision};
 
 use super::counting_gate::CountingGate;
+use mp_depend::touched;
 use mp_engine::{OpenGate, Run, evaluate_here};
-use mp_netlist::{Edit, Netlist, WireId};
+use mp_netlist::{Edit, ModuleId, Netlist, WireId};
 use mp_part_tests::making::{Change, Plan};
 use mp_phase::{Crew, Gate};
 use mp_redo::laws::edits_revise;
@@ -174,4 +175,32 @@ pub(super) fn assert_row(
 ) -> Result<(), Fail> {
     assert_by(rt, alloc, &Crew::new(1, 64)?, row)?;
     assert_by(rt, alloc, &Crew::new(2, 1)?, row)
+}
+
+/// The row's change touches just these modules.
+pub(super) fn assert_touched(
+    rt: &impl Abort,
+    alloc: Global,
+    row: &Row<'_>,
+    modules: &[ModuleId],
+) -> Result<(), Fail> {
+    let old = row.plan.netlist(alloc).ok_or("no netlist")?;
+    let new = changed(alloc, &old, row);
+    let found = touches(alloc, &old, new, modules);
+    drop(old);
+    assert!(rt; found?);
+    Ok(())
+}
+
+/// Whether just these modules are touched in the new netlist, if it could be made.
+fn touches(
+    alloc: Global,
+    old: &Netlist,
+    new: Result<Netlist, Fail>,
+    modules: &[ModuleId],
+) -> Result<bool, Fail> {
+    let new = new?;
+    let found = touched(alloc, old, &new);
+    drop(new);
+    Ok(found?.as_slice() == modules)
 }

@@ -1,6 +1,7 @@
 //! Small netlists with a change, whose waves and work were worked out by hand.
-use super::row::{Row, Span, assert_row};
+use super::row::{Row, Span, assert_row, assert_touched};
 use mp_modules::Kind;
+use mp_netlist::ModuleId;
 use mp_part_tests::making::{Change, Part, Plan, Signal};
 use std::test::Fail;
 
@@ -100,6 +101,7 @@ static DELAY_EDIT_WORK: Row<'static> = Row {
 /// A changed delay reaches the buffer behind.
 #[test]
 fn delay_edit_work(rt: HostRuntime) -> Result<(), Fail> {
+    assert_touched(&rt, rt.alloc(), &DELAY_EDIT_WORK, &[ModuleId(0)])?;
     assert_row(&rt, rt.alloc(), &DELAY_EDIT_WORK)
 }
 

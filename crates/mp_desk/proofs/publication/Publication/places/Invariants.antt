@@ -1,5 +1,11 @@
-use Rattle.std.proofs.Common.{◌≡◌, ◌∷◌, [], All, vec_len}
+use Rattle.std.proofs.Common.{◌≡◌, ◌≤◌, ◌∷◌, [], All, vec_len}
+use Rattle.std.specs.Prelude.{vec_capacity}
 use Rattle.mp_desk.proofs.publication.Publication.places.Given as goal
 
 abbrev pub invariant-loop-i : goal.invariant-loop-i
-invariant-loop-i g l = (l.self ≡ l.initial.self) × (vec_len l.places ≡ l._i) × All (λ p. p ≡ l.initial.self ∷ []) l.places.items
+invariant-loop-i g l = record {
+  same : l.self ≡ l.initial.self;
+  count : vec_len l.list ≡ l._i;
+  room : l.count ≤ vec_capacity l.list;
+  each : All (λ p. p ≡ l.initial.self ∷ []) l.list.items;
+}

@@ -1,0 +1,183 @@
+"""Netlist texts, scripts and blocks (`docs/FORMATS.md`) read once more, in Python: what their lines say."""
+import copy
+import re
+
+import reference
+from circuit import Circuit, Refused
+
+CODES = {1: "NotAscii", 2: "UnknownStatement", 3: "WordCount", 4: "BadNumber", 5: "NoHorizon", 6: "SecondHorizon", 7: "Refused", 8: "TooLong"}
+CODES[10] = "BadFormat"
+
+# the words of the questions of a script, with how many words their lines have
+QUESTIONS = {"wave": 2, "waves": 1, "text": 1, "report": 1, "dump": 1, "work": 1}
+# the edits that stand in netlist texts, too
+STATEMENTS = ["wire", "module", "stim", "bundle"]
+EDITS = [*STATEMENTS, "remove", "input", "output", "indelay", "delay", "clear"]
+
+
+class Fault(Exception):
+    """A line isn't read, with its code; or a text, with the line's number too."""
+
+    def __init__(self, code, detail=""):
+        super().__init__(code)
+        self.code, self.detail = code, detail
+
+    def __str__(self):
+        return f"{self.code} {CODES[self.code]}{self.detail}"
+
+
+def want(code, holds):
+    if not holds:
+        raise Fault(code)
+
+
+def words_of(line):
+    return re.findall(r"[^ \t\r]+", line.split("#")[0])
+
+
+def number(word):
+    want(4, re.fullmatch(r"[0-9]{1,20}", word) and int(word) < 1 << 64)
+    return int(word)
+
+
+def pair(word):
+    time, divided, value = word.partition("=")
+    want(4, divided)
+    return number(time), number(value)
+
+
+def divided(word):
+    """`NAME/NUMBER`."""
+    name, _, delay = word.rpartition("/")
+    want(4, name)
+    return name, number(delay)
+
+
+def output(word):
+    if word == "-":
+        return None, 1
+    name, delay = divided(word)
+    return (None if name == "-" else name), delay
+
+
+def module(words):
+    """The edit of a `module` statement."""
+    want(3, len(words) > 3 and ":" in words[3:])
+    colon = words.index(":", 3)
+    want(3, ">" in words[colon:])
+    arrow = words.index(">", colon)
+    want(3, arrow > colon + 1 and len(words) > arrow + 1)
+    want(2, words[2] in reference.KINDS)
+    inputs = [divided(word) if "/" in word else (word, 0) for word in words[colon + 1 : arrow]]
+    params, outputs = [number(word) for word in words[3:colon]], [output(word) for word in words[arrow + 1 :]]
+    return "add_module", (words[1], words[2], params, inputs, outputs)
+
+
+def edit(words):
+    """The edit of a line that begins with a word of `EDITS`, as a method of `Circuit` and what is given to it."""
+    first, rest = words[0], words[1:]
+    if first == "module":
+        return module(words)
+    if first == "stim":
+        want(3, rest)
+        return "set_stimulus", (rest[0], [pair(word) for word in rest[1:]])
+    want(3, len(rest) == {"bundle": 5, "remove": 2, "clear": 1}.get(first, 3))
+    if first == "wire":
+        return "add_wire", (rest[0], number(rest[1]), number(rest[2]))
+    if first == "bundle":
+        return "add_bundle", (*rest[:4], number(rest[4]))
+    if first == "clear":
+        return "clear_stimulus", (rest[0],)
+    if first == "remove":
+        want(2, rest[0] in ("wire", "module", "bundle"))
+        return f"remove_{rest[0]}", (rest[1],)
+    port = number(rest[1])
+    if first in ("delay", "indelay"):
+        return {"delay": "set_delay", "indelay": "set_input_delay"}[first], (rest[0], port, number(rest[2]))
+    if first == "input":
+        return "rewire_input", (rest[0], port, rest[2])
+    return "rewire_output", (rest[0], port, None if rest[2] == "-" else rest[2])
+
+
+def part_of_batch(words):
+    want(3, words)
+    want(2, words[0] in EDITS)
+    return edit(words)
+
+
+def parts_of(words):
+    """The words between the words `;`."""
+    parts = [[]]
+    for word in words:
+        if word == ";":
+            parts.append([])
+        else:
+            parts[-1].append(word)
+    return parts
+
+
+def is_allowed(line):
+    return all(letter in "\t\r" or " " <= letter <= "~" for letter in line)
+
+
+def line_of(line):
+    """What a script's line says: None, a question's words, or an edit."""
+    want(1, is_allowed(line))
+    words = words_of(line)
+    if not words:
+        return None
+    if words[0] == "batch":
+        return "batch", ([part_of_batch(part) for part in parts_of(words[1:])],)
+    if words[0] in QUESTIONS:
+        want(3, len(words) == QUESTIONS[words[0]])
+        return words
+    want(2, words[0] in EDITS)
+    return edit(words)
+
+
+def lines_of(text):
+    return text.removesuffix("\n").split("\n") if text else []
+
+
+def edited(circuit, made):
+    """A copy of the circuit after an edit."""
+    new, (method, arguments) = copy.deepcopy(circuit), made
+    getattr(new, method)(*arguments)
+    return new
+
+
+def statement(circuit, words, is_first, greatest):
+    """The circuit after a statement, and the greatest horizon."""
+    first = words[0]
+    want(2, first in ("format", "horizon", *STATEMENTS))
+    want(10, first != "format" or is_first)
+    want(6, first != "horizon" or circuit is None)
+    want(5, first in ("format", "horizon") or circuit is not None)
+    if first in STATEMENTS:
+        try:
+            return edited(circuit, edit(words)), greatest
+        except Refused as refused:
+            raise Fault(7, f": {refused}") from None
+    want(3, len(words) == 2)
+    found = number(words[1])
+    if first == "format":
+        want(10, found in (1, 2))
+        return None, 65536 if found == 1 else 1048576
+    want(4, 1 <= found <= greatest)
+    return Circuit(found), greatest
+
+
+def netlist(text):
+    """The netlist of a text, or `Fault` with the line in its words."""
+    circuit, is_first, greatest, at = None, True, 65536, 0
+    try:
+        for at, line in enumerate(lines_of(text), 1):
+            want(1, is_allowed(line))
+            words = words_of(line)
+            if words:
+                circuit, greatest = statement(circuit, words, is_first, greatest)
+                is_first = False
+        want(5, circuit is not None)
+    except Fault as fault:
+        raise Fault(fault.code, fault.detail + f" at {at}") from None
+    return circuit

@@ -1,0 +1,108 @@
+//! Sizes of desks, and a close without all designers.
+ghost use Rattle.std.specs.Prelude.{◌≡◌, ◌+◌, length};
+
+use super::two_wires;
+use mp_desk::{
+    BadDeskSize, CloseCause, CloseRefused, Designer, Desk, DeskName, DeskParts, DeskSize, Staffed,
+    Viewer,
+};
+use mp_phase::OpenGate;
+use std::marker::Brand;
+use std::process::Abort;
+use std::sync::Wait;
+use std::test::Fail;
+
+#[test]
+fn desk_sizes(rt: HostRuntime) {
+    for (designers, viewers) in [(0, 1), (9, 1), (1, 0), (1, 33)] {
+        assert!(rt; DeskSize::new(designers, viewers) == Err(BadDeskSize));
+    }
+    assert!(rt; DeskSize::new(8, 32).is_ok());
+}
+
+#[test]
+fn desk_refusals(rt: HostRuntime) -> Result<(), Fail> {
+    let size = DeskSize::new(2, 1)?;
+    let session = two_wires(&rt, rt.alloc())?;
+    let parts = DeskParts::new(&rt, rt.alloc(), session, size)
+        .ok()
+        .ok_or("no parts")?;
+    close_without_all::<Brand, _>(&rt, parts)
+}
+
+fn close_without_all<L: DeskName, R: Wait + Abort + Copy>(
+    rt: R,
+    parts: DeskParts<OpenGate, R>,
+) -> Result<(), Fail>
+    requires history { parts.book ≡ L.history }
+    requires ledger { parts.ledger ≡ L.name }
+    requires shares { parts.designers + 1 ≡ L.parts }
+    requires opening { length parts.session.story.edits ≡ L.opening }
+{
+    let staffed = Desk::<OpenGate, L, R>::open(parts).ok().ok_or("no desk")?;
+    let Staffed {
+        desk,
+        designers,
+        mut viewers,
+    } = staffed;
+    let closes = closes_with_all(&rt, desk, designers, viewers.as_mut_slice());
+    drop(viewers);
+    assert!(rt; closes);
+    Ok(())
+}
+
+/// Whether the desk isn't closed where a designer is missing, and is closed with all of them.
+fn closes_with_all<L: DeskName, R: Wait + Drop>(
+    rt: &R,
+    desk: Desk<OpenGate, L, R>,
+    designers: Vec<Designer<L>>,
+    viewers: &mut [Viewer<L>],
+) -> bool {
+    let mut others = designers;
+    let missing = others.pop();
+    match handed_back(rt, desk, others, viewers) {
+        Some((desk, others)) => closes(rt, desk, with(others, missing), viewers),
+        None => {
+            drop(missing);
+            false
+        }
+    }
+}
+
+/// The desk and the designers, where it isn't closed with these.
+fn handed_back<L: DeskName, R: Wait + Drop>(
+    rt: &R,
+    desk: Desk<OpenGate, L, R>,
+    designers: Vec<Designer<L>>,
+    viewers: &mut [Viewer<L>],
+) -> Option<(Desk<OpenGate, L, R>, Vec<Designer<L>>)> {
+    let CloseRefused {
+        cause: CloseCause::MissingPass,
+        desk,
+        designers,
+    } = desk.close(rt, designers, viewers).err()?;
+    Some((desk, designers))
+}
+
+/// The items with one more, where there is one and memory for it.
+fn with<T: Drop>(items: Vec<T>, item: Option<T>) -> Option<Vec<T>> {
+    let mut items = items;
+    items.push(item?).ok()?;
+    Some(items)
+}
+
+/// Whether there are designers, with whom the desk is closed.
+fn closes<L: DeskName, R: Wait + Drop>(
+    rt: &R,
+    desk: Desk<OpenGate, L, R>,
+    designers: Option<Vec<Designer<L>>>,
+    viewers: &mut [Viewer<L>],
+) -> bool {
+    match designers {
+        Some(designers) => desk.close(rt, designers, viewers).err().is_none(),
+        None => {
+            drop(desk);
+            false
+        }
+    }
+}

@@ -1,0 +1,7 @@
+pub mod Batches
+pub mod Numbers
+pub mod RefusedTexts
+pub mod Examples
+pub mod FindingOrder
+pub mod ModuleEvents
+pub mod DelayedInputs

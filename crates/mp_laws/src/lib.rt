@@ -1,0 +1,9 @@
+//! Laws of what the other crates define: of edits, of texts, of findings, of modules and of inputs. No program calls them.
+#![tactic(auto)]
+
+pub mod edits;
+pub mod examples;
+pub mod findings;
+pub mod inputs;
+pub mod modules;
+pub mod texts;

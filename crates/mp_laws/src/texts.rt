@@ -1,0 +1,9 @@
+//! What holds of every text.
+ghost use Rattle.mp_laws.specs.RefusedTexts.{TextsAreRefusedByLines};
+
+/// A text of at most 4,194,304 bytes that is not read lacks only a horizon, or it is refused at one
+/// of its lines. Then the lines before that one are read or lack only a horizon, and each text that
+/// begins with the lines up to there is refused at the same line for the same reason.
+pub fn texts_are_refused_by_lines()
+    ensures { TextsAreRefusedByLines }
+{}

@@ -1,0 +1,144 @@
+//! The texts of `--help`.
+
+/// What the program is.
+pub(crate) const ABOUT: &str =
+    "A workbench for micropipelines: netlists of event modules, in transition signalling.";
+
+/// How it ends.
+pub(crate) const STATUS: &str = "\
+Exit status:
+  0  all was written
+  1  the text or a number was refused
+  2  the command line was refused
+  3  a read or a write failed
+  4  memory ran out, or a place at a desk was wanting";
+
+/// What is behind the options of each command: the kinds of module, and what standard error says.
+pub(crate) const FORMS: &str = "\
+Kinds of module, as KIND PARAM .. : IN .. > OUT ..
+  BUF : a > y
+  NOT : a > y
+  XOR : a b > y
+  C INIT BUBA BUBB : a b > y
+  TOGGLE : a > dot blank
+  SELECT : a diamond > true false
+  CALL : r1 r2 d > r d1 d2
+  ARBITER : r1 r2 d1 d2 > g1 g2
+  REG INIT : d c p > q cd pd
+  ADDC K : a > y
+  XORC K : a > y
+  SUM : a b > y
+  BIT K : a > y
+
+Exit status, and what standard error says:
+  0                                        all was written
+  1  mpwb: line N: CODE NAME               line N of the netlist has a fault
+  1  mpwb: line N: 7 Refused: CODE NAME    what line N adds is refused
+  1  mpwb: bad count                       a number is out of its range, or a
+                                           desk has no block or more than 8
+  2  error: ..                             the command line was refused
+  3  mpwb: read failed                     the input can't be read
+  3  mpwb: write failed                    the output can't be written
+  4  mpwb: out of memory                   memory ran out
+  4  mpwb: no place                        a place at a desk was wanting";
+
+/// What `waves` does.
+pub(crate) const WAVES: &str = "Writes the wave of each wire of a netlist";
+
+/// What `waves` reads and writes.
+pub(crate) const WAVES_LONG: &str = "\
+Writes the wave of each wire of a netlist.
+
+Reads a netlist of at most 4194304 bytes, a statement a line:
+
+  horizon H
+  wire NAME WIDTH LEVEL
+  module NAME KIND PARAM .. : IN .. > OUT/DELAY ..
+  stim WIRE T=V ..
+  bundle NAME REQ ACK DATA SETUP
+
+H is 1 to 65536, or 1 to 1048576 behind a first line `format 2`. WIDTH is 1 to
+64. DELAY is 1 to 65535, and SETUP 0 to 65535. An input that hears of its wire
+E units later is IN/E.
+
+Writes a line `NAME LEVEL T=V ..` for each wire, in the order in which they
+were added: its level at time 0, and its level V from each time T on at which
+it changes below the horizon.";
+
+/// What `report` does.
+pub(crate) const REPORT: &str = "Writes where a netlist breaks a rule of its modules or bundles";
+
+/// What `report` reads and writes.
+pub(crate) const REPORT_LONG: &str = "\
+Writes where a netlist breaks a rule of its modules or bundles.
+
+Reads a netlist, as `waves` does.
+
+Writes a line `TIME module NAME CODE` or `TIME bundle NAME CODE` for each
+finding, by time, then the modules and then the bundles in the order in which
+they were added, then by the number of the code. A finding tells of something
+that a well-behaved circuit avoids, as two events that meet at a XOR, or data
+that change too short before a request.";
+
+/// What `dump` does.
+pub(crate) const DUMP: &str = "Writes the waves of a netlist as a value change dump";
+
+/// What `dump` reads and writes.
+pub(crate) const DUMP_LONG: &str = "\
+Writes the waves of a netlist as a value change dump.
+
+Reads a netlist, as `waves` does.
+
+Writes a value change dump (IEEE Std 1364), which viewers of waves open: each
+wire is declared in the scope `top`, a unit of time is 1 ns, and then come the
+levels at time 0, the levels that change at each later time, and the horizon.
+A wire of width 1 is a scalar, a wider one a vector of all its bits.";
+
+/// What `play` does.
+pub(crate) const PLAY: &str = "Edits a netlist by a script, and answers its questions";
+
+/// What `play` reads and writes.
+pub(crate) const PLAY_LONG: &str = "\
+Edits a netlist by a script, and answers its questions.
+
+Reads a netlist, as `waves` does, then a line `---`, and behind it a script: at
+most 4194304 bytes in all. Its lines are edits:
+
+  wire .., module .., stim .., bundle ..    as in a netlist
+  remove wire NAME
+  remove module NAME
+  remove bundle NAME
+  input MODULE PORT WIRE
+  output MODULE PORT WIRE                   or `-` for no wire
+  indelay MODULE PORT E
+  delay MODULE PORT D
+  clear WIRE
+  batch EDIT ; EDIT ..                      1 to 256 edits as one
+
+and questions:
+
+  wave WIRE, waves, text, report, dump, work
+
+Answers each line in turn: an edit by `accepted N`, N being how many edits were
+accepted so far, or by `refused CODE NAME`, which changes nothing; a question by
+the wire's line, the lines of all wires, the present netlist, its report, its
+value change dump, or what was evaluated for the last edit; and a line that
+can't be read by `unread CODE NAME`.";
+
+/// What `desk` does.
+pub(crate) const DESK: &str = "Has designers edit a netlist at the same time, while viewers read";
+
+/// What `desk` reads and writes.
+pub(crate) const DESK_LONG: &str = "\
+Has designers edit a netlist at the same time, while viewers read.
+
+Reads a netlist, as `waves` does, and behind it a block of lines for each of 1
+to 8 designers, each behind a line `---`: at most 4194304 bytes in all. The
+lines are edits, as in a script of `play`. Each designer submits its lines in
+turn, on a thread of its own, and each viewer reads 100 times meanwhile, on a
+thread of its own. In which order the edits of different designers come is open.
+
+Writes `designer J accepted A refused B` for each designer, where a line that
+is no edit counts as refused; then `viewer J saw N` for each viewer, N being how
+many accepted edits the version had that it read last, after it was told of
+them all; and then the lines of all wires.";

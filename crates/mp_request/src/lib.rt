@@ -1,0 +1,12 @@
+//! What the program is asked for: the words of its command line, read by `clap`.
+#![tactic(auto)]
+
+mod help;
+mod parser;
+mod reading;
+mod request;
+mod telling;
+
+pub use reading::read_words;
+pub use request::{Command, Request};
+pub use telling::{TellError, tell};

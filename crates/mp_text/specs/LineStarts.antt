@@ -1,0 +1,53 @@
+-- How a script's line begins: what is looked at before memory is taken.
+use Rattle.std.specs.Prelude.{ℕ, Bool, false, ◌==◌, List, [], ◌∷◌, length, Option, None, Some, IsTrue, nat_le}
+use Rattle.std.specs.List.{list_all}
+use Rattle.mp_words.specs.Lines.{is_allowed}
+use Rattle.mp_words.specs.Words.{words_of}
+use Rattle.mp_text.specs.declared.edit_word.EditWord.{EditWord}
+use Rattle.mp_text.specs.declared.edit_word.EditWord.TheVariants.{Wire, Module, Stimulus, Bundle}
+use Rattle.mp_text.specs.declared.single_word.SingleWord.{SingleWord}
+use Rattle.mp_text.specs.declared.single_word.SingleWord.TheVariants.{Stated, Remove, Input, Output, InputDelay, Delay, Clear}
+use Rattle.mp_text.specs.declared.line_word.LineWord.{LineWord}
+use Rattle.mp_text.specs.declared.line_word.LineWord.TheVariants.{Single, Batch, Wave, Waves, Text, Report, Dump, Work}
+use Rattle.mp_text.specs.ScriptLines.{line_word}
+
+-- whether so many words may stand behind the first word of a statement
+abbrev pub statement_takes : EditWord → ℕ → Bool
+statement_takes Wire count = count == 3
+statement_takes Module count = nat_le 6 count
+statement_takes Stimulus count = nat_le 1 count
+statement_takes Bundle count = count == 5
+
+-- whether so many words may stand behind the first word of an edit of one thing
+abbrev pub single_takes : SingleWord → ℕ → Bool
+single_takes (Stated word) count = statement_takes word count
+single_takes Remove count = count == 2
+single_takes Input count = count == 3
+single_takes Output count = count == 3
+single_takes InputDelay count = count == 3
+single_takes Delay count = count == 3
+single_takes Clear count = count == 1
+
+-- whether so many words may stand behind the first word of a line
+abbrev pub takes : LineWord → ℕ → Bool
+takes (Single word) count = single_takes word count
+takes Batch count = nat_le 1 count
+takes Wave count = count == 1
+takes Waves count = count == 0
+takes Text count = count == 0
+takes Report count = count == 0
+takes Dump count = count == 0
+takes Work count = count == 0
+
+abbrev pub is_taken : Option LineWord → ℕ → Bool
+is_taken None count = false
+is_taken (Some first) count = takes first count
+
+-- the first word is one that lines have, and so many words may stand behind it
+abbrev pub is_begun : List (List ℕ) → Bool
+is_begun [] = false
+is_begun (word ∷ words) = is_taken (line_word word) (length words)
+
+-- each byte of the line is allowed, and its words begin as those of a line do
+abbrev pub HasForm : List ℕ → Type 0
+HasForm line = IsTrue (list_all is_allowed line) × IsTrue (is_begun (words_of line))
