@@ -1,0 +1,18 @@
+-- A module of width 1 goes on as its automaton does.
+use Rattle.std.specs.Prelude.{◌≡◌, ℕ, List}
+use Rattle.mp_modules.specs.declared.memory.Memory.{Memory}
+use Rattle.mp_storage.specs.declared.any_module.AnyModule.{AnyModule}
+use Rattle.mp_storage.specs.AnyModules.{step}
+use Rattle.mp_automata.specs.declared.reaction.Reaction.{Reaction}
+use Rattle.mp_automata.specs.Automata.{automaton_of}
+use Rattle.mp_automata.specs.Phases.{phase_of}
+use Rattle.mp_automata.specs.BitModules.{events_in, toggles_between, AreBits, IsOfBits, IsBitState}
+use Rattle.mp_automata.specs.Reactions.{react}
+
+-- what a module does in a unit, without levels
+abbrev pub reaction_of : AnyModule → Memory → List ℕ → Reaction
+reaction_of part m x = record { phase = phase_of part (step part m x); toggles = toggles_between m (step part m x) }
+
+abbrev pub ReactsAsModule : Type 0
+ReactsAsModule = (part : AnyModule) (m : Memory) (x : List ℕ) → IsOfBits part → IsBitState part m → AreBits x →
+    reaction_of part m x ≡ react (automaton_of part) (phase_of part m) (events_in m x)

@@ -1,0 +1,7 @@
+pub mod Automata
+pub mod Phases
+pub mod BitModules
+pub mod Reactions
+pub mod AutomatonLaws
+pub mod Codes
+pub mod Transitions

@@ -1,0 +1,24 @@
+-- What comes of each state of an automaton, and the table of it.
+use Rattle.std.specs.Prelude.{◌≡◌, List, length, slice_index_or}
+use Rattle.mp_automata.specs.declared.automaton.Automaton.{Automaton}
+use Rattle.mp_automata.specs.declared.phase.Phase.{Phase}
+use Rattle.mp_automata.specs.declared.events.Events.{Events}
+use Rattle.mp_automata.specs.declared.reaction.Reaction.{Reaction}
+use Rattle.mp_automata.specs.declared.transition.Transition.{Transition}
+use Rattle.mp_automata.specs.Reactions.{react}
+use Rattle.mp_automata.specs.Codes.{no_events, state_code, toggles_code}
+
+abbrev pub transition_by : Automaton → Reaction → Transition
+transition_by a r = record { next = record { 0 = state_code a r.phase no_events }; toggles = toggles_code r.toggles }
+
+-- what comes of a state
+abbrev pub transition_of : Automaton → Phase → Events → Transition
+transition_of a k e = transition_by a (react a k e)
+
+abbrev pub no_transition : Transition
+no_transition = record { next = record { 0 = 0 }; toggles = 0 }
+
+-- for each state what comes of it
+pub record IsTable (list : List Transition) : Type 0 where
+  pub places : length list ≡ 1728
+  pub each : (a : Automaton) (k : Phase) (e : Events) → slice_index_or list (state_code a k e) no_transition ≡ transition_of a k e
