@@ -1,0 +1,100 @@
+-- Modules fire, one after the other.
+use Rattle.std.proofs.Common.{◌≡◌, ◌≢◌, ℕ, ◌+◌, ◌<◌, ◌≤◌, Bool, true, false, cond, List, [], ◌∷◌, ◌++◌, length, take, refl, sym, ap, ◌∙◌, arith, eq-eqb, get_or-set_same, subst, append-nil}
+use Rattle.std.specs.Prelude.{◌==◌, slice_set, slice_index_or}
+use Rattle.std.proofs.lemmas.Bool.{eqb-true, eqb-false}
+use Rattle.std.proofs.lemmas.Grind.{flat_map-append}
+use Rattle.std.proofs.lemmas.List.{take_more}
+use Rattle.mp_automata.specs.declared.automaton_state.AutomatonState.{AutomatonState}
+use Rattle.mp_automata.specs.Codes.{bit}
+use Rattle.mp_events.specs.EventWheels.{with_entry}
+use Rattle.mp_events.specs.Adding.{state_at, listed}
+use Rattle.mp_events.specs.declared.output_ports.OutputPorts.{OutputPorts}
+use Rattle.mp_events.specs.declared.output_port.OutputPort.{OutputPort}
+use Rattle.mp_events.specs.Firing.{UnitState, scheduled, number_of, next_state, events_of, ports_at, AreNumbered, HaveFired, fired_by, StayElse, entry_of, copy_at, copied_from}
+use Rattle.mp_events.proofs.TogglingLemmas.{fresh, listed_next}
+
+pub scheduled_append : (slots : List (List ℕ)) (xs ys : List (ℕ × ℕ)) → scheduled slots (xs ++ ys) ≡ scheduled (scheduled slots xs) ys
+scheduled_append slots [] ys = refl
+scheduled_append slots (x ∷ xs) ys = scheduled_append (with_entry slots x.0 x.1) xs ys
+
+module _ (due : List ℕ) (i : ℕ) (within : i < length due) (once : (m : ℕ) → listed m due ≤ 1) where
+  abbrev one : ℕ
+  one = slice_index_or due i 0
+
+  pub not_yet : listed (slice_index_or due i 0) (take i due) ≡ 0
+  not_yet = fresh due i within once
+
+  pub coded : (states now : List AutomatonState) (state_of : ℕ → UnitState) → ((m : ℕ) → listed m (take i due) ≡ 0 → state_at now m ≡ state_at states m) →
+      slice_index_or due i 0 < length states → AreNumbered states state_of → state_at now (slice_index_or due i 0) ≡ number_of (state_of (slice_index_or due i 0))
+  coded states now state_of others placed is = others (slice_index_or due i 0) not_yet ∙ is (slice_index_or due i 0) placed
+
+  listed_now : listed (slice_index_or due i 0) (take (i + 1) due) ≡ 1
+  listed_now =
+      let none = not_yet in
+      let more = listed_next due i (slice_index_or due i 0) within in
+      let own : bit (slice_index_or due i 0 == slice_index_or due i 0) ≡ 1 = ap bit (eq-eqb (slice_index_or due i 0) _ refl) in
+      omega arith
+
+  listed_else : (m : ℕ) → (slice_index_or due i 0 == m) ≡ false → listed m (take (i + 1) due) ≡ listed m (take i due)
+  listed_else m is =
+      let more = listed_next due i m within in
+      let none : bit (slice_index_or due i 0 == m) ≡ 0 = ap bit is in
+      omega arith
+
+  fired_states_at : (states now new : List AutomatonState) (state_of : ℕ → UnitState) (m : ℕ) (t : Bool) → (slice_index_or due i 0 == m) ≡ t → m < length states →
+      HaveFired state_of (take i due) states now → slice_index_or due i 0 < length now →
+      new ≡ slice_set now (slice_index_or due i 0) (next_state (state_of (slice_index_or due i 0))) → StayElse (slice_index_or due i 0) now new →
+      state_at new m ≡ cond (listed m (take (i + 1) due) == 0) (state_at states m) (next_state (state_of m)).0
+  fired_states_at states now new state_of m true is low before placed set else_stay =
+      let w = slice_index_or due i 0 in
+      let same : w ≡ m = eqb-true w m is in
+      subst (λ k. state_at new k ≡ cond (listed k (take (i + 1) due) == 0) (state_at states k) (next_state (state_of k)).0) same
+      (ap (λ xs. state_at xs w) set ∙ ap (λ (s : AutomatonState). s.0) (get_or-set_same now w (next_state (state_of w)) (record { 0 = 0 }) placed)
+      ∙ sym (ap (λ n. cond (n == 0) (state_at states w) (next_state (state_of w)).0) listed_now))
+  fired_states_at states now new state_of m false is low before placed set else_stay =
+      let w = slice_index_or due i 0 in
+      let other : m ≢ w = λ e. eqb-false w m is (sym e) in
+      else_stay.each m other ∙ before m low ∙ sym (ap (λ n. cond (n == 0) (state_at states m) (next_state (state_of m)).0) (listed_else m is))
+
+  pub fired_next : (state_of : ℕ → UnitState) (ports : List OutputPorts) (slots now new : List (List ℕ)) → now ≡ scheduled slots (fired_by state_of ports (take i due)) →
+      new ≡ scheduled now (events_of (state_of (slice_index_or due i 0)) (ports_at ports (slice_index_or due i 0))) →
+      new ≡ scheduled slots (fired_by state_of ports (take (i + 1) due))
+  fired_next state_of ports slots now new before then =
+      let w = slice_index_or due i 0 in
+      let last = events_of (state_of w) (ports_at ports w) in
+      let is : fired_by state_of ports (take (i + 1) due) ≡ fired_by state_of ports (take i due) ++ last =
+      ap (λ xs. fired_by state_of ports xs) (take_more due i 0 within)
+      ∙ flat_map-append (λ m. events_of (state_of m) (ports_at ports m)) (take i due) (w ∷ [])
+      ∙ ap (λ xs. fired_by state_of ports (take i due) ++ xs) (append-nil last) in
+      then ∙ ap (λ xs. scheduled xs last) before ∙ sym (scheduled_append slots (fired_by state_of ports (take i due)) last) ∙ ap (λ xs. scheduled slots xs) (sym is)
+
+  none_before : (m : ℕ) → listed m (take (i + 1) due) ≡ 0 → listed m (take i due) ≡ 0
+  none_before m none = let more = listed_next due i m within in omega arith
+
+  other_than : (m : ℕ) → listed m (take (i + 1) due) ≡ 0 → m ≢ slice_index_or due i 0
+  other_than m none same =
+      let now = listed_now in
+      let e = ap (λ k. listed k (take (i + 1) due)) same in
+      absurd (omega arith)
+
+  pub others_next : (states now new : List AutomatonState) → ((m : ℕ) → listed m (take i due) ≡ 0 → state_at now m ≡ state_at states m) →
+      StayElse (slice_index_or due i 0) now new → (m : ℕ) → listed m (take (i + 1) due) ≡ 0 → state_at new m ≡ state_at states m
+  others_next states now new before stay m none = stay.each m (other_than m none) ∙ before m (none_before m none)
+
+pub fired_next_states : (due : List ℕ) (i : ℕ) (within : i < length due) (once : (m : ℕ) → listed m due ≤ 1) (states now new : List AutomatonState) (state_of : ℕ → UnitState) →
+    HaveFired state_of (take i due) states now → slice_index_or due i 0 < length now →
+    new ≡ slice_set now (slice_index_or due i 0) (next_state (state_of (slice_index_or due i 0))) → StayElse (slice_index_or due i 0) now new →
+    HaveFired state_of (take (i + 1) due) states new
+fired_next_states due i within once states now new state_of before placed set stay m low =
+    fired_states_at due i within once states now new state_of m (slice_index_or due i 0 == m) refl low before placed set stay
+
+pub copied_next : (copies : List OutputPort) (wires : List ℕ) (i : ℕ) → i < length wires → (slots now new : List (List ℕ)) →
+    now ≡ scheduled slots (copied_from copies (take i wires)) → new ≡ scheduled now (entry_of (copy_at copies (slice_index_or wires i 0))) →
+    new ≡ scheduled slots (copied_from copies (take (i + 1) wires))
+copied_next copies wires i within slots now new before then =
+    let last = entry_of (copy_at copies (slice_index_or wires i 0)) in
+    let is : copied_from copies (take (i + 1) wires) ≡ copied_from copies (take i wires) ++ last =
+    ap (λ xs. copied_from copies xs) (take_more wires i 0 within)
+    ∙ flat_map-append (λ w. entry_of (copy_at copies w)) (take i wires) (slice_index_or wires i 0 ∷ [])
+    ∙ ap (λ xs. copied_from copies (take i wires) ++ xs) (append-nil last) in
+    then ∙ ap (λ xs. scheduled xs last) before ∙ sym (scheduled_append slots (copied_from copies (take i wires)) last) ∙ ap (λ xs. scheduled slots xs) (sym is)

@@ -1,0 +1,34 @@
+use Rattle.std.proofs.Common.{◌<◌, length, sym, ◌∙◌, arith, subst}
+use Rattle.std.specs.Prelude.{slice_index_or}
+use Rattle.mp_events.proofs.FiringLemmas.{not_yet, coded, fired_next_states, fired_next, others_next}
+use Rattle.mp_events.proofs.firing.fire_modules.Goals as goal
+
+pub loop-place-preserved : goal.loop-place-preserved
+loop-place-preserved c =
+    let due = c.args.due.now in
+    let i = c.loop-place.place-index in
+    let within = c.loop-place-test.true in
+    let once = c.requires.once in
+    let v = c.loop-place.invariant in
+    let e = c.in_ok-fire_module.ensures in
+    let low : slice_index_or due i 0 < length c.args.states.now.items = c.requires.states i 0 within in
+    let same = v.placed in
+    let placed : slice_index_or due i 0 < length c.loop-place.states.items = omega arith in
+    let states = c.args.states.now.items in
+    let now = c.loop-place.states.items in
+    let new = c.fire_module.new.states.items in
+    record {
+      states = λ state_of is. fired_next_states due i within once states now new state_of (v.states state_of is) placed
+          (e.states (state_of (slice_index_or due i 0)) (coded due i within once states now state_of v.others low is)) e.others;
+      wheel = λ state_of is. fired_next due i within once state_of c.args.ports.now c.args.wheel.now c.loop-place.wheel c.fire_module.new.wheel (v.wheel state_of is)
+          (e.wheel (state_of (slice_index_or due i 0)) (coded due i within once states now state_of v.others low is));
+      others = others_next due i within once states now new v.others e.others;
+      placed = e.others.placed ∙ v.placed;
+      units = e.places ∙ v.units;
+    }
+
+pub fire_module-requires-clause-low : goal.fire_module-requires-clause-low
+fire_module-requires-clause-low c =
+    let w = slice_index_or c.args.due.now c.loop-place.place-index 0 in
+    let none = not_yet c.args.due.now c.loop-place.place-index c.loop-place-test.true c.requires.once in
+    subst (λ k. k < 1728) (sym (c.loop-place.invariant.others w none)) (c.requires.low w)

@@ -1,0 +1,13 @@
+use Rattle.std.proofs.Common.{◌≡◌, length, take, drop}
+use Rattle.mp_events.specs.Adding.{IsAdding, AreAdded}
+use Rattle.mp_events.specs.Toggling.{entries_from, AreToggled}
+use Rattle.mp_events.proofs.toggling.toggle_wires.Given as goal
+
+-- the wires before have toggled, and the others are still to
+abbrev pub invariant-loop-wire : goal.invariant-loop-wire
+invariant-loop-wire l = record {
+  added : AreAdded l.initial.states.items l.states.items (entries_from l.rows (take l.wire-index l.wires));
+  adding : IsAdding l.states.items l.due.items (entries_from l.rows (drop l.wire-index l.wires));
+  places : length l.states.items ≡ length l.initial.states.items;
+  waves : AreToggled l.initial.waves.items l.waves.items (take l.wire-index l.wires) l.time;
+}

@@ -1,0 +1,7 @@
+pub mod ToggleWaves
+pub mod EventWheels
+pub mod Adding
+pub mod Toggling
+pub mod Ports
+pub mod Firing
+pub mod Fanouts

@@ -1,0 +1,56 @@
+//! The events of one unit.
+
+use std::alloc::{AllocError, Global};
+use std::marker::Model;
+
+/// The wires that toggle in one unit.
+#[derive(Drop)]
+pub struct EventSlot {
+    wires: Vec<u16>,
+}
+
+impl Model for EventSlot {
+    ghost use Rattle.std.specs.Prelude.{List, ℕ};
+
+    ghost Value = { List ℕ };
+
+    ghost view = { λ slot. slot.wires.items };
+}
+
+impl EventSlot {
+    ghost use Rattle.std.specs.Prelude.{◌≡◌, ◌++◌, ◌∷◌, [], OnOk};
+
+    /// A slot in which nothing toggles. It takes no memory.
+    pub fn new(alloc: Global) -> EventSlot
+        ensures { result ≡ [] }
+    {
+        EventSlot {
+            wires: Vec::new(alloc),
+        }
+    }
+
+    /// The wires, in the order in which they were pushed.
+    #[inline(always)]
+    pub fn as_slice(&self) -> &[u16]
+        ensures { result.now ≡ self.now }
+    {
+        self.wires.as_slice()
+    }
+
+    /// One wire more toggles.
+    #[inline(always)]
+    pub fn push(&mut self, wire: u16) -> Result<(), AllocError>
+        ensures { OnOk result (self.new ≡ self.old ++ wire ∷ []) }
+    {
+        self.wires.push(wire)?;
+        Ok(())
+    }
+
+    /// Empties the slot. It keeps its memory.
+    #[inline(always)]
+    pub(crate) fn clear(&mut self)
+        ensures { self.new ≡ [] }
+    {
+        self.wires.clear();
+    }
+}

@@ -1,0 +1,106 @@
+//! Modules of width 1 fire.
+ghost use Rattle.std.specs.Prelude.{◌≡◌, ℕ, ◌<◌, ◌≤◌, OnOk, All, length, slice_set};
+ghost use Rattle.mp_automata.specs.declared.toggles.Toggles.{Toggles as AnyToggles};
+ghost use Rattle.mp_automata.specs.Codes.{toggles_code};
+ghost use Rattle.mp_events.specs.Adding.{state_at, listed};
+ghost use Rattle.mp_events.specs.Firing.{UnitState, HasSlot, HaveSlots, scheduled, entry_if, fired_at, ports_at, number_of, next_state, events_of, AreNumbered, HaveFired, fired_by, copied_from, StayElse};
+
+use crate::event_wheel::EventWheel;
+use crate::output_port::OutputPort;
+use crate::output_ports::OutputPorts;
+use mp_automata::{AutomatonState, TransitionTable};
+use std::alloc::AllocError;
+
+/// Where an output toggles, its wire does so after the delay.
+#[inline(always)]
+fn schedule_if(toggles: bool, port: OutputPort, wheel: &mut EventWheel) -> Result<(), AllocError>
+    requires { HasSlot (length wheel.old) port }
+    ensures scheduled { OnOk result (wheel.new ≡ scheduled wheel.old (entry_if toggles port)) }
+    ensures places { OnOk result (length wheel.new ≡ length wheel.old) }
+{
+    match port.wire {
+        Some(wire) if toggles => wheel.schedule(port.delay as usize, wire),
+        _ => Ok(()),
+    }
+}
+
+/// The outputs of these bits toggle.
+#[inline(always)]
+fn schedule_toggles(
+    ports: &OutputPorts,
+    toggles: u16,
+    wheel: &mut EventWheel,
+) -> Result<(), AllocError>
+    requires { HaveSlots (length wheel.old) ports.now }
+    ensures scheduled { OnOk result ((t : AnyToggles) → toggles ≡ toggles_code t → wheel.new ≡ scheduled wheel.old (fired_at ports.now t)) }
+    ensures places { OnOk result (length wheel.new ≡ length wheel.old) }
+{
+    schedule_if(toggles % 2 == 1, ports.first, wheel)?;
+    schedule_if(toggles / 2 % 2 == 1, ports.second, wheel)?;
+    schedule_if(toggles / 4 % 2 == 1, ports.third, wheel)
+}
+
+/// A module goes on from the events of a unit.
+#[inline(always)]
+fn fire_module(
+    table: &TransitionTable,
+    ports: &[OutputPorts],
+    states: &mut Vec<AutomatonState>,
+    wheel: &mut EventWheel,
+    place: u16,
+) -> Result<(), AllocError>
+    requires ports { place < length ports.now }
+    requires within { All (HaveSlots (length wheel.old)) ports.now }
+    requires state { place < length states.old.items }
+    requires low { state_at states.old.items place < 1728 }
+    ensures states { OnOk result ((s : UnitState) → state_at states.old.items place ≡ number_of s → states.new.items ≡ slice_set states.old.items place (next_state s)) }
+    ensures wheel { OnOk result ((s : UnitState) → state_at states.old.items place ≡ number_of s → wheel.new ≡ scheduled wheel.old (events_of s (ports_at ports.now place))) }
+    ensures others { OnOk result (StayElse place states.old.items states.new.items) }
+    ensures places { OnOk result (length wheel.new ≡ length wheel.old) }
+{
+    let m = place as usize;
+    let transition = table.of(states[m]);
+    states[m] = transition.next;
+    schedule_toggles(&ports[m], transition.toggles, wheel)
+}
+
+/// The modules at these places, each listed once, go on from the events of a unit: their states become those before the next unit, and the
+/// wires of the outputs that toggle are scheduled. Other states stay.
+pub fn fire_modules(
+    table: &TransitionTable,
+    ports: &[OutputPorts],
+    states: &mut Vec<AutomatonState>,
+    wheel: &mut EventWheel,
+    due: &[u16],
+) -> Result<(), AllocError>
+    requires ports { All (λ m. m < length ports.now) due.now }
+    requires within { All (HaveSlots (length wheel.old)) ports.now }
+    requires states { All (λ m. m < length states.old.items) due.now }
+    requires low { (m : ℕ) → state_at states.old.items m < 1728 }
+    requires once { (m : ℕ) → listed m due.now ≤ 1 }
+    ensures states { OnOk result ((state_of : ℕ → UnitState) → AreNumbered states.old.items state_of → HaveFired state_of due.now states.old.items states.new.items) }
+    ensures wheel { OnOk result ((state_of : ℕ → UnitState) → AreNumbered states.old.items state_of → wheel.new ≡ scheduled wheel.old (fired_by state_of ports.now due.now)) }
+    ensures places { OnOk result (length wheel.new ≡ length wheel.old) }
+{
+    for place in due {
+        fire_module(table, ports, states, wheel, *place)?;
+    }
+    Ok(())
+}
+
+/// After these wires, or delayed copies of wires, have toggled: the next delayed copy of each, if any, toggles the delay later.
+pub fn schedule_copies(
+    copies: &[OutputPort],
+    wheel: &mut EventWheel,
+    wires: &[u16],
+) -> Result<(), AllocError>
+    requires copies { All (λ w. w < length copies.now) wires.now }
+    requires within { All (HasSlot (length wheel.old)) copies.now }
+    ensures scheduled { OnOk result (wheel.new ≡ scheduled wheel.old (copied_from copies.now wires.now)) }
+    ensures places { OnOk result (length wheel.new ≡ length wheel.old) }
+{
+    for wire in wires {
+        schedule_if(true, copies[*wire as usize], wheel)?;
+    }
+    Ok(())
+}

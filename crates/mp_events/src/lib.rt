@@ -1,0 +1,27 @@
+//! Events of wires of width 1: their waves, the wheel that has those to come, who reads them, and the loops of a unit.
+#![tactic(auto)]
+
+mod adding;
+mod event_slot;
+mod event_wheel;
+mod fanout;
+mod fanout_entry;
+mod fanout_row;
+mod firing;
+pub mod laws;
+mod output_port;
+mod output_ports;
+mod toggle_wave;
+mod toggling;
+
+pub use adding::{add_event, add_fanout_events};
+pub use event_slot::EventSlot;
+pub use event_wheel::EventWheel;
+pub use fanout::Fanout;
+pub use fanout_entry::FanoutEntry;
+pub use fanout_row::FanoutRow;
+pub use firing::{fire_modules, schedule_copies};
+pub use output_port::OutputPort;
+pub use output_ports::OutputPorts;
+pub use toggle_wave::ToggleWave;
+pub use toggling::toggle_wires;

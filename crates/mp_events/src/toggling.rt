@@ -1,0 +1,60 @@
+//! Wires of width 1 toggle.
+ghost use Rattle.std.specs.Prelude.{◌≡◌, ◌<◌, [], OnOk, All, length, slice_set};
+ghost use Rattle.mp_wave.specs.Waveform.{last_time};
+ghost use Rattle.mp_events.specs.ToggleWaves.{toggled_at};
+ghost use Rattle.mp_events.specs.Adding.{IsAdding, AreAdded};
+ghost use Rattle.mp_events.specs.Toggling.{row_at, wave_at, entries_from, CanToggle, AreToggled};
+
+use crate::adding::add_events;
+use crate::fanout::Fanout;
+use crate::toggle_wave::ToggleWave;
+use mp_automata::AutomatonState;
+use std::alloc::AllocError;
+
+/// A wire toggles at a time, and the inputs that read it have an event.
+#[inline(always)]
+fn toggle_wire(
+    rows: &Fanout,
+    states: &mut Vec<AutomatonState>,
+    due: &mut Vec<u16>,
+    waves: &mut Vec<ToggleWave>,
+    wire: u16,
+    time: u32,
+) -> Result<(), AllocError>
+    requires row { wire < length rows.now }
+    requires wave { wire < length waves.old.items }
+    requires over { last_time 0 (wave_at waves.old.items wire).changes < time }
+    requires adding { IsAdding states.old.items due.old.items (row_at rows.now wire) }
+    ensures added { OnOk result (AreAdded states.old.items states.new.items (row_at rows.now wire)) }
+    ensures adding { OnOk result (IsAdding states.new.items due.new.items []) }
+    ensures places { OnOk result (length states.new.items ≡ length states.old.items) }
+    ensures waves { OnOk result (waves.new.items ≡ slice_set waves.old.items wire (toggled_at (wave_at waves.old.items wire) time)) }
+{
+    let w = wire as usize;
+    waves[w].toggle(time)?;
+    add_events(states, due, rows.of(wire))
+}
+
+/// These wires toggle at a time, each once, and the inputs that read them have an event. A module with an event is due.
+pub fn toggle_wires(
+    rows: &Fanout,
+    states: &mut Vec<AutomatonState>,
+    due: &mut Vec<u16>,
+    waves: &mut Vec<ToggleWave>,
+    wires: &[u16],
+    time: u32,
+) -> Result<(), AllocError>
+    requires rows { All (λ w. w < length rows.now) wires.now }
+    requires waves { All (λ w. w < length waves.old.items) wires.now }
+    requires over { CanToggle waves.old.items wires.now time }
+    requires adding { IsAdding states.old.items due.old.items (entries_from rows.now wires.now) }
+    ensures added { OnOk result (AreAdded states.old.items states.new.items (entries_from rows.now wires.now)) }
+    ensures adding { OnOk result (IsAdding states.new.items due.new.items []) }
+    ensures places { OnOk result (length states.new.items ≡ length states.old.items) }
+    ensures waves { OnOk result (AreToggled waves.old.items waves.new.items wires.now time) }
+{
+    for wire in wires {
+        toggle_wire(rows, states, due, waves, *wire, time)?;
+    }
+    Ok(())
+}
