@@ -1,0 +1,4 @@
+pub mod ColumnLemmas
+pub mod CellLemmas
+pub mod RowLemmas
+pub mod FoundLemmas

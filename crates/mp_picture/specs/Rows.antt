@@ -1,0 +1,81 @@
+-- The rows of a picture as text.
+use Rattle.std.specs.Prelude.{ℕ, ◌-◌, ◌*◌, ◌/◌, ◌==◌, nat_le, Bool, true, false, List, [], ◌∷◌, ◌++◌, length, drop, if◌then◌else◌}
+use Rattle.std.specs.List.{flat_map, prefix_len, repeat, range_with_len}
+use Rattle.std.specs.Fmt.{decimal}
+use Rattle.mp_records.specs.declared.wire_record.WireRecord.{WireRecord}
+use Rattle.mp_picture.specs.declared.cell.Cell.{Cell}
+use Rattle.mp_picture.specs.declared.cell.Events.{Events}
+use Rattle.mp_picture.specs.declared.cell.Events.TheVariants.{None, One, More}
+use Rattle.mp_picture.specs.declared.columns.Columns.{Columns}
+use Rattle.mp_picture.specs.declared.mark.Charset.{Charset}
+use Rattle.mp_picture.specs.declared.mark.Mark.TheVariants.{Flat, Cross}
+use Rattle.mp_picture.specs.Columns.{count, begin}
+use Rattle.mp_picture.specs.Marks.{bit_mark, mark_text}
+
+-- a text, filled with blanks to a width
+abbrev pub padded : ℕ → List ℕ → List ℕ
+padded width text = text ++ repeat (width - length text) (32 ∷ [])
+
+-- ---- times
+
+-- a time stands at each tenth column: the number of the last one
+abbrev pub last_tick : Columns → ℕ
+last_tick c = (count c - 1) / 10
+
+-- the time at which a tenth column begins
+abbrev pub tick : Columns → ℕ → List ℕ
+tick c i = decimal (begin c (10 * i))
+
+-- blanks in place of a name, and the times, each filled to ten columns but the last
+abbrev pub ruler : ℕ → Columns → List ℕ
+ruler margin c = repeat margin (32 ∷ []) ++ (flat_map (λ i. padded 10 (tick c i)) (range_with_len 0 (last_tick c)) ++ (tick c (last_tick c) ++ (10 ∷ [])))
+
+-- ---- wires of width 1
+
+abbrev pub narrow_text : Charset → ℕ → List Cell → List ℕ
+narrow_text charset units cells = flat_map (λ cell. mark_text charset (bit_mark units cell)) cells
+
+-- ---- wider wires
+
+abbrev pub has_none : Events → Bool
+has_none None = true
+has_none One = false
+has_none More = false
+
+-- a cell without an event
+abbrev pub is_still : Cell → Bool
+is_still cell = has_none cell.events
+
+-- the digits of a level, where there are so many columns for them
+abbrev pub fitting : ℕ → ℕ → List ℕ
+fitting level room = if nat_le (length (decimal level)) room then decimal level else []
+
+-- a digit, or the character of a flat column
+abbrev pub digit_or_flat : Charset → List ℕ → List ℕ
+digit_or_flat charset [] = mark_text charset Flat
+digit_or_flat charset (digit ∷ digits) = digit ∷ []
+
+-- a column each, where digits may still stand: a cross with an event, behind which stands the level in the columns without one, where it fits
+abbrev pub wide_from : Charset → List ℕ → List Cell → List ℕ
+wide_from charset digits [] = []
+wide_from charset digits (cell ∷ cells) =
+    if is_still cell then digit_or_flat charset digits ++ wide_from charset (drop 1 digits) cells
+    else mark_text charset Cross ++ wide_from charset (fitting cell.level (prefix_len is_still cells)) cells
+
+-- the level of the first column stands from there on, where it fits
+abbrev pub wide_text : Charset → List Cell → List ℕ
+wide_text charset [] = []
+wide_text charset (cell ∷ cells) = wide_from charset (fitting cell.level (prefix_len is_still (cell ∷ cells))) (cell ∷ cells)
+
+-- so many columns without an event
+abbrev pub run_text : Charset → ℕ → ℕ → List ℕ
+run_text charset level room = fitting level room ++ repeat (room - length (fitting level room)) (mark_text charset Flat)
+
+-- ---- a wire
+
+abbrev pub row_text : Charset → ℕ → ℕ → List Cell → List ℕ
+row_text charset units width cells = if width == 1 then narrow_text charset units cells else wide_text charset cells
+
+-- its name, filled to the width of the names, a character a column and a line feed
+abbrev pub wire_row : Charset → ℕ → ℕ → WireRecord → List Cell → List ℕ
+wire_row charset margin units wire cells = padded margin wire.name ++ (row_text charset units wire.width cells ++ (10 ∷ []))

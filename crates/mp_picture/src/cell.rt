@@ -1,0 +1,73 @@
+//! What a wire does in a column.
+ghost use Rattle.std.specs.Prelude.{◌≡◌, ◌<◌, ◌≤◌, ℕ, IfOk, length, nat_lt};
+ghost use Rattle.std.specs.List.{prefix_len};
+ghost use Rattle.mp_wave.specs.Waveform.{level_of, last_from};
+ghost use Rattle.mp_picture.specs.Cells.{cells, events_of};
+
+use crate::columns::Columns;
+use mp_wave::Wave;
+use std::alloc::{AllocError, Global};
+
+/// How many events a wire has in a column.
+#[derive(Clone, Copy, Debug, PartialEq, Eq)]
+pub enum Events {
+    None,
+    One,
+    More,
+}
+
+/// What a wire does in a column: its events, and its level at the column's last unit.
+#[derive(Clone, Copy, Debug, PartialEq, Eq)]
+pub struct Cell {
+    pub events: Events,
+    pub level: u64,
+}
+
+/// The cell of a wave in each column, by one pass over the changes in the range. An event is a difference from the unit before; what
+/// lies at the range's first unit isn't one.
+pub fn cells(alloc: Global, wave: &Wave, columns: Columns) -> Result<Vec<Cell>, AllocError>
+    ensures { IfOk result (λ list. list.items ≡ cells (level_of wave.now) columns) }
+{
+    let mut list = Vec::with_capacity(alloc, columns.count() as usize)?;
+    let mut level = wave.level_at(columns.from);
+    let mut rest = wave.changes_between(columns.from, columns.to);
+    for column in 0..columns.count() {
+        let count = count_before(rest, columns.end(column));
+        let (now, later) = rest.split_at(count);
+        level = last_level(level, now);
+        rest = later;
+        list.push(Cell {
+            events: events_of(count),
+            level,
+        })?;
+    }
+    Ok(list)
+}
+
+/// How many changes from the front on are before a time.
+fn count_before(changes: &[(u32, u64)], time: u32) -> usize
+    ensures value { result ≡ prefix_len (λ change. nat_lt change.0 time) changes.now }
+    ensures within { result ≤ length changes.now }
+{
+    changes.iter().take_while(|change| change.0 < time).count()
+}
+
+/// The level after some changes.
+fn last_level(level: u64, changes: &[(u32, u64)]) -> u64
+    ensures { result ≡ last_from level changes.now }
+{
+    match changes.last() {
+        Some(last) => last.1,
+        None => level,
+    }
+}
+
+fn events_of(count: usize) -> Events
+    ensures { result ≡ events_of count }
+{
+    match count {
+        0 => Events::None,
+        1 => Events::One,
+        _ => Events::More,
+    }
+}

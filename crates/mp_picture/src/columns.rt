@@ -1,0 +1,77 @@
+//! A range of units that is cut into columns.
+ghost use Rattle.std.specs.Prelude.{◌<◌};
+
+/// The units from one on to before another, cut into columns of so many units each; the last may have fewer.
+#[derive(Clone, Copy, Debug)]
+pub struct Columns {
+    /// The first unit.
+    pub from: u32,
+    /// The end of the range, which isn't in it.
+    pub to: u32,
+    /// How many units a column has; the last may have fewer.
+    pub units: u32,
+    ghost some: { from < to },
+    ghost wide: { 0 < units },
+}
+
+impl Columns {
+    ghost use Rattle.std.specs.Prelude.{◌≡◌, ℕ, ◌+◌, ◌-◌, ◌*◌, ◌<◌, ◌≤◌};
+    ghost use Rattle.mp_picture.specs.declared.columns.Columns.{Columns};
+    ghost use Rattle.mp_picture.specs.Columns.{count, begin, end, column_of, range_from, range_to};
+
+    /// The range below a horizon, in at most so many columns of the fewest units each. A time at or above the horizon is read as its
+    /// last unit, or as the horizon itself where it ends the range; an empty range is read as its first unit.
+    pub fn new(horizon: u32, from: u32, to: u32, most: u32) -> Columns
+        requires horizon { 0 < horizon }
+        requires some { 0 < most }
+        ensures from { result.from ≡ range_from horizon from }
+        ensures to { result.to ≡ range_to horizon from to }
+        ensures enough { result.to - result.from ≤ result.units * most }
+        ensures fewest { (k : ℕ) → result.to - result.from ≤ k * most → result.units ≤ k }
+    {
+        let from = from.min(horizon - 1);
+        let to = to.min(horizon).max(from + 1);
+        let units = (to - from).div_ceil(most);
+        Columns { from, to, units }
+    }
+
+    /// How many columns there are.
+    pub fn count(self) -> u32
+        ensures value { result ≡ count self }
+        ensures some { 0 < result }
+    {
+        (self.to - self.from).div_ceil(self.units)
+    }
+
+    /// The first unit of a column.
+    pub fn begin(self, column: u32) -> u32
+        requires { column < count self }
+        ensures value { result ≡ begin self column }
+        ensures within { result < self.to }
+    {
+        self.from + self.units * column
+    }
+
+    /// The end of a column, which isn't in it.
+    pub fn end(self, column: u32) -> u32
+        requires { column < count self }
+        ensures value { result ≡ end self column }
+        ensures some { begin self column < result }
+        ensures within { result ≤ self.to }
+    {
+        let begin = self.begin(column);
+        begin + self.units.min(self.to - begin)
+    }
+
+    /// The column that a time of the range lies in.
+    pub fn column_of(self, time: u32) -> u32
+        requires from { self.from ≤ time }
+        requires to { time < self.to }
+        ensures value { result ≡ column_of self time }
+        ensures within { result < count self }
+        ensures begin { begin self result ≤ time }
+        ensures end { time < end self result }
+    {
+        (time - self.from) / self.units
+    }
+}

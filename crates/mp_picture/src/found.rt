@@ -1,0 +1,157 @@
+//! What the report finds in a picture.
+ghost use Rattle.std.specs.Prelude.{◌≡◌, ◌≤◌, ◌<◌, ◌++◌, List, vec_len, OnOk, IfOk, All, IsTrue};
+ghost use Rattle.mp_model.specs.declared.finding.Finding.{Finding as Found};
+ghost use Rattle.std.specs.List.{list_any};
+ghost use Rattle.mp_picture.specs.Columns.{count};
+ghost use Rattle.mp_picture.specs.Found.{is_within, is_place, is_module, within, places_of, place_rows, marks, trimmed, place_name, place_row};
+
+use crate::columns::Columns;
+use crate::repeated::push_padded;
+use mp_model::{Finding, Place};
+use mp_netlist::Netlist;
+use std::alloc::{AllocError, Global};
+
+/// The findings at times in the range, in their order.
+pub fn found_within(
+    alloc: Global,
+    findings: &[Finding],
+    columns: Columns,
+) -> Result<Vec<Finding>, AllocError>
+    ensures { IfOk result (λ found. found.items ≡ within columns findings.now) }
+{
+    findings
+        .iter()
+        .copied()
+        .filter(|finding| is_within(columns, *finding))
+        .collect(alloc)
+}
+
+fn is_within(columns: Columns, finding: Finding) -> bool
+    ensures { result ≡ is_within columns finding }
+{
+    columns.from <= finding.time && finding.time < columns.to
+}
+
+/// The modules and then the bundles of the findings, each once, in the order of their first findings.
+pub fn rows_of(alloc: Global, found: &[Finding]) -> Result<Vec<Place>, AllocError>
+    ensures { IfOk result (λ places. places.items ≡ place_rows found.now) }
+{
+    let list = places_of(alloc, found)?;
+    let places = list.as_slice();
+    let mut rows = Vec::new(alloc);
+    'modules: for &place in places {
+        if is_module(place) {
+            rows.push(place)?;
+        }
+    }
+    'bundles: for &place in places {
+        if !is_module(place) {
+            rows.push(place)?;
+        }
+    }
+    Ok(rows)
+}
+
+/// The places of the findings, each once, in the order of their first.
+fn places_of(alloc: Global, found: &[Finding]) -> Result<Vec<Place>, AllocError>
+    ensures { IfOk result (λ places. places.items ≡ places_of found.now) }
+{
+    let mut places = Vec::new(alloc);
+    for finding in found {
+        if !has_place(places.as_slice(), finding.place) {
+            places.push(finding.place)?;
+        }
+    }
+    Ok(places)
+}
+
+fn has_place(places: &[Place], place: Place) -> bool
+    ensures { result ≡ list_any (is_place place) places.now }
+{
+    places.iter().any(|other| is_place(place, *other))
+}
+
+fn is_place(place: Place, other: Place) -> bool
+    ensures { result ≡ is_place place other }
+{
+    match (place, other) {
+        (Place::Module(one), Place::Module(two)) => one.0 == two.0,
+        (Place::Bundle(one), Place::Bundle(two)) => one.0 == two.0,
+        _ => false,
+    }
+}
+
+fn is_module(place: Place) -> bool
+    ensures { result ≡ is_module place }
+{
+    match place {
+        Place::Module(_) => true,
+        Place::Bundle(_) => false,
+    }
+}
+
+/// Puts the row of a place behind the text: its name, filled with blanks to the width of the names, `!` in each column in which
+/// something is found there, and a line feed. No blanks stand at its end.
+pub fn push_place_row(
+    row: &mut Vec<u8>,
+    netlist: &Netlist,
+    margin: usize,
+    columns: Columns,
+    place: Place,
+    found: &[Finding],
+) -> Result<(), AllocError>
+    requires { All (λ (f : Found). IsTrue (is_within columns f)) found.now }
+    ensures { OnOk result (row.new.items ≡ row.old.items ++ place_row netlist.now margin columns place found.now) }
+{
+    push_padded(row, place_name(netlist, place).as_bytes(), margin)?;
+    let marks = marks_of(*row.allocator(), columns, place, found)?;
+    row.extend_from_slice(trimmed(marks.as_slice()))?;
+    row.push(b'\n')?;
+    Ok(())
+}
+
+/// The name of what stands at a place, and no text where nothing does.
+fn place_name(netlist: &Netlist, place: Place) -> &str
+    ensures { result.now ≡ place_name netlist.now place }
+{
+    match place {
+        Place::Module(id) => match netlist.module(id) {
+            Some(found) => found.name.as_str(),
+            None => "",
+        },
+        Place::Bundle(id) => match netlist.bundle(id) {
+            Some(found) => found.name.as_str(),
+            None => "",
+        },
+    }
+}
+
+/// A mark for each column: `!` where something is found at the place, and else a blank.
+fn marks_of(
+    alloc: Global,
+    columns: Columns,
+    place: Place,
+    found: &[Finding],
+) -> Result<Vec<u8>, AllocError>
+    requires { All (λ (f : Found). IsTrue (is_within columns f)) found.now }
+    ensures { IfOk result (λ list. list.items ≡ marks columns place found.now) }
+{
+    let mut marks = vec![in alloc; b' '; columns.count() as usize]?;
+    for finding in found {
+        if is_place(place, finding.place) {
+            marks[columns.column_of(finding.time) as usize] = b'!';
+        }
+    }
+    Ok(marks)
+}
+
+/// Marks without the blanks at their end.
+fn trimmed(marks: &[u8]) -> &[u8]
+    ensures { result.now ≡ trimmed marks.now }
+{
+    let mut end = marks.len();
+    while end > 0 && marks[end - 1] == b' ' {
+        end -= 1;
+    }
+    &marks[..end]
+}

@@ -1,0 +1,24 @@
+//! Texts that are repeated, and texts that are filled up.
+ghost use Rattle.std.specs.Prelude.{◌≡◌, ◌++◌, OnOk};
+ghost use Rattle.std.specs.List.{repeat};
+ghost use Rattle.mp_picture.specs.Rows.{padded};
+
+use std::alloc::AllocError;
+
+/// Puts a text so many times behind a row.
+pub(crate) fn push_repeated(row: &mut Vec<u8>, text: &[u8], count: usize) -> Result<(), AllocError>
+    ensures { OnOk result (row.new.items ≡ row.old.items ++ repeat count text.now) }
+{
+    for _ in 0..count {
+        row.extend_from_slice(text)?;
+    }
+    Ok(())
+}
+
+/// Puts a text behind a row, filled with blanks to a width.
+pub(crate) fn push_padded(row: &mut Vec<u8>, text: &[u8], width: usize) -> Result<(), AllocError>
+    ensures { OnOk result (row.new.items ≡ row.old.items ++ padded width text.now) }
+{
+    row.extend_from_slice(text)?;
+    push_repeated(row, b" ", width.saturating_sub(text.len()))
+}

@@ -1,0 +1,97 @@
+//! The row of a wire.
+ghost use Rattle.std.specs.Prelude.{◌≡◌, ◌≤◌, ◌++◌, ◌∷◌, [], length, OnOk};
+ghost use Rattle.std.specs.List.{prefix_len};
+ghost use Rattle.mp_picture.specs.Rows.{is_still, narrow_text, wide_text, run_text, wire_row};
+
+use crate::cell::{Cell, Events};
+use crate::mark::{Charset, Mark};
+use crate::repeated::{push_padded, push_repeated};
+use itoa::Buffer;
+use mp_netlist::WireRecord;
+use std::alloc::AllocError;
+
+/// Puts the row of a wire behind the text: its name, filled with blanks to the width of the names, a character a column, and a line feed.
+pub fn push_wire_row(
+    row: &mut Vec<u8>,
+    charset: Charset,
+    margin: usize,
+    units: u32,
+    wire: &WireRecord,
+    cells: &[Cell],
+) -> Result<(), AllocError>
+    ensures { OnOk result (row.new.items ≡ row.old.items ++ wire_row charset margin units wire.now cells.now) }
+{
+    push_padded(row, wire.name.as_str().as_bytes(), margin)?;
+    if wire.width == 1 {
+        push_narrow(row, charset, units, cells)?;
+    } else {
+        push_wide(row, charset, cells)?;
+    }
+    row.push(b'\n')?;
+    Ok(())
+}
+
+/// Puts a mark for each column of a wire of width 1.
+fn push_narrow(
+    row: &mut Vec<u8>,
+    charset: Charset,
+    units: u32,
+    cells: &[Cell],
+) -> Result<(), AllocError>
+    ensures { OnOk result (row.new.items ≡ row.old.items ++ narrow_text charset units cells.now) }
+{
+    for &cell in cells {
+        row.extend_from_slice(Mark::of(units, cell).text(charset))?;
+    }
+    Ok(())
+}
+
+/// Puts a cross for each column of a wider wire with events, and the levels between them where they fit.
+fn push_wide(row: &mut Vec<u8>, charset: Charset, cells: &[Cell]) -> Result<(), AllocError>
+    ensures { OnOk result (row.new.items ≡ row.old.items ++ wide_text charset cells.now) }
+{
+    let Some(first) = cells.first() else {
+        return Ok(());
+    };
+    let room = still_count(cells);
+    push_run(row, charset, first.level, room)?;
+    let mut rest = cells.split_at(room).1;
+    while let Some((cell, later)) = rest.split_first() {
+        let room = still_count(later);
+        row.extend_from_slice(Mark::Cross.text(charset))?;
+        push_run(row, charset, cell.level, room)?;
+        rest = later.split_at(room).1;
+    }
+    Ok(())
+}
+
+/// How many cells from the front on have no event.
+fn still_count(cells: &[Cell]) -> usize
+    ensures value { result ≡ prefix_len is_still cells.now }
+    ensures within { result ≤ length cells.now }
+{
+    cells.iter().take_while(|cell| is_still(**cell)).count()
+}
+
+pub(crate) fn is_still(cell: Cell) -> bool
+    ensures { result ≡ is_still cell }
+{
+    match cell.events {
+        Events::None => true,
+        Events::One | Events::More => false,
+    }
+}
+
+/// Puts so many columns without an event: the level, where it fits, and then flat ones.
+fn push_run(row: &mut Vec<u8>, charset: Charset, level: u64, room: usize) -> Result<(), AllocError>
+    ensures { OnOk result (row.new.items ≡ row.old.items ++ run_text charset level room) }
+{
+    let mut buffer = Buffer::new();
+    let digits = buffer.format(level).as_bytes();
+    let flat = Mark::Flat.text(charset);
+    if digits.len() > room {
+        return push_repeated(row, flat, room);
+    }
+    row.extend_from_slice(digits)?;
+    push_repeated(row, flat, room - digits.len())
+}
