@@ -1,7 +1,8 @@
 -- How a fault of a run is told.
-use Rattle.std.specs.Prelude.{ℕ, ◌+◌, List, [], ◌∷◌, ◌++◌, Result, Err, codes, unwrap_or}
+use Rattle.std.specs.Prelude.{ℕ, List, [], ◌∷◌, ◌++◌, Result, Err, codes, unwrap_or}
 use Rattle.std.specs.Fmt.{decimal}
 use Rattle.mp_records.specs.EditErrors as edits
+use Rattle.mp_streams.specs.StreamFaults.{one_more}
 use Rattle.mp_streams.specs.declared.take_error.TakeError.{TakeError}
 use Rattle.mp_streams.specs.declared.take_error.TakeError.TheVariants as takes
 use Rattle.mp_meeting.specs.declared.meeting_fault.MeetingFault.{MeetingFault}
@@ -61,10 +62,10 @@ line_of NoPlace = codes "mpwb: no place"
 
 -- the number of a source's faults after a run
 abbrev pub counted_reads : {T : Type 0} → Result T RunFault → ℕ → ℕ
-counted_reads (Err ReadFailed) faults = faults + 1
+counted_reads (Err ReadFailed) faults = one_more faults
 counted_reads result faults = faults
 
 -- the number of a sink's faults after a run
 abbrev pub counted_writes : {T : Type 0} → Result T RunFault → ℕ → ℕ
-counted_writes (Err WriteFailed) faults = faults + 1
+counted_writes (Err WriteFailed) faults = one_more faults
 counted_writes result faults = faults

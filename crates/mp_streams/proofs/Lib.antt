@@ -1,3 +1,4 @@
 pub mod PlaceLemmas
 pub mod StreamLemmas
 pub mod BufferLemmas
+pub mod OutLemmas

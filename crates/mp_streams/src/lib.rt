@@ -2,6 +2,7 @@
 #![tactic(auto)]
 
 mod failed;
+mod out;
 mod piece;
 mod putting;
 mod read_source;
@@ -9,10 +10,13 @@ mod sink;
 mod source;
 mod take_error;
 mod taking;
+mod text;
 mod write_buffer;
+mod write_error;
 mod write_sink;
 
 pub use failed::Failed;
+pub use out::Out;
 pub use piece::{PIECE_BYTES, Piece};
 pub use putting::put_all;
 pub use read_source::ReadSource;
@@ -20,5 +24,7 @@ pub use sink::Sink;
 pub use source::Source;
 pub use take_error::TakeError;
 pub use taking::take_all;
+pub use text::{Each, Text};
 pub use write_buffer::WriteBuffer;
+pub use write_error::WriteError;
 pub use write_sink::WriteSink;

@@ -10,7 +10,6 @@ use crate::sink::Sink;
 /// Puts all of the bytes, in order. `Failed` comes with the first fault of the sink: then a part of
 /// the bytes from the front, and not all of them, was taken.
 pub fn put_all<S: Sink>(sink: &mut S, bytes: &[u8]) -> Result<(), Failed>
-    requires { S.fault_count sink.old < 2 ^ 64 - 1 }
     ensures all { OnOk result (Appends (S.taken sink.old) (S.taken sink.new) bytes.now) }
     ensures failed { OnErr result (AppendsPrefix (S.taken sink.old) (S.taken sink.new) bytes.now) }
     ensures faults { S.fault_count sink.new ≡ counted result (S.fault_count sink.old) }

@@ -41,7 +41,7 @@ impl<R: Read> Source for ReadSource<R> {
         match self.reader.read(room) {
             Ok(count) => Ok(count),
             Err(_) => {
-                self.faults += 1;
+                self.faults = self.faults.saturating_add(1);
                 Err(Failed)
             }
         }

@@ -1,5 +1,5 @@
 //! What takes bytes.
-ghost use Rattle.std.specs.Prelude.{◌≡◌, ◌-◌, ◌^◌, ◌<◌, ◌≤◌, ℕ, List, Option, length, take, IfOk, MatchResult};
+ghost use Rattle.std.specs.Prelude.{◌≡◌, ◌<◌, ◌≤◌, ℕ, List, Option, length, take, IfOk, MatchResult};
 ghost use Rattle.std.specs.Io.KnownBytes.{Appends, Keeps};
 ghost use Rattle.mp_streams.specs.StreamFaults.{counted};
 
@@ -17,7 +17,6 @@ pub trait Sink {
     /// where the device fails: then no byte was taken, and there is one fault more.
     fn put(&mut self, bytes: &[u8]) -> Result<usize, Failed>
         requires some { 0 < length bytes.now }
-        requires countable { fault_count self.old < 2 ^ 64 - 1 }
         ensures count { IfOk result (λ n. (0 < n) × (n ≤ length bytes.now)) }
         ensures bytes { MatchResult result
             (λ n. Appends (taken self.old) (taken self.new) (take n bytes.now))

@@ -1,5 +1,5 @@
 //! What gives bytes.
-ghost use Rattle.std.specs.Prelude.{◌≡◌, ◌-◌, ◌^◌, ◌<◌, ◌≤◌, ℕ, List, Option, length, take, IfOk, MatchResult};
+ghost use Rattle.std.specs.Prelude.{◌≡◌, ◌<◌, ◌≤◌, ℕ, List, Option, length, take, IfOk, MatchResult};
 ghost use Rattle.std.specs.Io.KnownBytes.{Consumes, Keeps, IsAtEnd};
 ghost use Rattle.mp_streams.specs.StreamFaults.{counted};
 
@@ -17,7 +17,6 @@ pub trait Source {
     /// `Failed` comes where the device fails: then no byte was given, and there is one fault more.
     fn take(&mut self, room: &mut [u8]) -> Result<usize, Failed>
         requires some { 0 < length room.old }
-        requires countable { fault_count self.old < 2 ^ 64 - 1 }
         ensures count { IfOk result (λ n. n ≤ length room.new) }
         ensures bytes { MatchResult result
             (λ n. Consumes (left self.old) (left self.new) (take n room.new))

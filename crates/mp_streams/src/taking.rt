@@ -16,7 +16,6 @@ pub fn take_all<S: Source>(
     source: &mut S,
     limit: usize,
 ) -> Result<Vec<u8>, TakeError>
-    requires { S.fault_count source.old < 2 ^ 64 - 1 }
     ensures taken { IfOk result (λ text. Consumes (S.left source.old) (S.left source.new) text.items) }
     ensures limit { IfOk result (λ text. length text.items ≤ limit) }
     ensures end { IfOk result (λ text. length text.items < limit → IsAtEnd (S.left source.new)) }

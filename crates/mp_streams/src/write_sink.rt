@@ -49,7 +49,7 @@ impl<W: Write> Sink for WriteSink<W> {
         match self.writer.write(bytes) {
             Ok(count) if count > 0 => Ok(count),
             _ => {
-                self.faults += 1;
+                self.faults = self.faults.saturating_add(1);
                 Err(Failed)
             }
         }

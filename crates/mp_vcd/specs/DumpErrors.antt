@@ -1,7 +1,8 @@
 -- How the writing of a dump ends.
-use Rattle.std.specs.Prelude.{ℕ, ◌+◌, List, take, Option, Result, Ok, Err}
+use Rattle.std.specs.Prelude.{ℕ, List, take, Option, Result, Ok, Err}
 use Rattle.std.specs.Io.KnownBytes.{Appends}
 use Rattle.mp_streams.specs.StreamBytes.{AppendsPrefix}
+use Rattle.mp_streams.specs.StreamFaults.{one_more}
 use Rattle.mp_vcd.specs.declared.dump_error.DumpError.{DumpError}
 use Rattle.mp_vcd.specs.declared.dump_error.DumpError.TheVariants.{WriteFailed, OutOfMemory}
 
@@ -13,5 +14,5 @@ Wrote (Err OutOfMemory) text old new = (n : ℕ) × Appends old new (take n text
 
 -- the number of a sink's faults after a call
 abbrev pub counted_writes : {T : Type 0} → Result T DumpError → ℕ → ℕ
-counted_writes (Err WriteFailed) faults = faults + 1
+counted_writes (Err WriteFailed) faults = one_more faults
 counted_writes result faults = faults
