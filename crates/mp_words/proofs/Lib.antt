@@ -9,4 +9,3 @@ pub mod PartLemmas
 pub mod DividedLemmas
 pub mod PlainLemmas
 pub mod ReadBackLemmas
-pub mod ChangeLemmas

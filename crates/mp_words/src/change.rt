@@ -1,5 +1,5 @@
-//! The parts of a wave's line that write themselves.
-ghost use Rattle.std.specs.Prelude.{◌≡◌, ◌+◌, ◌≤◌, ◌∷◌, length};
+//! A change of a wave, which writes itself.
+ghost use Rattle.std.specs.Prelude.{◌≡◌, ◌+◌, ◌≤◌, length};
 ghost use Rattle.std.specs.Fmt.{decimal};
 ghost use Rattle.mp_streams.specs.Places.{IsPlaced};
 ghost use Rattle.mp_words.specs.WaveLines.{change_text};
@@ -23,19 +23,6 @@ impl Piece for Change {
         let sign = write_number(u64::from(self.time), room, at + 1);
         room[sign] = b'=';
         write_number(self.value, room, sign + 1)
-    }
-}
-
-/// The first level of a wave, written as ` V`.
-#[derive(Clone, Copy)]
-pub(crate) struct FirstLevel(pub(crate) u64);
-
-impl Piece for FirstLevel {
-    ghost text = { λ level. 32 ∷ decimal level.0 };
-
-    fn write(&self, room: &mut [u8], at: usize) -> usize {
-        room[at] = b' ';
-        write_number(self.0, room, at + 1)
     }
 }
 

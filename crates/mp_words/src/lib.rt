@@ -1,11 +1,11 @@
 //! The words, numbers and lines of a text.
 #![tactic(auto)]
 
+mod change;
 mod division;
 mod line;
 mod line_error;
 mod number;
-mod pieces;
 mod wave_line;
 mod word;
 mod word_list;
@@ -13,6 +13,6 @@ mod word_list;
 pub use division::{divided, parts};
 pub use line::{first_line, is_plain, line_words};
 pub use line_error::LineError;
-pub use wave_line::{push_changes, push_number, put_changes, put_wave_line};
+pub use wave_line::{Changes, put_wave_line};
 pub use word::{first_word, name_of, word_count, words};
 pub use word_list::{changes, inputs, number_word, numbers, outputs, wire_or_none};

@@ -1,7 +1,7 @@
 use Rattle.std.proofs.Common.{length, sym, ap, arith}
 use Rattle.std.proofs.lemmas.Fmt.{decimal_digit}
 use Rattle.mp_words.proofs.LengthLemmas.{digits_of_power}
-use Rattle.mp_words.proofs.pieces.digit_count.Goals as goal
+use Rattle.mp_words.proofs.change.digit_count.Goals as goal
 
 pub returns-in-0-to-9-clause-value : goal.returns-in-0-to-9-clause-value
 returns-in-0-to-9-clause-value c = sym (ap length (decimal_digit c.args.number (omega arith)))

@@ -1,6 +1,6 @@
 use Rattle.std.proofs.Common.{◌≡◌, ◌+◌, decimal, arith}
 use Rattle.mp_streams.proofs.PlaceLemmas.{placed_between}
-use Rattle.mp_words.proofs.pieces.write_number.Goals as goal
+use Rattle.mp_words.proofs.change.write_number.Goals as goal
 
 pub returns-clause-placed : goal.returns-clause-placed
 returns-clause-placed c =

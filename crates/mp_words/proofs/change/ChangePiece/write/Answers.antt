@@ -1,6 +1,6 @@
 use Rattle.std.proofs.Common.{arith}
 use Rattle.std.proofs.Math.ListN.{length-set}
-use Rattle.mp_words.proofs.pieces.ChangePiece.write.Goals as goal
+use Rattle.mp_words.proofs.change.ChangePiece.write.Goals as goal
 
 pub bounds-room-sign : goal.bounds-room-sign
 bounds-room-sign c = omega (arith, c.write_number-sign.ensures.short, c.write_number-sign.auto.room, length-set c.args.room.now c.args.at 32)
