@@ -5,7 +5,6 @@ pub mod StatementBackLemmas
 pub mod TextBackLemmas
 pub mod TextLemmas
 pub mod WriteLemmas
-pub mod PutLemmas
 pub mod SectionLemmas
 pub mod ModuleBackLemmas
 pub mod WrittenLineLemmas

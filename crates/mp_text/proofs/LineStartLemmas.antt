@@ -1,14 +1,14 @@
 -- How a line begins decides what it says.
-use Rattle.std.proofs.Common.{◌≡◌, ◌⊎◌, inl, inr, ℕ, ◌+◌, ◌-◌, ◌<◌, ◌≤◌, ◌==◌, ◌||◌, min, Bool, true, false, cond, List, [], ◌∷◌, length, take, drop, Option, None, Some, Result, Ok, Err, IfErr, refl, sym, ap, ◌∙◌, arith, true≢false, length-take, length-drop}
+use Rattle.std.proofs.Common.{◌≡◌, ◌⊎◌, inl, inr, ℕ, ◌+◌, ◌-◌, ◌<◌, ◌==◌, ◌||◌, min, Bool, true, false, cond, List, [], ◌∷◌, length, drop, None, Some, Result, Ok, Err, IfErr, refl, ap, ◌∙◌, arith, true≢false, length-take, length-drop}
 use Rattle.std.specs.Prelude.{nat_le, slice_get}
 use Rattle.std.specs.Str.{byte}
-use Rattle.std.specs.List.{before_first, after_first, position_or_len, slice_split, list_all}
+use Rattle.std.specs.List.{before_first, after_first, position_or_len, list_all}
 use Rattle.std.specs.Option.{ok_or}
 use Rattle.std.proofs.lemmas.Bool.{cases_eq, leb-false}
 use Rattle.std.proofs.lemmas.Bool.Decides.{nat_tests}
 use Rattle.mp_words.specs.declared.line_error.LineError.{LineError}
 use Rattle.mp_words.specs.declared.line_error.LineError.TheVariants.{WordCount, UnknownStatement, NotAscii, OutOfMemory}
-use Rattle.mp_words.specs.Lines.{is_allowed, line_words}
+use Rattle.mp_words.specs.Lines.{is_allowed}
 use Rattle.mp_words.specs.Words.{words_of}
 use Rattle.mp_words.specs.Reads.{◌>>=◌}
 use Rattle.mp_text.specs.declared.edit_word.EditWord.{EditWord}
@@ -23,8 +23,8 @@ use Rattle.mp_text.specs.declared.script_line.Question.{Question}
 use Rattle.mp_text.specs.declared.script_line.Question.TheVariants as questions
 use Rattle.mp_text.specs.Statements.{is_mark, wire_edit, module_edit, parts_edit, stimulus_edit, bundle_edit, stated_edit}
 use Rattle.mp_text.specs.SingleEdits.{single_edit, removal, input_edit, output_edit, input_delay_edit, delay_edit, clearing}
-use Rattle.mp_text.specs.Batches.{part_edit, each_part, batch_of}
-use Rattle.mp_text.specs.ScriptLines.{line_word, stated_line, single_line, batch_line, question_line, wave_question, bare_question, line_of, line_at}
+use Rattle.mp_text.specs.Batches.{part_edit, each_part}
+use Rattle.mp_text.specs.ScriptLines.{line_word, stated_line, single_line, question_line, wave_question, bare_question, line_of, line_at}
 use Rattle.mp_text.specs.LineStarts.{statement_takes, single_takes, takes, is_taken, is_begun, HasForm}
 
 abbrev Words : Type 0

@@ -7,7 +7,7 @@ use Rattle.mp_text.specs.declared.section.Section.{Section}
 use Rattle.mp_text.specs.declared.section.Section.TheVariants.{Wires, Modules, Stimuli, Bundles}
 use Rattle.mp_text.specs.Sections.{slot_count, slot_line, section_text}
 use Rattle.mp_text.specs.Written.{wire_line, module_line, stimulus_line, bundle_line}
-use Rattle.mp_text.proofs.PutLemmas.{next_text, text_with}
+use Rattle.mp_streams.proofs.OutLemmas.{next_text, text_with}
 
 -- the lines of the slots with a number below
 unfoldable pub lines_below : Circuit → Section → ℕ → List ℕ

@@ -1,23 +1,17 @@
 -- The lines of a netlist's text in pieces.
-use Rattle.std.proofs.Common.{◌≡◌, ℕ, List, [], ◌∷◌, ◌++◌, Option, Some, append_assoc, refl, sym, ap, ◌∙◌}
+use Rattle.std.proofs.Common.{◌≡◌, ℕ, List, [], ◌∷◌, ◌++◌, Option, Some, append_assoc, ap, ◌∙◌}
 use Rattle.std.specs.Prelude.{codes}
+use Rattle.std.specs.List.{flat_map}
+use Rattle.std.specs.Fmt.{decimal}
+use Rattle.mp_modules.specs.Kinds.{word_of}
+use Rattle.mp_records.specs.declared.module_record.ModuleRecord.{ModuleRecord}
 use Rattle.std.proofs.lemmas.Grind.{flat_map-append}
 use Rattle.std.proofs.lemmas.List.Folds.{flat_map-map}
 use Rattle.mp_words.specs.WaveLines.{pair_text, changes_text}
 use Rattle.mp_netlist.specs.Circuit.{Circuit}
 use Rattle.mp_text.specs.declared.section.Section.TheVariants.{Wires, Modules, Stimuli, Bundles}
 use Rattle.mp_text.specs.Sections.{section_text}
-use Rattle.mp_text.specs.Written.{spaced, written_line, stimulus_words, format_line, horizon_line, written}
-
--- words and others behind them
-pub more_words : (words others : List (List ℕ)) → spaced (words ++ others) ≡ spaced words ++ spaced others
-more_words words others = flat_map-append (λ (w : List ℕ). 32 ∷ w) words others
-
--- a line in two groups of words
-pub line_pieces : (first : List ℕ) (words others : List (List ℕ)) → written_line first (words ++ others) ≡ (first ++ spaced words) ++ (spaced others ++ (10 ∷ []))
-line_pieces first words others =
-    ap (λ l. first ++ (l ++ (10 ∷ []))) (more_words words others) ∙ ap (λ l. first ++ l) (append_assoc (spaced words) (spaced others) (10 ∷ []))
-    ∙ sym (append_assoc first (spaced words) (spaced others ++ (10 ∷ [])))
+use Rattle.mp_text.specs.Written.{stimulus_words, input_text, output_text, format_line, module_line, written}
 
 -- the pieces of a stimulus's line
 pub stimulus_pieces : (name : List ℕ) (stimulus : Option (List (ℕ × ℕ))) (changes : List (ℕ × ℕ)) → stimulus ≡ Some changes
@@ -26,12 +20,16 @@ stimulus_pieces name stimulus changes some =
     ap (stimulus_words name) some ∙ ap (λ l. codes "stim" ++ (((32 ∷ name) ++ l) ++ (10 ∷ []))) (flat_map-map (λ w. 32 ∷ w) pair_text changes)
     ∙ ap (λ l. codes "stim" ++ l) (append_assoc (32 ∷ name) (changes_text changes) (10 ∷ []))
 
--- the pieces of what is written of a module's ports
-pub port_pieces : (inputs outputs : List (List ℕ)) → spaced (codes ":" ∷ (inputs ++ (codes ">" ∷ outputs))) ≡ (32 ∷ codes ":") ++ (spaced inputs ++ ((32 ∷ codes ">") ++ spaced outputs))
-port_pieces inputs outputs = ap (λ l. (32 ∷ codes ":") ++ l) (more_words inputs (codes ">" ∷ outputs))
+-- the pieces of a module's line
+pub module_pieces : (n : Circuit) (r : ModuleRecord) → module_line n (Some r)
+    ≡ (codes "module " ++ (r.name ++ (codes " " ++ word_of r.kind)))
+    ++ ((flat_map (λ param. 32 ∷ decimal param) r.params ++ (codes " :" ++ flat_map (λ input. 32 ∷ input_text n input) r.inputs))
+    ++ (codes " >" ++ (flat_map (λ output. 32 ∷ output_text n output) r.outputs ++ codes "\n")))
+module_pieces n r = simp (flat_map-append, flat_map-map, append_assoc)
 
 -- the pieces of a netlist's text
 pub written_pieces : (n : Circuit) → written n
-    ≡ format_line n.horizon ++ (horizon_line n.horizon ++ (section_text n Wires ++ (section_text n Modules ++ (section_text n Stimuli ++ section_text n Bundles))))
+    ≡ (format_line n.horizon ++ (codes "horizon " ++ (decimal n.horizon ++ codes "\n")))
+    ++ (section_text n Wires ++ (section_text n Modules ++ (section_text n Stimuli ++ section_text n Bundles)))
 unfolding written
-written_pieces n = refl
+written_pieces n = simp append_assoc

@@ -1,0 +1,80 @@
+//! The lines of a netlist's text.
+ghost use Rattle.std.specs.Prelude.{◌≡◌, Some};
+ghost use Rattle.mp_streams.specs.Outgoing.{Writes};
+ghost use Rattle.mp_text.specs.Written.{wire_line, module_line, stimulus_line, bundle_line};
+
+use crate::port_texts::{Inputs, Outputs, wire_word};
+use crate::spaced::{Spaced, put_line};
+use itoa::Buffer;
+use mp_netlist::{BundleRecord, ModuleRecord, Netlist, WireRecord};
+use mp_streams::{Failed, Out, Sink, Text};
+use mp_words::Changes;
+
+/// Writes the line of a wire.
+pub fn put_wire<S: Sink>(out: &mut Out<S>, wire: &WireRecord) -> Result<(), Failed>
+    ensures { Writes result out.old out.new (wire_line (Some wire.now)) }
+{
+    let mut width = Buffer::new();
+    let mut initial = Buffer::new();
+    let words = [
+        wire.name.as_str().as_bytes(),
+        width.format(wire.width).as_bytes(),
+        initial.format(wire.initial).as_bytes(),
+    ];
+    put_line(out, b"wire", &words)
+}
+
+/// Writes the line of a module of the netlist.
+pub fn put_module<S: Sink>(
+    out: &mut Out<S>,
+    netlist: &Netlist,
+    part: &ModuleRecord,
+) -> Result<(), Failed>
+    ensures { Writes result out.old out.new (module_line netlist.now (Some part.now)) }
+{
+    let params = Spaced {
+        items: part.params.as_slice(),
+    };
+    let inputs = Inputs {
+        netlist,
+        inputs: part.inputs.as_slice(),
+    };
+    let outputs = Outputs {
+        netlist,
+        outputs: part.outputs.as_slice(),
+    };
+    let start = ("module ", part.name.as_str(), " ", part.kind.word());
+    (start, (params, " :", inputs), (" >", outputs, "\n")).put_to(out)
+}
+
+/// Writes the line of a wire's stimulus, where it has one.
+pub fn put_stimulus<S: Sink>(out: &mut Out<S>, wire: &WireRecord) -> Result<(), Failed>
+    ensures { Writes result out.old out.new (stimulus_line (Some wire.now)) }
+{
+    let Some(stimulus) = &wire.stimulus else {
+        return Ok(());
+    };
+    let changes = Changes {
+        changes: stimulus.as_slice(),
+    };
+    ("stim ", wire.name.as_str(), changes, "\n").put_to(out)
+}
+
+/// Writes the line of a bundle of the netlist.
+pub fn put_bundle<S: Sink>(
+    out: &mut Out<S>,
+    netlist: &Netlist,
+    bundle: &BundleRecord,
+) -> Result<(), Failed>
+    ensures { Writes result out.old out.new (bundle_line netlist.now (Some bundle.now)) }
+{
+    let mut setup = Buffer::new();
+    let words = [
+        bundle.name.as_str().as_bytes(),
+        wire_word(netlist, bundle.request),
+        wire_word(netlist, bundle.acknowledge),
+        wire_word(netlist, bundle.payload),
+        setup.format(bundle.setup).as_bytes(),
+    ];
+    put_line(out, b"bundle", &words)
+}
