@@ -1,5 +1,5 @@
 -- Lemmas on what is found at bundles.
-use Rattle.std.proofs.Common.{◌≡◌, ℕ, ◌+◌, ◌-◌, ◌<◌, ◌≤◌, inl, inr, Bool, true, false, not, ◌&&◌, List, [], ◌∷◌, ◌++◌, map, min, nat_le, Some, None, filter, flat_map, refl, ap, sym, ◌∙◌, true≢false, arith}
+use Rattle.std.proofs.Common.{◌≡◌, ℕ, ◌+◌, ◌-◌, ◌<◌, ◌≤◌, inl, inr, Bool, true, false, not, ◌&&◌, [], map, min, nat_le, Some, None, filter, flat_map, refl, ap, sym, ◌∙◌, true≢false, arith}
 use Rattle.std.specs.List.{list_any, range_with_len}
 use Rattle.std.proofs.lemmas.Bool.{cases_Bool, cases_lt}
 use Rattle.std.proofs.lemmas.Bool.Decides.{nat_tests}
@@ -15,7 +15,18 @@ use Rattle.mp_model.proofs.MemberLemmas.{any_passes, passes_any, contains_range,
 use Rattle.mp_response.specs.Span.{findings_of}
 use Rattle.mp_report.specs.Bundles.{bundle_set}
 use Rattle.mp_report.specs.Places.{codes_at, found_over}
-use Rattle.mp_report.proofs.TimeLemmas.{told_same}
+use Rattle.mp_report.proofs.TimeLemmas.{told_none, told_same}
+
+-- no event at any of some times
+none_of_times : (f : ℕ → ℕ) (t k : ℕ) → ((u : ℕ) → t ≤ u → u < t + k → has_event f u ≡ false) → list_any (has_event f) (range_with_len t k) ≡ false
+none_of_times f t k none =
+    elim (cases_Bool (list_any (has_event f) (range_with_len t k))) as (λ _. list_any (has_event f) (range_with_len t k) ≡ false) [
+      | inl some ↦
+          let found = passes_any (has_event f) (range_with_len t k) some in
+          let inside = range_contains t k found.0 found.1 in
+          absurd (true≢false (sym found.2 ∙ none found.0 inside.0 inside.1))
+      | inr no_event ↦ no_event
+    ]
 
 -- a request event comes soon, where the next one is no later than the setup
 pub soon_if : (f : ℕ → ℕ) (t s h event : ℕ) → t ≤ event → event < h → has_event f event ≡ true → ((u : ℕ) → t ≤ u → u < event → u < h → has_event f u ≡ false)
@@ -24,16 +35,7 @@ soon_if f t s h event since within is none =
     elim (cases_lt s (event - t)) as (λ _. nat_le (event - t) s ≡ list_any (has_event f) (range_with_len t (min (s + 1) (h - t)))) [
       | inl late ↦
           let fails : nat_le (event - t) s ≡ false = grind (arith, nat_tests) in
-          fails
-          ∙ sym (elim (cases_Bool (list_any (has_event f) (range_with_len t (min (s + 1) (h - t))))) as (λ _. list_any (has_event f) (range_with_len t (min (s + 1) (h - t))) ≡ false) [
-            | inl some ↦
-                let found = passes_any (has_event f) (range_with_len t (min (s + 1) (h - t))) some in
-                let inside = range_contains t (min (s + 1) (h - t)) found.0 found.1 in
-                let low = inside.0 in
-                let high = inside.1 in
-                absurd (true≢false (sym found.2 ∙ none found.0 low (omega (arith, high, late, low)) (omega (arith, high, late, low, within))))
-            | inr no_event ↦ no_event
-          ])
+          fails ∙ sym (none_of_times f t (min (s + 1) (h - t)) (λ u low high. none u low (omega (arith, high, late, low)) (omega (arith, high, late, low, within))))
       | inr soon ↦
           let holds : nat_le (event - t) s ≡ true = grind (arith, nat_tests) in
           holds ∙ sym (any_passes (has_event f) event (range_with_len t (min (s + 1) (h - t))) (contains_range t (min (s + 1) (h - t)) event since (omega (arith, since, within, soon))) is)
@@ -41,30 +43,11 @@ soon_if f t s h event since within is none =
 
 -- none comes at all
 pub soon_none : (f : ℕ → ℕ) (t s h event : ℕ) → h ≤ event → ((u : ℕ) → t ≤ u → u < event → u < h → has_event f u ≡ false) → list_any (has_event f) (range_with_len t (min (s + 1) (h - t))) ≡ false
-soon_none f t s h event over none =
-    elim (cases_Bool (list_any (has_event f) (range_with_len t (min (s + 1) (h - t))))) as (λ _. list_any (has_event f) (range_with_len t (min (s + 1) (h - t))) ≡ false) [
-      | inl some ↦
-          let found = passes_any (has_event f) (range_with_len t (min (s + 1) (h - t))) some in
-          let inside = range_contains t (min (s + 1) (h - t)) found.0 found.1 in
-          let low = inside.0 in
-          let high = inside.1 in
-          absurd (true≢false (sym found.2 ∙ none found.0 low (omega (arith, high, over, low)) (omega (arith, high, low))))
-      | inr no_event ↦ no_event
-    ]
+soon_none f t s h event over none = none_of_times f t (min (s + 1) (h - t)) (λ u low high. none u low (omega (arith, high, over, low)) (omega (arith, high, low)))
 
 -- a set of what is found at a bundle
-abbrev pub set_of : Bool → Bool → Bool → Bool → FindingSet
+abbrev set_of : Bool → Bool → Bool → Bool → FindingSet
 set_of a b d e = with_code_if codes.AckWhileIdle e (with_code_if codes.RequestWhileBusy d (with_code_if codes.Setup b (with_code_if codes.DataWhileBusy a no_findings)))
-
-pub set_is : (a b d e a2 b2 d2 e2 : Bool) (s s1 s2 s3 s4 : FindingSet) → s ≡ no_findings → s1 ≡ with_code_if codes.DataWhileBusy a s → s2 ≡ with_code_if codes.Setup b s1 → s3 ≡ with_code_if codes.RequestWhileBusy d s2
-    → s4 ≡ with_code_if codes.AckWhileIdle e s3 → a ≡ a2 → b ≡ b2 → d ≡ d2 → e ≡ e2 → s4 ≡ set_of a2 b2 d2 e2
-set_is a b d e a2 b2 d2 e2 s s1 s2 s3 s4 is is1 is2 is3 is4 ea eb ed ee =
-    is4
-    ∙ ap (with_code_if codes.AckWhileIdle e) (is3 ∙ ap (with_code_if codes.RequestWhileBusy d) (is2 ∙ ap (with_code_if codes.Setup b) (is1 ∙ ap (with_code_if codes.DataWhileBusy a) is)))
-    ∙ ap (λ z. set_of z b d e) ea
-    ∙ ap (λ z. set_of a2 z d e) eb
-    ∙ ap (λ z. set_of a2 b2 z e) ed
-    ∙ ap (λ z. set_of a2 b2 d2 z) ee
 
 -- the test of each code
 abbrev test_of : Bool → Bool → Bool → Bool → FindingCode → Bool
@@ -120,14 +103,10 @@ bundle_over n b r at =
     (λ t. found_is n r t ∙ sym (ap (λ slot. map (λ (code : FindingCode). let pair : ℕ × FindingCode = (t, code) in pair) (filter (is_found_at_bundle n slot t) by_number)) at))
     (range_with_len 1 (n.horizon - 1))
 
-none_told : {X : Type 0} (f : ℕ → List X) → ((t : ℕ) → f t ≡ []) → (ts : List ℕ) → flat_map f ts ≡ []
-none_told f none [] = refl
-none_told f none (t ∷ ts) = ap (λ xs. xs ++ flat_map f ts) (none t) ∙ none_told f none ts
-
 -- nothing is found where none stands
 pub no_bundle_over : (n : Circuit) (b : ℕ) → bundle_at n b ≡ None → [] ≡ found_over n (bundle_place b)
 unfolding found_over
 no_bundle_over n b at =
-    sym (none_told (codes_at n (bundle_place b))
+    sym (told_none (codes_at n (bundle_place b))
     (λ t. ap (λ slot. map (λ (code : FindingCode). let pair : ℕ × FindingCode = (t, code) in pair) (filter (is_found_at_bundle n slot t) by_number)) at)
     (range_with_len 1 (n.horizon - 1)))

@@ -4,5 +4,4 @@ pub mod BundleLemmas
 pub mod WaveLemmas
 pub mod ModuleLemmas
 pub mod MergeLemmas
-pub mod LineLemmas
 pub mod ShareLemmas

@@ -1,5 +1,5 @@
 -- Lemmas on what is found at modules.
-use Rattle.std.proofs.Common.{◌≡◌, ℕ, ◌-◌, ◌<◌, ◌≤◌, ◌==◌, Bool, false, List, [], ◌∷◌, ◌++◌, map, Option, Some, None, filter, flat_map, zero, suc, refl, ap, sym, subst, ◌∙◌, arith}
+use Rattle.std.proofs.Common.{◌≡◌, ℕ, ◌-◌, ◌<◌, ◌≤◌, ◌==◌, Bool, false, List, [], ◌++◌, map, Option, Some, None, filter, flat_map, zero, suc, refl, ap, sym, subst, ◌∙◌, arith}
 use Rattle.std.specs.List.{range_with_len}
 use Rattle.std.proofs.lemmas.Bool.Decides.{nat_tests}
 use Rattle.mp_modules.specs.declared.kind.Kind.{Kind}
@@ -23,7 +23,7 @@ use Rattle.mp_response.specs.declared.piece.Piece.{Piece}
 use Rattle.mp_response.proofs.DelayLemmas.{finds_by_states}
 use Rattle.mp_response.proofs.JoinLemmas.{inside_alone}
 use Rattle.mp_report.specs.Places.{codes_at, found_over}
-use Rattle.mp_report.proofs.TimeLemmas.{told_same_from}
+use Rattle.mp_report.proofs.TimeLemmas.{told_none, told_same_from}
 
 pub few_inputs : (kind : Kind) → input_count kind ≤ 4
 few_inputs kinds.Buf = omega arith
@@ -68,15 +68,11 @@ answer_over n ok m r part s x piece at is starts hears span =
     (subst (λ (p : AnyModule). IsSpan p (inputs_by n (level n) r) s 0 n.horizon piece) is (inside_alone part x (inputs_by n (level n) r) s 0 n.horizon piece (λ t low high. hears t high) span)) in
     finds_by_states n (level n) (state n) (satisfies n ok) m 0 n.horizon r piece at own ∙ module_over n m r at ok.horizon_low
 
-none_told : {X : Type 0} (f : ℕ → List X) → ((t : ℕ) → f t ≡ []) → (ts : List ℕ) → flat_map f ts ≡ []
-none_told f none [] = refl
-none_told f none (t ∷ ts) = ap (λ xs. xs ++ flat_map f ts) (none t) ∙ none_told f none ts
-
 -- nothing is found where none stands
 pub no_module_over : (n : Circuit) (m : ℕ) → module_at n m ≡ None → [] ≡ found_over n (module_place m)
 unfolding found_over
 no_module_over n m at =
-    sym (none_told (codes_at n (module_place m))
+    sym (told_none (codes_at n (module_place m))
     (λ t. ap (λ (slot : Option ModuleRecord). map (λ (code : FindingCode). let pair : ℕ × FindingCode = (t, code) in pair) (filter (is_found_at_module n m slot t) by_number)) at)
     (range_with_len 1 (n.horizon - 1)))
 
@@ -86,7 +82,7 @@ pub quiet_module_over : (n : Circuit) (m : ℕ) (r : ModuleRecord) → module_at
 unfolding found_over
 quiet_module_over n m r at quiet =
     let pairs : ℕ → (FindingCode → Bool) → List (ℕ × FindingCode) = (λ (t : ℕ) (p : FindingCode → Bool). map (λ (code : FindingCode). let pair : ℕ × FindingCode = (t, code) in pair) (filter p by_number)) in
-    sym (none_told (codes_at n (module_place m))
+    sym (told_none (codes_at n (module_place m))
     (λ t.
     ap (λ (slot : Option ModuleRecord). pairs t (is_found_at_module n m slot t)) at
     ∙ ap (λ (set : FindingSet). pairs t (has_code set)) (quiet r.params (module_width n r) (state n m (t - 1)) (inputs_by n (level n) r t)))

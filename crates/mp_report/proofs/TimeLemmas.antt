@@ -11,6 +11,10 @@ times_more a (suc n) =
     ap (range_with_len a) one ∙ ap (λ ts. a ∷ ts) (times_more (a + 1) n) ∙ ap (λ t. a ∷ (range_with_len (a + 1) n ++ t ∷ [])) last
 
 module _ {X : Type 0} (told : ℕ → List X) where
+  pub told_none : ((t : ℕ) → told t ≡ []) → (ts : List ℕ) → flat_map told ts ≡ []
+  told_none none [] = refl
+  told_none none (t ∷ ts) = ap (λ xs. xs ++ flat_map told ts) (none t) ∙ told_none none ts
+
   -- one more time
   pub told_more : (a n t : ℕ) → a + n ≡ t → flat_map told (range_with_len a (n + 1)) ≡ flat_map told (range_with_len a n) ++ told t
   told_more a n t is =

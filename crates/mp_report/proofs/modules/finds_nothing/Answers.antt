@@ -1,4 +1,4 @@
-use Rattle.std.proofs.Common.{◌≡◌, ℕ, List, refl, sym, subst, ⊎_elim}
+use Rattle.std.proofs.Common.{◌≡◌, ◌⊎◌, ℕ, List, refl, ⊎_elim}
 use Rattle.mp_modules.specs.declared.kind.Kind.{Kind}
 use Rattle.mp_modules.specs.declared.kind.Kind.TheVariants as kinds
 use Rattle.mp_modules.specs.declared.memory.Memory.{Memory}
@@ -9,43 +9,23 @@ use Rattle.mp_report.proofs.modules.finds_nothing.Goals as goal
 abbrev FindsNothing : Kind → Type 0
 FindsNothing kind = (params : List ℕ) (width : ℕ) (s : Memory) (x : List ℕ) → found (any_part_of kind params width) s x ≡ no_findings
 
-buf : FindsNothing kinds.Buf
+control : (kind : Kind) → (kind ≡ kinds.Buf) ⊎ ((kind ≡ kinds.Not) ⊎ (kind ≡ kinds.Toggle)) → FindsNothing kind
 unfolding any_part_of found
-buf params width s x = refl
+control kinds.Buf is params width s x = refl
+control kinds.Not is params width s x = refl
+control kinds.Toggle is params width s x = refl
+control _ is params width s x = ⊎_elim (λ e. cc) (⊎_elim (λ e. cc) (λ e. cc)) is
 
-not_kind : FindsNothing kinds.Not
+data_path : (kind : Kind) → (kind ≡ kinds.AddC) ⊎ ((kind ≡ kinds.XorC) ⊎ ((kind ≡ kinds.Sum) ⊎ (kind ≡ kinds.Bit))) → FindsNothing kind
 unfolding any_part_of found
-not_kind params width s x = refl
-
-toggle : FindsNothing kinds.Toggle
-unfolding any_part_of found
-toggle params width s x = refl
-
-add : FindsNothing kinds.AddC
-unfolding any_part_of found
-add params width s x = refl
-
-xor_data : FindsNothing kinds.XorC
-unfolding any_part_of found
-xor_data params width s x = refl
-
-sum_data : FindsNothing kinds.Sum
-unfolding any_part_of found
-sum_data params width s x = refl
-
-bit_data : FindsNothing kinds.Bit
-unfolding any_part_of found
-bit_data params width s x = refl
-
-as_kind : (kind other : Kind) → kind ≡ other → FindsNothing other → FindsNothing kind
-as_kind kind other is none = subst FindsNothing (sym is) none
+data_path kinds.AddC is params width s x = refl
+data_path kinds.XorC is params width s x = refl
+data_path kinds.Sum is params width s x = refl
+data_path kinds.Bit is params width s x = refl
+data_path _ is params width s x = ⊎_elim (λ e. cc) (⊎_elim (λ e. cc) (⊎_elim (λ e. cc) (λ e. cc))) is
 
 pub returns-in-Buf : goal.returns-in-Buf
-returns-in-Buf c =
-    let kind = c.args.kind in
-    λ _. ⊎_elim (λ is. as_kind kind kinds.Buf is buf) (⊎_elim (λ is. as_kind kind kinds.Not is not_kind) (λ is. as_kind kind kinds.Toggle is toggle)) c.in-Buf.is
+returns-in-Buf c = λ _. control c.args.kind c.in-Buf.is
 
 pub returns-in-AddC : goal.returns-in-AddC
-returns-in-AddC c =
-    let kind = c.args.kind in
-    λ _. ⊎_elim (λ is. as_kind kind kinds.AddC is add) (⊎_elim (λ is. as_kind kind kinds.XorC is xor_data) (⊎_elim (λ is. as_kind kind kinds.Sum is sum_data) (λ is. as_kind kind kinds.Bit is bit_data))) c.in-AddC.is
+returns-in-AddC c = λ _. data_path c.args.kind c.in-AddC.is
