@@ -34,7 +34,7 @@ impl<S: Sink> Model for Out<S> {
 
     ghost view = { λ out. record { taken = S.taken out.sink; held = take out.end out.room.items; faults = S.fault_count out.sink } };
 
-    ghost invariant = { λ out. (out.end ≤ length out.room.items) × (64 ≤ length out.room.items) };
+    ghost invariant = { λ out. (out.end ≤ length out.room.items) × (72 ≤ length out.room.items) };
 }
 
 impl<S: Sink> Out<S> {

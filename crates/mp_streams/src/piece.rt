@@ -3,7 +3,7 @@ ghost use Rattle.std.specs.Prelude.{ℕ, ◌+◌, ◌≤◌, List, length};
 ghost use Rattle.mp_streams.specs.Places.{IsPlaced};
 
 /// How many bytes a piece has at most.
-pub const PIECE_BYTES: usize = 64;
+pub const PIECE_BYTES: usize = 72;
 
 /// A short text, that writes its bytes into a room.
 pub trait Piece {
@@ -13,6 +13,6 @@ pub trait Piece {
     /// Writes its bytes from a place on, where the room has space for any piece, and returns where
     /// they end. What is before that place stays.
     fn write(&self, room: &mut [u8], at: usize) -> usize
-        requires { at + 64 ≤ length room.old }
+        requires { at + 72 ≤ length room.old }
         ensures { IsPlaced room.old room.new at (text self.now) result };
 }

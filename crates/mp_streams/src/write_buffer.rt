@@ -32,7 +32,7 @@ impl Model for WriteBuffer {
 
     ghost view = { λ buffer. take buffer.end buffer.room.items };
 
-    ghost invariant = { λ buffer. (buffer.end ≤ length buffer.room.items) × (64 ≤ length buffer.room.items) };
+    ghost invariant = { λ buffer. (buffer.end ≤ length buffer.room.items) × (72 ≤ length buffer.room.items) };
 }
 
 impl WriteBuffer {

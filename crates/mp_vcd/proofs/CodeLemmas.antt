@@ -1,5 +1,6 @@
 -- Codes and binary digits, digit by digit.
-use Rattle.std.proofs.Common.{◌≡◌, ℕ, ◌+◌, ◌-◌, ◌/◌, ◌%◌, ◌<◌, ◌≤◌, Bool, true, false, cond, nat_lt, List, [], ◌∷◌, ◌++◌, append_assoc, length, drop, slice_set, zero, suc, refl, sym, ap, ◌∙◌, arith}
+use Rattle.std.proofs.Common.{◌≡◌, ℕ, ◌+◌, ◌-◌, ◌/◌, ◌%◌, ◌<◌, ◌≤◌, Bool, true, false, cond, nat_lt, List, [], ◌∷◌, ◌++◌, append_assoc, length, drop, slice_set, zero, suc, refl, sym, ap, ◌∙◌, ⊎_elim, arith}
+use Rattle.std.proofs.lemmas.Bool.{cases_lt}
 use Rattle.std.proofs.lemmas.Bool.Decides.{nat_tests}
 use Rattle.std.proofs.lemmas.List.{drop-set, length-append}
 use Rattle.mp_vcd.specs.Codes.{digits_of, code}
@@ -60,6 +61,23 @@ bits_long zero level = ap length (bits-zero level)
 bits_long (suc width) level =
     ap length (bits-suc width level) ∙ length-append (bits width (level / 2)) (bit level ∷ []) ∙ ap (λ k. k + 1) (bits_long width (level / 2)) ∙ (omega arith)
 
--- a code of two digits
-pub code-two : (n : ℕ) → 94 ≤ n → n < 8836 → code n ≡ (33 + n % 94) ∷ (33 + n / 94) ∷ []
-code-two n high low = code-more n high ∙ ap (λ l. (33 + n % 94) ∷ l) (code-one (n / 94) (omega arith))
+-- ---- how long a code is
+
+code_longer : (w most : ℕ) → 0 < most → (94 ≤ w → length (code (w / 94)) ≤ most) → length (code w) ≤ most + 1
+code_longer w most some later = ⊎_elim
+    (λ low. omega (arith, ap length (code-one w low)))
+    (λ high. omega (arith, later high, ap length (code-more w high)))
+    (cases_lt w 94)
+
+-- five digits at most
+pub code_long : (w : ℕ) → w < 4294967296 → length (code w) ≤ 5
+code_long w low =
+    code_longer w 4 (omega arith) (λ _. code_longer (w / 94) 3 (omega arith) (λ _. code_longer (w / 94 / 94) 2 (omega arith) (λ _.
+    code_longer (w / 94 / 94 / 94) 1 (omega arith) (λ _. let last : w / 94 / 94 / 94 / 94 < 94 = omega (arith, low) in omega (arith, ap length (code-one (w / 94 / 94 / 94 / 94) last))))))
+
+-- one at least
+pub code_some : (w : ℕ) → 0 < length (code w)
+code_some w = ⊎_elim
+    (λ low. omega (arith, ap length (code-one w low)))
+    (λ high. omega (arith, ap length (code-more w high)))
+    (cases_lt w 94)

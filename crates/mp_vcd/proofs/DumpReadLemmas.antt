@@ -3,20 +3,19 @@ use Rattle.std.proofs.Common.{◌≡◌, ℕ, ◌+◌, ◌-◌, ◌<◌, ◌≤�
 use Rattle.std.specs.Prelude.{codes, ◌||◌}
 use Rattle.std.proofs.Math.Nat.{mod-eq_of_lt}
 use Rattle.std.proofs.lemmas.Bool.{le-leb}
-use Rattle.std.specs.List.{flat_map, list_any}
+use Rattle.std.specs.List.{flat_map, list_any, range_with_len}
 use Rattle.mp_records.specs.declared.wire_record.WireRecord.{WireRecord}
 use Rattle.mp_netlist.specs.Limits.{max_wires}
 use Rattle.mp_netlist.specs.Circuit.{Circuit, IsCircuit, wire_at, width_of}
 use Rattle.mp_netlist.specs.Slots.{slot_at}
 use Rattle.mp_vcd.specs.Codes.{code}
-use Rattle.mp_vcd.specs.Dumps.{standing, standing_from, slot_declaration, declaration, value_at, time_mark, line, opening_lines, block_start, dump}
+use Rattle.mp_vcd.specs.Dumps.{standing, standing_from, slot_declaration, declaration, value_at, unit_text, time_mark, line, opening_lines, block_start, preamble, dump}
 use Rattle.mp_vcd.specs.Readings.{words, Variable, Given, Outside, Inside, Reading, nothing_read, takes, read_words, reading}
 use Rattle.mp_vcd.specs.Laws.{name_of, variable, SaysLevels, IsReadBack}
 use Rattle.mp_vcd.proofs.CodeReadLemmas.{same_bytes}
 use Rattle.mp_vcd.proofs.ReadingLemmas.{Leads, leads_none, leads_both, leads_as, declaring, declared_as, leads_declaration, leads_time, valued, HasVariable}
 use Rattle.mp_vcd.proofs.LevelReadLemmas.{In, given_at, leads_values, stands_in, stands_of, AreReadable, knows_first, Units, leads_units}
 use Rattle.mp_model.proofs.LevelFitLemmas.{level_fits}
-use Rattle.mp_vcd.proofs.DumpLemmas.{units}
 
 -- ---- tests
 
@@ -94,7 +93,10 @@ module _ (n : Circuit) (circuit : IsCircuit n) where
         declared = has_variable w (standing n) within;
       }
 
-  all_units : Units n all_variables (valued Outside all_variables 0 first_given) (units n) (0 + (n.horizon - 1))
+  abbrev units : List ℕ
+  units = flat_map (unit_text n) (range_with_len 1 (n.horizon - 1))
+
+  all_units : Units n all_variables (valued Outside all_variables 0 first_given) units (0 + (n.horizon - 1))
   all_units = leads_units n all_variables (n.horizon - 1) 0 0 first_given all_readable (omega arith) (omega (arith, circuit.horizon_high)) (knows_first n)
 
   leads_dump : Leads nothing_read (dump n) (valued Outside all_variables n.horizon all_units.given)
@@ -102,13 +104,12 @@ module _ (n : Circuit) (circuit : IsCircuit n) where
   leads_dump =
       let vs = all_variables in
       let end = leads_time vs all_units.time n.horizon all_units.given (omega (arith, all_units.upto, circuit.horizon_low)) (omega (arith, circuit.horizon_high)) in
-      let changes = leads_both _ _ _ (units n) (time_mark n.horizon) all_units.leads end in
-      let over = leads_both _ _ _ (line (codes "$end")) _ (block_ends vs first_given) changes in
-      let levels = leads_both _ _ _ (flat_map (value_at n 0) (standing n)) _ (leads_values Inside n vs 0 (standing n) [] all_readable) over in
+      let changes = leads_both _ _ _ units (time_mark n.horizon) all_units.leads end in
+      let levels = leads_both _ _ _ (flat_map (value_at n 0) (standing n)) _ (leads_values Inside n vs 0 (standing n) [] all_readable) (block_ends vs first_given) in
       let block = leads_both _ _ _ block_start _ (block_starts vs) levels in
       let stands : (i : ℕ) (r : WireRecord) → slot_at n.wires i ≡ Some r → wire_at n (0 + i) ≡ Some r = λ i r at. ap (wire_at n) (zero-add i) ∙ at in
-      let all = leads_both _ _ _ (flat_map (declaration n) (standing n)) _ (leads_declarations n circuit [] 0 n.wires (omega (arith, circuit.wires_few)) stands) block in
-      leads_both _ _ _ opening_lines _ starts all
+      let declared = leads_both _ _ _ (flat_map (declaration n) (standing n)) _ (leads_declarations n circuit [] 0 n.wires (omega (arith, circuit.wires_few)) stands) block in
+      leads_both _ _ _ (preamble n) _ (leads_both _ _ _ opening_lines _ starts declared) changes
 
   says : SaysLevels n (valued Outside all_variables n.horizon all_units.given)
   says = record {

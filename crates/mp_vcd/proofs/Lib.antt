@@ -1,8 +1,7 @@
-pub mod PutLemmas
+pub mod LeftLemmas
 pub mod CodeLemmas
 pub mod StandingLemmas
 pub mod AgendaLemmas
-pub mod DumpLemmas
 pub mod CodeReadLemmas
 pub mod ReadingLemmas
 pub mod LevelReadLemmas

@@ -4,13 +4,13 @@ use Rattle.std.specs.List.{filter, flat_map, range_with_len}
 use Rattle.std.proofs.Math.Seq.{drop-cons, drop-length}
 use Rattle.mp_wave.specs.Waveform.{Waveform}
 use Rattle.mp_records.specs.declared.wire_record.WireRecord.{WireRecord}
-use Rattle.mp_netlist.specs.Circuit.{Circuit, wire_at, width_of}
+use Rattle.mp_netlist.specs.Circuit.{Circuit, IsCircuit, wire_at, width_of}
 use Rattle.mp_netlist.specs.Slots.{slot_at}
 use Rattle.mp_model.specs.Waves.{level, wave, slot_wave}
 use Rattle.mp_vcd.specs.Dumps.{if_stands, standing_from, is_changed}
 use Rattle.mp_vcd.specs.Values.{value_line}
-use Rattle.mp_vcd.specs.declared.dumping.Part.{Part}
-use Rattle.mp_vcd.specs.declared.dumping.Part.TheVariants.{FirstLevels}
+use Rattle.mp_vcd.specs.declared.preamble.Part.{Part}
+use Rattle.mp_vcd.specs.declared.preamble.Part.TheVariants.{FirstLevels}
 use Rattle.mp_vcd.specs.Parts.{part_line, slot_text}
 use Rattle.mp_vcd.specs.Agendas.{with_levels, onto_slot}
 
@@ -95,3 +95,12 @@ first_line n w v part r stands is same =
     ap (λ v. value_line (width_of (wire_at n w)) w v) same
     ∙ ap (λ slot. slot_text (part_line n FirstLevels) w slot) stands
     ∙ ap (λ (p : Part). slot_text (part_line n p) w (wire_at n w)) (sym is)
+
+-- ---- the widths of wires
+
+pub narrow : (n : Circuit) → IsCircuit n → (w : ℕ) → width_of (wire_at n w) ≤ 64
+narrow n circuit w = by (wire_at n w) refl
+  where
+    by : (slot : Option WireRecord) → wire_at n w ≡ slot → width_of slot ≤ 64
+    by None stands = omega arith
+    by (Some r) stands = let wire = circuit.wires_ok w r stands in wire.narrow

@@ -64,13 +64,11 @@ opening_lines = line (codes "$timescale 1 ns $end") ++ line (codes "$scope modul
 abbrev pub block_start : List ℕ
 block_start = line (codes "$upscope $end") ++ (line (codes "$enddefinitions $end") ++ (line (codes "#0") ++ line (codes "$dumpvars")))
 
--- the declarations, the level of each wire at time 0, the levels that differ at each later time below the horizon, and the horizon
+-- the declarations, and the level of each wire at time 0
+abbrev pub preamble : Circuit → List ℕ
+preamble n =
+    opening_lines ++ (flat_map (declaration n) (standing n) ++ (block_start ++ (flat_map (value_at n 0) (standing n) ++ line (codes "$end"))))
+
+-- the preamble, the levels that differ at each later time below the horizon, and the horizon
 unfoldable pub dump : Circuit → List ℕ
-dump n =
-    opening_lines
-    ++ (flat_map (declaration n) (standing n)
-    ++ (block_start
-    ++ (flat_map (value_at n 0) (standing n)
-    ++ (line (codes "$end")
-    ++ (flat_map (unit_text n) (range_with_len 1 (n.horizon - 1))
-    ++ time_mark n.horizon)))))
+dump n = preamble n ++ (flat_map (unit_text n) (range_with_len 1 (n.horizon - 1)) ++ time_mark n.horizon)

@@ -1,10 +1,7 @@
 pub mod Codes
 pub mod Values
 pub mod Dumps
-pub mod DumpErrors
-pub mod Puts
 pub mod Agendas
 pub mod Parts
 pub mod Readings
 pub mod Laws
-pub mod Widths

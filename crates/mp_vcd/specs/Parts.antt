@@ -3,8 +3,8 @@ use Rattle.std.specs.Prelude.{ℕ, List, [], Option, Some, None}
 use Rattle.mp_records.specs.declared.wire_record.WireRecord.{WireRecord}
 use Rattle.mp_netlist.specs.Circuit.{Circuit}
 use Rattle.mp_vcd.specs.Dumps.{declaration, value_at}
-use Rattle.mp_vcd.specs.declared.dumping.Part.{Part}
-use Rattle.mp_vcd.specs.declared.dumping.Part.TheVariants.{Declarations, FirstLevels}
+use Rattle.mp_vcd.specs.declared.preamble.Part.{Part}
+use Rattle.mp_vcd.specs.declared.preamble.Part.TheVariants.{Declarations, FirstLevels}
 
 -- the line of a part for a wire
 abbrev pub part_line : Circuit → Part → ℕ → List ℕ

@@ -1,6 +1,6 @@
 //! Changes of wires by time.
-ghost use Rattle.std.specs.Prelude.{◌≡◌, ℕ, List, [], IfOk, OnOk, vec_len};
-ghost use Rattle.mp_vcd.specs.Agendas.{Tells, told_from, with_told};
+ghost use Rattle.std.specs.Prelude.{◌≡◌, ℕ, ◌+◌, ◌-◌, ◌<◌, ◌≤◌, List, [], IfOk, OnOk, slice_index, vec_len};
+ghost use Rattle.mp_vcd.specs.Agendas.{Tells, told_from, with_told, entry_at};
 
 use std::alloc::{AllocError, Global};
 
@@ -57,5 +57,23 @@ impl Agenda {
         };
         self.firsts[at] = place;
         Ok(())
+    }
+
+    /// The place of the first change of a time, or 0.
+    pub fn first(&self, time: u32) -> u32
+        requires from { self.now.from ≤ time }
+        requires times { time < self.now.from + vec_len self.now.firsts }
+        ensures { result ≡ slice_index self.now.firsts.items (time - self.now.from) }
+    {
+        self.firsts[(time - self.from) as usize]
+    }
+
+    /// The change at a place.
+    pub fn entry(&self, place: u32) -> Entry
+        requires some { 0 < place }
+        requires within { place ≤ vec_len self.now.entries }
+        ensures { result ≡ entry_at self.now.entries.items (place - 1) }
+    {
+        self.entries[place as usize - 1]
     }
 }

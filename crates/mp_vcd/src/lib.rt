@@ -2,17 +2,17 @@
 #![tactic(auto)]
 
 mod agenda;
-mod dump_error;
+mod code;
 mod dumping;
 pub mod laws;
 mod lines;
 mod parts;
-mod putting;
+mod preamble;
 #[cfg(test)]
 mod tests;
+mod units;
 mod value_lines;
 mod wave_changes;
 mod widths;
 
-pub use dump_error::DumpError;
-pub use dumping::{dump, put_dump};
+pub use dumping::put_dump;

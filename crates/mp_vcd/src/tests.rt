@@ -1,10 +1,10 @@
 //! Codes, and a device that takes few bytes.
-use crate::dump_error::DumpError;
-use crate::dumping::dump;
-use crate::lines::push_code;
+use crate::code::Code;
+use crate::dumping::put_dump;
 use mp_model::Waves;
 use mp_netlist::Netlist;
-use mp_streams::{Sink, WriteSink};
+use mp_streams::{Failed, Out, Sink, WriteSink};
+use std::alloc::Global;
 use std::io;
 use std::io::Write;
 use std::test::Fail;
@@ -31,14 +31,21 @@ impl Write for SmallWriter {
     }
 }
 
+fn small_out(alloc: Global, room: usize) -> Result<Out<WriteSink<SmallWriter>>, Fail> {
+    let taken = Vec::new(alloc);
+    Ok(Out::new(alloc, WriteSink::new(SmallWriter { taken, room }))?)
+}
+
 #[test]
 fn codes(rt: HostRuntime) -> Result<(), Fail> {
-    let mut text = Vec::new(rt.alloc());
-    for number in [0, 93, 94, 8191] {
-        push_code(&mut text, number)?;
-        text.push(b' ')?;
+    let mut out = small_out(rt.alloc(), 100)?;
+    for number in [0, 93, 94, 8191, u32::MAX] {
+        out.put_piece(&Code(number))?;
+        out.put_byte(b' ')?;
     }
-    assert!(rt; text.as_slice() == b"! ~ !\" .x ".as_slice());
+    out.flush()?;
+    let taken = out.into_sink().into_inner().taken;
+    assert!(rt; taken.as_slice() == b"! ~ !\" .x J|\"\"X ".as_slice());
     Ok(())
 }
 
@@ -53,14 +60,13 @@ fn dump_device_fault(rt: HostRuntime) -> Result<(), Fail> {
             Ok(()),
             b"$timescale 1 ns $end\n$scope module top $end\n$upscope $end\n$enddefinitions $end\n#0\n$dumpvars\n$end\n#20\n".as_slice(),
         ),
-        (10, Err(DumpError::WriteFailed), b"$timescale".as_slice()),
-        (0, Err(DumpError::WriteFailed), b"".as_slice()),
+        (10, Err(Failed), b"$timescale".as_slice()),
+        (0, Err(Failed), b"".as_slice()),
     ] {
-        let mut sink = WriteSink::new(SmallWriter {
-            taken: Vec::new(alloc),
-            room,
-        });
-        assert_eq!(rt; dump(alloc, &netlist, &waves, &mut sink), ended);
+        let mut out = small_out(alloc, room)?;
+        put_dump(alloc, &mut out, &netlist, &waves)?;
+        assert_eq!(rt; out.flush(), ended);
+        let sink = out.into_sink();
         assert_eq!(rt; sink.faults(), ended.is_err() as u64);
         assert_eq!(rt; sink.into_inner().taken.as_slice(), text);
     }

@@ -1,36 +1,18 @@
 //! Value lines that write themselves.
-ghost use Rattle.std.specs.Prelude.{◌≡◌, ◌+◌, ◌<◌, ◌≤◌, length};
+ghost use Rattle.std.specs.Prelude.{◌≡◌, ◌+◌, ◌≤◌, length};
 ghost use Rattle.mp_streams.specs.Places.{IsPlaced};
-ghost use Rattle.mp_vcd.specs.Codes.{code};
-ghost use Rattle.mp_vcd.specs.Values.{bits, value_text};
+ghost use Rattle.mp_vcd.specs.Values.{bit, bits, value_text};
 
-use crate::lines::{BASE, FIRST_DIGIT, bit, write_bits};
+use crate::code::write_code;
 use mp_streams::Piece;
 
-/// The line of a wire's level, of a wire that is no wider than 56 and whose code has two digits at most.
+/// The line of a wire's level.
 #[derive(Clone, Copy)]
 pub(crate) struct ValueLine {
     pub(crate) width: u32,
     pub(crate) wire: u32,
     pub(crate) level: u64,
-    ghost narrow: { width ≤ 56 },
-    ghost short: { wire < 8836 },
-}
-
-impl ValueLine {
-    ghost use Rattle.std.specs.Prelude.{◌≡◌, Some, IfSome};
-    ghost use Rattle.mp_vcd.specs.declared.value_lines.ValueLine.{ValueLine};
-
-    /// The line, where it is short enough.
-    #[inline(always)]
-    pub(crate) fn new(width: u32, wire: u32, level: u64) -> Option<ValueLine>
-        ensures { IfSome result (λ line. (line.width ≡ width) × (line.wire ≡ wire) × (line.level ≡ level)) }
-    {
-        if width > 56 || wire >= BASE * BASE {
-            return None;
-        }
-        Some(ValueLine { width, wire, level })
-    }
+    ghost narrow: { width ≤ 64 },
 }
 
 impl Piece for ValueLine {
@@ -64,19 +46,28 @@ fn write_value(width: u32, level: u64, room: &mut [u8], at: usize) -> usize
     end + 1
 }
 
-/// Writes the code of a wire from a place on, and returns where it ends.
-#[inline(always)]
-fn write_code(wire: u32, room: &mut [u8], at: usize) -> usize
-    requires room { at + 2 ≤ length room.old }
-    requires short { wire < 8836 }
-    ensures placed { IsPlaced room.old room.new at (code wire) result }
-    ensures short { result ≤ at + 2 }
+/// Writes the lowest bits of a level, so many, from a place on, the greatest first, and returns where they end.
+#[inline]
+fn write_bits(width: u32, level: u64, room: &mut [u8], at: usize) -> usize
+    requires { at + width ≤ length room.old }
+    ensures placed { IsPlaced room.old room.new at (bits width level) result }
+    ensures end { result ≡ at + width }
 {
-    if wire < BASE {
-        room[at] = FIRST_DIGIT + wire as u8;
-        return at + 1;
+    let end = at + width as usize;
+    let mut place = end;
+    let mut rest = level;
+    while place > at {
+        place -= 1;
+        room[place] = bit(rest);
+        rest /= 2;
     }
-    room[at] = FIRST_DIGIT + (wire % BASE) as u8;
-    room[at + 1] = FIRST_DIGIT + (wire / BASE) as u8;
-    at + 2
+    end
+}
+
+/// The digit of the lowest bit.
+#[inline(always)]
+fn bit(level: u64) -> u8
+    ensures { result ≡ bit level }
+{
+    b'0' + (level % 2) as u8
 }

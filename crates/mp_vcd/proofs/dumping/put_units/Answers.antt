@@ -1,51 +1,47 @@
-use Rattle.std.proofs.Common.{◌-◌, ◌≤◌, ◌++◌, ap, ◌∙◌, rules, arith}
-use Rattle.std.specs.List.{flat_map, range_with_len}
-use Rattle.std.proofs.lemmas.Result.{err_from_is_err_and}
+use Rattle.std.proofs.Common.{◌≤◌, [], ap, refl, rules, arith}
+use Rattle.std.specs.List.{flat_map}
+use Rattle.mp_streams.proofs.OutLemmas.{puts_as, puts_unmade}
+use Rattle.mp_streams.specs.declared.write_error.WriteError.TheVariants.{WriteFailed, OutOfMemory}
 use Rattle.mp_vcd.specs.Dumps.{unit_text}
-use Rattle.mp_vcd.proofs.PutLemmas.{left_as, went, failed, all_went}
+use Rattle.mp_vcd.proofs.LeftLemmas.{left_as, left_then, left_failed, left_none}
 use Rattle.mp_vcd.proofs.StandingLemmas.{times_divide, times_end}
-use Rattle.mp_vcd.proofs.DumpLemmas.{units}
 use Rattle.mp_vcd.proofs.dumping.put_units.Goals as goal
 
-pub returns-in_err-put_agenda-clause-written : goal.returns-in_err-put_agenda-clause-written
-returns-in_err-put_agenda-clause-written g c =
+pub returns-in_err-widths : goal.returns-in_err-widths
+returns-in_err-widths g c = puts_unmade _ OutOfMemory _ _ c.from_residual.ensures.1 refl
+
+pub returns-in_err-places : goal.returns-in_err-places
+returns-in_err-places g c = puts_unmade _ OutOfMemory _ _ c.from_residual-in_err-places.ensures.1 refl
+
+pub returns-in_err-agenda : goal.returns-in_err-agenda
+returns-in_err-agenda g c =
+    let r = c.from_residual-in_err-agenda.result in
+    let is = c.from_residual-in_err-agenda.ensures in
+    left_failed {xs = []} _ c.loop-from.invariant.left r is.0 (puts_unmade r OutOfMemory _ [] is.1 refl)
+
+pub returns-in_err-put_agenda : goal.returns-in_err-put_agenda
+returns-in_err-put_agenda g c =
     let n = c.args.netlist.now in
-    let from = c.loop-from.from in
-    let to = c.min-to.result in
-    let start = g.T.Sink.taken c.args.sink.now in
-    let now = g.T.Sink.taken c.loop-from.sink in
-    let order : from ≤ to = search rules in
-    let end : to ≤ n.horizon = search rules in
-    let text = flat_map (unit_text n) (range_with_len from (to - from)) in
-    let left = flat_map (unit_text n) (range_with_len to (n.horizon - to)) in
-    let here = left_as (units n) start c.args.buffer.now _ now c.loop-from.buffer c.loop-from.invariant.left (text ++ left) (times_divide (unit_text n) from to n.horizon order end) in
-    let same = ap (λ f. flat_map (unit_text n) (range_with_len f (to - f))) c.in_ok-agenda.ensures.from in
-    let p = err_from_is_err_and c.from_residual-in_err-put_agenda.result c.from_residual-in_err-put_agenda.ensures.1 in
-    rw (p.1, p.2) (failed (units n) start c.args.buffer.now text left now c.loop-from.buffer here c.in_err-put_agenda.field-0.0 (g.T.Sink.taken c.put_agenda.new.sink) c.put_agenda.new.buffer (rw same at c.in_err-put_agenda.ensures.written))
+    let order : c.loop-from.from ≤ c.min-to.result = search rules in
+    let end : c.min-to.result ≤ n.horizon = search rules in
+    let piece = rw c.in_ok-agenda.ensures.from at c.in_err-put_agenda.ensures in
+    let r = c.from_residual-in_err-put_agenda.result in
+    left_failed _ (left_as (times_divide (unit_text n) c.loop-from.from c.min-to.result n.horizon order end) c.loop-from.invariant.left) r c.from_residual-in_err-put_agenda.ensures.0
+    (puts_as r WriteFailed c.from_residual-in_err-put_agenda.ensures.1 refl piece)
 
 pub loop-from-preserved : goal.loop-from-preserved
 loop-from-preserved g c =
     let n = c.args.netlist.now in
-    let from = c.loop-from.from in
-    let to = c.min-to.result in
-    let start = g.T.Sink.taken c.args.sink.now in
-    let now = g.T.Sink.taken c.loop-from.sink in
-    let order : from ≤ to = search rules in
-    let end : to ≤ n.horizon = search rules in
-    let text = flat_map (unit_text n) (range_with_len from (to - from)) in
-    let left = flat_map (unit_text n) (range_with_len to (n.horizon - to)) in
-    let here = left_as (units n) start c.args.buffer.now _ now c.loop-from.buffer c.loop-from.invariant.left (text ++ left) (times_divide (unit_text n) from to n.horizon order end) in
-    let same = ap (λ f. flat_map (unit_text n) (range_with_len f (to - f))) c.in_ok-agenda.ensures.from in
+    let order : c.loop-from.from ≤ c.min-to.result = search rules in
+    let end : c.min-to.result ≤ n.horizon = search rules in
+    let piece = rw c.in_ok-agenda.ensures.from at c.in_ok-put_agenda.ensures in
     record {
       some = omega (arith, order, c.loop-from.invariant.some);
-      left = went (units n) start c.args.buffer.now text left now c.loop-from.buffer here (g.T.Sink.taken c.put_agenda.new.sink) c.put_agenda.new.buffer (rw same at c.in_ok-put_agenda.ensures.written);
-      faults = c.in_ok-put_agenda.ensures.faults ∙ c.loop-from.invariant.faults;
+      left = left_then (left_as (times_divide (unit_text n) c.loop-from.from c.min-to.result n.horizon order end) c.loop-from.invariant.left) piece;
     }
 
-pub returns-clause-written : goal.returns-clause-written
-returns-clause-written g c =
+pub returns : goal.returns
+returns g c =
     let n = c.args.netlist.now in
-    let from = c.loop-from.from in
-    let over : n.horizon ≤ from = search rules in
-    all_went (units n) (g.T.Sink.taken c.args.sink.now) c.args.buffer.now (flat_map (unit_text n) (range_with_len from (n.horizon - from))) (g.T.Sink.taken c.loop-from.sink) c.loop-from.buffer
-    c.loop-from.invariant.left (ap (flat_map (unit_text n)) (times_end from n.horizon over))
+    let over : n.horizon ≤ c.loop-from.from = search rules in
+    left_none (ap (flat_map (unit_text n)) (times_end c.loop-from.from n.horizon over)) c.loop-from.invariant.left

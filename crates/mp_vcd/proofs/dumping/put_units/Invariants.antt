@@ -1,16 +1,14 @@
-use Rattle.std.proofs.Common.{◌≡◌, ◌-◌, ◌<◌}
+use Rattle.std.proofs.Common.{◌-◌, ◌<◌}
 use Rattle.std.specs.List.{flat_map, range_with_len}
 use Rattle.mp_vcd.specs.Dumps.{unit_text}
-use Rattle.mp_vcd.proofs.PutLemmas.{ToGo}
+use Rattle.mp_vcd.proofs.LeftLemmas.{Left}
 use Rattle.mp_vcd.proofs.dumping.put_units.Given as goal
 
 -- the units from the time on are left
 abbrev pub invariant-loop-from : goal.invariant-loop-from
 invariant-loop-from g l = record {
   some : 0 < l.from;
-  left : ToGo (flat_map (unit_text l.netlist) (range_with_len 1 (l.netlist.horizon - 1))) (g.T.Sink.taken l.fn.sink) l.fn.buffer
-      (flat_map (unit_text l.netlist) (range_with_len l.from (l.netlist.horizon - l.from))) (g.T.Sink.taken l.sink) l.buffer;
-  faults : g.T.Sink.fault_count l.sink ≡ g.T.Sink.fault_count l.fn.sink;
+  left : Left (flat_map (unit_text l.netlist) (range_with_len 1 (l.netlist.horizon - 1))) l.fn.out l.out (flat_map (unit_text l.netlist) (range_with_len l.from (l.netlist.horizon - l.from)));
 }
 
 abbrev pub decreases-loop-from : goal.decreases-loop-from

@@ -4,7 +4,7 @@ use Rattle.std.proofs.Math.ListN.{length-set}
 use Rattle.mp_streams.proofs.PlaceLemmas.{placed_between}
 use Rattle.mp_vcd.specs.Values.{bit, bits}
 use Rattle.mp_vcd.proofs.CodeLemmas.{bits_step, bits-zero, bits_long}
-use Rattle.mp_vcd.proofs.lines.write_bits.Goals as goal
+use Rattle.mp_vcd.proofs.value_lines.write_bits.Goals as goal
 
 pub loop-place-init : goal.loop-place-init
 loop-place-init c =

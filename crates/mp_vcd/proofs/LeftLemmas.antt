@@ -1,0 +1,35 @@
+-- A text that is written piece by piece.
+use Rattle.std.proofs.Common.{◌≡◌, ℕ, Bool, List, [], ◌++◌, append_assoc, Result, Ok, Err, IsErr, refl, sym, ap, subst, ◌∙◌}
+use Rattle.mp_streams.specs.Outgoing.{Outgoing, Puts, Writes}
+use Rattle.mp_streams.proofs.OutLemmas.{puts_none, puts_then, puts_sooner}
+
+-- of a whole text the front is written, and this is left
+pub record Left (whole : List ℕ) (start now : Outgoing) (rest : List ℕ) : Type 0 where
+  pub done : List ℕ
+  pub written : Writes {T = Unit {0}} (Ok tt) start now done
+  pub all : done ++ rest ≡ whole
+
+pub left_whole : (start : Outgoing) (whole : List ℕ) → Left whole start start whole
+left_whole start whole = record { done = []; written = puts_none start; all = refl }
+
+pub left_as : {whole rest other : List ℕ} {a b : Outgoing} → rest ≡ other → Left whole a b rest → Left whole a b other
+left_as {whole} {rest} {other} {a} {b} same left = subst (Left whole a b) same left
+
+-- nothing is left
+pub left_none : {E : Type 0} {g : E → Bool} {whole rest : List ℕ} {a b : Outgoing} → rest ≡ [] → Left whole a b rest → Puts {T = Unit {0}} g (Ok tt) a b whole
+left_none {E} {g} {whole} {rest} {a} {b} none left =
+    subst (Puts {T = Unit {0}} g (Ok tt) a b) (ap (λ l. left.done ++ l) (sym none) ∙ left.all) (puts_then left.written (puts_none {f = g} {done = tt} b))
+
+-- a piece was written
+pub left_then : {whole xs ys : List ℕ} {a b c : Outgoing} → Left whole a b (xs ++ ys) → Writes {T = Unit {0}} (Ok tt) b c xs → Left whole a c ys
+left_then {whole = whole} {xs = xs} {ys = ys} {a = a} {b = b} {c = c} left piece =
+    record { done = left.done ++ xs; written = puts_then left.written piece; all = append_assoc left.done xs ys ∙ left.all }
+
+-- a piece failed
+pub left_failed : {U E : Type 0} {g : E → Bool} {whole xs : List ℕ} {a b c : Outgoing} (ys : List ℕ) → Left whole a b (xs ++ ys) → (r : Result U E) → IsErr r → Puts g r b c xs → Puts g r a c whole
+left_failed ys left (Ok done) is piece = cc
+left_failed {U} {E} {g} {whole} {xs} {a} {b} {c} ys left (Err error) is piece = subst (Puts {T = U} g (Err error) a c) left.all (puts_then left.written (puts_sooner ys piece))
+
+-- a success is one whatever the errors are
+pub puts_ok : {T E F : Type 0} {f : F → Bool} {g : E → Bool} {done : T} {a b : Outgoing} {xs : List ℕ} → Puts f (Ok done) a b xs → Puts {T = T} g (Ok done) a b xs
+puts_ok puts = record { front = puts.front; lost = puts.lost; taken = puts.taken; held = puts.held; ends = puts.ends }

@@ -1,0 +1,52 @@
+use Rattle.std.proofs.Common.{◌≡◌, ℕ, ◌+◌, ◌%◌, ◌<◌, ◌≤◌, List, [], ◌∷◌, ◌++◌, length, refl, ap, sym, subst, ◌∙◌, rules, arith}
+use Rattle.std.proofs.Math.ListN.{set}
+use Rattle.std.proofs.lemmas.List.{length-append}
+use Rattle.mp_streams.specs.Places.{IsPlaced}
+use Rattle.mp_streams.proofs.PlaceLemmas.{placed_both, placed_byte}
+use Rattle.mp_vcd.specs.Codes.{code}
+use Rattle.mp_vcd.proofs.CodeLemmas.{code-one, code_step, code_long, code_some}
+use Rattle.mp_vcd.proofs.code.write_code.Goals as goal
+
+-- where the digits so far end
+ends : (room new digits : List ℕ) (at end rest wire : ℕ) → wire < 4294967296 → IsPlaced room new at digits end → digits ++ code rest ≡ code wire → end < at + 5
+ends room new digits at end rest wire low placed same =
+    omega (arith, placed.moved, code_long wire low, code_some rest, ap length same, length-append digits (code rest))
+
+pub loop-rest-init : goal.loop-rest-init
+loop-rest-init c = ([], record { front = search rules; moved = omega arith; within = omega arith }, refl)
+
+pub bounds-room-end : goal.bounds-room-end
+bounds-room-end c =
+    let h = c.loop-rest.invariant in
+    omega (arith, ends _ _ h.0 _ _ _ _ c.ranges.wire.fits h.1 h.2, c.loop-rest.auto.room)
+
+pub loop-rest-preserved : goal.loop-rest-preserved
+loop-rest-preserved c =
+    let h = c.loop-rest.invariant in
+    let room = c.loop-rest.room in
+    let end = c.loop-rest.end in
+    let rest = c.loop-rest.rest in
+    let high : 94 ≤ rest = search rules in
+    let inside : end < length room = omega (arith, ends _ _ h.0 _ _ _ _ c.ranges.wire.fits h.1 h.2, c.loop-rest.auto.room) in
+    (h.0 ++ (33 + rest % 94) ∷ [], placed_both h.1 (placed_byte room end (33 + rest % 94) inside), code_step h.0 (code c.args.wire) rest high h.2)
+
+pub bounds-room-end-2 : goal.bounds-room-end-2
+bounds-room-end-2 c =
+    let h = c.loop-rest.invariant in
+    omega (arith, ends _ _ h.0 _ _ _ _ c.ranges.wire.fits h.1 h.2, c.loop-rest.auto.room)
+
+pub returns-clause-placed : goal.returns-clause-placed
+returns-clause-placed c =
+    let h = c.loop-rest.invariant in
+    let room = c.loop-rest.room in
+    let end = c.loop-rest.end in
+    let rest = c.loop-rest.rest in
+    let low : rest < 94 = search rules in
+    let inside : end < length room = omega (arith, ends _ _ h.0 _ _ _ _ c.ranges.wire.fits h.1 h.2, c.loop-rest.auto.room) in
+    let last : h.0 ++ (33 + rest) ∷ [] ≡ code c.args.wire = ap (λ l. h.0 ++ l) (sym (code-one rest low)) ∙ h.2 in
+    subst (λ text. IsPlaced c.args.room.now (set room end (33 + rest)) c.args.at text (end + 1)) last (placed_both h.1 (placed_byte room end (33 + rest) inside))
+
+pub returns-clause-short : goal.returns-clause-short
+returns-clause-short c =
+    let h = c.loop-rest.invariant in
+    omega (arith, ends _ _ h.0 _ _ _ _ c.ranges.wire.fits h.1 h.2)

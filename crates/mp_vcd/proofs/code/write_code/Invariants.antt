@@ -1,0 +1,11 @@
+use Rattle.std.proofs.Common.{◌≡◌, ℕ, List, ◌++◌}
+use Rattle.mp_streams.specs.Places.{IsPlaced}
+use Rattle.mp_vcd.specs.Codes.{code}
+use Rattle.mp_vcd.proofs.code.write_code.Given as goal
+
+-- the rest's code completes the wire's
+abbrev pub invariant-loop-rest : goal.invariant-loop-rest
+invariant-loop-rest l = (digits : List ℕ) × IsPlaced l.fn.room l.room l.at digits l.end × (digits ++ code l.rest ≡ code l.wire)
+
+abbrev pub decreases-loop-rest : goal.decreases-loop-rest
+decreases-loop-rest l = l.rest

@@ -1,0 +1,10 @@
+use Rattle.std.proofs.Common.{◌-◌}
+use Rattle.std.specs.List.{flat_map, range_with_len}
+use Rattle.mp_vcd.specs.Dumps.{unit_text}
+use Rattle.mp_vcd.proofs.LeftLemmas.{Left}
+use Rattle.mp_vcd.proofs.units.put_agenda.Given as goal
+
+-- the units from the time on are left
+abbrev pub invariant-loop-time : goal.invariant-loop-time
+invariant-loop-time g l =
+    Left (flat_map (unit_text l.netlist) (range_with_len l.agenda.from (l.to - l.agenda.from))) l.fn.out l.out (flat_map (unit_text l.netlist) (range_with_len l.time (l.to - l.time)))

@@ -1,0 +1,98 @@
+use Rattle.std.proofs.Common.{◌≡◌, ◌≢◌, ℕ, ◌+◌, ◌-◌, ◌<◌, ◌≤◌, None, List, length, map, slice_index, sym, ap, subst, ◌∙◌, rules, arith}
+use Rattle.std.proofs.Math.ListN.{get_or-map}
+use Rattle.mp_streams.proofs.OutLemmas.{writes_failed}
+use Rattle.mp_netlist.specs.Circuit.{Circuit, wire_at, width_of}
+use Rattle.mp_vcd.specs.Values.{value_line}
+use Rattle.mp_vcd.specs.Dumps.{changed}
+use Rattle.mp_vcd.specs.declared.agenda.Entry.{Entry}
+use Rattle.mp_vcd.specs.Agendas.{IsChain, Tells, told_from, told_at}
+use Rattle.mp_vcd.proofs.LeftLemmas.{left_whole, left_as, left_then, left_failed, left_none}
+use Rattle.mp_vcd.proofs.AgendaLemmas.{chain_within, chain_next, chain_over, marked_none, marked_some}
+use Rattle.mp_vcd.proofs.StandingLemmas.{narrow}
+use Rattle.mp_vcd.proofs.units.put_unit.Goals as goal
+
+-- the chain of a time
+chain_at : (n : Circuit) (firsts : List ℕ) (entries : List Entry) (from t place : ℕ) → from ≤ t → t < from + length firsts → Tells firsts entries (told_from from (told_at n))
+    → place ≡ slice_index firsts (t - from) → IsChain entries place (told_at n t)
+chain_at n firsts entries from t place low high told is =
+    let same : from + (t - from) ≡ t = omega (arith, low) in
+    subst (λ u. IsChain entries place (told_at n u)) same (rw is (told (t - from) (omega (arith, low, high))))
+
+-- the width that is listed of a wire
+width_is : (n : Circuit) (widths : List ℕ) (w : ℕ) → widths ≡ map width_of n.wires → slice_index widths w ≡ width_of (wire_at n w)
+width_is n widths w are = ap (λ ws. slice_index ws w) are ∙ get_or-map width_of n.wires w None
+
+pub returns-then-place-eq0 : goal.returns-then-place-eq0
+returns-then-place-eq0 g c =
+    let n = c.args.netlist.now in
+    let t = c.args.time in
+    let agenda = c.args.agenda.now in
+    let within : t < agenda.from + length agenda.firsts.items = omega (arith, c.requires.times) in
+    let chain = chain_at n agenda.firsts.items agenda.entries.items agenda.from t c.first-place.result c.requires.from within c.requires.told c.first-place.ensures in
+    left_none (marked_none n t (changed n t) _ _ chain c.if-place-eq0.true) (left_whole _ _)
+
+pub returns-in_err-put_time_mark : goal.returns-in_err-put_time_mark
+returns-in_err-put_time_mark g c =
+    let n = c.args.netlist.now in
+    let t = c.args.time in
+    let agenda = c.args.agenda.now in
+    let within : t < agenda.from + length agenda.firsts.items = omega (arith, c.requires.times) in
+    let chain = chain_at n agenda.firsts.items agenda.entries.items agenda.from t c.first-place.result c.requires.from within c.requires.told c.first-place.ensures in
+    let some : c.first-place.result ≢ 0 = search rules in
+    let is = c.from_residual.ensures.0 in
+    left_failed _ (left_as (marked_some n t (changed n t) _ _ chain some) (left_whole _ _)) _ is (writes_failed _ is c.in_err-put_time_mark.ensures)
+
+pub loop-place-init : goal.loop-place-init
+loop-place-init g c =
+    let n = c.args.netlist.now in
+    let t = c.args.time in
+    let agenda = c.args.agenda.now in
+    let within : t < agenda.from + length agenda.firsts.items = omega (arith, c.requires.times) in
+    let chain = chain_at n agenda.firsts.items agenda.entries.items agenda.from t c.first-place.result c.requires.from within c.requires.told c.first-place.ensures in
+    let some : c.first-place.result ≢ 0 = search rules in
+    (told_at n t, chain, left_then (left_as (marked_some n t (changed n t) _ _ chain some) (left_whole _ _)) c.in_ok-put_time_mark.ensures)
+
+pub entry-change-requires-clause-within : goal.entry-change-requires-clause-within
+entry-change-requires-clause-within g c =
+    let left = c.loop-place.invariant in
+    omega (arith, chain_within c.args.agenda.now.entries.items c.loop-place.place left.0 left.1)
+
+pub line_of-requires : goal.line_of-requires
+line_of-requires g c =
+    let n = c.args.netlist.now in
+    let w = c.entry-change.result.wire in
+    omega (arith, width_is n c.args.widths.now w c.requires.widths, narrow n c.requires.form w)
+
+pub returns-in_err-put_piece : goal.returns-in_err-put_piece
+returns-in_err-put_piece g c =
+    let n = c.args.netlist.now in
+    let change = c.entry-change.result in
+    let left = c.loop-place.invariant in
+    let some : 0 < c.loop-place.place = search rules in
+    let next = chain_next n _ change _ left.0 (sym c.entry-change.ensures) left.1 some in
+    let text = c.line_of.ensures ∙ ap (λ width. value_line width change.wire change.level) (width_is n c.args.widths.now change.wire c.requires.widths) in
+    let is = c.from_residual-in_err-put_piece.ensures.0 in
+    left_failed _ (left_as next.lines left.2) _ is (writes_failed _ is (rw text at c.in_err-put_piece.ensures))
+
+pub loop-place-smaller : goal.loop-place-smaller
+loop-place-smaller g c =
+    let left = c.loop-place.invariant in
+    let some : 0 < c.loop-place.place = search rules in
+    let next = chain_next c.args.netlist.now _ c.entry-change.result _ left.0 (sym c.entry-change.ensures) left.1 some in
+    next.smaller
+
+pub loop-place-preserved : goal.loop-place-preserved
+loop-place-preserved g c =
+    let n = c.args.netlist.now in
+    let change = c.entry-change.result in
+    let left = c.loop-place.invariant in
+    let some : 0 < c.loop-place.place = search rules in
+    let next = chain_next n _ change _ left.0 (sym c.entry-change.ensures) left.1 some in
+    let text = c.line_of.ensures ∙ ap (λ width. value_line width change.wire change.level) (width_is n c.args.widths.now change.wire c.requires.widths) in
+    (next.later, next.chain, left_then (left_as next.lines left.2) (rw text at c.in_ok-put_piece.ensures))
+
+pub returns : goal.returns
+returns g c =
+    let left = c.loop-place.invariant in
+    let none : c.loop-place.place ≡ 0 = search rules in
+    left_none (chain_over c.args.netlist.now _ _ left.0 none left.1) left.2

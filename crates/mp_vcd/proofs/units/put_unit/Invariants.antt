@@ -1,0 +1,13 @@
+use Rattle.std.proofs.Common.{ℕ, List}
+use Rattle.mp_vcd.specs.Dumps.{unit_text}
+use Rattle.mp_vcd.specs.Agendas.{IsChain, told_lines}
+use Rattle.mp_vcd.proofs.LeftLemmas.{Left}
+use Rattle.mp_vcd.proofs.units.put_unit.Given as goal
+
+-- the lines of the changes from the place on are left
+abbrev pub invariant-loop-place : goal.invariant-loop-place
+invariant-loop-place g l =
+    (told : List (ℕ × ℕ)) × IsChain l.agenda.entries.items l.place told × Left (unit_text l.netlist l.time) l.fn.out l.out (told_lines l.netlist told)
+
+abbrev pub decreases-loop-place : goal.decreases-loop-place
+decreases-loop-place g l = l.place

@@ -1,0 +1,76 @@
+//! The changes of a dump.
+ghost use Rattle.std.specs.Prelude.{◌≡◌, ◌+◌, ◌-◌, ◌<◌, ◌≤◌, map, slice_index, vec_len};
+ghost use Rattle.std.specs.List.{flat_map, range_with_len};
+ghost use Rattle.mp_streams.specs.Outgoing.{Writes};
+ghost use Rattle.mp_netlist.specs.Circuit.{IsCircuit, width_of};
+ghost use Rattle.mp_vcd.specs.Agendas.{Tells, told_from, told_at};
+ghost use Rattle.mp_vcd.specs.Dumps.{unit_text};
+ghost use Rattle.mp_vcd.specs.Values.{value_line};
+
+use crate::agenda::{Agenda, Entry};
+use crate::lines::put_time_mark;
+use crate::value_lines::ValueLine;
+use mp_netlist::Netlist;
+use mp_streams::{Failed, Out, Sink};
+
+/// Writes the changes of each time of an agenda, the last of which is before another.
+pub fn put_agenda<S: Sink>(
+    out: &mut Out<S>,
+    netlist: &Netlist,
+    widths: &[u32],
+    agenda: &Agenda,
+    to: u32,
+) -> Result<(), Failed>
+    requires form { IsCircuit netlist.now }
+    requires widths { widths.now ≡ map width_of netlist.now.wires }
+    requires order { agenda.now.from ≤ to }
+    requires times { vec_len agenda.now.firsts ≡ to - agenda.now.from }
+    requires told { Tells agenda.now.firsts.items agenda.now.entries.items (told_from agenda.now.from (told_at netlist.now)) }
+    ensures { Writes result out.old out.new (flat_map (unit_text netlist.now) (range_with_len agenda.now.from (to - agenda.now.from))) }
+{
+    for time in agenda.from..to {
+        put_unit(out, netlist, widths, agenda, time)?;
+    }
+    Ok(())
+}
+
+/// Writes the changes of a time.
+fn put_unit<S: Sink>(
+    out: &mut Out<S>,
+    netlist: &Netlist,
+    widths: &[u32],
+    agenda: &Agenda,
+    time: u32,
+) -> Result<(), Failed>
+    requires form { IsCircuit netlist.now }
+    requires widths { widths.now ≡ map width_of netlist.now.wires }
+    requires from { agenda.now.from ≤ time }
+    requires times { time < agenda.now.from + vec_len agenda.now.firsts }
+    requires told { Tells agenda.now.firsts.items agenda.now.entries.items (told_from agenda.now.from (told_at netlist.now)) }
+    ensures { Writes result out.old out.new (unit_text netlist.now time) }
+{
+    let mut place = agenda.first(time);
+    if place == 0 {
+        return Ok(());
+    }
+    put_time_mark(out, time)?;
+    while place > 0 {
+        let change = agenda.entry(place);
+        out.put_piece(&line_of(widths, change))?;
+        place = change.next;
+    }
+    Ok(())
+}
+
+/// The line of a change, given the width of each wire by number.
+#[inline(always)]
+fn line_of(widths: &[u32], change: Entry) -> ValueLine
+    requires { slice_index widths.now change.wire ≤ 64 }
+    ensures { value_line result.width result.wire result.level ≡ value_line (slice_index widths.now change.wire) change.wire change.level }
+{
+    ValueLine {
+        width: widths.get(change.wire as usize).copied().unwrap_or(0),
+        wire: change.wire,
+        level: change.level,
+    }
+}
