@@ -36,7 +36,7 @@ pub an_event : (f : ℕ → ℕ) (s : ℕ) → f s ≢ f (s + 1) → has_event f
 an_event f s other = rw (add-one s) (ap not (same_false (f s) (f (suc s)) (λ same. other (same ∙ ap f (sym (add-one s))))))
 
 -- the count of a range begins with that of its first time
-first_counted : (f : ℕ → ℕ) (s n : ℕ) (b : Bool) → has_event f (s + 1) ≡ b
+pub first_counted : (f : ℕ → ℕ) (s n : ℕ) (b : Bool) → has_event f (s + 1) ≡ b
     → count_by (has_event f) (range_with_len (s + 1) (suc n)) ≡ cond b 1 0 + count_by (has_event f) (range_with_len (s + 1 + 1) n)
 first_counted f s n b is =
     sum_by-cons (λ t. cond (has_event f t) 1 0) (s + 1) (range_with_len (s + 1 + 1) n)

@@ -1,4 +1,5 @@
 pub mod ColumnLemmas
 pub mod CellLemmas
+pub mod EventLemmas
 pub mod RowLemmas
 pub mod FoundLemmas

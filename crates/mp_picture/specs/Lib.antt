@@ -1,5 +1,6 @@
 pub mod Columns
 pub mod Cells
+pub mod CellLaws
 pub mod Marks
 pub mod Rows
 pub mod Found

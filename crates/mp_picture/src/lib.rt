@@ -4,6 +4,7 @@
 mod cell;
 mod columns;
 mod found;
+pub mod laws;
 mod mark;
 mod repeated;
 mod row;
