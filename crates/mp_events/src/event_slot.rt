@@ -46,6 +46,15 @@ impl EventSlot {
         Ok(())
     }
 
+    /// These wires toggle too.
+    #[inline(always)]
+    pub fn extend_from_slice(&mut self, wires: &[u16]) -> Result<(), AllocError>
+        ensures { OnOk result (self.new ≡ self.old ++ wires.now) }
+    {
+        self.wires.extend_from_slice(wires)?;
+        Ok(())
+    }
+
     /// Empties the slot. It keeps its memory.
     #[inline(always)]
     pub(crate) fn clear(&mut self)

@@ -78,6 +78,7 @@ pub fn fire_modules(
     requires states { All (λ m. m < length states.old.items) due.now }
     requires low { (m : ℕ) → state_at states.old.items m < 1728 }
     requires once { (m : ℕ) → listed m due.now ≤ 1 }
+    ensures kept { OnOk result (length states.new.items ≡ length states.old.items) }
     ensures states { OnOk result ((state_of : ℕ → UnitState) → AreNumbered states.old.items state_of → HaveFired state_of due.now states.old.items states.new.items) }
     ensures wheel { OnOk result ((state_of : ℕ → UnitState) → AreNumbered states.old.items state_of → wheel.new ≡ scheduled wheel.old (fired_by state_of ports.now due.now)) }
     ensures places { OnOk result (length wheel.new ≡ length wheel.old) }

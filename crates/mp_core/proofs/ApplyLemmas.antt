@@ -1,0 +1,271 @@
+-- A unit begins: wires toggle, and modules have their events.
+use Rattle.std.proofs.Common.{◌≡◌, ℕ, suc, ◌+◌, ◌-◌, ◌%◌, ◌<◌, ◌≤◌, Bool, true, false, not, cond, nat_lt, List, [], ◌∷◌, ◌++◌, length, Some, All, refl, sym, ap, ◌∙◌, arith, subst}
+use Rattle.std.specs.Prelude.{◌==◌, ◌&&◌, slice_index_or}
+use Rattle.std.proofs.lemmas.Bool.{eqb-true, eqb-false}
+use Rattle.std.proofs.lemmas.Bool.Decides.{nat_tests}
+use Rattle.std.proofs.lemmas.List.Elements.{All-append}
+use Rattle.std.proofs.lemmas.Grind.{flat_map-append}
+use Rattle.std.proofs.lemmas.List.{length-append, get_or_append_left}
+use Rattle.std.proofs.Math.ListN.{get_or-eq_default}
+use Rattle.std.proofs.Math.Seq.{get_or-append_seam}
+use Rattle.mp_wave.specs.Waveform.{Waveform, wave_upto}
+use Rattle.mp_records.specs.declared.module_record.ModuleRecord.{ModuleRecord}
+use Rattle.mp_records.specs.Outputs.{delay_of}
+use Rattle.mp_netlist.specs.declared.driver.Driver.{Driver}
+use Rattle.mp_netlist.specs.declared.driver.Driver.TheVariants.{Nothing, Stimulus, Port}
+use Rattle.mp_netlist.specs.Circuit.{Circuit, IsCircuit, module_at}
+use Rattle.mp_netlist.specs.Drivers.{driver}
+use Rattle.mp_netlist.proofs.DriverLemmas.{finds_only_ports}
+use Rattle.mp_model.specs.Evaluations.{delay_in}
+use Rattle.mp_model.specs.Levels.{built, inputs_by}
+use Rattle.mp_model.specs.Waves.{level, state}
+use Rattle.mp_automata.specs.declared.automaton_state.AutomatonState.{AutomatonState}
+use Rattle.mp_automata.specs.declared.events.Events.{Events}
+use Rattle.mp_automata.specs.Automata.{automaton_of}
+use Rattle.mp_automata.specs.Phases.{phase_of}
+use Rattle.mp_automata.specs.BitModules.{events_in}
+use Rattle.mp_automata.specs.Codes.{bit, events_code}
+use Rattle.mp_automata.proofs.CodeLemmas.{events_low}
+use Rattle.mp_events.specs.declared.fanout_entry.FanoutEntry.{FanoutEntry}
+use Rattle.mp_events.specs.declared.output_ports.OutputPorts.{OutputPorts}
+use Rattle.mp_events.specs.Adding.{state_at, events_for, listed, AreAdded, IsAdding}
+use Rattle.mp_events.specs.ToggleWaves.{toggled_at}
+use Rattle.mp_events.specs.Toggling.{row_at, wave_at, entries_from, AreToggled}
+use Rattle.mp_events.specs.Ports.{HasPorts}
+use Rattle.mp_events.specs.Firing.{UnitState, AreNumbered, HaveSlots, ports_at}
+use Rattle.mp_events.proofs.AddingLemmas.{added_both}
+use Rattle.mp_events.proofs.PortLemmas.{events_add_up}
+use Rattle.mp_core.specs.declared.simulator.Simulator.{Simulator}
+use Rattle.mp_core.specs.Changes.{change_at, is_decided}
+use Rattle.mp_core.specs.Advancing.{unit_state_at}
+use Rattle.mp_core.specs.Scopes.{Scope, is_expected}
+use Rattle.mp_core.specs.Simulators.{next_slot, slot_at, AreBelow, IsSound, CanApply}
+use Rattle.mp_core.specs.Units.{IsLaidOut, HaveWaves, HaveEvents, IsBefore, IsDuring, AreDue}
+use Rattle.mp_core.proofs.ChangeLemmas.{waves_grow}
+use Rattle.mp_core.proofs.PortEventLemmas.{ports_have_events}
+use Rattle.mp_core.proofs.ListedLemmas.{all_below}
+use Rattle.mp_core.proofs.NumberLemmas.{events_with, events_of_code, events_part, with_events, numbered_with}
+
+-- what becomes of a simulator when a unit begins
+pub record IsApplied (s new : Simulator) (set others : List ℕ) (time : ℕ) : Type 0 where
+  pub slot : List ℕ
+  pub rest : List (List ℕ)
+  pub taken : s.wheel ≡ slot ∷ rest
+  pub turned : new.wheel ≡ rest ++ [] ∷ []
+  pub fanout : new.fanout ≡ s.fanout
+  pub outputs : new.outputs.items ≡ s.outputs.items
+  pub added : AreAdded s.states.items new.states.items (entries_from s.fanout (next_slot s ++ set) ++ entries_from s.fanout others)
+  pub adding : IsAdding new.states.items new.due.items []
+  pub places : length new.states.items ≡ length s.states.items
+  pub waves : AreToggled s.waves.items new.waves.items (next_slot s ++ set) time
+
+pub head_is : (slots : List (List ℕ)) (slot : List ℕ) (rest : List (List ℕ)) → slots ≡ slot ∷ rest → slot ≡ slice_index_or slots 0 []
+head_is slots slot rest is = sym (ap (λ (xs : List (List ℕ)). slice_index_or xs 0 []) is)
+
+pub wires_are : (slots : List (List ℕ)) (slot set wires : List ℕ) (rest : List (List ℕ)) → slots ≡ slot ∷ rest → wires ≡ slot ++ set →
+    wires ≡ slice_index_or slots 0 [] ++ set
+wires_are slots slot set wires rest taken is = is ∙ ap (λ xs. xs ++ set) (head_is slots slot rest taken)
+
+pub is_applied : (s new : Simulator) (set others wires : List ℕ) (time : ℕ) (slot : List ℕ) (rest : List (List ℕ)) (mid : List AutomatonState) →
+    s.wheel ≡ slot ∷ rest → wires ≡ slot ++ set → new.wheel ≡ rest ++ [] ∷ [] → new.fanout ≡ s.fanout → new.outputs.items ≡ s.outputs.items →
+    AreAdded s.states.items mid (entries_from s.fanout wires) → AreAdded mid new.states.items (entries_from s.fanout others) →
+    IsAdding new.states.items new.due.items [] → length new.states.items ≡ length s.states.items → AreToggled s.waves.items new.waves.items wires time →
+    IsApplied s new set others time
+is_applied s new set others wires time slot rest mid taken is turned fanout outputs first then adding places waves =
+    let same = wires_are s.wheel slot set wires rest taken is in
+    record {
+      slot = slot;
+      rest = rest;
+      taken = taken;
+      turned = turned;
+      fanout = fanout;
+      outputs = outputs;
+      added = added_both (entries_from s.fanout (next_slot s ++ set)) (entries_from s.fanout others)
+          (subst (λ ws. AreAdded s.states.items mid (entries_from s.fanout ws)) same first) then;
+      adding = adding;
+      places = places;
+      waves = subst (λ ws. AreToggled s.waves.items new.waves.items ws time) same waves;
+    }
+
+-- the wires that toggle have waves
+pub all_waved : (s : Simulator) (set : List ℕ) → IsSound s → All (λ w. w < length s.waves.items) set → All (λ w. w < length s.waves.items) (next_slot s ++ set)
+all_waved s set sound waved =
+    All-append (λ w. w < length s.waves.items) (next_slot s) set (all_below (length s.waves.items) (next_slot s) (λ w high. sound.waved w 0 high)) waved
+
+pub all_rowed : (s : Simulator) (wires : List ℕ) → IsSound s → All (λ w. w < length s.waves.items) wires → All (λ w. w < length s.fanout) wires
+all_rowed s wires sound waved k d within =
+    let low : slice_index_or wires k d < length s.waves.items = waved k d within in
+    let rows = sound.rows in
+    omega arith
+
+-- the slots after the first, and one more
+turned_length : (slot : List ℕ) (rest : List (List ℕ)) → length (rest ++ [] ∷ []) ≡ length (slot ∷ rest)
+turned_length slot rest = length-append rest ([] ∷ []) ∙ omega arith
+
+last_when : (rest : List (List ℕ)) (k : ℕ) → length rest ≤ k → (last : Bool) → (k == length rest) ≡ last → slice_index_or (rest ++ [] ∷ []) k [] ≡ []
+last_when rest k beyond true is =
+    let same : k ≡ length rest = eqb-true k (length rest) is in
+    ap (λ i. slice_index_or (rest ++ [] ∷ []) i []) same ∙ get_or-append_seam rest [] [] []
+last_when rest k beyond false is =
+    let differs = eqb-false k (length rest) is in
+    let long = length-append rest ([] ∷ []) in
+    get_or-eq_default (rest ++ [] ∷ []) [] (omega arith)
+
+turned_when : (rest : List (List ℕ)) (k : ℕ) (low : Bool) → nat_lt k (length rest) ≡ low → slice_index_or (rest ++ [] ∷ []) k [] ≡ slice_index_or rest k []
+turned_when rest k true is =
+    let within : k < length rest = grind (arith, nat_tests) in
+    get_or_append_left rest ([] ∷ []) [] k within
+turned_when rest k false is =
+    let beyond : length rest ≤ k = grind (arith, nat_tests) in
+    last_when rest k beyond (k == length rest) refl ∙ sym (get_or-eq_default rest [] beyond)
+
+pub turned_at : (slots : List (List ℕ)) (slot : List ℕ) (rest : List (List ℕ)) (k : ℕ) → slots ≡ slot ∷ rest →
+    slice_index_or (rest ++ [] ∷ []) k [] ≡ slice_index_or slots (suc k) []
+turned_at slots slot rest k is =
+    turned_when rest k (nat_lt k (length rest)) refl ∙ sym (ap (λ (xs : List (List ℕ)). slice_index_or xs (suc k) []) is)
+
+by_parts : (a b c : Bool) → b ≡ false → (a && b && c) ≡ false
+by_parts true b c none = rw none refl
+by_parts false b c none = refl
+
+by_change : {A : Type 0} (b : Bool) (x y : A) → cond (bit b == 0) x y ≡ cond b y x
+by_change true x y = refl
+by_change false x y = refl
+
+unexpected : (n : Circuit) (scope : Scope) (w u : ℕ) → is_decided n scope.known (driver n w) u ≡ false → is_expected n scope w u ≡ false
+unexpected n scope w u none = by_parts (change_at n w u) (is_decided n scope.known (driver n w) u) (scope.owns w u) none
+
+module _ (s new : Simulator) (set others : List ℕ) (time : ℕ) (sound : IsSound s) (fit : CanApply s set others time) (is : IsApplied s new set others time) where
+  slot_is : (k : ℕ) → slot_at new k ≡ slot_at s (suc k)
+  slot_is k = ap (λ (xs : List (List ℕ)). slice_index_or xs k []) is.turned ∙ turned_at s.wheel is.slot is.rest k is.taken
+
+  long_as : length new.wheel ≡ length s.wheel
+  long_as = ap (length {A = List ℕ}) is.turned ∙ turned_length is.slot is.rest ∙ sym (ap (length {A = List ℕ}) is.taken)
+
+  waved_as : length new.waves.items ≡ length s.waves.items
+  waved_as = is.waves.placed
+
+  numbered_now : (units : ℕ → UnitState) → AreNumbered s.states.items units → AreNumbered new.states.items (λ q. with_events (units q) (state_at new.states.items q))
+  numbered_now units numbered q within =
+      let long = is.places in
+      numbered_with (units q) (state_at s.states.items q) (state_at new.states.items q)
+      (events_for q (entries_from s.fanout (next_slot s ++ set) ++ entries_from s.fanout others))
+      (numbered q (omega arith)) (is.added.each q) (fit.adding.room q)
+
+  pub applied_sound : IsSound new
+  applied_sound = record {
+    units = λ q. with_events (sound.units q) (state_at new.states.items q);
+    numbered = numbered_now sound.units sound.numbered;
+    events = is.adding;
+    outputs = ap (length {A = OutputPorts}) is.outputs ∙ sound.outputs ∙ sym is.places;
+    rows = let rows = sound.rows in let a = waved_as in let b = ap (length {A = List FanoutEntry}) is.fanout in omega arith;
+    some = let some = sound.some in let a = long_as in omega arith;
+    within = subst (λ (xs : List OutputPorts). All (HaveSlots (length new.wheel)) xs) (sym is.outputs) (subst (λ k. All (HaveSlots k) s.outputs.items) (sym long_as) sound.within);
+    driven = subst (λ (xs : List OutputPorts). All (AreBelow (length new.waves.items)) xs) (sym is.outputs) (subst (λ k. All (AreBelow k) s.outputs.items) (sym waved_as) sound.driven);
+    waved = λ w k high. ap (λ xs. listed w xs) (slot_is k) ∙ (let a = waved_as in sound.waved w (suc k) (omega arith));
+  }
+
+  module _ (n : Circuit) (ok : IsCircuit n) (scope : Scope) (t : ℕ) (now : time ≡ t + 1) (before : IsBefore n scope t s) (due : AreDue n scope t (next_slot s ++ set) others) where
+    layout_now : IsLaidOut n scope new
+    layout_now =
+        let b = before.stands.layout in
+        record {
+          ports = λ q. subst (λ (rows : List (List FanoutEntry)). HasPorts rows q (scope.inputs q)) (sym is.fanout) (b.ports q);
+          seats = λ m q r at place.
+              let seat = b.seats m q r at place in
+              record {
+                within = let a = seat.within in let long = is.places in omega arith;
+                active = seat.active;
+                of_bits = seat.of_bits;
+                state_bits = seat.state_bits;
+                input_bits = seat.input_bits;
+                reads = seat.reads;
+                drives = ap (λ (xs : List OutputPorts). ports_at xs q) is.outputs ∙ seat.drives;
+                owned = seat.owned;
+              };
+          placed = λ q within active. b.placed q (let long = is.places in omega arith) active;
+          traced = b.traced;
+        }
+
+    -- what a place hears in this unit
+    heard : List ℕ
+    heard = (next_slot s ++ set) ++ others
+
+    entries_are : entries_from s.fanout ((next_slot s ++ set) ++ others) ≡ entries_from s.fanout (next_slot s ++ set) ++ entries_from s.fanout others
+    entries_are = flat_map-append (row_at s.fanout) (next_slot s ++ set) others
+
+    -- the events of an active module
+    events_are : (m q : ℕ) (r : ModuleRecord) → module_at n m ≡ Some r → scope.place m ≡ Some q →
+        state_at new.states.items q % 16 ≡ events_code (events_in (state n m t) (inputs_by n (level n) r (t + 1)))
+    events_are m q r at place =
+        let seat = before.stands.layout.seats m q r at place in
+        let e = events_in (state n m t) (inputs_by n (level n) r (t + 1)) in
+        let own = ports_have_events n ok m t r scope.source (scope.inputs q) ((next_slot s ++ set) ++ others) at seat.reads (due.heard q seat.active) in
+        let sum = events_add_up s.fanout q (scope.inputs q) ((next_slot s ++ set) ++ others) e (before.stands.layout.ports q) own in
+        let parts = ap (λ xs. events_for q xs) entries_are in
+        let more = is.added.each q in
+        let was = before.stands.numbered q seat.within in
+        let quiet : events_code (before.stands.units q).events ≡ 0 = ap (λ (u : UnitState). events_code u.events) (before.stands.active m q r at place) in
+        let part = events_part (before.stands.units q) in
+        let old_part : state_at s.states.items q % 16 ≡ 0 = ap (λ k. k % 16) was ∙ part ∙ quiet in
+        let low = events_low e in
+        omega arith
+
+    units_now : (m q : ℕ) (r : ModuleRecord) → module_at n m ≡ Some r → scope.place m ≡ Some q →
+        with_events (before.stands.units q) (state_at new.states.items q) ≡ unit_state_at n r m t
+    units_now m q r at place =
+        ap (λ (u : UnitState). with_events u (state_at new.states.items q)) (before.stands.active m q r at place)
+        ∙ ap (λ (e : Events). let u : UnitState = record { automaton = automaton_of (built n r); phase = phase_of (built n r) (state n m t); events = e } in u)
+        (ap events_with (events_are m q r at place) ∙ events_of_code (events_in (state n m t) (inputs_by n (level n) r (t + 1))))
+
+    waves_now : HaveWaves n scope (t + 1) new
+    waves_now w within traced =
+        let low : w < length s.waves.items = (let a = waved_as in omega arith) in
+        is.waves.each w
+        ∙ ap (λ u. cond (listed w (next_slot s ++ set) == 0) (wave_at s.waves.items w) (toggled_at (wave_at s.waves.items w) u)) now
+        ∙ ap (λ (v : Waveform). cond (listed w (next_slot s ++ set) == 0) v (toggled_at v (t + 1))) (before.stands.waves w low traced)
+        ∙ ap (λ k. cond (k == 0) (wave_upto (level n w) t) (toggled_at (wave_upto (level n w) t) (t + 1))) (due.toggled w traced)
+        ∙ by_change (change_at n w (t + 1)) (wave_upto (level n w) t) (toggled_at (wave_upto (level n w) t) (t + 1))
+        ∙ ap (λ u. cond (not (level n w u == level n w (t + 1))) (toggled_at (wave_upto (level n w) t) (t + 1)) (wave_upto (level n w) t)) (let e : t + 1 - 1 ≡ t = omega arith in e)
+        ∙ sym (waves_grow (level n w) t (λ u. before.stands.layout.traced w u traced))
+
+    -- a change behind the last slot isn't known
+    undecided : (w u : ℕ) (d : Driver) → driver n w ≡ d → t + 1 + length s.wheel ≤ u → is_decided n scope.known (driver n w) u ≡ false
+    undecided w u Nothing drives far = ap (λ (d : Driver). is_decided n scope.known d u) drives
+    undecided w u Stimulus drives far = ap (λ (d : Driver). is_decided n scope.known d u) drives
+    undecided w u (Port m p) drives far =
+        let drv = finds_only_ports n w p m drives in
+        let room = before.stands.room w p m drv.part drives drv.stands in
+        let late : nat_lt u (scope.known m.0 + delay_of drv.part p) ≡ false = grind (arith, nat_tests) in
+        ap (λ (d : Driver). is_decided n scope.known d u) drives
+        ∙ ap (λ slot. nat_lt u (scope.known m.0 + delay_in slot p)) drv.stands
+        ∙ late
+
+    slot_when : (w k : ℕ) (low : Bool) → nat_lt (suc k) (length s.wheel) ≡ low → listed w (slot_at s (suc k)) ≡ bit (is_expected n scope w (t + 1 + 1 + k))
+    slot_when w k true low =
+        let within : suc k < length s.wheel = grind (arith, nat_tests) in
+        let same : t + 1 + suc k ≡ t + 1 + 1 + k = omega arith in
+        before.stands.events w (suc k) within ∙ ap (λ u. bit (is_expected n scope w u)) same
+    slot_when w k false low =
+        let beyond : length s.wheel ≤ suc k = grind (arith, nat_tests) in
+        ap (λ xs. listed w xs) (get_or-eq_default s.wheel [] beyond)
+        ∙ sym (ap bit (unexpected n scope w (t + 1 + 1 + k)
+        (undecided w (t + 1 + 1 + k) (driver n w) refl (omega arith))))
+
+    events_now : HaveEvents n scope (t + 1) new
+    events_now w k within =
+        ap (λ xs. listed w xs) (slot_is k)
+        ∙ slot_when w k (nat_lt (suc k) (length s.wheel)) refl
+
+    pub applied : IsDuring n scope t new
+    applied = record {
+      layout = layout_now;
+      units = λ q. with_events (before.stands.units q) (state_at new.states.items q);
+      numbered = numbered_now before.stands.units before.stands.numbered;
+      asleep = before.stands.asleep;
+      active = units_now;
+      answered = before.stands.answered;
+      waves = waves_now;
+      events = events_now;
+      room = λ w p m r drives at. let a = before.stands.room w p m r drives at in let b = long_as in omega arith;
+    }

@@ -1,0 +1,9 @@
+pub mod StayLemmas
+pub mod ChangeLemmas
+pub mod PortEventLemmas
+pub mod AdvanceLemmas
+pub mod ScheduleLemmas
+pub mod ListedLemmas
+pub mod NumberLemmas
+pub mod ApplyLemmas
+pub mod FireLemmas

@@ -1,0 +1,45 @@
+-- Simulators that can go on, whatever they simulate.
+use Rattle.std.specs.Prelude.{◌≡◌, ℕ, ◌<◌, ◌≤◌, List, [], All, Some, length, slice_index_or, ◌++◌}
+use Rattle.mp_events.specs.declared.output_port.OutputPort.{OutputPort}
+use Rattle.mp_events.specs.declared.output_ports.OutputPorts.{OutputPorts}
+use Rattle.mp_events.specs.Adding.{listed, IsAdding}
+use Rattle.mp_events.specs.Toggling.{entries_from, CanToggle}
+use Rattle.mp_events.specs.Firing.{UnitState, HaveSlots, AreNumbered}
+use Rattle.mp_core.specs.declared.simulator.Simulator.{Simulator}
+
+-- the wires that toggle in the next unit, so far as this is known
+abbrev pub next_slot : Simulator → List ℕ
+next_slot s = slice_index_or s.wheel 0 []
+
+abbrev pub slot_at : Simulator → ℕ → List ℕ
+slot_at s k = slice_index_or s.wheel k []
+
+abbrev pub IsBelow : ℕ → OutputPort → Type 0
+IsBelow wires port = (w : ℕ) → port.wire ≡ Some w → w < wires
+
+-- the outputs drive wires below a number
+pub record AreBelow (wires : ℕ) (ports : OutputPorts) : Type 0 where
+  pub first : IsBelow wires ports.first
+  pub second : IsBelow wires ports.second
+  pub third : IsBelow wires ports.third
+
+-- each state is that of an automaton; a module is due where it has an event, once; each module has its outputs, each wire a wave and a row of
+-- inputs; the wheel has a slot for each delay, and each wire in it has a wave
+pub record IsSound (s : Simulator) : Type 0 where
+  pub units : ℕ → UnitState
+  pub numbered : AreNumbered s.states.items units
+  pub events : IsAdding s.states.items s.due.items []
+  pub outputs : length s.outputs.items ≡ length s.states.items
+  pub rows : length s.waves.items ≤ length s.fanout
+  pub some : 0 < length s.wheel
+  pub within : All (HaveSlots (length s.wheel)) s.outputs.items
+  pub driven : All (AreBelow (length s.waves.items)) s.outputs.items
+  pub waved : (w k : ℕ) → length s.waves.items ≤ w → listed w (slot_at s k) ≡ 0
+
+-- at a time the wires of the next slot and further ones can toggle, and other numbers can be heard: each is there once, their waves are over
+-- before, and each input that reads them has had no event
+pub record CanApply (s : Simulator) (set others : List ℕ) (time : ℕ) : Type 0 where
+  pub waved : All (λ w. w < length s.waves.items) set
+  pub rowed : All (λ x. x < length s.fanout) others
+  pub over : CanToggle s.waves.items (next_slot s ++ set) time
+  pub adding : IsAdding s.states.items s.due.items (entries_from s.fanout (next_slot s ++ set) ++ entries_from s.fanout others)

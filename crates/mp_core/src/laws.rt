@@ -1,0 +1,52 @@
+//! Laws of changes: when wires change, which events modules have, and what they schedule.
+
+ghost use Rattle.mp_core.specs.ChangeLaws.{PortsChange, PortsBegin, PortsWait, InputsChange, RestsWithoutEvents, WavesGrow, StatesStay};
+ghost use Rattle.mp_core.specs.PortEvents.{PortsHaveEvents};
+ghost use Rattle.mp_core.specs.Advancing.{StatesAdvance};
+ghost use Rattle.mp_core.specs.Schedules.{FiringSchedules, FiringLeavesOthers};
+
+/// A wire that a port drives changes where the module's output did, the port's delay before: first where the settled level isn't the
+/// initial one, and never before its delay is over.
+pub fn ports_change()
+    ensures later { PortsChange }
+    ensures first { PortsBegin }
+    ensures before { PortsWait }
+{}
+
+/// An input has an event where its wire changed, the input's delay before.
+pub fn inputs_change()
+    ensures { InputsChange }
+{}
+
+/// The ports of a module have its events where each wire that it reads, or the delayed copy of one, is listed once if it changes, and else
+/// not.
+pub fn ports_have_events()
+    ensures { PortsHaveEvents }
+{}
+
+/// A module of width 1 that has no event in a unit stays in its phase, and no output of it toggles.
+pub fn rests_without_events()
+    ensures { RestsWithoutEvents }
+{}
+
+/// A state of a module stays while its inputs have the levels that it holds.
+pub fn states_stay()
+    ensures { StatesStay }
+{}
+
+/// A module of width 1 that has had its events goes on to its next phase, and just those outputs toggle that differ.
+pub fn states_advance()
+    ensures { StatesAdvance }
+{}
+
+/// The wave of a wire of width 1 up to the next unit is one toggle more where the wire changes there, and else the same.
+pub fn waves_grow()
+    ensures { WavesGrow }
+{}
+
+/// When modules fire, a wire that an active one drives comes once more into the slot of the change that this decides, where it has that
+/// change, and no other wire comes into any slot.
+pub fn firing_schedules()
+    ensures driven { FiringSchedules }
+    ensures others { FiringLeavesOthers }
+{}

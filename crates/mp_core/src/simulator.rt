@@ -1,0 +1,72 @@
+//! A simulator of modules of width 1.
+ghost use Rattle.std.specs.Prelude.{◌≡◌};
+
+use mp_automata::{AutomatonState, TransitionTable};
+use mp_events::{
+    EventWheel, Fanout, OutputPorts, ToggleWave, add_fanout_events, fire_modules, toggle_wires,
+};
+use std::alloc::AllocError;
+
+/// The modules of width 1 of a netlist, so far as they stand in one: each has a place, with its state and its outputs. The fanout tells of each
+/// number which inputs read it: the numbers of wires, and behind them those of their delayed copies. Modules that have had an event in
+/// this unit are due. Each wire of width 1 has a wave, and the wheel has the events to come.
+#[derive(Drop)]
+pub struct Simulator {
+    pub table: TransitionTable,
+    pub fanout: Fanout,
+    pub outputs: Vec<OutputPorts>,
+    pub states: Vec<AutomatonState>,
+    pub due: Vec<u16>,
+    pub waves: Vec<ToggleWave>,
+    pub wheel: EventWheel,
+}
+
+impl Simulator {
+    ghost use Rattle.std.specs.Prelude.{◌≡◌, ℕ, ◌+◌, ◌++◌, OnOk};
+    ghost use Rattle.mp_netlist.specs.Circuit.{Circuit, IsCircuit};
+    ghost use Rattle.mp_core.specs.Scopes.{Scope, with_answers};
+    ghost use Rattle.mp_core.specs.Simulators.{next_slot, IsSound, CanApply};
+    ghost use Rattle.mp_core.specs.Units.{IsBefore, IsDuring, AreDue};
+
+    /// The next unit begins: the wires of its slot toggle, and these others that are set from outside. Inputs that read them have an event, and
+    /// so do those that read other numbers that have a change in this unit.
+    pub fn apply_events(&mut self, set: &[u16], others: &[u16], time: u32) -> Result<(), AllocError>
+        requires sound { IsSound self.old }
+        requires fit { CanApply self.old set.now others.now time }
+        ensures sound { OnOk result (IsSound self.new) }
+        ensures applied { OnOk result ((n : Circuit) (scope : Scope) (t : ℕ) → IsCircuit n → time ≡ t + 1 → IsBefore n scope t self.old →
+            AreDue n scope t (next_slot self.old ++ set.now) others.now → IsDuring n scope t self.new) }
+    {
+        let mut slot = self.wheel.take_slot();
+        slot.extend_from_slice(set)?;
+        toggle_wires(
+            &self.fanout,
+            &mut self.states,
+            &mut self.due,
+            &mut self.waves,
+            slot.as_slice(),
+            time,
+        )?;
+        add_fanout_events(&self.fanout, &mut self.states, &mut self.due, others)?;
+        self.wheel.return_slot(slot)?;
+        Ok(())
+    }
+
+    /// The modules that are due fire, and none is due then.
+    pub fn fire(&mut self) -> Result<(), AllocError>
+        requires sound { IsSound self.old }
+        ensures sound { OnOk result (IsSound self.new) }
+        ensures fired { OnOk result ((n : Circuit) (scope : Scope) (t : ℕ) → IsCircuit n → IsDuring n scope t self.old →
+            IsBefore n (with_answers scope (t + 2)) (t + 1) self.new) }
+    {
+        fire_modules(
+            &self.table,
+            self.outputs.as_slice(),
+            &mut self.states,
+            &mut self.wheel,
+            self.due.as_slice(),
+        )?;
+        self.due.clear();
+        Ok(())
+    }
+}
