@@ -1,8 +1,8 @@
 //! Devices that give and take bytes in small parts, and devices that fail.
-ghost use Rattle.std.specs.Prelude.{◌≡◌, ◌-◌, ◌^◌, ◌<◌, ◌∷◌, []};
+ghost use Rattle.std.specs.Prelude.{◌≡◌, ◌∷◌, []};
 
 use mp_streams::{
-    Failed, Piece, ReadSource, Sink, Source, TakeError, WriteBuffer, WriteSink, put_all, take_all,
+    Failed, Out, Piece, ReadSource, Sink, Source, TakeError, Text, WriteSink, put_all, take_all,
 };
 use std::alloc::Global;
 use std::io;
@@ -113,18 +113,12 @@ fn seven_bytes_and_a_fault(rt: HostRuntime) {
     }
 }
 
-/// Puts the text, the filling and the text again through the buffer.
-fn put_through(
-    buffer: &mut WriteBuffer,
-    sink: &mut WriteSink<SmallWriter>,
-    filling: &[u8],
-) -> Result<(), Failed>
-    requires { sink.old.faults < 2 ^ 64 - 1 }
-{
-    buffer.push(sink, TEXT)?;
-    buffer.push(sink, filling)?;
-    buffer.push(sink, TEXT)?;
-    buffer.flush(sink)
+/// Writes the text, the filling and the text again, and passes all of it on.
+fn put_through(out: &mut Out<WriteSink<SmallWriter>>, filling: &[u8]) -> Result<(), Failed> {
+    out.put_bytes(TEXT)?;
+    out.put_bytes(filling)?;
+    out.put_bytes(TEXT)?;
+    out.flush()
 }
 
 #[test]
@@ -142,12 +136,12 @@ fn through_a_buffer(rt: HostRuntime) -> Result<(), Fail> {
         let mut whole = Vec::from_slice(rt.alloc(), TEXT)?;
         whole.extend_from_slice(filling.as_slice())?;
         whole.extend_from_slice(TEXT)?;
-        let mut buffer = WriteBuffer::new(rt.alloc())?;
-        let mut sink = small_writer(rt.alloc(), 1, room, true);
-        let ended = put_through(&mut buffer, &mut sink, filling.as_slice());
+        let mut out = Out::new(rt.alloc(), small_writer(rt.alloc(), 1, room, true))?;
+        let ended = put_through(&mut out, filling.as_slice());
         let most = room.min(whole.len());
         assert_eq!(rt; ended.is_ok(), most == whole.len());
-        assert!(rt; sink.into_inner().taken.as_slice() == &whole.as_slice()[..most]);
+        let taken = out.into_sink().into_inner().taken;
+        assert!(rt; taken.as_slice() == &whole.as_slice()[..most]);
     }
     Ok(())
 }
@@ -164,18 +158,12 @@ impl Piece for Letter {
     }
 }
 
-/// Puts so many letters through the buffer.
-fn put_letters(
-    buffer: &mut WriteBuffer,
-    sink: &mut WriteSink<SmallWriter>,
-    count: usize,
-) -> Result<(), Failed>
-    requires { sink.old.faults < 2 ^ 64 - 1 }
-{
+/// Writes so many letters, and passes all of them on.
+fn put_letters(out: &mut Out<WriteSink<SmallWriter>>, count: usize) -> Result<(), Failed> {
     'letters: for _ in 0..count {
-        buffer.push_piece(sink, &Letter)?;
+        out.put_piece(&Letter)?;
     }
-    buffer.flush(sink)
+    out.flush()
 }
 
 #[test]
@@ -187,12 +175,25 @@ fn pieces_through_a_buffer(rt: HostRuntime) -> Result<(), Fail> {
         (65_600, 65_500),
     ] {
         let whole = vec![in rt.alloc(); b'a'; count]?;
-        let mut buffer = WriteBuffer::new(rt.alloc())?;
-        let mut sink = small_writer(rt.alloc(), 70_000, room, true);
-        let ended = put_letters(&mut buffer, &mut sink, count);
+        let mut out = Out::new(rt.alloc(), small_writer(rt.alloc(), 70_000, room, true))?;
+        let ended = put_letters(&mut out, count);
         let most = room.min(count);
         assert_eq!(rt; ended.is_ok(), most == count);
-        assert!(rt; sink.into_inner().taken.as_slice() == &whole.as_slice()[..most]);
+        let taken = out.into_sink().into_inner().taken;
+        assert!(rt; taken.as_slice() == &whole.as_slice()[..most]);
     }
+    Ok(())
+}
+
+#[test]
+fn texts_in_order(rt: HostRuntime) -> Result<(), Fail> {
+    let mut out = Out::new(rt.alloc(), WriteSink::new(Vec::new(rt.alloc())))?;
+    let bytes: &[u8] = b"wire";
+    (bytes, " a ", 18_446_744_073_709_551_615u64, (0u32, "\n")).put_to(&mut out)?;
+    (&"of ", (7u64, "/")).put_to(&mut out)?;
+    out.put_byte(b'4')?;
+    out.flush()?;
+    let written = out.into_sink().into_inner();
+    assert!(rt; written.as_slice() == b"wire a 184467440737095516150\nof 7/4".as_slice());
     Ok(())
 }

@@ -1,4 +1,3 @@
 pub mod PlaceLemmas
 pub mod StreamLemmas
-pub mod BufferLemmas
 pub mod OutLemmas

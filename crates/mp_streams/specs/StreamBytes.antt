@@ -1,14 +1,10 @@
 -- What calls do to the known bytes of a sink or a source, beside std's words for all of some bytes.
-use Rattle.std.specs.Prelude.{◌≡◌, ℕ, ◌<◌, ◌≤◌, List, ◌++◌, length, take, Option}
+use Rattle.std.specs.Prelude.{ℕ, ◌<◌, ◌≤◌, List, length, take, Option}
 use Rattle.std.specs.Io.KnownBytes.{Appends, Consumes}
 
 -- known bytes grew by a part of these from their front, and not by all of them
 abbrev pub AppendsPrefix : Option (List ℕ) → Option (List ℕ) → List ℕ → Type 0
 AppendsPrefix old new bytes = (n : ℕ) × (n < length bytes) × Appends old new (take n bytes)
-
--- of the bytes that a buffer held and of these behind them, known bytes grew by the front, and the buffer holds the rest
-abbrev pub PassesOn : Option (List ℕ) → Option (List ℕ) → List ℕ → List ℕ → List ℕ → Type 0
-PassesOn old new held rest bytes = (front : List ℕ) × Appends old new front × (held ++ bytes ≡ front ++ rest)
 
 -- known bytes lost some bytes from their front, at most so many
 abbrev pub ConsumesUpTo : ℕ → Option (List ℕ) → Option (List ℕ) → Type 0

@@ -3,7 +3,7 @@ ghost use Rattle.std.specs.Prelude.{ℕ, ◌+◌, ◌≤◌, List, length};
 ghost use Rattle.mp_streams.specs.Places.{IsPlaced};
 
 /// How many bytes a piece has at most.
-pub const PIECE_BYTES: usize = 72;
+pub(crate) const PIECE_BYTES: usize = 72;
 
 /// A short text, that writes its bytes into a room.
 pub trait Piece {

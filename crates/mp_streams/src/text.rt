@@ -1,6 +1,5 @@
 //! Texts that are written one behind the other.
 ghost use Rattle.std.specs.Prelude.{◌≡◌, ℕ, List, ◌++◌};
-ghost use Rattle.std.specs.List.{flat_map};
 ghost use Rattle.std.specs.Fmt.{decimal};
 ghost use Rattle.mp_streams.specs.Outgoing.{Writes};
 
@@ -83,22 +82,5 @@ impl<A: Text, B: Text, C: Text, D: Text> Text for (A, B, C, D) {
 
     fn put_to<S: Sink>(&self, out: &mut Out<S>) -> Result<(), Failed> {
         (&self.0, (&self.1, &self.2, &self.3)).put_to(out)
-    }
-}
-
-/// Things one behind the other.
-#[derive(Clone, Copy)]
-pub struct Each<'a, T> {
-    pub items: &'a [T],
-}
-
-impl<'a, T: Text> Text for Each<'a, T> {
-    ghost text = { λ each. flat_map T.text each.items.now };
-
-    fn put_to<S: Sink>(&self, out: &mut Out<S>) -> Result<(), Failed> {
-        for item in self.items {
-            item.put_to(out)?;
-        }
-        Ok(())
     }
 }
