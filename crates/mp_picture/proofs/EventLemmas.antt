@@ -1,15 +1,12 @@
 -- The events of a level over some units.
-use Rattle.std.proofs.Common.{◌≡◌, ◌≢◌, ℕ, ◌+◌, ◌-◌, ◌<◌, ◌≤◌, Bool, true, false, cond, ◌==◌, length, get_or, map, max, zero, suc, refl, sym, ap, ◌∙◌, ◌⊎◌, inl, inr, ◌↔◌, zero-add, arith}
-use Rattle.std.proofs.lemmas.Bool.Decides.{nat_tests}
+use Rattle.std.proofs.Common.{◌≡◌, ◌≢◌, ℕ, ◌+◌, ◌-◌, ◌<◌, ◌≤◌, Bool, true, false, cond, ◌==◌, zero, suc, refl, sym, ap, ◌∙◌, ◌⊎◌, inl, inr, zero-add, arith}
 use Rattle.std.proofs.lemmas.Bool.{cases_lt, eqb-true, eqb-false}
 use Rattle.std.proofs.lemmas.List.FromFn.{get_or-map-range_with_len}
 use Rattle.std.specs.List.{count_by, range_with_len}
 use Rattle.mp_modules.specs.Histories.{has_event}
 use Rattle.mp_picture.specs.declared.cell.Cell.{Cell}
-use Rattle.mp_picture.specs.declared.cell.Events.{Events}
 use Rattle.mp_picture.specs.declared.cell.Events.TheVariants.{None, One, More}
-use Rattle.mp_picture.specs.declared.columns.Columns.{Columns}
-use Rattle.mp_picture.specs.Columns.{count, end}
+use Rattle.mp_picture.specs.Columns.{count}
 use Rattle.mp_picture.specs.Cells.{cell, cell_at, cells, event_count, events_of}
 use Rattle.mp_picture.specs.CellLaws.{IsOnlyChange, opens, StaysWithout, ChangesAtOne, TellsEvents, TellsLevels}
 use Rattle.mp_picture.proofs.CellLemmas.{no_event, an_event, first_counted}

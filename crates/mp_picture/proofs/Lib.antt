@@ -3,3 +3,5 @@ pub mod CellLemmas
 pub mod EventLemmas
 pub mod RowLemmas
 pub mod FoundLemmas
+pub mod WaveLemmas
+pub mod MarginLemmas

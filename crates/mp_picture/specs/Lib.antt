@@ -4,3 +4,5 @@ pub mod CellLaws
 pub mod Marks
 pub mod Rows
 pub mod Found
+pub mod Diagrams
+pub mod Graphs

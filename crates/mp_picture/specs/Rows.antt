@@ -7,6 +7,7 @@ use Rattle.mp_picture.specs.declared.cell.Cell.{Cell}
 use Rattle.mp_picture.specs.declared.cell.Events.{Events}
 use Rattle.mp_picture.specs.declared.cell.Events.TheVariants.{None, One, More}
 use Rattle.mp_picture.specs.declared.columns.Columns.{Columns}
+use Rattle.mp_picture.specs.declared.layout.Layout.{Layout}
 use Rattle.mp_picture.specs.declared.mark.Charset.{Charset}
 use Rattle.mp_picture.specs.declared.mark.Mark.TheVariants.{Flat, Cross}
 use Rattle.mp_picture.specs.Columns.{count, begin}
@@ -27,8 +28,10 @@ abbrev pub tick : Columns → ℕ → List ℕ
 tick c i = decimal (begin c (10 * i))
 
 -- blanks in place of a name, and the times, each filled to ten columns but the last
-abbrev pub ruler : ℕ → Columns → List ℕ
-ruler margin c = repeat margin (32 ∷ []) ++ (flat_map (λ i. padded 10 (tick c i)) (range_with_len 0 (last_tick c)) ++ (tick c (last_tick c) ++ (10 ∷ [])))
+abbrev pub ruler : Layout → List ℕ
+ruler layout =
+    let c = layout.columns in
+    repeat layout.margin (32 ∷ []) ++ (flat_map (λ i. padded 10 (tick c i)) (range_with_len 0 (last_tick c)) ++ (tick c (last_tick c) ++ (10 ∷ [])))
 
 -- ---- wires of width 1
 
@@ -73,9 +76,9 @@ run_text charset level room = fitting level room ++ repeat (room - length (fitti
 
 -- ---- a wire
 
-abbrev pub row_text : Charset → ℕ → ℕ → List Cell → List ℕ
-row_text charset units width cells = if width == 1 then narrow_text charset units cells else wide_text charset cells
+abbrev pub row_text : Layout → ℕ → List Cell → List ℕ
+row_text layout width cells = if width == 1 then narrow_text layout.charset layout.columns.units cells else wide_text layout.charset cells
 
 -- its name, filled to the width of the names, a character a column and a line feed
-abbrev pub wire_row : Charset → ℕ → ℕ → WireRecord → List Cell → List ℕ
-wire_row charset margin units wire cells = padded margin wire.name ++ (row_text charset units wire.width cells ++ (10 ∷ []))
+abbrev pub wire_row : Layout → WireRecord → List Cell → List ℕ
+wire_row layout wire cells = padded layout.margin wire.name ++ (row_text layout wire.width cells ++ (10 ∷ []))

@@ -26,6 +26,7 @@ impl Columns {
         requires some { 0 < most }
         ensures from { result.from ≡ range_from horizon from }
         ensures to { result.to ≡ range_to horizon from to }
+        ensures within { result.to ≤ horizon }
         ensures enough { result.to - result.from ≤ result.units * most }
         ensures fewest { (k : ℕ) → result.to - result.from ≤ k * most → result.units ≤ k }
     {

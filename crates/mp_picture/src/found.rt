@@ -6,6 +6,7 @@ ghost use Rattle.mp_picture.specs.Columns.{count};
 ghost use Rattle.mp_picture.specs.Found.{is_within, is_place, is_module, within, places_of, place_rows, marks, trimmed, place_name, place_row};
 
 use crate::columns::Columns;
+use crate::layout::Layout;
 use crate::repeated::push_padded;
 use mp_model::{Finding, Place};
 use mp_netlist::Netlist;
@@ -95,23 +96,22 @@ fn is_module(place: Place) -> bool
 pub fn push_place_row(
     row: &mut Vec<u8>,
     netlist: &Netlist,
-    margin: usize,
-    columns: Columns,
+    layout: Layout,
     place: Place,
     found: &[Finding],
 ) -> Result<(), AllocError>
-    requires { All (λ (f : Found). IsTrue (is_within columns f)) found.now }
-    ensures { OnOk result (row.new.items ≡ row.old.items ++ place_row netlist.now margin columns place found.now) }
+    requires { All (λ (f : Found). IsTrue (is_within layout.columns f)) found.now }
+    ensures { OnOk result (row.new.items ≡ row.old.items ++ place_row netlist.now layout place found.now) }
 {
-    push_padded(row, place_name(netlist, place).as_bytes(), margin)?;
-    let marks = marks_of(*row.allocator(), columns, place, found)?;
+    push_padded(row, place_name(netlist, place).as_bytes(), layout.margin)?;
+    let marks = marks_of(*row.allocator(), layout.columns, place, found)?;
     row.extend_from_slice(trimmed(marks.as_slice()))?;
     row.push(b'\n')?;
     Ok(())
 }
 
 /// The name of what stands at a place, and no text where nothing does.
-fn place_name(netlist: &Netlist, place: Place) -> &str
+pub(crate) fn place_name(netlist: &Netlist, place: Place) -> &str
     ensures { result.now ≡ place_name netlist.now place }
 {
     match place {

@@ -1,34 +1,69 @@
 //! The row of a wire.
 ghost use Rattle.std.specs.Prelude.{◌≡◌, ◌≤◌, ◌++◌, ◌∷◌, [], length, OnOk};
 ghost use Rattle.std.specs.List.{prefix_len};
-ghost use Rattle.mp_picture.specs.Rows.{is_still, narrow_text, wide_text, run_text, wire_row};
+ghost use Rattle.mp_model.specs.Waves.{AreWavesOf};
+ghost use Rattle.mp_wave.specs.Waveform.{level_of};
+ghost use Rattle.mp_picture.specs.Cells.{cells};
+ghost use Rattle.mp_picture.specs.Diagrams.{wire_line};
+ghost use Rattle.mp_picture.specs.Rows.{is_still, narrow_text, wide_text, run_text, row_text, wire_row};
 
-use crate::cell::{Cell, Events};
+use crate::cell::{Cell, Events, cells};
+use crate::layout::Layout;
 use crate::mark::{Charset, Mark};
 use crate::repeated::{push_padded, push_repeated};
 use itoa::Buffer;
-use mp_netlist::WireRecord;
+use mp_model::Waves;
+use mp_netlist::{Netlist, WireId, WireRecord};
+use mp_wave::Wave;
 use std::alloc::AllocError;
 
-/// Puts the row of a wire behind the text: its name, filled with blanks to the width of the names, a character a column, and a line feed.
-pub fn push_wire_row(
+/// Puts the row of a wire behind the text, given the waves of its netlist, and nothing where no wire stands: its name, filled with blanks
+/// to the width of the names, a character a column, and a line feed.
+pub fn push_wire_line(
     row: &mut Vec<u8>,
-    charset: Charset,
-    margin: usize,
-    units: u32,
-    wire: &WireRecord,
-    cells: &[Cell],
+    netlist: &Netlist,
+    waves: &Waves,
+    layout: Layout,
+    wire: WireId,
 ) -> Result<(), AllocError>
-    ensures { OnOk result (row.new.items ≡ row.old.items ++ wire_row charset margin units wire.now cells.now) }
+    requires waves { AreWavesOf netlist.now waves.now }
+    requires within { layout.columns.to ≤ netlist.now.horizon }
+    ensures { OnOk result (row.new.items ≡ row.old.items ++ wire_line netlist.now layout wire) }
 {
-    push_padded(row, wire.name.as_str().as_bytes(), margin)?;
-    if wire.width == 1 {
-        push_narrow(row, charset, units, cells)?;
-    } else {
-        push_wide(row, charset, cells)?;
+    match (netlist.wire(wire), waves.of(wire)) {
+        (Some(found), Some(wave)) => push_wave_row(row, layout, found, wave),
+        _ => Ok(()),
     }
+}
+
+fn push_wave_row(
+    row: &mut Vec<u8>,
+    layout: Layout,
+    wire: &WireRecord,
+    wave: &Wave,
+) -> Result<(), AllocError>
+    ensures { OnOk result (row.new.items ≡ row.old.items ++ wire_row layout wire.now (cells (level_of wave.now) layout.columns)) }
+{
+    let cells = cells(*row.allocator(), wave, layout.columns)?;
+    push_padded(row, wire.name.as_str().as_bytes(), layout.margin)?;
+    push_cells(row, layout, wire.width, cells.as_slice())?;
     row.push(b'\n')?;
     Ok(())
+}
+
+fn push_cells(
+    row: &mut Vec<u8>,
+    layout: Layout,
+    width: u32,
+    cells: &[Cell],
+) -> Result<(), AllocError>
+    ensures { OnOk result (row.new.items ≡ row.old.items ++ row_text layout width cells.now) }
+{
+    if width == 1 {
+        push_narrow(row, layout.charset, layout.columns.units, cells)
+    } else {
+        push_wide(row, layout.charset, cells)
+    }
 }
 
 /// Puts a mark for each column of a wire of width 1.

@@ -3,6 +3,7 @@ ghost use Rattle.std.specs.Prelude.{◌≡◌, ◌++◌, ◌*◌, ◌≤◌, OnO
 ghost use Rattle.mp_picture.specs.Rows.{ruler, padded, tick, last_tick};
 
 use crate::columns::Columns;
+use crate::layout::Layout;
 use crate::repeated::{push_padded, push_repeated};
 use itoa::Buffer;
 use mp_words::push_number;
@@ -12,11 +13,12 @@ use std::alloc::AllocError;
 const TICK: u32 = 10;
 
 /// Puts the line of times behind the text: at each tenth column the time at which it begins. No blanks stand behind the last.
-pub fn push_ruler(row: &mut Vec<u8>, margin: usize, columns: Columns) -> Result<(), AllocError>
-    ensures { OnOk result (row.new.items ≡ row.old.items ++ ruler margin columns) }
+pub fn push_ruler(row: &mut Vec<u8>, layout: Layout) -> Result<(), AllocError>
+    ensures { OnOk result (row.new.items ≡ row.old.items ++ ruler layout) }
 {
+    let columns = layout.columns;
     let last = (columns.count() - 1) / TICK;
-    push_repeated(row, b" ", margin)?;
+    push_repeated(row, b" ", layout.margin)?;
     for number in 0..last {
         push_tick(row, columns, number)?;
     }

@@ -6,9 +6,9 @@ use Rattle.mp_picture.proofs.ruler.push_ruler.Goals as goal
 
 pub loop-number-preserved : goal.loop-number-preserved
 loop-number-preserved c =
-    let f = λ (i : ℕ). padded 10 (tick c.args.columns i) in
+    let f = λ (i : ℕ). padded 10 (tick c.args.layout.columns i) in
     let old = c.args.row.now.items in
-    let blanks = repeat c.args.margin (32 ∷ []) in
+    let blanks = repeat c.args.layout.margin (32 ∷ []) in
     let j = c.loop-number.number in
     let done = flat_map f (range_with_len 0 j) in
     c.in_ok-push_tick.ensures

@@ -5,4 +5,4 @@ use Rattle.mp_picture.proofs.ruler.push_ruler.Given as goal
 
 -- the blanks and the times so far
 abbrev pub invariant-loop-number : goal.invariant-loop-number
-invariant-loop-number l = l.row.items ≡ l.fn.row.items ++ (repeat l.margin (32 ∷ []) ++ flat_map (λ i. padded 10 (tick l.columns i)) (range_with_len 0 l.number))
+invariant-loop-number l = l.row.items ≡ l.fn.row.items ++ (repeat l.fn.layout.margin (32 ∷ []) ++ flat_map (λ i. padded 10 (tick l.fn.layout.columns i)) (range_with_len 0 l.number))

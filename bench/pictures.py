@@ -1,0 +1,101 @@
+"""The pictures of a netlist's waves, and the netlist as a graph, computed once more in Python. Netlists are as in `reference.py`; the
+modules' names are `module_names`."""
+import reference
+
+UNICODE = "▁▔╱╲▒═╳"
+ASCII = "_-/\\#=X"
+
+SHAPES = {"C": "circle", "REG": "box", "BUF": "triangle", "NOT": "triangle"}
+SHAPES |= dict.fromkeys(["ADDC", "XORC", "SUM", "BIT"], "ellipse")
+SHAPES |= dict.fromkeys(["XOR", "TOGGLE", "SELECT", "CALL", "ARBITER"], "diamond")
+
+
+class Columns:
+    """A range of units below a horizon, in at most so many columns of the fewest units each."""
+
+    def __init__(self, horizon, begin, end, most):
+        self.begin = min(begin, horizon - 1)
+        self.end = max(min(end, horizon), self.begin + 1)
+        self.units = next(units for units in range(1, self.end + 1) if units * most >= self.end - self.begin)
+        self.begins = list(range(self.begin, self.end, self.units))
+
+    def spans(self):
+        return [range(begin, min(begin + self.units, self.end)) for begin in self.begins]
+
+    def cells(self, line):
+        """How many events a wire has in each column, and its level at the column's end; none counts at the range's first unit."""
+        events = [sum(line[time] != line[time - 1] for time in span if time > self.begin) for span in self.spans()]
+        return [(count, line[span[-1]]) for count, span in zip(events, self.spans())]
+
+
+def narrow(cells, units, marks):
+    low_high, rise_fall, busy = marks[:2], marks[3:1:-1], marks[4]
+    return "".join(low_high[level] if not count or (count == 1 and units == 1) else rise_fall[level] if count == 1 else busy for count, level in cells)
+
+
+def wide(cells, marks):
+    """Flat columns, crosses at events, and behind each cross, and at the first column, the level where it fits."""
+    row = [marks[6] if count else marks[5] for count, _ in cells]
+    crosses = [column for column, (count, _) in enumerate(cells) if count]
+    starts = [(cross + 1, cells[cross][1]) for cross in crosses] + ([] if cells[0][0] else [(0, cells[0][1])])
+    for start, level in starts:
+        room = next((cross for cross in crosses if cross >= start), len(row)) - start
+        if len(str(level)) <= room:
+            row[start : start + len(str(level))] = str(level)
+    return "".join(row)
+
+
+def ruler(columns):
+    return "".join(f"{begin:<10}" for begin in columns.begins[::10]).rstrip()
+
+
+def picture(netlist, levels, found, columns, wires, marks):
+    """What `show` writes for wires by number, from all findings in order."""
+    name = {"module": lambda n: netlist.module_names[n], "bundle": lambda n: netlist.bundles[n][0]}
+    found = [one for one in found if columns.begin <= one[0] < columns.end]
+    places = list(dict.fromkeys(one[1:3] for one in found))
+    places = [place for sort in ("module", "bundle") for place in places if place[0] == sort]
+    names = [netlist.wires[wire][0] for wire in wires] + [name[sort](number) for sort, number in places]
+    margin = max(map(len, names), default=0) + 2
+    lines = [" " * margin + ruler(columns)]
+    for wire in wires:
+        cells = columns.cells(levels[wire])
+        row = narrow(cells, columns.units, marks) if netlist.wires[wire][1] == 1 else wide(cells, marks)
+        lines.append(f"{netlist.wires[wire][0]:<{margin}}{row}")
+    for sort, number in places:
+        times = {one[0] for one in found if one[1:3] == (sort, number)}
+        row = "".join("!" if times & set(span) else " " for span in columns.spans())
+        lines.append(f"{name[sort](number):<{margin}}{row.rstrip()}")
+    lines += [f"{time} {sort} {name[sort](number)} {code}" for time, sort, number, code in found]
+    return "".join(f"{line}\n" for line in lines)
+
+
+def show(netlist, begin=0, end=None, most=72, names=None, marks=UNICODE):
+    """What `show` writes; of wires that are named, each once."""
+    levels, _, at_modules = reference.evaluated(netlist)
+    columns = Columns(netlist.horizon, begin, netlist.horizon if end is None else end, most)
+    standing = [number for number, wire in enumerate(netlist.wires) if wire]
+    wires = standing if names is None else list(dict.fromkeys(map(netlist.wire, names)))
+    return picture(netlist, levels, reference.findings(netlist, levels, at_modules), columns, wires, marks)
+
+
+def graph(netlist):
+    """What `graph` writes."""
+    name = lambda wire: netlist.wires[wire][0]
+    node = lambda sort, of, label, more: f'  "{sort} {of}" [label="{label}" {more}];'
+    modules = [(number, *found) for number, found in enumerate(netlist.modules) if found]
+    lines = ["digraph netlist {"]
+    for number, kind, params, _, _ in modules:
+        of = netlist.module_names[number]
+        lines.append(node("module", of, f"{of}\\n{' '.join([kind, *map(str, params)])}", f"shape={SHAPES[kind]}"))
+    driver = {wire: (number, delay) for number, *_, outputs in modules for wire, delay in outputs if wire is not None}
+    reads = [(wire, number, delay) for number, _, _, inputs, _ in modules for wire, delay in inputs]
+    lines += [node("wire", name(wire), name(wire), "shape=plaintext") for wire in sorted({read[0] for read in reads} - set(driver))]
+    for wire, number, delay in sorted(reads, key=lambda read: read[0]):
+        label = name(wire) + (f"/{delay}" if delay else "")
+        tail = f"module {netlist.module_names[driver[wire][0]]}" if wire in driver else f"wire {name(wire)}"
+        more = f' taillabel="{driver[wire][1]}"' if wire in driver else ""
+        lines.append(f'  "{tail}" -> "module {netlist.module_names[number]}" [label="{label}"{more}];')
+    for of, request, acknowledge, payload, _ in filter(None, netlist.bundles):
+        lines.append(node("bundle", of, f"{of}\\n{name(request)} {name(acknowledge)} {name(payload)}", "shape=box style=dashed"))
+    return "".join(f"{line}\n" for line in [*lines, "}"])

@@ -1,0 +1,140 @@
+-- A netlist as a graph, in the language of Graphviz.
+use Rattle.std.specs.Prelude.{ℕ, Bool, true, false, not, ◌&&◌, List, [], ◌∷◌, ◌++◌, map, length, Option, Some, None, codes, if◌then◌else◌}
+use Rattle.std.specs.List.{flat_map, range_with_len}
+use Rattle.std.specs.Fmt.{decimal}
+use Rattle.mp_modules.specs.declared.kind.Kind.{Kind}
+use Rattle.mp_modules.specs.declared.kind.Kind.TheVariants as kinds
+use Rattle.mp_modules.specs.Kinds.{word_of}
+use Rattle.mp_records.specs.declared.ids.ModuleId.{ModuleId}
+use Rattle.mp_records.specs.Inputs.{input_at}
+use Rattle.mp_records.specs.Outputs.{delay_of}
+use Rattle.mp_records.specs.declared.module_record.ModuleRecord.{ModuleRecord}
+use Rattle.mp_records.specs.declared.bundle_record.BundleRecord.{BundleRecord}
+use Rattle.mp_netlist.specs.declared.driver.Driver.{Driver}
+use Rattle.mp_netlist.specs.declared.driver.Driver.TheVariants.{Nothing, Stimulus, Port}
+use Rattle.mp_netlist.specs.Circuit.{Circuit, module_at}
+use Rattle.mp_netlist.specs.Drivers.{driver, is_port}
+use Rattle.mp_netlist.specs.Readers.{readers}
+use Rattle.mp_text.specs.Written.{spaced, wire_name, delay_text}
+use Rattle.mp_picture.specs.Found.{module_name}
+
+-- the node of what has a name, between quotes
+abbrev pub id : List ℕ → List ℕ → List ℕ
+id kind name = 34 ∷ (kind ++ (name ++ (34 ∷ [])))
+
+-- what the line of a node begins with, up to its label
+abbrev pub node_start : List ℕ → List ℕ → List ℕ
+node_start kind name = codes "  " ++ (id kind name ++ (codes " [label=" ++ (34 ∷ [])))
+
+-- the line of a node with a label, between quotes, and other attributes
+abbrev pub node : List ℕ → List ℕ → List ℕ → List ℕ → List ℕ
+node kind name label attributes = node_start kind name ++ (label ++ (34 ∷ (attributes ++ (codes "];" ++ (10 ∷ [])))))
+
+-- two lines of a label
+abbrev pub two_lines : List ℕ → List ℕ → List ℕ
+two_lines first second = first ++ (92 ∷ 110 ∷ second)
+
+-- ---- modules
+
+abbrev pub shape_of : Kind → List ℕ
+shape_of kinds.C = codes "circle"
+shape_of kinds.Reg = codes "box"
+shape_of kinds.AddC = codes "ellipse"
+shape_of kinds.XorC = codes "ellipse"
+shape_of kinds.Sum = codes "ellipse"
+shape_of kinds.Bit = codes "ellipse"
+shape_of kinds.Xor = codes "diamond"
+shape_of kinds.Toggle = codes "diamond"
+shape_of kinds.Select = codes "diamond"
+shape_of kinds.Call = codes "diamond"
+shape_of kinds.Arbiter = codes "diamond"
+shape_of kinds.Buf = codes "triangle"
+shape_of kinds.Not = codes "triangle"
+
+abbrev pub module_label : ModuleRecord → List ℕ
+module_label r = two_lines r.name (word_of r.kind ++ spaced (map decimal r.params))
+
+abbrev pub module_node : Option ModuleRecord → List ℕ
+module_node None = []
+module_node (Some r) = node (codes "module ") r.name (module_label r) (codes " shape=" ++ shape_of r.kind)
+
+-- ---- bundles
+
+abbrev pub bundle_label : Circuit → BundleRecord → List ℕ
+bundle_label n r = two_lines r.name (wire_name n r.request ++ (32 ∷ (wire_name n r.acknowledge ++ (32 ∷ wire_name n r.payload))))
+
+abbrev pub bundle_node : Circuit → Option BundleRecord → List ℕ
+bundle_node n None = []
+bundle_node n (Some r) = node (codes "bundle ") r.name (bundle_label n r) (codes " shape=box style=dashed")
+
+-- ---- wires that no port drives and a module reads
+
+abbrev pub has_some : List (ModuleId × ℕ) → Bool
+has_some [] = false
+has_some (reader ∷ others) = true
+
+abbrev pub is_source : Circuit → ℕ → Bool
+is_source n w = not (is_port (driver n w)) && has_some (readers n w)
+
+abbrev pub name_of : Circuit → ℕ → List ℕ
+name_of n w = wire_name n (record { 0 = w })
+
+abbrev pub source_node : List ℕ → List ℕ
+source_node name = node (codes "wire ") name name (codes " shape=plaintext")
+
+abbrev pub wire_node : Circuit → ℕ → List ℕ
+wire_node n w = if is_source n w then source_node (name_of n w) else []
+
+-- ---- reads
+
+-- the node of the module that drives a wire, or its own
+abbrev pub tail : Circuit → ℕ → Driver → List ℕ
+tail n w Nothing = id (codes "wire ") (name_of n w)
+tail n w Stimulus = id (codes "wire ") (name_of n w)
+tail n w (Port m p) = id (codes "module ") (module_name (module_at n m.0))
+
+-- the delay of a port
+abbrev pub input_delay : Option ModuleRecord → ℕ → ℕ
+input_delay None p = 0
+input_delay (Some r) p = (input_at r p).delay
+
+abbrev pub output_delay : Option ModuleRecord → ℕ → ℕ
+output_delay None p = 1
+output_delay (Some r) p = delay_of r p
+
+abbrev pub port_delay : ℕ → List ℕ
+port_delay delay = codes " taillabel=" ++ (34 ∷ (decimal delay ++ (34 ∷ [])))
+
+-- the delay of the port that drives a wire
+abbrev pub tail_label : Circuit → Driver → List ℕ
+tail_label n Nothing = []
+tail_label n Stimulus = []
+tail_label n (Port m p) = port_delay (output_delay (module_at n m.0) p)
+
+-- the nodes that a read joins
+abbrev pub ends : Circuit → ℕ → Driver → ModuleId → List ℕ
+ends n w from m = codes "  " ++ (tail n w from ++ (codes " -> " ++ id (codes "module ") (module_name (module_at n m.0))))
+
+-- the name of a wire, with the delay of the input that reads it where it has one
+abbrev pub edge_label : Circuit → ℕ → ℕ → List ℕ
+edge_label n w delay = codes " [label=" ++ (34 ∷ (name_of n w ++ (delay_text delay ++ (34 ∷ []))))
+
+-- the line of a read: from a wire's driver, or the wire, to the module that reads it
+abbrev pub edge : Circuit → ℕ → Driver → ModuleId × ℕ → List ℕ
+edge n w from (m, p) =
+    ends n w from m ++ (edge_label n w (input_delay (module_at n m.0) p) ++ (tail_label n from ++ (codes "];" ++ (10 ∷ []))))
+
+-- a line for each read of a wire
+abbrev pub wire_edges : Circuit → ℕ → List ℕ
+wire_edges n w = flat_map (edge n w (driver n w)) (readers n w)
+
+-- ---- the graph
+
+-- the modules, the wires that have a node, the reads by wire, and the bundles, each by number
+unfoldable pub graph : Circuit → List ℕ
+graph n =
+    codes "digraph netlist {" ++ (10 ∷ (flat_map module_node n.modules
+    ++ (flat_map (wire_node n) (range_with_len 0 (length n.wires))
+    ++ (flat_map (wire_edges n) (range_with_len 0 (length n.wires))
+    ++ (flat_map (bundle_node n) n.bundles
+    ++ (codes "}" ++ (10 ∷ [])))))))
