@@ -32,7 +32,7 @@ use Rattle.mp_events.specs.declared.fanout_entry.FanoutEntry.{FanoutEntry}
 use Rattle.mp_events.specs.declared.output_port.OutputPort.{OutputPort}
 use Rattle.mp_events.specs.declared.output_ports.OutputPorts.{OutputPorts}
 use Rattle.mp_events.specs.Adding.{state_at, listed, IsAdding}
-use Rattle.mp_events.specs.Toggling.{wave_at}
+use Rattle.mp_events.specs.Toggling.{row_at, wave_at}
 use Rattle.mp_events.specs.Ports.{HasPorts}
 use Rattle.mp_events.specs.Firing.{UnitState, reaction, number_of, next_state, events_of, AreNumbered, HaveFired, HasSlot, HaveSlots, ports_at, no_port, scheduled, fired_at, fired_by, is_entry}
 use Rattle.mp_events.proofs.EntryLemmas.{schedules_each}
@@ -208,6 +208,9 @@ module _ (s new : Simulator) (sound : IsSound s) (is : IsFired s new) where
     events = adding_now;
     outputs = ap (length {A = OutputPorts}) is.outputs ∙ sound.outputs ∙ sym is.places;
     rows = let rows = sound.rows in let a = ap (length {A = Waveform}) is.waves in let b = ap (length {A = List FanoutEntry}) is.fanout in omega arith;
+    placed = λ x. subst (λ (rows : List (List FanoutEntry)). All (λ (l : FanoutEntry). l.module < length new.states.items) (row_at rows x)) (sym is.fanout)
+        (subst (λ k. All (λ (l : FanoutEntry). l.module < k) (row_at s.fanout x)) (sym is.places) (sound.placed x));
+    eventful = λ x. subst (λ (rows : List (List FanoutEntry)). All (λ (l : FanoutEntry). 0 < l.event) (row_at rows x)) (sym is.fanout) (sound.eventful x);
     some = let some = sound.some in let a = is.units in omega arith;
     within = subst (λ (xs : List OutputPorts). All (HaveSlots (length new.wheel)) xs) (sym is.outputs) (subst (λ k. All (HaveSlots k) s.outputs.items) (sym is.units) sound.within);
     driven = subst (λ (xs : List OutputPorts). All (AreBelow (length new.waves.items)) xs) (sym is.outputs)

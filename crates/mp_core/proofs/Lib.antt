@@ -7,3 +7,5 @@ pub mod ListedLemmas
 pub mod NumberLemmas
 pub mod ApplyLemmas
 pub mod FireLemmas
+pub mod WidthLemmas
+pub mod CopyLemmas

@@ -18,7 +18,7 @@ use Rattle.mp_core.proofs.ChangeLemmas.{inputs_change}
 use Rattle.mp_core.proofs.StayLemmas.{step_inputs, settle_steps}
 
 -- a state holds the levels at its inputs
-held : (n : Circuit) → IsCircuit n → (m t : ℕ) (r : ModuleRecord) → module_at n m ≡ Some r → (state n m t).inputs ≡ input_levels (inputs_by n (level n) r t)
+pub held : (n : Circuit) → IsCircuit n → (m t : ℕ) (r : ModuleRecord) → module_at n m ≡ Some r → (state n m t).inputs ≡ input_levels (inputs_by n (level n) r t)
 held n ok m zero r at =
     let x = inputs_by n (level n) r 0 in
     ap (λ (s : Memory). s.inputs) ((satisfies n ok).settled m r at ∙ settle_steps (built n r) x) ∙ step_inputs (built n r) (seen x (start (built n r))) x

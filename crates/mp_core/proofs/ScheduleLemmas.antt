@@ -52,7 +52,7 @@ some x due = omega arith
 more : (x : ℕ) (due : List ℕ) (k : ℕ) → k < length due → suc k < length (x ∷ due)
 more x due k within = omega arith
 
-only_one : (g : ℕ → ℕ) (q : ℕ) (due : List ℕ) → All (λ x. x ≢ q → g x ≡ 0) due → sum_by g due ≡ listed q due * g q
+pub only_one : (g : ℕ → ℕ) (q : ℕ) (due : List ℕ) → All (λ x. x ≢ q → g x ≡ 0) due → sum_by g due ≡ listed q due * g q
 only_one g q [] none = omega arith
 only_one g q (x ∷ due) none =
     let here = one_term g q x (x == q) refl (none 0 x (some x due)) in

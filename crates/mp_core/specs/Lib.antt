@@ -6,3 +6,6 @@ pub mod Schedules
 pub mod Scopes
 pub mod Simulators
 pub mod Units
+pub mod UnitLaws
+pub mod Widths
+pub mod Copies

@@ -1,9 +1,10 @@
 -- Simulators that can go on, whatever they simulate.
 use Rattle.std.specs.Prelude.{◌≡◌, ℕ, ◌<◌, ◌≤◌, List, [], All, Some, length, slice_index_or, ◌++◌}
+use Rattle.mp_events.specs.declared.fanout_entry.FanoutEntry.{FanoutEntry}
 use Rattle.mp_events.specs.declared.output_port.OutputPort.{OutputPort}
 use Rattle.mp_events.specs.declared.output_ports.OutputPorts.{OutputPorts}
 use Rattle.mp_events.specs.Adding.{listed, IsAdding}
-use Rattle.mp_events.specs.Toggling.{entries_from, CanToggle}
+use Rattle.mp_events.specs.Toggling.{row_at, entries_from, CanToggle}
 use Rattle.mp_events.specs.Firing.{UnitState, HaveSlots, AreNumbered}
 use Rattle.mp_core.specs.declared.simulator.Simulator.{Simulator}
 
@@ -24,13 +25,15 @@ pub record AreBelow (wires : ℕ) (ports : OutputPorts) : Type 0 where
   pub third : IsBelow wires ports.third
 
 -- each state is that of an automaton; a module is due where it has an event, once; each module has its outputs, each wire a wave and a row of
--- inputs; the wheel has a slot for each delay, and each wire in it has a wave
+-- inputs, which stand at places and have the bits of events; the wheel has a slot for each delay, and each wire in it has a wave
 pub record IsSound (s : Simulator) : Type 0 where
   pub units : ℕ → UnitState
   pub numbered : AreNumbered s.states.items units
   pub events : IsAdding s.states.items s.due.items []
   pub outputs : length s.outputs.items ≡ length s.states.items
   pub rows : length s.waves.items ≤ length s.fanout
+  pub placed : (x : ℕ) → All (λ (l : FanoutEntry). l.module < length s.states.items) (row_at s.fanout x)
+  pub eventful : (x : ℕ) → All (λ (l : FanoutEntry). 0 < l.event) (row_at s.fanout x)
   pub some : 0 < length s.wheel
   pub within : All (HaveSlots (length s.wheel)) s.outputs.items
   pub driven : All (AreBelow (length s.waves.items)) s.outputs.items

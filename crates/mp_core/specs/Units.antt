@@ -1,5 +1,5 @@
 -- A simulator of a netlist before a unit, and within it.
-use Rattle.std.specs.Prelude.{◌≡◌, ℕ, ◌+◌, ◌<◌, ◌≤◌, true, false, List, [], Some, length, map, ◌++◌}
+use Rattle.std.specs.Prelude.{◌≡◌, ℕ, ◌+◌, ◌<◌, ◌≤◌, true, false, List, [], Some, length, map, ◌++◌, ◌&&◌}
 use Rattle.mp_wave.specs.Waveform.{wave_upto}
 use Rattle.mp_records.specs.declared.ids.ModuleId.{ModuleId}
 use Rattle.mp_records.specs.declared.module_record.ModuleRecord.{ModuleRecord}
@@ -83,8 +83,9 @@ pub record IsBefore (n : Circuit) (scope : Scope) (t : ℕ) (s : Simulator) : Ty
 abbrev pub IsDuring : Circuit → Scope → ℕ → Simulator → Type 0
 IsDuring n scope t s = Stands n scope t (t + 1) unit_state_at s
 
--- of the wires that are listed to toggle in the unit after t those whose waves are made here change then, and just those; active modules hear
--- all changes of what they read
+-- the wires that are listed to toggle in the unit after t are those that change then and whose waves are made here; nothing is listed twice; and
+-- active modules hear all changes of what they read
 pub record AreDue (n : Circuit) (scope : Scope) (t : ℕ) (wires others : List ℕ) : Type 0 where
-  pub toggled : (w : ℕ) → scope.traces w ≡ true → listed w wires ≡ bit (change_at n w (t + 1))
+  pub toggled : (w : ℕ) → listed w wires ≡ bit (change_at n w (t + 1) && scope.traces w)
+  pub once : (x : ℕ) → listed x (wires ++ others) ≤ 1
   pub heard : (q : ℕ) → scope.is_active q ≡ true → AreHeard n scope.source (wires ++ others) (t + 1) (scope.inputs q)

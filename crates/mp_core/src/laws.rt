@@ -4,6 +4,8 @@ ghost use Rattle.mp_core.specs.ChangeLaws.{PortsChange, PortsBegin, PortsWait, I
 ghost use Rattle.mp_core.specs.PortEvents.{PortsHaveEvents};
 ghost use Rattle.mp_core.specs.Advancing.{StatesAdvance};
 ghost use Rattle.mp_core.specs.Schedules.{FiringSchedules, FiringLeavesOthers};
+ghost use Rattle.mp_core.specs.Widths.{HaveBits};
+ghost use Rattle.mp_core.specs.UnitLaws.{CanApplyWhenDue};
 
 /// A wire that a port drives changes where the module's output did, the port's delay before: first where the settled level isn't the
 /// initial one, and never before its delay is over.
@@ -49,4 +51,14 @@ pub fn waves_grow()
 pub fn firing_schedules()
     ensures driven { FiringSchedules }
     ensures others { FiringLeavesOthers }
+{}
+
+/// A module of width 1 has ports of width 1, and levels of one bit at all times.
+pub fn modules_have_bits()
+    ensures { HaveBits }
+{}
+
+/// A simulator that stands before a unit of a netlist can apply what changes in it.
+pub fn applies_what_is_due()
+    ensures { CanApplyWhenDue }
 {}

@@ -1,7 +1,9 @@
 //! A simulator of modules of width 1, and why it is right.
 #![tactic(auto)]
 
+mod delayed_copies;
 pub mod laws;
 mod simulator;
 
+pub use delayed_copies::DelayedCopies;
 pub use simulator::Simulator;

@@ -1,5 +1,5 @@
 -- Which events the ports of a module have.
-use Rattle.std.proofs.Common.{◌≡◌, ℕ, ◌+◌, ◌*◌, ◌≤◌, Bool, true, false, cond, List, [], ◌∷◌, length, refl, sym, ap, ◌∙◌, arith}
+use Rattle.std.proofs.Common.{◌≡◌, ℕ, zero, suc, ◌+◌, ◌*◌, ◌<◌, ◌≤◌, Bool, true, false, cond, List, [], ◌∷◌, length, refl, sym, ap, ◌∙◌, arith}
 use Rattle.std.specs.Prelude.{◌==◌}
 use Rattle.std.proofs.lemmas.List.Sums.{sum_by-append}
 use Rattle.mp_automata.specs.Codes.{bit}
@@ -10,7 +10,7 @@ use Rattle.mp_events.specs.Ports.{weight, HasPorts, listed_at, EventsAddUp}
 use Rattle.mp_events.proofs.AddingLemmas.{added_append}
 
 -- the bits of the ports whose wires are listed, port after port
-abbrev weighted_sum : ℕ → List ℕ → List ℕ → ℕ
+abbrev pub weighted_sum : ℕ → List ℕ → List ℕ → ℕ
 weighted_sum unit [] wires = 0
 weighted_sum unit (port ∷ ports) wires = unit * listed port wires + weighted_sum (unit * 2) ports wires
 
@@ -37,14 +37,14 @@ sum_nil : (unit : ℕ) (ports : List ℕ) → weighted_sum unit ports [] ≡ 0
 sum_nil unit [] = refl
 sum_nil unit (port ∷ ports) = let rest = sum_nil (unit * 2) ports in let none : unit * 0 ≡ 0 = omega arith in omega arith
 
-added_sum : (rows : List (List FanoutEntry)) (m : ℕ) (ports wires : List ℕ) → HasPorts rows m ports → events_for m (entries_from rows wires) ≡ weighted_sum 1 ports wires
+pub added_sum : (rows : List (List FanoutEntry)) (m : ℕ) (ports wires : List ℕ) → HasPorts rows m ports → events_for m (entries_from rows wires) ≡ weighted_sum 1 ports wires
 added_sum rows m ports [] has = sym (sum_nil 1 ports)
 added_sum rows m ports (w ∷ wires) has =
     added_append m (row_at rows w) (entries_from rows wires) ∙
     (let here = has.each w in let rest = added_sum rows m ports wires has in let all = sum_cons 1 ports w wires in omega arith)
 
 -- of four ports at most
-by_ports : (ports wires : List ℕ) → length ports ≤ 4 →
+pub by_ports : (ports wires : List ℕ) → length ports ≤ 4 →
     weighted_sum 1 ports wires ≡ listed_at ports 0 wires + listed_at ports 1 wires * 2 + listed_at ports 2 wires * 4 + listed_at ports 3 wires * 8
 by_ports [] wires few = refl
 by_ports (a ∷ []) wires few = omega arith
@@ -57,3 +57,20 @@ pub events_add_up : EventsAddUp
 events_add_up rows m ports wires e has are =
     added_sum rows m ports wires has ∙ by_ports ports wires has.few ∙
     (let a = are.first in let b = are.second in let c = are.third in let d = are.fourth in omega arith)
+
+low_at : (ports wires : List ℕ) (p : ℕ) → ((w : ℕ) → listed w wires ≤ 1) → listed_at ports p wires ≤ 1
+low_at [] wires p once = omega arith
+low_at (port ∷ ports) wires zero once = once port
+low_at (port ∷ ports) wires (suc p) once = low_at ports wires p once
+
+-- where each wire is listed once at most, the events of a module have a number below 16
+pub few_events : (rows : List (List FanoutEntry)) (m : ℕ) (ports wires : List ℕ) → HasPorts rows m ports → ((w : ℕ) → listed w wires ≤ 1) →
+    events_for m (entries_from rows wires) < 16
+few_events rows m ports wires has once =
+    let sum = added_sum rows m ports wires has in
+    let parts = by_ports ports wires has.few in
+    let a = low_at ports wires 0 once in
+    let b = low_at ports wires 1 once in
+    let c = low_at ports wires 2 once in
+    let d = low_at ports wires 3 once in
+    omega arith

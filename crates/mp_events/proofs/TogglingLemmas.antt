@@ -37,7 +37,7 @@ same_yet waves now ws i time within over are =
 pub over_yet : (waves now : List Waveform) (ws : List ℕ) (i time : ℕ) → i < length ws → CanToggle waves ws time → AreToggled waves now (take i ws) time →
     last_time 0 (wave_at now (slice_index_or ws i 0)).changes < time
 over_yet waves now ws i time within over are =
-    subst (λ (w : Waveform). last_time 0 w.changes < time) (sym (same_yet waves now ws i time within over are)) (over.over (slice_index_or ws i 0))
+    subst (λ (w : Waveform). last_time 0 w.changes < time) (sym (same_yet waves now ws i time within over are)) (over.over i 0 within)
 
 rest_is : (rows : List (List FanoutEntry)) (ws : List ℕ) (i : ℕ) → i < length ws →
     entries_from rows (drop i ws) ≡ row_at rows (slice_index_or ws i 0) ++ entries_from rows (drop (suc i) ws)

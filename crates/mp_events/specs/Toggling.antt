@@ -1,5 +1,5 @@
 -- Wires of width 1 toggle, each at most once in a unit.
-use Rattle.std.specs.Prelude.{◌≡◌, ℕ, ◌<◌, ◌≤◌, List, [], length, slice_index_or, ◌==◌, if◌then◌else◌}
+use Rattle.std.specs.Prelude.{◌≡◌, ℕ, ◌<◌, ◌≤◌, List, [], All, length, slice_index_or, ◌==◌, if◌then◌else◌}
 use Rattle.std.specs.List.{flat_map}
 use Rattle.mp_wave.specs.Waveform.{Waveform, last_time}
 use Rattle.mp_events.specs.declared.fanout_entry.FanoutEntry.{FanoutEntry}
@@ -19,7 +19,7 @@ entries_from rows wires = flat_map (row_at rows) wires
 -- each of these wires is there once, and toggled only earlier
 pub record CanToggle (waves : List Waveform) (wires : List ℕ) (time : ℕ) : Type 0 where
   pub once : (w : ℕ) → listed w wires ≤ 1
-  pub over : (w : ℕ) → last_time 0 (wave_at waves w).changes < time
+  pub over : All (λ w. last_time 0 (wave_at waves w).changes < time) wires
 
 -- these wires toggle at a time, and the others don't
 pub record AreToggled (waves new : List Waveform) (wires : List ℕ) (time : ℕ) : Type 0 where

@@ -1,0 +1,170 @@
+-- Delayed copies toggle after what they stand after.
+use Rattle.std.proofs.Common.{◌≡◌, ◌≢◌, ℕ, suc, ◌+◌, ◌-◌, ◌*◌, ◌<◌, ◌≤◌, Bool, true, false, cond, List, [], ◌∷◌, ◌++◌, Option, Some, None, All, length, nat_lt, refl, sym, ap, ◌∙◌, arith}
+use Rattle.std.specs.Prelude.{◌==◌, ◌&&◌, slice_index_or}
+use Rattle.std.specs.List.{sum_by, count_by}
+use Rattle.std.proofs.lemmas.Bool.{eqb-true, eqb-false}
+use Rattle.std.proofs.lemmas.Bool.Decides.{nat_tests}
+use Rattle.std.proofs.lemmas.Grind.{flat_map-append}
+use Rattle.std.proofs.lemmas.List.{get_or_append_left}
+use Rattle.std.proofs.Math.ListN.{get_or-eq_default}
+use Rattle.mp_netlist.specs.Circuit.{Circuit}
+use Rattle.mp_automata.specs.Codes.{bit}
+use Rattle.mp_events.specs.declared.output_port.OutputPort.{OutputPort}
+use Rattle.mp_events.specs.Adding.{listed}
+use Rattle.mp_events.specs.Firing.{HasSlot, no_port, copy_at, entry_of, copied_from, scheduled, is_entry}
+use Rattle.mp_events.proofs.EntryLemmas.{schedules_each}
+use Rattle.mp_events.proofs.FiringLemmas.{scheduled_append}
+use Rattle.mp_core.specs.Changes.{change_at, late_change}
+use Rattle.mp_core.specs.Copies.{AreChained, later_by, HaveCopies, AreOriginals}
+use Rattle.mp_core.proofs.ScheduleLemmas.{inside, none_some, none_there, counted_own, counted_flat, only_one, sum_of_none}
+use Rattle.mp_core.proofs.ApplyLemmas.{turned_when}
+
+same_late : (e d u : ℕ) (late : Bool) → nat_lt e u ≡ late → nat_lt (e + d) (u + d) ≡ nat_lt e u
+same_late e d u true is = let now : nat_lt (e + d) (u + d) ≡ true = grind (arith, nat_tests) in now ∙ sym is
+same_late e d u false is = let now : nat_lt (e + d) (u + d) ≡ false = grind (arith, nat_tests) in now ∙ sym is
+
+-- a source that is later has its change so much later
+pub late_shift : (n : Circuit) (s r : ℕ × ℕ) (d u : ℕ) → s.0 ≡ r.0 → s.1 ≡ r.1 + d → late_change n s (u + d) ≡ late_change n r u
+late_shift n s r d u wire delay =
+    let test : nat_lt s.1 (u + d) ≡ nat_lt r.1 u = ap (λ k. nat_lt k (u + d)) delay ∙ same_late r.1 d u (nat_lt r.1 u) refl in
+    let time : u + d - s.1 ≡ u - r.1 = omega arith in
+    ap (λ b. cond b (change_at n s.0 (u + d - s.1)) false) test
+    ∙ ap (λ w. cond (nat_lt r.1 u) (change_at n w (u + d - s.1)) false) wire
+    ∙ ap (λ k. cond (nat_lt r.1 u) (change_at n r.0 k) false) time
+
+abbrev entries_of : List OutputPort → ℕ → ℕ → ℕ → ℕ
+entries_of next k x y = count_by (is_entry k x) (entry_of (copy_at next y))
+
+no_copy : (next : List OutputPort) (k x y : ℕ) → ((copy_at next y).wire ≡ Some x → ⊥) → entries_of next k x y ≡ 0
+no_copy next k x y other = none_there k x (copy_at next y).delay (copy_at next y).wire true other
+
+own_copy : (next : List OutputPort) (k x y : ℕ) → (copy_at next y).wire ≡ Some x → entries_of next k x y ≡ bit ((copy_at next y).delay - 1 == k)
+own_copy next k x y is =
+    ap (λ (o : Option ℕ). count_by (is_entry k x) (entry_of (let port : OutputPort = record { wire = o; delay = (copy_at next y).delay } in port))) is
+    ∙ counted_own k x (copy_at next y).delay true
+
+one_more : (c : Bool) → bit (c && false) + bit c * bit true ≡ bit (c && true)
+one_more true = refl
+one_more false = refl
+
+no_more : (d : Bool) (x : ℕ) → x + bit d * bit false ≡ x
+no_more true x = omega arith
+no_more false x = omega arith
+
+-- one more change of a copy is known, or none
+known_bits : (c d : Bool) (was is entry : Bool) → (entry ≡ true → (was ≡ false) × (is ≡ true) × (d ≡ c)) → (entry ≡ false → was ≡ is) →
+    bit (c && was) + bit d * bit entry ≡ bit (c && is)
+known_bits c d was is true now before = let facts = now refl in rw (facts.0, facts.1, facts.2) (one_more c)
+known_bits c d was is false now before = rw (before refl) (no_more d (bit (c && is)))
+
+same_below : (k d : ℕ) (t : Bool) → nat_lt k d ≡ t → (d - 1 ≡ k → ⊥) → nat_lt (k + 1) d ≡ nat_lt k d
+same_below k d true is other =
+    let low : k < d = grind (arith, nat_tests) in
+    let differs : d - 1 ≢ k = other in
+    let now : k + 1 < d = omega arith in
+    (let test : nat_lt (k + 1) d ≡ true = grind (arith, nat_tests) in test) ∙ sym is
+same_below k d false is other =
+    let high : d ≤ k = grind (arith, nat_tests) in
+    (let test : nat_lt (k + 1) d ≡ false = grind (arith, nat_tests) in test) ∙ sym is
+
+none_below_zero : (c : Bool) (k : ℕ) → bit (c && nat_lt k 0) ≡ 0
+none_below_zero true k = let test : nat_lt k 0 ≡ false = grind (arith, nat_tests) in ap bit test
+none_below_zero false k = refl
+
+module _ (n : Circuit) (source : ℕ → ℕ × ℕ) (before : ℕ → Option ℕ) (next : List OutputPort) (t : ℕ) (rest : List (List ℕ)) (heard : List ℕ)
+    (chained : AreChained source before next) (within : All (HasSlot (length rest)) next) (taken : (x k : ℕ) → k < length rest →
+    listed x (slice_index_or rest k []) ≡ bit (late_change n (source x) (t + 1 + 1 + k) && nat_lt (k + 1) (later_by next (before x))))
+    (originals : AreOriginals n source before heard (t + 1)) where
+  has_slot_when : (x y : ℕ) (low : Bool) → nat_lt y (length next) ≡ low → (copy_at next y).wire ≡ Some x → HasSlot (length rest) (copy_at next y)
+  has_slot_when x y true is wire = within y no_port (grind (arith, nat_tests))
+  has_slot_when x y false is wire =
+      let beyond : length next ≤ y = grind (arith, nat_tests) in
+      absurd (none_some x (sym (ap (λ (port : OutputPort). port.wire) (get_or-eq_default next no_port beyond)) ∙ wire))
+
+  counted : (x k : ℕ) → k < length rest →
+      listed x (slice_index_or (scheduled rest (copied_from next heard)) k []) ≡ listed x (slice_index_or rest k []) + sum_by (entries_of next k x) heard
+  counted x k low =
+      schedules_each rest (copied_from next heard) k x low
+      ∙ ap (λ s. listed x (slice_index_or rest k []) + s) (counted_flat k x (λ y. entry_of (copy_at next y)) heard)
+
+  copies_at : (x k : ℕ) (o : Option ℕ) → before x ≡ o → k < length rest →
+      bit (late_change n (source x) (t + 1 + 1 + k) && nat_lt (k + 1) (later_by next o)) + sum_by (entries_of next k x) heard ≡
+      bit (late_change n (source x) (t + 1 + 1 + k) && nat_lt k (later_by next o))
+  copies_at x k None is low =
+      let c = late_change n (source x) (t + 1 + 1 + k) in
+      let none = sum_of_none (entries_of next k x) heard (λ j d inside_heard. no_copy next k x (slice_index_or heard j d)
+      (λ wire. none_some (slice_index_or heard j d) (sym is ∙ chained.last (slice_index_or heard j d) x wire))) in
+      let a = none_below_zero c (k + 1) in
+      let b = none_below_zero c k in
+      omega arith
+  copies_at x k (Some y) is low =
+      let wire = chained.first x y is in
+      let d = (copy_at next y).delay in
+      let slot = has_slot_when x y (nat_lt y (length next)) refl wire in
+      let some : 0 < (copy_at next y).delay = slot.some in
+      let others : All (λ z. z ≢ y → entries_of next k x z ≡ 0) heard =
+      λ j e inside_heard other. no_copy next k x (slice_index_or heard j e) (λ w. other (inside (sym (chained.last (slice_index_or heard j e) x w) ∙ is))) in
+      let sum : sum_by (entries_of next k x) heard ≡ bit (late_change n (source y) (t + 1)) * bit (d - 1 == k) =
+      only_one (entries_of next k x) y heard others
+      ∙ ap (λ c. c * entries_of next k x y) (originals x y is)
+      ∙ ap (λ c. bit (late_change n (source y) (t + 1)) * c) (own_copy next k x y wire) in
+      ap (λ s. bit (late_change n (source x) (t + 1 + 1 + k) && nat_lt (k + 1) d) + s) sum
+      ∙ known_bits (late_change n (source x) (t + 1 + 1 + k)) (late_change n (source y) (t + 1)) (nat_lt (k + 1) d) (nat_lt k d) (d - 1 == k)
+      (λ here.
+      let same : d - 1 ≡ k = eqb-true (d - 1) k here in
+      let time : t + 1 + 1 + k ≡ t + 1 + d = omega arith in
+      let was : nat_lt (k + 1) d ≡ false = grind (arith, nat_tests) in
+      let now : nat_lt k d ≡ true = grind (arith, nat_tests) in
+      (was, now, sym (ap (λ u. late_change n (source x) u) time ∙ late_shift n (source x) (source y) d (t + 1) (chained.wire x y is) (chained.delay x y is))))
+      (λ else_where. let differs = eqb-false (d - 1) k else_where in same_below k d (nat_lt k d) refl differs)
+
+  never : (c : Bool) → bit (c && false) ≡ 0
+  never true = refl
+  never false = refl
+
+  last_by : (x k : ℕ) (o : Option ℕ) → before x ≡ o → length rest ≤ k → bit (late_change n (source x) (t + 1 + 1 + k) && nat_lt k (later_by next o)) ≡ 0
+  last_by x k None is beyond = none_below_zero (late_change n (source x) (t + 1 + 1 + k)) k
+  last_by x k (Some y) is beyond =
+      let slot = has_slot_when x y (nat_lt y (length next)) refl (chained.first x y is) in
+      let room : (copy_at next y).delay ≤ length rest = slot.room in
+      let test : nat_lt k (copy_at next y).delay ≡ false = grind (arith, nat_tests) in
+      ap (λ b. bit (late_change n (source x) (t + 1 + 1 + k) && b)) test ∙ never (late_change n (source x) (t + 1 + 1 + k))
+
+  slot_when : (slots : List (List ℕ)) (x k : ℕ) (low : Bool) → slots ≡ scheduled rest (copied_from next heard) → length slots ≡ length rest → nat_lt k (length rest) ≡ low →
+      listed x (slice_index_or (slots ++ [] ∷ []) k []) ≡ bit (late_change n (source x) (t + 1 + 1 + k) && nat_lt k (later_by next (before x)))
+  slot_when slots x k true is same low =
+      let within_rest : k < length rest = grind (arith, nat_tests) in
+      ap (λ xs. listed x xs) (get_or_append_left slots ([] ∷ []) [] k (omega arith))
+      ∙ ap (λ (xs : List (List ℕ)). listed x (slice_index_or xs k [])) is
+      ∙ counted x k within_rest
+      ∙ ap (λ c. c + sum_by (entries_of next k x) heard) (taken x k within_rest)
+      ∙ copies_at x k (before x) refl within_rest
+  slot_when slots x k false is same low =
+      let beyond : length rest ≤ k = grind (arith, nat_tests) in
+      ap (λ xs. listed x xs) (turned_when slots k (nat_lt k (length slots)) refl ∙ get_or-eq_default slots [] (omega arith))
+      ∙ sym (last_by x k (before x) refl beyond)
+
+  pub copies_next : (slots : List (List ℕ)) → slots ≡ scheduled rest (copied_from next heard) → length slots ≡ length rest → HaveCopies n source before next (t + 1) (slots ++ [] ∷ [])
+  copies_next slots is same x k low = slot_when slots x k (nat_lt k (length rest)) is same refl
+
+-- the first slot has the copies that change next
+pub copies_taken : (n : Circuit) (source : ℕ → ℕ × ℕ) (before : ℕ → Option ℕ) (next : List OutputPort) (t : ℕ) (slots : List (List ℕ)) (slot : List ℕ) (rest : List (List ℕ)) →
+    slots ≡ slot ∷ rest → HaveCopies n source before next t slots → (x k : ℕ) → k < length rest →
+    listed x (slice_index_or rest k []) ≡ bit (late_change n (source x) (t + 1 + 1 + k) && nat_lt (k + 1) (later_by next (before x)))
+copies_taken n source before next t slots slot rest is have x k low =
+    let e : suc k ≡ k + 1 = omega arith in
+    let time : t + 1 + suc k ≡ t + 1 + 1 + k = omega arith in
+    let long = ap (length {A = List ℕ}) is in
+    ap (λ (xs : List (List ℕ)). listed x (slice_index_or xs (suc k) [])) (sym is)
+    ∙ have x (suc k) (omega arith)
+    ∙ ap (λ u. bit (late_change n (source x) u && nat_lt (suc k) (later_by next (before x)))) time
+    ∙ ap (λ j. bit (late_change n (source x) (t + 1 + 1 + k) && nat_lt j (later_by next (before x)))) e
+
+-- two lists after one another
+pub copied_both : (next : List OutputPort) (rest first then : List (List ℕ)) (slot wires : List ℕ) → first ≡ scheduled rest (copied_from next slot) →
+    then ≡ scheduled first (copied_from next wires) → then ≡ scheduled rest (copied_from next (slot ++ wires))
+copied_both next rest first then slot wires is after =
+    after
+    ∙ ap (λ (xs : List (List ℕ)). scheduled xs (copied_from next wires)) is
+    ∙ sym (scheduled_append rest (copied_from next slot) (copied_from next wires))
+    ∙ ap (λ xs. scheduled rest xs) (sym (flat_map-append (λ w. entry_of (copy_at next w)) slot wires))

@@ -1,0 +1,5 @@
+use Rattle.mp_core.proofs.ApplyLemmas.{can_apply}
+use Rattle.mp_core.proofs.laws.applies_what_is_due.Goals as goal
+
+pub returns : goal.returns
+returns c = can_apply
