@@ -10,11 +10,16 @@ times_more a (suc n) =
     let last : a + 1 + n ≡ a + suc n = omega arith in
     ap (range_with_len a) one ∙ ap (λ ts. a ∷ ts) (times_more (a + 1) n) ∙ ap (λ t. a ∷ (range_with_len (a + 1) n ++ t ∷ [])) last
 
-module _ {X : Type 0} (told : ℕ → List X) where
-  pub told_none : ((t : ℕ) → told t ≡ []) → (ts : List ℕ) → flat_map told ts ≡ []
+module _ {A X : Type 0} (told : A → List X) where
+  pub told_none : ((t : A) → told t ≡ []) → (ts : List A) → flat_map told ts ≡ []
   told_none none [] = refl
   told_none none (t ∷ ts) = ap (λ xs. xs ++ flat_map told ts) (none t) ∙ told_none none ts
 
+  pub told_same : (other : A → List X) → ((t : A) → told t ≡ other t) → (ts : List A) → flat_map told ts ≡ flat_map other ts
+  told_same other same [] = refl
+  told_same other same (t ∷ ts) = ap (λ xs. xs ++ flat_map told ts) (same t) ∙ ap (λ xs. other t ++ xs) (told_same other same ts)
+
+module _ {X : Type 0} (told : ℕ → List X) where
   -- one more time
   pub told_more : (a n t : ℕ) → a + n ≡ t → flat_map told (range_with_len a (n + 1)) ≡ flat_map told (range_with_len a n) ++ told t
   told_more a n t is =
@@ -33,10 +38,6 @@ module _ {X : Type 0} (told : ℕ → List X) where
       ∙ ap (λ xs. flat_map told (range_with_len a (n + j)) ++ xs) (quiet (a + n + j) (omega arith) (omega arith))
       ∙ append-nil (flat_map told (range_with_len a (n + j)))
       ∙ told_quiet a n j (λ t low high. quiet t low (omega (arith, high)))
-
-  pub told_same : (other : ℕ → List X) → ((t : ℕ) → told t ≡ other t) → (ts : List ℕ) → flat_map told ts ≡ flat_map other ts
-  told_same other same [] = refl
-  told_same other same (t ∷ ts) = ap (λ xs. xs ++ flat_map told ts) (same t) ∙ ap (λ xs. other t ++ xs) (told_same other same ts)
 
   -- the same where they tell the same from a time on
   pub told_same_from : (other : ℕ → List X) (a n : ℕ) → ((t : ℕ) → a ≤ t → t < a + n → told t ≡ other t) → flat_map told (range_with_len a n) ≡ flat_map other (range_with_len a n)
