@@ -6,9 +6,9 @@ ghost use Rattle.mp_text.specs.Written.{spaced, wire_name, delay_text};
 ghost use Rattle.mp_picture.specs.Found.{module_name};
 ghost use Rattle.mp_picture.specs.Graphs.{id, node_start, ends, module_node, module_label, bundle_node, bundle_label, wire_node, wire_edges, edge, edge_label, tail, tail_label, port_delay, source_node, shape_of, is_source, input_delay, output_delay};
 
+use crate::number::push_number;
 use mp_modules::Kind;
 use mp_netlist::{BundleId, BundleRecord, Driver, ModuleId, ModuleRecord, Netlist, WireId};
-use mp_words::push_number;
 use std::alloc::AllocError;
 
 /// Puts the line of a module's node behind the text, and nothing where no module stands: its name, its kind and its parameters, in the

@@ -9,6 +9,7 @@ pub mod laws;
 mod layout;
 mod margin;
 mod mark;
+mod number;
 mod repeated;
 mod row;
 mod ruler;

@@ -4,9 +4,9 @@ ghost use Rattle.mp_picture.specs.Rows.{ruler, padded, tick, last_tick};
 
 use crate::columns::Columns;
 use crate::layout::Layout;
+use crate::number::push_number;
 use crate::repeated::{push_padded, push_repeated};
 use itoa::Buffer;
-use mp_words::push_number;
 use std::alloc::AllocError;
 
 /// A time stands at each so many columns.
