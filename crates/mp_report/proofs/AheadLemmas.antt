@@ -1,7 +1,7 @@
 -- Lemmas on a wire from a time on.
 use Rattle.std.proofs.Common.{◌≡◌, ◌≢◌, ℕ, ◌+◌, ◌-◌, ◌<◌, ◌≤◌, ◌==◌, inl, inr, true, false, not, List, [], ◌∷◌, zero, suc, ap, sym, subst, ◌∙◌, arith}
 use Rattle.std.specs.Prelude.{Option, Some, None, slice_get}
-use Rattle.std.proofs.lemmas.Bool.{cases_eq}
+use Rattle.std.proofs.lemmas.Bool.{cases_eq, ne_eqb}
 use Rattle.std.proofs.lemmas.Bool.Decides.{nat_tests}
 use Rattle.mp_wave.specs.Waveform.{Waveform, AreChanges, level_from, last_time, wave_upto, changes_after}
 use Rattle.mp_wave.proofs.WaveformLemmas.{level_from-before, level_from-first, le-last_time}
@@ -30,13 +30,10 @@ level_before f end time a is le =
     let some = is.some in
     sym (level_from-before (time - 1) a.level (time - 1) a.changes.now is.form (omega arith)) ∙ is.levels (time - 1) (omega (arith, some)) (omega (arith, some, le))
 
-differs : (a b : ℕ) → a ≢ b → not (a == b) ≡ true
-differs a b other = let fails : (a == b) ≡ false = grind (arith, nat_tests) in ap not fails
-
 -- an event is a difference
 pub event_of : (f : ℕ → ℕ) (t : ℕ) → 0 < t → f (t - 1) ≢ f t → has_event f t ≡ true
 event_of f zero some other = absurd (omega (arith, some))
-event_of f (suc t) some other = let back : suc t - 1 ≡ t = omega arith in differs (f t) (f (suc t)) (subst (λ (u : ℕ). f u ≢ f (suc t)) back other)
+event_of f (suc t) some other = let back : suc t - 1 ≡ t = omega arith in ap not (ne_eqb (f t) (f (suc t)) (subst (λ (u : ℕ). f u ≢ f (suc t)) back other))
 
 pub no_event_of : (f : ℕ → ℕ) (t : ℕ) → 0 < t → f (t - 1) ≡ f t → has_event f t ≡ false
 no_event_of f zero some same = absurd (omega (arith, some))

@@ -2,9 +2,6 @@
 use Rattle.std.proofs.Common.{◌≡◌, ℕ, ◌-◌, ◌<◌, ◌≤◌, ◌==◌, Bool, false, List, [], ◌++◌, map, Option, Some, None, filter, flat_map, zero, suc, refl, ap, sym, subst, ◌∙◌, arith}
 use Rattle.std.specs.List.{range_with_len}
 use Rattle.std.proofs.lemmas.Bool.Decides.{nat_tests}
-use Rattle.mp_modules.specs.declared.kind.Kind.{Kind}
-use Rattle.mp_modules.specs.declared.kind.Kind.TheVariants as kinds
-use Rattle.mp_modules.specs.Kinds.{input_count}
 use Rattle.mp_modules.specs.declared.finding_code.FindingCode.{FindingCode}
 use Rattle.mp_modules.specs.declared.memory.Memory.{Memory}
 use Rattle.mp_modules.specs.declared.finding_set.FindingSet.{FindingSet}
@@ -24,10 +21,6 @@ use Rattle.mp_response.proofs.DelayLemmas.{finds_by_states}
 use Rattle.mp_response.proofs.JoinLemmas.{inside_alone}
 use Rattle.mp_report.specs.Places.{codes_at, found_over}
 use Rattle.mp_report.proofs.TimeLemmas.{told_none, told_same_from}
-
-pub few_inputs : (kind : Kind) → input_count kind ≤ 4
-few_inputs kinds.Buf = omega arith
-few_inputs _ = omega arith
 
 -- what is found at a module at a time from 1 on
 later_found : (n : Circuit) (m t : ℕ) (r : ModuleRecord) → module_at n m ≡ Some r → 1 ≤ t

@@ -22,13 +22,6 @@ wave_is n w found v are is = by (wire_at n w) (is ∙ are w)
     by None fails = cc
     by (Some r) same = cc
 
-pub no_wave : (n : Circuit) (w : ℕ) (found : List (Option Waveform)) → AreWavesOf n found → IsSome (wire_at n w) → (let none : Option Waveform = None in none) ≡ slot_at found w → ⊥
-no_wave n w found are some is = by (wire_at n w) some (is ∙ are w)
-  where
-    by : (slot : Option WireRecord) → IsSome slot → (let none : Option Waveform = None in none) ≡ slot_wave n w slot → ⊥
-    by None stands same = cc
-    by (Some r) stands same = cc
-
 -- a wave that is cut over all times below an end
 pub cut_whole : (wave : Waveform) (piece : InPiece) (end delay t : ℕ) → IsWaveform wave → delay ≡ 0 → piece ≡ record { at_from = level_of wave 0; changes = between 0 end wave.changes } → t < end
     → piece_level piece t ≡ level_of wave (t - delay)

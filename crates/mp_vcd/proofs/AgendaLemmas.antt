@@ -1,7 +1,7 @@
 -- The changes of a time, one before the others.
 use Rattle.std.proofs.Common.{◌≡◌, ◌≢◌, ℕ, ◌+◌, ◌-◌, ◌<◌, ◌≤◌, ◌⊎◌, inl, inr, Bool, true, false, not, cond, ◌==◌, nat_le, nat_lt, List, [], ◌∷◌, ◌++◌, length, length-append, take, slice_index, slice_set, Some, zero, suc, refl, sym, ap, subst, ◌∙◌, zero-add, add-one, get_or, arith, get_or-set_other, get_or-set_same}
 use Rattle.std.proofs.lemmas.Bool.Decides.{nat_tests}
-use Rattle.std.proofs.lemmas.Bool.{cases_lt, eqb-true, lt-ltb}
+use Rattle.std.proofs.lemmas.Bool.{cases_lt, eq-eqb, eqb-true, le-leb, lt-leb, lt-ltb, ne_eqb}
 use Rattle.std.proofs.Math.ListN.{get_or-append, length-set}
 use Rattle.std.proofs.Math.Seq.{get_or-append_seam, take-suc}
 use Rattle.mp_wave.specs.Waveform.{change_after, changes_after, later_than, between}
@@ -80,18 +80,6 @@ onto_next w changes i t others within =
 same_either_way : (a b : ℕ) → (a == b) ≡ (b == a)
 same_either_way a b = grind (arith, nat_tests)
 
-same_here : (a : ℕ) → (a == a) ≡ true
-same_here a = grind (arith, nat_tests)
-
-not_same : (a b : ℕ) → a ≢ b → (a == b) ≡ false
-not_same a b other = grind (arith, nat_tests)
-
-upto_true : (a b : ℕ) → a ≤ b → nat_le a b ≡ true
-upto_true a b le = grind (arith, nat_tests)
-
-upto_false : (a b : ℕ) → b < a → nat_le a b ≡ false
-upto_false a b lt = grind (arith, nat_tests)
-
 module _ (levels : ℕ → ℕ) (w t : ℕ) where
   -- whether a level differs from the one a unit before
   abbrev differs : Bool
@@ -124,10 +112,10 @@ module _ (levels : ℕ → ℕ) (w t : ℕ) where
     where
       by : (k : ℕ) → t ≡ k → others ≡ cond (nat_le t 0) (where_differs others) others
       by zero same =
-          let equal : differs ≡ false = ap not (ap (λ k. levels k == levels (k - 1)) same ∙ same_here (levels 0)) in
-          let now = upto_true t 0 (omega (arith, same)) in
+          let equal : differs ≡ false = ap not (ap (λ k. levels k == levels (k - 1)) same ∙ eq-eqb (levels 0) (levels 0) refl) in
+          let now = le-leb t 0 (omega (arith, same)) in
           rw (now, equal) refl
-      by (suc k) same = let later = upto_false t 0 (omega (arith, same)) in rw later refl
+      by (suc k) same = let later = lt-leb t 0 (omega (arith, same)) in rw later refl
   onto_changes (suc m) others =
       onto-append w (changes_after levels 0 m) (change_after levels (0 + m)) t others
       ∙ ap (λ k. onto w (change_after levels k) t (onto w (changes_after levels 0 m) t others)) (zero-add m)
@@ -139,22 +127,22 @@ module _ (levels : ℕ → ℕ) (w t : ℕ) where
           → cond now (where_differs (cond (nat_le t m) (where_differs others) others)) (cond (nat_le t m) (where_differs others) others) ≡ cond (nat_le t (suc m)) (where_differs others) others
       late true is le =
           let same : suc m ≡ t = eqb-true (suc m) t is in
-          let before = upto_false t m (omega (arith, same)) in
-          let after = upto_true t (suc m) (omega (arith, same)) in
+          let before = lt-leb t m (omega (arith, same)) in
+          let after = le-leb t (suc m) (omega (arith, same)) in
           rw (before, after) refl
       late false is le =
-          let before = upto_false t m (omega arith) in
+          let before = lt-leb t m (omega arith) in
           let other : suc m ≢ t = grind (arith, nat_tests) in
-          let after = upto_false t (suc m) (omega (arith, other)) in
+          let after = lt-leb t (suc m) (omega (arith, other)) in
           rw (before, after) refl
 
       by : (t < suc m) ⊎ (suc m ≤ t) → cond (suc m == t) (where_differs (cond (nat_le t m) (where_differs others) others)) (cond (nat_le t m) (where_differs others) others)
           ≡ cond (nat_le t (suc m)) (where_differs others) others
       by (inl sooner) =
           let other : suc m ≢ t = omega arith in
-          let now = not_same (suc m) t other in
-          let before = upto_true t m (omega arith) in
-          let after = upto_true t (suc m) (omega arith) in
+          let now = ne_eqb (suc m) t other in
+          let before = le-leb t m (omega arith) in
+          let after = le-leb t (suc m) (omega arith) in
           rw (now, before, after) refl
       by (inr later) = late (suc m == t) refl later
 
@@ -188,18 +176,14 @@ with_told-from told from time change k after =
     ap (λ test. cond test (change ∷ told (from + k)) (told (from + k))) same
   where
     by : (test : Bool) → (time - from == k) ≡ test → (time - from == k) ≡ (time == from + k)
-    by true test = let here : time ≡ from + k = omega (arith, eqb-true (time - from) k test, after) in test ∙ sym (ap (λ n. n == from + k) here ∙ same_here (from + k))
-    by false test = let other : time ≢ from + k = grind (arith, nat_tests, test, after) in test ∙ sym (not_same time (from + k) other)
-
--- and at a time that is none of them
-pub with_told-other : (told : ℕ → List (ℕ × ℕ)) (from time : ℕ) (change : ℕ × ℕ) (k : ℕ) → time ≢ from + k → told_from from told k ≡ told_from from (with_told told time change) k
-with_told-other told from time change k other = let test = not_same time (from + k) other in rw test refl
+    by true test = let here : time ≡ from + k = omega (arith, eqb-true (time - from) k test, after) in test ∙ sym (ap (λ n. n == from + k) here ∙ eq-eqb (from + k) (from + k) refl)
+    by false test = let other : time ≢ from + k = grind (arith, nat_tests, test, after) in test ∙ sym (ne_eqb time (from + k) other)
 
 -- the changes of the wave of a wire at a time below the horizon
 pub onto_wave : (n : Circuit) (w t : ℕ) (r : WireRecord) (others : List (ℕ × ℕ)) → t < n.horizon
     → onto w (changes_after (level n w) 0 (n.horizon - 1)) t others ≡ onto_slot n t w (Some r) others
 onto_wave n w t r others within =
-    let inside = upto_true t (n.horizon - 1) (omega arith) in
+    let inside = le-leb t (n.horizon - 1) (omega arith) in
     onto_changes (level n w) w t (n.horizon - 1) others ∙ ap (λ test. cond test (cond (is_changed n t w) ((w, level n w t) ∷ others) others) others) inside
 
 -- ---- the lines of what is told

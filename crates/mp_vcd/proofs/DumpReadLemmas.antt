@@ -1,8 +1,8 @@
 -- The whole of a dump, read.
-use Rattle.std.proofs.Common.{◌≡◌, ℕ, ◌+◌, ◌-◌, ◌<◌, ◌≤◌, inl, inr, Bool, true, false, ◌&&◌, List, [], ◌∷◌, ◌++◌, append_assoc, append-nil, length, map, Option, None, Some, suc, refl, sym, ap, subst, ◌∙◌, add-zero, zero-add, arith}
-use Rattle.std.specs.Prelude.{codes, ◌||◌}
+use Rattle.std.proofs.Common.{◌≡◌, ℕ, ◌+◌, ◌-◌, ◌<◌, ◌≤◌, inl, inr, true, List, [], ◌∷◌, ◌++◌, append_assoc, append-nil, length, map, Option, None, Some, suc, refl, sym, ap, subst, ◌∙◌, add-zero, zero-add, arith}
+use Rattle.std.specs.Prelude.{codes}
 use Rattle.std.proofs.Math.Nat.{mod-eq_of_lt}
-use Rattle.std.proofs.lemmas.Bool.{le-leb}
+use Rattle.std.proofs.lemmas.Bool.{and_from, le-leb, or_right}
 use Rattle.std.specs.List.{flat_map, list_any, range_with_len}
 use Rattle.mp_records.specs.declared.wire_record.WireRecord.{WireRecord}
 use Rattle.mp_netlist.specs.Limits.{max_wires}
@@ -16,15 +16,6 @@ use Rattle.mp_vcd.proofs.CodeReadLemmas.{same_bytes}
 use Rattle.mp_vcd.proofs.ReadingLemmas.{Leads, leads_none, leads_both, leads_as, declaring, declared_as, leads_declaration, leads_time, valued, HasVariable}
 use Rattle.mp_vcd.proofs.LevelReadLemmas.{In, given_at, leads_values, stands_in, stands_of, AreReadable, knows_first, Units, leads_units}
 use Rattle.mp_model.proofs.LevelFitLemmas.{level_fits}
-
--- ---- tests
-
-both_true : {a b : Bool} → a ≡ true → b ≡ true → a && b ≡ true
-both_true first second = rw (first, second) refl
-
-or_right : (a b : Bool) → b ≡ true → a || b ≡ true
-or_right true b second = refl
-or_right false b second = second
 
 -- ---- the declarations
 
@@ -77,7 +68,7 @@ module _ (n : Circuit) (circuit : IsCircuit n) where
   has_variable w [] within = absurd within
   has_variable w (v ∷ ws) (inl same) = λ digits few.
       let own : takes (code w) digits (variable n v) ≡ true =
-      subst (λ u. takes (code u) digits (variable n v) ≡ true) same (both_true (same_bytes (code v)) (le-leb (length digits) (width_of (wire_at n v)) (subst (λ u. length digits ≤ width_of (wire_at n u)) (sym same) few))) in
+      subst (λ u. takes (code u) digits (variable n v) ≡ true) same (and_from _ _ (same_bytes (code v)) (le-leb (length digits) (width_of (wire_at n v)) (subst (λ u. length digits ≤ width_of (wire_at n u)) (sym same) few))) in
       rw own refl
   has_variable w (v ∷ ws) (inr later) = λ digits few.
       let rest = has_variable w ws later digits few in

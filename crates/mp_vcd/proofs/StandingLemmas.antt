@@ -8,10 +8,7 @@ use Rattle.mp_netlist.specs.Circuit.{Circuit, IsCircuit, wire_at, width_of}
 use Rattle.mp_netlist.specs.Slots.{slot_at}
 use Rattle.mp_model.specs.Waves.{level, wave, slot_wave}
 use Rattle.mp_vcd.specs.Dumps.{if_stands, standing_from, is_changed}
-use Rattle.mp_vcd.specs.Values.{value_line}
-use Rattle.mp_vcd.specs.declared.preamble.Part.{Part}
-use Rattle.mp_vcd.specs.declared.preamble.Part.TheVariants.{FirstLevels}
-use Rattle.mp_vcd.specs.Parts.{part_line, slot_text}
+use Rattle.mp_vcd.specs.Parts.{slot_text}
 use Rattle.mp_vcd.specs.Agendas.{with_levels, onto_slot}
 
 pub standing_step : (slots : List (Option WireRecord)) (w : ℕ) → w < length slots → standing_from w (drop w slots) ≡ if_stands w (slot_at slots w) (standing_from (w + 1) (drop (w + 1) slots))
@@ -76,10 +73,6 @@ times_divide f from to upto first second =
 
 -- ---- what the wave of a wire tells
 
-pub first_level : (n : Circuit) (w : ℕ) (slot : Option WireRecord) (v : Waveform) → Some v ≡ slot_wave n w slot → v.initial ≡ level n w 0
-first_level n w None v same = cc
-first_level n w (Some r) v same = let is : v ≡ wave n w = cc in ap (λ (x : Waveform). x.initial) is
-
 pub changes_in : (n : Circuit) (w : ℕ) (slot : Option WireRecord) (v : Waveform) → Some v ≡ slot_wave n w slot → (r : WireRecord) × (slot ≡ Some r) × (v.changes ≡ (wave n w).changes)
 changes_in n w None v same = cc
 changes_in n w (Some r) v same = let is : v ≡ wave n w = cc in (r, refl, ap (λ (x : Waveform). x.changes) is)
@@ -87,14 +80,6 @@ changes_in n w (Some r) v same = let is : v ≡ wave n w = cc in (r, refl, ap (�
 pub none_in : (n : Circuit) (w t : ℕ) (slot : Option WireRecord) (others : List (ℕ × ℕ)) → None ≡ slot_wave n w slot → others ≡ onto_slot n t w slot others
 none_in n w t None others same = refl
 none_in n w t (Some r) others same = cc
-
--- the line of the first level of a wire that stands
-pub first_line : (n : Circuit) (w v : ℕ) (part : Part) (r : WireRecord) → Some r ≡ wire_at n w → part ≡ FirstLevels → v ≡ level n w 0
-    → value_line (width_of (wire_at n w)) w v ≡ slot_text (part_line n part) w (wire_at n w)
-first_line n w v part r stands is same =
-    ap (λ v. value_line (width_of (wire_at n w)) w v) same
-    ∙ ap (λ slot. slot_text (part_line n FirstLevels) w slot) stands
-    ∙ ap (λ (p : Part). slot_text (part_line n p) w (wire_at n w)) (sym is)
 
 -- ---- the widths of wires
 
