@@ -9,3 +9,4 @@ pub mod ApplyLemmas
 pub mod FireLemmas
 pub mod WidthLemmas
 pub mod CopyLemmas
+pub mod WholeLemmas

@@ -13,6 +13,7 @@ pub record AreChained (source : ℕ → ℕ × ℕ) (before : ℕ → Option ℕ
   pub first : (x y : ℕ) → before x ≡ Some y → (copy_at next y).wire ≡ Some x
   pub wire : (x y : ℕ) → before x ≡ Some y → (source x).0 ≡ (source y).0
   pub delay : (x y : ℕ) → before x ≡ Some y → (source x).1 ≡ (source y).1 + (copy_at next y).delay
+  pub some : (x y : ℕ) → before x ≡ Some y → 0 < (copy_at next y).delay
 
 -- by how much a copy is later than what it stands after, 0 where it is none
 abbrev pub later_by : List OutputPort → Option ℕ → ℕ

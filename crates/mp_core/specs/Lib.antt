@@ -9,3 +9,4 @@ pub mod Units
 pub mod UnitLaws
 pub mod Widths
 pub mod Copies
+pub mod WholeRuns

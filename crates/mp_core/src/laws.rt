@@ -6,6 +6,7 @@ ghost use Rattle.mp_core.specs.Advancing.{StatesAdvance};
 ghost use Rattle.mp_core.specs.Schedules.{FiringSchedules, FiringLeavesOthers};
 ghost use Rattle.mp_core.specs.Widths.{HaveBits};
 ghost use Rattle.mp_core.specs.UnitLaws.{CanApplyWhenDue};
+ghost use Rattle.mp_core.specs.WholeRuns.{SlotsHaveAll};
 
 /// A wire that a port drives changes where the module's output did, the port's delay before: first where the settled level isn't the
 /// initial one, and never before its delay is over.
@@ -61,4 +62,10 @@ pub fn modules_have_bits()
 /// A simulator that stands before a unit of a netlist can apply what changes in it.
 pub fn applies_what_is_due()
     ensures { CanApplyWhenDue }
+{}
+
+/// In an evaluation that follows no other, the next slots of the wheel and of the copies' wheel, and the wires that stimuli change, are all that
+/// changes in a unit.
+pub fn slots_have_all()
+    ensures { SlotsHaveAll }
 {}

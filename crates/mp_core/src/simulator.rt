@@ -3,13 +3,16 @@ ghost use Rattle.std.specs.Prelude.{◌≡◌};
 
 use mp_automata::{AutomatonState, TransitionTable};
 use mp_events::{
-    EventWheel, Fanout, OutputPorts, ToggleWave, add_fanout_events, fire_modules, toggle_wires,
+    EventSlot, EventWheel, Fanout, OutputPorts, ToggleWave, add_fanout_events, fire_modules,
+    toggle_wires,
 };
 use std::alloc::AllocError;
+use std::mem::replace;
 
 /// The modules of width 1 of a netlist, so far as they stand in one: each has a place, with its state and its outputs. The fanout tells of each
 /// number which inputs read it: the numbers of wires, and behind them those of their delayed copies. Modules that have had an event in
-/// this unit are due. Each wire of width 1 has a wave, and the wheel has the events to come.
+/// this unit are due. Each wire of width 1 has a wave, and the wheel has the events to come. The wires that toggled in the present unit are kept
+/// until the next.
 #[derive(Drop)]
 pub struct Simulator {
     pub table: TransitionTable,
@@ -19,6 +22,7 @@ pub struct Simulator {
     pub due: Vec<u16>,
     pub waves: Vec<ToggleWave>,
     pub wheel: EventWheel,
+    pub present: EventSlot,
 }
 
 impl Simulator {
@@ -36,6 +40,7 @@ impl Simulator {
         ensures sound { OnOk result (IsSound self.new) }
         ensures applied { OnOk result ((n : Circuit) (scope : Scope) (t : ℕ) → IsCircuit n → time ≡ t + 1 → IsBefore n scope t self.old →
             AreDue n scope t (next_slot self.old ++ set.now) others.now → IsDuring n scope t self.new) }
+        ensures present { OnOk result (self.new.present ≡ next_slot self.old ++ set.now) }
     {
         let mut slot = self.wheel.take_slot();
         slot.extend_from_slice(set)?;
@@ -48,7 +53,8 @@ impl Simulator {
             time,
         )?;
         add_fanout_events(&self.fanout, &mut self.states, &mut self.due, others)?;
-        self.wheel.return_slot(slot)?;
+        let past = replace(&mut self.present, slot);
+        self.wheel.return_slot(past)?;
         Ok(())
     }
 
