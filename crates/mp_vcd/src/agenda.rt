@@ -60,6 +60,7 @@ impl Agenda {
     }
 
     /// The place of the first change of a time, or 0.
+    #[inline]
     pub fn first(&self, time: u32) -> u32
         requires from { self.now.from ≤ time }
         requires times { time < self.now.from + vec_len self.now.firsts }
@@ -69,6 +70,7 @@ impl Agenda {
     }
 
     /// The change at a place.
+    #[inline]
     pub fn entry(&self, place: u32) -> Entry
         requires some { 0 < place }
         requires within { place ≤ vec_len self.now.entries }
