@@ -15,7 +15,8 @@ use Rattle.mp_events.specs.Firing.{HasSlot, no_port, copy_at, entry_of, copied_f
 use Rattle.mp_events.proofs.EntryLemmas.{schedules_each}
 use Rattle.mp_events.proofs.FiringLemmas.{scheduled_append}
 use Rattle.mp_core.specs.Changes.{change_at, late_change}
-use Rattle.mp_core.specs.Copies.{AreChained, later_by, HaveCopies, AreOriginals}
+use Rattle.mp_core.specs.Simulators.{IsBelow}
+use Rattle.mp_core.specs.Copies.{AreListedBelow, AreChained, later_by, HaveCopies, AreOriginals}
 use Rattle.mp_core.proofs.ScheduleLemmas.{inside, none_some, none_there, counted_own, counted_flat, only_one, sum_of_none}
 use Rattle.mp_core.proofs.ApplyLemmas.{turned_when}
 
@@ -168,3 +169,36 @@ copied_both next rest first then slot wires is after =
     ∙ ap (λ (xs : List (List ℕ)). scheduled xs (copied_from next wires)) is
     ∙ sym (scheduled_append rest (copied_from next slot) (copied_from next wires))
     ∙ ap (λ xs. scheduled rest xs) (sym (flat_map-append (λ w. entry_of (copy_at next w)) slot wires))
+
+below_when : (next : List OutputPort) (bound x y : ℕ) (low : Bool) → nat_lt y (length next) ≡ low → All (IsBelow bound) next → (copy_at next y).wire ≡ Some x → x < bound
+below_when next bound x y true is below wire = below y no_port (grind (arith, nat_tests)) x wire
+below_when next bound x y false is below wire =
+    let beyond : length next ≤ y = grind (arith, nat_tests) in
+    absurd (none_some x (sym (ap (λ (port : OutputPort). port.wire) (get_or-eq_default next no_port beyond)) ∙ wire))
+
+low_slot : (next : List OutputPort) (rest slots : List (List ℕ)) (heard : List ℕ) (bound x k : ℕ) (low : Bool) → nat_lt k (length rest) ≡ low → All (IsBelow bound) next →
+    slots ≡ scheduled rest (copied_from next heard) → length slots ≡ length rest → listed x (slice_index_or rest k []) ≡ 0 → bound ≤ x → listed x (slice_index_or (slots ++ [] ∷ []) k []) ≡ 0
+low_slot next rest slots heard bound x k true low below is same none high =
+    let within : k < length rest = grind (arith, nat_tests) in
+    let nothing = sum_of_none (entries_of next k x) heard (λ j d inside_heard. no_copy next k x (slice_index_or heard j d)
+    (λ wire. let less = below_when next bound x (slice_index_or heard j d) (nat_lt (slice_index_or heard j d) (length next)) refl below wire in absurd (omega arith))) in
+    let more = schedules_each rest (copied_from next heard) k x within in
+    let flat = counted_flat k x (λ y. entry_of (copy_at next y)) heard in
+    ap (λ xs. listed x xs) (get_or_append_left slots ([] ∷ []) [] k (omega arith))
+    ∙ ap (λ (xs : List (List ℕ)). listed x (slice_index_or xs k [])) is
+    ∙ omega arith
+low_slot next rest slots heard bound x k false low below is same none high =
+    let beyond : length rest ≤ k = grind (arith, nat_tests) in
+    ap (λ xs. listed x xs) (turned_when slots k (nat_lt k (length slots)) refl ∙ get_or-eq_default slots [] (omega arith))
+
+pub low_next : (next : List OutputPort) (slot : List ℕ) (rest slots : List (List ℕ)) (heard : List ℕ) (bound : ℕ) → All (IsBelow bound) next →
+    slots ≡ scheduled rest (copied_from next heard) → length slots ≡ length rest → AreListedBelow bound (slot ∷ rest) → AreListedBelow bound (slots ++ [] ∷ [])
+low_next next slot rest slots heard bound below is same none x k high =
+    low_slot next rest slots heard bound x k (nat_lt k (length rest)) refl below is same (none x (suc k) high) high
+
+pub scheduled_both : (next again once_more : List OutputPort) (rest first then : List (List ℕ)) (slot same_slot wires : List ℕ) → again ≡ next → once_more ≡ next → same_slot ≡ slot →
+    first ≡ scheduled rest (copied_from again same_slot) → then ≡ scheduled first (copied_from once_more wires) → then ≡ scheduled rest (copied_from next (slot ++ wires))
+scheduled_both next again once_more rest first then slot same_slot wires one two three is after =
+    copied_both next rest first then slot wires
+    (is ∙ ap (λ (ports : List OutputPort). scheduled rest (copied_from ports same_slot)) one ∙ ap (λ ws. scheduled rest (copied_from next ws)) three)
+    (after ∙ ap (λ (ports : List OutputPort). scheduled first (copied_from ports wires)) two)

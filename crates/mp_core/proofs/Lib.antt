@@ -10,3 +10,4 @@ pub mod FireLemmas
 pub mod WidthLemmas
 pub mod CopyLemmas
 pub mod WholeLemmas
+pub mod SimulationLemmas

@@ -1,5 +1,5 @@
 -- Delayed copies of wires: for each wire a chain, by rising delay.
-use Rattle.std.specs.Prelude.{◌≡◌, ℕ, ◌+◌, ◌<◌, List, [], Option, Some, None, length, slice_index_or, nat_lt, ◌&&◌}
+use Rattle.std.specs.Prelude.{◌≡◌, ℕ, ◌+◌, ◌<◌, ◌≤◌, List, [], Option, Some, None, length, slice_index_or, nat_lt, ◌&&◌}
 use Rattle.mp_netlist.specs.Circuit.{Circuit}
 use Rattle.mp_automata.specs.Codes.{bit}
 use Rattle.mp_events.specs.declared.output_port.OutputPort.{OutputPort}
@@ -29,3 +29,7 @@ HaveCopies n source before next t slots = (x k : ℕ) → k < length slots →
 -- what has a copy is listed where it changes at a time, once, and else not
 abbrev pub AreOriginals : Circuit → (ℕ → ℕ × ℕ) → (ℕ → Option ℕ) → List ℕ → ℕ → Type 0
 AreOriginals n source before heard time = (x y : ℕ) → before x ≡ Some y → listed y heard ≡ bit (late_change n (source y) time)
+
+-- only numbers below a bound are in the slots
+abbrev pub AreListedBelow : ℕ → List (List ℕ) → Type 0
+AreListedBelow bound slots = (x k : ℕ) → bound ≤ x → listed x (slice_index_or slots k []) ≡ 0

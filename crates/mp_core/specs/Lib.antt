@@ -10,3 +10,4 @@ pub mod UnitLaws
 pub mod Widths
 pub mod Copies
 pub mod WholeRuns
+pub mod Simulations

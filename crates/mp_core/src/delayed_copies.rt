@@ -15,13 +15,14 @@ impl DelayedCopies {
     ghost use Rattle.std.specs.Prelude.{◌≡◌, ℕ, ◌+◌, ◌<◌, ◌++◌, ◌∷◌, Option, OnOk, All, length};
     ghost use Rattle.mp_netlist.specs.Circuit.{Circuit};
     ghost use Rattle.mp_events.specs.Firing.{HasSlot};
-    ghost use Rattle.mp_core.specs.Copies.{AreChained, HaveCopies, AreOriginals};
+    ghost use Rattle.mp_core.specs.Simulators.{IsBelow};
+    ghost use Rattle.mp_core.specs.Copies.{AreChained, HaveCopies, AreOriginals, AreListedBelow};
 
     /// Takes the copies that toggle in the next unit, which is now the present one. The wheel has one unit less until `advance`.
     pub fn take_slot(&mut self) -> EventSlot
         requires { 0 < length self.old.wheel }
         ensures taken { self.old.wheel ≡ result ∷ self.new.wheel }
-        ensures same { self.new.next ≡ self.old.next }
+        ensures same { self.new.next.items ≡ self.old.next.items }
     {
         self.wheel.take_slot()
     }
@@ -35,7 +36,9 @@ impl DelayedCopies {
         ensures next { OnOk result ((n : Circuit) (source : ℕ → ℕ × ℕ) (before : ℕ → Option ℕ) (t : ℕ) → AreChained source before self.old.next.items →
             HaveCopies n source before self.old.next.items t (slot ∷ self.old.wheel) → AreOriginals n source before (slot ++ wires.now) (t + 1) →
             HaveCopies n source before self.old.next.items (t + 1) self.new.wheel) }
-        ensures same { OnOk result (self.new.next ≡ self.old.next) }
+        ensures same { OnOk result (self.new.next.items ≡ self.old.next.items) }
+        ensures places { OnOk result (length self.new.wheel ≡ length self.old.wheel + 1) }
+        ensures low { OnOk result ((bound : ℕ) → All (IsBelow bound) self.old.next.items → AreListedBelow bound (slot ∷ self.old.wheel) → AreListedBelow bound self.new.wheel) }
     {
         schedule_copies(self.next.as_slice(), &mut self.wheel, slot.as_slice())?;
         schedule_copies(self.next.as_slice(), &mut self.wheel, wires)?;

@@ -7,6 +7,7 @@ ghost use Rattle.mp_core.specs.Schedules.{FiringSchedules, FiringLeavesOthers};
 ghost use Rattle.mp_core.specs.Widths.{HaveBits};
 ghost use Rattle.mp_core.specs.UnitLaws.{CanApplyWhenDue};
 ghost use Rattle.mp_core.specs.WholeRuns.{SlotsHaveAll};
+ghost use Rattle.mp_core.specs.Simulations.{CanGoOn};
 
 /// A wire that a port drives changes where the module's output did, the port's delay before: first where the settled level isn't the
 /// initial one, and never before its delay is over.
@@ -68,4 +69,9 @@ pub fn applies_what_is_due()
 /// changes in a unit.
 pub fn slots_have_all()
     ensures { SlotsHaveAll }
+{}
+
+/// In an evaluation that follows no other, what changes in the next unit can be applied.
+pub fn can_go_on()
+    ensures { CanGoOn }
 {}

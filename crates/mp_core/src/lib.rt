@@ -3,7 +3,9 @@
 
 mod delayed_copies;
 pub mod laws;
+mod simulation;
 mod simulator;
 
 pub use delayed_copies::DelayedCopies;
+pub use simulation::Simulation;
 pub use simulator::Simulator;

@@ -40,6 +40,7 @@ impl Simulator {
         ensures sound { OnOk result (IsSound self.new) }
         ensures applied { OnOk result ((n : Circuit) (scope : Scope) (t : ℕ) → IsCircuit n → time ≡ t + 1 → IsBefore n scope t self.old →
             AreDue n scope t (next_slot self.old ++ set.now) others.now → IsDuring n scope t self.new) }
+        ensures same { OnOk result (self.new.fanout ≡ self.old.fanout) }
         ensures present { OnOk result (self.new.present ≡ next_slot self.old ++ set.now) }
     {
         let mut slot = self.wheel.take_slot();
@@ -64,6 +65,7 @@ impl Simulator {
         ensures sound { OnOk result (IsSound self.new) }
         ensures fired { OnOk result ((n : Circuit) (scope : Scope) (t : ℕ) → IsCircuit n → IsDuring n scope t self.old →
             IsBefore n (with_answers scope (t + 2)) (t + 1) self.new) }
+        ensures same { OnOk result (self.new.fanout ≡ self.old.fanout) }
     {
         fire_modules(
             &self.table,
