@@ -1,13 +1,10 @@
 -- Codes and binary digits, digit by digit.
 use Rattle.std.proofs.Common.{◌≡◌, ℕ, ◌+◌, ◌-◌, ◌/◌, ◌%◌, ◌<◌, ◌≤◌, Bool, true, false, cond, nat_lt, List, [], ◌∷◌, ◌++◌, append_assoc, length, drop, slice_set, zero, suc, refl, sym, ap, ◌∙◌, ⊎_elim, arith}
-use Rattle.std.proofs.lemmas.Bool.{cases_lt}
+use Rattle.std.proofs.lemmas.Bool.{cases_lt, ltb-false}
 use Rattle.std.proofs.lemmas.Bool.Decides.{nat_tests}
 use Rattle.std.proofs.lemmas.List.{drop-set, length-append}
 use Rattle.mp_vcd.specs.Codes.{digits_of, code}
 use Rattle.mp_vcd.specs.Values.{bit, bits}
-
-not_below : (n k : ℕ) → nat_lt n k ≡ false → k ≤ n
-not_below n k test = grind (arith, nat_tests)
 
 -- more digits than a number has are not written
 digits_of-same : (most least n : ℕ) → n < most → n < least → digits_of most n ≡ digits_of least n
@@ -18,7 +15,7 @@ digits_of-same (suc most) (suc least) n below under =
   where
     by : (t : Bool) → nat_lt n 94 ≡ t → (94 ≤ n → digits_of most (n / 94) ≡ digits_of least (n / 94)) → cond t [] (digits_of most (n / 94)) ≡ cond t [] (digits_of least (n / 94))
     by true test more = refl
-    by false test more = more (not_below n 94 test)
+    by false test more = more (ltb-false n 94 test)
 
 pub code-one : (n : ℕ) → n < 94 → code n ≡ (33 + n) ∷ []
 unfolding code
@@ -63,7 +60,7 @@ bits_long (suc width) level =
 
 -- ---- how long a code is
 
-code_longer : (w most : ℕ) → 0 < most → (94 ≤ w → length (code (w / 94)) ≤ most) → length (code w) ≤ most + 1
+pub code_longer : (w most : ℕ) → 0 < most → (94 ≤ w → length (code (w / 94)) ≤ most) → length (code w) ≤ most + 1
 code_longer w most some later = ⊎_elim
     (λ low. omega (arith, ap length (code-one w low)))
     (λ high. omega (arith, later high, ap length (code-more w high)))

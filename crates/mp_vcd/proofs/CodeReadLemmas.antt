@@ -5,18 +5,18 @@ use Rattle.std.specs.Char.{digit_value, is_ascii_digit}
 use Rattle.std.specs.List.{list_all}
 use Rattle.std.specs.Str.{bytes_eq}
 use Rattle.std.specs.Str.Parse.{AllDigits, digits_value_after, digits_value}
-use Rattle.std.proofs.lemmas.Bool.{lt-ltb}
+use Rattle.std.proofs.lemmas.Bool.{false_from_ne_true, lt-ltb, ltb-false, ltb-true}
 use Rattle.std.proofs.lemmas.Bool.Decides.{nat_tests}
-use Rattle.std.proofs.lemmas.List.{length-append}
 use Rattle.std.proofs.lemmas.List.Folds.{list_all-append}
 use Rattle.std.proofs.lemmas.Fmt.{decimal_is_IsNumeral}
 use Rattle.std.proofs.lemmas.Nat.{mod-pow-add}
 use Rattle.std.proofs.lemmas.Slice.Eq.{bytes_eq-Decides}
 use Rattle.mp_records.specs.Names.{is_name}
 use Rattle.mp_words.proofs.DecimalLemmas.{decimal_digits}
-use Rattle.mp_words.proofs.PlainLemmas.{IsPlain, IsPlain-decimal, IsPlain-name, is_plain_byte, list_all-passing, both}
+use Rattle.mp_words.proofs.PlainLemmas.{IsPlain, IsPlain-decimal, IsPlain-name, is_plain_byte, list_all-passing}
 use Rattle.mp_vcd.specs.Codes.{digits_of, code}
 use Rattle.mp_vcd.specs.Values.{bit, bits}
+use Rattle.mp_vcd.proofs.CodeLemmas.{bits_long, code-one, code_longer, code_some}
 use Rattle.mp_vcd.specs.Readings.{is_made_of, is_binary, is_printed}
 
 -- ---- words
@@ -46,35 +46,28 @@ solid_behind b word high solid =
 
 -- ---- codes
 
-high_digit : (n : ℕ) → nat_lt 32 (33 + n % 94) ≡ true
-high_digit n = grind (arith, nat_tests)
-
-digits_solid : (most n : ℕ) → list_all (nat_lt 32) (digits_of most n) ≡ true
-digits_solid zero n = refl
-digits_solid (suc most) n = let here = high_digit n in rw here (by (nat_lt n 94) (digits_solid most (n / 94)))
+digits_all : (p : ℕ → Bool) → ((n : ℕ) → p (33 + n % 94) ≡ true) → (most n : ℕ) → list_all p (digits_of most n) ≡ true
+digits_all p each zero n = refl
+digits_all p each (suc most) n = let here = each n in rw here (by (nat_lt n 94) (digits_all p each most (n / 94)))
   where
-    by : (test : Bool) → list_all (nat_lt 32) (digits_of most (n / 94)) ≡ true → list_all (nat_lt 32) (cond test [] (digits_of most (n / 94))) ≡ true
+    by : (test : Bool) → list_all p (digits_of most (n / 94)) ≡ true → list_all p (cond test [] (digits_of most (n / 94))) ≡ true
     by true rest = refl
     by false rest = rest
 
-pub code_solid : (w : ℕ) → list_all (nat_lt 32) (code w) ≡ true
+code_all : (p : ℕ → Bool) → ((n : ℕ) → p (33 + n % 94) ≡ true) → (w : ℕ) → list_all p (code w) ≡ true
 unfolding code
-code_solid w = digits_solid (suc w) w
+code_all p each w = digits_all p each (suc w) w
+
+pub code_solid : (w : ℕ) → list_all (nat_lt 32) (code w) ≡ true
+code_solid w = code_all (nat_lt 32) (λ n. grind (arith, nat_tests)) w
 
 pub IsSolid-code : (w : ℕ) → IsSolid (code w)
-unfolding code
-IsSolid-code w = record { some = omega arith; solid = digits_solid (suc w) w }
+IsSolid-code w = record { some = code_some w; solid = code_solid w }
 
 -- the number whose digits these are
 abbrev worth : List ℕ → ℕ
 worth [] = 0
 worth (digit ∷ digits) = (digit - 33) + 94 * worth digits
-
-not_low : (n : ℕ) → nat_lt n 94 ≡ false → 94 ≤ n
-not_low n test = grind (arith, nat_tests)
-
-low : (n : ℕ) → nat_lt n 94 ≡ true → n < 94
-low n test = grind (arith, nat_tests)
 
 worth-digits : (most n : ℕ) → n < most → worth (digits_of most n) ≡ n
 worth-digits zero n below = absurd (omega arith)
@@ -82,9 +75,9 @@ worth-digits (suc most) n below = by (nat_lt n 94) refl (worth-digits most (n / 
   where
     by : (test : Bool) → nat_lt n 94 ≡ test → (n / 94 < most → worth (digits_of most (n / 94)) ≡ n / 94)
         → ((33 + n % 94) - 33) + 94 * worth (cond test [] (digits_of most (n / 94))) ≡ n
-    by true test later = let small = low n test in omega (arith, small)
+    by true test later = let small = ltb-true n 94 test in omega (arith, small)
     by false test later =
-        let large = not_low n test in
+        let large = ltb-false n 94 test in
         let rest = later (omega (arith, large, below)) in
         omega (arith, rest)
 
@@ -95,30 +88,13 @@ code_worth w = worth-digits (suc w) w (omega arith)
 pub own_codes : (w v : ℕ) → code w ≡ code v → w ≡ v
 own_codes w v same = sym (code_worth w) ∙ ap worth same ∙ code_worth v
 
-length-digits : (most n : ℕ) → n < 94 * 94 → length (digits_of most n) ≤ 2
-length-digits zero n few = omega arith
-length-digits (suc most) n few = by (nat_lt n 94)
-  where
-    one : (most n : ℕ) → n < 94 → length (digits_of most n) ≤ 1
-    one zero n few = omega arith
-    one (suc most) n few = let small : nat_lt n 94 ≡ true = grind (arith, nat_tests) in rw small (omega arith)
-
-    by : (test : Bool) → length ((33 + n % 94) ∷ cond test [] (digits_of most (n / 94))) ≤ 2
-    by true = omega arith
-    by false = let rest = one most (n / 94) (omega arith) in omega (arith, rest)
-
 length-code : (w : ℕ) → w < 8836 → length (code w) ≤ 2
-unfolding code
-length-code w few = length-digits (suc w) w few
+length-code w few = code_longer w 1 (omega arith) (λ _. let low : w / 94 < 94 = omega (arith, few) in omega (arith, ap length (code-one (w / 94) low)))
 
 -- ---- words that end nothing
 
 other_bytes : (xs ys : List ℕ) → xs ≢ ys → bytes_eq xs ys ≡ false
-other_bytes xs ys other = by (bytes_eq xs ys) refl
-  where
-    by : (test : Bool) → bytes_eq xs ys ≡ test → bytes_eq xs ys ≡ false
-    by true same = absurd (other ((bytes_eq-Decides xs ys).0 same))
-    by false same = same
+other_bytes xs ys other = false_from_ne_true (bytes_eq xs ys) (λ same. other ((bytes_eq-Decides xs ys).0 same))
 
 pub same_bytes : (xs : List ℕ) → bytes_eq xs xs ≡ true
 same_bytes xs = (bytes_eq-Decides xs xs).1 refl
@@ -167,19 +143,16 @@ bits_read (suc width) level =
     ∙ ap (λ d. (level / 2) % 2 ^ width * 2 + d) (bit_value level)
     ∙ half_of width level
 
-bits_solid-append : (xs : List ℕ) (d : ℕ) → list_all (nat_lt 32) xs ≡ true → nat_lt 32 d ≡ true → list_all (nat_lt 32) (xs ++ d ∷ []) ≡ true
-bits_solid-append [] d all high = rw high refl
-bits_solid-append (x ∷ xs) d all high =
-    let parts = both (nat_lt 32 x) (list_all (nat_lt 32) xs) all in
-    let rest = bits_solid-append xs d parts.1 high in
-    rw (parts.0, rest) refl
+bits_all : (p : ℕ → Bool) → ((level : ℕ) → p (bit level) ≡ true) → (width level : ℕ) → list_all p (bits width level) ≡ true
+unfolding bits
+bits_all p each zero level = refl
+bits_all p each (suc width) level =
+    let last = each level in
+    let rest = bits_all p each width (level / 2) in
+    list_all-append p (bits width (level / 2)) (bit level ∷ []) ∙ rw (rest, last) refl
 
 pub bits_solid : (width level : ℕ) → list_all (nat_lt 32) (bits width level) ≡ true
-unfolding bits
-bits_solid zero level = refl
-bits_solid (suc width) level =
-    let high : nat_lt 32 (bit level) ≡ true = grind (arith, nat_tests) in
-    bits_solid-append (bits width (level / 2)) (bit level) (bits_solid width (level / 2)) high
+bits_solid width level = bits_all (nat_lt 32) (λ l. grind (arith, nat_tests)) width level
 
 -- ---- of what words are made
 
@@ -189,44 +162,16 @@ decimal_made n fits =
     let digits = decimal_digits n fits in
     rw (some, digits) refl
 
-digit_printed : (n : ℕ) → is_printed (33 + n % 94) ≡ true
-digit_printed n = grind (arith, nat_tests)
-
-digits_printed : (most n : ℕ) → list_all is_printed (digits_of most n) ≡ true
-digits_printed zero n = refl
-digits_printed (suc most) n = let here = digit_printed n in rw here (by (nat_lt n 94) (digits_printed most (n / 94)))
-  where
-    by : (test : Bool) → list_all is_printed (digits_of most (n / 94)) ≡ true → list_all is_printed (cond test [] (digits_of most (n / 94))) ≡ true
-    by true rest = refl
-    by false rest = rest
-
-code_printed : (w : ℕ) → list_all is_printed (code w) ≡ true
-unfolding code
-code_printed w = digits_printed (suc w) w
-
 pub code_made : (w : ℕ) → is_made_of is_printed (code w) ≡ true
 code_made w =
     let some : nat_lt 0 (length (code w)) ≡ true = lt-ltb 0 (length (code w)) (IsSolid-code w).some in
-    let all = code_printed w in
+    let all = code_all is_printed (λ n. grind (arith, nat_tests)) w in
     rw (some, all) refl
-
-bits_all : (width level : ℕ) → list_all is_binary (bits width level) ≡ true
-unfolding bits
-bits_all zero level = refl
-bits_all (suc width) level =
-    let last : is_binary (bit level) ≡ true = grind (arith, nat_tests) in
-    let rest = bits_all width (level / 2) in
-    list_all-append is_binary (bits width (level / 2)) (bit level ∷ []) ∙ rw (rest, last) refl
-
-pub length-bits : (width level : ℕ) → length (bits width level) ≡ width
-unfolding bits
-length-bits zero level = refl
-length-bits (suc width) level = length-append (bits width (level / 2)) (bit level ∷ []) ∙ ap (λ k. k + 1) (length-bits width (level / 2)) ∙ add-one width
 
 pub bits_made : (width level : ℕ) → 1 ≤ width → is_made_of is_binary (bits width level) ≡ true
 bits_made width level wide =
-    let some : nat_lt 0 (length (bits width level)) ≡ true = lt-ltb 0 (length (bits width level)) (omega (arith, length-bits width level, wide)) in
-    let all = bits_all width level in
+    let some : nat_lt 0 (length (bits width level)) ≡ true = lt-ltb 0 (length (bits width level)) (omega (arith, bits_long width level, wide)) in
+    let all = bits_all is_binary (λ l. grind (arith, nat_tests)) width level in
     rw (some, all) refl
 
 pub one_bit : (level : ℕ) → bits 1 level ≡ bit level ∷ []

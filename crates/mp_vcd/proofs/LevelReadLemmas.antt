@@ -1,9 +1,8 @@
 -- The levels that a reader of a dump knows, unit by unit.
-use Rattle.std.proofs.Common.{◌≡◌, ℕ, ◌+◌, ◌-◌, ◌%◌, ◌^◌, ◌<◌, ◌≤◌, ◌⊎◌, inl, inr, Bool, true, false, not, cond, ◌==◌, nat_le, List, [], ◌∷◌, Option, None, Some, zero, suc, refl, sym, ap, subst, ◌∙◌, add-zero, zero-add, arith}
+use Rattle.std.proofs.Common.{◌≡◌, ℕ, ◌+◌, ◌-◌, ◌%◌, ◌^◌, ◌<◌, ◌≤◌, ◌⊎◌, inl, inr, Bool, true, false, not, cond, ◌==◌, List, [], ◌∷◌, Option, None, Some, zero, suc, refl, sym, ap, subst, ◌∙◌, add-zero, zero-add, arith}
 use Rattle.std.specs.List.{filter, flat_map, range_with_len}
 use Rattle.std.specs.Str.{bytes_eq}
-use Rattle.std.proofs.lemmas.Bool.{cases_lt, eqb-true}
-use Rattle.std.proofs.lemmas.Bool.Decides.{nat_tests}
+use Rattle.std.proofs.lemmas.Bool.{cases_lt, eqb-true, le-leb, lt-leb, not-false}
 use Rattle.std.proofs.lemmas.Slice.Eq.{bytes_eq-Decides}
 use Rattle.mp_records.specs.declared.wire_record.WireRecord.{WireRecord}
 use Rattle.mp_netlist.specs.Circuit.{Circuit, wire_at, width_of}
@@ -114,17 +113,11 @@ leads_marked n vs before t (w ∷ ws) given later fits each =
 
 -- ---- the values of a code
 
-not_now : (t s : ℕ) → s < t → nat_le t s ≡ false
-not_now t s sooner = grind (arith, nat_tests)
-
-now : (t s : ℕ) → t ≤ s → nat_le t s ≡ true
-now t s not_later = grind (arith, nat_tests)
-
 -- earlier values stay
 value_before : (n : Circuit) (t s : ℕ) (c : List ℕ) (ws : List ℕ) (given : List Given) → s < t → value_of c s (given_at n t ws given) ≡ value_of c s given
 value_before n t s c [] given sooner = refl
 value_before n t s c (w ∷ ws) given sooner =
-    let none = not_now t s sooner in
+    let none = lt-leb t s sooner in
     value_before n t s c ws (giving t w (level_bits n w t) ∷ given) sooner ∙ rw none refl
 
 -- a value that a code has already is not changed by that of its wire, nor by those of others
@@ -132,7 +125,7 @@ value_kept : (n : Circuit) (t s w : ℕ) (ws : List ℕ) (given : List Given) �
     → value_of (code w) s (given_at n t ws given) ≡ Some (level_bits n w t)
 value_kept n t s w [] given not_later known = known
 value_kept n t s w (v ∷ ws) given not_later known =
-    let on = now t s not_later in
+    let on = le-leb t s not_later in
     value_kept n t s w ws (giving t v (level_bits n v t) ∷ given) not_later (rw on (by (bytes_eq (code v) (code w)) refl))
   where
     by : (test : Bool) → bytes_eq (code v) (code w) ≡ test → cond test (Some (level_bits n v t)) (value_of (code w) s given) ≡ Some (level_bits n w t)
@@ -145,7 +138,7 @@ value_kept n t s w (v ∷ ws) given not_later known =
 value_given : (n : Circuit) (t s w : ℕ) (ws : List ℕ) (given : List Given) → t ≤ s → In w ws → value_of (code w) s (given_at n t ws given) ≡ Some (level_bits n w t)
 value_given n t s w [] given not_later within = absurd within
 value_given n t s w (v ∷ ws) given not_later (inl same) =
-    let on = now t s not_later in
+    let on = le-leb t s not_later in
     let equal : bytes_eq (code v) (code w) ≡ true = ap (λ k. bytes_eq (code k) (code w)) same ∙ same_bytes (code w) in
     value_kept n t s w ws (giving t v (level_bits n v t) ∷ given) not_later (rw (on, equal) (ap (λ k. Some (level_bits n k t)) same))
 value_given n t s w (v ∷ ws) given not_later (inr later) = value_given n t s w ws (giving t v (level_bits n v t) ∷ given) not_later later
@@ -170,12 +163,8 @@ module _ (n : Circuit) (t : ℕ) (given : List Given) (known : Knows n t given) 
   stays : (w : ℕ) → is_changed n (t + 1) w ≡ false → level_bits n w t ≡ level_bits n w (t + 1)
   stays w test =
       let place : t + 1 - 1 ≡ t = omega arith in
-      let equal : (level n w (t + 1) == level n w t) ≡ true = by (level n w (t + 1) == level n w t) (ap (λ k. not (level n w (t + 1) == level n w k)) (sym place) ∙ test) in
+      let equal : (level n w (t + 1) == level n w t) ≡ true = not-false (level n w (t + 1) == level n w t) (ap (λ k. not (level n w (t + 1) == level n w k)) (sym place) ∙ test) in
       ap (λ v. v % 2 ^ width_of (wire_at n w)) (sym (eqb-true (level n w (t + 1)) (level n w t) equal))
-    where
-      by : (x : Bool) → not x ≡ false → x ≡ true
-      by true h = refl
-      by false h = let bad : true ≡ false = h in cc bad
 
   later_value : (w s : ℕ) → In w (standing n) → t + 1 ≤ s → value_of (code w) s (given_at n (t + 1) (changed n (t + 1)) given) ≡ Some (level_bits n w (t + 1))
   later_value w s within later = by (is_changed n (t + 1) w) refl

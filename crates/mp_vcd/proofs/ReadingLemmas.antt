@@ -14,7 +14,8 @@ use Rattle.mp_vcd.specs.Codes.{code}
 use Rattle.mp_vcd.specs.Values.{bit, bits, value_line}
 use Rattle.mp_vcd.specs.Dumps.{slot_declaration, time_mark}
 use Rattle.mp_vcd.specs.Readings.{word_first, words_from, words, is_made_of, is_printed, Variable, Given, Side, Outside, Inside, Reading, BetweenDeclarations, InDeclaration, AmongValues, BehindDigits, at_place, with_time, takes, with_value, word_in, read_words}
-use Rattle.mp_vcd.proofs.CodeReadLemmas.{IsSolid, IsSolid-decimal, IsSolid-name, IsSolid-code, solid_behind, code_solid, bits_solid, decimal_not_end, name_not_end, code_not_end, decimal_read, bits_read, decimal_made, code_made, bits_made, length-bits, one_bit}
+use Rattle.mp_vcd.proofs.CodeLemmas.{bits_long}
+use Rattle.mp_vcd.proofs.CodeReadLemmas.{IsSolid, IsSolid-decimal, IsSolid-name, IsSolid-code, solid_behind, code_solid, bits_solid, decimal_not_end, name_not_end, code_not_end, decimal_read, bits_read, decimal_made, code_made, bits_made, one_bit}
 
 -- ---- words
 
@@ -124,7 +125,7 @@ module _ (side : Side) (vs : List Variable) (t w level : ℕ) (given : List Give
   -- a code behind the bits of a level
   code_read : (digits : List ℕ) → digits ≡ bits width level → with_value (Some t) (code w) digits (valued side vs t given) ≡ valued side vs t (giving t w (level % 2 ^ width) ∷ given)
   code_read digits same =
-      let few : length digits ≤ width = omega (arith, ap length same, length-bits width level) in
+      let few : length digits ≤ width = omega (arith, ap length same, bits_long width level) in
       let takes_it = declared digits few in
       let value = ap (digits_value 2) same ∙ bits_read width level in
       rw (takes_it, value) refl
