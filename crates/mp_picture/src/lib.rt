@@ -3,6 +3,7 @@
 
 mod cell;
 mod columns;
+mod edges;
 mod found;
 mod graph;
 pub mod laws;
@@ -16,8 +17,9 @@ mod ruler;
 
 pub use cell::{Cell, Events, cells};
 pub use columns::Columns;
+pub use edges::push_wire_edges;
 pub use found::{found_within, push_place_row, rows_of};
-pub use graph::{push_bundle_node, push_module_node, push_wire_edges, push_wire_node};
+pub use graph::{push_bundle_node, push_module_node, push_wire_node};
 pub use layout::Layout;
 pub use margin::margin_of;
 pub use mark::Charset;

@@ -1,6 +1,6 @@
 use Rattle.std.proofs.Common.{◌++◌, ◌∷◌, [], codes, ap, ◌∙◌, append_assoc}
 use Rattle.std.specs.Fmt.{decimal}
-use Rattle.mp_picture.proofs.graph.push_port_delay.Goals as goal
+use Rattle.mp_picture.proofs.edges.push_port_delay.Goals as goal
 
 pub returns : goal.returns
 returns c =

@@ -1,7 +1,7 @@
 use Rattle.std.proofs.Common.{◌≡◌, ◌++◌, take}
 use Rattle.std.specs.List.{flat_map}
 use Rattle.mp_picture.specs.Graphs.{edge}
-use Rattle.mp_picture.proofs.graph.push_wire_edges.Given as goal
+use Rattle.mp_picture.proofs.edges.push_wire_edges.Given as goal
 
 -- the reads so far
 abbrev pub invariant-loop-reader : goal.invariant-loop-reader
