@@ -18,6 +18,18 @@ pub fn found_within(
     findings: &[Finding],
     columns: Columns,
 ) -> Result<Vec<Finding>, AllocError>
+    ensures found { IfOk result (λ found. found.items ≡ within columns findings.now) }
+    ensures within { IfOk result (λ found. All (λ (f : Found). IsTrue (is_within columns f)) found.items) }
+{
+    let found = filtered(alloc, findings, columns)?;
+    Ok(found)
+}
+
+fn filtered(
+    alloc: Global,
+    findings: &[Finding],
+    columns: Columns,
+) -> Result<Vec<Finding>, AllocError>
     ensures { IfOk result (λ found. found.items ≡ within columns findings.now) }
 {
     findings
