@@ -6,8 +6,8 @@ ghost use Rattle.mp_picture.specs.Found.{module_name};
 ghost use Rattle.mp_picture.specs.Graphs.{ends, wire_edges, edge, edge_label, tail, tail_label, port_delay, input_delay, output_delay};
 
 use crate::graph::{push_id, wire_name};
+use crate::number::push_number;
 use mp_netlist::{Driver, ModuleId, Netlist, WireId};
-use mp_words::push_number;
 use std::alloc::AllocError;
 
 /// Puts the lines of a wire's edges behind the text: from what drives it, or its own node, to each module that reads it, by module and
