@@ -1,5 +1,5 @@
 //! What a wire does in a column.
-ghost use Rattle.std.specs.Prelude.{◌≡◌, ◌<◌, ◌≤◌, ℕ, IfOk, length, nat_lt};
+ghost use Rattle.std.specs.Prelude.{◌≡◌, ◌≤◌, IfOk, length, nat_lt};
 ghost use Rattle.std.specs.List.{prefix_len};
 ghost use Rattle.mp_wave.specs.Waveform.{level_of, last_from};
 ghost use Rattle.mp_picture.specs.Cells.{cells, events_of};

@@ -15,8 +15,7 @@ pub struct Columns {
 }
 
 impl Columns {
-    ghost use Rattle.std.specs.Prelude.{◌≡◌, ℕ, ◌+◌, ◌-◌, ◌*◌, ◌<◌, ◌≤◌};
-    ghost use Rattle.mp_picture.specs.declared.columns.Columns.{Columns};
+    ghost use Rattle.std.specs.Prelude.{◌≡◌, ℕ, ◌-◌, ◌*◌, ◌<◌, ◌≤◌};
     ghost use Rattle.mp_picture.specs.Columns.{count, begin, end, column_of, range_from, range_to};
 
     /// The range below a horizon, in at most so many columns of the fewest units each. A time at or above the horizon is read as its

@@ -1,8 +1,7 @@
 //! What the report finds in a picture.
-ghost use Rattle.std.specs.Prelude.{◌≡◌, ◌≤◌, ◌<◌, ◌++◌, List, vec_len, OnOk, IfOk, All, IsTrue};
+ghost use Rattle.std.specs.Prelude.{◌≡◌, ◌++◌, OnOk, IfOk, All, IsTrue};
 ghost use Rattle.mp_model.specs.declared.finding.Finding.{Finding as Found};
 ghost use Rattle.std.specs.List.{list_any};
-ghost use Rattle.mp_picture.specs.Columns.{count};
 ghost use Rattle.mp_picture.specs.Found.{is_within, is_place, is_module, within, places_of, place_rows, marks, trimmed, place_name, place_row};
 
 use crate::columns::Columns;

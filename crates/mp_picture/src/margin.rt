@@ -1,5 +1,5 @@
 //! How wide the names of a picture are.
-ghost use Rattle.std.specs.Prelude.{◌≡◌, ◌+◌, ◌<◌, ◌^◌, map, max};
+ghost use Rattle.std.specs.Prelude.{◌≡◌, ◌<◌, ◌^◌, map};
 ghost use Rattle.mp_text.specs.Written.{wire_name};
 ghost use Rattle.mp_picture.specs.Found.{place_name};
 ghost use Rattle.mp_picture.specs.Diagrams.{longest, margin};

@@ -1,5 +1,5 @@
 //! The row of a wire.
-ghost use Rattle.std.specs.Prelude.{◌≡◌, ◌≤◌, ◌++◌, ◌∷◌, [], length, OnOk};
+ghost use Rattle.std.specs.Prelude.{◌≡◌, ◌≤◌, ◌++◌, length, OnOk};
 ghost use Rattle.std.specs.List.{prefix_len};
 ghost use Rattle.mp_model.specs.Waves.{AreWavesOf};
 ghost use Rattle.mp_wave.specs.Waveform.{level_of};

@@ -1,5 +1,5 @@
 //! The line of times above a picture.
-ghost use Rattle.std.specs.Prelude.{◌≡◌, ◌++◌, ◌*◌, ◌≤◌, OnOk};
+ghost use Rattle.std.specs.Prelude.{◌≡◌, ◌++◌, ◌≤◌, OnOk};
 ghost use Rattle.mp_picture.specs.Rows.{ruler, padded, tick, last_tick};
 
 use crate::columns::Columns;
