@@ -6,7 +6,7 @@ ghost use Rattle.mp_picture.specs.Found.{module_name};
 ghost use Rattle.mp_picture.specs.Graphs.{ends, wire_edges, edge, edge_label, tail, tail_label, port_delay, input_delay, output_delay};
 
 use crate::graph::{push_id, wire_name};
-use crate::number::push_number;
+use crate::repeated::push_number;
 use mp_netlist::{Driver, ModuleId, Netlist, WireId};
 use std::alloc::AllocError;
 

@@ -5,7 +5,7 @@ ghost use Rattle.mp_netlist.specs.Circuit.{module_at, bundle_at};
 ghost use Rattle.mp_text.specs.Written.{spaced, wire_name};
 ghost use Rattle.mp_picture.specs.Graphs.{id, node_start, module_node, module_label, bundle_node, bundle_label, wire_node, source_node, shape_of, is_source};
 
-use crate::number::push_number;
+use crate::repeated::push_number;
 use mp_modules::Kind;
 use mp_netlist::{BundleId, BundleRecord, Driver, ModuleId, ModuleRecord, Netlist, WireId};
 use std::alloc::AllocError;

@@ -10,7 +10,6 @@ pub mod laws;
 mod layout;
 mod margin;
 mod mark;
-mod number;
 mod repeated;
 mod row;
 mod ruler;

@@ -1,8 +1,10 @@
-//! Texts that are repeated, and texts that are filled up.
+//! Texts that are repeated or filled up, and numbers.
 ghost use Rattle.std.specs.Prelude.{◌≡◌, ◌++◌, OnOk};
+ghost use Rattle.std.specs.Fmt.{decimal};
 ghost use Rattle.std.specs.List.{repeat};
 ghost use Rattle.mp_picture.specs.Rows.{padded};
 
+use itoa::Buffer;
 use std::alloc::AllocError;
 
 /// Puts a text so many times behind a row.
@@ -21,4 +23,12 @@ pub(crate) fn push_padded(row: &mut Vec<u8>, text: &[u8], width: usize) -> Resul
 {
     row.extend_from_slice(text)?;
     push_repeated(row, b" ", width.saturating_sub(text.len()))
+}
+
+/// Puts a number in decimal digits behind a text.
+pub(crate) fn push_number(text: &mut Vec<u8>, number: u64) -> Result<(), AllocError>
+    ensures { OnOk result (text.new.items ≡ text.old.items ++ decimal number) }
+{
+    let mut digits = Buffer::new();
+    text.extend_from_slice(digits.format(number).as_bytes())
 }

@@ -4,8 +4,7 @@ ghost use Rattle.mp_picture.specs.Rows.{ruler, padded, tick, last_tick};
 
 use crate::columns::Columns;
 use crate::layout::Layout;
-use crate::number::push_number;
-use crate::repeated::{push_padded, push_repeated};
+use crate::repeated::{push_number, push_padded, push_repeated};
 use itoa::Buffer;
 use std::alloc::AllocError;
 

@@ -8,6 +8,6 @@ returns c =
     let begin = codes " taillabel=" ++ 34 ∷ [] in
     let digits = decimal c.args.delay in
     c.in_ok-push.ensures.items
-    ∙ ap (λ l. l ++ 34 ∷ []) (c.in_ok-push_number.ensures.ok ∙ ap (λ l. l ++ digits) c.in_ok-extend_from_slice.ensures.items)
+    ∙ ap (λ l. l ++ 34 ∷ []) (c.in_ok-push_number.ensures ∙ ap (λ l. l ++ digits) c.in_ok-extend_from_slice.ensures.items)
     ∙ append_assoc (old ++ begin) digits (34 ∷ [])
     ∙ append_assoc old begin (digits ++ 34 ∷ [])
