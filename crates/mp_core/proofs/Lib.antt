@@ -11,3 +11,4 @@ pub mod WidthLemmas
 pub mod CopyLemmas
 pub mod WholeLemmas
 pub mod SimulationLemmas
+pub mod BeginningLemmas

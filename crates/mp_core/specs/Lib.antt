@@ -11,3 +11,4 @@ pub mod Widths
 pub mod Copies
 pub mod WholeRuns
 pub mod Simulations
+pub mod Beginnings

@@ -8,6 +8,7 @@ ghost use Rattle.mp_core.specs.Widths.{HaveBits};
 ghost use Rattle.mp_core.specs.UnitLaws.{CanApplyWhenDue};
 ghost use Rattle.mp_core.specs.WholeRuns.{SlotsHaveAll};
 ghost use Rattle.mp_core.specs.Simulations.{CanGoOn};
+ghost use Rattle.mp_core.specs.Beginnings.{FirstAreKnown, NoCopiesAtFirst};
 
 /// A wire that a port drives changes where the module's output did, the port's delay before: first where the settled level isn't the
 /// initial one, and never before its delay is over.
@@ -74,4 +75,11 @@ pub fn slots_have_all()
 /// In an evaluation that follows no other, what changes in the next unit can be applied.
 pub fn can_go_on()
     ensures { CanGoOn }
+{}
+
+/// Before the unit 1 the wheel has what is known where each wire is in the slot of its first change, if its settled level isn't the initial
+/// one; and no delayed copy has a change to come.
+pub fn begins_with_first_changes()
+    ensures events { FirstAreKnown }
+    ensures copies { NoCopiesAtFirst }
 {}
