@@ -3,13 +3,12 @@ use Rattle.std.proofs.Common.{◌≡◌, ℕ, suc, ◌+◌, ◌-◌, ◌%◌, �
 use Rattle.std.specs.Prelude.{◌==◌, ◌&&◌, slice_index_or}
 use Rattle.std.proofs.lemmas.Bool.{eqb-true, eqb-false}
 use Rattle.std.proofs.lemmas.Bool.Decides.{nat_tests}
-use Rattle.std.proofs.lemmas.List.Elements.{All-append, All-nil}
+use Rattle.std.proofs.lemmas.List.Elements.{All-append}
 use Rattle.std.proofs.lemmas.Grind.{flat_map-append}
 use Rattle.std.proofs.lemmas.List.{length-append, get_or_append_left}
 use Rattle.std.proofs.Math.ListN.{get_or-eq_default}
 use Rattle.std.proofs.Math.Seq.{get_or-append_seam}
-use Rattle.mp_wave.specs.Waveform.{Waveform, wave_upto, last_time}
-use Rattle.mp_wave.proofs.ChangesLemmas.{last_time-changes_after}
+use Rattle.mp_wave.specs.Waveform.{Waveform, wave_upto}
 use Rattle.mp_records.specs.declared.module_record.ModuleRecord.{ModuleRecord}
 use Rattle.mp_records.specs.Outputs.{delay_of}
 use Rattle.mp_netlist.specs.declared.driver.Driver.{Driver}
@@ -35,17 +34,16 @@ use Rattle.mp_events.specs.Toggling.{row_at, wave_at, entries_from, AreToggled}
 use Rattle.mp_events.specs.Ports.{HasPorts}
 use Rattle.mp_events.specs.Firing.{UnitState, AreNumbered, HaveSlots, ports_at}
 use Rattle.mp_events.proofs.AddingLemmas.{added_both}
-use Rattle.mp_events.proofs.PortLemmas.{events_add_up, few_events}
+use Rattle.mp_events.proofs.PortLemmas.{events_add_up}
 use Rattle.mp_core.specs.declared.simulator.Simulator.{Simulator}
 use Rattle.mp_core.specs.Changes.{change_at, is_decided}
 use Rattle.mp_core.specs.Advancing.{unit_state_at}
 use Rattle.mp_core.specs.Scopes.{Scope, is_expected}
 use Rattle.mp_core.specs.Simulators.{next_slot, slot_at, AreBelow, IsSound, CanApply}
 use Rattle.mp_core.specs.Units.{IsLaidOut, HaveWaves, HaveEvents, IsBefore, IsDuring, AreDue}
-use Rattle.mp_core.specs.UnitLaws.{CanApplyWhenDue}
 use Rattle.mp_core.proofs.ChangeLemmas.{waves_grow}
 use Rattle.mp_core.proofs.PortEventLemmas.{ports_have_events}
-use Rattle.mp_core.proofs.ListedLemmas.{listed_here, all_below}
+use Rattle.mp_core.proofs.ListedLemmas.{all_below}
 use Rattle.mp_core.proofs.NumberLemmas.{events_with, events_of_code, events_part, with_events, numbered_with}
 
 -- what becomes of a simulator when a unit begins
@@ -277,62 +275,4 @@ module _ (s new : Simulator) (set others : List ℕ) (time : ℕ) (sound : IsSou
       waves = waves_now;
       events = events_now;
       room = λ w p m r drives at. let a = before.stands.room w p m r drives at in let b = long_as in omega arith;
-    }
-
--- ---- what is due can be applied
-
-all_in_rows : (P : FanoutEntry → Type 0) (rows : List (List FanoutEntry)) (xs : List ℕ) → ((x : ℕ) → All P (row_at rows x)) → All P (entries_from rows xs)
-all_in_rows P rows [] each = All-nil P
-all_in_rows P rows (x ∷ xs) each = All-append P (row_at rows x) (entries_from rows xs) (each x) (all_in_rows P rows xs each)
-
-both_hold : (a b : Bool) → 0 < bit (a && b) → b ≡ true
-both_hold true true some = refl
-both_hold true false some = absurd (omega arith)
-both_hold false b some = absurd (omega arith)
-
-no_more : (a b : Bool) → bit (a && b) ≤ 1
-no_more true true = omega arith
-no_more true false = omega arith
-no_more false b = omega arith
-
-still : (r n : ℕ) (t : Bool) → (r == 0) ≡ t → n ≡ cond t 0 1 → n ≡ 0 → r ≡ 0
-still r n true is once none = eqb-true r 0 is
-still r n false is once none = absurd (omega arith)
-
-pub can_apply : CanApplyWhenDue
-can_apply n ok scope t s set others sound before due waved rowed =
-    let wires = next_slot s ++ set in
-    let waved_all = all_waved s set sound waved in
-    record {
-      waved = waved;
-      rowed = rowed;
-      over = record {
-        once = λ w. let is = due.toggled w in let low = no_more (change_at n w (t + 1)) (scope.traces w) in omega arith;
-        over = λ k d within.
-            let w = slice_index_or (next_slot s ++ set) k d in
-            let here = listed_here (next_slot s ++ set) k d within in
-            let is = due.toggled w in
-            let traced = both_hold (change_at n w (t + 1)) (scope.traces w) (omega arith) in
-            let last = last_time-changes_after (level n w) 0 t in
-            let now : last_time 0 (wave_upto (level n w) t).changes < t + 1 = omega arith in
-            subst (λ (v : Waveform). last_time 0 v.changes < t + 1) (sym (before.stands.waves w (waved_all k d within) traced)) now;
-      };
-      adding = record {
-        placed = All-append (λ (l : FanoutEntry). l.module < length s.states.items) (entries_from s.fanout (next_slot s ++ set)) (entries_from s.fanout others)
-            (all_in_rows (λ (l : FanoutEntry). l.module < length s.states.items) s.fanout (next_slot s ++ set) sound.placed)
-            (all_in_rows (λ (l : FanoutEntry). l.module < length s.states.items) s.fanout others sound.placed);
-        events = All-append (λ (l : FanoutEntry). 0 < l.event) (entries_from s.fanout (next_slot s ++ set)) (entries_from s.fanout others)
-            (all_in_rows (λ (l : FanoutEntry). 0 < l.event) s.fanout (next_slot s ++ set) sound.eventful)
-            (all_in_rows (λ (l : FanoutEntry). 0 < l.event) s.fanout others sound.eventful);
-        low = sound.events.low;
-        room = λ q.
-            let joined : entries_from s.fanout ((next_slot s ++ set) ++ others) ≡ entries_from s.fanout (next_slot s ++ set) ++ entries_from s.fanout others =
-            flat_map-append (row_at s.fanout) (next_slot s ++ set) others in
-            let same = ap (λ xs. events_for q xs) joined in
-            let few = few_events s.fanout q (scope.inputs q) ((next_slot s ++ set) ++ others) (before.stands.layout.ports q) due.once in
-            let none = ap (λ xs. listed q xs) before.due in
-            let quiet = still (state_at s.states.items q % 16) (listed q s.due.items) (state_at s.states.items q % 16 == 0) refl (sound.events.once q) none in
-            omega arith;
-        once = sound.events.once;
-      };
     }

@@ -12,3 +12,5 @@ pub mod CopyLemmas
 pub mod WholeLemmas
 pub mod SimulationLemmas
 pub mod BeginningLemmas
+pub mod FiredLemmas
+pub mod DueLemmas

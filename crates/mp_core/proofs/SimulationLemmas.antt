@@ -13,7 +13,8 @@ use Rattle.mp_core.specs.Copies.{AreChained, HaveCopies, AreListedBelow}
 use Rattle.mp_core.specs.Simulations.{copy_slot, AreSoundCopies, IsSoundRun, IsRunning, CanGoOn}
 use Rattle.mp_core.specs.WholeRuns.{IsWhole, AreSet, IsAll}
 use Rattle.mp_core.proofs.ListedLemmas.{all_below}
-use Rattle.mp_core.proofs.ApplyLemmas.{head_is, can_apply}
+use Rattle.mp_core.proofs.ApplyLemmas.{head_is}
+use Rattle.mp_core.proofs.DueLemmas.{can_apply}
 use Rattle.mp_core.proofs.WholeLemmas.{slots_have_all}
 
 -- the numbers in the first slot are numbers

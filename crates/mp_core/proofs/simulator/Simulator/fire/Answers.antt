@@ -1,7 +1,8 @@
 use Rattle.std.proofs.Common.{◌<◌, ◌≤◌, List, ℕ, length, All, refl, sym, subst}
 use Rattle.mp_events.specs.declared.output_ports.OutputPorts.{OutputPorts}
 use Rattle.mp_events.specs.Adding.{listed}
-use Rattle.mp_core.proofs.FireLemmas.{due_once, due_placed, due_led, is_fired, fired_sound, fired}
+use Rattle.mp_core.proofs.FireLemmas.{due_once, due_placed, due_led, is_fired, fired_sound}
+use Rattle.mp_core.proofs.FiredLemmas.{fired}
 use Rattle.mp_core.proofs.simulator.Simulator.fire.Goals as goal
 
 pub fire_modules-requires-clause-ports : goal.fire_modules-requires-clause-ports
