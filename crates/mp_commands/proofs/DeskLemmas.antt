@@ -15,7 +15,7 @@ use Rattle.mp_text.specs.declared.text_code.TextCode.TheVariants as texts
 use Rattle.mp_text.specs.declared.text_error.TextError.{TextError}
 use Rattle.mp_words.specs.Lines.{lines_of}
 use Rattle.mp_words.specs.Divisions.{parts_of, lines_of_each}
-use Rattle.mp_session.specs.Stories.{Story, present}
+use Rattle.mp_version.specs.Stories.{Story, present}
 use Rattle.mp_meeting.specs.declared.meeting_fault.MeetingFault.{MeetingFault}
 use Rattle.mp_meeting.specs.declared.meeting_fault.MeetingFault.TheVariants as meetings
 use Rattle.mp_meeting.specs.declared.tally.Tally.{Tally}

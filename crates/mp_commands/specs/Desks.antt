@@ -8,7 +8,7 @@ use Rattle.mp_netlist.specs.Replays.{replay}
 use Rattle.mp_text.specs.declared.text_error.TextError.{TextError}
 use Rattle.mp_words.specs.Lines.{lines_of}
 use Rattle.mp_words.specs.Divisions.{parts_of}
-use Rattle.mp_session.specs.Stories.{Story}
+use Rattle.mp_version.specs.Stories.{Story}
 use Rattle.mp_desk.specs.DeskSizes.{is_desk_size}
 use Rattle.mp_meeting.specs.declared.tally.Tally.{Tally}
 use Rattle.mp_meeting.specs.Meetings.{IsMeeting}

@@ -5,8 +5,8 @@ use Rattle.mp_records.specs.declared.edit_error.EditError.{EditError}
 use Rattle.mp_records.specs.declared.edit_error.EditError.TheVariants.{HistoryFull}
 use Rattle.mp_netlist.specs.Circuit.{Circuit}
 use Rattle.mp_netlist.specs.Edits.{after}
-use Rattle.mp_session.specs.Limits.{max_edits}
-use Rattle.mp_session.specs.Stories.{present}
+use Rattle.mp_version.specs.Limits.{max_edits}
+use Rattle.mp_version.specs.Stories.{present}
 use Rattle.mp_session.specs.Sessions.{Standing}
 use Rattle.mp_redo.specs.declared.work_entry.WorkEntry.{WorkEntry}
 use Rattle.mp_redo.specs.Work.{IsWork}

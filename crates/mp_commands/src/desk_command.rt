@@ -58,7 +58,7 @@ fn met<R: Threads + Wait + Sync>(
     alloc: Global,
     input: &[u8],
     options: &Options,
-) -> Result<Met, RunFault>
+) -> Result<Met<Session<OpenGate>>, RunFault>
     ensures met { IfOk result (λ met. IsOkAnd (desk_opening input.now options.now) (λ o. IsMeeting o.netlist o.blocks met.session.story met.tallies.items met.numbers.items)) }
     ensures viewers { IfOk result (λ met. vec_len met.numbers ≡ options.now.viewers) }
     ensures refused { IfErr result (Hinders (desk_opening input.now options.now)) }
@@ -81,7 +81,7 @@ fn met_on<R: Threads + Wait + Sync>(
     netlist: &Netlist,
     input: &[u8],
     options: &Options,
-) -> Result<Met, RunFault>
+) -> Result<Met<Session<OpenGate>>, RunFault>
     requires netlist { first_netlist input.now ≡ Ok netlist.now }
     ensures met { IfOk result (λ met. IsOkAnd (desk_opening input.now options.now) (λ o. IsMeeting o.netlist o.blocks met.session.story met.tallies.items met.numbers.items)) }
     ensures viewers { IfOk result (λ met. vec_len met.numbers ≡ options.now.viewers) }
@@ -98,7 +98,7 @@ fn met_over<R: Threads + Wait + Sync>(
     netlist: &Netlist,
     blocks: &[&[u8]],
     options: &Options,
-) -> Result<Met, RunFault>
+) -> Result<Met<Session<OpenGate>>, RunFault>
     ensures met { IfOk result (λ met. IsOkAnd (opening_of (lines_of_each blocks.now) options.now (Ok netlist.now))
         (λ o. IsMeeting o.netlist o.blocks met.session.story met.tallies.items met.numbers.items)) }
     ensures viewers { IfOk result (λ met. vec_len met.numbers ≡ options.now.viewers) }

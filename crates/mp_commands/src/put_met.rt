@@ -2,7 +2,7 @@
 ghost use Rattle.std.specs.Prelude.{◌≡◌, ◌-◌, ◌^◌, ◌<◌, ◌++◌, false, Ok, IfErr};
 ghost use Rattle.mp_netlist.specs.Replays.{replay};
 ghost use Rattle.mp_model.specs.Waves.{AreWavesOf};
-ghost use Rattle.mp_session.specs.Stories.{present};
+ghost use Rattle.mp_version.specs.Stories.{present};
 ghost use Rattle.mp_commands.specs.Desks.{met_text};
 ghost use Rattle.mp_commands.specs.Outputs.{waves_text};
 ghost use Rattle.mp_commands.specs.RunFaults.{counted_writes};
@@ -12,14 +12,20 @@ use crate::met_lines::met_lines;
 use crate::put_text::{put_rest, put_text};
 use crate::run_fault::RunFault;
 use crate::wave_lines::put_lines;
+use mp_engine::OpenGate;
 use mp_meeting::Met;
 use mp_model::Waves;
 use mp_netlist::Netlist;
+use mp_session::Session;
 use mp_streams::{Sink, WriteBuffer};
 use std::alloc::Global;
 
 /// Writes a line for each designer, a line for each viewer, and the lines of the waves after the meeting.
-pub fn put_met<T: Sink>(alloc: Global, sink: &mut T, met: &Met) -> Result<(), RunFault>
+pub fn put_met<T: Sink>(
+    alloc: Global,
+    sink: &mut T,
+    met: &Met<Session<OpenGate>>,
+) -> Result<(), RunFault>
     requires { T.fault_count sink.old < 2 ^ 64 - 1 }
     ensures replayed { replay met.now.session.story.base met.now.session.story.edits ≡ Ok (present met.now.session.story) }
     ensures started { IfErr result (λ fault. comes_first fault ≡ false) }

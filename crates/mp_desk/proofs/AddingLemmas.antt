@@ -5,7 +5,7 @@ use Rattle.std.proofs.lemmas.Bool.Decides.{nat_tests}
 use mathlib.Core.List.{IsPrefix}
 use prog.Atomic.{either}
 use Rattle.logbook.specs.Pages.{Cell, cell, keeps, no_nib, step, Moves, Goes}
-use Rattle.mp_session.specs.Stories.{Story}
+use Rattle.mp_version.specs.Stories.{Story}
 use Rattle.mp_desk.specs.Chronicles.{mark, Chain, MayAdd, IsKept, Adds}
 use Rattle.mp_desk.proofs.ChainLemmas.{may_still, latest_added, mark_added, chain_added, some_added}
 

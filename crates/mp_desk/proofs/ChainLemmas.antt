@@ -1,7 +1,7 @@
 -- Logs of stories, each of which extends the one before.
 use Rattle.std.proofs.Common.{◌≡◌, ◌+◌, ◌≤◌, ◌<◌, ◌⊎◌, inl, inr, ⊎_elim, List, [], ◌∷◌, ◌++◌, length, refl, ap, sym, ◌∙◌, subst, arith, length-append}
 use mathlib.Core.List.{IsPrefix}
-use Rattle.mp_session.specs.Stories.{Story}
+use Rattle.mp_version.specs.Stories.{Story}
 use Rattle.mp_desk.specs.Extending.{Extends}
 use Rattle.mp_desk.proofs.PrefixLemmas.{extends_self, extends_trans, extends_whole}
 use Rattle.mp_desk.specs.Chronicles.{last_of, latest, mark, ChainFrom, Chain, MayAdd}

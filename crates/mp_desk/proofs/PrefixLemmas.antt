@@ -2,7 +2,7 @@
 use Rattle.std.proofs.Common.{◌≡◌, ◌≤◌, List, [], ◌∷◌, ◌++◌, length, refl, ap, sym, ◌∙◌, arith, append_assoc}
 use mathlib.Core.List.{IsPrefix}
 use Rattle.mp_records.specs.declared.edit.Edit.{Edit}
-use Rattle.mp_session.specs.Stories.{Story, one_more}
+use Rattle.mp_version.specs.Stories.{Story, one_more}
 use Rattle.mp_desk.specs.Extending.{Extends}
 
 pub prefix_self : {A : Type 0} (xs : List A) → IsPrefix xs xs

@@ -7,7 +7,7 @@ use Rattle.mp_records.specs.declared.edit_error.EditError.{EditError}
 use Rattle.mp_records.specs.declared.edit_error.EditError.TheVariants.{BadBatch, OutOfMemory}
 use Rattle.mp_netlist.specs.Circuit.{Circuit}
 use Rattle.mp_netlist.specs.Edits.{after_each, is_batch, may_want}
-use Rattle.mp_session.specs.Stories.{Story, present, judged, counted_edit}
+use Rattle.mp_version.specs.Stories.{Story, present, judged, counted_edit}
 use Rattle.mp_desk.specs.Holders.{RefusedAfter}
 
 -- an edit that is accepted may be refused for want of memory

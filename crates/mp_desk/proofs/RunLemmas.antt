@@ -9,9 +9,9 @@ use Rattle.mp_records.specs.declared.edit_error.EditError.{EditError}
 use Rattle.mp_records.specs.declared.edit_error.EditError.TheVariants.{HistoryFull}
 use Rattle.mp_netlist.specs.Circuit.{Circuit}
 use Rattle.mp_netlist.specs.Edits.{after}
-use Rattle.mp_session.specs.Limits.{max_edits}
-use Rattle.mp_session.specs.Stories.{present, counted_edit}
-use Rattle.mp_session.proofs.StoryLemmas.{one_more_leads}
+use Rattle.mp_version.specs.Limits.{max_edits}
+use Rattle.mp_version.specs.Stories.{present, counted_edit}
+use Rattle.mp_version.proofs.StoryLemmas.{one_more_leads}
 use Rattle.mp_desk.proofs.PrefixLemmas.{prefix_self, prefix_trans}
 use Rattle.mp_desk.specs.Worlds.{World, Event, Accept, Refuse, Read, Tell, number, IsReplay, MayCome, next, IsRun, after_run, NumberOf, ReadsWell, EveryRun}
 

@@ -2,7 +2,7 @@
 use Rattle.std.proofs.Common.{◌≡◌, List, [], ◌∷◌, fold, length, sym, subst, inr, Result, Ok, Err, true}
 use Rattle.std.specs.Prelude.{MatchResult, is_ok}
 use Rattle.logbook.specs.Pages.{Book}
-use Rattle.mp_session.specs.Stories.{Story}
+use Rattle.mp_version.specs.Stories.{Story}
 use Rattle.mp_desk.specs.Extending.{Extends}
 use Rattle.mp_desk.proofs.PrefixLemmas.{extends_whole}
 use Rattle.mp_desk.specs.Chronicles.{Shown, Follows}

@@ -1,7 +1,7 @@
 -- The one history of a desk: a log of stories, each of which extends the one before. It exists in the proofs alone.
 use Rattle.std.specs.Prelude.{◌≡◌, ℕ, ◌+◌, ◌==◌, ◌<◌, true, List, [], ◌∷◌, length, MatchBool}
 use Rattle.logbook.specs.Pages.{Cell, Step, View, Book, Named}
-use Rattle.mp_session.specs.Stories.{Story, opening}
+use Rattle.mp_version.specs.Stories.{Story, opening}
 use Rattle.mp_desk.specs.Extending.{Extends}
 
 -- a story for a log that has none
@@ -41,8 +41,8 @@ pub record IsKept (cells : List Cell) (log : List Story) : Type 0 where
   pub words : cells ≡ (mark log, true) ∷ (0, true) ∷ []
   pub chain : Chain log
 
-abbrev pub head_of : Book → Named
-head_of b = record { tracked = true; key = 0; book = b }
+abbrev pub writer_of : Book → Named
+writer_of b = record { tracked = true; key = 0; book = b }
 
 -- the story was added, where the mark was the one expected
 abbrev pub Adds : Step Story → View Story ℕ → ℕ → View Story ℕ → Type 0

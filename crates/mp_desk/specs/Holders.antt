@@ -5,8 +5,7 @@ use Rattle.mp_records.specs.declared.edit.Edit.{Edit}
 use Rattle.mp_records.specs.declared.edit_error.EditError.{EditError}
 use Rattle.mp_records.specs.declared.edit_error.EditError.TheVariants.{OutOfMemory}
 use Rattle.mp_netlist.specs.Edits.{RefusedBy}
-use Rattle.mp_session.specs.Stories.{Story, judged}
-use Rattle.mp_session.specs.Sessions.{Standing}
+use Rattle.mp_version.specs.Stories.{Story, judged}
 use Rattle.mp_desk.specs.Extending.{Extends}
 
 -- a viewer: the version that was read last, and the longest of those that were learnt of
@@ -20,8 +19,8 @@ pub record Working : Type 0 where
   pub accepted : ℕ
 
 -- the parts of a desk: the session, how many designers and viewers there will be, and which history and ledger it has
-pub record Parts : Type 0 where
-  pub session : Standing
+pub record Parts (S : Type 0) : Type 0 where
+  pub session : S
   pub designers : ℕ
   pub viewers : ℕ
   pub book : Book

@@ -5,8 +5,8 @@ use mathlib.Core.List.{IsPrefix}
 use Rattle.mp_records.specs.declared.edit.Edit.{Edit}
 use Rattle.mp_netlist.specs.Circuit.{Circuit}
 use Rattle.mp_netlist.specs.Replays.{replay}
-use Rattle.mp_session.specs.Limits.{max_edits}
-use Rattle.mp_session.specs.Stories.{Story, judged, one_more}
+use Rattle.mp_version.specs.Limits.{max_edits}
+use Rattle.mp_version.specs.Stories.{Story, judged, one_more}
 
 pub record World : Type 0 where
   pub story : Story

@@ -2,19 +2,19 @@
 ghost use Rattle.std.specs.Prelude.{◌≡◌, ◌∷◌, [], All, IfOk, vec_len};
 ghost use Rattle.std.specs.Arc.{arc_value};
 
-use crate::chronicle::{Head, begun};
+use crate::chronicle::{LogWriter, begun};
 use crate::desk_refused::DeskCause;
 use crate::desk_size::DeskSize;
 use crate::pass::Pass;
 use crate::publication::Publication;
-use mp_session::Version;
+use mp_version::Version;
 use std::alloc::{AllocError, Global};
 use std::sync::{Arc, Wait};
 
 /// A history with its first version, which is published, and a place for each designer and each viewer.
 #[derive(Drop)]
 pub(crate) struct Beginning<R: Wait + Drop> {
-    pub head: Head,
+    pub writer: LogWriter,
     pub publication: Publication<R>,
     pub designers: Vec<Pass>,
     pub viewers: Vec<Pass>,
@@ -28,20 +28,20 @@ pub(crate) fn begin<R: Wait + Drop>(
     version: &Arc<Version>,
     size: DeskSize,
 ) -> Result<Beginning<R>, DeskCause>
-    ensures publication { IfOk result (λ b. b.publication ≡ record { book = b.head; story = arc_value version.now }) }
+    ensures publication { IfOk result (λ b. b.publication ≡ record { book = b.writer; story = arc_value version.now }) }
     ensures designers { IfOk result (λ b. (vec_len b.designers ≡ size.designers) × All (λ p. p ≡ b.publication ∷ []) b.designers.items) }
     ensures viewers { IfOk result (λ b. (vec_len b.viewers ≡ size.viewers) × All (λ p. p ≡ b.publication ∷ []) b.viewers.items) }
 {
     let for_designers = Vec::with_capacity(alloc, size.designers)?;
     let for_viewers = Vec::with_capacity(alloc, size.viewers)?;
     // A history that nobody else has can be begun, so want of memory is the only error.
-    let (head, front) = begun(version).ok_or(AllocError)?;
+    let (writer, prefix) = begun(version).ok_or(AllocError)?;
     let readers = size.designers + size.viewers;
-    let mut publication = Publication::new(rt, alloc, version, &front, readers)?;
+    let mut publication = Publication::new(rt, alloc, version, &prefix, readers)?;
     let designers = publication.places(for_designers, size.designers)?;
     let viewers = publication.places(for_viewers, size.viewers)?;
     Ok(Beginning {
-        head,
+        writer,
         publication,
         designers,
         viewers,

@@ -2,7 +2,7 @@
 use crate::designer::Designer;
 use crate::desk::Desk;
 use crate::name::DeskName;
-use mp_phase::Gate;
+use mp_version::EditSession;
 use std::sync::Wait;
 use thiserror::Error;
 
@@ -16,8 +16,8 @@ pub enum CloseCause {
 
 /// A refusal, with all that was given.
 #[derive(Drop)]
-pub struct CloseRefused<G: Gate, L: DeskName, R: Wait + Drop> {
+pub struct CloseRefused<S: EditSession, L: DeskName, R: Wait + Drop> {
     pub cause: CloseCause,
-    pub desk: Desk<G, L, R>,
+    pub desk: Desk<S, L, R>,
     pub designers: Vec<Designer<L>>,
 }

@@ -1,7 +1,7 @@
 //! Those who edit.
 use crate::name::DeskName;
 use crate::pass::Pass;
-use mp_session::Version;
+use mp_version::Version;
 use std::marker::Model;
 use std::sync::Arc;
 use std::sync::ledger::Share;

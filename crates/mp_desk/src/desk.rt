@@ -5,7 +5,7 @@ use crate::close_refused::{CloseCause, CloseRefused};
 use crate::designer::Designer;
 use crate::desk_parts::DeskParts;
 use crate::desk_refused::{DeskCause, DeskRefused};
-use crate::keeper::Keeper;
+use crate::desk_state::DeskState;
 use crate::name::DeskName;
 use crate::parting::{part_designers, part_viewers};
 use crate::receipt::Receipt;
@@ -13,21 +13,20 @@ use crate::staffed::Staffed;
 use crate::staffing::{designers_at, viewers_at};
 use crate::viewer::Viewer;
 use mp_netlist::{Edit, EditError};
-use mp_phase::Gate;
-use mp_session::Session;
+use mp_version::EditSession;
 use std::marker::Model;
 use std::sync::{Mutex, Wait};
 use std::thread::Threads;
 
 /// Where designers submit edits. A contract sees the number of the version with which it was opened, and how many designers it has.
 #[derive(Drop)]
-pub struct Desk<G: Gate, L: DeskName, R: Wait + Drop> {
-    keeper: Mutex<Keeper<G, L, R>>,
+pub struct Desk<S: EditSession, L: DeskName, R: Wait + Drop> {
+    state: Mutex<DeskState<S, L, R>>,
     opening: u32,
     designers: usize,
 }
 
-impl<G: Gate, L: DeskName, R: Wait + Drop> Model for Desk<G, L, R> {
+impl<S: EditSession, L: DeskName, R: Wait + Drop> Model for Desk<S, L, R> {
     ghost use Rattle.std.specs.Prelude.{◌≡◌, ◌+◌};
     ghost use Rattle.mp_desk.specs.Holders.{Opened};
 
@@ -38,7 +37,7 @@ impl<G: Gate, L: DeskName, R: Wait + Drop> Model for Desk<G, L, R> {
     ghost invariant = { λ d. (d.opening ≡ L.opening) × (d.designers + 1 ≡ L.parts) };
 }
 
-impl<G: Gate, L: DeskName, R: Wait + Drop> Desk<G, L, R> {
+impl<S: EditSession, L: DeskName, R: Wait + Drop> Desk<S, L, R> {
     ghost use Rattle.std.specs.Prelude.{◌≢◌, ◌+◌, length, vec_len, All, IfOk, IfErr};
     ghost use Rattle.mp_desk.specs.Extending.{Extends};
     ghost use Rattle.mp_desk.specs.Holders.{fresh_designer, fresh_viewer, ExtendsEach, accepted_by};
@@ -46,21 +45,21 @@ impl<G: Gate, L: DeskName, R: Wait + Drop> Desk<G, L, R> {
 
     /// Opens the desk under the name that the caller picked for these parts. It is refused for want of memory alone: then the session is handed
     /// back.
-    pub fn open(parts: DeskParts<G, R>) -> Result<Staffed<G, L, R>, DeskRefused<G>>
+    pub fn open(parts: DeskParts<S, R>) -> Result<Staffed<S, L, R>, DeskRefused<S>>
         requires history { parts.book ≡ L.history }
         requires ledger { parts.ledger ≡ L.name }
         requires shares { parts.designers + 1 ≡ L.parts }
-        requires opening { length parts.session.story.edits ≡ L.opening }
-        ensures desk { IfOk result (λ s. (s.desk.opening ≡ length parts.session.story.edits) × (s.desk.designers ≡ parts.designers)) }
-        ensures designers { IfOk result (λ s. (vec_len s.designers ≡ parts.designers) × All (λ d. d ≡ fresh_designer parts.session.story) s.designers.items) }
-        ensures viewers { IfOk result (λ s. (vec_len s.viewers ≡ parts.viewers) × All (λ v. v ≡ fresh_viewer parts.session.story) s.viewers.items) }
+        requires opening { length (S.story parts.session).edits ≡ L.opening }
+        ensures desk { IfOk result (λ s. (s.desk.opening ≡ length (S.story parts.session).edits) × (s.desk.designers ≡ parts.designers)) }
+        ensures designers { IfOk result (λ s. (vec_len s.designers ≡ parts.designers) × All (λ d. d ≡ fresh_designer (S.story parts.session)) s.designers.items) }
+        ensures viewers { IfOk result (λ s. (vec_len s.viewers ≡ parts.viewers) × All (λ v. v ≡ fresh_viewer (S.story parts.session)) s.viewers.items) }
         ensures refused { IfErr result (λ r. r.session ≡ parts.session) }
         ensures wanting { IfErr result (λ r. r.cause ≡ OutOfMemory) }
     {
         let DeskParts {
             alloc,
             session,
-            head,
+            writer,
             publication,
             designers: for_designers,
             viewers: for_viewers,
@@ -75,34 +74,34 @@ impl<G: Gate, L: DeskName, R: Wait + Drop> Desk<G, L, R> {
                 alloc,
                 for_viewers,
                 session.version(),
-                publication.published().front(),
+                publication.published().prefix(),
             ),
         ) else {
             return Err(DeskRefused::new(DeskCause::OutOfMemory, session));
         };
-        let keeper = Keeper {
+        let state = DeskState {
             session,
-            head,
+            writer,
             publication,
             book,
             share,
         };
         Ok(Staffed {
-            desk: Desk::over(keeper, count),
+            desk: Desk::over(state, count),
             designers,
             viewers,
         })
     }
 
     /// The desk that has this under its lock, with so many designers.
-    fn over(keeper: Keeper<G, L, R>, designers: usize) -> Desk<G, L, R>
-        requires opening { length keeper.story.edits ≡ L.opening }
+    fn over(state: DeskState<S, L, R>, designers: usize) -> Desk<S, L, R>
+        requires opening { length state.edits ≡ L.opening }
         requires designers { designers + 1 ≡ L.parts }
-        ensures { result ≡ record { opening = length keeper.story.edits; designers = designers } }
+        ensures { result ≡ record { opening = length state.edits; designers = designers } }
     {
-        let opening = keeper.session.version().number();
+        let opening = state.session.version().number();
         Desk {
-            keeper: Mutex::new(keeper),
+            state: Mutex::new(state),
             opening,
             designers,
         }
@@ -122,11 +121,11 @@ impl<G: Gate, L: DeskName, R: Wait + Drop> Desk<G, L, R> {
         rt: &R,
         designers: Vec<Designer<L>>,
         viewers: &mut [Viewer<L>],
-    ) -> Result<Session<G>, CloseRefused<G, L, R>>
+    ) -> Result<S, CloseRefused<S, L, R>>
         ensures viewers { viewers.new ≡ viewers.old }
-        ensures seen { IfOk result (λ s. ExtendsEach s.story designers.items) }
-        ensures read { IfOk result (λ s. All (λ v. Extends s.story v.last) viewers.old) }
-        ensures counted { IfOk result (λ s. length s.story.edits ≡ self.opening + accepted_by designers.items) }
+        ensures seen { IfOk result (λ s. ExtendsEach (S.story s) designers.items) }
+        ensures read { IfOk result (λ s. All (λ v. Extends (S.story s) v.last) viewers.old) }
+        ensures counted { IfOk result (λ s. length (S.story s).edits ≡ self.opening + accepted_by designers.items) }
         ensures complete { IfOk result (λ _. vec_len designers ≡ self.designers) }
         ensures incomplete { IfErr result (λ _. vec_len designers ≢ self.designers) }
         ensures refused { IfErr result (λ r. (r.desk ≡ self) × (r.designers ≡ designers)) }
@@ -139,17 +138,17 @@ impl<G: Gate, L: DeskName, R: Wait + Drop> Desk<G, L, R> {
             });
         }
         let Desk {
-            keeper,
+            state,
             opening: _,
             designers: _,
         } = self;
-        let Keeper {
+        let DeskState {
             session,
-            head: _,
+            writer: _,
             publication,
             mut book,
             mut share,
-        } = keeper.into_inner();
+        } = state.into_inner();
         part_designers(rt, &publication, designers, &mut share);
         part_viewers(rt, &publication, viewers);
         book.audit(&mut share);
@@ -157,10 +156,10 @@ impl<G: Gate, L: DeskName, R: Wait + Drop> Desk<G, L, R> {
     }
 }
 
-impl<G: Gate + Sync, L: DeskName, R: Threads + Wait + Sync + Drop> Desk<G, L, R> {
+impl<S: EditSession, L: DeskName, R: Threads + Wait + Sync + Drop> Desk<S, L, R> {
     ghost use Rattle.std.specs.Prelude.{◌+◌, IfOk, IfErr, OnErr};
     ghost use Rattle.std.specs.Arc.{arc_value};
-    ghost use Rattle.mp_session.specs.Stories.{Story, one_more};
+    ghost use Rattle.mp_version.specs.Stories.{Story, one_more};
     ghost use Rattle.mp_desk.specs.Extending.{Extends};
     ghost use Rattle.mp_desk.specs.Holders.{RefusedAfter};
 
@@ -175,6 +174,6 @@ impl<G: Gate + Sync, L: DeskName, R: Threads + Wait + Sync + Drop> Desk<G, L, R>
         ensures uncounted { OnErr result (me.new.accepted ≡ me.old.accepted) }
         ensures forward { OnErr result (Extends me.new.seen me.old.seen) }
     {
-        self.keeper.lock(rt).submit(rt, me, edit)
+        self.state.lock(rt).submit(rt, me, edit)
     }
 }

@@ -2,13 +2,12 @@
 ghost use Rattle.std.specs.Prelude.{◌≡◌};
 
 use crate::beginning::{Beginning, begin};
-use crate::chronicle::Head;
+use crate::chronicle::LogWriter;
 use crate::desk_refused::DeskRefused;
 use crate::desk_size::DeskSize;
 use crate::pass::Pass;
 use crate::publication::Publication;
-use mp_phase::Gate;
-use mp_session::Session;
+use mp_version::EditSession;
 use std::alloc::Global;
 use std::marker::Model;
 use std::sync::Wait;
@@ -16,28 +15,28 @@ use std::sync::ledger::Blank;
 
 /// What a desk is made of, before it has a name: its session, its publication, and a place for each designer and each viewer.
 #[derive(Drop)]
-pub struct DeskParts<G: Gate, R: Wait + Drop> {
+pub struct DeskParts<S: EditSession, R: Wait + Drop> {
     pub(crate) alloc: Global,
-    pub(crate) session: Session<G>,
-    pub(crate) head: Head,
+    pub(crate) session: S,
+    pub(crate) writer: LogWriter,
     pub(crate) publication: Publication<R>,
     pub(crate) designers: Vec<Pass>,
     pub(crate) viewers: Vec<Pass>,
     pub(crate) blank: Blank,
 }
 
-impl<G: Gate, R: Wait + Drop> Model for DeskParts<G, R> {
+impl<S: EditSession, R: Wait + Drop> Model for DeskParts<S, R> {
     ghost use Rattle.std.specs.Prelude.{◌≡◌, ◌+◌, ◌∷◌, [], All, vec_len};
     ghost use Rattle.mp_desk.specs.Holders.{Parts};
 
-    ghost Value = { Parts };
+    ghost Value = { Parts S };
 
-    ghost view = { λ p. record { session = p.session; designers = vec_len p.designers; viewers = vec_len p.viewers; book = p.head; ledger = p.blank.name } };
+    ghost view = { λ p. record { session = p.session; designers = vec_len p.designers; viewers = vec_len p.viewers; book = p.writer; ledger = p.blank.name } };
 
-    ghost invariant = { λ p. (p.publication ≡ record { book = p.head; story = p.session.story }) × (p.blank.parts ≡ vec_len p.designers + 1) × All (λ q. q ≡ p.publication ∷ []) p.designers.items × All (λ q. q ≡ p.publication ∷ []) p.viewers.items };
+    ghost invariant = { λ p. (p.publication ≡ record { book = p.writer; story = S.story p.session }) × (p.blank.parts ≡ vec_len p.designers + 1) × All (λ q. q ≡ p.publication ∷ []) p.designers.items × All (λ q. q ≡ p.publication ∷ []) p.viewers.items };
 }
 
-impl<G: Gate, R: Wait + Drop> DeskParts<G, R> {
+impl<S: EditSession, R: Wait + Drop> DeskParts<S, R> {
     ghost use Rattle.std.specs.Prelude.{IfOk, IfErr};
 
     /// The parts of a desk of this size. `OutOfMemory` where memory is wanting, and `NoPlace` where there is memory, but the publication has no
@@ -45,15 +44,15 @@ impl<G: Gate, R: Wait + Drop> DeskParts<G, R> {
     pub fn new(
         rt: R,
         alloc: Global,
-        session: Session<G>,
+        session: S,
         size: DeskSize,
-    ) -> Result<DeskParts<G, R>, DeskRefused<G>>
+    ) -> Result<DeskParts<S, R>, DeskRefused<S>>
         ensures session { IfOk result (λ p. p.session ≡ session) }
         ensures counts { IfOk result (λ p. (p.designers ≡ size.designers) × (p.viewers ≡ size.viewers)) }
         ensures refused { IfErr result (λ r. r.session ≡ session) }
     {
         let Beginning {
-            head,
+            writer,
             publication,
             designers,
             viewers,
@@ -64,7 +63,7 @@ impl<G: Gate, R: Wait + Drop> DeskParts<G, R> {
         Ok(DeskParts {
             alloc,
             session,
-            head,
+            writer,
             publication,
             designers,
             viewers,

@@ -2,8 +2,7 @@
 ghost use Rattle.std.specs.Prelude.{◌≡◌};
 
 use crate::publication::NoPlace;
-use mp_phase::Gate;
-use mp_session::Session;
+use mp_version::EditSession;
 use std::alloc::AllocError;
 use thiserror::Error;
 
@@ -40,13 +39,13 @@ impl From<NoPlace> for DeskCause {
 
 /// A refusal, with the session as it was.
 #[derive(Drop)]
-pub struct DeskRefused<G: Gate> {
+pub struct DeskRefused<S: EditSession> {
     pub cause: DeskCause,
-    pub session: Session<G>,
+    pub session: S,
 }
 
-impl<G: Gate> DeskRefused<G> {
-    pub(crate) fn new(cause: DeskCause, session: Session<G>) -> DeskRefused<G>
+impl<S: EditSession> DeskRefused<S> {
+    pub(crate) fn new(cause: DeskCause, session: S) -> DeskRefused<S>
         ensures cause { result.cause ≡ cause }
         ensures session { result.session ≡ session }
     {

@@ -1,25 +1,25 @@
 //! Word of a version.
-use crate::front::Front;
+use crate::log_prefix::LogPrefix;
 use crate::name::DeskName;
 use std::marker::{Model, PhantomData};
 
 /// Tells of a version that was published. It carries no version. A contract sees its story.
 #[derive(Drop)]
 pub struct Notice<L: DeskName> {
-    pub(crate) front: Front,
+    pub(crate) prefix: LogPrefix,
     pub(crate) number: u32,
     pub(crate) of: PhantomData<L>,
 }
 
 impl<L: DeskName> Model for Notice<L> {
     ghost use Rattle.std.specs.Prelude.{◌≡◌, length};
-    ghost use Rattle.mp_session.specs.Stories.{Story};
+    ghost use Rattle.mp_version.specs.Stories.{Story};
 
     ghost Value = { Story };
 
-    ghost view = { λ n. n.front.story };
+    ghost view = { λ n. n.prefix.story };
 
-    ghost invariant = { λ n. (n.front.book ≡ L.history) × (n.number ≡ length n.front.story.edits) };
+    ghost invariant = { λ n. (n.prefix.book ≡ L.history) × (n.number ≡ length n.prefix.story.edits) };
 }
 
 impl<L: DeskName> Notice<L> {

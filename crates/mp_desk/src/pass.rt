@@ -1,14 +1,14 @@
 //! A place from which versions are read.
 ghost use Rattle.std.specs.Prelude.{◌≡◌, ◌∷◌, MatchResult, MatchOption, ◌≤◌, length};
 ghost use Rattle.left_right.specs.Sides.{view};
-ghost use Rattle.mp_session.specs.Limits.{max_edits};
+ghost use Rattle.mp_version.specs.Limits.{max_edits};
 ghost use Rattle.mp_desk.specs.Knowing.{Covers, OnlyReads};
 
-use crate::front::Front;
+use crate::log_prefix::LogPrefix;
 use crate::publishing::{Enters, Extending, Known, Published};
 use core::mem::replace_with;
 use left_right::reader::Reader;
-use mp_session::Version;
+use mp_version::Version;
 use std::marker::Model;
 use thiserror::Error;
 
@@ -41,8 +41,8 @@ impl Model for Pass {
 }
 
 impl Pass {
-    /// Looks at what is published, and gives its number and front. It waits for nobody, and takes no memory.
-    pub(crate) fn look(&mut self) -> Option<(u32, Front)>
+    /// Looks at what is published, and gives its number and prefix. It waits for nobody, and takes no memory.
+    pub(crate) fn look(&mut self) -> Option<(u32, LogPrefix)>
         ensures { MatchOption result (self.new ≡ self.old) (λ f. Covers f.1 self.old × (self.new ≡ f.1 ∷ self.old) × (f.0 ≡ length f.1.story.edits) × (f.0 ≤ max_edits)) }
     {
         replace_with(
@@ -80,7 +80,7 @@ fn entered(reader: RuledReader) -> (RuledReader, Result<Published, ReadError>)
     }
 }
 
-fn looked(reader: RuledReader) -> (RuledReader, Option<(u32, Front)>)
+fn looked(reader: RuledReader) -> (RuledReader, Option<(u32, LogPrefix)>)
     ensures { MatchOption result.1 (view result.0.place ≡ view reader.place) (λ f. Covers f.1 (view reader.place) × (view result.0.place ≡ f.1 ∷ view reader.place) × (f.0 ≡ length f.1.story.edits) × (f.0 ≤ max_edits)) }
 {
     match reader.enter_as::<Enters>() {
@@ -88,8 +88,8 @@ fn looked(reader: RuledReader) -> (RuledReader, Option<(u32, Front)>)
             let published: &Published = reading.get();
             let version: &Version = published.version();
             let number = version.number();
-            let front = published.front().again();
-            (reading.leave(), Some((number, front)))
+            let prefix = published.prefix().again();
+            (reading.leave(), Some((number, prefix)))
         }
         Err(reader) => (reader, None),
     }

@@ -3,12 +3,12 @@ ghost use Rattle.std.specs.Prelude.{◌≡◌, ◌∷◌, ◌++◌, [], fold, dr
 ghost use Rattle.left_right.specs.Sides.{view};
 ghost use Rattle.mp_desk.specs.Chronicles.{Follows};
 
-use crate::front::Front;
+use crate::log_prefix::LogPrefix;
 use crate::pass::Pass;
 use crate::publishing::{Brings, Extending, Known, Published, Starts};
 use core::mem::replace_with;
 use left_right::writer::Writer;
-use mp_session::Version;
+use mp_version::Version;
 use std::alloc::{AllocError, Global};
 use std::marker::Model;
 use std::sync::{Arc, Wait};
@@ -53,16 +53,16 @@ impl<R: Wait + Drop> Publication<R> {
         rt: R,
         alloc: Global,
         version: &Arc<Version>,
-        front: &Front,
+        prefix: &LogPrefix,
         readers: usize,
     ) -> Result<Publication<R>, AllocError>
         requires room { (0 < readers) × (readers < 2 ^ 32) }
-        requires front { arc_value version.now ≡ front.now.story }
-        ensures { IfOk result (λ p. p ≡ front.now) }
+        requires prefix { arc_value version.now ≡ prefix.now.story }
+        ensures { IfOk result (λ p. p ≡ prefix.now) }
     {
-        let first = Published::new(Arc::try_clone(version)?, front.again());
-        let second = Published::new(Arc::try_clone(version)?, front.again());
-        let again = Published::new(Arc::try_clone(version)?, front.again());
+        let first = Published::new(Arc::try_clone(version)?, prefix.again());
+        let second = Published::new(Arc::try_clone(version)?, prefix.again());
+        let again = Published::new(Arc::try_clone(version)?, prefix.again());
         let mut writer = RuledWriter::new(alloc, first, second, readers)?;
         if writer.append(again).is_err() {
             drop(writer.take(&rt));

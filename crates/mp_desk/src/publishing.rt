@@ -1,20 +1,20 @@
 //! What is published, and the rule of the publication: each version follows the one before, and all that a place has read.
 ghost use Rattle.std.specs.Prelude.{◌≡◌};
 
-use crate::front::Front;
+use crate::log_prefix::LogPrefix;
 use atomic_table::{Join, Split};
 use crossbeam_utils::rule::{Outcome, Protocol};
 use left_right::Absorb;
-use mp_session::Version;
+use mp_version::Version;
 use std::alloc::AllocError;
 use std::marker::Model;
 use std::sync::Arc;
 
-/// The version that readers take, with the front that it stands for. A contract sees that front.
+/// The version that readers take, with the prefix of the history that ends with it. A contract sees that prefix.
 #[derive(Drop)]
 pub(crate) struct Published {
     version: Arc<Version>,
-    front: Front,
+    prefix: LogPrefix,
 }
 
 impl Model for Published {
@@ -24,20 +24,20 @@ impl Model for Published {
 
     ghost Value = { Shown };
 
-    ghost view = { λ p. p.front };
+    ghost view = { λ p. p.prefix };
 
-    ghost invariant = { λ p. arc_value p.version ≡ p.front.story };
+    ghost invariant = { λ p. arc_value p.version ≡ p.prefix.story };
 }
 
 impl Published {
     ghost use Rattle.std.specs.Prelude.{IfOk};
     ghost use Rattle.std.specs.Arc.{arc_value};
 
-    pub(crate) fn new(version: Arc<Version>, front: Front) -> Published
-        requires { arc_value version ≡ front.story }
-        ensures { result ≡ front }
+    pub(crate) fn new(version: Arc<Version>, prefix: LogPrefix) -> Published
+        requires { arc_value version ≡ prefix.story }
+        ensures { result ≡ prefix }
     {
-        Published { version, front }
+        Published { version, prefix }
     }
 
     pub(crate) fn version(&self) -> &Arc<Version>
@@ -49,14 +49,14 @@ impl Published {
     pub(crate) fn into_version(self) -> Arc<Version>
         ensures { arc_value result ≡ self.story }
     {
-        let Published { version, front: _ } = self;
+        let Published { version, prefix: _ } = self;
         version
     }
 
-    pub(crate) fn front(&self) -> &Front
+    pub(crate) fn prefix(&self) -> &LogPrefix
         ensures { result.now ≡ self.now }
     {
-        &self.front
+        &self.prefix
     }
 
     pub(crate) fn try_copy(&self) -> Result<Published, AllocError>
@@ -64,7 +64,7 @@ impl Published {
     {
         Ok(Published {
             version: Arc::try_clone(&self.version)?,
-            front: self.front.again(),
+            prefix: self.prefix.again(),
         })
     }
 }

@@ -1,7 +1,7 @@
 //! What an accepted edit gives.
 use crate::name::DeskName;
 use crate::notice::Notice;
-use mp_session::Version;
+use mp_version::Version;
 use std::sync::Arc;
 
 /// The version to which an accepted edit led, and a notice of it.

@@ -16,10 +16,10 @@ pub(crate) fn show<R: Wait + Drop>(rt: &R, publication: &Publication<R>, pass: &
 {
     let number = publication.number();
     for _ in rt.forever() {
-        if let Some((found, front)) = pass.look() {
+        if let Some((found, prefix)) = pass.look() {
             if found == number {
-                let now = publication.published().front();
-                front.agrees(now);
+                let now = publication.published().prefix();
+                prefix.agrees(now);
                 return;
             }
         }

@@ -4,11 +4,11 @@ ghost use Rattle.std.specs.Arc.{arc_value};
 ghost use Rattle.mp_desk.specs.Holders.{fresh_designer, fresh_viewer};
 
 use crate::designer::Designer;
-use crate::front::Front;
+use crate::log_prefix::LogPrefix;
 use crate::name::DeskName;
 use crate::pass::Pass;
 use crate::viewer::Viewer;
-use mp_session::Version;
+use mp_version::Version;
 use std::alloc::{AllocError, Global};
 use std::marker::PhantomData;
 use std::sync::Arc;
@@ -60,9 +60,9 @@ pub(crate) fn viewers_at<L: DeskName>(
     alloc: Global,
     places: Vec<Pass>,
     version: &Arc<Version>,
-    front: &Front,
+    prefix: &LogPrefix,
 ) -> Result<Vec<Viewer<L>>, AllocError>
-    requires front { front.now ≡ record { book = L.history; story = arc_value version.now } }
+    requires prefix { prefix.now ≡ record { book = L.history; story = arc_value version.now } }
     requires places { All (λ p. p ≡ record { book = L.history; story = arc_value version.now } ∷ []) places.items }
     ensures count { IfOk result (λ v. vec_len v ≡ vec_len places) }
     ensures each { IfOk result (λ v. All (λ d. d ≡ fresh_viewer (arc_value version.now)) v.items) }
@@ -70,7 +70,7 @@ pub(crate) fn viewers_at<L: DeskName>(
     let mut made = Vec::new(alloc);
     let mut places = places;
     while let Some(pass) = places.pop() {
-        let next = viewer_at(pass, version, front)?;
+        let next = viewer_at(pass, version, prefix)?;
         made.push(next)?;
     }
     Ok(made)
@@ -79,9 +79,9 @@ pub(crate) fn viewers_at<L: DeskName>(
 fn viewer_at<L: DeskName>(
     pass: Pass,
     version: &Arc<Version>,
-    front: &Front,
+    prefix: &LogPrefix,
 ) -> Result<Viewer<L>, AllocError>
-    requires front { front.now ≡ record { book = L.history; story = arc_value version.now } }
+    requires prefix { prefix.now ≡ record { book = L.history; story = arc_value version.now } }
     requires pass { pass ≡ record { book = L.history; story = arc_value version.now } ∷ [] }
     ensures { IfOk result (λ v. v ≡ fresh_viewer (arc_value version.now)) }
 {
@@ -89,7 +89,7 @@ fn viewer_at<L: DeskName>(
     Ok(Viewer {
         pass,
         last,
-        heard: front.again(),
+        heard: prefix.again(),
         floor: version.number(),
         of: PhantomData,
     })

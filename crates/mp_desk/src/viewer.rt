@@ -1,11 +1,11 @@
 //! Those who look.
-use crate::front::Front;
+use crate::log_prefix::LogPrefix;
 use crate::name::DeskName;
 use crate::notice::Notice;
 use crate::pass::{Pass, ReadError};
 use crate::publication::Publication;
 use crate::showing::show;
-use mp_session::Version;
+use mp_version::Version;
 use std::marker::{Model, PhantomData};
 use std::sync::{Arc, Wait};
 
@@ -14,7 +14,7 @@ use std::sync::{Arc, Wait};
 pub struct Viewer<L: DeskName> {
     pub(crate) pass: Pass,
     pub(crate) last: Arc<Version>,
-    pub(crate) heard: Front,
+    pub(crate) heard: LogPrefix,
     /// The number of what was heard.
     pub(crate) floor: u32,
     pub(crate) of: PhantomData<L>,
@@ -60,7 +60,7 @@ impl<L: DeskName> Viewer<L> {
             // What a notice tells of was published before the notice was made, so this doesn't come.
             return Err(ReadError::Closed);
         }
-        published.front().agrees(&self.heard);
+        published.prefix().agrees(&self.heard);
         let version = published.into_version();
         let copy = Arc::try_clone(&version).map_err(|_| ReadError::OutOfMemory)?;
         self.last = copy;
@@ -84,11 +84,11 @@ impl<L: DeskName> Viewer<L> {
         ensures one { (self.new.learnt ≡ notice.now) ⊎ (self.new.learnt ≡ self.old.learnt) }
     {
         if notice.number > self.floor {
-            notice.front.agrees(&self.heard);
-            self.heard = notice.front.again();
+            notice.prefix.agrees(&self.heard);
+            self.heard = notice.prefix.again();
             self.floor = notice.number;
         } else {
-            self.heard.agrees(&notice.front);
+            self.heard.agrees(&notice.prefix);
         }
     }
 }

@@ -33,7 +33,7 @@ pub(crate) struct Done {
 pub(crate) fn at_desk<L: DeskName + Send + Sync, R: Threads + Wait + Sync + Send + Copy>(
     rt: R,
     alloc: Global,
-    parts: DeskParts<OpenGate, R>,
+    parts: DeskParts<Session<OpenGate>, R>,
     chain: Chain,
     call: Call,
     rounds: u32,
@@ -43,7 +43,7 @@ pub(crate) fn at_desk<L: DeskName + Send + Sync, R: Threads + Wait + Sync + Send
     requires shares { parts.designers + 1 ≡ L.parts }
     requires opening { length parts.session.story.edits ≡ L.opening }
 {
-    match Desk::<OpenGate, L, R>::open(parts) {
+    match Desk::<Session<OpenGate>, L, R>::open(parts) {
         Ok(staffed) => worked(&rt, alloc, staffed, chain, call, rounds),
         Err(refused) => bail!("{}", refused.cause),
     }
@@ -53,7 +53,7 @@ pub(crate) fn at_desk<L: DeskName + Send + Sync, R: Threads + Wait + Sync + Send
 fn worked<L: DeskName + Send + Sync, R: Threads + Wait + Sync + Send + Drop>(
     rt: &R,
     alloc: Global,
-    staffed: Staffed<OpenGate, L, R>,
+    staffed: Staffed<Session<OpenGate>, L, R>,
     chain: Chain,
     call: Call,
     rounds: u32,
@@ -95,7 +95,7 @@ fn read<L: DeskName>(mut viewer: Viewer<L>, rounds: u32, ends: &AtomicBool) -> u
 fn submit<L: DeskName, R: Threads + Wait + Sync + Drop>(
     rt: &R,
     alloc: Global,
-    desk: &Desk<OpenGate, L, R>,
+    desk: &Desk<Session<OpenGate>, L, R>,
     mut me: Designer<L>,
     chain: Chain,
     rounds: u32,
@@ -113,7 +113,7 @@ fn submit<L: DeskName, R: Threads + Wait + Sync + Drop>(
 fn submits<L: DeskName, R: Threads + Wait + Sync + Drop>(
     rt: &R,
     alloc: Global,
-    desk: &Desk<OpenGate, L, R>,
+    desk: &Desk<Session<OpenGate>, L, R>,
     me: &mut Designer<L>,
     chain: Chain,
     place: u32,

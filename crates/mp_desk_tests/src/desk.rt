@@ -16,6 +16,7 @@ use mp_netlist::{EditError, Netlist};
 use mp_part_tests::making::{Change, Plan, Signal};
 use mp_phase::{Crew, Gate, OpenGate};
 use mp_session::Session;
+use mp_version::EditSession;
 use std::alloc::{AllocError, Global};
 use std::marker::Brand;
 use std::process::Abort;
@@ -37,10 +38,10 @@ fn opened<G: Gate + Sync>(
 }
 
 /// What a submit of the edit answers.
-fn submit<G: Gate + Sync, L: DeskName, R: Threads + Wait + Sync + Drop>(
+fn submit<S: EditSession, L: DeskName, R: Threads + Wait + Sync + Drop>(
     rt: &R,
     alloc: Global,
-    desk: &Desk<G, L, R>,
+    desk: &Desk<S, L, R>,
     me: &mut Designer<L>,
     change: &Change<'_>,
 ) -> Result<Receipt<L>, EditError> {
@@ -55,10 +56,10 @@ fn submit<G: Gate + Sync, L: DeskName, R: Threads + Wait + Sync + Drop>(
 }
 
 /// Whether the edit is accepted.
-fn submits<G: Gate + Sync, L: DeskName, R: Threads + Wait + Sync + Drop>(
+fn submits<S: EditSession, L: DeskName, R: Threads + Wait + Sync + Drop>(
     rt: &R,
     alloc: Global,
-    desk: &Desk<G, L, R>,
+    desk: &Desk<S, L, R>,
     me: &mut Designer<L>,
     change: &Change<'_>,
 ) -> bool {
@@ -104,14 +105,16 @@ type Seen = (Option<u32>, u32, u32);
 fn at_desk<L: DeskName + Send + Sync, R: Threads + Wait + Abort + Sync + Send + Copy>(
     rt: R,
     alloc: Global,
-    parts: DeskParts<OpenGate, R>,
+    parts: DeskParts<Session<OpenGate>, R>,
 ) -> Result<(), Fail>
     requires history { parts.book ≡ L.history }
     requires ledger { parts.ledger ≡ L.name }
     requires shares { parts.designers + 1 ≡ L.parts }
     requires opening { length parts.session.story.edits ≡ L.opening }
 {
-    let mut staffed = Desk::<OpenGate, L, R>::open(parts).ok().ok_or("no desk")?;
+    let mut staffed = Desk::<Session<OpenGate>, L, R>::open(parts)
+        .ok()
+        .ok_or("no desk")?;
     let seen = worked(&rt, alloc, &mut staffed);
     let number = closed(&rt, staffed);
     assert!(rt; seen == Some((Some(6), 3, 3)) && number == Some(6));
@@ -122,7 +125,7 @@ fn at_desk<L: DeskName + Send + Sync, R: Threads + Wait + Abort + Sync + Send + 
 fn worked<L: DeskName + Send + Sync, R: Threads + Wait + Sync + Send + Drop>(
     rt: &R,
     alloc: Global,
-    staffed: &mut Staffed<OpenGate, L, R>,
+    staffed: &mut Staffed<Session<OpenGate>, L, R>,
 ) -> Option<Seen> {
     let Staffed {
         desk,
@@ -140,7 +143,7 @@ fn worked<L: DeskName + Send + Sync, R: Threads + Wait + Sync + Send + Drop>(
 fn race<L: DeskName + Send + Sync, R: Threads + Wait + Sync + Send + Drop>(
     rt: &R,
     alloc: Global,
-    desk: &Desk<OpenGate, L, R>,
+    desk: &Desk<Session<OpenGate>, L, R>,
     one: &mut Designer<L>,
     two: &mut Designer<L>,
     viewer: &mut Viewer<L>,
@@ -164,7 +167,7 @@ fn race<L: DeskName + Send + Sync, R: Threads + Wait + Sync + Send + Drop>(
 fn submit_four<L: DeskName, R: Threads + Wait + Sync + Drop>(
     rt: &R,
     alloc: Global,
-    desk: &Desk<OpenGate, L, R>,
+    desk: &Desk<Session<OpenGate>, L, R>,
     me: &mut Designer<L>,
     text: &str,
 ) -> Option<Notice<L>> {
@@ -178,7 +181,7 @@ fn submit_four<L: DeskName, R: Threads + Wait + Sync + Drop>(
 fn risen<L: DeskName, R: Threads + Wait + Sync + Drop>(
     rt: &R,
     alloc: Global,
-    desk: &Desk<OpenGate, L, R>,
+    desk: &Desk<Session<OpenGate>, L, R>,
     me: &mut Designer<L>,
     text: &str,
     time: u64,
@@ -206,7 +209,10 @@ fn learn<L: DeskName>(viewer: &mut Viewer<L>, notice: Option<Notice<L>>) {
 }
 
 /// The number of the session's version after the close, where no viewer reads any more.
-fn closed<L: DeskName, R: Wait + Drop>(rt: &R, staffed: Staffed<OpenGate, L, R>) -> Option<u32> {
+fn closed<L: DeskName, R: Wait + Drop>(
+    rt: &R,
+    staffed: Staffed<Session<OpenGate>, L, R>,
+) -> Option<u32> {
     let Staffed {
         desk,
         designers,

@@ -3,7 +3,7 @@ use Rattle.std.proofs.Common.{◌≡◌, ℕ, ◌+◌, ◌≤◌, List, [], ◌�
 use Rattle.std.proofs.lemmas.List.{append-nil}
 use mathlib.Core.List.{IsPrefix}
 use Rattle.mp_records.specs.declared.edit.Edit.{Edit}
-use Rattle.mp_session.specs.Stories.{Story, one_more}
+use Rattle.mp_version.specs.Stories.{Story, one_more}
 use Rattle.mp_desk.specs.Extending.{Extends}
 use Rattle.mp_meeting.specs.Fates.{Fate, Accepted, Refused, AreAmong, accepted_of, refused_of, up_to}
 

@@ -1,5 +1,5 @@
 -- What a meeting led to, designer by designer.
-use Rattle.std.proofs.Common.{◌≡◌, ℕ, ◌+◌, ◌<◌, ◌≤◌, zero, suc, List, [], ◌∷◌, ◌++◌, map, take, drop, length, slice_index, slice_index_or, false, All, Result, Ok, Err, IfOk, refl, sym, ap, ◌∙◌, subst, arith}
+use Rattle.std.proofs.Common.{◌≡◌, ℕ, ◌+◌, ◌<◌, ◌≤◌, zero, suc, List, [], ◌∷◌, ◌++◌, map, take, drop, length, slice_index, slice_index_or, false, All, refl, sym, ap, ◌∙◌, subst, arith}
 use Rattle.std.specs.Borrow.{Bor}
 use Rattle.std.proofs.lemmas.Grind.{get_or_default_zero}
 use Rattle.std.proofs.Math.Seq.{take-append_seam}
@@ -8,7 +8,7 @@ use Rattle.std.proofs.lemmas.List.Elements.{All-head, All-tail}
 use Rattle.mp_netlist.specs.Circuit.{Circuit}
 use Rattle.mp_words.specs.Lines.{lines_of}
 use Rattle.mp_words.specs.Divisions.{lines_of_each}
-use Rattle.mp_session.specs.Stories.{Story, opening}
+use Rattle.mp_version.specs.Stories.{Story, opening}
 use Rattle.mp_desk.specs.Extending.{Extends}
 use Rattle.mp_desk.specs.Holders.{Working, Seeing, fresh_designer, ExtendsEach}
 use Rattle.mp_desk.specs.Holders as holders
@@ -105,10 +105,6 @@ none_more now numbers vs count last read k n within =
     let same = last k v (omega (arith, within, count)) in
     let plain = get_or_default_zero numbers k n within in
     omega (arith, under, same, plain)
-
-pub if_ok : {X E : Type 0} (P Q : X → Type 0) (r : Result X E) → IfOk r P → ((x : X) → P x → Q x) → IfOk r Q
-if_ok P Q (Ok x) h f = f x h
-if_ok P Q (Err e) h f = tt
 
 -- a list that was lent whole and came back changed
 pub came_back : {A : Type 0} (len : ℕ) (new old : List A) → length new ≡ len → take len (new ++ drop (length new) old) ≡ new

@@ -7,7 +7,7 @@ use Rattle.mp_text.specs.declared.script_line.Line.{Line}
 use Rattle.mp_text.specs.declared.script_line.Line.TheVariants.{Empty, Change, Ask}
 use Rattle.mp_words.specs.Lines.{lines_of}
 use Rattle.mp_text.specs.ScriptLines.{line_at}
-use Rattle.mp_session.specs.Stories.{Story, one_more, judged}
+use Rattle.mp_version.specs.Stories.{Story, one_more, judged}
 use Rattle.mp_desk.specs.Extending.{Extends}
 use Rattle.mp_meeting.specs.Fates.{Fate, Accepted, Refused, said, unless_empty, IsFate, AreFates, Rise, AreAmong, accepted_of, refused_of}
 use Rattle.mp_meeting.specs.Sittings.{Sitting, begun, with_edit, with_refusal, IsAccepted, IsRefused, Takes, HasWorked}

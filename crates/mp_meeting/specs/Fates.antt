@@ -5,7 +5,7 @@ use Rattle.mp_words.specs.declared.line_error.LineError.{LineError}
 use Rattle.mp_text.specs.declared.script_line.Line.{Line}
 use Rattle.mp_text.specs.declared.script_line.Line.TheVariants.{Empty, Change}
 use Rattle.mp_text.specs.ScriptLines.{line_at}
-use Rattle.mp_session.specs.Stories.{Story, judged}
+use Rattle.mp_version.specs.Stories.{Story, judged}
 
 -- an edit was accepted after so many others, or a line was refused after so many edits
 pub data Fate : Type 0 where

@@ -1,7 +1,7 @@
 -- What designers and viewers did at one desk.
 use Rattle.std.specs.Prelude.{◌≡◌, ℕ, ◌+◌, ◌≤◌, List, [], ◌∷◌, length, All}
 use Rattle.mp_netlist.specs.Circuit.{Circuit}
-use Rattle.mp_session.specs.Stories.{Story}
+use Rattle.mp_version.specs.Stories.{Story}
 use Rattle.mp_meeting.specs.declared.tally.Tally.{Tally}
 use Rattle.mp_meeting.specs.Fates.{Fate, said, AreFates, Rise, AreAmong, accepted_of, refused_of}
 

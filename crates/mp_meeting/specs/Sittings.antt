@@ -7,7 +7,7 @@ use Rattle.mp_records.specs.declared.edit_error.EditError.{EditError}
 use Rattle.mp_words.specs.declared.line_error.LineError.{LineError}
 use Rattle.mp_text.specs.declared.script_line.Line.{Line}
 use Rattle.mp_text.specs.declared.script_line.Line.TheVariants.{Empty, Change}
-use Rattle.mp_session.specs.Stories.{Story, one_more, judged}
+use Rattle.mp_version.specs.Stories.{Story, one_more, judged}
 use Rattle.mp_desk.specs.Extending.{Extends}
 use Rattle.mp_meeting.specs.Fates.{Fate, said, AreFates, Rise, AreAmong, accepted_of, refused_of}
 

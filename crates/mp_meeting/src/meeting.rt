@@ -2,7 +2,7 @@
 ghost use Rattle.std.specs.Prelude.{◌≡◌, ◌+◌, ◌<◌, vec_len, length, All, IfOk, IfErr};
 ghost use Rattle.mp_netlist.specs.Circuit.{Circuit};
 ghost use Rattle.mp_words.specs.Divisions.{lines_of_each};
-ghost use Rattle.mp_session.specs.Stories.{opening};
+ghost use Rattle.mp_version.specs.Stories.{opening};
 ghost use Rattle.mp_desk.specs.Holders.{fresh_designer};
 ghost use Rattle.mp_meeting.specs.Meetings.{IsMeeting};
 ghost use Rattle.mp_meeting.specs.declared.meeting_fault.MeetingFault.TheVariants.{OutOfMemory};
@@ -10,11 +10,10 @@ ghost use Rattle.mp_meeting.specs.declared.meeting_fault.MeetingFault.TheVariant
 use crate::meeting_fault::MeetingFault;
 use crate::race::race;
 use crate::reading::last_reads;
-use crate::seats::{risen, seated};
+use crate::seats::{finish_all, start_all};
 use crate::tally::Tally;
 use mp_desk::{Desk, DeskName, DeskParts, DeskSize, Staffed};
-use mp_phase::OpenGate;
-use mp_session::Session;
+use mp_version::EditSession;
 use std::alloc::{AllocError, Global};
 use std::marker::Brand;
 use std::sync::Wait;
@@ -22,9 +21,9 @@ use std::thread::Threads;
 
 /// What a meeting leads to.
 #[derive(Drop)]
-pub struct Met {
+pub struct Met<S: EditSession> {
     /// The session after all accepted edits.
-    pub session: Session<OpenGate>,
+    pub session: S,
     /// How the lines of each designer fared.
     pub tallies: Vec<Tally>,
     /// The number of the version that each viewer read last.
@@ -34,61 +33,66 @@ pub struct Met {
 /// Has a designer for each block submit its lines, and viewers read 100 times, all on threads of their own; a part whose thread can't be
 /// started is done on the calling thread. Then each viewer learns of each designer's last edit, and reads once more. `OutOfMemory` where
 /// memory is wanting for any of them, and `NoPlace` where there is memory, but no place for a viewer or designer.
-pub fn meet<R: Threads + Wait + Sync>(
+pub fn meet<S: EditSession + Send, R: Threads + Wait + Sync>(
     rt: &R,
     alloc: Global,
-    session: Session<OpenGate>,
+    session: S,
     blocks: &[&[u8]],
     size: DeskSize,
-) -> Result<Met, MeetingFault>
-    requires fresh { session.story ≡ opening session.story.base }
+) -> Result<Met<S>, MeetingFault>
+where
+    S::Prepared: Send,
+    requires fresh { S.story session ≡ opening (S.story session).base }
     requires designers { size.designers ≡ length blocks.now }
-    ensures met { IfOk result (λ met. IsMeeting session.story.base (lines_of_each blocks.now) met.session.story met.tallies.items met.numbers.items) }
+    ensures met { IfOk result (λ met. IsMeeting (S.story session).base (lines_of_each blocks.now) (S.story met.session) met.tallies.items met.numbers.items) }
     ensures viewers { IfOk result (λ met. vec_len met.numbers ≡ size.viewers) }
 {
     match DeskParts::new(rt, alloc, session, size) {
-        Ok(parts) => at_desk::<Brand, _>(rt, alloc, parts, blocks),
+        Ok(parts) => at_desk::<S, Brand, _>(rt, alloc, parts, blocks),
         Err(refused) => Err(MeetingFault::from(refused.cause)),
     }
 }
 
 /// The meeting at the desk that these parts make. It is refused for want of memory alone.
-fn at_desk<L: DeskName + Send + Sync, R: Threads + Wait + Sync + Send + Copy>(
-    rt: R,
-    alloc: Global,
-    parts: DeskParts<OpenGate, R>,
-    blocks: &[&[u8]],
-) -> Result<Met, MeetingFault>
+fn at_desk<
+    S: EditSession + Send,
+    L: DeskName + Send + Sync,
+    R: Threads + Wait + Sync + Send + Copy,
+>(rt: R, alloc: Global, parts: DeskParts<S, R>, blocks: &[&[u8]]) -> Result<Met<S>, MeetingFault>
+where
+    S::Prepared: Send,
     requires history { parts.book ≡ L.history }
     requires ledger { parts.ledger ≡ L.name }
     requires shares { parts.designers + 1 ≡ L.parts }
-    requires opening { length parts.session.story.edits ≡ L.opening }
-    requires fresh { parts.session.story ≡ opening parts.session.story.base }
+    requires opening { length (S.story parts.session).edits ≡ L.opening }
+    requires fresh { S.story parts.session ≡ opening (S.story parts.session).base }
     requires some { 0 < length blocks.now }
     requires blocks { parts.designers ≡ length blocks.now }
-    ensures met { IfOk result (λ met. IsMeeting parts.session.story.base (lines_of_each blocks.now) met.session.story met.tallies.items met.numbers.items) }
+    ensures met { IfOk result (λ met. IsMeeting (S.story parts.session).base (lines_of_each blocks.now) (S.story met.session) met.tallies.items met.numbers.items) }
     ensures viewers { IfOk result (λ met. vec_len met.numbers ≡ parts.viewers) }
     ensures wanting { IfErr result (λ fault. fault ≡ OutOfMemory) }
 {
-    match Desk::<OpenGate, L, R>::open(parts) {
-        Ok(staffed) => Ok(held(&rt, alloc, staffed, blocks)?),
+    match Desk::<S, L, R>::open(parts) {
+        Ok(staffed) => Ok(run_at(&rt, alloc, staffed, blocks)?),
         Err(refused) => Err(MeetingFault::from(refused.cause)),
     }
 }
 
 /// The meeting at this desk.
-fn held<L: DeskName + Send + Sync, R: Threads + Wait + Sync + Send + Drop>(
+fn run_at<S: EditSession + Send, L: DeskName + Send + Sync, R: Threads + Wait + Sync + Send + Drop>(
     rt: &R,
     alloc: Global,
-    staffed: Staffed<OpenGate, L, R>,
+    staffed: Staffed<S, L, R>,
     blocks: &[&[u8]],
-) -> Result<Met, AllocError>
+) -> Result<Met<S>, AllocError>
+where
+    S::Prepared: Send,
     requires count { vec_len staffed.designers ≡ length blocks.now }
     requires some { 0 < length blocks.now }
     requires all { staffed.desk.designers ≡ vec_len staffed.designers }
     requires fresh { All (λ d. d.accepted ≡ 0) staffed.designers.items }
     requires opening { staffed.desk.opening ≡ 0 }
-    ensures met { IfOk result (λ met. (base : Circuit) → All (λ d. d ≡ fresh_designer (opening base)) staffed.designers.items → IsMeeting base (lines_of_each blocks.now) met.session.story met.tallies.items met.numbers.items) }
+    ensures met { IfOk result (λ met. (base : Circuit) → All (λ d. d ≡ fresh_designer (opening base)) staffed.designers.items → IsMeeting base (lines_of_each blocks.now) (S.story met.session) met.tallies.items met.numbers.items) }
     ensures viewers { IfOk result (λ met. vec_len met.numbers ≡ vec_len staffed.viewers) }
 {
     let Staffed {
@@ -96,10 +100,10 @@ fn held<L: DeskName + Send + Sync, R: Threads + Wait + Sync + Send + Drop>(
         designers,
         viewers,
     } = staffed;
-    let sittings = seated(alloc, designers)?;
+    let sittings = start_all(alloc, designers)?;
     let (sittings, mut viewers) = race(rt, alloc, &desk, blocks, sittings, viewers);
     let numbers = last_reads(rt, alloc, sittings.as_slice(), viewers.as_mut_slice())?;
-    let (designers, tallies) = risen(alloc, sittings)?;
+    let (designers, tallies) = finish_all(alloc, sittings)?;
     match desk.close(rt, designers, viewers.as_mut_slice()) {
         Ok(session) => Ok(Met {
             session,

@@ -5,20 +5,26 @@ ghost use Rattle.mp_meeting.specs.Sittings.{begun, WorkedEach};
 use crate::reading::read_often;
 use crate::sitting::Sitting;
 use mp_desk::{Desk, DeskName, MAX_DESIGNERS, MAX_VIEWERS, Viewer};
-use mp_phase::OpenGate;
+use mp_version::EditSession;
 use std::alloc::Global;
 use std::sync::Wait;
 use std::thread::{Threads, for_each_mut, join};
 
 /// Has each designer submit its lines and each viewer read, each on a thread of its own where one can be made.
-pub(crate) fn race<L: DeskName + Send + Sync, R: Threads + Wait + Sync + Send + Drop>(
+pub(crate) fn race<
+    S: EditSession + Send,
+    L: DeskName + Send + Sync,
+    R: Threads + Wait + Sync + Send + Drop,
+>(
     rt: &R,
     alloc: Global,
-    desk: &Desk<OpenGate, L, R>,
+    desk: &Desk<S, L, R>,
     blocks: &[&[u8]],
     sittings: Vec<Sitting<L>>,
     viewers: Vec<Viewer<L>>,
 ) -> (Vec<Sitting<L>>, Vec<Viewer<L>>)
+where
+    S::Prepared: Send,
     requires blocks { length blocks.now ≡ vec_len sittings }
     requires fresh { All (λ s. s ≡ begun s.seen) sittings.items }
     ensures count { vec_len result.0 ≡ vec_len sittings }
@@ -38,13 +44,19 @@ pub(crate) fn race<L: DeskName + Send + Sync, R: Threads + Wait + Sync + Send + 
 }
 
 /// The designers after each has submitted its lines.
-fn submitted<L: DeskName + Send + Sync, R: Threads + Wait + Sync + Send + Drop>(
+fn submitted<
+    S: EditSession + Send,
+    L: DeskName + Send + Sync,
+    R: Threads + Wait + Sync + Send + Drop,
+>(
     rt: &R,
     alloc: Global,
-    desk: &Desk<OpenGate, L, R>,
+    desk: &Desk<S, L, R>,
     blocks: &[&[u8]],
     sittings: Vec<Sitting<L>>,
 ) -> Vec<Sitting<L>>
+where
+    S::Prepared: Send,
     requires blocks { length blocks.now ≡ vec_len sittings }
     requires fresh { All (λ s. s ≡ begun s.seen) sittings.items }
     ensures count { vec_len result ≡ vec_len sittings }
@@ -55,13 +67,13 @@ fn submitted<L: DeskName + Send + Sync, R: Threads + Wait + Sync + Send + Drop>(
     sittings
 }
 
-fn submit_all<L: DeskName + Send + Sync, R: Threads + Wait + Sync + Send + Drop>(
-    rt: &R,
-    alloc: Global,
-    desk: &Desk<OpenGate, L, R>,
-    blocks: &[&[u8]],
-    sittings: &mut [Sitting<L>],
-)
+fn submit_all<
+    S: EditSession + Send,
+    L: DeskName + Send + Sync,
+    R: Threads + Wait + Sync + Send + Drop,
+>(rt: &R, alloc: Global, desk: &Desk<S, L, R>, blocks: &[&[u8]], sittings: &mut [Sitting<L>])
+where
+    S::Prepared: Send,
     requires blocks { length blocks.now ≡ length sittings.old }
     requires fresh { All (λ s. s ≡ begun s.seen) sittings.old }
     ensures count { length sittings.new ≡ length sittings.old }

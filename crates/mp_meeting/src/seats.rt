@@ -9,7 +9,7 @@ use mp_desk::{Designer, DeskName};
 use std::alloc::{AllocError, Global};
 
 /// The designers, who have just come, ready to work.
-pub(crate) fn seated<L: DeskName>(
+pub(crate) fn start_all<L: DeskName>(
     alloc: Global,
     designers: Vec<Designer<L>>,
 ) -> Result<Vec<Sitting<L>>, AllocError>
@@ -24,7 +24,7 @@ pub(crate) fn seated<L: DeskName>(
 }
 
 /// The designers again, and how their lines fared. `OutOfMemory` where memory was wanting for one of them, too.
-pub(crate) fn risen<L: DeskName>(
+pub(crate) fn finish_all<L: DeskName>(
     alloc: Global,
     sittings: Vec<Sitting<L>>,
 ) -> Result<(Vec<Designer<L>>, Vec<Tally>), AllocError>

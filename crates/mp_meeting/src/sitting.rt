@@ -3,8 +3,8 @@ ghost use Rattle.std.specs.Prelude.{◌≡◌};
 
 use mp_desk::{Designer, Desk, DeskName, Notice, Viewer};
 use mp_netlist::{Edit, EditError};
-use mp_phase::OpenGate;
 use mp_text::{Line, LineError, first_line, read_line};
+use mp_version::EditSession;
 use std::alloc::{AllocError, Global};
 use std::marker::Model;
 use std::sync::Wait;
@@ -62,11 +62,11 @@ impl<L: DeskName> Sitting<L> {
     }
 
     /// Submits what a line says. A line that is no edit counts as refused, and one without words isn't counted.
-    fn take_line<R: Threads + Wait + Sync + Drop>(
+    fn take_line<S: EditSession, R: Threads + Wait + Sync + Drop>(
         &mut self,
         rt: &R,
         alloc: Global,
-        desk: &Desk<OpenGate, L, R>,
+        desk: &Desk<S, L, R>,
         line: &[u8],
     ) -> Result<(), AllocError>
         requires { self.old.refused < 2 ^ 64 - 1 }
@@ -88,10 +88,10 @@ impl<L: DeskName> Sitting<L> {
     }
 
     /// Submits an edit.
-    fn take_edit<R: Threads + Wait + Sync + Drop>(
+    fn take_edit<S: EditSession, R: Threads + Wait + Sync + Drop>(
         &mut self,
         rt: &R,
-        desk: &Desk<OpenGate, L, R>,
+        desk: &Desk<S, L, R>,
         edit: &Edit,
     ) -> Result<(), AllocError>
         requires { self.old.refused < 2 ^ 64 - 1 }
@@ -111,11 +111,11 @@ impl<L: DeskName> Sitting<L> {
     }
 
     /// Submits the lines of the block in turn. Where memory is wanting the others are left.
-    pub(crate) fn work<R: Threads + Wait + Sync + Drop>(
+    pub(crate) fn work<S: EditSession, R: Threads + Wait + Sync + Drop>(
         &mut self,
         rt: &R,
         alloc: Global,
-        desk: &Desk<OpenGate, L, R>,
+        desk: &Desk<S, L, R>,
         lines: &[u8],
     )
         requires { self.old ≡ begun self.old.seen }

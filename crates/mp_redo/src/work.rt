@@ -70,17 +70,6 @@ impl Work {
         Work::of(new.least_delay(), new.horizon(), sorted)
     }
 
-    /// The same work once more.
-    pub fn copy(&self) -> Result<Self, AllocError>
-        ensures { IfOk result (λ work. work ≡ self.now) }
-    {
-        Ok(Work {
-            least: self.least,
-            horizon: self.horizon,
-            stretches: Vec::from_slice(*self.stretches.allocator(), self.stretches.as_slice())?,
-        })
-    }
-
     /// The entries one after the other. It takes memory for the stretches, and none for the entries.
     pub fn entries(&self) -> Result<WorkEntries, AllocError>
         ensures { IfOk result (λ entries. entries ≡ self.now) }

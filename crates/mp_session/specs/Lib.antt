@@ -1,6 +1,2 @@
-pub mod Limits
-pub mod Chunks
-pub mod Stories
 pub mod Sessions
-pub mod Versions
 pub mod LastWork

@@ -1,19 +1,18 @@
 //! An edit with all that its commit needs.
 ghost use Rattle.std.specs.Prelude.{◌≡◌, IsTrue, ◌↔◌};
 
-use crate::same::Same;
 use crate::session::Session;
-use crate::version::Version;
 use mp_engine::Run;
 use mp_netlist::Edit;
 use mp_phase::Gate;
 use mp_redo::Work;
+use mp_version::Version;
 use std::alloc::Global;
 use std::marker::Model;
 use std::sync::Arc;
 
 /// An edit that a session accepts after just the edits that it was prepared after, the version to which it leads with its run, and the work
-/// of it: once for the answer of the commit, and once for the session.
+/// of it.
 #[derive(Drop)]
 pub struct Prepared {
     pub(crate) before: Arc<Version, Global>,
@@ -21,16 +20,15 @@ pub struct Prepared {
     pub(crate) next: Arc<Version, Global>,
     pub(crate) run: Run,
     pub(crate) work: Work,
-    pub(crate) kept_work: Work,
 }
 
 impl Model for Prepared {
     ghost use Rattle.std.specs.Prelude.{◌≡◌};
     ghost use Rattle.std.specs.Arc.{arc_value};
-    ghost use Rattle.mp_session.specs.Stories.{present, one_more};
+    ghost use Rattle.mp_version.specs.Stories.{present, one_more};
     ghost use Rattle.mp_engine.specs.Runs.{IsRun};
     ghost use Rattle.mp_redo.specs.Work.{IsWork};
-    ghost use Rattle.mp_session.specs.Sessions.{Step};
+    ghost use Rattle.mp_version.specs.Steps.{Step};
 
     ghost Value = { Step };
 
@@ -38,13 +36,12 @@ impl Model for Prepared {
 
     ghost invariant = { λ prepared. (arc_value prepared.next ≡ one_more (arc_value prepared.before) (arc_value prepared.edit))
         × IsRun (present (arc_value prepared.next)) prepared.run
-        × IsWork (present (arc_value prepared.before)) (present (arc_value prepared.next)) prepared.work
-        × (prepared.kept_work ≡ prepared.work) };
+        × IsWork (present (arc_value prepared.before)) (present (arc_value prepared.next)) prepared.work };
 }
 
 impl Prepared {
     ghost use Rattle.std.specs.Arc.{arc_value};
-    ghost use Rattle.mp_session.specs.Sessions.{story_after};
+    ghost use Rattle.mp_version.specs.Steps.{story_after};
 
     /// Whether the session's version is the one that the edit was prepared after: the same base, and the same edits.
     pub fn fits<G: Gate>(&self, session: &Session<G>) -> bool
@@ -52,7 +49,7 @@ impl Prepared {
     {
         let before: &Version = &self.before;
         let present: &Version = session.version();
-        before.same(present)
+        before.is_same_as(present)
     }
 
     /// The version to which the edit leads.

@@ -1,14 +1,13 @@
 //! A netlist that is edited, and its present version.
 ghost use Rattle.std.specs.Prelude.{◌≡◌, IfOk};
 
-use crate::history::MAX_EDITS;
 use crate::prepared::Prepared;
-use crate::version::Version;
 use mp_engine::{Run, evaluate};
 use mp_netlist::{Edit, EditError, Netlist};
 use mp_phase::{Crew, Gate};
 use mp_redo::laws::edits_revise;
 use mp_redo::{Work, redo};
+use mp_version::{MAX_EDITS, Version};
 use std::alloc::{AllocError, Global};
 use std::marker::Model;
 use std::sync::{Arc, Wait};
@@ -34,7 +33,7 @@ impl<G: Gate> Model for Session<G> {
     ghost Value = { Standing };
 
     ghost use Rattle.mp_engine.specs.Runs.{IsRun};
-    ghost use Rattle.mp_session.specs.Stories.{present};
+    ghost use Rattle.mp_version.specs.Stories.{present};
     ghost use Rattle.mp_session.specs.LastWork.{IsLastWork};
 
     ghost view = { λ session. record { story = arc_value session.version; last_work = session.last_work } };
@@ -47,8 +46,8 @@ impl<G: Gate> Session<G> {
     ghost use Rattle.std.specs.Arc.{arc_value};
     ghost use Rattle.mp_netlist.specs.Edits.{RefusedBy, after};
     ghost use Rattle.mp_engine.specs.Runs.{IsRun};
-    ghost use Rattle.mp_session.specs.Limits.{max_edits};
-    ghost use Rattle.mp_session.specs.Stories.{present, judged, one_more};
+    ghost use Rattle.mp_version.specs.Limits.{max_edits};
+    ghost use Rattle.mp_version.specs.Stories.{present, judged, one_more};
     ghost use Rattle.mp_redo.specs.Work.{IsWork};
     ghost use Rattle.mp_session.specs.LastWork.{IsLastWork};
     ghost use Rattle.mp_session.specs.Sessions.{opened};
@@ -111,13 +110,12 @@ impl<G: Gate> Session<G> {
         Ok(self.prepared_copy(rt, edit, next)?)
     }
 
-    /// Makes the prepared edit, and gives its work: all that the change has to evaluate again, in order. It takes no memory and waits for
-    /// nobody.
-    pub fn commit(&mut self, prepared: Prepared) -> Work
+    /// Makes the prepared edit, whose work is then the last: all that the change has to evaluate again, in order. It takes no memory and waits
+    /// for nobody.
+    pub fn commit(&mut self, prepared: Prepared)
         requires { prepared.before ≡ self.old.story }
         ensures story { self.new.story ≡ one_more self.old.story prepared.edit }
-        ensures work { IsWork (present self.old.story) (present self.new.story) result }
-        ensures last { self.new.last_work ≡ result }
+        ensures work { IsWork (present self.old.story) (present self.new.story) self.new.last_work }
     {
         let Prepared {
             before: _,
@@ -125,47 +123,41 @@ impl<G: Gate> Session<G> {
             next,
             run,
             work,
-            kept_work,
         } = prepared;
         self.version = next;
         self.run = run;
-        self.last_work = kept_work;
-        work
+        self.last_work = work;
     }
 
     /// Prepares the edit and makes it. A refused edit changes nothing.
-    pub fn apply<R: Threads + Wait + Sync>(
-        &mut self,
-        rt: &R,
-        edit: &Edit,
-    ) -> Result<Work, EditError>
+    pub fn apply<R: Threads + Wait + Sync>(&mut self, rt: &R, edit: &Edit) -> Result<(), EditError>
     where
         G: Sync,
         ensures story { OnOk result (self.new.story ≡ one_more self.old.story edit.now) }
         ensures accepted { OnOk result (judged self.old.story edit.now ≡ Ok (present self.new.story)) }
-        ensures work { IfOk result (IsWork (present self.old.story) (present self.new.story)) }
-        ensures last { IfOk result (λ work. self.new.last_work ≡ work) }
+        ensures work { OnOk result (IsWork (present self.old.story) (present self.new.story) self.new.last_work) }
         ensures refused { IfErr result (RefusedBy edit.now (judged self.old.story edit.now)) }
         ensures err { OnErr result (self.new ≡ self.old) }
     {
         let prepared = self.prepare(rt, edit)?;
-        Ok(self.commit(prepared))
+        self.commit(prepared);
+        Ok(())
     }
 
     /// Makes the edit as `apply` does, and keeps it in place of a copy.
-    pub fn take<R: Threads + Wait + Sync>(&mut self, rt: &R, edit: Edit) -> Result<Work, EditError>
+    pub fn take<R: Threads + Wait + Sync>(&mut self, rt: &R, edit: Edit) -> Result<(), EditError>
     where
         G: Sync,
         ensures story { OnOk result (self.new.story ≡ one_more self.old.story edit) }
         ensures accepted { OnOk result (judged self.old.story edit ≡ Ok (present self.new.story)) }
-        ensures work { IfOk result (IsWork (present self.old.story) (present self.new.story)) }
-        ensures last { IfOk result (λ work. self.new.last_work ≡ work) }
+        ensures work { OnOk result (IsWork (present self.old.story) (present self.new.story) self.new.last_work) }
         ensures refused { IfErr result (RefusedBy edit (judged self.old.story edit)) }
         ensures err { OnErr result (self.new ≡ self.old) }
     {
         let next = self.next(&edit)?;
         let taken = self.prepared(rt, edit, next)?;
-        Ok(self.commit(taken))
+        self.commit(taken);
+        Ok(())
     }
 
     /// The netlist after the edit, where it is accepted.
@@ -256,7 +248,6 @@ impl<G: Gate> Session<G> {
         ensures next { OnOk result (present (one_more self.now.story edit) ≡ next) }
     {
         let edit = Arc::new(self.alloc, edit)?;
-        let kept_work = work.copy()?;
         let waves = run.waves().share(self.alloc)?;
         let version = self
             .version
@@ -267,7 +258,6 @@ impl<G: Gate> Session<G> {
             next: Arc::new(self.alloc, version)?,
             run,
             work,
-            kept_work,
         })
     }
 }

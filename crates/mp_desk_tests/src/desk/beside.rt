@@ -4,9 +4,11 @@ ghost use Rattle.std.specs.Prelude.{◌≡◌, ◌+◌, length};
 use super::buffers::{BUFFERS, FIRST, SECOND, THIRD, ends_with};
 use super::{number_read, opened, submits};
 use mp_desk::{Designer, Desk, DeskName, DeskParts, DeskSize, Staffed, Viewer};
-use mp_netlist::ModuleId;
+use mp_netlist::{Edit, EditError, ModuleId};
 use mp_part_tests::making::Change;
 use mp_phase::{Crew, Gate};
+use mp_session::{Prepared, Session};
+use mp_version::{EditSession, Version};
 use std::alloc::Global;
 use std::marker::Brand;
 use std::process::Abort;
@@ -59,6 +61,40 @@ impl Gate for Holding {
     }
 }
 
+/// A session with such a gate, as a desk sees it.
+#[derive(Drop)]
+struct HeldSession {
+    session: Session<Holding>,
+}
+
+impl EditSession for HeldSession {
+    type Prepared = Prepared;
+
+    ghost story = { λ held. held.session.story };
+
+    ghost step = { λ prepared. prepared };
+
+    fn version(&self) -> &Arc<Version> {
+        self.session.version()
+    }
+
+    fn next_version(prepared: &Prepared) -> &Arc<Version> {
+        prepared.version()
+    }
+
+    fn prepare<R: Threads + Wait + Sync>(
+        &self,
+        rt: &R,
+        edit: &Edit,
+    ) -> Result<Prepared, EditError> {
+        self.session.prepare(rt, edit)
+    }
+
+    fn commit(&mut self, prepared: Prepared) {
+        self.session.commit(prepared);
+    }
+}
+
 #[test]
 fn read_beside_submit(rt: HostRuntime) -> Result<(), Fail> {
     let alloc = rt.alloc();
@@ -69,8 +105,10 @@ fn read_beside_submit(rt: HostRuntime) -> Result<(), Fail> {
     };
     let size = DeskSize::new(1, 1)?;
     let netlist = BUFFERS.netlist(alloc).ok_or("no netlist")?;
-    let session = opened(&rt, alloc, netlist, crew, gate)?;
-    let parts = DeskParts::new(&rt, alloc, session, size)
+    let held = HeldSession {
+        session: opened(&rt, alloc, netlist, crew, gate)?,
+    };
+    let parts = DeskParts::new(&rt, alloc, held, size)
         .ok()
         .ok_or("no parts")?;
     at_desk::<Brand, _>(&rt, alloc, parts, &stage)
@@ -79,15 +117,17 @@ fn read_beside_submit(rt: HostRuntime) -> Result<(), Fail> {
 fn at_desk<L: DeskName + Send + Sync, R: Threads + Wait + Abort + Sync + Send + Copy>(
     rt: R,
     alloc: Global,
-    parts: DeskParts<Holding, R>,
+    parts: DeskParts<HeldSession, R>,
     stage: &AtomicU64,
 ) -> Result<(), Fail>
     requires history { parts.book ≡ L.history }
     requires ledger { parts.ledger ≡ L.name }
     requires shares { parts.designers + 1 ≡ L.parts }
-    requires opening { length parts.session.story.edits ≡ L.opening }
+    requires opening { length parts.session.session.story.edits ≡ L.opening }
 {
-    let mut staffed = Desk::<Holding, L, R>::open(parts).ok().ok_or("no desk")?;
+    let mut staffed = Desk::<HeldSession, L, R>::open(parts)
+        .ok()
+        .ok_or("no desk")?;
     let shown = is_read(&rt, alloc, &mut staffed, stage);
     drop(staffed);
     assert!(rt; shown && stage.load(Ordering::SeqCst) == GOES_ON);
@@ -98,7 +138,7 @@ fn at_desk<L: DeskName + Send + Sync, R: Threads + Wait + Abort + Sync + Send + 
 fn is_read<L: DeskName + Send + Sync, R: Threads + Wait + Sync + Send + Drop>(
     rt: &R,
     alloc: Global,
-    staffed: &mut Staffed<Holding, L, R>,
+    staffed: &mut Staffed<HeldSession, L, R>,
     stage: &AtomicU64,
 ) -> bool {
     let Staffed {
@@ -135,7 +175,7 @@ fn reads<L: DeskName>(viewer: &mut Viewer<L>, change: &Change<'_>) -> bool {
 fn submit_held<L: DeskName, R: Threads + Wait + Sync + Drop>(
     rt: &R,
     alloc: Global,
-    desk: &Desk<Holding, L, R>,
+    desk: &Desk<HeldSession, L, R>,
     me: &mut Designer<L>,
     stage: &AtomicU64,
 ) -> bool {

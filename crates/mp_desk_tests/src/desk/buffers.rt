@@ -2,7 +2,7 @@
 use mp_modules::Kind;
 use mp_netlist::{Edit, SingleEdit};
 use mp_part_tests::making::{Change, Part, Plan, Signal};
-use mp_session::Version;
+use mp_version::Version;
 
 /// Two buffers.
 pub(super) static BUFFERS: Plan<'static> = Plan {

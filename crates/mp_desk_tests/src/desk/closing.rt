@@ -7,6 +7,7 @@ use mp_desk::{
     Viewer,
 };
 use mp_phase::OpenGate;
+use mp_session::Session;
 use std::marker::Brand;
 use std::process::Abort;
 use std::sync::Wait;
@@ -32,14 +33,16 @@ fn desk_refusals(rt: HostRuntime) -> Result<(), Fail> {
 
 fn close_without_all<L: DeskName, R: Wait + Abort + Copy>(
     rt: R,
-    parts: DeskParts<OpenGate, R>,
+    parts: DeskParts<Session<OpenGate>, R>,
 ) -> Result<(), Fail>
     requires history { parts.book ≡ L.history }
     requires ledger { parts.ledger ≡ L.name }
     requires shares { parts.designers + 1 ≡ L.parts }
     requires opening { length parts.session.story.edits ≡ L.opening }
 {
-    let staffed = Desk::<OpenGate, L, R>::open(parts).ok().ok_or("no desk")?;
+    let staffed = Desk::<Session<OpenGate>, L, R>::open(parts)
+        .ok()
+        .ok_or("no desk")?;
     let Staffed {
         desk,
         designers,
@@ -54,7 +57,7 @@ fn close_without_all<L: DeskName, R: Wait + Abort + Copy>(
 /// Whether the desk isn't closed where a designer is missing, and is closed with all of them.
 fn closes_with_all<L: DeskName, R: Wait + Drop>(
     rt: &R,
-    desk: Desk<OpenGate, L, R>,
+    desk: Desk<Session<OpenGate>, L, R>,
     designers: Vec<Designer<L>>,
     viewers: &mut [Viewer<L>],
 ) -> bool {
@@ -72,10 +75,10 @@ fn closes_with_all<L: DeskName, R: Wait + Drop>(
 /// The desk and the designers, where it isn't closed with these.
 fn handed_back<L: DeskName, R: Wait + Drop>(
     rt: &R,
-    desk: Desk<OpenGate, L, R>,
+    desk: Desk<Session<OpenGate>, L, R>,
     designers: Vec<Designer<L>>,
     viewers: &mut [Viewer<L>],
-) -> Option<(Desk<OpenGate, L, R>, Vec<Designer<L>>)> {
+) -> Option<(Desk<Session<OpenGate>, L, R>, Vec<Designer<L>>)> {
     let CloseRefused {
         cause: CloseCause::MissingPass,
         desk,
@@ -94,7 +97,7 @@ fn with<T: Drop>(items: Vec<T>, item: Option<T>) -> Option<Vec<T>> {
 /// Whether there are designers, with whom the desk is closed.
 fn closes<L: DeskName, R: Wait + Drop>(
     rt: &R,
-    desk: Desk<OpenGate, L, R>,
+    desk: Desk<Session<OpenGate>, L, R>,
     designers: Option<Vec<Designer<L>>>,
     viewers: &mut [Viewer<L>],
 ) -> bool {

@@ -6,6 +6,7 @@ use super::{opened, submit, submits};
 use mp_desk::{Desk, DeskName, DeskParts, DeskSize, Staffed, Viewer};
 use mp_part_tests::making::Change;
 use mp_phase::{Crew, OpenGate};
+use mp_session::Session;
 use std::alloc::Global;
 use std::marker::Brand;
 use std::process::Abort;
@@ -28,14 +29,16 @@ fn learnt_edit_is_read(rt: HostRuntime) -> Result<(), Fail> {
 fn at_desk<L: DeskName, R: Threads + Wait + Abort + Sync + Copy>(
     rt: R,
     alloc: Global,
-    parts: DeskParts<OpenGate, R>,
+    parts: DeskParts<Session<OpenGate>, R>,
 ) -> Result<(), Fail>
     requires history { parts.book ≡ L.history }
     requires ledger { parts.ledger ≡ L.name }
     requires shares { parts.designers + 1 ≡ L.parts }
     requires opening { length parts.session.story.edits ≡ L.opening }
 {
-    let mut staffed = Desk::<OpenGate, L, R>::open(parts).ok().ok_or("no desk")?;
+    let mut staffed = Desk::<Session<OpenGate>, L, R>::open(parts)
+        .ok()
+        .ok_or("no desk")?;
     let shown = is_read(&rt, alloc, &mut staffed);
     drop(staffed);
     assert!(rt; shown);
@@ -46,7 +49,7 @@ fn at_desk<L: DeskName, R: Threads + Wait + Abort + Sync + Copy>(
 fn is_read<L: DeskName, R: Threads + Wait + Sync + Drop>(
     rt: &R,
     alloc: Global,
-    staffed: &mut Staffed<OpenGate, L, R>,
+    staffed: &mut Staffed<Session<OpenGate>, L, R>,
 ) -> bool {
     let Staffed {
         desk,

@@ -48,7 +48,7 @@ pub(super) fn assert_trials<R: Threads + Wait + Abort + Sync + Copy>(
 fn at_desk<L: DeskName, R: Threads + Wait + Abort + Sync + Copy>(
     rt: R,
     alloc: Global,
-    parts: DeskParts<OpenGate, R>,
+    parts: DeskParts<Session<OpenGate>, R>,
     trials: &[Trial],
     number: u32,
 ) -> Result<(), Fail>
@@ -57,7 +57,9 @@ fn at_desk<L: DeskName, R: Threads + Wait + Abort + Sync + Copy>(
     requires shares { parts.designers + 1 ≡ L.parts }
     requires opening { length parts.session.story.edits ≡ L.opening }
 {
-    let mut staffed = Desk::<OpenGate, L, R>::open(parts).ok().ok_or("no desk")?;
+    let mut staffed = Desk::<Session<OpenGate>, L, R>::open(parts)
+        .ok()
+        .ok_or("no desk")?;
     let opening = staffed.desk.opening();
     let shown = come_so(&rt, alloc, &mut staffed, trials, number);
     drop(staffed);
@@ -69,7 +71,7 @@ fn at_desk<L: DeskName, R: Threads + Wait + Abort + Sync + Copy>(
 fn come_so<L: DeskName, R: Threads + Wait + Sync + Drop>(
     rt: &R,
     alloc: Global,
-    staffed: &mut Staffed<OpenGate, L, R>,
+    staffed: &mut Staffed<Session<OpenGate>, L, R>,
     trials: &[Trial],
     number: u32,
 ) -> bool {
@@ -92,7 +94,7 @@ fn come_so<L: DeskName, R: Threads + Wait + Sync + Drop>(
 fn comes_so<L: DeskName, R: Threads + Wait + Sync + Drop>(
     rt: &R,
     alloc: Global,
-    desk: &Desk<OpenGate, L, R>,
+    desk: &Desk<Session<OpenGate>, L, R>,
     me: &mut Designer<L>,
     viewer: &mut Viewer<L>,
     trial: &Trial,

@@ -1,6 +1,6 @@
 use Rattle.std.proofs.Common.{◌≡◌, length, Err, refl, sym, ap, ◌∙◌, rules}
 use Rattle.std.proofs.lemmas.Result.{err_from_is_err_and}
-use Rattle.mp_session.specs.Stories.{present}
+use Rattle.mp_version.specs.Stories.{present}
 use Rattle.mp_commands.specs.Desks.{desk_opening, met_text}
 use Rattle.mp_commands.proofs.RunLemmas.{any_input, counted_reads-started, nothing-started}
 use Rattle.mp_commands.proofs.DeskLemmas.{for_desk, desked_unread, desked_hindered, desked_wrote, is_text}

@@ -1,6 +1,6 @@
 use Rattle.std.proofs.Common.{◌≡◌, ◌++◌, rules}
 use Rattle.std.proofs.lemmas.Result.{err_from_is_err_and}
-use Rattle.mp_session.specs.Stories.{present}
+use Rattle.mp_version.specs.Stories.{present}
 use Rattle.mp_commands.specs.Desks.{met_text}
 use Rattle.mp_commands.specs.Outputs.{waves_text}
 use Rattle.mp_commands.proofs.PutLemmas.{no_part, wrote_part, wrote_rest}

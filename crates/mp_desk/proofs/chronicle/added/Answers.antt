@@ -4,10 +4,10 @@ use Rattle.mp_desk.proofs.chronicle.added.Goals as goal
 
 pub compare_exchange-found-requires : goal.compare_exchange-found-requires
 compare_exchange-found-requires c =
-    let h = c.head.invariant in
+    let h = c.writer.invariant in
     let offer = c.plain-offer.ensures in
     let pen = c.no_pen-pen.ensures in
-    let book = c.requires.book ∙ sym c.head.view_is in (
+    let book = c.requires.book ∙ sym c.writer.view_is in (
       ap (λ w. w.tracked) h,
       book,
       pen.0 ∙ book,

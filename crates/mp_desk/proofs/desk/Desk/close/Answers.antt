@@ -1,20 +1,17 @@
 use Rattle.std.proofs.Common.{◌≡◌, rules, arith, All, ap, subst, vec_len}
-use Rattle.mp_session.specs.Stories.{Story}
-use Rattle.mp_session.specs.Sessions.{Standing}
+use Rattle.mp_version.specs.Stories.{Story}
 use Rattle.mp_desk.specs.Extending.{Extends}
 use Rattle.mp_desk.specs.Holders.{ExtendsEach, Seeing}
 use Rattle.mp_desk.proofs.desk.Desk.close.Goals as goal
 
 pub returns-clause-seen : goal.returns-clause-seen
 returns-clause-seen g c =
-    let s : Standing = c.session.inside.session in
-    let shown : c.session.inside.publication.story ≡ s.story = ap (λ p. p.story) c.session.invariant.0 in
+    let shown : c.session.inside.publication.story ≡ g.S.EditSession.story c.session.inside.session = ap (λ p. p.story) c.session.invariant.0 in
     subst (λ (z : Story). ExtendsEach z c.args.designers.items) shown c.part_designers.ensures.extends
 
 pub returns-clause-read : goal.returns-clause-read
 returns-clause-read g c =
-    let s : Standing = c.session.inside.session in
-    let shown : c.session.inside.publication.story ≡ s.story = ap (λ p. p.story) c.session.invariant.0 in
+    let shown : c.session.inside.publication.story ≡ g.S.EditSession.story c.session.inside.session = ap (λ p. p.story) c.session.invariant.0 in
     subst (λ (z : Story). All (λ (v : Seeing). Extends z v.last) c.args.viewers.now) shown c.part_viewers.ensures.extends
 
 pub returns-clause-counted : goal.returns-clause-counted

@@ -20,5 +20,5 @@ returns g c =
     let w = c.append.new.self in
     let well : is_ok c.published-writer.result.1 ≡ true = search rules in
     let pending : drop w.behind w.log.items ≡ c.new-again.result ∷ [] = search rules in
-    let is : c.new-again.result ≡ c.args.front.now = search rules in
+    let is : c.new-again.result ≡ c.args.prefix.now = search rules in
     (ok_part c.published-writer.result.1 _ _ c.published-writer.ensures well).0 ∙ ap (fold (λ _ v. v) w.desk.shown.value) pending ∙ is

@@ -12,7 +12,7 @@ pub agrees-requires : goal.agrees-requires
 agrees-requires g c =
     let p : Shown = c.in_ok-published.published in
     let f : Follows p _ = covers_has p _ _ c.in_ok-published.ensures.0 c.self.invariant.0 in
-    c.self.invariant.1 ∙ (sym f.same_book ∙ sym (ap (λ (z : Shown). z.book) c.front.ensures))
+    c.self.invariant.1 ∙ (sym f.same_book ∙ sym (ap (λ (z : Shown). z.book) c.prefix.ensures))
 
 pub invariant_of-self-2 : goal.invariant_of-self-2
 invariant_of-self-2 g c =
@@ -37,6 +37,6 @@ returns-clause-told g c =
     let p : Shown = c.in_ok-published.published in
     let v : arc_value c.into_version-version.result ≡ p.story = c.into_version-version.ensures in
     let n : c.number-number.result ≡ length p.story.edits = search rules in
-    let le : length c.self.inside.heard.story.edits ≤ length c.front.result.now.story.edits = omega (arith, c.if-number-self.false, n, c.self.invariant.2, ap (λ (z : Shown). length z.story.edits) c.front.ensures) in
-    let heard : Extends p.story c.self.inside.heard.story = subst (λ (z : Shown). Extends z.story c.self.inside.heard.story) c.front.ensures (c.agrees.ensures le) in
+    let le : length c.self.inside.heard.story.edits ≤ length c.prefix.result.now.story.edits = omega (arith, c.if-number-self.false, n, c.self.invariant.2, ap (λ (z : Shown). length z.story.edits) c.prefix.ensures) in
+    let heard : Extends p.story c.self.inside.heard.story = subst (λ (z : Shown). Extends z.story c.self.inside.heard.story) c.prefix.ensures (c.agrees.ensures le) in
     rw v (subst (λ (z : Seeing). Extends p.story z.learnt) c.self.view_is heard)

@@ -1,8 +1,8 @@
-use Rattle.std.proofs.Common.{◌≡◌, ◌<◌, List, ℕ, length, subst, rules, arith}
+use Rattle.std.proofs.Common.{◌≡◌, ◌<◌, List, ℕ, length, ap, sym, subst, rules, arith}
 use Rattle.mp_words.specs.Lines.{lines_of}
 use Rattle.mp_text.specs.ScriptLines.{line_at}
-use Rattle.mp_meeting.specs.Sittings.{Takes}
-use Rattle.mp_meeting.proofs.SittingLemmas.{SoFar, one_line, has_worked, refused_by_one, lines_of-none}
+use Rattle.mp_meeting.specs.Sittings.{Sitting, begun, Takes}
+use Rattle.mp_meeting.proofs.SittingLemmas.{SoFar, none_yet, one_line, has_worked, refused_by_one, lines_of-none}
 use Rattle.mp_meeting.proofs.sitting.Sitting.work.Goals as goal
 
 pub loop-rest-preserved : goal.loop-rest-preserved
@@ -29,3 +29,13 @@ returns g c =
     let none : length c.loop-rest.rest.now ≡ 0 = search rules in
     let here = subst (λ (lines : List (List ℕ)). SoFar start all lines c.loop-rest.self) (lines_of-none c.loop-rest.rest.now none) c.loop-rest.invariant.so_far in
     λ whole. has_worked start all c.loop-rest.self here
+
+pub loop-rest-init : goal.loop-rest-init
+loop-rest-init g c =
+    let lines = lines_of c.args.lines.now in
+    let start = c.args.self.now.seen in
+    let fresh : c.args.self.now ≡ begun start = c.requires in
+    record {
+      so_far = subst (λ (s : Sitting). SoFar start lines lines s) (sym fresh) (none_yet start lines);
+      few = let none : c.args.self.now.refused ≡ 0 = ap (λ (s : Sitting). s.refused) fresh in omega (arith, none);
+    }

@@ -1,7 +1,7 @@
 use Rattle.std.proofs.Common.{◌≡◌, sym, subst, rules}
 use Rattle.mp_netlist.specs.Circuit.{Circuit}
 use Rattle.mp_redo.specs.Revisions.{IsRevision}
-use Rattle.mp_session.specs.Stories.{present}
+use Rattle.mp_version.specs.Stories.{present}
 use Rattle.mp_session.proofs.session.Session.prepared.Goals as goal
 
 pub redo-requires-clause-revision : goal.redo-requires-clause-revision

@@ -1,0 +1,5 @@
+pub mod Limits
+pub mod Chunks
+pub mod Stories
+pub mod Steps
+pub mod Versions
