@@ -5,3 +5,4 @@ pub mod RowLemmas
 pub mod FoundLemmas
 pub mod WaveLemmas
 pub mod MarginLemmas
+pub mod PutLemmas

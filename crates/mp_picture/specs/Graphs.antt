@@ -1,6 +1,6 @@
 -- A netlist as a graph, in the language of Graphviz.
-use Rattle.std.specs.Prelude.{ℕ, Bool, true, false, not, ◌&&◌, List, [], ◌∷◌, ◌++◌, map, length, Option, Some, None, codes, if◌then◌else◌}
-use Rattle.std.specs.List.{flat_map, range_with_len}
+use Rattle.std.specs.Prelude.{ℕ, Bool, true, false, not, ◌&&◌, List, [], ◌∷◌, ◌++◌, Option, Some, None, codes, if◌then◌else◌}
+use Rattle.std.specs.List.{flat_map}
 use Rattle.std.specs.Fmt.{decimal}
 use Rattle.mp_modules.specs.declared.kind.Kind.{Kind}
 use Rattle.mp_modules.specs.declared.kind.Kind.TheVariants as kinds
@@ -15,7 +15,7 @@ use Rattle.mp_netlist.specs.declared.driver.Driver.TheVariants.{Nothing, Stimulu
 use Rattle.mp_netlist.specs.Circuit.{Circuit, module_at}
 use Rattle.mp_netlist.specs.Drivers.{driver, is_port}
 use Rattle.mp_netlist.specs.Readers.{readers}
-use Rattle.mp_text.specs.Written.{spaced, wire_name, delay_text}
+use Rattle.mp_text.specs.Written.{wire_name, delay_text}
 use Rattle.mp_picture.specs.Found.{module_name}
 
 -- the node of what has a name, between quotes
@@ -36,27 +36,32 @@ two_lines first second = first ++ (92 ∷ 110 ∷ second)
 
 -- ---- modules
 
+-- the shape of a kind, as an attribute
 abbrev pub shape_of : Kind → List ℕ
-shape_of kinds.C = codes "circle"
-shape_of kinds.Reg = codes "box"
-shape_of kinds.AddC = codes "ellipse"
-shape_of kinds.XorC = codes "ellipse"
-shape_of kinds.Sum = codes "ellipse"
-shape_of kinds.Bit = codes "ellipse"
-shape_of kinds.Xor = codes "diamond"
-shape_of kinds.Toggle = codes "diamond"
-shape_of kinds.Select = codes "diamond"
-shape_of kinds.Call = codes "diamond"
-shape_of kinds.Arbiter = codes "diamond"
-shape_of kinds.Buf = codes "triangle"
-shape_of kinds.Not = codes "triangle"
+shape_of kinds.C = codes " shape=circle"
+shape_of kinds.Reg = codes " shape=box"
+shape_of kinds.AddC = codes " shape=ellipse"
+shape_of kinds.XorC = codes " shape=ellipse"
+shape_of kinds.Sum = codes " shape=ellipse"
+shape_of kinds.Bit = codes " shape=ellipse"
+shape_of kinds.Xor = codes " shape=diamond"
+shape_of kinds.Toggle = codes " shape=diamond"
+shape_of kinds.Select = codes " shape=diamond"
+shape_of kinds.Call = codes " shape=diamond"
+shape_of kinds.Arbiter = codes " shape=diamond"
+shape_of kinds.Buf = codes " shape=triangle"
+shape_of kinds.Not = codes " shape=triangle"
+
+-- numbers, each behind a space
+abbrev pub params_text : List ℕ → List ℕ
+params_text params = flat_map (λ param. 32 ∷ decimal param) params
 
 abbrev pub module_label : ModuleRecord → List ℕ
-module_label r = two_lines r.name (word_of r.kind ++ spaced (map decimal r.params))
+module_label r = two_lines r.name (word_of r.kind ++ params_text r.params)
 
 abbrev pub module_node : Option ModuleRecord → List ℕ
 module_node None = []
-module_node (Some r) = node (codes "module ") r.name (module_label r) (codes " shape=" ++ shape_of r.kind)
+module_node (Some r) = node (codes "module ") r.name (module_label r) (shape_of r.kind)
 
 -- ---- bundles
 
@@ -87,11 +92,16 @@ wire_node n w = if is_source n w then source_node (name_of n w) else []
 
 -- ---- reads
 
--- the node of the module that drives a wire, or its own
-abbrev pub tail : Circuit → ℕ → Driver → List ℕ
-tail n w Nothing = id (codes "wire ") (name_of n w)
-tail n w Stimulus = id (codes "wire ") (name_of n w)
-tail n w (Port m p) = id (codes "module ") (module_name (module_at n m.0))
+-- the module that drives a wire, or the wire itself
+abbrev pub tail_kind : Driver → List ℕ
+tail_kind Nothing = codes "wire "
+tail_kind Stimulus = codes "wire "
+tail_kind (Port m p) = codes "module "
+
+abbrev pub tail_name : Circuit → ℕ → Driver → List ℕ
+tail_name n w Nothing = name_of n w
+tail_name n w Stimulus = name_of n w
+tail_name n w (Port m p) = module_name (module_at n m.0)
 
 -- the delay of a port
 abbrev pub input_delay : Option ModuleRecord → ℕ → ℕ
@@ -102,18 +112,20 @@ abbrev pub output_delay : Option ModuleRecord → ℕ → ℕ
 output_delay None p = 1
 output_delay (Some r) p = delay_of r p
 
-abbrev pub port_delay : ℕ → List ℕ
-port_delay delay = codes " taillabel=" ++ (34 ∷ (decimal delay ++ (34 ∷ [])))
+-- the delay of the port that drives a wire, if one does
+abbrev pub tail_delay : Circuit → Driver → Option ℕ
+tail_delay n Nothing = None
+tail_delay n Stimulus = None
+tail_delay n (Port m p) = Some (output_delay (module_at n m.0) p)
 
--- the delay of the port that drives a wire
-abbrev pub tail_label : Circuit → Driver → List ℕ
-tail_label n Nothing = []
-tail_label n Stimulus = []
-tail_label n (Port m p) = port_delay (output_delay (module_at n m.0) p)
+-- a delay as an attribute
+abbrev pub tail_label : Option ℕ → List ℕ
+tail_label None = []
+tail_label (Some delay) = codes " taillabel=" ++ (34 ∷ (decimal delay ++ (34 ∷ [])))
 
 -- the nodes that a read joins
 abbrev pub ends : Circuit → ℕ → Driver → ModuleId → List ℕ
-ends n w from m = codes "  " ++ (tail n w from ++ (codes " -> " ++ id (codes "module ") (module_name (module_at n m.0))))
+ends n w from m = codes "  " ++ (id (tail_kind from) (tail_name n w from) ++ (codes " -> " ++ id (codes "module ") (module_name (module_at n m.0))))
 
 -- the name of a wire, with the delay of the input that reads it where it has one
 abbrev pub edge_label : Circuit → ℕ → ℕ → List ℕ
@@ -122,19 +134,8 @@ edge_label n w delay = codes " [label=" ++ (34 ∷ (name_of n w ++ (delay_text d
 -- the line of a read: from a wire's driver, or the wire, to the module that reads it
 abbrev pub edge : Circuit → ℕ → Driver → ModuleId × ℕ → List ℕ
 edge n w from (m, p) =
-    ends n w from m ++ (edge_label n w (input_delay (module_at n m.0) p) ++ (tail_label n from ++ (codes "];" ++ (10 ∷ []))))
+    ends n w from m ++ (edge_label n w (input_delay (module_at n m.0) p) ++ (tail_label (tail_delay n from) ++ (codes "];" ++ (10 ∷ []))))
 
 -- a line for each read of a wire
 abbrev pub wire_edges : Circuit → ℕ → List ℕ
 wire_edges n w = flat_map (edge n w (driver n w)) (readers n w)
-
--- ---- the graph
-
--- the modules, the wires that have a node, the reads by wire, and the bundles, each by number
-unfoldable pub graph : Circuit → List ℕ
-graph n =
-    codes "digraph netlist {" ++ (10 ∷ (flat_map module_node n.modules
-    ++ (flat_map (wire_node n) (range_with_len 0 (length n.wires))
-    ++ (flat_map (wire_edges n) (range_with_len 0 (length n.wires))
-    ++ (flat_map (bundle_node n) n.bundles
-    ++ (codes "}" ++ (10 ∷ [])))))))

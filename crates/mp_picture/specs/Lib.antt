@@ -6,3 +6,4 @@ pub mod Rows
 pub mod Found
 pub mod Diagrams
 pub mod Graphs
+pub mod GraphSections

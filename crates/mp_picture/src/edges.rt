@@ -1,128 +1,114 @@
-//! The reads of a netlist, as edges of a graph in the language of Graphviz.
-ghost use Rattle.std.specs.Prelude.{◌≡◌, ◌++◌, OnOk};
+//! The reads of a netlist, as edges of its graph.
+ghost use Rattle.std.specs.Prelude.{◌≡◌};
+ghost use Rattle.std.specs.List.{flat_map};
+ghost use Rattle.mp_streams.specs.Outgoing.{Writes};
 ghost use Rattle.mp_netlist.specs.Circuit.{module_at};
-ghost use Rattle.mp_text.specs.Written.{delay_text};
 ghost use Rattle.mp_picture.specs.Found.{module_name};
-ghost use Rattle.mp_picture.specs.Graphs.{ends, wire_edges, edge, edge_label, tail, tail_label, port_delay, input_delay, output_delay};
+ghost use Rattle.mp_picture.specs.Graphs.{edge, tail_kind, tail_name, tail_delay, input_delay, output_delay};
 
-use crate::graph::{push_id, wire_name};
-use crate::repeated::push_number;
+use crate::nodes::{Id, wire_name};
 use mp_netlist::{Driver, ModuleId, Netlist, WireId};
-use std::alloc::AllocError;
+use mp_streams::{Failed, Out, Sink, Text};
 
-/// Puts the lines of a wire's edges behind the text: from what drives it, or its own node, to each module that reads it, by module and
-/// port.
-pub fn push_wire_edges(
-    text: &mut Vec<u8>,
+/// The delay of an input, as `/4`, and nothing where there is none.
+#[derive(Clone, Copy)]
+struct InputDelay {
+    delay: u32,
+}
+
+impl Text for InputDelay {
+    ghost use Rattle.mp_text.specs.Written.{delay_text};
+
+    ghost text = { λ input. delay_text input.delay };
+
+    fn put_to<S: Sink>(&self, out: &mut Out<S>) -> Result<(), Failed> {
+        if self.delay == 0 {
+            return Ok(());
+        }
+        ("/", self.delay).put_to(out)
+    }
+}
+
+/// The delay of the port that drives a wire, if one does, as an attribute.
+#[derive(Clone, Copy)]
+struct TailLabel {
+    delay: Option<u32>,
+}
+
+impl Text for TailLabel {
+    ghost use Rattle.mp_picture.specs.Graphs.{tail_label};
+
+    ghost text = { λ label. tail_label label.delay };
+
+    fn put_to<S: Sink>(&self, out: &mut Out<S>) -> Result<(), Failed> {
+        match self.delay {
+            Some(delay) => (" taillabel=\"", delay, "\"").put_to(out),
+            None => Ok(()),
+        }
+    }
+}
+
+/// Writes the lines of a wire's edges: from what drives it, or its own node, to each module that reads it, by module and port.
+pub(crate) fn put_edges<S: Sink>(
+    out: &mut Out<S>,
     netlist: &Netlist,
     wire: WireId,
-) -> Result<(), AllocError>
-    ensures { OnOk result (text.new.items ≡ text.old.items ++ wire_edges netlist.now wire.0) }
+    driver: Driver,
+    readers: &[(ModuleId, u32)],
+) -> Result<(), Failed>
+    ensures { Writes result out.old out.new (flat_map (edge netlist.now wire.0 driver) readers.now) }
 {
-    let driver = netlist.driver_of(wire);
-    let found = netlist.readers_of(wire)?;
-    let readers = found.as_slice();
     for &(reader, port) in readers {
-        push_edge(text, netlist, wire, driver, reader, port)?;
+        put_edge(out, netlist, wire, driver, reader, port)?;
     }
     Ok(())
 }
 
-fn push_edge(
-    text: &mut Vec<u8>,
+fn put_edge<S: Sink>(
+    out: &mut Out<S>,
     netlist: &Netlist,
     wire: WireId,
     driver: Driver,
     reader: ModuleId,
     port: u32,
-) -> Result<(), AllocError>
-    ensures { OnOk result (text.new.items ≡ text.old.items ++ edge netlist.now wire.0 driver (reader, port)) }
+) -> Result<(), Failed>
+    ensures { Writes result out.old out.new (edge netlist.now wire.0 driver (reader, port)) }
 {
-    push_ends(text, netlist, wire, driver, reader)?;
-    push_edge_label(text, netlist, wire, input_delay(netlist, reader, port))?;
-    push_tail_label(text, netlist, driver)?;
-    text.extend_from_slice(b"];\n")?;
-    Ok(())
-}
-
-/// Puts the nodes that a read joins behind the text.
-fn push_ends(
-    text: &mut Vec<u8>,
-    netlist: &Netlist,
-    wire: WireId,
-    driver: Driver,
-    reader: ModuleId,
-) -> Result<(), AllocError>
-    ensures { OnOk result (text.new.items ≡ text.old.items ++ ends netlist.now wire.0 driver reader) }
-{
-    text.extend_from_slice(b"  ")?;
-    push_tail(text, netlist, wire, driver)?;
-    text.extend_from_slice(b" -> ")?;
-    push_id(text, "module ", module_name(netlist, reader))
-}
-
-/// The label of a read: the name of the wire, and the delay of the input where it has one.
-fn push_edge_label(
-    text: &mut Vec<u8>,
-    netlist: &Netlist,
-    wire: WireId,
-    delay: u32,
-) -> Result<(), AllocError>
-    ensures { OnOk result (text.new.items ≡ text.old.items ++ edge_label netlist.now wire.0 delay) }
-{
-    text.extend_from_slice(b" [label=\"")?;
-    text.extend_from_slice(wire_name(netlist, wire).as_bytes())?;
-    push_delay(text, delay)?;
-    text.push(b'"')?;
-    Ok(())
+    let kind = "module ";
+    let name = module_name(netlist, reader);
+    let ends = ("  ", tail(netlist, wire, driver), " -> ", Id { kind, name });
+    let delay = input_delay(netlist, reader, port);
+    let read = InputDelay { delay };
+    let label = (" [label=\"", wire_name(netlist, wire), read, "\"");
+    let delay = tail_delay(netlist, driver);
+    (ends, label, TailLabel { delay }, "];\n").put_to(out)
 }
 
 /// The node that a wire's edges come from: that of the module that drives it, or its own.
-fn push_tail(
-    text: &mut Vec<u8>,
-    netlist: &Netlist,
-    wire: WireId,
-    driver: Driver,
-) -> Result<(), AllocError>
-    ensures { OnOk result (text.new.items ≡ text.old.items ++ tail netlist.now wire.0 driver) }
+fn tail<'a>(netlist: &'a Netlist, wire: WireId, driver: Driver) -> Id<'a>
+    ensures kind { result.kind.now ≡ tail_kind driver }
+    ensures name { result.name.now ≡ tail_name netlist.now wire.0 driver }
 {
     match driver {
-        Driver::Port(part, _) => push_id(text, "module ", module_name(netlist, part)),
-        Driver::Nothing | Driver::Stimulus => push_id(text, "wire ", wire_name(netlist, wire)),
+        Driver::Port(part, _) => Id {
+            kind: "module ",
+            name: module_name(netlist, part),
+        },
+        Driver::Nothing | Driver::Stimulus => Id {
+            kind: "wire ",
+            name: wire_name(netlist, wire),
+        },
     }
 }
 
 /// The delay of the port that drives a wire, if one does.
-fn push_tail_label(text: &mut Vec<u8>, netlist: &Netlist, driver: Driver) -> Result<(), AllocError>
-    ensures { OnOk result (text.new.items ≡ text.old.items ++ tail_label netlist.now driver) }
+fn tail_delay(netlist: &Netlist, driver: Driver) -> Option<u32>
+    ensures { result ≡ tail_delay netlist.now driver }
 {
     match driver {
-        Driver::Port(part, port) => push_port_delay(
-            text,
-            u64::from(output_delay(netlist, part, port)),
-        ),
-        Driver::Nothing | Driver::Stimulus => Ok(()),
+        Driver::Port(part, port) => Some(output_delay(netlist, part, port)),
+        Driver::Nothing | Driver::Stimulus => None,
     }
-}
-
-fn push_port_delay(text: &mut Vec<u8>, delay: u64) -> Result<(), AllocError>
-    ensures { OnOk result (text.new.items ≡ text.old.items ++ port_delay delay) }
-{
-    text.extend_from_slice(b" taillabel=\"")?;
-    push_number(text, delay)?;
-    text.push(b'"')?;
-    Ok(())
-}
-
-/// Puts a delay behind the text, as `/4`, and nothing where there is none.
-fn push_delay(text: &mut Vec<u8>, delay: u32) -> Result<(), AllocError>
-    ensures { OnOk result (text.new.items ≡ text.old.items ++ delay_text delay) }
-{
-    if delay == 0 {
-        return Ok(());
-    }
-    text.push(b'/')?;
-    push_number(text, u64::from(delay))
 }
 
 /// The name of a module, and no text where none stands.

@@ -3,6 +3,7 @@
 
 mod cell;
 mod columns;
+mod diagram;
 mod edges;
 mod found;
 mod graph;
@@ -10,17 +11,15 @@ pub mod laws;
 mod layout;
 mod margin;
 mod mark;
+mod nodes;
+mod picture;
 mod repeated;
 mod row;
 mod ruler;
 
 pub use cell::{Cell, Events, cells};
 pub use columns::Columns;
-pub use edges::push_wire_edges;
-pub use found::{found_within, push_place_row, rows_of};
-pub use graph::{push_bundle_node, push_module_node, push_wire_node};
-pub use layout::Layout;
-pub use margin::margin_of;
+pub use diagram::put_diagram;
+pub use graph::put_graph;
 pub use mark::Charset;
-pub use row::push_wire_line;
-pub use ruler::push_ruler;
+pub use picture::Picture;

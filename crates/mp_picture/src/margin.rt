@@ -5,7 +5,7 @@ ghost use Rattle.mp_picture.specs.Found.{place_name};
 ghost use Rattle.mp_picture.specs.Diagrams.{longest, margin};
 
 use crate::found::place_name;
-use crate::graph::wire_name;
+use crate::nodes::wire_name;
 use mp_model::Place;
 use mp_netlist::{Netlist, WireId};
 

@@ -1,0 +1,17 @@
+use Rattle.std.proofs.Common.{refl}
+use Rattle.mp_model.specs.declared.finding.Place.{Place}
+use Rattle.mp_model.specs.Findings.{module_place}
+use Rattle.mp_streams.proofs.OutLemmas.{puts_as, puts_next, puts_stopped}
+use Rattle.mp_picture.specs.Found.{place_row}
+use Rattle.mp_picture.proofs.diagram.put_places.Goals as goal
+
+pub returns-in_err-put_place : goal.returns-in_err-put_place
+returns-in_err-put_place g c =
+    puts_as _ c.in_err-put_place.field-0.0 c.from_residual.ensures.1 refl
+    (puts_stopped (λ (place : Place). place_row c.args.netlist.now c.args.layout place c.args.found.now) _ c.loop-place.place-index (module_place 0) c.loop-place-test.true c.loop-place.invariant
+    c.in_err-put_place.ensures)
+
+pub loop-place-preserved : goal.loop-place-preserved
+loop-place-preserved g c =
+    puts_next (λ (place : Place). place_row c.args.netlist.now c.args.layout place c.args.found.now) _ c.loop-place.place-index (module_place 0) c.loop-place-test.true c.loop-place.invariant
+    c.in_ok-put_place.ensures

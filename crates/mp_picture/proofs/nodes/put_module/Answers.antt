@@ -1,0 +1,4 @@
+use Rattle.mp_picture.proofs.nodes.put_module.Goals as goal
+
+pub returns : goal.returns
+returns g c = rw (c.as_str-name.ensures, c.as_slice.ensures, c.word.ensures, c.shape_of.ensures) at c.put_node.ensures

@@ -1,0 +1,144 @@
+//! The timing diagram of a netlist.
+ghost use Rattle.std.specs.Prelude.{◌≡◌, ◌≤◌, All, IsTrue};
+ghost use Rattle.std.specs.List.{flat_map};
+ghost use Rattle.mp_streams.specs.WriteErrors.{Writes};
+ghost use Rattle.mp_model.specs.Waves.{AreWavesOf};
+ghost use Rattle.mp_model.specs.Findings.{findings};
+ghost use Rattle.mp_model.specs.declared.finding.Finding.{Finding as Found};
+ghost use Rattle.mp_picture.specs.Diagrams.{diagram, wire_line};
+ghost use Rattle.mp_picture.specs.Found.{is_within, place_row};
+ghost use Rattle.mp_picture.specs.Rows.{ruler};
+
+use crate::found::{found_within, push_place_row, rows_of};
+use crate::layout::Layout;
+use crate::margin::margin_of;
+use crate::mark::Charset;
+use crate::picture::Picture;
+use crate::row::push_wire_line;
+use crate::ruler::push_ruler;
+use mp_model::{Finding, Place};
+use mp_netlist::{Netlist, WireId};
+use mp_report::put_report;
+use mp_streams::{Out, Sink, WriteError};
+use std::alloc::Global;
+
+/// Writes the timing diagram of a picture: the times, a row for each wire, a row for each module and bundle of which the report finds
+/// something in the range, and the report's lines of these findings.
+///
+/// `WriteFailed` comes with a fault of the sink: then some of what was held and of the diagram, from the front, is with the sink, and
+/// nothing is held. `OutOfMemory` comes where memory is wanting: then a part of the diagram, from its front, is written. It takes memory
+/// for the findings in the range and for one row.
+pub fn put_diagram<S: Sink>(
+    alloc: Global,
+    out: &mut Out<S>,
+    picture: &Picture,
+    charset: Charset,
+) -> Result<(), WriteError>
+    requires waves { AreWavesOf picture.now.netlist.now picture.now.waves.now }
+    requires findings { picture.now.findings.now ≡ findings picture.now.netlist.now }
+    requires within { picture.now.columns.to ≤ picture.now.netlist.now.horizon }
+    ensures { Writes result out.old out.new (diagram picture.now.netlist.now picture.now.columns charset picture.now.wires.now) }
+{
+    let columns = picture.columns;
+    let found = found_within(alloc, picture.findings, columns)?;
+    let places = rows_of(alloc, found.as_slice())?;
+    let margin = margin_of(picture.netlist, picture.wires, places.as_slice());
+    let layout = Layout {
+        columns,
+        charset,
+        margin,
+    };
+    let mut row = Vec::new(alloc);
+    put_ruler(out, &mut row, layout)?;
+    put_wires(out, &mut row, picture, layout)?;
+    let netlist = picture.netlist;
+    put_places(
+        out,
+        &mut row,
+        netlist,
+        layout,
+        places.as_slice(),
+        found.as_slice(),
+    )?;
+    put_report(out, netlist, found.as_slice())?;
+    Ok(())
+}
+
+/// Writes the line of times. Every row is made in the same room.
+fn put_ruler<S: Sink>(out: &mut Out<S>, row: &mut Vec<u8>, layout: Layout) -> Result<(), WriteError>
+    ensures { Writes result out.old out.new (ruler layout) }
+{
+    row.clear();
+    push_ruler(row, layout)?;
+    out.put_bytes(row.as_slice())?;
+    Ok(())
+}
+
+/// Writes the rows of the wires.
+fn put_wires<S: Sink>(
+    out: &mut Out<S>,
+    row: &mut Vec<u8>,
+    picture: &Picture,
+    layout: Layout,
+) -> Result<(), WriteError>
+    requires waves { AreWavesOf picture.now.netlist.now picture.now.waves.now }
+    requires within { layout.columns.to ≤ picture.now.netlist.now.horizon }
+    ensures { Writes result out.old out.new (flat_map (wire_line picture.now.netlist.now layout) picture.now.wires.now) }
+{
+    for &wire in picture.wires {
+        put_wire(out, row, picture, layout, wire)?;
+    }
+    Ok(())
+}
+
+fn put_wire<S: Sink>(
+    out: &mut Out<S>,
+    row: &mut Vec<u8>,
+    picture: &Picture,
+    layout: Layout,
+    wire: WireId,
+) -> Result<(), WriteError>
+    requires waves { AreWavesOf picture.now.netlist.now picture.now.waves.now }
+    requires within { layout.columns.to ≤ picture.now.netlist.now.horizon }
+    ensures { Writes result out.old out.new (wire_line picture.now.netlist.now layout wire) }
+{
+    row.clear();
+    push_wire_line(row, picture.netlist, picture.waves, layout, wire)?;
+    out.put_bytes(row.as_slice())?;
+    Ok(())
+}
+
+/// Writes the rows of the places with findings.
+fn put_places<S: Sink>(
+    out: &mut Out<S>,
+    row: &mut Vec<u8>,
+    netlist: &Netlist,
+    layout: Layout,
+    places: &[Place],
+    found: &[Finding],
+) -> Result<(), WriteError>
+    requires { All (λ (f : Found). IsTrue (is_within layout.columns f)) found.now }
+    ensures { Writes result out.old out.new (flat_map (λ place. place_row netlist.now layout place found.now) places.now) }
+{
+    for &place in places {
+        put_place(out, row, netlist, layout, place, found)?;
+    }
+    Ok(())
+}
+
+fn put_place<S: Sink>(
+    out: &mut Out<S>,
+    row: &mut Vec<u8>,
+    netlist: &Netlist,
+    layout: Layout,
+    place: Place,
+    found: &[Finding],
+) -> Result<(), WriteError>
+    requires { All (λ (f : Found). IsTrue (is_within layout.columns f)) found.now }
+    ensures { Writes result out.old out.new (place_row netlist.now layout place found.now) }
+{
+    row.clear();
+    push_place_row(row, netlist, layout, place, found)?;
+    out.put_bytes(row.as_slice())?;
+    Ok(())
+}
