@@ -1,7 +1,9 @@
 //! What commands write, on devices that take and give few bytes at a time, and that fail in mid-stream.
 use crate::devices::{SmallReader, SmallWriter};
-use mp_commands::{Options, RunFault, run_desk, run_dump, run_play, run_report, run_waves};
-use mp_streams::{ReadSource, Sink, Source, WriteSink};
+use mp_commands::{
+    Command, Desk, DumpText, Options, Play, ReportLines, RunFault, Viewed, WaveLines, run_command,
+};
+use mp_streams::{Out, ReadSource, Sink, Source, WriteSink};
 use std::alloc::Global;
 use std::sync::Wait;
 use std::thread::Threads;
@@ -39,30 +41,47 @@ const SHOWN: &[u8] =
     b"horizon 20\nwire a 1 0\nwire y 1 0\nmodule b BUF : a > y/3\nstim a 2=1 5=0\n$timescale 1 ns $end\n$scope module top $end\n$var wire 1 ! a $end\n$var wire 1 \" y $end\n$upscope $end\n$enddefinitions $end\n#0\n$dumpvars\n0!\n0\"\n$end\n#2\n1!\n#5\n0!\n1\"\n#8\n0\"\n#20\n";
 
 #[derive(Clone, Copy)]
-enum Command {
+enum Asked {
     Waves,
     Report,
     Dump,
     Desk,
+    Play,
 }
 
 /// A command with its input and how much room a writer has, how it ends, and what is written.
-type Run<'a> = (Command, &'a [u8], usize, Result<(), RunFault>, &'a [u8]);
+type Run<'a> = (Asked, &'a [u8], usize, Result<(), RunFault>, &'a [u8]);
 
 /// Whether a run ends so, with a reader that has so many reads.
 fn ends(rt: &(impl Threads + Wait + Sync), alloc: Global, run: &Run<'_>, reads: usize) -> bool {
-    let (command, bytes, room, ended, text) = *run;
+    match run.0 {
+        Asked::Waves => ends_by(rt, alloc, run, reads, &Viewed { view: WaveLines }),
+        Asked::Report => ends_by(rt, alloc, run, reads, &Viewed { view: ReportLines }),
+        Asked::Dump => ends_by(rt, alloc, run, reads, &Viewed { view: DumpText }),
+        Asked::Desk => ends_by(rt, alloc, run, reads, &Desk),
+        Asked::Play => ends_by(rt, alloc, run, reads, &Play),
+    }
+}
+
+/// Whether a run of this command ends so.
+fn ends_by(
+    rt: &(impl Threads + Wait + Sync),
+    alloc: Global,
+    run: &Run<'_>,
+    reads: usize,
+    command: &impl Command,
+) -> bool {
+    let (_, bytes, room, ended, text) = *run;
     let mut source = ReadSource::new(SmallReader { bytes, reads });
-    let mut sink = WriteSink::new(SmallWriter {
+    let writer = SmallWriter {
         taken: Vec::new(alloc),
         room,
-    });
-    let end = match command {
-        Command::Waves => run_waves(rt, alloc, &mut source, &mut sink, &CREW),
-        Command::Report => run_report(rt, alloc, &mut source, &mut sink, &CREW),
-        Command::Dump => run_dump(rt, alloc, &mut source, &mut sink, &CREW),
-        Command::Desk => run_desk(rt, alloc, &mut source, &mut sink, &CREW),
     };
+    let Ok(mut out) = Out::new(alloc, WriteSink::new(writer)) else {
+        return false;
+    };
+    let end = run_command(rt, alloc, &mut source, &mut out, &CREW, command);
+    let sink = out.into_sink();
     let faults = source.faults() + sink.faults();
     let writer = sink.into_inner();
     end == ended && faults == ended.is_err() as u64 && writer.taken.as_slice() == text
@@ -71,21 +90,21 @@ fn ends(rt: &(impl Threads + Wait + Sync), alloc: Global, run: &Run<'_>, reads: 
 /// What commands write that have room for it.
 static WHOLE: [Run<'static>; 4] = [
     (
-        Command::Waves,
+        Asked::Waves,
         BUF,
         1000,
         Ok(()),
         b"a 0 2=1 5=0\ny 0 5=1 8=0\n",
     ),
     (
-        Command::Report,
+        Asked::Report,
         MERGE,
         1000,
         Ok(()),
         b"4 module x merge-collision\n",
     ),
-    (Command::Dump, BUF, 1000, Ok(()), DUMP),
-    (Command::Desk, TWO_DESIGNERS, 1000, Ok(()), MET),
+    (Asked::Dump, BUF, 1000, Ok(()), DUMP),
+    (Asked::Desk, TWO_DESIGNERS, 1000, Ok(()), MET),
 ];
 
 /// Whether the run ends so, and a front of what it writes is written where there is room for that alone.
@@ -102,7 +121,7 @@ fn all_end(rt: &(impl Threads + Wait + Sync), alloc: Global, whole: &Run<'_>) ->
 }
 
 /// Whether no run of the command ends well whose reader doesn't tell its end.
-fn all_fail(rt: &(impl Threads + Wait + Sync), alloc: Global, command: Command) -> bool {
+fn all_fail(rt: &(impl Threads + Wait + Sync), alloc: Global, command: Asked) -> bool {
     let failed = (
         command,
         BUF,
@@ -126,32 +145,27 @@ fn on_small_devices(rt: HostRuntime) {
     }
 }
 
-/// A script, how much room a writer has, how a run of the script ends, and what is written.
-type Play<'a> = (&'a [u8], usize, Result<(), RunFault>, &'a [u8]);
-
-/// Whether a script ends so.
-fn plays(rt: &(impl Threads + Wait + Sync), alloc: Global, play: &Play<'_>) -> bool {
-    let (script, room, ended, text) = *play;
-    let mut source = ReadSource::new(script);
-    let mut sink = WriteSink::new(SmallWriter {
-        taken: Vec::new(alloc),
-        room,
-    });
-    let end = run_play(rt, alloc, &mut source, &mut sink, &CREW);
-    let faults = sink.faults();
-    let writer = sink.into_inner();
-    end == ended && faults == ended.is_err() as u64 && writer.taken.as_slice() == text
-}
-
-static PLAYS: [Play<'static>; 3] = [
-    (SCRIPT, 1000, Ok(()), b"accepted 1\ny 0 4=1 7=0\n"),
-    (SCRIPT, 13, Err(RunFault::WriteFailed), b"accepted 1\ny "),
-    (QUESTIONS, 1000, Ok(()), SHOWN),
+static PLAYS: [Run<'static>; 3] = [
+    (
+        Asked::Play,
+        SCRIPT,
+        1000,
+        Ok(()),
+        b"accepted 1\ny 0 4=1 7=0\n",
+    ),
+    (
+        Asked::Play,
+        SCRIPT,
+        13,
+        Err(RunFault::WriteFailed),
+        b"accepted 1\ny ",
+    ),
+    (Asked::Play, QUESTIONS, 1000, Ok(()), SHOWN),
 ];
 
-fn all_play(rt: &(impl Threads + Wait + Sync), alloc: Global, plays: &[Play<'_>]) -> bool {
+fn all_play(rt: &(impl Threads + Wait + Sync), alloc: Global, plays: &[Run<'_>]) -> bool {
     for play in plays {
-        if !self::plays(rt, alloc, play) {
+        if !ends(rt, alloc, play, 1000) {
             return false;
         }
     }
@@ -162,11 +176,14 @@ fn all_play(rt: &(impl Threads + Wait + Sync), alloc: Global, plays: &[Play<'_>]
 fn all_cut(rt: &(impl Threads + Wait + Sync), alloc: Global) -> bool {
     for room in [0, 12, 70, 72, 100, 240] {
         let shown = &SHOWN[..room.min(SHOWN.len())];
-        if !plays(
-            rt,
-            alloc,
-            &(QUESTIONS, room, Err(RunFault::WriteFailed), shown),
-        ) {
+        let cut = (
+            Asked::Play,
+            QUESTIONS,
+            room,
+            Err(RunFault::WriteFailed),
+            shown,
+        );
+        if !ends(rt, alloc, &cut, 1000) {
             return false;
         }
     }

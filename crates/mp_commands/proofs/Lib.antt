@@ -1,7 +1,6 @@
 pub mod OutputLemmas
-pub mod RunLemmas
 pub mod PutLemmas
-pub mod PlayLemmas
+pub mod RunLemmas
 pub mod ReplyLemmas
+pub mod PlayLemmas
 pub mod DeskLemmas
-pub mod WorkLineLemmas

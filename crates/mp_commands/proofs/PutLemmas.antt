@@ -1,70 +1,91 @@
--- What is put through a buffer.
-use Rattle.std.proofs.Common.{◌≡◌, ℕ, ◌+◌, List, [], ◌++◌, append_assoc, take, drop, take-append-drop, length, Option, Result, Ok, Err, IfErr, sym, ap, subst, ◌∙◌}
-use Rattle.std.specs.Io.KnownBytes.{Appends}
-use Rattle.std.proofs.KnownBytes.{Appends-nil, Appends-trans}
-use Rattle.std.proofs.Math.Seq.{take-append-add}
-use Rattle.mp_streams.specs.StreamBytes.{AppendsPrefix, PassesOn}
-use Rattle.mp_streams.proofs.BufferLemmas.{prefix_behind, prefix_of_more, passed_both, passed_part}
-use Rattle.mp_commands.specs.declared.run_fault.RunFault.{RunFault}
-use Rattle.mp_commands.specs.declared.run_fault.RunFault.TheVariants.{Text, BadCount, ReadFailed, WriteFailed, OutOfMemory, NoPlace}
-use Rattle.mp_commands.specs.Runs.{AppendsPart, Puts, Wrote}
-use Rattle.mp_commands.proofs.RunLemmas.{part_of}
+-- A text that is written piece by piece.
+use Rattle.std.proofs.Common.{◌≡◌, ℕ, ◌+◌, ◌<◌, Bool, true, List, [], ◌++◌, append_assoc, length, Result, Ok, Err, refl, sym, ap, subst, ◌∙◌, arith}
+use Rattle.std.proofs.KnownBytes.{Appends-trans}
+use Rattle.std.proofs.lemmas.List.{append-nil, length-append}
+use Rattle.mp_streams.specs.declared.failed.Failed.{Failed}
+use Rattle.mp_streams.specs.declared.write_error.WriteError.{WriteError}
+use Rattle.mp_streams.specs.declared.write_error.WriteError.TheVariants as writes
+use Rattle.mp_streams.specs.Outgoing.{Outgoing, Puts}
+use Rattle.mp_streams.specs.Outgoing as outs
+use Rattle.mp_streams.specs.StreamFaults.{one_more}
+use Rattle.mp_streams.specs.WriteErrors.{Writes}
+use Rattle.mp_streams.proofs.OutLemmas.{puts_none, puts_then, puts_sooner}
 
--- ---- a part of some bytes, and perhaps all
+-- a text was written, whatever error may have come
+pub puts_same : {T E F : Type 0} {f : E → Bool} {g : F → Bool} {done : T} {a b : Outgoing} {text : List ℕ} → Puts f (Ok done) a b text → Puts g (Ok done) a b text
+puts_same {T = T} {E = E} {F = F} {f = f} {g = g} {done = done} {a = a} {b = b} {text = text} put = record { front = put.front; lost = put.lost; taken = put.taken; held = put.held; ends = put.ends }
 
--- a part that was taken behind some bytes
-part_behind : (a b c : Option (List ℕ)) (xs ys : List ℕ) → Appends a b xs → AppendsPart b c ys → AppendsPart a c (xs ++ ys)
-part_behind a b c xs ys taken part =
-    (length xs + part.0, subst (Appends a c) (sym (take-append-add xs ys part.0)) (Appends-trans a b c xs (take part.0 ys) taken part.1))
+-- of the whole text, all but the rest was written
+abbrev pub ToGo : Outgoing → Outgoing → List ℕ → List ℕ → Type 0
+ToGo old now whole rest = (done : List ℕ) × (whole ≡ done ++ rest) × outs.Writes {T = Unit {0}} (Ok tt) old now done
 
--- a part of some bytes is one of more
-part_of_more : (a b : Option (List ℕ)) (xs ys : List ℕ) → AppendsPart a b xs → AppendsPart a b (xs ++ ys)
-part_of_more a b xs ys part =
-    let n = part.0 in
-    part_of (xs ++ ys) (take n xs) (drop n xs ++ ys) a b (ap (λ l. l ++ ys) (sym (take-append-drop n xs)) ∙ append_assoc (take n xs) (drop n xs) ys) part.1
+module _ (a : Outgoing) (whole : List ℕ) where
+  pub all_to_go : ToGo a a whole whole
+  all_to_go = ([], refl, puts_none a)
 
--- ---- one call after the other
+  module _ {E : Type 0} {f : E → Bool} {b : Outgoing} where
+    pub none_to_go : ToGo a b whole [] → Puts {T = Unit {0}} f (Ok tt) a b whole
+    none_to_go here = subst (Puts f (Ok tt) a b) (sym (here.1 ∙ append-nil here.0)) (puts_same here.2)
 
-module _ (a b c : Option (List ℕ)) (held mid rest xs ys : List ℕ) where
-  pub puts_then : (r : Result (Unit {0}) RunFault) → PassesOn a b held mid xs → Puts r b c mid rest ys → Puts r a c held rest (xs ++ ys)
-  puts_then (Ok done) first last = passed_both a b c held mid xs ys rest first last
-  puts_then (Err WriteFailed) first last = passed_part a b c held mid xs ys first last
-  puts_then (Err OutOfMemory) first last =
-      let split : held ++ (xs ++ ys) ≡ first.0 ++ (mid ++ ys) = sym (append_assoc held xs ys) ∙ ap (λ l. l ++ ys) first.2 ∙ append_assoc first.0 mid ys in
-      subst (AppendsPart a c) (sym split) (part_behind a b c first.0 (mid ++ ys) first.1 last)
-  puts_then (Err (Text error)) first last = last
-  puts_then (Err BadCount) first last = last
-  puts_then (Err ReadFailed) first last = last
-  puts_then (Err NoPlace) first last = last
+    module _ {c : Outgoing} {left : List ℕ} (piece rest : List ℕ) (next : left ≡ piece ++ rest) (here : ToGo a b whole left) where
+      -- a piece more
+      pub less_to_go : Puts {T = Unit {0}} f (Ok tt) b c piece → ToGo a c whole rest
+      less_to_go put =
+          (here.0 ++ piece, here.1 ∙ ap (λ l. here.0 ++ l) next ∙ sym (append_assoc here.0 piece rest), puts_same (puts_then here.2 put))
 
--- a call failed before the later bytes were said
-pub puts_sooner : (fault : RunFault) (a b : Option (List ℕ)) (held rest xs ys : List ℕ) → Puts {T = Unit {0}} (Err fault) a b held rest xs → Puts {T = Unit {0}} (Err fault) a b held rest (xs ++ ys)
-puts_sooner WriteFailed a b held rest xs ys part = subst (AppendsPrefix a b) (append_assoc held xs ys) (prefix_of_more a b (held ++ xs) ys part)
-puts_sooner OutOfMemory a b held rest xs ys part = subst (AppendsPart a b) (append_assoc held xs ys) (part_of_more a b (held ++ xs) ys part)
-puts_sooner (Text error) a b held rest xs ys part = part
-puts_sooner BadCount a b held rest xs ys part = part
-puts_sooner ReadFailed a b held rest xs ys part = part
-puts_sooner NoPlace a b held rest xs ys part = part
+      -- a piece failed
+      pub stopped : {error : E} → Puts {T = Unit {0}} f (Err error) b c piece → Puts {T = Unit {0}} f (Err error) a c whole
+      stopped {error = error} put = subst (Puts f (Err error) a c) (sym (here.1 ∙ ap (λ l. here.0 ++ l) next)) (puts_then here.2 (puts_sooner rest put))
 
--- nothing was put where memory was wanting
-pub no_part : (a : Option (List ℕ)) (bytes : List ℕ) → AppendsPart a a bytes
-no_part a bytes = (0, Appends-nil a)
+-- ---- what is held is passed on
 
--- ---- the end
+module _ (a b c : Outgoing) (xs : List ℕ) where
+  -- of what was held and the text, the rest that neither call lost or passed on is held
+  both : (f1 l1 f2 l2 : List ℕ) → a.held ++ xs ≡ f1 ++ (b.held ++ l1) → b.held ++ [] ≡ f2 ++ (c.held ++ l2) → a.held ++ xs ≡ (f1 ++ f2) ++ (c.held ++ (l2 ++ l1))
+  both f1 l1 f2 l2 first second =
+      let split : b.held ≡ f2 ++ (c.held ++ l2) = sym (append-nil b.held) ∙ second in
+      first ∙ ap (λ l. f1 ++ (l ++ l1)) split ∙ ap (λ l. f1 ++ l) (append_assoc f2 (c.held ++ l2) l1 ∙ ap (λ l. f2 ++ l) (append_assoc c.held l2 l1))
+      ∙ sym (append_assoc f1 f2 (c.held ++ (l2 ++ l1)))
 
--- a call failed
-pub wrote_part : (fault : RunFault) (a b : Option (List ℕ)) (rest bytes : List ℕ) → Puts {T = Unit {0}} (Err fault) a b [] rest bytes → Wrote {T = Unit {0}} (Err fault) (Ok bytes) a b
-wrote_part WriteFailed a b rest bytes part = part
-wrote_part OutOfMemory a b rest bytes part = part
-wrote_part (Text error) a b rest bytes part = absurd part
-wrote_part BadCount a b rest bytes part = absurd part
-wrote_part ReadFailed a b rest bytes part = absurd part
-wrote_part NoPlace a b rest bytes part = absurd part
+  -- all of it, behind a text
+  pub flushed : Writes {T = Unit {0}} (Ok tt) a b xs → outs.Writes {T = Unit {0}} (Ok tt) b c [] → Writes {T = Unit {0}} (Ok tt) a c xs
+  flushed first second = subst (Writes {T = Unit {0}} (Ok tt) a c) (append-nil xs) (puts_same (puts_then first second))
 
--- what the buffer held was written
-pub wrote_rest : (r : Result (Unit {0}) RunFault) (a b c : Option (List ℕ)) (held bytes : List ℕ) → PassesOn a b [] held bytes → IfErr r (λ fault. fault ≡ WriteFailed)
-    → Wrote r (Ok held) b c → Wrote r (Ok bytes) a c
-wrote_rest (Ok done) a b c held bytes passed failed written = subst (Appends a c) (sym passed.2) (Appends-trans a b c passed.0 held passed.1 written)
-wrote_rest (Err fault) a b c held bytes passed failed written =
-    let front : AppendsPrefix b c held = rw failed at written in
-    rw failed (subst (AppendsPrefix a c) (sym passed.2) (prefix_behind a b c passed.0 held passed.1 front))
+  -- not all of it
+  pub unflushed : {error : Failed} → Writes {T = Unit {0}} (Ok tt) a b xs → outs.Writes {T = Unit {0}} (Err error) b c [] → Writes {T = Unit {0}} (Err writes.WriteFailed) a c xs
+  unflushed {error = error} first second =
+      let put = puts_then first second in
+      let whole : Puts {T = Unit {0}} (λ (e : Failed). true) (Err error) a c xs = subst (Puts {T = Unit {0}} (λ (e : Failed). true) (Err error) a c) (append-nil xs) put in
+      record { front = whole.front; lost = whole.lost; taken = whole.taken; held = whole.held; ends = whole.ends }
+
+  -- all of it, behind a part of a text for which memory was wanting
+  pub flushed_part : Writes {T = Unit {0}} (Err writes.OutOfMemory) a b xs → outs.Writes {T = Unit {0}} (Ok tt) b c [] → Writes {T = Unit {0}} (Err writes.OutOfMemory) a c xs
+  flushed_part first second = record {
+    front = first.front ++ second.front;
+    lost = second.lost ++ first.lost;
+    taken = Appends-trans a.taken b.taken c.taken first.front second.front first.taken second.taken;
+    held = both first.front first.lost second.front second.lost first.held second.held;
+    ends = second.ends.0 ∙ first.ends;
+  }
+
+  -- not all of it
+  pub unflushed_part : {error : Failed} → Writes {T = Unit {0}} (Err writes.OutOfMemory) a b xs → outs.Writes {T = Unit {0}} (Err error) b c [] → Writes {T = Unit {0}} (Err writes.WriteFailed) a c xs
+  unflushed_part {error = error} first second =
+      let some : 0 < length second.lost = second.ends.2 in
+      record {
+        front = first.front ++ second.front;
+        lost = second.lost ++ first.lost;
+        taken = Appends-trans a.taken b.taken c.taken first.front second.front first.taken second.taken;
+        held = both first.front first.lost second.front second.lost first.held second.held;
+        ends = (second.ends.0 ∙ ap one_more first.ends, second.ends.1, omega (arith, some, length-append second.lost first.lost));
+      }
+
+-- nothing can fail where nothing is held
+pub nothing_held : {error : Failed} (a b c : Outgoing) → a.held ≡ [] → Writes {T = Unit {0}} (Err writes.OutOfMemory) a b [] → outs.Writes {T = Unit {0}} (Err error) b c [] → ⊥
+nothing_held {error = error} a b c none first second =
+    let all = both a b c [] first.front first.lost second.front second.lost first.held second.held in
+    let some : 0 < length second.lost = second.ends.2 in
+    let long : 0 ≡ length (first.front ++ second.front) + (length c.held + (length second.lost + length first.lost)) =
+    sym (ap (λ l. length (l ++ [])) none) ∙ ap length all ∙ length-append (first.front ++ second.front) (c.held ++ (second.lost ++ first.lost))
+    ∙ ap (λ n. length (first.front ++ second.front) + n) (length-append c.held (second.lost ++ first.lost) ∙ ap (λ n. length c.held + n) (length-append second.lost first.lost)) in
+    omega (arith, some, long)

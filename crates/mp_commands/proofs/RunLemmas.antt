@@ -1,122 +1,195 @@
 -- The ends of a run.
-use Rattle.std.proofs.Common.{◌≡◌, ℕ, ◌<◌, ◌≤◌, ◌⊎◌, inl, inr, Bool, true, false, IfSome, IfErr, List, [], ◌++◌, take, length, Option, Some, None, Result, Ok, Err, refl, sym, ap, subst, ◌∙◌, true≢false, arith}
-use Rattle.std.specs.Io.KnownBytes.{Appends}
-use Rattle.std.proofs.lemmas.Bool.{cases_lt, lt-leb}
+use Rattle.std.proofs.Common.{◌≡◌, ℕ, ◌<◌, ◌≤◌, ◌⊎◌, inl, inr, Bool, true, false, IfSome, List, [], take, length, Option, Some, None, Result, Ok, Err, IsErrAnd, IsOk, refl, sym, ap, subst, ◌∙◌, arith}
+use Rattle.std.proofs.lemmas.Bool.{cases_lt, lt-leb, le-leb}
 use Rattle.std.proofs.lemmas.List.{take_all, length-take-le}
-use Rattle.std.proofs.Math.Seq.{take-append_seam}
-use Rattle.std.proofs.KnownBytes.{Appends-nil, Keeps-refl}
+use Rattle.std.proofs.lemmas.Result.{err_from_is_err_and}
 use Rattle.mp_netlist.specs.Circuit.{Circuit}
-use Rattle.mp_report.specs.Lines.{report_text}
-use Rattle.mp_vcd.specs.Dumps.{dump}
+use Rattle.mp_streams.specs.Outgoing.{Outgoing}
+use Rattle.mp_streams.specs.Outgoing as outs
+use Rattle.mp_streams.specs.WriteErrors.{Writes}
+use Rattle.mp_streams.specs.declared.failed.Failed.{Failed}
 use Rattle.mp_streams.specs.declared.take_error.TakeError.{TakeError}
 use Rattle.mp_streams.specs.declared.take_error.TakeError.TheVariants as takes
+use Rattle.mp_streams.specs.declared.write_error.WriteError.{WriteError}
+use Rattle.mp_streams.specs.declared.write_error.WriteError.TheVariants as writes
+use Rattle.mp_streams.proofs.OutLemmas.{puts_unmade}
+use Rattle.mp_meeting.specs.declared.meeting_fault.MeetingFault.{MeetingFault}
+use Rattle.mp_meeting.specs.declared.meeting_fault.MeetingFault.TheVariants as meetings
 use Rattle.mp_text.specs.declared.text_code.TextCode.{TextCode}
 use Rattle.mp_text.specs.declared.text_code.TextCode.TheVariants as texts
 use Rattle.mp_text.specs.declared.text_error.TextError.{TextError}
-use Rattle.mp_text.specs.Texts.{text_at}
-use Rattle.mp_commands.specs.declared.options.Options.{Options}
+use Rattle.mp_text.specs.declared.text_state.TextState.TheVariants.{Fresh}
+use Rattle.mp_text.specs.Texts.{text_at, after_lines}
+use Rattle.mp_words.specs.Lines.{lines_of}
 use Rattle.mp_commands.specs.declared.run_fault.RunFault.{RunFault}
 use Rattle.mp_commands.specs.declared.run_fault.RunFault.TheVariants.{Text, BadCount, ReadFailed, WriteFailed, OutOfMemory, NoPlace}
 use Rattle.mp_commands.specs.Limits.{max_input, max_taken}
-use Rattle.mp_commands.specs.OptionLimits.{has_valid_crew}
-use Rattle.mp_commands.specs.Outputs.{output_of, waves_text, waves_output, dump_output, report_output}
-use Rattle.mp_commands.specs.RunFaults.{fault_of_text, fault_at, fault_of_take, counted_reads, counted_writes}
-use Rattle.mp_commands.specs.Runs.{HasInput, Wrote, Puts, AppendsPart, Refuses, comes_first}
-
--- ---- one byte more than a text may have is enough to read
-
-text_at-long : (text : List ℕ) → max_input < length text → text_at text ≡ Err (record { line = 0; code = texts.TooLong })
-unfolding text_at
-text_at-long text long = rw (lt-leb (length text) max_input long) refl
-
-text_at-take : (limit : ℕ) (input : List ℕ) → limit ≡ max_taken → text_at (take limit input) ≡ text_at input
-text_at-take limit input same = by (cases_lt (length input) limit)
-  where
-    by : (length input < limit) ⊎ (limit ≤ length input) → text_at (take limit input) ≡ text_at input
-    by (inl less) = ap text_at (take_all limit input (omega arith))
-    by (inr more) =
-        let cut : length (take limit input) ≡ limit = length-take-le limit input more in
-        text_at-long (take limit input) (omega arith) ∙ sym (text_at-long input (omega arith))
-
-waves_output-take : (limit : ℕ) (input : List ℕ) (options : Options) → limit ≡ max_taken → waves_output (take limit input) options ≡ waves_output input options
-waves_output-take limit input options same = ap (λ t. output_of waves_text t (has_valid_crew options)) (text_at-take limit input same)
-
--- what holds of the bytes that were read, and so of the whole input, holds of an input of the source
-pub for_input : (Holds : List ℕ → Type 0) (left : Option (List ℕ)) (text : List ℕ) (limit : ℕ) → IfSome left (λ bytes. text ≡ take limit bytes) → length text ≤ limit → limit ≡ max_taken
-    → ((input : List ℕ) → Holds (take limit input) → Holds input) → Holds text → HasInput left Holds
-for_input Holds None text limit front within same whole holds = (text, subst (λ n. length text ≤ n) same within, holds)
-for_input Holds (Some input) text limit front within same whole holds = (input, refl, whole input (subst Holds front holds))
-
--- what holds of each input holds of one of the source
-pub any_input : (Holds : List ℕ → Type 0) (left : Option (List ℕ)) → ((input : List ℕ) → Holds input) → HasInput left Holds
-any_input Holds None holds = ([], omega arith, holds [])
-any_input Holds (Some input) holds = (input, refl, holds input)
-
--- the lines for the bytes that were read are those for the whole input
-pub for_waves : {T : Type 0} (r : Result T RunFault) (left : Option (List ℕ)) (text : List ℕ) (options : Options) (limit : ℕ) (old new : Option (List ℕ))
-    → IfSome left (λ bytes. text ≡ take limit bytes) → length text ≤ limit → limit ≡ max_taken
-    → Wrote r (waves_output text options) old new → HasInput left (λ input. Wrote r (waves_output input options) old new)
-for_waves r left text options limit old new front within same =
-    for_input (λ input. Wrote r (waves_output input options) old new) left text limit front within same
-    (λ input. subst (λ o. Wrote r o old new) (waves_output-take limit input options same))
-
--- and so is the dump
-pub for_dump : {T : Type 0} (r : Result T RunFault) (left : Option (List ℕ)) (text : List ℕ) (options : Options) (limit : ℕ) (old new : Option (List ℕ))
-    → IfSome left (λ bytes. text ≡ take limit bytes) → length text ≤ limit → limit ≡ max_taken
-    → Wrote r (dump_output text options) old new → HasInput left (λ input. Wrote r (dump_output input options) old new)
-for_dump r left text options limit old new front within same =
-    for_input (λ input. Wrote r (dump_output input options) old new) left text limit front within same
-    (λ input. subst (λ o. Wrote r o old new) (ap (λ t. output_of dump t (has_valid_crew options)) (text_at-take limit input same)))
-
--- and so is the report
-pub for_report : {T : Type 0} (r : Result T RunFault) (left : Option (List ℕ)) (text : List ℕ) (options : Options) (limit : ℕ) (old new : Option (List ℕ))
-    → IfSome left (λ bytes. text ≡ take limit bytes) → length text ≤ limit → limit ≡ max_taken
-    → Wrote r (report_output text options) old new → HasInput left (λ input. Wrote r (report_output input options) old new)
-for_report r left text options limit old new front within same =
-    for_input (λ input. Wrote r (report_output input options) old new) left text limit front within same
-    (λ input. subst (λ o. Wrote r o old new) (ap (λ t. output_of report_text t (has_valid_crew options)) (text_at-take limit input same)))
-
--- ---- parts of what is written
-
--- what was written so far is a part of the whole
-pub part_of : (whole done rest : List ℕ) (old new : Option (List ℕ)) → whole ≡ done ++ rest → Appends old new done → AppendsPart old new whole
-part_of whole done rest old new same written =
-    let cut : take (length done) whole ≡ done = ap (take (length done)) same ∙ take-append_seam done rest in
-    (length done, subst (Appends old new) (sym cut) written)
+use Rattle.mp_commands.specs.Openings.{counted_netlist, within_size, too_long}
+use Rattle.mp_commands.specs.RunFaults.{fault_of_text, fault_at, fault_of_take, fault_of_write, fault_of_meeting, counted_reads}
+use Rattle.mp_commands.specs.Runs.{HasInput, Refuses, WritesOne, Ran, RanFrom}
+use Rattle.mp_commands.proofs.PutLemmas.{flushed, unflushed, flushed_part, unflushed_part, nothing_held}
 
 -- ---- a run that writes nothing
 
-refused_by : (T : Type 0) (fault : RunFault) (output : Result (List ℕ) RunFault) (known : Option (List ℕ)) → Refuses output fault → Wrote {T = T} (Err fault) output known known
-refused_by T (Text error) output known h = (h, Keeps-refl known)
-refused_by T BadCount output known h = (h, Keeps-refl known)
-refused_by T ReadFailed output known h = absurd h
-refused_by T WriteFailed output known h = absurd h
-refused_by T OutOfMemory output known h = (0, Appends-nil known)
-refused_by T NoPlace output known h = absurd h
+module _ (seats : Bool) (opening : Result Circuit RunFault) (IsText : Circuit → List ℕ → Type 0) (a : Outgoing) where
+  refused_by : (fault : RunFault) → Refuses seats opening fault → Ran seats (Err fault) opening IsText a a
+  refused_by (Text error) h = (h, refl)
+  refused_by BadCount h = (h, refl)
+  refused_by ReadFailed h = absurd h
+  refused_by WriteFailed h = absurd h
+  refused_by OutOfMemory h = inl (puts_unmade (Err writes.OutOfMemory) writes.OutOfMemory a [] refl refl)
+  refused_by NoPlace h = (h, refl)
 
-pub Wrote-refused : {T : Type 0} (r : Result T RunFault) (fault : RunFault) (output : Result (List ℕ) RunFault) (known : Option (List ℕ))
-    → r ≡ Err fault → Refuses output fault → Wrote r output known known
-Wrote-refused {T} r fault output known e h = subst (λ x. Wrote x output known known) (sym e) (refused_by T fault output known h)
+  pub refused : (r : Result (Unit {0}) RunFault) (fault : RunFault) → IsErrAnd r (λ f. f ≡ fault) → Refuses seats opening fault → Ran seats r opening IsText a a
+  refused r fault is h = let p = err_from_is_err_and r is in rw (p.1, p.2) (refused_by fault h)
+
+-- where nobody sits down, no place is wanting
+pub refused_unseated : (seats : Bool) (opening : Result Circuit RunFault) (fault : RunFault) → Refuses false opening fault → Refuses seats opening fault
+refused_unseated seats opening (Text error) h = h
+refused_unseated seats opening BadCount h = h
+refused_unseated seats opening ReadFailed h = h
+refused_unseated seats opening WriteFailed h = h
+refused_unseated seats opening OutOfMemory h = h
+refused_unseated seats opening NoPlace (none, is) = cc none
+
+-- ---- a run that wrote
+
+module _ (seats : Bool) (opening : Result Circuit RunFault) (IsText : Circuit → List ℕ → Type 0) (n : Circuit) (same : opening ≡ Ok n) (text : List ℕ) (is : IsText n text) (a b : Outgoing) where
+  one : {T : Type 0} (r : Result T WriteError) → Writes r a b text → WritesOne r opening IsText a b
+  one r put = rw same (text, is, put)
+
+  failed_by : (error : WriteError) → Writes {T = Unit {0}} (Err error) a b text → Ran seats (Err (fault_of_write error)) opening IsText a b
+  failed_by writes.WriteFailed put = one (Err writes.WriteFailed) put
+  failed_by writes.OutOfMemory put = inr (one (Err writes.OutOfMemory) put)
+
+  -- a text
+  pub wrote : Writes {T = Unit {0}} (Ok tt) a b text → Ran seats (Ok tt) opening IsText a b
+  wrote put = one (Ok tt) put
+
+  -- a part of one
+  pub wrote_part : (r : Result (Unit {0}) RunFault) (error : WriteError) → IsErrAnd r (λ f. f ≡ fault_of_write error) → Writes {T = Unit {0}} (Err error) a b text → Ran seats r opening IsText a b
+  wrote_part r error is put = let p = err_from_is_err_and r is in rw (p.1, p.2) (failed_by error put)
+
+-- ---- what is held is passed on
+
+module _ (opening : Result Circuit RunFault) (IsText : Circuit → List ℕ → Type 0) (a b c : Outgoing) where
+  -- one text becomes another
+  passed_on : (r s : Result (Unit {0}) WriteError) → ((text : List ℕ) → Writes r a b text → Writes s a c text) → WritesOne r opening IsText a b → WritesOne s opening IsText a c
+  passed_on r s on = by opening
+    where
+      by : (o : Result Circuit RunFault) → WritesOne r o IsText a b → WritesOne s o IsText a c
+      by (Ok n) h = (h.0, h.1, on h.0 h.2)
+      by (Err fault) h = h
+
+  module _ (seats : Bool) where
+    pub ran_flushed : Ran seats (Ok tt) opening IsText a b → outs.Writes {T = Unit {0}} (Ok tt) b c [] → Ran seats (Ok tt) opening IsText a c
+    ran_flushed ran put = passed_on (Ok tt) (Ok tt) (λ text first. flushed a b c text first put) ran
+
+    pub ran_unflushed : {error : Failed} → Ran seats (Ok tt) opening IsText a b → outs.Writes {T = Unit {0}} (Err error) b c [] → Ran seats (Err WriteFailed) opening IsText a c
+    ran_unflushed ran put = passed_on (Ok tt) (Err writes.WriteFailed) (λ text first. unflushed a b c text first put) ran
+
+    pub part_flushed : Ran seats (Err OutOfMemory) opening IsText a b → outs.Writes {T = Unit {0}} (Ok tt) b c [] → Ran seats (Err OutOfMemory) opening IsText a c
+    part_flushed (inl none) put = inl (flushed_part a b c [] none put)
+    part_flushed (inr part) put = inr (passed_on (Err writes.OutOfMemory) (Err writes.OutOfMemory) (λ text first. flushed_part a b c text first put) part)
+
+    pub part_unflushed : {error : Failed} → a.held ≡ [] → Ran seats (Err OutOfMemory) opening IsText a b → outs.Writes {T = Unit {0}} (Err error) b c [] → Ran seats (Err WriteFailed) opening IsText a c
+    part_unflushed {error = error} empty (inl none) put = absurd (nothing_held {error = error} a b c empty none put)
+    part_unflushed {error = error} empty (inr part) put = passed_on (Err writes.OutOfMemory) (Err writes.WriteFailed) (λ text first. unflushed_part a b c text first put) part
+
+-- ---- the input
+
+-- where it doesn't open, it doesn't matter what its texts would be
+ran_unopened : (seats : Bool) (fault : RunFault) (I J : Circuit → List ℕ → Type 0) (a b : Outgoing) (r : Result (Unit {0}) RunFault) → Ran seats r (Err fault) I a b → Ran seats r (Err fault) J a b
+ran_unopened seats fault I J a b (Ok done) h = h
+ran_unopened seats fault I J a b (Err (Text error)) h = h
+ran_unopened seats fault I J a b (Err BadCount) h = h
+ran_unopened seats fault I J a b (Err ReadFailed) h = h
+ran_unopened seats fault I J a b (Err WriteFailed) h = h
+ran_unopened seats fault I J a b (Err OutOfMemory) h = h
+ran_unopened seats fault I J a b (Err NoPlace) h = h
+
+module _ (opening : List ℕ → Result Circuit RunFault) where
+  pub within_size-long : (input : List ℕ) → max_input < length input → within_size opening input ≡ Err too_long
+  within_size-long input long = rw (lt-leb (length input) max_input long) refl
+
+  within_size-short : (input : List ℕ) → length input ≤ max_input → within_size opening input ≡ opening input
+  within_size-short input short = rw (le-leb (length input) max_input short) refl
+
+  module _ (seats : Bool) (IsText : List ℕ → Circuit → List ℕ → Type 0) (r : Result (Unit {0}) RunFault) (a b : Outgoing) where
+    -- one byte more than an input may have is enough to read
+    whole_input : (limit : ℕ) → limit ≡ max_taken → (input : List ℕ) → Ran seats r (within_size opening (take limit input)) (IsText (take limit input)) a b
+        → Ran seats r (within_size opening input) (IsText input) a b
+    whole_input limit same input ran = by (cases_lt (length input) limit)
+      where
+        by : (length input < limit) ⊎ (limit ≤ length input) → Ran seats r (within_size opening input) (IsText input) a b
+        by (inl less) = subst (λ i. Ran seats r (within_size opening i) (IsText i) a b) (take_all limit input (omega arith)) ran
+        by (inr more) =
+            let cut : length (take limit input) ≡ limit = length-take-le limit input more in
+            let front = rw (within_size-long (take limit input) (omega arith)) at ran in
+            rw (within_size-long input (omega arith)) (ran_unopened seats too_long (IsText (take limit input)) (IsText input) a b r front)
+
+    -- what holds of the bytes that were read, and so of the whole input, holds of an input of the source
+    for_input : (left : Option (List ℕ)) (text : List ℕ) (limit : ℕ) → IfSome left (λ bytes. text ≡ take limit bytes) → length text ≤ limit → limit ≡ max_taken
+        → Ran seats r (within_size opening text) (IsText text) a b → HasInput left (λ input. Ran seats r (within_size opening input) (IsText input) a b)
+    for_input None text limit front within same ran = (text, subst (λ n. length text ≤ n) same within, ran)
+    for_input (Some input) text limit front within same ran =
+        (input, refl, whole_input limit same input (subst (λ t. Ran seats r (within_size opening t) (IsText t) a b) front ran))
+
+    -- a run that was not ended by the source
+    ran_from : (s : Result (Unit {0}) RunFault) (left : Option (List ℕ)) → HasInput left (λ input. Ran seats s (within_size opening input) (IsText input) a b)
+        → RanFrom s left (λ input. Ran seats s (within_size opening input) (IsText input) a b) a b
+    ran_from (Ok done) left h = h
+    ran_from (Err (Text error)) left h = h
+    ran_from (Err BadCount) left h = h
+    ran_from (Err ReadFailed) left h = absurd h.2.0
+    ran_from (Err WriteFailed) left h = h
+    ran_from (Err OutOfMemory) left h = h
+    ran_from (Err NoPlace) left h = h
+
+    pub from_source : (left : Option (List ℕ)) (text : List ℕ) (limit : ℕ) → IfSome left (λ bytes. text ≡ take limit bytes) → length text ≤ limit → limit ≡ max_taken
+        → Ran seats r (within_size opening text) (IsText text) a b → RanFrom r left (λ input. Ran seats r (within_size opening input) (IsText input) a b) a b
+    from_source left text limit front within same ran = ran_from r left (for_input left text limit front within same ran)
+
+    -- the same of an input that is not too long
+    pub from_input : (left : Option (List ℕ)) (text : List ℕ) (limit : ℕ) → IfSome left (λ bytes. text ≡ take limit bytes) → length text ≤ limit → limit ≡ max_taken
+        → length text ≤ max_input → Ran seats r (opening text) (IsText text) a b → RanFrom r left (λ input. Ran seats r (within_size opening input) (IsText input) a b) a b
+    from_input left text limit front within same short ran = from_source left text limit front within same (rw (within_size-short text short) ran)
 
 -- a source that is not read
-pub unread_source : {T : Type 0} (r : Result T RunFault) (error : TakeError) (output : Result (List ℕ) RunFault) (known : Option (List ℕ))
-    → r ≡ Err (fault_of_take error) → Wrote r output known known
-unread_source {T} r error output known e = subst (λ x. Wrote x output known known) (sym e) (by error)
+pub unread_source : (Holds : Result (Unit {0}) RunFault → List ℕ → Type 0) (left : Option (List ℕ)) (a : Outgoing) (r : Result (Unit {0}) RunFault) (error : TakeError)
+    → IsErrAnd r (λ f. f ≡ fault_of_take error) → ((input : List ℕ) → Holds (Err OutOfMemory) input) → RanFrom r left (Holds r) a a
+unread_source Holds left a r error is memory = let p = err_from_is_err_and r is in rw (p.1, p.2) (by error left)
   where
-    by : (error : TakeError) → Wrote {T = T} (Err (fault_of_take error)) output known known
-    by takes.Failed = Keeps-refl known
-    by takes.OutOfMemory = (0, Appends-nil known)
+    by : (error : TakeError) (left : Option (List ℕ)) → RanFrom (Err (fault_of_take error)) left (Holds (Err (fault_of_take error))) a a
+    by takes.Failed left = refl
+    by takes.OutOfMemory None = ([], omega arith, memory [])
+    by takes.OutOfMemory (Some input) = (input, refl, memory input)
 
--- a netlist that is not read is the run's fault
-pub refused_read : (written : Circuit → List ℕ) (read : Result Circuit TextError) (valid : Bool) (error : TextError)
-    → (error.code ≡ texts.OutOfMemory) ⊎ (read ≡ Err error) → Refuses (output_of written read valid) (fault_of_text error)
-refused_read written read valid error (inl memory) = rw memory tt
-refused_read written read valid error (inr same) = by error.code
+-- ---- the faults of a source
+
+pub counted_reads-ran : (seats : Bool) (opening : Result Circuit RunFault) (IsText : Circuit → List ℕ → Type 0) (a b : Outgoing) (r : Result (Unit {0}) RunFault) (n : ℕ) → Ran seats r opening IsText a b → counted_reads r n ≡ n
+counted_reads-ran seats opening IsText a b (Ok done) n ran = refl
+counted_reads-ran seats opening IsText a b (Err (Text error)) n ran = refl
+counted_reads-ran seats opening IsText a b (Err BadCount) n ran = refl
+counted_reads-ran seats opening IsText a b (Err ReadFailed) n ran = absurd ran.0
+counted_reads-ran seats opening IsText a b (Err WriteFailed) n ran = refl
+counted_reads-ran seats opening IsText a b (Err OutOfMemory) n ran = refl
+counted_reads-ran seats opening IsText a b (Err NoPlace) n ran = refl
+
+-- ---- a netlist that is not read
+
+pub text_at-short : (text : List ℕ) → length text ≤ max_input → text_at text ≡ after_lines 0 Fresh (lines_of text)
+unfolding text_at
+text_at-short text short = rw (le-leb (length text) max_input short) refl
+
+pub refused_text : (read : Result Circuit TextError) (valid : Bool) (error : TextError) → (error.code ≡ texts.OutOfMemory) ⊎ (read ≡ Err error) → Refuses false (counted_netlist read valid) (fault_of_text error)
+refused_text read valid error (inl memory) = rw memory tt
+refused_text read valid error (inr same) = by error.code
   where
-    told : output_of written read valid ≡ Err (Text error)
-    told = ap (λ r. output_of written r valid) same
+    told : counted_netlist read valid ≡ Err (Text error)
+    told = ap (λ r. counted_netlist r valid) same
 
-    by : (code : TextCode) → Refuses (output_of written read valid) (fault_at error code)
+    by : (code : TextCode) → Refuses false (counted_netlist read valid) (fault_at error code)
     by texts.NotAscii = told
     by texts.UnknownStatement = told
     by texts.WordCount = told
@@ -128,52 +201,7 @@ refused_read written read valid error (inr same) = by error.code
     by texts.BadFormat = told
     by texts.OutOfMemory = tt
 
--- no device had a fault then
-pub counted_reads-refused : {T : Type 0} (r : Result T RunFault) (fault : RunFault) (output : Result (List ℕ) RunFault) (n : ℕ) → r ≡ Err fault → Refuses output fault → counted_reads r n ≡ n
-counted_reads-refused {T} r fault output n e h = subst (λ (x : Result T RunFault). counted_reads x n ≡ n) (sym e) (by fault h)
-  where
-    by : (f : RunFault) → Refuses output f → counted_reads {T = T} (Err f) n ≡ n
-    by (Text error) h = refl
-    by BadCount h = refl
-    by ReadFailed h = absurd h
-    by WriteFailed h = refl
-    by OutOfMemory h = refl
-    by NoPlace h = refl
-
-pub counted_writes-refused : {T : Type 0} (r : Result T RunFault) (fault : RunFault) (output : Result (List ℕ) RunFault) (n : ℕ) → r ≡ Err fault → Refuses output fault → counted_writes r n ≡ n
-counted_writes-refused {T} r fault output n e h = subst (λ (x : Result T RunFault). counted_writes x n ≡ n) (sym e) (by fault h)
-  where
-    by : (f : RunFault) → Refuses output f → counted_writes {T = T} (Err f) n ≡ n
-    by (Text error) h = refl
-    by BadCount h = refl
-    by ReadFailed h = refl
-    by WriteFailed h = absurd h
-    by OutOfMemory h = refl
-    by NoPlace h = refl
-
--- ---- a run that began to write
-
--- the source had no fault
-pub counted_reads-started : {T : Type 0} (r : Result T RunFault) (n : ℕ) → IfErr r (λ fault. comes_first fault ≡ false) → counted_reads r n ≡ n
-counted_reads-started (Ok done) n h = refl
-counted_reads-started (Err (Text error)) n h = refl
-counted_reads-started (Err BadCount) n h = refl
-counted_reads-started (Err ReadFailed) n h = let bad : true ≡ false = h in cc bad
-counted_reads-started (Err WriteFailed) n h = refl
-counted_reads-started (Err OutOfMemory) n h = refl
-counted_reads-started (Err NoPlace) n h = refl
-
--- a run that puts bytes began to write
-pub puts_started : {T : Type 0} (r : Result T RunFault) (old new : Option (List ℕ)) (held rest bytes : List ℕ) → Puts r old new held rest bytes → IfErr r (λ fault. comes_first fault ≡ false)
-puts_started (Ok done) old new held rest bytes h = tt
-puts_started (Err WriteFailed) old new held rest bytes h = refl
-puts_started (Err OutOfMemory) old new held rest bytes h = refl
-puts_started (Err (Text error)) old new held rest bytes h = absurd h
-puts_started (Err BadCount) old new held rest bytes h = absurd h
-puts_started (Err ReadFailed) old new held rest bytes h = absurd h
-puts_started (Err NoPlace) old new held rest bytes h = absurd h
-
--- what holds where a fault comes first holds after a run that began to write
-pub nothing-started : {T : Type 0} (r : Result T RunFault) (X : Type 0) → IfErr r (λ fault. comes_first fault ≡ false) → IfErr r (λ fault. comes_first fault ≡ true → X)
-nothing-started (Ok done) X h = tt
-nothing-started (Err fault) X h = λ first. absurd (true≢false (sym first ∙ h))
+-- a meeting that didn't come about, where designers and viewers sit down
+pub refused_meeting : (opening : Result Circuit RunFault) (fault : MeetingFault) → IsOk opening → Refuses true opening (fault_of_meeting fault)
+refused_meeting opening meetings.OutOfMemory is = tt
+refused_meeting opening meetings.NoPlace is = (refl, is)

@@ -2,6 +2,7 @@ pub mod Limits
 pub mod OptionLimits
 pub mod RunFaults
 pub mod Outputs
+pub mod Openings
 pub mod Runs
 pub mod Keepers
 pub mod Replies

@@ -11,7 +11,6 @@ use Rattle.mp_model.specs.Waves.{wave}
 use Rattle.mp_report.specs.Lines.{report_text}
 use Rattle.mp_vcd.specs.Dumps.{dump}
 use Rattle.mp_words.specs.declared.line_error.LineError.{LineError}
-use Rattle.mp_words.specs.declared.line_error.LineError.TheVariants as lines
 use Rattle.mp_text.specs.declared.script_line.Line.{Line}
 use Rattle.mp_text.specs.declared.script_line.Line.TheVariants.{Empty, Change, Ask}
 use Rattle.mp_text.specs.declared.script_line.Question.{Question}
@@ -19,9 +18,11 @@ use Rattle.mp_text.specs.declared.script_line.Question.TheVariants.{Wave, Waves,
 use Rattle.mp_words.specs.LineErrors.{line_number_of, line_name_of}
 use Rattle.mp_text.specs.ScriptLines.{line_at}
 use Rattle.mp_text.specs.Written.{written}
-use Rattle.mp_commands.specs.declared.run_fault.RunFault.{RunFault}
+use Rattle.mp_streams.specs.declared.failed.Failed.{Failed}
+use Rattle.mp_streams.specs.Outgoing.{Outgoing, Writes as Sends}
+use Rattle.mp_streams.specs.WriteErrors.{Writes}
+use Rattle.mp_streams.specs.declared.write_error.WriteError.{WriteError}
 use Rattle.mp_commands.specs.RunFaults.{numbered}
-use Rattle.mp_commands.specs.Runs.{Puts}
 use Rattle.mp_commands.specs.Outputs.{slot_line, waves_text}
 use Rattle.mp_commands.specs.WorkLines.{work_text}
 use Rattle.mp_commands.specs.Keepers.{Kept, judged, IsKeptAfter}
@@ -46,11 +47,6 @@ refused_text error = refusal_text (codes "refused ") (edits.number_of error)
 -- `unread` with the number and name of the line's fault
 abbrev pub unread_text : LineError → List ℕ
 unread_text error = coded_text (codes "unread ") (line_number_of error) (line_name_of error)
-
--- a fault of the line itself
-abbrev pub is_fault : LineError → Bool
-is_fault lines.OutOfMemory = false
-is_fault error = true
 
 -- the netlist after an edit, or why the edit is refused, where its memory was wanting or not
 abbrev pub outcome : Bool → Kept → Edit → Result Circuit EditError
@@ -88,22 +84,18 @@ IsKeptNext wanting old (Ok (Change edit)) new = IsKeptAfter old (outcome wanting
 IsKeptNext wanting old line new = new ≡ old
 
 -- the reply to a line, and what is kept after it
-unfoldable pub reply : Bool → Kept → List ℕ → List ℕ
+abbrev pub reply : Bool → Kept → List ℕ → List ℕ
 reply wanting kept line = reply_to wanting kept (line_at line)
 
-unfoldable pub IsNext : Bool → Kept → List ℕ → Kept → Type 0
+abbrev pub IsNext : Bool → Kept → List ℕ → Kept → Type 0
 IsNext wanting old line new = IsKeptNext wanting old (line_at line) new
 
--- an edit was made or refused, and this is the reply to it
-abbrev pub Changed : List ℕ → Kept → Kept → Edit → Type 0
-Changed text old new edit = (wanting : Bool) × (text ≡ edit_text old (outcome wanting old edit)) × IsKeptAfter old (outcome wanting old edit) new
+-- an edit was made or refused, and the reply to it was written, or a part of it
+abbrev pub PutsEdit : Result (Unit {0}) Failed → Outgoing → Outgoing → Kept → Kept → Edit → Type 0
+PutsEdit result old new kept now edit =
+    (wanting : Bool) × IsKeptAfter kept (outcome wanting kept edit) now × Sends result old new (edit_text kept (outcome wanting kept edit))
 
--- a line that was read was answered, or a part of its reply was put
-abbrev pub PutsReply : Result (Unit {0}) RunFault → Option (List ℕ) → Option (List ℕ) → List ℕ → List ℕ → Kept → Kept → Line → Type 0
-PutsReply result old new held rest kept now line =
-    (wanting : Bool) × (next : Kept) × IsKeptNext wanting kept (Ok line) next × Puts result old new held rest (reply_to wanting kept (Ok line)) × OnOk result (now ≡ next)
-
--- a line was answered, or a part of its reply was put
-abbrev pub Answers : Result (Unit {0}) RunFault → Option (List ℕ) → Option (List ℕ) → List ℕ → List ℕ → Kept → Kept → List ℕ → Type 0
-Answers result old new held rest kept now line =
-    (wanting : Bool) × (next : Kept) × IsNext wanting kept line next × Puts result old new held rest (reply wanting kept line) × OnOk result (now ≡ next)
+-- the reply to a line that was read or not was written, or a part of it
+abbrev pub PutsReply : Result (Unit {0}) WriteError → Outgoing → Outgoing → Kept → Kept → Result Line LineError → Type 0
+PutsReply result old new kept now line =
+    (wanting : Bool) × (next : Kept) × IsKeptNext wanting kept line next × Writes result old new (reply_to wanting kept line) × OnOk result (now ≡ next)

@@ -2,9 +2,11 @@
 use Rattle.std.specs.Prelude.{ℕ, List, [], ◌∷◌, ◌++◌, Result, Err, codes, unwrap_or}
 use Rattle.std.specs.Fmt.{decimal}
 use Rattle.mp_records.specs.EditErrors as edits
-use Rattle.mp_streams.specs.StreamFaults.{one_more}
 use Rattle.mp_streams.specs.declared.take_error.TakeError.{TakeError}
 use Rattle.mp_streams.specs.declared.take_error.TakeError.TheVariants as takes
+use Rattle.mp_streams.specs.declared.write_error.WriteError.{WriteError}
+use Rattle.mp_streams.specs.declared.write_error.WriteError.TheVariants as writes
+use Rattle.mp_streams.specs.StreamFaults.{one_more}
 use Rattle.mp_meeting.specs.declared.meeting_fault.MeetingFault.{MeetingFault}
 use Rattle.mp_meeting.specs.declared.meeting_fault.MeetingFault.TheVariants as meetings
 use Rattle.mp_text.specs.declared.text_code.TextCode.{TextCode}
@@ -25,6 +27,10 @@ fault_of_text error = fault_at error error.code
 abbrev pub fault_of_take : TakeError → RunFault
 fault_of_take takes.Failed = ReadFailed
 fault_of_take takes.OutOfMemory = OutOfMemory
+
+abbrev pub fault_of_write : WriteError → RunFault
+fault_of_write writes.WriteFailed = WriteFailed
+fault_of_write writes.OutOfMemory = OutOfMemory
 
 abbrev pub fault_of_meeting : MeetingFault → RunFault
 fault_of_meeting meetings.OutOfMemory = OutOfMemory
@@ -64,8 +70,3 @@ line_of NoPlace = codes "mpwb: no place"
 abbrev pub counted_reads : {T : Type 0} → Result T RunFault → ℕ → ℕ
 counted_reads (Err ReadFailed) faults = one_more faults
 counted_reads result faults = faults
-
--- the number of a sink's faults after a run
-abbrev pub counted_writes : {T : Type 0} → Result T RunFault → ℕ → ℕ
-counted_writes (Err WriteFailed) faults = one_more faults
-counted_writes result faults = faults

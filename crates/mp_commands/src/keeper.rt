@@ -1,8 +1,8 @@
 //! A netlist with its waves, which a script edits.
 ghost use Rattle.std.specs.Prelude.{◌≡◌};
 
+use crate::evaluated::Evaluated;
 use mp_engine::OpenGate;
-use mp_model::Waves;
 use mp_netlist::{Edit, EditError, Netlist};
 use mp_phase::Crew;
 use mp_redo::Work;
@@ -30,7 +30,6 @@ impl Model for Keeper {
 impl Keeper {
     ghost use Rattle.std.specs.Prelude.{◌≡◌, Ok, IfOk, IfErr, OnOk, OnErr};
     ghost use Rattle.mp_netlist.specs.Edits.{RefusedBy};
-    ghost use Rattle.mp_model.specs.Waves.{AreWavesOf};
     ghost use Rattle.mp_commands.specs.Keepers.{opened, judged, IsOneMore};
 
     /// The netlist before the first edit.
@@ -55,16 +54,16 @@ impl Keeper {
         self.session.version().now()
     }
 
-    /// The workers that it was given.
-    pub fn crew(&self) -> Crew {
-        self.crew
-    }
-
-    /// Its waves.
-    pub fn waves(&self) -> &Waves
-        ensures { AreWavesOf self.now.netlist result.now }
+    /// That netlist with its waves, and the workers that it was given.
+    pub fn evaluated(&self) -> Evaluated<'_>
+        ensures { result.netlist.now ≡ self.now.netlist }
     {
-        self.session.version().waves()
+        let version = self.session.version();
+        Evaluated {
+            netlist: version.now(),
+            waves: version.waves(),
+            crew: self.crew,
+        }
     }
 
     /// What was evaluated for the last edit that was accepted, and nothing before the first.

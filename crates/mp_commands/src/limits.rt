@@ -6,9 +6,3 @@ pub const MAX_INPUT: usize = MAX_TEXT;
 
 /// How many bytes a run takes of its source: with one byte too many an input is known to be too long.
 pub const MAX_TAKEN: usize = MAX_INPUT + 1;
-
-/// How many workers there may be.
-pub const MAX_WORKERS: u32 = 16;
-
-/// Of how many tasks at least the workers may be called on.
-pub const MAX_LEAST: u32 = 4096;

@@ -1,58 +1,69 @@
-//! The lines of designers and viewers.
-ghost use Rattle.std.specs.Prelude.{◌≡◌, ◌+◌, ◌-◌, ◌^◌, ◌<◌, ◌++◌, IfOk};
-ghost use Rattle.mp_commands.specs.Desks.{tally_line, tally_lines, viewer_line, viewer_lines};
+//! The lines of a meeting.
+ghost use Rattle.std.specs.Prelude.{◌≡◌, ◌+◌, ◌-◌, ◌^◌, ◌<◌, Ok};
+ghost use Rattle.mp_netlist.specs.Replays.{replay};
+ghost use Rattle.mp_version.specs.Stories.{present};
+ghost use Rattle.mp_streams.specs.Outgoing.{Writes};
+ghost use Rattle.mp_commands.specs.Desks.{tally_line, tally_lines, viewer_line, viewer_lines, met_text};
 
-use mp_meeting::Tally;
-use std::alloc::{AllocError, Global};
+use crate::evaluated::Evaluated;
+use crate::wave_lines::put_lines;
+use mp_engine::OpenGate;
+use mp_meeting::{Met, Tally};
+use mp_phase::Crew;
+use mp_session::Session;
+use mp_streams::{Failed, Out, Sink, Text};
 
-/// A line for each designer, and a line for each viewer, each counted from 1.
-pub fn met_lines(alloc: Global, tallies: &[Tally], numbers: &[u32]) -> Result<Vec<u8>, AllocError>
-    ensures { IfOk result (λ text. text.items ≡ tally_lines 1 tallies.now ++ viewer_lines 1 numbers.now) }
+/// Writes a line for each designer, a line for each viewer, and the lines of the waves after the meeting.
+pub fn put_met<T: Sink>(
+    out: &mut Out<T>,
+    met: &Met<Session<OpenGate>>,
+    crew: Crew,
+) -> Result<(), Failed>
+    ensures replayed { replay met.now.session.story.base met.now.session.story.edits ≡ Ok (present met.now.session.story) }
+    ensures written { Writes result out.old out.new (met_text met.now.tallies.items met.now.numbers.items (present met.now.session.story)) }
 {
-    let mut text = Vec::new(alloc);
-    push_tallies(&mut text, tallies)?;
-    push_numbers(&mut text, numbers)?;
-    Ok(text)
+    let version = met.session.version();
+    let of = Evaluated {
+        netlist: version.now(),
+        waves: version.waves(),
+        crew,
+    };
+    put_tallies(out, met.tallies.as_slice())?;
+    put_numbers(out, met.numbers.as_slice())?;
+    put_lines(out, &of)
 }
 
-fn push_tallies(text: &mut Vec<u8>, tallies: &[Tally]) -> Result<(), AllocError>
-    ensures { IfOk result (λ _. text.new.items ≡ text.old.items ++ tally_lines 1 tallies.now) }
+fn put_tallies<T: Sink>(out: &mut Out<T>, tallies: &[Tally]) -> Result<(), Failed>
+    ensures { Writes result out.old out.new (tally_lines 1 tallies.now) }
 {
     for place in 0..tallies.len() {
-        push_tally(text, place, tallies[place])?;
+        put_tally(out, place, tallies[place])?;
     }
     Ok(())
 }
 
-/// Pushes the line of the designer in this place, counted from 0.
-fn push_tally(text: &mut Vec<u8>, place: usize, tally: Tally) -> Result<(), AllocError>
+/// Writes the line of the designer in this place, counted from 0.
+fn put_tally<T: Sink>(out: &mut Out<T>, place: usize, tally: Tally) -> Result<(), Failed>
     requires { place < 2 ^ 64 - 1 }
-    ensures { IfOk result (λ _. text.new.items ≡ text.old.items ++ tally_line (place + 1) tally) }
+    ensures { Writes result out.old out.new (tally_line (place + 1) tally) }
 {
-    let number = place + 1;
-    let accepted = tally.accepted;
-    let refused = tally.refused;
-    let line = format!(in *text.allocator();
-        "designer {number} accepted {accepted} refused {refused}\n"
-    )?;
-    text.extend_from_slice(line.as_bytes())
+    let counts = (tally.accepted, " refused ", (tally.refused, "\n"));
+    ("designer ", place as u64 + 1, " accepted ", counts).put_to(out)
 }
 
-fn push_numbers(text: &mut Vec<u8>, numbers: &[u32]) -> Result<(), AllocError>
-    ensures { IfOk result (λ _. text.new.items ≡ text.old.items ++ viewer_lines 1 numbers.now) }
+fn put_numbers<T: Sink>(out: &mut Out<T>, numbers: &[u32]) -> Result<(), Failed>
+    ensures { Writes result out.old out.new (viewer_lines 1 numbers.now) }
 {
     for place in 0..numbers.len() {
-        push_number(text, place, numbers[place])?;
+        put_number(out, place, numbers[place])?;
     }
     Ok(())
 }
 
-/// Pushes the line of the viewer in this place, counted from 0.
-fn push_number(text: &mut Vec<u8>, place: usize, saw: u32) -> Result<(), AllocError>
+/// Writes the line of the viewer in this place, counted from 0.
+fn put_number<T: Sink>(out: &mut Out<T>, place: usize, saw: u32) -> Result<(), Failed>
     requires { place < 2 ^ 64 - 1 }
-    ensures { IfOk result (λ _. text.new.items ≡ text.old.items ++ viewer_line (place + 1) saw) }
+    ensures { Writes result out.old out.new (viewer_line (place + 1) saw) }
 {
-    let number = place + 1;
-    let line = format!(in *text.allocator(); "viewer {number} saw {saw}\n")?;
-    text.extend_from_slice(line.as_bytes())
+    ("viewer ", place as u64 + 1, " saw ", (saw, "\n")).put_to(out)
 }

@@ -1,7 +1,6 @@
 //! How a run is made.
 ghost use Rattle.std.specs.Prelude.{◌≡◌};
 
-use crate::limits::{MAX_LEAST, MAX_WORKERS};
 use mp_desk::DeskSize;
 use mp_phase::Crew;
 
@@ -21,16 +20,6 @@ impl Options {
     ghost use Rattle.mp_commands.specs.OptionLimits.{has_valid_crew};
     ghost use Rattle.mp_commands.specs.Desks.{has_valid_desk};
 
-    /// Whether there are 1 to 16 workers, and 1 to 4,096 modules are the least for which they are called on. The viewers are not looked at.
-    pub fn has_valid_crew(&self) -> bool
-        ensures { result ≡ has_valid_crew self.now }
-    {
-        1 <= self.workers
-            && self.workers <= MAX_WORKERS
-            && 1 <= self.least
-            && self.least <= MAX_LEAST
-    }
-
     /// The crew of a desk with so many designers, and its size, where that has 1 to 8 of them, 1 to 32 viewers and a valid crew.
     pub(crate) fn desk_crew(&self, designers: usize) -> Option<(Crew, DeskSize)>
         ensures valid { is_some result ≡ has_valid_desk designers self.now }
@@ -40,7 +29,7 @@ impl Options {
         Some((self.crew()?, size))
     }
 
-    /// The crew of these numbers, where there is a valid one.
+    /// The crew of these numbers, where there are 1 to 16 workers, and 1 to 4,096 modules are the least for which they are called on.
     pub(crate) fn crew(&self) -> Option<Crew>
         ensures { is_some result ≡ has_valid_crew self.now }
     {

@@ -1,12 +1,11 @@
 //! Why a run ends early.
-ghost use Rattle.std.specs.Prelude.{◌≡◌, IfOk};
-ghost use Rattle.mp_commands.specs.declared.run_fault.RunFault.TheVariants.{OutOfMemory};
-ghost use Rattle.mp_commands.specs.RunFaults.{status_of, line_of, text_line, fault_of_text, fault_of_take, fault_of_meeting};
+ghost use Rattle.std.specs.Prelude.{◌≡◌, ◌++◌, IfOk};
+ghost use Rattle.mp_commands.specs.declared.run_fault.RunFault.TheVariants.{WriteFailed, OutOfMemory};
+ghost use Rattle.mp_commands.specs.RunFaults.{status_of, line_of, text_line, numbered, fault_of_text, fault_of_take, fault_of_write, fault_of_meeting};
 
-use crate::numbered::push_numbered;
 use mp_meeting::MeetingFault;
 use mp_netlist::EditError;
-use mp_streams::TakeError;
+use mp_streams::{Failed, TakeError, WriteError};
 use mp_text::{TextCode, TextError};
 use std::alloc::{AllocError, AllocFailed, Global};
 use thiserror::Error;
@@ -54,6 +53,25 @@ impl From<TakeError> for RunFault {
             TakeError::Failed => RunFault::ReadFailed,
             TakeError::OutOfMemory => RunFault::OutOfMemory,
         }
+    }
+}
+
+impl From<WriteError> for RunFault {
+    ghost from_gives = { λ error fault. fault ≡ fault_of_write error };
+
+    fn from(error: WriteError) -> RunFault {
+        match error {
+            WriteError::WriteFailed => RunFault::WriteFailed,
+            WriteError::OutOfMemory => RunFault::OutOfMemory,
+        }
+    }
+}
+
+impl From<Failed> for RunFault {
+    ghost from_gives = { λ _ fault. fault ≡ WriteFailed };
+
+    fn from(_failed: Failed) -> RunFault {
+        RunFault::WriteFailed
     }
 }
 
@@ -122,4 +140,14 @@ fn text_line(alloc: Global, line: u32, code: TextCode) -> Result<Vec<u8>, AllocE
         push_numbered(&mut text, number, EditError::name_of(number).unwrap_or(""))?;
     }
     Ok(text)
+}
+
+/// Puts the number, a space and the name behind the text.
+fn push_numbered(text: &mut Vec<u8>, number: u32, name: &str) -> Result<(), AllocError>
+    ensures { IfOk result (λ _. text.new.items ≡ text.old.items ++ numbered number name.now) }
+{
+    let digits = number.to_string(*text.allocator())?;
+    text.extend_from_slice(digits.as_bytes())?;
+    text.push(b' ')?;
+    text.extend_from_slice(name.as_bytes())
 }

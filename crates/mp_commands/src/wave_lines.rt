@@ -1,62 +1,57 @@
 //! The lines of a netlist's waves.
-ghost use Rattle.std.specs.Prelude.{◌≡◌, ◌-◌, ◌^◌, ◌<◌};
+ghost use Rattle.std.specs.Prelude.{◌≡◌};
 ghost use Rattle.mp_netlist.specs.Circuit.{wire_at};
-ghost use Rattle.mp_model.specs.Waves.{wave, AreWavesOf};
+ghost use Rattle.mp_model.specs.Waves.{wave};
+ghost use Rattle.mp_streams.specs.Outgoing.{Writes};
 ghost use Rattle.mp_commands.specs.Outputs.{slot_line, waves_text};
-ghost use Rattle.mp_commands.specs.RunFaults.{counted_writes};
-ghost use Rattle.mp_commands.specs.Runs.{Puts};
 
-use crate::run_fault::RunFault;
-use mp_model::Waves;
-use mp_netlist::{Netlist, WireId};
-use mp_streams::{Failed, Sink, WriteBuffer};
+use crate::evaluated::Evaluated;
+use crate::view::View;
+use mp_netlist::WireId;
+use mp_streams::{Failed, Out, Sink, WriteError};
 use mp_words::put_wave_line;
+use std::alloc::Global;
+use std::thread::Threads;
 
-/// Puts the line of each wire that stands, by number, through the buffer.
-pub fn put_lines<T: Sink>(
-    buffer: &mut WriteBuffer,
-    sink: &mut T,
-    netlist: &Netlist,
-    waves: &Waves,
-) -> Result<(), RunFault>
-    requires countable { T.fault_count sink.old < 2 ^ 64 - 1 }
-    requires waves { AreWavesOf netlist.now waves.now }
-    ensures written { Puts result (T.taken sink.old) (T.taken sink.new) buffer.old buffer.new (waves_text netlist.now) }
-    ensures faults { T.fault_count sink.new ≡ counted_writes result (T.fault_count sink.old) }
+/// The line of each wire that stands, by number.
+pub struct WaveLines;
+
+impl View for WaveLines {
+    ghost text = { λ _ n. waves_text n };
+
+    fn put<R: Threads + Sync, T: Sink>(
+        &self,
+        _rt: &R,
+        _alloc: Global,
+        out: &mut Out<T>,
+        of: &Evaluated<'_>,
+    ) -> Result<(), WriteError> {
+        Ok(put_lines(out, of)?)
+    }
+}
+
+pub fn put_lines<T: Sink>(out: &mut Out<T>, of: &Evaluated<'_>) -> Result<(), Failed>
+    ensures { Writes result out.old out.new (waves_text of.now.netlist.now) }
 {
-    for number in 0..netlist.wire_slots() {
-        put_slot_line(buffer, sink, netlist, waves, WireId(number))?;
+    for number in 0..of.netlist.wire_slots() {
+        put_slot_line(out, of, WireId(number))?;
     }
     Ok(())
 }
 
-/// Puts the line of the wire of this number through the buffer, and nothing where none stands.
+/// Writes the line of the wire of this number, and nothing where none stands.
 pub fn put_slot_line<T: Sink>(
-    buffer: &mut WriteBuffer,
-    sink: &mut T,
-    netlist: &Netlist,
-    waves: &Waves,
+    out: &mut Out<T>,
+    of: &Evaluated<'_>,
     id: WireId,
-) -> Result<(), RunFault>
-    requires countable { T.fault_count sink.old < 2 ^ 64 - 1 }
-    requires waves { AreWavesOf netlist.now waves.now }
-    ensures written { Puts result (T.taken sink.old) (T.taken sink.new) buffer.old buffer.new (slot_line (wire_at netlist.now id.0) (wave netlist.now id.0)) }
-    ensures faults { T.fault_count sink.new ≡ counted_writes result (T.fault_count sink.old) }
+) -> Result<(), Failed>
+    ensures { Writes result out.old out.new (slot_line (wire_at of.now.netlist.now id.0) (wave of.now.netlist.now id.0)) }
 {
-    let Some(wire) = netlist.wire(id) else {
+    let Some(wire) = of.netlist.wire(id) else {
         return Ok(());
     };
-    let Some(wave) = waves.of(id) else {
+    let Some(wave) = of.waves.of(id) else {
         return Ok(());
     };
-    match put_wave_line(
-        buffer,
-        sink,
-        wire.name.as_str(),
-        wave.initial(),
-        wave.changes(),
-    ) {
-        Ok(()) => Ok(()),
-        Err(Failed) => Err(RunFault::WriteFailed),
-    }
+    put_wave_line(out, wire.name.as_str(), wave.initial(), wave.changes())
 }

@@ -1,13 +1,12 @@
 //! The workbench for micropipelines.
 #![tactic(auto)]
 
-ghost use Rattle.std.specs.Prelude.{◌-◌, ◌^◌, ◌<◌};
-
 use mp_commands::{
-    Options, RunFault, exit_status, fault_line, run_desk, run_dump, run_play, run_report, run_waves,
+    Desk, DumpText, Options, Play, ReportLines, RunFault, Viewed, WaveLines, exit_status,
+    fault_line, run_command,
 };
 use mp_request::{Command, Request, TellError, read_words, tell};
-use mp_streams::{ReadSource, Source, WriteSink};
+use mp_streams::{Out, ReadSource, Source, WriteSink};
 use std::fs::File;
 use std::io::ErrorKind;
 use std::process::ExitCode;
@@ -66,21 +65,29 @@ fn run_on<R: Print + Threads + Wait + Sync + AllocGlobal, S: Source + Drop>(
     rt: &R,
     mut source: S,
     request: &Request<'_>,
-) -> Result<(), RunFault>
-    requires { S.fault_count source < 2 ^ 64 - 1 }
-{
-    let mut sink = WriteSink::new(io::writer(rt));
+) -> Result<(), RunFault> {
+    let mut out = Out::new(rt.alloc(), WriteSink::new(io::writer(rt)))?;
+    let (source, out) = (&mut source, &mut out);
     let options = Options {
         workers: request.workers,
         least: request.least,
         viewers: request.viewers,
     };
     match request.command {
-        Command::Waves => run_waves(rt, rt.alloc(), &mut source, &mut sink, &options),
-        Command::Report => run_report(rt, rt.alloc(), &mut source, &mut sink, &options),
-        Command::Dump => run_dump(rt, rt.alloc(), &mut source, &mut sink, &options),
-        Command::Play => run_play(rt, rt.alloc(), &mut source, &mut sink, &options),
-        Command::Desk => run_desk(rt, rt.alloc(), &mut source, &mut sink, &options),
+        Command::Waves => {
+            let command = Viewed { view: WaveLines };
+            run_command(rt, rt.alloc(), source, out, &options, &command)
+        }
+        Command::Report => {
+            let command = Viewed { view: ReportLines };
+            run_command(rt, rt.alloc(), source, out, &options, &command)
+        }
+        Command::Dump => {
+            let command = Viewed { view: DumpText };
+            run_command(rt, rt.alloc(), source, out, &options, &command)
+        }
+        Command::Play => run_command(rt, rt.alloc(), source, out, &options, &Play),
+        Command::Desk => run_command(rt, rt.alloc(), source, out, &options, &Desk),
     }
 }
 

@@ -1,9 +1,14 @@
-use Rattle.mp_commands.proofs.ReplyLemmas.{edit_made, asked}
+use Rattle.std.proofs.Common.{refl}
+use Rattle.mp_streams.specs.declared.write_error.WriteError.TheVariants.{WriteFailed}
+use Rattle.mp_streams.proofs.OutLemmas.{puts_as}
+use Rattle.mp_commands.proofs.ReplyLemmas.{change_replied, ask_replied}
 use Rattle.mp_commands.proofs.replies.put_line_reply.Goals as goal
 
-pub returns-in-Change-clause-replied : goal.returns-in-Change-clause-replied
-returns-in-Change-clause-replied g c =
-    rw c.in-Change.is (edit_made c.put_made.result c.edit_text.result _ _ _ _ c.put_made.ensures.written c.put_made.ensures.made c.args.keeper.now c.edit_text.new.keeper c.in-Change.edit c.edit_text.ensures)
+pub returns-in_err-put_change-in-Change : goal.returns-in_err-put_change-in-Change
+returns-in_err-put_change-in-Change g c =
+    let put = c.in_err-put_change-in-Change.ensures in
+    let r = c.from_residual in
+    rw c.in-Change.is (change_replied r.result _ _ c.args.keeper.now c.put_change.new.keeper c.in-Change.edit put.0 put.1 (puts_as r.result WriteFailed r.ensures.1 refl put.2))
 
-pub returns-in-Ask-clause-replied : goal.returns-in-Ask-clause-replied
-returns-in-Ask-clause-replied g c = rw c.in-Ask.is (asked c.put_answer.result _ _ _ _ c.args.keeper.now c.in-Ask.question c.put_answer.ensures.answered)
+pub returns-in-Ask : goal.returns-in-Ask
+returns-in-Ask g c = rw c.in-Ask.is (ask_replied c.put_answer.result _ _ c.args.keeper.now c.in-Ask.question c.put_answer.ensures)

@@ -1,10 +1,18 @@
-use Rattle.mp_commands.proofs.ReplyLemmas.{replied, unread_made}
+use Rattle.std.proofs.Common.{◌≡◌, false, refl, rules}
+use Rattle.mp_streams.specs.declared.write_error.WriteError.TheVariants.{WriteFailed}
+use Rattle.mp_streams.proofs.OutLemmas.{puts_as}
+use Rattle.mp_commands.proofs.ReplyLemmas.{unread_replied, memory_replied, is_memory}
 use Rattle.mp_commands.proofs.replies.put_reply.Goals as goal
 
-pub returns-in-Ok-clause-answered : goal.returns-in-Ok-clause-answered
-returns-in-Ok-clause-answered g c =
-    replied c.put_line_reply.result _ _ _ _ c.args.keeper.now c.put_line_reply.new.keeper c.args.line.now c.in-Ok.read c.in-Ok.ensures.read c.put_line_reply.ensures.replied
+pub returns-in-Ok : goal.returns-in-Ok
+returns-in-Ok g c = rw c.in-Ok.ensures.read c.put_line_reply.ensures
 
-pub returns-in-Err-clause-answered : goal.returns-in-Err-clause-answered
-returns-in-Err-clause-answered g c =
-    unread_made c.put_made.result c.unread_text.result _ _ _ _ c.put_made.ensures.written c.put_made.ensures.made c.args.keeper.now c.args.line.now c.in-Err.error c.in-Err.ensures.read c.unread_text.ensures.told c.unread_text.ensures.fault
+pub returns-in_err-put_coded-in-Err : goal.returns-in_err-put_coded-in-Err
+returns-in_err-put_coded-in-Err g c =
+    let r = c.from_residual in
+    let other : is_memory c.in-Err.error ≡ false = search rules in
+    let put = rw (c.number.ensures, c.name.ensures) at c.in_err-put_coded-in-Err.ensures in
+    unread_replied r.result _ _ c.args.keeper.now c.args.line.now c.in-Err.error c.in-Err.ensures.read other (puts_as r.result WriteFailed r.ensures.1 refl put)
+
+pub returns-in-Err-OutOfMemory : goal.returns-in-Err-OutOfMemory
+returns-in-Err-OutOfMemory g c = memory_replied _ c.args.out.now c.args.keeper.now c.args.line.now refl

@@ -1,0 +1,11 @@
+use Rattle.std.proofs.Common.{length}
+use Rattle.mp_words.specs.Lines.{lines_of}
+use Rattle.mp_commands.proofs.PlayLemmas.{ArePlayed}
+use Rattle.mp_commands.proofs.play.put_replies.Given as goal
+
+-- the lines so far were answered
+abbrev pub invariant-loop-rest : goal.invariant-loop-rest
+invariant-loop-rest g l = ArePlayed l.fn.keeper l.keeper (lines_of l.script) (lines_of l.rest) l.fn.out l.out
+
+abbrev pub decreases-loop-rest : goal.decreases-loop-rest
+decreases-loop-rest g l = length l.rest

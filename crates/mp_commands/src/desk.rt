@@ -1,0 +1,61 @@
+//! The command `desk`.
+ghost use Rattle.std.specs.Prelude.{◌≡◌, ◌≤◌, length, IfOk, true};
+ghost use Rattle.mp_words.specs.Lines.{lines_of};
+ghost use Rattle.mp_words.specs.Divisions.{first_part, lines_of_each};
+ghost use Rattle.mp_commands.specs.Desks.{IsDeskText, blocks_of, has_valid_desk};
+ghost use Rattle.mp_commands.specs.Openings.{opening_of};
+
+use crate::command::Command;
+use crate::met_lines::put_met;
+use crate::opening::opened;
+use crate::options::Options;
+use crate::run_fault::RunFault;
+use mp_engine::OpenGate;
+use mp_meeting::meet;
+use mp_session::Session;
+use mp_streams::{Out, Sink};
+use mp_text::{divided, parts};
+use std::alloc::{AllocError, Global};
+use std::sync::Wait;
+use std::thread::Threads;
+
+/// The input is a netlist's text and, behind each line `---`, a designer's block of lines. The designers submit their lines at the same
+/// time, each in turn, while viewers read. Then a line for each designer is written, a line for each viewer, and the lines of the waves of
+/// the netlist to which the accepted edits led.
+pub struct Desk;
+
+impl Command for Desk {
+    ghost opening = { λ _ input options. opening_of (first_part (lines_of input)) (has_valid_desk (length (blocks_of input)) options) };
+
+    ghost IsText = { λ _ input options n text. IsDeskText n (blocks_of input) options.viewers text };
+
+    ghost seats = { true };
+
+    fn answer<R: Threads + Wait + Sync, T: Sink>(
+        &self,
+        rt: &R,
+        alloc: Global,
+        out: &mut Out<T>,
+        input: &[u8],
+        options: &Options,
+    ) -> Result<(), RunFault> {
+        let (front, blocks) = split(alloc, input)?;
+        let (netlist, (crew, size)) = opened(alloc, front, options.desk_crew(blocks.len()))?;
+        let session = Session::open(rt, alloc, &netlist, crew, OpenGate)?;
+        let met = meet(rt, alloc, session, blocks.as_slice(), size)?;
+        Ok(put_met(out, &met, crew)?)
+    }
+}
+
+/// The netlist's part of an input, and the blocks.
+fn split(alloc: Global, input: &[u8]) -> Result<(&[u8], Vec<&[u8]>), AllocError>
+    ensures short { IfOk result (λ both. length both.0.now ≤ length input.now) }
+    ensures front { IfOk result (λ both. lines_of both.0.now ≡ first_part (lines_of input.now)) }
+    ensures blocks { IfOk result (λ both. lines_of_each both.1.items ≡ blocks_of input.now) }
+{
+    let (front, back) = divided(alloc, input)?;
+    if front.len() >= input.len() {
+        return Ok((front, Vec::new(alloc)));
+    }
+    Ok((front, parts(alloc, back)?))
+}

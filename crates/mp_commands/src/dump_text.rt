@@ -1,0 +1,26 @@
+//! The value change dump of a netlist.
+ghost use Rattle.mp_vcd.specs.Dumps.{dump};
+
+use crate::evaluated::Evaluated;
+use crate::view::View;
+use mp_streams::{Out, Sink, WriteError};
+use mp_vcd::put_dump;
+use std::alloc::Global;
+use std::thread::Threads;
+
+/// The value change dump.
+pub struct DumpText;
+
+impl View for DumpText {
+    ghost text = { λ _ n. dump n };
+
+    fn put<R: Threads + Sync, T: Sink>(
+        &self,
+        _rt: &R,
+        alloc: Global,
+        out: &mut Out<T>,
+        of: &Evaluated<'_>,
+    ) -> Result<(), WriteError> {
+        put_dump(alloc, out, of.netlist, of.waves)
+    }
+}

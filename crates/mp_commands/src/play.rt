@@ -1,0 +1,65 @@
+//! The command `play`.
+ghost use Rattle.std.specs.Prelude.{◌≡◌, false};
+ghost use Rattle.mp_words.specs.Lines.{lines_of};
+ghost use Rattle.mp_words.specs.Divisions.{first_part, later_parts};
+ghost use Rattle.mp_commands.specs.Keepers.{opened as opened_kept};
+ghost use Rattle.mp_commands.specs.OptionLimits.{has_valid_crew};
+ghost use Rattle.mp_commands.specs.Openings.{opening_of};
+ghost use Rattle.mp_commands.specs.Plays.{AreReplies, PutsReplies};
+
+use crate::command::Command;
+use crate::keeper::Keeper;
+use crate::opening::opened;
+use crate::options::Options;
+use crate::replies::put_reply;
+use crate::run_fault::RunFault;
+use mp_streams::{Out, Sink, WriteError};
+use mp_text::{divided, first_line};
+use std::alloc::Global;
+use std::sync::Wait;
+use std::thread::Threads;
+
+/// The input is a netlist's text and, behind a line `---`, a script. Each line of the script is answered in turn: an edit by `accepted N`
+/// or `refused CODE NAME`, a question by its answer, and a line that is not read by `unread CODE NAME`.
+pub struct Play;
+
+impl Command for Play {
+    ghost opening = { λ _ input options. opening_of (first_part (lines_of input)) (has_valid_crew options) };
+
+    ghost IsText = { λ _ input _ n text. AreReplies (opened_kept n) (later_parts (lines_of input)) text };
+
+    ghost seats = { false };
+
+    fn answer<R: Threads + Wait + Sync, T: Sink>(
+        &self,
+        rt: &R,
+        alloc: Global,
+        out: &mut Out<T>,
+        input: &[u8],
+        options: &Options,
+    ) -> Result<(), RunFault> {
+        let (front, script) = divided(alloc, input)?;
+        let (netlist, crew) = opened(alloc, front, options.crew())?;
+        let mut keeper = Keeper::new(rt, alloc, &netlist, crew)?;
+        Ok(put_replies(rt, alloc, out, &mut keeper, script)?)
+    }
+}
+
+/// Writes the replies to the lines of a script in turn.
+fn put_replies<R: Threads + Wait + Sync, T: Sink>(
+    rt: &R,
+    alloc: Global,
+    out: &mut Out<T>,
+    keeper: &mut Keeper,
+    script: &[u8],
+) -> Result<(), WriteError>
+    ensures { PutsReplies result out.old out.new keeper.old (lines_of script.now) }
+{
+    let mut rest = script;
+    while !rest.is_empty() {
+        let (line, others) = first_line(rest);
+        put_reply(rt, alloc, out, keeper, line)?;
+        rest = others;
+    }
+    Ok(())
+}
