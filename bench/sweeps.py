@@ -90,11 +90,13 @@ class Sweep:
 
     # memory
 
-    def is_front(self, done, least=0, most=None):
-        """Whether the run ended for want of memory, with at least and at most so many bytes written. The last line wants memory too."""
-        written = self.right.written[: len(done.written)]
+    def is_front(self, done, least=0, most=None, right=None):
+        """Whether the run ended for want of memory, with at least and at most so many bytes of the right answer written. The last line
+        wants memory too."""
+        whole = (right or self.right).written
+        written = whole[: len(done.written)]
         complaint = b"" if self.later else OUT_OF_MEMORY
-        most = len(self.right.written) if most is None else most
+        most = len(whole) if most is None else most
         return (done.status, done.complaint) == (4, complaint) and done.written == written and least <= len(written) <= most
 
     def is_right_without_memory(self, done, borders, number):
@@ -110,7 +112,9 @@ class Sweep:
         right, lacking = played(self.text, done.written)
         line = bisect.bisect_left(borders, number) - 1 if borders else None
         if lacking:
-            return (self.later or len(lacking) == 1) and (line is None or min(lacking) == line) and is_whole(done, right)
+            # where each later allocation is refused too, the run may end behind such an edit
+            ended = is_whole(done, right) or self.later and self.is_front(done, right=right)
+            return (self.later or len(lacking) == 1) and (line is None or min(lacking) == line) and ended
         if line is None:
             return self.is_front(done)
         ends = [len(b"".join(self.right.parts[:count])) for count in range(len(self.right.parts) + 1)]
