@@ -22,6 +22,7 @@ use std::thread::Threads;
 /// The input is a netlist's text and, behind each line `---`, a designer's block of lines. The designers submit their lines at the same
 /// time, each in turn, while viewers read. Then a line for each designer is written, a line for each viewer, and the lines of the waves of
 /// the netlist to which the accepted edits led.
+#[derive(Drop)]
 pub struct Desk;
 
 impl Command for Desk {

@@ -9,6 +9,7 @@ use std::alloc::Global;
 use std::thread::Threads;
 
 /// The value change dump.
+#[derive(Drop)]
 pub struct DumpText;
 
 impl View for DumpText {

@@ -21,6 +21,7 @@ use std::thread::Threads;
 
 /// The input is a netlist's text and, behind a line `---`, a script. Each line of the script is answered in turn: an edit by `accepted N`
 /// or `refused CODE NAME`, a question by its answer, and a line that is not read by `unread CODE NAME`.
+#[derive(Drop)]
 pub struct Play;
 
 impl Command for Play {

@@ -9,6 +9,7 @@ use std::alloc::Global;
 use std::thread::Threads;
 
 /// A line for each finding: by time, then the modules by number and the bundles by number, then by the codes' numbers.
+#[derive(Drop)]
 pub struct ReportLines;
 
 impl View for ReportLines {

@@ -36,6 +36,7 @@ pub trait View {
 }
 
 /// The command that writes a view of the netlist whose text its input is.
+#[derive(Drop)]
 pub struct Viewed<V> {
     pub view: V,
 }

@@ -14,6 +14,7 @@ use std::alloc::Global;
 use std::thread::Threads;
 
 /// The line of each wire that stands, by number.
+#[derive(Drop)]
 pub struct WaveLines;
 
 impl View for WaveLines {
