@@ -23,3 +23,4 @@ pub use diagram::put_diagram;
 pub use graph::put_graph;
 pub use mark::Charset;
 pub use picture::Picture;
+pub use row::{is_still, still_count};

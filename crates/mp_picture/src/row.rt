@@ -101,14 +101,15 @@ fn push_wide(row: &mut Vec<u8>, charset: Charset, cells: &[Cell]) -> Result<(), 
 }
 
 /// How many cells from the front on have no event.
-fn still_count(cells: &[Cell]) -> usize
+pub fn still_count(cells: &[Cell]) -> usize
     ensures value { result ≡ prefix_len is_still cells.now }
     ensures within { result ≤ length cells.now }
 {
     cells.iter().take_while(|cell| is_still(**cell)).count()
 }
 
-pub(crate) fn is_still(cell: Cell) -> bool
+/// Whether a cell has no event.
+pub fn is_still(cell: Cell) -> bool
     ensures { result ≡ is_still cell }
 {
     match cell.events {

@@ -1,0 +1,4 @@
+pub mod Lanes
+pub mod Elements
+pub mod Columns
+pub mod WireGroups

@@ -1,0 +1,145 @@
+//! A wire, column by column.
+ghost use Rattle.std.specs.Prelude.{◌≡◌, ◌<◌, ◌^◌, length};
+ghost use Rattle.mp_streams.specs.Outgoing.{Writes};
+ghost use Rattle.mp_svg.specs.Columns.{band, bit_path, word_path};
+
+use crate::drawing::Drawing;
+use crate::elements::Rectangle;
+use crate::lane::Lane;
+use crate::value_group::ValueGroup;
+use mp_picture::{Cell, Events, is_still, still_count};
+use mp_streams::{Failed, Out, Sink, Text};
+
+/// What is drawn of a wire, column by column.
+#[derive(Clone, Copy)]
+pub(crate) struct Drawn<'a> {
+    pub(crate) lane: Lane,
+    pub(crate) cells: &'a [Cell],
+    pub(crate) drawing: Drawing,
+    ghost few: { length cells.now < 2 ^ 32 },
+}
+
+impl<'a> Text for Drawn<'a> {
+    ghost use Rattle.mp_svg.specs.Columns.{drawn};
+
+    ghost text = { λ wire. drawn wire.lane wire.cells.now wire.drawing };
+
+    fn put_to<S: Sink>(&self, out: &mut Out<S>) -> Result<(), Failed> {
+        let count = self.cells.len() as u32;
+        for column in 0..count {
+            self.put_column(out, column)?;
+        }
+        Ok(())
+    }
+}
+
+impl<'a> Drawn<'a> {
+    ghost use Rattle.std.specs.Prelude.{◌≡◌, ◌<◌, length};
+    ghost use Rattle.mp_streams.specs.Outgoing.{Writes};
+    ghost use Rattle.mp_svg.specs.Columns.{still_behind, value, column_text};
+
+    fn put_column<S: Sink>(&self, out: &mut Out<S>, column: u32) -> Result<(), Failed>
+        requires { column < length self.now.cells.now }
+        ensures { Writes result out.old out.new (column_text self.now.lane self.now.cells.now self.now.drawing column) }
+    {
+        let cell = self.cells[column as usize];
+        match self.drawing {
+            Drawing::Bands => put_band(out, self.lane, column, cell.events),
+            Drawing::Bits => put_bit(out, self.lane, column, cell),
+            Drawing::Values => self.put_value(out, column, cell),
+            Drawing::Words => put_word(out, self.lane, column, is_still(cell)),
+        }
+    }
+
+    /// Writes the value of the first column or of one with an event, and else nothing.
+    fn put_value<S: Sink>(&self, out: &mut Out<S>, column: u32, cell: Cell) -> Result<(), Failed>
+        requires { column < length self.now.cells.now }
+        ensures { Writes result out.old out.new (value self.now.lane self.now.cells.now column cell) }
+    {
+        let (lane, level) = (self.lane, cell.level);
+        let later = self.still_behind(column);
+        if !is_still(cell) {
+            let (x, room) = (lane.end(column), u64::from(later));
+            return ValueGroup {
+                lane,
+                column,
+                x,
+                room,
+                later,
+                level,
+            }
+            .put_to(out);
+        }
+        if column > 0 {
+            return Ok(());
+        }
+        let (x, room) = (lane.begin(column), u64::from(later) + 1);
+        ValueGroup {
+            lane,
+            column,
+            x,
+            room,
+            later,
+            level,
+        }
+        .put_to(out)
+    }
+
+    /// How many columns behind one have no event, up to the next that has.
+    fn still_behind(&self, column: u32) -> u32
+        requires { column < length self.now.cells.now }
+        ensures { result ≡ still_behind self.now.cells.now column }
+    {
+        let later = self.cells.split_at(column as usize + 1).1;
+        still_count(later) as u32
+    }
+}
+
+/// Writes the band of a column with more than one event, and else nothing.
+fn put_band<S: Sink>(
+    out: &mut Out<S>,
+    lane: Lane,
+    column: u32,
+    events: Events,
+) -> Result<(), Failed>
+    ensures { Writes result out.old out.new (band lane column events) }
+{
+    match events {
+        Events::None | Events::One => Ok(()),
+        Events::More => {
+            let start = "<rect class=\"band\"";
+            let (x, y) = (lane.begin(column), lane.top());
+            let width = 8;
+            Rectangle { start, x, y, width }.put_to(out)
+        }
+    }
+}
+
+/// Writes the path of a wire of width 1 in a column.
+fn put_bit<S: Sink>(out: &mut Out<S>, lane: Lane, column: u32, cell: Cell) -> Result<(), Failed>
+    ensures { Writes result out.old out.new (bit_path lane column cell.events cell.level) }
+{
+    let x = lane.end(column);
+    let y = lane.height(cell.level);
+    match cell.events {
+        Events::None => ("H", x).put_to(out),
+        Events::One if lane.units == 1 => (("V", y), ("H", x)).put_to(out),
+        Events::One => ("L", x, " ", y).put_to(out),
+        Events::More => ("M", x, " ", y).put_to(out),
+    }
+}
+
+/// Writes the path of a wider wire in a column, with no event or with one or more.
+fn put_word<S: Sink>(out: &mut Out<S>, lane: Lane, column: u32, still: bool) -> Result<(), Failed>
+    ensures { Writes result out.old out.new (word_path lane column still) }
+{
+    let (x, end) = (lane.begin(column), lane.end(column));
+    let (top, bottom) = (lane.top(), lane.bottom());
+    let above = ("M", x, " ", top);
+    let below = ("M", x, " ", bottom);
+    if still {
+        (above, ("H", end), below, ("H", end)).put_to(out)
+    } else {
+        (above, ("L", end, " ", bottom), below, ("L", end, " ", top)).put_to(out)
+    }
+}
