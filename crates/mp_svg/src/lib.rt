@@ -5,6 +5,7 @@ mod drawing;
 mod drawn;
 mod elements;
 mod lane;
+pub mod laws;
 mod value_group;
 mod wire_group;
 

@@ -1,0 +1,5 @@
+use Rattle.mp_svg.proofs.TellLemmas.{words_tell}
+use Rattle.mp_svg.proofs.laws.words_tell.Goals as goal
+
+pub returns : goal.returns
+returns c = words_tell
