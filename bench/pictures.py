@@ -79,6 +79,71 @@ def show(netlist, begin=0, end=None, most=72, names=None, marks=UNICODE):
     return picture(netlist, levels, reference.findings(netlist, levels, at_modules), columns, wires, marks)
 
 
+PITCH = 8
+
+
+class Lane:
+    """Where the row of a wire stands in an SVG, by number from 0, with its columns from a point on."""
+
+    def __init__(self, left, row, units):
+        self.left, self.units = left, units
+        self.top, self.base, self.bottom = (28 * row + height for height in (24, 36, 40))
+
+    def x(self, column):
+        return self.left + PITCH * column
+
+    def y(self, level):
+        return self.top if level else self.bottom
+
+
+def bit_path(lane, cells):
+    """The path of a wire of width 1: a start, and a command or two a column."""
+    count, level = cells[0]
+    path = f"M{lane.x(0)} {lane.y(1 - level if count == 1 else level)}"
+    for column, (count, level) in enumerate(cells, 1):
+        x, y = lane.x(column), lane.y(level)
+        one = f"V{y}H{x}" if lane.units == 1 else f"L{x} {y}"
+        path += f"H{x}" if not count else one if count == 1 else f"M{x} {y}"
+    return path
+
+
+def word_path(lane, cells):
+    """The path of a wider wire: two lines or a cross a column."""
+    path = ""
+    for column, (count, _) in enumerate(cells):
+        x, end = lane.x(column), lane.x(column + 1)
+        for begin, over in ((lane.top, lane.bottom), (lane.bottom, lane.top)):
+            path += f"M{x} {begin}" + (f"L{end} {over}" if count else f"H{end}")
+    return path
+
+
+def rectangle(lane, column, columns, start="<rect"):
+    return f'{start} x="{lane.x(column)}" y="{lane.top}" width="{PITCH * columns}" height="16"/>'
+
+
+def values(lane, cells):
+    """The value of the first column and of each with an event, over the columns up to the next."""
+    starts = [column for column, (count, _) in enumerate(cells) if count or not column]
+    for start, end in zip(starts, [*starts[1:], len(cells)]):
+        count, level = cells[start]
+        behind = start + bool(count)
+        text = f'<text x="{lane.x(behind)}" y="{lane.base}">{level}</text>' if len(str(level)) <= end - behind else ""
+        frame = rectangle(lane, start, end - start)
+        yield f'<g class="value" data-column="{start}" data-level="{level}"><title>{level}</title>{frame}{text}</g>'
+
+
+def wire_group(lane, number, name, width, cells):
+    """The row of a wire in an SVG."""
+    if width == 1:
+        shape = "".join(rectangle(lane, column, 1, '<rect class="band"') for column, (count, _) in enumerate(cells) if count > 1)
+        path = bit_path(lane, cells)
+    else:
+        shape, path = "".join(values(lane, cells)), word_path(lane, cells)
+    heights = f'data-top="{lane.top}" data-bottom="{lane.bottom}"'
+    title = f'<title>{name}</title><text x="0" y="{lane.base}">{name}</text>'
+    return f'<g class="wire" id="wire-{number}" data-width="{width}" {heights}>{title}{shape}<path class="level" d="{path}"/></g>\n'
+
+
 def graph(netlist):
     """What `graph` writes."""
     name = lambda wire: netlist.wires[wire][0]

@@ -5,3 +5,5 @@
 mod diagrams;
 #[cfg(test)]
 mod graphs;
+#[cfg(test)]
+mod wire_groups;
