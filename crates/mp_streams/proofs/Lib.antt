@@ -1,3 +1,4 @@
 pub mod PlaceLemmas
 pub mod StreamLemmas
+pub mod LeftLemmas
 pub mod OutLemmas

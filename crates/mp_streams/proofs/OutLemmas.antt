@@ -15,20 +15,20 @@ use Rattle.mp_streams.specs.StreamFaults.{one_more, counted}
 -- ---- one call after the other
 
 -- nothing was written
-pub puts_none : {T E : Type 0} {f : E → Bool} {done : T} (a : Outgoing) → Puts f (Ok done) a a []
+pub puts_none : {S T E : Type 0} {f : E → Bool} {done : T} (a : Outgoing S) → Puts f (Ok done) a a []
 puts_none a = record { front = []; lost = []; taken = Appends-nil a.taken; held = refl; ends = (refl, refl) }
 
 -- an error is one whatever stood before it
-stops_later : (fault : Bool) (a b c : Outgoing) (lost : List ℕ) → b.faults ≡ a.faults → Stops fault b c lost → Stops fault a c lost
+stops_later : {S : Type 0} (fault : Bool) (a b c : Outgoing S) (lost : List ℕ) → b.faults ≡ a.faults → Stops fault b c lost → Stops fault a c lost
 stops_later true a b c lost same stops = (stops.0 ∙ ap one_more same, stops.1, stops.2)
 stops_later false a b c lost same stops = stops ∙ same
 
-ends_later : {T E : Type 0} (f : E → Bool) (r : Result T E) (a b c : Outgoing) (lost : List ℕ) → b.faults ≡ a.faults → Ends f r b c lost → Ends f r a c lost
+ends_later : {S T E : Type 0} (f : E → Bool) (r : Result T E) (a b c : Outgoing S) (lost : List ℕ) → b.faults ≡ a.faults → Ends f r b c lost → Ends f r a c lost
 ends_later f (Ok done) a b c lost same ends = (ends.0 ∙ same, ends.1)
 ends_later f (Err error) a b c lost same ends = stops_later (f error) a b c lost same ends
 
 -- a text was written, and then another
-pub puts_then : {T U E F : Type 0} {f : F → Bool} {g : E → Bool} {done : T} {r : Result U E} {a b c : Outgoing} {xs ys : List ℕ}
+pub puts_then : {S T U E F : Type 0} {f : F → Bool} {g : E → Bool} {done : T} {r : Result U E} {a b c : Outgoing S} {xs ys : List ℕ}
     → Puts f (Ok done) a b xs → Puts g r b c ys → Puts g r a c (xs ++ ys)
 puts_then {T = T} {U = U} {E = E} {F = F} {f = f} {g = g} {done = done} {r = r} {a = a} {b = b} {c = c} {xs = xs} {ys = ys} first second =
     let all : a.held ++ xs ≡ first.front ++ b.held = first.held ∙ ap (λ l. first.front ++ (b.held ++ l)) first.ends.1 ∙ ap (λ l. first.front ++ l) (append-nil b.held) in
@@ -42,12 +42,12 @@ puts_then {T = T} {U = U} {E = E} {F = F} {f = f} {g = g} {done = done} {r = r} 
       ends = ends_later g r a b c second.lost first.ends.0 second.ends;
     }
 
-stops_sooner : (fault : Bool) (a b : Outgoing) (lost more : List ℕ) → Stops fault a b lost → Stops fault a b (lost ++ more)
+stops_sooner : {S : Type 0} (fault : Bool) (a b : Outgoing S) (lost more : List ℕ) → Stops fault a b lost → Stops fault a b (lost ++ more)
 stops_sooner true a b lost more stops = let some : 0 < length lost = stops.2 in (stops.0, stops.1, omega (arith, some, length-append lost more))
 stops_sooner false a b lost more stops = stops
 
 -- a text failed before another was written
-pub puts_sooner : {T E : Type 0} {f : E → Bool} {error : E} {a b : Outgoing} {xs : List ℕ} (ys : List ℕ) → Puts {T = T} f (Err error) a b xs → Puts {T = T} f (Err error) a b (xs ++ ys)
+pub puts_sooner : {S T E : Type 0} {f : E → Bool} {error : E} {a b : Outgoing S} {xs : List ℕ} (ys : List ℕ) → Puts {T = T} f (Err error) a b xs → Puts {T = T} f (Err error) a b (xs ++ ys)
 puts_sooner {T = T} {E = E} {f = f} {error = error} {a = a} {b = b} {xs = xs} ys first = record {
   front = first.front;
   lost = first.lost ++ ys;
@@ -60,7 +60,11 @@ puts_sooner {T = T} {E = E} {f = f} {error = error} {a = a} {b = b} {xs = xs} ys
 
 -- ---- an error that became another
 
-pub puts_as : {T U E F : Type 0} {f : F → Bool} {g : E → Bool} {error : F} {a b : Outgoing} {xs : List ℕ} (r : Result U E) (other : E)
+-- a success is one whatever the errors are
+pub puts_ok : {S T E F : Type 0} {f : F → Bool} {g : E → Bool} {done : T} {a b : Outgoing S} {xs : List ℕ} → Puts f (Ok done) a b xs → Puts {T = T} g (Ok done) a b xs
+puts_ok puts = record { front = puts.front; lost = puts.lost; taken = puts.taken; held = puts.held; ends = puts.ends }
+
+pub puts_as : {S T U E F : Type 0} {f : F → Bool} {g : E → Bool} {error : F} {a b : Outgoing S} {xs : List ℕ} (r : Result U E) (other : E)
     → IsErrAnd r (λ y. y ≡ other) → g other ≡ f error → Puts {T = T} f (Err error) a b xs → Puts g r a b xs
 puts_as {T = T} {U = U} {E = E} {F = F} {f = f} {g = g} {error = error} {a = a} {b = b} {xs = xs} r other is same first =
     let p = err_from_is_err_and r is in
@@ -68,14 +72,14 @@ puts_as {T = T} {U = U} {E = E} {F = F} {f = f} {g = g} {error = error} {a = a} 
     rw (p.1, p.2) (record { front = first.front; lost = first.lost; taken = first.taken; held = first.held; ends = ends })
 
 -- memory was wanting before anything was written
-pub puts_unmade : {U E : Type 0} {g : E → Bool} (r : Result U E) (other : E) (a : Outgoing) (xs : List ℕ) → IsErrAnd r (λ y. y ≡ other) → g other ≡ false → Puts g r a a xs
+pub puts_unmade : {S U E : Type 0} {g : E → Bool} (r : Result U E) (other : E) (a : Outgoing S) (xs : List ℕ) → IsErrAnd r (λ y. y ≡ other) → g other ≡ false → Puts g r a a xs
 puts_unmade {U = U} {E = E} {g = g} r other a xs is none =
     let p = err_from_is_err_and r is in
     let ends : Stops (g other) a a xs = subst (λ fault. Stops fault a a xs) (sym none) refl in
     rw (p.1, p.2) (record { front = []; lost = xs; taken = Appends-nil a.taken; held = refl; ends = ends })
 
 -- a fault that is passed on
-pub writes_failed : {T U : Type 0} {error : Failed} {a b : Outgoing} {xs : List ℕ} (r : Result U Failed) → IsErr r → Writes {T = T} (Err error) a b xs → Writes r a b xs
+pub writes_failed : {S T U : Type 0} {error : Failed} {a b : Outgoing S} {xs : List ℕ} (r : Result U Failed) → IsErr r → Writes {T = T} (Err error) a b xs → Writes r a b xs
 writes_failed {T = T} {U = U} {error = error} {a = a} {b = b} {xs = xs} (Ok done) is first = let no : ⊥ = cc in absurd no
 writes_failed {T = T} {U = U} {error = error} {a = a} {b = b} {xs = xs} (Err other) is first = record { front = first.front; lost = first.lost; taken = first.taken; held = first.held; ends = first.ends }
 
@@ -95,7 +99,7 @@ module _ {X : Type 0} (t : X → List ℕ) (xs : List X) (i : ℕ) (d : X) (with
       ∙ ap (λ l. l ++ flat_map t (drop (i + 1) xs)) next_text
       ∙ append_assoc (flat_map t (take i xs)) (t (get_or xs i d)) (flat_map t (drop (i + 1) xs))
 
-  module _ {T E F : Type 0} {f : F → Bool} {g : E → Bool} {done : T} {a b c : Outgoing} where
+  module _ {S T E F : Type 0} {f : F → Bool} {g : E → Bool} {done : T} {a b c : Outgoing S} where
     -- a thing was written behind those before it
     pub puts_next : {U : Type 0} {r : Result U E} → Puts f (Ok done) a b (flat_map t (take i xs)) → Puts g r b c (t (get_or xs i d)) → Puts g r a c (flat_map t (take (i + 1) xs))
     puts_next {U = U} {r = r} first second = subst (Puts g r a c) (sym next_text) (puts_then first second)
@@ -108,7 +112,7 @@ module _ {X : Type 0} (t : X → List ℕ) (xs : List X) (i : ℕ) (d : X) (with
 -- ---- what was put straight to the sink
 
 -- where nothing is held behind that
-pub puts_straight : {T : Type 0} (r : Result T Failed) (a b : Outgoing) (text bytes : List ℕ) → a.held ++ text ≡ bytes → b.held ≡ []
+pub puts_straight : {S T : Type 0} (r : Result T Failed) (a b : Outgoing S) (text bytes : List ℕ) → a.held ++ text ≡ bytes → b.held ≡ []
     → OnOk r (Appends a.taken b.taken bytes) → OnErr r (AppendsPrefix a.taken b.taken bytes) → b.faults ≡ counted r a.faults → Writes r a b text
 puts_straight {T = T} (Ok done) a b text bytes whole none all part faults = record {
   front = bytes;
@@ -132,12 +136,12 @@ puts_straight {T = T} (Err error) a b text bytes whole none all part faults =
 -- ---- what the sink has in the end
 
 -- all, where nothing is held
-pub puts_all : {T E : Type 0} {f : E → Bool} {done : T} {a b : Outgoing} {xs : List ℕ} → Puts f (Ok done) a b xs → b.held ≡ [] → Appends a.taken b.taken (a.held ++ xs)
+pub puts_all : {S T E : Type 0} {f : E → Bool} {done : T} {a b : Outgoing S} {xs : List ℕ} → Puts f (Ok done) a b xs → b.held ≡ [] → Appends a.taken b.taken (a.held ++ xs)
 puts_all {T = T} {E = E} {f = f} {done = done} {a = a} {b = b} {xs = xs} puts none =
     let all : a.held ++ xs ≡ puts.front = puts.held ∙ ap (λ l. puts.front ++ l) (ap (λ l. l ++ puts.lost) none ∙ puts.ends.1) ∙ append-nil puts.front in
     subst (Appends a.taken b.taken) (sym all) puts.taken
 
-module _ {T E : Type 0} {f : E → Bool} {r : Result T E} {a b : Outgoing} {xs : List ℕ} (puts : Puts f r a b xs) where
+module _ {S T E : Type 0} {f : E → Bool} {r : Result T E} {a b : Outgoing S} {xs : List ℕ} (puts : Puts f r a b xs) where
   taken_front : Appends a.taken b.taken (take (length puts.front) (a.held ++ xs))
   taken_front =
       let front : take (length puts.front) (a.held ++ xs) ≡ puts.front = ap (take (length puts.front)) puts.held ∙ take-append_seam puts.front (b.held ++ puts.lost) in
@@ -148,7 +152,7 @@ module _ {T E : Type 0} {f : E → Bool} {r : Result T E} {a b : Outgoing} {xs :
   puts_front = (length puts.front, taken_front)
 
 -- not all, after a fault
-pub puts_part : {T E : Type 0} {f : E → Bool} {error : E} {a b : Outgoing} {xs : List ℕ} → f error ≡ true → Puts {T = T} f (Err error) a b xs → AppendsPrefix a.taken b.taken (a.held ++ xs)
+pub puts_part : {S T E : Type 0} {f : E → Bool} {error : E} {a b : Outgoing S} {xs : List ℕ} → f error ≡ true → Puts {T = T} f (Err error) a b xs → AppendsPrefix a.taken b.taken (a.held ++ xs)
 puts_part {T = T} {E = E} {f = f} {error = error} {a = a} {b = b} {xs = xs} fault puts =
     let stops : Stops true a b puts.lost = subst (λ is. Stops is a b puts.lost) fault puts.ends in
     let some : 0 < length puts.lost = stops.2 in

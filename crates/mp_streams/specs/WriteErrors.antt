@@ -10,5 +10,5 @@ is_fault WriteFailed = true
 is_fault OutOfMemory = false
 
 -- a call wrote this text: where memory was wanting, some of it, from the front, is with the sink or held
-abbrev pub Writes : {T : Type 0} → Result T WriteError → Outgoing → Outgoing → List ℕ → Type 0
+abbrev pub Writes : {S T : Type 0} → Result T WriteError → Outgoing S → Outgoing S → List ℕ → Type 0
 Writes result old new text = Puts is_fault result old new text

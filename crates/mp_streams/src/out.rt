@@ -30,9 +30,9 @@ impl<S: Sink> Model for Out<S> {
     ghost use Rattle.std.specs.Prelude.{◌≤◌, length, take};
     ghost use Rattle.mp_streams.specs.Outgoing.{Outgoing};
 
-    ghost Value = { Outgoing };
+    ghost Value = { Outgoing S };
 
-    ghost view = { λ out. record { taken = S.taken out.sink; held = take out.end out.room.items; faults = S.fault_count out.sink } };
+    ghost view = { λ out. record { sink = out.sink; taken = S.taken out.sink; held = take out.end out.room.items; faults = S.fault_count out.sink } };
 
     ghost invariant = { λ out. (out.end ≤ length out.room.items) × (72 ≤ length out.room.items) };
 }
@@ -42,6 +42,7 @@ impl<S: Sink> Out<S> {
     pub fn new(alloc: Global, sink: S) -> Result<Out<S>, AllocError>
     where
         S: Drop,
+        ensures sink { IfOk result (λ out. out.sink ≡ sink) }
         ensures taken { IfOk result (λ out. out.taken ≡ S.taken sink) }
         ensures empty { IfOk result (λ out. out.held ≡ []) }
         ensures faults { IfOk result (λ out. out.faults ≡ S.fault_count sink) }
@@ -52,6 +53,7 @@ impl<S: Sink> Out<S> {
 
     /// The sink. What is held before it is lost.
     pub fn into_sink(self) -> S
+        ensures sink { result ≡ self.sink }
         ensures taken { S.taken result ≡ self.taken }
         ensures faults { S.fault_count result ≡ self.faults }
     {

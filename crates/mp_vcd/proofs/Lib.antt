@@ -1,4 +1,3 @@
-pub mod LeftLemmas
 pub mod CodeLemmas
 pub mod StandingLemmas
 pub mod AgendaLemmas

@@ -31,3 +31,7 @@ IsReadBack = (n : Circuit) → IsCircuit n → SaysLevels n (reading (dump n))
 -- no two wires have one code
 abbrev pub HaveOwnCodes : Type 0
 HaveOwnCodes = (w v : ℕ) → code w ≡ code v → w ≡ v
+
+-- one digit up to number 93, two from there up to 8,835
+abbrev pub HaveKnownCodes : Type 0
+HaveKnownCodes = (code 93 ≡ codes "~") × (code 94 ≡ codes "!\"") × (code 8191 ≡ codes ".x")

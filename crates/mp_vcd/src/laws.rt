@@ -1,5 +1,5 @@
 //! What a dump says to a reader.
-ghost use Rattle.mp_vcd.specs.Laws.{IsReadBack, HaveOwnCodes};
+ghost use Rattle.mp_vcd.specs.Laws.{IsReadBack, HaveOwnCodes, HaveKnownCodes};
 
 /// The dump of a well-formed netlist, read strictly by the rules of IEEE Std 1364, declares a unit of 1 ns and each
 /// wire that stands as a variable of one scope, with the wire's name and width; it gives each at each time below the
@@ -11,4 +11,9 @@ pub fn dump_is_read()
 /// No two wires have the same identifier code.
 pub fn own_codes()
     ensures { HaveOwnCodes }
+{}
+
+/// Some identifier codes: that of wire 93 is `~`, that of 94 `!"`, and that of 8191 `.x`.
+pub fn known_codes()
+    ensures { HaveKnownCodes }
 {}

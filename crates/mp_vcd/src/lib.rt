@@ -8,8 +8,6 @@ pub mod laws;
 mod lines;
 mod parts;
 mod preamble;
-#[cfg(test)]
-mod tests;
 mod units;
 mod value_lines;
 mod wave_changes;

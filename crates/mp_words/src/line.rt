@@ -17,13 +17,6 @@ pub fn first_line(text: &[u8]) -> (&[u8], &[u8])
     ensures shorter { 0 < length text.now → length result.1.now < length text.now }
     ensures lines { 0 < length text.now → lines_of text.now ≡ result.0.now ∷ lines_of result.1.now }
 {
-    at_line_feed(text)
-}
-
-fn at_line_feed(text: &[u8]) -> (&[u8], &[u8])
-    ensures line { result.0.now ≡ before_first is_line_feed text.now }
-    ensures rest { result.1.now ≡ after_first is_line_feed text.now }
-{
     match place_of(b'\n', text) {
         Some(at) => (&text[..at], &text[at + 1..]),
         None => (text, &[]),

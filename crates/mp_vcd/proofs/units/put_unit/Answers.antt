@@ -1,22 +1,23 @@
-use Rattle.std.proofs.Common.{◌≡◌, ◌≢◌, ℕ, ◌+◌, ◌-◌, ◌<◌, ◌≤◌, None, List, length, map, slice_index, sym, ap, subst, ◌∙◌, rules, arith}
+use Rattle.std.proofs.Common.{◌≡◌, ◌≢◌, ℕ, ◌+◌, ◌-◌, ◌<◌, ◌≤◌, None, List, map, slice_index, sym, ap, subst, ◌∙◌, rules, arith}
+use Rattle.std.specs.Prelude.{vec_len}
 use Rattle.std.proofs.Math.ListN.{get_or-map}
 use Rattle.mp_streams.proofs.OutLemmas.{writes_failed}
 use Rattle.mp_netlist.specs.Circuit.{Circuit, wire_at, width_of}
 use Rattle.mp_vcd.specs.Values.{value_line}
 use Rattle.mp_vcd.specs.Dumps.{changed}
-use Rattle.mp_vcd.specs.declared.agenda.Entry.{Entry}
+use Rattle.mp_vcd.specs.declared.agenda.Agenda.{Agenda}
 use Rattle.mp_vcd.specs.Agendas.{IsChain, Tells, told_from, told_at}
-use Rattle.mp_vcd.proofs.LeftLemmas.{left_whole, left_as, left_then, left_failed, left_none}
+use Rattle.mp_streams.proofs.LeftLemmas.{left_whole, left_as, left_then, left_failed, left_none}
 use Rattle.mp_vcd.proofs.AgendaLemmas.{chain_within, chain_next, chain_over, marked_none, marked_some}
 use Rattle.mp_vcd.proofs.StandingLemmas.{narrow}
 use Rattle.mp_vcd.proofs.units.put_unit.Goals as goal
 
 -- the chain of a time
-chain_at : (n : Circuit) (firsts : List ℕ) (entries : List Entry) (from t place : ℕ) → from ≤ t → t < from + length firsts → Tells firsts entries (told_from from (told_at n))
-    → place ≡ slice_index firsts (t - from) → IsChain entries place (told_at n t)
-chain_at n firsts entries from t place low high told is =
-    let same : from + (t - from) ≡ t = omega (arith, low) in
-    subst (λ u. IsChain entries place (told_at n u)) same (rw is (told (t - from) (omega (arith, low, high))))
+chain_at : (n : Circuit) (agenda : Agenda) (t place : ℕ) → agenda.from ≤ t → t < agenda.from + vec_len agenda.firsts → Tells agenda.firsts.items agenda.entries.items (told_from agenda.from (told_at n))
+    → place ≡ slice_index agenda.firsts.items (t - agenda.from) → IsChain agenda.entries.items place (told_at n t)
+chain_at n agenda t place low high told is =
+    let same : agenda.from + (t - agenda.from) ≡ t = omega (arith, low) in
+    subst (λ u. IsChain agenda.entries.items place (told_at n u)) same (rw is (told (t - agenda.from) (omega (arith, low, high))))
 
 -- the width that is listed of a wire
 width_is : (n : Circuit) (widths : List ℕ) (w : ℕ) → widths ≡ map width_of n.wires → slice_index widths w ≡ width_of (wire_at n w)
@@ -26,18 +27,14 @@ pub returns-then-place-eq0 : goal.returns-then-place-eq0
 returns-then-place-eq0 g c =
     let n = c.args.netlist.now in
     let t = c.args.time in
-    let agenda = c.args.agenda.now in
-    let within : t < agenda.from + length agenda.firsts.items = omega (arith, c.requires.times) in
-    let chain = chain_at n agenda.firsts.items agenda.entries.items agenda.from t c.first-place.result c.requires.from within c.requires.told c.first-place.ensures in
+    let chain = chain_at n c.args.agenda.now t _ c.requires.from c.requires.times c.requires.told c.first-place.ensures in
     left_none (marked_none n t (changed n t) _ _ chain c.if-place-eq0.true) (left_whole _ _)
 
 pub returns-in_err-put_time_mark : goal.returns-in_err-put_time_mark
 returns-in_err-put_time_mark g c =
     let n = c.args.netlist.now in
     let t = c.args.time in
-    let agenda = c.args.agenda.now in
-    let within : t < agenda.from + length agenda.firsts.items = omega (arith, c.requires.times) in
-    let chain = chain_at n agenda.firsts.items agenda.entries.items agenda.from t c.first-place.result c.requires.from within c.requires.told c.first-place.ensures in
+    let chain = chain_at n c.args.agenda.now t _ c.requires.from c.requires.times c.requires.told c.first-place.ensures in
     let some : c.first-place.result ≢ 0 = search rules in
     let is = c.from_residual.ensures.0 in
     left_failed _ (left_as (marked_some n t (changed n t) _ _ chain some) (left_whole _ _)) _ is (writes_failed _ is c.in_err-put_time_mark.ensures)
@@ -46,9 +43,7 @@ pub loop-place-init : goal.loop-place-init
 loop-place-init g c =
     let n = c.args.netlist.now in
     let t = c.args.time in
-    let agenda = c.args.agenda.now in
-    let within : t < agenda.from + length agenda.firsts.items = omega (arith, c.requires.times) in
-    let chain = chain_at n agenda.firsts.items agenda.entries.items agenda.from t c.first-place.result c.requires.from within c.requires.told c.first-place.ensures in
+    let chain = chain_at n c.args.agenda.now t _ c.requires.from c.requires.times c.requires.told c.first-place.ensures in
     let some : c.first-place.result ≢ 0 = search rules in
     (told_at n t, chain, left_then (left_as (marked_some n t (changed n t) _ _ chain some) (left_whole _ _)) c.in_ok-put_time_mark.ensures)
 

@@ -1,9 +1,20 @@
-use Rattle.std.proofs.Common.{arith}
-use Rattle.mp_words.proofs.LineLemmas.{lines_of-cons, rest_falls}
+use Rattle.std.proofs.Common.{◌≡◌, ◌+◌, ◌-◌, [], length, take, drop, arith}
+use Rattle.std.proofs.lemmas.Grind.{common_steps}
+use Rattle.std.specs.List.{before_first, after_first}
+use Rattle.mp_words.specs.Lines.{is_line_feed}
+use Rattle.mp_words.proofs.LineLemmas.{lines_of-cons}
 use Rattle.mp_words.proofs.line.first_line.Goals as goal
 
-pub returns-clause-lines : goal.returns-clause-lines
-returns-clause-lines c some = rw (c.at_line_feed.ensures.line, c.at_line_feed.ensures.rest) (lines_of-cons c.args.text.now some)
+pub returns-in-Some-clause-lines : goal.returns-in-Some-clause-lines
+returns-in-Some-clause-lines c some =
+    let line : take c.in-Some.at c.args.text.now ≡ before_first is_line_feed c.args.text.now = grind (arith, common_steps) in
+    let rest : take (length c.args.text.now - (c.in-Some.at + 1)) (drop (c.in-Some.at + 1) c.args.text.now) ≡ after_first is_line_feed c.args.text.now = grind (arith, common_steps) in
+    let lines = lines_of-cons c.args.text.now some in
+    cc
 
-pub returns-clause-shorter : goal.returns-clause-shorter
-returns-clause-shorter c some = rw c.at_line_feed.ensures.rest (omega (arith, rest_falls c.args.text.now some))
+pub returns-in-None-clause-lines : goal.returns-in-None-clause-lines
+returns-in-None-clause-lines c some =
+    let line : c.args.text.now ≡ before_first is_line_feed c.args.text.now = grind (arith, common_steps) in
+    let rest : [] ≡ after_first is_line_feed c.args.text.now = grind (arith, common_steps) in
+    let lines = lines_of-cons c.args.text.now some in
+    cc
