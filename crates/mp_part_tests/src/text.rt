@@ -1,5 +1,5 @@
 use mp_netlist::{Driver, Edit, EditError, ModuleId, Netlist, SingleEdit, WireId};
-use mp_text::{Line, TextCode, TextError, read_line, read_netlist, write_netlist};
+use mp_text::{Line, LineError, TextCode, TextError, read_line, read_netlist, write_netlist};
 use std::alloc::Global;
 use std::process::Abort;
 use std::test::Fail;
@@ -15,12 +15,16 @@ fn bad_texts(rt: HostRuntime) {
         (
             b"horizon 20\nwire a 1 0\nwire y 1 0\nmodule b BUF : a >",
             4,
-            TextCode::WordCount,
+            TextCode::Line(LineError::WordCount),
         ),
-        (b"horizon 20\nwire \xc8 1 0", 2, TextCode::NotAscii),
+        (
+            b"horizon 20\nwire \xc8 1 0",
+            2,
+            TextCode::Line(LineError::NotAscii),
+        ),
         (b"wire a 1 0", 1, TextCode::NoHorizon),
         (b"", 0, TextCode::NoHorizon),
-        (b"horizon 0", 1, TextCode::BadNumber),
+        (b"horizon 0", 1, TextCode::Line(LineError::BadNumber)),
     ];
     for (text, line, code) in texts {
         assert_eq!(rt; fault_of(rt.alloc(), text), Some(TextError { line, code }));

@@ -16,16 +16,19 @@ use Rattle.mp_text.specs.declared.edit_word.EditWord.TheVariants.{Wire, Module, 
 use Rattle.mp_text.specs.declared.single_word.SingleWord.{SingleWord}
 use Rattle.mp_text.specs.declared.single_word.SingleWord.TheVariants.{Stated, Remove, Input, Output, InputDelay, Delay, Clear}
 use Rattle.mp_text.specs.declared.line_word.LineWord.{LineWord}
-use Rattle.mp_text.specs.declared.line_word.LineWord.TheVariants.{Single, Batch, Wave, Waves, Text, Report, Dump, Work}
+use Rattle.mp_text.specs.declared.line_word.LineWord.TheVariants.{Single, Batch, Question}
+use Rattle.mp_text.specs.declared.question_word.QuestionWord.{QuestionWord}
+use Rattle.mp_text.specs.declared.question_word.QuestionWord.TheVariants.{Wave, Waves, Text, Report, Dump, Work, Show, Why, Path, Waits, Measure, Graph}
 use Rattle.mp_text.specs.declared.script_line.Line.{Line}
 use Rattle.mp_text.specs.declared.script_line.Line.TheVariants.{Empty}
-use Rattle.mp_text.specs.declared.script_line.Question.{Question}
-use Rattle.mp_text.specs.declared.script_line.Question.TheVariants as questions
+use Rattle.mp_text.specs.declared.question.Question.{Question as Asked}
+use Rattle.mp_text.specs.declared.question.Question.TheVariants as questions
 use Rattle.mp_text.specs.Statements.{is_mark, wire_edit, module_edit, parts_edit, stimulus_edit, bundle_edit, stated_edit}
 use Rattle.mp_text.specs.SingleEdits.{single_edit, removal, input_edit, output_edit, input_delay_edit, delay_edit, clearing}
 use Rattle.mp_text.specs.Batches.{part_edit, each_part}
-use Rattle.mp_text.specs.ScriptLines.{line_word, stated_line, single_line, question_line, wave_question, bare_question, line_of, line_at}
-use Rattle.mp_text.specs.LineStarts.{statement_takes, single_takes, takes, is_taken, is_begun, HasForm}
+use Rattle.mp_text.specs.ScriptLines.{line_word, stated_line, single_line, question_line, line_of, line_at}
+use Rattle.mp_text.specs.Questions.{stated_question, wave_question, bare_question, show_question, why_question, path_question, waits_question, measure_question}
+use Rattle.mp_text.specs.LineStarts.{statement_takes, single_takes, question_takes, takes, is_taken, is_begun, HasForm}
 
 abbrev Words : Type 0
 Words = List (List ℕ)
@@ -110,22 +113,47 @@ single_refused InputDelay words wrong = not_three input_delay_edit refl (λ a. r
 single_refused Delay words wrong = not_three delay_edit refl (λ a. refl) (λ a b. refl) (λ a b c d ws. refl) words wrong
 single_refused Clear words wrong = not_one clearing refl (λ a b ws. refl) words wrong
 
-bare_refused : (question : Question) (words : Words) → (length words == 0) ≡ false → bare_question question words ≡ Err WordCount
+bare_refused : (question : Asked) (words : Words) → (length words == 0) ≡ false → bare_question question words ≡ Err WordCount
 bare_refused question [] wrong = absurd (true≢false wrong)
 bare_refused question (word ∷ words) wrong = refl
 
+-- `why` has two words behind it, or three
+not_chain : (words : Words) → (length words == 2 || length words == 3) ≡ false → why_question words ≡ Err WordCount
+unfolding why_question
+not_chain [] wrong = refl
+not_chain (a ∷ []) wrong = refl
+not_chain (a ∷ b ∷ []) wrong = absurd (true≢false wrong)
+not_chain (a ∷ b ∷ c ∷ []) wrong = absurd (true≢false wrong)
+not_chain (a ∷ b ∷ c ∷ d ∷ words) wrong = refl
+
+not_range : (words : Words) → nat_le 2 (length words) ≡ false → show_question words ≡ Err WordCount
+unfolding show_question
+not_range [] few = refl
+not_range (a ∷ []) few = refl
+not_range (a ∷ b ∷ words) few = absurd (omega (arith, leb-false 2 _ few))
+
+question_refused : (first : QuestionWord) (words : Words) → question_takes first (length words) ≡ false → stated_question first words ≡ Err WordCount
+unfolding stated_question wave_question path_question waits_question measure_question
+question_refused Wave words wrong = not_one wave_question refl (λ a b ws. refl) words wrong
+question_refused Waves words wrong = bare_refused questions.Waves words wrong
+question_refused Text words wrong = bare_refused questions.Text words wrong
+question_refused Report words wrong = bare_refused questions.Report words wrong
+question_refused Dump words wrong = bare_refused questions.Dump words wrong
+question_refused Work words wrong = bare_refused questions.Work words wrong
+question_refused Show words wrong = not_range words wrong
+question_refused Why words wrong = not_chain words wrong
+question_refused Path words wrong = not_two path_question refl (λ a. refl) (λ a b c ws. refl) words wrong
+question_refused Waits words wrong = not_one waits_question refl (λ a b ws. refl) words wrong
+question_refused Measure words wrong = not_two measure_question refl (λ a. refl) (λ a b c ws. refl) words wrong
+question_refused Graph words wrong = bare_refused questions.Graph words wrong
+
 -- a first word with another number of words behind it than it takes
 refused_by_count : (first : LineWord) (words : Words) → takes first (length words) ≡ false → stated_line first words ≡ Err WordCount
-unfolding stated_line wave_question each_part part_edit
+unfolding stated_line each_part part_edit
 refused_by_count (Single word) words wrong = ap single_line (single_refused word words wrong)
 refused_by_count Batch [] wrong = refl
 refused_by_count Batch (word ∷ words) wrong = absurd (omega (arith, leb-false 1 _ wrong))
-refused_by_count Wave words wrong = ap question_line (not_one wave_question refl (λ a b ws. refl) words wrong)
-refused_by_count Waves words wrong = ap question_line (bare_refused questions.Waves words wrong)
-refused_by_count Text words wrong = ap question_line (bare_refused questions.Text words wrong)
-refused_by_count Report words wrong = ap question_line (bare_refused questions.Report words wrong)
-refused_by_count Dump words wrong = ap question_line (bare_refused questions.Dump words wrong)
-refused_by_count Work words wrong = ap question_line (bare_refused questions.Work words wrong)
+refused_by_count (Question word) words wrong = ap question_line (question_refused word words wrong)
 
 -- a line that has a byte that is not allowed
 pub not_plain : (line : List ℕ) → list_all is_allowed line ≡ false → line_at line ≡ Err NotAscii

@@ -9,21 +9,20 @@ use Rattle.mp_records.specs.declared.edit_error.EditError.{EditError}
 use Rattle.mp_netlist.specs.Circuit.{Circuit, empty_circuit}
 use Rattle.mp_netlist.specs.Edits.{after_single, go_on}
 use Rattle.mp_netlist.specs.Replays.{replay, replay_singles}
-use Rattle.mp_words.specs.declared.line_error.LineError.TheVariants.{NotAscii}
-use Rattle.mp_text.specs.declared.text_code.TextCode.TheVariants.{BadNumber, Refused}
+use Rattle.mp_words.specs.declared.line_error.LineError.TheVariants.{NotAscii, BadNumber}
+use Rattle.mp_text.specs.declared.text_code.TextCode.TheVariants.{Line, Refused}
 use Rattle.mp_text.specs.declared.text_code.TextCode.{TextCode}
 use Rattle.mp_text.specs.declared.text_format.TextFormat.{TextFormat}
 use Rattle.mp_text.specs.declared.text_format.TextFormat.TheVariants.{First}
 use Rattle.mp_text.specs.declared.text_state.TextState.{TextState}
 use Rattle.mp_text.specs.declared.text_state.TextState.TheVariants.{Fresh, Formatted, Open}
 use Rattle.mp_text.specs.Formats.{format_of, max_horizon_of}
-use Rattle.mp_text.specs.LineErrors.{in_text}
 use Rattle.mp_words.specs.Reads.{◌>>=◌}
 use Rattle.mp_text.specs.declared.text_error.TextError.{TextError}
 use Rattle.mp_words.specs.Lines.{lines_of, is_allowed}
 use Rattle.mp_words.specs.Words.{words_of}
 use Rattle.mp_text.specs.Statements.{Statement, Blank, Unknown, Format, Start, Change, statement_of}
-use Rattle.mp_text.specs.Texts.{text_at, after_lines, after_line, after_statement, formatted, next_line}
+use Rattle.mp_text.specs.Texts.{in_text, text_at, after_lines, after_line, after_statement, formatted, next_line}
 use Rattle.mp_text.specs.Limits.{max_text}
 use Rattle.mp_text.specs.Laws.{horizon_of, edit_of, statements, IsReplayed, IsReplay}
 
@@ -68,7 +67,7 @@ Opens ss c = (h : ℕ) × ((filter_map horizon_of ss ≡ h ∷ []) × (replay_si
 
 module _ (k : ℕ) (c : Circuit) (ss : List Statement) (go : TextState → Result Circuit TextError)
     (formed : (format : TextFormat) → go (Formatted format) ≡ Ok c → Opens ss c) (next : (m : Circuit) → go (Open m) ≡ Ok c → LeadsOn ss m c) where
-  on_begun : (h : ℕ) (allowed : Bool) → next_line k go (cond allowed (Ok (Open (empty_circuit h))) (Err BadNumber)) ≡ Ok c → Opens (Start (Ok h) ∷ ss) c
+  on_begun : (h : ℕ) (allowed : Bool) → next_line k go (cond allowed (Ok (Open (empty_circuit h))) (Err (Line BadNumber))) ≡ Ok c → Opens (Start (Ok h) ∷ ss) c
   on_begun h true same = let rest = next (empty_circuit h) same in (h, (ap (λ hs. h ∷ hs) rest.0, rest.1))
   on_begun h false same = cc
 

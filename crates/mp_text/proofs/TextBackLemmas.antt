@@ -9,13 +9,12 @@ use Rattle.mp_netlist.specs.Circuit.{Circuit}
 use Rattle.mp_netlist.specs.Edits.{go_on, after_single}
 use Rattle.mp_netlist.specs.Replays.{replay_singles}
 use Rattle.mp_text.specs.declared.text_code.TextCode.TheVariants.{Refused}
-use Rattle.mp_text.specs.LineErrors.{in_text}
 use Rattle.mp_text.specs.declared.text_state.TextState.{TextState}
 use Rattle.mp_text.specs.declared.text_state.TextState.TheVariants.{Open}
 use Rattle.mp_words.specs.Lines.{lines_of}
 use Rattle.mp_words.specs.Reads.{◌>>=◌}
 use Rattle.mp_text.specs.Statements.{Change, statement_of}
-use Rattle.mp_text.specs.Texts.{after_statement, after_line, after_lines, next_line}
+use Rattle.mp_text.specs.Texts.{in_text, after_statement, after_line, after_lines, next_line}
 use Rattle.mp_text.specs.Written.{spaced, written_line}
 use Rattle.mp_words.proofs.PlainLemmas.{IsPlain}
 use Rattle.mp_text.proofs.WrittenLineLemmas.{lines_of-written, line_words-spaced}

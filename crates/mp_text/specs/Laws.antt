@@ -1,5 +1,5 @@
 -- What the netlist of a text is made of.
-use Rattle.std.specs.Prelude.{◌≡◌, ℕ, List, [], ◌∷◌, Option, Some, None, Ok, Err, map}
+use Rattle.std.specs.Prelude.{◌≡◌, ℕ, List, [], ◌∷◌, Option, Some, None, Ok, map}
 use Rattle.std.specs.List.{filter_map}
 use Rattle.mp_records.specs.declared.edit.Edit.TheVariants.{Single}
 use Rattle.mp_records.specs.declared.single_edit.SingleEdit.{SingleEdit}
@@ -7,24 +7,16 @@ use Rattle.mp_netlist.specs.Circuit.{Circuit, empty_circuit}
 use Rattle.mp_netlist.specs.Replays.{replay}
 use Rattle.mp_words.specs.Lines.{lines_of}
 use Rattle.mp_words.specs.Words.{words_of}
-use Rattle.mp_text.specs.Statements.{Statement, Blank, Unknown, Format, Start, Change, statement_of}
+use Rattle.mp_text.specs.Statements.{Statement, Start, Change, statement_of}
 use Rattle.mp_text.specs.Texts.{text_at}
 
 abbrev pub horizon_of : Statement → Option ℕ
-horizon_of Blank = None
-horizon_of Unknown = None
-horizon_of (Format number) = None
 horizon_of (Start (Ok horizon)) = Some horizon
-horizon_of (Start (Err code)) = None
-horizon_of (Change edit) = None
+horizon_of statement = None
 
 abbrev pub edit_of : Statement → Option SingleEdit
-edit_of Blank = None
-edit_of Unknown = None
-edit_of (Format number) = None
-edit_of (Start horizon) = None
 edit_of (Change (Ok edit)) = Some edit
-edit_of (Change (Err code)) = None
+edit_of statement = None
 
 -- the statement of each line
 abbrev pub statements : List (List ℕ) → List Statement

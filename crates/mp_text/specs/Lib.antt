@@ -1,11 +1,11 @@
 pub mod Limits
 pub mod Formats
 pub mod TextCodes
-pub mod LineErrors
 pub mod Statements
 pub mod Texts
 pub mod SingleEdits
 pub mod Batches
+pub mod Questions
 pub mod ScriptLines
 pub mod LineStarts
 pub mod Laws

@@ -12,3 +12,11 @@ max_first_horizon = 65536
 -- the longest horizon of a text of the second form
 abbrev pub max_second_horizon : ℕ
 max_second_horizon = 1048576
+
+-- how many steps of a chain may be asked for
+abbrev pub max_steps : ℕ
+max_steps = 1048576
+
+-- how many are given where a question names no number of them
+abbrev pub usual_steps : ℕ
+usual_steps = 20

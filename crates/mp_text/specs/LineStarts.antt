@@ -1,5 +1,5 @@
 -- How a script's line begins: what is looked at before memory is taken.
-use Rattle.std.specs.Prelude.{ℕ, Bool, false, ◌==◌, List, [], ◌∷◌, length, Option, None, Some, IsTrue, nat_le}
+use Rattle.std.specs.Prelude.{ℕ, Bool, false, ◌==◌, ◌||◌, List, [], ◌∷◌, length, Option, None, Some, IsTrue, nat_le}
 use Rattle.std.specs.List.{list_all}
 use Rattle.mp_words.specs.Lines.{is_allowed}
 use Rattle.mp_words.specs.Words.{words_of}
@@ -8,7 +8,9 @@ use Rattle.mp_text.specs.declared.edit_word.EditWord.TheVariants.{Wire, Module, 
 use Rattle.mp_text.specs.declared.single_word.SingleWord.{SingleWord}
 use Rattle.mp_text.specs.declared.single_word.SingleWord.TheVariants.{Stated, Remove, Input, Output, InputDelay, Delay, Clear}
 use Rattle.mp_text.specs.declared.line_word.LineWord.{LineWord}
-use Rattle.mp_text.specs.declared.line_word.LineWord.TheVariants.{Single, Batch, Wave, Waves, Text, Report, Dump, Work}
+use Rattle.mp_text.specs.declared.line_word.LineWord.TheVariants.{Single, Batch, Question}
+use Rattle.mp_text.specs.declared.question_word.QuestionWord.{QuestionWord}
+use Rattle.mp_text.specs.declared.question_word.QuestionWord.TheVariants.{Wave, Waves, Text, Report, Dump, Work, Show, Why, Path, Waits, Measure, Graph}
 use Rattle.mp_text.specs.ScriptLines.{line_word}
 
 -- whether so many words may stand behind the first word of a statement
@@ -28,16 +30,26 @@ single_takes InputDelay count = count == 3
 single_takes Delay count = count == 3
 single_takes Clear count = count == 1
 
+-- whether so many words may stand behind the first word of a question
+abbrev pub question_takes : QuestionWord → ℕ → Bool
+question_takes Wave count = count == 1
+question_takes Waves count = count == 0
+question_takes Text count = count == 0
+question_takes Report count = count == 0
+question_takes Dump count = count == 0
+question_takes Work count = count == 0
+question_takes Show count = nat_le 2 count
+question_takes Why count = count == 2 || count == 3
+question_takes Path count = count == 2
+question_takes Waits count = count == 1
+question_takes Measure count = count == 2
+question_takes Graph count = count == 0
+
 -- whether so many words may stand behind the first word of a line
 abbrev pub takes : LineWord → ℕ → Bool
 takes (Single word) count = single_takes word count
 takes Batch count = nat_le 1 count
-takes Wave count = count == 1
-takes Waves count = count == 0
-takes Text count = count == 0
-takes Report count = count == 0
-takes Dump count = count == 0
-takes Work count = count == 0
+takes (Question word) count = question_takes word count
 
 abbrev pub is_taken : Option LineWord → ℕ → Bool
 is_taken None count = false

@@ -3,19 +3,25 @@ use Rattle.std.specs.Prelude.{◌≡◌, ◌⊎◌, ℕ, ◌+◌, ◌≤◌, Lis
 use Rattle.std.specs.Result.{result_map_both}
 use Rattle.mp_netlist.specs.Circuit.{Circuit, empty_circuit}
 use Rattle.mp_netlist.specs.Edits.{after_single}
+use Rattle.mp_words.specs.declared.line_error.LineError.{LineError}
+use Rattle.mp_words.specs.declared.line_error.LineError.TheVariants.{UnknownStatement, BadNumber, OutOfMemory}
 use Rattle.mp_text.specs.declared.text_code.TextCode.{TextCode}
-use Rattle.mp_text.specs.declared.text_code.TextCode.TheVariants.{UnknownStatement, BadNumber, BadFormat, NoHorizon, SecondHorizon, Refused, TooLong, OutOfMemory}
+use Rattle.mp_text.specs.declared.text_code.TextCode.TheVariants.{Line, BadFormat, NoHorizon, SecondHorizon, Refused, TooLong}
 use Rattle.mp_text.specs.declared.text_error.TextError.{TextError}
 use Rattle.mp_text.specs.declared.text_format.TextFormat.{TextFormat}
 use Rattle.mp_text.specs.declared.text_format.TextFormat.TheVariants.{First}
 use Rattle.mp_text.specs.declared.text_state.TextState.{TextState}
 use Rattle.mp_text.specs.declared.text_state.TextState.TheVariants.{Fresh, Formatted, Open}
 use Rattle.mp_text.specs.Formats.{format_of, max_horizon_of}
-use Rattle.mp_text.specs.LineErrors.{in_text}
 use Rattle.mp_text.specs.Limits.{max_text}
 use Rattle.mp_words.specs.Lines.{lines_of, line_words}
 use Rattle.mp_text.specs.Statements.{Statement, Blank, Unknown, Format, Start, Change, statement_of}
 use Rattle.mp_words.specs.Reads.{◌>>=◌}
+
+-- what a line says, as a part of a text
+abbrev pub in_text : {A : Type 0} → Result A LineError → Result A TextCode
+in_text (Ok x) = Ok x
+in_text (Err error) = Err (Line error)
 
 -- a text of that form
 abbrev pub formatted : Result TextFormat TextCode → Result TextState TextCode
@@ -24,12 +30,12 @@ formatted (Err code) = Err code
 
 -- the empty netlist of a horizon that a text of this form may state
 abbrev pub begun : TextFormat → ℕ → Result TextState TextCode
-begun format h = if nat_le 1 h && nat_le h (max_horizon_of format) then Ok (Open (empty_circuit h)) else Err BadNumber
+begun format h = if nat_le 1 h && nat_le h (max_horizon_of format) then Ok (Open (empty_circuit h)) else Err (Line BadNumber)
 
 -- where a text is after a statement: its form, if it is stated, is the first, and its horizon comes before the edits
 unfoldable pub after_statement : TextState → Statement → Result TextState TextCode
 after_statement state Blank = Ok state
-after_statement state Unknown = Err UnknownStatement
+after_statement state Unknown = Err (Line UnknownStatement)
 after_statement Fresh (Format number) = do
   n ← in_text number
   formatted (format_of n)
@@ -76,7 +82,7 @@ text_at text = if nat_le (length text) max_text then after_lines 0 Fresh (lines_
 -- the whole text was read, or its first fault is told, or memory ran out at some line
 abbrev pub GivesText : {X : Type 0} → Result X TextError → Result X TextError → Type 0
 GivesText (Ok x) read = read ≡ Ok x
-GivesText (Err error) read = (error.code ≡ OutOfMemory) ⊎ (read ≡ Err error)
+GivesText (Err error) read = (error.code ≡ Line OutOfMemory) ⊎ (read ≡ Err error)
 
 -- the line at which the reading of a text ends: the first that fails, or the last
 abbrev pub last_line : List ℕ → Result Circuit TextError → ℕ
@@ -85,4 +91,4 @@ last_line text (Err error) = error.line
 
 -- want of memory is told of a line that was reached
 abbrev pub IsReached : List ℕ → TextError → Type 0
-IsReached text error = error.code ≡ OutOfMemory → (1 ≤ error.line) × (error.line ≤ last_line text (text_at text))
+IsReached text error = error.code ≡ Line OutOfMemory → (1 ≤ error.line) × (error.line ≤ last_line text (text_at text))

@@ -1,6 +1,5 @@
-//! What the netlist of a text is made of, and how faults are numbered.
+//! What the netlist of a text is made of.
 ghost use Rattle.mp_text.specs.Laws.{IsReplay};
-ghost use Rattle.mp_text.specs.LineErrors.{HaveSameNames};
 ghost use Rattle.mp_text.specs.RoundTrips.{IsReadAsWritten};
 
 /// A text that is read states one horizon, and its netlist is the replay of its other statements'
@@ -14,9 +13,4 @@ pub fn text_is_replay()
 /// and bundles with the names of their wires, all in the same order, if perhaps under other numbers.
 pub fn written_text_is_read()
     ensures { IsReadAsWritten }
-{}
-
-/// What is wrong with a line has the number and the name of the text's fault that it becomes.
-pub fn faults_have_same_names()
-    ensures { HaveSameNames }
 {}

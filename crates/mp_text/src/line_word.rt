@@ -1,4 +1,5 @@
 //! First words of script lines.
+use crate::question_word::QuestionWord;
 use crate::single_word::SingleWord;
 
 /// The first word of a script's line.
@@ -8,18 +9,8 @@ pub enum LineWord {
     Single(SingleWord),
     /// `batch`
     Batch,
-    /// `wave`
-    Wave,
-    /// `waves`
-    Waves,
-    /// `text`
-    Text,
-    /// `report`
-    Report,
-    /// `dump`
-    Dump,
-    /// `work`
-    Work,
+    /// That of a question.
+    Question(QuestionWord),
 }
 
 impl LineWord {
@@ -33,18 +24,8 @@ impl LineWord {
     {
         if word == b"batch".as_slice() {
             Some(LineWord::Batch)
-        } else if word == b"wave".as_slice() {
-            Some(LineWord::Wave)
-        } else if word == b"waves".as_slice() {
-            Some(LineWord::Waves)
-        } else if word == b"text".as_slice() {
-            Some(LineWord::Text)
-        } else if word == b"report".as_slice() {
-            Some(LineWord::Report)
-        } else if word == b"dump".as_slice() {
-            Some(LineWord::Dump)
-        } else if word == b"work".as_slice() {
-            Some(LineWord::Work)
+        } else if let Some(question) = QuestionWord::from_word(word) {
+            Some(LineWord::Question(question))
         } else {
             Some(LineWord::Single(SingleWord::from_word(word)?))
         }
@@ -57,9 +38,7 @@ impl LineWord {
         match self {
             LineWord::Single(word) => word.takes(count),
             LineWord::Batch => count >= 1,
-            LineWord::Wave => count == 1,
-            LineWord::Waves | LineWord::Text | LineWord::Report | LineWord::Dump | LineWord::Work =>
-                count == 0,
+            LineWord::Question(word) => word.takes(count),
         }
     }
 }

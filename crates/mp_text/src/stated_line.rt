@@ -4,14 +4,15 @@ ghost use Rattle.mp_words.specs.declared.line_error.LineError.TheVariants.{OutOf
 ghost use Rattle.mp_words.specs.Reads.{Gives};
 ghost use Rattle.mp_words.specs.Words.{texts, AreAscii};
 ghost use Rattle.mp_text.specs.LineStarts.{HasForm};
-ghost use Rattle.mp_text.specs.ScriptLines.{line_at, stated_line, wave_question, bare_question};
+ghost use Rattle.mp_text.specs.ScriptLines.{line_at, stated_line};
 
 use crate::batch_line::batch;
 use crate::line_word::LineWord;
 use crate::script_edit::single_edit;
-use crate::script_line::{Line, Question};
+use crate::script_line::Line;
+use crate::stated_question::stated_question;
 use mp_netlist::Edit;
-use mp_words::{LineError, first_word, is_plain, name_of, word_count, words};
+use mp_words::{LineError, first_word, is_plain, word_count, words};
 use std::alloc::Global;
 
 /// What a line of a script says, which is given without its line feed: an edit, as in a netlist's
@@ -54,33 +55,6 @@ fn stated_line(alloc: Global, first: LineWord, words: &[&[u8]]) -> Result<Line, 
     match first {
         LineWord::Single(word) => Ok(Line::Change(Edit::Single(single_edit(alloc, word, words)?))),
         LineWord::Batch => Ok(Line::Change(Edit::Batch(batch(alloc, words)?))),
-        LineWord::Wave => Ok(Line::Ask(wave_question(alloc, words)?)),
-        LineWord::Waves => Ok(Line::Ask(bare_question(Question::Waves, words)?)),
-        LineWord::Text => Ok(Line::Ask(bare_question(Question::Text, words)?)),
-        LineWord::Report => Ok(Line::Ask(bare_question(Question::Report, words)?)),
-        LineWord::Dump => Ok(Line::Ask(bare_question(Question::Dump, words)?)),
-        LineWord::Work => Ok(Line::Ask(bare_question(Question::Work, words)?)),
+        LineWord::Question(word) => Ok(Line::Ask(stated_question(alloc, word, words)?)),
     }
-}
-
-/// The question of the words behind `wave`.
-#[tactic(auto, unfolding(crate::specs::ScriptLines::wave_question))]
-fn wave_question(alloc: Global, words: &[&[u8]]) -> Result<Question, LineError>
-    requires { AreAscii words.now }
-    ensures { Gives OutOfMemory (λ question. question) result (wave_question (texts words.now)) }
-{
-    let [wire] = words else {
-        return Err(LineError::WordCount);
-    };
-    Ok(Question::Wave(name_of(alloc, wire)?))
-}
-
-/// A question of one word, behind which there is none.
-fn bare_question(question: Question, words: &[&[u8]]) -> Result<Question, LineError>
-    ensures { result ≡ bare_question question (texts words.now) }
-{
-    if !words.is_empty() {
-        return Err(LineError::WordCount);
-    }
-    Ok(question)
 }

@@ -1,7 +1,8 @@
 //! What a line makes of a netlist.
 ghost use Rattle.std.specs.Prelude.{◌≡◌};
 ghost use Rattle.std.specs.Result.{result_map_both};
-ghost use Rattle.mp_text.specs.declared.text_code.TextCode.TheVariants.{OutOfMemory, Refused};
+ghost use Rattle.mp_words.specs.declared.line_error.LineError.TheVariants.{OutOfMemory};
+ghost use Rattle.mp_text.specs.declared.text_code.TextCode.TheVariants.{Line, Refused};
 ghost use Rattle.mp_netlist.specs.Limits.{max_horizon};
 ghost use Rattle.mp_netlist.specs.Edits.{after_single};
 ghost use Rattle.mp_text.specs.declared.text_state.TextState.TheVariants.{Open};
@@ -23,7 +24,7 @@ use std::alloc::Global;
 /// place where a fault is told.
 #[tactic(auto, unfolding(crate::specs::Texts::after_line))]
 pub fn line(alloc: Global, state: &mut TextState, line: &[u8]) -> Result<(), TextCode>
-    ensures { Gives OutOfMemory (λ _. state.new) result (after_line state.old line.now) }
+    ensures { Gives (Line OutOfMemory) (λ _. state.new) result (after_line state.old line.now) }
 {
     let words = line_words(alloc, line)?;
     statement(alloc, state, words.as_slice())
@@ -33,7 +34,7 @@ pub fn line(alloc: Global, state: &mut TextState, line: &[u8]) -> Result<(), Tex
 #[tactic(auto, unfolding(crate::specs::Statements::statement_of, crate::specs::Texts::after_statement))]
 fn statement(alloc: Global, state: &mut TextState, words: &[&[u8]]) -> Result<(), TextCode>
     requires { AreAscii words.now }
-    ensures { Gives OutOfMemory (λ _. state.new) result (after_statement state.old (statement_of (texts words.now))) }
+    ensures { Gives (Line OutOfMemory) (λ _. state.new) result (after_statement state.old (statement_of (texts words.now))) }
 {
     let [word, others @ ..] = words else {
         return Ok(());
@@ -47,14 +48,14 @@ fn statement(alloc: Global, state: &mut TextState, words: &[&[u8]]) -> Result<()
     }
     match EditWord::from_word(word) {
         Some(first) => change(alloc, state, first, others),
-        None => Err(TextCode::UnknownStatement),
+        None => Err(TextCode::Line(LineError::UnknownStatement)),
     }
 }
 
 /// Takes the form that the words state, on the first line with words.
 #[tactic(auto, unfolding(crate::specs::Texts::after_statement))]
 fn format(state: &mut TextState, words: &[&[u8]]) -> Result<(), TextCode>
-    ensures { Gives OutOfMemory (λ _. state.new) result (after_statement state.old (Format (stated_number (texts words.now)))) }
+    ensures { Gives (Line OutOfMemory) (λ _. state.new) result (after_statement state.old (Format (stated_number (texts words.now)))) }
 {
     if !matches!(state, TextState::Fresh) {
         return Err(TextCode::BadFormat);
@@ -67,7 +68,7 @@ fn format(state: &mut TextState, words: &[&[u8]]) -> Result<(), TextCode>
 /// Begins the netlist with the horizon that the words state.
 #[tactic(auto, unfolding(crate::specs::Texts::after_statement))]
 fn start(alloc: Global, state: &mut TextState, words: &[&[u8]]) -> Result<(), TextCode>
-    ensures { Gives OutOfMemory (λ _. state.new) result (after_statement state.old (Start (stated_number (texts words.now)))) }
+    ensures { Gives (Line OutOfMemory) (λ _. state.new) result (after_statement state.old (Start (stated_number (texts words.now)))) }
 {
     let format = match state {
         TextState::Fresh => TextFormat::First,
@@ -81,15 +82,15 @@ fn start(alloc: Global, state: &mut TextState, words: &[&[u8]]) -> Result<(), Te
 
 /// The empty netlist of a horizon that a text of this form may state.
 fn empty_netlist(alloc: Global, format: TextFormat, horizon: u64) -> Result<Netlist, TextCode>
-    ensures { Gives OutOfMemory (λ netlist. Open netlist) result (begun format horizon) }
+    ensures { Gives (Line OutOfMemory) (λ netlist. Open netlist) result (begun format horizon) }
 {
     if horizon < 1 || horizon > format.max_horizon() {
-        return Err(TextCode::BadNumber);
+        return Err(TextCode::Line(LineError::BadNumber));
     }
     match Netlist::empty(alloc, horizon) {
         Ok(netlist) => Ok(netlist),
-        Err(NewError::BadHorizon) => Err(TextCode::BadNumber),
-        Err(NewError::OutOfMemory) => Err(TextCode::OutOfMemory),
+        Err(NewError::BadHorizon) => Err(TextCode::Line(LineError::BadNumber)),
+        Err(NewError::OutOfMemory) => Err(TextCode::Line(LineError::OutOfMemory)),
     }
 }
 
@@ -112,7 +113,7 @@ fn change(
     words: &[&[u8]],
 ) -> Result<(), TextCode>
     requires { AreAscii words.now }
-    ensures { Gives OutOfMemory (λ _. state.new) result (after_statement state.old (Change (stated_edit first (texts words.now)))) }
+    ensures { Gives (Line OutOfMemory) (λ _. state.new) result (after_statement state.old (Change (stated_edit first (texts words.now)))) }
 {
     match state {
         TextState::Open(netlist) => make_edit(alloc, netlist, first, words),
@@ -129,18 +130,18 @@ fn make_edit(
     words: &[&[u8]],
 ) -> Result<(), TextCode>
     requires { AreAscii words.now }
-    ensures { Gives OutOfMemory (λ _. Open netlist.new) result (after_statement (Open netlist.old) (Change (stated_edit first (texts words.now)))) }
+    ensures { Gives (Line OutOfMemory) (λ _. Open netlist.new) result (after_statement (Open netlist.old) (Change (stated_edit first (texts words.now)))) }
 {
     let edit = stated_edit(alloc, first, words)?;
     apply(netlist, edit)
 }
 
 fn apply(netlist: &mut Netlist, edit: SingleEdit) -> Result<(), TextCode>
-    ensures { Gives OutOfMemory (λ _. Open netlist.new) result (result_map_both Open Refused (after_single netlist.old edit)) }
+    ensures { Gives (Line OutOfMemory) (λ _. Open netlist.new) result (result_map_both Open Refused (after_single netlist.old edit)) }
 {
     match netlist.apply(&Edit::Single(edit)) {
         Ok(()) => Ok(()),
-        Err(EditError::OutOfMemory) => Err(TextCode::OutOfMemory),
+        Err(EditError::OutOfMemory) => Err(TextCode::Line(LineError::OutOfMemory)),
         Err(error) => Err(TextCode::Refused(error)),
     }
 }

@@ -1,0 +1,106 @@
+-- What a script asks for.
+use Rattle.std.specs.Prelude.{ℕ, Bool, ◌&&◌, List, [], ◌∷◌, Option, Some, None, Result, Ok, Err, nat_le, if◌then◌else◌, codes}
+use Rattle.std.specs.Str.{bytes_eq}
+use Rattle.mp_words.specs.declared.line_error.LineError.{LineError}
+use Rattle.mp_words.specs.declared.line_error.LineError.TheVariants.{WordCount, BadNumber}
+use Rattle.mp_words.specs.Reads.{◌>>=◌}
+use Rattle.mp_words.specs.WordLists.{number_word}
+use Rattle.mp_text.specs.declared.question.Question.{Question}
+use Rattle.mp_text.specs.declared.question.Question.TheVariants as questions
+use Rattle.mp_text.specs.declared.question_word.QuestionWord.{QuestionWord}
+use Rattle.mp_text.specs.declared.question_word.QuestionWord.TheVariants.{Wave, Waves, Text, Report, Dump, Work, Show, Why, Path, Waits, Measure, Graph}
+use Rattle.mp_text.specs.Limits.{max_steps, usual_steps}
+
+-- the question of the words behind `wave`
+unfoldable pub wave_question : List (List ℕ) → Result Question LineError
+wave_question (wire ∷ []) = Ok (questions.Wave wire)
+wave_question _ = Err WordCount
+
+-- a question of one word, behind which there is none
+abbrev pub bare_question : Question → List (List ℕ) → Result Question LineError
+bare_question question [] = Ok question
+bare_question question (word ∷ words) = Err WordCount
+
+-- the question of the words behind `show`
+unfoldable pub show_question : List (List ℕ) → Result Question LineError
+show_question (from ∷ to ∷ wires) = do
+  f ← number_word from
+  t ← number_word to
+  Ok (questions.Show f t wires)
+show_question _ = Err WordCount
+
+-- so many steps, of which there may be 1 to 1,048,576
+abbrev pub chain_steps : ℕ → Result ℕ LineError
+chain_steps steps = if nat_le 1 steps && nat_le steps max_steps then Ok steps else Err BadNumber
+
+unfoldable pub steps_word : List ℕ → Result ℕ LineError
+steps_word word = do
+  steps ← number_word word
+  chain_steps steps
+
+-- a wire, a time and a number of steps
+unfoldable pub chain_question : List ℕ → List ℕ → Result ℕ LineError → Result Question LineError
+chain_question wire time steps = do
+  t ← number_word time
+  k ← steps
+  Ok (questions.Why wire t k)
+
+-- the question of the words behind `why`
+unfoldable pub why_question : List (List ℕ) → Result Question LineError
+why_question (wire ∷ time ∷ []) = chain_question wire time (Ok usual_steps)
+why_question (wire ∷ time ∷ steps ∷ []) = chain_question wire time (steps_word steps)
+why_question _ = Err WordCount
+
+-- the question of the words behind `path`
+unfoldable pub path_question : List (List ℕ) → Result Question LineError
+path_question (wire ∷ time ∷ []) = do
+  t ← number_word time
+  Ok (questions.Path wire t)
+path_question _ = Err WordCount
+
+-- the question of the words behind `waits`
+unfoldable pub waits_question : List (List ℕ) → Result Question LineError
+waits_question (time ∷ []) = do
+  t ← number_word time
+  Ok (questions.Waits t)
+waits_question _ = Err WordCount
+
+-- the question of the words behind `measure`
+unfoldable pub measure_question : List (List ℕ) → Result Question LineError
+measure_question (from ∷ to ∷ []) = do
+  f ← number_word from
+  t ← number_word to
+  Ok (questions.Measure f t)
+measure_question _ = Err WordCount
+
+-- the first word of a question
+abbrev pub question_word : List ℕ → Option QuestionWord
+question_word word =
+    if bytes_eq word (codes "wave") then Some Wave
+    else (if bytes_eq word (codes "waves") then Some Waves
+    else (if bytes_eq word (codes "text") then Some Text
+    else (if bytes_eq word (codes "report") then Some Report
+    else (if bytes_eq word (codes "dump") then Some Dump
+    else (if bytes_eq word (codes "work") then Some Work
+    else (if bytes_eq word (codes "show") then Some Show
+    else (if bytes_eq word (codes "why") then Some Why
+    else (if bytes_eq word (codes "path") then Some Path
+    else (if bytes_eq word (codes "waits") then Some Waits
+    else (if bytes_eq word (codes "measure") then Some Measure
+    else (if bytes_eq word (codes "graph") then Some Graph
+    else None)))))))))))
+
+-- the question of that word and the words behind it
+unfoldable pub stated_question : QuestionWord → List (List ℕ) → Result Question LineError
+stated_question Wave words = wave_question words
+stated_question Waves words = bare_question questions.Waves words
+stated_question Text words = bare_question questions.Text words
+stated_question Report words = bare_question questions.Report words
+stated_question Dump words = bare_question questions.Dump words
+stated_question Work words = bare_question questions.Work words
+stated_question Show words = show_question words
+stated_question Why words = why_question words
+stated_question Path words = path_question words
+stated_question Waits words = waits_question words
+stated_question Measure words = measure_question words
+stated_question Graph words = bare_question questions.Graph words

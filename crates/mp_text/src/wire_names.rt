@@ -1,0 +1,46 @@
+//! The names of wires.
+ghost use Rattle.std.specs.Prelude.{◌≡◌};
+
+use mp_netlist::Name;
+use std::alloc::AllocError;
+use std::marker::Model;
+
+/// Some names of wires, in order.
+#[derive(Drop)]
+pub struct WireNames {
+    names: Vec<Name>,
+}
+
+impl Model for WireNames {
+    ghost use Rattle.std.specs.Prelude.{List, ℕ};
+
+    ghost Value = { List (List ℕ) };
+
+    ghost view = { λ wires. wires.names.items };
+}
+
+impl Clone for WireNames {
+    ghost is_clone = { λ old new. new ≡ old };
+
+    fn clone(&self) -> Result<Self, AllocError> {
+        Ok(WireNames {
+            names: Vec::from_clones(*self.names.allocator(), self.names.as_slice())?,
+        })
+    }
+}
+
+impl WireNames {
+    /// These names.
+    pub fn new(names: Vec<Name>) -> Self
+        ensures { result ≡ names.items }
+    {
+        WireNames { names }
+    }
+
+    /// The names, in order.
+    pub fn as_slice(&self) -> &[Name]
+        ensures { result.now ≡ self.now }
+    {
+        self.names.as_slice()
+    }
+}
