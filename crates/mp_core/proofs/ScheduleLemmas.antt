@@ -111,7 +111,7 @@ own_entry : (r : ModuleRecord) (j k w : ℕ) (t : Bool) → (output_at r j).wire
 own_entry r j k w t is =
     ap (λ (o : Option WireId). count_by (is_entry k w) (cond t (entry_at (option_map number_of o) (delay_of r j)) [])) is ∙ counted_own k w (delay_of r j) t
 
-not_led : (r : ModuleRecord) (T : Toggles) (k w : ℕ) → ((j : ℕ) → (output_at r j).wire ≢ Some (record { 0 = w })) → count_by (is_entry k w) (fired_at (output_ports_of r) T) ≡ 0
+pub not_led : (r : ModuleRecord) (T : Toggles) (k w : ℕ) → ((j : ℕ) → (output_at r j).wire ≢ Some (record { 0 = w })) → count_by (is_entry k w) (fired_at (output_ports_of r) T) ≡ 0
 not_led r T k w others =
     let sum = counted_fired k w (output_ports_of r) T in
     let a = no_entry r 0 k w T.first (others 0) in
@@ -119,12 +119,12 @@ not_led r T k w others =
     let c = no_entry r 2 k w T.third (others 2) in
     omega arith
 
-abbrev port_toggle : Toggles → ℕ → Bool
+abbrev pub port_toggle : Toggles → ℕ → Bool
 port_toggle T zero = T.first
 port_toggle T (suc zero) = T.second
 port_toggle T (suc (suc p)) = T.third
 
-own_led : (p : ℕ) → p < 3 → (r : ModuleRecord) (T : Toggles) (k w : ℕ) → (output_at r p).wire ≡ Some (record { 0 = w }) →
+pub own_led : (p : ℕ) → p < 3 → (r : ModuleRecord) (T : Toggles) (k w : ℕ) → (output_at r p).wire ≡ Some (record { 0 = w }) →
     ((j : ℕ) → j ≢ p → (output_at r j).wire ≢ Some (record { 0 = w })) →
     count_by (is_entry k w) (fired_at (output_ports_of r) T) ≡ bit (port_toggle T p && (delay_of r p - 1 == k))
 own_led zero low r T k w is others =
@@ -164,7 +164,7 @@ nothing_fired k w ports T none = ap (λ (u : Toggles). count_by (is_entry k w) (
 none_is_some : {w : WireId} → None ≡ Some w → ⊥
 none_is_some e = cc
 
-same_part : (n : Circuit) (m : ℕ) (r s : ModuleRecord) → module_at n m ≡ Some r → module_at n m ≡ Some s → r ≡ s
+pub same_part : (n : Circuit) (m : ℕ) (r s : ModuleRecord) → module_at n m ≡ Some r → module_at n m ≡ Some s → r ≡ s
 same_part n m r s one other = inside (sym one ∙ other)
 
 few_when : (r : ModuleRecord) (p w : ℕ) (low : Bool) → nat_lt p 3 ≡ low → output_count r.kind ≤ 3 → length r.outputs ≡ output_count r.kind →

@@ -12,7 +12,7 @@ pub struct Simulation {
 }
 
 impl Simulation {
-    ghost use Rattle.std.specs.Prelude.{◌≡◌, ℕ, ◌+◌, Option, OnOk};
+    ghost use Rattle.std.specs.Prelude.{◌≡◌, ℕ, ◌+◌, Option, OnOk, length};
     ghost use Rattle.mp_netlist.specs.Circuit.{Circuit, IsCircuit};
     ghost use Rattle.mp_core.specs.Scopes.{Scope, with_answers};
     ghost use Rattle.mp_core.specs.Simulators.{CanApply};
@@ -26,6 +26,7 @@ impl Simulation {
         ensures sound { OnOk result (IsSoundRun self.new) }
         ensures passed { OnOk result ((n : Circuit) (scope : Scope) (before : ℕ → Option ℕ) (t : ℕ) → IsCircuit n → time ≡ t + 1 → IsWhole n scope before t →
             AreSet n scope set.now (t + 1) → IsRunning n scope before t self.old → IsRunning n (with_answers scope (t + 2)) before (t + 1) self.new) }
+        ensures waves { OnOk result (length self.new.simulator.waves.items ≡ length self.old.simulator.waves.items) }
     {
         let late = self.copies.take_slot();
         self.simulator.apply_events(set, late.as_slice(), time)?;

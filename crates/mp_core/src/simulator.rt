@@ -26,7 +26,7 @@ pub struct Simulator {
 }
 
 impl Simulator {
-    ghost use Rattle.std.specs.Prelude.{◌≡◌, ℕ, ◌+◌, ◌++◌, OnOk};
+    ghost use Rattle.std.specs.Prelude.{◌≡◌, ℕ, ◌+◌, ◌++◌, OnOk, length};
     ghost use Rattle.mp_netlist.specs.Circuit.{Circuit, IsCircuit};
     ghost use Rattle.mp_core.specs.Scopes.{Scope, with_answers};
     ghost use Rattle.mp_core.specs.Simulators.{next_slot, IsSound, CanApply};
@@ -42,6 +42,7 @@ impl Simulator {
             AreDue n scope t (next_slot self.old ++ set.now) others.now → IsDuring n scope t self.new) }
         ensures same { OnOk result (self.new.fanout ≡ self.old.fanout) }
         ensures present { OnOk result (self.new.present ≡ next_slot self.old ++ set.now) }
+        ensures waves { OnOk result (length self.new.waves.items ≡ length self.old.waves.items) }
     {
         let mut slot = self.wheel.take_slot();
         slot.extend_from_slice(set)?;
@@ -66,6 +67,7 @@ impl Simulator {
         ensures fired { OnOk result ((n : Circuit) (scope : Scope) (t : ℕ) → IsCircuit n → IsDuring n scope t self.old →
             IsBefore n (with_answers scope (t + 2)) (t + 1) self.new) }
         ensures same { OnOk result (self.new.fanout ≡ self.old.fanout) }
+        ensures waves { OnOk result (self.new.waves.items ≡ self.old.waves.items) }
     {
         fire_modules(
             &self.table,

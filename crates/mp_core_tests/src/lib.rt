@@ -1,7 +1,9 @@
-//! Tests of automata and of events of wires of width 1, by what their crates export.
+//! Tests of automata, of events of wires of width 1 and of whole runs, by what their crates export.
 #![tactic(auto)]
 
 #[cfg(test)]
 mod automata;
 #[cfg(test)]
 mod events;
+#[cfg(test)]
+mod runs;

@@ -13,7 +13,11 @@ use std::alloc::AllocError;
 
 /// Where an output toggles, its wire does so after the delay.
 #[inline(always)]
-fn schedule_if(toggles: bool, port: OutputPort, wheel: &mut EventWheel) -> Result<(), AllocError>
+pub fn schedule_if(
+    toggles: bool,
+    port: OutputPort,
+    wheel: &mut EventWheel,
+) -> Result<(), AllocError>
     requires { HasSlot (length wheel.old) port }
     ensures scheduled { OnOk result (wheel.new ≡ scheduled wheel.old (entry_if toggles port)) }
     ensures places { OnOk result (length wheel.new ≡ length wheel.old) }

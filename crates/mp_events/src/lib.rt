@@ -20,7 +20,7 @@ pub use event_wheel::EventWheel;
 pub use fanout::Fanout;
 pub use fanout_entry::FanoutEntry;
 pub use fanout_row::FanoutRow;
-pub use firing::{fire_modules, schedule_copies};
+pub use firing::{fire_modules, schedule_copies, schedule_if};
 pub use output_port::OutputPort;
 pub use output_ports::OutputPorts;
 pub use toggle_wave::ToggleWave;

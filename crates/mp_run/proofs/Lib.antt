@@ -1,0 +1,7 @@
+mod NarrowLemmas
+mod StimulusLemmas
+mod NumberLemmas
+mod WiringLemmas
+mod SettlingLemmas
+mod BeginningLemmas
+mod RunLemmas

@@ -1,0 +1,25 @@
+use Rattle.std.proofs.Common.{◌≡◌, ◌+◌, ◌≤◌, ◌∷◌, [], List, length, take, slice_index_or, sym, subst, arith}
+use Rattle.std.proofs.lemmas.List.{take_more, length-take-le}
+use Rattle.std.proofs.lemmas.List.Elements.{All-take, All-weaker}
+use Rattle.mp_records.specs.Inputs.{no_input}
+use Rattle.mp_records.specs.declared.ports.Input.{Input}
+use Rattle.mp_run.specs.Wirings.{AddsInputs, CanRead}
+use Rattle.mp_run.proofs.WiringLemmas.{adds_more}
+use Rattle.mp_run.proofs.wiring.Wiring.add_module.Goals as goal
+
+pub add_input-requires-clause-links : goal.add_input-requires-clause-links
+add_input-requires-clause-links c =
+    c.loop-port.invariant.links 65535
+    (All-take (λ (i : Input). i.delay ≤ 65535) c.loop-port.port c.args.inputs.now
+    (All-weaker (CanRead (length c.args.self.now.next.items)) (λ (i : Input). i.delay ≤ 65535) (λ i can. let low = can.delay in omega arith) c.args.inputs.now c.requires.inputs)) c.requires.links
+
+pub loop-port-preserved : goal.loop-port-preserved
+loop-port-preserved c =
+    let inputs = c.args.inputs.now in
+    let port = c.loop-port.port in
+    let size : length (take port inputs) ≡ port = length-take-le port inputs (omega arith) in
+    let same : 0 + length (take port inputs) ≡ port = omega arith in
+    let one = c.in_ok-add_input.ensures port c.event_bit.ensures in
+    subst (λ (xs : List Input). AddsInputs c.args.self.now c.add_input.new.self c.args.place 0 xs) (sym (take_more inputs port no_input (omega arith)))
+    (adds_more c.args.self.now c.loop-port.self c.add_input.new.self c.args.place 0 (take port inputs) (slice_index_or inputs port no_input ∷ []) c.loop-port.invariant
+    (subst (λ k. AddsInputs c.loop-port.self c.add_input.new.self c.args.place k (slice_index_or inputs port no_input ∷ [])) (sym same) one))

@@ -1,0 +1,82 @@
+-- Modules at time 0.
+use Rattle.std.specs.Prelude.{◌≡◌, ℕ, ◌+◌, ◌^◌, ◌<◌, Bool, true, false, not, List, [], Option, Some, None, length, slice_index_or, nat_lt, ◌==◌, ◌&&◌}
+use Rattle.mp_modules.specs.declared.memory.Memory.{Memory}
+use Rattle.mp_modules.specs.Memories.{output_of}
+use Rattle.mp_records.specs.declared.ids.WireId.{WireId}
+use Rattle.mp_records.specs.declared.ports.Output.{Output}
+use Rattle.mp_records.specs.declared.module_record.ModuleRecord.{ModuleRecord}
+use Rattle.mp_netlist.specs.declared.driver.Driver.{Driver}
+use Rattle.mp_netlist.specs.declared.driver.Driver.TheVariants.{Nothing, Stimulus, Port}
+use Rattle.mp_netlist.specs.Circuit.{Circuit, wire_at, module_at}
+use Rattle.mp_netlist.specs.Drivers.{driver}
+use Rattle.mp_model.specs.Levels.{initial_of}
+use Rattle.mp_model.specs.Waves.{state}
+use Rattle.mp_automata.specs.declared.automaton.Automaton.TheVariants.{Sleep}
+use Rattle.mp_automata.specs.declared.automaton_state.AutomatonState.{AutomatonState}
+use Rattle.mp_automata.specs.declared.toggles.Toggles.{Toggles}
+use Rattle.mp_automata.specs.Codes.{bit, no_events}
+use Rattle.mp_automata.specs.Phases.{unserved}
+use Rattle.mp_events.specs.declared.output_port.OutputPort.{OutputPort}
+use Rattle.mp_events.specs.declared.output_ports.OutputPorts.{OutputPorts}
+use Rattle.mp_events.specs.Adding.{state_at, listed}
+use Rattle.mp_events.specs.Firing.{UnitState, no_port, number_of, fired_at}
+use Rattle.mp_core.specs.Schedules.{output_ports_of}
+use Rattle.mp_core.specs.Units.{rest_state_at}
+use Rattle.mp_core.specs.Beginnings.{is_first}
+
+-- the wire and the delay of an output have numbers of 16 bits
+pub record IsSmall (o : Output) : Type 0 where
+  pub wire : (w : WireId) → o.wire ≡ Some w → w.0 < 2 ^ 16
+  pub delay : o.delay < 2 ^ 16
+
+-- the outputs of what stands in a module's slot
+abbrev pub ports_of : Option ModuleRecord → OutputPorts
+ports_of None = record { first = no_port; second = no_port; third = no_port }
+ports_of (Some r) = output_ports_of r
+
+-- a level isn't the initial one of the wire
+abbrev pub departs_from : Circuit → Option ℕ → ℕ → Bool
+departs_from n None level = false
+departs_from n (Some w) level = not (initial_of (wire_at n w) == level)
+
+abbrev pub departs : Circuit → OutputPort → ℕ → Bool
+departs n port level = departs_from n port.wire level
+
+-- the outputs whose levels in a state aren't the initial ones of their wires
+abbrev pub departing : Circuit → OutputPorts → Memory → Toggles
+departing n ports m = record {
+  first = departs n ports.first (output_of m 0);
+  second = departs n ports.second (output_of m 1);
+  third = departs n ports.third (output_of m 2);
+}
+
+-- a place where no module stands
+abbrev pub no_unit : UnitState
+no_unit = record { automaton = Sleep; phase = unserved false false; events = no_events }
+
+abbrev pub first_unit_in : Circuit → ℕ → Option ModuleRecord → UnitState
+first_unit_in n m None = no_unit
+first_unit_in n m (Some r) = rest_state_at n r m 0
+
+-- the state of a module at time 0, after the unit
+abbrev pub first_unit : Circuit → ℕ → UnitState
+first_unit n m = first_unit_in n m (module_at n m)
+
+abbrev pub first_entries_in : Circuit → ℕ → Option ModuleRecord → List (ℕ × ℕ)
+first_entries_in n m None = []
+first_entries_in n m (Some r) = fired_at (output_ports_of r) (departing n (output_ports_of r) (state n m 0))
+
+-- what a module schedules at time 0
+abbrev pub first_entries : Circuit → ℕ → List (ℕ × ℕ)
+first_entries n m = first_entries_in n m (module_at n m)
+
+abbrev pub is_below : ℕ → Driver → Bool
+is_below modules Nothing = true
+is_below modules Stimulus = true
+is_below modules (Port m p) = nat_lt m.0 modules
+
+-- the modules below a number are settled: their states, and the first changes of the wires that they drive
+pub record IsSettled (n : Circuit) (modules : ℕ) (states : List AutomatonState) (wheel : List (List ℕ)) : Type 0 where
+  pub places : length states ≡ modules
+  pub each : (m : ℕ) → m < modules → state_at states m ≡ number_of (first_unit n m)
+  pub slots : (w k : ℕ) → k < length wheel → listed w (slice_index_or wheel k []) ≡ bit (is_below modules (driver n w) && is_first n (driver n w) w (k + 1))

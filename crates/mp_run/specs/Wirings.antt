@@ -1,0 +1,80 @@
+-- Which inputs read each number.
+use Rattle.std.specs.Prelude.{◌≡◌, ℕ, ◌+◌, ◌*◌, ◌^◌, ◌<◌, ◌≤◌, List, [], ◌++◌, All, Option, Some, None, length, map, nat_lt, ◌==◌, if◌then◌else◌}
+use Rattle.mp_records.specs.declared.module_record.ModuleRecord.{ModuleRecord}
+use Rattle.mp_records.specs.declared.ports.Input.{Input}
+use Rattle.mp_netlist.specs.Circuit.{Circuit, module_at}
+use Rattle.mp_events.specs.declared.fanout_entry.FanoutEntry.{FanoutEntry}
+use Rattle.mp_events.specs.declared.output_port.OutputPort.{OutputPort}
+use Rattle.mp_events.specs.Toggling.{row_at}
+use Rattle.mp_events.specs.Firing.{no_port}
+use Rattle.mp_events.specs.Ports.{HasPorts}
+use Rattle.mp_core.specs.PortEvents.{source_of}
+use Rattle.mp_run.specs.declared.wiring.Wiring.{Wiring}
+use Rattle.mp_run.specs.Numbers.{AreLinks, AreNumbers}
+
+-- the rows have just the inputs that places read, so many places and so many wires being there
+pub record AreWired (wires places : ℕ) (reading : ℕ → List Input) (rows : List (List FanoutEntry)) (next : List OutputPort) : Type 0 where
+  pub source : ℕ → ℕ × ℕ
+  pub before : ℕ → Option ℕ
+  pub inputs : ℕ → List ℕ
+  pub numbers : AreNumbers wires source before next
+  pub ports : (q : ℕ) → HasPorts rows q (inputs q)
+  pub reads : (q : ℕ) → map source (inputs q) ≡ map source_of (reading q)
+  pub low : (q : ℕ) → All (λ x. x < length next) (inputs q)
+  pub placed : (x : ℕ) → All (λ (l : FanoutEntry). l.module < places) (row_at rows x)
+  pub eventful : (x : ℕ) → All (λ (l : FanoutEntry). 0 < l.event) (row_at rows x)
+
+-- each number has a row
+abbrev pub HaveRows : Wiring → Type 0
+HaveRows wiring = length wiring.rows.items ≡ length wiring.next.items
+
+-- the rows are as they were, and further ones are empty
+pub record KeepsRows (old new : Wiring) : Type 0 where
+  pub long : HaveRows old → HaveRows new
+  pub each : (x : ℕ) → row_at new.rows.items x ≡ row_at old.rows.items x
+
+-- an input can read one of so many numbers
+pub record CanRead (numbers : ℕ) (input : Input) : Type 0 where
+  pub wire : input.wire.0 < numbers
+  pub delay : input.delay < 2 ^ 16
+
+-- a place reads these inputs, and the others what they did
+abbrev pub with_inputs : (ℕ → List Input) → ℕ → List Input → ℕ → List Input
+with_inputs reading place inputs q = if q == place then inputs else reading q
+
+-- after a place reads inputs behind so many others: there are not many more numbers
+pub record AddsInputs (old new : Wiring) (place port : ℕ) (inputs : List Input) : Type 0 where
+  pub longer : length old.next.items ≤ length new.next.items
+  pub few : length new.next.items ≤ length old.next.items + length inputs
+  pub rows : HaveRows old → HaveRows new
+  pub links : (longest : ℕ) → All (λ (i : Input). i.delay ≤ longest) inputs → AreLinks longest old.next.items → AreLinks longest new.next.items
+  pub wired : (wires places : ℕ) (reading : ℕ → List Input) → All (λ (i : Input). i.wire.0 < wires) inputs → place < places → length (reading place) ≡ port → port + length inputs ≤ 4 →
+      AreWired wires places reading old.rows.items old.next.items →
+      AreWired wires places (with_inputs reading place (reading place ++ inputs)) new.rows.items new.next.items
+
+-- there are just these wires, and nothing reads them
+pub record AreUnread (wires : ℕ) (wiring : Wiring) : Type 0 where
+  pub next : length wiring.next.items ≡ wires
+  pub rows : length wiring.rows.items ≡ wires
+  pub last : All (λ port. port ≡ no_port) wiring.next.items
+  pub empty : (x : ℕ) → row_at wiring.rows.items x ≡ []
+
+-- the inputs of what stands in a module's slot
+abbrev pub inputs_in : Option ModuleRecord → List Input
+inputs_in None = []
+inputs_in (Some r) = r.inputs
+
+-- the inputs that the modules below a number read
+abbrev pub reading_below : Circuit → ℕ → ℕ → List Input
+reading_below n modules q = if nat_lt q modules then inputs_in (module_at n q) else []
+
+-- no input has a longer delay
+abbrev pub AreDelaysWithin : Circuit → ℕ → Type 0
+AreDelaysWithin n longest = (m : ℕ) (r : ModuleRecord) → module_at n m ≡ Some r → All (λ (i : Input). i.delay ≤ longest) r.inputs
+
+-- the modules below a number read their inputs
+pub record IsWiring (n : Circuit) (modules : ℕ) (wiring : Wiring) : Type 0 where
+  pub few : length wiring.next.items ≤ length n.wires + 4 * modules
+  pub rows : HaveRows wiring
+  pub links : (longest : ℕ) → 0 < longest → AreDelaysWithin n longest → AreLinks longest wiring.next.items
+  pub wired : AreWired (length n.wires) (length n.modules) (reading_below n modules) wiring.rows.items wiring.next.items

@@ -1,0 +1,176 @@
+//! Modules at time 0: what they drive, how they settle, and which wires change by that.
+ghost use Rattle.std.specs.Prelude.{◌≡◌, ℕ, ◌≤◌, Some, IfOk, OnOk, All, length, map, take};
+ghost use Rattle.mp_records.specs.declared.ports.Input.{Input as Entry};
+ghost use Rattle.mp_records.specs.Outputs.{output_in};
+ghost use Rattle.mp_netlist.specs.Circuit.{IsCircuit, wire_at, module_at};
+ghost use Rattle.mp_model.specs.Levels.{initial_of, built};
+ghost use Rattle.mp_model.specs.Waves.{state};
+ghost use Rattle.mp_events.specs.Firing.{HaveSlots, scheduled, fired_at, number_of};
+ghost use Rattle.mp_core.specs.Schedules.{output_port_of};
+ghost use Rattle.mp_run.specs.Settling.{IsSmall, ports_of, departs, departing, first_unit, first_entries, IsSettled};
+
+use crate::narrow::initial_level;
+use mp_automata::{Automaton, AutomatonState, Phase};
+use mp_events::{EventWheel, OutputPort, OutputPorts, schedule_if};
+use mp_model::built;
+use mp_modules::{EventModule, MOST_INPUTS, Memory};
+use mp_netlist::{Input, ModuleId, ModuleRecord, Netlist, Output, WireId};
+use mp_storage::AnyModule;
+use std::alloc::{AllocError, Global};
+
+/// The outputs of each module, by its number: ports that drive no wire where none stands.
+pub(crate) fn all_outputs(alloc: Global, netlist: &Netlist) -> Result<Vec<OutputPorts>, AllocError>
+    requires { IsCircuit netlist.now }
+    ensures { IfOk result (λ ports. ports.items ≡ map ports_of netlist.now.modules) }
+{
+    let mut ports = Vec::new(alloc);
+    for m in 0..netlist.module_slots() {
+        ports.push(outputs_of(netlist, ModuleId(m)))?;
+    }
+    Ok(ports)
+}
+
+fn outputs_of(netlist: &Netlist, id: ModuleId) -> OutputPorts
+    requires { IsCircuit netlist.now }
+    ensures { result ≡ ports_of (module_at netlist.now id.0) }
+{
+    match netlist.module(id) {
+        Some(found) => output_ports(found.outputs.as_slice()),
+        None => output_ports(&[]),
+    }
+}
+
+fn output_ports(outputs: &[Output]) -> OutputPorts
+    requires { All IsSmall outputs.now }
+    ensures first { result.first ≡ output_port_of (output_in outputs.now 0) }
+    ensures second { result.second ≡ output_port_of (output_in outputs.now 1) }
+    ensures third { result.third ≡ output_port_of (output_in outputs.now 2) }
+{
+    OutputPorts {
+        first: output_port(outputs, 0),
+        second: output_port(outputs, 1),
+        third: output_port(outputs, 2),
+    }
+}
+
+fn output_port(outputs: &[Output], port: usize) -> OutputPort
+    requires { All IsSmall outputs.now }
+    ensures { result ≡ output_port_of (output_in outputs.now port) }
+{
+    match outputs.get(port) {
+        Some(output) => OutputPort {
+            wire: output.wire.map(|wire| wire.0 as u16),
+            delay: output.delay as u16,
+        },
+        None => OutputPort {
+            wire: None,
+            delay: 1,
+        },
+    }
+}
+
+/// The states of modules, by number, and the wheel of the events to come.
+#[derive(Drop)]
+pub(crate) struct Settling {
+    pub states: Vec<AutomatonState>,
+    pub wheel: EventWheel,
+}
+
+/// Settles all modules. An output whose level isn't the initial one of its wire changes that after its delay. The wheel has so many units.
+pub(crate) fn settle_all(
+    alloc: Global,
+    netlist: &Netlist,
+    outputs: &[OutputPorts],
+    units: usize,
+) -> Result<Settling, AllocError>
+    requires form { IsCircuit netlist.now }
+    requires ports { outputs.now ≡ map ports_of netlist.now.modules }
+    requires within { All (HaveSlots units) outputs.now }
+    ensures settled { IfOk result (λ s. IsSettled netlist.now (length netlist.now.modules) s.states.items s.wheel) }
+    ensures units { IfOk result (λ s. length s.wheel ≡ units) }
+{
+    let mut states = Vec::new(alloc);
+    let mut wheel = EventWheel::new(alloc, units)?;
+    for m in 0..netlist.module_slots() {
+        let ports = outputs[m as usize];
+        states.push(settle_module(netlist, ModuleId(m), ports, &mut wheel)?)?;
+    }
+    Ok(Settling { states, wheel })
+}
+
+/// Settles a module, and gives its state. Where none stands, the place sleeps.
+fn settle_module(
+    netlist: &Netlist,
+    id: ModuleId,
+    ports: OutputPorts,
+    wheel: &mut EventWheel,
+) -> Result<AutomatonState, AllocError>
+    requires form { IsCircuit netlist.now }
+    requires ports { ports ≡ ports_of (module_at netlist.now id.0) }
+    requires within { HaveSlots (length wheel.old) ports }
+    ensures state { IfOk result (λ state. state.0 ≡ number_of (first_unit netlist.now id.0)) }
+    ensures wheel { OnOk result (wheel.new ≡ scheduled wheel.old (first_entries netlist.now id.0)) }
+    ensures units { OnOk result (length wheel.new ≡ length wheel.old) }
+{
+    let Some(found) = netlist.module(id) else {
+        let phase = Phase::unserved(false, false);
+        return Ok(AutomatonState::quiet(Automaton::Sleep, phase));
+    };
+    let part = built(netlist, found);
+    let memory = settled(netlist, found, &part);
+    schedule_departing(netlist, ports, &memory, wheel)?;
+    let phase = Phase::of(&part, &memory);
+    Ok(AutomatonState::quiet(Automaton::of(&part), phase))
+}
+
+/// The state of a module at time 0.
+fn settled(netlist: &Netlist, found: &ModuleRecord, part: &AnyModule) -> Memory
+    requires form { IsCircuit netlist.now }
+    requires few { length found.now.inputs ≤ MOST_INPUTS }
+    requires part { part.now ≡ built netlist.now found.now }
+    ensures { (m : ℕ) → module_at netlist.now m ≡ Some found.now → result ≡ state netlist.now m 0 }
+{
+    let inputs = found.inputs.as_slice();
+    let mut levels = [0; MOST_INPUTS];
+    read_initial_levels(netlist, inputs, &mut levels);
+    part.settle(&levels[..inputs.len()])
+}
+
+/// Reads the initial levels of the wires at inputs, by port, into their places.
+fn read_initial_levels(netlist: &Netlist, inputs: &[Input], levels: &mut [u64; MOST_INPUTS])
+    requires { length inputs.now ≤ MOST_INPUTS }
+    ensures { take (length inputs.now) levels.new ≡ map (λ (i : Entry). initial_of (wire_at netlist.now i.wire.0)) inputs.now }
+{
+    for (p, input) in inputs.iter().enumerate() {
+        levels[p] = initial_level(netlist, input.wire);
+    }
+}
+
+/// The wires of outputs whose levels aren't the initial ones toggle after the delays.
+fn schedule_departing(
+    netlist: &Netlist,
+    ports: OutputPorts,
+    memory: &Memory,
+    wheel: &mut EventWheel,
+) -> Result<(), AllocError>
+    requires { HaveSlots (length wheel.old) ports }
+    ensures scheduled { OnOk result (wheel.new ≡ scheduled wheel.old (fired_at ports (departing netlist.now ports memory.now))) }
+    ensures units { OnOk result (length wheel.new ≡ length wheel.old) }
+{
+    let first = departs(netlist, ports.first, memory.output(0));
+    let second = departs(netlist, ports.second, memory.output(1));
+    let third = departs(netlist, ports.third, memory.output(2));
+    schedule_if(first, ports.first, wheel)?;
+    schedule_if(second, ports.second, wheel)?;
+    schedule_if(third, ports.third, wheel)
+}
+
+/// Whether a level isn't the initial one of the wire that an output drives.
+fn departs(netlist: &Netlist, port: OutputPort, level: u64) -> bool
+    ensures { result ≡ departs netlist.now port level }
+{
+    match port.wire {
+        Some(wire) => initial_level(netlist, WireId(u32::from(wire))) != level,
+        None => false,
+    }
+}

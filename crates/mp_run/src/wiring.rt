@@ -1,0 +1,190 @@
+//! Which inputs read each wire, and the delayed copies of wires that inputs with a delay read.
+ghost use Rattle.std.specs.Prelude.{◌≡◌, ℕ, ◌*◌, ◌-◌, ◌<◌, ◌≤◌, Some, IfOk, length};
+ghost use Rattle.mp_netlist.specs.Circuit.{IsCircuit};
+ghost use Rattle.mp_events.specs.Firing.{copy_at};
+ghost use Rattle.mp_run.specs.Numbers.{AreLinks, copy_within, behind, IsPlace};
+ghost use Rattle.mp_run.specs.Wirings.{IsWiring, AreUnread};
+
+use mp_automata::event_bit;
+use mp_events::{FanoutEntry, FanoutRow, OutputPort};
+use mp_netlist::{Input, ModuleId, Netlist};
+use std::alloc::{AllocError, Global};
+
+/// Each number, of a wire or of a delayed copy of one, has the inputs that read it, and the copy that is next later, if any.
+#[derive(Drop)]
+pub(crate) struct Wiring {
+    pub rows: Vec<FanoutRow>,
+    pub next: Vec<OutputPort>,
+}
+
+/// Where a wanted copy of a wire is or belongs: the latest number of the wire that isn't later than it, and how much later it is than that.
+#[derive(Clone, Copy)]
+struct CopyPlace {
+    number: u16,
+    later: u16,
+}
+
+/// The wires and all that their readers need.
+pub(crate) fn wiring_of(alloc: Global, netlist: &Netlist) -> Result<Wiring, AllocError>
+    requires { IsCircuit netlist.now }
+    ensures { IfOk result (λ wiring. IsWiring netlist.now (length netlist.now.modules) wiring) }
+{
+    let mut wiring = unread_wires(alloc, netlist.wire_slots())?;
+    for m in 0..netlist.module_slots() {
+        if let Some(found) = netlist.module(ModuleId(m)) {
+            wiring.add_module(m as u16, found.inputs.as_slice())?;
+        }
+    }
+    Ok(wiring)
+}
+
+/// Wires that nothing reads.
+fn unread_wires(alloc: Global, wires: u32) -> Result<Wiring, AllocError>
+    ensures { IfOk result (λ wiring. AreUnread wires wiring) }
+{
+    let mut wiring = Wiring {
+        rows: Vec::new(alloc),
+        next: Vec::new(alloc),
+    };
+    for _wire in 0..wires {
+        wiring.add_number(OutputPort {
+            wire: None,
+            delay: 1,
+        })?;
+    }
+    Ok(wiring)
+}
+
+impl Wiring {
+    ghost use Rattle.std.specs.Prelude.{◌≡◌, ℕ, ◌+◌, ◌<◌, ◌≤◌, ◌^◌, ◌++◌, ◌∷◌, [], All, IfOk, OnOk, length};
+    ghost use Rattle.mp_records.specs.declared.ports.Input.{Input as Entry};
+    ghost use Rattle.mp_core.specs.PortEvents.{source_of};
+    ghost use Rattle.mp_run.specs.Numbers.{AreLinks, HasRoom, inserted, HasNumber};
+    ghost use Rattle.mp_run.specs.Wirings.{HaveRows, KeepsRows, CanRead, AddsInputs};
+
+    /// Adds the inputs of a module at a place.
+    fn add_module(&mut self, place: u16, inputs: &[Input]) -> Result<(), AllocError>
+        requires few { length inputs.now ≤ 4 }
+        requires numbers { length self.old.next.items + length inputs.now < 2 ^ 16 }
+        requires inputs { All (CanRead (length self.old.next.items)) inputs.now }
+        requires rows { HaveRows self.old }
+        requires links { AreLinks 65535 self.old.next.items }
+        ensures { OnOk result (AddsInputs self.old self.new place 0 inputs.now) }
+    {
+        for (port, input) in inputs.iter().enumerate() {
+            self.add_input(
+                *input,
+                FanoutEntry {
+                    module: place,
+                    event: event_bit(port),
+                },
+            )?;
+        }
+        Ok(())
+    }
+
+    /// Adds an input.
+    fn add_input(&mut self, input: Input, entry: FanoutEntry) -> Result<(), AllocError>
+        requires numbers { length self.old.next.items + 1 < 2 ^ 16 }
+        requires input { CanRead (length self.old.next.items) input }
+        requires rows { HaveRows self.old }
+        requires links { AreLinks 65535 self.old.next.items }
+        ensures { OnOk result ((port : ℕ) → entry.event ≡ 2 ^ port → AddsInputs self.old self.new entry.module port (input ∷ [])) }
+    {
+        let number = self.number_of(input)?;
+        self.rows[number as usize].push(entry)
+    }
+
+    /// The number that an input reads. A copy that was not there before is added.
+    fn number_of(&mut self, input: Input) -> Result<u16, AllocError>
+        requires numbers { length self.old.next.items + 1 < 2 ^ 16 }
+        requires input { CanRead (length self.old.next.items) input }
+        requires links { AreLinks 65535 self.old.next.items }
+        ensures number { IfOk result (λ number. HasNumber (source_of input) self.old.next.items self.new.next.items number) }
+        ensures rows { OnOk result (KeepsRows self.old self.new) }
+    {
+        let place = place_of(
+            self.next.as_slice(),
+            input.wire.0 as u16,
+            input.delay as u16,
+        );
+        if place.later == 0 {
+            return Ok(place.number);
+        }
+        self.insert_copy(place)
+    }
+
+    /// Adds a copy at a place where none is.
+    fn insert_copy(&mut self, place: CopyPlace) -> Result<u16, AllocError>
+        requires numbers { length self.old.next.items + 1 < 2 ^ 16 }
+        requires within { place.number < length self.old.next.items }
+        requires room { HasRoom self.old.next.items place.number place.later }
+        ensures number { IfOk result (λ number. number ≡ length self.old.next.items) }
+        ensures next { OnOk result (self.new.next.items ≡ inserted self.old.next.items place.number place.later) }
+        ensures rows { OnOk result (KeepsRows self.old self.new) }
+    {
+        let CopyPlace { number, later } = place;
+        let copy = self.next.len() as u16;
+        let following = port_at(self.next.as_slice(), number);
+        self.add_number(behind(following, later))?;
+        self.next[number as usize] = OutputPort {
+            wire: Some(copy),
+            delay: later,
+        };
+        Ok(copy)
+    }
+
+    /// Adds a number that no input reads, with what is next later.
+    fn add_number(&mut self, port: OutputPort) -> Result<(), AllocError>
+        ensures next { OnOk result (self.new.next.items ≡ self.old.next.items ++ port ∷ []) }
+        ensures rows { OnOk result (self.new.rows.items ≡ self.old.rows.items ++ [] ∷ []) }
+    {
+        self.rows.push(FanoutRow::new(*self.rows.allocator()))?;
+        self.next.push(port)?;
+        Ok(())
+    }
+}
+
+/// Where the copy of a wire with a delay is or belongs.
+fn place_of(next: &[OutputPort], wire: u16, delay: u16) -> CopyPlace
+    requires within { wire < length next.now }
+    requires links { AreLinks 65535 next.now }
+    ensures { IsPlace next.now wire delay result }
+{
+    let mut number = wire;
+    let mut later = delay;
+    while let Some(copy) = copy_within(port_at(next, number), later) {
+        later -= port_at(next, number).delay;
+        number = copy;
+    }
+    CopyPlace { number, later }
+}
+
+/// What is next after a number.
+fn port_at(next: &[OutputPort], number: u16) -> OutputPort
+    requires { number < length next.now }
+    ensures { result ≡ copy_at next.now number }
+{
+    next[number as usize]
+}
+
+/// The next copy, where it isn't later than so much.
+fn copy_within(port: OutputPort, later: u16) -> Option<u16>
+    ensures { result ≡ copy_within port later }
+{
+    if port.delay <= later { port.wire } else { None }
+}
+
+/// What is next after a copy that is put before this one, so much earlier.
+fn behind(port: OutputPort, later: u16) -> OutputPort
+    requires { (x : ℕ) → port.wire ≡ Some x → later < port.delay }
+    ensures { result ≡ behind port later }
+{
+    match port.wire {
+        Some(copy) => OutputPort {
+            wire: Some(copy),
+            delay: port.delay - later,
+        },
+        None => port,
+    }
+}
