@@ -140,8 +140,78 @@ def wire_group(lane, number, name, width, cells):
     else:
         shape, path = "".join(values(lane, cells)), word_path(lane, cells)
     heights = f'data-top="{lane.top}" data-bottom="{lane.bottom}"'
-    title = f'<title>{name}</title><text x="0" y="{lane.base}">{name}</text>'
+    title = f'<title>{name}</title><text x="8" y="{lane.base}">{name}</text>'
     return f'<g class="wire" id="wire-{number}" data-width="{width}" {heights}>{title}{shape}<path class="level" d="{path}"/></g>\n'
+
+
+LIGHT = """svg{background:#fff}
+text{font:13px Menlo,Consolas,'DejaVu Sans Mono',monospace;fill:#1f2328}
+.axis text{fill:#59636e}
+.axis path{fill:none;stroke:#d1d9e0;shape-rendering:crispEdges}
+.level{fill:none;stroke:#0969da;stroke-width:2;stroke-linejoin:round}
+.band{fill:#0969da;fill-opacity:.4}
+.value rect{fill:none;pointer-events:all}
+.value text{paint-order:stroke;stroke:#fff;stroke-width:3}
+.finding path{fill:#cf222e}"""
+
+DARK = """svg{background:#0d1117}
+text{fill:#f0f6fc}
+.axis text{fill:#9198a1}
+.axis path{stroke:#2f3742}
+.level{stroke:#4493f8}
+.band{fill:#4493f8}
+.value text{stroke:#0d1117}
+.finding path{fill:#f85149}"""
+
+STYLE = f"<style>{LIGHT}@media (prefers-color-scheme:dark){{{DARK}}}</style>".replace("\n", "") + "\n"
+
+
+def axis(columns, left, bottom):
+    """The times of each tenth column, each over an upright line."""
+    ticks = [(left + PITCH * column, begin) for column, begin in enumerate(columns.begins)][::10]
+    marks = "".join(f'<path d="M{x} 20V{bottom}"/><text x="{x}" y="14">{begin}</text>' for x, begin in ticks)
+    return f'<g class="axis">{marks}</g>\n'
+
+
+def place_group(row, sort, number, name):
+    """The row of a module or a bundle."""
+    return f'<g class="place" id="{sort}-{number}"><title>{name}</title><text x="8" y="{28 * row + 36}">{name}</text></g>\n'
+
+
+def finding_group(left, row, column, line):
+    """A mark in the row of its place, with the report's line."""
+    x, y = left + PITCH * column, 28 * row + 32
+    mark = f'<path d="M{x} {y}L{x + 4} {y - 6}L{x + 8} {y}L{x + 4} {y + 6}Z"/>'
+    return f'<g class="finding" data-column="{column}"><title>{line}</title>{mark}</g>\n'
+
+
+def svg(netlist, begin=0, end=None, most=72, names=None):
+    """What `show --svg` writes."""
+    levels, _, at_modules = reference.evaluated(netlist)
+    columns = Columns(netlist.horizon, begin, netlist.horizon if end is None else end, min(most, 1200))
+    standing = [number for number, wire in enumerate(netlist.wires) if wire]
+    wires = standing if names is None else list(dict.fromkeys(map(netlist.wire, names)))
+    name = {"module": lambda n: netlist.module_names[n], "bundle": lambda n: netlist.bundles[n][0]}
+    found = [one for one in reference.findings(netlist, levels, at_modules) if columns.begin <= one[0] < columns.end]
+    places = list(dict.fromkeys(one[1:3] for one in found))
+    places = [place for sort in ("module", "bundle") for place in places if place[0] == sort]
+    labels = [netlist.wires[wire][0] for wire in wires] + [name[sort](number) for sort, number in places]
+    left = PITCH * (max(map(len, labels), default=0) + 2)
+    count, rows = len(columns.begins), len(wires) + len(places)
+    last = (count - 1) // 10
+    width = max(left + PITCH * count, left + 10 * PITCH * last + PITCH * len(str(columns.begins[10 * last]))) + 8
+    height = 28 * rows + 28
+    head = f'<svg xmlns="http://www.w3.org/2000/svg" width="{width}" height="{height}" viewBox="0 0 {width} {height}"'
+    data = {"from": columns.begin, "to": columns.end, "units": columns.units, "columns": count, "left": left, "pitch": PITCH}
+    text = head + "".join(f' data-{key}="{value}"' for key, value in data.items()) + ">\n" + STYLE + axis(columns, left, height - 8)
+    for row, wire in enumerate(wires):
+        text += wire_group(Lane(left, row, columns.units), wire, *netlist.wires[wire][:2], columns.cells(levels[wire]))
+    for row, (sort, number) in enumerate(places, len(wires)):
+        text += place_group(row, sort, number, name[sort](number))
+    for time, sort, number, code in found:
+        row = len(wires) + places.index((sort, number))
+        text += finding_group(left, row, (time - columns.begin) // columns.units, f"{time} {sort} {name[sort](number)} {code}")
+    return text + "</svg>\n"
 
 
 def graph(netlist):

@@ -131,8 +131,12 @@ module _ (f : ℕ → ℕ) (first lo hi : ℕ) (within : first ≤ lo) (some : l
   stays_in : (cell f first lo hi).events ≡ None → (t : ℕ) → start ≤ t → t < hi → f t ≡ f start
   stays_in none t low high = stays f units start (sym count_is ∙ no_count (event_count f (opens first lo) hi) none) t low (omega (arith, high, ends))
 
+  -- a column without an event has the level of the unit before it, or of the picture's first
+  pub cell_keeps : (cell f first lo hi).events ≡ None → f (hi - 1) ≡ f (opens first lo - 1)
+  cell_keeps none = stays_in none (hi - 1) (omega (arith, within, some)) (omega (arith, some))
+
   cell_stays : (cell f first lo hi).events ≡ None → (t : ℕ) → lo ≤ t → t < hi → f t ≡ f (hi - 1)
-  cell_stays none t low high = stays_in none t (omega (arith, low, within)) high ∙ sym (stays_in none (hi - 1) (omega (arith, within, some)) (omega (arith, some)))
+  cell_stays none t low high = stays_in none t (omega (arith, low, within)) high ∙ sym (cell_keeps none)
 
   cell_changes : (cell f first lo hi).events ≡ One → (time : ℕ) × IsOnlyChange f (opens first lo) hi (f start) (f (hi - 1)) time
   cell_changes one =

@@ -1,3 +1,4 @@
+pub mod SameColumnLemmas
 pub mod ColumnLemmas
 pub mod CellLemmas
 pub mod EventLemmas

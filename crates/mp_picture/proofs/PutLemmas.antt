@@ -7,11 +7,11 @@ use Rattle.mp_streams.specs.Outgoing.{Outgoing, Puts}
 use Rattle.mp_streams.proofs.OutLemmas.{puts_next, puts_stopped}
 
 -- a success is one whatever the errors are
-pub puts_ok : {T E F : Type 0} {f : F → Bool} {g : E → Bool} {done : T} {a b : Outgoing} {xs : List ℕ} → Puts f (Ok done) a b xs → Puts {T = T} g (Ok done) a b xs
+pub puts_ok : {S T E F : Type 0} {f : F → Bool} {g : E → Bool} {done : T} {a b : Outgoing S} {xs : List ℕ} → Puts f (Ok done) a b xs → Puts {T = T} g (Ok done) a b xs
 puts_ok puts = record { front = puts.front; lost = puts.lost; taken = puts.taken; held = puts.held; ends = puts.ends }
 
 -- the row of a room that was cleared was written
-pub puts_row : {T E : Type 0} {f : E → Bool} {r : Result T E} {a b : Outgoing} {bytes row text : List ℕ} → bytes ≡ row ++ text → row ≡ [] → Puts f r a b bytes → Puts f r a b text
+pub puts_row : {S T E : Type 0} {f : E → Bool} {r : Result T E} {a b : Outgoing S} {bytes row text : List ℕ} → bytes ≡ row ++ text → row ≡ [] → Puts f r a b bytes → Puts f r a b text
 puts_row {T = T} {E = E} {f = f} {r = r} {a = a} {b = b} {bytes = bytes} {row = row} {text = text} is none puts = subst (Puts f r a b) (is ∙ ap (λ l. l ++ text) none) puts
 
 -- ---- a line for each number
@@ -26,7 +26,7 @@ module _ (t : ℕ → List ℕ) (count k : ℕ) where
   within_numbers : k < count → k < length numbers
   within_numbers within = omega (arith, within, length-range_with_len 0 count)
 
-  module _ {T E : Type 0} {f : E → Bool} {done : T} {a b c : Outgoing} where
+  module _ {S T E : Type 0} {f : E → Bool} {done : T} {a b c : Outgoing S} where
     -- a line more
     pub numbers_next : k < count → Puts f (Ok done) a b (flat_map t (take k numbers)) → Puts {T = T} f (Ok done) b c (t k) → Puts {T = T} f (Ok done) a c (flat_map t (take (k + 1) numbers))
     numbers_next within first second = puts_next t numbers k 0 (within_numbers within) first (subst (Puts f (Ok done) b c) (sym (line_is within)) second)
@@ -36,6 +36,6 @@ module _ (t : ℕ → List ℕ) (count k : ℕ) where
     numbers_stopped {error = error} within first second = puts_stopped t numbers k 0 (within_numbers within) first (subst (Puts f (Err error) b c) (sym (line_is within)) second)
 
   -- all lines
-  pub numbers_over : {T E : Type 0} {f : E → Bool} {done : T} {a b : Outgoing} → k ≡ count → Puts f (Ok done) a b (flat_map t (take k numbers)) → Puts f (Ok done) a b (flat_map t numbers)
+  pub numbers_over : {S T E : Type 0} {f : E → Bool} {done : T} {a b : Outgoing S} → k ≡ count → Puts f (Ok done) a b (flat_map t (take k numbers)) → Puts f (Ok done) a b (flat_map t numbers)
   numbers_over {T = T} {E = E} {f = f} {done = done} {a = a} {b = b} over first =
       subst (Puts f (Ok done) a b) (ap (flat_map t) (take_all k numbers (omega (arith, over, length-range_with_len 0 count)))) first

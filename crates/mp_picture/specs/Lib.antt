@@ -1,4 +1,5 @@
 pub mod Columns
+pub mod ColumnRanges
 pub mod Cells
 pub mod CellLaws
 pub mod Marks

@@ -17,6 +17,7 @@ pub struct Columns {
 impl Columns {
     ghost use Rattle.std.specs.Prelude.{◌≡◌, ℕ, ◌-◌, ◌*◌, ◌<◌, ◌≤◌};
     ghost use Rattle.mp_picture.specs.Columns.{count, begin, end, column_of, range_from, range_to};
+    ghost use Rattle.mp_picture.specs.ColumnRanges.{columns_in};
 
     /// The range below a horizon, in at most so many columns of the fewest units each. A time at or above the horizon is read as its
     /// last unit, or as the horizon itself where it ends the range; an empty range is read as its first unit.
@@ -27,6 +28,7 @@ impl Columns {
         ensures to { result.to ≡ range_to horizon from to }
         ensures within { result.to ≤ horizon }
         ensures enough { result.to - result.from ≤ result.units * most }
+        ensures value { result ≡ columns_in horizon from to most }
         ensures fewest { (k : ℕ) → result.to - result.from ≤ k * most → result.units ≤ k }
     {
         let from = from.min(horizon - 1);

@@ -83,7 +83,8 @@ fn has_place(places: &[Place], place: Place) -> bool
     places.iter().any(|other| is_place(place, *other))
 }
 
-fn is_place(place: Place, other: Place) -> bool
+/// Whether two places are the same.
+pub fn is_place(place: Place, other: Place) -> bool
     ensures { result ≡ is_place place other }
 {
     match (place, other) {
@@ -122,7 +123,7 @@ pub fn push_place_row(
 }
 
 /// The name of what stands at a place, and no text where nothing does.
-pub(crate) fn place_name(netlist: &Netlist, place: Place) -> &str
+pub fn place_name(netlist: &Netlist, place: Place) -> &str
     ensures { result.now ≡ place_name netlist.now place }
 {
     match place {

@@ -1,1 +1,5 @@
-pub mod TellLemmas
+pub mod RowLemmas
+pub mod ColumnLemmas
+pub mod TextLemmas
+pub mod BitRowLemmas
+pub mod WordRowLemmas

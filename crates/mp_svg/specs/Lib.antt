@@ -2,4 +2,10 @@ pub mod Lanes
 pub mod Elements
 pub mod Columns
 pub mod WireGroups
+pub mod Frames
+pub mod Styles
+pub mod Heads
+pub mod FoundGroups
+pub mod Svg
 pub mod ColumnLaws
+pub mod RowLaws

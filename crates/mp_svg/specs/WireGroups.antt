@@ -45,7 +45,7 @@ wire_start lane w wire =
     ++ (number (codes "data-width") wire.width
     ++ (number (codes "data-top") (top lane)
     ++ (number (codes "data-bottom") (bottom lane)
-    ++ (codes ">" ++ (title wire.name ++ text_from 0 (base lane) wire.name)))))))
+    ++ (codes ">" ++ (title wire.name ++ text_from 8 (base lane) wire.name)))))))
 
 abbrev pub wire_group : Lane → ℕ → WireRecord → List Cell → List ℕ
 wire_group lane w wire cells = wire_start lane w wire ++ (wire_shape lane wire.width cells ++ (codes "</g>" ++ (10 ∷ [])))

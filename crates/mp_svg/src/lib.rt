@@ -4,10 +4,16 @@
 mod drawing;
 mod drawn;
 mod elements;
+mod found_groups;
+mod frame;
+mod head;
 mod lane;
 pub mod laws;
+mod style;
+mod svg;
 mod value_group;
 mod wire_group;
 
 pub use lane::Lane;
+pub use svg::{MOST_COLUMNS, put_svg};
 pub use wire_group::put_wire_group;

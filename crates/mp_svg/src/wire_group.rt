@@ -45,7 +45,7 @@ fn put_wire_start<S: Sink>(
     let bottom = (" data-bottom=\"", lane.bottom(), "\"");
     let title = ("<title>", text, "</title>");
     let y = lane.base();
-    let name = (title, Label { x: 0, y, text });
+    let name = (title, Label { x: 8, y, text });
     ("<g class=\"wire\"", id, width, (top, bottom, ">", name)).put_to(out)
 }
 

@@ -1,0 +1,4 @@
+use Rattle.mp_svg.proofs.found_groups.MarkText.put_to.Goals as goal
+
+pub returns : goal.returns
+returns g c = rw (c.begin-x.ensures, c.end-end.ensures, c.top-top.ensures) at c.put_to.ensures

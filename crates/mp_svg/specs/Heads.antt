@@ -1,0 +1,54 @@
+-- What an SVG begins with: its size, its range, the style and the times.
+use Rattle.std.specs.Prelude.{ℕ, ◌+◌, ◌-◌, ◌*◌, List, [], ◌∷◌, ◌++◌, codes}
+use Rattle.std.specs.List.{flat_map, range_with_len}
+use Rattle.std.specs.Fmt.{decimal}
+use Rattle.mp_picture.specs.Columns.{count, begin}
+use Rattle.mp_svg.specs.declared.frame.Frame.{Frame}
+use Rattle.mp_svg.specs.Elements.{attribute, number, text_from}
+use Rattle.mp_svg.specs.Frames.{column_x, tick_count, width}
+use Rattle.mp_svg.specs.Columns.{move_to, upright_to}
+use Rattle.mp_svg.specs.WireGroups.{path_end}
+use Rattle.mp_svg.specs.Styles.{style}
+
+-- how high an SVG with so many rows is
+abbrev pub height : ℕ → ℕ
+height rows = 28 * rows + 28
+
+-- which units the columns show, and where
+abbrev pub range : Frame → List ℕ
+range frame =
+    number (codes "data-from") frame.columns.from
+    ++ (number (codes "data-to") frame.columns.to
+    ++ (number (codes "data-units") frame.columns.units
+    ++ (number (codes "data-columns") (count frame.columns)
+    ++ (number (codes "data-left") frame.left
+    ++ number (codes "data-pitch") 8))))
+
+abbrev pub view : ℕ → ℕ → List ℕ
+view w h = attribute (codes "viewBox") (codes "0 0 " ++ (decimal w ++ (32 ∷ decimal h)))
+
+abbrev pub root : Frame → ℕ → List ℕ
+root frame rows =
+    codes "<svg" ++ (attribute (codes "xmlns") (codes "http://www.w3.org/2000/svg")
+    ++ (number (codes "width") (width frame)
+    ++ (number (codes "height") (height rows)
+    ++ (view (width frame) (height rows)
+    ++ (range frame ++ (codes ">" ++ (10 ∷ [])))))))
+
+-- the time of a tenth column over an upright line
+abbrev pub tick_mark : Frame → ℕ → ℕ → List ℕ
+tick_mark frame rows i =
+    let x = column_x frame (10 * i) in
+    codes "<path d=" ++ (34 ∷ (move_to x 20 ++ (upright_to (height rows - 8) ++ (path_end ++ text_from x 14 (decimal (begin frame.columns (10 * i)))))))
+
+abbrev pub ticks : Frame → ℕ → List ℕ
+ticks frame rows = flat_map (tick_mark frame rows) (range_with_len 0 (tick_count frame))
+
+abbrev pub axis_start : List ℕ
+axis_start = codes "<g" ++ (attribute (codes "class") (codes "axis") ++ codes ">")
+
+abbrev pub axis : Frame → ℕ → List ℕ
+axis frame rows = axis_start ++ (ticks frame rows ++ (codes "</g>" ++ (10 ∷ [])))
+
+abbrev pub head : Frame → ℕ → List ℕ
+head frame rows = root frame rows ++ (style ++ axis frame rows)

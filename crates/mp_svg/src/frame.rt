@@ -1,0 +1,68 @@
+//! Where the columns of an SVG stand.
+use crate::lane::Lane;
+use itoa::Buffer;
+use mp_picture::Columns;
+
+/// A time stands at each so many columns.
+const TICK: u32 = 10;
+
+/// The columns of an SVG, from a point on.
+#[derive(Clone, Copy, Debug)]
+pub(crate) struct Frame {
+    pub(crate) left: u32,
+    pub(crate) columns: Columns,
+}
+
+impl Frame {
+    ghost use Rattle.std.specs.Prelude.{◌≡◌, ◌<◌, ◌≤◌, ◌*◌, length};
+    ghost use Rattle.mp_picture.specs.Columns.{count};
+    ghost use Rattle.mp_picture.specs.Rows.{tick, last_tick};
+    ghost use Rattle.mp_svg.specs.Frames.{column_x, lane, tick_count, width};
+
+    /// Where a column begins.
+    pub(crate) fn x(self, column: u32) -> u64
+        ensures { result ≡ column_x self column }
+    {
+        u64::from(self.left) + 8 * u64::from(column)
+    }
+
+    /// A row by number, from 0.
+    pub(crate) fn lane(self, row: u32) -> Lane
+        ensures { result ≡ lane self row }
+    {
+        Lane {
+            left: self.left,
+            row,
+            units: self.columns.units,
+        }
+    }
+
+    /// At how many columns a time stands.
+    pub(crate) fn tick_count(self) -> u32
+        ensures value { result ≡ tick_count self }
+        ensures some { 0 < result }
+        ensures few { 10 * (last_tick self.columns) < count self.columns }
+    {
+        (self.columns.count() - 1) / TICK + 1
+    }
+
+    /// The column at which a time stands.
+    pub(crate) fn tick_column(self, number: u32) -> u32
+        requires { number < tick_count self }
+        ensures value { result ≡ 10 * number }
+        ensures within { result < count self.columns }
+    {
+        TICK * number
+    }
+
+    /// How wide the SVG is: up to the end of the columns, or of the last time where that is further, and a column more.
+    pub(crate) fn width(self) -> u64
+        ensures { result ≡ width self }
+    {
+        let last = self.tick_column(self.tick_count() - 1);
+        let mut digits = Buffer::new();
+        let time = digits.format(self.columns.begin(last));
+        let reach = self.x(last) + 8 * time.len() as u64;
+        self.x(self.columns.count()).max(reach) + 8
+    }
+}
