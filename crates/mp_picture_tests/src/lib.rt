@@ -2,8 +2,12 @@
 #![tactic(auto)]
 
 #[cfg(test)]
+mod causes;
+#[cfg(test)]
 mod diagrams;
 #[cfg(test)]
 mod graphs;
+#[cfg(test)]
+mod svgs;
 #[cfg(test)]
 mod wire_groups;

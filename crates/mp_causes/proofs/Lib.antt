@@ -1,0 +1,5 @@
+pub mod EventLemmas
+pub mod ChainLemmas
+pub mod OrderLemmas
+pub mod ShareLemmas
+pub mod WhyLemmas

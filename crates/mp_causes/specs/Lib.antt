@@ -1,0 +1,9 @@
+pub mod Changes
+pub mod Causes
+pub mod KnownDrivers
+pub mod Chains
+pub mod Why
+pub mod Shares
+pub mod Noting
+pub mod Paths
+pub mod Laws

@@ -1,0 +1,10 @@
+//! A wire at a time.
+use mp_netlist::WireId;
+
+/// A wire at a time, as it is asked for. A time at or above the horizon is read as the horizon's last unit.
+#[derive(Clone, Copy, Debug, PartialEq, Eq)]
+pub struct Moment {
+    pub wire: WireId,
+    /// In units from 0.
+    pub time: u64,
+}
