@@ -1,0 +1,12 @@
+pub mod EventLemmas
+pub mod WaveLemmas
+pub mod ExtremeLemmas
+pub mod PutLemmas
+pub mod TrailLemmas
+pub mod WatchLemmas
+pub mod HeardLemmas
+pub mod EarLemmas
+pub mod WaitLemmas
+pub mod LawLemmas
+pub mod ApartLemmas
+pub mod HeldLemmas
