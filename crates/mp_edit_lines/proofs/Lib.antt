@@ -1,0 +1,4 @@
+mod JoinedLemmas
+mod PieceLemmas
+mod PlainWordLemmas
+mod ReadBackLemmas

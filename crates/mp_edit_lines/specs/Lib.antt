@@ -1,0 +1,2 @@
+pub mod EditLines
+pub mod ReadBack

@@ -1,0 +1,3 @@
+pub mod FeedLemmas
+pub mod GivenLemmas
+pub mod ReadingLemmas

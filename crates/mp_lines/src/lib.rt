@@ -1,0 +1,11 @@
+//! A source read line by line.
+#![tactic(auto)]
+
+mod chunk;
+mod line_reader;
+mod line_room;
+mod reading;
+mod too_long;
+
+pub use line_reader::LineReader;
+pub use too_long::{LINE_BYTES, TooLong};
