@@ -3,6 +3,7 @@ import dataclasses
 import re
 
 import formats
+import pictures
 import reader
 import reference
 from circuit import Refused
@@ -90,11 +91,20 @@ class Keeper:
             return "refused 3 NoSuchWire\n" if wire is None else f"{formats.wave_line(self.circuit.wires[wire], self.levels[wire])}\n"
         if question[0] == "work":
             return "".join(f"{self.circuit.module_names[module]} {start} {end}\n" for module, start, end in self.work)
+        if question[0] == "show":
+            return self.shown(*question[1:3], question[3:] or None)
+        if question[0] == "graph":
+            return pictures.graph(self.circuit)
         if question[0] == "text":
             return formats.text(self.circuit)
         if question[0] == "report":
             return formats.report(self.circuit, self.levels, self.found)
         return {"waves": formats.waves, "dump": formats.dump}[question[0]](self.circuit, self.levels)
+
+    def shown(self, begin, end, names):
+        if names and None in map(self.circuit.wire, names):
+            return "refused 3 NoSuchWire\n"
+        return pictures.show(self.circuit, begin, end, names=names)
 
     def reply(self, line, lacks_memory):
         """The reply to a line of a script. Where memory is lacking for an edit that would be accepted, or for a batch whose edits are judged,

@@ -9,7 +9,11 @@ CODES = {1: "NotAscii", 2: "UnknownStatement", 3: "WordCount", 4: "BadNumber", 5
 CODES[10] = "BadFormat"
 
 # the words of the questions of a script, with how many words their lines have
-QUESTIONS = {"wave": 2, "waves": 1, "text": 1, "report": 1, "dump": 1, "work": 1}
+# of each question, how many words may stand behind its first one, and which of these are numbers
+QUESTIONS = {word: (range(1), []) for word in ["waves", "text", "report", "dump", "work", "graph"]}
+QUESTIONS |= {"wave": (range(1, 2), []), "waits": (range(1, 2), [1]), "path": (range(2, 3), [2]), "measure": (range(2, 3), [1, 2])}
+QUESTIONS |= {"why": (range(2, 4), [2, 3]), "show": (range(2, 1 << 22), [1, 2])}
+MOST_STEPS = 1048576
 # the edits that stand in netlist texts, too
 STATEMENTS = ["wire", "module", "stim", "bundle"]
 EDITS = [*STATEMENTS, "remove", "input", "output", "indelay", "delay", "clear"]
@@ -120,6 +124,15 @@ def is_allowed(line):
     return all(letter in "\t\r" or " " <= letter <= "~" for letter in line)
 
 
+def question(words):
+    """A question's words, with those that are numbers as such."""
+    counts, numbers = QUESTIONS[words[0]]
+    want(3, len(words) - 1 in counts)
+    said = [number(word) if place in numbers else word for place, word in enumerate(words)]
+    want(4, len(said) < 4 or said[0] != "why" or 1 <= said[3] <= MOST_STEPS)
+    return said
+
+
 def line_of(line):
     """What a script's line says: None, a question's words, or an edit."""
     want(1, is_allowed(line))
@@ -129,8 +142,7 @@ def line_of(line):
     if words[0] == "batch":
         return "batch", ([part_of_batch(part) for part in parts_of(words[1:])],)
     if words[0] in QUESTIONS:
-        want(3, len(words) == QUESTIONS[words[0]])
-        return words
+        return question(words)
     want(2, words[0] in EDITS)
     return edit(words)
 

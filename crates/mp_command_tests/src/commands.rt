@@ -1,7 +1,8 @@
 //! What commands write, on devices that take and give few bytes at a time, and that fail in mid-stream.
 use crate::devices::{SmallReader, SmallWriter};
 use mp_commands::{
-    Command, Desk, DumpText, Options, Play, ReportLines, RunFault, Viewed, WaveLines, run_command,
+    Command, Desk, DumpText, GraphText, Options, Play, ReportLines, RunFault, Viewed, WaveLines,
+    run_command,
 };
 use mp_streams::{Out, ReadSource, Sink, Source, WriteSink};
 use std::alloc::Global;
@@ -33,6 +34,10 @@ const MET: &[u8] =
 const DUMP: &[u8] =
     b"$timescale 1 ns $end\n$scope module top $end\n$var wire 1 ! a $end\n$var wire 1 \" y $end\n$upscope $end\n$enddefinitions $end\n#0\n$dumpvars\n0!\n0\"\n$end\n#2\n1!\n#5\n0!\n1\"\n#8\n0\"\n#20\n";
 
+/// The graph of a buffer.
+const GRAPH: &[u8] =
+    b"digraph netlist {\n  \"module b\" [label=\"b\\nBUF\" shape=triangle];\n  \"wire a\" [label=\"a\" shape=plaintext];\n  \"wire a\" -> \"module b\" [label=\"a\"];\n}\n";
+
 const QUESTIONS: &[u8] =
     b"horizon 20\nwire a 1 0\nwire y 1 0\nmodule b BUF : a > y/3\nstim a 2=1 5=0\n---\ntext\ndump\n";
 
@@ -45,6 +50,7 @@ enum Asked {
     Waves,
     Report,
     Dump,
+    Graph,
     Desk,
     Play,
 }
@@ -55,12 +61,18 @@ type Run<'a> = (Asked, &'a [u8], usize, Result<(), RunFault>, &'a [u8]);
 /// Whether a run ends so, with a reader that has so many reads.
 fn ends(rt: &(impl Threads + Wait + Sync), alloc: Global, run: &Run<'_>, reads: usize) -> bool {
     match run.0 {
-        Asked::Waves => ends_by(rt, alloc, run, reads, &Viewed { view: WaveLines }),
-        Asked::Report => ends_by(rt, alloc, run, reads, &Viewed { view: ReportLines }),
-        Asked::Dump => ends_by(rt, alloc, run, reads, &Viewed { view: DumpText }),
+        Asked::Waves => ends_by(rt, alloc, run, reads, &viewed(WaveLines)),
+        Asked::Report => ends_by(rt, alloc, run, reads, &viewed(ReportLines)),
+        Asked::Dump => ends_by(rt, alloc, run, reads, &viewed(DumpText)),
+        Asked::Graph => ends_by(rt, alloc, run, reads, &viewed(GraphText)),
         Asked::Desk => ends_by(rt, alloc, run, reads, &Desk),
         Asked::Play => ends_by(rt, alloc, run, reads, &Play),
     }
+}
+
+/// The command that writes this view.
+fn viewed<V>(view: V) -> Viewed<V> {
+    Viewed { view: Some(view) }
 }
 
 /// Whether a run of this command ends so.
@@ -88,7 +100,7 @@ fn ends_by(
 }
 
 /// What commands write that have room for it.
-static WHOLE: [Run<'static>; 4] = [
+static WHOLE: [Run<'static>; 5] = [
     (
         Asked::Waves,
         BUF,
@@ -104,6 +116,7 @@ static WHOLE: [Run<'static>; 4] = [
         b"4 module x merge-collision\n",
     ),
     (Asked::Dump, BUF, 1000, Ok(()), DUMP),
+    (Asked::Graph, BUF, 1000, Ok(()), GRAPH),
     (Asked::Desk, TWO_DESIGNERS, 1000, Ok(()), MET),
 ];
 

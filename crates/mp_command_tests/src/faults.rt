@@ -1,14 +1,14 @@
 //! How faults of a run are told.
 use mp_commands::{RunFault, exit_status, fault_line};
 use mp_netlist::EditError;
-use mp_text::{TextCode, TextError};
+use mp_text::{LineError, TextCode, TextError};
 use std::test::Fail;
 
-static FAULTS: [(RunFault, u8, &str); 7] = [
+static FAULTS: [(RunFault, u8, &str); 8] = [
     (
         RunFault::Text(TextError {
             line: 4,
-            code: TextCode::WordCount,
+            code: TextCode::Line(LineError::WordCount),
         }),
         1,
         "mpwb: line 4: 3 WordCount",
@@ -26,13 +26,14 @@ static FAULTS: [(RunFault, u8, &str); 7] = [
     (RunFault::WriteFailed, 3, "mpwb: write failed"),
     (RunFault::OutOfMemory, 4, "mpwb: out of memory"),
     (RunFault::NoPlace, 4, "mpwb: no place"),
+    (RunFault::NoSuchWire(1), 1, "mpwb: no such wire: b c"),
 ];
 
 #[test]
 fn faults(rt: HostRuntime) -> Result<(), Fail> {
     for (fault, status, line) in &FAULTS {
         assert_eq!(rt; exit_status(fault), *status);
-        let told = fault_line(rt.alloc(), fault)?;
+        let told = fault_line(rt.alloc(), fault, &["a", "b c"])?;
         assert_eq!(rt; told.as_slice(), line.as_bytes());
     }
     Ok(())

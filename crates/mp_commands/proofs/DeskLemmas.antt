@@ -1,9 +1,11 @@
 -- The blocks of an input, and the lines of a meeting.
-use Rattle.std.proofs.Common.{◌≡◌, ℕ, ◌+◌, ◌<◌, zero, suc, true, false, List, [], ◌∷◌, ◌++◌, length, drop, slice_index_or, Ok, Err, refl, sym, ap, subst, ◌∙◌, arith}
+use Rattle.std.proofs.Common.{◌≡◌, ℕ, ◌+◌, ◌<◌, true, false, List, [], ◌∷◌, ◌++◌, length, drop, slice_index_or, Result, Ok, Err, IsErr, refl, sym, ap, subst, ◌∙◌}
 use Rattle.std.specs.Borrow.{Bor}
-use Rattle.std.proofs.lemmas.List.{length-map}
+use Rattle.std.proofs.lemmas.List.{length-map, drop_more}
 use Rattle.mp_streams.specs.declared.failed.Failed.{Failed}
 use Rattle.mp_streams.specs.Outgoing.{Outgoing, Writes}
+use Rattle.mp_streams.proofs.LeftLemmas.{Left, left_as, left_then, left_failed}
+use Rattle.mp_streams.proofs.OutLemmas.{writes_failed}
 use Rattle.mp_netlist.specs.Circuit.{Circuit}
 use Rattle.mp_netlist.specs.Replays.{replay}
 use Rattle.mp_words.specs.Lines.{lines_of}
@@ -12,48 +14,23 @@ use Rattle.mp_words.proofs.PartLemmas.{parts_of-split, parts_of-one}
 use Rattle.mp_version.specs.Stories.{Story, present}
 use Rattle.mp_meeting.specs.declared.tally.Tally.{Tally}
 use Rattle.mp_meeting.specs.Meetings.{IsMeeting}
-use Rattle.mp_commands.specs.Desks.{blocks_of, tally_line, tally_lines, viewer_line, viewer_lines, met_text, IsDeskText}
-use Rattle.mp_commands.proofs.PutLemmas.{ToGo, less_to_go, stopped}
+use Rattle.mp_commands.specs.Desks.{blocks_of, lines_from, met_text, IsDeskText}
 
 -- ---- lines, place by place
 
-drop_here : {A : Type 0} (xs : List A) (k : ℕ) (x : A) → k < length xs → drop k xs ≡ slice_index_or xs k x ∷ drop (suc k) xs
-drop_here [] k x within = absurd (omega (arith, within))
-drop_here (y ∷ xs) zero x within = refl
-drop_here (y ∷ xs) (suc k) x within = drop_here xs k x (omega (arith, within))
+module _ {S X : Type 0} (line : ℕ → X → List ℕ) (a b c : Outgoing S) (xs : List X) (k : ℕ) (x : X) where
+  next_line : k < length xs → x ≡ slice_index_or xs k x → lines_from line (k + 1) (drop k xs) ≡ line (k + 1) x ++ lines_from line (k + 1 + 1) (drop (k + 1) xs)
+  next_line within here = ap (lines_from line (k + 1)) (drop_more xs k x within ∙ ap (λ y. y ∷ drop (k + 1) xs) (sym here))
 
-next_here : {A : Type 0} (xs : List A) (k : ℕ) (x : A) → k < length xs → x ≡ slice_index_or xs k x → drop k xs ≡ x ∷ drop (k + 1) xs
-next_here xs k x within here =
-    let one : suc k ≡ k + 1 = omega arith in
-    drop_here xs k x within ∙ ap (λ y. y ∷ drop (suc k) xs) (sym here) ∙ ap (λ n. x ∷ drop n xs) one
+  -- a line more
+  pub line_put : Writes {T = Unit {0}} (Ok tt) b c (line (k + 1) x) → x ≡ slice_index_or xs k x → k < length xs
+      → Left (lines_from line 1 xs) a b (lines_from line (k + 1) (drop k xs)) → Left (lines_from line 1 xs) a c (lines_from line (k + 1 + 1) (drop (k + 1) xs))
+  line_put put here within left = left_then (left_as (next_line within here) left) put
 
-module _ (a b c : Outgoing) (tallies : List Tally) (k : ℕ) (t : Tally) where
-  designer_next : k < length tallies → t ≡ slice_index_or tallies k t → tally_lines (k + 1) (drop k tallies) ≡ tally_line (k + 1) t ++ tally_lines (k + 1 + 1) (drop (k + 1) tallies)
-  designer_next within here = ap (tally_lines (k + 1)) (next_here tallies k t within here)
-
-  -- one designer more
-  pub designer_put : Writes {T = Unit {0}} (Ok tt) b c (tally_line (k + 1) t) → t ≡ slice_index_or tallies k t → k < length tallies
-      → ToGo a b (tally_lines 1 tallies) (tally_lines (k + 1) (drop k tallies)) → ToGo a c (tally_lines 1 tallies) (tally_lines (k + 1 + 1) (drop (k + 1) tallies))
-  designer_put put here within before = less_to_go a (tally_lines 1 tallies) (tally_line (k + 1) t) (tally_lines (k + 1 + 1) (drop (k + 1) tallies)) (designer_next within here) before put
-
-  -- the line of a designer failed
-  pub designer_failed : {error : Failed} → Writes {T = Unit {0}} (Err error) b c (tally_line (k + 1) t) → t ≡ slice_index_or tallies k t → k < length tallies
-      → ToGo a b (tally_lines 1 tallies) (tally_lines (k + 1) (drop k tallies)) → Writes {T = Unit {0}} (Err error) a c (tally_lines 1 tallies)
-  designer_failed {error = error} put here within before = stopped a (tally_lines 1 tallies) (tally_line (k + 1) t) (tally_lines (k + 1 + 1) (drop (k + 1) tallies)) (designer_next within here) before put
-
-module _ (a b c : Outgoing) (numbers : List ℕ) (k : ℕ) (n : ℕ) where
-  viewer_next : k < length numbers → n ≡ slice_index_or numbers k n → viewer_lines (k + 1) (drop k numbers) ≡ viewer_line (k + 1) n ++ viewer_lines (k + 1 + 1) (drop (k + 1) numbers)
-  viewer_next within here = ap (viewer_lines (k + 1)) (next_here numbers k n within here)
-
-  -- one viewer more
-  pub viewer_put : Writes {T = Unit {0}} (Ok tt) b c (viewer_line (k + 1) n) → n ≡ slice_index_or numbers k n → k < length numbers
-      → ToGo a b (viewer_lines 1 numbers) (viewer_lines (k + 1) (drop k numbers)) → ToGo a c (viewer_lines 1 numbers) (viewer_lines (k + 1 + 1) (drop (k + 1) numbers))
-  viewer_put put here within before = less_to_go a (viewer_lines 1 numbers) (viewer_line (k + 1) n) (viewer_lines (k + 1 + 1) (drop (k + 1) numbers)) (viewer_next within here) before put
-
-  -- the line of a viewer failed
-  pub viewer_failed : {error : Failed} → Writes {T = Unit {0}} (Err error) b c (viewer_line (k + 1) n) → n ≡ slice_index_or numbers k n → k < length numbers
-      → ToGo a b (viewer_lines 1 numbers) (viewer_lines (k + 1) (drop k numbers)) → Writes {T = Unit {0}} (Err error) a c (viewer_lines 1 numbers)
-  viewer_failed {error = error} put here within before = stopped a (viewer_lines 1 numbers) (viewer_line (k + 1) n) (viewer_lines (k + 1 + 1) (drop (k + 1) numbers)) (viewer_next within here) before put
+  -- a line failed
+  pub line_failed : {error : Failed} → Writes {T = Unit {0}} (Err error) b c (line (k + 1) x) → x ≡ slice_index_or xs k x → k < length xs
+      → Left (lines_from line 1 xs) a b (lines_from line (k + 1) (drop k xs)) → (r : Result (Unit {0}) Failed) → IsErr r → Writes r a c (lines_from line 1 xs)
+  line_failed {error = error} put here within left r is = left_failed (lines_from line (k + 1 + 1) (drop (k + 1) xs)) (left_as (next_line within here) left) r is (writes_failed r is put)
 
 -- ---- the blocks
 

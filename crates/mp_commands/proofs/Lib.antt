@@ -1,6 +1,9 @@
+pub mod AskedWireLemmas
+pub mod PictureLemmas
 pub mod OutputLemmas
 pub mod PutLemmas
 pub mod RunLemmas
+pub mod ViewLemmas
 pub mod ReplyLemmas
 pub mod PlayLemmas
 pub mod DeskLemmas

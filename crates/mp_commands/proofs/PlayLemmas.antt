@@ -32,12 +32,12 @@ some_replies kept (line ∷ lines) =
 -- ---- the replies so far
 
 -- these bytes were written, and with replies to the rest behind them they are the replies to all lines
-pub record ArePlayed (first now : Kept) (lines rest : List (List ℕ)) (old new : Outgoing) : Type 0 where
+pub record ArePlayed {S : Type 0} (first now : Kept) (lines rest : List (List ℕ)) (old new : Outgoing S) : Type 0 where
   pub done : List ℕ
   pub put : Writes {T = Unit {0}} (Ok tt) old new done
   pub goes_on : (later : List ℕ) → AreReplies now rest later → AreReplies first lines (done ++ later)
 
-pub one_more : (first now next : Kept) (lines rest : List (List ℕ)) (line : List ℕ) (a b c : Outgoing) (wanting : Bool) → ArePlayed first now lines (line ∷ rest) a b
+pub one_more : {S : Type 0} (first now next : Kept) (lines rest : List (List ℕ)) (line : List ℕ) (a b c : Outgoing S) (wanting : Bool) → ArePlayed first now lines (line ∷ rest) a b
     → IsNext wanting now line next → Writes {T = Unit {0}} (Ok tt) b c (reply wanting now line) → ArePlayed first next lines rest a c
 one_more first now next lines rest line a b c wanting played after put = record {
   done = played.done ++ reply wanting now line;
@@ -48,13 +48,13 @@ one_more first now next lines rest line a b c wanting played after put = record 
 }
 
 -- all lines were answered
-pub replies_all : (first now : Kept) (lines : List (List ℕ)) (a b : Outgoing) → ArePlayed first now lines [] a b → PutsReplies (Ok tt) a b first lines
+pub replies_all : {S : Type 0} (first now : Kept) (lines : List (List ℕ)) (a b : Outgoing S) → ArePlayed first now lines [] a b → PutsReplies (Ok tt) a b first lines
 replies_all first now lines a b played =
     let all = append-nil played.done in
     (played.done, subst (AreReplies first lines) all (played.goes_on [] (no_lines now)), played.put)
 
 -- the reply to a line failed
-pub replies_part : (error : WriteError) (first now next : Kept) (lines others : List (List ℕ)) (line : List ℕ) (a b c : Outgoing) (wanting : Bool)
+pub replies_part : {S : Type 0} (error : WriteError) (first now next : Kept) (lines others : List (List ℕ)) (line : List ℕ) (a b c : Outgoing S) (wanting : Bool)
     → ArePlayed first now lines (line ∷ others) a b → IsNext wanting now line next
     → Writes {T = Unit {0}} (Err error) b c (reply wanting now line) → PutsReplies (Err error) a c first lines
 replies_part error first now next lines others line a b c wanting played after put =

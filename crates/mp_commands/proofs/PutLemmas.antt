@@ -1,47 +1,18 @@
--- A text that is written piece by piece.
-use Rattle.std.proofs.Common.{◌≡◌, ℕ, ◌+◌, ◌<◌, Bool, true, List, [], ◌++◌, append_assoc, length, Result, Ok, Err, refl, sym, ap, subst, ◌∙◌, arith}
+-- What is held is passed on.
+use Rattle.std.proofs.Common.{◌≡◌, ℕ, ◌+◌, ◌<◌, true, List, [], ◌++◌, append_assoc, length, Ok, Err, sym, ap, subst, ◌∙◌, arith}
 use Rattle.std.proofs.KnownBytes.{Appends-trans}
 use Rattle.std.proofs.lemmas.List.{append-nil, length-append}
 use Rattle.mp_streams.specs.declared.failed.Failed.{Failed}
-use Rattle.mp_streams.specs.declared.write_error.WriteError.{WriteError}
 use Rattle.mp_streams.specs.declared.write_error.WriteError.TheVariants as writes
 use Rattle.mp_streams.specs.Outgoing.{Outgoing, Puts}
 use Rattle.mp_streams.specs.Outgoing as outs
 use Rattle.mp_streams.specs.StreamFaults.{one_more}
 use Rattle.mp_streams.specs.WriteErrors.{Writes}
-use Rattle.mp_streams.proofs.OutLemmas.{puts_none, puts_then, puts_sooner}
+use Rattle.mp_streams.proofs.OutLemmas.{puts_ok, puts_then}
 
--- a text was written, whatever error may have come
-pub puts_same : {T E F : Type 0} {f : E → Bool} {g : F → Bool} {done : T} {a b : Outgoing} {text : List ℕ} → Puts f (Ok done) a b text → Puts g (Ok done) a b text
-puts_same {T = T} {E = E} {F = F} {f = f} {g = g} {done = done} {a = a} {b = b} {text = text} put = record { front = put.front; lost = put.lost; taken = put.taken; held = put.held; ends = put.ends }
-
--- of the whole text, all but the rest was written
-abbrev pub ToGo : Outgoing → Outgoing → List ℕ → List ℕ → Type 0
-ToGo old now whole rest = (done : List ℕ) × (whole ≡ done ++ rest) × outs.Writes {T = Unit {0}} (Ok tt) old now done
-
-module _ (a : Outgoing) (whole : List ℕ) where
-  pub all_to_go : ToGo a a whole whole
-  all_to_go = ([], refl, puts_none a)
-
-  module _ {E : Type 0} {f : E → Bool} {b : Outgoing} where
-    pub none_to_go : ToGo a b whole [] → Puts {T = Unit {0}} f (Ok tt) a b whole
-    none_to_go here = subst (Puts f (Ok tt) a b) (sym (here.1 ∙ append-nil here.0)) (puts_same here.2)
-
-    module _ {c : Outgoing} {left : List ℕ} (piece rest : List ℕ) (next : left ≡ piece ++ rest) (here : ToGo a b whole left) where
-      -- a piece more
-      pub less_to_go : Puts {T = Unit {0}} f (Ok tt) b c piece → ToGo a c whole rest
-      less_to_go put =
-          (here.0 ++ piece, here.1 ∙ ap (λ l. here.0 ++ l) next ∙ sym (append_assoc here.0 piece rest), puts_same (puts_then here.2 put))
-
-      -- a piece failed
-      pub stopped : {error : E} → Puts {T = Unit {0}} f (Err error) b c piece → Puts {T = Unit {0}} f (Err error) a c whole
-      stopped {error = error} put = subst (Puts f (Err error) a c) (sym (here.1 ∙ ap (λ l. here.0 ++ l) next)) (puts_then here.2 (puts_sooner rest put))
-
--- ---- what is held is passed on
-
-module _ (a b c : Outgoing) (xs : List ℕ) where
+module _ {S : Type 0} (a b c : Outgoing S) (xs : List ℕ) where
   -- of what was held and the text, the rest that neither call lost or passed on is held
-  both : (f1 l1 f2 l2 : List ℕ) → a.held ++ xs ≡ f1 ++ (b.held ++ l1) → b.held ++ [] ≡ f2 ++ (c.held ++ l2) → a.held ++ xs ≡ (f1 ++ f2) ++ (c.held ++ (l2 ++ l1))
+  pub both : (f1 l1 f2 l2 : List ℕ) → a.held ++ xs ≡ f1 ++ (b.held ++ l1) → b.held ++ [] ≡ f2 ++ (c.held ++ l2) → a.held ++ xs ≡ (f1 ++ f2) ++ (c.held ++ (l2 ++ l1))
   both f1 l1 f2 l2 first second =
       let split : b.held ≡ f2 ++ (c.held ++ l2) = sym (append-nil b.held) ∙ second in
       first ∙ ap (λ l. f1 ++ (l ++ l1)) split ∙ ap (λ l. f1 ++ l) (append_assoc f2 (c.held ++ l2) l1 ∙ ap (λ l. f2 ++ l) (append_assoc c.held l2 l1))
@@ -49,7 +20,7 @@ module _ (a b c : Outgoing) (xs : List ℕ) where
 
   -- all of it, behind a text
   pub flushed : Writes {T = Unit {0}} (Ok tt) a b xs → outs.Writes {T = Unit {0}} (Ok tt) b c [] → Writes {T = Unit {0}} (Ok tt) a c xs
-  flushed first second = subst (Writes {T = Unit {0}} (Ok tt) a c) (append-nil xs) (puts_same (puts_then first second))
+  flushed first second = subst (Writes {T = Unit {0}} (Ok tt) a c) (append-nil xs) (puts_ok (puts_then first second))
 
   -- not all of it
   pub unflushed : {error : Failed} → Writes {T = Unit {0}} (Ok tt) a b xs → outs.Writes {T = Unit {0}} (Err error) b c [] → Writes {T = Unit {0}} (Err writes.WriteFailed) a c xs
@@ -81,7 +52,7 @@ module _ (a b c : Outgoing) (xs : List ℕ) where
       }
 
 -- nothing can fail where nothing is held
-pub nothing_held : {error : Failed} (a b c : Outgoing) → a.held ≡ [] → Writes {T = Unit {0}} (Err writes.OutOfMemory) a b [] → outs.Writes {T = Unit {0}} (Err error) b c [] → ⊥
+pub nothing_held : {S : Type 0} {error : Failed} (a b c : Outgoing S) → a.held ≡ [] → Writes {T = Unit {0}} (Err writes.OutOfMemory) a b [] → outs.Writes {T = Unit {0}} (Err error) b c [] → ⊥
 nothing_held {error = error} a b c none first second =
     let all = both a b c [] first.front first.lost second.front second.lost first.held second.held in
     let some : 0 < length second.lost = second.ends.2 in

@@ -1,5 +1,5 @@
 -- The reply to a line that was read.
-use Rattle.std.proofs.Common.{◌≡◌, ◌⊎◌, inl, inr, ℕ, Bool, true, false, ◌&&◌, List, [], Result, Ok, Err, IsErrAnd, OnOk, refl, sym, ap, subst, ◌∙◌, true≢false}
+use Rattle.std.proofs.Common.{◌≡◌, ◌⊎◌, inl, inr, ℕ, Bool, true, false, ◌&&◌, List, Result, Ok, Err, IsErrAnd, OnOk, refl, sym, ap, subst, ◌∙◌, true≢false}
 use Rattle.std.specs.Prelude.{if◌then◌else◌}
 use Rattle.mp_records.specs.declared.edit.Edit.{Edit}
 use Rattle.mp_records.specs.declared.edit.Edit.TheVariants.{Single, Batch}
@@ -10,8 +10,8 @@ use Rattle.mp_netlist.specs.Edits.{after_each, is_batch, may_want, RefusedBy}
 use Rattle.mp_words.specs.declared.line_error.LineError.{LineError}
 use Rattle.mp_words.specs.declared.line_error.LineError.TheVariants.{OutOfMemory}
 use Rattle.mp_text.specs.declared.script_line.Line.{Line}
-use Rattle.mp_text.specs.declared.script_line.Line.TheVariants.{Empty, Change, Ask}
-use Rattle.mp_text.specs.declared.script_line.Question.{Question}
+use Rattle.mp_text.specs.declared.script_line.Line.TheVariants.{Change, Ask}
+use Rattle.mp_text.specs.declared.question.Question.{Question}
 use Rattle.mp_text.specs.ScriptLines.{line_at}
 use Rattle.mp_streams.specs.Outgoing.{Outgoing}
 use Rattle.mp_streams.specs.Outgoing as outs
@@ -21,11 +21,11 @@ use Rattle.mp_streams.specs.declared.write_error.WriteError.{WriteError}
 use Rattle.mp_streams.specs.declared.write_error.WriteError.TheVariants as writes
 use Rattle.mp_streams.proofs.OutLemmas.{puts_unmade}
 use Rattle.mp_commands.specs.Keepers.{Kept, counted_edit, judged, IsOneMore, IsKeptAfter}
-use Rattle.mp_commands.specs.Replies.{IsNext, reply_to, IsKeptNext, accepted_text, refused_text, outcome, edit_text, answer_text, unread_text, PutsEdit, PutsReply}
+use Rattle.mp_commands.specs.Replies.{IsNext, IsKeptNext, accepted_text, refused_text, outcome, edit_text, answer_text, unread_text, PutsEdit, PutsReply}
 
 -- ---- what becomes of an edit
 
-module _ (r : Result (Unit {0}) Failed) (a b : Outgoing) (old new : Kept) (edit : Edit) where
+module _ {S : Type 0} (r : Result (Unit {0}) Failed) (a b : Outgoing S) (old new : Kept) (edit : Edit) where
   kept_after : (wanting : Bool) (made : Result Circuit EditError) → outcome wanting old edit ≡ made → IsKeptAfter old made new → outs.Writes r a b (edit_text old made) → PutsEdit r a b old new edit
   kept_after wanting made is kept put = (wanting, rw is kept, rw is put)
 
@@ -55,9 +55,7 @@ wanting_keeps old (Batch several) = by (is_batch several)
 
 read_keeps : (old : Kept) (read : Result Line LineError) → IsKeptNext true old read old
 read_keeps old (Ok (Change edit)) = wanting_keeps old edit
-read_keeps old (Ok Empty) = refl
-read_keeps old (Ok (Ask question)) = refl
-read_keeps old (Err error) = refl
+read_keeps old read = refl
 
 -- what was kept before a line may be kept after it: so each line may have a next one
 pub next_keeps : (old : Kept) (line : List ℕ) → IsNext true old line old
@@ -75,7 +73,7 @@ on_ok : {T E P : Type 0} (r : Result T E) → P → OnOk r P
 on_ok (Ok value) holds = holds
 on_ok (Err error) holds = tt
 
-module _ (r : Result (Unit {0}) WriteError) (a b : Outgoing) (kept : Kept) where
+module _ {S : Type 0} (r : Result (Unit {0}) WriteError) (a b : Outgoing S) (kept : Kept) where
   -- an edit
   pub change_replied : (now : Kept) (edit : Edit) (wanting : Bool) → IsKeptAfter kept (outcome wanting kept edit) now
       → Writes r a b (edit_text kept (outcome wanting kept edit)) → PutsReply r a b kept now (Ok (Change edit))
@@ -91,5 +89,5 @@ module _ (r : Result (Unit {0}) WriteError) (a b : Outgoing) (kept : Kept) where
   unread_replied line error (inr same) other put = rw same (false, kept, refl, put, on_ok r refl)
 
 -- memory was wanting for the line
-pub memory_replied : (r : Result (Unit {0}) WriteError) (a : Outgoing) (kept : Kept) (line : List ℕ) → IsErrAnd r (λ e. e ≡ writes.OutOfMemory) → PutsReply r a a kept kept (line_at line)
+pub memory_replied : {S : Type 0} (r : Result (Unit {0}) WriteError) (a : Outgoing S) (kept : Kept) (line : List ℕ) → IsErrAnd r (λ e. e ≡ writes.OutOfMemory) → PutsReply r a a kept kept (line_at line)
 memory_replied r a kept line is = (true, kept, next_keeps kept line, puts_unmade r writes.OutOfMemory a _ is refl, on_ok r refl)

@@ -1,5 +1,5 @@
 -- The ends of a run.
-use Rattle.std.proofs.Common.{◌≡◌, ℕ, ◌<◌, ◌≤◌, ◌⊎◌, inl, inr, Bool, true, false, IfSome, List, [], take, length, Option, Some, None, Result, Ok, Err, IsErrAnd, IsOk, refl, sym, ap, subst, ◌∙◌, arith}
+use Rattle.std.proofs.Common.{◌≡◌, ℕ, ◌<◌, ◌≤◌, ◌⊎◌, inl, inr, Bool, true, false, IfSome, List, [], take, length, Option, Some, None, Result, Ok, Err, IsErrAnd, IsOk, refl, ap, subst, arith}
 use Rattle.std.proofs.lemmas.Bool.{cases_lt, lt-leb, le-leb}
 use Rattle.std.proofs.lemmas.List.{take_all, length-take-le}
 use Rattle.std.proofs.lemmas.Result.{err_from_is_err_and}
@@ -15,6 +15,7 @@ use Rattle.mp_streams.specs.declared.write_error.WriteError.TheVariants as write
 use Rattle.mp_streams.proofs.OutLemmas.{puts_unmade}
 use Rattle.mp_meeting.specs.declared.meeting_fault.MeetingFault.{MeetingFault}
 use Rattle.mp_meeting.specs.declared.meeting_fault.MeetingFault.TheVariants as meetings
+use Rattle.mp_words.specs.declared.line_error.LineError.TheVariants as lines
 use Rattle.mp_text.specs.declared.text_code.TextCode.{TextCode}
 use Rattle.mp_text.specs.declared.text_code.TextCode.TheVariants as texts
 use Rattle.mp_text.specs.declared.text_error.TextError.{TextError}
@@ -22,7 +23,7 @@ use Rattle.mp_text.specs.declared.text_state.TextState.TheVariants.{Fresh}
 use Rattle.mp_text.specs.Texts.{text_at, after_lines}
 use Rattle.mp_words.specs.Lines.{lines_of}
 use Rattle.mp_commands.specs.declared.run_fault.RunFault.{RunFault}
-use Rattle.mp_commands.specs.declared.run_fault.RunFault.TheVariants.{Text, BadCount, ReadFailed, WriteFailed, OutOfMemory, NoPlace}
+use Rattle.mp_commands.specs.declared.run_fault.RunFault.TheVariants.{Text, ReadFailed, WriteFailed, OutOfMemory, NoPlace}
 use Rattle.mp_commands.specs.Limits.{max_input, max_taken}
 use Rattle.mp_commands.specs.Openings.{counted_netlist, within_size, too_long}
 use Rattle.mp_commands.specs.RunFaults.{fault_of_text, fault_at, fault_of_take, fault_of_write, fault_of_meeting, counted_reads}
@@ -31,30 +32,23 @@ use Rattle.mp_commands.proofs.PutLemmas.{flushed, unflushed, flushed_part, unflu
 
 -- ---- a run that writes nothing
 
-module _ (seats : Bool) (opening : Result Circuit RunFault) (IsText : Circuit → List ℕ → Type 0) (a : Outgoing) where
+module _ {S : Type 0} (seats : Bool) (opening : Result Circuit RunFault) (IsText : Circuit → List ℕ → Type 0) (a : Outgoing S) where
   refused_by : (fault : RunFault) → Refuses seats opening fault → Ran seats (Err fault) opening IsText a a
-  refused_by (Text error) h = (h, refl)
-  refused_by BadCount h = (h, refl)
-  refused_by ReadFailed h = absurd h
   refused_by WriteFailed h = absurd h
   refused_by OutOfMemory h = inl (puts_unmade (Err writes.OutOfMemory) writes.OutOfMemory a [] refl refl)
-  refused_by NoPlace h = (h, refl)
+  refused_by fault h = (h, refl)
 
   pub refused : (r : Result (Unit {0}) RunFault) (fault : RunFault) → IsErrAnd r (λ f. f ≡ fault) → Refuses seats opening fault → Ran seats r opening IsText a a
   refused r fault is h = let p = err_from_is_err_and r is in rw (p.1, p.2) (refused_by fault h)
 
 -- where nobody sits down, no place is wanting
 pub refused_unseated : (seats : Bool) (opening : Result Circuit RunFault) (fault : RunFault) → Refuses false opening fault → Refuses seats opening fault
-refused_unseated seats opening (Text error) h = h
-refused_unseated seats opening BadCount h = h
-refused_unseated seats opening ReadFailed h = h
-refused_unseated seats opening WriteFailed h = h
-refused_unseated seats opening OutOfMemory h = h
 refused_unseated seats opening NoPlace (none, is) = cc none
+refused_unseated seats opening fault h = h
 
 -- ---- a run that wrote
 
-module _ (seats : Bool) (opening : Result Circuit RunFault) (IsText : Circuit → List ℕ → Type 0) (n : Circuit) (same : opening ≡ Ok n) (text : List ℕ) (is : IsText n text) (a b : Outgoing) where
+module _ {S : Type 0} (seats : Bool) (opening : Result Circuit RunFault) (IsText : Circuit → List ℕ → Type 0) (n : Circuit) (same : opening ≡ Ok n) (text : List ℕ) (is : IsText n text) (a b : Outgoing S) where
   one : {T : Type 0} (r : Result T WriteError) → Writes r a b text → WritesOne r opening IsText a b
   one r put = rw same (text, is, put)
 
@@ -72,7 +66,7 @@ module _ (seats : Bool) (opening : Result Circuit RunFault) (IsText : Circuit �
 
 -- ---- what is held is passed on
 
-module _ (opening : Result Circuit RunFault) (IsText : Circuit → List ℕ → Type 0) (a b c : Outgoing) where
+module _ {S : Type 0} (opening : Result Circuit RunFault) (IsText : Circuit → List ℕ → Type 0) (a b c : Outgoing S) where
   -- one text becomes another
   passed_on : (r s : Result (Unit {0}) WriteError) → ((text : List ℕ) → Writes r a b text → Writes s a c text) → WritesOne r opening IsText a b → WritesOne s opening IsText a c
   passed_on r s on = by opening
@@ -99,23 +93,18 @@ module _ (opening : Result Circuit RunFault) (IsText : Circuit → List ℕ → 
 -- ---- the input
 
 -- where it doesn't open, it doesn't matter what its texts would be
-ran_unopened : (seats : Bool) (fault : RunFault) (I J : Circuit → List ℕ → Type 0) (a b : Outgoing) (r : Result (Unit {0}) RunFault) → Ran seats r (Err fault) I a b → Ran seats r (Err fault) J a b
-ran_unopened seats fault I J a b (Ok done) h = h
-ran_unopened seats fault I J a b (Err (Text error)) h = h
-ran_unopened seats fault I J a b (Err BadCount) h = h
-ran_unopened seats fault I J a b (Err ReadFailed) h = h
-ran_unopened seats fault I J a b (Err WriteFailed) h = h
+ran_unopened : {S : Type 0} (seats : Bool) (fault : RunFault) (I J : Circuit → List ℕ → Type 0) (a b : Outgoing S) (r : Result (Unit {0}) RunFault) → Ran seats r (Err fault) I a b → Ran seats r (Err fault) J a b
 ran_unopened seats fault I J a b (Err OutOfMemory) h = h
-ran_unopened seats fault I J a b (Err NoPlace) h = h
+ran_unopened seats fault I J a b r h = h
 
 module _ (opening : List ℕ → Result Circuit RunFault) where
   pub within_size-long : (input : List ℕ) → max_input < length input → within_size opening input ≡ Err too_long
   within_size-long input long = rw (lt-leb (length input) max_input long) refl
 
-  within_size-short : (input : List ℕ) → length input ≤ max_input → within_size opening input ≡ opening input
+  pub within_size-short : (input : List ℕ) → length input ≤ max_input → within_size opening input ≡ opening input
   within_size-short input short = rw (le-leb (length input) max_input short) refl
 
-  module _ (seats : Bool) (IsText : List ℕ → Circuit → List ℕ → Type 0) (r : Result (Unit {0}) RunFault) (a b : Outgoing) where
+  module _ {S : Type 0} (seats : Bool) (IsText : List ℕ → Circuit → List ℕ → Type 0) (r : Result (Unit {0}) RunFault) (a b : Outgoing S) where
     -- one byte more than an input may have is enough to read
     whole_input : (limit : ℕ) → limit ≡ max_taken → (input : List ℕ) → Ran seats r (within_size opening (take limit input)) (IsText (take limit input)) a b
         → Ran seats r (within_size opening input) (IsText input) a b
@@ -138,13 +127,8 @@ module _ (opening : List ℕ → Result Circuit RunFault) where
     -- a run that was not ended by the source
     ran_from : (s : Result (Unit {0}) RunFault) (left : Option (List ℕ)) → HasInput left (λ input. Ran seats s (within_size opening input) (IsText input) a b)
         → RanFrom s left (λ input. Ran seats s (within_size opening input) (IsText input) a b) a b
-    ran_from (Ok done) left h = h
-    ran_from (Err (Text error)) left h = h
-    ran_from (Err BadCount) left h = h
     ran_from (Err ReadFailed) left h = absurd h.2.0
-    ran_from (Err WriteFailed) left h = h
-    ran_from (Err OutOfMemory) left h = h
-    ran_from (Err NoPlace) left h = h
+    ran_from s left h = h
 
     pub from_source : (left : Option (List ℕ)) (text : List ℕ) (limit : ℕ) → IfSome left (λ bytes. text ≡ take limit bytes) → length text ≤ limit → limit ≡ max_taken
         → Ran seats r (within_size opening text) (IsText text) a b → RanFrom r left (λ input. Ran seats r (within_size opening input) (IsText input) a b) a b
@@ -156,7 +140,7 @@ module _ (opening : List ℕ → Result Circuit RunFault) where
     from_input left text limit front within same short ran = from_source left text limit front within same (rw (within_size-short text short) ran)
 
 -- a source that is not read
-pub unread_source : (Holds : Result (Unit {0}) RunFault → List ℕ → Type 0) (left : Option (List ℕ)) (a : Outgoing) (r : Result (Unit {0}) RunFault) (error : TakeError)
+pub unread_source : {S : Type 0} (Holds : Result (Unit {0}) RunFault → List ℕ → Type 0) (left : Option (List ℕ)) (a : Outgoing S) (r : Result (Unit {0}) RunFault) (error : TakeError)
     → IsErrAnd r (λ f. f ≡ fault_of_take error) → ((input : List ℕ) → Holds (Err OutOfMemory) input) → RanFrom r left (Holds r) a a
 unread_source Holds left a r error is memory = let p = err_from_is_err_and r is in rw (p.1, p.2) (by error left)
   where
@@ -167,14 +151,9 @@ unread_source Holds left a r error is memory = let p = err_from_is_err_and r is 
 
 -- ---- the faults of a source
 
-pub counted_reads-ran : (seats : Bool) (opening : Result Circuit RunFault) (IsText : Circuit → List ℕ → Type 0) (a b : Outgoing) (r : Result (Unit {0}) RunFault) (n : ℕ) → Ran seats r opening IsText a b → counted_reads r n ≡ n
-counted_reads-ran seats opening IsText a b (Ok done) n ran = refl
-counted_reads-ran seats opening IsText a b (Err (Text error)) n ran = refl
-counted_reads-ran seats opening IsText a b (Err BadCount) n ran = refl
+pub counted_reads-ran : {S : Type 0} (seats : Bool) (opening : Result Circuit RunFault) (IsText : Circuit → List ℕ → Type 0) (a b : Outgoing S) (r : Result (Unit {0}) RunFault) (n : ℕ) → Ran seats r opening IsText a b → counted_reads r n ≡ n
 counted_reads-ran seats opening IsText a b (Err ReadFailed) n ran = absurd ran.0
-counted_reads-ran seats opening IsText a b (Err WriteFailed) n ran = refl
-counted_reads-ran seats opening IsText a b (Err OutOfMemory) n ran = refl
-counted_reads-ran seats opening IsText a b (Err NoPlace) n ran = refl
+counted_reads-ran seats opening IsText a b r n ran = refl
 
 -- ---- a netlist that is not read
 
@@ -182,7 +161,7 @@ pub text_at-short : (text : List ℕ) → length text ≤ max_input → text_at 
 unfolding text_at
 text_at-short text short = rw (le-leb (length text) max_input short) refl
 
-pub refused_text : (read : Result Circuit TextError) (valid : Bool) (error : TextError) → (error.code ≡ texts.OutOfMemory) ⊎ (read ≡ Err error) → Refuses false (counted_netlist read valid) (fault_of_text error)
+pub refused_text : (read : Result Circuit TextError) (valid : Bool) (error : TextError) → (error.code ≡ texts.Line lines.OutOfMemory) ⊎ (read ≡ Err error) → Refuses false (counted_netlist read valid) (fault_of_text error)
 refused_text read valid error (inl memory) = rw memory tt
 refused_text read valid error (inr same) = by error.code
   where
@@ -190,16 +169,8 @@ refused_text read valid error (inr same) = by error.code
     told = ap (λ r. counted_netlist r valid) same
 
     by : (code : TextCode) → Refuses false (counted_netlist read valid) (fault_at error code)
-    by texts.NotAscii = told
-    by texts.UnknownStatement = told
-    by texts.WordCount = told
-    by texts.BadNumber = told
-    by texts.NoHorizon = told
-    by texts.SecondHorizon = told
-    by (texts.Refused cause) = told
-    by texts.TooLong = told
-    by texts.BadFormat = told
-    by texts.OutOfMemory = tt
+    by (texts.Line lines.OutOfMemory) = tt
+    by code = told
 
 -- a meeting that didn't come about, where designers and viewers sit down
 pub refused_meeting : (opening : Result Circuit RunFault) (fault : MeetingFault) → IsOk opening → Refuses true opening (fault_of_meeting fault)

@@ -25,23 +25,18 @@ has_valid_desk designers options = has_valid_crew options && is_desk_size design
 abbrev pub tally_line : ℕ → Tally → List ℕ
 tally_line j tally = codes "designer " ++ (decimal j ++ (codes " accepted " ++ (decimal tally.accepted ++ (codes " refused " ++ (decimal tally.refused ++ (10 ∷ []))))))
 
--- the lines of designers, counted from this number
-abbrev pub tally_lines : ℕ → List Tally → List ℕ
-tally_lines j [] = []
-tally_lines j (tally ∷ tallies) = tally_line j tally ++ tally_lines (j + 1) tallies
-
 -- `viewer J saw N`
 abbrev pub viewer_line : ℕ → ℕ → List ℕ
 viewer_line j number = codes "viewer " ++ (decimal j ++ (codes " saw " ++ (decimal number ++ (10 ∷ []))))
 
--- the lines of viewers, counted from this number
-abbrev pub viewer_lines : ℕ → List ℕ → List ℕ
-viewer_lines j [] = []
-viewer_lines j (number ∷ numbers) = viewer_line j number ++ viewer_lines (j + 1) numbers
+-- a line for each thing, counted from this number
+abbrev pub lines_from : {X : Type 0} → (ℕ → X → List ℕ) → ℕ → List X → List ℕ
+lines_from line j [] = []
+lines_from line j (x ∷ xs) = line j x ++ lines_from line (j + 1) xs
 
 -- the lines of a meeting that led to this netlist
 abbrev pub met_text : List Tally → List ℕ → Circuit → List ℕ
-met_text tallies numbers last = (tally_lines 1 tallies ++ viewer_lines 1 numbers) ++ waves_text last
+met_text tallies numbers last = (lines_from tally_line 1 tallies ++ lines_from viewer_line 1 numbers) ++ waves_text last
 
 -- a text that may be written: there was a meeting, whose accepted edits lead from the netlist to the one whose waves are written
 pub record IsDeskText (netlist : Circuit) (blocks : List (List (List ℕ))) (viewers : ℕ) (text : List ℕ) : Type 0 where

@@ -13,5 +13,5 @@ AreReplies kept (line ∷ lines) text =
     (wanting : Bool) × (next : Kept) × (later : List ℕ) × IsNext wanting kept line next × AreReplies next lines later × (text ≡ reply wanting kept line ++ later)
 
 -- such replies were written, or a part of them
-abbrev pub PutsReplies : Result (Unit {0}) WriteError → Outgoing → Outgoing → Kept → List (List ℕ) → Type 0
+abbrev pub PutsReplies : {S : Type 0} → Result (Unit {0}) WriteError → Outgoing S → Outgoing S → Kept → List (List ℕ) → Type 0
 PutsReplies result old new kept lines = (text : List ℕ) × AreReplies kept lines text × Writes result old new text

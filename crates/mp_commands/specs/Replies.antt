@@ -1,5 +1,5 @@
 -- What the lines of a script are answered.
-use Rattle.std.specs.Prelude.{◌≡◌, ℕ, ◌+◌, Bool, true, false, List, [], ◌∷◌, ◌++◌, Option, Some, None, Result, Ok, Err, ◌&&◌, if◌then◌else◌, codes, unwrap_or, OnOk}
+use Rattle.std.specs.Prelude.{◌≡◌, ℕ, ◌+◌, Bool, List, [], ◌∷◌, ◌++◌, Option, Some, None, Result, Ok, Err, ◌&&◌, if◌then◌else◌, codes, unwrap_or, OnOk}
 use Rattle.std.specs.Fmt.{decimal}
 use Rattle.mp_records.specs.declared.edit.Edit.{Edit}
 use Rattle.mp_records.specs.declared.edit_error.EditError.{EditError}
@@ -9,12 +9,14 @@ use Rattle.mp_netlist.specs.Circuit.{Circuit, wire_at, wire_named}
 use Rattle.mp_netlist.specs.Edits.{may_want}
 use Rattle.mp_model.specs.Waves.{wave}
 use Rattle.mp_report.specs.Lines.{report_text}
+use Rattle.mp_timing.specs.Waits.{waits}
+use Rattle.mp_timing.specs.Measures.{measure}
 use Rattle.mp_vcd.specs.Dumps.{dump}
 use Rattle.mp_words.specs.declared.line_error.LineError.{LineError}
 use Rattle.mp_text.specs.declared.script_line.Line.{Line}
 use Rattle.mp_text.specs.declared.script_line.Line.TheVariants.{Empty, Change, Ask}
-use Rattle.mp_text.specs.declared.script_line.Question.{Question}
-use Rattle.mp_text.specs.declared.script_line.Question.TheVariants.{Wave, Waves, Text, Report, Dump, Work}
+use Rattle.mp_text.specs.declared.question.Question.{Question}
+use Rattle.mp_text.specs.declared.question.Question.TheVariants.{Wave, Waves, Text, Report, Dump, Work, Show, Why, Path, Waits, Measure, Graph}
 use Rattle.mp_words.specs.LineErrors.{line_number_of, line_name_of}
 use Rattle.mp_text.specs.ScriptLines.{line_at}
 use Rattle.mp_text.specs.Written.{written}
@@ -23,6 +25,13 @@ use Rattle.mp_streams.specs.Outgoing.{Outgoing, Writes as Sends}
 use Rattle.mp_streams.specs.WriteErrors.{Writes}
 use Rattle.mp_streams.specs.declared.write_error.WriteError.{WriteError}
 use Rattle.mp_commands.specs.RunFaults.{numbered}
+use Rattle.mp_picture.specs.declared.mark.Charset.TheVariants.{Unicode}
+use Rattle.mp_picture.specs.GraphSections.{graph}
+use Rattle.mp_commands.specs.declared.drawing.Drawing.TheVariants as drawings
+use Rattle.mp_commands.specs.AskedWires.{missing_at}
+use Rattle.mp_commands.specs.Limits.{usual_columns}
+use Rattle.mp_commands.specs.Pictures.{picture_text}
+use Rattle.mp_commands.specs.Chains.{why_of, path_of}
 use Rattle.mp_commands.specs.Outputs.{slot_line, waves_text}
 use Rattle.mp_commands.specs.WorkLines.{work_text}
 use Rattle.mp_commands.specs.Keepers.{Kept, judged, IsKeptAfter}
@@ -62,6 +71,11 @@ abbrev pub wire_text : Circuit → Option ℕ → List ℕ
 wire_text n None = refused_text NoSuchWire
 wire_text n (Some w) = slot_line (wire_at n w) (wave n w)
 
+-- a text of wires that are asked for, where none is missing
+abbrev pub asked_text : Option ℕ → List ℕ → List ℕ
+asked_text None text = text
+asked_text (Some place) text = refused_text NoSuchWire
+
 -- the answer to a question
 abbrev pub answer_text : Kept → Question → List ℕ
 answer_text kept (Wave name) = wire_text kept.netlist (wire_named kept.netlist name)
@@ -70,6 +84,12 @@ answer_text kept Text = written kept.netlist
 answer_text kept Report = report_text kept.netlist
 answer_text kept Dump = dump kept.netlist
 answer_text kept Work = work_text kept.netlist kept.work
+answer_text kept (Show from to wires) = asked_text (missing_at kept.netlist wires) (picture_text kept.netlist wires from to usual_columns (drawings.Text Unicode))
+answer_text kept (Waits time) = waits kept.netlist time
+answer_text kept (Measure from to) = measure kept.netlist from to
+answer_text kept (Why wire time steps) = asked_text (missing_at kept.netlist (wire ∷ [])) (why_of kept.netlist wire time steps)
+answer_text kept (Path wire time) = asked_text (missing_at kept.netlist (wire ∷ [])) (path_of kept.netlist wire time)
+answer_text kept Graph = graph kept.netlist
 
 -- the reply to a line that was read or not: a line without words has none
 abbrev pub reply_to : Bool → Kept → Result Line LineError → List ℕ
@@ -91,11 +111,11 @@ abbrev pub IsNext : Bool → Kept → List ℕ → Kept → Type 0
 IsNext wanting old line new = IsKeptNext wanting old (line_at line) new
 
 -- an edit was made or refused, and the reply to it was written, or a part of it
-abbrev pub PutsEdit : Result (Unit {0}) Failed → Outgoing → Outgoing → Kept → Kept → Edit → Type 0
+abbrev pub PutsEdit : {S : Type 0} → Result (Unit {0}) Failed → Outgoing S → Outgoing S → Kept → Kept → Edit → Type 0
 PutsEdit result old new kept now edit =
     (wanting : Bool) × IsKeptAfter kept (outcome wanting kept edit) now × Sends result old new (edit_text kept (outcome wanting kept edit))
 
 -- the reply to a line that was read or not was written, or a part of it
-abbrev pub PutsReply : Result (Unit {0}) WriteError → Outgoing → Outgoing → Kept → Kept → Result Line LineError → Type 0
+abbrev pub PutsReply : {S : Type 0} → Result (Unit {0}) WriteError → Outgoing S → Outgoing S → Kept → Kept → Result Line LineError → Type 0
 PutsReply result old new kept now line =
     (wanting : Bool) × (next : Kept) × IsKeptNext wanting kept line next × Writes result old new (reply_to wanting kept line) × OnOk result (now ≡ next)

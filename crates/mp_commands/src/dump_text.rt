@@ -1,8 +1,10 @@
 //! The value change dump of a netlist.
+ghost use Rattle.std.specs.Prelude.{[]};
 ghost use Rattle.mp_vcd.specs.Dumps.{dump};
 
 use crate::evaluated::Evaluated;
 use crate::view::View;
+use mp_netlist::Netlist;
 use mp_streams::{Out, Sink, WriteError};
 use mp_vcd::put_dump;
 use std::alloc::Global;
@@ -14,6 +16,12 @@ pub struct DumpText;
 
 impl View for DumpText {
     ghost text = { λ _ n. dump n };
+
+    ghost wires = { λ _. [] };
+
+    fn missing(&self, _netlist: &Netlist) -> Option<usize> {
+        None
+    }
 
     fn put<R: Threads + Sync, T: Sink>(
         &self,

@@ -1,30 +1,54 @@
 //! What each command reads and writes.
 #![tactic(auto)]
 
+mod asked_picture;
+mod asked_wires;
 mod command;
 mod desk;
+mod drawing;
 mod dump_text;
 mod evaluated;
+mod graph_text;
 mod keeper;
 mod limits;
+mod measure_lines;
 mod met_lines;
 mod opening;
 mod options;
+mod path_lines;
+mod picture_text;
 mod play;
 mod replies;
 mod report_lines;
 mod run_fault;
 mod view;
+mod wait_lines;
 mod wave_lines;
+mod why_lines;
 mod work_lines;
 
+pub use asked_picture::{AskedPicture, MAX_COLUMNS, USUAL_COLUMNS};
 pub use command::{Command, run_command};
 pub use desk::Desk;
+pub use drawing::Drawing;
 pub use dump_text::DumpText;
 pub use evaluated::Evaluated;
+pub use graph_text::GraphText;
+pub use keeper::Keeper;
+pub use limits::{MAX_INPUT, MAX_TAKEN};
+pub use measure_lines::MeasureLines;
+pub use mp_netlist::Name;
+pub use mp_picture::Charset;
+pub use mp_timing::TimeRange;
+pub use opening::opened;
 pub use options::Options;
+pub use path_lines::PathLines;
+pub use picture_text::PictureText;
 pub use play::Play;
+pub use replies::put_reply;
 pub use report_lines::ReportLines;
 pub use run_fault::{RunFault, exit_status, fault_line};
 pub use view::{View, Viewed};
+pub use wait_lines::WaitLines;
 pub use wave_lines::WaveLines;
+pub use why_lines::WhyLines;

@@ -3,7 +3,7 @@ ghost use Rattle.std.specs.Prelude.{◌≡◌, ◌+◌, ◌-◌, ◌^◌, ◌<�
 ghost use Rattle.mp_netlist.specs.Replays.{replay};
 ghost use Rattle.mp_version.specs.Stories.{present};
 ghost use Rattle.mp_streams.specs.Outgoing.{Writes};
-ghost use Rattle.mp_commands.specs.Desks.{tally_line, tally_lines, viewer_line, viewer_lines, met_text};
+ghost use Rattle.mp_commands.specs.Desks.{tally_line, viewer_line, lines_from, met_text};
 
 use crate::evaluated::Evaluated;
 use crate::wave_lines::put_lines;
@@ -34,7 +34,7 @@ pub fn put_met<T: Sink>(
 }
 
 fn put_tallies<T: Sink>(out: &mut Out<T>, tallies: &[Tally]) -> Result<(), Failed>
-    ensures { Writes result out.old out.new (tally_lines 1 tallies.now) }
+    ensures { Writes result out.old out.new (lines_from tally_line 1 tallies.now) }
 {
     for place in 0..tallies.len() {
         put_tally(out, place, tallies[place])?;
@@ -52,7 +52,7 @@ fn put_tally<T: Sink>(out: &mut Out<T>, place: usize, tally: Tally) -> Result<()
 }
 
 fn put_numbers<T: Sink>(out: &mut Out<T>, numbers: &[u32]) -> Result<(), Failed>
-    ensures { Writes result out.old out.new (viewer_lines 1 numbers.now) }
+    ensures { Writes result out.old out.new (lines_from viewer_line 1 numbers.now) }
 {
     for place in 0..numbers.len() {
         put_number(out, place, numbers[place])?;

@@ -30,7 +30,7 @@ impl Options {
     }
 
     /// The crew of these numbers, where there are 1 to 16 workers, and 1 to 4,096 modules are the least for which they are called on.
-    pub(crate) fn crew(&self) -> Option<Crew>
+    pub fn crew(&self) -> Option<Crew>
         ensures { is_some result ≡ has_valid_crew self.now }
     {
         match Crew::new(self.workers, self.least) {

@@ -1,8 +1,10 @@
 //! The report of a netlist.
+ghost use Rattle.std.specs.Prelude.{[]};
 ghost use Rattle.mp_report.specs.Lines.{report_text};
 
 use crate::evaluated::Evaluated;
 use crate::view::View;
+use mp_netlist::Netlist;
 use mp_report::{put_report, report};
 use mp_streams::{Out, Sink, WriteError};
 use std::alloc::Global;
@@ -14,6 +16,12 @@ pub struct ReportLines;
 
 impl View for ReportLines {
     ghost text = { λ _ n. report_text n };
+
+    ghost wires = { λ _. [] };
+
+    fn missing(&self, _netlist: &Netlist) -> Option<usize> {
+        None
+    }
 
     fn put<R: Threads + Sync, T: Sink>(
         &self,
@@ -28,7 +36,7 @@ impl View for ReportLines {
 }
 
 /// How many threads look for findings: one alone where there are fewer modules than the crew shares out.
-fn finders(of: &Evaluated<'_>) -> usize {
+pub(crate) fn finders(of: &Evaluated<'_>) -> usize {
     if of.netlist.module_slots() < of.crew.least() {
         return 1;
     }

@@ -1,12 +1,12 @@
 //! Why a run ends early.
-ghost use Rattle.std.specs.Prelude.{◌≡◌, ◌++◌, IfOk};
+ghost use Rattle.std.specs.Prelude.{◌≡◌, [], ◌++◌, IfOk, map, slice_index_or};
 ghost use Rattle.mp_commands.specs.declared.run_fault.RunFault.TheVariants.{WriteFailed, OutOfMemory};
-ghost use Rattle.mp_commands.specs.RunFaults.{status_of, line_of, text_line, numbered, fault_of_text, fault_of_take, fault_of_write, fault_of_meeting};
+ghost use Rattle.mp_commands.specs.RunFaults.{status_of, line_of, text_line, wire_fault_line, numbered, fault_of_text, fault_of_take, fault_of_write, fault_of_meeting};
 
 use mp_meeting::MeetingFault;
 use mp_netlist::EditError;
 use mp_streams::{Failed, TakeError, WriteError};
-use mp_text::{TextCode, TextError};
+use mp_text::{LineError, TextCode, TextError};
 use std::alloc::{AllocError, AllocFailed, Global};
 use thiserror::Error;
 
@@ -31,6 +31,9 @@ pub enum RunFault {
     /// A designer or a viewer found no place at a desk.
     #[error("no place")]
     NoPlace,
+    /// Of the wires that are asked for, the one at this place is the first that doesn't stand.
+    #[error("no such wire")]
+    NoSuchWire(usize),
 }
 
 /// Want of memory in a text is told as that of a run.
@@ -39,7 +42,7 @@ impl From<TextError> for RunFault {
 
     fn from(error: TextError) -> RunFault {
         match error.code {
-            TextCode::OutOfMemory => RunFault::OutOfMemory,
+            TextCode::Line(LineError::OutOfMemory) => RunFault::OutOfMemory,
             _ => RunFault::Text(error),
         }
     }
@@ -108,15 +111,15 @@ pub fn exit_status(fault: &RunFault) -> u8
     ensures { result ≡ status_of fault.now }
 {
     match fault {
-        RunFault::Text(_) | RunFault::BadCount => 1,
+        RunFault::Text(_) | RunFault::BadCount | RunFault::NoSuchWire(_) => 1,
         RunFault::ReadFailed | RunFault::WriteFailed => 3,
         RunFault::OutOfMemory | RunFault::NoPlace => 4,
     }
 }
 
-/// The line that tells of the fault, without its line feed.
-pub fn fault_line(alloc: Global, fault: &RunFault) -> Result<Vec<u8>, AllocError>
-    ensures { IfOk result (λ line. line.items ≡ line_of fault.now) }
+/// The line that tells of the fault, without its line feed. The wires are those that were asked for, as they were given.
+pub fn fault_line(alloc: Global, fault: &RunFault, wires: &[&str]) -> Result<Vec<u8>, AllocError>
+    ensures { IfOk result (λ line. line.items ≡ line_of fault.now (map (λ wire. wire.now) wires.now)) }
 {
     match fault {
         RunFault::Text(error) => text_line(alloc, error.line, error.code),
@@ -125,7 +128,26 @@ pub fn fault_line(alloc: Global, fault: &RunFault) -> Result<Vec<u8>, AllocError
         RunFault::WriteFailed => Vec::from_slice(alloc, b"mpwb: write failed"),
         RunFault::OutOfMemory => Vec::from_slice(alloc, b"mpwb: out of memory"),
         RunFault::NoPlace => Vec::from_slice(alloc, b"mpwb: no place"),
+        RunFault::NoSuchWire(place) => wire_line(alloc, wire_at(wires, *place)),
     }
+}
+
+/// The wire at this place, and no text where there is none.
+fn wire_at<'a>(wires: &[&'a str], place: usize) -> &'a str
+    ensures { result.now ≡ slice_index_or (map (λ wire. wire.now) wires.now) place [] }
+{
+    match wires.get(place) {
+        Some(wire) => wire,
+        None => "",
+    }
+}
+
+fn wire_line(alloc: Global, wire: &str) -> Result<Vec<u8>, AllocError>
+    ensures { IfOk result (λ text. text.items ≡ wire_fault_line wire.now) }
+{
+    let mut text = Vec::from_slice(alloc, b"mpwb: no such wire: ")?;
+    text.extend_from_slice(wire.as_bytes())?;
+    Ok(text)
 }
 
 fn text_line(alloc: Global, line: u32, code: TextCode) -> Result<Vec<u8>, AllocError>

@@ -1,5 +1,5 @@
 //! The lines of a netlist's waves.
-ghost use Rattle.std.specs.Prelude.{◌≡◌};
+ghost use Rattle.std.specs.Prelude.{◌≡◌, []};
 ghost use Rattle.mp_netlist.specs.Circuit.{wire_at};
 ghost use Rattle.mp_model.specs.Waves.{wave};
 ghost use Rattle.mp_streams.specs.Outgoing.{Writes};
@@ -7,7 +7,7 @@ ghost use Rattle.mp_commands.specs.Outputs.{slot_line, waves_text};
 
 use crate::evaluated::Evaluated;
 use crate::view::View;
-use mp_netlist::WireId;
+use mp_netlist::{Netlist, WireId};
 use mp_streams::{Failed, Out, Sink, WriteError};
 use mp_words::put_wave_line;
 use std::alloc::Global;
@@ -19,6 +19,12 @@ pub struct WaveLines;
 
 impl View for WaveLines {
     ghost text = { λ _ n. waves_text n };
+
+    ghost wires = { λ _. [] };
+
+    fn missing(&self, _netlist: &Netlist) -> Option<usize> {
+        None
+    }
 
     fn put<R: Threads + Sync, T: Sink>(
         &self,

@@ -36,6 +36,7 @@ Exit status, and what standard error says:
   1  mpwb: line N: 7 Refused: CODE NAME    what line N adds is refused
   1  mpwb: bad count                       a number is out of its range, or a
                                            desk has no block or more than 8
+  1  mpwb: no such wire: NAME              a wire that is asked for isn't there
   2  error: ..                             the command line was refused
   3  mpwb: read failed                     the input can't be read
   3  mpwb: write failed                    the output can't be written
@@ -94,6 +95,98 @@ wire is declared in the scope `top`, a unit of time is 1 ns, and then come the
 levels at time 0, the levels that change at each later time, and the horizon.
 A wire of width 1 is a scalar, a wider one a vector of all its bits.";
 
+/// What `show` does.
+pub(crate) const SHOW: &str = "Writes a timing diagram of a netlist";
+
+/// What `show` reads and writes.
+pub(crate) const SHOW_LONG: &str = "\
+Writes a timing diagram of a netlist.
+
+Reads a netlist, as `waves` does.
+
+Writes a line of times, then a line for each wire, a character a column. Each
+column has as many units of time, as few as the columns allow. A wire of width 1
+is low or high, rises or falls in a column of several units with one change, or
+changes more often in it; in a column of one unit it has its level. A wider wire
+is crossed where it changes, and its level stands behind that where it fits.
+Then comes a line for each module and bundle with a finding in the range, marked
+with `!` in its column, and the lines of `report` for these findings.";
+
+/// What `why` does.
+pub(crate) const WHY: &str = "Writes why a wire has its level at a time: the chain of its causes";
+
+/// What `why` reads and writes.
+pub(crate) const WHY_LONG: &str = "\
+Writes why a wire has its level at a time: the chain of its causes.
+
+Reads a netlist, as `waves` does.
+
+Writes a line for each step, the latest first: the wire's last change, the
+module that made it, and the changes of its inputs that the module answered, as
+`WIRE T=V < MODULE KIND/DELAY < WIRE T=V ..`; the chain goes on from the first
+of these. It ends with `stim`, where the wire is set from outside, with `start`,
+where the module settled to this level at time 0, or with `WIRE 0=V declared`,
+where the wire didn't change up to the time.";
+
+/// What `path` does.
+pub(crate) const PATH: &str =
+    "Writes where the time of such a chain went: the modules that set the pace";
+
+/// What `path` reads and writes.
+pub(crate) const PATH_LONG: &str = "\
+Writes where the time of the chain went that `why` writes: the modules that set
+the pace.
+
+Reads a netlist, as `waves` does.
+
+Writes a line `MODULE UNITS STEPS` for each module of the whole chain: how many
+units of time passed in it and in how many steps, the most units first.";
+
+/// What `waits` does.
+pub(crate) const WAITS: &str =
+    "Writes which modules and bundles wait at a time, for which wire and since when";
+
+/// What `waits` reads and writes.
+pub(crate) const WAITS_LONG: &str = "\
+Writes which modules and bundles wait at a time, for which wire and since when.
+
+Reads a netlist, as `waves` does.
+
+Writes a line for each that waits, the modules first: a C for the input that
+hasn't come, a CALL for the answer to the client that it serves, an ARBITER for
+the done wire of its owner, with a line for the client that it keeps waiting, a
+REG that holds a level, and a bundle for its acknowledge.";
+
+/// What `measure` does.
+pub(crate) const MEASURE: &str =
+    "Writes how often wires change, the gaps between, and the margins of bundles";
+
+/// What `measure` reads and writes.
+pub(crate) const MEASURE_LONG: &str = "\
+Writes how often wires change, the gaps between, and the margins of bundles.
+
+Reads a netlist, as `waves` does.
+
+Writes a line `wire NAME EVENTS FIRST LAST LEAST MOST` for each wire: how many
+changes it has in the range, the times of the first and the last of them, and
+the least and the greatest gap between two that follow each other. Then comes a
+line `bundle NAME REQUESTS setup S response LEAST MOST` for each bundle: how
+many requests it has, the least time from its last change of data to a request,
+and the least and the greatest time from a request to its acknowledge. What
+there is none of is left out.";
+
+/// What `graph` does.
+pub(crate) const GRAPH: &str = "Writes a netlist as a graph in the language of Graphviz";
+
+/// What `graph` reads and writes.
+pub(crate) const GRAPH_LONG: &str = "\
+Writes a netlist as a graph in the language of Graphviz.
+
+Reads a netlist, as `waves` does.
+
+Writes a text for `dot`: a node for each module, each wire that is set from
+outside and each bundle, and an edge for each wire that a module reads.";
+
 /// What `play` does.
 pub(crate) const PLAY: &str = "Edits a netlist by a script, and answers its questions";
 
@@ -101,8 +194,10 @@ pub(crate) const PLAY: &str = "Edits a netlist by a script, and answers its ques
 pub(crate) const PLAY_LONG: &str = "\
 Edits a netlist by a script, and answers its questions.
 
-Reads a netlist, as `waves` does, then a line `---`, and behind it a script: at
-most 4194304 bytes in all. Its lines are edits:
+Reads a netlist from FILE, as `waves` does, and a script from standard input.
+Each line of the script is answered before the next one is read, and has at most
+65536 bytes. Without a FILE the script stands in standard input behind the
+netlist and a line `---`: at most 4194304 bytes in all. Its lines are edits:
 
   wire .., module .., stim .., bundle ..    as in a netlist
   remove wire NAME
@@ -118,12 +213,18 @@ most 4194304 bytes in all. Its lines are edits:
 and questions:
 
   wave WIRE, waves, text, report, dump, work
+  show FROM TO [WIRE ..]                    the timing diagram of these wires
+  why WIRE TIME [STEPS]                     1 to 1048576 steps, 20 if not given
+  path WIRE TIME
+  waits TIME
+  measure FROM TO
+  graph
 
 Answers each line in turn: an edit by `accepted N`, N being how many edits were
 accepted so far, or by `refused CODE NAME`, which changes nothing; a question by
 the wire's line, the lines of all wires, the present netlist, its report, its
-value change dump, or what was evaluated for the last edit; and a line that
-can't be read by `unread CODE NAME`.";
+value change dump, what was evaluated for the last edit, or what the command of
+the same name writes; and a line that can't be read by `unread CODE NAME`.";
 
 /// What `desk` does.
 pub(crate) const DESK: &str = "Has designers edit a netlist at the same time, while viewers read";

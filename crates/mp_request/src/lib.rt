@@ -3,10 +3,12 @@
 
 mod help;
 mod parser;
+mod picture_words;
 mod reading;
 mod request;
 mod telling;
 
+pub use picture_words::PictureWords;
 pub use reading::read_words;
 pub use request::{Command, Request};
 pub use telling::{TellError, tell};

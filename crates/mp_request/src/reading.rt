@@ -2,6 +2,7 @@
 ghost use Rattle.std.specs.Prelude.{◌≡◌, ◌≢◌, IfOk, IfSome, codes};
 
 use crate::parser::parser;
+use crate::picture_words::PictureWords;
 use crate::request::{Command, Request};
 use clap::error::ErrorKind;
 use clap::{ArgMatches, Error};
@@ -16,13 +17,12 @@ pub fn read_words<'a>(alloc: Global, words: &'a [String]) -> Result<Request<'a>,
     ensures { IfOk result (λ request. IfSome request.file (λ path. path.now ≢ codes "-")) }
 {
     let matches = parser(alloc)?.try_get_matches_from(words)?;
-    match matches.subcommand() {
-        Some(("waves", found)) => Ok(request(Command::Waves, found)),
-        Some(("report", found)) => Ok(request(Command::Report, found)),
-        Some(("dump", found)) => Ok(request(Command::Dump, found)),
-        Some(("play", found)) => Ok(request(Command::Play, found)),
-        Some(("desk", found)) => Ok(request(Command::Desk, found)),
-        _ => Err(no_command(alloc)?),
+    let Some((word, found)) = matches.subcommand() else {
+        return Err(no_command(alloc)?);
+    };
+    match command_of(alloc, word, found)? {
+        Some(command) => Ok(request(command, found)),
+        None => Err(no_command(alloc)?),
     }
 }
 
@@ -31,7 +31,55 @@ fn no_command(alloc: Global) -> Result<Error, AllocError> {
     parser(alloc)?.error(ErrorKind::InvalidSubcommand, "unrecognized subcommand")
 }
 
-fn request<'a>(command: Command, found: &ArgMatches<'a>) -> Request<'a>
+/// The command of this word, with what is its own.
+fn command_of<'a>(
+    alloc: Global,
+    word: &str,
+    found: &ArgMatches<'a>,
+) -> Result<Option<Command<'a>>, AllocError> {
+    Ok(Some(match word {
+        "waves" => Command::Waves,
+        "report" => Command::Report,
+        "dump" => Command::Dump,
+        "show" => Command::Show(picture_words(alloc, found)?),
+        "why" => Command::Why {
+            wire: found.get_str("wire").unwrap_or(""),
+            time: found.get_one::<u64>("time").unwrap_or(0),
+            steps: found.get_one::<u32>("steps").unwrap_or(20),
+        },
+        "path" => Command::Path {
+            wire: found.get_str("wire").unwrap_or(""),
+            time: found.get_one::<u64>("time").unwrap_or(0),
+        },
+        "waits" => Command::Waits {
+            time: found.get_one::<u64>("time").unwrap_or(0),
+        },
+        "measure" => Command::Measure {
+            from: found.get_one::<u64>("from").unwrap_or(0),
+            to: found.get_one::<u64>("to").unwrap_or(u64::MAX),
+        },
+        "graph" => Command::Graph,
+        "play" => Command::Play,
+        "desk" => Command::Desk,
+        _ => return Ok(None),
+    }))
+}
+
+fn picture_words<'a>(
+    alloc: Global,
+    found: &ArgMatches<'a>,
+) -> Result<PictureWords<'a>, AllocError> {
+    Ok(PictureWords {
+        wires: Vec::from_slice(alloc, found.get_strs("wire").unwrap_or(&[]))?,
+        from: found.get_one::<u64>("from").unwrap_or(0),
+        to: found.get_one::<u64>("to").unwrap_or(u64::MAX),
+        columns: found.get_one::<u32>("columns").unwrap_or(72),
+        ascii: found.get_flag("ascii"),
+        svg: found.get_flag("svg"),
+    })
+}
+
+fn request<'a>(command: Command<'a>, found: &ArgMatches<'a>) -> Request<'a>
     ensures { IfSome result.file (λ path. path.now ≢ codes "-") }
 {
     Request {

@@ -1,14 +1,40 @@
 //! What the program is asked for.
+use crate::picture_words::PictureWords;
+use std::slice;
 
 /// What the program can do.
-#[derive(Clone, Copy, Debug, PartialEq, Eq)]
-pub enum Command {
+#[derive(Debug, Drop)]
+pub enum Command<'a> {
     /// Write the waves of a netlist's text.
     Waves,
     /// Write the report of a netlist's text.
     Report,
     /// Write the value change dump of a netlist's text.
     Dump,
+    /// Write a timing diagram of a netlist's text.
+    Show(PictureWords<'a>),
+    /// Write the chain of causes of a wire's level at a time, in so many steps at most.
+    Why {
+        wire: &'a str,
+        time: u64,
+        steps: u32,
+    },
+    /// Write where the time of that chain went.
+    Path {
+        wire: &'a str,
+        time: u64,
+    },
+    /// Write which modules and bundles wait at a time.
+    Waits {
+        time: u64,
+    },
+    /// Write the events, gaps and margins from one time on to before another.
+    Measure {
+        from: u64,
+        to: u64,
+    },
+    /// Write a netlist's text as a graph.
+    Graph,
     /// Edit a netlist by a script, and answer its questions.
     Play,
     /// Have designers edit a netlist at the same time, while viewers read.
@@ -17,10 +43,10 @@ pub enum Command {
 
 /// A command with its input and its numbers. The numbers are as they were given: whether a run can
 /// be made with them, the run tells.
-#[derive(Clone, Copy, Debug)]
+#[derive(Debug, Drop)]
 pub struct Request<'a> {
     /// What is to be done.
-    pub command: Command,
+    pub command: Command<'a>,
     /// The path of the file that is read; `None` for standard input.
     pub file: Option<&'a str>,
     /// How many workers there are, 2 where none is given.
@@ -29,4 +55,15 @@ pub struct Request<'a> {
     pub least: u32,
     /// How many viewers a desk has, 2 where none is given.
     pub viewers: u32,
+}
+
+impl<'a> Request<'a> {
+    /// The names of the wires that the command speaks of, as they were given.
+    pub fn wires(&self) -> &[&'a str] {
+        match &self.command {
+            Command::Show(picture) => picture.wires.as_slice(),
+            Command::Why { wire, .. } | Command::Path { wire, .. } => slice::from_ref(wire),
+            _ => &[],
+        }
+    }
 }

@@ -19,66 +19,45 @@ returns-in_err-input-clause-written g c =
 
 pub returns-then-len-gt-MAX_INPUT-clause-written : goal.returns-then-len-gt-MAX_INPUT-clause-written
 returns-then-len-gt-MAX_INPUT-clause-written g c =
-    let left = g.S.Source.left c.args.source.now in
     let opening = λ (i : List ℕ). g.C.Command.opening c.args.command.now i c.args.options.now in
     let IsText = λ (i : List ℕ). g.C.Command.IsText c.args.command.now i c.args.options.now in
-    let seats = g.C.Command.seats in
-    let old = c.args.out.now in
     let text = c.in_ok-input.input.items in
-    from_source opening seats IsText (Err too_long) old old left text _ c.in_ok-input.ensures.front c.in_ok-input.ensures.limit refl (within_size-long opening text (omega arith), refl)
+    from_source opening g.C.Command.seats IsText (Err too_long) _ _ _ text _ c.in_ok-input.ensures.front c.in_ok-input.ensures.limit refl (within_size-long opening text (omega arith), refl)
 
 pub returns-in_err-flush-in-Ok-clause-written : goal.returns-in_err-flush-in-Ok-clause-written
 returns-in_err-flush-in-Ok-clause-written g c =
-    let left = g.S.Source.left c.args.source.now in
-    let opening = λ (i : List ℕ). g.C.Command.opening c.args.command.now i c.args.options.now in
-    let IsText = λ (i : List ℕ). g.C.Command.IsText c.args.command.now i c.args.options.now in
     let seats = g.C.Command.seats in
-    let old = c.args.out.now in
     let text = c.in_ok-input.input.items in
     let short : length text ≤ max_input = omega arith in
     let p = err_from_is_err_and c.from_residual-in_err-flush-in-Ok.result c.from_residual-in_err-flush-in-Ok.ensures.1 in
     let ran = rw c.as_slice.ensures.value at c.in-Ok.ensures in
-    rw (p.1, p.2) (from_input opening seats IsText (Err WriteFailed) old c.flush.new.self left text _ c.in_ok-input.ensures.front c.in_ok-input.ensures.limit refl short
-    (ran_unflushed (opening text) (IsText text) old c.answer.new.out c.flush.new.self seats ran c.in_err-flush-in-Ok.ensures.written))
+    rw (p.1, p.2) (from_input _ seats _ (Err WriteFailed) _ _ _ text _ c.in_ok-input.ensures.front c.in_ok-input.ensures.limit refl short
+    (ran_unflushed _ _ _ _ _ seats ran c.in_err-flush-in-Ok.ensures.written))
 
 pub returns-in-Ok-clause-written : goal.returns-in-Ok-clause-written
 returns-in-Ok-clause-written g c =
-    let left = g.S.Source.left c.args.source.now in
-    let opening = λ (i : List ℕ). g.C.Command.opening c.args.command.now i c.args.options.now in
-    let IsText = λ (i : List ℕ). g.C.Command.IsText c.args.command.now i c.args.options.now in
     let seats = g.C.Command.seats in
-    let old = c.args.out.now in
     let text = c.in_ok-input.input.items in
     let short : length text ≤ max_input = omega arith in
     let ran = rw c.as_slice.ensures.value at c.in-Ok.ensures in
-    from_input opening seats IsText (Ok tt) old c.flush.new.self left text _ c.in_ok-input.ensures.front c.in_ok-input.ensures.limit refl short
-    (ran_flushed (opening text) (IsText text) old c.answer.new.out c.flush.new.self seats ran c.in_ok-flush-in-Ok.ensures.written)
+    from_input _ seats _ (Ok tt) _ _ _ text _ c.in_ok-input.ensures.front c.in_ok-input.ensures.limit refl short
+    (ran_flushed _ _ _ _ _ seats ran c.in_ok-flush-in-Ok.ensures.written)
 
 pub returns-in_err-flush-in-Err-OutOfMemory-clause-written : goal.returns-in_err-flush-in-Err-OutOfMemory-clause-written
 returns-in_err-flush-in-Err-OutOfMemory-clause-written g c =
-    let left = g.S.Source.left c.args.source.now in
-    let opening = λ (i : List ℕ). g.C.Command.opening c.args.command.now i c.args.options.now in
-    let IsText = λ (i : List ℕ). g.C.Command.IsText c.args.command.now i c.args.options.now in
     let seats = g.C.Command.seats in
-    let old = c.args.out.now in
     let text = c.in_ok-input.input.items in
     let short : length text ≤ max_input = omega arith in
-    let new = c.flush-in-Err-OutOfMemory.new.self in
     let p = err_from_is_err_and c.from_residual-in_err-flush-in-Err-OutOfMemory.result c.from_residual-in_err-flush-in-Err-OutOfMemory.ensures.1 in
     let ran = rw (c.as_slice.ensures.value, c.in-Err-OutOfMemory.field-0-is) at c.in-Err-OutOfMemory.ensures in
-    rw (p.1, p.2) (from_input opening seats IsText (Err WriteFailed) old new left text _ c.in_ok-input.ensures.front c.in_ok-input.ensures.limit refl short
-    (part_unflushed (opening text) (IsText text) old c.answer.new.out new seats c.requires ran c.in_err-flush-in-Err-OutOfMemory.ensures.written))
+    rw (p.1, p.2) (from_input _ seats _ (Err WriteFailed) _ _ _ text _ c.in_ok-input.ensures.front c.in_ok-input.ensures.limit refl short
+    (part_unflushed _ _ _ _ _ seats c.requires ran c.in_err-flush-in-Err-OutOfMemory.ensures.written))
 
 pub returns-in-Err-OutOfMemory-clause-written : goal.returns-in-Err-OutOfMemory-clause-written
 returns-in-Err-OutOfMemory-clause-written g c =
-    let left = g.S.Source.left c.args.source.now in
-    let opening = λ (i : List ℕ). g.C.Command.opening c.args.command.now i c.args.options.now in
-    let IsText = λ (i : List ℕ). g.C.Command.IsText c.args.command.now i c.args.options.now in
     let seats = g.C.Command.seats in
-    let old = c.args.out.now in
     let text = c.in_ok-input.input.items in
     let short : length text ≤ max_input = omega arith in
-    let new = c.flush-in-Err-OutOfMemory.new.self in
     let ran = rw (c.as_slice.ensures.value, c.in-Err-OutOfMemory.field-0-is) at c.in-Err-OutOfMemory.ensures in
-    from_input opening seats IsText (Err OutOfMemory) old new left text _ c.in_ok-input.ensures.front c.in_ok-input.ensures.limit refl short
-    (part_flushed (opening text) (IsText text) old c.answer.new.out new seats ran c.in_ok-flush-in-Err-OutOfMemory.ensures.written)
+    from_input _ seats _ (Err OutOfMemory) _ _ _ text _ c.in_ok-input.ensures.front c.in_ok-input.ensures.limit refl short
+    (part_flushed _ _ _ _ _ seats ran c.in_ok-flush-in-Err-OutOfMemory.ensures.written)

@@ -1,14 +1,14 @@
-use Rattle.std.proofs.Common.{◌≡◌, ◌++◌, rules}
+use Rattle.std.proofs.Common.{◌≡◌, rules}
 use Rattle.mp_streams.proofs.OutLemmas.{puts_then, puts_sooner, writes_failed}
 use Rattle.mp_version.specs.Stories.{present}
-use Rattle.mp_commands.specs.Desks.{viewer_lines}
+use Rattle.mp_commands.specs.Desks.{viewer_line, lines_from}
 use Rattle.mp_commands.specs.Outputs.{waves_text}
 use Rattle.mp_commands.proofs.met_lines.put_met.Goals as goal
 
 pub returns-in_err-put_tallies-clause-written : goal.returns-in_err-put_tallies-clause-written
 returns-in_err-put_tallies-clause-written g c =
     let met = c.args.met.now in
-    let rest = viewer_lines 1 met.numbers.items in
+    let rest = lines_from viewer_line 1 met.numbers.items in
     let put = rw c.as_slice.ensures.value at c.in_err-put_tallies.ensures in
     writes_failed c.from_residual.result c.from_residual.ensures.0 (puts_sooner (waves_text (present met.session.story)) (puts_sooner rest put))
 

@@ -7,11 +7,11 @@ use Rattle.mp_commands.proofs.replies.put_reply.Goals as goal
 pub returns-in-Ok : goal.returns-in-Ok
 returns-in-Ok g c = rw c.in-Ok.ensures.read c.put_line_reply.ensures
 
-pub returns-in_err-put_coded-in-Err : goal.returns-in_err-put_coded-in-Err
-returns-in_err-put_coded-in-Err g c =
+pub returns-in_err-put_unread-in-Err : goal.returns-in_err-put_unread-in-Err
+returns-in_err-put_unread-in-Err g c =
     let r = c.from_residual in
     let other : is_memory c.in-Err.error ≡ false = search rules in
-    let put = rw (c.number.ensures, c.name.ensures) at c.in_err-put_coded-in-Err.ensures in
+    let put = c.in_err-put_unread-in-Err.ensures in
     unread_replied r.result _ _ c.args.keeper.now c.args.line.now c.in-Err.error c.in-Err.ensures.read other (puts_as r.result WriteFailed r.ensures.1 refl put)
 
 pub returns-in-Err-OutOfMemory : goal.returns-in-Err-OutOfMemory

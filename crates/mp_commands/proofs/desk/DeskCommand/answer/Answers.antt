@@ -1,16 +1,11 @@
-use Rattle.std.proofs.Common.{◌≡◌, ℕ, List, true, length, Err, refl, rules}
+use Rattle.std.proofs.Common.{◌≡◌, true, length, Err, refl, rules}
 use Rattle.std.specs.Prelude.{vec_len}
-use Rattle.mp_netlist.specs.Circuit.{Circuit}
 use Rattle.mp_streams.specs.declared.write_error.WriteError.TheVariants as writes
-use Rattle.mp_streams.proofs.OutLemmas.{puts_as}
-use Rattle.mp_words.specs.Lines.{lines_of}
-use Rattle.mp_words.specs.Divisions.{first_part}
+use Rattle.mp_streams.proofs.OutLemmas.{puts_as, puts_ok}
 use Rattle.mp_commands.specs.declared.run_fault.RunFault.TheVariants.{OutOfMemory}
-use Rattle.mp_commands.specs.Desks.{blocks_of, has_valid_desk, IsDeskText}
-use Rattle.mp_commands.specs.Openings.{opening_of}
+use Rattle.mp_commands.specs.Desks.{blocks_of}
 use Rattle.mp_commands.specs.RunFaults.{fault_of_meeting}
 use Rattle.mp_commands.proofs.DeskLemmas.{blocks_count, is_text}
-use Rattle.mp_commands.proofs.PutLemmas.{puts_same}
 use Rattle.mp_commands.proofs.RunLemmas.{refused, refused_unseated, refused_meeting, wrote, wrote_part}
 use Rattle.mp_commands.proofs.desk.DeskCommand.answer.Goals as goal
 
@@ -37,8 +32,7 @@ returns-in_err-met g c =
     let long : vec_len c.in_ok-front.blocks ≡ length items = search rules in
     let count = blocks_count c.args.input.now items (vec_len c.in_ok-front.blocks) long c.in_ok-front.ensures.blocks in
     let is_opened = rw (c.desk_crew.ensures.valid, c.len.ensures, count, c.in_ok-front.ensures.front) at c.in_ok-netlist.ensures.netlist in
-    let opening = opening_of (first_part (lines_of input)) (has_valid_desk (length (blocks_of input)) c.args.options.now) in
-    refused true opening _ _ r.result (fault_of_meeting c.in_err-met.field-0.0) r.ensures.1 (refused_meeting opening c.in_err-met.field-0.0 (rw is_opened refl))
+    refused true _ _ _ r.result (fault_of_meeting c.in_err-met.field-0.0) r.ensures.1 (refused_meeting _ c.in_err-met.field-0.0 (rw is_opened refl))
 
 pub returns-in_err-put_met : goal.returns-in_err-put_met
 returns-in_err-put_met g c =
@@ -50,13 +44,11 @@ returns-in_err-put_met g c =
     let long : vec_len c.in_ok-front.blocks ≡ length items = search rules in
     let count = blocks_count c.args.input.now items (vec_len c.in_ok-front.blocks) long c.in_ok-front.ensures.blocks in
     let is_opened = rw (c.desk_crew.ensures.valid, c.len.ensures, count, c.in_ok-front.ensures.front) at c.in_ok-netlist.ensures.netlist in
-    let opening = opening_of (first_part (lines_of input)) (has_valid_desk (length (blocks_of input)) c.args.options.now) in
-    let IsText : Circuit → List ℕ → Type 0 = λ n text. IsDeskText n (blocks_of input) viewers text in
     let sizes = rw c.in_ok-netlist.ensures.crew at c.desk_crew.ensures.size in
     let seen : length m.numbers.items ≡ viewers = search rules in
     let meeting = rw (c.in_ok-session.ensures, c.as_slice.ensures.value, c.in_ok-front.ensures.blocks) at c.in_ok-met.ensures.met in
     let text = is_text c.in_ok-netlist.netlist (blocks_of input) viewers m.session.story m.tallies.items m.numbers.items meeting seen c.in_err-put_met.ensures.replayed in
-    wrote_part true opening IsText c.in_ok-netlist.netlist is_opened _ text _ _ r.result writes.WriteFailed r.ensures.1
+    wrote_part true _ _ c.in_ok-netlist.netlist is_opened _ text _ _ r.result writes.WriteFailed r.ensures.1
     (puts_as (Err writes.WriteFailed) writes.WriteFailed refl refl c.in_err-put_met.ensures.written)
 
 pub returns : goal.returns
@@ -68,10 +60,8 @@ returns g c =
     let long : vec_len c.in_ok-front.blocks ≡ length items = search rules in
     let count = blocks_count c.args.input.now items (vec_len c.in_ok-front.blocks) long c.in_ok-front.ensures.blocks in
     let is_opened = rw (c.desk_crew.ensures.valid, c.len.ensures, count, c.in_ok-front.ensures.front) at c.in_ok-netlist.ensures.netlist in
-    let opening = opening_of (first_part (lines_of input)) (has_valid_desk (length (blocks_of input)) c.args.options.now) in
-    let IsText : Circuit → List ℕ → Type 0 = λ n text. IsDeskText n (blocks_of input) viewers text in
     let sizes = rw c.in_ok-netlist.ensures.crew at c.desk_crew.ensures.size in
     let seen : length m.numbers.items ≡ viewers = search rules in
     let meeting = rw (c.in_ok-session.ensures, c.as_slice.ensures.value, c.in_ok-front.ensures.blocks) at c.in_ok-met.ensures.met in
     let text = is_text c.in_ok-netlist.netlist (blocks_of input) viewers m.session.story m.tallies.items m.numbers.items meeting seen c.in_ok-put_met.ensures.replayed in
-    wrote true opening IsText c.in_ok-netlist.netlist is_opened _ text _ _ (puts_same c.in_ok-put_met.ensures.written)
+    wrote true _ _ c.in_ok-netlist.netlist is_opened _ text _ _ (puts_ok c.in_ok-put_met.ensures.written)

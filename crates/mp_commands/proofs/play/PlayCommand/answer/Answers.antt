@@ -1,12 +1,5 @@
-use Rattle.std.proofs.Common.{ℕ, List, false}
-use Rattle.mp_netlist.specs.Circuit.{Circuit}
-use Rattle.mp_words.specs.Lines.{lines_of}
-use Rattle.mp_words.specs.Divisions.{first_part, later_parts}
+use Rattle.std.proofs.Common.{false}
 use Rattle.mp_commands.specs.declared.run_fault.RunFault.TheVariants.{OutOfMemory}
-use Rattle.mp_commands.specs.Keepers.{opened}
-use Rattle.mp_commands.specs.OptionLimits.{has_valid_crew}
-use Rattle.mp_commands.specs.Openings.{opening_of}
-use Rattle.mp_commands.specs.Plays.{AreReplies}
 use Rattle.mp_commands.proofs.RunLemmas.{refused, wrote, wrote_part}
 use Rattle.mp_commands.proofs.play.PlayCommand.answer.Goals as goal
 
@@ -23,19 +16,13 @@ returns-in_err-keeper g c = refused _ _ _ _ c.from_residual-in_err-keeper.result
 
 pub returns-in_err-put_replies : goal.returns-in_err-put_replies
 returns-in_err-put_replies g c =
-    let lines = lines_of c.args.input.now in
-    let opening = opening_of (first_part lines) (has_valid_crew c.args.options.now) in
     let is_opened = rw (c.crew.ensures, c.in_ok-front.ensures.front) at c.in_ok-netlist.ensures.netlist in
-    let IsText : Circuit → List ℕ → Type 0 = λ n text. AreReplies (opened n) (later_parts lines) text in
     let r = c.from_residual-in_err-put_replies in
     let put = rw (c.in_ok-keeper.ensures, c.in_ok-front.ensures.back) at c.in_err-put_replies.ensures in
-    wrote_part false opening IsText c.in_ok-netlist.netlist is_opened put.0 put.1 _ _ r.result c.in_err-put_replies.field-0.0 r.ensures.1 put.2
+    wrote_part false _ _ c.in_ok-netlist.netlist is_opened put.0 put.1 _ _ r.result c.in_err-put_replies.field-0.0 r.ensures.1 put.2
 
 pub returns : goal.returns
 returns g c =
-    let lines = lines_of c.args.input.now in
-    let opening = opening_of (first_part lines) (has_valid_crew c.args.options.now) in
     let is_opened = rw (c.crew.ensures, c.in_ok-front.ensures.front) at c.in_ok-netlist.ensures.netlist in
-    let IsText : Circuit → List ℕ → Type 0 = λ n text. AreReplies (opened n) (later_parts lines) text in
     let put = rw (c.in_ok-keeper.ensures, c.in_ok-front.ensures.back) at c.in_ok-put_replies.ensures in
-    wrote false opening IsText c.in_ok-netlist.netlist is_opened put.0 put.1 _ _ put.2
+    wrote false _ _ c.in_ok-netlist.netlist is_opened put.0 put.1 _ _ put.2

@@ -1,0 +1,18 @@
+//! What a picture is asked for with.
+
+/// The options of a picture, as they were given.
+#[derive(Debug, Drop)]
+pub struct PictureWords<'a> {
+    /// The names of the wires that are shown; none where all are.
+    pub wires: Vec<&'a str>,
+    /// The first time that is shown, 0 where none is given.
+    pub from: u64,
+    /// The end of the times that are shown, 2^64 - 1 where none is given.
+    pub to: u64,
+    /// How many columns there are at most, 72 where none is given.
+    pub columns: u32,
+    /// Whether ASCII alone is written.
+    pub ascii: bool,
+    /// Whether an SVG file is written.
+    pub svg: bool,
+}
