@@ -1,11 +1,5 @@
-//! Tests of commands and of reports, by what their crates export. They are a crate of their own since a crate with tests is proved twice.
+//! Tests of how the faults of commands are told, by what their crate exports. They are a crate of their own since a crate with tests is proved twice.
 #![tactic(auto)]
 
 #[cfg(test)]
-mod commands;
-#[cfg(test)]
-mod devices;
-#[cfg(test)]
 mod faults;
-#[cfg(test)]
-mod report;

@@ -1,12 +1,12 @@
-//! A session of a buffer with a stimulus, one of a chain of buffers, and a full one.
-use mp_engine::OpenGate;
+//! A session of a chain of buffers.
 use mp_modules::Kind;
-use mp_netlist::{EditError, ModuleId, Netlist, WireId};
+use mp_netlist::{ModuleId, Netlist, WireId};
 use mp_part_tests::making::{Change, Part, Plan, Signal};
+use mp_part_tests::waves::has_changes;
 use mp_phase::{Crew, Gate};
 use mp_redo::{Work, WorkEntries, WorkEntry};
 use mp_session::Session;
-use mp_version::{MAX_EDITS, Version};
+use mp_version::Version;
 use std::alloc::{AllocError, Global};
 use std::sync::Wait;
 use std::sync::atomic::{AtomicU64, Ordering};
@@ -26,37 +26,21 @@ fn opened<G: Gate + Sync>(
     session
 }
 
-/// Whether the session takes the edit, or refuses it as this.
-fn answers<G: Gate + Sync>(
+/// Whether the session takes the edit.
+fn takes<G: Gate + Sync>(
     rt: &(impl Threads + Wait + Sync),
     alloc: Global,
     session: &mut Session<G>,
     change: &Change<'_>,
-    refusal: Option<EditError>,
 ) -> bool {
     match change.edit(alloc) {
         Ok(edit) => {
-            let found = session.apply(rt, &edit).err();
+            let taken = session.apply(rt, &edit).is_ok();
             drop(edit);
-            found == refusal
+            taken
         }
         Err(_) => false,
     }
-}
-
-/// Whether it answers so to one edit after the other.
-fn answers_all(
-    rt: &(impl Threads + Wait + Sync),
-    alloc: Global,
-    session: &mut Session<OpenGate>,
-    edits: &[(Change<'_>, Option<EditError>)],
-) -> bool {
-    for (change, refusal) in edits {
-        if !answers(rt, alloc, session, change, *refusal) {
-            return false;
-        }
-    }
-    true
 }
 
 /// Entries of the first module: from one time, to before another, each of so many units.
@@ -110,71 +94,9 @@ fn has_entries(work: &Work, pieces: &[Piece]) -> bool {
 /// Whether the version is of this number, and has these changes of a wire.
 fn is_version(version: &Version, number: u32, wire: u32, changes: &[(u32, u64)]) -> bool {
     match version.wave(WireId(wire)) {
-        Some(wave) => version.number() == number && wave.changes() == changes,
+        Some(wave) => version.number() == number && has_changes(wave, changes),
         None => false,
     }
-}
-
-static BUFFER_EDITS: [(Change<'static>, Option<EditError>); 8] = [
-    (Change::Wire("a"), None),
-    (Change::Wire("y"), None),
-    (
-        Change::Part(Part {
-            name: "b",
-            kind: Kind::Buf,
-            params: &[],
-            inputs: &[("a", 0)],
-            outputs: &[("y", 3)],
-        }),
-        None,
-    ),
-    (
-        Change::Signal(Signal {
-            wire: "a",
-            changes: &[(0, 1)],
-        }),
-        Some(EditError::BadStimulus),
-    ),
-    (
-        Change::Signal(Signal {
-            wire: "a",
-            changes: &[(20, 1)],
-        }),
-        Some(EditError::BadStimulus),
-    ),
-    (
-        Change::Signal(Signal {
-            wire: "a",
-            changes: &[(16, 1)],
-        }),
-        None,
-    ),
-    (
-        Change::Delay {
-            part: "b",
-            delay: 0,
-        },
-        Some(EditError::BadDelay),
-    ),
-    (Change::Removal("a"), Some(EditError::StillUsed)),
-];
-
-/// Whether the work and the version are those of the last edit that was taken.
-fn is_at_buffer(session: &Session<OpenGate>) -> bool {
-    has_entries(session.last_work(), &[Piece(0, 18, 18), Piece(18, 20, 2)])
-        && is_version(session.version(), 4, 1, &[(19, 1)])
-}
-
-#[test]
-fn refused_edits(rt: HostRuntime) -> Result<(), Fail> {
-    let alloc = rt.alloc();
-    let crew = Crew::new(2, 64)?;
-    let netlist = Netlist::empty(alloc, 20)?;
-    let mut session = opened(&rt, alloc, netlist, crew, OpenGate)?;
-    let shown = answers_all(&rt, alloc, &mut session, &BUFFER_EDITS) && is_at_buffer(&session);
-    drop(session);
-    assert!(rt; shown);
-    Ok(())
 }
 
 /// Counts the windows that the first module of the chain works in when its input changes at 50, and all others.
@@ -245,7 +167,7 @@ fn rises(
 ) -> bool {
     gate.expected.store(0, Ordering::SeqCst);
     gate.others.store(0, Ordering::SeqCst);
-    answers(rt, alloc, session, &RISE, None)
+    takes(rt, alloc, session, &RISE)
         && gate.expected.load(Ordering::SeqCst) == windows
         && gate.others.load(Ordering::SeqCst) == 0
         && has_entries(session.last_work(), pieces)
@@ -282,52 +204,6 @@ fn incremental_chain(rt: HostRuntime) -> Result<(), Fail> {
     let netlist = CHAIN.netlist(alloc).ok_or("no netlist")?;
     let mut session = opened(&rt, alloc, netlist, crew, gate)?;
     let shown = rises_twice(&rt, alloc, &mut session, gate);
-    drop(session);
-    assert!(rt; shown);
-    Ok(())
-}
-
-/// Sets nothing on the wire.
-static QUIET: Change<'static> = Change::Signal(Signal {
-    wire: "a",
-    changes: &[],
-});
-
-static LAST_EDITS: [(Change<'static>, Option<EditError>); 2] = [
-    (
-        Change::Signal(Signal {
-            wire: "a",
-            changes: &[],
-        }),
-        Some(EditError::HistoryFull),
-    ),
-    (Change::Removal("nobody"), Some(EditError::NoSuchWire)),
-];
-
-/// Whether the session takes as many edits as a session may have, and no more.
-fn fills(
-    rt: &(impl Threads + Wait + Sync),
-    alloc: Global,
-    session: &mut Session<OpenGate>,
-) -> bool {
-    if !answers(rt, alloc, session, &Change::Wire("a"), None) {
-        return false;
-    }
-    for _ in 1..MAX_EDITS {
-        if !answers(rt, alloc, session, &QUIET, None) {
-            return false;
-        }
-    }
-    answers_all(rt, alloc, session, &LAST_EDITS) && session.version().number() == MAX_EDITS
-}
-
-#[test]
-fn full_history(rt: HostRuntime) -> Result<(), Fail> {
-    let alloc = rt.alloc();
-    let crew = Crew::new(2, 64)?;
-    let netlist = Netlist::empty(alloc, 2)?;
-    let mut session = opened(&rt, alloc, netlist, crew, OpenGate)?;
-    let shown = fills(&rt, alloc, &mut session);
     drop(session);
     assert!(rt; shown);
     Ok(())

@@ -1,7 +1,7 @@
 //! Sizes of desks, and a close without all designers.
 ghost use Rattle.std.specs.Prelude.{◌≡◌, ◌+◌, length};
 
-use super::two_wires;
+use super::{are_shut, two_wires};
 use mp_desk::{
     BadDeskSize, CloseCause, CloseRefused, Designer, Desk, DeskName, DeskParts, DeskSize, Staffed,
     Viewer,
@@ -94,7 +94,7 @@ fn with<T: Drop>(items: Vec<T>, item: Option<T>) -> Option<Vec<T>> {
     Some(items)
 }
 
-/// Whether there are designers, with whom the desk is closed.
+/// Whether there are designers, with whom the desk is closed, and no viewer reads any more.
 fn closes<L: DeskName, R: Wait + Drop>(
     rt: &R,
     desk: Desk<Session<OpenGate>, L, R>,
@@ -102,7 +102,10 @@ fn closes<L: DeskName, R: Wait + Drop>(
     viewers: &mut [Viewer<L>],
 ) -> bool {
     match designers {
-        Some(designers) => desk.close(rt, designers, viewers).err().is_none(),
+        Some(designers) => {
+            let closed = desk.close(rt, designers, viewers).err().is_none();
+            closed && are_shut(viewers)
+        }
         None => {
             drop(desk);
             false
