@@ -79,7 +79,7 @@ impl<'a> Levels<'a> {
         let end = moment.time.min(u64::from(self.netlist.horizon() - 1)) as u32 + 1;
         match self.waves.of(moment.wire) {
             Some(wave) => match wave.changes_between(0, end).last() {
-                Some(&(time, level)) => Some(WireChange {
+                Some((time, level)) => Some(WireChange {
                     wire: moment.wire,
                     time,
                     level,

@@ -2,6 +2,7 @@
 ghost use Rattle.std.specs.Prelude.{◌≡◌, ◌+◌, ◌-◌, ◌<◌, ◌≤◌, ◌^◌, ◌++◌, ◌∷◌, [], false, OnOk, length, slice_index_or, slice_set, if◌then◌else◌};
 ghost use Rattle.mp_netlist.specs.Circuit.{IsCircuit};
 ghost use Rattle.mp_wave.specs.Waveform.{between};
+ghost use Rattle.mp_wave.specs.WaveChanges.{changes_in};
 ghost use Rattle.mp_engine.specs.Lines.{building_at};
 ghost use Rattle.mp_engine.specs.Marks.{AreAdded};
 ghost use Rattle.mp_engine.specs.Taps.{IsBefore, IsUnheard, StaysUntil, AreWaves, IsListed, IsTold, IsCalled, AreKept, AreListening};
@@ -10,7 +11,7 @@ use crate::region::Region;
 use crate::tap::{Tap, Taps};
 use crate::turns::mark;
 use mp_netlist::ModuleId;
-use mp_wave::WaveBuilder;
+use mp_wave::{WaveBuilder, WaveChanges};
 use std::alloc::AllocError;
 use std::collections::VecDeque;
 
@@ -22,36 +23,36 @@ struct Heard {
 }
 
 /// The changes of a wire that an input hears from now on.
-fn changes_near(waves: &[WaveBuilder], tap: Tap, time: u32) -> &[(u32, u64)]
+fn changes_near(waves: &[WaveBuilder], tap: Tap, time: u32) -> WaveChanges<'_>
     requires { time < 2 ^ 32 - 1 }
-    ensures { result.now ≡ between (time - tap.delay - 1) (time + 1) (building_at waves.now tap.wire).wave.changes }
+    ensures { changes_in result ≡ between (time - tap.delay - 1) (time + 1) (building_at waves.now tap.wire).wave.changes }
 {
     let from = time.saturating_sub(tap.delay).saturating_sub(1);
     match waves.get(tap.wire as usize) {
         Some(builder) => builder.wave().changes_between(from, time + 1),
-        None => &[],
+        None => WaveChanges::none(),
     }
 }
 
 /// The units from the next one on before the first of these changes is heard, and at most the delay.
-fn units_until(changes: &[(u32, u64)], delay: u32, time: u32) -> usize
-    ensures { IsBefore changes.now delay time result }
+fn units_until(changes: WaveChanges<'_>, delay: u32, time: u32) -> usize
+    ensures { IsBefore (changes_in changes.entry) delay time result }
 {
     if changes.len() == 0 {
         return delay as usize;
     }
-    let heard = changes[0].0 as usize + delay as usize;
+    let heard = changes.time_at(0) as usize + delay as usize;
     heard.saturating_sub(time as usize + 1).min(delay as usize)
 }
 
 /// What an input hears of these changes.
-fn hear_changes(changes: &[(u32, u64)], delay: u32, time: u32) -> Heard
-    ensures now { result.change ≡ false → IsUnheard changes.now delay time }
-    ensures later { StaysUntil changes.now delay time result.quiet }
+fn hear_changes(changes: WaveChanges<'_>, delay: u32, time: u32) -> Heard
+    ensures now { result.change ≡ false → IsUnheard (changes_in changes.entry) delay time }
+    ensures later { StaysUntil (changes_in changes.entry) delay time result.quiet }
 {
     let heard_up_to = time.saturating_sub(delay);
-    if changes.len() > 0 && changes[0].0 <= heard_up_to {
-        let quiet = units_until(&changes[1..], delay, time);
+    if changes.len() > 0 && changes.time_at(0) <= heard_up_to {
+        let quiet = units_until(changes.from_place(1), delay, time);
         return Heard {
             change: true,
             quiet,

@@ -5,6 +5,7 @@ use mp_engine::{Crew, Gate, OpenGate, Run, evaluate};
 use mp_modules::Kind;
 use mp_netlist::{ModuleId, Netlist, WireId};
 use mp_part_tests::making::{Part, Plan};
+use mp_part_tests::waves::has_changes;
 use std::alloc::Global;
 use std::process::Abort;
 use std::sync::Wait;
@@ -45,7 +46,7 @@ fn assert_loop(rt: &impl Abort, run: &Run, number: u32) {
     let Some(wave) = run.wave(WireId(number)) else {
         panic!(rt; "no wave");
     };
-    assert!(rt; wave.changes() == [(300, 1), (800, 0), (1300, 1), (1800, 0)].as_slice());
+    assert!(rt; has_changes(wave, &[(300, 1), (800, 0), (1300, 1), (1800, 0)]));
     assert!(rt; output_before(run, ModuleId(number), 1024) == Some(1));
     assert!(rt; output_before(run, ModuleId(number), 1023) == None);
 }

@@ -103,13 +103,14 @@ impl Track {
     pub(crate) fn advance(&mut self, time: u32)
         ensures { self.new ≡ advanced time self.old }
     {
-        match self.builder.wave().changes().get(self.past) {
-            Some(change) if change.0 == time => {
-                self.present = change.1;
-                self.past += 1;
-                self.event = true;
-            }
-            _ => self.event = false,
+        let changes = self.builder.wave().changes();
+        let past = self.past;
+        if past < changes.len() && changes.time_at(past) == time {
+            self.present = changes.level_at(past);
+            self.past = past + 1;
+            self.event = true;
+        } else {
+            self.event = false;
         }
     }
 

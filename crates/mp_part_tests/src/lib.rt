@@ -23,5 +23,6 @@ mod streams;
 mod text;
 #[cfg(test)]
 mod wave;
+pub mod waves;
 #[cfg(test)]
 mod words;

@@ -1,5 +1,6 @@
 //! The waves of a netlist, where there is memory.
 use crate::making::{Part, Plan};
+use crate::waves::has_changes;
 use mp_model::plain_waves;
 use mp_modules::Kind;
 use mp_netlist::Netlist;
@@ -24,7 +25,7 @@ static SELF_LOOP: Plan<'static> = Plan {
 fn has_wave(alloc: Global, netlist: &Netlist, changes: &[(u32, u64)]) -> Result<bool, Fail> {
     let waves = plain_waves(alloc, netlist)?;
     let has = match waves.as_slice() {
-        [Some(wave)] => wave.changes() == changes,
+        [Some(wave)] => has_changes(wave, changes),
         _ => false,
     };
     drop(waves);

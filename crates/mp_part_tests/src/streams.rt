@@ -7,6 +7,7 @@ use mp_streams::{
 use std::alloc::Global;
 use std::io;
 use std::io::{Read, Write};
+use std::process::Abort;
 use std::test::Fail;
 
 const TEXT: &[u8] = b"horizon 20\n";
@@ -121,8 +122,40 @@ fn put_through(out: &mut Out<WriteSink<SmallWriter>>, filling: &[u8]) -> Result<
     out.flush()
 }
 
+/// The sink took a front of the whole, as much as it had room for, and all that was written is passed on just where that is the whole.
+fn assert_front(
+    rt: &impl Abort,
+    out: Out<WriteSink<SmallWriter>>,
+    ended: Result<(), Failed>,
+    whole: &[u8],
+    room: usize,
+) {
+    let most = room.min(whole.len());
+    assert_eq!(rt; ended.is_ok(), most == whole.len());
+    let taken = out.into_sink().into_inner().taken;
+    assert!(rt; taken.as_slice() == &whole[..most]);
+}
+
+/// The text, the filling and the text again.
+fn filled(alloc: Global, filling: &[u8]) -> Result<Vec<u8>, Fail> {
+    let mut whole = Vec::from_slice(alloc, TEXT)?;
+    whole.extend_from_slice(filling)?;
+    whole.extend_from_slice(TEXT)?;
+    Ok(whole)
+}
+
+/// What is written around the filling goes through a buffer to a sink with so much room.
+fn assert_through(rt: &impl Abort, alloc: Global, filling: &[u8], room: usize) -> Result<(), Fail> {
+    let whole = filled(alloc, filling)?;
+    let mut out = Out::new(alloc, small_writer(alloc, 1, room, true))?;
+    let ended = put_through(&mut out, filling);
+    assert_front(rt, out, ended, whole.as_slice(), room);
+    Ok(())
+}
+
 #[test]
 fn through_a_buffer(rt: HostRuntime) -> Result<(), Fail> {
+    let filling = vec![in rt.alloc(); b'a'; 70_000]?;
     for (length, room) in [
         (0, 100_000),
         (65_530, 100_000),
@@ -132,16 +165,12 @@ fn through_a_buffer(rt: HostRuntime) -> Result<(), Fail> {
         (65_530, 65_545),
         (70_000, 70_015),
     ] {
-        let filling = vec![in rt.alloc(); b'a'; length]?;
-        let mut whole = Vec::from_slice(rt.alloc(), TEXT)?;
-        whole.extend_from_slice(filling.as_slice())?;
-        whole.extend_from_slice(TEXT)?;
-        let mut out = Out::new(rt.alloc(), small_writer(rt.alloc(), 1, room, true))?;
-        let ended = put_through(&mut out, filling.as_slice());
-        let most = room.min(whole.len());
-        assert_eq!(rt; ended.is_ok(), most == whole.len());
-        let taken = out.into_sink().into_inner().taken;
-        assert!(rt; taken.as_slice() == &whole.as_slice()[..most]);
+        assert_through(
+            &rt,
+            rt.alloc(),
+            &filling.as_slice()[..filling.len().min(length)],
+            room,
+        )?;
     }
     Ok(())
 }
@@ -166,21 +195,29 @@ fn put_letters(out: &mut Out<WriteSink<SmallWriter>>, count: usize) -> Result<()
     out.flush()
 }
 
+/// So many letters go through a buffer to a sink with so much room.
+fn assert_letters(rt: &impl Abort, alloc: Global, letters: &[u8], room: usize) -> Result<(), Fail> {
+    let mut out = Out::new(alloc, small_writer(alloc, 70_000, room, true))?;
+    let ended = put_letters(&mut out, letters.len());
+    assert_front(rt, out, ended, letters, room);
+    Ok(())
+}
+
 #[test]
 fn pieces_through_a_buffer(rt: HostRuntime) -> Result<(), Fail> {
+    let letters = vec![in rt.alloc(); b'a'; 65_600]?;
     for (count, room) in [
         (65_473, 100_000),
         (65_600, 100_000),
         (65_600, 7),
         (65_600, 65_500),
     ] {
-        let whole = vec![in rt.alloc(); b'a'; count]?;
-        let mut out = Out::new(rt.alloc(), small_writer(rt.alloc(), 70_000, room, true))?;
-        let ended = put_letters(&mut out, count);
-        let most = room.min(count);
-        assert_eq!(rt; ended.is_ok(), most == count);
-        let taken = out.into_sink().into_inner().taken;
-        assert!(rt; taken.as_slice() == &whole.as_slice()[..most]);
+        assert_letters(
+            &rt,
+            rt.alloc(),
+            &letters.as_slice()[..letters.len().min(count)],
+            room,
+        )?;
     }
     Ok(())
 }

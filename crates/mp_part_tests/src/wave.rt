@@ -1,6 +1,7 @@
 ghost use Rattle.std.specs.Prelude.{◌<◌, ◌^◌, length};
 
-use mp_wave::{Wave, WaveBuilder, WaveCause, WaveError};
+use crate::waves::has_changes;
+use mp_wave::{ToggleWave, Wave, WaveBuilder, WaveCause, WaveError};
 use std::alloc::{AllocError, Global};
 use std::test::Fail;
 
@@ -60,7 +61,7 @@ fn extended(alloc: Global, wave: &Wave) -> Result<Wave, AllocError> {
 fn wave_values_built(rt: HostRuntime) -> Result<(), Fail> {
     let wave = wave_of(rt.alloc(), &[(2, 1), (5, 0)])?;
     let built = extended(rt.alloc(), &wave)?;
-    assert!(rt; built.initial() == 0 && built.changes() == [(2, 1), (6, 0)].as_slice());
+    assert!(rt; built.initial() == 0 && has_changes(&built, &[(2, 1), (6, 0)]));
     Ok(())
 }
 
@@ -76,7 +77,30 @@ fn wave_values_while_built(rt: HostRuntime) -> Result<(), Fail> {
 fn wave_values_copied(rt: HostRuntime) -> Result<(), Fail> {
     let wave = wave_of(rt.alloc(), &[(2, 1), (6, 0)])?;
     let copy = wave.copy()?;
-    assert!(rt; copy.initial() == 0 && copy.changes() == wave.changes());
+    assert!(rt; copy.initial() == 0 && has_changes(&copy, &[(2, 1), (6, 0)]));
+    Ok(())
+}
+
+/// Toggles of a level of 0 and then another change.
+#[test]
+fn wave_values_wider(rt: HostRuntime) -> Result<(), Fail> {
+    let mut builder = WaveBuilder::new(rt.alloc(), 0);
+    builder.push_level(2, 1)?;
+    builder.push_level(5, 0)?;
+    builder.push_level(7, 3)?;
+    let wave = builder.finish();
+    assert!(rt; has_changes(&wave, &[(2, 1), (5, 0), (7, 3)]));
+    assert!(rt; wave.level_at(4) == 1 && wave.level_at(7) == 3);
+    Ok(())
+}
+
+#[test]
+fn wave_values_of_toggles(rt: HostRuntime) -> Result<(), Fail> {
+    let mut toggles = ToggleWave::constant(rt.alloc(), 1);
+    toggles.toggle(3)?;
+    toggles.toggle(4)?;
+    let wave = Wave::from(toggles);
+    assert!(rt; wave.initial() == 1 && has_changes(&wave, &[(3, 0), (4, 1)]));
     Ok(())
 }
 

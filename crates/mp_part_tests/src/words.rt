@@ -1,17 +1,5 @@
-use mp_streams::{Out, WriteSink};
-use mp_words::{changes, divided, inputs, line_words, numbers, outputs, put_wave_line};
+use mp_words::{changes, divided, inputs, line_words, numbers, outputs};
 use std::test::Fail;
-
-#[test]
-fn wave_line(rt: HostRuntime) -> Result<(), Fail> {
-    let mut out = Out::new(rt.alloc(), WriteSink::new(Vec::new(rt.alloc())))?;
-    put_wave_line(&mut out, "y", 0, [(5, 1), (8, 0)].as_slice())?;
-    put_wave_line(&mut out, "a", 0, [].as_slice())?;
-    out.flush()?;
-    let written = out.into_sink().into_inner();
-    assert!(rt; written.as_slice() == b"y 0 5=1 8=0\na 0\n".as_slice());
-    Ok(())
-}
 
 #[test]
 fn parts(rt: HostRuntime) -> Result<(), Fail> {

@@ -2,10 +2,11 @@
 ghost use Rattle.std.specs.Prelude.{◌≡◌, ◌≤◌, IfOk, length, nat_lt};
 ghost use Rattle.std.specs.List.{prefix_len};
 ghost use Rattle.mp_wave.specs.Waveform.{level_of, last_from};
+ghost use Rattle.mp_wave.specs.WaveChanges.{changes_in};
 ghost use Rattle.mp_picture.specs.Cells.{cells, events_of};
 
 use crate::columns::Columns;
-use mp_wave::Wave;
+use mp_wave::{Wave, WaveChanges};
 use std::alloc::{AllocError, Global};
 
 /// How many events a wire has in a column.
@@ -33,9 +34,8 @@ pub fn cells(alloc: Global, wave: &Wave, columns: Columns) -> Result<Vec<Cell>, 
     let mut rest = wave.changes_between(columns.from, columns.to);
     for column in 0..columns.count() {
         let count = count_before(rest, columns.end(column));
-        let (now, later) = rest.split_at(count);
-        level = last_level(level, now);
-        rest = later;
+        level = last_level(level, rest.before_place(count));
+        rest = rest.from_place(count);
         list.push(Cell {
             events: events_of(count),
             level,
@@ -45,16 +45,21 @@ pub fn cells(alloc: Global, wave: &Wave, columns: Columns) -> Result<Vec<Cell>, 
 }
 
 /// How many changes from the front on are before a time.
-fn count_before(changes: &[(u32, u64)], time: u32) -> usize
-    ensures value { result ≡ prefix_len (λ change. nat_lt change.0 time) changes.now }
-    ensures within { result ≤ length changes.now }
+fn count_before(changes: WaveChanges<'_>, time: u32) -> usize
+    ensures value { result ≡ prefix_len (λ change. nat_lt change.0 time) (changes_in changes.entry) }
+    ensures within { result ≤ length (changes_in changes.entry) }
 {
-    changes.iter().take_while(|change| change.0 < time).count()
+    for place in 0..changes.len() {
+        if changes.time_at(place) >= time {
+            return place;
+        }
+    }
+    changes.len()
 }
 
 /// The level after some changes.
-fn last_level(level: u64, changes: &[(u32, u64)]) -> u64
-    ensures { result ≡ last_from level changes.now }
+fn last_level(level: u64, changes: WaveChanges<'_>) -> u64
+    ensures { result ≡ last_from level (changes_in changes.entry) }
 {
     match changes.last() {
         Some(last) => last.1,

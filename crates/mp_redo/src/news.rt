@@ -1,6 +1,7 @@
 //! When a line brings news next.
 ghost use Rattle.std.specs.Prelude.{◌≡◌, ℕ, ◌+◌, ◌<◌, ◌≤◌, true, false};
 ghost use Rattle.mp_wave.specs.Waveform.{last_time, level_of};
+ghost use Rattle.mp_wave.specs.WaveChanges.{changes_in};
 ghost use Rattle.mp_engine.specs.Outcomes.{wave_of};
 ghost use Rattle.mp_redo.specs.Lines.{level_in, line_level};
 
@@ -8,11 +9,11 @@ use crate::line::Line;
 use crate::own_wave::OwnWave;
 use mp_engine::Run;
 use mp_netlist::WireId;
-use mp_wave::Wave;
+use mp_wave::{Wave, WaveChanges};
 
 /// The time of the last change, 0 where there is none.
-fn last_time(changes: &[(u32, u64)]) -> u32
-    ensures { result ≡ last_time 0 changes.now }
+fn last_time(changes: WaveChanges<'_>) -> u32
+    ensures { result ≡ last_time 0 (changes_in changes.entry) }
 {
     match changes.last() {
         Some(change) => change.0,

@@ -1,6 +1,7 @@
 //! Waves that are known up to a time, and go on with others.
 ghost use Rattle.std.specs.Prelude.{◌≡◌, ◌-◌, ◌^◌, ◌<◌, ◌≤◌, IfOk, OnOk};
 ghost use Rattle.mp_wave.specs.Waveform.{level_of};
+ghost use Rattle.mp_wave.specs.WaveChanges.{changes_in};
 ghost use Rattle.mp_model.specs.Tracks.{AreTimesIn, held_all};
 ghost use Rattle.mp_engine.specs.Outcomes.{wave_of};
 ghost use Rattle.mp_redo.specs.Lines.{level_in};
@@ -8,13 +9,13 @@ ghost use Rattle.mp_redo.specs.Prefixes.{switched, IsUpTo};
 
 use mp_engine::Run;
 use mp_netlist::WireId;
-use mp_wave::{Wave, WaveBuilder};
+use mp_wave::{Wave, WaveBuilder, WaveChanges};
 use std::alloc::{AllocError, Global};
 
 /// Holds the level of each change from its time on.
-pub(crate) fn hold_all(built: &mut WaveBuilder, changes: &[(u32, u64)]) -> Result<(), AllocError>
-    requires { AreTimesIn built.old.next (2 ^ 32 - 1) changes.now }
-    ensures { OnOk result (built.new ≡ held_all built.old changes.now) }
+pub(crate) fn hold_all(built: &mut WaveBuilder, changes: WaveChanges<'_>) -> Result<(), AllocError>
+    requires { AreTimesIn built.old.next (2 ^ 32 - 1) (changes_in changes) }
+    ensures { OnOk result (built.new ≡ held_all built.old (changes_in changes.entry)) }
 {
     let mut rest = changes;
     while let Some((change, later)) = rest.split_first() {

@@ -8,7 +8,7 @@ ghost use Rattle.mp_redo.specs.Starts.{IsSetAlike};
 
 use crate::prefix::hold_all;
 use mp_netlist::{Driver, Netlist, Stimulus, WireId};
-use mp_wave::WaveBuilder;
+use mp_wave::{WaveBuilder, WaveChanges};
 use std::alloc::{AllocError, Global};
 
 /// The level of a wire at time 0, 0 where none stands.
@@ -36,7 +36,7 @@ pub(crate) fn set_wave(
     };
     let mut built = WaveBuilder::new(alloc, found.initial);
     if let Some(stimulus) = &found.stimulus {
-        hold_all(&mut built, stimulus.as_slice())?;
+        hold_all(&mut built, WaveChanges::Pairs(stimulus.as_slice()))?;
     }
     Ok(built)
 }

@@ -1,6 +1,7 @@
 -- A wire's level before a time, and its changes from that time on.
 use Rattle.std.specs.Prelude.{◌≡◌, ℕ, ◌+◌, ◌-◌, ◌<◌, ◌≤◌}
 use Rattle.mp_wave.specs.Waveform.{AreChanges, level_from, last_time}
+use Rattle.mp_wave.specs.WaveChanges.{changes_in}
 use Rattle.mp_netlist.specs.Circuit.{Circuit}
 use Rattle.mp_records.specs.declared.bundle_record.BundleRecord.{BundleRecord}
 use Rattle.mp_model.specs.Waves.{level}
@@ -10,9 +11,9 @@ use Rattle.mp_report.specs.declared.watch.Watch.{Watch}
 -- the level of f one unit before a time from 1 on, and its changes from then to below an end
 pub record IsAhead (f : ℕ → ℕ) (end time : ℕ) (ahead : Ahead) : Type 0 where
   pub some : 0 < time
-  pub form : AreChanges (time - 1) ahead.level ahead.changes.now
-  pub within : last_time (time - 1) ahead.changes.now < end
-  pub levels : (t : ℕ) → time ≤ t + 1 → t < end → level_from ahead.level ahead.changes.now t ≡ f t
+  pub form : AreChanges (time - 1) ahead.level (changes_in ahead.changes)
+  pub within : last_time (time - 1) (changes_in ahead.changes) < end
+  pub levels : (t : ℕ) → time ≤ t + 1 → t < end → level_from ahead.level (changes_in ahead.changes) t ≡ f t
 
 -- the same of each wire of a bundle
 pub record AreAhead (n : Circuit) (b : BundleRecord) (time : ℕ) (watch : Watch) : Type 0 where

@@ -1,11 +1,11 @@
 //! Reading a wire's changes by rising time.
-use mp_wave::Wave;
+use mp_wave::{Wave, WaveChanges};
 
 /// The level of a wire one unit before a time, and its changes from then on.
 #[derive(Clone, Copy)]
 pub(crate) struct Ahead<'a> {
     pub(crate) level: u64,
-    pub(crate) changes: &'a [(u32, u64)],
+    pub(crate) changes: WaveChanges<'a>,
 }
 
 impl<'a> Ahead<'a> {

@@ -2,6 +2,7 @@
 
 ghost use Rattle.std.specs.Prelude.{◌≡◌, ◌+◌, ◌<◌, ◌≤◌, ◌^◌, All, length, IfOk};
 ghost use Rattle.mp_wave.specs.Waveform.{level_of, between};
+ghost use Rattle.mp_wave.specs.WaveChanges.{changes_in};
 ghost use Rattle.mp_response.specs.Pieces.{IsInPiece, later_by, levels_at, put_off};
 ghost use Rattle.mp_response.specs.Span.{IsSpan};
 
@@ -11,7 +12,7 @@ use crate::in_piece::InPiece;
 use crate::piece::Piece;
 use mp_modules::{MOST_INPUTS, Memory};
 use mp_storage::AnyModule;
-use mp_wave::Wave;
+use mp_wave::{Wave, WaveChanges};
 use std::alloc::{AllocError, Global};
 
 /// A wire's wave as an input from one time to before another: its level at the first time, and its changes after that. Its place is
@@ -22,7 +23,7 @@ pub fn cut(alloc: Global, wave: &Wave, from: u32, to: u32) -> Result<InPiece, Al
     ensures form { IfOk result (λ piece. IsInPiece from to piece) }
 {
     let at_from = wave.level_at(from);
-    let changes = Vec::from_slice(alloc, wave.changes_between(from, to))?;
+    let changes = wave.changes_between(from, to).to_vec(alloc)?;
     Ok(InPiece {
         at_from,
         changes: Changes::from_vec(changes),
@@ -52,13 +53,17 @@ pub fn cut_delayed(
 }
 
 /// The changes, each so many units later.
-fn put_off(alloc: Global, changes: &[(u32, u64)], delay: u32) -> Result<Vec<(u32, u64)>, AllocError>
-    requires { All (λ change. change.0 + delay < 2 ^ 32) changes.now }
-    ensures { IfOk result (λ late. late.items ≡ put_off delay changes.now) }
+fn put_off(
+    alloc: Global,
+    changes: WaveChanges<'_>,
+    delay: u32,
+) -> Result<Vec<(u32, u64)>, AllocError>
+    requires { All (λ change. change.0 + delay < 2 ^ 32) (changes_in changes) }
+    ensures { IfOk result (λ late. late.items ≡ put_off delay (changes_in changes.entry)) }
 {
     let mut late = Vec::new(alloc);
-    for &(time, level) in changes {
-        late.push((time + delay, level))?;
+    for place in 0..changes.len() {
+        late.push((changes.time_at(place) + delay, changes.level_at(place)))?;
     }
     Ok(late)
 }

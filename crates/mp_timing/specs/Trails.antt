@@ -1,5 +1,6 @@
 -- Reading a wire's events by rising time.
 use Rattle.std.specs.Prelude.{◌≡◌, ℕ, ◌≤◌, List, [], ◌∷◌, Option, Some, None, nat_le, if◌then◌else◌}
+use Rattle.mp_wave.specs.WaveChanges.{changes_in}
 use Rattle.mp_timing.specs.declared.trail.Trail.{Trail}
 
 -- the time of the last change up to a time, behind one that was before
@@ -19,5 +20,5 @@ first_time (change ∷ changes) = Some change.0
 
 -- a trail tells of these changes from a time on
 pub record IsTrail (changes : List (ℕ × ℕ)) (from : ℕ) (trail : Trail) : Type 0 where
-  pub last : (t : ℕ) → from ≤ t → last_upto trail.last trail.changes.now t ≡ last_upto None changes t
-  pub next : (t : ℕ) → from ≤ t → next_after trail.changes.now t ≡ next_after changes t
+  pub last : (t : ℕ) → from ≤ t → last_upto trail.last (changes_in trail.changes) t ≡ last_upto None changes t
+  pub next : (t : ℕ) → from ≤ t → next_after (changes_in trail.changes) t ≡ next_after changes t

@@ -5,18 +5,20 @@ ghost use Rattle.mp_timing.specs.Measures.{figures_line};
 
 use crate::extremes::Extremes;
 use mp_streams::{Failed, Out, Sink, Text};
+use mp_wave::WaveChanges;
 
 /// The times of the first and of the last event, where there is one.
 #[derive(Clone, Copy)]
 pub(crate) struct Ends<'a> {
-    pub(crate) events: &'a [(u32, u64)],
+    pub(crate) events: WaveChanges<'a>,
 }
 
 impl<'a> Text for Ends<'a> {
+    ghost use Rattle.mp_wave.specs.WaveChanges.{changes_in};
     ghost use Rattle.mp_timing.specs.Events.{times_of};
     ghost use Rattle.mp_timing.specs.Measures.{ends_text};
 
-    ghost text = { λ ends. ends_text (times_of ends.events.now) };
+    ghost text = { λ ends. ends_text (times_of (changes_in ends.events)) };
 
     fn put_to<S: Sink>(&self, out: &mut Out<S>) -> Result<(), Failed> {
         match (self.events.first(), self.events.last()) {

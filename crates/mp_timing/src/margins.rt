@@ -3,6 +3,7 @@ ghost use Rattle.std.specs.Prelude.{◌≡◌, ◌-◌, ◌<◌, ◌≤◌, ℕ,
 ghost use Rattle.std.specs.List.Sorted.{IsNonDecreasingBy};
 ghost use Rattle.mp_netlist.specs.Circuit.{IsCircuit, wire_at};
 ghost use Rattle.mp_model.specs.Waves.{AreWavesOf, level, wave};
+ghost use Rattle.mp_wave.specs.WaveChanges.{changes_in};
 ghost use Rattle.mp_timing.specs.Events.{times_of};
 ghost use Rattle.mp_timing.specs.Extremes.{extremes};
 ghost use Rattle.mp_timing.specs.Measures.{gaps, setups, responses};
@@ -12,20 +13,22 @@ use crate::extremes::{Extremes, widened, widened_by};
 use crate::trail::Trail;
 use mp_model::Waves;
 use mp_netlist::{Netlist, WireId};
+use mp_wave::WaveChanges;
 
 /// The least and the greatest gap between two events that follow each other.
-pub(crate) fn gaps(events: &[(u32, u64)]) -> Option<Extremes>
-    requires { IsNonDecreasingBy (λ (c : ℕ × ℕ). c.0) events.now }
-    ensures { result ≡ extremes (gaps (times_of events.now)) }
+pub(crate) fn gaps(events: WaveChanges<'_>) -> Option<Extremes>
+    requires { IsNonDecreasingBy (λ (c : ℕ × ℕ). c.0) (changes_in events) }
+    ensures { result ≡ extremes (gaps (times_of (changes_in events.entry))) }
 {
     let Some((first, later)) = events.split_first() else {
         return None;
     };
     let mut found = None;
     let mut before = first.0;
-    for event in later {
-        found = widened(found, event.0 - before);
-        before = event.0;
+    for place in 0..later.len() {
+        let time = later.time_at(place);
+        found = widened(found, time - before);
+        before = time;
     }
     found
 }
@@ -35,20 +38,21 @@ pub(crate) fn setups(
     netlist: &Netlist,
     waves: &Waves,
     payload: WireId,
-    requests: &[(u32, u64)],
+    requests: WaveChanges<'_>,
 ) -> Option<Extremes>
     requires form { IsCircuit netlist.now }
     requires waves { AreWavesOf netlist.now waves.now }
     requires stands { IsSome (wire_at netlist.now payload.0) }
-    requires rising { IsNonDecreasingBy (λ (c : ℕ × ℕ). c.0) requests.now }
-    requires within { All (λ (c : ℕ × ℕ). c.0 < netlist.now.horizon) requests.now }
-    ensures { result ≡ setups (level netlist.now payload.0) (times_of requests.now) }
+    requires rising { IsNonDecreasingBy (λ (c : ℕ × ℕ). c.0) (changes_in requests) }
+    requires within { All (λ (c : ℕ × ℕ). c.0 < netlist.now.horizon) (changes_in requests) }
+    ensures { result ≡ setups (level netlist.now payload.0) (times_of (changes_in requests.entry)) }
 {
     let mut trail = trail_of(netlist, waves, payload);
     let mut found = None;
-    for request in requests {
-        trail = trail.upto(request.0);
-        found = widened_by(found, units_since(trail.last, request.0));
+    for place in 0..requests.len() {
+        let time = requests.time_at(place);
+        trail = trail.upto(time);
+        found = widened_by(found, units_since(trail.last, time));
     }
     found
 }
@@ -59,20 +63,21 @@ pub(crate) fn responses(
     netlist: &Netlist,
     waves: &Waves,
     acknowledge: WireId,
-    requests: &[(u32, u64)],
+    requests: WaveChanges<'_>,
 ) -> Option<Extremes>
     requires form { IsCircuit netlist.now }
     requires waves { AreWavesOf netlist.now waves.now }
     requires stands { IsSome (wire_at netlist.now acknowledge.0) }
-    requires rising { IsNonDecreasingBy (λ (c : ℕ × ℕ). c.0) requests.now }
-    requires within { All (λ (c : ℕ × ℕ). c.0 < netlist.now.horizon) requests.now }
-    ensures { result ≡ responses (level netlist.now acknowledge.0) netlist.now.horizon (times_of requests.now) }
+    requires rising { IsNonDecreasingBy (λ (c : ℕ × ℕ). c.0) (changes_in requests) }
+    requires within { All (λ (c : ℕ × ℕ). c.0 < netlist.now.horizon) (changes_in requests) }
+    ensures { result ≡ responses (level netlist.now acknowledge.0) netlist.now.horizon (times_of (changes_in requests.entry)) }
 {
     let mut trail = trail_of(netlist, waves, acknowledge);
     let mut found = None;
-    for request in requests {
-        trail = trail.upto(request.0);
-        found = widened_by(found, units_until(trail.next(), request.0));
+    for place in 0..requests.len() {
+        let time = requests.time_at(place);
+        trail = trail.upto(time);
+        found = widened_by(found, units_until(trail.next(), time));
     }
     found
 }

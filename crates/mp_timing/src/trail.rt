@@ -1,15 +1,16 @@
 //! Reading a wire's events by rising time.
-use mp_wave::Wave;
+use mp_wave::{Wave, WaveChanges};
 
 /// The time of a wire's last event so far, if any, and its changes to come.
 #[derive(Clone, Copy)]
 pub(crate) struct Trail<'a> {
     pub(crate) last: Option<u32>,
-    pub(crate) changes: &'a [(u32, u64)],
+    pub(crate) changes: WaveChanges<'a>,
 }
 
 impl<'a> Trail<'a> {
     ghost use Rattle.std.specs.Prelude.{◌≡◌, ℕ, List};
+    ghost use Rattle.mp_wave.specs.WaveChanges.{changes_in};
     ghost use Rattle.mp_timing.specs.Trails.{last_upto, next_after, first_time, IsTrail};
 
     /// The events of a wave, from time 0 on.
@@ -25,8 +26,8 @@ impl<'a> Trail<'a> {
     /// The same from a time on that none so far is later than.
     pub(crate) fn upto(self, time: u32) -> Self
         ensures trail { (changes : List (ℕ × ℕ)) → IsTrail changes time self.entry → IsTrail changes time result }
-        ensures last { result.last ≡ last_upto self.entry.last self.entry.changes.now time }
-        ensures next { first_time result.changes.now ≡ next_after self.entry.changes.now time }
+        ensures last { result.last ≡ last_upto self.entry.last (changes_in self.entry.changes) time }
+        ensures next { first_time (changes_in result.changes) ≡ next_after (changes_in self.entry.changes) time }
     {
         let mut last = self.last;
         let mut changes = self.changes;
@@ -42,7 +43,7 @@ impl<'a> Trail<'a> {
 
     /// The time of the next event.
     pub(crate) fn next(self) -> Option<u32>
-        ensures { result ≡ first_time self.entry.changes.now }
+        ensures { result ≡ first_time (changes_in self.entry.changes) }
     {
         match self.changes.first() {
             Some(change) => Some(change.0),

@@ -2,12 +2,14 @@
 ghost use Rattle.std.specs.Prelude.{◌≡◌, ℕ, ◌+◌, ◌-◌, ◌<◌, ◌≤◌, List, IfOk, OnOk, vec_len};
 ghost use Rattle.mp_netlist.specs.Circuit.{wire_at};
 ghost use Rattle.mp_model.specs.Waves.{AreWavesOf};
+ghost use Rattle.mp_wave.specs.WaveChanges.{changes_in};
 ghost use Rattle.mp_vcd.specs.Agendas.{Tells, told_from, onto, onto_slot, told_at};
 
 use crate::agenda::Agenda;
 use crate::parts::part;
 use mp_model::Waves;
 use mp_netlist::{Netlist, WireId};
+use mp_wave::WaveChanges;
 use std::alloc::{AllocError, Global};
 
 /// So many changes are listed at once for each wire, on average: so that a wire is looked at seldom.
@@ -123,14 +125,14 @@ fn set_place(places: &mut [usize], id: WireId, place: usize) {
     }
 }
 
-fn add_changes(agenda: &mut Agenda, wire: u32, changes: &[(u32, u64)]) -> Result<(), AllocError>
+fn add_changes(agenda: &mut Agenda, wire: u32, changes: WaveChanges<'_>) -> Result<(), AllocError>
     ensures from { OnOk result (agenda.new.from ≡ agenda.old.from) }
     ensures times { OnOk result (vec_len agenda.new.firsts ≡ vec_len agenda.old.firsts) }
     ensures told { OnOk result ((told : ℕ → List (ℕ × ℕ)) → Tells agenda.old.firsts.items agenda.old.entries.items (told_from agenda.old.from told)
-        → Tells agenda.new.firsts.items agenda.new.entries.items (told_from agenda.old.from (λ t. onto wire changes.now t (told t)))) }
+        → Tells agenda.new.firsts.items agenda.new.entries.items (told_from agenda.old.from (λ t. onto wire (changes_in changes.entry) t (told t)))) }
 {
-    for change in changes {
-        agenda.add(change.0, wire, change.1)?;
+    for place in 0..changes.len() {
+        agenda.add(changes.time_at(place), wire, changes.level_at(place))?;
     }
     Ok(())
 }

@@ -5,3 +5,6 @@ pub mod BuildingLemmas
 pub mod PrefixLemmas
 pub mod DifferenceLemmas
 pub mod SearchLemmas
+pub mod ToggleWaveLemmas
+pub mod WaveChangesLemmas
+pub mod HeldLemmas

@@ -1,6 +1,7 @@
 //! What holds of all waveforms.
 
 ghost use Rattle.mp_wave.specs.Laws.{SameByLevels, HoldsLevel, HasLevels, IsInForm, GrowsByHolding, JoinsChanges, KeepsLevels, CutsLevels};
+ghost use Rattle.mp_wave.specs.ToggleWaves.{ToggleWavesAreWaves};
 
 /// Two waves with the same level at each time are the same wave.
 pub fn same_levels()
@@ -36,4 +37,9 @@ pub fn kept_levels()
 /// From the level at a time, the changes later than that and earlier than an end give the levels up to that end.
 pub fn cut_levels()
     ensures { CutsLevels }
+{}
+
+/// The times at which a level of one bit changes tell its wave.
+pub fn toggle_waves_are_waves()
+    ensures { ToggleWavesAreWaves }
 {}

@@ -1,61 +1,56 @@
 //! Searches in lists of changes.
 
-ghost use Rattle.std.specs.Prelude.{◌≡◌, ◌≢◌, ℕ, ◌<◌, ◌≤◌, ◌↔◌, IsTrue, true, false, nat_le, nat_lt, drop, length};
+ghost use Rattle.std.specs.Prelude.{◌≡◌, ◌≢◌, ℕ, ◌+◌, ◌^◌, ◌<◌, ◌≤◌, ◌↔◌, IsTrue, true, false, nat_le, nat_lt, drop, length};
 ghost use Rattle.std.specs.List.{AllWithin};
 ghost use Rattle.std.specs.List.Sorted.{IsNonDecreasingBy};
 ghost use Rattle.mp_wave.specs.Waveform.{AreChanges, level_from, later_than, earlier_than};
+ghost use Rattle.mp_wave.specs.WaveChanges.{changes_in};
 ghost use Rattle.mp_wave.specs.Faults.{pair_at};
+
+use crate::WaveChanges;
 
 /// How many of the last changes are looked at before the others: in a wave that is being built what is looked for is mostly among them.
 const LAST_FEW: usize = 8;
 
-/// How many changes are passed over at once, none of which is later than a time: all but so many of the last, or none.
-fn passed_but(changes: &[(u32, u64)], last: usize, time: u32) -> usize
-    requires { IsNonDecreasingBy (λ (c : ℕ × ℕ). c.0) changes.now }
-    ensures bound { result ≤ length changes.now }
-    ensures early { AllWithin (λ (c : ℕ × ℕ). c.0 ≤ time) changes.now 0 result }
+/// How many changes are passed over at once, none of which is later than a time: those before a place, or none.
+fn passed_but(changes: WaveChanges<'_>, first: usize, time: u32) -> usize
+    requires { IsNonDecreasingBy (λ (c : ℕ × ℕ). c.0) (changes_in changes) }
+    ensures bound { result ≤ length (changes_in changes.entry) }
+    ensures early { AllWithin (λ (c : ℕ × ℕ). c.0 ≤ time) (changes_in changes.entry) 0 result }
 {
-    let first = changes.len().saturating_sub(last);
-    match changes.get(first) {
-        Some(change) if change.0 <= time => first,
-        _ => 0,
+    if first < changes.len() && changes.time_at(first) <= time {
+        first
+    } else {
+        0
     }
-}
-
-/// The changes from a place on.
-fn from_place(changes: &[(u32, u64)], place: usize) -> &[(u32, u64)]
-    requires { place ≤ length changes.now }
-    ensures { result.now ≡ drop place changes.now }
-{
-    &changes[place..]
 }
 
 /// How many of the changes aren't later than a time, by a search.
 #[inline(never)]
-fn search_upto(changes: &[(u32, u64)], time: u32) -> usize
-    requires { IsNonDecreasingBy (λ (c : ℕ × ℕ). c.0) changes.now }
-    ensures bound { result ≤ length changes.now }
-    ensures early { AllWithin (λ (c : ℕ × ℕ). nat_le c.0 time ≡ true) changes.now 0 result }
-    ensures late { AllWithin (λ (c : ℕ × ℕ). nat_le c.0 time ≡ false) changes.now result (length changes.now) }
+fn search_upto(changes: WaveChanges<'_>, time: u32) -> usize
+    requires { IsNonDecreasingBy (λ (c : ℕ × ℕ). c.0) (changes_in changes) }
+    ensures bound { result ≤ length (changes_in changes.entry) }
+    ensures early { AllWithin (λ (c : ℕ × ℕ). nat_le c.0 time ≡ true) (changes_in changes.entry) 0 result }
+    ensures late { AllWithin (λ (c : ℕ × ℕ). nat_le c.0 time ≡ false) (changes_in changes.entry) result (length (changes_in changes.entry)) }
 {
-    let first = passed_but(changes, LAST_FEW, time);
-    first + from_place(changes, first).partition_point(|change| change.0 <= time)
+    let first = passed_but(changes, changes.len().saturating_sub(LAST_FEW), time);
+    first + changes.from_place(first).search_upto(time)
 }
 
 /// How many of the changes aren't later than a time.
 #[inline(always)]
-pub(crate) fn count_upto(changes: &[(u32, u64)], time: u32) -> usize
-    requires { IsNonDecreasingBy (λ (c : ℕ × ℕ). c.0) changes.now }
-    ensures bound { result ≤ length changes.now }
-    ensures early { AllWithin (λ (c : ℕ × ℕ). nat_le c.0 time ≡ true) changes.now 0 result }
-    ensures late { AllWithin (λ (c : ℕ × ℕ). nat_le c.0 time ≡ false) changes.now result (length changes.now) }
+pub(crate) fn count_upto(changes: WaveChanges<'_>, time: u32) -> usize
+    requires { IsNonDecreasingBy (λ (c : ℕ × ℕ). c.0) (changes_in changes) }
+    ensures bound { result ≤ length (changes_in changes.entry) }
+    ensures early { AllWithin (λ (c : ℕ × ℕ). nat_le c.0 time ≡ true) (changes_in changes.entry) 0 result }
+    ensures late { AllWithin (λ (c : ℕ × ℕ). nat_le c.0 time ≡ false) (changes_in changes.entry) result (length (changes_in changes.entry)) }
 {
     // Mostly it is all of them, or all but the last.
     let count = changes.len();
-    if count < 2 || time < changes[count - 2].0 {
+    if count < 2 || time < changes.time_at(count - 2) {
         return search_upto(changes, time);
     }
-    if time < changes[count - 1].0 {
+    if time < changes.time_at(count - 1) {
         count - 1
     } else {
         count
@@ -63,65 +58,91 @@ pub(crate) fn count_upto(changes: &[(u32, u64)], time: u32) -> usize
 }
 
 /// How many of the changes are earlier than a time.
-fn count_before(changes: &[(u32, u64)], time: u32) -> usize
-    requires { IsNonDecreasingBy (λ (c : ℕ × ℕ). c.0) changes.now }
-    ensures bound { result ≤ length changes.now }
-    ensures early { AllWithin (λ (c : ℕ × ℕ). nat_lt c.0 time ≡ true) changes.now 0 result }
-    ensures late { AllWithin (λ (c : ℕ × ℕ). nat_lt c.0 time ≡ false) changes.now result (length changes.now) }
+#[inline(always)]
+pub(crate) fn count_before(changes: WaveChanges<'_>, time: u32) -> usize
+    requires { IsNonDecreasingBy (λ (c : ℕ × ℕ). c.0) (changes_in changes) }
+    ensures bound { result ≤ length (changes_in changes.entry) }
+    ensures early { AllWithin (λ (c : ℕ × ℕ). nat_lt c.0 time ≡ true) (changes_in changes.entry) 0 result }
+    ensures late { AllWithin (λ (c : ℕ × ℕ). nat_lt c.0 time ≡ false) (changes_in changes.entry) result (length (changes_in changes.entry)) }
 {
-    match changes.last() {
-        Some(last) if last.0 < time => changes.len(),
-        _ => changes.partition_point(|change| change.0 < time),
+    let count = changes.len();
+    if count > 0 && changes.time_at(count - 1) < time {
+        count
+    } else {
+        changes.search_before(time)
     }
 }
 
 /// The changes later than a time.
-pub(crate) fn later_than(changes: &[(u32, u64)], time: u32) -> &[(u32, u64)]
-    requires { IsNonDecreasingBy (λ (c : ℕ × ℕ). c.0) changes.now }
-    ensures value { result.now ≡ later_than time changes.now }
-    ensures sorted { IsNonDecreasingBy (λ (c : ℕ × ℕ). c.0) result.now }
+#[inline(always)]
+pub(crate) fn later_than(changes: WaveChanges<'_>, time: u32) -> WaveChanges<'_>
+    requires { IsNonDecreasingBy (λ (c : ℕ × ℕ). c.0) (changes_in changes) }
+    ensures value { changes_in result ≡ later_than time (changes_in changes.entry) }
+    ensures sorted { IsNonDecreasingBy (λ (c : ℕ × ℕ). c.0) (changes_in result) }
 {
     let count = count_upto(changes, time);
-    &changes[count..]
+    changes.from_place(count)
 }
 
 /// The changes earlier than a time.
-pub(crate) fn earlier_than(changes: &[(u32, u64)], time: u32) -> &[(u32, u64)]
-    requires { IsNonDecreasingBy (λ (c : ℕ × ℕ). c.0) changes.now }
-    ensures { result.now ≡ earlier_than time changes.now }
+#[inline(always)]
+pub(crate) fn earlier_than(changes: WaveChanges<'_>, time: u32) -> WaveChanges<'_>
+    requires { IsNonDecreasingBy (λ (c : ℕ × ℕ). c.0) (changes_in changes) }
+    ensures { changes_in result ≡ earlier_than time (changes_in changes.entry) }
 {
     let count = count_before(changes, time);
-    &changes[..count]
+    changes.before_place(count)
 }
 
-/// Whether both lists have the same pair at a place.
-fn has_same(one: &[(u32, u64)], other: &[(u32, u64)], place: usize) -> bool
-    ensures { IsTrue result ↔ (place < length one.now) × (place < length other.now) × (pair_at one.now place ≡ pair_at other.now place) }
+/// Whether both lists have the same pair at a place that they have.
+#[inline(always)]
+fn has_pair(one: WaveChanges<'_>, other: WaveChanges<'_>, place: usize) -> bool
+    requires one { place < length (changes_in one) }
+    requires other { place < length (changes_in other) }
+    ensures { IsTrue result ↔ (pair_at (changes_in one.entry) place ≡ pair_at (changes_in other.entry) place) }
 {
-    place < one.len() && place < other.len() && one[place] == other[place]
+    one.time_at(place) == other.time_at(place) && one.level_at(place) == other.level_at(place)
+}
+
+/// Whether both lists have the same pair at a place, with a time before an end.
+#[inline(always)]
+fn has_same(one: WaveChanges<'_>, other: WaveChanges<'_>, place: usize, end: u32) -> bool
+    ensures same { IsTrue result ↔ (place < length (changes_in one.entry)) × (place < length (changes_in other.entry)) × (pair_at (changes_in one.entry) place ≡ pair_at (changes_in other.entry) place) × ((pair_at (changes_in one.entry) place).0 < end) }
+    ensures next { IsTrue result → place + 1 < 2 ^ 64 }
+{
+    place < one.len()
+        && place < other.len()
+        && has_pair(one, other, place)
+        && one.time_at(place) < end
 }
 
 /// The time of the change at a place, or an end that comes first.
-fn time_at(changes: &[(u32, u64)], place: usize, end: u32) -> u32
+fn time_at(changes: WaveChanges<'_>, place: usize, end: u32) -> u32
     ensures within { result ≤ end }
-    ensures first { place < length changes.now → result ≤ (pair_at changes.now place).0 }
-    ensures reached { result < end → (place < length changes.now) × (result ≡ (pair_at changes.now place).0) }
+    ensures first { place < length (changes_in changes.entry) → result ≤ (pair_at (changes_in changes.entry) place).0 }
+    ensures reached { result < end → (place < length (changes_in changes.entry)) × (result ≡ (pair_at (changes_in changes.entry) place).0) }
 {
-    match changes.get(place) {
-        Some(change) => end.min(change.0),
-        None => end,
+    if place < changes.len() {
+        end.min(changes.time_at(place))
+    } else {
+        end
     }
 }
 
 /// The least time below an end at which two lists of changes after one level give different levels, or the end.
-pub(crate) fn agree_until(initial: u64, one: &[(u32, u64)], other: &[(u32, u64)], upto: u32) -> u32
-    requires one_form { AreChanges 0 initial one.now }
-    requires other_form { AreChanges 0 initial other.now }
-    ensures same { (t : ℕ) → t < result → level_from initial one.now t ≡ level_from initial other.now t }
-    ensures differ { result < upto → level_from initial one.now result ≢ level_from initial other.now result }
+pub(crate) fn agree_until(
+    initial: u64,
+    one: WaveChanges<'_>,
+    other: WaveChanges<'_>,
+    upto: u32,
+) -> u32
+    requires one_form { AreChanges 0 initial (changes_in one) }
+    requires other_form { AreChanges 0 initial (changes_in other) }
+    ensures same { (t : ℕ) → t < result → level_from initial (changes_in one.entry) t ≡ level_from initial (changes_in other.entry) t }
+    ensures differ { result < upto → level_from initial (changes_in one.entry) result ≢ level_from initial (changes_in other.entry) result }
 {
     let mut place = 0;
-    while has_same(one, other, place) && one[place].0 < upto {
+    while has_same(one, other, place, upto) {
         place += 1;
     }
     time_at(one, place, time_at(other, place, upto))

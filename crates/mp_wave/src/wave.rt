@@ -4,8 +4,9 @@ ghost use Rattle.std.specs.Prelude.{◌≡◌, ◌≢◌, ℕ, ◌<◌, ◌^◌,
 ghost use Rattle.mp_wave.specs.Waveform.{AreChanges};
 ghost use Rattle.mp_wave.specs.Faults.{IsCause, IsChange, IsFirstFault};
 
-use crate::search::{agree_until, count_upto, earlier_than, later_than};
-use crate::{WaveCause, WaveError};
+use crate::held::Held;
+use crate::search::{agree_until, count_before, count_upto, earlier_than, later_than};
+use crate::{ToggleWave, WaveCause, WaveChanges, WaveError};
 use std::alloc::{AllocError, Global};
 use std::marker::Model;
 
@@ -14,21 +15,23 @@ use std::marker::Model;
 #[derive(Debug, Drop)]
 pub struct Wave {
     initial: u64,
-    changes: Vec<(u32, u64)>,
+    held: Held,
 }
 
 impl Model for Wave {
-    ghost use Rattle.mp_wave.specs.Waveform.{Waveform, IsWaveform};
+    ghost use Rattle.mp_wave.specs.Waveform.{Waveform};
+    ghost use Rattle.mp_wave.specs.WaveChanges.{held_wave, IsHeld};
 
     ghost Value = { Waveform };
 
-    ghost view = { λ wave. record { initial = wave.initial; changes = wave.changes.items } };
+    ghost view = { λ wave. held_wave wave.initial wave.held };
 
-    ghost invariant = { λ wave. IsWaveform (record { initial = wave.initial; changes = wave.changes.items }) };
+    ghost invariant = { λ wave. IsHeld wave.initial wave.held };
 }
 
 impl Wave {
-    ghost use Rattle.mp_wave.specs.Waveform.{IsWaveform, level_of, last_from, last_time, earlier_than, between};
+    ghost use Rattle.mp_wave.specs.Waveform.{IsWaveform, level_of, last_from, last_time, between, kept_before};
+    ghost use Rattle.mp_wave.specs.WaveChanges.{changes_in};
     ghost use Rattle.mp_wave.specs.Differences.{AgreeBelow, IsFirstDifference};
 
     /// The wave with one level at every time.
@@ -37,7 +40,7 @@ impl Wave {
     {
         Wave {
             initial,
-            changes: Vec::new(alloc),
+            held: Held::none(alloc, initial),
         }
     }
 
@@ -50,7 +53,10 @@ impl Wave {
     {
         match find_fault(initial, changes.as_slice()) {
             Some(error) => Err(error),
-            None => Ok(Wave { initial, changes }),
+            None => Ok(Wave {
+                initial,
+                held: Held::Pairs(changes),
+            }),
         }
     }
 
@@ -63,40 +69,35 @@ impl Wave {
     }
 
     /// The changes after time 0, by rising time.
-    pub fn changes(&self) -> &[(u32, u64)]
-        ensures value { result.now ≡ self.now.changes }
+    #[inline(always)]
+    pub fn changes(&self) -> WaveChanges<'_>
+        ensures value { changes_in result ≡ self.now.changes }
         ensures form { IsWaveform self.now }
     {
-        self.changes.as_slice()
+        self.held.changes(self.initial)
     }
 
     /// The level at a time: that of the last change which is not later, or the initial one.
+    #[inline(never)]
     pub fn level_at(&self, time: u32) -> u64
         ensures value { result ≡ level_of self.now time }
         ensures form { IsWaveform self.now }
     {
-        let changes = self.changes.as_slice();
+        let changes = self.changes();
         let count = count_upto(changes, time);
         if count == 0 {
             return self.initial;
         }
-        changes[count - 1].1
+        changes.level_at(count - 1)
     }
 
     /// The changes later than one time and earlier than another, found by search.
-    pub fn changes_between(&self, from: u32, to: u32) -> &[(u32, u64)]
-        ensures value { result.now ≡ between from to self.now.changes }
+    #[inline]
+    pub fn changes_between(&self, from: u32, to: u32) -> WaveChanges<'_>
+        ensures value { changes_in result ≡ between from to self.now.changes }
         ensures form { IsWaveform self.now }
     {
-        earlier_than(later_than(self.changes.as_slice(), from), to)
-    }
-
-    /// The changes earlier than a time.
-    pub(crate) fn changes_before(&self, time: u32) -> &[(u32, u64)]
-        ensures value { result.now ≡ earlier_than time self.now.changes }
-        ensures form { IsWaveform self.now }
-    {
-        earlier_than(self.changes.as_slice(), time)
+        earlier_than(later_than(self.changes(), from), to)
     }
 
     /// The least time, below an end, at which the two waves have different levels, if any. It takes as long as the changes
@@ -108,8 +109,8 @@ impl Wave {
         if self.initial != other.initial {
             return if upto == 0 { None } else { Some(0) };
         }
-        let ours = self.changes.as_slice();
-        let theirs = other.changes.as_slice();
+        let ours = self.changes();
+        let theirs = other.changes();
         let time = agree_until(self.initial, ours, theirs, upto);
         if time < upto { Some(time) } else { None }
     }
@@ -121,19 +122,23 @@ impl Wave {
     {
         Ok(Wave {
             initial: self.initial,
-            changes: self.changes.clone()?,
+            held: self.held.copy()?,
         })
     }
 
-    /// A wave with these changes, of which it is known that they are changes.
-    pub(crate) fn of_changes(initial: u64, changes: Vec<(u32, u64)>) -> Wave
-        requires { IsWaveform (record { initial = initial; changes = changes.items }) }
-        ensures { result ≡ record { initial = initial; changes = changes.items } }
+    /// The wave up to a time, its last level before that time held, with room for as many changes as this one has.
+    pub(crate) fn prefix(&self, alloc: Global, upto: u32) -> Result<Wave, AllocError>
+        ensures { IfOk result (λ prefix. prefix ≡ kept_before upto self.now) }
     {
-        Wave { initial, changes }
+        let count = count_before(self.changes(), upto);
+        Ok(Wave {
+            initial: self.initial,
+            held: self.held.front(alloc, count)?,
+        })
     }
 
     /// One more change at the end. Where memory runs out, the wave stays as it was.
+    #[inline(always)]
     pub(crate) fn push_change(&mut self, time: u32, level: u64) -> Result<(), AllocError>
         requires later { last_time 0 self.old.changes < time }
         requires other { last_from self.old.initial self.old.changes ≢ level }
@@ -141,8 +146,20 @@ impl Wave {
             record { initial = self.old.initial; changes = self.old.changes ++ (time, level) ∷ [] }) }
         ensures err { OnErr result (self.new ≡ self.old) }
     {
-        self.changes.push((time, level))?;
-        Ok(())
+        self.held.push(self.initial, time, level)
+    }
+}
+
+impl From<ToggleWave> for Wave {
+    ghost from_gives = { λ toggles wave. wave ≡ toggles };
+
+    /// The same wave. It takes no memory.
+    fn from(wave: ToggleWave) -> Wave {
+        let (initial, times) = wave.into_parts();
+        Wave {
+            initial,
+            held: Held::Toggles(times),
+        }
     }
 }
 

@@ -49,9 +49,8 @@ impl WaveBuilder {
         ensures form { IsWaveform wave.now }
     {
         let level = wave.level_at(upto - 1);
-        let changes = with_room(alloc, wave.changes_before(upto), wave.changes().len())?;
         Ok(WaveBuilder {
-            wave: Wave::of_changes(wave.initial(), changes),
+            wave: wave.prefix(alloc, upto)?,
             level,
             next_time: upto,
         })
@@ -59,6 +58,7 @@ impl WaveBuilder {
 
     /// From this time on the level is this one; the level that it has already adds no change.
     /// Where memory runs out, the builder stays as it was.
+    #[inline(always)]
     pub fn push_level(&mut self, time: u32, level: u64) -> Result<(), AllocError>
         requires later { self.old.next ≤ time }
         requires last { time < 2 ^ 32 - 1 }
@@ -110,17 +110,4 @@ impl WaveBuilder {
         let WaveBuilder { wave, .. } = self;
         wave
     }
-}
-
-/// The same changes once more, with room for so many in all.
-fn with_room(
-    alloc: Global,
-    changes: &[(u32, u64)],
-    room: usize,
-) -> Result<Vec<(u32, u64)>, AllocError>
-    ensures { IfOk result (λ copy. copy.items ≡ changes.now) }
-{
-    let mut copy = Vec::with_capacity(alloc, room)?;
-    copy.extend_from_slice(changes)?;
-    Ok(copy)
 }

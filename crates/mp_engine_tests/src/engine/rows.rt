@@ -3,6 +3,7 @@ use mp_engine::{Crew, OpenGate, Run, evaluate};
 use mp_modules::Kind;
 use mp_netlist::{Netlist, WireId};
 use mp_part_tests::making::{Part, Plan, Signal};
+use mp_part_tests::waves::has_changes;
 use std::alloc::Global;
 use std::process::Abort;
 use std::sync::Wait;
@@ -16,10 +17,10 @@ struct Row<'a> {
     waves: &'a [&'a [(u32, u64)]],
 }
 
-fn changes_of(run: &Run, wire: WireId) -> &[(u32, u64)] {
+fn is_wave(run: &Run, wire: WireId, changes: &[(u32, u64)]) -> bool {
     match run.wave(wire) {
-        Some(wave) => wave.changes(),
-        None => &[],
+        Some(wave) => has_changes(wave, changes),
+        None => changes.is_empty(),
     }
 }
 
@@ -36,7 +37,7 @@ fn assert_waves<R: Abort + Threads + Wait + Sync>(
     let mut number = 0u32;
     for wave in waves {
         assert!(rt;
-            changes_of(&run, WireId(number)) == *wave,
+            is_wave(&run, WireId(number), wave),
             "wire {number} by {count}"
         );
         number = number.saturating_add(1);

@@ -8,6 +8,7 @@ use mp_depend::touched;
 use mp_engine::{OpenGate, Run, evaluate_here};
 use mp_netlist::{Edit, ModuleId, Netlist, WireId};
 use mp_part_tests::making::{Change, Plan};
+use mp_part_tests::waves::has_changes;
 use mp_phase::{Crew, Gate};
 use mp_redo::laws::edits_revise;
 use mp_redo::{Work, redo};
@@ -40,7 +41,7 @@ fn has_waves(row: &Row<'_>, run: &Run) -> bool {
     for (wire, changes) in row.waves {
         match run.wave(WireId(*wire)) {
             Some(wave) => {
-                if wave.changes() != *changes {
+                if !has_changes(wave, changes) {
                     return false;
                 }
             }

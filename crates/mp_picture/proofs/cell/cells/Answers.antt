@@ -1,6 +1,7 @@
 use Rattle.std.proofs.Common.{◌≡◌, ◌<◌, map, sym, ap, subst, ◌∙◌, arith}
 use Rattle.std.specs.List.{range_with_len}
 use Rattle.mp_wave.specs.Waveform.{level_of}
+use Rattle.mp_wave.specs.WaveChanges.{changes_in}
 use Rattle.mp_picture.specs.declared.cell.Cell.{Cell}
 use Rattle.mp_picture.specs.Columns.{count}
 use Rattle.mp_picture.specs.Cells.{cells, cell_at}
@@ -15,7 +16,7 @@ loop-column-init c =
       within = omega arith;
       done = c.in_ok-list.ensures.items;
       left =
-          subst (λ v. IsRest (level_of w) cs 0 v c.changes_between-rest.result.now) (sym c.level_at-level.ensures.value)
+          subst (λ v. IsRest (level_of w) cs 0 v (changes_in c.changes_between-rest.result)) (sym c.level_at-level.ensures.value)
           (subst (λ r. IsRest (level_of w) cs 0 (level_of w cs.from) r) (sym c.changes_between-rest.ensures.value)
           (rest_first w cs c.level_at-level.ensures.form cs.some));
     }
@@ -27,8 +28,8 @@ loop-column-preserved c =
     let j = c.loop-column.column in
     let below : j < count cs = omega arith in
     let next =
-    step f cs j c.loop-column.level c.loop-column.rest.now cs.some cs.wide below c.loop-column.invariant.left c.end.result c.count_before-count.result c.last_level-level.result
-    c.split_at.result.0.now c.split_at.result.1.now c.events_of.result c.end.ensures.value c.count_before-count.ensures.value c.split_at.ensures.front c.split_at.ensures.back c.last_level-level.ensures c.events_of.ensures in
+    step f cs j c.loop-column.level (changes_in c.loop-column.rest) cs.some cs.wide below c.loop-column.invariant.left c.end.result c.count_before-count.result c.last_level-level.result
+    (changes_in c.before_place.result) (changes_in c.from_place-rest.result) c.events_of.result c.end.ensures.value c.count_before-count.ensures.value c.before_place.ensures c.from_place-rest.ensures c.last_level-level.ensures c.events_of.ensures in
     let x : Cell = record { events = c.events_of.result; level = c.last_level-level.result } in
     record {
       within = omega arith;

@@ -1,6 +1,7 @@
 use Rattle.std.proofs.Common.{◌+◌, arith}
 use Rattle.std.proofs.lemmas.Result.{on_ok_weaker}
 use Rattle.mp_model.proofs.HeldLemmas.{AreTimesIn-longer}
+use Rattle.mp_wave.specs.WaveChanges.{changes_in}
 use Rattle.mp_wave.specs.Waveform.{between}
 use Rattle.mp_redo.proofs.PrefixLemmas.{times_between, followed_as}
 use Rattle.mp_redo.proofs.prefix.follow.Goals as goal
@@ -16,7 +17,7 @@ hold_all-requires c =
 pub returns : goal.returns
 returns c =
     on_ok_weaker c.hold_all.result
-    (followed_as c.args.built.now c.push_level.new.self c.hold_all.new.built c.args.wave.now c.args.from c.args.to c.level_at.result c.changes_between.result.now
+    (followed_as c.args.built.now c.push_level.new.self c.hold_all.new.built c.args.wave.now c.args.from c.args.to c.level_at.result (changes_in c.changes_between.result)
     c.next_time-next.ensures.form c.changes_between.ensures.form c.requires.later c.requires.some
     c.in_ok-push_level.ensures.ok c.level_at.ensures.value c.changes_between.ensures.value)
     c.hold_all.ensures

@@ -4,7 +4,7 @@ use Rattle.mp_response.proofs.span.cut.Goals as goal
 
 pub returns-clause-form : goal.returns-clause-form
 returns-clause-form c =
-    let changes = c.from_vec.ensures ∙ c.in_ok-changes.ensures.items ∙ c.changes_between.ensures.value in
+    let changes = c.from_vec.ensures ∙ c.in_ok-changes.ensures ∙ c.changes_between.ensures.value in
     rw (changes, c.level_at-at_from.ensures.value)
     (record {
       form = AreChanges-between c.args.wave.now c.args.from c.args.to c.level_at-at_from.ensures.form;

@@ -1,5 +1,6 @@
 use Rattle.std.proofs.Common.{◌≡◌, ℕ, ◌<◌, ◌≤◌, length, drop, get_or}
 use Rattle.mp_model.specs.Waves.{level, wave}
+use Rattle.mp_wave.specs.WaveChanges.{changes_in}
 use Rattle.mp_timing.specs.Events.{times_of}
 use Rattle.mp_timing.specs.Measures.{setups, stood_for}
 use Rattle.mp_timing.specs.Trails.{IsTrail}
@@ -7,8 +8,9 @@ use Rattle.mp_timing.proofs.ExtremeLemmas.{widened_by_each}
 use Rattle.mp_timing.proofs.margins.setups.Given as goal
 
 -- the trail tells of the times of the requests to come, and with these the extremes so far are those of all
-abbrev pub invariant-loop-request : goal.invariant-loop-request
-invariant-loop-request l = record {
-  trail : (j : ℕ) → l.request-index ≤ j → j < length l.requests → IsTrail (wave l.netlist l.fn.payload.0).changes (get_or l.requests j (0, 0)).0 l.trail;
-  found : widened_by_each (stood_for (level l.netlist l.fn.payload.0)) l.found (drop l.request-index l.requests) ≡ setups (level l.netlist l.fn.payload.0) (times_of l.requests);
+abbrev pub invariant-loop-place : goal.invariant-loop-place
+invariant-loop-place l = record {
+  within : l.place ≤ length (changes_in l.requests);
+  trail : (j : ℕ) → l.place ≤ j → j < length (changes_in l.requests) → IsTrail (wave l.netlist l.fn.payload.0).changes (get_or (changes_in l.requests) j (0, 0)).0 l.trail;
+  found : widened_by_each (stood_for (level l.netlist l.fn.payload.0)) l.found (drop l.place (changes_in l.requests)) ≡ setups (level l.netlist l.fn.payload.0) (times_of (changes_in l.requests));
 }

@@ -1,12 +1,13 @@
 use Rattle.std.proofs.Common.{◌≡◌, ℕ, slice_index_or, ap, ⊎_elim, sym, ◌∙◌, arith}
 use Rattle.std.proofs.lemmas.Bool.{cases_lt}
 use Rattle.std.proofs.lemmas.List.{get_or_default}
+use Rattle.mp_wave.specs.WaveChanges.{changes_in}
 use Rattle.mp_wave.proofs.PrefixLemmas.{nat_lt-true, nat_lt-false, earlier_than-take}
 use Rattle.mp_vcd.proofs.parts.count_before.Goals as goal
 
 pub loop-count-preserved : goal.loop-count-preserved
 loop-count-preserved c =
-    let changes = c.args.changes.now in
+    let changes = changes_in c.args.changes in
     let count = c.loop-count.count in
     let here = c.is_ahead.ensures.behind c.loop-count-test.true in
     record {
@@ -25,5 +26,5 @@ pub returns-clause-value : goal.returns-clause-value
 returns-clause-value c =
     let time = c.args.time in
     let ahead = c.is_ahead.ensures.ahead c.loop-count-test.false in
-    earlier_than-take time c.loop-count.count c.args.changes.now c.loop-count.invariant.within
+    earlier_than-take time c.loop-count.count (changes_in c.args.changes) c.loop-count.invariant.within
     (λ k d low high. nat_lt-true _ time (c.loop-count.invariant.over k d low high)) (λ k d low high. nat_lt-false _ time (ahead k d low high))

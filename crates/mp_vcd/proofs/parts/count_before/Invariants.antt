@@ -1,13 +1,14 @@
 use Rattle.std.proofs.Common.{ℕ, ◌-◌, ◌<◌, ◌≤◌, length}
 use Rattle.std.specs.List.{AllWithin}
+use Rattle.mp_wave.specs.WaveChanges.{changes_in}
 use Rattle.mp_vcd.proofs.parts.count_before.Given as goal
 
 -- the changes so far are earlier
 abbrev pub invariant-loop-count : goal.invariant-loop-count
 invariant-loop-count l = record {
-  within : l.count ≤ length l.changes;
-  over : AllWithin (λ (c : ℕ × ℕ). c.0 < l.time) l.changes 0 l.count;
+  within : l.count ≤ length (changes_in l.changes);
+  over : AllWithin (λ (c : ℕ × ℕ). c.0 < l.time) (changes_in l.changes) 0 l.count;
 }
 
 abbrev pub decreases-loop-count : goal.decreases-loop-count
-decreases-loop-count l = length l.changes - l.count
+decreases-loop-count l = length (changes_in l.changes) - l.count

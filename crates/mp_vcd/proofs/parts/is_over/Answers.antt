@@ -1,14 +1,16 @@
 use Rattle.std.proofs.Common.{◌≡◌, ℕ, ◌-◌, ◌<◌, ◌≤◌, length, slice_index_or, ap, arith}
 use Rattle.std.proofs.lemmas.Bool.{ltb-true}
 use Rattle.std.proofs.lemmas.List.{get_or_default}
+use Rattle.mp_wave.specs.WaveChanges.{changes_in}
 use Rattle.mp_vcd.proofs.parts.is_over.Goals as goal
 
 pub returns : goal.returns
 returns c = λ early k d low high.
-    let changes = c.args.changes.now in
+    let changes = changes_in c.args.changes in
     let last = c.args.place - 1 in
     let inside : last < length changes = omega (arith, high, c.requires.within) in
-    let under : (slice_index_or changes last (0, 0)).0 < c.args.time = ltb-true _ _ early in
+    let under : c.time_at.result < c.args.time = ltb-true _ _ early in
+    let at : c.time_at.result ≡ (slice_index_or changes last (0, 0)).0 = c.time_at.ensures in
     let same : slice_index_or changes last (0, 0) ≡ slice_index_or changes last d = get_or_default changes last (0, 0) d inside in
     let rises : (slice_index_or changes k d).0 ≤ (slice_index_or changes last d).0 = c.requires.sorted k last d (omega (arith, high)) inside in
-    omega (arith, under, rises, ap (λ (p : ℕ × ℕ). p.0) same)
+    omega (arith, under, at, rises, ap (λ (p : ℕ × ℕ). p.0) same)

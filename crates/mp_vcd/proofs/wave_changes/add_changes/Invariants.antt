@@ -1,12 +1,14 @@
-use Rattle.std.proofs.Common.{◌≡◌, ℕ, List, take, vec_len}
+use Rattle.std.proofs.Common.{◌≡◌, ℕ, ◌≤◌, List, length, take, vec_len}
 use Rattle.mp_vcd.specs.Agendas.{Tells, told_from, onto}
+use Rattle.mp_wave.specs.WaveChanges.{changes_in}
 use Rattle.mp_vcd.proofs.wave_changes.add_changes.Given as goal
 
 -- the changes so far are told
-abbrev pub invariant-loop-change : goal.invariant-loop-change
-invariant-loop-change l = record {
+abbrev pub invariant-loop-place : goal.invariant-loop-place
+invariant-loop-place l = record {
+  within : l.place ≤ length (changes_in l.changes);
   from : l.agenda.from ≡ l.fn.agenda.from;
   times : vec_len l.agenda.firsts ≡ vec_len l.fn.agenda.firsts;
   told : (told : ℕ → List (ℕ × ℕ)) → Tells l.fn.agenda.firsts.items l.fn.agenda.entries.items (told_from l.fn.agenda.from told)
-      → Tells l.agenda.firsts.items l.agenda.entries.items (told_from l.fn.agenda.from (λ t. onto l.wire (take l.change-index l.changes) t (told t)));
+      → Tells l.agenda.firsts.items l.agenda.entries.items (told_from l.fn.agenda.from (λ t. onto l.wire (take l.place (changes_in l.changes)) t (told t)));
 }

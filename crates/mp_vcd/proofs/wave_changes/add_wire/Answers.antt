@@ -1,5 +1,6 @@
 use Rattle.std.proofs.Common.{◌+◌, ◌-◌, ◌<◌, sym, ap, ◌∙◌, arith}
 use Rattle.mp_netlist.specs.Circuit.{wire_at}
+use Rattle.mp_wave.specs.WaveChanges.{changes_in as listed}
 use Rattle.mp_vcd.specs.Agendas.{told_from, onto, onto_slot}
 use Rattle.mp_vcd.proofs.AgendaLemmas.{told_as, onto_wave, onto_between}
 use Rattle.mp_vcd.proofs.StandingLemmas.{changes_in, none_in}
@@ -13,7 +14,7 @@ returns-clause-told c = λ told tells.
     let to = c.args.to in
     let in_slot = changes_in n w (wire_at n w) c.in-Some.wave.now (c.in-Some.ensures ∙ c.requires.waves w) in
     let new = c.add_changes.new.agenda in
-    told_as new.firsts.items new.entries.items (told_from from (λ t. onto w c.part-changes.result.now t (told t))) (told_from from (λ t. onto_slot n t w (wire_at n w) (told t)))
+    told_as new.firsts.items new.entries.items (told_from from (λ t. onto w (listed c.part-changes.result) t (told t))) (told_from from (λ t. onto_slot n t w (wire_at n w) (told t)))
     (λ k within.
     let after : from - 1 < from + k = omega (arith, c.requires.from) in
     let before : from + k < to = omega (arith, within, c.in_ok-add_changes.ensures.times, c.requires.times) in

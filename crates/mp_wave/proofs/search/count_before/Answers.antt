@@ -1,27 +1,15 @@
-use Rattle.std.proofs.Common.{◌-◌, ◌<◌, ℕ, rules, of_calls, nat_lt, length, ap, arith}
+use Rattle.std.proofs.Common.{◌≡◌, ◌-◌, ◌<◌, ◌≤◌, ℕ, length, slice_index_or, ap, arith}
 use Rattle.std.proofs.lemmas.Bool.{lt-ltb}
-use Rattle.std.proofs.lemmas.Fn.{always_returns_same}
-use Rattle.std.proofs.lemmas.List.{get_or_read}
-use Rattle.std.proofs.lemmas.List.Sorted.{IsPartitionedBy-ltb}
+use Rattle.std.proofs.lemmas.List.{get_or_default}
+use Rattle.mp_wave.specs.WaveChanges.{changes_in}
 use Rattle.mp_wave.proofs.search.count_before.Goals as goal
 
-pub returns-in-Some-clause-early : goal.returns-in-Some-clause-early
-returns-in-Some-clause-early c = λ k d low less.
-    let changes = c.args.changes.now in
-    let last = length changes - 1 in
-    let here : last < length changes = omega (arith, less) in
-    let at = get_or_read changes last c.in-Some.last.now here c.in-Some.ensures.item.1 d in
-    let time = ap (λ (p : ℕ × ℕ). p.0) at in
-    let rise = c.requires k last d (omega (arith, less)) here in
-    let below = c.if-last-time.true in
-    lt-ltb _ c.args.time (omega (arith, rise, below, time))
-
-pub returns-in_default-clause-early : goal.returns-in_default-clause-early
-returns-in_default-clause-early c =
-    (c.partition_point.ensures.partitioned (λ (p : ℕ × ℕ). nat_lt p.0 c.args.time) (always_returns_same _ _ _ (λ a r f k. search (rules, of_calls)))
-    (IsPartitionedBy-ltb (λ (p : ℕ × ℕ). p.0) c.args.changes.now c.args.time c.requires)).0
-
-pub returns-in_default-clause-late : goal.returns-in_default-clause-late
-returns-in_default-clause-late c =
-    (c.partition_point.ensures.partitioned (λ (p : ℕ × ℕ). nat_lt p.0 c.args.time) (always_returns_same _ _ _ (λ a r f k. search (rules, of_calls)))
-    (IsPartitionedBy-ltb (λ (p : ℕ × ℕ). p.0) c.args.changes.now c.args.time c.requires)).1
+pub returns-then-time_at-time-clause-early : goal.returns-then-time_at-time-clause-early
+returns-then-time_at-time-clause-early c = λ k d low less.
+    let changes = changes_in c.args.changes in
+    let last = c.len-count.result - 1 in
+    let here : last < length changes = omega (arith, c.len-count.ensures, c.if-count-gt0.true) in
+    let at : c.time_at.result ≡ (slice_index_or changes last (0, 0)).0 = c.time_at.ensures in
+    let same : (slice_index_or changes last (0, 0)).0 ≡ (slice_index_or changes last d).0 = ap (λ (p : ℕ × ℕ). p.0) (get_or_default changes last (0, 0) d here) in
+    let rise : (slice_index_or changes k d).0 ≤ (slice_index_or changes last d).0 = c.requires k last d (omega (arith, less)) here in
+    lt-ltb _ c.args.time (omega (arith, rise, same, at, c.if-time_at-time.true))

@@ -1,15 +1,14 @@
-use Rattle.std.proofs.Common.{◌<◌, ℕ, length, ap, sym, arith}
-use Rattle.std.proofs.lemmas.Bool.{ltb-true}
-use Rattle.std.proofs.lemmas.List.{get_or_read}
+use Rattle.std.proofs.Common.{◌≡◌, ◌<◌, ◌≤◌, ℕ, length, slice_index_or, ap, arith}
+use Rattle.std.proofs.lemmas.List.{get_or_default}
+use Rattle.mp_wave.specs.WaveChanges.{changes_in}
 use Rattle.mp_wave.proofs.search.passed_but.Goals as goal
 
-pub returns-in-Some-clause-early : goal.returns-in-Some-clause-early
-returns-in-Some-clause-early c = λ k d low less.
-    let changes = c.args.changes.now in
-    let first = c.saturating_sub-first.result in
-    let here : first < length changes = ltb-true first (length changes) (sym c.in-Some.ensures.lookup.0) in
-    let at = get_or_read changes first c.in-Some.change.now here c.in-Some.ensures.lookup.1 d in
-    let time = ap (λ (p : ℕ × ℕ). p.0) at in
-    let rise = c.requires k first d (omega (arith, less)) here in
-    let below = c.if-change-time.true in
-    omega (arith, rise, below, time)
+pub returns-then-time_at-time-clause-early : goal.returns-then-time_at-time-clause-early
+returns-then-time_at-time-clause-early c = λ k d low less.
+    let changes = changes_in c.args.changes in
+    let first = c.args.first in
+    let here : first < length changes = omega (arith, c.len.ensures, c.if-first-len.true) in
+    let at : c.time_at.result ≡ (slice_index_or changes first (0, 0)).0 = c.time_at.ensures in
+    let same : (slice_index_or changes first (0, 0)).0 ≡ (slice_index_or changes first d).0 = ap (λ (p : ℕ × ℕ). p.0) (get_or_default changes first (0, 0) d here) in
+    let rise : (slice_index_or changes k d).0 ≤ (slice_index_or changes first d).0 = c.requires k first d (omega (arith, less)) here in
+    omega (arith, rise, same, at, c.if-time_at-time.true)

@@ -10,7 +10,7 @@ returns-in-Some-last-clause-value c =
     let n = c.args.self.netlist.now in
     let t = read_time n c.args.moment.time in
     let time : c.min.result ≡ t = c.min.ensures ∙ ap (min c.args.moment.time) (c.from.ensures ∙ ap (λ h. h - 1) c.horizon.ensures.value) in
-    last_found n c.horizon.ensures.form c.args.self.waves.now c.args.moment.wire c.in-Some.wave.now t (Some c.in-Some-last.field-0.now) c.args.self.are_waves (sym c.in-Some.ensures) (omega (arith, c.horizon.ensures.low, c.horizon.ensures.value))
+    last_found n c.horizon.ensures.form c.args.self.waves.now c.args.moment.wire c.in-Some.wave.now t (Some (c.in-Some-last.time, c.in-Some-last.level)) c.args.self.are_waves (sym c.in-Some.ensures) (omega (arith, c.horizon.ensures.low, c.horizon.ensures.value))
     (ap (λ k. last_of (between 0 (k + 1) c.in-Some.wave.now.changes)) (sym time) ∙ ap last_of (sym c.changes_between.ensures.value) ∙ sym c.in-Some-last.ensures.value)
 
 pub returns-in-Some-last-clause-from : goal.returns-in-Some-last-clause-from

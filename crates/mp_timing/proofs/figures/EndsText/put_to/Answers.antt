@@ -1,5 +1,6 @@
 use Rattle.std.proofs.Common.{◌≡◌, ℕ, ◌-◌, List, [], ◌∷◌, length, slice_get, Option, Some, suc, ap, subst, ◌∙◌, arith}
 use Rattle.mp_streams.specs.Outgoing.{Writes}
+use Rattle.mp_wave.specs.WaveChanges.{changes_in}
 use Rattle.mp_timing.specs.Events.{times_of}
 use Rattle.mp_timing.specs.Measures.{ends_text, last_from, two_numbers}
 use Rattle.mp_timing.proofs.figures.EndsText.put_to.Goals as goal
@@ -19,6 +20,6 @@ ends_are (x ∷ xs) f l first last = ap (λ (a : ℕ). two_numbers a l.0) (ap (�
 
 pub returns-in-Some-Some : goal.returns-in-Some-Some
 returns-in-Some-Some g c =
-    let events = c.args.self.now.events.now in
-    let is = ends_are events c.in-Some-Some.first.now c.in-Some-Some.last.now c.in-Some-Some.ensures.value c.in-Some-Some.ensures'.value in
+    let events = changes_in c.args.self.now.events in
+    let is = ends_are events c.in-Some-Some.first c.in-Some-Some.last c.in-Some-Some.ensures.value c.in-Some-Some.ensures'.value in
     subst (Writes c.put_to.result c.args.out.now c.put_to.new.out) is c.put_to.ensures

@@ -1,0 +1,78 @@
+//! The waves of wires of width 1.
+ghost use Rattle.std.specs.Prelude.{◌≡◌, ◌<◌, ◌≤◌, OnOk, OnErr};
+
+use std::alloc::{AllocError, Global};
+use std::marker::Model;
+
+/// The wave of a wire of width 1: its level at time 0, and the times at which it toggles, by rising time from 1. Contracts see the wave.
+#[derive(Debug, Drop)]
+pub struct ToggleWave {
+    initial: u64,
+    times: Vec<u32>,
+}
+
+impl Model for ToggleWave {
+    ghost use Rattle.std.specs.Prelude.{◌≤◌};
+    ghost use Rattle.mp_wave.specs.Waveform.{Waveform};
+    ghost use Rattle.mp_wave.specs.ToggleWaves.{toggle_wave, AreTimes};
+
+    ghost Value = { Waveform };
+
+    ghost view = { λ wave. toggle_wave wave.initial wave.times.items };
+
+    ghost invariant = { λ wave. (wave.initial ≤ 1) × AreTimes 0 wave.times.items };
+}
+
+impl ToggleWave {
+    ghost use Rattle.std.specs.Prelude.{◌≡◌, ◌<◌, ◌≤◌, [], OnOk, OnErr};
+    ghost use Rattle.mp_wave.specs.Waveform.{last_time, IsWaveform};
+    ghost use Rattle.mp_wave.specs.ToggleWaves.{toggle_wave, toggled_at};
+
+    /// The wave with one level at every time.
+    pub fn constant(alloc: Global, initial: u64) -> ToggleWave
+        requires { initial ≤ 1 }
+        ensures { result ≡ toggle_wave initial [] }
+    {
+        ToggleWave {
+            initial,
+            times: Vec::new(alloc),
+        }
+    }
+
+    /// The level at time 0.
+    pub fn initial(&self) -> u64
+        ensures value { result ≡ self.now.initial }
+        ensures low { result ≤ 1 }
+    {
+        self.initial
+    }
+
+    /// The times at which it toggles.
+    pub fn times(&self) -> &[u32]
+        ensures value { self.now ≡ toggle_wave self.now.initial result.now }
+        ensures form { IsWaveform self.now }
+    {
+        self.times.as_slice()
+    }
+
+    /// Its level at time 0, and the times at which it toggles.
+    pub(crate) fn into_parts(self) -> (u64, Vec<u32>)
+        ensures value { toggle_wave result.0 result.1.items ≡ self }
+        ensures low { result.0 ≤ 1 }
+        ensures form { IsWaveform self }
+    {
+        let ToggleWave { initial, times } = self;
+        (initial, times)
+    }
+
+    /// The wire toggles at a time later than before. Where memory runs out, the wave stays as it was.
+    #[inline(always)]
+    pub fn toggle(&mut self, time: u32) -> Result<(), AllocError>
+        requires { last_time 0 self.old.changes < time }
+        ensures ok { OnOk result (self.new ≡ toggled_at self.old time) }
+        ensures err { OnErr result (self.new ≡ self.old) }
+    {
+        self.times.push(time)?;
+        Ok(())
+    }
+}
