@@ -1,14 +1,11 @@
 -- A unit begins: wires toggle, and modules have their events.
-use Rattle.std.proofs.Common.{◌≡◌, ℕ, suc, ◌+◌, ◌-◌, ◌%◌, ◌<◌, ◌≤◌, Bool, true, false, not, cond, nat_lt, List, [], ◌∷◌, ◌++◌, length, Some, All, refl, sym, ap, ◌∙◌, arith, subst}
+use Rattle.std.proofs.Common.{◌≡◌, ℕ, suc, ◌+◌, ◌-◌, ◌%◌, ◌<◌, ◌≤◌, Bool, true, false, not, cond, nat_lt, drop, List, [], ◌∷◌, ◌++◌, length, Some, All, refl, sym, ap, ◌∙◌, arith, subst}
 use Rattle.std.specs.Prelude.{◌==◌, ◌&&◌, slice_index_or}
-use Rattle.std.proofs.lemmas.Bool.{eqb-true, eqb-false}
 use Rattle.std.proofs.lemmas.Bool.Decides.{nat_tests}
 use Rattle.std.proofs.lemmas.List.Elements.{All-append}
 use Rattle.std.proofs.lemmas.Grind.{flat_map-append}
-use Rattle.std.proofs.lemmas.List.{length-append, get_or_append_left}
 use Rattle.std.proofs.Math.ListN.{get_or-eq_default}
-use Rattle.std.proofs.Math.Seq.{get_or-append_seam}
-use Rattle.mp_wave.specs.Waveform.{Waveform, wave_upto}
+use Rattle.mp_wave.specs.Waveform.{Waveform}
 use Rattle.mp_records.specs.declared.module_record.ModuleRecord.{ModuleRecord}
 use Rattle.mp_records.specs.Outputs.{delay_of}
 use Rattle.mp_netlist.specs.declared.driver.Driver.{Driver}
@@ -29,7 +26,7 @@ use Rattle.mp_automata.proofs.CodeLemmas.{events_low}
 use Rattle.mp_events.specs.declared.fanout_entry.FanoutEntry.{FanoutEntry}
 use Rattle.mp_events.specs.declared.output_ports.OutputPorts.{OutputPorts}
 use Rattle.mp_events.specs.Adding.{state_at, events_for, listed, AreAdded, IsAdding}
-use Rattle.mp_events.specs.ToggleWaves.{toggled_at}
+use Rattle.mp_wave.specs.ToggleWaves.{toggled_at}
 use Rattle.mp_events.specs.Toggling.{row_at, wave_at, entries_from, AreToggled}
 use Rattle.mp_events.specs.Ports.{HasPorts}
 use Rattle.mp_events.specs.Firing.{UnitState, AreNumbered, HaveSlots, ports_at}
@@ -40,18 +37,17 @@ use Rattle.mp_core.specs.Changes.{change_at, is_decided}
 use Rattle.mp_core.specs.Advancing.{unit_state_at}
 use Rattle.mp_core.specs.Scopes.{Scope, is_expected}
 use Rattle.mp_core.specs.Simulators.{next_slot, slot_at, AreBelow, IsSound, CanApply}
+use Rattle.mp_core.specs.Traces.{IsTrace}
 use Rattle.mp_core.specs.Units.{IsLaidOut, HaveWaves, HaveEvents, IsBefore, IsDuring, AreDue}
-use Rattle.mp_core.proofs.ChangeLemmas.{waves_grow}
+use Rattle.mp_core.proofs.TraceLemmas.{traces_grow}
 use Rattle.mp_core.proofs.PortEventLemmas.{ports_have_events}
 use Rattle.mp_core.proofs.ListedLemmas.{all_below}
+use Rattle.mp_core.proofs.TurnLemmas.{turned_length, turned_at}
 use Rattle.mp_core.proofs.NumberLemmas.{events_with, events_of_code, events_part, with_events, numbered_with}
 
 -- what becomes of a simulator when a unit begins
 pub record IsApplied (s new : Simulator) (set others : List ℕ) (time : ℕ) : Type 0 where
-  pub slot : List ℕ
-  pub rest : List (List ℕ)
-  pub taken : s.wheel ≡ slot ∷ rest
-  pub turned : new.wheel ≡ rest ++ [] ∷ []
+  pub turned : new.wheel ≡ drop 1 s.wheel ++ [] ∷ []
   pub fanout : new.fanout ≡ s.fanout
   pub outputs : new.outputs.items ≡ s.outputs.items
   pub added : AreAdded s.states.items new.states.items (entries_from s.fanout (next_slot s ++ set) ++ entries_from s.fanout others)
@@ -59,33 +55,21 @@ pub record IsApplied (s new : Simulator) (set others : List ℕ) (time : ℕ) : 
   pub places : length new.states.items ≡ length s.states.items
   pub waves : AreToggled s.waves.items new.waves.items (next_slot s ++ set) time
 
-pub head_is : (slots : List (List ℕ)) (slot : List ℕ) (rest : List (List ℕ)) → slots ≡ slot ∷ rest → slot ≡ slice_index_or slots 0 []
-head_is slots slot rest is = sym (ap (λ (xs : List (List ℕ)). slice_index_or xs 0 []) is)
-
-pub wires_are : (slots : List (List ℕ)) (slot set wires : List ℕ) (rest : List (List ℕ)) → slots ≡ slot ∷ rest → wires ≡ slot ++ set →
-    wires ≡ slice_index_or slots 0 [] ++ set
-wires_are slots slot set wires rest taken is = is ∙ ap (λ xs. xs ++ set) (head_is slots slot rest taken)
-
-pub is_applied : (s new : Simulator) (set others wires : List ℕ) (time : ℕ) (slot : List ℕ) (rest : List (List ℕ)) (mid : List AutomatonState) →
-    s.wheel ≡ slot ∷ rest → wires ≡ slot ++ set → new.wheel ≡ rest ++ [] ∷ [] → new.fanout ≡ s.fanout → new.outputs.items ≡ s.outputs.items →
+pub is_applied : (s new : Simulator) (set others wires : List ℕ) (time : ℕ) (mid : List AutomatonState) →
+    wires ≡ next_slot s ++ set → new.wheel ≡ drop 1 s.wheel ++ [] ∷ [] → new.fanout ≡ s.fanout → new.outputs.items ≡ s.outputs.items →
     AreAdded s.states.items mid (entries_from s.fanout wires) → AreAdded mid new.states.items (entries_from s.fanout others) →
     IsAdding new.states.items new.due.items [] → length new.states.items ≡ length s.states.items → AreToggled s.waves.items new.waves.items wires time →
     IsApplied s new set others time
-is_applied s new set others wires time slot rest mid taken is turned fanout outputs first then adding places waves =
-    let same = wires_are s.wheel slot set wires rest taken is in
-    record {
-      slot = slot;
-      rest = rest;
-      taken = taken;
-      turned = turned;
-      fanout = fanout;
-      outputs = outputs;
-      added = added_both (entries_from s.fanout (next_slot s ++ set)) (entries_from s.fanout others)
-          (subst (λ ws. AreAdded s.states.items mid (entries_from s.fanout ws)) same first) then;
-      adding = adding;
-      places = places;
-      waves = subst (λ ws. AreToggled s.waves.items new.waves.items ws time) same waves;
-    }
+is_applied s new set others wires time mid same turned fanout outputs first then adding places waves = record {
+  turned = turned;
+  fanout = fanout;
+  outputs = outputs;
+  added = added_both (entries_from s.fanout (next_slot s ++ set)) (entries_from s.fanout others)
+      (subst (λ ws. AreAdded s.states.items mid (entries_from s.fanout ws)) same first) then;
+  adding = adding;
+  places = places;
+  waves = subst (λ ws. AreToggled s.waves.items new.waves.items ws time) same waves;
+}
 
 -- the wires that toggle have waves
 pub all_waved : (s : Simulator) (set : List ℕ) → IsSound s → All (λ w. w < length s.waves.items) set → All (λ w. w < length s.waves.items) (next_slot s ++ set)
@@ -97,32 +81,6 @@ all_rowed s wires sound waved k d within =
     let low : slice_index_or wires k d < length s.waves.items = waved k d within in
     let rows = sound.rows in
     omega arith
-
--- the slots after the first, and one more
-turned_length : (slot : List ℕ) (rest : List (List ℕ)) → length (rest ++ [] ∷ []) ≡ length (slot ∷ rest)
-turned_length slot rest = length-append rest ([] ∷ []) ∙ omega arith
-
-last_when : (rest : List (List ℕ)) (k : ℕ) → length rest ≤ k → (last : Bool) → (k == length rest) ≡ last → slice_index_or (rest ++ [] ∷ []) k [] ≡ []
-last_when rest k beyond true is =
-    let same : k ≡ length rest = eqb-true k (length rest) is in
-    ap (λ i. slice_index_or (rest ++ [] ∷ []) i []) same ∙ get_or-append_seam rest [] [] []
-last_when rest k beyond false is =
-    let differs = eqb-false k (length rest) is in
-    let long = length-append rest ([] ∷ []) in
-    get_or-eq_default (rest ++ [] ∷ []) [] (omega arith)
-
-pub turned_when : (rest : List (List ℕ)) (k : ℕ) (low : Bool) → nat_lt k (length rest) ≡ low → slice_index_or (rest ++ [] ∷ []) k [] ≡ slice_index_or rest k []
-turned_when rest k true is =
-    let within : k < length rest = grind (arith, nat_tests) in
-    get_or_append_left rest ([] ∷ []) [] k within
-turned_when rest k false is =
-    let beyond : length rest ≤ k = grind (arith, nat_tests) in
-    last_when rest k beyond (k == length rest) refl ∙ sym (get_or-eq_default rest [] beyond)
-
-pub turned_at : (slots : List (List ℕ)) (slot : List ℕ) (rest : List (List ℕ)) (k : ℕ) → slots ≡ slot ∷ rest →
-    slice_index_or (rest ++ [] ∷ []) k [] ≡ slice_index_or slots (suc k) []
-turned_at slots slot rest k is =
-    turned_when rest k (nat_lt k (length rest)) refl ∙ sym (ap (λ (xs : List (List ℕ)). slice_index_or xs (suc k) []) is)
 
 by_parts : (a b c : Bool) → b ≡ false → (a && b && c) ≡ false
 by_parts true b c none = rw none refl
@@ -141,10 +99,10 @@ unexpected n scope w u none = by_parts (change_at n w u) (is_decided n scope.kno
 
 module _ (s new : Simulator) (set others : List ℕ) (time : ℕ) (sound : IsSound s) (fit : CanApply s set others time) (is : IsApplied s new set others time) where
   slot_is : (k : ℕ) → slot_at new k ≡ slot_at s (suc k)
-  slot_is k = ap (λ (xs : List (List ℕ)). slice_index_or xs k []) is.turned ∙ turned_at s.wheel is.slot is.rest k is.taken
+  slot_is k = ap (λ (xs : List (List ℕ)). slice_index_or xs k []) is.turned ∙ turned_at s.wheel k
 
   long_as : length new.wheel ≡ length s.wheel
-  long_as = ap (length {A = List ℕ}) is.turned ∙ turned_length is.slot is.rest ∙ sym (ap (length {A = List ℕ}) is.taken)
+  long_as = ap (length {A = List ℕ}) is.turned ∙ turned_length s.wheel sound.some
 
   waved_as : length new.waves.items ≡ length s.waves.items
   waved_as = is.waves.placed
@@ -191,7 +149,6 @@ module _ (s new : Simulator) (set others : List ℕ) (time : ℕ) (sound : IsSou
                 owned = seat.owned;
               };
           placed = λ q within active. b.placed q (let long = is.places in omega arith) active;
-          traced = b.traced;
         }
 
     -- what a place hears in this unit
@@ -228,13 +185,14 @@ module _ (s new : Simulator) (set others : List ℕ) (time : ℕ) (sound : IsSou
     waves_now : HaveWaves n scope (t + 1) new
     waves_now w within traced =
         let low : w < length s.waves.items = (let a = waved_as in omega arith) in
+        let wave = wave_at s.waves.items w in
+        let is_new : wave_at new.waves.items w ≡ cond (not (level n w t == level n w (t + 1))) (toggled_at wave (t + 1)) wave =
         is.waves.each w
-        ∙ ap (λ u. cond (listed w (next_slot s ++ set) == 0) (wave_at s.waves.items w) (toggled_at (wave_at s.waves.items w) u)) now
-        ∙ ap (λ (v : Waveform). cond (listed w (next_slot s ++ set) == 0) v (toggled_at v (t + 1))) (before.stands.waves w low traced)
-        ∙ ap (λ k. cond (k == 0) (wave_upto (level n w) t) (toggled_at (wave_upto (level n w) t) (t + 1))) (due.toggled w ∙ ap (λ b. bit (change_at n w (t + 1) && b)) traced ∙ kept (change_at n w (t + 1)))
-        ∙ by_change (change_at n w (t + 1)) (wave_upto (level n w) t) (toggled_at (wave_upto (level n w) t) (t + 1))
-        ∙ ap (λ u. cond (not (level n w u == level n w (t + 1))) (toggled_at (wave_upto (level n w) t) (t + 1)) (wave_upto (level n w) t)) (let e : t + 1 - 1 ≡ t = omega arith in e)
-        ∙ sym (waves_grow (level n w) t (λ u. before.stands.layout.traced w u traced))
+        ∙ ap (λ u. cond (listed w (next_slot s ++ set) == 0) wave (toggled_at wave u)) now
+        ∙ ap (λ k. cond (k == 0) wave (toggled_at wave (t + 1))) (due.toggled w ∙ ap (λ b. bit (change_at n w (t + 1) && b)) traced ∙ kept (change_at n w (t + 1)))
+        ∙ by_change (change_at n w (t + 1)) wave (toggled_at wave (t + 1))
+        ∙ ap (λ u. cond (not (level n w u == level n w (t + 1))) (toggled_at wave (t + 1)) wave) (let e : t + 1 - 1 ≡ t = omega arith in e) in
+        subst (λ (v : Waveform). IsTrace (level n w) (t + 1) v) (sym is_new) (traces_grow (level n w) t wave (before.stands.waves w low traced))
 
     -- a change behind the last slot isn't known
     undecided : (w u : ℕ) (d : Driver) → driver n w ≡ d → t + 1 + length s.wheel ≤ u → is_decided n scope.known (driver n w) u ≡ false

@@ -27,7 +27,7 @@ use Rattle.mp_automata.specs.Codes.{no_events}
 use Rattle.mp_automata.specs.Reactions.{react, quiet}
 use Rattle.mp_automata.specs.AutomatonLaws.{reaction_of}
 use Rattle.mp_automata.proofs.ReactionLemmas.{reacts_as_module}
-use Rattle.mp_events.specs.ToggleWaves.{toggled_at}
+use Rattle.mp_wave.specs.ToggleWaves.{toggled_at}
 use Rattle.mp_core.specs.Changes.{change_at}
 use Rattle.mp_core.specs.ChangeLaws.{PortsChange, PortsBegin, PortsWait, InputsChange, RestsWithoutEvents, WavesGrow}
 

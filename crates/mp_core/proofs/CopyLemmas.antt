@@ -1,11 +1,10 @@
 -- Delayed copies toggle after what they stand after.
-use Rattle.std.proofs.Common.{◌≡◌, ◌≢◌, ℕ, suc, ◌+◌, ◌-◌, ◌*◌, ◌<◌, ◌≤◌, Bool, true, false, cond, List, [], ◌∷◌, ◌++◌, Option, Some, None, All, length, nat_lt, refl, sym, ap, ◌∙◌, arith}
+use Rattle.std.proofs.Common.{◌≡◌, ◌≢◌, ℕ, suc, ◌+◌, ◌-◌, ◌*◌, ◌<◌, ◌≤◌, Bool, true, false, cond, List, [], ◌∷◌, ◌++◌, Option, Some, None, All, drop, length, nat_lt, refl, sym, ap, ◌∙◌, arith}
 use Rattle.std.specs.Prelude.{◌==◌, ◌&&◌, slice_index_or}
 use Rattle.std.specs.List.{sum_by, count_by}
 use Rattle.std.proofs.lemmas.Bool.{eqb-true, eqb-false}
 use Rattle.std.proofs.lemmas.Bool.Decides.{nat_tests}
 use Rattle.std.proofs.lemmas.Grind.{flat_map-append}
-use Rattle.std.proofs.lemmas.List.{get_or_append_left}
 use Rattle.std.proofs.Math.ListN.{get_or-eq_default}
 use Rattle.mp_netlist.specs.Circuit.{Circuit}
 use Rattle.mp_automata.specs.Codes.{bit}
@@ -16,9 +15,9 @@ use Rattle.mp_events.proofs.EntryLemmas.{schedules_each}
 use Rattle.mp_events.proofs.FiringLemmas.{scheduled_append}
 use Rattle.mp_core.specs.Changes.{change_at, late_change}
 use Rattle.mp_core.specs.Simulators.{IsBelow}
-use Rattle.mp_core.specs.Copies.{AreListedBelow, AreChained, later_by, HaveCopies, AreOriginals}
+use Rattle.mp_core.specs.Copies.{AreListedBelow, AreChained, later_by, HaveCopies, HaveLaterCopies, AreOriginals}
 use Rattle.mp_core.proofs.ScheduleLemmas.{inside, none_some, none_there, counted_own, counted_flat, only_one, sum_of_none}
-use Rattle.mp_core.proofs.ApplyLemmas.{turned_when}
+use Rattle.mp_core.proofs.TurnLemmas.{turned_at}
 
 same_late : (e d u : ℕ) (late : Bool) → nat_lt e u ≡ late → nat_lt (e + d) (u + d) ≡ nat_lt e u
 same_late e d u true is = let now : nat_lt (e + d) (u + d) ≡ true = grind (arith, nat_tests) in now ∙ sym is
@@ -72,16 +71,16 @@ none_below_zero : (c : Bool) (k : ℕ) → bit (c && nat_lt k 0) ≡ 0
 none_below_zero true k = let test : nat_lt k 0 ≡ false = grind (arith, nat_tests) in ap bit test
 none_below_zero false k = refl
 
-module _ (n : Circuit) (source : ℕ → ℕ × ℕ) (before : ℕ → Option ℕ) (next : List OutputPort) (t : ℕ) (rest : List (List ℕ)) (heard : List ℕ)
-    (chained : AreChained source before next) (within : All (HasSlot (length rest)) next) (taken : (x k : ℕ) → k < length rest →
-    listed x (slice_index_or rest k []) ≡ bit (late_change n (source x) (t + 1 + 1 + k) && nat_lt (k + 1) (later_by next (before x))))
-    (originals : AreOriginals n source before heard (t + 1)) where
-  has_slot_when : (x y : ℕ) (low : Bool) → nat_lt y (length next) ≡ low → (copy_at next y).wire ≡ Some x → HasSlot (length rest) (copy_at next y)
-  has_slot_when x y true is wire = within y no_port (grind (arith, nat_tests))
-  has_slot_when x y false is wire =
-      let beyond : length next ≤ y = grind (arith, nat_tests) in
-      absurd (none_some x (sym (ap (λ (port : OutputPort). port.wire) (get_or-eq_default next no_port beyond)) ∙ wire))
+slot_of : (units : ℕ) (next : List OutputPort) → All (HasSlot units) next → (x y : ℕ) (low : Bool) → nat_lt y (length next) ≡ low → (copy_at next y).wire ≡ Some x →
+    HasSlot units (copy_at next y)
+slot_of units next within x y true is wire = within y no_port (grind (arith, nat_tests))
+slot_of units next within x y false is wire =
+    let beyond : length next ≤ y = grind (arith, nat_tests) in
+    absurd (none_some x (sym (ap (λ (port : OutputPort). port.wire) (get_or-eq_default next no_port beyond)) ∙ wire))
 
+module _ (n : Circuit) (source : ℕ → ℕ × ℕ) (before : ℕ → Option ℕ) (next : List OutputPort) (t : ℕ) (rest : List (List ℕ)) (heard : List ℕ)
+    (chained : AreChained source before next) (within : All (HasSlot (length rest)) next) (taken : HaveLaterCopies n source before next t rest)
+    (originals : AreOriginals n source before heard (t + 1)) where
   counted : (x k : ℕ) → k < length rest →
       listed x (slice_index_or (scheduled rest (copied_from next heard)) k []) ≡ listed x (slice_index_or rest k []) + sum_by (entries_of next k x) heard
   counted x k low =
@@ -101,7 +100,7 @@ module _ (n : Circuit) (source : ℕ → ℕ × ℕ) (before : ℕ → Option �
   copies_at x k (Some y) is low =
       let wire = chained.first x y is in
       let d = (copy_at next y).delay in
-      let slot = has_slot_when x y (nat_lt y (length next)) refl wire in
+      let slot = slot_of (length rest) next within x y (nat_lt y (length next)) refl wire in
       let some : 0 < (copy_at next y).delay = slot.some in
       let others : All (λ z. z ≢ y → entries_of next k x z ≡ 0) heard =
       λ j e inside_heard other. no_copy next k x (slice_index_or heard j e) (λ w. other (inside (sym (chained.last (slice_index_or heard j e) x w) ∙ is))) in
@@ -119,47 +118,48 @@ module _ (n : Circuit) (source : ℕ → ℕ × ℕ) (before : ℕ → Option �
       (was, now, sym (ap (λ u. late_change n (source x) u) time ∙ late_shift n (source x) (source y) d (t + 1) (chained.wire x y is) (chained.delay x y is))))
       (λ else_where. let differs = eqb-false (d - 1) k else_where in same_below k d (nat_lt k d) refl differs)
 
-  never : (c : Bool) → bit (c && false) ≡ 0
-  never true = refl
-  never false = refl
-
-  last_by : (x k : ℕ) (o : Option ℕ) → before x ≡ o → length rest ≤ k → bit (late_change n (source x) (t + 1 + 1 + k) && nat_lt k (later_by next o)) ≡ 0
-  last_by x k None is beyond = none_below_zero (late_change n (source x) (t + 1 + 1 + k)) k
-  last_by x k (Some y) is beyond =
-      let slot = has_slot_when x y (nat_lt y (length next)) refl (chained.first x y is) in
-      let room : (copy_at next y).delay ≤ length rest = slot.room in
-      let test : nat_lt k (copy_at next y).delay ≡ false = grind (arith, nat_tests) in
-      ap (λ b. bit (late_change n (source x) (t + 1 + 1 + k) && b)) test ∙ never (late_change n (source x) (t + 1 + 1 + k))
-
-  slot_when : (slots : List (List ℕ)) (x k : ℕ) (low : Bool) → slots ≡ scheduled rest (copied_from next heard) → length slots ≡ length rest → nat_lt k (length rest) ≡ low →
-      listed x (slice_index_or (slots ++ [] ∷ []) k []) ≡ bit (late_change n (source x) (t + 1 + 1 + k) && nat_lt k (later_by next (before x)))
-  slot_when slots x k true is same low =
-      let within_rest : k < length rest = grind (arith, nat_tests) in
-      ap (λ xs. listed x xs) (get_or_append_left slots ([] ∷ []) [] k (omega arith))
-      ∙ ap (λ (xs : List (List ℕ)). listed x (slice_index_or xs k [])) is
+  pub copies_next : (slots : List (List ℕ)) → slots ≡ scheduled rest (copied_from next heard) → length slots ≡ length rest → HaveCopies n source before next (t + 1) slots
+  copies_next slots is same x k low =
+      let within_rest : k < length rest = omega arith in
+      ap (λ (xs : List (List ℕ)). listed x (slice_index_or xs k [])) is
       ∙ counted x k within_rest
       ∙ ap (λ c. c + sum_by (entries_of next k x) heard) (taken x k within_rest)
       ∙ copies_at x k (before x) refl within_rest
-  slot_when slots x k false is same low =
-      let beyond : length rest ≤ k = grind (arith, nat_tests) in
-      ap (λ xs. listed x xs) (turned_when slots k (nat_lt k (length slots)) refl ∙ get_or-eq_default slots [] (omega arith))
-      ∙ sym (last_by x k (before x) refl beyond)
 
-  pub copies_next : (slots : List (List ℕ)) → slots ≡ scheduled rest (copied_from next heard) → length slots ≡ length rest → HaveCopies n source before next (t + 1) (slots ++ [] ∷ [])
-  copies_next slots is same x k low = slot_when slots x k (nat_lt k (length rest)) is same refl
+never : (c : Bool) → bit (c && false) ≡ 0
+never true = refl
+never false = refl
 
--- the first slot has the copies that change next
-pub copies_taken : (n : Circuit) (source : ℕ → ℕ × ℕ) (before : ℕ → Option ℕ) (next : List OutputPort) (t : ℕ) (slots : List (List ℕ)) (slot : List ℕ) (rest : List (List ℕ)) →
-    slots ≡ slot ∷ rest → HaveCopies n source before next t slots → (x k : ℕ) → k < length rest →
-    listed x (slice_index_or rest k []) ≡ bit (late_change n (source x) (t + 1 + 1 + k) && nat_lt (k + 1) (later_by next (before x)))
-copies_taken n source before next t slots slot rest is have x k low =
-    let e : suc k ≡ k + 1 = omega arith in
-    let time : t + 1 + suc k ≡ t + 1 + 1 + k = omega arith in
-    let long = ap (length {A = List ℕ}) is in
-    ap (λ (xs : List (List ℕ)). listed x (slice_index_or xs (suc k) [])) (sym is)
-    ∙ have x (suc k) (omega arith)
-    ∙ ap (λ u. bit (late_change n (source x) u && nat_lt (suc k) (later_by next (before x)))) time
-    ∙ ap (λ j. bit (late_change n (source x) (t + 1 + 1 + k) && nat_lt j (later_by next (before x)))) e
+-- the next unit begins
+module _ (n : Circuit) (source : ℕ → ℕ × ℕ) (before : ℕ → Option ℕ) (next : List OutputPort) (t : ℕ) (slots : List (List ℕ)) (some : 0 < length slots)
+    (chained : AreChained source before next) (within : All (HasSlot (length slots)) next) (have : HaveCopies n source before next t slots) where
+  beyond_by : (c : Bool) (x k : ℕ) (o : Option ℕ) → before x ≡ o → length slots ≤ k → bit (c && nat_lt k (later_by next o)) ≡ 0
+  beyond_by c x k None is beyond = none_below_zero c k
+  beyond_by c x k (Some y) is beyond =
+      let slot = slot_of (length slots) next within x y (nat_lt y (length next)) refl (chained.first x y is) in
+      let room : (copy_at next y).delay ≤ length slots = slot.room in
+      let test : nat_lt k (copy_at next y).delay ≡ false = grind (arith, nat_tests) in
+      ap (λ b. bit (c && b)) test ∙ never c
+
+  slot_when : (x k : ℕ) (low : Bool) → nat_lt (suc k) (length slots) ≡ low →
+      listed x (slice_index_or slots (suc k) []) ≡ bit (late_change n (source x) (t + 1 + 1 + k) && nat_lt (k + 1) (later_by next (before x)))
+  slot_when x k true low =
+      let inside_slots : suc k < length slots = grind (arith, nat_tests) in
+      let e : suc k ≡ k + 1 = omega arith in
+      let time : t + 1 + suc k ≡ t + 1 + 1 + k = omega arith in
+      have x (suc k) inside_slots
+      ∙ ap (λ u. bit (late_change n (source x) u && nat_lt (suc k) (later_by next (before x)))) time
+      ∙ ap (λ j. bit (late_change n (source x) (t + 1 + 1 + k) && nat_lt j (later_by next (before x)))) e
+  slot_when x k false low =
+      let beyond : length slots ≤ suc k = grind (arith, nat_tests) in
+      ap (λ xs. listed x xs) (get_or-eq_default slots [] beyond)
+      ∙ sym (beyond_by (late_change n (source x) (t + 1 + 1 + k)) x (k + 1) (before x) refl (omega arith))
+
+  pub copies_later : HaveLaterCopies n source before next t (drop 1 slots ++ [] ∷ [])
+  copies_later x k low = ap (λ xs. listed x xs) (turned_at slots k) ∙ slot_when x k (nat_lt (suc k) (length slots)) refl
+
+pub low_turned : (bound : ℕ) (slots : List (List ℕ)) → AreListedBelow bound slots → AreListedBelow bound (drop 1 slots ++ [] ∷ [])
+low_turned bound slots low x k high = ap (λ xs. listed x xs) (turned_at slots k) ∙ low x (suc k) high
 
 -- two lists after one another
 pub copied_both : (next : List OutputPort) (rest first then : List (List ℕ)) (slot wires : List ℕ) → first ≡ scheduled rest (copied_from next slot) →
@@ -177,24 +177,23 @@ below_when next bound x y false is below wire =
     absurd (none_some x (sym (ap (λ (port : OutputPort). port.wire) (get_or-eq_default next no_port beyond)) ∙ wire))
 
 low_slot : (next : List OutputPort) (rest slots : List (List ℕ)) (heard : List ℕ) (bound x k : ℕ) (low : Bool) → nat_lt k (length rest) ≡ low → All (IsBelow bound) next →
-    slots ≡ scheduled rest (copied_from next heard) → length slots ≡ length rest → listed x (slice_index_or rest k []) ≡ 0 → bound ≤ x → listed x (slice_index_or (slots ++ [] ∷ []) k []) ≡ 0
+    slots ≡ scheduled rest (copied_from next heard) → length slots ≡ length rest → listed x (slice_index_or rest k []) ≡ 0 → bound ≤ x → listed x (slice_index_or slots k []) ≡ 0
 low_slot next rest slots heard bound x k true low below is same none high =
     let within : k < length rest = grind (arith, nat_tests) in
     let nothing = sum_of_none (entries_of next k x) heard (λ j d inside_heard. no_copy next k x (slice_index_or heard j d)
     (λ wire. let less = below_when next bound x (slice_index_or heard j d) (nat_lt (slice_index_or heard j d) (length next)) refl below wire in absurd (omega arith))) in
     let more = schedules_each rest (copied_from next heard) k x within in
     let flat = counted_flat k x (λ y. entry_of (copy_at next y)) heard in
-    ap (λ xs. listed x xs) (get_or_append_left slots ([] ∷ []) [] k (omega arith))
-    ∙ ap (λ (xs : List (List ℕ)). listed x (slice_index_or xs k [])) is
+    ap (λ (xs : List (List ℕ)). listed x (slice_index_or xs k [])) is
     ∙ omega arith
 low_slot next rest slots heard bound x k false low below is same none high =
     let beyond : length rest ≤ k = grind (arith, nat_tests) in
-    ap (λ xs. listed x xs) (turned_when slots k (nat_lt k (length slots)) refl ∙ get_or-eq_default slots [] (omega arith))
+    ap (λ xs. listed x xs) (get_or-eq_default slots [] (omega arith))
 
-pub low_next : (next : List OutputPort) (slot : List ℕ) (rest slots : List (List ℕ)) (heard : List ℕ) (bound : ℕ) → All (IsBelow bound) next →
-    slots ≡ scheduled rest (copied_from next heard) → length slots ≡ length rest → AreListedBelow bound (slot ∷ rest) → AreListedBelow bound (slots ++ [] ∷ [])
-low_next next slot rest slots heard bound below is same none x k high =
-    low_slot next rest slots heard bound x k (nat_lt k (length rest)) refl below is same (none x (suc k) high) high
+pub low_next : (next : List OutputPort) (rest slots : List (List ℕ)) (heard : List ℕ) (bound : ℕ) → All (IsBelow bound) next →
+    slots ≡ scheduled rest (copied_from next heard) → length slots ≡ length rest → AreListedBelow bound rest → AreListedBelow bound slots
+low_next next rest slots heard bound below is same none x k high =
+    low_slot next rest slots heard bound x k (nat_lt k (length rest)) refl below is same (none x k high) high
 
 pub scheduled_both : (next again once_more : List OutputPort) (rest first then : List (List ℕ)) (slot same_slot wires : List ℕ) → again ≡ next → once_more ≡ next → same_slot ≡ slot →
     first ≡ scheduled rest (copied_from again same_slot) → then ≡ scheduled first (copied_from once_more wires) → then ≡ scheduled rest (copied_from next (slot ++ wires))

@@ -1,11 +1,9 @@
 -- What is due in a unit can be applied.
-use Rattle.std.proofs.Common.{◌≡◌, ℕ, ◌+◌, ◌%◌, ◌<◌, ◌≤◌, Bool, true, false, cond, List, [], ◌∷◌, ◌++◌, length, All, refl, sym, ap, arith, subst}
+use Rattle.std.proofs.Common.{◌≡◌, ℕ, ◌+◌, ◌%◌, ◌<◌, ◌≤◌, Bool, true, false, cond, List, [], ◌∷◌, ◌++◌, length, All, refl, ap, arith}
 use Rattle.std.specs.Prelude.{◌==◌, ◌&&◌, slice_index_or}
 use Rattle.std.proofs.lemmas.Bool.{eqb-true}
 use Rattle.std.proofs.lemmas.List.Elements.{All-append, All-nil}
 use Rattle.std.proofs.lemmas.Grind.{flat_map-append}
-use Rattle.mp_wave.specs.Waveform.{Waveform, wave_upto, last_time}
-use Rattle.mp_wave.proofs.ChangesLemmas.{last_time-changes_after}
 use Rattle.mp_model.specs.Waves.{level}
 use Rattle.mp_automata.specs.Codes.{bit}
 use Rattle.mp_events.specs.declared.fanout_entry.FanoutEntry.{FanoutEntry}
@@ -17,6 +15,7 @@ use Rattle.mp_core.specs.Simulators.{next_slot}
 use Rattle.mp_core.specs.UnitLaws.{CanApplyWhenDue}
 use Rattle.mp_core.proofs.ListedLemmas.{listed_here}
 use Rattle.mp_core.proofs.ApplyLemmas.{all_waved}
+use Rattle.mp_core.proofs.TraceLemmas.{trace_over}
 
 all_in_rows : (P : FanoutEntry → Type 0) (rows : List (List FanoutEntry)) (xs : List ℕ) → ((x : ℕ) → All P (row_at rows x)) → All P (entries_from rows xs)
 all_in_rows P rows [] each = All-nil P
@@ -50,9 +49,7 @@ can_apply n ok scope t s set others sound before due waved rowed =
             let here = listed_here (next_slot s ++ set) k d within in
             let is = due.toggled w in
             let traced = both_hold (change_at n w (t + 1)) (scope.traces w) (omega arith) in
-            let last = last_time-changes_after (level n w) 0 t in
-            let now : last_time 0 (wave_upto (level n w) t).changes < t + 1 = omega arith in
-            subst (λ (v : Waveform). last_time 0 v.changes < t + 1) (sym (before.stands.waves w (waved_all k d within) traced)) now;
+            trace_over (level n (slice_index_or (next_slot s ++ set) k d)) t _ (before.stands.waves w (waved_all k d within) traced);
       };
       adding = record {
         placed = All-append (λ (l : FanoutEntry). l.module < length s.states.items) (entries_from s.fanout (next_slot s ++ set)) (entries_from s.fanout others)

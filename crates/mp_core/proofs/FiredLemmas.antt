@@ -14,7 +14,7 @@ use Rattle.mp_netlist.specs.Drivers.{driver, is_port}
 use Rattle.mp_netlist.proofs.DriverLemmas.{finds_ports, finds_only_ports, portless_is_undriven}
 use Rattle.mp_model.specs.Evaluations.{delay_in}
 use Rattle.mp_model.specs.Levels.{built}
-use Rattle.mp_model.specs.Waves.{state}
+use Rattle.mp_model.specs.Waves.{level, state}
 use Rattle.mp_automata.specs.declared.automaton.Automaton.{Automaton}
 use Rattle.mp_automata.specs.declared.automaton.Automaton.TheVariants.{Sleep}
 use Rattle.mp_automata.specs.declared.events.Events.{Events}
@@ -37,6 +37,7 @@ use Rattle.mp_core.specs.Advancing.{unit_state_at}
 use Rattle.mp_core.specs.Schedules.{output_port_of, output_ports_of, IsFiring, IsUndrivenBy}
 use Rattle.mp_core.specs.Scopes.{Scope, is_expected, known_after, with_answers}
 use Rattle.mp_core.specs.Simulators.{slot_at, IsSound}
+use Rattle.mp_core.specs.Traces.{IsTrace}
 use Rattle.mp_core.specs.Units.{IsSeat, IsLaidOut, HaveEvents, rest_state_at, IsBefore, IsDuring}
 use Rattle.mp_core.proofs.ChangeLemmas.{rests_without_events}
 use Rattle.mp_core.proofs.AdvanceLemmas.{states_advance}
@@ -180,7 +181,6 @@ module _ (s new : Simulator) (sound : IsSound s) (is : IsFired s new) (n : Circu
                   seat.owned w p u drv (omega arith);
             };
         placed = λ q within active. b.placed q (let long = is.places in omega arith) active;
-        traced = b.traced;
       }
 
   slot_is : (k : ℕ) → slot_at new k ≡ slice_index_or (scheduled s.wheel (fired_by during.units s.outputs.items s.due.items)) k []
@@ -282,7 +282,9 @@ module _ (s new : Simulator) (sound : IsSound s) (is : IsFired s new) (n : Circu
       asleep = during.asleep;
       active = active_next;
       answered = λ m q place. ap (λ (o : Option ℕ). known_after o (t + 2) (scope.known m)) place ∙ (let e : t + 2 ≡ t + 1 + 1 = omega arith in e);
-      waves = λ w within traced. ap (λ (xs : List Waveform). wave_at xs w) is.waves ∙ during.waves w (let a = ap (length {A = Waveform}) is.waves in omega arith) traced;
+      waves = λ w within traced.
+          subst (λ (xs : List Waveform). IsTrace (level n w) (t + 1) (wave_at xs w)) (sym is.waves)
+          (during.waves w (let a = ap (length {A = Waveform}) is.waves in omega arith) traced);
       events = events_next;
       room = λ w p m r drives at. let a = room_when w p m r (scope.place m.0) drives at refl in let long = is.units in omega arith;
     };

@@ -1,10 +1,12 @@
 pub mod StayLemmas
 pub mod ChangeLemmas
+pub mod TraceLemmas
 pub mod PortEventLemmas
 pub mod AdvanceLemmas
 pub mod ScheduleLemmas
 pub mod ListedLemmas
 pub mod NumberLemmas
+pub mod TurnLemmas
 pub mod ApplyLemmas
 pub mod FireLemmas
 pub mod WidthLemmas
@@ -14,3 +16,4 @@ pub mod SimulationLemmas
 pub mod BeginningLemmas
 pub mod FiredLemmas
 pub mod DueLemmas
+pub mod QuietLemmas

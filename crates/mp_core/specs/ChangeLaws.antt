@@ -10,7 +10,7 @@ use Rattle.mp_records.specs.Outputs.{delay_of}
 use Rattle.mp_netlist.specs.Circuit.{Circuit, IsCircuit, wire_at, module_at}
 use Rattle.mp_netlist.specs.declared.driver.Driver.TheVariants.{Port}
 use Rattle.mp_netlist.specs.Drivers.{driver}
-use Rattle.mp_wave.specs.Waveform.{wave_upto}
+use Rattle.mp_wave.specs.Waveform.{Waveform, wave_upto}
 use Rattle.mp_storage.specs.AnyModules.{step}
 use Rattle.mp_model.specs.Levels.{initial_of, input_by, built}
 use Rattle.mp_model.specs.Waves.{level, state}
@@ -19,8 +19,9 @@ use Rattle.mp_automata.specs.Phases.{phase_of}
 use Rattle.mp_automata.specs.BitModules.{IsOfBits, IsBitState}
 use Rattle.mp_automata.specs.Codes.{no_events}
 use Rattle.mp_automata.specs.Reactions.{react, quiet}
-use Rattle.mp_events.specs.ToggleWaves.{toggled_at}
+use Rattle.mp_wave.specs.ToggleWaves.{toggled_at}
 use Rattle.mp_core.specs.Changes.{change_at, late_change}
+use Rattle.mp_core.specs.Traces.{IsTrace}
 
 abbrev pub PortsChange : Type 0
 PortsChange = (n : Circuit) → IsCircuit n → (w p t : ℕ) (m : ModuleId) (r : ModuleRecord) → driver n w ≡ Port m p → module_at n m.0 ≡ Some r → 0 < delay_of r p →
@@ -45,6 +46,11 @@ RestsWithoutEvents = (part : AnyModule) (m : Memory) → IsOfBits part → IsBit
 abbrev pub WavesGrow : Type 0
 WavesGrow = (level : ℕ → ℕ) (t : ℕ) → ((u : ℕ) → level u ≤ 1) →
     wave_upto level (t + 1) ≡ (if not (level t == level (t + 1)) then toggled_at (wave_upto level t) (t + 1) else wave_upto level t)
+
+-- and so what is kept of the changes of a wire of any width grows
+abbrev pub TracesGrow : Type 0
+TracesGrow = (level : ℕ → ℕ) (t : ℕ) (wave : Waveform) → IsTrace level t wave →
+    IsTrace level (t + 1) (if not (level t == level (t + 1)) then toggled_at wave (t + 1) else wave)
 
 -- a state stays while no input changes
 abbrev pub StatesStay : Type 0

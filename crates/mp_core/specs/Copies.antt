@@ -20,11 +20,15 @@ abbrev pub later_by : List OutputPort → Option ℕ → ℕ
 later_by next None = 0
 later_by next (Some y) = (copy_at next y).delay
 
--- the slots after t have the changes of the copies that stand after what has changed up to t, each once, and no others; one slot more
--- where the present one is still among them
+-- the slots after t have the changes of the copies that stand after what has changed up to t, each once, and no others
 abbrev pub HaveCopies : Circuit → (ℕ → ℕ × ℕ) → (ℕ → Option ℕ) → List OutputPort → ℕ → List (List ℕ) → Type 0
 HaveCopies n source before next t slots = (x k : ℕ) → k < length slots →
     listed x (slice_index_or slots k []) ≡ bit (late_change n (source x) (t + 1 + k) && nat_lt k (later_by next (before x)))
+
+-- the slots after t + 1 have no more than that
+abbrev pub HaveLaterCopies : Circuit → (ℕ → ℕ × ℕ) → (ℕ → Option ℕ) → List OutputPort → ℕ → List (List ℕ) → Type 0
+HaveLaterCopies n source before next t slots = (x k : ℕ) → k < length slots →
+    listed x (slice_index_or slots k []) ≡ bit (late_change n (source x) (t + 1 + 1 + k) && nat_lt (k + 1) (later_by next (before x)))
 
 -- what has a copy is listed where it changes at a time, once, and else not
 abbrev pub AreOriginals : Circuit → (ℕ → ℕ × ℕ) → (ℕ → Option ℕ) → List ℕ → ℕ → Type 0

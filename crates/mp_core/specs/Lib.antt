@@ -1,4 +1,5 @@
 pub mod Changes
+pub mod Traces
 pub mod ChangeLaws
 pub mod PortEvents
 pub mod Advancing

@@ -1,11 +1,11 @@
 -- Simulators with the delayed copies that they read, in an evaluation that follows no other.
-use Rattle.std.specs.Prelude.{◌≡◌, ℕ, ◌+◌, ◌-◌, ◌<◌, List, [], All, Option, length, slice_index_or}
+use Rattle.std.specs.Prelude.{◌≡◌, ℕ, ◌+◌, ◌<◌, List, [], All, Option, length, slice_index_or}
 use Rattle.mp_netlist.specs.Circuit.{Circuit, IsCircuit}
 use Rattle.mp_events.specs.Firing.{HasSlot}
 use Rattle.mp_core.specs.declared.delayed_copies.DelayedCopies.{DelayedCopies}
 use Rattle.mp_core.specs.declared.simulation.Simulation.{Simulation}
 use Rattle.mp_core.specs.Scopes.{Scope}
-use Rattle.mp_core.specs.Simulators.{IsBelow, IsSound, CanApply}
+use Rattle.mp_core.specs.Simulators.{next_slot, IsBelow, IsSound, CanApply}
 use Rattle.mp_core.specs.Units.{IsBefore}
 use Rattle.mp_core.specs.Copies.{AreChained, HaveCopies, AreListedBelow}
 use Rattle.mp_core.specs.WholeRuns.{IsWhole, AreSet}
@@ -13,17 +13,22 @@ use Rattle.mp_core.specs.WholeRuns.{IsWhole, AreSet}
 abbrev pub copy_slot : DelayedCopies → ℕ → List ℕ
 copy_slot copies k = slice_index_or copies.wheel k []
 
--- there are so many numbers of wires and copies; the wheel has a slot more than the longest time from one copy to the next, and only such numbers
+-- there are so many numbers of wires and copies; the wheel has a slot for each time from one copy to the next, and only such numbers
 pub record AreSoundCopies (numbers : ℕ) (copies : DelayedCopies) : Type 0 where
   pub next : length copies.next.items ≡ numbers
   pub some : 0 < length copies.wheel
-  pub within : All (HasSlot (length copies.wheel - 1)) copies.next.items
+  pub within : All (HasSlot (length copies.wheel)) copies.next.items
   pub below : All (IsBelow numbers) copies.next.items
   pub numbered : AreListedBelow numbers copies.wheel
 
 pub record IsSoundRun (s : Simulation) : Type 0 where
   pub simulator : IsSound s.simulator
   pub copies : AreSoundCopies (length s.simulator.fanout) s.copies
+
+-- nothing changes in the next unit that isn't set from outside
+pub record IsQuiet (s : Simulation) : Type 0 where
+  pub wires : next_slot s.simulator ≡ []
+  pub copies : copy_slot s.copies 0 ≡ []
 
 -- the unit t is over
 pub record IsRunning (n : Circuit) (scope : Scope) (before : ℕ → Option ℕ) (t : ℕ) (s : Simulation) : Type 0 where

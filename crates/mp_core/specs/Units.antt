@@ -1,6 +1,5 @@
 -- A simulator of a netlist before a unit, and within it.
 use Rattle.std.specs.Prelude.{◌≡◌, ℕ, ◌+◌, ◌<◌, ◌≤◌, true, false, List, [], Some, length, map, ◌++◌, ◌&&◌}
-use Rattle.mp_wave.specs.Waveform.{wave_upto}
 use Rattle.mp_records.specs.declared.ids.ModuleId.{ModuleId}
 use Rattle.mp_records.specs.declared.module_record.ModuleRecord.{ModuleRecord}
 use Rattle.mp_records.specs.Outputs.{delay_of}
@@ -25,6 +24,7 @@ use Rattle.mp_core.specs.Advancing.{unit_state_at}
 use Rattle.mp_core.specs.Schedules.{HasPlace, output_ports_of}
 use Rattle.mp_core.specs.Scopes.{Scope, is_expected}
 use Rattle.mp_core.specs.Simulators.{slot_at}
+use Rattle.mp_core.specs.Traces.{IsTrace}
 
 -- at the place of an active module: its ports have width 1, the inputs there read what it reads, the outputs are its own, and their wires'
 -- changes are made here
@@ -43,11 +43,10 @@ pub record IsLaidOut (n : Circuit) (scope : Scope) (s : Simulator) : Type 0 wher
   pub ports : (q : ℕ) → HasPorts s.fanout q (scope.inputs q)
   pub seats : (m q : ℕ) (r : ModuleRecord) → module_at n m ≡ Some r → scope.place m ≡ Some q → IsSeat n scope s m q r
   pub placed : (q : ℕ) → q < length s.states.items → scope.is_active q ≡ true → HasPlace n scope.place q
-  pub traced : (w u : ℕ) → scope.traces w ≡ true → level n w u ≤ 1
 
--- waves that are made here are those of their wires up to t
+-- waves that are made here have the changes of their wires up to t
 abbrev pub HaveWaves : Circuit → Scope → ℕ → Simulator → Type 0
-HaveWaves n scope t s = (w : ℕ) → w < length s.waves.items → scope.traces w ≡ true → wave_at s.waves.items w ≡ wave_upto (level n w) t
+HaveWaves n scope t s = (w : ℕ) → w < length s.waves.items → scope.traces w ≡ true → IsTrace (level n w) t (wave_at s.waves.items w)
 
 -- the slots after t have the changes that are known, each once, and no others
 abbrev pub HaveEvents : Circuit → Scope → ℕ → Simulator → Type 0

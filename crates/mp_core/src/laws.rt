@@ -1,6 +1,6 @@
 //! Laws of changes: when wires change, which events modules have, and what they schedule.
 
-ghost use Rattle.mp_core.specs.ChangeLaws.{PortsChange, PortsBegin, PortsWait, InputsChange, RestsWithoutEvents, WavesGrow, StatesStay};
+ghost use Rattle.mp_core.specs.ChangeLaws.{PortsChange, PortsBegin, PortsWait, InputsChange, RestsWithoutEvents, WavesGrow, TracesGrow, StatesStay};
 ghost use Rattle.mp_core.specs.PortEvents.{PortsHaveEvents};
 ghost use Rattle.mp_core.specs.Advancing.{StatesAdvance};
 ghost use Rattle.mp_core.specs.Schedules.{FiringSchedules, FiringLeavesOthers};
@@ -44,9 +44,11 @@ pub fn states_advance()
     ensures { StatesAdvance }
 {}
 
-/// The wave of a wire of width 1 up to the next unit is one toggle more where the wire changes there, and else the same.
+/// The wave of a wire of width 1 up to the next unit is one toggle more where the wire changes there, and else the same; and so is what is
+/// kept of the changes of any wire.
 pub fn waves_grow()
-    ensures { WavesGrow }
+    ensures waves { WavesGrow }
+    ensures traces { TracesGrow }
 {}
 
 /// When modules fire, a wire that an active one drives comes once more into the slot of the change that this decides, where it has that

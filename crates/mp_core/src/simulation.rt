@@ -12,12 +12,12 @@ pub struct Simulation {
 }
 
 impl Simulation {
-    ghost use Rattle.std.specs.Prelude.{◌≡◌, ℕ, ◌+◌, Option, OnOk, length};
+    ghost use Rattle.std.specs.Prelude.{◌≡◌, ◌↔◌, ℕ, ◌+◌, [], Option, IsTrue, OnOk, length};
     ghost use Rattle.mp_netlist.specs.Circuit.{Circuit, IsCircuit};
     ghost use Rattle.mp_core.specs.Scopes.{Scope, with_answers};
     ghost use Rattle.mp_core.specs.Simulators.{CanApply};
     ghost use Rattle.mp_core.specs.WholeRuns.{IsWhole, AreSet};
-    ghost use Rattle.mp_core.specs.Simulations.{copy_slot, IsSoundRun, IsRunning};
+    ghost use Rattle.mp_core.specs.Simulations.{copy_slot, IsSoundRun, IsQuiet, IsRunning};
 
     /// Goes through one unit, in which these wires are set from outside.
     pub fn pass_unit(&mut self, set: &[u16], time: u32) -> Result<(), AllocError>
@@ -28,11 +28,38 @@ impl Simulation {
             AreSet n scope set.now (t + 1) → IsRunning n scope before t self.old → IsRunning n (with_answers scope (t + 2)) before (t + 1) self.new) }
         ensures waves { OnOk result (length self.new.simulator.waves.items ≡ length self.old.simulator.waves.items) }
     {
-        let late = self.copies.take_slot();
-        self.simulator.apply_events(set, late.as_slice(), time)?;
-        self.copies
-            .advance(late, self.simulator.present.as_slice())?;
+        if set.is_empty() && self.is_quiet() {
+            self.skip_unit();
+            return Ok(());
+        }
+        self.copies.begin_unit();
+        self.simulator
+            .apply_events(set, self.copies.present.as_slice(), time)?;
+        self.copies.advance(self.simulator.present.as_slice())?;
         self.simulator.fire()?;
         Ok(())
+    }
+
+    /// Whether nothing changes in the next unit that isn't set from outside.
+    #[inline(always)]
+    fn is_quiet(&self) -> bool
+        requires { IsSoundRun self.now }
+        ensures { IsTrue result ↔ IsQuiet self.now }
+    {
+        self.simulator.wheel.is_quiet() && self.copies.wheel.is_quiet()
+    }
+
+    /// Goes through one unit in which nothing changes.
+    #[inline(always)]
+    fn skip_unit(&mut self)
+        requires sound { IsSoundRun self.old }
+        requires quiet { IsQuiet self.old }
+        ensures sound { IsSoundRun self.new }
+        ensures passed { (n : Circuit) (scope : Scope) (before : ℕ → Option ℕ) (t : ℕ) → IsCircuit n → IsWhole n scope before t → AreSet n scope [] (t + 1) →
+            IsRunning n scope before t self.old → IsRunning n (with_answers scope (t + 2)) before (t + 1) self.new }
+        ensures waves { length self.new.simulator.waves.items ≡ length self.old.simulator.waves.items }
+    {
+        self.simulator.wheel.skip();
+        self.copies.wheel.skip();
     }
 }

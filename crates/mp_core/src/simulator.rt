@@ -3,16 +3,15 @@ ghost use Rattle.std.specs.Prelude.{◌≡◌};
 
 use mp_automata::{AutomatonState, TransitionTable};
 use mp_events::{
-    EventSlot, EventWheel, Fanout, OutputPorts, ToggleWave, add_fanout_events, fire_modules,
-    toggle_wires,
+    EventSlot, EventWheel, Fanout, OutputPorts, add_fanout_events, fire_modules, toggle_wires,
 };
+use mp_wave::ToggleWave;
 use std::alloc::AllocError;
-use std::mem::replace;
 
 /// The modules of width 1 of a netlist, so far as they stand in one: each has a place, with its state and its outputs. The fanout tells of each
 /// number which inputs read it: the numbers of wires, and behind them those of their delayed copies. Modules that have had an event in
 /// this unit are due. Each wire of width 1 has a wave, and the wheel has the events to come. The wires that toggled in the present unit are kept
-/// until the next.
+/// until others do.
 #[derive(Drop)]
 pub struct Simulator {
     pub table: TransitionTable,
@@ -44,19 +43,17 @@ impl Simulator {
         ensures present { OnOk result (self.new.present ≡ next_slot self.old ++ set.now) }
         ensures waves { OnOk result (length self.new.waves.items ≡ length self.old.waves.items) }
     {
-        let mut slot = self.wheel.take_slot();
-        slot.extend_from_slice(set)?;
+        self.wheel.turn(&mut self.present);
+        self.present.extend_from_slice(set)?;
         toggle_wires(
             &self.fanout,
             &mut self.states,
             &mut self.due,
             &mut self.waves,
-            slot.as_slice(),
+            self.present.as_slice(),
             time,
         )?;
         add_fanout_events(&self.fanout, &mut self.states, &mut self.due, others)?;
-        let past = replace(&mut self.present, slot);
-        self.wheel.return_slot(past)?;
         Ok(())
     }
 

@@ -1,4 +1,5 @@
-use mp_events::{EventWheel, Fanout, FanoutEntry, FanoutRow, ToggleWave};
+use mp_events::{EventSlot, EventWheel, Fanout, FanoutEntry, FanoutRow};
+use mp_wave::ToggleWave;
 use std::test::Fail;
 
 #[test]
@@ -6,10 +7,16 @@ fn wheel_has_wires(rt: HostRuntime) -> Result<(), Fail> {
     let mut wheel = EventWheel::new(rt.alloc(), 2)?;
     wheel.schedule(2, 7)?;
     wheel.schedule(1, 5)?;
-    let slot = wheel.take_slot();
-    assert!(rt; slot.as_slice() == [5].as_slice());
-    wheel.return_slot(slot)?;
-    assert!(rt; wheel.take_slot().as_slice() == [7].as_slice());
+    let mut present = EventSlot::new(rt.alloc());
+    wheel.turn(&mut present);
+    assert!(rt; present.as_slice() == [5].as_slice());
+    assert!(rt; !wheel.is_quiet());
+    wheel.turn(&mut present);
+    assert!(rt; present.as_slice() == [7].as_slice());
+    assert!(rt; wheel.is_quiet());
+    wheel.skip();
+    wheel.turn(&mut present);
+    assert!(rt; present.as_slice().is_empty());
     Ok(())
 }
 

@@ -1,7 +1,7 @@
-pub mod ToggleWaveLemmas
 pub mod AddingLemmas
 pub mod TogglingLemmas
 pub mod PortLemmas
 pub mod FiringLemmas
 pub mod EntryLemmas
 pub mod FanoutLemmas
+pub mod WheelLemmas

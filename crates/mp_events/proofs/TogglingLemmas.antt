@@ -10,7 +10,7 @@ use Rattle.mp_automata.specs.declared.automaton_state.AutomatonState.{AutomatonS
 use Rattle.mp_automata.specs.Codes.{bit}
 use Rattle.mp_wave.specs.Waveform.{Waveform, last_time}
 use Rattle.mp_events.specs.declared.fanout_entry.FanoutEntry.{FanoutEntry}
-use Rattle.mp_events.specs.ToggleWaves.{toggled_at}
+use Rattle.mp_wave.specs.ToggleWaves.{toggled_at}
 use Rattle.mp_events.specs.Adding.{AreAdded, IsAdding, listed}
 use Rattle.mp_events.specs.Toggling.{row_at, wave_at, entries_from, CanToggle, AreToggled}
 use Rattle.mp_events.proofs.AddingLemmas.{front, back, added_both}

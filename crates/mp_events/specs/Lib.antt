@@ -1,4 +1,3 @@
-pub mod ToggleWaves
 pub mod EventWheels
 pub mod Adding
 pub mod Toggling

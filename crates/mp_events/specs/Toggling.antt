@@ -3,7 +3,7 @@ use Rattle.std.specs.Prelude.{◌≡◌, ℕ, ◌<◌, ◌≤◌, List, [], All,
 use Rattle.std.specs.List.{flat_map}
 use Rattle.mp_wave.specs.Waveform.{Waveform, last_time}
 use Rattle.mp_events.specs.declared.fanout_entry.FanoutEntry.{FanoutEntry}
-use Rattle.mp_events.specs.ToggleWaves.{toggled_at}
+use Rattle.mp_wave.specs.ToggleWaves.{toggled_at}
 use Rattle.mp_events.specs.Adding.{listed}
 
 abbrev pub row_at : List (List FanoutEntry) → ℕ → List FanoutEntry

@@ -18,7 +18,7 @@ impl Model for EventSlot {
 }
 
 impl EventSlot {
-    ghost use Rattle.std.specs.Prelude.{◌≡◌, ◌++◌, ◌∷◌, [], OnOk};
+    ghost use Rattle.std.specs.Prelude.{◌≡◌, ◌↔◌, ◌++◌, ◌∷◌, [], IsTrue, OnOk};
 
     /// A slot in which nothing toggles. It takes no memory.
     pub fn new(alloc: Global) -> EventSlot
@@ -35,6 +35,14 @@ impl EventSlot {
         ensures { result.now ≡ self.now }
     {
         self.wires.as_slice()
+    }
+
+    /// Whether nothing toggles.
+    #[inline(always)]
+    pub(crate) fn is_empty(&self) -> bool
+        ensures { IsTrue result ↔ self.now ≡ [] }
+    {
+        self.wires.is_empty()
     }
 
     /// One wire more toggles.

@@ -1,26 +1,33 @@
 //! The event wheel.
 
+ghost use Rattle.std.specs.Prelude.{◌≡◌, ◌+◌, ◌-◌, ◌<◌, ◌≤◌, nat_lt, if◌then◌else◌};
+
 use crate::event_slot::EventSlot;
 use std::alloc::{AllocError, Global};
-use std::collections::VecDeque;
 use std::marker::Model;
+use std::mem::swap;
 
-/// An event wheel: a slot for each of the next units, the next first, with the wires that toggle in it so far as this is known.
+/// An event wheel: a slot for each of the next units, the next first, with the wires that toggle in it so far as this is known. The slots lie in
+/// a circle, and `next` is the place of the next unit's.
 #[derive(Drop)]
 pub struct EventWheel {
-    slots: VecDeque<EventSlot>,
+    slots: Vec<EventSlot>,
+    next: usize,
 }
 
 impl Model for EventWheel {
-    ghost use Rattle.std.specs.Prelude.{List, ℕ};
+    ghost use Rattle.std.specs.Prelude.{List, ℕ, ◌-◌, ◌≤◌, length};
+    ghost use Rattle.mp_events.specs.EventWheels.{turned_by};
 
     ghost Value = { List (List ℕ) };
 
-    ghost view = { λ wheel. wheel.slots.items };
+    ghost view = { λ wheel. turned_by wheel.next wheel.slots.items };
+
+    ghost invariant = { λ wheel. wheel.next ≤ length wheel.slots.items - 1 };
 }
 
 impl EventWheel {
-    ghost use Rattle.std.specs.Prelude.{◌≡◌, ℕ, ◌-◌, ◌<◌, ◌≤◌, ◌++◌, ◌∷◌, [], length, IfOk, OnOk, slice_index_or};
+    ghost use Rattle.std.specs.Prelude.{◌≡◌, ◌↔◌, ℕ, ◌-◌, ◌<◌, ◌≤◌, ◌++◌, ◌∷◌, [], drop, length, IsTrue, IfOk, OnOk, slice_index_or};
     ghost use Rattle.mp_events.specs.EventWheels.{with_entry};
 
     /// A wheel of so many units, in which nothing toggles.
@@ -28,33 +35,42 @@ impl EventWheel {
         ensures places { IfOk result (λ wheel. length wheel ≡ units) }
         ensures empty { IfOk result (λ wheel. (k : ℕ) → slice_index_or wheel k [] ≡ []) }
     {
-        let mut slots = VecDeque::new(alloc);
+        let mut slots = Vec::new(alloc);
         for _unit in 0..units {
-            slots.push_back(EventSlot::new(alloc))?;
+            slots.push(EventSlot::new(alloc))?;
         }
-        Ok(EventWheel { slots })
+        Ok(EventWheel { slots, next: 0 })
     }
 
-    /// Takes the slot of the next unit, which is now the present one. The wheel has one unit less until `return_slot`.
+    /// Whether nothing toggles in the next unit, so far as this is known.
     #[inline(always)]
-    pub fn take_slot(&mut self) -> EventSlot
+    pub fn is_quiet(&self) -> bool
+        requires { 0 < length self.now }
+        ensures { IsTrue result ↔ slice_index_or self.now 0 [] ≡ [] }
+    {
+        self.slots[self.next].is_empty()
+    }
+
+    /// The next unit begins: its slot becomes the present one, and the one that was present before is emptied and becomes that of the last unit.
+    #[inline(always)]
+    pub fn turn(&mut self, present: &mut EventSlot)
         requires { 0 < length self.old }
-        ensures { self.old ≡ result ∷ self.new }
+        ensures present { present.new ≡ slice_index_or self.old 0 [] }
+        ensures turned { self.new ≡ drop 1 self.old ++ [] ∷ [] }
     {
-        let Some(slot) = self.slots.pop_front() else {
-            unreachable!();
-        };
-        slot
+        present.clear();
+        swap(&mut self.slots[self.next], present);
+        self.next = place_after(self.next, 1, self.slots.len());
     }
 
-    /// Returns a slot that was taken, emptied, as that of the last unit.
+    /// The next unit begins, in which nothing toggles.
     #[inline(always)]
-    pub fn return_slot(&mut self, mut slot: EventSlot) -> Result<(), AllocError>
-        ensures { OnOk result (self.new ≡ self.old ++ [] ∷ []) }
+    pub fn skip(&mut self)
+        requires some { 0 < length self.old }
+        requires quiet { slice_index_or self.old 0 [] ≡ [] }
+        ensures { self.new ≡ drop 1 self.old ++ [] ∷ [] }
     {
-        slot.clear();
-        self.slots.push_back(slot)?;
-        Ok(())
+        self.next = place_after(self.next, 1, self.slots.len());
     }
 
     /// The wire toggles the delay, in units, after the present unit.
@@ -64,7 +80,24 @@ impl EventWheel {
         requires within { delay ≤ length self.old }
         ensures { OnOk result (self.new ≡ with_entry self.old (delay - 1) wire) }
     {
-        self.slots[delay - 1].push(wire)?;
+        let place = place_after(self.next, delay - 1, self.slots.len());
+        self.slots[place].push(wire)?;
         Ok(())
+    }
+}
+
+/// The place so many after another, in a circle of so many places.
+#[inline(always)]
+fn place_after(place: usize, steps: usize, places: usize) -> usize
+    requires place { place < places }
+    requires steps { steps ≤ places }
+    ensures within { result < places }
+    ensures value { result ≡ (if nat_lt steps (places - place) then place + steps else steps - (places - place)) }
+{
+    let left = places - place;
+    if steps < left {
+        place + steps
+    } else {
+        steps - left
     }
 }

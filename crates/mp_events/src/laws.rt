@@ -1,12 +1,5 @@
 //! What the definitions come to.
 
-ghost use Rattle.mp_events.specs.ToggleWaves.{ToggleWavesAreWaves};
-
-/// The times at which a level of one bit changes tell its wave.
-pub fn toggle_waves_are_waves()
-    ensures { ToggleWavesAreWaves }
-{}
-
 ghost use Rattle.mp_events.specs.Ports.{EventsAddUp};
 
 /// What wires that toggle, each listed once, add to the state of a module is the number of the events at its ports.

@@ -1,4 +1,4 @@
-//! Events of wires of width 1: their waves, the wheel that has those to come, who reads them, and the loops of a unit.
+//! Events of wires of width 1: the wheel that has those to come, who reads them, and the loops of a unit.
 #![tactic(auto)]
 
 mod adding;
@@ -11,7 +11,6 @@ mod firing;
 pub mod laws;
 mod output_port;
 mod output_ports;
-mod toggle_wave;
 mod toggling;
 
 pub use adding::{add_event, add_fanout_events};
@@ -23,5 +22,4 @@ pub use fanout_row::FanoutRow;
 pub use firing::{fire_modules, schedule_copies, schedule_if};
 pub use output_port::OutputPort;
 pub use output_ports::OutputPorts;
-pub use toggle_wave::ToggleWave;
 pub use toggling::toggle_wires;

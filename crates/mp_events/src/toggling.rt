@@ -1,14 +1,14 @@
 //! Wires of width 1 toggle.
 ghost use Rattle.std.specs.Prelude.{◌≡◌, ◌<◌, [], OnOk, All, length, slice_set};
 ghost use Rattle.mp_wave.specs.Waveform.{last_time};
-ghost use Rattle.mp_events.specs.ToggleWaves.{toggled_at};
+ghost use Rattle.mp_wave.specs.ToggleWaves.{toggled_at};
 ghost use Rattle.mp_events.specs.Adding.{IsAdding, AreAdded};
 ghost use Rattle.mp_events.specs.Toggling.{row_at, wave_at, entries_from, CanToggle, AreToggled};
 
 use crate::adding::add_events;
 use crate::fanout::Fanout;
-use crate::toggle_wave::ToggleWave;
 use mp_automata::AutomatonState;
+use mp_wave::ToggleWave;
 use std::alloc::AllocError;
 
 /// A wire toggles at a time, and the inputs that read it have an event.

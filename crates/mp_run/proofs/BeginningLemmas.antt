@@ -1,7 +1,7 @@
 -- A simulation at time 0.
-use Rattle.std.proofs.Common.{◌≡◌, ℕ, zero, suc, ◌+◌, ◌-◌, ◌%◌, ◌<◌, ◌≤◌, Bool, true, false, cond, List, [], Option, Some, None, is_some, All, length, map, nat_lt, refl, sym, ap, ◌∙◌, arith, subst, inl, inr}
+use Rattle.std.proofs.Common.{◌≡◌, ℕ, zero, suc, ◌+◌, ◌<◌, ◌≤◌, Bool, true, false, cond, List, [], Option, Some, None, is_some, length, map, nat_lt, refl, sym, ap, ◌∙◌, arith, subst, inl, inr}
 use Rattle.std.specs.Prelude.{◌&&◌, slice_index_or}
-use Rattle.std.proofs.lemmas.Bool.{cases_lt, ltb-true, eq-eqb, or_left, or_right}
+use Rattle.std.proofs.lemmas.Bool.{cases_lt, ltb-true, or_left, or_right}
 use Rattle.std.proofs.lemmas.Bool.Decides.{nat_tests}
 use Rattle.std.proofs.lemmas.List.{get_or_past, get_or-map, length-map}
 use Rattle.std.proofs.lemmas.Option.{none-some, same_Some}
@@ -14,65 +14,39 @@ use Rattle.mp_netlist.specs.declared.driver.Driver.{Driver}
 use Rattle.mp_netlist.specs.declared.driver.Driver.TheVariants.{Nothing, Stimulus, Port}
 use Rattle.mp_netlist.specs.Circuit.{Circuit, IsCircuit, Drives, wire_at, module_at}
 use Rattle.mp_netlist.specs.Drivers.{driver}
-use Rattle.mp_netlist.proofs.DriverLemmas.{finds_only_ports, leaves_no_driver, driven_stands}
+use Rattle.mp_netlist.proofs.DriverLemmas.{finds_only_ports, driven_stands}
 use Rattle.mp_model.specs.Waves.{level}
 use Rattle.mp_model.proofs.EndsLemmas.{first_level}
 use Rattle.mp_model.proofs.SlotLemmas.{slot_within}
 use Rattle.mp_automata.specs.declared.automaton.Automaton.TheVariants.{Sleep}
-use Rattle.mp_automata.specs.declared.automaton_state.AutomatonState.{AutomatonState}
-use Rattle.mp_automata.specs.Codes.{bit, events_code}
-use Rattle.mp_events.specs.declared.fanout_entry.FanoutEntry.{FanoutEntry}
+use Rattle.mp_automata.specs.Codes.{bit}
 use Rattle.mp_events.specs.declared.output_port.OutputPort.{OutputPort}
 use Rattle.mp_events.specs.declared.output_ports.OutputPorts.{OutputPorts}
-use Rattle.mp_events.specs.Adding.{state_at, listed, IsAdding}
-use Rattle.mp_events.specs.Toggling.{row_at, wave_at}
+use Rattle.mp_events.specs.Adding.{listed}
+use Rattle.mp_events.specs.Toggling.{wave_at}
 use Rattle.mp_events.specs.Firing.{HasSlot, HaveSlots, no_port, ports_at}
 use Rattle.mp_core.specs.declared.simulation.Simulation.{Simulation}
 use Rattle.mp_core.specs.Scopes.{Scope}
 use Rattle.mp_core.specs.PortEvents.{source_of}
 use Rattle.mp_core.specs.Schedules.{HasPlace, output_port_of, output_ports_of}
-use Rattle.mp_core.specs.Simulators.{slot_at, IsBelow, AreBelow, IsSound}
-use Rattle.mp_core.specs.Simulations.{AreSoundCopies}
+use Rattle.mp_core.specs.Simulators.{slot_at}
+use Rattle.mp_core.specs.Traces.{time_of, IsTrace}
 use Rattle.mp_core.specs.Units.{IsSeat, IsLaidOut, HaveEvents, IsBefore, rest_state_at}
 use Rattle.mp_core.specs.WholeRuns.{IsWhole, is_number}
 use Rattle.mp_core.specs.Beginnings.{is_first}
 use Rattle.mp_core.proofs.BeginningLemmas.{first_are_known, no_copies_at_first}
-use Rattle.mp_core.proofs.NumberLemmas.{number_low, events_part}
 use Rattle.mp_core.proofs.ScheduleLemmas.{few_ports, same_part}
 use Rattle.mp_core.proofs.WidthLemmas.{have_bits}
 use Rattle.mp_run.specs.Narrow.{IsNarrow, first_wave}
-use Rattle.mp_run.specs.Numbers.{AreLinks}
-use Rattle.mp_run.specs.Wirings.{AreWired, inputs_in, reading_below}
-use Rattle.mp_run.specs.Settling.{ports_of, first_unit_in, first_unit, is_below, IsSettled}
+use Rattle.mp_run.specs.Wirings.{inputs_in, reading_below}
+use Rattle.mp_run.specs.Settling.{ports_of, first_unit_in, first_unit, is_below}
 use Rattle.mp_run.specs.Evaluations.{IsEvaluated}
-use Rattle.mp_run.proofs.NarrowLemmas.{bit_level, one_bit_module}
-
--- what a simulation was made of
-pub record IsBegun (n : Circuit) (longest : ℕ) (s : Simulation) : Type 0 where
-  pub settled : IsSettled n (length n.modules) s.simulator.states.items s.simulator.wheel
-  pub outputs : s.simulator.outputs.items ≡ map ports_of n.modules
-  pub within : All (HaveSlots (length s.simulator.wheel)) s.simulator.outputs.items
-  pub below : All (AreBelow (length n.wires)) s.simulator.outputs.items
-  pub some : 0 < length s.simulator.wheel
-  pub wired : AreWired (length n.wires) (length n.modules) (reading_below n (length n.modules)) s.simulator.fanout s.copies.next.items
-  pub rows : length s.simulator.fanout ≡ length s.copies.next.items
-  pub links : AreLinks longest s.copies.next.items
-  pub waves : s.simulator.waves.items ≡ map first_wave n.wires
-  pub due : s.simulator.due.items ≡ []
-  pub copies : length s.copies.wheel ≡ longest + 1
-  pub empty : (k : ℕ) → slice_index_or s.copies.wheel k [] ≡ []
+use Rattle.mp_run.proofs.BegunLemmas.{IsBegun, waves_long, sound_simulator, sound_copies}
+use Rattle.mp_run.proofs.NarrowLemmas.{one_bit_module}
 
 abbrev place_in : ℕ → Option ModuleRecord → Option ℕ
 place_in m None = None
 place_in m (Some r) = Some m
-
-none_sum : (w : ℕ) (xs : List ℕ) → xs ≡ [] → listed w xs ≡ 0
-none_sum w xs is = ap (listed w) is
-
-first_false : (a b c : Bool) → bit ((a && b) && false) ≡ 0
-first_false true true c = refl
-first_false true false c = refl
-first_false false b c = refl
 
 drop_true : (a b : Bool) → a ≡ true → bit (a && b) ≡ bit (b && true)
 drop_true true true is = refl
@@ -90,7 +64,7 @@ one_slot units r (suc zero) low has = has.second
 one_slot units r (suc (suc zero)) low has = has.third
 one_slot units r (suc (suc (suc p))) low has = absurd (omega arith)
 
-module _ (n : Circuit) (ok : IsCircuit n) (narrow : IsNarrow n) (longest : ℕ) (s : Simulation) (are : IsBegun n longest s) where
+module _ (n : Circuit) (ok : IsCircuit n) (narrow : IsNarrow n) (s : Simulation) (are : IsBegun n s) where
   abbrev is_wire : ℕ → Bool
   is_wire w = nat_lt w (length n.wires)
 
@@ -115,9 +89,6 @@ module _ (n : Circuit) (ok : IsCircuit n) (narrow : IsNarrow n) (longest : ℕ) 
 
   driven_is_wire : (m p w : ℕ) → Drives n m p w → is_wire w ≡ true
   driven_is_wire m p w drv = standing w (wire_at n w) refl (driven_stands n ok m p w drv)
-
-  waves_long : length s.simulator.waves.items ≡ length n.wires
-  waves_long = ap (length {A = Waveform}) are.waves ∙ length-map n.wires first_wave
 
   -- ---- layout
   reads_own : (m : ℕ) (r : ModuleRecord) → module_at n m ≡ Some r → reading_below n (length n.modules) m ≡ r.inputs
@@ -154,7 +125,6 @@ module _ (n : Circuit) (ok : IsCircuit n) (narrow : IsNarrow n) (longest : ℕ) 
     ports = are.wired.ports;
     seats = seats;
     placed = λ q within active. by q (module_at n q) refl active;
-    traced = λ w u traced. bit_level n ok narrow w u;
   }
     where
       by : (q : ℕ) (slot : Option ModuleRecord) → module_at n q ≡ slot → is_some slot ≡ true → HasPlace n scope.place q
@@ -174,8 +144,14 @@ module _ (n : Circuit) (ok : IsCircuit n) (narrow : IsNarrow n) (longest : ℕ) 
   first_waves_are : (w : ℕ) → w < length s.simulator.waves.items → wave_at s.simulator.waves.items w ≡ wave_upto (level n w) 0
   first_waves_are w within =
       ap (λ (xs : List Waveform). wave_at xs w) are.waves
-      ∙ get_or-map first_wave n.wires w None (record { initial = 0; changes = [] }) (let long = waves_long in omega arith)
+      ∙ get_or-map first_wave n.wires w None (record { initial = 0; changes = [] }) (let long = waves_long n ok s are in omega arith)
       ∙ ap (λ (k : ℕ). let v : Waveform = record { initial = k; changes = [] } in v) (sym (first_level n ok w))
+
+  first_trace : (w : ℕ) → w < length s.simulator.waves.items → IsTrace (level n w) 0 (wave_at s.simulator.waves.items w)
+  first_trace w within = record {
+    times = ap (λ (v : Waveform). map time_of v.changes) (first_waves_are w within);
+    whole = λ low. first_waves_are w within;
+  }
 
   -- ---- events
   first_by : (w k : ℕ) (d : Driver) → driver n w ≡ d → bit (is_below (length n.modules) d && is_first n d w (k + 1)) ≡ bit (is_first n d w (k + 1) && is_wire w)
@@ -219,78 +195,12 @@ module _ (n : Circuit) (ok : IsCircuit n) (narrow : IsNarrow n) (longest : ℕ) 
       asleep = λ q none. unit_asleep q (module_at n q) refl none;
       active = unit_active;
       answered = λ m q place. refl;
-      waves = λ w within traced. first_waves_are w within;
+      waves = λ w within traced. first_trace w within;
       events = events_are;
       room = room_is;
     };
     due = are.due;
   }
-
-  -- ---- sound
-  quiet_unit : (m : ℕ) (slot : Option ModuleRecord) → events_code (first_unit_in n m slot).events ≡ 0
-  quiet_unit m None = refl
-  quiet_unit m (Some r) = refl
-
-  state_past : (m : ℕ) → length n.modules ≤ m → state_at s.simulator.states.items m ≡ 0
-  state_past m past =
-      let places = are.settled.places in
-      ap (λ (x : AutomatonState). x.0) (get_or_past s.simulator.states.items m (record { 0 = 0 }) (omega arith))
-
-  quiet_state : (m : ℕ) → state_at s.simulator.states.items m % 16 ≡ 0
-  quiet_state m = elim (cases_lt m (length n.modules)) as (λ _. state_at s.simulator.states.items m % 16 ≡ 0) [
-    | inl low ↦ ap (λ k. k % 16) (are.settled.each m low) ∙ events_part (first_unit n m) ∙ quiet_unit m (module_at n m)
-    | inr past ↦ ap (λ k. k % 16) (state_past m past)
-  ]
-
-  low_state : (m : ℕ) → state_at s.simulator.states.items m < 1728
-  low_state m = elim (cases_lt m (length n.modules)) as (λ _. state_at s.simulator.states.items m < 1728) [
-    | inl low ↦ let same = are.settled.each m low in let high = number_low (first_unit n m) in omega arith
-    | inr past ↦ let same = state_past m past in omega arith
-  ]
-
-  adding : IsAdding s.simulator.states.items s.simulator.due.items []
-  adding = record {
-    placed = λ k d within. absurd (omega arith);
-    events = λ k d within. absurd (omega arith);
-    low = low_state;
-    room = λ m. let quiet = quiet_state m in omega arith;
-    once = λ m. ap (listed m) are.due ∙ sym (ap (λ b. cond b 0 1) (eq-eqb (state_at s.simulator.states.items m % 16) 0 (quiet_state m)));
-  }
-
-  undriven : (w k : ℕ) → length n.wires ≤ w → bit (is_below (length n.modules) (driver n w) && is_first n (driver n w) w (k + 1)) ≡ 0
-  undriven w k past = ap (λ d. bit (is_below (length n.modules) d && is_first n d w (k + 1))) (leaves_no_driver n ok w (get_or_past n.wires w None past))
-
-  none_past : (w k : ℕ) → length n.wires ≤ w → listed w (slot_at s.simulator k) ≡ 0
-  none_past w k past = elim (cases_lt k (length s.simulator.wheel)) as (λ _. listed w (slot_at s.simulator k) ≡ 0) [
-    | inl low ↦ are.settled.slots w k low ∙ undriven w k past
-    | inr beyond ↦ none_sum w (slot_at s.simulator k) (get_or_past s.simulator.wheel k [] beyond)
-  ]
-
-  sound_simulator : IsSound s.simulator
-  sound_simulator = record {
-    units = first_unit n;
-    numbered = λ m within. are.settled.each m (let places = are.settled.places in omega arith);
-    events = adding;
-    outputs = ap (length {A = OutputPorts}) are.outputs ∙ length-map n.modules ports_of ∙ sym are.settled.places;
-    rows = let a = waves_long in let b = are.rows in let c = are.wired.numbers.enough in omega arith;
-    placed = λ x. subst (λ k. All (λ (l : FanoutEntry). l.module < k) (row_at s.simulator.fanout x)) (sym are.settled.places) (are.wired.placed x);
-    eventful = are.wired.eventful;
-    some = are.some;
-    within = are.within;
-    driven = subst (λ k. All (AreBelow k) s.simulator.outputs.items) (sym waves_long) are.below;
-    waved = λ w k past. none_past w k (let a = waves_long in omega arith);
-  }
-
-  sound_copies : AreSoundCopies (length s.simulator.fanout) s.copies
-  sound_copies =
-      let units : longest ≡ length s.copies.wheel - 1 = (let a = are.copies in omega arith) in
-      record {
-        next = sym are.rows;
-        some = let a = are.copies in omega arith;
-        within = subst (λ k. All (HasSlot k) s.copies.next.items) units are.links.slots;
-        below = subst (λ k. All (IsBelow k) s.copies.next.items) (sym are.rows) are.links.below;
-        numbered = λ x k high. none_sum x (slice_index_or s.copies.wheel k []) (are.empty k);
-      }
 
   -- ---- whole
   number_is : (x : ℕ) → x < length s.copies.next.items → is_number scope are.wired.before x ≡ true
@@ -329,7 +239,7 @@ module _ (n : Circuit) (ok : IsCircuit n) (narrow : IsNarrow n) (longest : ℕ) 
   begun = record {
     scope = scope;
     before = are.wired.before;
-    sound = record { simulator = sound_simulator; copies = sound_copies };
+    sound = record { simulator = sound_simulator n ok s are; copies = sound_copies n ok s are };
     running = record {
       simulator = before_first;
       chained = are.wired.numbers.chained;
@@ -339,5 +249,5 @@ module _ (n : Circuit) (ok : IsCircuit n) (narrow : IsNarrow n) (longest : ℕ) 
     own = λ w u. refl;
     placed = λ m r at. ap (λ slot. is_some (place_in m slot)) at;
     traces = λ w. refl;
-    waves = waves_long;
+    waves = waves_long n ok s are;
   }

@@ -3,5 +3,6 @@ mod StimulusLemmas
 mod NumberLemmas
 mod WiringLemmas
 mod SettlingLemmas
+mod BegunLemmas
 mod BeginningLemmas
 mod RunLemmas

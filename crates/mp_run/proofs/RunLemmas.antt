@@ -122,17 +122,17 @@ one_item None some = cc
 one_item (Some v) some = refl
 
 -- the next wave is that of its wire
-pub one_wave : (n : Circuit) (s : Simulation) (w : ℕ) (left rest : List Waveform) (item : Option Waveform) → IsEvaluated n (n.horizon - 1) s → w < length n.wires →
+pub one_wave : (n : Circuit) (s : Simulation) (w : ℕ) (left rest : List Waveform) (item : Option Waveform) → IsEvaluated n (n.horizon - 1) s → ((u : ℕ) → level n w u ≤ 1) → w < length n.wires →
     left ≡ drop w s.simulator.waves.items → left ≡ option_to_list item ++ rest → IsSome item →
     (wave_in (wire_at n w) item ≡ slot_wave n w (wire_at n w)) × (rest ≡ drop (w + 1) s.simulator.waves.items)
-one_wave n s w left rest item is low left_is taken some =
+one_wave n s w left rest item is bits low left_is taken some =
     let long = is.waves in
     let within : w < length s.simulator.waves.items = omega arith in
     let test : nat_lt w (length n.wires) ≡ true = grind (arith, nat_tests) in
     let wave = wave_at s.simulator.waves.items w in
     let first = first_of item (wave_at s.simulator.waves.items w) rest (drop (w + 1) s.simulator.waves.items) some
     (sym (drop_more s.simulator.waves.items w (record { initial = 0; changes = [] }) within) ∙ sym left_is ∙ taken) in
-    (ap (wave_in (wire_at n w)) first.0 ∙ wave_of_slot n w (wave_at s.simulator.waves.items w) (wire_at n w) (is.running.simulator.stands.waves w within (is.traces w ∙ test)), first.1)
+    (ap (wave_in (wire_at n w)) first.0 ∙ wave_of_slot n w (wave_at s.simulator.waves.items w) (wire_at n w) ((is.running.simulator.stands.waves w within (is.traces w ∙ test)).whole bits), first.1)
 
 -- one more wave is that of its wire
 pub waves_more : (n : Circuit) (w : ℕ) (found new : List (Option Waveform)) (wave : Option Waveform) → length found ≡ w → new ≡ found ++ wave ∷ [] → wave ≡ slot_wave n w (wire_at n w) →

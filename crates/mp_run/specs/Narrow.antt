@@ -4,7 +4,7 @@ use Rattle.mp_wave.specs.Waveform.{Waveform}
 use Rattle.mp_records.specs.declared.wire_record.WireRecord.{WireRecord}
 use Rattle.mp_netlist.specs.Circuit.{Circuit, wire_at}
 use Rattle.mp_model.specs.Levels.{initial_of}
-use Rattle.mp_events.specs.ToggleWaves.{toggle_wave}
+use Rattle.mp_wave.specs.ToggleWaves.{toggle_wave}
 
 abbrev pub IsNarrow : Circuit → Type 0
 IsNarrow n = (w : ℕ) (r : WireRecord) → wire_at n w ≡ Some r → r.width ≡ 1

@@ -42,7 +42,8 @@ pub fn begin(alloc: Global, netlist: &Netlist) -> Result<Simulation, AllocError>
     };
     let copies = DelayedCopies {
         next,
-        wheel: EventWheel::new(alloc, delays.inputs as usize + 1)?,
+        wheel: EventWheel::new(alloc, delays.inputs as usize)?,
+        present: EventSlot::new(alloc),
     };
     Ok(Simulation { simulator, copies })
 }

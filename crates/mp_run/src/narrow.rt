@@ -5,8 +5,8 @@ ghost use Rattle.mp_netlist.specs.Circuit.{IsCircuit, wire_at};
 ghost use Rattle.mp_model.specs.Levels.{initial_of};
 ghost use Rattle.mp_run.specs.Narrow.{IsNarrow, has_one_bit, first_wave};
 
-use mp_events::ToggleWave;
 use mp_netlist::{Netlist, WireId};
+use mp_wave::ToggleWave;
 use std::alloc::{AllocError, Global};
 
 /// Whether each wire of a netlist has width 1.

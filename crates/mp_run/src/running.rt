@@ -10,8 +10,8 @@ ghost use Rattle.mp_run.specs.Stimuli.{rest_of, AreAhead};
 use crate::beginning::begin;
 use crate::stimuli::Stimuli;
 use mp_core::{Simulation, Simulator};
-use mp_events::ToggleWave;
 use mp_netlist::{Netlist, WireId};
+use mp_wave::ToggleWave;
 use std::alloc::{AllocError, Global};
 
 /// The wave of each wire of a netlist up to its horizon, whose wires have width 1: one place per wire number, and none where no wire stands.
@@ -49,7 +49,9 @@ fn finished(
     netlist: &Netlist,
     simulation: Simulation,
 ) -> Result<Vec<Option<ToggleWave>>, AllocError>
-    requires { IsEvaluated netlist.now (netlist.now.horizon - 1) simulation }
+    requires form { IsCircuit netlist.now }
+    requires narrow { IsNarrow netlist.now }
+    requires over { IsEvaluated netlist.now (netlist.now.horizon - 1) simulation }
     ensures { IfOk result (λ waves. AreWavesOf netlist.now waves.items) }
 {
     let Simulation { simulator, .. } = simulation;

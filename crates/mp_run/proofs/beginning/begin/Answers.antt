@@ -4,6 +4,7 @@ use Rattle.mp_events.specs.declared.fanout_entry.FanoutEntry.{FanoutEntry}
 use Rattle.mp_events.specs.declared.output_ports.OutputPorts.{OutputPorts}
 use Rattle.mp_events.specs.Firing.{HaveSlots}
 use Rattle.mp_core.specs.Simulators.{AreBelow}
+use Rattle.mp_run.specs.Numbers.{AreLinks}
 use Rattle.mp_run.specs.Wirings.{AreWired, reading_below}
 use Rattle.mp_run.specs.Settling.{ports_of}
 use Rattle.mp_run.proofs.SettlingLemmas.{have_slots, are_below}
@@ -27,7 +28,8 @@ returns c =
     let wiring = c.in_ok-rows.ensures in
     let rows = c.in_ok-from_rows.ensures ∙ c.as_slice-2.ensures.value in
     let longest : ℕ = d.inputs in
-    begun n ok c.requires.narrow longest _
+    let copies = c.in_ok-new-2.ensures.places in
+    begun n ok c.requires.narrow _
     (record {
       settled = c.in_ok-states.ensures.settled;
       outputs = outputs;
@@ -37,9 +39,10 @@ returns c =
       some = subst (λ k. 0 < k) (sym units) delays.outputs;
       wired = subst (λ (xs : List (List FanoutEntry)). AreWired (length n.wires) (length n.modules) (reading_below n (length n.modules)) xs c.in_ok-rows.field-0.next.items) (sym rows) wiring.wired;
       rows = ap (length {A = List FanoutEntry}) rows ∙ wiring.rows;
-      links = wiring.links longest delays.inputs (λ m r at. (delays.within m r (slot_within n.modules m r at) at).inputs);
+      links = subst (λ k. AreLinks k c.in_ok-rows.field-0.next.items) (sym copies)
+          (wiring.links longest delays.inputs (λ m r at. (delays.within m r (slot_within n.modules m r at) at).inputs));
       waves = c.in_ok-first_waves.ensures;
       due = c.new-2.ensures.items;
-      copies = c.in_ok-new-2.ensures.places;
+      copies = subst (λ k. 0 < k) (sym copies) delays.inputs;
       empty = c.in_ok-new-2.ensures.empty;
     })

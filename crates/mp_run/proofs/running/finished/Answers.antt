@@ -2,6 +2,7 @@ use Rattle.std.proofs.Common.{◌≡◌, ◌+◌, ◌<◌, Option, IsSome, lengt
 use Rattle.std.proofs.lemmas.List.{length_push}
 use Rattle.std.specs.Vec.Iter.{into_iter_items, into_iter_len}
 use Rattle.mp_wave.specs.Waveform.{Waveform}
+use Rattle.mp_run.proofs.NarrowLemmas.{bit_level}
 use Rattle.mp_run.proofs.RunLemmas.{one_item, one_wave, waves_more, all_waves}
 use Rattle.mp_run.proofs.running.finished.Goals as goal
 
@@ -16,7 +17,7 @@ loop-w-preserved c =
     let some : IsSome c.next.result = c.next.ensures.variant.1 some_left in
     let one = one_item c.next.result some in
     let less = c.next.ensures.len in
-    let first = one_wave n c.args.simulation w (into_iter_items c.loop-w.rest) (into_iter_items c.next.new.self) c.next.result c.requires low before.left c.next.ensures.items some in
+    let first = one_wave n c.args.simulation w (into_iter_items c.loop-w.rest) (into_iter_items c.next.new.self) c.next.result c.requires.over (bit_level n c.requires.form c.requires.narrow w) low before.left c.next.ensures.items some in
     record {
       left = first.1;
       long = omega arith;

@@ -1,23 +1,23 @@
-use Rattle.std.proofs.Common.{◌<◌, ◌++◌, ◌∙◌, length, All, refl, sym, subst}
+use Rattle.std.proofs.Common.{◌≡◌, ◌<◌, ◌++◌, ◌∙◌, List, ℕ, length, All, refl, sym, ap, subst}
 use Rattle.mp_events.specs.Adding.{AreAdded, IsAdding}
 use Rattle.mp_events.specs.Toggling.{entries_from, CanToggle}
 use Rattle.mp_events.proofs.AddingLemmas.{front, back}
 use Rattle.mp_core.specs.Simulators.{next_slot}
-use Rattle.mp_core.proofs.ApplyLemmas.{wires_are, is_applied, all_waved, all_rowed, applied_sound, applied}
+use Rattle.mp_core.proofs.ApplyLemmas.{is_applied, all_waved, all_rowed, applied_sound, applied}
 use Rattle.mp_core.proofs.simulator.Simulator.apply_events.Goals as goal
 
 pub toggle_wires-requires-clause-waves : goal.toggle_wires-requires-clause-waves
 toggle_wires-requires-clause-waves c =
     let s = c.args.self.now in
     let set = c.args.set.now in
-    let same = wires_are s.wheel c.take_slot-slot.result set c.as_slice.result.now c.take_slot-slot.new.self c.take_slot-slot.ensures (c.as_slice.ensures ∙ c.in_ok-extend_from_slice.ensures) in
+    let same : c.as_slice.result.now ≡ next_slot s ++ set = c.as_slice.ensures ∙ c.in_ok-extend_from_slice.ensures ∙ ap (λ (xs : List ℕ). xs ++ set) c.turn.ensures.present in
     subst (λ ws. All (λ w. w < length s.waves.items) ws) (sym same) (all_waved s set c.requires.sound c.requires.fit.waved)
 
 pub toggle_wires-requires-clause-rows : goal.toggle_wires-requires-clause-rows
 toggle_wires-requires-clause-rows c =
     let s = c.args.self.now in
     let set = c.args.set.now in
-    let same = wires_are s.wheel c.take_slot-slot.result set c.as_slice.result.now c.take_slot-slot.new.self c.take_slot-slot.ensures (c.as_slice.ensures ∙ c.in_ok-extend_from_slice.ensures) in
+    let same : c.as_slice.result.now ≡ next_slot s ++ set = c.as_slice.ensures ∙ c.in_ok-extend_from_slice.ensures ∙ ap (λ (xs : List ℕ). xs ++ set) c.turn.ensures.present in
     subst (λ ws. All (λ w. w < length s.fanout) ws) (sym same)
     (all_rowed s (next_slot s ++ set) c.requires.sound (all_waved s set c.requires.sound c.requires.fit.waved))
 
@@ -25,14 +25,14 @@ pub toggle_wires-requires-clause-over : goal.toggle_wires-requires-clause-over
 toggle_wires-requires-clause-over c =
     let s = c.args.self.now in
     let set = c.args.set.now in
-    let same = wires_are s.wheel c.take_slot-slot.result set c.as_slice.result.now c.take_slot-slot.new.self c.take_slot-slot.ensures (c.as_slice.ensures ∙ c.in_ok-extend_from_slice.ensures) in
+    let same : c.as_slice.result.now ≡ next_slot s ++ set = c.as_slice.ensures ∙ c.in_ok-extend_from_slice.ensures ∙ ap (λ (xs : List ℕ). xs ++ set) c.turn.ensures.present in
     subst (λ ws. CanToggle s.waves.items ws c.args.time) (sym same) c.requires.fit.over
 
 pub toggle_wires-requires-clause-adding : goal.toggle_wires-requires-clause-adding
 toggle_wires-requires-clause-adding c =
     let s = c.args.self.now in
     let set = c.args.set.now in
-    let same = wires_are s.wheel c.take_slot-slot.result set c.as_slice.result.now c.take_slot-slot.new.self c.take_slot-slot.ensures (c.as_slice.ensures ∙ c.in_ok-extend_from_slice.ensures) in
+    let same : c.as_slice.result.now ≡ next_slot s ++ set = c.as_slice.ensures ∙ c.in_ok-extend_from_slice.ensures ∙ ap (λ (xs : List ℕ). xs ++ set) c.turn.ensures.present in
     subst (λ ws. IsAdding s.states.items s.due.items (entries_from s.fanout ws)) (sym same)
     (front s.states.items s.due.items (entries_from s.fanout (next_slot s ++ set)) (entries_from s.fanout c.args.others.now) c.requires.fit.adding)
 
@@ -40,7 +40,7 @@ pub add_fanout_events-requires-clause-adding : goal.add_fanout_events-requires-c
 add_fanout_events-requires-clause-adding c =
     let s = c.args.self.now in
     let set = c.args.set.now in
-    let same = wires_are s.wheel c.take_slot-slot.result set c.as_slice.result.now c.take_slot-slot.new.self c.take_slot-slot.ensures (c.as_slice.ensures ∙ c.in_ok-extend_from_slice.ensures) in
+    let same : c.as_slice.result.now ≡ next_slot s ++ set = c.as_slice.ensures ∙ c.in_ok-extend_from_slice.ensures ∙ ap (λ (xs : List ℕ). xs ++ set) c.turn.ensures.present in
     let e = c.in_ok-toggle_wires.ensures in
     let states = c.toggle_wires.new.states.items in
     back s.states.items states s.due.items c.toggle_wires.new.due.items (entries_from s.fanout (next_slot s ++ set)) (entries_from s.fanout c.args.others.now) c.requires.fit.adding
@@ -50,21 +50,21 @@ pub returns-clause-sound : goal.returns-clause-sound
 returns-clause-sound c =
     let s = c.args.self.now in
     let set = c.args.set.now in
+    let same : c.as_slice.result.now ≡ next_slot s ++ set = c.as_slice.ensures ∙ c.in_ok-extend_from_slice.ensures ∙ ap (λ (xs : List ℕ). xs ++ set) c.turn.ensures.present in
     let e = c.in_ok-toggle_wires.ensures in
     let f = c.in_ok-add_fanout_events.ensures in
     applied_sound s _ set c.args.others.now c.args.time c.requires.sound c.requires.fit
-    (is_applied s _ set c.args.others.now c.as_slice.result.now c.args.time c.take_slot-slot.result c.take_slot-slot.new.self c.toggle_wires.new.states.items
-    c.take_slot-slot.ensures (c.as_slice.ensures ∙ c.in_ok-extend_from_slice.ensures) c.in_ok-return_slot.ensures refl refl
-    e.added f.added f.adding (f.places ∙ e.places) e.waves)
+    (is_applied s _ set c.args.others.now c.as_slice.result.now c.args.time c.toggle_wires.new.states.items
+    same c.turn.ensures.turned refl refl e.added f.added f.adding (f.places ∙ e.places) e.waves)
 
 pub returns-clause-applied : goal.returns-clause-applied
 returns-clause-applied c n scope t ok now before due =
     let s = c.args.self.now in
     let set = c.args.set.now in
+    let same : c.as_slice.result.now ≡ next_slot s ++ set = c.as_slice.ensures ∙ c.in_ok-extend_from_slice.ensures ∙ ap (λ (xs : List ℕ). xs ++ set) c.turn.ensures.present in
     let e = c.in_ok-toggle_wires.ensures in
     let f = c.in_ok-add_fanout_events.ensures in
     applied s _ set c.args.others.now c.args.time c.requires.sound c.requires.fit
-    (is_applied s _ set c.args.others.now c.as_slice.result.now c.args.time c.take_slot-slot.result c.take_slot-slot.new.self c.toggle_wires.new.states.items
-    c.take_slot-slot.ensures (c.as_slice.ensures ∙ c.in_ok-extend_from_slice.ensures) c.in_ok-return_slot.ensures refl refl
-    e.added f.added f.adding (f.places ∙ e.places) e.waves)
+    (is_applied s _ set c.args.others.now c.as_slice.result.now c.args.time c.toggle_wires.new.states.items
+    same c.turn.ensures.turned refl refl e.added f.added f.adding (f.places ∙ e.places) e.waves)
     n ok scope t now before due

@@ -1,0 +1,3 @@
+mod WheelLemmas
+mod LevelLemmas
+mod FiringLemmas

@@ -1,0 +1,4 @@
+pub mod Levels
+pub mod LevelWheels
+pub mod DataModules
+pub mod DataFiring

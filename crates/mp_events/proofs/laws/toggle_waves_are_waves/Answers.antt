@@ -1,5 +1,0 @@
-use Rattle.mp_events.proofs.ToggleWaveLemmas.{toggle_waves_are_waves}
-use Rattle.mp_events.proofs.laws.toggle_waves_are_waves.Goals as goal
-
-pub returns : goal.returns
-returns c = toggle_waves_are_waves
