@@ -1,7 +1,10 @@
 pub mod DecimalLemmas
 pub mod DigitLemmas
 pub mod LengthLemmas
+pub mod OnWayLemmas
+pub mod ToggleLemmas
 pub mod LineLemmas
+pub mod PlaceOfLemmas
 pub mod WordLemmas
 pub mod WordListLemmas
 pub mod DivisionLemmas

@@ -28,12 +28,22 @@ impl Piece for Change {
 
 /// Writes the number from a place on, in decimal digits, and returns where they end.
 #[inline]
-fn write_number(number: u64, room: &mut [u8], at: usize) -> usize
+pub(crate) fn write_number(number: u64, room: &mut [u8], at: usize) -> usize
     requires { at + 20 ≤ length room.old }
     ensures placed { IsPlaced room.old room.new at (decimal number) result }
     ensures short { result ≤ at + 20 }
 {
-    let end = at + digit_count(number);
+    write_counted(number, digit_count(number), room, at)
+}
+
+/// Writes the number, which has so many decimal digits, from a place on, and returns where they end.
+#[inline(always)]
+pub(crate) fn write_counted(number: u64, digits: usize, room: &mut [u8], at: usize) -> usize
+    requires count { digits ≡ length (decimal number) }
+    requires within { at + digits ≤ length room.old }
+    ensures { IsPlaced room.old room.new at (decimal number) result }
+{
+    let end = at + digits;
     write_digits(number, room, end);
     end
 }

@@ -42,7 +42,12 @@ pub fn is_plain(line: &[u8]) -> bool
     ensures value { result ≡ list_all is_allowed line.now }
     ensures ascii { IsTrue result → IsAscii line.now }
 {
-    line.iter().all(|byte| is_allowed(*byte))
+    let mut plain = true;
+    for byte in line {
+        // each byte is looked at, so that many are at once
+        plain &= is_allowed(*byte);
+    }
+    plain
 }
 
 fn is_allowed(byte: u8) -> bool

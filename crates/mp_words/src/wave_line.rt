@@ -1,6 +1,5 @@
-//! Lines of waves.
-ghost use Rattle.mp_streams.specs.Outgoing.{Writes};
-ghost use Rattle.mp_words.specs.WaveLines.{changes_text, wave_line};
+//! Changes of waves.
+ghost use Rattle.mp_words.specs.WaveLines.{changes_text};
 
 use crate::change::Change;
 use mp_streams::{Failed, Out, Sink, Text};
@@ -20,17 +19,4 @@ impl<'a> Text for Changes<'a> {
         }
         Ok(())
     }
-}
-
-/// Writes a wire's line: its name, its first level, ` T=V` for each change, and a line feed.
-/// `Failed` is as that of `Out::put_bytes`.
-pub fn put_wave_line<S: Sink>(
-    out: &mut Out<S>,
-    name: &str,
-    initial: u64,
-    changes: &[(u32, u64)],
-) -> Result<(), Failed>
-    ensures { Writes result out.old out.new (wave_line name.now initial changes.now) }
-{
-    (name, " ", initial, (Changes { changes }, "\n")).put_to(out)
 }

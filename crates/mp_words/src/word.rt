@@ -4,6 +4,7 @@ ghost use Rattle.std.specs.List.{find, slice_split};
 ghost use Rattle.std.specs.Option.{option_copied};
 ghost use Rattle.mp_words.specs.Words.{words_of, texts, is_gap, is_word, statement_part, AreAscii};
 
+use memchr::memchr;
 use mp_records::Name;
 use std::alloc::{AllocError, Global};
 
@@ -65,7 +66,7 @@ pub fn place_of(byte: u8, bytes: &[u8]) -> Option<usize>
     ensures place { result ≡ position (λ b. b == byte) bytes.now }
     ensures within { IfSome result (λ at. at < length bytes.now) }
 {
-    bytes.iter().position(|b| *b == byte)
+    memchr(byte, bytes)
 }
 
 /// A word of ASCII bytes as a name. The error comes where memory is wanting.

@@ -1,0 +1,89 @@
+-- Changes of a level that toggles.
+use Rattle.std.proofs.Common.{◌≡◌, ℕ, ◌+◌, ◌-◌, ◌<◌, ◌≤◌, List, [], ◌∷◌, ◌++◌, append_assoc, append-nil, add-one, decimal, drop, get_or, length, refl, sym, ap, subst, ◌∙◌, arith}
+use Rattle.std.proofs.Math.ListN.{set, length-set, drop_of_length-le}
+use Rattle.std.proofs.Math.Seq.{drop-cons}
+use Rattle.std.proofs.lemmas.Fmt.{decimal_digit}
+use Rattle.std.proofs.lemmas.List.Concat.{flat_map-append}
+use Rattle.mp_streams.specs.Places.{IsPlaced}
+use Rattle.mp_streams.proofs.PlaceLemmas.{placed_byte, placed_both}
+use Rattle.mp_wave.specs.ToggleWaves.{toggle_changes}
+use Rattle.mp_words.specs.WaveLines.{change_text, changes_text}
+
+-- a space, a time, an equals sign and a level of one digit are a change
+pub toggle_placed : (time level : ℕ) (room timed : List ℕ) (at sign : ℕ) → level ≤ 1 → at < length room → IsPlaced (set room at 32) timed (at + 1) (decimal time) sign →
+    sign + 1 < length timed → IsPlaced room (set (set timed sign 61) (sign + 1) (48 + level)) at (change_text (time, level)) (sign + 2)
+toggle_placed time level room timed at sign low within placed room_left =
+    let equals = placed_byte timed sign 61 (omega arith) in
+    let one = placed_byte (set timed sign 61) (sign + 1) (48 + level) (omega (arith, length-set timed sign 61)) in
+    let all = placed_both (placed_both (placed_both (placed_byte room at 32 within) placed) equals) one in
+    let digit : decimal level ≡ (48 + level) ∷ [] = decimal_digit level (omega arith) in
+    let text : (((32 ∷ []) ++ decimal time) ++ (61 ∷ [])) ++ ((48 + level) ∷ []) ≡ change_text (time, level) =
+    append_assoc ((32 ∷ []) ++ decimal time) (61 ∷ []) ((48 + level) ∷ []) ∙ ap (λ l. (32 ∷ decimal time) ++ (61 ∷ l)) (sym digit) in
+    let end : sign + 1 + 1 ≡ sign + 2 = omega arith in
+    subst (λ e. IsPlaced room (set (set timed sign 61) (sign + 1) (48 + level)) at (change_text (time, level)) e) end
+    (subst (λ t. IsPlaced room (set (set timed sign 61) (sign + 1) (48 + level)) at t (sign + 1 + 1)) text all)
+
+dropped : (times : List ℕ) (i next : ℕ) → next ≡ i + 1 → i < length times → drop i times ≡ get_or times i 0 ∷ drop next times
+dropped times i next is within = rw (is, add-one, drop-cons times i 0) refl
+
+-- the times from a place on are four, and those behind them
+dropped_four : (times : List ℕ) (i : ℕ) → i + 4 ≤ length times →
+    drop i times ≡ get_or times i 0 ∷ get_or times (i + 1) 0 ∷ get_or times (i + 2) 0 ∷ get_or times (i + 3) 0 ∷ drop (i + 4) times
+dropped_four times i within =
+    let one = dropped times i (i + 1) refl (omega arith) in
+    let two = dropped times (i + 1) (i + 2) (omega arith) (omega arith) in
+    let three = dropped times (i + 2) (i + 3) (omega arith) (omega arith) in
+    let four = dropped times (i + 3) (i + 4) (omega arith) (omega arith) in
+    cc
+
+-- the changes at four times, and at those behind them
+pub four_more : (level one two three four : ℕ) (others : List ℕ) → level ≤ 1 →
+    changes_text (toggle_changes level (one ∷ two ∷ three ∷ four ∷ others)) ≡
+    changes_text (toggle_changes level (one ∷ two ∷ three ∷ four ∷ [])) ++ changes_text (toggle_changes level others)
+four_more level one two three four others low =
+    let same : 1 - (1 - (1 - (1 - level))) ≡ level = omega arith in
+    let front = toggle_changes level (one ∷ two ∷ three ∷ four ∷ []) in
+    ap (λ l. changes_text (front ++ toggle_changes l others)) same ∙ flat_map-append change_text front (toggle_changes level others)
+
+-- the same from a place on
+pub four_from : (level : ℕ) (times : List ℕ) (i : ℕ) → level ≤ 1 → i + 4 ≤ length times →
+    changes_text (toggle_changes level (drop i times)) ≡
+    changes_text (toggle_changes level (get_or times i 0 ∷ get_or times (i + 1) 0 ∷ get_or times (i + 2) 0 ∷ get_or times (i + 3) 0 ∷ []))
+    ++ changes_text (toggle_changes level (drop (i + 4) times))
+four_from level times i low within =
+    ap (λ l. changes_text (toggle_changes level l)) (dropped_four times i within)
+    ∙ four_more level (get_or times i 0) (get_or times (i + 1) 0) (get_or times (i + 2) 0) (get_or times (i + 3) 0) (drop (i + 4) times) low
+
+-- one change, and those behind it
+pub one_from : (level next : ℕ) (times : List ℕ) (i : ℕ) → next ≡ 1 - level → i < length times →
+    changes_text (toggle_changes level (drop i times)) ≡ change_text (get_or times i 0, next) ++ changes_text (toggle_changes next (drop (i + 1) times))
+one_from level next times i is within =
+    ap (λ l. changes_text (toggle_changes level l)) (dropped times i (i + 1) refl within)
+    ∙ ap (λ l. change_text (get_or times i 0, l) ++ changes_text (toggle_changes l (drop (i + 1) times))) (sym is)
+
+-- behind the last place there is none
+pub none_from : (level : ℕ) (times : List ℕ) (i : ℕ) → length times ≤ i → changes_text (toggle_changes level (drop i times)) ≡ []
+none_from level times i over = ap (λ l. changes_text (toggle_changes level l)) (drop_of_length-le times over)
+
+-- from any level on the changes are those from 0 or 1 on
+pub from_low : (level low : ℕ) (times : List ℕ) → 1 - low ≡ 1 - level → toggle_changes low times ≡ toggle_changes level times
+from_low level low [] same = refl
+from_low level low (time ∷ times) same = ap (λ l. (time, l) ∷ toggle_changes l times) same
+
+four_texts : (a b c d : List ℕ) → ((a ++ b) ++ c) ++ d ≡ a ++ (b ++ (c ++ (d ++ [])))
+four_texts a b c d = simp (append_assoc, append-nil)
+
+module _ (level one two three four : ℕ) (low : level ≤ 1) where
+  by_turns : toggle_changes level (one ∷ two ∷ three ∷ four ∷ []) ≡ (one, 1 - level) ∷ (two, level) ∷ (three, 1 - level) ∷ (four, level) ∷ []
+  by_turns =
+      let second : 1 - (1 - level) ≡ level = omega arith in
+      rw (second, second) refl
+
+  -- four changes, one behind the other
+  pub four_placed : (a b c d e : List ℕ) (at i j k end : ℕ) → IsPlaced a b at (change_text (one, 1 - level)) i → IsPlaced b c i (change_text (two, level)) j
+      → IsPlaced c d j (change_text (three, 1 - level)) k → IsPlaced d e k (change_text (four, level)) end
+      → IsPlaced a e at (changes_text (toggle_changes level (one ∷ two ∷ three ∷ four ∷ []))) end
+  four_placed a b c d e at i j k end p q r s =
+      let all = placed_both (placed_both (placed_both p q) r) s in
+      let text = four_texts (change_text (one, 1 - level)) (change_text (two, level)) (change_text (three, 1 - level)) (change_text (four, level)) ∙ sym (ap changes_text by_turns) in
+      subst (λ t. IsPlaced a e at t end) text all

@@ -1,0 +1,8 @@
+use Rattle.std.proofs.Common.{◌≡◌, take}
+use Rattle.std.specs.List.{list_all}
+use Rattle.mp_words.specs.Lines.{is_allowed}
+use Rattle.mp_words.proofs.line.is_plain.Given as goal
+
+-- the bytes so far are told
+abbrev pub invariant-loop-byte : goal.invariant-loop-byte
+invariant-loop-byte l = l.plain ≡ list_all is_allowed (take l.byte-index l.line)

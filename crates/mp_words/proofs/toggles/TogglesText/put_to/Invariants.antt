@@ -1,0 +1,12 @@
+use Rattle.std.proofs.Common.{◌-◌, ◌≤◌, drop, length}
+use Rattle.mp_wave.specs.ToggleWaves.{toggle_changes}
+use Rattle.mp_words.specs.WaveLines.{changes_text}
+use Rattle.mp_words.proofs.OnWayLemmas.{IsOnWay}
+use Rattle.mp_words.proofs.toggles.TogglesText.put_to.Given as goal
+
+-- what is left to write are the changes from a place on
+abbrev pub invariant-loop-place : goal.invariant-loop-place
+invariant-loop-place g l = (l.place ≤ length l.times) × IsOnWay l.fn.out l.out (changes_text (toggle_changes l.level l.times)) (changes_text (toggle_changes l.level (drop l.place l.times)))
+
+abbrev pub decreases-loop-place : goal.decreases-loop-place
+decreases-loop-place g l = length l.times - l.place

@@ -1,0 +1,9 @@
+use Rattle.std.proofs.Common.{drop}
+use Rattle.mp_wave.specs.ToggleWaves.{toggle_changes}
+use Rattle.mp_words.specs.WaveLines.{changes_text}
+use Rattle.mp_words.proofs.OnWayLemmas.{IsOnWay}
+use Rattle.mp_words.proofs.toggles.put_few.Given as goal
+
+-- what is left to write are the changes at the times that are left
+abbrev pub invariant-loop-time : goal.invariant-loop-time
+invariant-loop-time g l = IsOnWay l.fn.out l.out (changes_text (toggle_changes l.fn.level l.times)) (changes_text (toggle_changes l.level (drop l.time-index l.times)))
