@@ -14,7 +14,8 @@ use Rattle.mp_words.proofs.PartLemmas.{parts_of-split, parts_of-one}
 use Rattle.mp_version.specs.Stories.{Story, present}
 use Rattle.mp_meeting.specs.declared.tally.Tally.{Tally}
 use Rattle.mp_meeting.specs.Meetings.{IsMeeting}
-use Rattle.mp_commands.specs.Desks.{blocks_of, lines_from, met_text, IsDeskText}
+use Rattle.mp_commands.specs.Desks.{blocks_of, met_text, IsDeskText}
+use Rattle.mp_commands.specs.NumberedLines.{lines_from}
 
 -- ---- lines, place by place
 

@@ -1,6 +1,7 @@
 -- The reply to a line that was read.
-use Rattle.std.proofs.Common.{◌≡◌, ◌⊎◌, inl, inr, ℕ, Bool, true, false, ◌&&◌, List, Result, Ok, Err, IsErrAnd, OnOk, refl, sym, ap, subst, ◌∙◌, true≢false}
+use Rattle.std.proofs.Common.{◌≡◌, ◌⊎◌, inl, inr, ℕ, ◌+◌, Bool, true, false, ◌&&◌, List, [], ◌∷◌, length, Result, Ok, Err, IsErrAnd, OnOk, refl, sym, ap, subst, ◌∙◌, true≢false}
 use Rattle.std.specs.Prelude.{if◌then◌else◌}
+use Rattle.std.proofs.lemmas.List.{length-append}
 use Rattle.mp_records.specs.declared.edit.Edit.{Edit}
 use Rattle.mp_records.specs.declared.edit.Edit.TheVariants.{Single, Batch}
 use Rattle.mp_records.specs.declared.edit_error.EditError.{EditError}
@@ -20,18 +21,19 @@ use Rattle.mp_streams.specs.declared.failed.Failed.{Failed}
 use Rattle.mp_streams.specs.declared.write_error.WriteError.{WriteError}
 use Rattle.mp_streams.specs.declared.write_error.WriteError.TheVariants as writes
 use Rattle.mp_streams.proofs.OutLemmas.{puts_unmade}
-use Rattle.mp_commands.specs.Keepers.{Kept, counted_edit, judged, IsOneMore, IsKeptAfter}
+use Rattle.mp_version.specs.Stories.{counted_edit}
+use Rattle.mp_commands.specs.Keepers.{Kept, judged, IsOneMore, IsKeptAfter}
 use Rattle.mp_commands.specs.Replies.{IsNext, IsKeptNext, accepted_text, refused_text, outcome, edit_text, answer_text, unread_text, PutsEdit, PutsReply}
 
 -- ---- what becomes of an edit
 
 module _ {S : Type 0} (r : Result (Unit {0}) Failed) (a b : Outgoing S) (old new : Kept) (edit : Edit) where
-  kept_after : (wanting : Bool) (made : Result Circuit EditError) → outcome wanting old edit ≡ made → IsKeptAfter old made new → outs.Writes r a b (edit_text old made) → PutsEdit r a b old new edit
+  kept_after : (wanting : Bool) (made : Result Circuit EditError) → outcome wanting old edit ≡ made → IsKeptAfter old edit made new → outs.Writes r a b (edit_text old made) → PutsEdit r a b old new edit
   kept_after wanting made is kept put = (wanting, rw is kept, rw is put)
 
   -- an accepted edit
-  pub edit_accepted : (accepted : ℕ) → judged old edit ≡ Ok new.netlist → IsOneMore old new → accepted ≡ new.accepted → outs.Writes r a b (accepted_text accepted) → PutsEdit r a b old new edit
-  edit_accepted accepted is more counted put = kept_after false (Ok new.netlist) is (refl, more) (subst (outs.Writes r a b) (ap accepted_text (counted ∙ more.count)) put)
+  pub edit_accepted : (accepted : ℕ) → judged old edit ≡ Ok new.netlist → IsOneMore old edit new → accepted ≡ length new.edits → outs.Writes r a b (accepted_text accepted) → PutsEdit r a b old new edit
+  edit_accepted accepted is more counted put = kept_after false (Ok new.netlist) is (refl, more) (subst (outs.Writes r a b) (ap accepted_text (counted ∙ ap length more.edits ∙ length-append old.edits (edit ∷ []))) put)
 
   -- a refused edit
   pub edit_refused : (error : EditError) → RefusedBy edit (judged old edit) error → new ≡ old → outs.Writes r a b (refused_text error) → PutsEdit r a b old new edit
@@ -41,15 +43,15 @@ module _ {S : Type 0} (r : Result (Unit {0}) Failed) (a b : Outgoing S) (old new
       kept_after true (Err edits.OutOfMemory) is stays (subst (outs.Writes r a b) (ap refused_text wanting.0) put)
 
 -- where the memory for an edit was wanting, nothing is changed, whether or not it would be accepted
-wanting_keeps : (old : Kept) (edit : Edit) → IsKeptAfter old (outcome true old edit) old
+wanting_keeps : (old : Kept) (edit : Edit) → IsKeptAfter old edit (outcome true old edit) old
 wanting_keeps old (Single edit) = by (judged old (Single edit))
   where
-    by : (r : Result Circuit EditError) → IsKeptAfter old (if true && may_want (Single edit) r then Err edits.OutOfMemory else r) old
+    by : (r : Result Circuit EditError) → IsKeptAfter old (Single edit) (if true && may_want (Single edit) r then Err edits.OutOfMemory else r) old
     by (Ok n) = refl
     by (Err error) = refl
 wanting_keeps old (Batch several) = by (is_batch several)
   where
-    by : (b : Bool) → IsKeptAfter old (if true && b then Err edits.OutOfMemory else counted_edit old (if b then after_each 1 old.netlist several else Err edits.BadBatch)) old
+    by : (b : Bool) → IsKeptAfter old (Batch several) (if true && b then Err edits.OutOfMemory else counted_edit old.edits (if b then after_each 1 old.netlist several else Err edits.BadBatch)) old
     by true = refl
     by false = refl
 
@@ -75,7 +77,7 @@ on_ok (Err error) holds = tt
 
 module _ {S : Type 0} (r : Result (Unit {0}) WriteError) (a b : Outgoing S) (kept : Kept) where
   -- an edit
-  pub change_replied : (now : Kept) (edit : Edit) (wanting : Bool) → IsKeptAfter kept (outcome wanting kept edit) now
+  pub change_replied : (now : Kept) (edit : Edit) (wanting : Bool) → IsKeptAfter kept edit (outcome wanting kept edit) now
       → Writes r a b (edit_text kept (outcome wanting kept edit)) → PutsReply r a b kept now (Ok (Change edit))
   change_replied now edit wanting after put = (wanting, now, after, put, on_ok r refl)
 

@@ -1,5 +1,5 @@
 -- What `desk` writes for its input.
-use Rattle.std.specs.Prelude.{◌≡◌, ℕ, ◌+◌, Bool, List, [], ◌∷◌, ◌++◌, length, drop, Ok, ◌&&◌, codes}
+use Rattle.std.specs.Prelude.{◌≡◌, ℕ, Bool, List, [], ◌∷◌, ◌++◌, length, drop, Ok, ◌&&◌, codes}
 use Rattle.std.specs.Fmt.{decimal}
 use Rattle.mp_netlist.specs.Circuit.{Circuit}
 use Rattle.mp_netlist.specs.Replays.{replay}
@@ -11,6 +11,7 @@ use Rattle.mp_meeting.specs.declared.tally.Tally.{Tally}
 use Rattle.mp_meeting.specs.Meetings.{IsMeeting}
 use Rattle.mp_commands.specs.declared.options.Options.{Options}
 use Rattle.mp_commands.specs.OptionLimits.{has_valid_crew}
+use Rattle.mp_commands.specs.NumberedLines.{lines_from}
 use Rattle.mp_commands.specs.Outputs.{waves_text}
 
 -- the blocks of an input, one behind each division
@@ -28,11 +29,6 @@ tally_line j tally = codes "designer " ++ (decimal j ++ (codes " accepted " ++ (
 -- `viewer J saw N`
 abbrev pub viewer_line : ℕ → ℕ → List ℕ
 viewer_line j number = codes "viewer " ++ (decimal j ++ (codes " saw " ++ (decimal number ++ (10 ∷ []))))
-
--- a line for each thing, counted from this number
-abbrev pub lines_from : {X : Type 0} → (ℕ → X → List ℕ) → ℕ → List X → List ℕ
-lines_from line j [] = []
-lines_from line j (x ∷ xs) = line j x ++ lines_from line (j + 1) xs
 
 -- the lines of a meeting that led to this netlist
 abbrev pub met_text : List Tally → List ℕ → Circuit → List ℕ

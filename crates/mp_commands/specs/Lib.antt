@@ -7,8 +7,11 @@ pub mod Pictures
 pub mod Chains
 pub mod Openings
 pub mod Runs
+pub mod NumberedLines
+pub mod EditAnswers
 pub mod Keepers
 pub mod Replies
 pub mod Plays
+pub mod MadeAgain
 pub mod Desks
 pub mod WorkLines

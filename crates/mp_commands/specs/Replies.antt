@@ -1,5 +1,5 @@
 -- What the lines of a script are answered.
-use Rattle.std.specs.Prelude.{◌≡◌, ℕ, ◌+◌, Bool, List, [], ◌∷◌, ◌++◌, Option, Some, None, Result, Ok, Err, ◌&&◌, if◌then◌else◌, codes, unwrap_or, OnOk}
+use Rattle.std.specs.Prelude.{◌≡◌, ℕ, ◌+◌, ◌-◌, Bool, List, [], ◌∷◌, ◌++◌, length, Option, Some, None, Result, Ok, Err, ◌&&◌, nat_le, if◌then◌else◌, codes, unwrap_or, OnOk}
 use Rattle.std.specs.Fmt.{decimal}
 use Rattle.mp_records.specs.declared.edit.Edit.{Edit}
 use Rattle.mp_records.specs.declared.edit_error.EditError.{EditError}
@@ -13,10 +13,11 @@ use Rattle.mp_timing.specs.Waits.{waits}
 use Rattle.mp_timing.specs.Measures.{measure}
 use Rattle.mp_vcd.specs.Dumps.{dump}
 use Rattle.mp_words.specs.declared.line_error.LineError.{LineError}
+use Rattle.mp_words.specs.declared.line_error.LineError.TheVariants.{BadNumber}
 use Rattle.mp_text.specs.declared.script_line.Line.{Line}
 use Rattle.mp_text.specs.declared.script_line.Line.TheVariants.{Empty, Change, Ask}
 use Rattle.mp_text.specs.declared.question.Question.{Question}
-use Rattle.mp_text.specs.declared.question.Question.TheVariants.{Wave, Waves, Text, Report, Dump, Work, Show, Why, Path, Waits, Measure, Graph}
+use Rattle.mp_text.specs.declared.question.Question.TheVariants.{Wave, Waves, Text, Report, Dump, Work, Show, Why, Path, Waits, Measure, Graph, Version, Edits}
 use Rattle.mp_words.specs.LineErrors.{line_number_of, line_name_of}
 use Rattle.mp_text.specs.ScriptLines.{line_at}
 use Rattle.mp_text.specs.Written.{written}
@@ -34,6 +35,7 @@ use Rattle.mp_commands.specs.Pictures.{picture_text}
 use Rattle.mp_commands.specs.Chains.{why_of, path_of}
 use Rattle.mp_commands.specs.Outputs.{slot_line, waves_text}
 use Rattle.mp_commands.specs.WorkLines.{work_text}
+use Rattle.mp_commands.specs.EditAnswers.{edits_from}
 use Rattle.mp_commands.specs.Keepers.{Kept, judged, IsKeptAfter}
 
 -- `accepted` and how many edits were
@@ -64,7 +66,7 @@ outcome wanting kept edit = if wanting && may_want edit (judged kept edit) then 
 -- the reply to an edit
 abbrev pub edit_text : Kept → Result Circuit EditError → List ℕ
 edit_text kept (Err error) = refused_text error
-edit_text kept (Ok n) = accepted_text (kept.accepted + 1)
+edit_text kept (Ok n) = accepted_text (length kept.edits + 1)
 
 -- the line of a wire, where it stands
 abbrev pub wire_text : Circuit → Option ℕ → List ℕ
@@ -75,6 +77,18 @@ wire_text n (Some w) = slot_line (wire_at n w) (wave n w)
 abbrev pub asked_text : Option ℕ → List ℕ → List ℕ
 asked_text None text = text
 asked_text (Some place) text = refused_text NoSuchWire
+
+-- `version` and how many edits were accepted
+abbrev pub version_text : ℕ → List ℕ
+version_text number = codes "version " ++ (decimal number ++ (10 ∷ []))
+
+-- whether accepted edits have this number, or the next one will have it
+abbrev pub is_edit_number : List Edit → ℕ → Bool
+is_edit_number edits number = nat_le 1 number && nat_le number (length edits + 1)
+
+-- the accepted edits from a number on
+abbrev pub edits_text : List Edit → ℕ → List ℕ
+edits_text edits from = if is_edit_number edits from then edits_from edits (from - 1) else unread_text BadNumber
 
 -- the answer to a question
 abbrev pub answer_text : Kept → Question → List ℕ
@@ -90,6 +104,8 @@ answer_text kept (Measure from to) = measure kept.netlist from to
 answer_text kept (Why wire time steps) = asked_text (missing_at kept.netlist (wire ∷ [])) (why_of kept.netlist wire time steps)
 answer_text kept (Path wire time) = asked_text (missing_at kept.netlist (wire ∷ [])) (path_of kept.netlist wire time)
 answer_text kept Graph = graph kept.netlist
+answer_text kept Version = version_text (length kept.edits)
+answer_text kept (Edits from) = edits_text kept.edits from
 
 -- the reply to a line that was read or not: a line without words has none
 abbrev pub reply_to : Bool → Kept → Result Line LineError → List ℕ
@@ -100,7 +116,7 @@ reply_to wanting kept (Err error) = unread_text error
 
 -- what is kept after a line: only an edit changes it
 abbrev pub IsKeptNext : Bool → Kept → Result Line LineError → Kept → Type 0
-IsKeptNext wanting old (Ok (Change edit)) new = IsKeptAfter old (outcome wanting old edit) new
+IsKeptNext wanting old (Ok (Change edit)) new = IsKeptAfter old edit (outcome wanting old edit) new
 IsKeptNext wanting old line new = new ≡ old
 
 -- the reply to a line, and what is kept after it
@@ -113,7 +129,7 @@ IsNext wanting old line new = IsKeptNext wanting old (line_at line) new
 -- an edit was made or refused, and the reply to it was written, or a part of it
 abbrev pub PutsEdit : {S : Type 0} → Result (Unit {0}) Failed → Outgoing S → Outgoing S → Kept → Kept → Edit → Type 0
 PutsEdit result old new kept now edit =
-    (wanting : Bool) × IsKeptAfter kept (outcome wanting kept edit) now × Sends result old new (edit_text kept (outcome wanting kept edit))
+    (wanting : Bool) × IsKeptAfter kept edit (outcome wanting kept edit) now × Sends result old new (edit_text kept (outcome wanting kept edit))
 
 -- the reply to a line that was read or not was written, or a part of it
 abbrev pub PutsReply : {S : Type 0} → Result (Unit {0}) WriteError → Outgoing S → Outgoing S → Kept → Kept → Result Line LineError → Type 0

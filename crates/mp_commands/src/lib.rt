@@ -1,15 +1,18 @@
 //! What each command reads and writes.
 #![tactic(auto)]
 
+mod answers;
 mod asked_picture;
 mod asked_wires;
 mod command;
 mod desk;
 mod drawing;
 mod dump_text;
+mod edit_answers;
 mod evaluated;
 mod graph_text;
 mod keeper;
+pub mod laws;
 mod limits;
 mod measure_lines;
 mod met_lines;
@@ -21,12 +24,14 @@ mod play;
 mod replies;
 mod report_lines;
 mod run_fault;
+mod snapshot;
 mod view;
 mod wait_lines;
 mod wave_lines;
 mod why_lines;
 mod work_lines;
 
+pub use answers::put_answer;
 pub use asked_picture::{AskedPicture, MAX_COLUMNS, USUAL_COLUMNS};
 pub use command::{Command, run_command};
 pub use desk::Desk;
@@ -45,9 +50,10 @@ pub use options::Options;
 pub use path_lines::PathLines;
 pub use picture_text::PictureText;
 pub use play::Play;
-pub use replies::put_reply;
+pub use replies::{put_refused, put_reply, put_unread};
 pub use report_lines::ReportLines;
 pub use run_fault::{RunFault, exit_status, fault_line};
+pub use snapshot::Snapshot;
 pub use view::{View, Viewed};
 pub use wait_lines::WaitLines;
 pub use wave_lines::WaveLines;

@@ -3,7 +3,8 @@ ghost use Rattle.std.specs.Prelude.{◌≡◌, ◌+◌, ◌-◌, ◌^◌, ◌<�
 ghost use Rattle.mp_netlist.specs.Replays.{replay};
 ghost use Rattle.mp_version.specs.Stories.{present};
 ghost use Rattle.mp_streams.specs.Outgoing.{Writes};
-ghost use Rattle.mp_commands.specs.Desks.{tally_line, viewer_line, lines_from, met_text};
+ghost use Rattle.mp_commands.specs.Desks.{tally_line, viewer_line, met_text};
+ghost use Rattle.mp_commands.specs.NumberedLines.{lines_from};
 
 use crate::evaluated::Evaluated;
 use crate::wave_lines::put_lines;

@@ -13,9 +13,9 @@ use crate::evaluated::Evaluated;
 use crate::opening::opened;
 use crate::options::Options;
 use crate::run_fault::RunFault;
-use mp_engine::{OpenGate, evaluate};
 use mp_netlist::Netlist;
 use mp_phase::Crew;
+use mp_simulate::find_waves;
 use mp_streams::{Out, Sink, WriteError};
 use std::alloc::Global;
 use std::sync::Wait;
@@ -90,10 +90,10 @@ impl<V: View> Command for Viewed<V> {
         if let Some(place) = view.missing(&netlist) {
             return Err(RunFault::NoSuchWire(place));
         }
-        let run = evaluate(rt, alloc, &netlist, &crew, &OpenGate)?;
+        let waves = find_waves(rt, alloc, &netlist, &crew)?;
         let of = Evaluated {
             netlist: &netlist,
-            waves: run.waves(),
+            waves: &waves,
             crew,
         };
         Ok(view.put(rt, alloc, out, &of)?)

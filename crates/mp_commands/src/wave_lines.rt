@@ -8,10 +8,31 @@ ghost use Rattle.mp_commands.specs.Outputs.{slot_line, waves_text};
 use crate::evaluated::Evaluated;
 use crate::view::View;
 use mp_netlist::{Netlist, WireId};
-use mp_streams::{Failed, Out, Sink, WriteError};
-use mp_words::put_wave_line;
+use mp_streams::{Failed, Out, Sink, Text, WriteError};
+use mp_wave::WaveChanges;
+use mp_words::{Changes, Toggles};
 use std::alloc::Global;
 use std::thread::Threads;
+
+/// Changes of a wave, each written as ` T=V`.
+#[derive(Clone, Copy)]
+struct WrittenChanges<'a> {
+    changes: WaveChanges<'a>,
+}
+
+impl<'a> Text for WrittenChanges<'a> {
+    ghost use Rattle.mp_wave.specs.WaveChanges.{changes_in};
+    ghost use Rattle.mp_words.specs.WaveLines.{changes_text};
+
+    ghost text = { λ written. changes_text (changes_in written.changes) };
+
+    fn put_to<S: Sink>(&self, out: &mut Out<S>) -> Result<(), Failed> {
+        match self.changes {
+            WaveChanges::Toggles { level, times } => Toggles { level, times }.put_to(out),
+            WaveChanges::Pairs(changes) => Changes { changes }.put_to(out),
+        }
+    }
+}
 
 /// The line of each wire that stands, by number.
 #[derive(Drop)]
@@ -60,5 +81,8 @@ pub fn put_slot_line<T: Sink>(
     let Some(wave) = of.waves.of(id) else {
         return Ok(());
     };
-    put_wave_line(out, wire.name.as_str(), wave.initial(), wave.changes())
+    let changes = WrittenChanges {
+        changes: wave.changes(),
+    };
+    (wire.name.as_str(), " ", wave.initial(), (changes, "\n")).put_to(out)
 }

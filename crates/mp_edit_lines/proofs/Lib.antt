@@ -1,4 +1,8 @@
 mod JoinedLemmas
 mod PieceLemmas
-mod PlainWordLemmas
+mod WholeWordLemmas
+mod EditWordLemmas
 mod ReadBackLemmas
+mod BatchLemmas
+mod SaidLemmas
+mod AcceptedLemmas

@@ -1,12 +1,12 @@
 -- The texts of edits are read as the edits.
-use Rattle.std.proofs.Common.{◌≡◌, ℕ, Bool, true, false, cond, ◌==◌, ◌&&◌, List, [], ◌∷◌, ◌++◌, length, map, Option, Some, None, Result, Ok, decimal, refl, sym, ap, ◌∙◌, arith}
+use Rattle.std.proofs.Common.{◌≡◌, ℕ, ◌<◌, Bool, true, false, cond, ◌==◌, ◌&&◌, List, [], ◌∷◌, ◌++◌, length, map, All, Option, Some, None, Result, Ok, decimal, refl, sym, ap, ◌∙◌, arith}
 use Rattle.std.specs.Prelude.{codes, nat_le, IfSome}
 use Rattle.std.specs.Char.{is_ascii_alphabetic}
 use Rattle.std.specs.List.{list_all}
 use Rattle.std.proofs.lemmas.Bool.{eqb-true}
 use Rattle.std.proofs.lemmas.Bool.Decides.{nat_tests}
 use Rattle.std.proofs.lemmas.List.{append-nil, map-id}
-use Rattle.std.proofs.lemmas.List.Elements.{All-weaker}
+use Rattle.std.proofs.lemmas.List.Elements.{All-head, All-tail, All-weaker}
 use Rattle.mp_records.specs.declared.edit.Edit.TheVariants as edits
 use Rattle.mp_records.specs.declared.port_names.InputName.{InputName}
 use Rattle.mp_records.specs.declared.port_names.OutputName.{OutputName}
@@ -17,7 +17,7 @@ use Rattle.mp_records.specs.Names.{is_name, is_name_byte, begins_with_letter}
 use Rattle.mp_words.specs.declared.line_error.LineError.{LineError}
 use Rattle.mp_words.specs.WordLists.{change_word, input_word, output_word, wire_or_none}
 use Rattle.mp_words.specs.WaveLines.{pair_text}
-use Rattle.mp_words.proofs.PlainLemmas.{IsPlain, IsPlain-decimal, IsPlain-name, both}
+use Rattle.mp_words.proofs.PlainLemmas.{IsPlain, IsPlain-name, both}
 use Rattle.mp_words.proofs.ReadBackLemmas.{number_back, change_back, input_back, late_input_back, no_wire_back, wire_back}
 use Rattle.mp_text.specs.declared.edit_word.EditWord.TheVariants as words
 use Rattle.mp_text.specs.declared.script_line.Line.TheVariants.{Change}
@@ -28,17 +28,19 @@ use Rattle.mp_text.specs.ScriptLines.{line_of, line_at, stated_line}
 use Rattle.mp_text.specs.Written.{delay_text}
 use Rattle.mp_text.proofs.StatementBackLemmas.{wire_stated, bundle_stated, stimulus_stated, module_stated, name_no_greater}
 use Rattle.mp_text.proofs.WrittenLineLemmas.{line_words-spaced}
-use Rattle.mp_edit_lines.specs.EditLines.{joined, wire_word, input_text, output_text, module_words}
-use Rattle.mp_edit_lines.specs.ReadBack.{IsName, IsLow, IsInputSaid, IsOutputSaid, IsModuleSaid, IsReadAsWritten}
+use Rattle.mp_edit_lines.specs.EditLines.{joined, wire_word, input_text, output_text, module_words, edit_words}
+use Rattle.mp_edit_lines.specs.ReadBack.{IsName, IsLow, IsInputSaid, IsOutputSaid, IsModuleSaid, IsSaid, IsReadAsWritten}
 use Rattle.mp_edit_lines.proofs.JoinedLemmas.{joined-spaced}
-use Rattle.mp_edit_lines.proofs.PlainWordLemmas.{ArePlain, more, none, plain_one, plain_two, plain_three, plain_wire, plain_module, plain_changes}
+use Rattle.mp_edit_lines.proofs.WholeWordLemmas.{IsWhole, IsPlain-whole}
+use Rattle.mp_edit_lines.proofs.EditWordLemmas.{whole_words}
 
 -- plain words are read as themselves
-read_words : (first : List ℕ) (rest : List (List ℕ)) → IsPlain first → ArePlain rest → line_at (joined (first ∷ rest)) ≡ line_of (first ∷ rest)
+pub read_words : (ws : List (List ℕ)) → 0 < length ws → All IsPlain ws → line_at (joined ws) ≡ line_of ws
 unfolding line_at
-read_words first rest plain all =
+read_words [] some plain = absurd (omega (arith, some))
+read_words (first ∷ rest) some plain =
     let text = joined-spaced first rest in
-    let read = line_words-spaced first rest plain all in
+    let read = line_words-spaced first rest (All-head IsPlain first rest plain) (All-tail IsPlain first rest plain) in
     rw text (rw read refl)
 
 -- ---- ports
@@ -147,37 +149,29 @@ wire_back_at (Some wire) name = not_dash wire name
 
 -- ---- all of them
 
+-- the words of an edit say the edit
+pub words_read : (edit : SingleEdit) → IsSaid edit → line_of (edit_words edit) ≡ Ok (Change (edits.Single edit))
+words_read (AddWire name width level) said = wire_line (name ∷ decimal width ∷ decimal level ∷ []) (AddWire name width level) (wire_stated name width level said.1 said.2)
+words_read (RemoveWire wire) said = remove_wire_line wire
+words_read (AddModule new) said = module_line (module_words new) (AddModule new) (module_said new said)
+words_read (RemoveModule part) said = remove_module_line part
+words_read (AddBundle new) said = bundle_line (new.name ∷ new.request ∷ new.acknowledge ∷ new.payload ∷ decimal new.setup ∷ []) (AddBundle new) (bundle_stated new said.setup)
+words_read (RemoveBundle bundle) said = remove_bundle_line bundle
+words_read (RewireInput part port wire) said = input_line part port wire said.1
+words_read (RewireOutput part port wire) said = output_line part port wire said.1 (wire_back_at wire said.2)
+words_read (SetInputDelay part port delay) said = input_delay_line part port delay said.1 said.2
+words_read (SetDelay part port delay) said = delay_line part port delay said.1 said.2
+words_read (SetStimulus wire changes) said =
+    stimulus_line (wire ∷ map pair_text changes) (SetStimulus wire changes) (stimulus_stated wire changes (All-weaker (λ (change : ℕ × ℕ). IsLow change.0 × IsLow change.1) (λ change. change_word (pair_text change) ≡ Ok change) (λ change low. change_back change low.0 low.1) changes said.1))
+words_read (ClearStimulus wire) said = clear_line wire
+
+pub some_edit_words : (edit : SingleEdit) → 0 < length (edit_words edit)
+some_edit_words (AddWire name width level) = omega arith
+some_edit_words _ = omega arith
+
+-- each word of an edit has no gap
+pub plain_words : (edit : SingleEdit) → IsSaid edit → All IsPlain (edit_words edit)
+plain_words edit said = All-weaker IsWhole IsPlain IsPlain-whole (edit_words edit) (whole_words edit said)
+
 pub read_as_written : IsReadAsWritten
-read_as_written (AddWire name width level) said =
-    read_words (codes "wire") (name ∷ decimal width ∷ decimal level ∷ []) (record { some = omega arith; plain = refl }) (plain_three name (decimal width) (decimal level) (IsPlain-name name said.0) (IsPlain-decimal width said.1) (IsPlain-decimal level said.2))
-    ∙ wire_line (name ∷ decimal width ∷ decimal level ∷ []) (AddWire name width level) (wire_stated name width level said.1 said.2)
-read_as_written (RemoveWire wire) said =
-    read_words (codes "remove") (codes "wire" ∷ wire ∷ []) (record { some = omega arith; plain = refl }) (plain_two (codes "wire") wire (record { some = omega arith; plain = refl }) (IsPlain-name wire said)) ∙ remove_wire_line wire
-read_as_written (AddModule new) said =
-    read_words (codes "module") (module_words new) (record { some = omega arith; plain = refl }) (plain_module new said) ∙ module_line (module_words new) (AddModule new) (module_said new said)
-read_as_written (RemoveModule part) said =
-    read_words (codes "remove") (codes "module" ∷ part ∷ []) (record { some = omega arith; plain = refl }) (plain_two (codes "module") part (record { some = omega arith; plain = refl }) (IsPlain-name part said)) ∙ remove_module_line part
-read_as_written (AddBundle new) said =
-    read_words (codes "bundle") (new.name ∷ new.request ∷ new.acknowledge ∷ new.payload ∷ decimal new.setup ∷ []) (record { some = omega arith; plain = refl })
-    (more new.name (new.request ∷ new.acknowledge ∷ new.payload ∷ decimal new.setup ∷ []) (IsPlain-name new.name said.name) (more new.request (new.acknowledge ∷ new.payload ∷ decimal new.setup ∷ []) (IsPlain-name new.request said.request)
-    (plain_three new.acknowledge new.payload (decimal new.setup) (IsPlain-name new.acknowledge said.acknowledge) (IsPlain-name new.payload said.payload) (IsPlain-decimal new.setup said.setup))))
-    ∙ bundle_line (new.name ∷ new.request ∷ new.acknowledge ∷ new.payload ∷ decimal new.setup ∷ []) (AddBundle new) (bundle_stated new said.setup)
-read_as_written (RemoveBundle bundle) said =
-    read_words (codes "remove") (codes "bundle" ∷ bundle ∷ []) (record { some = omega arith; plain = refl }) (plain_two (codes "bundle") bundle (record { some = omega arith; plain = refl }) (IsPlain-name bundle said)) ∙ remove_bundle_line bundle
-read_as_written (RewireInput part port wire) said =
-    read_words (codes "input") (part ∷ decimal port ∷ wire ∷ []) (record { some = omega arith; plain = refl }) (plain_three part (decimal port) wire (IsPlain-name part said.0) (IsPlain-decimal port said.1) (IsPlain-name wire said.2))
-    ∙ input_line part port wire said.1
-read_as_written (RewireOutput part port wire) said =
-    read_words (codes "output") (part ∷ decimal port ∷ wire_word wire ∷ []) (record { some = omega arith; plain = refl }) (plain_three part (decimal port) (wire_word wire) (IsPlain-name part said.0) (IsPlain-decimal port said.1) (plain_wire wire said.2))
-    ∙ output_line part port wire said.1 (wire_back_at wire said.2)
-read_as_written (SetInputDelay part port delay) said =
-    read_words (codes "indelay") (part ∷ decimal port ∷ decimal delay ∷ []) (record { some = omega arith; plain = refl }) (plain_three part (decimal port) (decimal delay) (IsPlain-name part said.0) (IsPlain-decimal port said.1) (IsPlain-decimal delay said.2))
-    ∙ input_delay_line part port delay said.1 said.2
-read_as_written (SetDelay part port delay) said =
-    read_words (codes "delay") (part ∷ decimal port ∷ decimal delay ∷ []) (record { some = omega arith; plain = refl }) (plain_three part (decimal port) (decimal delay) (IsPlain-name part said.0) (IsPlain-decimal port said.1) (IsPlain-decimal delay said.2))
-    ∙ delay_line part port delay said.1 said.2
-read_as_written (SetStimulus wire changes) said =
-    read_words (codes "stim") (wire ∷ map pair_text changes) (record { some = omega arith; plain = refl }) (plain_changes wire changes said.0 said.1)
-    ∙ stimulus_line (wire ∷ map pair_text changes) (SetStimulus wire changes) (stimulus_stated wire changes (All-weaker (λ (change : ℕ × ℕ). IsLow change.0 × IsLow change.1) (λ change. change_word (pair_text change) ≡ Ok change) (λ change low. change_back change low.0 low.1) changes said.1))
-read_as_written (ClearStimulus wire) said =
-    read_words (codes "clear") (wire ∷ []) (record { some = omega arith; plain = refl }) (plain_one wire (IsPlain-name wire said)) ∙ clear_line wire
+read_as_written edit said = read_words (edit_words edit) (some_edit_words edit) (plain_words edit said) ∙ words_read edit said

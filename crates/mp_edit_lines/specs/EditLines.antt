@@ -65,12 +65,16 @@ stimulus_text wire changes = joined (codes "stim" ∷ wire ∷ map pair_text cha
 abbrev pub behind_text : SingleEdit → List ℕ
 behind_text edit = codes " ; " ++ single_text edit
 
--- the line of a batch, whose edits are divided by `;`
-abbrev pub batch_line : List SingleEdit → List ℕ
-batch_line [] = codes "batch" ++ (10 ∷ [])
-batch_line (first ∷ others) = (codes "batch " ++ single_text first) ++ (flat_map behind_text others ++ (10 ∷ []))
+-- what makes a batch, whose edits are divided by `;`
+abbrev pub batch_text : List SingleEdit → List ℕ
+batch_text [] = codes "batch"
+batch_text (first ∷ others) = (codes "batch " ++ single_text first) ++ flat_map behind_text others
 
--- the line of a script that makes an edit
-abbrev pub edit_line : Edit → List ℕ
-edit_line (Single edit) = single_text edit ++ (10 ∷ [])
-edit_line (Batch edits) = batch_line edits
+-- the line of a script that makes an edit, without its line feed
+abbrev pub edit_text : Edit → List ℕ
+edit_text (Single edit) = single_text edit
+edit_text (Batch edits) = batch_text edits
+
+-- such a line for each edit
+abbrev pub edit_lines : List Edit → List ℕ
+edit_lines edits = flat_map (λ edit. edit_text edit ++ (10 ∷ [])) edits

@@ -1,8 +1,8 @@
 //! Lines of edits that are read and written again.
 use crate::devices::SmallWriter;
-use mp_edit_lines::put_edit;
+use mp_edit_lines::EditText;
 use mp_records::Edit;
-use mp_streams::{Out, Sink, WriteSink};
+use mp_streams::{Out, Sink, Text, WriteSink};
 use mp_text::{Line, read_line};
 use std::alloc::Global;
 
@@ -45,7 +45,7 @@ fn line_of(alloc: Global, edit: &Edit) -> Option<Vec<u8>> {
         room: 1000,
     };
     let mut out = Out::new(alloc, WriteSink::new(writer)).ok()?;
-    put_edit(&mut out, edit).ok()?;
+    EditText { edit }.put_to(&mut out).ok()?;
     out.flush().ok()?;
     Some(out.into_sink().into_inner().taken)
 }
@@ -54,7 +54,7 @@ fn line_of(alloc: Global, edit: &Edit) -> Option<Vec<u8>> {
 fn stands(alloc: Global, line: &str) -> bool {
     let written = edit_of(alloc, line).and_then(|edit| line_of(alloc, &edit));
     match written {
-        Some(written) => written.as_slice().strip_suffix(b"\n".as_slice()) == Some(line.as_bytes()),
+        Some(written) => written.as_slice() == line.as_bytes(),
         None => false,
     }
 }

@@ -18,7 +18,7 @@ use Rattle.mp_text.specs.declared.single_word.SingleWord.TheVariants.{Stated, Re
 use Rattle.mp_text.specs.declared.line_word.LineWord.{LineWord}
 use Rattle.mp_text.specs.declared.line_word.LineWord.TheVariants.{Single, Batch, Question}
 use Rattle.mp_text.specs.declared.question_word.QuestionWord.{QuestionWord}
-use Rattle.mp_text.specs.declared.question_word.QuestionWord.TheVariants.{Wave, Waves, Text, Report, Dump, Work, Show, Why, Path, Waits, Measure, Graph}
+use Rattle.mp_text.specs.declared.question_word.QuestionWord.TheVariants.{Wave, Waves, Text, Report, Dump, Work, Show, Why, Path, Waits, Measure, Graph, Version, Edits}
 use Rattle.mp_text.specs.declared.script_line.Line.{Line}
 use Rattle.mp_text.specs.declared.script_line.Line.TheVariants.{Empty}
 use Rattle.mp_text.specs.declared.question.Question.{Question as Asked}
@@ -27,7 +27,7 @@ use Rattle.mp_text.specs.Statements.{is_mark, wire_edit, module_edit, parts_edit
 use Rattle.mp_text.specs.SingleEdits.{single_edit, removal, input_edit, output_edit, input_delay_edit, delay_edit, clearing}
 use Rattle.mp_text.specs.Batches.{part_edit, each_part}
 use Rattle.mp_text.specs.ScriptLines.{line_word, stated_line, single_line, question_line, line_of, line_at}
-use Rattle.mp_text.specs.Questions.{stated_question, wave_question, bare_question, show_question, why_question, path_question, waits_question, measure_question}
+use Rattle.mp_text.specs.Questions.{stated_question, wave_question, bare_question, show_question, why_question, path_question, waits_question, measure_question, edits_question}
 use Rattle.mp_text.specs.LineStarts.{statement_takes, single_takes, question_takes, takes, is_taken, is_begun, HasForm}
 
 abbrev Words : Type 0
@@ -133,7 +133,7 @@ not_range (a ∷ []) few = refl
 not_range (a ∷ b ∷ words) few = absurd (omega (arith, leb-false 2 _ few))
 
 question_refused : (first : QuestionWord) (words : Words) → question_takes first (length words) ≡ false → stated_question first words ≡ Err WordCount
-unfolding stated_question wave_question path_question waits_question measure_question
+unfolding stated_question wave_question path_question waits_question measure_question edits_question
 question_refused Wave words wrong = not_one wave_question refl (λ a b ws. refl) words wrong
 question_refused Waves words wrong = bare_refused questions.Waves words wrong
 question_refused Text words wrong = bare_refused questions.Text words wrong
@@ -146,6 +146,8 @@ question_refused Path words wrong = not_two path_question refl (λ a. refl) (λ 
 question_refused Waits words wrong = not_one waits_question refl (λ a b ws. refl) words wrong
 question_refused Measure words wrong = not_two measure_question refl (λ a. refl) (λ a b c ws. refl) words wrong
 question_refused Graph words wrong = bare_refused questions.Graph words wrong
+question_refused Version words wrong = bare_refused questions.Version words wrong
+question_refused Edits words wrong = not_one edits_question refl (λ a b ws. refl) words wrong
 
 -- a first word with another number of words behind it than it takes
 refused_by_count : (first : LineWord) (words : Words) → takes first (length words) ≡ false → stated_line first words ≡ Err WordCount

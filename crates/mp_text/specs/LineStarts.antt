@@ -10,7 +10,7 @@ use Rattle.mp_text.specs.declared.single_word.SingleWord.TheVariants.{Stated, Re
 use Rattle.mp_text.specs.declared.line_word.LineWord.{LineWord}
 use Rattle.mp_text.specs.declared.line_word.LineWord.TheVariants.{Single, Batch, Question}
 use Rattle.mp_text.specs.declared.question_word.QuestionWord.{QuestionWord}
-use Rattle.mp_text.specs.declared.question_word.QuestionWord.TheVariants.{Wave, Waves, Text, Report, Dump, Work, Show, Why, Path, Waits, Measure, Graph}
+use Rattle.mp_text.specs.declared.question_word.QuestionWord.TheVariants.{Wave, Waves, Text, Report, Dump, Work, Show, Why, Path, Waits, Measure, Graph, Version, Edits}
 use Rattle.mp_text.specs.ScriptLines.{line_word}
 
 -- whether so many words may stand behind the first word of a statement
@@ -44,6 +44,8 @@ question_takes Path count = count == 2
 question_takes Waits count = count == 1
 question_takes Measure count = count == 2
 question_takes Graph count = count == 0
+question_takes Version count = count == 0
+question_takes Edits count = count == 1
 
 -- whether so many words may stand behind the first word of a line
 abbrev pub takes : LineWord → ℕ → Bool

@@ -8,7 +8,7 @@ use Rattle.mp_words.specs.WordLists.{number_word}
 use Rattle.mp_text.specs.declared.question.Question.{Question}
 use Rattle.mp_text.specs.declared.question.Question.TheVariants as questions
 use Rattle.mp_text.specs.declared.question_word.QuestionWord.{QuestionWord}
-use Rattle.mp_text.specs.declared.question_word.QuestionWord.TheVariants.{Wave, Waves, Text, Report, Dump, Work, Show, Why, Path, Waits, Measure, Graph}
+use Rattle.mp_text.specs.declared.question_word.QuestionWord.TheVariants.{Wave, Waves, Text, Report, Dump, Work, Show, Why, Path, Waits, Measure, Graph, Version, Edits}
 use Rattle.mp_text.specs.Limits.{max_steps, usual_steps}
 
 -- the question of the words behind `wave`
@@ -73,6 +73,13 @@ measure_question (from ∷ to ∷ []) = do
   Ok (questions.Measure f t)
 measure_question _ = Err WordCount
 
+-- the question of the words behind `edits`
+unfoldable pub edits_question : List (List ℕ) → Result Question LineError
+edits_question (from ∷ []) = do
+  f ← number_word from
+  Ok (questions.Edits f)
+edits_question _ = Err WordCount
+
 -- the first word of a question
 abbrev pub question_word : List ℕ → Option QuestionWord
 question_word word =
@@ -88,7 +95,9 @@ question_word word =
     else (if bytes_eq word (codes "waits") then Some Waits
     else (if bytes_eq word (codes "measure") then Some Measure
     else (if bytes_eq word (codes "graph") then Some Graph
-    else None)))))))))))
+    else (if bytes_eq word (codes "version") then Some Version
+    else (if bytes_eq word (codes "edits") then Some Edits
+    else None)))))))))))))
 
 -- the question of that word and the words behind it
 unfoldable pub stated_question : QuestionWord → List (List ℕ) → Result Question LineError
@@ -104,3 +113,5 @@ stated_question Path words = path_question words
 stated_question Waits words = waits_question words
 stated_question Measure words = measure_question words
 stated_question Graph words = bare_question questions.Graph words
+stated_question Version words = bare_question questions.Version words
+stated_question Edits words = edits_question words

@@ -45,4 +45,10 @@ pub enum Question {
     },
     /// The netlist as a graph.
     Graph,
+    /// How many edits were accepted.
+    Version,
+    /// The accepted edits from this place on, the first being 1.
+    Edits {
+        from: u64,
+    },
 }

@@ -27,6 +27,10 @@ pub enum QuestionWord {
     Measure,
     /// `graph`
     Graph,
+    /// `version`
+    Version,
+    /// `edits`
+    Edits,
 }
 
 impl QuestionWord {
@@ -62,6 +66,10 @@ impl QuestionWord {
             Some(QuestionWord::Measure)
         } else if word == b"graph".as_slice() {
             Some(QuestionWord::Graph)
+        } else if word == b"version".as_slice() {
+            Some(QuestionWord::Version)
+        } else if word == b"edits".as_slice() {
+            Some(QuestionWord::Edits)
         } else {
             None
         }
@@ -72,7 +80,7 @@ impl QuestionWord {
         ensures { result ≡ question_takes self count }
     {
         match self {
-            QuestionWord::Wave | QuestionWord::Waits => count == 1,
+            QuestionWord::Wave | QuestionWord::Waits | QuestionWord::Edits => count == 1,
             QuestionWord::Path | QuestionWord::Measure => count == 2,
             QuestionWord::Why => count == 2 || count == 3,
             QuestionWord::Show => count >= 2,
@@ -81,7 +89,8 @@ impl QuestionWord {
             | QuestionWord::Report
             | QuestionWord::Dump
             | QuestionWord::Work
-            | QuestionWord::Graph => count == 0,
+            | QuestionWord::Graph
+            | QuestionWord::Version => count == 0,
         }
     }
 }

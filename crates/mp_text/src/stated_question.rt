@@ -3,7 +3,7 @@ ghost use Rattle.std.specs.Prelude.{◌≡◌, IfOk, IsAscii};
 ghost use Rattle.mp_words.specs.declared.line_error.LineError.TheVariants.{OutOfMemory};
 ghost use Rattle.mp_words.specs.Reads.{Gives};
 ghost use Rattle.mp_words.specs.Words.{texts, AreAscii};
-ghost use Rattle.mp_text.specs.Questions.{stated_question, wave_question, bare_question, show_question, why_question, path_question, waits_question, measure_question, steps_word, chain_question, chain_steps};
+ghost use Rattle.mp_text.specs.Questions.{stated_question, wave_question, bare_question, show_question, why_question, path_question, waits_question, measure_question, edits_question, steps_word, chain_question, chain_steps};
 
 use crate::question::Question;
 use crate::question_word::QuestionWord;
@@ -40,6 +40,8 @@ pub fn stated_question(
         QuestionWord::Waits => waits_question(words),
         QuestionWord::Measure => measure_question(words),
         QuestionWord::Graph => bare_question(Question::Graph, words),
+        QuestionWord::Version => bare_question(Question::Version, words),
+        QuestionWord::Edits => edits_question(words),
     }
 }
 
@@ -182,5 +184,18 @@ fn measure_question(words: &[&[u8]]) -> Result<Question, LineError>
     Ok(Question::Measure {
         from: number_word(from)?,
         to: number_word(to)?,
+    })
+}
+
+/// The question of the words behind `edits`.
+#[tactic(auto, unfolding(crate::specs::Questions::edits_question))]
+fn edits_question(words: &[&[u8]]) -> Result<Question, LineError>
+    ensures { Gives OutOfMemory (λ question. question) result (edits_question (texts words.now)) }
+{
+    let [from] = words else {
+        return Err(LineError::WordCount);
+    };
+    Ok(Question::Edits {
+        from: number_word(from)?,
     })
 }

@@ -11,8 +11,8 @@ returns-in_err-netlist g c =
     let refuses = viewed_refused g.V.View.wires c.args.self.now.view _ c.in_err-netlist.field-0.0 (rw c.crew.ensures at c.in_err-netlist.ensures.refused) in
     refused _ _ _ _ c.from_residual.result c.in_err-netlist.field-0.0 c.from_residual.ensures.1 refuses
 
-pub returns-in_err-run : goal.returns-in_err-run
-returns-in_err-run g c = refused _ _ _ _ c.from_residual-in_err-run.result OutOfMemory c.from_residual-in_err-run.ensures.1 tt
+pub returns-in_err-waves : goal.returns-in_err-waves
+returns-in_err-waves g c = refused _ _ _ _ c.from_residual-in_err-waves.result OutOfMemory c.from_residual-in_err-waves.ensures.1 tt
 
 pub returns-in_err-put : goal.returns-in_err-put
 returns-in_err-put g c =

@@ -1,0 +1,21 @@
+-- The lines of a session's edits make the session again.
+use Rattle.std.specs.Prelude.{◌≡◌, ◌≤◌, ℕ, false, List, [], ◌∷◌, length, Ok}
+use Rattle.mp_records.specs.declared.edit.Edit.{Edit}
+use Rattle.mp_netlist.specs.Circuit.{Circuit, IsCircuit}
+use Rattle.mp_netlist.specs.Replays.{replay}
+use Rattle.mp_version.specs.Limits.{max_edits}
+use Rattle.mp_words.specs.Lines.{lines_of}
+use Rattle.mp_edit_lines.specs.EditLines.{edit_lines}
+use Rattle.mp_commands.specs.Keepers.{Kept, opened}
+use Rattle.mp_commands.specs.Replies.{IsNext}
+
+-- lines lead from what is kept before them to what is kept after them, where memory is wanting for none
+unfoldable pub LeadTo : Kept → List (List ℕ) → Kept → Type 0
+LeadTo kept [] last = last ≡ kept
+LeadTo kept (line ∷ lines) last = (next : Kept) × IsNext false kept line next × LeadTo next lines last
+
+-- where edits lead from one netlist to another, no more of them than a session may have, their lines lead to that netlist by just these edits
+abbrev pub IsMadeAgain : Type 0
+IsMadeAgain =
+    (n m : Circuit) → IsCircuit n → (edits : List Edit) → replay n edits ≡ Ok m → length edits ≤ max_edits
+    → (last : Kept) → LeadTo (opened n) (lines_of (edit_lines edits)) last → (last.netlist ≡ m) × (last.edits ≡ edits)

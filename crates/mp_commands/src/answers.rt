@@ -1,0 +1,140 @@
+//! The answers to questions.
+ghost use Rattle.std.specs.Prelude.{◌≡◌};
+ghost use Rattle.std.specs.Thread.{IsSync};
+ghost use Rattle.mp_netlist.specs.Circuit.{wire_named};
+ghost use Rattle.mp_streams.specs.Outgoing.{Writes};
+ghost use Rattle.mp_streams.specs.WriteErrors.{Writes as WritesAll};
+ghost use Rattle.mp_picture.specs.declared.mark.Charset.TheVariants.{Unicode};
+ghost use Rattle.mp_commands.specs.declared.drawing.Drawing.TheVariants.{Text};
+ghost use Rattle.mp_commands.specs.AskedWires.{missing_at};
+ghost use Rattle.mp_commands.specs.Limits.{usual_columns};
+ghost use Rattle.mp_commands.specs.Replies.{asked_text, wire_text, version_text, edits_text, answer_text};
+
+use crate::asked_picture::{AskedPicture, USUAL_COLUMNS};
+use crate::drawing::Drawing;
+use crate::dump_text::DumpText;
+use crate::edit_answers::put_edits;
+use crate::graph_text::GraphText;
+use crate::measure_lines::MeasureLines;
+use crate::path_lines::PathLines;
+use crate::picture_text::PictureText;
+use crate::replies::{put_refused, put_unread};
+use crate::report_lines::ReportLines;
+use crate::snapshot::Snapshot;
+use crate::view::View;
+use crate::wait_lines::WaitLines;
+use crate::wave_lines::{WaveLines, put_slot_line};
+use crate::why_lines::WhyLines;
+use crate::work_lines::put_work_lines;
+use mp_netlist::{EditError, Name};
+use mp_picture::Charset;
+use mp_streams::{Failed, Out, Sink, Text, WriteError};
+use mp_text::{LineError, Question, WireNames, put_netlist};
+use mp_timing::TimeRange;
+use mp_version::Version;
+use std::alloc::Global;
+use std::thread::Threads;
+
+/// Writes the answer to a question, as it is made: so no answer takes memory for its length.
+pub fn put_answer<R: Threads + Sync, T: Sink>(
+    rt: &R,
+    alloc: Global,
+    out: &mut Out<T>,
+    of: &Snapshot<'_>,
+    question: &Question,
+) -> Result<(), WriteError>
+    ensures { WritesAll result out.old out.new (answer_text of.now question.now) }
+{
+    match question {
+        Question::Wave(name) => Ok(put_wire(out, of, name)?),
+        Question::Waves => WaveLines.put(rt, alloc, out, &of.evaluated()),
+        Question::Text => Ok(put_netlist(out, of.netlist())?),
+        Question::Report => ReportLines.put(rt, alloc, out, &of.evaluated()),
+        Question::Dump => DumpText.put(rt, alloc, out, &of.evaluated()),
+        Question::Work => put_work_lines(out, of.netlist(), of.work),
+        Question::Graph => GraphText.put(rt, alloc, out, &of.evaluated()),
+        Question::Version => Ok(("version ", of.version.number(), "\n").put_to(out)?),
+        Question::Edits { from } => Ok(put_edits_from(out, of.version, *from)?),
+        Question::Show { from, to, wires } => {
+            let view = shown(*from, *to, wires);
+            put_view(rt, alloc, out, of, &view)
+        }
+        Question::Waits { time } => {
+            let view = WaitLines { time: *time };
+            view.put(rt, alloc, out, &of.evaluated())
+        }
+        Question::Measure { from, to } => {
+            let range = TimeRange {
+                from: *from,
+                to: *to,
+            };
+            MeasureLines { range }.put(rt, alloc, out, &of.evaluated())
+        }
+        Question::Why { wire, time, steps } => {
+            let view = WhyLines {
+                wire,
+                time: *time,
+                steps: *steps,
+            };
+            put_view(rt, alloc, out, of, &view)
+        }
+        Question::Path { wire, time } => {
+            let view = PathLines { wire, time: *time };
+            put_view(rt, alloc, out, of, &view)
+        }
+    }
+}
+
+/// The picture that a script asks for.
+fn shown(from: u64, to: u64, wires: &WireNames) -> PictureText<'_>
+    ensures wires { result.asked.wires.now ≡ wires.now }
+    ensures range { (result.asked.from ≡ from) × (result.asked.to ≡ to) }
+    ensures usual { (result.asked.columns ≡ usual_columns) × (result.drawing ≡ Text Unicode) }
+{
+    PictureText {
+        asked: AskedPicture {
+            wires: wires.as_slice(),
+            from,
+            to,
+            columns: USUAL_COLUMNS,
+        },
+        drawing: Drawing::Text(Charset::Unicode),
+    }
+}
+
+/// Writes a view, or that a wire of it doesn't stand.
+fn put_view<R: Threads + Sync, T: Sink, V: View>(
+    rt: &R,
+    alloc: Global,
+    out: &mut Out<T>,
+    of: &Snapshot<'_>,
+    view: &V,
+) -> Result<(), WriteError>
+    requires shared { IsSync R.row }
+    ensures { WritesAll result out.old out.new (asked_text (missing_at of.now.netlist (V.wires view.now)) (V.text view.now of.now.netlist)) }
+{
+    match view.missing(of.netlist()) {
+        None => view.put(rt, alloc, out, &of.evaluated()),
+        Some(_) => Ok(put_refused(out, EditError::NoSuchWire)?),
+    }
+}
+
+/// Writes the line of the wire that has the name.
+fn put_wire<T: Sink>(out: &mut Out<T>, of: &Snapshot<'_>, name: &Name) -> Result<(), Failed>
+    ensures { Writes result out.old out.new (wire_text of.now.netlist (wire_named of.now.netlist name.now)) }
+{
+    match of.netlist().wire_named(name.as_str()) {
+        Some(id) => put_slot_line(out, &of.evaluated(), id),
+        None => put_refused(out, EditError::NoSuchWire),
+    }
+}
+
+/// Writes the accepted edits from a number on, or that this is no number of an edit.
+fn put_edits_from<T: Sink>(out: &mut Out<T>, version: &Version, from: u64) -> Result<(), Failed>
+    ensures { Writes result out.old out.new (edits_text version.now.edits from) }
+{
+    if from < 1 || from > u64::from(version.number()) + 1 {
+        return put_unread(out, LineError::BadNumber);
+    }
+    put_edits(out, version.edits(), (from - 1) as u32)
+}
