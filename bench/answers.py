@@ -70,6 +70,10 @@ def dump(text):
     return of_netlist(text, "dump")
 
 
+def graph(text):
+    return of_netlist(text, "graph")
+
+
 class Keeper:
     """A netlist that is edited, and the work of the last edit that was accepted."""
 

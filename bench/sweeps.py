@@ -17,7 +17,12 @@ LACKING = b"refused 19 OutOfMemory\n"
 # Threads run as they like, so a later request may be met in one run and not in the next: an end is believed after so many runs.
 RUNS_AT_THE_END = 5
 # words that aren't answered from an input, and the rows that have their answers
-ROWS = {("--help",): "help", ("waves", "--workers", "two"): "usage_not_a_number"}
+ROWS = {
+    ("--help",): "help",
+    ("waves", "--workers", "two"): "usage_not_a_number",
+    ("explain",): "explain",
+    ("explain", "flip"): "explain_unknown_word",
+}
 
 
 @functools.cache

@@ -11,7 +11,9 @@ Exit status:
   1  the text or a number was refused
   2  the command line was refused
   3  a read or a write failed
-  4  memory ran out, or a place at a desk was wanting";
+  4  memory ran out, or a place at a desk was wanting
+
+`mpwb explain WORD` tells what a code or a kind of module means, with an example.";
 
 /// What is behind the options of each command: the kinds of module, and what standard error says.
 pub(crate) const FORMS: &str = "\
@@ -219,12 +221,15 @@ and questions:
   waits TIME
   measure FROM TO
   graph
+  version                                   how many edits were accepted
+  edits FROM                                these from number FROM on, from 1
 
 Answers each line in turn: an edit by `accepted N`, N being how many edits were
 accepted so far, or by `refused CODE NAME`, which changes nothing; a question by
 the wire's line, the lines of all wires, the present netlist, its report, its
-value change dump, what was evaluated for the last edit, or what the command of
-the same name writes; and a line that can't be read by `unread CODE NAME`.";
+value change dump, what was evaluated for the last edit, what the command of the
+same name writes, `version N`, or a line `N EDIT` for each accepted edit; and a
+line that can't be read by `unread CODE NAME`.";
 
 /// What `desk` does.
 pub(crate) const DESK: &str = "Has designers edit a netlist at the same time, while viewers read";
@@ -243,3 +248,20 @@ Writes `designer J accepted A refused B` for each designer, where a line that
 is no edit counts as refused; then `viewer J saw N` for each viewer, N being how
 many accepted edits the version had that it read last, after it was told of
 them all; and then the lines of all wires.";
+
+/// What `explain` does.
+pub(crate) const EXPLAIN: &str = "Tells what a code or a kind of module means";
+
+/// What `explain` reads and writes.
+pub(crate) const EXPLAIN_LONG: &str = "\
+Tells what a code or a kind of module means.
+
+Reads no netlist. WORD is the number or the name of a code, as 13 or
+AlreadyDriven, or a kind of module, as C. Without it a line is written for each
+code and each kind: what it is a code of, its number and its name.
+
+There are codes of a netlist's text and of a script's lines, of edits that are
+refused, and of findings. Writes when the code comes, an example with what the
+program answers, and what to do about it. A number may be that of several codes,
+and all are written. Of a kind its parameters, its ports and its table are
+written, what may be found at it, and an example.";

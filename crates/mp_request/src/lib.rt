@@ -1,6 +1,7 @@
 //! What the program is asked for: the words of its command line, read by `clap`.
 #![tactic(auto)]
 
+mod asked;
 mod help;
 mod parser;
 mod picture_words;
@@ -8,7 +9,8 @@ mod reading;
 mod request;
 mod telling;
 
+pub use asked::Asked;
 pub use picture_words::PictureWords;
-pub use reading::read_words;
+pub use reading::{read_words, unknown_word};
 pub use request::{Command, Request};
 pub use telling::{TellError, tell};

@@ -1,67 +1,65 @@
 //! The commands and their options, as `clap` parses them.
 use crate::help::{
-    ABOUT, DESK, DESK_LONG, DUMP, DUMP_LONG, FORMS, GRAPH, GRAPH_LONG, MEASURE, MEASURE_LONG, PATH,
-    PATH_LONG, PLAY, PLAY_LONG, REPORT, REPORT_LONG, SHOW, SHOW_LONG, STATUS, WAITS, WAITS_LONG,
-    WAVES, WAVES_LONG, WHY, WHY_LONG,
+    ABOUT, DESK, DESK_LONG, DUMP, DUMP_LONG, EXPLAIN, EXPLAIN_LONG, FORMS, GRAPH, GRAPH_LONG,
+    MEASURE, MEASURE_LONG, PATH, PATH_LONG, PLAY, PLAY_LONG, REPORT, REPORT_LONG, SHOW, SHOW_LONG,
+    STATUS, WAITS, WAITS_LONG, WAVES, WAVES_LONG, WHY, WHY_LONG,
 };
 use clap::{Arg, ArgAction, Command as Parser, value_parser};
 use std::alloc::{AllocError, Global};
 
 /// The parser of all words.
 pub(crate) fn parser<'a>(alloc: Global) -> Result<Parser<'a>, AllocError> {
-    Parser::new(alloc, "mpwb")
-        .bin_name("mpwb")?
-        .version("0.1.0")
-        .about(ABOUT)
-        .after_help(STATUS)
-        .subcommand_required(true)
-        .subcommand(command(alloc, "waves", WAVES, WAVES_LONG)?)?
-        .subcommand(command(alloc, "report", REPORT, REPORT_LONG)?)?
-        .subcommand(command(alloc, "dump", DUMP, DUMP_LONG)?)?
-        .subcommand(show(alloc)?)?
-        .subcommand(why(alloc)?)?
-        .subcommand(path(alloc)?)?
-        .subcommand(waits(alloc)?)?
-        .subcommand(measure(alloc)?)?
-        .subcommand(command(alloc, "graph", GRAPH, GRAPH_LONG)?)?
-        .subcommand(command(alloc, "play", PLAY, PLAY_LONG)?)?
-        .subcommand(desk(alloc)?)
+    let parser = program(alloc)?;
+    let parser = with(parser, command(alloc, "waves", WAVES, WAVES_LONG))?;
+    let parser = with(parser, command(alloc, "report", REPORT, REPORT_LONG))?;
+    let parser = with(parser, command(alloc, "dump", DUMP, DUMP_LONG))?;
+    let parser = with(parser, show(alloc))?;
+    let parser = with(parser, why(alloc))?;
+    let parser = with(parser, path(alloc))?;
+    let parser = with(parser, waits(alloc))?;
+    let parser = with(parser, measure(alloc))?;
+    let parser = with(parser, command(alloc, "graph", GRAPH, GRAPH_LONG))?;
+    let parser = with(parser, command(alloc, "play", PLAY, PLAY_LONG))?;
+    let parser = with(parser, desk(alloc))?;
+    with(parser, explain(alloc))
+}
+
+/// The program, with no command yet.
+fn program<'a>(alloc: Global) -> Result<Parser<'a>, AllocError> {
+    let parser = Parser::new(alloc, "mpwb").bin_name("mpwb")?;
+    Ok(
+        parser
+            .version("0.1.0")
+            .about(ABOUT)
+            .after_help(STATUS)
+            .subcommand_required(true),
+    )
+}
+
+/// The parser with one more command, where there was memory for that.
+fn with<'a>(
+    parser: Parser<'a>,
+    command: Result<Parser<'a>, AllocError>,
+) -> Result<Parser<'a>, AllocError> {
+    parser.subcommand(command?)
 }
 
 /// The command with viewers.
 fn desk<'a>(alloc: Global) -> Result<Parser<'a>, AllocError> {
-    let viewers = number(alloc, "viewers")
-        .default_value("2")
-        .help("How many viewers there are, 1 to 32");
-    command(alloc, "desk", DESK, DESK_LONG)?.arg(viewers)
+    command(alloc, "desk", DESK, DESK_LONG)?.arg(viewers(alloc))
 }
 
 /// The command with a picture.
 fn show<'a>(alloc: Global) -> Result<Parser<'a>, AllocError> {
-    let columns = number(alloc, "columns")
-        .default_value("72")
-        .help("How many columns there are at most, 1 to 10000");
-    let wire = Arg::new(alloc, "wire")
-        .long("wire")
-        .value_name("NAME")
-        .action(ArgAction::Append)
-        .help("A wire that is shown, in the order in which they are named; none: all wires");
-    let ascii = flag(alloc, "ascii").help("Draw with characters of ASCII alone");
-    let svg = flag(alloc, "svg").help("Write an SVG file, of at most 1200 columns");
-    let parser = with_range(alloc, described(alloc, "show", SHOW, SHOW_LONG))?
-        .arg(columns)?
-        .arg(wire)?
-        .arg(ascii)?
-        .arg(svg)?;
+    let parser = with_range(alloc, described(alloc, "show", SHOW, SHOW_LONG))?;
+    let parser = with_drawing(alloc, parser)?;
     with_input(alloc, parser)
 }
 
 /// The command with a chain of causes.
 fn why<'a>(alloc: Global) -> Result<Parser<'a>, AllocError> {
-    let steps = number(alloc, "steps")
-        .default_value("20")
-        .help("How many steps are written at most, 1 to 1048576");
-    let parser = with_moment(alloc, described(alloc, "why", WHY, WHY_LONG))?.arg(steps)?;
+    let parser = with_moment(alloc, described(alloc, "why", WHY, WHY_LONG))?;
+    let parser = parser.arg(steps(alloc))?;
     with_input(alloc, parser)
 }
 
@@ -83,13 +81,12 @@ fn measure<'a>(alloc: Global) -> Result<Parser<'a>, AllocError> {
     with_input(alloc, parser)
 }
 
-/// The command with a wire and a time.
-fn with_moment<'a>(alloc: Global, command: Parser<'a>) -> Result<Parser<'a>, AllocError> {
-    let wire = Arg::new(alloc, "wire")
-        .value_name("WIRE")
-        .required(true)
-        .help("The wire's name");
-    command.arg(wire)?.arg(time(alloc))
+/// The command that tells what a word means.
+pub(crate) fn explain<'a>(alloc: Global) -> Result<Parser<'a>, AllocError> {
+    Parser::new(alloc, "explain")
+        .about(EXPLAIN)
+        .long_about(EXPLAIN_LONG)
+        .arg(word(alloc))
 }
 
 /// A command that reads a file and works with a crew.
@@ -115,48 +112,103 @@ fn described<'a>(
         .after_help(FORMS)
 }
 
+// An argument is made where it is taken, so that none has to be dropped where memory runs out for another.
+
 /// The command with the file that it reads and the options of a crew.
 fn with_input<'a>(alloc: Global, command: Parser<'a>) -> Result<Parser<'a>, AllocError> {
-    let file = Arg::new(alloc, "file")
-        .value_name("FILE")
-        .help("The file to read; `-` or no FILE: standard input");
-    with_crew(alloc, command.arg(file)?)
+    let parser = command.arg(file(alloc))?;
+    let parser = parser.arg(workers(alloc))?;
+    parser.arg(least(alloc))
 }
 
-/// The command with the options of a crew.
-fn with_crew<'a>(alloc: Global, command: Parser<'a>) -> Result<Parser<'a>, AllocError> {
-    let workers = number(alloc, "workers")
-        .default_value("2")
-        .help("How many workers there are, 1 to 16");
-    let least = number(alloc, "least").default_value("128").help(
-        "With fewer modules than these the workers are not called on, 1 to 4096",
-    );
-    command.arg(workers)?.arg(least)
+/// The command with a wire and a time.
+fn with_moment<'a>(alloc: Global, command: Parser<'a>) -> Result<Parser<'a>, AllocError> {
+    let parser = command.arg(wire(alloc))?;
+    parser.arg(time(alloc))
 }
 
 /// The command with the options of a range of times.
 fn with_range<'a>(alloc: Global, command: Parser<'a>) -> Result<Parser<'a>, AllocError> {
-    let from = time_option(alloc, "from").help("The first time, 0 where none is given");
-    let to = time_option(alloc, "to").help(
-        "The end of the times, which isn't in it; the horizon where none is given",
-    );
-    command.arg(from)?.arg(to)
+    let parser = command.arg(from(alloc))?;
+    parser.arg(to(alloc))
 }
 
-/// An option that takes a number.
-fn number<'a>(alloc: Global, name: &'static str) -> Arg<'a> {
-    Arg::new(alloc, name)
-        .long(name)
-        .value_name("N")
-        .value_parser(value_parser!(u32))
+/// The command with the options of a drawing.
+fn with_drawing<'a>(alloc: Global, command: Parser<'a>) -> Result<Parser<'a>, AllocError> {
+    let parser = command.arg(columns(alloc))?;
+    let parser = parser.arg(shown_wire(alloc))?;
+    let parser = parser.arg(ascii(alloc))?;
+    parser.arg(svg(alloc))
 }
 
-/// An option that takes a time.
-fn time_option<'a>(alloc: Global, name: &'static str) -> Arg<'a> {
-    Arg::new(alloc, name)
-        .long(name)
-        .value_name("T")
-        .value_parser(value_parser!(u64))
+fn file<'a>(alloc: Global) -> Arg<'a> {
+    Arg::new(alloc, "file")
+        .value_name("FILE")
+        .help("The file to read; `-` or no FILE: standard input")
+}
+
+fn workers<'a>(alloc: Global) -> Arg<'a> {
+    number(alloc, "workers", "2", "How many workers there are, 1 to 16")
+}
+
+fn least<'a>(alloc: Global) -> Arg<'a> {
+    let help = "With fewer modules than these the workers are not called on, 1 to 4096";
+    number(alloc, "least", "128", help)
+}
+
+fn viewers<'a>(alloc: Global) -> Arg<'a> {
+    number(alloc, "viewers", "2", "How many viewers there are, 1 to 32")
+}
+
+fn steps<'a>(alloc: Global) -> Arg<'a> {
+    let help = "How many steps are written at most, 1 to 1048576";
+    number(alloc, "steps", "20", help)
+}
+
+fn columns<'a>(alloc: Global) -> Arg<'a> {
+    let help = "How many columns there are at most, 1 to 10000";
+    number(alloc, "columns", "72", help)
+}
+
+fn from<'a>(alloc: Global) -> Arg<'a> {
+    time_option(alloc, "from", "The first time, 0 where none is given")
+}
+
+fn to<'a>(alloc: Global) -> Arg<'a> {
+    let help = "The end of the times, which isn't in it; the horizon where none is given";
+    time_option(alloc, "to", help)
+}
+
+fn ascii<'a>(alloc: Global) -> Arg<'a> {
+    flag(alloc, "ascii", "Draw with characters of ASCII alone")
+}
+
+fn svg<'a>(alloc: Global) -> Arg<'a> {
+    flag(alloc, "svg", "Write an SVG file, of at most 1200 columns")
+}
+
+/// The word that is explained.
+fn word<'a>(alloc: Global) -> Arg<'a> {
+    Arg::new(alloc, "word").value_name("WORD").help(
+        "The number or name of a code, or a kind of module; none: the list of all",
+    )
+}
+
+/// The word that is a wire.
+fn wire<'a>(alloc: Global) -> Arg<'a> {
+    Arg::new(alloc, "wire")
+        .value_name("WIRE")
+        .required(true)
+        .help("The wire's name")
+}
+
+/// The option that names a wire which is shown.
+fn shown_wire<'a>(alloc: Global) -> Arg<'a> {
+    Arg::new(alloc, "wire")
+        .long("wire")
+        .value_name("NAME")
+        .action(ArgAction::Append)
+        .help("A wire that is shown, in the order in which they are named; none: all wires")
 }
 
 /// The word that is a time.
@@ -168,7 +220,34 @@ fn time<'a>(alloc: Global) -> Arg<'a> {
         .help("The time; one at or above the horizon is the last one below it")
 }
 
+/// An option that takes a number, this one where none is given.
+fn number<'a>(
+    alloc: Global,
+    name: &'static str,
+    default: &'static str,
+    help: &'static str,
+) -> Arg<'a> {
+    Arg::new(alloc, name)
+        .long(name)
+        .value_name("N")
+        .value_parser(value_parser!(u32))
+        .default_value(default)
+        .help(help)
+}
+
+/// An option that takes a time.
+fn time_option<'a>(alloc: Global, name: &'static str, help: &'static str) -> Arg<'a> {
+    Arg::new(alloc, name)
+        .long(name)
+        .value_name("T")
+        .value_parser(value_parser!(u64))
+        .help(help)
+}
+
 /// An option that takes nothing.
-fn flag<'a>(alloc: Global, name: &'static str) -> Arg<'a> {
-    Arg::new(alloc, name).long(name).action(ArgAction::SetTrue)
+fn flag<'a>(alloc: Global, name: &'static str, help: &'static str) -> Arg<'a> {
+    Arg::new(alloc, name)
+        .long(name)
+        .action(ArgAction::SetTrue)
+        .help(help)
 }

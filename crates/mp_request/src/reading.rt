@@ -1,7 +1,11 @@
 //! The words of the command line.
 ghost use Rattle.std.specs.Prelude.{◌≡◌, ◌≢◌, IfOk, IfSome, codes};
+ghost use Rattle.clap.specs.Values.{kind_of};
+ghost use Rattle.clap.specs.declared.error.kind.ErrorKind.TheVariants as kinds;
+ghost use Rattle.mp_request.specs.Asking.{file_of};
 
-use crate::parser::parser;
+use crate::asked::Asked;
+use crate::parser::{explain, parser};
 use crate::picture_words::PictureWords;
 use crate::request::{Command, Request};
 use clap::error::ErrorKind;
@@ -11,19 +15,32 @@ use std::alloc::{AllocError, Global};
 /// The word that stands for standard input.
 const STANDARD_INPUT: &str = "-";
 
-/// The request that the words make, of which the first is the program's name. The error is what is
-/// told in its place: help, the version, what is wrong with the words, or want of memory.
-pub fn read_words<'a>(alloc: Global, words: &'a [String]) -> Result<Request<'a>, Error>
-    ensures { IfOk result (λ request. IfSome request.file (λ path. path.now ≢ codes "-")) }
+/// What the words ask for, of which the first is the program's name. The error is what is told in its
+/// place: help, the version, what is wrong with the words, or want of memory.
+pub fn read_words<'a>(alloc: Global, words: &'a [String]) -> Result<Asked<'a>, Error>
+    ensures { IfOk result (λ asked. IfSome (file_of asked) (λ path. path.now ≢ codes "-")) }
 {
     let matches = parser(alloc)?.try_get_matches_from(words)?;
     let Some((word, found)) = matches.subcommand() else {
         return Err(no_command(alloc)?);
     };
+    if word == "explain" {
+        return Ok(Asked::Explain(found.get_str("word")));
+    }
     match command_of(alloc, word, found)? {
-        Some(command) => Ok(request(command, found)),
+        Some(command) => Ok(Asked::Run(request(command, found))),
         None => Err(no_command(alloc)?),
     }
+}
+
+/// What is told where the word of `explain` means nothing.
+pub fn unknown_word(alloc: Global, word: &str) -> Result<Error, AllocError>
+    ensures { IfOk result (λ error. kind_of error ≡ kinds.InvalidValue) }
+{
+    let message = format!(in alloc; "no code and no kind of module is called '{word}'")?;
+    explain(alloc)?
+        .bin_name("mpwb explain")?
+        .error(ErrorKind::InvalidValue, message.as_str())
 }
 
 /// What is told where the words name no command that the program runs.

@@ -8,9 +8,12 @@ use mp_commands::{
     PathLines, PictureText, Play, ReportLines, RunFault, TimeRange, View, Viewed, WaitLines,
     WaveLines, WhyLines, exit_status, fault_line, run_command,
 };
+use mp_explain::{guide, put_explanation, put_titles};
 use mp_lines::LineReader;
 use mp_live::{Prompted, converse, open_keeper};
-use mp_request::{Command, PictureWords, Request, TellError, read_words, tell};
+use mp_request::{
+    Asked, Command, PictureWords, Request, TellError, read_words, tell, unknown_word,
+};
 use mp_streams::{Out, ReadSource, Sink, Source, WriteSink};
 use std::alloc::{AllocError, Global};
 use std::fs::File;
@@ -48,7 +51,8 @@ fn answer<R: Runtime + Threads + Wait + Sync + AllocGlobal>(
     };
     let words: Vec<String> = arguments.collect(rt.alloc())?;
     match read_words(rt.alloc(), words.as_slice()) {
-        Ok(request) => match run(rt, &request, is_typed) {
+        Ok(Asked::Explain(word)) => explain(rt, word),
+        Ok(Asked::Run(request)) => match run(rt, &request, is_typed) {
             Ok(()) => Ok(0),
             Err(fault) => {
                 tell_fault(rt, &fault, request.wires());
@@ -57,6 +61,22 @@ fn answer<R: Runtime + Threads + Wait + Sync + AllocGlobal>(
         },
         Err(error) => tell(rt, &error).map_err(fault_of_telling),
     }
+}
+
+/// Tells what the word means, or what can be explained where there is none.
+fn explain<R: Print + Eprint + AllocGlobal>(rt: &R, word: Option<&str>) -> Result<u8, RunFault> {
+    let guide = guide(rt.alloc())?;
+    let mut out = Out::new(rt.alloc(), WriteSink::new(io::writer(rt)))?;
+    let Some(word) = word else {
+        put_titles(&mut out, &guide)?;
+        out.flush()?;
+        return Ok(0);
+    };
+    if put_explanation(&mut out, &guide, word)? {
+        out.flush()?;
+        return Ok(0);
+    }
+    tell(rt, &unknown_word(rt.alloc(), word)?).map_err(fault_of_telling)
 }
 
 /// Opens the input and runs the command on it. `ReadFailed` comes where the file can't be opened.

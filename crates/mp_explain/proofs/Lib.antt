@@ -1,0 +1,2 @@
+mod ExplanationLemmas
+mod TitleLemmas

@@ -1,0 +1,59 @@
+-- What can be explained, and what it is called.
+use Rattle.std.specs.Prelude.{ℕ, Bool, ◌||◌, List, [], ◌∷◌, ◌++◌, codes, map, unwrap_or}
+use Rattle.std.specs.Fmt.{decimal}
+use Rattle.std.specs.Str.{bytes_eq}
+use Rattle.mp_modules.specs.declared.kind.Kind.{Kind}
+use Rattle.mp_modules.specs.declared.kind.Kind.TheVariants as kinds
+use Rattle.mp_modules.specs.Findings.{by_number, code_number, code_word}
+use Rattle.mp_modules.specs.Kinds.{word_of}
+use Rattle.mp_records.specs.declared.edit_error.EditError.{EditError}
+use Rattle.mp_records.specs.declared.edit_error.EditError.TheVariants as edits
+use Rattle.mp_records.specs.EditErrors.{name_of, number_of}
+use Rattle.mp_words.specs.declared.line_error.LineError.TheVariants as lines
+use Rattle.mp_text.specs.declared.text_code.TextCode.{TextCode}
+use Rattle.mp_text.specs.declared.text_code.TextCode.TheVariants as texts
+use Rattle.mp_text.specs.TextCodes as text_codes
+use Rattle.mp_explain.specs.declared.subject.Subject.{Subject}
+use Rattle.mp_explain.specs.declared.subject.Subject.TheVariants.{Text, Edit, Finding, Kind as OfKind}
+
+abbrev pub edit_name : EditError → List ℕ
+edit_name error = unwrap_or (name_of (number_of error)) []
+
+-- as `edit 1 NameTaken` or `kind C`
+abbrev pub title : Subject → List ℕ
+title (Text code) = codes "text " ++ (decimal (text_codes.number_of code) ++ (codes " " ++ text_codes.name_of code))
+title (Edit error) = codes "edit " ++ (decimal (number_of error) ++ (codes " " ++ edit_name error))
+title (Finding code) = codes "finding " ++ (decimal (code_number code) ++ (codes " " ++ code_word code))
+title (OfKind kind) = codes "kind " ++ word_of kind
+
+abbrev pub is_one_of : List ℕ → ℕ → List ℕ → Bool
+is_one_of word number name = bytes_eq word name || bytes_eq word (decimal number)
+
+-- whether a word is the name of a subject or, of a code, its number
+abbrev pub is_called : List ℕ → Subject → Bool
+is_called word (Text code) = is_one_of word (text_codes.number_of code) (text_codes.name_of code)
+is_called word (Edit error) = is_one_of word (number_of error) (edit_name error)
+is_called word (Finding code) = is_one_of word (code_number code) (code_word code)
+is_called word (OfKind kind) = bytes_eq word (word_of kind)
+
+-- the faults of a text by number; of those that hold another code, one
+abbrev pub text_faults : List TextCode
+text_faults =
+    texts.Line lines.NotAscii ∷ texts.Line lines.UnknownStatement ∷ texts.Line lines.WordCount ∷ texts.Line lines.BadNumber ∷ texts.NoHorizon
+    ∷ texts.SecondHorizon ∷ texts.Refused edits.NameTaken ∷ texts.TooLong ∷ texts.Line lines.OutOfMemory ∷ texts.BadFormat ∷ []
+
+-- the refusals of an edit by number; of those that hold another code, one
+abbrev pub refusals : List EditError
+refusals =
+    edits.NameTaken ∷ edits.BadName ∷ edits.NoSuchWire ∷ edits.NoSuchModule ∷ edits.NoSuchBundle ∷ edits.BadWidth ∷ edits.BadLevel ∷ edits.BadDelay
+    ∷ edits.BadPort ∷ edits.WrongPorts ∷ edits.BadParam ∷ edits.WidthMismatch ∷ edits.AlreadyDriven ∷ edits.StillUsed ∷ edits.BadStimulus
+    ∷ edits.NoStimulus ∷ edits.TableFull ∷ edits.HistoryFull ∷ edits.OutOfMemory ∷ edits.BadBatch ∷ edits.InBatch 2 16 ∷ []
+
+abbrev pub all_kinds : List Kind
+all_kinds =
+    kinds.Buf ∷ kinds.Not ∷ kinds.Xor ∷ kinds.C ∷ kinds.Toggle ∷ kinds.Select ∷ kinds.Call ∷ kinds.Arbiter ∷ kinds.Reg ∷ kinds.AddC ∷ kinds.XorC
+    ∷ kinds.Sum ∷ kinds.Bit ∷ []
+
+-- all that can be explained
+abbrev pub subjects : List Subject
+subjects = map Text text_faults ++ (map Edit refusals ++ (map Finding by_number ++ map OfKind all_kinds))

@@ -1,0 +1,19 @@
+//! What the codes that the program answers with and the kinds of event module mean, as texts.
+#![tactic(auto)]
+
+mod data_kinds;
+mod entries;
+mod entry;
+mod event_kinds;
+mod explaining;
+mod findings;
+pub mod laws;
+mod refusals_of_names;
+mod refusals_of_values;
+mod subject;
+mod text_faults;
+
+pub use entries::guide;
+pub use entry::Entry;
+pub use explaining::{put_explanation, put_titles};
+pub use subject::Subject;
