@@ -1,0 +1,3 @@
+mod MarkLemmas
+mod StepLemmas
+mod SeatLemmas

@@ -1,0 +1,101 @@
+-- A seat's lines, one after the other.
+use Rattle.std.proofs.Common.{◌≡◌, inl, inr, ℕ, ◌+◌, Bool, List, [], ◌∷◌, ◌++◌, length, map, Option, Result, sym, ap, subst, ◌∙◌, length-append, arith}
+use Rattle.mp_lines.specs.Given.{given}
+use Rattle.mp_lines.specs.Incoming.{Incoming}
+use Rattle.mp_streams.specs.Outgoing.{Outgoing}
+use Rattle.mp_version.specs.Stories.{Story, one_more}
+use Rattle.mp_desk.specs.Extending.{Extends}
+use Rattle.mp_desk.proofs.PrefixLemmas.{extends_self, extends_trans, extends_one_more}
+use Rattle.mp_talk.specs.declared.talk_fault.TalkFault.{TalkFault}
+use Rattle.mp_talk.specs.Answers.{AreAnswers}
+use Rattle.mp_talk.specs.Conversations.{Conversed}
+use Rattle.mp_seats.specs.Replies.{Writing, IsReplyAt}
+use Rattle.mp_seats.specs.Marks.{AcceptedAt, AnsweredAt, Rise}
+use Rattle.mp_seats.specs.Steps.{Seated, IsAcceptedLine, IsAnsweredLine, IsStep}
+use Rattle.mp_seats.specs.Seats.{IsSeat, IsVisit}
+use Rattle.mp_seats.proofs.MarkLemmas.{longer, accepted_at, up_to-earlier}
+
+module _ (w : Writing) (edits : Bool) where
+  -- no lines
+  none : (start last : Seated) (text : List ℕ) → last ≡ start → text ≡ [] → IsSeat w edits start [] last text
+  none start last text same empty =
+      let seen : last.seen ≡ start.seen = ap (λ (s : Seated). s.seen) same in
+      let extends : Extends last.seen start.seen = subst (λ (s : Story). Extends s start.seen) (sym seen) (extends_self start.seen) in
+      let accepted : last.accepted ≡ start.accepted = ap (λ (s : Seated). s.accepted) same in
+      record {
+        marks = [];
+        extends = extends;
+        replies = λ now more. empty;
+        rise = λ now more. longer now start.seen (extends_trans now last.seen start.seen more extends);
+        accepted = omega (arith, accepted);
+      }
+
+  -- one line before others
+  module _ (start next last : Seated) (line : Option (List ℕ)) (lines : List (Option (List ℕ))) (piece later text : List ℕ) (is : text ≡ piece ++ later) (rest : IsSeat w edits next lines last later) where
+    accepted : IsAcceptedLine w edits start line next piece → IsSeat w edits start (line ∷ lines) last text
+    accepted step =
+        let k = length step.before.edits in
+        let seen : next.seen ≡ one_more step.before step.edit = ap (λ (s : Seated). s.seen) step.stands in
+        let onward : Extends next.seen (one_more step.before step.edit) = subst (λ (s : Story). Extends s (one_more step.before step.edit)) (sym seen) (extends_self (one_more step.before step.edit)) in
+        let onward_last = extends_trans last.seen next.seen (one_more step.before step.edit) rest.extends onward in
+        let back = extends_trans (one_more step.before step.edit) step.before start.seen (extends_one_more step.before step.edit) step.extends in
+        let size : length next.seen.edits ≡ k + 1 = ap (λ (s : Story). length s.edits) seen ∙ length-append step.before.edits (step.edit ∷ []) in
+        let count = rest.accepted in
+        let counted = ap (λ (s : Seated). s.accepted) step.stands in
+        record {
+          marks = AcceptedAt k ∷ rest.marks;
+          extends = extends_trans last.seen (one_more step.before step.edit) start.seen onward_last back;
+          replies = λ now more. (
+            piece,
+            later,
+            (step.edit, step.edits_may, step.is_edit, accepted_at now step.before step.edit (extends_trans now last.seen (one_more step.before step.edit) more onward_last), step.replied),
+            rest.replies now more,
+            is,
+          );
+          rise = λ now more. (longer step.before start.seen step.extends, subst (λ (n : ℕ). Rise n (length now.edits) rest.marks) size (rest.rise now more));
+          accepted = omega (arith, count, counted);
+        }
+
+    answered : IsAnsweredLine w edits start line next piece → IsSeat w edits start (line ∷ lines) last text
+    answered step =
+        let k = length next.seen.edits in
+        let count = rest.accepted in
+        let counted = ap (λ (s : Seated). s.accepted) step.stands in
+        record {
+          marks = AnsweredAt k ∷ rest.marks;
+          extends = extends_trans last.seen next.seen start.seen rest.extends step.extends;
+          replies = λ now more. (
+            piece,
+            later,
+            subst (λ (s : Story). IsReplyAt w edits s line piece) (sym (up_to-earlier now next.seen (extends_trans now last.seen next.seen more rest.extends))) step.replied,
+            rest.replies now more,
+            is,
+          );
+          rise = λ now more. (longer next.seen start.seen step.extends, rest.rise now more);
+          accepted = omega (arith, count, counted);
+        }
+
+    one : IsStep w edits start line next piece → IsSeat w edits start (line ∷ lines) last text
+    one (inl step) = accepted step
+    one (inr step) = answered step
+
+  -- all lines
+  pub seat : (start : Seated) (lines : List (Option (List ℕ))) (last : Seated) (text : List ℕ) → AreAnswers (IsStep w edits) start lines last text → IsSeat w edits start lines last text
+  unfolding AreAnswers
+  seat start [] last text are = none start last text are.0 are.1
+  seat start (line ∷ lines) last text are =
+      let (next, piece, later, step, rest, is) = are in
+      one start next last line lines piece later text is (seat next lines last later rest) step
+
+  pub visit : {S : Type 0} (r : Result (Unit {0}) TalkFault) (start last : Seated) (old new : Incoming) (a b : Outgoing S) → Conversed (IsStep w edits) r start last old new a b
+      → IsVisit w edits r start last old new a b
+  visit r start last old new a b talk = record {
+    bytes = talk.bytes;
+    lines = talk.lines;
+    rest = talk.rest;
+    text = talk.text;
+    taken = talk.taken;
+    split = talk.split;
+    seat = seat start (map given talk.lines) last talk.text talk.answers;
+    closes = talk.closes;
+  }

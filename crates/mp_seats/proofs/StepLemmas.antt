@@ -1,0 +1,130 @@
+-- The step of one line.
+use Rattle.std.proofs.Common.{◌≡◌, inl, inr, ℕ, Bool, true, false, List, [], Option, Some, None, Result, Ok, Err, refl, sym, ap, subst}
+use Rattle.mp_records.specs.declared.edit.Edit.{Edit}
+use Rattle.mp_records.specs.declared.edit_error.EditError.{EditError}
+use Rattle.mp_records.specs.declared.edit_error.EditError.TheVariants.{OutOfMemory}
+use Rattle.mp_streams.specs.Outgoing.{Outgoing}
+use Rattle.mp_streams.specs.WriteErrors.{Writes}
+use Rattle.mp_streams.specs.declared.write_error.WriteError.{WriteError}
+use Rattle.mp_text.specs.declared.question.Question.{Question}
+use Rattle.mp_text.specs.declared.script_line.Line.TheVariants.{Empty, Change, Ask}
+use Rattle.mp_words.specs.declared.line_error.LineError.{LineError}
+use Rattle.mp_text.specs.ScriptLines.{line_at}
+use Rattle.mp_version.specs.Stories.{Story}
+use Rattle.mp_desk.specs.Extending.{Extends}
+use Rattle.mp_desk.specs.Holders.{RefusedAfter}
+use Rattle.mp_desk.proofs.PrefixLemmas.{extends_self}
+use Rattle.mp_talk.specs.Answers.{PutsAnswer}
+use Rattle.mp_seats.specs.declared.refusal.Refusal.TheVariants as refusals
+use Rattle.mp_seats.specs.declared.reply.Reply.TheVariants as replies
+use Rattle.mp_seats.specs.Replies.{Writing, IsEditLine, IsRefusal, IsReplyAt, IsReadReply}
+use Rattle.mp_seats.specs.Steps.{Seated, with_seen, Submits, IsStep, PutsEdit}
+
+-- an edit that was refused
+refusal : (before seen : Story) (edit : Edit) (error : EditError) → RefusedAfter before seen edit error → IsRefusal seen edit error
+refusal before seen edit error (inl (inl judged)) = inl judged
+refusal before seen edit error (inl (inr want)) = inr want.0
+refusal before seen edit error (inr want) = inr want.0
+
+-- ---- edits
+
+module _ {S : Type 0} (w : Writing) (r : Result (Unit {0}) WriteError) (old new : Seated) (edit : Edit) (a b : Outgoing S) where
+  accepted_so : (n : ℕ) → Submits true (Ok n) old new edit → Writes r a b (w.reply (replies.Accepted n)) → PutsEdit w true r old new edit a b
+  accepted_so n is put = (
+    w.reply (replies.Accepted n),
+    (λ line says.
+        inl
+        (record {
+          edit = edit;
+          before = is.1;
+          edits_may = refl;
+          is_edit = says;
+          extends = is.2;
+          stands = is.3;
+          replied = ap (λ (k : ℕ). w.reply (replies.Accepted k)) is.4;
+        })),
+    put,
+  )
+
+  refused_so : (error : EditError) → Submits true (Err (refusals.Refused error)) old new edit → Writes r a b (w.reply (replies.Refused error)) → PutsEdit w true r old new edit a b
+  refused_so error is put = (w.reply (replies.Refused error), (λ line says. inr (record { extends = is.3; stands = is.2; replied = by line says })), put)
+    where
+      by : (line : Option (List ℕ)) → IsEditLine line edit → IsReplyAt w true new.seen line (w.reply (replies.Refused error))
+      by None says = absurd says
+      by (Some line) says =
+          inl (subst (λ read. IsReadReply w true new.seen read (w.reply (replies.Refused error))) (sym says) (error, refusal old.seen new.seen edit error is.1, refl))
+
+  viewed_so : Submits false (Err refusals.NotADesigner) old new edit → Writes r a b (w.reply replies.NotADesigner) → PutsEdit w false r old new edit a b
+  viewed_so is put = (
+    w.reply replies.NotADesigner,
+    (λ line says.
+        inr
+        (record {
+          extends = subst (λ (s : Seated). Extends s.seen old.seen) (sym is.1) (extends_self old.seen);
+          stands = subst (λ (s : Seated). s ≡ with_seen old s.seen) (sym is.1) refl;
+          replied = by line says;
+        })),
+    put,
+  )
+    where
+      by : (line : Option (List ℕ)) → IsEditLine line edit → IsReplyAt w false new.seen line (w.reply replies.NotADesigner)
+      by None says = absurd says
+      by (Some line) says = inl (subst (λ read. IsReadReply w false new.seen read (w.reply replies.NotADesigner)) (sym says) refl)
+
+  pub edit_accepted : (edits : Bool) (n : ℕ) → Submits edits (Ok n) old new edit → Writes r a b (w.reply (replies.Accepted n)) → PutsEdit w edits r old new edit a b
+  edit_accepted true n is put = accepted_so n is put
+  edit_accepted false n is put = absurd (cc (is.0))
+
+  pub edit_refused : (edits : Bool) (error : EditError) → Submits edits (Err (refusals.Refused error)) old new edit → Writes r a b (w.reply (replies.Refused error)) → PutsEdit w edits r old new edit a b
+  edit_refused true error is put = refused_so error is put
+  edit_refused false error is put = absurd (cc (is.0))
+
+  pub edit_of_viewer : (edits : Bool) → Submits edits (Err refusals.NotADesigner) old new edit → Writes r a b (w.reply replies.NotADesigner) → PutsEdit w edits r old new edit a b
+  edit_of_viewer true is put = absurd (cc (is.0))
+  edit_of_viewer false is put = viewed_so is put
+
+-- ---- lines
+
+module _ {S : Type 0} (w : Writing) (edits : Bool) (r : Result (Unit {0}) WriteError) (old new : Seated) (a b : Outgoing S) where
+  -- a line that is answered without the desk
+  counted : (line : Option (List ℕ)) (text : List ℕ) → new ≡ old → IsReplyAt w edits new.seen line text → Writes r a b text → PutsAnswer (IsStep w edits) r old new line a b
+  counted line text same replied put = (
+    text,
+    inr
+        (record {
+          extends = subst (λ (s : Seated). Extends s.seen old.seen) (sym same) (extends_self old.seen);
+          stands = subst (λ (s : Seated). s ≡ with_seen old s.seen) (sym same) refl;
+          replied = replied;
+        }),
+    put,
+  )
+
+  pub too_long : (line : Option (List ℕ)) → line ≡ None → new ≡ old → Writes r a b (w.reply replies.TooLong) → PutsAnswer (IsStep w edits) r old new line a b
+  too_long line none same put = rw none (counted None (w.reply replies.TooLong) same refl put)
+
+  module _ (line : List ℕ) where
+    pub line_empty : line_at line ≡ Ok Empty → new ≡ old → Writes r a b [] → PutsAnswer (IsStep w edits) r old new (Some line) a b
+    line_empty is same put = counted (Some line) [] same (inl (subst (λ read. IsReadReply w edits new.seen read []) (sym is) refl)) put
+
+    pub line_edited : (edit : Edit) → line_at line ≡ Ok (Change edit) → PutsEdit w edits r old new edit a b → PutsAnswer (IsStep w edits) r old new (Some line) a b
+    line_edited edit is puts = (puts.0, puts.1 (Some line) is, puts.2)
+
+    pub line_asked : (question : Question) → line_at line ≡ Ok (Ask question) → Extends new.seen old.seen → new ≡ with_seen old new.seen → Writes r a b (w.answer new.seen question)
+        → PutsAnswer (IsStep w edits) r old new (Some line) a b
+    line_asked question is later same put = (
+      w.answer new.seen question,
+      inr
+          (record {
+            extends = later;
+            stands = same;
+            replied = inl (subst (λ read. IsReadReply w edits new.seen read (w.answer new.seen question)) (sym is) refl);
+          }),
+      put,
+    )
+
+    pub line_wanting : new ≡ old → Writes r a b (w.reply (replies.Refused OutOfMemory)) → PutsAnswer (IsStep w edits) r old new (Some line) a b
+    line_wanting same put = counted (Some line) (w.reply (replies.Refused OutOfMemory)) same (inr refl) put
+
+    pub line_unread : (error : LineError) → line_at line ≡ Err error → new ≡ old → Writes r a b (w.reply (replies.Unread error)) → PutsAnswer (IsStep w edits) r old new (Some line) a b
+    line_unread error is same put =
+        counted (Some line) (w.reply (replies.Unread error)) same (inl (subst (λ read. IsReadReply w edits new.seen read (w.reply (replies.Unread error))) (sym is) refl)) put

@@ -1,0 +1,4 @@
+pub mod Marks
+pub mod Replies
+pub mod Steps
+pub mod Seats

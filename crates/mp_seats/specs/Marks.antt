@@ -1,0 +1,24 @@
+-- The numbers of a seat's lines.
+use Rattle.std.specs.Prelude.{ℕ, ◌+◌, ◌≤◌, List, [], ◌∷◌, take}
+use Rattle.mp_version.specs.Stories.{Story}
+
+-- the edit of a line was accepted behind so many others, or a line was answered otherwise after so many
+pub data Mark : Type 0 where
+  AcceptedAt : ℕ → Mark
+  AnsweredAt : ℕ → Mark
+
+-- the story after the first edits
+abbrev pub up_to : Story → ℕ → Story
+up_to story k = record { base = story.base; edits = take k story.edits }
+
+-- the numbers never fall, from what was seen at first on, each behind an accepted edit is above its place, and none is above the last
+abbrev pub Rise : ℕ → ℕ → List Mark → Type 0
+Rise seen last [] = seen ≤ last
+Rise seen last (AcceptedAt k ∷ marks) = (seen ≤ k) × Rise (k + 1) last marks
+Rise seen last (AnsweredAt k ∷ marks) = (seen ≤ k) × Rise k last marks
+
+-- how many were accepted
+abbrev pub accepted_of : List Mark → ℕ
+accepted_of [] = 0
+accepted_of (AcceptedAt k ∷ marks) = accepted_of marks + 1
+accepted_of (AnsweredAt k ∷ marks) = accepted_of marks

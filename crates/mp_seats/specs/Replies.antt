@@ -1,0 +1,44 @@
+-- What a seat replies to a line.
+use Rattle.std.specs.Prelude.{◌≡◌, ◌⊎◌, ℕ, Bool, true, false, List, [], Option, Some, None, Result, Ok, Err}
+use Rattle.mp_records.specs.declared.edit.Edit.{Edit}
+use Rattle.mp_records.specs.declared.edit_error.EditError.{EditError}
+use Rattle.mp_records.specs.declared.edit_error.EditError.TheVariants.{OutOfMemory}
+use Rattle.mp_words.specs.declared.line_error.LineError.{LineError}
+use Rattle.mp_text.specs.declared.question.Question.{Question}
+use Rattle.mp_text.specs.declared.script_line.Line.{Line}
+use Rattle.mp_text.specs.declared.script_line.Line.TheVariants.{Empty, Change, Ask}
+use Rattle.mp_text.specs.ScriptLines.{line_at}
+use Rattle.mp_version.specs.Stories.{Story, judged}
+use Rattle.mp_seats.specs.declared.reply.Reply.{Reply}
+use Rattle.mp_seats.specs.declared.reply.Reply.TheVariants.{Refused, NotADesigner, Unread, TooLong}
+
+-- how replies are written: the answer to a question after a story, and every other reply
+pub record Writing : Type 0 where
+  pub answer : Story → Question → List ℕ
+  pub reply : Reply → List ℕ
+
+-- the line makes this edit
+abbrev pub IsEditLine : Option (List ℕ) → Edit → Type 0
+IsEditLine None edit = ⊥
+IsEditLine (Some line) edit = line_at line ≡ Ok (Change edit)
+
+-- the edit is refused after this story, for its own fault or for want of memory
+abbrev pub IsRefusal : Story → Edit → EditError → Type 0
+IsRefusal story edit error = (judged story edit ≡ Err error) ⊎ (error ≡ OutOfMemory)
+
+-- the reply to an edit that isn't accepted, at a seat that edits or doesn't
+abbrev pub IsEditReply : Writing → Bool → Story → Edit → List ℕ → Type 0
+IsEditReply w true story edit text = (error : EditError) × IsRefusal story edit error × (text ≡ w.reply (Refused error))
+IsEditReply w false story edit text = text ≡ w.reply NotADesigner
+
+-- the reply after this story to a line that was read so, unless it is an edit that is accepted
+abbrev pub IsReadReply : Writing → Bool → Story → Result Line LineError → List ℕ → Type 0
+IsReadReply w edits story (Ok Empty) text = text ≡ []
+IsReadReply w edits story (Ok (Change edit)) text = IsEditReply w edits story edit text
+IsReadReply w edits story (Ok (Ask question)) text = text ≡ w.answer story question
+IsReadReply w edits story (Err error) text = text ≡ w.reply (Unread error)
+
+-- the reply after this story to a line, None where it is too long, unless it is an edit that is accepted; memory may be wanting for reading it
+abbrev pub IsReplyAt : Writing → Bool → Story → Option (List ℕ) → List ℕ → Type 0
+IsReplyAt w edits story None text = text ≡ w.reply TooLong
+IsReplyAt w edits story (Some line) text = IsReadReply w edits story (line_at line) text ⊎ (text ≡ w.reply (Refused OutOfMemory))

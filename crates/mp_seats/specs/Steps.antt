@@ -1,0 +1,59 @@
+-- What a line makes of who sits at a seat.
+use Rattle.std.specs.Prelude.{◌≡◌, ◌⊎◌, ℕ, ◌+◌, Bool, true, false, List, length, Option, Result, Ok, Err}
+use Rattle.mp_records.specs.declared.edit.Edit.{Edit}
+use Rattle.mp_streams.specs.Outgoing.{Outgoing}
+use Rattle.mp_streams.specs.WriteErrors.{Writes}
+use Rattle.mp_streams.specs.declared.write_error.WriteError.{WriteError}
+use Rattle.mp_version.specs.Stories.{Story, one_more}
+use Rattle.mp_desk.specs.Extending.{Extends}
+use Rattle.mp_desk.specs.Holders.{RefusedAfter}
+use Rattle.mp_seats.specs.declared.refusal.Refusal.{Refusal}
+use Rattle.mp_seats.specs.declared.refusal.Refusal.TheVariants as refusals
+use Rattle.mp_seats.specs.declared.reply.Reply.TheVariants.{Accepted}
+use Rattle.mp_seats.specs.Replies.{Writing, IsEditLine, IsReplyAt}
+
+-- who sits at a seat: the version seen last, and how many edits were accepted
+pub record Seated : Type 0 where
+  pub seen : Story
+  pub accepted : ℕ
+
+-- this was seen, and nothing else changed
+abbrev pub with_seen : Seated → Story → Seated
+with_seen old seen = record { seen = seen; accepted = old.accepted }
+
+-- the edit was accepted after this story
+abbrev pub with_edit : Seated → Story → Edit → Seated
+with_edit old before edit = record { seen = one_more before edit; accepted = old.accepted + 1 }
+
+-- what became of an edit at a seat that edits or doesn't: its number, or why it isn't made
+abbrev pub Submits : Bool → Result ℕ Refusal → Seated → Seated → Edit → Type 0
+Submits edits (Ok n) old new edit =
+    (edits ≡ true) × (before : Story) × Extends before old.seen × (new ≡ with_edit old before edit) × (n ≡ length before.edits + 1)
+Submits edits (Err (refusals.Refused error)) old new edit =
+    (edits ≡ true) × RefusedAfter old.seen new.seen edit error × (new ≡ with_seen old new.seen) × Extends new.seen old.seen
+Submits edits (Err refusals.NotADesigner) old new edit = (edits ≡ false) × (new ≡ old)
+
+-- the edit of a line was accepted after this story
+pub record IsAcceptedLine (w : Writing) (edits : Bool) (old : Seated) (line : Option (List ℕ)) (new : Seated) (text : List ℕ) : Type 0 where
+  pub edit : Edit
+  pub before : Story
+  pub edits_may : edits ≡ true
+  pub is_edit : IsEditLine line edit
+  pub extends : Extends before old.seen
+  pub stands : new ≡ with_edit old before edit
+  pub replied : text ≡ w.reply (Accepted (length before.edits + 1))
+
+-- a line was answered after the story that was then seen
+pub record IsAnsweredLine (w : Writing) (edits : Bool) (old : Seated) (line : Option (List ℕ)) (new : Seated) (text : List ℕ) : Type 0 where
+  pub extends : Extends new.seen old.seen
+  pub stands : new ≡ with_seen old new.seen
+  pub replied : IsReplyAt w edits new.seen line text
+
+-- the step of a line
+abbrev pub IsStep : Writing → Bool → Seated → Option (List ℕ) → Seated → List ℕ → Type 0
+IsStep w edits old line new text = IsAcceptedLine w edits old line new text ⊎ IsAnsweredLine w edits old line new text
+
+-- an edit was submitted, and its reply was written, or a part of it
+abbrev pub PutsEdit : {S : Type 0} → Writing → Bool → Result (Unit {0}) WriteError → Seated → Seated → Edit → Outgoing S → Outgoing S → Type 0
+PutsEdit w edits result old now edit before after =
+    (text : List ℕ) × ((line : Option (List ℕ)) → IsEditLine line edit → IsStep w edits old line now text) × Writes result before after text

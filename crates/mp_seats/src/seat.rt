@@ -1,0 +1,158 @@
+//! A seat of a desk.
+ghost use Rattle.std.specs.Prelude.{◌≡◌};
+
+use crate::guest::Guest;
+use crate::refusal::Refusal;
+use crate::reply::Reply;
+use crate::scribe::Scribe;
+use mp_lines::LineReader;
+use mp_netlist::{Edit, EditError};
+use mp_streams::{Out, Sink, Source, WriteError};
+use mp_talk::{Answerer, TalkFault, converse};
+use mp_text::{Line, LineError, Question, read_line};
+use std::alloc::Global;
+use std::marker::{Model, PhantomData};
+use std::sync::Wait;
+
+/// A seat of a desk, with the one who sits there, and how replies are written. A contract sees the one who sits.
+#[derive(Drop)]
+pub struct Seat<'a, R, B: Scribe<R>, G: Guest<R>> {
+    alloc: Global,
+    scribe: &'a B,
+    guest: G,
+    of: PhantomData<R>,
+}
+
+impl<'a, R, B: Scribe<R>, G: Guest<R>> Model for Seat<'a, R, B, G> {
+    ghost use Rattle.mp_seats.specs.Steps.{Seated};
+
+    ghost Value = { Seated };
+
+    ghost view = { λ seat. G.seated seat.guest };
+}
+
+impl<'a, R, B: Scribe<R>, G: Guest<R>> Seat<'a, R, B, G> {
+    ghost use Rattle.std.specs.Prelude.{◌≡◌, Some, []};
+    ghost use Rattle.mp_desk.specs.Extending.{Extends};
+    ghost use Rattle.mp_streams.specs.WriteErrors.{Writes};
+    ghost use Rattle.mp_talk.specs.Answers.{PutsAnswer};
+    ghost use Rattle.mp_talk.specs.TalkFaults.{counted_reads};
+    ghost use Rattle.mp_seats.specs.Steps.{with_seen, IsStep, PutsEdit};
+    ghost use Rattle.mp_seats.specs.Seats.{IsVisit};
+
+    /// A seat at which this guest sits.
+    pub fn new(alloc: Global, scribe: &'a B, guest: G) -> Self
+        ensures { result ≡ G.seated guest }
+    {
+        Seat {
+            alloc,
+            scribe,
+            guest,
+            of: PhantomData,
+        }
+    }
+
+    /// The one who sat there.
+    pub fn into_guest(self) -> G
+        ensures { G.seated result ≡ self.entry }
+    {
+        let Seat { guest, .. } = self;
+        guest
+    }
+
+    /// Answers each line that comes, and passes the answer on to the sink, before it reads the next one. It ends where the source ends.
+    ///
+    /// `ReadFailed` comes with a fault of the source, after the answers to all lines that ended before. `WriteFailed` comes with a fault of the
+    /// sink, and `OutOfMemory` where memory is wanting for the answer to a question: then a part of the last answer may be written. An edit for
+    /// which memory is wanting is refused, and so is a line for whose reading it is wanting.
+    pub fn serve<I: Source, T: Sink>(
+        &mut self,
+        rt: &R,
+        lines: &mut LineReader<I>,
+        out: &mut Out<T>,
+    ) -> Result<(), TalkFault>
+    where
+        R: Wait,
+        requires { out.old.held ≡ [] }
+        ensures visit { IsVisit (record { answer = B.answer_text; reply = B.reply_text }) G.edits result self.old self.new lines.old lines.new out.old out.new }
+        ensures flushed { out.new.held ≡ [] }
+        ensures read_faults { lines.new.faults ≡ counted_reads result lines.old.faults }
+    {
+        converse(rt, self, lines, out)
+    }
+
+    /// Counts the line, and writes its reply.
+    fn put_counted<T: Sink>(&mut self, out: &mut Out<T>, reply: &Reply) -> Result<(), WriteError>
+        ensures same { self.new ≡ self.old }
+        ensures written { Writes result out.old out.new (B.reply_text reply.now) }
+    {
+        self.guest.refuse();
+        self.scribe.put_reply(out, reply)
+    }
+
+    /// Writes the answer to a question about the newest version.
+    fn put_asked<T: Sink>(
+        &mut self,
+        rt: &R,
+        question: &Question,
+        out: &mut Out<T>,
+    ) -> Result<(), WriteError>
+        ensures later { Extends self.new.seen self.old.seen }
+        ensures same { self.new ≡ with_seen self.old self.new.seen }
+        ensures written { Writes result out.old out.new (B.answer_text self.new.seen question.now) }
+    {
+        let Ok(version) = self.guest.read() else {
+            return Err(WriteError::OutOfMemory);
+        };
+        self.scribe.put_answer(rt, out, &version, question)
+    }
+
+    /// Submits an edit, and writes its reply.
+    fn put_change<T: Sink>(
+        &mut self,
+        rt: &R,
+        edit: &Edit,
+        out: &mut Out<T>,
+    ) -> Result<(), WriteError>
+        ensures { PutsEdit (record { answer = B.answer_text; reply = B.reply_text }) G.edits result self.old self.new edit.now out.old out.new }
+    {
+        match self.guest.submit(rt, edit) {
+            Ok(number) => self.scribe.put_reply(out, &Reply::Accepted(number)),
+            Err(Refusal::Refused(error)) => self.put_counted(out, &Reply::Refused(error)),
+            Err(Refusal::NotADesigner) => self.put_counted(out, &Reply::NotADesigner),
+        }
+    }
+
+    /// Writes the reply to a line that isn't too long.
+    fn put_line<T: Sink>(&mut self, rt: &R, line: &[u8], out: &mut Out<T>) -> Result<(), WriteError>
+        ensures { PutsAnswer (IsStep (record { answer = B.answer_text; reply = B.reply_text }) G.edits) result self.old self.new (Some line.now) out.old out.new }
+    {
+        match read_line(self.alloc, line) {
+            Ok(Line::Empty) => Ok(()),
+            Ok(Line::Change(edit)) => self.put_change(rt, &edit, out),
+            Ok(Line::Ask(question)) => self.put_asked(rt, &question, out),
+            Err(LineError::OutOfMemory) => {
+                self.put_counted(out, &Reply::Refused(EditError::OutOfMemory))
+            }
+            Err(error) => self.put_counted(out, &Reply::Unread(error)),
+        }
+    }
+}
+
+impl<'a, R, B: Scribe<R>, G: Guest<R>> Answerer<R> for Seat<'a, R, B, G> {
+    ghost use Rattle.mp_seats.specs.Steps.{IsStep};
+
+    ghost Answers = { IsStep (record { answer = B.answer_text; reply = B.reply_text }) G.edits };
+
+    fn put_answer<T: Sink>(
+        &mut self,
+        rt: &R,
+        line: Option<&[u8]>,
+        out: &mut Out<T>,
+    ) -> Result<(), WriteError> {
+        match line {
+            Some(line) => self.put_line(rt, line, out),
+            None => self.put_counted(out, &Reply::TooLong),
+        }
+    }
+}

@@ -1,0 +1,29 @@
+//! One who sits at a seat, makes no edits, and has no memory to read.
+use mp_netlist::Edit;
+use mp_seats::{Guest, Refusal};
+use mp_version::Version;
+use std::alloc::AllocError;
+use std::sync::Arc;
+
+/// Refuses edits, and reads nothing.
+#[derive(Drop)]
+pub(crate) struct Onlooker;
+
+impl<R> Guest<R> for Onlooker {
+    ghost use Rattle.std.specs.Prelude.{[], false};
+    ghost use Rattle.mp_version.specs.Stories.{opening};
+
+    ghost seated = { λ _. record { seen = opening (record { horizon = 0; wires = []; modules = []; bundles = [] }); accepted = 0 } };
+
+    ghost edits = { false };
+
+    fn submit(&mut self, _rt: &R, _edit: &Edit) -> Result<u32, Refusal> {
+        Err(Refusal::NotADesigner)
+    }
+
+    fn read(&mut self) -> Result<Arc<Version>, AllocError> {
+        Err(AllocError)
+    }
+
+    fn refuse(&mut self) {}
+}

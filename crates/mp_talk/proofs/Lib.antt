@@ -1,0 +1,3 @@
+mod FlushLemmas
+mod AnswerLemmas
+mod TalkLemmas

@@ -1,0 +1,22 @@
+//! Who answers lines.
+ghost use Rattle.std.specs.Prelude.{ℕ, List, Option};
+ghost use Rattle.std.specs.Option.{option_copied};
+ghost use Rattle.mp_talk.specs.Answers.{PutsAnswer};
+
+use mp_streams::{Out, Sink, WriteError};
+
+/// Who answers lines, and may change with each of them.
+pub trait Answerer<R> {
+    // Whether one who stands so may answer a line so, and stand so after it. None is a line that is too long to be read.
+    ghost Answers: { Self → Option (List ℕ) → Self → List ℕ → Type 0 };
+
+    /// Writes the answer to a line. `None` is a line that is too long to be read. `WriteFailed` comes with a fault of the sink, and `OutOfMemory`
+    /// where memory is wanting: then a part of the answer may be written.
+    fn put_answer<T: Sink>(
+        &mut self,
+        rt: &R,
+        line: Option<&[u8]>,
+        out: &mut Out<T>,
+    ) -> Result<(), WriteError>
+        ensures { PutsAnswer Answers result self.old self.new (option_copied line.entry) out.old out.new };
+}
