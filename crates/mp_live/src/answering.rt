@@ -43,7 +43,7 @@ fn put_answer<R: Threads + Wait + Sync, S: Source, T: Sink>(
 }
 
 /// Writes that a line is too long to be read.
-fn put_too_long<T: Sink>(out: &mut Out<T>) -> Result<(), Failed>
+pub(crate) fn put_too_long<T: Sink>(out: &mut Out<T>) -> Result<(), Failed>
     ensures { Writes result out.old out.new too_long_text }
 {
     ("unread 8 TooLong", "\n").put_to(out)

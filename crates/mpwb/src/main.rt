@@ -3,6 +3,10 @@
 
 ghost use Rattle.std.specs.Prelude.{◌≡◌, []};
 
+mod live_desk;
+mod pipes;
+
+use crate::live_desk::run_live_desk;
 use mp_commands::{
     AskedPicture, Charset, Desk, Drawing, DumpText, GraphText, Keeper, MeasureLines, Name, Options,
     PathLines, PictureText, Play, ReportLines, RunFault, TimeRange, View, Viewed, WaitLines,
@@ -53,7 +57,7 @@ fn answer<R: Runtime + Threads + Wait + Sync + AllocGlobal>(
     match read_words(rt.alloc(), words.as_slice()) {
         Ok(Asked::Explain(word)) => explain(rt, word),
         Ok(Asked::Run(request)) => match run(rt, &request, is_typed) {
-            Ok(()) => Ok(0),
+            Ok(status) => Ok(status),
             Err(fault) => {
                 tell_fault(rt, &fault, request.wires());
                 Ok(exit_status(&fault))
@@ -79,22 +83,26 @@ fn explain<R: Print + Eprint + AllocGlobal>(rt: &R, word: Option<&str>) -> Resul
     tell(rt, &unknown_word(rt.alloc(), word)?).map_err(fault_of_telling)
 }
 
-/// Opens the input and runs the command on it. `ReadFailed` comes where the file can't be opened.
+/// Opens the input and runs the command on it, and returns the status with which the program ends. `ReadFailed` comes where the file can't be
+/// opened.
 fn run<R: Runtime + Threads + Wait + Sync + AllocGlobal>(
     rt: &R,
     request: &Request<'_>,
     is_typed: bool,
-) -> Result<(), RunFault> {
-    match request.file {
-        None => run_on(rt, ReadSource::new(rt.reader()), request),
-        Some(path) => {
-            let file = ReadSource::new(open_file(rt, path)?);
-            match request.command {
-                Command::Play => run_live(rt, file, request, is_typed),
-                _ => run_on(rt, file, request),
-            }
+) -> Result<u8, RunFault> {
+    let Some(path) = request.file else {
+        run_on(rt, ReadSource::new(rt.reader()), request)?;
+        return Ok(0);
+    };
+    let file = ReadSource::new(open_file(rt, path)?);
+    match request.command {
+        Command::Play => run_live(rt, file, request, is_typed)?,
+        Command::LiveDesk { folder, designers } => {
+            return run_live_desk(rt, file, &options_of(request), folder, designers);
         }
+        _ => run_on(rt, file, request)?,
     }
+    Ok(0)
 }
 
 /// The file, to be read. `ReadFailed` comes where it can't be opened.
@@ -185,6 +193,8 @@ fn run_on<R: Print + Threads + Wait + Sync + AllocGlobal, S: Source + Drop>(
         }
         Command::Play => run_command(rt, rt.alloc(), source, out, &options, &Play),
         Command::Desk => run_command(rt, rt.alloc(), source, out, &options, &Desk),
+        // its netlist is in a file, since its standard input has lines
+        Command::LiveDesk { .. } => Err(RunFault::ReadFailed),
     }
 }
 

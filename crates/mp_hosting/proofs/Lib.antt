@@ -1,0 +1,2 @@
+mod GuestLemmas
+mod StayLemmas

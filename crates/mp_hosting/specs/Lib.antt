@@ -1,0 +1,3 @@
+pub mod Guests
+pub mod OwnSeats
+pub mod Stays
