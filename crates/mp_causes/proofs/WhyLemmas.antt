@@ -46,10 +46,6 @@ declared_is n ok moment steps none = sym (ap (chain_text n steps (declared_line 
 
 -- ---- texts under other names
 
--- a success is one whatever the errors are
-pub puts_ok : {S T E F : Type 0} {f : F → Bool} {g : E → Bool} {done : T} {a b : Outgoing S} {xs : List ℕ} → Puts f (Ok done) a b xs → Puts {T = T} g (Ok done) a b xs
-puts_ok puts = record { front = puts.front; lost = puts.lost; taken = puts.taken; held = puts.held; ends = puts.ends }
-
 -- the same text was written
 pub puts_text : {S T E : Type 0} {f : E → Bool} {r : Result T E} {a b : Outgoing S} {xs ys : List ℕ} → xs ≡ ys → Puts f r a b xs → Puts f r a b ys
 puts_text {T = T} {E = E} {f = f} {r = r} {a = a} {b = b} {xs = xs} {ys = ys} is puts = subst (Puts f r a b) is puts

@@ -6,10 +6,6 @@ use Rattle.std.proofs.lemmas.List.FromFn.{get_or-range_with_len, length-range_wi
 use Rattle.mp_streams.specs.Outgoing.{Outgoing, Puts}
 use Rattle.mp_streams.proofs.OutLemmas.{puts_next, puts_stopped}
 
--- a success is one whatever the errors are
-pub puts_ok : {S T E F : Type 0} {f : F → Bool} {g : E → Bool} {done : T} {a b : Outgoing S} {xs : List ℕ} → Puts f (Ok done) a b xs → Puts {T = T} g (Ok done) a b xs
-puts_ok puts = record { front = puts.front; lost = puts.lost; taken = puts.taken; held = puts.held; ends = puts.ends }
-
 -- the row of a room that was cleared was written
 pub puts_row : {S T E : Type 0} {f : E → Bool} {r : Result T E} {a b : Outgoing S} {bytes row text : List ℕ} → bytes ≡ row ++ text → row ≡ [] → Puts f r a b bytes → Puts f r a b text
 puts_row {T = T} {E = E} {f = f} {r = r} {a = a} {b = b} {bytes = bytes} {row = row} {text = text} is none puts = subst (Puts f r a b) (is ∙ ap (λ l. l ++ text) none) puts

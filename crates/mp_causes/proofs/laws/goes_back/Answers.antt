@@ -1,4 +1,4 @@
-use Rattle.mp_causes.proofs.ChainLemmas.{goes_back}
+use Rattle.mp_causes.proofs.CauseLemmas.{goes_back}
 use Rattle.mp_causes.proofs.laws.goes_back.Goals as goal
 
 pub returns : goal.returns

@@ -1,4 +1,4 @@
-use Rattle.mp_causes.proofs.ChainLemmas.{times_fall}
+use Rattle.mp_causes.proofs.CauseLemmas.{times_fall}
 use Rattle.mp_causes.proofs.laws.times_fall.Goals as goal
 
 pub returns : goal.returns

@@ -1,6 +1,6 @@
 use Rattle.std.proofs.Common.{◌≡◌, Some, List, filter, refl, ap, sym, ◌∙◌}
 use Rattle.std.specs.List.{flat_map}
-use Rattle.mp_streams.proofs.OutLemmas.{puts_as, puts_none, puts_unmade}
+use Rattle.mp_streams.proofs.OutLemmas.{puts_as, puts_none, puts_ok, puts_unmade}
 use Rattle.mp_streams.specs.declared.write_error.WriteError.TheVariants.{WriteFailed, OutOfMemory}
 use Rattle.mp_causes.specs.declared.levels.Levels.{Levels}
 use Rattle.mp_causes.specs.declared.module_share.ModuleShare.{ModuleShare}
@@ -9,7 +9,7 @@ use Rattle.mp_causes.specs.Chains.{chain_from}
 use Rattle.mp_causes.specs.Shares.{shares, has_steps, by_units}
 use Rattle.mp_causes.specs.Paths.{path_text, share_line}
 use Rattle.mp_causes.proofs.ShareLemmas.{no_path, path_is}
-use Rattle.mp_causes.proofs.WhyLemmas.{puts_ok, puts_text}
+use Rattle.mp_causes.proofs.WhyLemmas.{puts_text}
 use Rattle.mp_causes.proofs.path.put_path.Goals as goal
 
 pub returns-in_default : goal.returns-in_default

@@ -1,12 +1,12 @@
 use Rattle.std.proofs.Common.{◌≡◌, Some, take, refl, ap, ◌∙◌}
 use Rattle.std.specs.List.{flat_map}
-use Rattle.mp_streams.proofs.OutLemmas.{puts_as, puts_unmade}
+use Rattle.mp_streams.proofs.OutLemmas.{puts_as, puts_ok, puts_unmade}
 use Rattle.mp_streams.specs.declared.write_error.WriteError.TheVariants.{WriteFailed, OutOfMemory}
 use Rattle.mp_causes.specs.declared.levels.Levels.{Levels}
 use Rattle.mp_causes.specs.Changes.{last_change, read_time}
 use Rattle.mp_causes.specs.Chains.{chain_from}
 use Rattle.mp_causes.specs.Why.{step_line}
-use Rattle.mp_causes.proofs.WhyLemmas.{declared_is, puts_ok, puts_text, why_is}
+use Rattle.mp_causes.proofs.WhyLemmas.{declared_is, puts_text, why_is}
 use Rattle.mp_causes.proofs.why.put_why.Goals as goal
 
 pub returns-in_err-put_declared : goal.returns-in_err-put_declared

@@ -1,7 +1,7 @@
 use Rattle.std.proofs.Common.{refl, ◌∙◌}
-use Rattle.mp_streams.proofs.OutLemmas.{puts_as, puts_unmade}
+use Rattle.mp_streams.proofs.OutLemmas.{puts_as, puts_ok, puts_unmade}
 use Rattle.mp_streams.specs.declared.write_error.WriteError.TheVariants.{WriteFailed, OutOfMemory}
-use Rattle.mp_picture.proofs.PutLemmas.{puts_ok, puts_row}
+use Rattle.mp_picture.proofs.PutLemmas.{puts_row}
 use Rattle.mp_picture.proofs.diagram.put_wire.Goals as goal
 
 pub returns-in_err-push_wire_line : goal.returns-in_err-push_wire_line

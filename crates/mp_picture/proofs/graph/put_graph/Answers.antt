@@ -1,10 +1,9 @@
 use Rattle.std.proofs.Common.{ℕ, List, [], ◌∷◌, ◌++◌, refl}
 use Rattle.mp_netlist.specs.Circuit.{Circuit}
-use Rattle.mp_streams.proofs.OutLemmas.{puts_as, puts_then, puts_sooner}
+use Rattle.mp_streams.proofs.OutLemmas.{puts_as, puts_ok, puts_sooner, puts_then}
 use Rattle.mp_streams.specs.declared.write_error.WriteError.TheVariants.{WriteFailed}
 use Rattle.mp_picture.specs.declared.graph.GraphSection.TheVariants.{Modules, Wires, Reads, Bundles}
 use Rattle.mp_picture.specs.GraphSections.{section_text, graph}
-use Rattle.mp_picture.proofs.PutLemmas.{puts_ok}
 use Rattle.mp_picture.proofs.graph.put_graph.Goals as goal
 
 abbrev last : List ℕ

@@ -1,7 +1,6 @@
 use Rattle.std.proofs.Common.{refl}
-use Rattle.mp_streams.proofs.OutLemmas.{puts_as}
+use Rattle.mp_streams.proofs.OutLemmas.{puts_as, puts_ok}
 use Rattle.mp_streams.specs.declared.write_error.WriteError.TheVariants.{WriteFailed}
-use Rattle.mp_picture.proofs.PutLemmas.{puts_ok}
 use Rattle.mp_picture.proofs.graph.put_slot.Goals as goal
 
 pub returns-in_err-put_module_node-in-Modules : goal.returns-in_err-put_module_node-in-Modules

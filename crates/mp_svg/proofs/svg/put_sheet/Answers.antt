@@ -1,11 +1,10 @@
 use Rattle.std.proofs.Common.{List, ℕ, [], ◌∷◌, ◌++◌, length, codes, refl}
-use Rattle.mp_streams.proofs.OutLemmas.{puts_as, puts_then, puts_sooner}
+use Rattle.mp_streams.proofs.OutLemmas.{puts_as, puts_ok, puts_sooner, puts_then}
 use Rattle.mp_streams.specs.declared.write_error.WriteError.TheVariants.{WriteFailed}
 use Rattle.mp_records.specs.declared.ids.WireId.{WireId}
 use Rattle.mp_netlist.specs.Circuit.{Circuit}
 use Rattle.mp_model.specs.declared.finding.Place.{Place}
 use Rattle.mp_model.specs.declared.finding.Finding.{Finding}
-use Rattle.mp_picture.proofs.PutLemmas.{puts_ok}
 use Rattle.mp_svg.specs.declared.frame.Frame.{Frame}
 use Rattle.mp_svg.specs.FoundGroups.{place_groups, finding_groups}
 use Rattle.mp_svg.specs.Svg.{wire_rows}

@@ -1,5 +1,5 @@
 use Rattle.std.proofs.Common.{◌≡◌, ℕ, ◌≤◌, List, length, Option, Some, refl, sym, ap, ◌∙◌, rules, arith}
-use Rattle.mp_streams.proofs.OutLemmas.{puts_as, puts_unmade}
+use Rattle.mp_streams.proofs.OutLemmas.{puts_as, puts_ok, puts_unmade}
 use Rattle.mp_streams.specs.declared.write_error.WriteError.TheVariants.{WriteFailed, OutOfMemory}
 use Rattle.mp_wave.specs.Waveform.{Waveform, level_of}
 use Rattle.mp_records.specs.declared.wire_record.WireRecord.{WireRecord}
@@ -8,7 +8,6 @@ use Rattle.mp_netlist.specs.Circuit.{Circuit, wire_at}
 use Rattle.mp_model.specs.Waves.{AreWavesOf}
 use Rattle.mp_picture.specs.declared.cell.Cell.{Cell}
 use Rattle.mp_picture.specs.Cells.{cells}
-use Rattle.mp_picture.proofs.PutLemmas.{puts_ok}
 use Rattle.mp_picture.proofs.WaveLemmas.{wave_cells, wave_at}
 use Rattle.mp_svg.specs.declared.frame.Frame.{Frame}
 use Rattle.mp_svg.specs.declared.lane.Lane.{Lane}
