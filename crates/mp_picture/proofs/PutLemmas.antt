@@ -1,37 +1,7 @@
--- Texts that are written row by row and line by line.
-use Rattle.std.proofs.Common.{◌≡◌, ℕ, ◌+◌, ◌<◌, Bool, List, [], ◌++◌, length, get_or, take, Result, Ok, Err, sym, ap, subst, ◌∙◌, zero-add, arith}
-use Rattle.std.specs.List.{flat_map, range_with_len}
-use Rattle.std.proofs.lemmas.List.{take_all}
-use Rattle.std.proofs.lemmas.List.FromFn.{get_or-range_with_len, length-range_with_len}
+-- Rows that are written from a room.
+use Rattle.std.proofs.Common.{◌≡◌, ℕ, Bool, List, [], ◌++◌, Result, ap, subst, ◌∙◌}
 use Rattle.mp_streams.specs.Outgoing.{Outgoing, Puts}
-use Rattle.mp_streams.proofs.OutLemmas.{puts_next, puts_stopped}
 
 -- the row of a room that was cleared was written
 pub puts_row : {S T E : Type 0} {f : E → Bool} {r : Result T E} {a b : Outgoing S} {bytes row text : List ℕ} → bytes ≡ row ++ text → row ≡ [] → Puts f r a b bytes → Puts f r a b text
 puts_row {T = T} {E = E} {f = f} {r = r} {a = a} {b = b} {bytes = bytes} {row = row} {text = text} is none puts = subst (Puts f r a b) (is ∙ ap (λ l. l ++ text) none) puts
-
--- ---- a line for each number
-
-module _ (t : ℕ → List ℕ) (count k : ℕ) where
-  abbrev numbers : List ℕ
-  numbers = range_with_len 0 count
-
-  line_is : k < count → t (get_or numbers k 0) ≡ t k
-  line_is within = ap t (get_or-range_with_len 0 count k 0 within ∙ zero-add k)
-
-  within_numbers : k < count → k < length numbers
-  within_numbers within = omega (arith, within, length-range_with_len 0 count)
-
-  module _ {S T E : Type 0} {f : E → Bool} {done : T} {a b c : Outgoing S} where
-    -- a line more
-    pub numbers_next : k < count → Puts f (Ok done) a b (flat_map t (take k numbers)) → Puts {T = T} f (Ok done) b c (t k) → Puts {T = T} f (Ok done) a c (flat_map t (take (k + 1) numbers))
-    numbers_next within first second = puts_next t numbers k 0 (within_numbers within) first (subst (Puts f (Ok done) b c) (sym (line_is within)) second)
-
-    -- a line failed
-    pub numbers_stopped : {error : E} → k < count → Puts f (Ok done) a b (flat_map t (take k numbers)) → Puts {T = T} f (Err error) b c (t k) → Puts {T = T} f (Err error) a c (flat_map t numbers)
-    numbers_stopped {error = error} within first second = puts_stopped t numbers k 0 (within_numbers within) first (subst (Puts f (Err error) b c) (sym (line_is within)) second)
-
-  -- all lines
-  pub numbers_over : {S T E : Type 0} {f : E → Bool} {done : T} {a b : Outgoing S} → k ≡ count → Puts f (Ok done) a b (flat_map t (take k numbers)) → Puts f (Ok done) a b (flat_map t numbers)
-  numbers_over {T = T} {E = E} {f = f} {done = done} {a = a} {b = b} over first =
-      subst (Puts f (Ok done) a b) (ap (flat_map t) (take_all k numbers (omega (arith, over, length-range_with_len 0 count)))) first

@@ -1,7 +1,6 @@
 pub mod EventLemmas
 pub mod WaveLemmas
 pub mod ExtremeLemmas
-pub mod PutLemmas
 pub mod TrailLemmas
 pub mod WatchLemmas
 pub mod HeardLemmas

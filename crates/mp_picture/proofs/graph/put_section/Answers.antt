@@ -1,7 +1,7 @@
 use Rattle.std.proofs.Common.{◌≡◌, ◌<◌, refl, arith}
 use Rattle.mp_streams.proofs.OutLemmas.{puts_none, puts_as}
 use Rattle.mp_picture.specs.GraphSections.{slot_count, section_line}
-use Rattle.mp_picture.proofs.PutLemmas.{numbers_next, numbers_stopped, numbers_over}
+use Rattle.mp_streams.proofs.LineLemmas.{numbers_next, numbers_stopped, numbers_over}
 use Rattle.mp_picture.proofs.graph.put_section.Goals as goal
 
 pub loop-number-init : goal.loop-number-init

@@ -1,6 +1,6 @@
 use Rattle.std.proofs.Common.{◌≡◌, ◌<◌, arith}
 use Rattle.mp_streams.proofs.OutLemmas.{puts_none, writes_failed}
-use Rattle.mp_picture.proofs.PutLemmas.{numbers_next, numbers_stopped, numbers_over}
+use Rattle.mp_streams.proofs.LineLemmas.{numbers_next, numbers_stopped, numbers_over}
 use Rattle.mp_svg.specs.Frames.{tick_count}
 use Rattle.mp_svg.specs.Heads.{tick_mark}
 use Rattle.mp_svg.proofs.head.put_ticks.Goals as goal

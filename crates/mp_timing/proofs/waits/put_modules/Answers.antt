@@ -1,7 +1,7 @@
 use Rattle.std.proofs.Common.{◌≡◌, ◌<◌, length, arith}
 use Rattle.mp_streams.proofs.OutLemmas.{puts_none, writes_failed}
 use Rattle.mp_timing.specs.Waits.{module_wait}
-use Rattle.mp_timing.proofs.PutLemmas.{numbers_next, numbers_stopped, numbers_over}
+use Rattle.mp_streams.proofs.LineLemmas.{numbers_next, numbers_stopped, numbers_over}
 use Rattle.mp_timing.proofs.waits.put_modules.Goals as goal
 
 pub loop-number-init : goal.loop-number-init

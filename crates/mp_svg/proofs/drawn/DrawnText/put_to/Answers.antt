@@ -1,6 +1,6 @@
 use Rattle.std.proofs.Common.{◌≡◌, ◌<◌, length, rules}
 use Rattle.mp_streams.proofs.OutLemmas.{puts_none, writes_failed}
-use Rattle.mp_picture.proofs.PutLemmas.{numbers_next, numbers_stopped, numbers_over}
+use Rattle.mp_streams.proofs.LineLemmas.{numbers_next, numbers_stopped, numbers_over}
 use Rattle.mp_svg.specs.Columns.{column_text}
 use Rattle.mp_svg.proofs.drawn.DrawnText.put_to.Goals as goal
 
