@@ -1,0 +1,2 @@
+mod LevelLemmas
+mod FiringLemmas

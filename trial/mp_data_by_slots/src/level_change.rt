@@ -1,0 +1,8 @@
+//! A change of level.
+
+/// A wire with data, or a delayed copy of one, by its number, and its level from a unit on.
+#[derive(Clone, Copy, Debug)]
+pub struct LevelChange {
+    pub number: u16,
+    pub level: u64,
+}
