@@ -1,6 +1,7 @@
 -- A unit begins: wires toggle, and modules have their events.
 use Rattle.std.proofs.Common.{◌≡◌, ℕ, suc, ◌+◌, ◌-◌, ◌%◌, ◌<◌, ◌≤◌, Bool, true, false, not, cond, nat_lt, drop, List, [], ◌∷◌, ◌++◌, length, Some, All, refl, sym, ap, ◌∙◌, arith, subst}
 use Rattle.std.specs.Prelude.{◌==◌, ◌&&◌, slice_index_or}
+use Rattle.std.proofs.lemmas.Bool.{eqb-true}
 use Rattle.std.proofs.lemmas.Bool.Decides.{nat_tests}
 use Rattle.std.proofs.lemmas.List.Elements.{All-append}
 use Rattle.std.proofs.lemmas.Grind.{flat_map-append}
@@ -36,7 +37,7 @@ use Rattle.mp_core.specs.declared.simulator.Simulator.{Simulator}
 use Rattle.mp_core.specs.Changes.{change_at, is_decided}
 use Rattle.mp_core.specs.Advancing.{unit_state_at}
 use Rattle.mp_core.specs.Scopes.{Scope, is_expected}
-use Rattle.mp_core.specs.Simulators.{next_slot, slot_at, AreBelow, IsSound, CanApply}
+use Rattle.mp_core.specs.Simulators.{next_slot, slot_at, AreBelow, IsSound, CanApply, AreOnlyDue}
 use Rattle.mp_core.specs.Traces.{IsTrace}
 use Rattle.mp_core.specs.Units.{IsLaidOut, HaveWaves, HaveEvents, IsBefore, IsDuring, AreDue}
 use Rattle.mp_core.proofs.TraceLemmas.{traces_grow}
@@ -96,6 +97,26 @@ by_change false x y = refl
 
 unexpected : (n : Circuit) (scope : Scope) (w u : ℕ) → is_decided n scope.known (driver n w) u ≡ false → is_expected n scope w u ≡ false
 unexpected n scope w u none = by_parts (change_at n w u) (is_decided n scope.known (driver n w) u) (scope.owns w u) none
+
+idle_when : (r n : ℕ) (t : Bool) → (r == 0) ≡ t → n ≡ cond t 0 1 → n ≡ 0 → r ≡ 0
+idle_when r n true is once none = eqb-true r 0 is
+idle_when r n false is once none = absurd (omega arith)
+
+-- a place that isn't due has had no event
+pub only_due : (s : Simulator) (set others wires : List ℕ) (time : ℕ) (mid new : List AutomatonState) (due : List ℕ) → IsSound s → CanApply s set others time → wires ≡ next_slot s ++ set →
+    AreAdded s.states.items mid (entries_from s.fanout wires) → AreAdded mid new (entries_from s.fanout others) → IsAdding new due [] → s.due.items ≡ [] →
+    AreOnlyDue s.fanout ((next_slot s ++ set) ++ others) due
+only_due s set others wires time mid new due sound fit same first then adding none q idle =
+    let all = added_both (entries_from s.fanout (next_slot s ++ set)) (entries_from s.fanout others)
+    (subst (λ ws. AreAdded s.states.items mid (entries_from s.fanout ws)) same first) then in
+    let joined : entries_from s.fanout ((next_slot s ++ set) ++ others) ≡ entries_from s.fanout (next_slot s ++ set) ++ entries_from s.fanout others =
+    flat_map-append (row_at s.fanout) (next_slot s ++ set) others in
+    let parts = ap (λ xs. events_for q xs) joined in
+    let was = idle_when (state_at s.states.items q % 16) (listed q s.due.items) (state_at s.states.items q % 16 == 0) refl (sound.events.once q) (ap (λ xs. listed q xs) none) in
+    let now = idle_when (state_at new q % 16) (listed q due) (state_at new q % 16 == 0) refl (adding.once q) idle in
+    let more = all.each q in
+    let room = fit.adding.room q in
+    omega arith
 
 module _ (s new : Simulator) (set others : List ℕ) (time : ℕ) (sound : IsSound s) (fit : CanApply s set others time) (is : IsApplied s new set others time) where
   slot_is : (k : ℕ) → slot_at new k ≡ slot_at s (suc k)

@@ -39,7 +39,7 @@ driven n ok w p t m r drives at =
     ∙ ap (λ (d : Driver). driven_level d n (state n) w t) drives
     ∙ ap (λ slot. port_level (state n) slot m.0 p (initial_of (wire_at n w)) t) at
 
-reached : (n : Circuit) → IsCircuit n → (w p d t : ℕ) (m : ModuleId) (r : ModuleRecord) → driver n w ≡ Port m p → module_at n m.0 ≡ Some r → delay_of r p ≡ d →
+pub reached : (n : Circuit) → IsCircuit n → (w p d t : ℕ) (m : ModuleId) (r : ModuleRecord) → driver n w ≡ Port m p → module_at n m.0 ≡ Some r → delay_of r p ≡ d →
     level n w (t + d) ≡ output_of (state n m.0 t) p
 reached n ok w p d t m r drives at is =
     let late : nat_lt (t + d) d ≡ false = grind (arith, nat_tests) in
@@ -98,7 +98,7 @@ last_next level t changes true is last = rw (append-nil changes) (last ∙ eqb-t
 last_next level t changes false is last = last_from-append (level 0) changes ((suc t, level (suc t)) ∷ [])
 
 -- the last level of a wave is that of its last unit
-last_is : (level : ℕ → ℕ) (t : ℕ) → last_from (level 0) (changes_after level 0 t) ≡ level t
+pub last_is : (level : ℕ → ℕ) (t : ℕ) → last_from (level 0) (changes_after level 0 t) ≡ level t
 last_is level zero = refl
 last_is level (suc t) =
     let from_zero : 0 + t ≡ t = omega arith in

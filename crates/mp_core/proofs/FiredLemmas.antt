@@ -83,7 +83,7 @@ no_bit : (d : Bool) (x : ℕ) → x + bit (d && false) ≡ x
 no_bit true x = omega arith
 no_bit false x = omega arith
 
-same_test : (u a b : ℕ) (t : Bool) → nat_lt u a ≡ t → b ≡ a + 1 → (u ≡ a → ⊥) → nat_lt u a ≡ nat_lt u b
+pub same_test : (u a b : ℕ) (t : Bool) → nat_lt u a ≡ t → b ≡ a + 1 → (u ≡ a → ⊥) → nat_lt u a ≡ nat_lt u b
 same_test u a b true is next other = is ∙ sym (let now : nat_lt u b ≡ true = grind (arith, nat_tests) in now)
 same_test u a b false is next other =
     let beyond : a ≤ u = grind (arith, nat_tests) in
@@ -91,7 +91,7 @@ same_test u a b false is next other =
     let far : b ≤ u = omega arith in
     is ∙ sym (let now : nat_lt u b ≡ false = grind (arith, nat_tests) in now)
 
-sum_bits : (c d owns was is entry : Bool) → (entry ≡ true → (was ≡ false) × (is ≡ true) × (owns ≡ true) × (d ≡ c)) → (entry ≡ false → was ≡ is) →
+pub sum_bits : (c d owns was is entry : Bool) → (entry ≡ true → (was ≡ false) × (is ≡ true) × (owns ≡ true) × (d ≡ c)) → (entry ≡ false → was ≡ is) →
     bit (c && was && owns) + bit (d && entry) ≡ bit (c && is && owns)
 sum_bits c d owns was is true now before =
     let facts = now refl in

@@ -27,14 +27,14 @@ held n ok m (suc t) r at =
     subst (λ k. (state n m k).inputs ≡ input_levels (inputs_by n (level n) r k)) e
     (ap (λ (s : Memory). s.inputs) ((satisfies n ok).stepped m t r at) ∙ step_inputs (built n r) (state n m t) (inputs_by n (level n) r (t + 1)))
 
-same_head : {A : Type 0} {a b : A} {xs ys : List A} → a ∷ xs ≡ b ∷ ys → a ≡ b
+pub same_head : {A : Type 0} {a b : A} {xs ys : List A} → a ∷ xs ≡ b ∷ ys → a ≡ b
 same_head {a = a} same = ap (λ l. slice_index_or l 0 a) same
 
 abbrev rest_of : {A : Type 0} → List A → List A
 rest_of [] = []
 rest_of (x ∷ xs) = xs
 
-same_rest : {A : Type 0} {a b : A} {xs ys : List A} → a ∷ xs ≡ b ∷ ys → xs ≡ ys
+pub same_rest : {A : Type 0} {a b : A} {xs ys : List A} → a ∷ xs ≡ b ∷ ys → xs ≡ ys
 same_rest same = ap rest_of same
 
 none_is_some : {A : Type 0} {a : A} {xs : List A} → [] ≡ a ∷ xs → ⊥

@@ -31,7 +31,7 @@ none_toggle s time = record {
 }
 
 -- nothing that changes can be applied
-quiet_fit : (s : Simulator) (time : ℕ) → IsSound s → next_slot s ≡ [] → CanApply s [] [] time
+pub quiet_fit : (s : Simulator) (time : ℕ) → IsSound s → next_slot s ≡ [] → CanApply s [] [] time
 quiet_fit s time sound none = record {
   waved = λ k d within. absurd (omega arith);
   rowed = λ k d within. absurd (omega arith);
@@ -45,7 +45,7 @@ none_added s = record { each = λ m. omega arith }
 none_toggled : (s : Simulator) (time : ℕ) → AreToggled s.waves.items s.waves.items [] time
 none_toggled s time = record { placed = refl; each = λ w. refl }
 
-quiet_applied : (s : Simulator) (wheel : List (List ℕ)) (time : ℕ) → IsSound s → next_slot s ≡ [] → wheel ≡ drop 1 s.wheel ++ [] ∷ [] → IsApplied s (turned s wheel) [] [] time
+pub quiet_applied : (s : Simulator) (wheel : List (List ℕ)) (time : ℕ) → IsSound s → next_slot s ≡ [] → wheel ≡ drop 1 s.wheel ++ [] ∷ [] → IsApplied s (turned s wheel) [] [] time
 quiet_applied s wheel time sound none is = record {
   turned = is;
   fanout = refl;
@@ -60,7 +60,7 @@ pub quiet_sound : (s : Simulator) (wheel : List (List ℕ)) → IsSound s → ne
 quiet_sound s wheel sound none is = applied_sound s (turned s wheel) [] [] 0 sound (quiet_fit s 0 sound none) (quiet_applied s wheel 0 sound none is)
 
 -- no module is due, so none fires
-none_fired : (s : Simulator) → s.due.items ≡ [] → IsFired s s
+pub none_fired : (s : Simulator) → s.due.items ≡ [] → IsFired s s
 none_fired s none = record {
   states = λ state_of numbered m within. rw none refl;
   wheel = λ state_of numbered. rw none refl;

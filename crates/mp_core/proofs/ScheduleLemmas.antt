@@ -147,14 +147,14 @@ own_led (suc (suc zero)) low r T k w is others =
     omega arith
 own_led (suc (suc (suc p))) low r T k w is others = absurd (omega arith)
 
-toggle_between : (p : ℕ) → p < 3 → (s u : Memory) → port_toggle (toggles_between s u) p ≡ not (output_of s p == output_of u p)
+pub toggle_between : (p : ℕ) → p < 3 → (s u : Memory) → port_toggle (toggles_between s u) p ≡ not (output_of s p == output_of u p)
 toggle_between zero low s u = refl
 toggle_between (suc zero) low s u = refl
 toggle_between (suc (suc zero)) low s u = refl
 toggle_between (suc (suc (suc p))) low s u = absurd (omega arith)
 
 -- a module that isn't due enters nothing
-once_or_none : (n g : ℕ) (t : Bool) → (n == 0) ≡ t → n ≤ 1 → (n ≡ 0 → g ≡ 0) → n * g ≡ g
+pub once_or_none : (n g : ℕ) (t : Bool) → (n == 0) ≡ t → n ≤ 1 → (n ≡ 0 → g ≡ 0) → n * g ≡ g
 once_or_none n g true is low none = let zero_n : n ≡ 0 = eqb-true n 0 is in let zero_g = none zero_n in rw (zero_n, zero_g) (omega arith)
 once_or_none n g false is low none = let differs : n ≢ 0 = eqb-false n 0 is in let one : n ≡ 1 = omega arith in rw one (omega arith)
 

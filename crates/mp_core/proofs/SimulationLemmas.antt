@@ -1,21 +1,24 @@
 -- A whole unit.
-use Rattle.std.proofs.Common.{◌≡◌, ℕ, ◌+◌, ◌<◌, List, [], ◌∷◌, ◌++◌, Option, All, length, refl, sym, ap, ◌∙◌, arith, subst}
+use Rattle.std.proofs.Common.{◌≡◌, ℕ, ◌+◌, ◌<◌, List, [], ◌∷◌, ◌++◌, Option, true, All, length, refl, sym, ap, ◌∙◌, arith, subst}
 use Rattle.std.specs.Prelude.{slice_index_or}
 use Rattle.mp_netlist.specs.Circuit.{Circuit, IsCircuit}
+use Rattle.mp_automata.specs.Codes.{bit}
 use Rattle.mp_events.specs.declared.output_port.OutputPort.{OutputPort}
+use Rattle.mp_events.specs.Adding.{listed}
 use Rattle.mp_events.specs.Firing.{HasSlot}
 use Rattle.mp_core.specs.declared.delayed_copies.DelayedCopies.{DelayedCopies}
 use Rattle.mp_core.specs.declared.simulation.Simulation.{Simulation}
 use Rattle.mp_core.specs.declared.simulator.Simulator.{Simulator}
+use Rattle.mp_core.specs.Changes.{late_change}
 use Rattle.mp_core.specs.Scopes.{Scope, with_answers}
 use Rattle.mp_core.specs.Simulators.{next_slot, IsBelow}
 use Rattle.mp_core.specs.Units.{IsBefore}
 use Rattle.mp_core.specs.Copies.{AreChained, HaveCopies, AreListedBelow}
 use Rattle.mp_core.specs.Simulations.{copy_slot, AreSoundCopies, IsSoundRun, IsRunning, CanGoOn}
-use Rattle.mp_core.specs.WholeRuns.{IsWhole, AreSet, IsAll}
+use Rattle.mp_core.specs.WholeRuns.{is_number, IsWhole, AreSet, IsAll}
 use Rattle.mp_core.proofs.ListedLemmas.{all_below}
 use Rattle.mp_core.proofs.DueLemmas.{can_apply}
-use Rattle.mp_core.proofs.WholeLemmas.{slots_have_all}
+use Rattle.mp_core.proofs.WholeLemmas.{heard, slots_have_all}
 
 -- the numbers in the first slot are numbers
 pub all_numbers : (numbers : ℕ) (copies : DelayedCopies) → AreSoundCopies numbers copies → All (λ x. x < numbers) (copy_slot copies 0)
@@ -42,6 +45,16 @@ all_changes_now n ok scope before t s set sound is whole sets =
     let parts = split s.copies.wheel sound.copies.some in
     subst (λ (xs : List ℕ). IsAll n scope before t (next_slot s.simulator ++ set) xs) (head_is s.copies.wheel parts.0 parts.1.0 parts.1.1)
     (all_changes n ok scope before t s set parts.0 parts.1.0 sound is whole sets parts.1.1)
+
+-- each number is heard where its source changes
+pub heard_now : (n : Circuit) → IsCircuit n → (scope : Scope) (before : ℕ → Option ℕ) (t : ℕ) (s : Simulation) (set : List ℕ) → IsSoundRun s →
+    IsRunning n scope before t s → IsWhole n scope before t → AreSet n scope set (t + 1) → (x : ℕ) → is_number scope before x ≡ true →
+    listed x (next_slot s.simulator ++ set) + listed x (copy_slot s.copies 0) ≡ bit (late_change n (scope.source x) (t + 1))
+heard_now n ok scope before t s set sound is whole sets x number =
+    let parts = split s.copies.wheel sound.copies.some in
+    subst (λ (xs : List ℕ). listed x (next_slot s.simulator ++ set) + listed x xs ≡ bit (late_change n (scope.source x) (t + 1))) (head_is s.copies.wheel parts.0 parts.1.0 parts.1.1)
+    (heard n ok scope before s.copies.next.items t s.simulator set parts.0 parts.1.0 is.simulator sound.simulator.some whole sets is.chained
+    (subst (λ (slots : List (List ℕ)). HaveCopies n scope.source before s.copies.next.items t slots) parts.1.1 is.copies) x number)
 
 pub can_go_on : CanGoOn
 can_go_on n ok scope before t s set sound is whole sets waved =

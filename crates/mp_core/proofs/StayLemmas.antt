@@ -49,7 +49,7 @@ computed_padded (computed.XorC mask) m x = refl
 computed_padded (computed.Sum width) m x = refl
 computed_padded (computed.Bit place) m x = refl
 
-step_padded : (part : AnyModule) (m : Memory) (x : List ℕ) → step part m (input_levels x) ≡ step part m x
+pub step_padded : (part : AnyModule) (m : Memory) (x : List ℕ) → step part m (input_levels x) ≡ step part m x
 unfolding step
 step_padded (parts.Core part) m x = core_padded part m x
 step_padded (parts.Reg part) m x = refl

@@ -27,7 +27,7 @@ use Rattle.mp_core.specs.WholeRuns.{is_number, IsWhole, is_stimulus, AreSet, IsA
 use Rattle.mp_core.proofs.ListedLemmas.{listed_append}
 
 -- a wire that nothing drives never changes
-undriven : (n : Circuit) → IsCircuit n → (w u : ℕ) → driver n w ≡ Nothing → change_at n w u ≡ false
+pub undriven : (n : Circuit) → IsCircuit n → (w u : ℕ) → driver n w ≡ Nothing → change_at n w u ≡ false
 undriven n ok w u none =
     let at : (k : ℕ) → level n w k ≡ initial_of (wire_at n w) = λ k. (satisfies n ok).levels w k ∙ ap (λ (d : Driver). driven_level d n (state n) w k) none in
     rw (at (u - 1), at u) (unchanged (initial_of (wire_at n w)))
@@ -119,7 +119,7 @@ module _ (n : Circuit) (ok : IsCircuit n) (scope : Scope) (before : ℕ → Opti
   sum_when w false traced =
       none_of (change_at n w (t + 1)) (is_decided n scope.known (driver n w) (t + 1)) (scope.owns w (t + 1)) (is_stimulus (driver n w)) (scope.traces w) traced (whole.other w traced)
 
-  toggled : (w : ℕ) → listed w (next_slot s ++ set) ≡ bit (change_at n w (t + 1) && scope.traces w)
+  pub toggled : (w : ℕ) → listed w (next_slot s ++ set) ≡ bit (change_at n w (t + 1) && scope.traces w)
   toggled w =
       let time : t + 1 + 0 ≡ t + 1 = omega arith in
       listed_append w (next_slot s) set
@@ -127,7 +127,7 @@ module _ (n : Circuit) (ok : IsCircuit n) (scope : Scope) (before : ℕ → Opti
       ∙ ap (λ k. bit (is_expected n scope w (t + 1)) + k) (sets w)
       ∙ sum_when w (scope.traces w) refl
 
-  in_slot : (x : ℕ) → listed x slot ≡ bit (late_change n (scope.source x) (t + 1) && nat_lt 0 (later_by next (before x)))
+  pub in_slot : (x : ℕ) → listed x slot ≡ bit (late_change n (scope.source x) (t + 1) && nat_lt 0 (later_by next (before x)))
   in_slot x =
       let time : t + 1 + 0 ≡ t + 1 = omega arith in
       have x 0 (omega arith) ∙ ap (λ u. bit (late_change n (scope.source x) u && nat_lt 0 (later_by next (before x)))) time
@@ -146,7 +146,7 @@ module _ (n : Circuit) (ok : IsCircuit n) (scope : Scope) (before : ℕ → Opti
       ap (λ b. bit (change_at n x (t + 1) && true) + bit (b && false)) same ∙ wire_bit (change_at n x (t + 1)) ∙ sym (ap bit same)
   heard_when x None false after traced number = absurd (false_is_true number)
 
-  heard : (x : ℕ) → is_number scope before x ≡ true → listed x (next_slot s ++ set) + listed x slot ≡ bit (late_change n (scope.source x) (t + 1))
+  pub heard : (x : ℕ) → is_number scope before x ≡ true → listed x (next_slot s ++ set) + listed x slot ≡ bit (late_change n (scope.source x) (t + 1))
   heard x number =
       ap (λ k. k + listed x slot) (toggled x)
       ∙ ap (λ k. bit (change_at n x (t + 1) && scope.traces x) + k) (in_slot x)

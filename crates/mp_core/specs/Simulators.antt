@@ -3,7 +3,7 @@ use Rattle.std.specs.Prelude.{◌≡◌, ℕ, ◌<◌, ◌≤◌, List, [], All,
 use Rattle.mp_events.specs.declared.fanout_entry.FanoutEntry.{FanoutEntry}
 use Rattle.mp_events.specs.declared.output_port.OutputPort.{OutputPort}
 use Rattle.mp_events.specs.declared.output_ports.OutputPorts.{OutputPorts}
-use Rattle.mp_events.specs.Adding.{listed, IsAdding}
+use Rattle.mp_events.specs.Adding.{events_for, listed, IsAdding}
 use Rattle.mp_events.specs.Toggling.{row_at, entries_from, CanToggle}
 use Rattle.mp_events.specs.Firing.{UnitState, HaveSlots, AreNumbered}
 use Rattle.mp_core.specs.declared.simulator.Simulator.{Simulator}
@@ -46,3 +46,7 @@ pub record CanApply (s : Simulator) (set others : List ℕ) (time : ℕ) : Type 
   pub rowed : All (λ x. x < length s.fanout) others
   pub over : CanToggle s.waves.items (next_slot s ++ set) time
   pub adding : IsAdding s.states.items s.due.items (entries_from s.fanout (next_slot s ++ set) ++ entries_from s.fanout others)
+
+-- where numbers are heard, no input of a place reads one of them but at the places that are due
+abbrev pub AreOnlyDue : List (List FanoutEntry) → List ℕ → List ℕ → Type 0
+AreOnlyDue rows heard due = (q : ℕ) → listed q due ≡ 0 → events_for q (entries_from rows heard) ≡ 0

@@ -25,22 +25,25 @@ pub struct Simulator {
 }
 
 impl Simulator {
-    ghost use Rattle.std.specs.Prelude.{◌≡◌, ℕ, ◌+◌, ◌++◌, OnOk, length};
+    ghost use Rattle.std.specs.Prelude.{◌≡◌, ℕ, ◌+◌, ◌++◌, [], OnOk, length};
     ghost use Rattle.mp_netlist.specs.Circuit.{Circuit, IsCircuit};
     ghost use Rattle.mp_core.specs.Scopes.{Scope, with_answers};
-    ghost use Rattle.mp_core.specs.Simulators.{next_slot, IsSound, CanApply};
+    ghost use Rattle.mp_core.specs.Simulators.{next_slot, IsSound, CanApply, AreOnlyDue};
     ghost use Rattle.mp_core.specs.Units.{IsBefore, IsDuring, AreDue};
 
     /// The next unit begins: the wires of its slot toggle, and these others that are set from outside. Inputs that read them have an event, and
-    /// so do those that read other numbers that have a change in this unit.
+    /// so do those that read other numbers that have a change in this unit. A module that isn't due then has had no event.
     pub fn apply_events(&mut self, set: &[u16], others: &[u16], time: u32) -> Result<(), AllocError>
         requires sound { IsSound self.old }
         requires fit { CanApply self.old set.now others.now time }
         ensures sound { OnOk result (IsSound self.new) }
         ensures applied { OnOk result ((n : Circuit) (scope : Scope) (t : ℕ) → IsCircuit n → time ≡ t + 1 → IsBefore n scope t self.old →
             AreDue n scope t (next_slot self.old ++ set.now) others.now → IsDuring n scope t self.new) }
+        ensures only { OnOk result (self.old.due.items ≡ [] → AreOnlyDue self.old.fanout ((next_slot self.old ++ set.now) ++ others.now) self.new.due.items) }
         ensures same { OnOk result (self.new.fanout ≡ self.old.fanout) }
         ensures present { OnOk result (self.new.present ≡ next_slot self.old ++ set.now) }
+        ensures units { OnOk result (length self.new.wheel ≡ length self.old.wheel) }
+        ensures places { OnOk result (length self.new.states.items ≡ length self.old.states.items) }
         ensures waves { OnOk result (length self.new.waves.items ≡ length self.old.waves.items) }
     {
         self.wheel.turn(&mut self.present);
@@ -64,6 +67,8 @@ impl Simulator {
         ensures fired { OnOk result ((n : Circuit) (scope : Scope) (t : ℕ) → IsCircuit n → IsDuring n scope t self.old →
             IsBefore n (with_answers scope (t + 2)) (t + 1) self.new) }
         ensures same { OnOk result (self.new.fanout ≡ self.old.fanout) }
+        ensures units { OnOk result (length self.new.wheel ≡ length self.old.wheel) }
+        ensures places { OnOk result (length self.new.states.items ≡ length self.old.states.items) }
         ensures waves { OnOk result (self.new.waves.items ≡ self.old.waves.items) }
     {
         fire_modules(

@@ -2,7 +2,12 @@ mod NarrowLemmas
 mod StimulusLemmas
 mod NumberLemmas
 mod WiringLemmas
+mod WidthLemmas
 mod SettlingLemmas
+mod SeatingLemmas
+mod NumberingLemmas
 mod BegunLemmas
 mod BeginningLemmas
+mod SimulatedLemmas
 mod RunLemmas
+mod FoundLemmas

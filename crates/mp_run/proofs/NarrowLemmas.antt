@@ -1,5 +1,6 @@
 -- Levels and widths where each wire has width 1.
-use Rattle.std.proofs.Common.{◌≡◌, ℕ, ◌^◌, ◌<◌, ◌≤◌, Bool, true, false, cond, Option, Some, None, IsSome, length, refl, sym, ◌∙◌, arith, subst}
+use Rattle.std.proofs.Common.{◌≡◌, ℕ, ◌^◌, ◌<◌, ◌≤◌, Bool, true, false, not, cond, nat_lt, Option, Some, None, IsSome, length, refl, sym, ap, ◌∙◌, arith, subst}
+use Rattle.std.specs.Prelude.{◌&&◌}
 use Rattle.std.proofs.lemmas.Bool.{eqb-true, eq-eqb, false≢true}
 use Rattle.std.proofs.lemmas.Option.{none-some, same_Some}
 use Rattle.mp_modules.specs.Kinds.{has_width}
@@ -8,11 +9,10 @@ use Rattle.mp_records.specs.declared.wire_record.WireRecord.{WireRecord}
 use Rattle.mp_records.specs.declared.module_record.ModuleRecord.{ModuleRecord}
 use Rattle.mp_records.specs.Inputs.{no_input, input_at}
 use Rattle.mp_netlist.specs.Circuit.{Circuit, IsCircuit, wire_at, width_of, module_at, module_width}
-use Rattle.mp_model.specs.Levels.{initial_of}
 use Rattle.mp_model.specs.Waves.{level}
-use Rattle.mp_model.proofs.EndsLemmas.{first_level}
 use Rattle.mp_model.proofs.LevelFitLemmas.{level_fits}
 use Rattle.mp_model.proofs.SlotLemmas.{slot_within}
+use Rattle.mp_units.specs.DataLevels.{has_data, is_bit_wire}
 use Rattle.mp_run.specs.Narrow.{IsNarrow, has_one_bit}
 
 low_by : (n : Circuit) → IsNarrow n → (w v : ℕ) (slot : Option WireRecord) → wire_at n w ≡ slot → v < 2 ^ width_of slot → v ≤ 1
@@ -22,9 +22,6 @@ low_by n narrow w v (Some r) at low = let e : v < 2 = subst (λ k. v < 2 ^ k) (n
 -- a level is a bit
 pub bit_level : (n : Circuit) → IsCircuit n → IsNarrow n → (w t : ℕ) → level n w t ≤ 1
 bit_level n ok narrow w t = low_by n narrow w (level n w t) (wire_at n w) refl (level_fits n ok w t)
-
-pub first_bit : (n : Circuit) → IsCircuit n → IsNarrow n → (w : ℕ) → initial_of (wire_at n w) ≤ 1
-first_bit n ok narrow w = subst (λ k. k ≤ 1) (first_level n ok w) (bit_level n ok narrow w 0)
 
 one_wide : (n : Circuit) → IsNarrow n → (w : ℕ) (slot : Option WireRecord) → wire_at n w ≡ slot → IsSome slot → width_of slot ≡ 1
 one_wide n narrow w None at some = cc
@@ -56,3 +53,15 @@ bit_by n narrow w (Some r) at = eq-eqb r.width 1 (narrow w r at)
 
 pub not_narrow : (n : Circuit) (w : ℕ) → has_one_bit (wire_at n w) ≡ false → IsNarrow n → ⊥
 not_narrow n w test narrow = let other = bit_by n narrow w (wire_at n w) refl in false≢true (sym test ∙ other)
+
+no_data : (n : Circuit) → IsNarrow n → (w : ℕ) (slot : Option WireRecord) → wire_at n w ≡ slot → has_data slot ≡ false
+no_data n narrow w None at = refl
+no_data n narrow w (Some r) at = ap not (eq-eqb r.width 1 (narrow w r at))
+
+and_true : (b : Bool) → (b && true) ≡ b
+and_true true = refl
+and_true false = refl
+
+-- all wires have width 1
+pub all_bits : (n : Circuit) → IsNarrow n → (w : ℕ) → is_bit_wire n w ≡ nat_lt w (length n.wires)
+all_bits n narrow w = ap (λ b. nat_lt w (length n.wires) && not b) (no_data n narrow w (wire_at n w) refl) ∙ and_true (nat_lt w (length n.wires))

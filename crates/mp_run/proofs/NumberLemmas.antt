@@ -289,6 +289,7 @@ number_added wanted next new place is later links new_is =
       within = omega arith;
       longer = omega arith;
       few = omega arith;
+      known = λ low. absurd (omega arith);
       links = λ longest low are.
           subst (λ (xs : List OutputPort). AreLinks longest xs) (sym new_is)
           (links_inserted next place.number place.later is.within some is.room longest (let a = is.low in omega arith) are);

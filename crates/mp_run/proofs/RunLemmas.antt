@@ -22,46 +22,23 @@ use Rattle.mp_core.specs.Simulations.{copy_slot, IsSoundRun, IsRunning}
 use Rattle.mp_core.specs.WholeRuns.{IsWhole, AreSet, is_stimulus}
 use Rattle.mp_core.proofs.ListedLemmas.{all_below}
 use Rattle.mp_core.proofs.SimulationLemmas.{can_go_on}
-use Rattle.mp_run.specs.Stimuli.{AreSetAt}
 use Rattle.mp_run.specs.Runs.{wave_in}
 use Rattle.mp_run.specs.Evaluations.{IsEvaluated}
-
-none_set : (c b : Bool) → bit (c && false && b) ≡ bit (c && false)
-none_set true b = refl
-none_set false b = refl
-
-all_set : (c s : Bool) → bit (c && s) ≡ bit (c && s && true)
-all_set true true = refl
-all_set true false = refl
-all_set false s = refl
 
 known_is : (o : Option ℕ) (units known : ℕ) → is_some o ≡ true → known_after o units known ≡ units
 known_is None units known some = cc
 known_is (Some q) units known some = refl
 
-module _ (n : Circuit) (ok : IsCircuit n) (t : ℕ) (s : Simulation) (set : List ℕ) (is : IsEvaluated n t s) (sets : AreSetAt n set (t + 1)) where
+none_of : (c s b : Bool) → s ≡ false → bit (c && s && b) ≡ 0
+none_of true s b none = ap (λ x. bit (x && b)) none
+none_of false s b none = refl
+
+module _ (n : Circuit) (ok : IsCircuit n) (t : ℕ) (s : Simulation) (set : List ℕ) (is : IsEvaluated n t s) (are_set : AreSet n is.scope set (t + 1)) where
   -- no stimulus drives what is no wire
-  past_none : (w : ℕ) → length n.wires ≤ w → is_stimulus (driver n w) ≡ false
-  past_none w past = ap is_stimulus (leaves_no_driver n ok w (get_or_past n.wires w None past))
-
-  are_set : AreSet n is.scope set (t + 1)
-  are_set w = sets w ∙ (elim (cases_lt w (length n.wires)) as (λ _. bit (change_at n w (t + 1) && is_stimulus (driver n w)) ≡ bit (change_at n w (t + 1) && is_stimulus (driver n w) && is.scope.traces w)) [
-    | inl low ↦
-        let test : nat_lt w (length n.wires) ≡ true = grind (arith, nat_tests) in
-        all_set (change_at n w (t + 1)) (is_stimulus (driver n w)) ∙ ap (λ b. bit (change_at n w (t + 1) && is_stimulus (driver n w) && b)) (sym (is.traces w ∙ test))
-    | inr past ↦
-        ap (λ b. bit (change_at n w (t + 1) && b)) (past_none w past)
-        ∙ sym (ap (λ b. bit (change_at n w (t + 1) && b && is.scope.traces w)) (past_none w past) ∙ none_set (change_at n w (t + 1)) (is.scope.traces w))
-  ])
-
   none_past : (w : ℕ) → length s.simulator.waves.items ≤ w → listed w set ≡ 0
   none_past w past =
       let long = is.waves in
-      sets w ∙ ap (λ b. bit (change_at n w (t + 1) && b)) (past_none w (omega arith)) ∙ never (change_at n w (t + 1))
-    where
-      never : (c : Bool) → bit (c && false) ≡ 0
-      never true = refl
-      never false = refl
+      are_set w ∙ none_of (change_at n w (t + 1)) (is_stimulus (driver n w)) (is.scope.traces w) (ap is_stimulus (leaves_no_driver n ok w (get_or_past n.wires w None (omega arith))))
 
   waved : All (λ w. w < length s.simulator.waves.items) set
   waved = all_below (length s.simulator.waves.items) set none_past

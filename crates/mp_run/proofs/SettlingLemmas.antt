@@ -17,7 +17,7 @@ use Rattle.mp_records.specs.declared.module_record.ModuleRecord.{ModuleRecord}
 use Rattle.mp_records.specs.Outputs.{output_at, delay_of}
 use Rattle.mp_netlist.specs.declared.driver.Driver.{Driver}
 use Rattle.mp_netlist.specs.declared.driver.Driver.TheVariants.{Nothing, Stimulus, Port}
-use Rattle.mp_netlist.specs.Circuit.{Circuit, IsCircuit, HasWidth, Drives, wire_at, module_at, module_width}
+use Rattle.mp_netlist.specs.Circuit.{Circuit, IsCircuit, IsModule, HasWidth, Drives, wire_at, module_at, module_width}
 use Rattle.mp_netlist.specs.Drivers.{driver}
 use Rattle.mp_netlist.proofs.DriverLemmas.{finds_ports, finds_only_ports}
 use Rattle.mp_storage.specs.declared.any_module.AnyModule.{AnyModule}
@@ -37,11 +37,11 @@ use Rattle.mp_events.specs.Firing.{HasSlot, HaveSlots, no_port, is_entry, schedu
 use Rattle.mp_events.proofs.EntryLemmas.{schedules_each}
 use Rattle.mp_core.specs.Schedules.{output_port_of, output_ports_of, number_of as wire_number}
 use Rattle.mp_core.specs.Simulators.{IsBelow, AreBelow}
-use Rattle.mp_core.specs.Beginnings.{is_first}
+use Rattle.mp_units.specs.DataLevels.{is_data}
 use Rattle.mp_core.proofs.ScheduleLemmas.{not_led, own_led, port_toggle, few_ports, same_part}
 use Rattle.mp_run.specs.declared.delays.Delays.{Delays}
 use Rattle.mp_run.specs.Delays.{IsWithin, AreWithin}
-use Rattle.mp_run.specs.Settling.{IsSmall, ports_of, departs_from, departing, first_unit, first_entries_in, first_entries, is_below, IsSettled}
+use Rattle.mp_run.specs.Settling.{IsSmall, ports_of, departs_from, departing, first_unit, first_entries_in, first_entries, is_below, is_first_bit, IsSettled}
 
 -- ---- outputs
 
@@ -58,25 +58,36 @@ driven_low n (Some v) width driven w is = subst (λ (x : WireId). x.0 < length n
 pub output_low : (n : Circuit) → IsCircuit n → (m p : ℕ) (r : ModuleRecord) (w : WireId) → module_at n m ≡ Some r → (output_at r p).wire ≡ Some w → w.0 < length n.wires
 output_low n ok m p r w at is = driven_low n (output_at r p).wire (output_width r.kind (module_width n r) p) ((ok.modules_ok m r at).drives p) w is
 
-pub small_outputs : (n : Circuit) → IsCircuit n → (m : ℕ) (r : ModuleRecord) → module_at n m ≡ Some r → All IsSmall r.outputs
-small_outputs n ok m r at k d within =
+pub small_module : (n : Circuit) → IsCircuit n → (r : ModuleRecord) → IsModule n r → All IsSmall r.outputs
+small_module n ok r form k d within =
     let same : slice_index_or r.outputs k d ≡ output_at r k = get_or_default r.outputs k d (record { wire = None; delay = 1 }) within in
-    let delay = (ok.modules_ok m r at).delays k d within in
+    let delay = form.delays k d within in
     record {
-      wire = λ w is. let low = output_low n ok m k r w at (sym (ap (λ (o : Output). o.wire) same) ∙ is) in let few = ok.wires_few in omega arith;
+      wire = λ w is.
+          let low = driven_low n (output_at r k).wire (output_width r.kind (module_width n r) k) (form.drives k) w (sym (ap (λ (o : Output). o.wire) same) ∙ is) in
+          let few = ok.wires_few in
+          omega arith;
       delay = let high = delay.1 in omega arith;
     }
 
-delay_is : (n : Circuit) → IsCircuit n → (d : Delays) → (m p : ℕ) (r : ModuleRecord) → module_at n m ≡ Some r → IsWithin d r → 0 < d.outputs → HasSlot d.outputs (output_port_of (output_at r p))
-delay_is n ok d m p r at within some = elim (cases_lt p (length r.outputs)) as (λ _. HasSlot d.outputs (output_port_of (output_at r p))) [
-  | inl inside ↦ record { some = ((ok.modules_ok m r at).delays p (record { wire = None; delay = 1 }) inside).0; room = within.outputs p (record { wire = None; delay = 1 }) inside }
+pub small_outputs : (n : Circuit) → IsCircuit n → (m : ℕ) (r : ModuleRecord) → module_at n m ≡ Some r → All IsSmall r.outputs
+small_outputs n ok m r at = small_module n ok r (ok.modules_ok m r at)
+
+-- a port has a slot where no output has a longer delay
+pub slot_within : (n : Circuit) → IsCircuit n → (units m p : ℕ) (r : ModuleRecord) → module_at n m ≡ Some r → All (λ (o : Output). o.delay ≤ units) r.outputs → 0 < units →
+    HasSlot units (output_port_of (output_at r p))
+slot_within n ok units m p r at within some = elim (cases_lt p (length r.outputs)) as (λ _. HasSlot units (output_port_of (output_at r p))) [
+  | inl inside ↦ record { some = ((ok.modules_ok m r at).delays p (record { wire = None; delay = 1 }) inside).0; room = within p (record { wire = None; delay = 1 }) inside }
   | inr past ↦
       let none : output_at r p ≡ record { wire = None; delay = 1 } = get_or_past r.outputs p (record { wire = None; delay = 1 }) past in
-      subst (λ (o : Output). HasSlot d.outputs (output_port_of o)) (sym none) (record { some = omega arith; room = some_room some })
+      subst (λ (o : Output). HasSlot units (output_port_of o)) (sym none) (record { some = omega arith; room = some_room some })
 ]
   where
-    some_room : 0 < d.outputs → 1 ≤ d.outputs
+    some_room : 0 < units → 1 ≤ units
     some_room is = omega arith
+
+pub delay_is : (n : Circuit) → IsCircuit n → (d : Delays) → (m p : ℕ) (r : ModuleRecord) → module_at n m ≡ Some r → IsWithin d r → 0 < d.outputs → HasSlot d.outputs (output_port_of (output_at r p))
+delay_is n ok d m p r at within some = slot_within n ok d.outputs m p r at within.outputs some
 
 slots_by : (n : Circuit) → IsCircuit n → (d : Delays) → AreWithin n (length n.modules) d → 0 < d.outputs → (m : ℕ) → m < length n.modules → (slot : Option ModuleRecord) → module_at n m ≡ slot →
     HaveSlots d.outputs (ports_of slot)
@@ -93,7 +104,7 @@ have_slots n ok d within some =
     All-map (HaveSlots d.outputs) ports_of n.modules
     (λ m e inside. slots_by n ok d within some m inside (slice_index_or n.modules m e) (get_or_default n.modules m None e inside))
 
-unmapped : (w : ℕ) (o : Option WireId) → option_map wire_number o ≡ Some w → o ≡ Some (record { 0 = w })
+pub unmapped : (w : ℕ) (o : Option WireId) → option_map wire_number o ≡ Some w → o ≡ Some (record { 0 = w })
 unmapped w None e = absurd (none-some w e)
 unmapped w (Some v) e = let same : v.0 ≡ w = same_Some v.0 w e in ap (λ (k : ℕ). Some (let id : WireId = record { 0 = k } in id)) same
 
@@ -126,10 +137,10 @@ settled_is n ok m r part levels memory at part_is levels_are is =
 
 -- ---- the first changes
 
-nothing_first : (n : Circuit) (w k : ℕ) (d : Driver) → 0 ≡ bit (is_below 0 d && is_first n d w (k + 1))
+nothing_first : (n : Circuit) (w k : ℕ) (d : Driver) → 0 ≡ bit (is_below 0 d && is_first_bit n d w (k + 1))
 nothing_first n w k Nothing = refl
 nothing_first n w k Stimulus = refl
-nothing_first n w k (Port m p) = let test : nat_lt m.0 0 ≡ false = grind (arith, nat_tests) in sym (ap (λ b. bit (b && is_first n (Port m p) w (k + 1))) test)
+nothing_first n w k (Port m p) = let test : nat_lt m.0 0 ≡ false = grind (arith, nat_tests) in sym (ap (λ b. bit (b && is_first_bit n (Port m p) w (k + 1))) test)
 
 pub settled_none : (n : Circuit) (wheel : List (List ℕ)) → ((k : ℕ) → slice_index_or wheel k [] ≡ []) → IsSettled n 0 [] wheel
 settled_none n wheel empty = record {
@@ -140,69 +151,74 @@ settled_none n wheel empty = record {
 
 -- one port of a module
 toggle_of : (n : Circuit) (w p : ℕ) → p < 3 → (r : ModuleRecord) (m : Memory) → (output_at r p).wire ≡ Some (record { 0 = w }) →
-    port_toggle (departing n (output_ports_of r) m) p ≡ not (initial_of (wire_at n w) == output_of m p)
+    port_toggle (departing n (output_ports_of r) m) p ≡ not (is_data n w) && not (initial_of (wire_at n w) == output_of m p)
 toggle_of n w zero low r m is = ap (λ (o : Option WireId). departs_from n (option_map wire_number o) (output_of m 0)) is
 toggle_of n w (suc zero) low r m is = ap (λ (o : Option WireId). departs_from n (option_map wire_number o) (output_of m 1)) is
 toggle_of n w (suc (suc zero)) low r m is = ap (λ (o : Option WireId). departs_from n (option_map wire_number o) (output_of m 2)) is
 toggle_of n w (suc (suc (suc p))) low r m is = absurd (omega arith)
 
-swapped : (a b c : Bool) → a ≡ b → bit (c && a) ≡ bit (true && (b && c))
-swapped a true true same = rw same refl
-swapped a true false same = refl
-swapped a false true same = rw same refl
-swapped a false false same = refl
+swapped : (a b c d : Bool) → a ≡ b → bit ((d && c) && a) ≡ bit (true && ((b && c) && d))
+swapped a true true true same = rw same refl
+swapped a true true false same = refl
+swapped a true false true same = refl
+swapped a true false false same = refl
+swapped a false true true same = rw same refl
+swapped a false true false same = refl
+swapped a false false true same = refl
+swapped a false false false same = refl
 
-same_delay : (d k : ℕ) → 0 < d → (d - 1 == k) ≡ (d == k + 1)
+pub same_delay : (d k : ℕ) → 0 < d → (d - 1 == k) ≡ (d == k + 1)
 same_delay d k some = elim (cases_eq (d - 1) k) as (λ _. (d - 1 == k) ≡ (d == k + 1)) [
   | inl same ↦ eq-eqb (d - 1) k same ∙ sym (eq-eqb d (k + 1) (omega arith))
   | inr other ↦ ne_eqb (d - 1) k other ∙ sym (ne_eqb d (k + 1) (λ e. other (omega arith)))
 ]
 
-still_below : (m k : ℕ) → m ≢ k → nat_lt m (k + 1) ≡ nat_lt m k
+pub still_below : (m k : ℕ) → m ≢ k → nat_lt m (k + 1) ≡ nat_lt m k
 still_below m k other = grind (arith, nat_tests)
 
 plus_none : (a b : ℕ) → a ≡ 0 → a + b ≡ b
 plus_none a b none = omega arith
 
+-- a port that drives a wire has a delay
+pub delay_some : (n : Circuit) → IsCircuit n → (m p w : ℕ) (r : ModuleRecord) → module_at n m ≡ Some r → (output_at r p).wire ≡ Some (record { 0 = w }) → 0 < delay_of r p
+delay_some n ok m p w r at output = elim (cases_lt p (length r.outputs)) as (λ _. 0 < delay_of r p) [
+  | inl inside ↦ ((ok.modules_ok m r at).delays p (record { wire = None; delay = 1 }) inside).0
+  | inr past ↦ let one = ap (λ (o : Output). o.delay) (get_or_past r.outputs p (record { wire = None; delay = 1 }) past) in omega arith
+]
+
 module _ (n : Circuit) (ok : IsCircuit n) (m : ℕ) where
   -- where no port of m drives the wire, nothing comes by m
-  kept_by : (w k : ℕ) (d : Driver) → driver n w ≡ d → ((p : ℕ) → Drives n m p w → ⊥) → bit (is_below m d && is_first n d w (k + 1)) ≡ bit (is_below (m + 1) d && is_first n d w (k + 1))
+  kept_by : (w k : ℕ) (d : Driver) → driver n w ≡ d → ((p : ℕ) → Drives n m p w → ⊥) → bit (is_below m d && is_first_bit n d w (k + 1)) ≡ bit (is_below (m + 1) d && is_first_bit n d w (k + 1))
   kept_by w k Nothing is never = refl
   kept_by w k Stimulus is never = refl
   kept_by w k (Port v p) is never =
       let drv = finds_only_ports n w p v is in
       let other : v.0 ≢ m = λ e. never p (subst (λ x. Drives n x p w) e drv) in
-      ap (λ b. bit (b && is_first n (Port v p) w (k + 1))) (sym (still_below v.0 m other))
+      ap (λ b. bit (b && is_first_bit n (Port v p) w (k + 1))) (sym (still_below v.0 m other))
 
   count_none : (r : ModuleRecord) → module_at n m ≡ Some r → (w k : ℕ) → ((p : ℕ) → Drives n m p w → ⊥) → count_by (is_entry k w) (first_entries_in n m (Some r)) ≡ 0
   count_none r at w k never = not_led r (departing n (output_ports_of r) (state n m 0)) k w (λ j e. never j (record { part = r; stands = at; output = e }))
 
   count_own : (r : ModuleRecord) → module_at n m ≡ Some r → (w k p : ℕ) (v : ModuleId) → v.0 ≡ m → driver n w ≡ Port v p → Drives n m p w →
-      count_by (is_entry k w) (first_entries_in n m (Some r)) ≡ bit (is_below (m + 1) (Port v p) && is_first n (Port v p) w (k + 1))
+      count_by (is_entry k w) (first_entries_in n m (Some r)) ≡ bit (is_below (m + 1) (Port v p) && is_first_bit n (Port v p) w (k + 1))
   count_own r at w k p v own is drv =
       let output : (output_at r p).wire ≡ Some (record { 0 = w }) = subst (λ (s : ModuleRecord). (output_at s p).wire ≡ Some (record { 0 = w })) (same_part n m drv.part r drv.stands at) drv.output in
       let low = few_ports n ok m p w r at output in
       let others : (j : ℕ) → j ≢ p → (output_at r j).wire ≢ Some (record { 0 = w }) = λ j other e. other (ok.one_port m j m p w (record { part = r; stands = at; output = e }) drv).1 in
-      let some : 0 < delay_of r p = delay_some p r at output in
+      let some : 0 < delay_of r p = delay_some n ok m p w r at output in
       let test : nat_lt v.0 (m + 1) ≡ true = grind (arith, nat_tests) in
       own_led p low r (departing n (output_ports_of r) (state n m 0)) k w output others
       ∙ ap (λ b. bit (b && (delay_of r p - 1 == k))) (toggle_of n w p low r (state n m 0) output)
-      ∙ swapped (delay_of r p - 1 == k) (delay_of r p == k + 1) (not (initial_of (wire_at n w) == output_of (state n m 0) p)) (same_delay (delay_of r p) k some)
-      ∙ ap (λ b. bit (b && (delay_of r p == k + 1 && not (initial_of (wire_at n w) == output_of (state n m 0) p)))) (sym test)
-      ∙ ap (λ slot. bit (nat_lt v.0 (m + 1) && (delay_in slot p == k + 1 && not (initial_of (wire_at n w) == output_of (state n m 0) p)))) (sym at)
-      ∙ ap (λ x. bit (nat_lt v.0 (m + 1) && (delay_in (module_at n x) p == k + 1 && not (initial_of (wire_at n w) == output_of (state n x 0) p)))) (sym own)
-    where
-      delay_some : (p : ℕ) (r : ModuleRecord) → module_at n m ≡ Some r → (output_at r p).wire ≡ Some (record { 0 = w }) → 0 < delay_of r p
-      delay_some p r at output = elim (cases_lt p (length r.outputs)) as (λ _. 0 < delay_of r p) [
-        | inl inside ↦ ((ok.modules_ok m r at).delays p (record { wire = None; delay = 1 }) inside).0
-        | inr past ↦ let one = ap (λ (o : Output). o.delay) (get_or_past r.outputs p (record { wire = None; delay = 1 }) past) in omega arith
-      ]
+      ∙ swapped (delay_of r p - 1 == k) (delay_of r p == k + 1) (not (initial_of (wire_at n w) == output_of (state n m 0) p)) (not (is_data n w)) (same_delay (delay_of r p) k some)
+      ∙ ap (λ b. bit (b && ((delay_of r p == k + 1 && not (initial_of (wire_at n w) == output_of (state n m 0) p)) && not (is_data n w)))) (sym test)
+      ∙ ap (λ slot. bit (nat_lt v.0 (m + 1) && ((delay_in slot p == k + 1 && not (initial_of (wire_at n w) == output_of (state n m 0) p)) && not (is_data n w)))) (sym at)
+      ∙ ap (λ x. bit (nat_lt v.0 (m + 1) && ((delay_in (module_at n x) p == k + 1 && not (initial_of (wire_at n w) == output_of (state n x 0) p)) && not (is_data n w)))) (sym own)
 
-  own_before : (w k p : ℕ) (v : ModuleId) → v.0 ≡ m → bit (is_below m (Port v p) && is_first n (Port v p) w (k + 1)) ≡ 0
-  own_before w k p v own = let test : nat_lt v.0 m ≡ false = grind (arith, nat_tests) in ap (λ b. bit (b && is_first n (Port v p) w (k + 1))) test
+  own_before : (w k p : ℕ) (v : ModuleId) → v.0 ≡ m → bit (is_below m (Port v p) && is_first_bit n (Port v p) w (k + 1)) ≡ 0
+  own_before w k p v own = let test : nat_lt v.0 m ≡ false = grind (arith, nat_tests) in ap (λ b. bit (b && is_first_bit n (Port v p) w (k + 1))) test
 
   by_driver : (r : ModuleRecord) → module_at n m ≡ Some r → (w k : ℕ) (d : Driver) → driver n w ≡ d →
-      bit (is_below m d && is_first n d w (k + 1)) + count_by (is_entry k w) (first_entries_in n m (Some r)) ≡ bit (is_below (m + 1) d && is_first n d w (k + 1))
+      bit (is_below m d && is_first_bit n d w (k + 1)) + count_by (is_entry k w) (first_entries_in n m (Some r)) ≡ bit (is_below (m + 1) d && is_first_bit n d w (k + 1))
   by_driver r at w k Nothing is = plus_none 0 (count_by (is_entry k w) (first_entries_in n m (Some r))) refl ∙ count_none r at w k (λ p drv. no_port_drives p drv)
     where
       no_port_drives : (p : ℕ) → Drives n m p w → ⊥
@@ -211,8 +227,8 @@ module _ (n : Circuit) (ok : IsCircuit n) (m : ℕ) where
     where
       no_port_drives : (p : ℕ) → Drives n m p w → ⊥
       no_port_drives p drv = let e = sym is ∙ finds_ports n ok m p w drv in cc
-  by_driver r at w k (Port v p) is = elim (cases_eq v.0 m) as (λ _. bit (is_below m (Port v p) && is_first n (Port v p) w (k + 1)) + count_by (is_entry k w) (first_entries_in n m (Some r)) ≡
-      bit (is_below (m + 1) (Port v p) && is_first n (Port v p) w (k + 1))) [
+  by_driver r at w k (Port v p) is = elim (cases_eq v.0 m) as (λ _. bit (is_below m (Port v p) && is_first_bit n (Port v p) w (k + 1)) + count_by (is_entry k w) (first_entries_in n m (Some r)) ≡
+      bit (is_below (m + 1) (Port v p) && is_first_bit n (Port v p) w (k + 1))) [
         | inl own ↦
             let drv : Drives n m p w = subst (λ x. Drives n x p w) own (finds_only_ports n w p v is) in
             let before = own_before w k p v own in
@@ -226,9 +242,9 @@ module _ (n : Circuit) (ok : IsCircuit n) (m : ℕ) where
       ]
 
   by_slot : (slot : Option ModuleRecord) → module_at n m ≡ slot → (w k : ℕ) →
-      bit (is_below m (driver n w) && is_first n (driver n w) w (k + 1)) + count_by (is_entry k w) (first_entries_in n m slot) ≡ bit (is_below (m + 1) (driver n w) && is_first n (driver n w) w (k + 1))
+      bit (is_below m (driver n w) && is_first_bit n (driver n w) w (k + 1)) + count_by (is_entry k w) (first_entries_in n m slot) ≡ bit (is_below (m + 1) (driver n w) && is_first_bit n (driver n w) w (k + 1))
   by_slot None at w k =
-      add_none (bit (is_below m (driver n w) && is_first n (driver n w) w (k + 1)))
+      add_none (bit (is_below m (driver n w) && is_first_bit n (driver n w) w (k + 1)))
       ∙ kept_by w k (driver n w) refl (λ p drv. none-some drv.part (sym at ∙ drv.stands))
     where
       add_none : (x : ℕ) → x + 0 ≡ x

@@ -1,8 +1,13 @@
 pub mod Narrow
+pub mod Widths
+pub mod FirstLevels
 pub mod Delays
 pub mod Settling
+pub mod Seating
 pub mod Numbers
 pub mod Wirings
+pub mod Numbering
 pub mod Stimuli
+pub mod Beginnings
 pub mod Evaluations
 pub mod Runs

@@ -1,5 +1,5 @@
 -- The numbers of wires and of their delayed copies, and what is next after each.
-use Rattle.std.specs.Prelude.{◌≡◌, ℕ, ◌+◌, ◌-◌, ◌<◌, ◌≤◌, true, List, [], ◌∷◌, ◌++◌, All, Option, Some, None, is_some, length, slice_set, nat_le, if◌then◌else◌}
+use Rattle.std.specs.Prelude.{◌≡◌, ℕ, ◌+◌, ◌-◌, ◌<◌, ◌≤◌, true, List, [], ◌∷◌, ◌++◌, All, Option, Some, None, is_some, length, slice_set, slice_index_or, nat_le, ◌==◌, if◌then◌else◌}
 use Rattle.mp_events.specs.declared.output_port.OutputPort.{OutputPort}
 use Rattle.mp_events.specs.Firing.{HasSlot, copy_at}
 use Rattle.mp_core.specs.Simulators.{IsBelow}
@@ -56,11 +56,21 @@ pub record Renumbered (wires : ℕ) (wanted : ℕ × ℕ) (old : ℕ → ℕ × 
   pub same : (y : ℕ) → y < kept → source y ≡ old y
   pub is : source x ≡ wanted
 
+-- the wire of each number is listed
+pub record AreOrigins (source : ℕ → ℕ × ℕ) (numbers : ℕ) (wires : List ℕ) : Type 0 where
+  pub long : length wires ≡ numbers
+  pub each : (x : ℕ) → x < numbers → slice_index_or wires x 0 ≡ (source x).0
+
+-- with the wire of a number, if it is the next one
+abbrev pub noted : ℕ → ℕ → List ℕ → List ℕ
+noted number wire wires = if number == length wires then wires ++ wire ∷ [] else wires
+
 -- a number is of a wanted source, after at most one copy was added
 pub record HasNumber (wanted : ℕ × ℕ) (old next : List OutputPort) (x : ℕ) : Type 0 where
   pub within : x < length next
   pub longer : length old ≤ length next
   pub few : length next ≤ length old + 1
+  pub known : x < length old → length next ≡ length old
   pub links : (longest : ℕ) → wanted.1 ≤ longest → AreLinks longest old → AreLinks longest next
   pub numbers : (wires : ℕ) (source : ℕ → ℕ × ℕ) (before : ℕ → Option ℕ) → wanted.0 < wires → AreNumbers wires source before old →
       Renumbered wires wanted source (length old) x next

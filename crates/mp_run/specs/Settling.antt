@@ -1,5 +1,5 @@
 -- Modules at time 0.
-use Rattle.std.specs.Prelude.{◌≡◌, ℕ, ◌+◌, ◌^◌, ◌<◌, Bool, true, false, not, List, [], Option, Some, None, length, slice_index_or, nat_lt, ◌==◌, ◌&&◌}
+use Rattle.std.specs.Prelude.{◌≡◌, ℕ, ◌+◌, ◌^◌, ◌<◌, Bool, true, false, not, List, [], Option, Some, None, length, slice_index_or, nat_lt, ◌==◌, ◌&&◌, if◌then◌else◌}
 use Rattle.mp_modules.specs.declared.memory.Memory.{Memory}
 use Rattle.mp_modules.specs.Memories.{output_of}
 use Rattle.mp_records.specs.declared.ids.WireId.{WireId}
@@ -23,6 +23,8 @@ use Rattle.mp_events.specs.Firing.{UnitState, no_port, number_of, fired_at}
 use Rattle.mp_core.specs.Schedules.{output_ports_of}
 use Rattle.mp_core.specs.Units.{rest_state_at}
 use Rattle.mp_core.specs.Beginnings.{is_first}
+use Rattle.mp_units.specs.DataLevels.{is_data}
+use Rattle.mp_run.specs.Widths.{is_bit_module}
 
 -- the wire and the delay of an output have numbers of 16 bits
 pub record IsSmall (o : Output) : Type 0 where
@@ -34,15 +36,15 @@ abbrev pub ports_of : Option ModuleRecord → OutputPorts
 ports_of None = record { first = no_port; second = no_port; third = no_port }
 ports_of (Some r) = output_ports_of r
 
--- a level isn't the initial one of the wire
+-- the wire has width 1, and a level isn't its initial one
 abbrev pub departs_from : Circuit → Option ℕ → ℕ → Bool
 departs_from n None level = false
-departs_from n (Some w) level = not (initial_of (wire_at n w) == level)
+departs_from n (Some w) level = not (is_data n w) && not (initial_of (wire_at n w) == level)
 
 abbrev pub departs : Circuit → OutputPort → ℕ → Bool
 departs n port level = departs_from n port.wire level
 
--- the outputs whose levels in a state aren't the initial ones of their wires
+-- the outputs whose levels in a state aren't the initial ones of their wires, which have width 1
 abbrev pub departing : Circuit → OutputPorts → Memory → Toggles
 departing n ports m = record {
   first = departs n ports.first (output_of m 0);
@@ -50,13 +52,16 @@ departing n ports m = record {
   third = departs n ports.third (output_of m 2);
 }
 
--- a place where no module stands
+-- a place where no module of width 1 stands
 abbrev pub no_unit : UnitState
 no_unit = record { automaton = Sleep; phase = unserved false false; events = no_events }
 
+abbrev pub first_unit_of : Circuit → ℕ → ModuleRecord → UnitState
+first_unit_of n m r = if is_bit_module n r then rest_state_at n r m 0 else no_unit
+
 abbrev pub first_unit_in : Circuit → ℕ → Option ModuleRecord → UnitState
 first_unit_in n m None = no_unit
-first_unit_in n m (Some r) = rest_state_at n r m 0
+first_unit_in n m (Some r) = first_unit_of n m r
 
 -- the state of a module at time 0, after the unit
 abbrev pub first_unit : Circuit → ℕ → UnitState
@@ -75,8 +80,12 @@ is_below modules Nothing = true
 is_below modules Stimulus = true
 is_below modules (Port m p) = nat_lt m.0 modules
 
--- the modules below a number are settled: their states, and the first changes of the wires that they drive
+-- the first change of a wire of width 1 is at a time
+abbrev pub is_first_bit : Circuit → Driver → ℕ → ℕ → Bool
+is_first_bit n d w time = is_first n d w time && not (is_data n w)
+
+-- the modules below a number are settled: their states, and the first changes of the wires of width 1 that they drive
 pub record IsSettled (n : Circuit) (modules : ℕ) (states : List AutomatonState) (wheel : List (List ℕ)) : Type 0 where
   pub places : length states ≡ modules
   pub each : (m : ℕ) → m < modules → state_at states m ≡ number_of (first_unit n m)
-  pub slots : (w k : ℕ) → k < length wheel → listed w (slice_index_or wheel k []) ≡ bit (is_below modules (driver n w) && is_first n (driver n w) w (k + 1))
+  pub slots : (w k : ℕ) → k < length wheel → listed w (slice_index_or wheel k []) ≡ bit (is_below modules (driver n w) && is_first_bit n (driver n w) w (k + 1))

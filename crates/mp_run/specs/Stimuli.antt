@@ -1,54 +1,72 @@
--- The toggles of wires that stimuli set, by time.
-use Rattle.std.specs.Prelude.{◌≡◌, ℕ, ◌+◌, ◌<◌, ◌≤◌, Bool, List, [], ◌∷◌, drop, ◌==◌, ◌&&◌, if◌then◌else◌}
+-- What stimuli set, by time.
+use Rattle.std.specs.Prelude.{◌≡◌, ℕ, ◌+◌, ◌<◌, ◌≤◌, Bool, List, [], ◌∷◌, ◌++◌, All, drop, ◌==◌, ◌&&◌, if◌then◌else◌}
 use Rattle.std.specs.List.{count_by}
 use Rattle.mp_netlist.specs.Circuit.{Circuit}
 use Rattle.mp_netlist.specs.Drivers.{driver}
+use Rattle.mp_model.specs.Waves.{level}
 use Rattle.mp_automata.specs.Codes.{bit}
-use Rattle.mp_events.specs.Adding.{listed}
 use Rattle.mp_core.specs.Changes.{change_at}
 use Rattle.mp_core.specs.WholeRuns.{is_stimulus}
-use Rattle.mp_run.specs.declared.stimuli.StimulusToggle.{StimulusToggle}
+use Rattle.mp_data.specs.declared.level_change.LevelChange.{LevelChange}
+use Rattle.mp_units.specs.DataLevels.{is_data}
+use Rattle.mp_units.specs.NetlistSimulations.{AreStimuli}
+use Rattle.mp_run.specs.declared.stimuli.StimulusChange.{StimulusChange}
 use Rattle.mp_run.specs.declared.stimuli.Stimuli.{Stimuli}
 
-abbrev pub toggle_of : ℕ → ℕ → StimulusToggle
-toggle_of w time = record { time = time; wire = w }
+abbrev pub change_of : ℕ → Bool → ℕ × ℕ → StimulusChange
+change_of w has_data change = record { time = change.0; wire = w; has_data = has_data; level = change.1 }
 
--- the times at which a level is set to another one
-abbrev pub toggle_times : ℕ → List (ℕ × ℕ) → List ℕ
-toggle_times level [] = []
-toggle_times level (change ∷ changes) = if level == change.1 then toggle_times change.1 changes else change.0 ∷ toggle_times change.1 changes
+-- the changes at which a level is set to another one
+abbrev pub set_changes : ℕ → List (ℕ × ℕ) → List (ℕ × ℕ)
+set_changes level [] = []
+set_changes level (change ∷ changes) = if level == change.1 then set_changes change.1 changes else change ∷ set_changes change.1 changes
 
 -- those that are to come
-abbrev pub rest_of : Stimuli → List StimulusToggle
+abbrev pub rest_of : Stimuli → List StimulusChange
 rest_of stimuli = drop stimuli.place stimuli.list.items
 
--- the wires that toggle at a time, which comes first
-abbrev pub wires_at : ℕ → List StimulusToggle → List ℕ
-wires_at time [] = []
-wires_at time (s ∷ ss) = if s.time == time then s.wire ∷ wires_at time ss else []
+-- the wire of a change, if it has width 1
+abbrev pub bits_of : StimulusChange → List ℕ
+bits_of s = if s.has_data then [] else s.wire ∷ []
 
-abbrev pub toggles_after : ℕ → List StimulusToggle → List StimulusToggle
-toggles_after time [] = []
-toggles_after time (s ∷ ss) = if s.time == time then toggles_after time ss else s ∷ ss
+-- the wire of a change with its level, if it has data
+abbrev pub levels_of : StimulusChange → List LevelChange
+levels_of s = if s.has_data then record { number = s.wire; level = s.level } ∷ [] else []
+
+-- the wires of width 1 that change at a time, which comes first
+abbrev pub bits_at : ℕ → List StimulusChange → List ℕ
+bits_at time [] = []
+bits_at time (s ∷ ss) = if s.time == time then bits_of s ++ bits_at time ss else []
+
+-- and those with data
+abbrev pub levels_at : ℕ → List StimulusChange → List LevelChange
+levels_at time [] = []
+levels_at time (s ∷ ss) = if s.time == time then levels_of s ++ levels_at time ss else []
+
+abbrev pub changes_after : ℕ → List StimulusChange → List StimulusChange
+changes_after time [] = []
+changes_after time (s ∷ ss) = if s.time == time then changes_after time ss else s ∷ ss
 
 -- by time, from a first time on
-abbrev pub AreFrom : ℕ → List StimulusToggle → Type 0
+abbrev pub AreFrom : ℕ → List StimulusChange → Type 0
 AreFrom time [] = Unit {0}
 AreFrom time (s ∷ ss) = (time ≤ s.time) × AreFrom s.time ss
 
-abbrev pub is_toggle : ℕ → ℕ → StimulusToggle → Bool
-is_toggle w time s = s.wire == w && s.time == time
+abbrev pub is_change : ℕ → ℕ → StimulusChange → Bool
+is_change w time s = s.wire == w && s.time == time
 
--- they are the toggles after t of all wires with a stimulus, each once
-pub record AreAhead (n : Circuit) (t : ℕ) (ss : List StimulusToggle) : Type 0 where
+-- the wire has the level then, and is told by whether it has data
+pub record IsSetting (n : Circuit) (s : StimulusChange) : Type 0 where
+  pub sort : s.has_data ≡ is_data n s.wire
+  pub level : s.level ≡ level n s.wire s.time
+
+-- they are the changes after t of all wires with a stimulus, each once
+pub record AreAhead (n : Circuit) (t : ℕ) (ss : List StimulusChange) : Type 0 where
   pub listed : AreFrom (t + 1) ss
-  pub each : (w u : ℕ) → t < u → count_by (is_toggle w u) ss ≡ bit (change_at n w u && is_stimulus (driver n w))
-
--- the wires are listed that a stimulus changes at a time, each once
-abbrev pub AreSetAt : Circuit → List ℕ → ℕ → Type 0
-AreSetAt n wires time = (w : ℕ) → listed w wires ≡ bit (change_at n w time && is_stimulus (driver n w))
+  pub each : (w u : ℕ) → t < u → count_by (is_change w u) ss ≡ bit (change_at n w u && is_stimulus (driver n w))
+  pub set : All (IsSetting n) ss
 
 -- after the unit that follows t has begun
 pub record Advances (n : Circuit) (t : ℕ) (stimuli : Stimuli) : Type 0 where
-  pub present : AreSetAt n stimuli.present.items (t + 1)
+  pub present : AreStimuli n stimuli.bits.items stimuli.levels.items (t + 1)
   pub ahead : AreAhead n (t + 1) (rest_of stimuli)

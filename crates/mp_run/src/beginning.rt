@@ -1,38 +1,92 @@
 //! What a simulation of a netlist begins with.
-ghost use Rattle.std.specs.Prelude.{◌≡◌, IfOk};
+ghost use Rattle.std.specs.Prelude.{◌≡◌, ◌<◌, IfOk, length};
 ghost use Rattle.mp_netlist.specs.Circuit.{IsCircuit};
+ghost use Rattle.mp_units.specs.NetlistSimulations.{IsSimulated};
 ghost use Rattle.mp_run.specs.Narrow.{IsNarrow};
+ghost use Rattle.mp_run.specs.Delays.{AreWithin};
 ghost use Rattle.mp_run.specs.Evaluations.{IsEvaluated};
+ghost use Rattle.mp_run.specs.Beginnings.{AreFirstBits, AreFirstWires};
 
 use crate::delays::Delays;
-use crate::narrow::first_waves;
+use crate::first_levels::{first_buildings, first_waves};
+use crate::numbering::{bit_copies, data_copies, levels_of};
+use crate::seating::{Seating, seat_all};
 use crate::settling::{Settling, all_outputs, settle_all};
-use crate::wiring::{Wiring, wiring_of};
+use crate::wiring::{WiredInputs, Wiring, wiring_of};
 use mp_automata::TransitionTable;
 use mp_core::{DelayedCopies, Simulation, Simulator};
+use mp_data::{LevelSlot, LevelWheel};
 use mp_events::{EventSlot, EventWheel, Fanout};
 use mp_netlist::Netlist;
+use mp_units::{DataWires, NetlistSimulation};
 use std::alloc::{AllocError, Global};
 
-/// A simulation of a netlist at time 0, whose wires have width 1: all wires have their initial levels, and each module is settled. An output
-/// whose level isn't the initial one of its wire changes that after its delay.
-pub fn begin(alloc: Global, netlist: &Netlist) -> Result<Simulation, AllocError>
-    requires form { IsCircuit netlist.now }
-    requires narrow { IsNarrow netlist.now }
-    ensures { IfOk result (λ simulation. IsEvaluated netlist.now 0 simulation) }
+/// A simulation of a netlist at time 0: all wires have their initial levels, and each module is settled. An output whose level isn't the initial
+/// one of its wire changes that after its delay.
+pub fn begin(alloc: Global, netlist: &Netlist) -> Result<NetlistSimulation, AllocError>
+    requires { IsCircuit netlist.now }
+    ensures simulated { IfOk result (λ simulation. IsSimulated netlist.now 0 simulation) }
+    ensures narrow { IfOk result (λ simulation. IsNarrow netlist.now → IsEvaluated netlist.now 0 simulation.bits) }
 {
     let delays = Delays::of(netlist);
+    let WiredInputs { wiring, inputs } = wiring_of(alloc, netlist)?;
+    let units = delays.longest() as usize;
+    let Seating { modules, wheel } = seat_all(alloc, netlist, inputs.as_slice(), units)?;
+    let wires = first_data_wires(alloc, netlist, &wiring, wheel)?;
+    let bits = first_bits(alloc, netlist, &wiring, delays)?;
+    Ok(NetlistSimulation {
+        bits,
+        wires,
+        modules,
+    })
+}
+
+/// The wires of any width at time 0, with the levels to come.
+fn first_data_wires(
+    alloc: Global,
+    netlist: &Netlist,
+    wiring: &Wiring,
+    wheel: LevelWheel,
+) -> Result<DataWires, AllocError>
+    requires { length wiring.now.wires.items ≡ length wiring.now.next.items }
+    ensures { IfOk result (λ wires. AreFirstWires netlist.now wiring.now wheel wires) }
+{
+    let numbers = wiring.wires.as_slice();
+    Ok(DataWires {
+        levels: levels_of(alloc, netlist, numbers)?,
+        next: data_copies(alloc, netlist, numbers, wiring.next.as_slice())?,
+        wheel,
+        present: LevelSlot::new(alloc),
+        waves: first_buildings(alloc, netlist)?,
+        heard: Vec::new(alloc),
+    })
+}
+
+/// The modules and wires of width 1 at time 0.
+fn first_bits(
+    alloc: Global,
+    netlist: &Netlist,
+    wiring: &Wiring,
+    delays: Delays,
+) -> Result<Simulation, AllocError>
+    requires form { IsCircuit netlist.now }
+    requires origins { length wiring.now.wires.items ≡ length wiring.now.next.items }
+    requires within { AreWithin netlist.now (length netlist.now.modules) delays }
+    requires some { 0 < delays.outputs }
+    ensures { IfOk result (λ bits. AreFirstBits netlist.now wiring.now delays bits) }
+{
     let outputs = all_outputs(alloc, netlist)?;
-    let Settling { states, wheel } = settle_all(
+    let units = delays.outputs as usize;
+    let Settling { states, wheel } = settle_all(alloc, netlist, outputs.as_slice(), units)?;
+    let next = bit_copies(
         alloc,
         netlist,
-        outputs.as_slice(),
-        delays.outputs as usize,
+        wiring.wires.as_slice(),
+        wiring.next.as_slice(),
     )?;
-    let Wiring { rows, next } = wiring_of(alloc, netlist)?;
     let simulator = Simulator {
         table: TransitionTable::new(alloc)?,
-        fanout: Fanout::from_rows(alloc, rows.as_slice())?,
+        fanout: Fanout::from_rows(alloc, wiring.rows.as_slice())?,
         outputs,
         states,
         due: Vec::new(alloc),

@@ -34,6 +34,19 @@ impl Delays {
         longest
     }
 
+    /// The longest of all.
+    pub(crate) fn longest(self) -> u32
+        ensures outputs { self.outputs ≤ result }
+        ensures inputs { self.inputs ≤ result }
+        ensures some { 0 < self.outputs → 0 < result }
+    {
+        if self.outputs < self.inputs {
+            self.inputs
+        } else {
+            self.outputs
+        }
+    }
+
     /// The longest of these and those of a module.
     fn with_module(self, netlist: &Netlist, id: ModuleId) -> Delays
         ensures longer { AreNotBelow self result }

@@ -1,14 +1,19 @@
-//! A whole run of a netlist whose wires have width 1: what it begins with, and the waves that come of it.
+//! A whole run of a netlist: what it begins with, and the waves that come of it.
 #![tactic(auto)]
 
 mod beginning;
 mod delays;
+mod finishing;
+mod first_levels;
 mod narrow;
+mod numbering;
 mod running;
+mod seating;
 mod settling;
 mod stimuli;
+mod widths;
 mod wiring;
 
 pub use beginning::begin;
 pub use narrow::is_narrow;
-pub use running::toggle_waves;
+pub use running::run_waves;

@@ -2,43 +2,80 @@
 ghost use Rattle.std.specs.Prelude.{◌≡◌, ◌-◌, IfOk, OnOk};
 ghost use Rattle.mp_netlist.specs.Circuit.{IsCircuit, wire_at};
 ghost use Rattle.mp_model.specs.Waves.{AreWavesOf};
+ghost use Rattle.mp_units.specs.NetlistSimulations.{IsSimulated};
 ghost use Rattle.mp_run.specs.Evaluations.{IsEvaluated};
 ghost use Rattle.mp_run.specs.Narrow.{IsNarrow};
 ghost use Rattle.mp_run.specs.Runs.{wave_in};
 ghost use Rattle.mp_run.specs.Stimuli.{rest_of, AreAhead};
 
 use crate::beginning::begin;
+use crate::finishing::{found_waves, toggled_wave};
+use crate::narrow::is_narrow;
 use crate::stimuli::Stimuli;
 use mp_core::{Simulation, Simulator};
 use mp_netlist::{Netlist, WireId};
-use mp_wave::ToggleWave;
+use mp_units::NetlistSimulation;
+use mp_wave::{ToggleWave, Wave};
 use std::alloc::{AllocError, Global};
 
-/// The wave of each wire of a netlist up to its horizon, whose wires have width 1: one place per wire number, and none where no wire stands.
-pub fn toggle_waves(alloc: Global, netlist: &Netlist) -> Result<Vec<Option<ToggleWave>>, AllocError>
+/// The wave of each wire of a netlist up to its horizon: one place per wire number, and none where no wire stands.
+pub fn run_waves(alloc: Global, netlist: &Netlist) -> Result<Vec<Option<Wave>>, AllocError>
+    ensures { IfOk result (λ waves. AreWavesOf netlist.now waves.items) }
+{
+    let _horizon = netlist.horizon();
+    if is_narrow(netlist) {
+        return bit_waves(alloc, netlist);
+    }
+    let mut simulation = begin(alloc, netlist)?;
+    let mut stimuli = Stimuli::of(alloc, netlist)?;
+    pass_all(netlist, &mut simulation, &mut stimuli)?;
+    found_waves(alloc, netlist, simulation)
+}
+
+/// The same of a netlist whose wires have width 1, which takes less.
+fn bit_waves(alloc: Global, netlist: &Netlist) -> Result<Vec<Option<Wave>>, AllocError>
     requires { IsNarrow netlist.now }
     ensures { IfOk result (λ waves. AreWavesOf netlist.now waves.items) }
 {
     let _horizon = netlist.horizon();
-    let mut simulation = begin(alloc, netlist)?;
+    let NetlistSimulation { bits, .. } = begin(alloc, netlist)?;
+    let mut simulation = bits;
     let mut stimuli = Stimuli::of(alloc, netlist)?;
     run(netlist, &mut simulation, &mut stimuli)?;
     finished(alloc, netlist, simulation)
 }
 
 /// Goes on from time 0 to the last unit before the horizon.
+fn pass_all(
+    netlist: &Netlist,
+    simulation: &mut NetlistSimulation,
+    stimuli: &mut Stimuli,
+) -> Result<(), AllocError>
+    requires begun { IsSimulated netlist.now 0 simulation.old }
+    requires ahead { AreAhead netlist.now 0 (rest_of stimuli.old) }
+    ensures { OnOk result (IsSimulated netlist.now (netlist.now.horizon - 1) simulation.new) }
+{
+    for time in 1..netlist.horizon() {
+        stimuli.advance(time)?;
+        simulation.pass_unit(stimuli.bits(), stimuli.levels(), time)?;
+    }
+    Ok(())
+}
+
+/// Goes on from time 0 to the last unit before the horizon, all wires having width 1.
 fn run(
     netlist: &Netlist,
     simulation: &mut Simulation,
     stimuli: &mut Stimuli,
 ) -> Result<(), AllocError>
+    requires narrow { IsNarrow netlist.now }
     requires begun { IsEvaluated netlist.now 0 simulation.old }
     requires ahead { AreAhead netlist.now 0 (rest_of stimuli.old) }
     ensures { OnOk result (IsEvaluated netlist.now (netlist.now.horizon - 1) simulation.new) }
 {
     for time in 1..netlist.horizon() {
         stimuli.advance(time)?;
-        simulation.pass_unit(stimuli.present(), time)?;
+        simulation.pass_unit(stimuli.bits(), time)?;
     }
     Ok(())
 }
@@ -48,7 +85,7 @@ fn finished(
     alloc: Global,
     netlist: &Netlist,
     simulation: Simulation,
-) -> Result<Vec<Option<ToggleWave>>, AllocError>
+) -> Result<Vec<Option<Wave>>, AllocError>
     requires form { IsCircuit netlist.now }
     requires narrow { IsNarrow netlist.now }
     requires over { IsEvaluated netlist.now (netlist.now.horizon - 1) simulation }
@@ -65,11 +102,11 @@ fn finished(
 }
 
 /// The wave, where its wire stands.
-fn wave_of(netlist: &Netlist, wire: WireId, wave: Option<ToggleWave>) -> Option<ToggleWave>
+fn wave_of(netlist: &Netlist, wire: WireId, wave: Option<ToggleWave>) -> Option<Wave>
     ensures { result ≡ wave_in (wire_at netlist.now wire.0) wave }
 {
     match netlist.wire(wire) {
-        Some(_) => wave,
+        Some(_) => toggled_wave(wave),
         None => None,
     }
 }

@@ -1,5 +1,5 @@
 //! Modules at time 0: what they drive, how they settle, and which wires change by that.
-ghost use Rattle.std.specs.Prelude.{◌≡◌, ℕ, ◌≤◌, Some, IfOk, OnOk, All, length, map, take};
+ghost use Rattle.std.specs.Prelude.{◌≡◌, ◌==◌, ◌&&◌, ℕ, ◌≤◌, Some, not, IfOk, OnOk, All, length, map, take};
 ghost use Rattle.mp_records.specs.declared.ports.Input.{Input as Entry};
 ghost use Rattle.mp_records.specs.Outputs.{output_in};
 ghost use Rattle.mp_netlist.specs.Circuit.{IsCircuit, wire_at, module_at};
@@ -7,9 +7,11 @@ ghost use Rattle.mp_model.specs.Levels.{initial_of, built};
 ghost use Rattle.mp_model.specs.Waves.{state};
 ghost use Rattle.mp_events.specs.Firing.{HaveSlots, scheduled, fired_at, number_of};
 ghost use Rattle.mp_core.specs.Schedules.{output_port_of};
-ghost use Rattle.mp_run.specs.Settling.{IsSmall, ports_of, departs, departing, first_unit, first_entries, IsSettled};
+ghost use Rattle.mp_units.specs.DataLevels.{is_data};
+ghost use Rattle.mp_run.specs.Settling.{IsSmall, ports_of, departs, departing, no_unit, first_unit_of, first_unit, first_entries, IsSettled};
 
-use crate::narrow::initial_level;
+use crate::first_levels::initial_level;
+use crate::widths::{has_data, is_bit_module};
 use mp_automata::{Automaton, AutomatonState, Phase};
 use mp_events::{EventWheel, OutputPort, OutputPorts, schedule_if};
 use mp_model::built;
@@ -53,7 +55,7 @@ fn output_ports(outputs: &[Output]) -> OutputPorts
     }
 }
 
-fn output_port(outputs: &[Output], port: usize) -> OutputPort
+pub(crate) fn output_port(outputs: &[Output], port: usize) -> OutputPort
     requires { All IsSmall outputs.now }
     ensures { result ≡ output_port_of (output_in outputs.now port) }
 {
@@ -69,14 +71,15 @@ fn output_port(outputs: &[Output], port: usize) -> OutputPort
     }
 }
 
-/// The states of modules, by number, and the wheel of the events to come.
+/// The states of modules, by number, and the wheel of the events to come of wires of width 1.
 #[derive(Drop)]
 pub(crate) struct Settling {
     pub states: Vec<AutomatonState>,
     pub wheel: EventWheel,
 }
 
-/// Settles all modules. An output whose level isn't the initial one of its wire changes that after its delay. The wheel has so many units.
+/// Settles all modules. An output whose wire has width 1, and whose level isn't the initial one, changes that after its delay. Modules with data
+/// sleep. The wheel has so many units.
 pub(crate) fn settle_all(
     alloc: Global,
     netlist: &Netlist,
@@ -113,18 +116,39 @@ fn settle_module(
     ensures units { OnOk result (length wheel.new ≡ length wheel.old) }
 {
     let Some(found) = netlist.module(id) else {
-        let phase = Phase::unserved(false, false);
-        return Ok(AutomatonState::quiet(Automaton::Sleep, phase));
+        return Ok(asleep());
     };
     let part = built(netlist, found);
     let memory = settled(netlist, found, &part);
     schedule_departing(netlist, ports, &memory, wheel)?;
-    let phase = Phase::of(&part, &memory);
-    Ok(AutomatonState::quiet(Automaton::of(&part), phase))
+    Ok(first_state(netlist, found, &part, &memory))
+}
+
+/// The state of a place that sleeps.
+fn asleep() -> AutomatonState
+    ensures { result.0 ≡ number_of no_unit }
+{
+    AutomatonState::quiet(Automaton::Sleep, Phase::unserved(false, false))
+}
+
+/// The automaton of a module in its state at time 0, if all its ports have width 1. The place of one with data sleeps.
+fn first_state(
+    netlist: &Netlist,
+    found: &ModuleRecord,
+    part: &AnyModule,
+    memory: &Memory,
+) -> AutomatonState
+    requires { part.now ≡ built netlist.now found.now }
+    ensures { (m : ℕ) → memory.now ≡ state netlist.now m 0 → result.0 ≡ number_of (first_unit_of netlist.now m found.now) }
+{
+    if !is_bit_module(netlist, found) {
+        return asleep();
+    }
+    AutomatonState::quiet(Automaton::of(part), Phase::of(part, memory))
 }
 
 /// The state of a module at time 0.
-fn settled(netlist: &Netlist, found: &ModuleRecord, part: &AnyModule) -> Memory
+pub(crate) fn settled(netlist: &Netlist, found: &ModuleRecord, part: &AnyModule) -> Memory
     requires form { IsCircuit netlist.now }
     requires few { length found.now.inputs ≤ MOST_INPUTS }
     requires part { part.now ≡ built netlist.now found.now }
@@ -146,7 +170,7 @@ fn read_initial_levels(netlist: &Netlist, inputs: &[Input], levels: &mut [u64; M
     }
 }
 
-/// The wires of outputs whose levels aren't the initial ones toggle after the delays.
+/// The wires of width 1 of outputs whose levels aren't the initial ones toggle after the delays.
 fn schedule_departing(
     netlist: &Netlist,
     ports: OutputPorts,
@@ -165,12 +189,19 @@ fn schedule_departing(
     schedule_if(third, ports.third, wheel)
 }
 
-/// Whether a level isn't the initial one of the wire that an output drives.
+/// Whether a level isn't the initial one of the wire of width 1 that an output drives.
 fn departs(netlist: &Netlist, port: OutputPort, level: u64) -> bool
     ensures { result ≡ departs netlist.now port level }
 {
     match port.wire {
-        Some(wire) => initial_level(netlist, WireId(u32::from(wire))) != level,
+        Some(wire) => is_departure(netlist, WireId(u32::from(wire)), level),
         None => false,
     }
+}
+
+/// Whether a level isn't the initial one of a wire of width 1.
+fn is_departure(netlist: &Netlist, wire: WireId, level: u64) -> bool
+    ensures { result ≡ not (is_data netlist.now wire.0) && not (initial_of (wire_at netlist.now wire.0) == level) }
+{
+    !has_data(netlist, wire) && initial_level(netlist, wire) != level
 }

@@ -1,25 +1,31 @@
-//! The toggles of wires that stimuli set.
+//! What stimuli set, by time.
 ghost use Rattle.std.specs.Prelude.{◌≡◌, ◌++◌, ◌<◌, ◌^◌, [], drop, map, IfOk, OnOk, unwrap_or};
 ghost use Rattle.mp_netlist.specs.Circuit.{IsCircuit, wire_at, stimulus_at};
 ghost use Rattle.mp_model.specs.Levels.{initial_of};
-ghost use Rattle.mp_run.specs.Stimuli.{toggle_of, toggle_times, wires_at, toggles_after};
+ghost use Rattle.mp_units.specs.DataLevels.{is_data};
+ghost use Rattle.mp_run.specs.Stimuli.{change_of, set_changes, bits_of, levels_of, bits_at, levels_at, changes_after};
 
+use mp_data::LevelChange;
 use mp_netlist::{Netlist, WireId};
 use std::alloc::{AllocError, Global};
 
-/// A wire toggles at a time.
+/// A wire is set to another level at a time. It is told whether the wire has data.
 #[derive(Clone, Copy)]
-pub(crate) struct StimulusToggle {
+pub(crate) struct StimulusChange {
     pub time: u32,
     pub wire: u16,
+    pub has_data: bool,
+    pub level: u64,
 }
 
-/// The toggles of all wires with a stimulus, by time. Those before the place are past or present, and the wires of the present ones are listed.
+/// What stimuli change, by time. The changes before the place are past or present. Of the present ones, wires of width 1 are listed, and the levels
+/// of wires with data.
 #[derive(Drop)]
 pub(crate) struct Stimuli {
-    pub list: Vec<StimulusToggle>,
+    pub list: Vec<StimulusChange>,
     pub place: usize,
-    pub present: Vec<u16>,
+    pub bits: Vec<u16>,
+    pub levels: Vec<LevelChange>,
 }
 
 impl Stimuli {
@@ -27,7 +33,7 @@ impl Stimuli {
     ghost use Rattle.mp_netlist.specs.Circuit.{Circuit, IsCircuit};
     ghost use Rattle.mp_run.specs.Stimuli.{rest_of, AreAhead, Advances};
 
-    /// The toggles of all wires with a stimulus, where all are to come.
+    /// What all stimuli change, where all is to come.
     pub(crate) fn of(alloc: Global, netlist: &Netlist) -> Result<Stimuli, AllocError>
         requires { IsCircuit netlist.now }
         ensures { IfOk result (λ stimuli. AreAhead netlist.now 0 (rest_of stimuli)) }
@@ -36,83 +42,135 @@ impl Stimuli {
         for w in 0..netlist.wire_slots() {
             add_wire(netlist, WireId(w), &mut list)?;
         }
-        list.sort_unstable_by_key(|toggle| toggle.time);
+        list.sort_unstable_by_key(|change| change.time);
         Ok(Stimuli {
             list,
             place: 0,
-            present: Vec::new(alloc),
+            bits: Vec::new(alloc),
+            levels: Vec::new(alloc),
         })
     }
 
-    /// The wires that toggle in the present unit.
+    /// The wires of width 1 that are set to another level in the present unit.
     #[inline(always)]
-    pub(crate) fn present(&self) -> &[u16]
-        ensures { result.now ≡ self.now.present.items }
+    pub(crate) fn bits(&self) -> &[u16]
+        ensures { result.now ≡ self.now.bits.items }
     {
-        self.present.as_slice()
+        self.bits.as_slice()
+    }
+
+    /// The wires with data that are set to another level in the present unit, with their levels.
+    #[inline(always)]
+    pub(crate) fn levels(&self) -> &[LevelChange]
+        ensures { result.now ≡ self.now.levels.items }
+    {
+        self.levels.as_slice()
     }
 
     /// A unit begins, which is the next after those before.
     #[inline(always)]
     pub(crate) fn advance(&mut self, time: u32) -> Result<(), AllocError>
-        ensures { OnOk result ((n : Circuit) (t : ℕ) → time ≡ t + 1 → AreAhead n t (rest_of self.old) → Advances n t self.new) }
+        ensures { OnOk result ((n : Circuit) (t : ℕ) → IsCircuit n → time ≡ t + 1 → AreAhead n t (rest_of self.old) → Advances n t self.new) }
     {
-        self.present.clear();
-        self.place = push_present(self.list.as_slice(), self.place, time, &mut self.present)?;
+        self.bits.clear();
+        self.levels.clear();
+        self.place = put_present(
+            self.list.as_slice(),
+            self.place,
+            time,
+            &mut self.bits,
+            &mut self.levels,
+        )?;
         Ok(())
     }
 }
 
-/// Lists the wires that toggle at a time, from a place on, and gives the place behind.
-fn push_present(
-    list: &[StimulusToggle],
+/// Lists what changes at a time, from a place on, and gives the place behind.
+fn put_present(
+    list: &[StimulusChange],
     from: usize,
     time: u32,
-    present: &mut Vec<u16>,
+    bits: &mut Vec<u16>,
+    levels: &mut Vec<LevelChange>,
 ) -> Result<usize, AllocError>
-    ensures present { OnOk result (present.new.items ≡ present.old.items ++ wires_at time (drop from list.now)) }
-    ensures left { IfOk result (λ place. drop place list.now ≡ toggles_after time (drop from list.now)) }
+    ensures bits { OnOk result (bits.new.items ≡ bits.old.items ++ bits_at time (drop from list.now)) }
+    ensures levels { OnOk result (levels.new.items ≡ levels.old.items ++ levels_at time (drop from list.now)) }
+    ensures left { IfOk result (λ place. drop place list.now ≡ changes_after time (drop from list.now)) }
 {
     let mut place = from;
     while place < list.len() && list[place].time == time {
-        present.push(list[place].wire)?;
+        put_change(list[place], bits, levels)?;
         place += 1;
     }
     Ok(place)
 }
 
-/// Adds the toggles of a wire, if it has a stimulus.
+/// Lists a change, by whether its wire has data.
+fn put_change(
+    change: StimulusChange,
+    bits: &mut Vec<u16>,
+    levels: &mut Vec<LevelChange>,
+) -> Result<(), AllocError>
+    ensures bits { OnOk result (bits.new.items ≡ bits.old.items ++ bits_of change) }
+    ensures levels { OnOk result (levels.new.items ≡ levels.old.items ++ levels_of change) }
+{
+    if change.has_data {
+        levels.push(LevelChange {
+            number: change.wire,
+            level: change.level,
+        })?;
+        return Ok(());
+    }
+    bits.push(change.wire)?;
+    Ok(())
+}
+
+/// Adds what the stimulus of a wire changes, if it has one.
 fn add_wire(
     netlist: &Netlist,
     wire: WireId,
-    list: &mut Vec<StimulusToggle>,
+    list: &mut Vec<StimulusChange>,
 ) -> Result<(), AllocError>
     requires { wire.0 < 2 ^ 16 }
-    ensures { OnOk result (list.new.items ≡ list.old.items ++ map (toggle_of wire.0) (toggle_times (initial_of (wire_at netlist.now wire.0)) (unwrap_or (stimulus_at netlist.now wire.0) []))) }
+    ensures { OnOk result (list.new.items ≡ list.old.items ++ map (change_of wire.0 (is_data netlist.now wire.0)) (set_changes (initial_of (wire_at netlist.now wire.0)) (unwrap_or (stimulus_at netlist.now wire.0) []))) }
 {
     let Some(found) = netlist.wire(wire) else {
         return Ok(());
     };
     match &found.stimulus {
-        Some(stimulus) => { add_toggles(wire.0 as u16, found.initial, stimulus.as_slice(), list) }
+        Some(stimulus) => {
+            add_changes(
+                wire.0 as u16,
+                found.width != 1,
+                found.initial,
+                stimulus.as_slice(),
+                list,
+            )
+        }
         None => Ok(()),
     }
 }
 
-/// Adds the toggles of a wire at those times at which it is set to another level than before.
-fn add_toggles(
+/// Adds the changes of a wire at those times at which it is set to another level than before.
+fn add_changes(
     wire: u16,
+    has_data: bool,
     initial: u64,
     changes: &[(u32, u64)],
-    list: &mut Vec<StimulusToggle>,
+    list: &mut Vec<StimulusChange>,
 ) -> Result<(), AllocError>
-    ensures { OnOk result (list.new.items ≡ list.old.items ++ map (toggle_of wire) (toggle_times initial changes.now)) }
+    ensures { OnOk result (list.new.items ≡ list.old.items ++ map (change_of wire has_data) (set_changes initial changes.now)) }
 {
     let mut level = initial;
     for change in changes {
         let (time, next) = *change;
         if level != next {
-            list.push(StimulusToggle { time, wire })?;
+            list.push(StimulusChange {
+                time,
+                wire,
+                has_data,
+                level: next,
+            })?;
         }
         level = next;
     }

@@ -1,20 +1,29 @@
 //! Which inputs read each wire, and the delayed copies of wires that inputs with a delay read.
-ghost use Rattle.std.specs.Prelude.{◌≡◌, ℕ, ◌*◌, ◌-◌, ◌<◌, ◌≤◌, Some, IfOk, length};
-ghost use Rattle.mp_netlist.specs.Circuit.{IsCircuit};
+ghost use Rattle.std.specs.Prelude.{◌≡◌, ℕ, ◌*◌, ◌+◌, ◌-◌, ◌<◌, ◌≤◌, ◌^◌, Some, IfOk, OnOk, length};
+ghost use Rattle.mp_netlist.specs.Circuit.{IsCircuit, module_at};
 ghost use Rattle.mp_events.specs.Firing.{copy_at};
-ghost use Rattle.mp_run.specs.Numbers.{AreLinks, copy_within, behind, IsPlace};
-ghost use Rattle.mp_run.specs.Wirings.{IsWiring, AreUnread};
+ghost use Rattle.mp_run.specs.Numbers.{AreLinks, copy_within, behind, IsPlace, noted};
+ghost use Rattle.mp_run.specs.Wirings.{HaveRows, IsWiring, AreUnread, HasRead, inputs_in, AreWiredInputs};
 
 use mp_automata::event_bit;
 use mp_events::{FanoutEntry, FanoutRow, OutputPort};
+use mp_modules::MOST_INPUTS;
 use mp_netlist::{Input, ModuleId, Netlist};
 use std::alloc::{AllocError, Global};
 
-/// Each number, of a wire or of a delayed copy of one, has the inputs that read it, and the copy that is next later, if any.
+/// Each number, of a wire or of a delayed copy of one, has the inputs that read it, the copy that is next later, if any, and its wire.
 #[derive(Drop)]
-pub(crate) struct Wiring {
+pub struct Wiring {
     pub rows: Vec<FanoutRow>,
     pub next: Vec<OutputPort>,
+    pub wires: Vec<u16>,
+}
+
+/// The wires and all that their readers need, and the numbers that the inputs of each module read, by port.
+#[derive(Drop)]
+pub struct WiredInputs {
+    pub wiring: Wiring,
+    pub inputs: Vec<[Option<u16>; MOST_INPUTS]>,
 }
 
 /// Where a wanted copy of a wire is or belongs: the latest number of the wire that isn't later than it, and how much later it is than that.
@@ -24,33 +33,55 @@ struct CopyPlace {
     later: u16,
 }
 
-/// The wires and all that their readers need.
-pub(crate) fn wiring_of(alloc: Global, netlist: &Netlist) -> Result<Wiring, AllocError>
+/// The wires and all that their readers need, with what each module reads.
+pub(crate) fn wiring_of(alloc: Global, netlist: &Netlist) -> Result<WiredInputs, AllocError>
     requires { IsCircuit netlist.now }
-    ensures { IfOk result (λ wiring. IsWiring netlist.now (length netlist.now.modules) wiring) }
+    ensures { IfOk result (λ wired. AreWiredInputs netlist.now (length netlist.now.modules) wired.wiring wired.inputs.items) }
 {
     let mut wiring = unread_wires(alloc, netlist.wire_slots())?;
+    let mut inputs = Vec::new(alloc);
     for m in 0..netlist.module_slots() {
-        if let Some(found) = netlist.module(ModuleId(m)) {
-            wiring.add_module(m as u16, found.inputs.as_slice())?;
-        }
+        inputs.push(add_slot(netlist, ModuleId(m), &mut wiring)?)?;
     }
-    Ok(wiring)
+    Ok(WiredInputs { wiring, inputs })
+}
+
+/// Adds the inputs of the module of a number, if one stands, and gives the numbers that they read.
+fn add_slot(
+    netlist: &Netlist,
+    id: ModuleId,
+    wiring: &mut Wiring,
+) -> Result<[Option<u16>; MOST_INPUTS], AllocError>
+    requires form { IsCircuit netlist.now }
+    requires place { id.0 < 2 ^ 16 }
+    requires numbers { length wiring.old.next.items + 4 < 2 ^ 16 }
+    requires wires { length netlist.now.wires ≤ length wiring.old.next.items }
+    requires rows { HaveRows wiring.old }
+    requires links { AreLinks 65535 wiring.old.next.items }
+    ensures { IfOk result (λ numbers. HasRead wiring.old wiring.new id.0 (inputs_in (module_at netlist.now id.0)) numbers) }
+{
+    match netlist.module(id) {
+        Some(found) => wiring.add_module(id.0 as u16, found.inputs.as_slice()),
+        None => Ok([None; MOST_INPUTS]),
+    }
 }
 
 /// Wires that nothing reads.
 fn unread_wires(alloc: Global, wires: u32) -> Result<Wiring, AllocError>
+    requires { wires ≤ 65536 }
     ensures { IfOk result (λ wiring. AreUnread wires wiring) }
 {
     let mut wiring = Wiring {
         rows: Vec::new(alloc),
         next: Vec::new(alloc),
+        wires: Vec::new(alloc),
     };
-    for _wire in 0..wires {
+    for wire in 0..wires {
         wiring.add_number(OutputPort {
             wire: None,
             delay: 1,
         })?;
+        wiring.wires.push(wire as u16)?;
     }
     Ok(wiring)
 }
@@ -60,39 +91,45 @@ impl Wiring {
     ghost use Rattle.mp_records.specs.declared.ports.Input.{Input as Entry};
     ghost use Rattle.mp_core.specs.PortEvents.{source_of};
     ghost use Rattle.mp_run.specs.Numbers.{AreLinks, HasRoom, inserted, HasNumber};
-    ghost use Rattle.mp_run.specs.Wirings.{HaveRows, KeepsRows, CanRead, AddsInputs};
+    ghost use Rattle.mp_run.specs.Wirings.{HaveRows, KeepsRows, CanRead, AddsInputs, HasRead};
 
-    /// Adds the inputs of a module at a place.
-    fn add_module(&mut self, place: u16, inputs: &[Input]) -> Result<(), AllocError>
+    /// Adds the inputs of a module at a place, and gives the numbers that they read.
+    fn add_module(
+        &mut self,
+        place: u16,
+        inputs: &[Input],
+    ) -> Result<[Option<u16>; MOST_INPUTS], AllocError>
         requires few { length inputs.now ≤ 4 }
         requires numbers { length self.old.next.items + length inputs.now < 2 ^ 16 }
         requires inputs { All (CanRead (length self.old.next.items)) inputs.now }
         requires rows { HaveRows self.old }
         requires links { AreLinks 65535 self.old.next.items }
-        ensures { OnOk result (AddsInputs self.old self.new place 0 inputs.now) }
+        ensures { IfOk result (λ numbers. HasRead self.old self.new place inputs.now numbers) }
     {
+        let mut numbers = [None; MOST_INPUTS];
         for (port, input) in inputs.iter().enumerate() {
-            self.add_input(
-                *input,
-                FanoutEntry {
-                    module: place,
-                    event: event_bit(port),
-                },
-            )?;
+            let entry = FanoutEntry {
+                module: place,
+                event: event_bit(port),
+            };
+            let number = self.add_input(*input, entry)?;
+            numbers[port] = Some(number);
         }
-        Ok(())
+        Ok(numbers)
     }
 
-    /// Adds an input.
-    fn add_input(&mut self, input: Input, entry: FanoutEntry) -> Result<(), AllocError>
+    /// Adds an input, and gives the number that it reads.
+    fn add_input(&mut self, input: Input, entry: FanoutEntry) -> Result<u16, AllocError>
         requires numbers { length self.old.next.items + 1 < 2 ^ 16 }
         requires input { CanRead (length self.old.next.items) input }
         requires rows { HaveRows self.old }
         requires links { AreLinks 65535 self.old.next.items }
-        ensures { OnOk result ((port : ℕ) → entry.event ≡ 2 ^ port → AddsInputs self.old self.new entry.module port (input ∷ [])) }
+        ensures { IfOk result (λ number. (port : ℕ) → entry.event ≡ 2 ^ port → AddsInputs self.old self.new entry.module port (input ∷ []) (number ∷ [])) }
     {
         let number = self.number_of(input)?;
-        self.rows[number as usize].push(entry)
+        note_wire(number, input.wire.0 as u16, &mut self.wires)?;
+        self.rows[number as usize].push(entry)?;
+        Ok(number)
     }
 
     /// The number that an input reads. A copy that was not there before is added.
@@ -138,11 +175,22 @@ impl Wiring {
     fn add_number(&mut self, port: OutputPort) -> Result<(), AllocError>
         ensures next { OnOk result (self.new.next.items ≡ self.old.next.items ++ port ∷ []) }
         ensures rows { OnOk result (self.new.rows.items ≡ self.old.rows.items ++ [] ∷ []) }
+        ensures wires { OnOk result (self.new.wires.items ≡ self.old.wires.items) }
     {
         self.rows.push(FanoutRow::new(*self.rows.allocator()))?;
         self.next.push(port)?;
         Ok(())
     }
+}
+
+/// Lists the wire of a number, if the number is the next one.
+fn note_wire(number: u16, wire: u16, wires: &mut Vec<u16>) -> Result<(), AllocError>
+    ensures { OnOk result (wires.new.items ≡ noted number wire wires.old.items) }
+{
+    if number as usize == wires.len() {
+        wires.push(wire)?;
+    }
+    Ok(())
 }
 
 /// Where the copy of a wire with a delay is or belongs.

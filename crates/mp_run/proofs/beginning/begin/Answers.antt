@@ -1,48 +1,40 @@
-use Rattle.std.proofs.Common.{ℕ, ◌<◌, List, All, length, map, sym, subst, ap, ◌∙◌}
+use Rattle.std.proofs.Common.{ℕ, ◌≡◌, List, Option, length, refl, sym, subst, ap, ◌∙◌, arith}
 use Rattle.mp_model.proofs.SlotLemmas.{slot_within}
-use Rattle.mp_events.specs.declared.fanout_entry.FanoutEntry.{FanoutEntry}
-use Rattle.mp_events.specs.declared.output_ports.OutputPorts.{OutputPorts}
-use Rattle.mp_events.specs.Firing.{HaveSlots}
-use Rattle.mp_core.specs.Simulators.{AreBelow}
-use Rattle.mp_run.specs.Numbers.{AreLinks}
-use Rattle.mp_run.specs.Wirings.{AreWired, reading_below}
-use Rattle.mp_run.specs.Settling.{ports_of}
-use Rattle.mp_run.proofs.SettlingLemmas.{have_slots, are_below}
-use Rattle.mp_run.proofs.BeginningLemmas.{begun}
+use Rattle.mp_data.specs.declared.level_change.LevelChange.{LevelChange}
+use Rattle.mp_units.specs.declared.netlist_simulation.NetlistSimulation.{NetlistSimulation}
+use Rattle.mp_run.specs.Beginnings.{IsBegun}
+use Rattle.mp_run.specs.Seating.{IsSeated}
+use Rattle.mp_run.proofs.SimulatedLemmas.{simulated, evaluated}
 use Rattle.mp_run.proofs.beginning.begin.Goals as goal
 
-pub settle_all-requires-clause-within : goal.settle_all-requires-clause-within
-settle_all-requires-clause-within c =
+pub seat_all-requires-clause-within : goal.seat_all-requires-clause-within
+seat_all-requires-clause-within c m r at k d within =
     let delays = c.of-delays.ensures in
-    subst (λ (xs : List OutputPorts). All (HaveSlots c.of-delays.result.outputs) xs) (sym (c.as_slice.ensures.value ∙ c.in_ok-outputs.ensures))
-    (have_slots c.args.netlist.now c.requires.form c.of-delays.result delays.within delays.outputs)
+    let low = (delays.within m r (slot_within c.args.netlist.now.modules m r at) at).outputs k d within in
+    let high = c.longest-units.ensures.outputs in
+    omega arith
 
 pub returns : goal.returns
 returns c =
     let n = c.args.netlist.now in
-    let ok = c.requires.form in
-    let d = c.of-delays.result in
     let delays = c.of-delays.ensures in
-    let outputs = c.in_ok-outputs.ensures in
-    let units = c.in_ok-states.ensures.units in
-    let wiring = c.in_ok-rows.ensures in
-    let rows = c.in_ok-from_rows.ensures ∙ c.as_slice-2.ensures.value in
-    let longest : ℕ = d.inputs in
-    let copies = c.in_ok-new-2.ensures.places in
-    begun n ok c.requires.narrow _
-    (record {
-      settled = c.in_ok-states.ensures.settled;
-      outputs = outputs;
-      within = subst (λ (xs : List OutputPorts). All (HaveSlots (length c.in_ok-states.field-0.wheel)) xs) (sym outputs)
-          (subst (λ k. All (HaveSlots k) (map ports_of n.modules)) (sym units) (have_slots n ok d delays.within delays.outputs));
-      below = subst (λ (xs : List OutputPorts). All (AreBelow (length n.wires)) xs) (sym outputs) (are_below n ok);
-      some = subst (λ k. 0 < k) (sym units) delays.outputs;
-      wired = subst (λ (xs : List (List FanoutEntry)). AreWired (length n.wires) (length n.modules) (reading_below n (length n.modules)) xs c.in_ok-rows.field-0.next.items) (sym rows) wiring.wired;
-      rows = ap (length {A = List FanoutEntry}) rows ∙ wiring.rows;
-      links = subst (λ k. AreLinks k c.in_ok-rows.field-0.next.items) (sym copies)
-          (wiring.links longest delays.inputs (λ m r at. (delays.within m r (slot_within n.modules m r at) at).inputs));
-      waves = c.in_ok-first_waves.ensures;
-      due = c.new-2.ensures.items;
-      copies = subst (λ k. 0 < k) (sym copies) delays.inputs;
-      empty = c.in_ok-new-2.ensures.empty;
-    })
+    let wiring = c.in_ok-wiring.field-0.wiring in
+    let ports = c.in_ok-wiring.field-0.inputs.items in
+    let seating = c.in_ok-modules.field-0 in
+    let made = c.in_ok-wires.ensures in
+    let s : NetlistSimulation = record { bits = c.in_ok-bits.bits; wires = c.in_ok-wires.wires; modules = seating.modules } in
+    let units : length s.wires.wheel ≡ c.longest-units.result = ap (length {A = List LevelChange}) made.wheel ∙ c.in_ok-modules.ensures.units in
+    let seats = subst (λ (xs : List (List (Option ℕ))). IsSeated n (length n.modules) xs seating) c.as_slice.ensures.value c.in_ok-modules.ensures.seated in
+    let begun : IsBegun n c.of-delays.result wiring ports s =
+    record {
+      within = delays.within;
+      some_output = delays.outputs;
+      some_input = delays.inputs;
+      wired = c.in_ok-wiring.ensures;
+      bits = c.in_ok-bits.ensures;
+      wires = record { levels = made.levels; next = made.next; waves = made.waves; wheel = refl };
+      seated = subst (λ (wheel : List (List LevelChange)). IsSeated n (length n.modules) ports (record { modules = seating.modules; wheel = wheel })) (sym made.wheel) seats;
+      outputs = let high = c.longest-units.ensures.outputs in omega arith;
+      inputs = let high = c.longest-units.ensures.inputs in omega arith;
+    } in
+    record { simulated = simulated n c.requires c.of-delays.result wiring ports s begun; narrow = λ narrow. evaluated n c.requires c.of-delays.result wiring ports s begun narrow }

@@ -3,4 +3,4 @@ use Rattle.mp_run.proofs.wiring.unread_wires.Given as goal
 
 -- the wires so far
 abbrev pub invariant-loop-wire : goal.invariant-loop-wire
-invariant-loop-wire l = AreUnread l._wire l.wiring
+invariant-loop-wire l = AreUnread l.wire l.wiring

@@ -1,26 +1,30 @@
-use Rattle.std.proofs.Common.{◌+◌, List, sym, subst, arith}
-use Rattle.mp_records.specs.declared.ports.Input.{Input}
-use Rattle.mp_run.specs.Wirings.{AreUnread, AddsInputs, IsWiring}
-use Rattle.mp_run.proofs.WiringLemmas.{wired_none, wired_next, wired_past, inputs_short, inputs_low}
+use Rattle.std.proofs.Common.{◌<◌, length, subst, arith}
+use Rattle.mp_run.specs.Wirings.{AreUnread}
+use Rattle.mp_run.proofs.WiringLemmas.{inputs_none, inputs_next}
 use Rattle.mp_run.proofs.wiring.wiring_of.Goals as goal
-use Rattle.mp_run.proofs.wiring.wiring_of.Goals.{in-Some+in_ok-add_module, in_default}
 
 pub loop-m-init : goal.loop-m-init
-loop-m-init c = wired_none c.args.netlist.now c.in_ok-wiring.wiring (subst (λ k. AreUnread k c.in_ok-wiring.wiring) c.wire_slots.ensures.value c.in_ok-wiring.ensures)
+loop-m-init c =
+    inputs_none c.args.netlist.now c.in_ok-wiring.wiring _ c.new-inputs.ensures.items (subst (λ k. AreUnread k c.in_ok-wiring.wiring) c.wire_slots.ensures.value c.in_ok-wiring.ensures)
 
-pub add_module-requires-clause-links : goal.add_module-requires-clause-links
-add_module-requires-clause-links c = c.loop-m.invariant.links 65535 (omega arith) (λ m r at. (c.requires.modules_ok m r at).input_delays)
+pub add_slot-requires-clause-links : goal.add_slot-requires-clause-links
+add_slot-requires-clause-links c = c.loop-m.invariant.wired.links 65535 (omega arith) (λ m r at. (c.requires.modules_ok m r at).input_delays)
+
+pub add_slot-requires-clause-wires : goal.add_slot-requires-clause-wires
+add_slot-requires-clause-wires c = c.loop-m.invariant.wired.wired.numbers.enough
+
+pub add_slot-requires-clause-rows : goal.add_slot-requires-clause-rows
+add_slot-requires-clause-rows c = c.loop-m.invariant.wired.rows
+
+pub add_slot-requires-clause-numbers : goal.add_slot-requires-clause-numbers
+add_slot-requires-clause-numbers c =
+    let few = c.loop-m.invariant.wired.few in
+    let wires = c.requires.wires_few in
+    let modules = c.requires.modules_few in
+    omega arith
 
 pub loop-m-preserved : goal.loop-m-preserved
 loop-m-preserved c =
     let n = c.args.netlist.now in
-    let m = c.loop-m.m in
-    elim c.match-module.branch [
-      | in-Some+in_ok-add_module w ↦
-          let r = w.in-Some.found.now in
-          let at = sym w.in-Some.ensures.value in
-          let adds = subst (λ (xs : List Input). AddsInputs c.loop-m.wiring w.add_module.new.self m 0 xs) w.as_slice.ensures w.in_ok-add_module.ensures in
-          subst (IsWiring n (m + 1)) (sym w.wiring-is)
-          (wired_next n c.requires m r c.loop-m.wiring w.add_module.new.self at (omega arith) (inputs_short n c.requires m r at) (inputs_low n c.requires m r at) c.loop-m.invariant adds)
-      | in_default w ↦ subst (IsWiring n (m + 1)) (sym w.wiring-is) (wired_past n m c.loop-m.wiring (sym w.in_default.ensures.value) c.loop-m.invariant)
-    ]
+    let within : c.loop-m.m < length c.args.netlist.now.modules = omega arith in
+    inputs_next n c.requires c.loop-m.m c.loop-m.wiring c.add_slot.new.wiring c.loop-m.inputs.items c.push.new.self.items c.in_ok-add_slot.field-0 within c.loop-m.invariant c.in_ok-add_slot.ensures c.in_ok-push.ensures.items

@@ -3,7 +3,8 @@ use Rattle.mp_events.specs.Adding.{AreAdded, IsAdding}
 use Rattle.mp_events.specs.Toggling.{entries_from, CanToggle}
 use Rattle.mp_events.proofs.AddingLemmas.{front, back}
 use Rattle.mp_core.specs.Simulators.{next_slot}
-use Rattle.mp_core.proofs.ApplyLemmas.{is_applied, all_waved, all_rowed, applied_sound, applied}
+use Rattle.mp_core.proofs.ApplyLemmas.{is_applied, all_waved, all_rowed, applied_sound, only_due, applied}
+use Rattle.mp_core.proofs.TurnLemmas.{turned_length}
 use Rattle.mp_core.proofs.simulator.Simulator.apply_events.Goals as goal
 
 pub toggle_wires-requires-clause-waves : goal.toggle_wires-requires-clause-waves
@@ -68,3 +69,19 @@ returns-clause-applied c n scope t ok now before due =
     (is_applied s _ set c.args.others.now c.as_slice.result.now c.args.time c.toggle_wires.new.states.items
     same c.turn.ensures.turned refl refl e.added f.added f.adding (f.places ∙ e.places) e.waves)
     n ok scope t now before due
+
+pub returns-clause-only : goal.returns-clause-only
+returns-clause-only c none =
+    let s = c.args.self.now in
+    let set = c.args.set.now in
+    let same : c.as_slice.result.now ≡ next_slot s ++ set = c.as_slice.ensures ∙ c.in_ok-extend_from_slice.ensures ∙ ap (λ (xs : List ℕ). xs ++ set) c.turn.ensures.present in
+    let e = c.in_ok-toggle_wires.ensures in
+    let f = c.in_ok-add_fanout_events.ensures in
+    only_due s set c.args.others.now c.as_slice.result.now c.args.time c.toggle_wires.new.states.items c.add_fanout_events.new.states.items c.add_fanout_events.new.due.items
+    c.requires.sound c.requires.fit same e.added f.added f.adding none
+
+pub returns-clause-units : goal.returns-clause-units
+returns-clause-units c = ap (length {A = List ℕ}) c.turn.ensures.turned ∙ turned_length c.args.self.now.wheel c.requires.sound.some
+
+pub returns-clause-places : goal.returns-clause-places
+returns-clause-places c = c.in_ok-add_fanout_events.ensures.places ∙ c.in_ok-toggle_wires.ensures.places

@@ -30,3 +30,9 @@ returns-clause-fired c n scope t ok during =
     fired c.args.self.now _ c.requires.sound
     (is_fired c.args.self.now _ c.as_slice.result.now c.as_slice-2.result.now c.as_slice.ensures.value c.as_slice-2.ensures.value e.states e.wheel e.places e.kept c.clear.ensures.items refl refl refl)
     n ok scope t during
+
+pub returns-clause-units : goal.returns-clause-units
+returns-clause-units c = c.in_ok-fire_modules.ensures.places
+
+pub returns-clause-places : goal.returns-clause-places
+returns-clause-places c = c.in_ok-fire_modules.ensures.kept

@@ -1,7 +1,7 @@
 use Rattle.std.proofs.Common.{◌≡◌, ◌+◌, length, rules, sym, subst, arith}
 use Rattle.std.proofs.lemmas.List.Sorted.{IsNonDecreasingBy-from_sort_by_key}
-use Rattle.mp_run.specs.declared.stimuli.StimulusToggle.{StimulusToggle}
-use Rattle.mp_run.proofs.StimulusLemmas.{AreBelow, below_next, toggles_sorted}
+use Rattle.mp_run.specs.declared.stimuli.StimulusChange.{StimulusChange}
+use Rattle.mp_run.proofs.StimulusLemmas.{AreBelow, below_next, changes_sorted}
 use Rattle.mp_run.proofs.stimuli.Stimuli.of.Goals as goal
 
 pub loop-w-preserved : goal.loop-w-preserved
@@ -13,5 +13,5 @@ pub returns : goal.returns
 returns c =
     let n = c.args.netlist.now in
     let all : c.loop-w.w ≡ length n.wires = omega arith in
-    toggles_sorted n c.requires c.loop-w.list.items c.sort_unstable_by_key.new.self.items (subst (λ w. AreBelow n w c.loop-w.list.items) all c.loop-w.invariant)
-    c.sort_unstable_by_key.ensures.permutation (IsNonDecreasingBy-from_sort_by_key (λ (s : StimulusToggle). s.time) _ c.sort_unstable_by_key.ensures.sorted (λ a r q k. search rules))
+    changes_sorted n c.requires c.loop-w.list.items c.sort_unstable_by_key.new.self.items (subst (λ w. AreBelow n w c.loop-w.list.items) all c.loop-w.invariant)
+    c.sort_unstable_by_key.ensures.permutation (IsNonDecreasingBy-from_sort_by_key (λ (s : StimulusChange). s.time) _ c.sort_unstable_by_key.ensures.sorted (λ a r q k. search rules))

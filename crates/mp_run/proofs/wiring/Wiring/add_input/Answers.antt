@@ -1,15 +1,13 @@
 use Rattle.std.proofs.Common.{refl, arith}
-use Rattle.std.proofs.lemmas.Result.{on_ok_weaker}
 use Rattle.mp_run.proofs.WiringLemmas.{adds_input, row_pushed}
 use Rattle.mp_run.proofs.wiring.Wiring.add_input.Goals as goal
 
 pub returns : goal.returns
-returns c =
+returns c port event =
     let mid = c.number_of.new.self in
     let number = c.in_ok-number.number in
     let has = c.in_ok-number.ensures.number in
     let kept = c.in_ok-number.ensures.rows in
-    on_ok_weaker c.push.result
-    (λ pushed port event.
     adds_input c.args.self.now mid _ c.args.input c.args.entry number port has kept c.requires.rows refl
-    (row_pushed mid.rows.items number c.index_mut.result.now c.push.new.self c.args.entry (let a = kept.long c.requires.rows in let b = has.within in omega arith) c.index_mut.ensures.value pushed) event) c.push.ensures
+    (row_pushed mid.rows.items number c.index_mut.result.now c.push.new.self c.args.entry (let a = kept.long c.requires.rows in let b = has.within in omega arith) c.index_mut.ensures.value c.in_ok-push.ensures)
+    c.in_ok-note_wire.ensures event

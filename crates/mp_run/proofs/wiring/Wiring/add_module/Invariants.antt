@@ -1,7 +1,10 @@
-use Rattle.std.proofs.Common.{take}
-use Rattle.mp_run.specs.Wirings.{AddsInputs}
+use Rattle.std.proofs.Common.{◌≡◌, length, take}
+use Rattle.mp_run.specs.Wirings.{HasRead}
 use Rattle.mp_run.proofs.wiring.Wiring.add_module.Given as goal
 
 -- the inputs so far are added
 abbrev pub invariant-loop-port : goal.invariant-loop-port
-invariant-loop-port l = AddsInputs l.fn.self l.self l.place 0 (take l.port l.inputs)
+invariant-loop-port l = record {
+  done : HasRead l.fn.self l.self l.place (take l.port l.inputs) l.numbers;
+  long : length l.numbers ≡ 4;
+}

@@ -1,6 +1,6 @@
 use Rattle.std.proofs.Common.{◌≡◌, map, take}
-use Rattle.mp_run.specs.Narrow.{first_wave}
-use Rattle.mp_run.proofs.narrow.first_waves.Given as goal
+use Rattle.mp_run.specs.FirstLevels.{first_wave}
+use Rattle.mp_run.proofs.first_levels.first_waves.Given as goal
 
 -- those so far
 abbrev pub invariant-loop-w : goal.invariant-loop-w

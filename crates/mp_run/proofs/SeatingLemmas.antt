@@ -1,0 +1,482 @@
+-- Modules with data at time 0, one after the other.
+use Rattle.std.proofs.Common.{◌≡◌, ◌≢◌, ℕ, zero, suc, ◌+◌, ◌-◌, ◌<◌, ◌≤◌, Bool, true, false, not, cond, List, [], ◌∷◌, ◌++◌, Option, Some, None, option_map, is_some, All, length, nat_lt, refl, sym, ap, ◌∙◌, arith, subst, inl, inr}
+use Rattle.std.specs.Prelude.{◌==◌, ◌&&◌, ◌⊎◌, slice_index_or}
+use Rattle.std.specs.List.{count_by}
+use Rattle.std.proofs.lemmas.Bool.{cases_eq, cases_lt}
+use Rattle.std.proofs.lemmas.Bool.Decides.{nat_tests}
+use Rattle.std.proofs.lemmas.List.{get_or_past, get_or_append_left, get_or_push, append-nil, length_push}
+use Rattle.std.proofs.lemmas.Option.{none-some, same_Some}
+use Rattle.mp_modules.specs.declared.memory.Memory.{Memory}
+use Rattle.mp_modules.specs.Memories.{output_of}
+use Rattle.mp_storage.specs.declared.any_module.AnyModule.{AnyModule}
+use Rattle.mp_records.specs.declared.ids.WireId.{WireId}
+use Rattle.mp_records.specs.declared.ids.ModuleId.{ModuleId}
+use Rattle.mp_records.specs.declared.ports.Output.{Output}
+use Rattle.mp_records.specs.declared.module_record.ModuleRecord.{ModuleRecord}
+use Rattle.mp_records.specs.Outputs.{output_at, delay_of}
+use Rattle.mp_netlist.specs.declared.driver.Driver.{Driver}
+use Rattle.mp_netlist.specs.declared.driver.Driver.TheVariants.{Nothing, Stimulus, Port}
+use Rattle.mp_netlist.specs.Circuit.{Circuit, IsCircuit, Drives, wire_at, module_at}
+use Rattle.mp_netlist.specs.Drivers.{driver}
+use Rattle.mp_netlist.proofs.DriverLemmas.{finds_ports, finds_only_ports}
+use Rattle.mp_model.specs.Levels.{initial_of, driven_level, port_level, built}
+use Rattle.mp_model.specs.Evaluations.{delay_in}
+use Rattle.mp_model.specs.Waves.{level, state}
+use Rattle.mp_model.proofs.BehaviourLemmas.{satisfies}
+use Rattle.mp_automata.specs.Codes.{bit}
+use Rattle.mp_events.specs.declared.output_port.OutputPort.{OutputPort}
+use Rattle.mp_events.specs.declared.output_ports.OutputPorts.{OutputPorts}
+use Rattle.mp_events.specs.Firing.{HasSlot, HaveSlots, no_port}
+use Rattle.mp_core.specs.Schedules.{output_port_of, number_of as wire_number}
+use Rattle.mp_core.specs.Beginnings.{is_first}
+use Rattle.mp_core.proofs.ScheduleLemmas.{same_part}
+use Rattle.mp_data.specs.declared.level_change.LevelChange.{LevelChange}
+use Rattle.mp_data.specs.declared.data_module.DataModule.{DataModule}
+use Rattle.mp_data.specs.LevelWheels.{scheduled, entry_at, entry_if}
+use Rattle.mp_data.specs.DataFiring.{place_at, module_at as data_module_at, no_module}
+use Rattle.mp_units.specs.DataLevels.{is_data, changes_of}
+use Rattle.mp_units.specs.DataWheels.{data_slot}
+use Rattle.mp_units.specs.DataSeats.{drives_data, bit_port_of, bit_ports_of, level_port_of}
+use Rattle.mp_units.proofs.LevelWheelLemmas.{is_change, changes_each, HoldsOf, holds_scheduled}
+use Rattle.mp_units.proofs.AheadLemmas.{counted_entry, no_entry}
+use Rattle.mp_run.specs.declared.seating.Seating.{Seating}
+use Rattle.mp_run.specs.Widths.{is_bit_module}
+use Rattle.mp_run.specs.Settling.{is_below}
+use Rattle.mp_run.specs.Seating.{has_data_at, level_departs_from, level_departs, data_module, first_levels, seated_in, place_in, levels_in, Seats, IsSeatedAt, HasPlaceOf, IsFirstLevel, IsSeated}
+use Rattle.mp_run.proofs.SettlingLemmas.{unmapped, same_delay, still_below, delay_some, output_low, slot_within}
+use Rattle.mp_run.proofs.WidthLemmas.{bit_drives, data_first}
+
+-- ---- ports
+
+pub data_port : (n : Circuit) (o : Option WireId) → has_data_at n (option_map wire_number o) ≡ drives_data n o
+data_port n None = refl
+data_port n (Some w) = refl
+
+slot_if : (b : Bool) (units : ℕ) (port : OutputPort) → 0 < units → HasSlot units port → HasSlot units (cond b port no_port)
+slot_if true units port some has = has
+slot_if false units port some has = record { some = omega arith; room = omega arith }
+
+slot_unless : (b : Bool) (units : ℕ) (port : OutputPort) → 0 < units → HasSlot units port → HasSlot units (cond b no_port port)
+slot_unless true units port some has = record { some = omega arith; room = omega arith }
+slot_unless false units port some has = has
+
+pub level_slot : (n : Circuit) → IsCircuit n → (units m : ℕ) (r : ModuleRecord) → module_at n m ≡ Some r → All (λ (o : Output). o.delay ≤ units) r.outputs → 0 < units → HasSlot units (level_port_of n r)
+level_slot n ok units m r at within some =
+    slot_if (drives_data n (output_at r 0).wire) units (output_port_of (output_at r 0)) some (slot_within n ok units m 0 r at within some)
+
+pub bit_slots : (n : Circuit) → IsCircuit n → (units m : ℕ) (r : ModuleRecord) → module_at n m ≡ Some r → All (λ (o : Output). o.delay ≤ units) r.outputs → 0 < units → HaveSlots units (bit_ports_of n r)
+bit_slots n ok units m r at within some = record { first = one 0; second = one 1; third = one 2 }
+  where
+    one : (p : ℕ) → HasSlot units (bit_port_of n (output_at r p))
+    one p = slot_unless (drives_data n (output_at r p).wire) units (output_port_of (output_at r p)) some (slot_within n ok units m p r at within some)
+
+-- ---- what a module brings into the level wheel
+
+plus_none : (a b : ℕ) → a ≡ 0 → a + b ≡ b
+plus_none a b none = omega arith
+
+none_if : (b : Bool) (k w delay l : ℕ) (wire : Option ℕ) → (wire ≡ Some w → ⊥) → count_by (is_change k w) (cond b (entry_at wire delay l) []) ≡ 0
+none_if true k w delay l wire other = no_entry k w delay l wire other
+none_if false k w delay l wire other = refl
+
+led_if : (b : Bool) (k w d l : ℕ) → count_by (is_change k w) (cond b (entry_at (Some w) d l) []) ≡ bit (b && (d - 1 == k))
+led_if true k w d l = counted_entry k w d l
+led_if false k w d l = refl
+
+level_wire : (n : Circuit) (b : Bool) (o : Output) (w : ℕ) → (cond b (output_port_of o) no_port).wire ≡ Some w → o.wire ≡ Some (record { 0 = w })
+level_wire n true o w is = unmapped w o.wire is
+level_wire n false o w is = absurd (none-some w is)
+
+first_swapped : (a b c : Bool) → a ≡ b → bit (c && a) ≡ bit (true && ((b && c) && true))
+first_swapped a true true same = rw same refl
+first_swapped a true false same = refl
+first_swapped a false true same = rw same refl
+first_swapped a false false same = refl
+
+never_level : (a b c : Bool) → c ≡ false → 0 ≡ bit (a && (b && c))
+never_level true true c none = sym (ap bit none)
+never_level true false c none = refl
+never_level false b c none = refl
+
+module _ (n : Circuit) (ok : IsCircuit n) (m : ℕ) where
+  -- of a wire that isn't that of the first output
+  levels_none : (r : ModuleRecord) (k w : ℕ) → ((output_at r 0).wire ≡ Some (record { 0 = w }) → ⊥) → count_by (is_change k w) (first_levels n m r) ≡ 0
+  levels_none r k w other =
+      none_if (level_departs n (level_port_of n r) (output_of (state n m 0) 0)) k w (level_port_of n r).delay (output_of (state n m 0) 0) (level_port_of n r).wire
+      (λ is. other (level_wire n (drives_data n (output_at r 0).wire) (output_at r 0) w is))
+
+  -- of the wire of the first output, which has data
+  levels_own : (r : ModuleRecord) (k w : ℕ) → (output_at r 0).wire ≡ Some (record { 0 = w }) → is_data n w ≡ true →
+      count_by (is_change k w) (first_levels n m r) ≡ bit (not (initial_of (wire_at n w) == output_of (state n m 0) 0) && (delay_of r 0 - 1 == k))
+  levels_own r k w is has =
+      let test : drives_data n (output_at r 0).wire ≡ true = ap (drives_data n) is ∙ has in
+      let port : level_port_of n r ≡ output_port_of (output_at r 0) = ap (λ b. cond b (output_port_of (output_at r 0)) no_port) test in
+      let wire : (level_port_of n r).wire ≡ Some w = ap (λ (p : OutputPort). p.wire) port ∙ ap (option_map wire_number) is in
+      let delay : (level_port_of n r).delay ≡ delay_of r 0 = ap (λ (p : OutputPort). p.delay) port in
+      let l = output_of (state n m 0) 0 in
+      ap (λ (o : Option ℕ). count_by (is_change k w) (cond (level_departs_from n o l) (entry_at o (level_port_of n r).delay l) [])) wire
+      ∙ ap (λ d. count_by (is_change k w) (cond (not (initial_of (wire_at n w) == l)) (entry_at (Some w) d l) [])) delay
+      ∙ led_if (not (initial_of (wire_at n w) == l)) k w (delay_of r 0) l
+
+  slot_none : (slot : Option ModuleRecord) → module_at n m ≡ slot → (w k : ℕ) → ((p : ℕ) → Drives n m p w → is_data n w ≡ true → ⊥) → count_by (is_change k w) (levels_in n m slot) ≡ 0
+  slot_none None at w k never = refl
+  slot_none (Some r) at w k never = by (is_bit_module n r)
+    where
+      by_data : (b : Bool) → is_data n w ≡ b → count_by (is_change k w) (first_levels n m r) ≡ 0
+      by_data true has = levels_none r k w (λ is. never 0 (record { part = r; stands = at; output = is }) has)
+      by_data false has =
+          none_if (level_departs n (level_port_of n r) (output_of (state n m 0) 0)) k w (level_port_of n r).delay (output_of (state n m 0) 0) (level_port_of n r).wire
+          (λ is.
+          let wire = level_wire n (drives_data n (output_at r 0).wire) (output_at r 0) w is in
+          let test : drives_data n (output_at r 0).wire ≡ false = ap (drives_data n) wire ∙ has in
+          none-some w (sym (ap (λ b. (cond b (output_port_of (output_at r 0)) no_port).wire) test) ∙ is))
+
+      by : (b : Bool) → count_by (is_change k w) (cond b [] (first_levels n m r)) ≡ 0
+      by true = refl
+      by false = by_data (is_data n w) refl
+
+  -- where no port of m drives the wire, nothing comes by m
+  level_kept : (w k : ℕ) (d : Driver) → driver n w ≡ d → ((p : ℕ) → Drives n m p w → ⊥) → bit (is_below m d && (is_first n d w (k + 1) && is_data n w)) ≡ bit (is_below (m + 1) d && (is_first n d w (k + 1) && is_data n w))
+  level_kept w k Nothing is never = refl
+  level_kept w k Stimulus is never = refl
+  level_kept w k (Port v p) is never =
+      let drv = finds_only_ports n w p v is in
+      let other : v.0 ≢ m = λ e. never p (subst (λ x. Drives n x p w) e drv) in
+      ap (λ b. bit (b && (is_first n (Port v p) w (k + 1) && is_data n w))) (sym (still_below v.0 m other))
+
+  no_bits : (slot : Option ModuleRecord) (p w : ℕ) → module_at n m ≡ slot → Drives n m p w → is_data n w ≡ true → (r : ModuleRecord) → slot ≡ Some r → is_bit_module n r ≡ false
+  no_bits slot p w at drv has r is = by (is_bit_module n r) refl
+    where
+      by : (b : Bool) → is_bit_module n r ≡ b → b ≡ false
+      by true bits = let none = bit_drives n ok m p w r (at ∙ is) bits drv in cc
+      by false bits = refl
+
+  own_level : (slot : Option ModuleRecord) → module_at n m ≡ slot → (w k p : ℕ) (v : ModuleId) → v.0 ≡ m → driver n w ≡ Port v p → Drives n m p w → (b : Bool) → is_data n w ≡ b →
+      count_by (is_change k w) (levels_in n m slot) ≡ bit (is_below (m + 1) (Port v p) && (is_first n (Port v p) w (k + 1) && is_data n w))
+  own_level slot at w k p v own is drv false has =
+      slot_none slot at w k (λ q other too. let e = sym has ∙ too in cc) ∙ never_level (is_below (m + 1) (Port v p)) (is_first n (Port v p) w (k + 1)) (is_data n w) has
+  own_level None at w k p v own is drv true has = absurd (none-some drv.part (sym at ∙ drv.stands))
+  own_level (Some r) at w k p v own is drv true has =
+      let first : p ≡ 0 = data_first n ok m p w drv has in
+      let wide : is_bit_module n r ≡ false = no_bits (Some r) p w at drv has r refl in
+      let output : (output_at r p).wire ≡ Some (record { 0 = w }) = subst (λ (s : ModuleRecord). (output_at s p).wire ≡ Some (record { 0 = w })) (same_part n m drv.part r drv.stands at) drv.output in
+      let output_first : (output_at r 0).wire ≡ Some (record { 0 = w }) = subst (λ q. (output_at r q).wire ≡ Some (record { 0 = w })) first output in
+      let test : nat_lt v.0 (m + 1) ≡ true = grind (arith, nat_tests) in
+      let some : 0 < delay_of r 0 = delay_some n ok m 0 w r at output_first in
+      ap (λ b. count_by (is_change k w) (cond b [] (first_levels n m r))) wide
+      ∙ levels_own r k w output_first has
+      ∙ first_swapped (delay_of r 0 - 1 == k) (delay_of r 0 == k + 1) (not (initial_of (wire_at n w) == output_of (state n m 0) 0)) (same_delay (delay_of r 0) k some)
+      ∙ ap (λ b. bit (true && ((delay_of r 0 == k + 1 && not (initial_of (wire_at n w) == output_of (state n m 0) 0)) && b))) (sym has)
+      ∙ ap (λ b. bit (b && ((delay_of r 0 == k + 1 && not (initial_of (wire_at n w) == output_of (state n m 0) 0)) && is_data n w))) (sym test)
+      ∙ ap (λ o. bit (nat_lt v.0 (m + 1) && ((delay_in o 0 == k + 1 && not (initial_of (wire_at n w) == output_of (state n m 0) 0)) && is_data n w))) (sym at)
+      ∙ ap (λ x. bit (nat_lt v.0 (m + 1) && ((delay_in (module_at n x) 0 == k + 1 && not (initial_of (wire_at n w) == output_of (state n x 0) 0)) && is_data n w))) (sym own)
+      ∙ ap (λ q. bit (nat_lt v.0 (m + 1) && ((delay_in (module_at n v.0) q == k + 1 && not (initial_of (wire_at n w) == output_of (state n v.0 0) q)) && is_data n w))) (sym first)
+
+  before_own : (w k p : ℕ) (v : ModuleId) → v.0 ≡ m → bit (is_below m (Port v p) && (is_first n (Port v p) w (k + 1) && is_data n w)) ≡ 0
+  before_own w k p v own = let test : nat_lt v.0 m ≡ false = grind (arith, nat_tests) in ap (λ b. bit (b && (is_first n (Port v p) w (k + 1) && is_data n w))) test
+
+  by_driver : (slot : Option ModuleRecord) → module_at n m ≡ slot → (w k : ℕ) (d : Driver) → driver n w ≡ d →
+      bit (is_below m d && (is_first n d w (k + 1) && is_data n w)) + count_by (is_change k w) (levels_in n m slot) ≡ bit (is_below (m + 1) d && (is_first n d w (k + 1) && is_data n w))
+  by_driver slot at w k Nothing is = plus_none 0 (count_by (is_change k w) (levels_in n m slot)) refl ∙ slot_none slot at w k (λ p drv has. (let e = sym is ∙ finds_ports n ok m p w drv in cc))
+  by_driver slot at w k Stimulus is = plus_none 0 (count_by (is_change k w) (levels_in n m slot)) refl ∙ slot_none slot at w k (λ p drv has. (let e = sym is ∙ finds_ports n ok m p w drv in cc))
+  by_driver slot at w k (Port v p) is = elim (cases_eq v.0 m) as (λ _. bit (is_below m (Port v p) && (is_first n (Port v p) w (k + 1) && is_data n w)) + count_by (is_change k w) (levels_in n m slot) ≡
+      bit (is_below (m + 1) (Port v p) && (is_first n (Port v p) w (k + 1) && is_data n w))) [
+        | inl own ↦
+            let drv : Drives n m p w = subst (λ x. Drives n x p w) own (finds_only_ports n w p v is) in
+            let before = before_own w k p v own in
+            let now = own_level slot at w k p v own is drv (is_data n w) refl in
+            omega arith
+        | inr other ↦
+            let never : (q : ℕ) → Drives n m q w → ⊥ = λ q drv. other (sym (ok.one_port m q v.0 p w drv (finds_only_ports n w p v is)).0) in
+            let none = slot_none slot at w k (λ q drv has. never q drv) in
+            let kept = level_kept w k (Port v p) is never in
+            omega arith
+      ]
+
+  -- ---- the levels
+
+  driven_first : (r : ModuleRecord) (w : ℕ) → module_at n m ≡ Some r → (output_at r 0).wire ≡ Some (record { 0 = w }) → output_of (state n m 0) 0 ≡ level n w (delay_of r 0)
+  driven_first r w at output =
+      let drives = finds_ports n ok m 0 w (record { part = r; stands = at; output = output }) in
+      let test : nat_lt (delay_of r 0) (delay_of r 0) ≡ false = grind (arith, nat_tests) in
+      let past : delay_of r 0 - delay_of r 0 ≡ 0 = omega arith in
+      sym ((satisfies n ok).levels w (delay_of r 0)
+      ∙ ap (λ d. driven_level d n (state n) w (delay_of r 0)) drives
+      ∙ ap (λ o. port_level (state n) o m 0 (initial_of (wire_at n w)) (delay_of r 0)) at
+      ∙ ap (λ b. cond b (initial_of (wire_at n w)) (output_of (state n m (delay_of r 0 - delay_of r 0)) 0)) test
+      ∙ ap (λ t. output_of (state n m t) 0) past)
+
+  entry_level : (r : ModuleRecord) → module_at n m ≡ Some r → (b c : Bool) → drives_data n (output_at r 0).wire ≡ c → (o : Option WireId) → (output_at r 0).wire ≡ o →
+      All (HoldsOf (IsFirstLevel n)) (cond b (entry_at (cond c (output_port_of (record { wire = o; delay = delay_of r 0 })) no_port).wire (cond c (output_port_of (record { wire = o; delay = delay_of r 0 })) no_port).delay (output_of (state n m 0) 0)) [])
+  entry_level r at false c test o is = λ k d within. absurd (omega arith)
+  entry_level r at true false test o is = λ k d within. absurd (omega arith)
+  entry_level r at true true test None is = λ k d within. absurd (omega arith)
+  entry_level r at true true test (Some w) is = one
+    where
+      time : delay_of r 0 ≡ delay_of r 0 - 1 + 1
+      time = let some = delay_some n ok m 0 w.0 r at is in omega arith
+
+      one : All (HoldsOf (IsFirstLevel n)) ((delay_of r 0 - 1, record { number = w.0; level = output_of (state n m 0) 0 }) ∷ [])
+      one zero d within = record { level = driven_first r w.0 at is ∙ ap (level n w.0) time; wire = output_low n ok m 0 r w at is }
+      one (suc k) d within = absurd (omega arith)
+
+  slot_levels : (slot : Option ModuleRecord) → module_at n m ≡ slot → All (HoldsOf (IsFirstLevel n)) (levels_in n m slot)
+  slot_levels None at = λ k d within. absurd (omega arith)
+  slot_levels (Some r) at = by (is_bit_module n r)
+    where
+      by : (b : Bool) → All (HoldsOf (IsFirstLevel n)) (cond b [] (first_levels n m r))
+      by true = λ k d within. absurd (omega arith)
+      by false = entry_level r at (level_departs n (level_port_of n r) (output_of (state n m 0) 0)) (drives_data n (output_at r 0).wire) refl (output_at r 0).wire refl
+
+-- ---- places
+
+-- a place more is that of a module with data
+record Fresh (n : Circuit) (m k count : ℕ) : Type 0 where
+  number : k ≡ count
+  part : ModuleRecord
+  stands : module_at n m ≡ Some part
+  wide : is_bit_module n part ≡ false
+
+fresh : (n : Circuit) (m k count : ℕ) (slot : Option ModuleRecord) → module_at n m ≡ slot → place_in n count slot ≡ Some k → Fresh n m k count
+fresh n m k count None at is = absurd (none-some k is)
+fresh n m k count (Some r) at is = by (is_bit_module n r) refl is
+  where
+    by : (b : Bool) → is_bit_module n r ≡ b → cond b None (Some count) ≡ Some k → Fresh n m k count
+    by true bits e = absurd (none-some k e)
+    by false bits e = record { number = sym (same_Some count k e); part = r; stands = at; wide = bits }
+
+data Where (m : ℕ) (old : List (Option ℕ)) (place : Option ℕ) (q k : ℕ) : Type 0 where
+  at_old : q < m → place_at old q ≡ Some k → Where m old place q k
+  at_new : q ≡ m → place ≡ Some k → Where m old place q k
+
+where_is : (m : ℕ) (old new : List (Option ℕ)) (place : Option ℕ) (q k : ℕ) → length old ≡ m → new ≡ old ++ place ∷ [] → place_at new q ≡ Some k → Where m old place q k
+where_is m old new place q k long pushed is = elim (cases_lt q m) as (λ _. Where m old place q k) [
+  | inl low ↦ at_old low (sym (get_or_append_left old (place ∷ []) None q (omega arith)) ∙ moved)
+  | inr past ↦ elim (cases_eq q m) as (λ _. Where m old place q k) [
+    | inl same ↦ at_new same (sym (get_or_push old place None q (long ∙ sym same)) ∙ moved)
+    | inr other ↦
+        absurd (none-some k (sym (get_or_past (old ++ place ∷ []) q None (let size = length_push old place in omega (arith, size, long, past, other))) ∙ moved))
+  ]
+]
+  where
+    moved : place_at (old ++ place ∷ []) q ≡ Some k
+    moved = ap (λ (xs : List (Option ℕ)). place_at xs q) (sym pushed) ∙ is
+
+module _ (n : Circuit) (ok : IsCircuit n) (m : ℕ) (inputs : List (List (Option ℕ))) (old new : Seating) (are : IsSeated n m inputs old)
+    (adds : Seats n m (slice_index_or inputs m []) old new) where
+  abbrev count : ℕ
+  count = length old.modules.modules.items
+
+  abbrev seat : Option ℕ
+  seat = place_in n (length old.modules.modules.items) (module_at n m)
+
+  where_at : (q k : ℕ) → place_at new.modules.places.items q ≡ Some k → Where m old.modules.places.items seat q k
+  where_at q k is = where_is m old.modules.places.items new.modules.places.items seat q k are.long adds.places is
+
+  -- how many modules there are now
+  size_by : (slot : Option ModuleRecord) → (length (old.modules.modules.items ++ seated_in n m (slice_index_or inputs m []) slot) ≡ count) ⊎
+      ((length (old.modules.modules.items ++ seated_in n m (slice_index_or inputs m []) slot) ≡ count + 1) × (place_in n count slot ≡ Some count))
+  size_by None = inl (ap (length {A = DataModule}) (append-nil old.modules.modules.items))
+  size_by (Some r) = by (is_bit_module n r)
+    where
+      by : (b : Bool) → (length (old.modules.modules.items ++ cond b [] (data_module n m r (slice_index_or inputs m []) ∷ [])) ≡ count) ⊎
+          ((length (old.modules.modules.items ++ cond b [] (data_module n m r (slice_index_or inputs m []) ∷ [])) ≡ count + 1) × (cond b None (Some count) ≡ Some count))
+      by true = inl (ap (length {A = DataModule}) (append-nil old.modules.modules.items))
+      by false = inr (length_push old.modules.modules.items (data_module n m r (slice_index_or inputs m [])), refl)
+
+  size : (length new.modules.modules.items ≡ count) ⊎ ((length new.modules.modules.items ≡ count + 1) × (seat ≡ Some count))
+  size = subst (λ (xs : List DataModule). (length xs ≡ count) ⊎ ((length xs ≡ count + 1) × (seat ≡ Some count))) (sym adds.modules) (size_by (module_at n m))
+
+  grown : count ≤ length new.modules.modules.items
+  grown = elim size as (λ _. count ≤ length new.modules.modules.items) [ inl same ↦ omega arith | inr more ↦ (let e = more.0 in omega arith) ]
+
+  few_now : length new.modules.modules.items ≤ m + 1
+  few_now = elim size as (λ _. length new.modules.modules.items ≤ m + 1) [
+    | inl same ↦ (let few = are.few in omega arith)
+    | inr more ↦ (let few = are.few in let e = more.0 in omega arith)
+  ]
+
+  seat_size : (k : ℕ) → seat ≡ Some k → length new.modules.modules.items ≡ count + 1
+  seat_size k is = by (module_at n m) refl is
+    where
+      by : (slot : Option ModuleRecord) → module_at n m ≡ slot → place_in n count slot ≡ Some k → length new.modules.modules.items ≡ count + 1
+      by None at e = absurd (none-some k e)
+      by (Some r) at e = by_bits (is_bit_module n r) refl e
+        where
+          by_bits : (b : Bool) → is_bit_module n r ≡ b → cond b None (Some count) ≡ Some k → length new.modules.modules.items ≡ count + 1
+          by_bits true bits f = absurd (none-some k f)
+          by_bits false bits f =
+              ap (length {A = DataModule}) (adds.modules ∙ ap (λ slot. old.modules.modules.items ++ seated_in n m (slice_index_or inputs m []) slot) at
+              ∙ ap (λ b. old.modules.modules.items ++ cond b [] (data_module n m r (slice_index_or inputs m []) ∷ [])) bits)
+              ∙ length_push old.modules.modules.items (data_module n m r (slice_index_or inputs m []))
+
+  module_kept : (k : ℕ) → k < count → data_module_at new.modules.modules.items k ≡ data_module_at old.modules.modules.items k
+  module_kept k low =
+      ap (λ (xs : List DataModule). data_module_at xs k) adds.modules
+      ∙ get_or_append_left old.modules.modules.items (seated_in n m (slice_index_or inputs m []) (module_at n m)) no_module k low
+
+  module_new : (r : ModuleRecord) → module_at n m ≡ Some r → is_bit_module n r ≡ false → data_module_at new.modules.modules.items count ≡ data_module n m r (slice_index_or inputs m [])
+  module_new r at wide =
+      ap (λ (xs : List DataModule). data_module_at xs count) (adds.modules ∙ ap (λ slot. old.modules.modules.items ++ seated_in n m (slice_index_or inputs m []) slot) at
+      ∙ ap (λ b. old.modules.modules.items ++ cond b [] (data_module n m r (slice_index_or inputs m []) ∷ [])) wide)
+      ∙ get_or_push old.modules.modules.items (data_module n m r (slice_index_or inputs m [])) no_module count refl
+
+  seat_at : (q k : ℕ) → Where m old.modules.places.items seat q k → IsSeatedAt n q (slice_index_or inputs q []) (data_module_at new.modules.modules.items k)
+  seat_at q k (at_old low is) =
+      subst (λ (d : DataModule). IsSeatedAt n q (slice_index_or inputs q []) d) (sym (module_kept k (are.placed.below q k is))) (are.seats q k is)
+  seat_at q k (at_new same is) =
+      let new_one = fresh n m k count (module_at n m) refl is in
+      let own : IsSeatedAt n m (slice_index_or inputs m []) (data_module_at new.modules.modules.items count) =
+      record { part = new_one.part; stands = new_one.stands; wide = new_one.wide; is = module_new new_one.part new_one.stands new_one.wide } in
+      subst (λ x. IsSeatedAt n x (slice_index_or inputs x []) (data_module_at new.modules.modules.items k)) (sym same)
+      (subst (λ j. IsSeatedAt n m (slice_index_or inputs m []) (data_module_at new.modules.modules.items j)) (sym new_one.number) own)
+
+  below_at : (q k : ℕ) → Where m old.modules.places.items seat q k → k < length new.modules.modules.items
+  below_at q k (at_old low is) = let a = are.placed.below q k is in let b = grown in omega arith
+  below_at q k (at_new same is) = let a = (fresh n m k count (module_at n m) refl is).number in let b = seat_size k is in omega arith
+
+  one_place : (q p k : ℕ) → Where m old.modules.places.items seat q k → Where m old.modules.places.items seat p k → q ≡ p
+  one_place q p k (at_old low is) (at_old low2 is2) = are.placed.own q p k is is2
+  one_place q p k (at_old low is) (at_new same2 is2) = absurd (let a = are.placed.below q k is in let b = (fresh n m k count (module_at n m) refl is2).number in omega arith)
+  one_place q p k (at_new same is) (at_old low2 is2) = absurd (let a = are.placed.below p k is2 in let b = (fresh n m k count (module_at n m) refl is).number in omega arith)
+  one_place q p k (at_new same is) (at_new same2 is2) = same ∙ sym same2
+
+  place_kept : (q : ℕ) → q < m → place_at new.modules.places.items q ≡ place_at old.modules.places.items q
+  place_kept q low =
+      ap (λ (xs : List (Option ℕ)). place_at xs q) adds.places ∙ get_or_append_left old.modules.places.items (seat ∷ []) None q (let size = are.long in omega arith)
+
+  place_new : place_at new.modules.places.items m ≡ seat
+  place_new = ap (λ (xs : List (Option ℕ)). place_at xs m) adds.places ∙ get_or_push old.modules.places.items seat None m are.long
+
+  old_place : (q k : ℕ) → place_at old.modules.places.items q ≡ Some k → q < m
+  old_place q k is = elim (cases_lt q m) as (λ _. q < m) [
+    | inl low ↦ low
+    | inr past ↦ absurd (none-some k (sym (get_or_past old.modules.places.items q None (let size = are.long in omega arith)) ∙ is))
+  ]
+
+  each_now : (k : ℕ) → k < length new.modules.modules.items → HasPlaceOf new.modules.places.items k
+  each_now k within = elim (cases_lt k count) as (λ _. HasPlaceOf new.modules.places.items k) [
+    | inl low ↦
+        let was = are.each k low in
+        record { place = was.place; is = place_kept was.place (old_place was.place k was.is) ∙ was.is }
+    | inr past ↦ elim size as (λ _. HasPlaceOf new.modules.places.items k) [
+      | inl same ↦ absurd (omega arith)
+      | inr more ↦
+          let last : count ≡ k = (let e = more.0 in omega arith) in
+          record { place = m; is = place_new ∙ more.1 ∙ ap (λ j. Some j) last }
+    ]
+  ]
+
+  whole_now : (v : ℕ) (r : ModuleRecord) → v < m + 1 → module_at n v ≡ Some r → is_bit_module n r ≡ false → is_some (place_at new.modules.places.items v) ≡ true
+  whole_now v r low at wide = elim (cases_eq v m) as (λ _. is_some (place_at new.modules.places.items v) ≡ true) [
+    | inl same ↦
+        let here : module_at n m ≡ Some r = ap (module_at n) (sym same) ∙ at in
+        ap is_some (ap (place_at new.modules.places.items) same ∙ place_new ∙ ap (place_in n count) here ∙ ap (λ b. cond b None (Some count)) wide)
+    | inr other ↦ let below : v < m = omega arith in ap is_some (place_kept v below) ∙ are.whole v r below at wide
+  ]
+
+  pub seated_next : IsSeated n (m + 1) inputs new
+  seated_next = record {
+    long = ap (length {A = Option ℕ}) adds.places ∙ length_push old.modules.places.items seat ∙ ap (λ k. k + 1) are.long;
+    few = few_now;
+    placed = record { below = λ q k is. below_at q k (where_at q k is); own = λ q p k one other. one_place q p k (where_at q k one) (where_at p k other) };
+    seats = λ q k is. seat_at q k (where_at q k is);
+    each = each_now;
+    whole = whole_now;
+    slots = λ w k within.
+        let same = adds.units in
+        let old_within : k < length old.wheel = omega arith in
+        ap (λ (s : List (List LevelChange)). changes_of w (data_slot s k)) adds.wheel
+        ∙ changes_each old.wheel (levels_in n m (module_at n m)) k w old_within
+        ∙ ap (λ c. c + count_by (is_change k w) (levels_in n m (module_at n m))) (are.slots w k old_within)
+        ∙ by_driver n ok m (module_at n m) refl w k (driver n w) refl;
+    levels = subst (λ (s : List (List LevelChange)). (k : ℕ) → All (IsFirstLevel n k) (data_slot s k)) (sym adds.wheel)
+        (holds_scheduled (IsFirstLevel n) old.wheel (levels_in n m (module_at n m)) are.levels (slot_levels n ok m (module_at n m) refl));
+  }
+
+nothing_yet : (n : Circuit) (w k : ℕ) (d : Driver) → 0 ≡ bit (is_below 0 d && (is_first n d w (k + 1) && is_data n w))
+nothing_yet n w k Nothing = refl
+nothing_yet n w k Stimulus = refl
+nothing_yet n w k (Port m p) = let test : nat_lt m.0 0 ≡ false = grind (arith, nat_tests) in sym (ap (λ b. bit (b && (is_first n (Port m p) w (k + 1) && is_data n w))) test)
+
+no_place : (places : List (Option ℕ)) (q k : ℕ) → places ≡ [] → place_at places q ≡ Some k → ⊥
+no_place places q k none is = none-some k (ap (λ (xs : List (Option ℕ)). place_at xs q) (sym none) ∙ is)
+
+pub seated_none : (n : Circuit) (inputs : List (List (Option ℕ))) (s : Seating) → s.modules.places.items ≡ [] → s.modules.modules.items ≡ [] → ((k : ℕ) → slice_index_or s.wheel k [] ≡ []) → IsSeated n 0 inputs s
+seated_none n inputs s places modules empty = record {
+  long = ap (length {A = Option ℕ}) places;
+  few = let none = ap (length {A = DataModule}) modules in omega arith;
+  placed = record { below = λ q k is. absurd (no_place s.modules.places.items q k places is); own = λ q p k one other. absurd (no_place s.modules.places.items q k places one) };
+  seats = λ q k is. absurd (no_place s.modules.places.items q k places is);
+  each = λ k within. absurd (let none = ap (length {A = DataModule}) modules in omega arith);
+  whole = λ m r low at wide. absurd (omega arith);
+  slots = λ w k within. ap (changes_of w) (empty k) ∙ nothing_yet n w k (driver n w);
+  levels = λ k. subst (λ (cs : List LevelChange). All (IsFirstLevel n k) cs) (sym (empty k)) (λ j d within. absurd (omega arith));
+}
+
+-- ---- one place more
+
+pub seats_no_module : (n : Circuit) (m : ℕ) (inputs : List (Option ℕ)) (old new : Seating) → module_at n m ≡ None → new.modules.modules.items ≡ old.modules.modules.items →
+    new.modules.places.items ≡ old.modules.places.items ++ None ∷ [] → new.wheel ≡ old.wheel → Seats n m inputs old new
+seats_no_module n m inputs old new at modules places wheel = record {
+  modules = modules ∙ sym (append-nil old.modules.modules.items) ∙ ap (λ slot. old.modules.modules.items ++ seated_in n m inputs slot) (sym at);
+  places = places ∙ ap (λ slot. old.modules.places.items ++ place_in n (length old.modules.modules.items) slot ∷ []) (sym at);
+  wheel = wheel ∙ ap (λ slot. scheduled old.wheel (levels_in n m slot)) (sym at);
+  units = ap (length {A = List LevelChange}) wheel;
+}
+
+pub seats_bits : (n : Circuit) (m : ℕ) (r : ModuleRecord) (inputs : List (Option ℕ)) (old new : Seating) → module_at n m ≡ Some r → is_bit_module n r ≡ true →
+    new.modules.modules.items ≡ old.modules.modules.items → new.modules.places.items ≡ old.modules.places.items ++ None ∷ [] → new.wheel ≡ old.wheel → Seats n m inputs old new
+seats_bits n m r inputs old new at bits modules places wheel = record {
+  modules = modules ∙ sym (append-nil old.modules.modules.items)
+      ∙ ap (λ b. old.modules.modules.items ++ cond b [] (data_module n m r inputs ∷ [])) (sym bits)
+      ∙ ap (λ slot. old.modules.modules.items ++ seated_in n m inputs slot) (sym at);
+  places = places
+      ∙ ap (λ b. old.modules.places.items ++ cond b None (Some (length old.modules.modules.items)) ∷ []) (sym bits)
+      ∙ ap (λ slot. old.modules.places.items ++ place_in n (length old.modules.modules.items) slot ∷ []) (sym at);
+  wheel = wheel
+      ∙ ap (λ b. scheduled old.wheel (cond b [] (first_levels n m r))) (sym bits)
+      ∙ ap (λ slot. scheduled old.wheel (levels_in n m slot)) (sym at);
+  units = ap (length {A = List LevelChange}) wheel;
+}
+
+pub same_ports : (p : OutputPorts) (a b c : OutputPort) → p.first ≡ a → p.second ≡ b → p.third ≡ c → p ≡ record { first = a; second = b; third = c }
+same_ports p a b c first second third =
+    ap (λ (x : OutputPort). let v : OutputPorts = record { first = x; second = p.second; third = p.third } in v) first
+    ∙ ap (λ (x : OutputPort). let v : OutputPorts = record { first = a; second = x; third = p.third } in v) second
+    ∙ ap (λ (x : OutputPort). let v : OutputPorts = record { first = a; second = b; third = x } in v) third
+
+-- a module with data as it is made
+pub record IsMade (n : Circuit) (m : ℕ) (r : ModuleRecord) (inputs : List (Option ℕ)) (d : DataModule) : Type 0 where
+  pub part : d.part ≡ built n r
+  pub memory : d.memory ≡ state n m 0
+  pub inputs_are : d.inputs ≡ inputs
+  pub level : d.ports.level ≡ level_port_of n r
+  pub bits : d.ports.bits ≡ bit_ports_of n r
+
+made_is : (n : Circuit) (m : ℕ) (r : ModuleRecord) (inputs : List (Option ℕ)) (d : DataModule) → IsMade n m r inputs d → d ≡ data_module n m r inputs
+made_is n m r inputs d is =
+    ap (λ (x : AnyModule). let v : DataModule = record { part = x; memory = d.memory; inputs = d.inputs; ports = d.ports } in v) is.part
+    ∙ ap (λ (x : Memory). let v : DataModule = record { part = built n r; memory = x; inputs = d.inputs; ports = d.ports } in v) is.memory
+    ∙ ap (λ (x : List (Option ℕ)). let v : DataModule = record { part = built n r; memory = state n m 0; inputs = x; ports = d.ports } in v) is.inputs_are
+    ∙ ap (λ (x : OutputPort). let v : DataModule = record { part = built n r; memory = state n m 0; inputs = inputs; ports = record { level = x; bits = d.ports.bits } } in v) is.level
+    ∙ ap (λ (x : OutputPorts). let v : DataModule = record { part = built n r; memory = state n m 0; inputs = inputs; ports = record { level = level_port_of n r; bits = x } } in v) is.bits
+
+pub seats_data : (n : Circuit) (m : ℕ) (r : ModuleRecord) (inputs : List (Option ℕ)) (old new : Seating) (d : DataModule) (l : ℕ) → module_at n m ≡ Some r → is_bit_module n r ≡ false → IsMade n m r inputs d →
+    l ≡ output_of d.memory 0 → new.modules.modules.items ≡ old.modules.modules.items ++ d ∷ [] →
+    new.modules.places.items ≡ old.modules.places.items ++ Some (length old.modules.modules.items) ∷ [] →
+    new.wheel ≡ scheduled old.wheel (entry_if (level_departs n d.ports.level l) d.ports.level l) → length new.wheel ≡ length old.wheel → Seats n m inputs old new
+seats_data n m r inputs old new d l at wide is level_is modules places wheel units = record {
+  modules = modules ∙ ap (λ (x : DataModule). old.modules.modules.items ++ x ∷ []) (made_is n m r inputs d is)
+      ∙ ap (λ b. old.modules.modules.items ++ cond b [] (data_module n m r inputs ∷ [])) (sym wide)
+      ∙ ap (λ slot. old.modules.modules.items ++ seated_in n m inputs slot) (sym at);
+  places = places
+      ∙ ap (λ b. old.modules.places.items ++ cond b None (Some (length old.modules.modules.items)) ∷ []) (sym wide)
+      ∙ ap (λ slot. old.modules.places.items ++ place_in n (length old.modules.modules.items) slot ∷ []) (sym at);
+  wheel = wheel
+      ∙ ap (λ (x : OutputPort). scheduled old.wheel (entry_if (level_departs n x l) x l)) is.level
+      ∙ ap (λ k. scheduled old.wheel (entry_if (level_departs n (level_port_of n r) k) (level_port_of n r) k)) (level_is ∙ ap (λ (x : Memory). output_of x 0) is.memory)
+      ∙ ap (λ b. scheduled old.wheel (cond b [] (first_levels n m r))) (sym wide)
+      ∙ ap (λ slot. scheduled old.wheel (levels_in n m slot)) (sym at);
+  units = units;
+}

@@ -1,0 +1,192 @@
+//! Modules with data at time 0: what they read and drive, how they settle, and which levels come of that.
+ghost use Rattle.std.specs.Prelude.{◌≡◌, ◌<◌, IfOk, All, length};
+ghost use Rattle.mp_records.specs.Outputs.{output_in};
+ghost use Rattle.mp_netlist.specs.Circuit.{IsCircuit};
+ghost use Rattle.mp_events.specs.Firing.{no_port};
+ghost use Rattle.mp_units.specs.DataSeats.{bit_port_of};
+ghost use Rattle.mp_run.specs.Settling.{IsSmall};
+ghost use Rattle.mp_run.specs.Seating.{has_data_at, level_departs, level_output_of, AreOutputsWithin, IsSeated};
+
+use crate::first_levels::initial_level;
+use crate::settling::{output_port, settled};
+use crate::widths::{has_data, is_bit_module};
+use mp_data::{DataModule, DataPorts, LevelWheel, schedule_level_if};
+use mp_events::{OutputPort, OutputPorts};
+use mp_model::built;
+use mp_modules::{EventModule, MOST_INPUTS};
+use mp_netlist::{ModuleId, ModuleRecord, Netlist, Output, WireId};
+use mp_units::DataModules;
+use std::alloc::{AllocError, Global};
+
+/// The modules with data, and the wheel of the levels to come of the wires with data that they drive.
+#[derive(Drop)]
+pub(crate) struct Seating {
+    pub modules: DataModules,
+    pub wheel: LevelWheel,
+}
+
+/// Settles all modules with data, whose inputs read these numbers. An output whose wire has data, and whose level isn't the initial one, changes
+/// that after its delay. The wheel has so many units.
+pub(crate) fn seat_all(
+    alloc: Global,
+    netlist: &Netlist,
+    inputs: &[[Option<u16>; MOST_INPUTS]],
+    units: usize,
+) -> Result<Seating, AllocError>
+    requires form { IsCircuit netlist.now }
+    requires inputs { length inputs.now ≡ length netlist.now.modules }
+    requires within { AreOutputsWithin netlist.now units }
+    requires some { 0 < units }
+    ensures seated { IfOk result (λ seating. IsSeated netlist.now (length netlist.now.modules) inputs.now seating) }
+    ensures units { IfOk result (λ seating. length seating.wheel ≡ units) }
+{
+    let mut seating = Seating {
+        modules: DataModules {
+            places: Vec::new(alloc),
+            modules: Vec::new(alloc),
+        },
+        wheel: LevelWheel::new(alloc, units)?,
+    };
+    for m in 0..netlist.module_slots() {
+        seating.add(netlist, ModuleId(m), inputs[m as usize])?;
+    }
+    Ok(seating)
+}
+
+impl Seating {
+    ghost use Rattle.std.specs.Prelude.{◌≡◌, ℕ, ◌<◌, ◌^◌, Some, false, OnOk, length};
+    ghost use Rattle.mp_records.specs.declared.module_record.ModuleRecord.{ModuleRecord as Part};
+    ghost use Rattle.mp_netlist.specs.Circuit.{IsCircuit, IsModule, module_at};
+    ghost use Rattle.mp_events.specs.Firing.{HasSlot};
+    ghost use Rattle.mp_units.specs.DataSeats.{level_port_of};
+    ghost use Rattle.mp_run.specs.Widths.{is_bit_module};
+    ghost use Rattle.mp_run.specs.Seating.{Seats};
+
+    /// Adds the place of the module of a number, with the module, if it has data.
+    fn add(
+        &mut self,
+        netlist: &Netlist,
+        id: ModuleId,
+        inputs: [Option<u16>; MOST_INPUTS],
+    ) -> Result<(), AllocError>
+        requires form { IsCircuit netlist.now }
+        requires few { length self.old.modules.modules.items < 2 ^ 16 }
+        requires within { (r : Part) → module_at netlist.now id.0 ≡ Some r → HasSlot (length self.old.wheel) (level_port_of netlist.now r) }
+        ensures { OnOk result (Seats netlist.now id.0 inputs self.old self.new) }
+    {
+        let Some(found) = netlist.module(id) else {
+            self.modules.places.push(None)?;
+            return Ok(());
+        };
+        if is_bit_module(netlist, found) {
+            self.modules.places.push(None)?;
+            return Ok(());
+        }
+        self.seat(netlist, found, inputs)
+    }
+
+    /// Adds the place of a module with data, and the module.
+    fn seat(
+        &mut self,
+        netlist: &Netlist,
+        found: &ModuleRecord,
+        inputs: [Option<u16>; MOST_INPUTS],
+    ) -> Result<(), AllocError>
+        requires form { IsCircuit netlist.now }
+        requires module { IsModule netlist.now found.now }
+        requires wide { is_bit_module netlist.now found.now ≡ false }
+        requires few { length self.old.modules.modules.items < 2 ^ 16 }
+        requires within { HasSlot (length self.old.wheel) (level_port_of netlist.now found.now) }
+        ensures { OnOk result ((m : ℕ) → module_at netlist.now m ≡ Some found.now → Seats netlist.now m inputs self.old self.new) }
+    {
+        let part = built(netlist, found);
+        let memory = settled(netlist, found, &part);
+        let ports = data_ports(netlist, found.outputs.as_slice());
+        let level = memory.output(0);
+        let departs = level_departs(netlist, ports.level, level);
+        schedule_level_if(departs, ports.level, level, &mut self.wheel)?;
+        let number = self.modules.modules.len() as u16;
+        self.modules.places.push(Some(number))?;
+        self.modules.modules.push(DataModule {
+            part,
+            memory,
+            inputs,
+            ports,
+        })?;
+        Ok(())
+    }
+}
+
+/// The outputs of a module with data, told apart by whether their wires have data.
+fn data_ports(netlist: &Netlist, outputs: &[Output]) -> DataPorts
+    requires { All IsSmall outputs.now }
+    ensures level { result.level ≡ level_output_of netlist.now (output_in outputs.now 0) }
+    ensures first { result.bits.first ≡ bit_port_of netlist.now (output_in outputs.now 0) }
+    ensures second { result.bits.second ≡ bit_port_of netlist.now (output_in outputs.now 1) }
+    ensures third { result.bits.third ≡ bit_port_of netlist.now (output_in outputs.now 2) }
+{
+    DataPorts {
+        level: level_port(netlist, outputs),
+        bits: OutputPorts {
+            first: bit_port(netlist, outputs, 0),
+            second: bit_port(netlist, outputs, 1),
+            third: bit_port(netlist, outputs, 2),
+        },
+    }
+}
+
+/// The first output, if its wire has data.
+fn level_port(netlist: &Netlist, outputs: &[Output]) -> OutputPort
+    requires { All IsSmall outputs.now }
+    ensures { result ≡ level_output_of netlist.now (output_in outputs.now 0) }
+{
+    let port = output_port(outputs, 0);
+    if drives_data(netlist, port) {
+        port
+    } else {
+        no_port()
+    }
+}
+
+/// An output, if its wire has width 1.
+fn bit_port(netlist: &Netlist, outputs: &[Output], port: usize) -> OutputPort
+    requires { All IsSmall outputs.now }
+    ensures { result ≡ bit_port_of netlist.now (output_in outputs.now port) }
+{
+    let port = output_port(outputs, port);
+    if drives_data(netlist, port) {
+        no_port()
+    } else {
+        port
+    }
+}
+
+/// A port that drives no wire.
+pub(crate) fn no_port() -> OutputPort
+    ensures { result ≡ no_port }
+{
+    OutputPort {
+        wire: None,
+        delay: 1,
+    }
+}
+
+/// Whether the wire that an output drives has data.
+fn drives_data(netlist: &Netlist, port: OutputPort) -> bool
+    ensures { result ≡ has_data_at netlist.now port.wire }
+{
+    match port.wire {
+        Some(wire) => has_data(netlist, WireId(u32::from(wire))),
+        None => false,
+    }
+}
+
+/// Whether a level isn't the initial one of the wire that an output drives.
+fn level_departs(netlist: &Netlist, port: OutputPort, level: u64) -> bool
+    ensures { result ≡ level_departs netlist.now port level }
+{
+    match port.wire {
+        Some(wire) => initial_level(netlist, WireId(u32::from(wire))) != level,
+        None => false,
+    }
+}

@@ -1,0 +1,100 @@
+-- A module with data goes on to its state in the next unit, and stays in it where nothing is heard.
+use Rattle.std.proofs.Common.{◌≡◌, ℕ, zero, suc, ◌+◌, ◌<◌, Bool, true, false, not, List, [], ◌∷◌, Some, All, length, map, refl, sym, ap, ◌∙◌, arith}
+use Rattle.std.specs.Prelude.{◌==◌, slice_index}
+use Rattle.std.proofs.lemmas.Bool.{eqb-true}
+use Rattle.std.proofs.lemmas.List.Elements.{All-head, All-tail}
+use Rattle.mp_modules.specs.declared.memory.Memory.{Memory}
+use Rattle.mp_modules.specs.Memories.{input_levels, is_event}
+use Rattle.mp_storage.specs.declared.any_module.AnyModule.{AnyModule}
+use Rattle.mp_storage.specs.AnyModules.{step}
+use Rattle.mp_records.specs.declared.module_record.ModuleRecord.{ModuleRecord}
+use Rattle.mp_records.specs.declared.ports.Input.{Input}
+use Rattle.mp_netlist.specs.Circuit.{Circuit, IsCircuit, module_at}
+use Rattle.mp_model.specs.Levels.{built, input_by, inputs_by}
+use Rattle.mp_model.specs.Waves.{level, state}
+use Rattle.mp_model.proofs.BehaviourLemmas.{satisfies}
+use Rattle.mp_automata.specs.declared.events.Events.{Events}
+use Rattle.mp_automata.specs.BitModules.{events_in}
+use Rattle.mp_automata.specs.Codes.{no_events}
+use Rattle.mp_events.specs.declared.fanout_entry.FanoutEntry.{FanoutEntry}
+use Rattle.mp_events.specs.Adding.{listed}
+use Rattle.mp_events.specs.Ports.{HasPorts}
+use Rattle.mp_events.proofs.PortLemmas.{events_add_up}
+use Rattle.mp_core.specs.PortEvents.{source_of, AreHeard}
+use Rattle.mp_core.specs.Simulators.{AreOnlyDue}
+use Rattle.mp_core.proofs.StayLemmas.{step_padded, states_stay}
+use Rattle.mp_core.proofs.PortEventLemmas.{held, same_head, same_rest, ports_have_events}
+use Rattle.mp_core.proofs.NumberLemmas.{no_events_when}
+use Rattle.mp_data.specs.declared.data_module.DataModule.{DataModule}
+use Rattle.mp_data.specs.Levels.{level_at}
+use Rattle.mp_data.specs.DataModules.{input_of, inputs_of, memory_after}
+use Rattle.mp_units.specs.DataLevels.{late_level}
+use Rattle.mp_units.specs.DataSeats.{number_at}
+
+abbrev four : ℕ → ℕ → ℕ → ℕ → List ℕ
+four a b c d = a ∷ b ∷ c ∷ d ∷ []
+
+four_same : (a b c d e f g h : ℕ) → a ≡ e → b ≡ f → c ≡ g → d ≡ h → four a b c d ≡ four e f g h
+four_same a b c d e f g h one two three last =
+    ap (λ x. four x b c d) one ∙ ap (λ x. four e x c d) two ∙ ap (λ x. four e f x d) three ∙ ap (λ x. four e f g x) last
+
+none_there : {A : Type 0} {a : A} {xs : List A} → [] ≡ a ∷ xs → ⊥
+none_there {a = a} {xs = xs} same = let e = ap length same in omega arith
+
+-- the level that an input reads is its own
+read_level : (n : Circuit) (source : ℕ → ℕ × ℕ) (numbers u : ℕ) (levels : List ℕ) → ((x : ℕ) → x < numbers → slice_index levels x ≡ late_level n (source x) u) →
+    (xs : List ℕ) (is : List Input) (p : ℕ) → map source xs ≡ map source_of is → All (λ x. x < numbers) xs →
+    level_at levels (number_at xs p) ≡ slice_index (map (λ i. input_by n (level n) i u) is) p
+read_level n source numbers u levels right [] [] p same low = refl
+read_level n source numbers u levels right [] (i ∷ is) p same low = absurd (none_there same)
+read_level n source numbers u levels right (x ∷ xs) [] p same low = absurd (none_there (sym same))
+read_level n source numbers u levels right (x ∷ xs) (i ∷ is) zero same low =
+    right x (All-head (λ y. y < numbers) x xs low) ∙ ap (λ (s : ℕ × ℕ). late_level n s u) (same_head same)
+read_level n source numbers u levels right (x ∷ xs) (i ∷ is) (suc p) same low =
+    read_level n source numbers u levels right xs is p (same_rest same) (All-tail (λ y. y < numbers) x xs low)
+
+module _ (n : Circuit) (ok : IsCircuit n) (q t : ℕ) (r : ModuleRecord) (stands : module_at n q ≡ Some r) (source : ℕ → ℕ × ℕ) (xs : List ℕ) (same : map source xs ≡ map source_of r.inputs) where
+  -- where the levels are those of the next unit
+  pub steps : (m : DataModule) (numbers : ℕ) (levels : List ℕ) → m.part ≡ built n r → m.memory ≡ state n q t → ((p : ℕ) → input_of m p ≡ number_at xs p) → All (λ x. x < numbers) xs →
+      ((x : ℕ) → x < numbers → slice_index levels x ≡ late_level n (source x) (t + 1)) → memory_after levels m ≡ state n q (t + 1)
+  steps m numbers levels does memory reads low right =
+      let at : (p : ℕ) → level_at levels (input_of m p) ≡ slice_index (inputs_by n (level n) r (t + 1)) p =
+      λ p. ap (level_at levels) (reads p) ∙ read_level n source numbers (t + 1) levels right xs r.inputs p same low in
+      let inputs : inputs_of levels m ≡ input_levels (inputs_by n (level n) r (t + 1)) = four_same _ _ _ _ _ _ _ _ (at 0) (at 1) (at 2) (at 3) in
+      ap (λ (part : AnyModule). step part m.memory (inputs_of levels m)) does
+      ∙ ap (λ (k : Memory). step (built n r) k (inputs_of levels m)) memory
+      ∙ ap (step (built n r) (state n q t)) inputs
+      ∙ step_padded (built n r) (state n q t) (inputs_by n (level n) r (t + 1))
+      ∙ sym ((satisfies n ok).stepped q t r stands)
+
+  not_none : (b : Bool) → not b ≡ false → b ≡ true
+  not_none true is = refl
+  not_none false is = sym is
+
+  same_input : (p : ℕ) → is_event (state n q t) (inputs_by n (level n) r (t + 1)) p ≡ false →
+      slice_index (inputs_by n (level n) r (t + 1)) p ≡ slice_index (state n q t).inputs p
+  same_input p none =
+      sym (eqb-true (slice_index (state n q t).inputs p) (slice_index (inputs_by n (level n) r (t + 1)) p)
+      (not_none (slice_index (state n q t).inputs p == slice_index (inputs_by n (level n) r (t + 1)) p) none))
+
+  -- where no input has an event
+  stays : events_in (state n q t) (inputs_by n (level n) r (t + 1)) ≡ no_events → state n q (t + 1) ≡ state n q t
+  stays none =
+      let inputs : input_levels (inputs_by n (level n) r (t + 1)) ≡ input_levels (state n q t).inputs =
+      four_same _ _ _ _ _ _ _ _
+      (same_input 0 (ap (λ (e : Events). e.first) none)) (same_input 1 (ap (λ (e : Events). e.second) none))
+      (same_input 2 (ap (λ (e : Events). e.third) none)) (same_input 3 (ap (λ (e : Events). e.fourth) none)) in
+      let back : input_levels (state n q t).inputs ≡ (state n q t).inputs = ap input_levels (held n ok q t r stands) ∙ sym (held n ok q t r stands) in
+      (satisfies n ok).stepped q t r stands
+      ∙ sym (step_padded (built n r) (state n q t) (inputs_by n (level n) r (t + 1)))
+      ∙ ap (step (built n r) (state n q t)) (inputs ∙ back)
+      ∙ states_stay n ok q t r stands
+
+  -- so it is where the place isn't due
+  pub rests : (rows : List (List FanoutEntry)) (heard due : List ℕ) → HasPorts rows q xs → AreHeard n source heard (t + 1) xs → AreOnlyDue rows heard due → listed q due ≡ 0 →
+      state n q (t + 1) ≡ state n q t
+  rests rows heard due ports each only idle =
+      let e = events_in (state n q t) (inputs_by n (level n) r (t + 1)) in
+      let own = ports_have_events n ok q t r source xs heard stands same each in
+      let sum = events_add_up rows q xs heard e ports own in
+      stays (no_events_when e (sym sum ∙ only q idle))

@@ -1,0 +1,5 @@
+pub mod DataLevels
+pub mod DataWaves
+pub mod DataWheels
+pub mod DataSeats
+pub mod NetlistSimulations

@@ -1,0 +1,57 @@
+-- A simulation of a netlist of any widths.
+use Rattle.std.specs.Prelude.{◌≡◌, ℕ, ◌+◌, ◌<◌, true, false, List, [], Option, Some, None, length}
+use Rattle.mp_records.specs.declared.module_record.ModuleRecord.{ModuleRecord}
+use Rattle.mp_netlist.specs.Circuit.{Circuit, IsCircuit, module_at}
+use Rattle.mp_core.specs.Scopes.{Scope}
+use Rattle.mp_core.specs.Simulators.{next_slot}
+use Rattle.mp_core.specs.Simulations.{copy_slot, IsSoundRun, IsRunning}
+use Rattle.mp_core.specs.WholeRuns.{is_number, IsWhole, AreSet}
+use Rattle.mp_data.specs.declared.level_change.LevelChange.{LevelChange}
+use Rattle.mp_units.specs.declared.netlist_simulation.NetlistSimulation.{NetlistSimulation}
+use Rattle.mp_units.specs.DataLevels.{is_data, is_bit_wire}
+use Rattle.mp_units.specs.DataWheels.{data_slot, AreDataWires, AreLevelsSet}
+use Rattle.mp_units.specs.DataSeats.{AreDataModules}
+
+-- numbers are those of wires and of delayed copies: copies of wires of width 1 stand after such, and copies of wires with data after such
+pub record AreSplit (n : Circuit) (scope : Scope) (before data_before : ℕ → Option ℕ) (numbers : ℕ) : Type 0 where
+  pub bits : (x : ℕ) → x < numbers → is_data n (scope.source x).0 ≡ false → is_number scope before x ≡ true
+  pub with_data : (x : ℕ) → x < numbers → is_data n (scope.source x).0 ≡ true → data_before x ≡ None → scope.source x ≡ (x, 0)
+  pub wires : (w : ℕ) → is_data n w ≡ true → (scope.source w ≡ (w, 0)) × (data_before w ≡ None)
+  pub data_copies : (x y : ℕ) → data_before x ≡ Some y → is_data n (scope.source x).0 ≡ true
+  pub bit_copies : (x y : ℕ) → before x ≡ Some y → is_data n (scope.source x).0 ≡ false
+
+-- the unit t is over: all modules have answered up to t, and each wire has its wave up to t
+pub record IsSimulated (n : Circuit) (t : ℕ) (s : NetlistSimulation) : Type 0 where
+  pub scope : Scope
+  pub before : ℕ → Option ℕ
+  pub data_before : ℕ → Option ℕ
+  pub sound : IsSoundRun s.bits
+  pub running : IsRunning n scope before t s.bits
+  pub whole : IsWhole n scope before t
+  pub own : (w u : ℕ) → scope.owns w u ≡ scope.traces w
+  pub traces : (w : ℕ) → scope.traces w ≡ is_bit_wire n w
+  pub known : (m : ℕ) (r : ModuleRecord) → module_at n m ≡ Some r → scope.known m ≡ t + 1
+  pub waves : length s.bits.simulator.waves.items ≡ length n.wires
+  pub split : AreSplit n scope before data_before (length s.bits.simulator.fanout)
+  pub wires : AreDataWires n scope.source data_before (length s.bits.simulator.fanout) t s.wires
+  pub modules : AreDataModules n scope (length s.bits.simulator.fanout) (length s.bits.simulator.states.items) (length s.bits.simulator.wheel) (length s.wires.wheel) t s.modules
+
+-- what stimuli change at a time
+pub record AreStimuli (n : Circuit) (set : List ℕ) (changes : List LevelChange) (time : ℕ) : Type 0 where
+  pub bits : (scope : Scope) → ((w : ℕ) → scope.traces w ≡ is_bit_wire n w) → AreSet n scope set time
+  pub levels : AreLevelsSet n changes time
+
+-- it can go through a unit in which these are set
+pub record CanPass (set : List ℕ) (levels : List LevelChange) (time : ℕ) (s : NetlistSimulation) : Type 0 where
+  pub n : Circuit
+  pub ok : IsCircuit n
+  pub t : ℕ
+  pub now : time ≡ t + 1
+  pub is : IsSimulated n t s
+  pub stimuli : AreStimuli n set levels time
+
+-- nothing changes in the next unit that isn't set from outside
+pub record IsStill (s : NetlistSimulation) : Type 0 where
+  pub wires : next_slot s.bits.simulator ≡ []
+  pub copies : copy_slot s.bits.copies 0 ≡ []
+  pub changes : data_slot s.wires.wheel 0 ≡ []

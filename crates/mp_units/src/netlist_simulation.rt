@@ -1,0 +1,90 @@
+//! A simulation of a netlist of any widths.
+
+use crate::data_modules::DataModules;
+use crate::data_wires::DataWires;
+use mp_core::Simulation;
+use mp_data::{LevelChange, fire_data_modules};
+use std::alloc::AllocError;
+
+/// A simulation of a netlist of any widths. A module with data has a place of the simulator of modules of width 1, where it sleeps: so its
+/// events are counted there, and it is due where it has one.
+#[derive(Drop)]
+pub struct NetlistSimulation {
+    pub bits: Simulation,
+    pub wires: DataWires,
+    pub modules: DataModules,
+}
+
+impl NetlistSimulation {
+    ghost use Rattle.std.specs.Prelude.{◌≡◌, ◌↔◌, ℕ, ◌+◌, ◌-◌, ◌<◌, ◌^◌, [], IsTrue, OnOk, length};
+    ghost use Rattle.mp_netlist.specs.Circuit.{Circuit, IsCircuit};
+    ghost use Rattle.mp_core.specs.Simulations.{IsSoundRun};
+    ghost use Rattle.mp_units.specs.NetlistSimulations.{IsSimulated, AreStimuli, CanPass, IsStill};
+
+    /// Goes through one unit, in which these wires of width 1 toggle and these with data change from outside.
+    pub fn pass_unit(
+        &mut self,
+        set: &[u16],
+        levels: &[LevelChange],
+        time: u32,
+    ) -> Result<(), AllocError>
+        requires fit { CanPass set.now levels.now time self.old }
+        requires low { time < 2 ^ 32 - 1 }
+        ensures { OnOk result ((n : Circuit) (t : ℕ) → IsCircuit n → time ≡ t + 1 → IsSimulated n t self.old → AreStimuli n set.now levels.now time →
+            IsSimulated n (t + 1) self.new) }
+    {
+        if set.is_empty() && levels.is_empty() && self.is_still() {
+            self.skip_unit();
+            return Ok(());
+        }
+        self.bits.copies.begin_unit();
+        self.wires
+            .begin_unit(self.bits.copies.present.as_slice(), levels)?;
+        self.bits
+            .simulator
+            .apply_events(set, self.wires.heard.as_slice(), time)?;
+        self.wires.apply(
+            self.bits.simulator.present.as_slice(),
+            self.bits.copies.present.as_slice(),
+            time,
+        )?;
+        self.bits
+            .copies
+            .advance(self.bits.simulator.present.as_slice())?;
+        self.wires.advance()?;
+        fire_data_modules(
+            self.modules.places.as_slice(),
+            &mut self.modules.modules,
+            self.wires.levels.as_slice(),
+            &mut self.bits.simulator.wheel,
+            &mut self.wires.wheel,
+            self.bits.simulator.due.as_slice(),
+        )?;
+        self.bits.simulator.fire()?;
+        Ok(())
+    }
+    /// Whether nothing changes in the next unit that isn't set from outside.
+    #[inline(always)]
+    fn is_still(&self) -> bool
+        requires bits { IsSoundRun self.now.bits }
+        requires wheel { 0 < length self.now.wires.wheel }
+        ensures { IsTrue result ↔ IsStill self.now }
+    {
+        self.bits.simulator.wheel.is_quiet()
+            && self.bits.copies.wheel.is_quiet()
+            && self.wires.wheel.is_quiet()
+    }
+
+    /// Goes through one unit in which nothing changes.
+    #[inline(always)]
+    fn skip_unit(&mut self)
+        requires bits { IsSoundRun self.old.bits }
+        requires wheel { 0 < length self.old.wires.wheel }
+        requires still { IsStill self.old }
+        ensures { (n : Circuit) (t : ℕ) → IsCircuit n → IsSimulated n t self.old → AreStimuli n [] [] (t + 1) → IsSimulated n (t + 1) self.new }
+    {
+        self.bits.simulator.wheel.skip();
+        self.bits.copies.wheel.skip();
+        self.wires.wheel.skip();
+    }
+}
