@@ -1,6 +1,3 @@
-pub mod AskedWireLemmas
-pub mod PictureLemmas
-pub mod OutputLemmas
 pub mod PutLemmas
 pub mod RunLemmas
 pub mod ViewLemmas

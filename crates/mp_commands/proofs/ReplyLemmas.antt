@@ -1,5 +1,5 @@
 -- The reply to a line that was read.
-use Rattle.std.proofs.Common.{◌≡◌, ◌⊎◌, inl, inr, ℕ, ◌+◌, Bool, true, false, ◌&&◌, List, [], ◌∷◌, length, Result, Ok, Err, IsErrAnd, OnOk, refl, sym, ap, subst, ◌∙◌, true≢false}
+use Rattle.std.proofs.Common.{◌≡◌, ◌⊎◌, inl, inr, ℕ, Bool, true, false, ◌&&◌, List, [], ◌∷◌, length, Result, Ok, Err, IsErrAnd, refl, sym, ap, subst, ◌∙◌, true≢false}
 use Rattle.std.specs.Prelude.{if◌then◌else◌}
 use Rattle.std.proofs.lemmas.List.{length-append}
 use Rattle.mp_records.specs.declared.edit.Edit.{Edit}
@@ -70,26 +70,21 @@ abbrev pub is_memory : LineError → Bool
 is_memory OutOfMemory = true
 is_memory error = false
 
--- what holds anyway holds at Ok
-on_ok : {T E P : Type 0} (r : Result T E) → P → OnOk r P
-on_ok (Ok value) holds = holds
-on_ok (Err error) holds = tt
-
 module _ {S : Type 0} (r : Result (Unit {0}) WriteError) (a b : Outgoing S) (kept : Kept) where
   -- an edit
   pub change_replied : (now : Kept) (edit : Edit) (wanting : Bool) → IsKeptAfter kept edit (outcome wanting kept edit) now
       → Writes r a b (edit_text kept (outcome wanting kept edit)) → PutsReply r a b kept now (Ok (Change edit))
-  change_replied now edit wanting after put = (wanting, now, after, put, on_ok r refl)
+  change_replied now edit wanting after put = (wanting, after, put)
 
   -- a question, which changes nothing
   pub ask_replied : (question : Question) → Writes r a b (answer_text kept question) → PutsReply r a b kept kept (Ok (Ask question))
-  ask_replied question put = (false, kept, refl, put, on_ok r refl)
+  ask_replied question put = (false, refl, put)
 
   -- a line that is not read, where memory was not wanting
   pub unread_replied : (line : List ℕ) (error : LineError) → (error ≡ OutOfMemory) ⊎ (line_at line ≡ Err error) → is_memory error ≡ false → Writes r a b (unread_text error) → PutsReply r a b kept kept (line_at line)
   unread_replied line error (inl memory) other put = absurd (true≢false (sym (ap is_memory memory) ∙ other))
-  unread_replied line error (inr same) other put = rw same (false, kept, refl, put, on_ok r refl)
+  unread_replied line error (inr same) other put = rw same (false, refl, put)
 
 -- memory was wanting for the line
 pub memory_replied : {S : Type 0} (r : Result (Unit {0}) WriteError) (a : Outgoing S) (kept : Kept) (line : List ℕ) → IsErrAnd r (λ e. e ≡ writes.OutOfMemory) → PutsReply r a a kept kept (line_at line)
-memory_replied r a kept line is = (true, kept, next_keeps kept line, puts_unmade r writes.OutOfMemory a _ is refl, on_ok r refl)
+memory_replied r a kept line is = (true, next_keeps kept line, puts_unmade r writes.OutOfMemory a _ is refl)

@@ -3,7 +3,7 @@ use Rattle.std.proofs.Common.{◌≡◌, ℕ, false, List, Option, Some, None, R
 use Rattle.mp_netlist.specs.Circuit.{Circuit}
 use Rattle.mp_commands.specs.declared.run_fault.RunFault.{RunFault}
 use Rattle.mp_commands.specs.declared.run_fault.RunFault.TheVariants.{Text, BadCount, ReadFailed, WriteFailed, OutOfMemory, NoPlace, NoSuchWire}
-use Rattle.mp_commands.specs.AskedWires.{missing_at}
+use Rattle.mp_views.specs.AskedWires.{missing_at}
 use Rattle.mp_commands.specs.Openings.{viewed_opening}
 use Rattle.mp_commands.specs.Runs.{Refuses}
 

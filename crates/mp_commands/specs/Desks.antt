@@ -12,7 +12,7 @@ use Rattle.mp_meeting.specs.Meetings.{IsMeeting}
 use Rattle.mp_commands.specs.declared.options.Options.{Options}
 use Rattle.mp_commands.specs.OptionLimits.{has_valid_crew}
 use Rattle.mp_commands.specs.NumberedLines.{lines_from}
-use Rattle.mp_commands.specs.Outputs.{waves_text}
+use Rattle.mp_views.specs.Outputs.{waves_text}
 
 -- the blocks of an input, one behind each division
 abbrev pub blocks_of : List ℕ → List (List (List ℕ))

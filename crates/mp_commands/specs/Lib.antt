@@ -1,10 +1,6 @@
 pub mod Limits
 pub mod OptionLimits
 pub mod RunFaults
-pub mod Outputs
-pub mod AskedWires
-pub mod Pictures
-pub mod Chains
 pub mod Openings
 pub mod Runs
 pub mod NumberedLines

@@ -17,11 +17,3 @@ max_workers = 16
 -- of how many tasks at least the workers may be called on
 abbrev pub max_least : ℕ
 max_least = 4096
-
--- how many columns a picture may have
-abbrev pub max_columns : ℕ
-max_columns = 10000
-
--- how many it has at most where no number of them is given
-abbrev pub usual_columns : ℕ
-usual_columns = 72

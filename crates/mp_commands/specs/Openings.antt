@@ -7,7 +7,7 @@ use Rattle.mp_text.specs.declared.text_state.TextState.TheVariants.{Fresh}
 use Rattle.mp_text.specs.Texts.{after_lines}
 use Rattle.mp_commands.specs.declared.run_fault.RunFault.{RunFault}
 use Rattle.mp_commands.specs.declared.run_fault.RunFault.TheVariants.{Text, BadCount, NoSuchWire}
-use Rattle.mp_commands.specs.AskedWires.{missing_at}
+use Rattle.mp_views.specs.AskedWires.{missing_at}
 use Rattle.mp_commands.specs.Limits.{max_input}
 
 -- a fault of the text is told before one of the options

@@ -1,5 +1,5 @@
 -- What the lines of a script are answered.
-use Rattle.std.specs.Prelude.{◌≡◌, ℕ, ◌+◌, ◌-◌, Bool, List, [], ◌∷◌, ◌++◌, length, Option, Some, None, Result, Ok, Err, ◌&&◌, nat_le, if◌then◌else◌, codes, unwrap_or, OnOk}
+use Rattle.std.specs.Prelude.{◌≡◌, ℕ, ◌+◌, ◌-◌, Bool, List, [], ◌∷◌, ◌++◌, length, Option, Some, None, Result, Ok, Err, ◌&&◌, nat_le, if◌then◌else◌, codes, unwrap_or}
 use Rattle.std.specs.Fmt.{decimal}
 use Rattle.mp_records.specs.declared.edit.Edit.{Edit}
 use Rattle.mp_records.specs.declared.edit_error.EditError.{EditError}
@@ -28,12 +28,12 @@ use Rattle.mp_streams.specs.declared.write_error.WriteError.{WriteError}
 use Rattle.mp_commands.specs.RunFaults.{numbered}
 use Rattle.mp_picture.specs.declared.mark.Charset.TheVariants.{Unicode}
 use Rattle.mp_picture.specs.GraphSections.{graph}
-use Rattle.mp_commands.specs.declared.drawing.Drawing.TheVariants as drawings
-use Rattle.mp_commands.specs.AskedWires.{missing_at}
-use Rattle.mp_commands.specs.Limits.{usual_columns}
-use Rattle.mp_commands.specs.Pictures.{picture_text}
-use Rattle.mp_commands.specs.Chains.{why_of, path_of}
-use Rattle.mp_commands.specs.Outputs.{slot_line, waves_text}
+use Rattle.mp_views.specs.declared.drawing.Drawing.TheVariants as drawings
+use Rattle.mp_views.specs.AskedWires.{missing_at}
+use Rattle.mp_views.specs.Limits.{usual_columns}
+use Rattle.mp_views.specs.Pictures.{picture_text}
+use Rattle.mp_views.specs.Chains.{why_of, path_of}
+use Rattle.mp_views.specs.Outputs.{slot_line, waves_text}
 use Rattle.mp_commands.specs.WorkLines.{work_text}
 use Rattle.mp_commands.specs.EditAnswers.{edits_from}
 use Rattle.mp_commands.specs.Keepers.{Kept, judged, IsKeptAfter}
@@ -131,7 +131,7 @@ abbrev pub PutsEdit : {S : Type 0} → Result (Unit {0}) Failed → Outgoing S �
 PutsEdit result old new kept now edit =
     (wanting : Bool) × IsKeptAfter kept edit (outcome wanting kept edit) now × Sends result old new (edit_text kept (outcome wanting kept edit))
 
--- the reply to a line that was read or not was written, or a part of it
+-- the reply to a line that was read or not was written, or a part of it, and what is kept after the line is kept
 abbrev pub PutsReply : {S : Type 0} → Result (Unit {0}) WriteError → Outgoing S → Outgoing S → Kept → Kept → Result Line LineError → Type 0
 PutsReply result old new kept now line =
-    (wanting : Bool) × (next : Kept) × IsKeptNext wanting kept line next × Writes result old new (reply_to wanting kept line) × OnOk result (now ≡ next)
+    (wanting : Bool) × IsKeptNext wanting kept line now × Writes result old new (reply_to wanting kept line)

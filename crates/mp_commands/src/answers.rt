@@ -5,26 +5,14 @@ ghost use Rattle.mp_netlist.specs.Circuit.{wire_named};
 ghost use Rattle.mp_streams.specs.Outgoing.{Writes};
 ghost use Rattle.mp_streams.specs.WriteErrors.{Writes as WritesAll};
 ghost use Rattle.mp_picture.specs.declared.mark.Charset.TheVariants.{Unicode};
-ghost use Rattle.mp_commands.specs.declared.drawing.Drawing.TheVariants.{Text};
-ghost use Rattle.mp_commands.specs.AskedWires.{missing_at};
-ghost use Rattle.mp_commands.specs.Limits.{usual_columns};
+ghost use Rattle.mp_views.specs.declared.drawing.Drawing.TheVariants.{Text};
+ghost use Rattle.mp_views.specs.AskedWires.{missing_at};
+ghost use Rattle.mp_views.specs.Limits.{usual_columns};
 ghost use Rattle.mp_commands.specs.Replies.{asked_text, wire_text, version_text, edits_text, answer_text};
 
-use crate::asked_picture::{AskedPicture, USUAL_COLUMNS};
-use crate::drawing::Drawing;
-use crate::dump_text::DumpText;
 use crate::edit_answers::put_edits;
-use crate::graph_text::GraphText;
-use crate::measure_lines::MeasureLines;
-use crate::path_lines::PathLines;
-use crate::picture_text::PictureText;
 use crate::replies::{put_refused, put_unread};
-use crate::report_lines::ReportLines;
 use crate::snapshot::Snapshot;
-use crate::view::View;
-use crate::wait_lines::WaitLines;
-use crate::wave_lines::{WaveLines, put_slot_line};
-use crate::why_lines::WhyLines;
 use crate::work_lines::put_work_lines;
 use mp_netlist::{EditError, Name};
 use mp_picture::Charset;
@@ -32,6 +20,10 @@ use mp_streams::{Failed, Out, Sink, Text, WriteError};
 use mp_text::{LineError, Question, WireNames, put_netlist};
 use mp_timing::TimeRange;
 use mp_version::Version;
+use mp_views::{
+    AskedPicture, Drawing, DumpText, GraphText, MeasureLines, PathLines, PictureText, ReportLines,
+    USUAL_COLUMNS, View, WaitLines, WaveLines, WhyLines, put_wave_line,
+};
 use std::alloc::Global;
 use std::thread::Threads;
 
@@ -56,13 +48,9 @@ pub fn put_answer<R: Threads + Sync, T: Sink>(
         Question::Version => Ok(("version ", of.version.number(), "\n").put_to(out)?),
         Question::Edits { from } => Ok(put_edits_from(out, of.version, *from)?),
         Question::Show { from, to, wires } => {
-            let view = shown(*from, *to, wires);
-            put_view(rt, alloc, out, of, &view)
+            put_view(rt, alloc, out, of, &shown(*from, *to, wires))
         }
-        Question::Waits { time } => {
-            let view = WaitLines { time: *time };
-            view.put(rt, alloc, out, &of.evaluated())
-        }
+        Question::Waits { time } => WaitLines { time: *time }.put(rt, alloc, out, &of.evaluated()),
         Question::Measure { from, to } => {
             let range = TimeRange {
                 from: *from,
@@ -71,16 +59,10 @@ pub fn put_answer<R: Threads + Sync, T: Sink>(
             MeasureLines { range }.put(rt, alloc, out, &of.evaluated())
         }
         Question::Why { wire, time, steps } => {
-            let view = WhyLines {
-                wire,
-                time: *time,
-                steps: *steps,
-            };
-            put_view(rt, alloc, out, of, &view)
+            put_view(rt, alloc, out, of, &why(wire, *time, *steps))
         }
         Question::Path { wire, time } => {
-            let view = PathLines { wire, time: *time };
-            put_view(rt, alloc, out, of, &view)
+            put_view(rt, alloc, out, of, &PathLines { wire, time: *time })
         }
     }
 }
@@ -100,6 +82,14 @@ fn shown(from: u64, to: u64, wires: &WireNames) -> PictureText<'_>
         },
         drawing: Drawing::Text(Charset::Unicode),
     }
+}
+
+/// The chain of causes that a script asks for.
+fn why(wire: &Name, time: u64, steps: u32) -> WhyLines<'_>
+    ensures wire { result.wire.now ≡ wire.now }
+    ensures numbers { (result.time ≡ time) × (result.steps ≡ steps) }
+{
+    WhyLines { wire, time, steps }
 }
 
 /// Writes a view, or that a wire of it doesn't stand.
@@ -124,7 +114,7 @@ fn put_wire<T: Sink>(out: &mut Out<T>, of: &Snapshot<'_>, name: &Name) -> Result
     ensures { Writes result out.old out.new (wire_text of.now.netlist (wire_named of.now.netlist name.now)) }
 {
     match of.netlist().wire_named(name.as_str()) {
-        Some(id) => put_slot_line(out, &of.evaluated(), id),
+        Some(id) => put_wave_line(out, &of.evaluated(), id),
         None => put_refused(out, EditError::NoSuchWire),
     }
 }

@@ -2,59 +2,38 @@
 #![tactic(auto)]
 
 mod answers;
-mod asked_picture;
-mod asked_wires;
 mod command;
 mod desk;
-mod drawing;
-mod dump_text;
 mod edit_answers;
-mod evaluated;
-mod graph_text;
 mod keeper;
 pub mod laws;
 mod limits;
-mod measure_lines;
 mod met_lines;
 mod opening;
 mod options;
-mod path_lines;
-mod picture_text;
 mod play;
 mod replies;
-mod report_lines;
 mod run_fault;
 mod snapshot;
-mod view;
-mod wait_lines;
-mod wave_lines;
-mod why_lines;
+mod viewed;
 mod work_lines;
 
 pub use answers::put_answer;
-pub use asked_picture::{AskedPicture, MAX_COLUMNS, USUAL_COLUMNS};
 pub use command::{Command, run_command};
 pub use desk::Desk;
-pub use drawing::Drawing;
-pub use dump_text::DumpText;
-pub use evaluated::Evaluated;
-pub use graph_text::GraphText;
 pub use keeper::Keeper;
 pub use limits::{MAX_INPUT, MAX_TAKEN};
-pub use measure_lines::MeasureLines;
+pub use met_lines::put_met;
 pub use mp_netlist::Name;
-pub use mp_picture::Charset;
-pub use mp_timing::TimeRange;
+pub use mp_views::{
+    AskedPicture, Charset, Drawing, DumpText, Evaluated, GraphText, MAX_COLUMNS, MeasureLines,
+    PathLines, PictureText, ReportLines, TimeRange, USUAL_COLUMNS, View, WaitLines, WaveLines,
+    WhyLines,
+};
 pub use opening::opened;
 pub use options::Options;
-pub use path_lines::PathLines;
-pub use picture_text::PictureText;
 pub use play::Play;
-pub use replies::{put_refused, put_reply, put_unread};
-pub use report_lines::ReportLines;
+pub use replies::{put_coded, put_refused, put_reply, put_unread};
 pub use run_fault::{RunFault, exit_status, fault_line};
 pub use snapshot::Snapshot;
-pub use view::{View, Viewed};
-pub use wait_lines::WaitLines;
-pub use wave_lines::WaveLines;
-pub use why_lines::WhyLines;
+pub use viewed::Viewed;

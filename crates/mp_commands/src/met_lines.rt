@@ -6,13 +6,12 @@ ghost use Rattle.mp_streams.specs.Outgoing.{Writes};
 ghost use Rattle.mp_commands.specs.Desks.{tally_line, viewer_line, met_text};
 ghost use Rattle.mp_commands.specs.NumberedLines.{lines_from};
 
-use crate::evaluated::Evaluated;
-use crate::wave_lines::put_lines;
 use mp_engine::OpenGate;
 use mp_meeting::{Met, Tally};
 use mp_phase::Crew;
 use mp_session::Session;
 use mp_streams::{Failed, Out, Sink, Text};
+use mp_views::{Evaluated, put_wave_lines};
 
 /// Writes a line for each designer, a line for each viewer, and the lines of the waves after the meeting.
 pub fn put_met<T: Sink>(
@@ -31,7 +30,7 @@ pub fn put_met<T: Sink>(
     };
     put_tallies(out, met.tallies.as_slice())?;
     put_numbers(out, met.numbers.as_slice())?;
-    put_lines(out, &of)
+    put_wave_lines(out, &of)
 }
 
 fn put_tallies<T: Sink>(out: &mut Out<T>, tallies: &[Tally]) -> Result<(), Failed>

@@ -90,7 +90,7 @@ pub fn put_unread<T: Sink>(out: &mut Out<T>, error: LineError) -> Result<(), Fai
 }
 
 /// Writes a line of some words, a number and a name.
-fn put_coded<T: Sink, W: Text>(
+pub fn put_coded<T: Sink, W: Text>(
     out: &mut Out<T>,
     words: &W,
     number: u32,

@@ -1,4 +1,4 @@
-use Rattle.std.proofs.Common.{◌≡◌, ◌+◌, [], drop, ap, arith, rules}
+use Rattle.std.proofs.Common.{◌≡◌, ◌+◌, [], drop, ap, arith}
 use Rattle.std.proofs.lemmas.List.{drop_all}
 use Rattle.mp_streams.proofs.LeftLemmas.{left_whole, left_none, left_as, left_then, left_failed}
 use Rattle.mp_streams.proofs.OutLemmas.{writes_failed}

@@ -1,4 +1,3 @@
-use Rattle.std.proofs.Common.{◌+◌, drop}
 use Rattle.mp_streams.proofs.LeftLemmas.{Left}
 use Rattle.mp_commands.specs.EditAnswers.{edits_from}
 use Rattle.mp_commands.proofs.edit_answers.put_edits.Given as goal

@@ -3,7 +3,7 @@ use Rattle.mp_streams.proofs.OutLemmas.{puts_then, puts_sooner, writes_failed}
 use Rattle.mp_version.specs.Stories.{present}
 use Rattle.mp_commands.specs.Desks.{viewer_line}
 use Rattle.mp_commands.specs.NumberedLines.{lines_from}
-use Rattle.mp_commands.specs.Outputs.{waves_text}
+use Rattle.mp_views.specs.Outputs.{waves_text}
 use Rattle.mp_commands.proofs.met_lines.put_met.Goals as goal
 
 pub returns-in_err-put_tallies-clause-written : goal.returns-in_err-put_tallies-clause-written
@@ -26,5 +26,5 @@ returns-clause-written g c =
     let first = rw c.as_slice.ensures.value at c.in_ok-put_tallies.ensures in
     let second = rw c.as_slice-2.ensures.value at c.in_ok-put_numbers.ensures in
     let story : c.deref.result.now ≡ c.args.met.now.session.story = search rules in
-    let last = rw (c.now.ensures.value, story) at c.put_lines.ensures in
+    let last = rw (c.now.ensures.value, story) at c.put_wave_lines.ensures in
     puts_then (puts_then first second) last

@@ -1,4 +1,4 @@
-use Rattle.std.proofs.Common.{◌≡◌, ◌<◌, [], length, sym, subst, rules}
+use Rattle.std.proofs.Common.{◌≡◌, ◌<◌, [], length, subst, rules}
 use Rattle.std.proofs.lemmas.Result.{err_from_is_err_and}
 use Rattle.mp_streams.proofs.OutLemmas.{puts_none}
 use Rattle.mp_words.specs.Lines.{lines_of}
@@ -16,7 +16,7 @@ returns-in_err-put_reply g c =
     let here = subst (λ l. ArePlayed first c.loop-rest.keeper lines l c.args.out.now c.loop-rest.out) (c.first_line.ensures.lines some) c.loop-rest.invariant in
     let replied = c.in_err-put_reply.ensures in
     let p = err_from_is_err_and c.from_residual.result c.from_residual.ensures.1 in
-    rw (p.1, p.2) (replies_part c.in_err-put_reply.field-0.0 first _ replied.1 lines (lines_of c.first_line.result.1.now) _ _ _ c.put_reply.new.out replied.0 here replied.2 replied.3)
+    rw (p.1, p.2) (replies_part c.in_err-put_reply.field-0.0 first _ c.put_reply.new.keeper lines (lines_of c.first_line.result.1.now) _ _ _ c.put_reply.new.out replied.0 here replied.1 replied.2)
 
 pub loop-rest-preserved : goal.loop-rest-preserved
 loop-rest-preserved g c =
@@ -25,9 +25,7 @@ loop-rest-preserved g c =
     let some : 0 < length c.loop-rest.rest.now = search rules in
     let here = subst (λ l. ArePlayed first c.loop-rest.keeper lines l c.args.out.now c.loop-rest.out) (c.first_line.ensures.lines some) c.loop-rest.invariant in
     let replied = c.in_ok-put_reply.ensures in
-    let rest = lines_of c.first_line.result.1.now in
-    let more = one_more first _ replied.1 lines rest _ _ _ c.put_reply.new.out replied.0 here replied.2 replied.3 in
-    subst (λ k. ArePlayed first k lines rest c.args.out.now c.put_reply.new.out) (sym replied.4) more
+    one_more first _ c.put_reply.new.keeper lines (lines_of c.first_line.result.1.now) _ _ _ c.put_reply.new.out replied.0 here replied.1 replied.2
 
 pub returns : goal.returns
 returns g c =

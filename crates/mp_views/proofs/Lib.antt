@@ -1,0 +1,3 @@
+pub mod AskedWireLemmas
+pub mod PictureLemmas
+pub mod OutputLemmas

@@ -1,0 +1,5 @@
+pub mod Limits
+pub mod Outputs
+pub mod AskedWires
+pub mod Pictures
+pub mod Chains
