@@ -1,6 +1,6 @@
 //! Those who edit.
 use crate::name::DeskName;
-use crate::pass::Pass;
+use crate::pass::{Pass, ReadError};
 use mp_version::Version;
 use std::marker::Model;
 use std::sync::Arc;
@@ -29,8 +29,24 @@ impl<L: DeskName> Model for Designer<L> {
 }
 
 impl<L: DeskName> Designer<L> {
-    ghost use Rattle.std.specs.Prelude.{◌≡◌};
+    ghost use Rattle.std.specs.Prelude.{◌≡◌, IfOk, OnErr};
     ghost use Rattle.std.specs.Arc.{arc_value};
+    ghost use Rattle.mp_desk.specs.Extending.{Extends};
+
+    /// Reads what is published, and waits for nobody: it is the version that was seen last, or a later one. `Closed` where the desk is, and
+    /// `OutOfMemory` where memory is wanting: then the version that was seen last stays.
+    pub fn read(&mut self) -> Result<Arc<Version>, ReadError>
+        ensures later { IfOk result (λ v. Extends (arc_value v) self.old.seen) }
+        ensures seen { IfOk result (λ v. self.new.seen ≡ arc_value v) }
+        ensures err { OnErr result (self.new.seen ≡ self.old.seen) }
+        ensures same { self.new.accepted ≡ self.old.accepted }
+    {
+        let published = self.pass.enter()?;
+        let version = published.into_version();
+        let copy = Arc::try_clone(&version).map_err(|_| ReadError::OutOfMemory)?;
+        self.seen = copy;
+        Ok(version)
+    }
 
     /// The version that this designer saw last: that of the last edit that was accepted, or the one that judged the last that was refused.
     pub fn seen(&self) -> &Arc<Version>

@@ -156,7 +156,7 @@ impl<S: EditSession, L: DeskName, R: Wait + Drop> Desk<S, L, R> {
     }
 }
 
-impl<S: EditSession, L: DeskName, R: Threads + Wait + Sync + Drop> Desk<S, L, R> {
+impl<S: EditSession, L: DeskName, R: Wait + Drop> Desk<S, L, R> {
     ghost use Rattle.std.specs.Prelude.{◌+◌, IfOk, IfErr, OnErr};
     ghost use Rattle.std.specs.Arc.{arc_value};
     ghost use Rattle.mp_version.specs.Stories.{Story, one_more};
@@ -165,7 +165,12 @@ impl<S: EditSession, L: DeskName, R: Threads + Wait + Sync + Drop> Desk<S, L, R>
 
     /// Submits an edit, which is judged after all edits that were accepted before it, and where it is accepted published before the answer.
     /// The one lock is held meanwhile: other designers wait, and viewers don't. The error is that of the session; then nothing is published.
-    pub fn submit(&self, rt: &R, me: &mut Designer<L>, edit: &Edit) -> Result<Receipt<L>, EditError>
+    pub fn submit<H: Threads + Wait + Sync>(
+        &self,
+        rt: &H,
+        me: &mut Designer<L>,
+        edit: &Edit,
+    ) -> Result<Receipt<L>, EditError>
         ensures accepted { IfOk result (λ r. (s : Story) × Extends s me.old.seen × (arc_value r.version ≡ one_more s edit.now)) }
         ensures notice { IfOk result (λ r. r.notice ≡ arc_value r.version) }
         ensures seen { IfOk result (λ r. me.new.seen ≡ arc_value r.version) }

@@ -50,7 +50,7 @@ fn owners(version: &Arc<Version>) -> Result<(Arc<Version>, Arc<Version>, Arc<Ver
     ))
 }
 
-impl<S: EditSession, L: DeskName, R: Threads + Wait + Sync + Drop> DeskState<S, L, R> {
+impl<S: EditSession, L: DeskName, R: Wait + Drop> DeskState<S, L, R> {
     ghost use Rattle.std.specs.Prelude.{◌+◌, IfOk, IfErr, OnErr};
     ghost use Rattle.std.specs.Arc.{arc_value};
     ghost use Rattle.mp_version.specs.Stories.{one_more};
@@ -58,9 +58,9 @@ impl<S: EditSession, L: DeskName, R: Threads + Wait + Sync + Drop> DeskState<S, 
     ghost use Rattle.mp_desk.specs.Holders.{RefusedAfter};
 
     /// Judges an edit, and where it is accepted publishes the version after it.
-    pub(crate) fn submit(
+    pub(crate) fn submit<H: Threads + Wait + Sync>(
         &mut self,
-        rt: &R,
+        rt: &H,
         me: &mut Designer<L>,
         edit: &Edit,
     ) -> Result<Receipt<L>, EditError>

@@ -8,7 +8,7 @@ use crate::publication::Publication;
 use std::sync::Wait;
 
 /// Enters until the version is the published one, by its number.
-pub(crate) fn show<R: Wait + Drop>(rt: &R, publication: &Publication<R>, pass: &mut Pass)
+pub(crate) fn show<H: Wait, R: Wait + Drop>(rt: &H, publication: &Publication<R>, pass: &mut Pass)
     requires { (s : Shown) × Has pass.old s × (s.book ≡ publication.now.book) }
     ensures follows { FollowsRead publication.now pass.old }
     ensures kept { KeepsRead pass.old pass.new }

@@ -10,11 +10,13 @@ use Rattle.mp_records.specs.declared.edit_error.EditError.TheVariants as edits
 use Rattle.mp_words.specs.declared.line_error.LineError.TheVariants as lines
 use Rattle.mp_text.specs.declared.text_code.TextCode.{TextCode}
 use Rattle.mp_text.specs.declared.text_code.TextCode.TheVariants as texts
-use Rattle.mp_explain.specs.declared.subject.Subject.TheVariants.{Text, Edit, Finding, Kind as OfKind}
+use Rattle.mp_explain.specs.declared.seat_code.SeatCode.{SeatCode}
+use Rattle.mp_explain.specs.declared.seat_code.SeatCode.TheVariants as seats
+use Rattle.mp_explain.specs.declared.subject.Subject.TheVariants.{Text, Edit, Seat, Finding, Kind as OfKind}
 use Rattle.mp_explain.specs.Laws.{TellsOfEach, titles}
 use Rattle.mp_explain.specs.Subjects.{title}
 
-many : length titles ≡ 58
+many : length titles ≡ 60
 many = refl
 
 text_told : (code : TextCode) → Contains titles (title (Text code))
@@ -52,39 +54,44 @@ edit_told edits.OutOfMemory = (28, omega (arith, many), refl)
 edit_told edits.BadBatch = (29, omega (arith, many), refl)
 edit_told (edits.InBatch place number) = (30, omega (arith, many), refl)
 
+seat_told : (code : SeatCode) → Contains titles (title (Seat code))
+seat_told seats.NotADesigner = (31, omega (arith, many), refl)
+seat_told seats.NoWork = (32, omega (arith, many), refl)
+
 finding_told : (code : FindingCode) → Contains titles (title (Finding code))
-finding_told found.MergeCollision = (31, omega (arith, many), refl)
-finding_told found.Withdrawn = (32, omega (arith, many), refl)
-finding_told found.SelectUnstable = (33, omega (arith, many), refl)
-finding_told found.CallOverlap = (34, omega (arith, many), refl)
-finding_told found.DoneWithoutCall = (35, omega (arith, many), refl)
-finding_told found.RepeatRequest = (36, omega (arith, many), refl)
-finding_told found.DoneWithoutGrant = (37, omega (arith, many), refl)
-finding_told found.CaptureWhileHeld = (38, omega (arith, many), refl)
-finding_told found.PassWhileOpen = (39, omega (arith, many), refl)
-finding_told found.DataAtCapture = (40, omega (arith, many), refl)
-finding_told found.DataWhileBusy = (41, omega (arith, many), refl)
-finding_told found.Setup = (42, omega (arith, many), refl)
-finding_told found.RequestWhileBusy = (43, omega (arith, many), refl)
-finding_told found.AckWhileIdle = (44, omega (arith, many), refl)
+finding_told found.MergeCollision = (33, omega (arith, many), refl)
+finding_told found.Withdrawn = (34, omega (arith, many), refl)
+finding_told found.SelectUnstable = (35, omega (arith, many), refl)
+finding_told found.CallOverlap = (36, omega (arith, many), refl)
+finding_told found.DoneWithoutCall = (37, omega (arith, many), refl)
+finding_told found.RepeatRequest = (38, omega (arith, many), refl)
+finding_told found.DoneWithoutGrant = (39, omega (arith, many), refl)
+finding_told found.CaptureWhileHeld = (40, omega (arith, many), refl)
+finding_told found.PassWhileOpen = (41, omega (arith, many), refl)
+finding_told found.DataAtCapture = (42, omega (arith, many), refl)
+finding_told found.DataWhileBusy = (43, omega (arith, many), refl)
+finding_told found.Setup = (44, omega (arith, many), refl)
+finding_told found.RequestWhileBusy = (45, omega (arith, many), refl)
+finding_told found.AckWhileIdle = (46, omega (arith, many), refl)
 
 kind_told : (kind : Kind) → Contains titles (title (OfKind kind))
-kind_told kinds.Buf = (45, omega (arith, many), refl)
-kind_told kinds.Not = (46, omega (arith, many), refl)
-kind_told kinds.Xor = (47, omega (arith, many), refl)
-kind_told kinds.C = (48, omega (arith, many), refl)
-kind_told kinds.Toggle = (49, omega (arith, many), refl)
-kind_told kinds.Select = (50, omega (arith, many), refl)
-kind_told kinds.Call = (51, omega (arith, many), refl)
-kind_told kinds.Arbiter = (52, omega (arith, many), refl)
-kind_told kinds.Reg = (53, omega (arith, many), refl)
-kind_told kinds.AddC = (54, omega (arith, many), refl)
-kind_told kinds.XorC = (55, omega (arith, many), refl)
-kind_told kinds.Sum = (56, omega (arith, many), refl)
-kind_told kinds.Bit = (57, omega (arith, many), refl)
+kind_told kinds.Buf = (47, omega (arith, many), refl)
+kind_told kinds.Not = (48, omega (arith, many), refl)
+kind_told kinds.Xor = (49, omega (arith, many), refl)
+kind_told kinds.C = (50, omega (arith, many), refl)
+kind_told kinds.Toggle = (51, omega (arith, many), refl)
+kind_told kinds.Select = (52, omega (arith, many), refl)
+kind_told kinds.Call = (53, omega (arith, many), refl)
+kind_told kinds.Arbiter = (54, omega (arith, many), refl)
+kind_told kinds.Reg = (55, omega (arith, many), refl)
+kind_told kinds.AddC = (56, omega (arith, many), refl)
+kind_told kinds.XorC = (57, omega (arith, many), refl)
+kind_told kinds.Sum = (58, omega (arith, many), refl)
+kind_told kinds.Bit = (59, omega (arith, many), refl)
 
 pub tells_of_each : TellsOfEach
 tells_of_each (Text code) = text_told code
 tells_of_each (Edit error) = edit_told error
+tells_of_each (Seat code) = seat_told code
 tells_of_each (Finding code) = finding_told code
 tells_of_each (OfKind kind) = kind_told kind

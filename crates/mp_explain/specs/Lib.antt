@@ -1,3 +1,4 @@
 pub mod Explanations
 pub mod Laws
+pub mod SeatCodes
 pub mod Subjects

@@ -13,8 +13,11 @@ use Rattle.mp_words.specs.declared.line_error.LineError.TheVariants as lines
 use Rattle.mp_text.specs.declared.text_code.TextCode.{TextCode}
 use Rattle.mp_text.specs.declared.text_code.TextCode.TheVariants as texts
 use Rattle.mp_text.specs.TextCodes as text_codes
+use Rattle.mp_explain.specs.declared.seat_code.SeatCode.{SeatCode}
+use Rattle.mp_explain.specs.declared.seat_code.SeatCode.TheVariants as seats
+use Rattle.mp_explain.specs.SeatCodes as seat_codes
 use Rattle.mp_explain.specs.declared.subject.Subject.{Subject}
-use Rattle.mp_explain.specs.declared.subject.Subject.TheVariants.{Text, Edit, Finding, Kind as OfKind}
+use Rattle.mp_explain.specs.declared.subject.Subject.TheVariants.{Text, Edit, Seat, Finding, Kind as OfKind}
 
 abbrev pub edit_name : EditError → List ℕ
 edit_name error = unwrap_or (name_of (number_of error)) []
@@ -23,6 +26,7 @@ edit_name error = unwrap_or (name_of (number_of error)) []
 abbrev pub title : Subject → List ℕ
 title (Text code) = codes "text " ++ (decimal (text_codes.number_of code) ++ (codes " " ++ text_codes.name_of code))
 title (Edit error) = codes "edit " ++ (decimal (number_of error) ++ (codes " " ++ edit_name error))
+title (Seat code) = codes "seat " ++ (decimal (seat_codes.number_of code) ++ (codes " " ++ seat_codes.name_of code))
 title (Finding code) = codes "finding " ++ (decimal (code_number code) ++ (codes " " ++ code_word code))
 title (OfKind kind) = codes "kind " ++ word_of kind
 
@@ -33,6 +37,7 @@ is_one_of word number name = bytes_eq word name || bytes_eq word (decimal number
 abbrev pub is_called : List ℕ → Subject → Bool
 is_called word (Text code) = is_one_of word (text_codes.number_of code) (text_codes.name_of code)
 is_called word (Edit error) = is_one_of word (number_of error) (edit_name error)
+is_called word (Seat code) = is_one_of word (seat_codes.number_of code) (seat_codes.name_of code)
 is_called word (Finding code) = is_one_of word (code_number code) (code_word code)
 is_called word (OfKind kind) = bytes_eq word (word_of kind)
 
@@ -49,6 +54,10 @@ refusals =
     ∷ edits.BadPort ∷ edits.WrongPorts ∷ edits.BadParam ∷ edits.WidthMismatch ∷ edits.AlreadyDriven ∷ edits.StillUsed ∷ edits.BadStimulus
     ∷ edits.NoStimulus ∷ edits.TableFull ∷ edits.HistoryFull ∷ edits.OutOfMemory ∷ edits.BadBatch ∷ edits.InBatch 2 16 ∷ []
 
+-- the refusals of a seat alone, by number
+abbrev pub seat_refusals : List SeatCode
+seat_refusals = seats.NotADesigner ∷ seats.NoWork ∷ []
+
 abbrev pub all_kinds : List Kind
 all_kinds =
     kinds.Buf ∷ kinds.Not ∷ kinds.Xor ∷ kinds.C ∷ kinds.Toggle ∷ kinds.Select ∷ kinds.Call ∷ kinds.Arbiter ∷ kinds.Reg ∷ kinds.AddC ∷ kinds.XorC
@@ -56,4 +65,4 @@ all_kinds =
 
 -- all that can be explained
 abbrev pub subjects : List Subject
-subjects = map Text text_faults ++ (map Edit refusals ++ (map Finding by_number ++ map OfKind all_kinds))
+subjects = map Text text_faults ++ (map Edit refusals ++ (map Seat seat_refusals ++ (map Finding by_number ++ map OfKind all_kinds)))

@@ -1,8 +1,8 @@
 //! All that can be explained.
 ghost use Rattle.std.specs.Prelude.{◌≡◌, IfOk, map};
 ghost use Rattle.mp_modules.specs.Findings.{by_number};
-ghost use Rattle.mp_explain.specs.Subjects.{all_kinds, refusals, subjects, text_faults};
-ghost use Rattle.mp_explain.specs.declared.subject.Subject.TheVariants.{Text, Edit, Finding, Kind};
+ghost use Rattle.mp_explain.specs.Subjects.{all_kinds, refusals, seat_refusals, subjects, text_faults};
+ghost use Rattle.mp_explain.specs.declared.subject.Subject.TheVariants.{Text, Edit, Seat, Finding, Kind};
 
 use crate::data_kinds::{ADDC, BIT, REG, SUM, XORC};
 use crate::entry::Entry;
@@ -20,13 +20,14 @@ use crate::refusals_of_values::{
     BAD_BATCH, BAD_DELAY, BAD_LEVEL, BAD_PARAM, BAD_PORT, BAD_STIMULUS, BAD_WIDTH, IN_BATCH,
     NO_STIMULUS, WIDTH_MISMATCH, WRONG_PORTS,
 };
+use crate::seat_refusals::{NO_WORK, NOT_A_DESIGNER};
 use crate::text_faults::{
     BAD_FORMAT, BAD_NUMBER, LINE_OUT_OF_MEMORY, NO_HORIZON, NOT_ASCII, REFUSED, SECOND_HORIZON,
     TOO_LONG, UNKNOWN_STATEMENT, WORD_COUNT,
 };
 use std::alloc::{AllocError, Global};
 
-/// All that can be explained: each code of a text, of an edit and of a finding, by number, and each kind of module. `AllocError` comes where
+/// All that can be explained: each code of a text, of an edit, of a seat and of a finding, by number, and each kind of module. `AllocError` comes where
 /// memory runs out.
 ///
 /// Each part of it is a function of its own: the more text a function names, the more steps its proof takes.
@@ -35,6 +36,7 @@ pub fn guide(alloc: Global) -> Result<Vec<Entry>, AllocError>
 {
     let mut guide = Vec::from_slice(alloc, text_faults())?;
     guide.extend_from_slice(refusals())?;
+    guide.extend_from_slice(seat_refusals())?;
     guide.extend_from_slice(findings())?;
     guide.extend_from_slice(kinds())?;
     Ok(guide)
@@ -85,6 +87,13 @@ fn refusals() -> &'static [Entry]
         BAD_BATCH,
         IN_BATCH,
     ]
+}
+
+/// The codes of seats alone, by number.
+fn seat_refusals() -> &'static [Entry]
+    ensures { map (λ entry. entry.subject) result.now ≡ map Seat seat_refusals }
+{
+    &[NOT_A_DESIGNER, NO_WORK]
 }
 
 /// The codes of findings, by number.

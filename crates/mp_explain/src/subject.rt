@@ -3,6 +3,7 @@ ghost use Rattle.std.specs.Prelude.{◌≡◌, codes};
 ghost use Rattle.mp_streams.specs.Outgoing.{Writes};
 ghost use Rattle.mp_explain.specs.Subjects.{edit_name, is_called, is_one_of, title};
 
+use crate::seat_code::SeatCode;
 use itoa::Buffer;
 use mp_modules::{FindingCode, Kind};
 use mp_records::EditError;
@@ -16,6 +17,8 @@ pub enum Subject {
     Text(TextCode),
     /// Why an edit is refused.
     Edit(EditError),
+    /// Why a line is refused at a seat alone.
+    Seat(SeatCode),
     /// What is found at a module or a bundle.
     Finding(FindingCode),
     /// What a module does.
@@ -30,6 +33,7 @@ impl Subject {
         match self {
             Subject::Text(code) => is_one_of(word, code.number(), code.name()),
             Subject::Edit(error) => is_one_of(word, error.number(), edit_name(error)),
+            Subject::Seat(code) => is_one_of(word, code.number(), code.name()),
             Subject::Finding(code) => is_one_of(word, code.number(), code.word()),
             Subject::Kind(kind) => word == kind.word(),
         }
@@ -44,6 +48,7 @@ impl Text for Subject {
         match self {
             Subject::Text(code) => ("text ", code.number(), " ", code.name()).put_to(out),
             Subject::Edit(error) => ("edit ", error.number(), " ", edit_name(*error)).put_to(out),
+            Subject::Seat(code) => ("seat ", code.number(), " ", code.name()).put_to(out),
             Subject::Finding(code) => ("finding ", code.number(), " ", code.word()).put_to(out),
             Subject::Kind(kind) => ("kind ", kind.word()).put_to(out),
         }

@@ -1,3 +1,1 @@
-mod AnswerLemmas
 mod InputLemmas
-mod TalkLemmas

@@ -1,3 +1,4 @@
 pub mod Answers
-pub mod Conversations
 pub mod OpenedInputs
+pub mod SeatReplies
+pub mod TalkFaults

@@ -1,11 +1,13 @@
 //! The netlist that a script edits, from an input of its own.
-ghost use Rattle.std.specs.Prelude.{◌≡◌, IfOk, IfErr};
+ghost use Rattle.std.specs.Prelude.{◌≡◌, Ok, Some, is_some, IfOk, IfErr};
 ghost use Rattle.mp_streams.specs.StreamBytes.{ConsumesUpTo};
 ghost use Rattle.mp_commands.specs.Limits.{max_taken};
 ghost use Rattle.mp_commands.specs.RunFaults.{counted_reads};
-ghost use Rattle.mp_live.specs.OpenedInputs.{OpensAs, StaysShut};
+ghost use Rattle.mp_commands.specs.Runs.{HasInput};
+ghost use Rattle.mp_live.specs.OpenedInputs.{opening_with, OpensAs, StaysShut, StaysShutWith};
 
 use mp_commands::{Keeper, MAX_INPUT, MAX_TAKEN, Options, RunFault, opened};
+use mp_netlist::Netlist;
 use mp_streams::{Source, take_all};
 use mp_text::{TextCode, TextError};
 use std::alloc::Global;
@@ -25,6 +27,23 @@ pub fn open_keeper<R: Threads + Wait + Sync, S: Source>(
     ensures taken { ConsumesUpTo max_taken (S.left source.old) (S.left source.new) }
     ensures read_faults { S.fault_count source.new ≡ counted_reads result (S.fault_count source.old) }
 {
+    let (netlist, crew) = read_opening(alloc, source, options.crew())?;
+    Ok(Keeper::new(rt, alloc, &netlist, crew)?)
+}
+
+/// Reads the text of a netlist, all that the source has. `ReadFailed` comes with a fault of the source; then `Text` where the input is too long
+/// or the text is not read, `BadCount` where there is no crew, and `OutOfMemory` where memory is wanting.
+pub fn read_opening<S: Source, C: Drop>(
+    alloc: Global,
+    source: &mut S,
+    crew: Option<C>,
+) -> Result<(Netlist, C), RunFault>
+    ensures opened { IfOk result (λ both. HasInput (S.left source.old) (λ input. opening_with (is_some crew) input ≡ Ok both.0)) }
+    ensures crew { IfOk result (λ both. crew ≡ Some both.1) }
+    ensures refused { IfErr result (StaysShutWith (S.left source.old) (is_some crew)) }
+    ensures taken { ConsumesUpTo max_taken (S.left source.old) (S.left source.new) }
+    ensures read_faults { S.fault_count source.new ≡ counted_reads result (S.fault_count source.old) }
+{
     let input = take_all(alloc, source, MAX_TAKEN)?;
     if input.len() > MAX_INPUT {
         return Err(RunFault::Text(TextError {
@@ -32,6 +51,5 @@ pub fn open_keeper<R: Threads + Wait + Sync, S: Source>(
             code: TextCode::TooLong,
         }));
     }
-    let (netlist, crew) = opened(alloc, input.as_slice(), options.crew())?;
-    Ok(Keeper::new(rt, alloc, &netlist, crew)?)
+    opened(alloc, input.as_slice(), crew)
 }

@@ -9,4 +9,6 @@ mod edits;
 #[cfg(test)]
 mod lines;
 #[cfg(test)]
+mod scribes;
+#[cfg(test)]
 mod talks;

@@ -1,9 +1,10 @@
 //! Conversations over devices that fail in mid-stream.
 use crate::devices::{SlowReader, SmallWriter};
-use mp_commands::{Keeper, Options, RunFault};
+use mp_commands::{Options, RunFault};
 use mp_lines::LineReader;
-use mp_live::{Prompted, converse, open_keeper};
+use mp_live::{Player, Prompted, open_keeper};
 use mp_streams::{Out, ReadSource, Sink, WriteSink};
+use mp_talk::TalkFault;
 use std::alloc::Global;
 use std::sync::Wait;
 use std::thread::Threads;
@@ -25,9 +26,10 @@ fn front(count: usize) -> &'static [u8] {
     &ANSWERS[..count.min(ANSWERS.len())]
 }
 
-/// The netlist of a buffer.
-fn keeper(rt: &(impl Threads + Wait + Sync), alloc: Global) -> Result<Keeper, RunFault> {
-    open_keeper(rt, alloc, &mut ReadSource::new(BUF), &CREW)
+/// Who edits the netlist of a buffer.
+fn player(rt: &(impl Threads + Wait + Sync), alloc: Global) -> Result<Player, RunFault> {
+    let keeper = open_keeper(rt, alloc, &mut ReadSource::new(BUF), &CREW)?;
+    Ok(Player::new(alloc, keeper))
 }
 
 /// How a conversation ends whose reader has so many reads and whose writer has so much room, and what is written.
@@ -36,8 +38,8 @@ fn talked(
     alloc: Global,
     reads: usize,
     room: usize,
-) -> Result<(Result<(), RunFault>, Vec<u8>), RunFault> {
-    let mut keeper = keeper(rt, alloc)?;
+) -> Result<(Result<(), TalkFault>, Vec<u8>), RunFault> {
+    let mut player = player(rt, alloc)?;
     let reader = SlowReader {
         bytes: SCRIPT,
         most: 1,
@@ -49,7 +51,7 @@ fn talked(
         room,
     };
     let mut out = Out::new(alloc, WriteSink::new(writer))?;
-    let end = converse(rt, alloc, &mut keeper, &mut lines, &mut out);
+    let end = player.play(rt, &mut lines, &mut out);
     Ok((end, out.into_sink().into_inner().taken))
 }
 
@@ -58,7 +60,7 @@ fn ends(
     rt: &(impl Threads + Wait + Sync),
     alloc: Global,
     limits: (usize, usize),
-    ended: Result<(), RunFault>,
+    ended: Result<(), TalkFault>,
     text: &[u8],
 ) -> bool {
     match talked(rt, alloc, limits.0, limits.1) {
@@ -74,7 +76,7 @@ fn whole_conversation(rt: HostRuntime) {
 
 #[test]
 fn reader_that_fails(rt: HostRuntime) {
-    let failed = Err(RunFault::ReadFailed);
+    let failed = Err(TalkFault::ReadFailed);
     // what ended before was answered
     assert!(rt; ends(&rt, rt.alloc(), (0, 1000), failed, b""));
     assert!(rt; ends(&rt, rt.alloc(), (6, 1000), failed, b""));
@@ -90,7 +92,7 @@ fn writer_that_fails(rt: HostRuntime) {
                 &rt,
                 rt.alloc(),
                 (1000, room),
-                Err(RunFault::WriteFailed),
+                Err(TalkFault::WriteFailed),
                 front(room)
             )
         );

@@ -15,7 +15,7 @@ use Rattle.mp_desk.specs.Holders as holders
 use Rattle.mp_meeting.specs.Sittings.{Sitting, begun, HasWorked, WorkedEach}
 use Rattle.mp_meeting.specs.Seats.{working, tally_of}
 use Rattle.mp_meeting.specs.Meetings.{AreWorked, accepted_by, IsMeeting}
-use Rattle.mp_meeting.proofs.FateLemmas.{among_more, longer}
+use Rattle.mp_meeting.proofs.FateLemmas.{among_more, longer, extends_trans}
 
 -- each designer has worked through the block
 abbrev pub AllDone : Story → List (Bor (List ℕ)) → List Sitting → Type 0
@@ -109,3 +109,9 @@ none_more now numbers vs count last read k n within =
 -- a list that was lent whole and came back changed
 pub came_back : {A : Type 0} (len : ℕ) (new old : List A) → length new ≡ len → take len (new ++ drop (length new) old) ≡ new
 came_back len new old same = ap (λ (n : ℕ). take n (new ++ drop (length new) old)) (sym same) ∙ take-append_seam new (drop (length new) old)
+
+-- what a viewer read last extends what this viewer had read, and so does a story that extends that
+pub all_looked : (now : Story) (old new : List Seeing) → length new ≡ length old → ((k : ℕ) (v : Seeing) → k < length new → Extends (slice_index_or new k v).last (slice_index_or old k v).last)
+    → All (λ (v : Seeing). Extends now v.last) new → All (λ (v : Seeing). Extends now v.last) old
+all_looked now old new same later read k v within =
+    extends_trans now (slice_index_or new k v).last (slice_index_or old k v).last (read k v (omega (arith, within, same))) (later k v (omega (arith, within, same)))

@@ -29,6 +29,10 @@ told_of (Some story) = length story.edits
 abbrev pub begun : Story → Sitting
 begun seen = record { seen = seen; accepted = 0; refused = 0; told = 0; wanting = false }
 
+-- this was seen, and nothing else changed
+abbrev pub with_seen : Sitting → Story → Sitting
+with_seen old seen = record old { seen = seen }
+
 -- the edit was accepted after this story
 abbrev pub with_edit : Sitting → Story → Edit → Sitting
 with_edit old before edit = record old { seen = one_more before edit; accepted = old.accepted + 1; told = length before.edits + 1 }

@@ -9,6 +9,8 @@ mod seats;
 mod sitting;
 mod tally;
 
-pub use meeting::{Met, meet};
+pub use meeting::{Met, adjourn, meet};
 pub use meeting_fault::MeetingFault;
+pub use seats::start_all;
+pub use sitting::Sitting;
 pub use tally::Tally;

@@ -3,16 +3,19 @@ ghost use Rattle.std.specs.Prelude.{◌≡◌, ◌+◌, ◌<◌, vec_len, length
 ghost use Rattle.mp_netlist.specs.Circuit.{Circuit};
 ghost use Rattle.mp_words.specs.Divisions.{lines_of_each};
 ghost use Rattle.mp_version.specs.Stories.{opening};
+ghost use Rattle.mp_desk.specs.Extending.{Extends};
 ghost use Rattle.mp_desk.specs.Holders.{fresh_designer};
 ghost use Rattle.mp_meeting.specs.Meetings.{IsMeeting};
+ghost use Rattle.mp_meeting.specs.Seats.{HasAdjourned};
 ghost use Rattle.mp_meeting.specs.declared.meeting_fault.MeetingFault.TheVariants.{OutOfMemory};
 
 use crate::meeting_fault::MeetingFault;
 use crate::race::race;
 use crate::reading::last_reads;
 use crate::seats::{finish_all, start_all};
+use crate::sitting::Sitting;
 use crate::tally::Tally;
-use mp_desk::{Desk, DeskName, DeskParts, DeskSize, Staffed};
+use mp_desk::{Desk, DeskName, DeskParts, DeskSize, Staffed, Viewer};
 use mp_version::EditSession;
 use std::alloc::{AllocError, Global};
 use std::marker::Brand;
@@ -101,7 +104,26 @@ where
         viewers,
     } = staffed;
     let sittings = start_all(alloc, designers)?;
-    let (sittings, mut viewers) = race(rt, alloc, &desk, blocks, sittings, viewers);
+    let (sittings, viewers) = race(rt, alloc, &desk, blocks, sittings, viewers);
+    Ok(adjourn(rt, alloc, desk, sittings, viewers)?)
+}
+
+/// Ends a meeting: each viewer learns of each designer's last edit and reads once more, and the desk is closed. The error comes where memory
+/// is wanting, or was for one of the designers.
+pub fn adjourn<S: EditSession + Send, L: DeskName + Send + Sync, R: Threads + Wait + Sync + Drop>(
+    rt: &R,
+    alloc: Global,
+    desk: Desk<S, L, R>,
+    sittings: Vec<Sitting<L>>,
+    viewers: Vec<Viewer<L>>,
+) -> Result<Met<S>, AllocError>
+where
+    S::Prepared: Send,
+    requires all { desk.designers ≡ vec_len sittings }
+    ensures adjourned { IfOk result (λ met. HasAdjourned desk.opening sittings.items (vec_len viewers) (S.story met.session) met.tallies.items met.numbers.items) }
+    ensures looked { IfOk result (λ met. All (λ v. Extends (S.story met.session) v.last) viewers.items) }
+{
+    let mut viewers = viewers;
     let numbers = last_reads(rt, alloc, sittings.as_slice(), viewers.as_mut_slice())?;
     let (designers, tallies) = finish_all(alloc, sittings)?;
     match desk.close(rt, designers, viewers.as_mut_slice()) {

@@ -9,7 +9,7 @@ use mp_desk::{Designer, DeskName};
 use std::alloc::{AllocError, Global};
 
 /// The designers, who have just come, ready to work.
-pub(crate) fn start_all<L: DeskName>(
+pub fn start_all<L: DeskName>(
     alloc: Global,
     designers: Vec<Designer<L>>,
 ) -> Result<Vec<Sitting<L>>, AllocError>

@@ -1,24 +1,24 @@
 //! A designer at work.
 ghost use Rattle.std.specs.Prelude.{◌≡◌};
 
-use mp_desk::{Designer, Desk, DeskName, Notice, Viewer};
+use mp_desk::{Designer, Desk, DeskName, Notice, ReadError, Viewer};
 use mp_netlist::{Edit, EditError};
 use mp_text::{Line, LineError, first_line, read_line};
-use mp_version::EditSession;
+use mp_version::{EditSession, Version};
 use std::alloc::{AllocError, Global};
 use std::marker::Model;
-use std::sync::Wait;
+use std::sync::{Arc, Wait};
 use std::thread::Threads;
 
-/// A designer who submits a block of lines, and what became of those so far.
+/// A designer who submits lines, and what became of those so far.
 #[derive(Drop)]
-pub(crate) struct Sitting<L: DeskName> {
-    pub me: Designer<L>,
+pub struct Sitting<L: DeskName> {
+    pub(crate) me: Designer<L>,
     /// The notice of the last edit that was accepted.
-    pub last: Option<Notice<L>>,
-    pub refused: u64,
+    pub(crate) last: Option<Notice<L>>,
+    pub(crate) refused: u64,
     /// Whether memory was wanting.
-    pub wanting: bool,
+    pub(crate) wanting: bool,
 }
 
 impl<L: DeskName> Model for Sitting<L> {
@@ -32,10 +32,13 @@ impl<L: DeskName> Model for Sitting<L> {
 }
 
 impl<L: DeskName> Sitting<L> {
-    ghost use Rattle.std.specs.Prelude.{◌≡◌, ◌-◌, ◌^◌, ◌<◌, ◌≤◌, ◌⊎◌, false, length, OnOk};
+    ghost use Rattle.std.specs.Prelude.{◌≡◌, ◌+◌, ◌-◌, ◌^◌, ◌<◌, ◌≤◌, ◌⊎◌, min, false, length, IfOk, IfErr, OnOk, OnErr};
+    ghost use Rattle.std.specs.Arc.{arc_value};
     ghost use Rattle.mp_words.specs.Lines.{lines_of};
     ghost use Rattle.mp_text.specs.ScriptLines.{line_at};
-    ghost use Rattle.mp_meeting.specs.Sittings.{begun, IsAccepted, IsRefused, Takes, HasWorked};
+    ghost use Rattle.mp_desk.specs.Extending.{Extends};
+    ghost use Rattle.mp_desk.specs.Holders.{RefusedAfter};
+    ghost use Rattle.mp_meeting.specs.Sittings.{begun, with_seen, IsAccepted, IsRefused, Takes, HasWorked};
 
     /// A designer who has just come.
     pub(crate) fn new(me: Designer<L>) -> Sitting<L>
@@ -55,6 +58,7 @@ impl<L: DeskName> Sitting<L> {
     pub(crate) fn tell(&self, viewer: &mut Viewer<L>)
         ensures told { self.now.told ≤ length viewer.new.learnt.edits }
         ensures kept { length viewer.old.learnt.edits ≤ length viewer.new.learnt.edits }
+        ensures last { viewer.new.last ≡ viewer.old.last }
     {
         if let Some(notice) = &self.last {
             viewer.learn(notice);
@@ -87,6 +91,41 @@ impl<L: DeskName> Sitting<L> {
         }
     }
 
+    /// Submits an edit, and tells how many were accepted so far, with this one. The error is that of the desk; it isn't counted.
+    pub fn submit<S: EditSession, R: Wait + Drop, H: Threads + Wait + Sync>(
+        &mut self,
+        rt: &H,
+        desk: &Desk<S, L, R>,
+        edit: &Edit,
+    ) -> Result<u32, EditError>
+        ensures accepted { IfOk result (λ n. IsAccepted self.old self.new edit.now × (n ≡ self.new.told)) }
+        ensures refused { IfErr result (λ error. RefusedAfter self.old.seen self.new.seen edit.now error) }
+        ensures same { OnErr result (self.new ≡ with_seen self.old self.new.seen) }
+        ensures forward { OnErr result (Extends self.new.seen self.old.seen) }
+    {
+        let receipt = desk.submit(rt, &mut self.me, edit)?;
+        let number = receipt.notice.number();
+        self.last = Some(receipt.notice);
+        Ok(number)
+    }
+
+    /// Counts a line as refused, where the count isn't at its greatest value.
+    pub fn refuse(&mut self)
+        ensures { self.new ≡ record self.old { refused = min (self.old.refused + 1) (2 ^ 64 - 1) } }
+    {
+        self.refused = self.refused.saturating_add(1);
+    }
+
+    /// Reads what is published, and waits for nobody: it is the version that was seen last, or a later one. `Closed` where the desk is, and
+    /// `OutOfMemory` where memory is wanting: then the version that was seen last stays.
+    pub fn read(&mut self) -> Result<Arc<Version>, ReadError>
+        ensures later { IfOk result (λ v. Extends (arc_value v) self.old.seen) }
+        ensures seen { IfOk result (λ v. self.new ≡ with_seen self.old (arc_value v)) }
+        ensures err { OnErr result (self.new ≡ self.old) }
+    {
+        self.me.read()
+    }
+
     /// Submits an edit.
     fn take_edit<S: EditSession, R: Threads + Wait + Sync + Drop>(
         &mut self,
@@ -97,11 +136,8 @@ impl<L: DeskName> Sitting<L> {
         requires { self.old.refused < 2 ^ 64 - 1 }
         ensures { OnOk result (IsAccepted self.old self.new edit.now ⊎ IsRefused self.old self.new edit.now) }
     {
-        match desk.submit(rt, &mut self.me, edit) {
-            Ok(receipt) => {
-                self.last = Some(receipt.notice);
-                Ok(())
-            }
+        match self.submit(rt, desk, edit) {
+            Ok(_) => Ok(()),
             Err(EditError::OutOfMemory) => Err(AllocError),
             Err(_) => {
                 self.refused += 1;

@@ -10,7 +10,7 @@ Exit status:
   0  all was written
   1  the text or a number was refused
   2  the command line was refused
-  3  a read or a write failed
+  3  a read or a write failed, or a pipe of a live desk is wanting
   4  memory ran out, or a place at a desk was wanting
 
 `mpwb explain WORD` tells what a code or a kind of module means, with an example.";
@@ -40,6 +40,7 @@ Exit status, and what standard error says:
                                            desk has no block or more than 8
   1  mpwb: no such wire: NAME              a wire that is asked for isn't there
   2  error: ..                             the command line was refused
+  3  mpwb: can't open NAME                 a seat of a live desk has no pipe NAME
   3  mpwb: read failed                     the input can't be read
   3  mpwb: write failed                    the output can't be written
   4  mpwb: out of memory                   memory ran out
@@ -238,16 +239,28 @@ pub(crate) const DESK: &str = "Has designers edit a netlist at the same time, wh
 pub(crate) const DESK_LONG: &str = "\
 Has designers edit a netlist at the same time, while viewers read.
 
-Reads a netlist, as `waves` does, and behind it a block of lines for each of 1
-to 8 designers, each behind a line `---`: at most 4194304 bytes in all. The
-lines are edits, as in a script of `play`. Each designer submits its lines in
-turn, on a thread of its own, and each viewer reads 100 times meanwhile, on a
-thread of its own. In which order the edits of different designers come is open.
+With --at FOLDER it reads a netlist from FILE and serves people at named pipes
+in FOLDER, two for each seat. Lines for the first designer come by
+`designer-1.in`, and the answers go by `designer-1.out`; so for each designer,
+and for each viewer by `viewer-1.in` and `viewer-1.out`. Each line is answered
+as by `play`, before the seat's next line is read; an edit at a viewer's seat by
+`refused 22 NotADesigner`, and `work` by `refused 23 NoWork`. A seat is left
+where its lines end, and can then be taken again. The lines of standard input
+are answered as a viewer's; `seats` tells who is there. The desk ends where
+standard input has ended and all seats are left.
 
-Writes `designer J accepted A refused B` for each designer, where a line that
-is no edit counts as refused; then `viewer J saw N` for each viewer, N being how
-many accepted edits the version had that it read last, after it was told of
-them all; and then the lines of all wires.";
+Without --at it reads a netlist, as `waves` does, and behind it a block of lines
+for each of 1 to 8 designers, each behind a line `---`: at most 4194304 bytes in
+all. The lines are edits, as in a script of `play`. Each designer submits its
+lines in turn, on a thread of its own, and each viewer reads 100 times
+meanwhile, on a thread of its own. In which order the edits of different
+designers come is open.
+
+Writes at the end `designer J accepted A refused B` for each designer, where a
+line that isn't read counts as refused, and in a block so does a question; then
+`viewer J saw N` for each viewer, N being how many accepted edits the version
+had that it read last, after it was told of them all; and then the lines of all
+wires.";
 
 /// What `explain` does.
 pub(crate) const EXPLAIN: &str = "Tells what a code or a kind of module means";

@@ -44,9 +44,11 @@ fn with<'a>(
     parser.subcommand(command?)
 }
 
-/// The command with viewers.
+/// The command with designers and viewers.
 fn desk<'a>(alloc: Global) -> Result<Parser<'a>, AllocError> {
-    command(alloc, "desk", DESK, DESK_LONG)?.arg(viewers(alloc))
+    let parser = command(alloc, "desk", DESK, DESK_LONG)?.arg(at(alloc)?)?;
+    let parser = parser.arg(designers(alloc)?)?;
+    parser.arg(viewers(alloc))
 }
 
 /// The command with a picture.
@@ -156,8 +158,26 @@ fn least<'a>(alloc: Global) -> Arg<'a> {
     number(alloc, "least", "128", help)
 }
 
+/// The option that names the folder of a live desk's pipes.
+fn at<'a>(alloc: Global) -> Result<Arg<'a>, AllocError> {
+    Ok(
+        Arg::new(alloc, "at")
+            .long("at")
+            .value_name("FOLDER")
+            .requires_arg("file")?
+            .help("Serve designers and viewers at the named pipes of this folder"),
+    )
+}
+
+/// The option that counts the designers of a live desk. It has no default, so that it is refused without such a desk.
+fn designers<'a>(alloc: Global) -> Result<Arg<'a>, AllocError> {
+    let help = "How many designers there are with --at, 1 to 8; 2 where none is given";
+    count(alloc, "designers").help(help).requires_arg("at")
+}
+
 fn viewers<'a>(alloc: Global) -> Arg<'a> {
-    number(alloc, "viewers", "2", "How many viewers there are, 1 to 32")
+    let help = "How many viewers there are, 1 to 32, and with --at 0 to 24";
+    number(alloc, "viewers", "2", help)
 }
 
 fn steps<'a>(alloc: Global) -> Arg<'a> {
@@ -227,12 +247,15 @@ fn number<'a>(
     default: &'static str,
     help: &'static str,
 ) -> Arg<'a> {
+    count(alloc, name).default_value(default).help(help)
+}
+
+/// An option that takes a number.
+fn count<'a>(alloc: Global, name: &'static str) -> Arg<'a> {
     Arg::new(alloc, name)
         .long(name)
         .value_name("N")
         .value_parser(value_parser!(u32))
-        .default_value(default)
-        .help(help)
 }
 
 /// An option that takes a time.

@@ -77,9 +77,20 @@ fn command_of<'a>(
         },
         "graph" => Command::Graph,
         "play" => Command::Play,
-        "desk" => Command::Desk,
+        "desk" => desk_command(found),
         _ => return Ok(None),
     }))
+}
+
+/// A desk whose lines are in its input, or one that serves designers and viewers at a folder.
+fn desk_command<'a>(found: &ArgMatches<'a>) -> Command<'a> {
+    match found.get_str("at") {
+        None => Command::Desk,
+        Some(folder) => Command::LiveDesk {
+            folder,
+            designers: found.get_one::<u32>("designers").unwrap_or(2),
+        },
+    }
 }
 
 fn picture_words<'a>(

@@ -39,6 +39,11 @@ pub enum Command<'a> {
     Play,
     /// Have designers edit a netlist at the same time, while viewers read.
     Desk,
+    /// Serve so many designers, and viewers, at the named pipes of a folder.
+    LiveDesk {
+        folder: &'a str,
+        designers: u32,
+    },
 }
 
 /// A command with its input and its numbers. The numbers are as they were given: whether a run can

@@ -11,19 +11,19 @@ use mp_streams::{Out, Sink, Source, WriteError};
 use mp_talk::{Answerer, TalkFault, converse};
 use mp_text::{Line, LineError, Question, read_line};
 use std::alloc::Global;
-use std::marker::{Model, PhantomData};
+use std::marker::Model;
 use std::sync::Wait;
+use std::thread::Threads;
 
 /// A seat of a desk, with the one who sits there, and how replies are written. A contract sees the one who sits.
 #[derive(Drop)]
-pub struct Seat<'a, R, B: Scribe<R>, G: Guest<R>> {
+pub struct Seat<B: Scribe, G: Guest> {
     alloc: Global,
-    scribe: &'a B,
+    scribe: B,
     guest: G,
-    of: PhantomData<R>,
 }
 
-impl<'a, R, B: Scribe<R>, G: Guest<R>> Model for Seat<'a, R, B, G> {
+impl<B: Scribe, G: Guest> Model for Seat<B, G> {
     ghost use Rattle.mp_seats.specs.Steps.{Seated};
 
     ghost Value = { Seated };
@@ -31,7 +31,7 @@ impl<'a, R, B: Scribe<R>, G: Guest<R>> Model for Seat<'a, R, B, G> {
     ghost view = { λ seat. G.seated seat.guest };
 }
 
-impl<'a, R, B: Scribe<R>, G: Guest<R>> Seat<'a, R, B, G> {
+impl<B: Scribe, G: Guest> Seat<B, G> {
     ghost use Rattle.std.specs.Prelude.{◌≡◌, Some, []};
     ghost use Rattle.mp_desk.specs.Extending.{Extends};
     ghost use Rattle.mp_streams.specs.WriteErrors.{Writes};
@@ -41,20 +41,19 @@ impl<'a, R, B: Scribe<R>, G: Guest<R>> Seat<'a, R, B, G> {
     ghost use Rattle.mp_seats.specs.Seats.{IsVisit};
 
     /// A seat at which this guest sits.
-    pub fn new(alloc: Global, scribe: &'a B, guest: G) -> Self
+    pub fn new(alloc: Global, scribe: B, guest: G) -> Self
         ensures { result ≡ G.seated guest }
     {
         Seat {
             alloc,
             scribe,
             guest,
-            of: PhantomData,
         }
     }
 
     /// The one who sat there.
     pub fn into_guest(self) -> G
-        ensures { G.seated result ≡ self.entry }
+        ensures { G.seated result ≡ self }
     {
         let Seat { guest, .. } = self;
         guest
@@ -65,14 +64,12 @@ impl<'a, R, B: Scribe<R>, G: Guest<R>> Seat<'a, R, B, G> {
     /// `ReadFailed` comes with a fault of the source, after the answers to all lines that ended before. `WriteFailed` comes with a fault of the
     /// sink, and `OutOfMemory` where memory is wanting for the answer to a question: then a part of the last answer may be written. An edit for
     /// which memory is wanting is refused, and so is a line for whose reading it is wanting.
-    pub fn serve<I: Source, T: Sink>(
+    pub fn serve<R: Threads + Wait + Sync, I: Source, T: Sink>(
         &mut self,
         rt: &R,
         lines: &mut LineReader<I>,
         out: &mut Out<T>,
     ) -> Result<(), TalkFault>
-    where
-        R: Wait,
         requires { out.old.held ≡ [] }
         ensures visit { IsVisit (record { answer = B.answer_text; reply = B.reply_text }) G.edits result self.old self.new lines.old lines.new out.old out.new }
         ensures flushed { out.new.held ≡ [] }
@@ -91,7 +88,7 @@ impl<'a, R, B: Scribe<R>, G: Guest<R>> Seat<'a, R, B, G> {
     }
 
     /// Writes the answer to a question about the newest version.
-    fn put_asked<T: Sink>(
+    fn put_asked<R: Threads + Wait + Sync, T: Sink>(
         &mut self,
         rt: &R,
         question: &Question,
@@ -108,7 +105,7 @@ impl<'a, R, B: Scribe<R>, G: Guest<R>> Seat<'a, R, B, G> {
     }
 
     /// Submits an edit, and writes its reply.
-    fn put_change<T: Sink>(
+    fn put_change<R: Threads + Wait + Sync, T: Sink>(
         &mut self,
         rt: &R,
         edit: &Edit,
@@ -124,7 +121,12 @@ impl<'a, R, B: Scribe<R>, G: Guest<R>> Seat<'a, R, B, G> {
     }
 
     /// Writes the reply to a line that isn't too long.
-    fn put_line<T: Sink>(&mut self, rt: &R, line: &[u8], out: &mut Out<T>) -> Result<(), WriteError>
+    fn put_line<R: Threads + Wait + Sync, T: Sink>(
+        &mut self,
+        rt: &R,
+        line: &[u8],
+        out: &mut Out<T>,
+    ) -> Result<(), WriteError>
         ensures { PutsAnswer (IsStep (record { answer = B.answer_text; reply = B.reply_text }) G.edits) result self.old self.new (Some line.now) out.old out.new }
     {
         match read_line(self.alloc, line) {
@@ -139,12 +141,12 @@ impl<'a, R, B: Scribe<R>, G: Guest<R>> Seat<'a, R, B, G> {
     }
 }
 
-impl<'a, R, B: Scribe<R>, G: Guest<R>> Answerer<R> for Seat<'a, R, B, G> {
+impl<B: Scribe, G: Guest> Answerer for Seat<B, G> {
     ghost use Rattle.mp_seats.specs.Steps.{IsStep};
 
     ghost Answers = { IsStep (record { answer = B.answer_text; reply = B.reply_text }) G.edits };
 
-    fn put_answer<T: Sink>(
+    fn put_answer<R: Threads + Wait + Sync, T: Sink>(
         &mut self,
         rt: &R,
         line: Option<&[u8]>,

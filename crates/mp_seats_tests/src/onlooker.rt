@@ -3,13 +3,14 @@ use mp_netlist::Edit;
 use mp_seats::{Guest, Refusal};
 use mp_version::Version;
 use std::alloc::AllocError;
-use std::sync::Arc;
+use std::sync::{Arc, Wait};
+use std::thread::Threads;
 
 /// Refuses edits, and reads nothing.
 #[derive(Drop)]
 pub(crate) struct Onlooker;
 
-impl<R> Guest<R> for Onlooker {
+impl Guest for Onlooker {
     ghost use Rattle.std.specs.Prelude.{[], false};
     ghost use Rattle.mp_version.specs.Stories.{opening};
 
@@ -17,7 +18,7 @@ impl<R> Guest<R> for Onlooker {
 
     ghost edits = { false };
 
-    fn submit(&mut self, _rt: &R, _edit: &Edit) -> Result<u32, Refusal> {
+    fn submit<R: Threads + Wait + Sync>(&mut self, _rt: &R, _edit: &Edit) -> Result<u32, Refusal> {
         Err(Refusal::NotADesigner)
     }
 

@@ -7,16 +7,17 @@ use mp_streams::{Out, ReadSource, WriteSink};
 use mp_talk::TalkFault;
 use std::alloc::{AllocError, Global};
 use std::sync::Wait;
+use std::thread::Threads;
 
 /// What is replied to the lines, and how that ended.
-fn replies<R: Wait>(
+fn replies<R: Threads + Wait + Sync>(
     rt: &R,
     alloc: Global,
     lines: &[u8],
 ) -> Result<(Vec<u8>, Result<(), TalkFault>), AllocError> {
     let mut lines = LineReader::new(alloc, ReadSource::new(lines))?;
     let mut out = Out::new(alloc, WriteSink::new(Vec::<u8>::new(alloc)))?;
-    let mut seat = Seat::new(alloc, &Words, Onlooker);
+    let mut seat = Seat::new(alloc, Words, Onlooker);
     let ended = seat.serve(rt, &mut lines, &mut out);
     Ok((out.into_sink().into_inner(), ended))
 }

@@ -3,12 +3,14 @@ use mp_seats::{Reply, Scribe};
 use mp_streams::{Out, Sink, Text, WriteError};
 use mp_text::Question;
 use mp_version::Version;
+use std::sync::Wait;
+use std::thread::Threads;
 
 /// Writes a word for each reply, and nothing for an answer.
 #[derive(Drop)]
 pub(crate) struct Words;
 
-impl<R> Scribe<R> for Words {
+impl Scribe for Words {
     ghost use Rattle.std.specs.Prelude.{[]};
     ghost use Rattle.mp_seats_tests.specs.Words.{word};
 
@@ -16,7 +18,7 @@ impl<R> Scribe<R> for Words {
 
     ghost reply_text = { word };
 
-    fn put_answer<T: Sink>(
+    fn put_answer<R: Threads + Wait + Sync, T: Sink>(
         &self,
         _rt: &R,
         _out: &mut Out<T>,

@@ -6,9 +6,11 @@ ghost use Rattle.mp_talk.specs.Answers.{PutsAnswer};
 use crate::answerer::Answerer;
 use mp_lines::{LineReader, TooLong};
 use mp_streams::{Out, Sink, Source, WriteError};
+use std::sync::Wait;
+use std::thread::Threads;
 
 /// Writes the answer to the line that was read last, and passes it on to the sink.
-pub(crate) fn answer<R, A: Answerer<R>, S: Source, T: Sink>(
+pub(crate) fn answer<R: Threads + Wait + Sync, A: Answerer, S: Source, T: Sink>(
     rt: &R,
     who: &mut A,
     lines: &LineReader<S>,

@@ -9,12 +9,13 @@ use crate::talk_fault::TalkFault;
 use mp_lines::LineReader;
 use mp_streams::{Failed, Out, Sink, Source};
 use std::sync::Wait;
+use std::thread::Threads;
 
 /// Has each line answered, and passes the answer on to the sink, before it reads the next one. It ends where the source ends.
 ///
 /// `ReadFailed` comes with a fault of the source, after the answers to all lines that ended before. `WriteFailed` comes with a fault of the
 /// sink, and `OutOfMemory` where memory is wanting for an answer: then a part of the last answer may be written.
-pub fn converse<R: Wait, A: Answerer<R>, S: Source, T: Sink>(
+pub fn converse<R: Threads + Wait + Sync, A: Answerer, S: Source, T: Sink>(
     rt: &R,
     who: &mut A,
     lines: &mut LineReader<S>,

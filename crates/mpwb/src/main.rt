@@ -3,14 +3,21 @@
 
 ghost use Rattle.std.specs.Prelude.{◌≡◌, []};
 
+mod live_desk;
+mod pipe_door;
+mod pipe_exit;
+mod pipe_paths;
+mod pipes;
+
+use crate::live_desk::run_live_desk;
 use mp_commands::{
-    AskedPicture, Charset, Desk, Drawing, DumpText, GraphText, Keeper, MeasureLines, Name, Options,
+    AskedPicture, Charset, Desk, Drawing, DumpText, GraphText, MeasureLines, Name, Options,
     PathLines, PictureText, Play, ReportLines, RunFault, TimeRange, View, Viewed, WaitLines,
     WaveLines, WhyLines, exit_status, fault_line, run_command,
 };
 use mp_explain::{guide, put_explanation, put_titles};
 use mp_lines::LineReader;
-use mp_live::{Prompted, converse, open_keeper};
+use mp_live::{Player, Prompted, fault_of_talk, open_keeper};
 use mp_request::{
     Asked, Command, PictureWords, Request, TellError, read_words, tell, unknown_word,
 };
@@ -27,7 +34,7 @@ use std::{env, io, str};
 fn main(rt: HostRuntime) -> ExitCode {
     // somebody types the lines and reads the answers
     let is_typed = rt.stdin().is_terminal() && rt.stdout().is_terminal();
-    match answer(&rt, is_typed) {
+    match answer(&rt, &rt, is_typed) {
         Ok(status) => ExitCode::from(status),
         Err(fault) => {
             tell_fault(&rt, &fault, &[]);
@@ -36,8 +43,9 @@ fn main(rt: HostRuntime) -> ExitCode {
     }
 }
 
-/// Does what the command line asks for, and returns the status with which the program ends.
+/// Does what the command line asks for, and returns the status with which the program ends. Files are those of the host.
 fn answer<R: Runtime + Threads + Wait + Sync + AllocGlobal>(
+    files: &HostRuntime,
     rt: &R,
     is_typed: bool,
 ) -> Result<u8, RunFault> {
@@ -52,8 +60,8 @@ fn answer<R: Runtime + Threads + Wait + Sync + AllocGlobal>(
     let words: Vec<String> = arguments.collect(rt.alloc())?;
     match read_words(rt.alloc(), words.as_slice()) {
         Ok(Asked::Explain(word)) => explain(rt, word),
-        Ok(Asked::Run(request)) => match run(rt, &request, is_typed) {
-            Ok(()) => Ok(0),
+        Ok(Asked::Run(request)) => match run(files, rt, &request, is_typed) {
+            Ok(status) => Ok(status),
             Err(fault) => {
                 tell_fault(rt, &fault, request.wires());
                 Ok(exit_status(&fault))
@@ -79,22 +87,27 @@ fn explain<R: Print + Eprint + AllocGlobal>(rt: &R, word: Option<&str>) -> Resul
     tell(rt, &unknown_word(rt.alloc(), word)?).map_err(fault_of_telling)
 }
 
-/// Opens the input and runs the command on it. `ReadFailed` comes where the file can't be opened.
+/// Opens the input and runs the command on it, and returns the status with which the program ends. `ReadFailed` comes where the file can't be
+/// opened.
 fn run<R: Runtime + Threads + Wait + Sync + AllocGlobal>(
+    files: &HostRuntime,
     rt: &R,
     request: &Request<'_>,
     is_typed: bool,
-) -> Result<(), RunFault> {
-    match request.file {
-        None => run_on(rt, ReadSource::new(rt.reader()), request),
-        Some(path) => {
-            let file = ReadSource::new(open_file(rt, path)?);
-            match request.command {
-                Command::Play => run_live(rt, file, request, is_typed),
-                _ => run_on(rt, file, request),
-            }
+) -> Result<u8, RunFault> {
+    let Some(path) = request.file else {
+        run_on(rt, ReadSource::new(rt.reader()), request)?;
+        return Ok(0);
+    };
+    let file = ReadSource::new(open_file(rt, path)?);
+    match request.command {
+        Command::Play => run_live(rt, file, request, is_typed)?,
+        Command::LiveDesk { folder, designers } => {
+            return run_live_desk(files, rt, file, &options_of(request), folder, designers);
         }
+        _ => run_on(rt, file, request)?,
     }
+    Ok(0)
 }
 
 /// The file, to be read. `ReadFailed` comes where it can't be opened.
@@ -114,23 +127,27 @@ fn run_live<R: Runtime + Threads + Wait + Sync + AllocGlobal, S: Source + Drop>(
     is_typed: bool,
 ) -> Result<(), RunFault> {
     let keeper = open_keeper(rt, rt.alloc(), &mut file, &options_of(request))?;
+    let player = Player::new(rt.alloc(), keeper);
     let script = ReadSource::new(rt.reader());
     if is_typed {
         let prompt = WriteSink::new(io::writer(rt));
-        return talk(rt, keeper, Prompted::new(script, prompt));
+        return talk(rt, player, Prompted::new(script, prompt));
     }
-    talk(rt, keeper, script)
+    talk(rt, player, script)
 }
 
 /// Answers the lines of a script on standard output.
 fn talk<R: Print + Threads + Wait + Sync + AllocGlobal, S: Source + Drop>(
     rt: &R,
-    mut keeper: Keeper,
+    mut player: Player,
     script: S,
 ) -> Result<(), RunFault> {
     let mut out = Out::new(rt.alloc(), WriteSink::new(io::writer(rt)))?;
     let mut lines = LineReader::new(rt.alloc(), script)?;
-    converse(rt, rt.alloc(), &mut keeper, &mut lines, &mut out)
+    match player.play(rt, &mut lines, &mut out) {
+        Ok(()) => Ok(()),
+        Err(fault) => Err(fault_of_talk(fault)),
+    }
 }
 
 /// The numbers of the request.
@@ -185,6 +202,8 @@ fn run_on<R: Print + Threads + Wait + Sync + AllocGlobal, S: Source + Drop>(
         }
         Command::Play => run_command(rt, rt.alloc(), source, out, &options, &Play),
         Command::Desk => run_command(rt, rt.alloc(), source, out, &options, &Desk),
+        // its netlist is in a file, since its standard input has lines
+        Command::LiveDesk { .. } => Err(RunFault::ReadFailed),
     }
 }
 

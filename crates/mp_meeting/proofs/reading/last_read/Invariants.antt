@@ -1,7 +1,10 @@
-use Rattle.std.proofs.Common.{◌<◌, ◌≤◌, ℕ, length, slice_index_or}
+use Rattle.std.proofs.Common.{◌≡◌, ◌<◌, ◌≤◌, ℕ, length, slice_index_or}
 use Rattle.mp_meeting.specs.Sittings.{Sitting}
 use Rattle.mp_meeting.proofs.reading.last_read.Given as goal
 
--- what the designers so far were told of was learnt
+-- what the designers so far were told of was learnt, and nothing was read
 abbrev pub invariant-loop-place : goal.invariant-loop-place
-invariant-loop-place g l = (k : ℕ) (s : Sitting) → k < l.place → (slice_index_or l.sittings k s).told ≤ length l.viewer.learnt.edits
+invariant-loop-place g l = record {
+  told : (k : ℕ) (s : Sitting) → k < l.place → (slice_index_or l.sittings k s).told ≤ length l.viewer.learnt.edits;
+  same : l.viewer.last ≡ l.initial.viewer.last;
+}

@@ -1,0 +1,5 @@
+mod AgreementLemmas
+mod GuestLemmas
+mod OwnLemmas
+mod PeopleLemmas
+mod StayLemmas

@@ -1,0 +1,124 @@
+//! Those who sit at a desk, as guests and back.
+ghost use Rattle.std.specs.Prelude.{◌≡◌, map, vec_len, IfOk};
+ghost use Rattle.mp_hosting.specs.Guests.{sitter, looker};
+
+use crate::designer_guest::DesignerGuest;
+use crate::door::Door;
+use crate::post::{Post, posts};
+use crate::viewer_guest::ViewerGuest;
+use mp_desk::{Desk, DeskName, Viewer};
+use mp_meeting::Sitting;
+use mp_seats::Scribe;
+use mp_version::EditSession;
+use std::alloc::{AllocError, Global};
+use std::sync::Wait;
+
+/// Those who sit at a desk, and the viewer of whoever runs it.
+#[derive(Drop)]
+pub(crate) struct People<'a, S: EditSession, L: DeskName, R: Wait + Drop> {
+    pub desk: &'a Desk<S, L, R>,
+    pub sittings: Vec<Sitting<L>>,
+    pub viewers: Vec<Viewer<L>>,
+    pub own: Viewer<L>,
+}
+
+/// The designers as guests.
+fn designer_guests<'a, S: EditSession, L: DeskName, R: Wait + Drop>(
+    alloc: Global,
+    desk: &'a Desk<S, L, R>,
+    sittings: Vec<Sitting<L>>,
+) -> Result<Vec<DesignerGuest<'a, S, L, R>>, AllocError>
+    ensures { IfOk result (λ v. map (λ g. g.sitting) v.items ≡ sittings.items) }
+{
+    let mut guests = Vec::with_capacity(alloc, sittings.len())?;
+    for sitting in sittings {
+        guests.push(DesignerGuest { desk, sitting })?;
+    }
+    Ok(guests)
+}
+
+/// The viewers as guests.
+fn viewer_guests<L: DeskName>(
+    alloc: Global,
+    viewers: Vec<Viewer<L>>,
+) -> Result<Vec<ViewerGuest<L>>, AllocError>
+    ensures { IfOk result (λ v. map (λ g. g.viewer) v.items ≡ viewers.items) }
+{
+    let mut guests = Vec::with_capacity(alloc, viewers.len())?;
+    for viewer in viewers {
+        guests.push(ViewerGuest { viewer })?;
+    }
+    Ok(guests)
+}
+
+/// A post for each designer, with the door in its place.
+pub(crate) fn designer_posts<
+    'a,
+    S: EditSession,
+    L: DeskName,
+    R: Wait + Drop,
+    B: Scribe + Copy,
+    D: Door,
+>(
+    alloc: Global,
+    scribe: B,
+    desk: &'a Desk<S, L, R>,
+    sittings: Vec<Sitting<L>>,
+    doors: Vec<D>,
+) -> Result<Vec<Post<B, DesignerGuest<'a, S, L, R>, D>>, AllocError>
+    requires { vec_len sittings ≡ vec_len doors }
+    ensures seats { IfOk result (λ v. map (λ p. p.seat) v.items ≡ map sitter sittings.items) }
+    ensures doors { IfOk result (λ v. map (λ p. p.door) v.items ≡ doors.items) }
+{
+    let guests = designer_guests(alloc, desk, sittings)?;
+    let made = posts(alloc, scribe, guests, doors)?;
+    Ok(made)
+}
+
+/// A post for each viewer, with the door in its place.
+pub(crate) fn viewer_posts<L: DeskName, B: Scribe + Copy, D: Door>(
+    alloc: Global,
+    scribe: B,
+    viewers: Vec<Viewer<L>>,
+    doors: Vec<D>,
+) -> Result<Vec<Post<B, ViewerGuest<L>, D>>, AllocError>
+    requires { vec_len viewers ≡ vec_len doors }
+    ensures seats { IfOk result (λ v. map (λ p. p.seat) v.items ≡ map looker viewers.items) }
+    ensures doors { IfOk result (λ v. map (λ p. p.door) v.items ≡ doors.items) }
+{
+    let guests = viewer_guests(alloc, viewers)?;
+    let made = posts(alloc, scribe, guests, doors)?;
+    Ok(made)
+}
+
+/// The designers at these posts.
+pub(crate) fn sittings_of<S: EditSession, L: DeskName, R: Wait + Drop, B: Scribe, D: Door>(
+    alloc: Global,
+    posts: Vec<Post<B, DesignerGuest<'_, S, L, R>, D>>,
+) -> Result<Vec<Sitting<L>>, AllocError>
+    ensures { IfOk result (λ v. map sitter v.items ≡ map (λ p. p.seat) posts.entry.items) }
+{
+    let mut sittings = Vec::with_capacity(alloc, posts.len())?;
+    for post in posts {
+        let Post { seat, .. } = post;
+        let DesignerGuest { sitting, .. } = seat.into_guest();
+        sittings.push(sitting)?;
+    }
+    Ok(sittings)
+}
+
+/// The viewers at these posts.
+pub(crate) fn viewers_of<L: DeskName, B: Scribe, D: Door>(
+    alloc: Global,
+    posts: Vec<Post<B, ViewerGuest<L>, D>>,
+) -> Result<Vec<Viewer<L>>, AllocError>
+    ensures { IfOk result (λ v. map looker v.items ≡ map (λ p. p.seat) posts.items) }
+{
+    let mut viewers = Vec::with_capacity(alloc, posts.len())?;
+    for post in posts {
+        let Post { seat, .. } = post;
+        let ViewerGuest { viewer } = seat.into_guest();
+        viewers.push(viewer)?;
+    }
+    Ok(viewers)
+}

@@ -1,0 +1,185 @@
+//! All seats of a desk at the same time.
+ghost use Rattle.std.specs.Prelude.{◌≡◌, ◌<◌, true, false, Ok, [], length, map, vec_len, All, IfOk, IfErr};
+ghost use Rattle.mp_version.specs.Stories.{Story};
+ghost use Rattle.mp_talk.specs.Conversations.{Conversed};
+ghost use Rattle.mp_hosting.specs.Guests.{sitter, looker, just_come};
+ghost use Rattle.mp_hosting.specs.OwnSeats.{HasTalked, EndsFor};
+ghost use Rattle.mp_hosting.specs.Stays.{Each, AreAttended};
+
+use crate::door::{Door, Exit};
+use crate::hall::Hall;
+use crate::host_fault::HostFault;
+use crate::own_seat::OwnSeat;
+use crate::people::{People, designer_posts, sittings_of, viewer_posts, viewers_of};
+use crate::serves::{Ends, Serves};
+use crate::staff::Staff;
+use crate::viewer_guest::ViewerGuest;
+use mp_desk::{DeskName, MAX_DESIGNERS, MAX_VIEWERS, Viewer};
+use mp_lines::LineReader;
+use mp_meeting::Sitting;
+use mp_seats::{Scribe, Seat};
+use mp_streams::{Out, Sink, Source};
+use mp_talk::{Answerer, TalkFault, converse};
+use mp_version::EditSession;
+use std::alloc::Global;
+use std::sync::Wait;
+use std::thread::{Threads, for_each_mut, join_mut};
+
+/// Serves all who come to the doors of the people at a desk, and answers the lines of whoever runs it meanwhile. Then the people are given back.
+pub(crate) fn serve<
+    S: EditSession + Send,
+    L: DeskName + Send + Sync,
+    R: Threads + Wait + Sync + Send + Drop,
+    D: Door + Send,
+    X: Exit,
+    B: Scribe + Copy + Send + Sync,
+    I: Source,
+    T: Sink,
+>(
+    rt: &R,
+    alloc: Global,
+    people: People<'_, S, L, R>,
+    hall: Hall<D, X, B>,
+    lines: &mut LineReader<I>,
+    out: &mut Out<T>,
+) -> Result<(Vec<Sitting<L>>, Vec<Viewer<L>>), HostFault>
+where
+    S::Prepared: Send,
+    D::Input: Send,
+    D::Output: Send,
+    requires designers { vec_len people.sittings ≡ vec_len hall.designers }
+    requires viewers { vec_len people.viewers ≡ vec_len hall.viewers }
+    requires held { out.old.held ≡ [] }
+    ensures counts { IfOk result (λ both. (vec_len both.0 ≡ vec_len people.entry.sittings) × (vec_len both.1 ≡ vec_len people.entry.viewers)) }
+    ensures designers { IfOk result (λ both. (start : Story) → All (λ s. sitter s ≡ just_come start) people.entry.sittings.items → AreAttended D.Output D.Comes D.Leaves D.TurnsAway (record { answer = B.answer_text; reply = B.reply_text }) true (just_come start) hall.designers.items (map sitter both.0.items)) }
+    ensures viewers { IfOk result (λ both. (start : Story) → All (λ v. looker v ≡ just_come start) people.entry.viewers.items → AreAttended D.Output D.Comes D.Leaves D.TurnsAway (record { answer = B.answer_text; reply = B.reply_text }) false (just_come start) hall.viewers.items (map looker both.1.items)) }
+    ensures talked { IfOk result (λ both. HasTalked (record { answer = B.answer_text; reply = B.reply_text }) (Ok tt) people.entry.own.last lines.old lines.new out.old out.new) }
+    ensures fault { IfErr result (λ fault. EndsFor (record { answer = B.answer_text; reply = B.reply_text }) fault people.entry.own.last lines.old lines.new out.old out.new) }
+    ensures flushed { out.new.held ≡ [] }
+{
+    let People {
+        desk,
+        sittings,
+        viewers,
+        own,
+    } = people;
+    let Hall {
+        designers: designer_doors,
+        viewers: viewer_doors,
+        exit,
+        scribe,
+    } = hall;
+    let mut staff = Staff {
+        designers: designer_posts(alloc, scribe, desk, sittings, designer_doors)?,
+        viewers: viewer_posts(alloc, scribe, viewers, viewer_doors)?,
+    };
+    let mut own = OwnSeat {
+        seat: Seat::new(alloc, scribe, ViewerGuest { viewer: own }),
+        exit,
+    };
+    let (ended, held) = serve_all(rt, alloc, &mut staff, &mut own, lines, out);
+    drop(held);
+    ended?;
+    let Staff { designers, viewers } = staff;
+    Ok((sittings_of(alloc, designers)?, viewers_of(alloc, viewers)?))
+}
+
+/// Has all posts serve those who come, each on a thread of its own where one can be made, and the lines of whoever runs the desk answered meanwhile.
+fn serve_all<
+    R: Threads + Wait + Sync + Send,
+    P: Serves + Send,
+    Q: Serves + Send,
+    O: Answerer + Ends,
+    I: Source,
+    T: Sink,
+>(
+    rt: &R,
+    alloc: Global,
+    staff: &mut Staff<P, Q>,
+    own: &mut O,
+    lines: &mut LineReader<I>,
+    out: &mut Out<T>,
+) -> (Result<(), TalkFault>, O::Held)
+    requires { out.old.held ≡ [] }
+    ensures designers { (vec_len staff.new.designers ≡ vec_len staff.old.designers) × Each P.Becomes staff.old.designers.items staff.new.designers.items }
+    ensures viewers { (vec_len staff.new.viewers ≡ vec_len staff.old.viewers) × Each Q.Becomes staff.old.viewers.items staff.new.viewers.items }
+    ensures talked { Conversed O.Answers result.0 own.old own.new lines.old lines.new out.old out.new }
+    ensures flushed { out.new.held ≡ [] }
+{
+    let (_, ended) = join_mut(
+        rt,
+        &mut || serve_posts(rt, alloc, staff),
+        &mut || -> (Result<(), TalkFault>, O::Held)
+            requires { out.now.held ≡ [] }
+        { talk(rt, own, lines, out) },
+    );
+    ended
+}
+
+/// Has the lines of whoever runs the desk answered up to their end or a fault, and tells all others of it.
+fn talk<R: Threads + Wait + Sync, O: Answerer + Ends, I: Source, T: Sink>(
+    rt: &R,
+    own: &mut O,
+    lines: &mut LineReader<I>,
+    out: &mut Out<T>,
+) -> (Result<(), TalkFault>, O::Held)
+    requires { out.old.held ≡ [] }
+    ensures talked { Conversed O.Answers result.0 own.old own.new lines.old lines.new out.old out.new }
+    ensures flushed { out.new.held ≡ [] }
+{
+    let ended = converse(rt, own, lines, out);
+    (ended, own.end())
+}
+
+/// Has the posts of designers and of viewers serve those who come.
+fn serve_posts<R: Threads + Wait + Sync + Send, P: Serves + Send, Q: Serves + Send>(
+    rt: &R,
+    alloc: Global,
+    staff: &mut Staff<P, Q>,
+)
+    ensures designers { (vec_len staff.new.designers ≡ vec_len staff.old.designers) × Each P.Becomes staff.old.designers.items staff.new.designers.items }
+    ensures viewers { (vec_len staff.new.viewers ≡ vec_len staff.old.viewers) × Each Q.Becomes staff.old.viewers.items staff.new.viewers.items }
+{
+    serve_both(
+        rt,
+        alloc,
+        staff.designers.as_mut_slice(),
+        staff.viewers.as_mut_slice(),
+    );
+}
+
+fn serve_both<R: Threads + Wait + Sync + Send, P: Serves + Send, Q: Serves + Send>(
+    rt: &R,
+    alloc: Global,
+    designers: &mut [P],
+    viewers: &mut [Q],
+)
+    ensures designers { (length designers.new ≡ length designers.old) × Each P.Becomes designers.old designers.new }
+    ensures viewers { (length viewers.new ≡ length viewers.old) × Each Q.Becomes viewers.old viewers.new }
+{
+    let for_viewers = alloc;
+    join_mut(
+        rt,
+        &mut || serve_each(rt, alloc, MAX_DESIGNERS, designers),
+        &mut || serve_each(rt, for_viewers, MAX_VIEWERS, viewers),
+    );
+}
+
+/// Has these posts serve those who come, on so many threads at most.
+fn serve_each<R: Threads + Wait + Sync + Send, P: Serves + Send>(
+    rt: &R,
+    alloc: Global,
+    threads: usize,
+    posts: &mut [P],
+)
+    requires { 0 < threads }
+    ensures { (length posts.new ≡ length posts.old) × Each P.Becomes posts.old posts.new }
+{
+    for_each_mut(rt, posts, threads, &|_, post| serve_one(rt, alloc, post));
+}
+
+fn serve_one<R: Threads + Wait + Sync, P: Serves>(rt: &R, alloc: Global, post: &mut P)
+    ensures { P.Becomes post.old post.new }
+{
+    post.serve(rt, alloc);
+}

@@ -1,0 +1,33 @@
+//! A viewer at a seat.
+use mp_desk::{DeskName, Viewer};
+use mp_netlist::Edit;
+use mp_seats::{Guest, Refusal};
+use mp_version::Version;
+use std::alloc::AllocError;
+use std::sync::{Arc, Wait};
+use std::thread::Threads;
+
+/// A viewer, who makes no edits.
+#[derive(Drop)]
+pub(crate) struct ViewerGuest<L: DeskName> {
+    pub viewer: Viewer<L>,
+}
+
+impl<L: DeskName> Guest for ViewerGuest<L> {
+    ghost use Rattle.std.specs.Prelude.{false};
+    ghost use Rattle.mp_hosting.specs.Guests.{looker};
+
+    ghost seated = { λ guest. looker guest.viewer };
+
+    ghost edits = { false };
+
+    fn submit<R: Threads + Wait + Sync>(&mut self, _rt: &R, _edit: &Edit) -> Result<u32, Refusal> {
+        Err(Refusal::NotADesigner)
+    }
+
+    fn read(&mut self) -> Result<Arc<Version>, AllocError> {
+        self.viewer.read().map_err(|_| AllocError)
+    }
+
+    fn refuse(&mut self) {}
+}
