@@ -54,9 +54,9 @@ impl Door for PipeDoor<'_> {
     }
 
     fn close(&mut self, output: Self::Output) {
-        // it is told that the seat is free before whoever reads there sees the end
-        self.seat.set_taken(false);
+        // the output is closed first: once the seat is free, whoever ends the desk may open its pipes for both ends, and nobody would see the end
         drop(output);
+        self.seat.set_taken(false);
     }
 
     fn turn_away(&mut self) {
