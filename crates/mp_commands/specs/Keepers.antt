@@ -6,8 +6,8 @@ use Rattle.mp_netlist.specs.Circuit.{Circuit}
 use Rattle.mp_netlist.specs.Edits.{after}
 use Rattle.mp_version.specs.Stories.{Story, present, counted_edit}
 use Rattle.mp_session.specs.Sessions.{Standing}
-use Rattle.mp_redo.specs.declared.work_entry.WorkEntry.{WorkEntry}
-use Rattle.mp_redo.specs.Work.{IsWork}
+use Rattle.mp_work.specs.declared.work_entry.WorkEntry.{WorkEntry}
+use Rattle.mp_work.specs.Work.{IsWork}
 
 -- a netlist, the edits that led to it, and what was evaluated for the last of them
 pub record Kept : Type 0 where

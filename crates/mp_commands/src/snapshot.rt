@@ -3,9 +3,9 @@ ghost use Rattle.std.specs.Prelude.{◌≡◌};
 
 use mp_netlist::Netlist;
 use mp_phase::Crew;
-use mp_redo::Work;
 use mp_version::Version;
 use mp_views::Evaluated;
+use mp_work::Work;
 use std::marker::Model;
 
 /// A version of a netlist that is edited, what was evaluated for its last edit, and the crew that looks at them. Questions are asked of it.

@@ -5,8 +5,8 @@ ghost use Rattle.mp_streams.specs.WriteErrors.{Writes as WritesAll};
 ghost use Rattle.mp_commands.specs.WorkLines.{entry_line, work_text};
 
 use mp_netlist::Netlist;
-use mp_redo::{Work, WorkEntry};
 use mp_streams::{Failed, Out, Sink, Text, WriteError};
+use mp_work::{Work, WorkEntry};
 
 /// Writes a line for each entry of work, `MODULE FROM TO`, as it comes. An entry of a module that doesn't stand has none.
 pub fn put_work_lines<T: Sink>(

@@ -5,8 +5,8 @@ use Rattle.mp_records.specs.declared.ids.ModuleId.{ModuleId}
 use Rattle.mp_records.specs.declared.ports.Input.{Input}
 use Rattle.mp_netlist.specs.Circuit.{Circuit}
 use Rattle.mp_netlist.specs.Readers.{readers, ports_at}
-use Rattle.mp_engine.specs.Outcomes.{Outcome}
-use Rattle.mp_engine.specs.Runs.{IsRun}
+use Rattle.mp_evaluation.specs.Outcomes.{Outcome}
+use Rattle.mp_evaluation.specs.Runs.{IsRun}
 use Rattle.mp_depend.specs.Rows.{row_at}
 
 -- a netlist and its run

@@ -2,7 +2,7 @@
 ghost use Rattle.std.specs.Prelude.{◌≡◌, ◌+◌, ◌%◌, ◌<◌, ◌≤◌};
 
 use crate::readers::Readers;
-use mp_engine::{CHECKPOINT_UNITS, Run};
+use mp_evaluation::{CHECKPOINT_UNITS, Run};
 use mp_modules::Memory;
 use mp_netlist::{ModuleId, Netlist, WireId};
 use std::alloc::{AllocError, Global};
@@ -31,8 +31,8 @@ impl<'a> Records<'a> {
     ghost use Rattle.std.specs.Prelude.{◌≡◌, ℕ, ◌≤◌, ◌↔◌, true, Some, None, IsSome, IfOk, IfSome, IfNone};
     ghost use Rattle.mp_netlist.specs.Circuit.{module_at};
     ghost use Rattle.mp_netlist.specs.Readers.{readers};
-    ghost use Rattle.mp_engine.specs.Outcomes.{checkpoint_of};
-    ghost use Rattle.mp_engine.specs.Runs.{IsRun};
+    ghost use Rattle.mp_evaluation.specs.Outcomes.{checkpoint_of};
+    ghost use Rattle.mp_evaluation.specs.Runs.{IsRun};
     ghost use Rattle.mp_depend.specs.Known.{Known};
 
     /// What is known of a netlist and its run.

@@ -14,10 +14,11 @@ use Rattle.mp_netlist.specs.Circuit.{Circuit, module_at}
 use Rattle.mp_model.specs.Waves.{state}
 use Rattle.mp_model.proofs.SlotLemmas.{slot_within}
 use Rattle.mp_engine.specs.declared.cell.Cell.{Cell}
-use Rattle.mp_engine.specs.declared.checkpoints.Checkpoint.{Checkpoint}
+use Rattle.mp_evaluation.specs.declared.checkpoints.Checkpoint.{Checkpoint}
 use Rattle.mp_engine.specs.Cells.{AreCells, SameUnmarked}
-use Rattle.mp_engine.specs.Checkpoints.{kept_at, last_kept, state_before, IsBorder, IsKept, AreKept}
-use Rattle.mp_engine.specs.Marks.{is_marked, AreListed, AreAdded}
+use Rattle.mp_evaluation.specs.Checkpoints.{kept_at, last_kept, state_before, IsBorder}
+use Rattle.mp_engine.specs.Keeping.{IsKept, AreKept}
+use Rattle.mp_evaluation.specs.Marks.{is_marked, AreListed, AreAdded}
 
 -- what is kept for a time is not seen before
 kept_at-push : (ks : List Checkpoint) (k : Checkpoint) (c : ℕ) (before : Memory) → c < k.time → kept_at (ks ++ k ∷ []) c before ≡ kept_at ks c before

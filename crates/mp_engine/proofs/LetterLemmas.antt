@@ -26,10 +26,11 @@ use Rattle.mp_engine.specs.Calendars.{IsChange, IsExact, IsDelivered, entry_of, 
 use Rattle.mp_engine.specs.Divisions.{heard_by, IsDivision}
 use Rattle.mp_engine.specs.Engines.{IsAfter}
 use Rattle.mp_engine.specs.Letters.{letter_of, is_sent, IsOfList, IsOfCalendar, IsOfParts, IsNear, IsTelling, AreLetters, AreEntered, AreTidings}
-use Rattle.mp_engine.specs.Marks.{is_marked, delivered}
+use Rattle.mp_evaluation.specs.Marks.{is_marked}
+use Rattle.mp_engine.specs.Marks.{delivered}
 use Rattle.mp_engine.specs.Regions.{home_of, region}
 use Rattle.mp_engine.specs.Stations.{calendar_of, AreStations}
-use Rattle.mp_engine.proofs.MarkLemmas.{none_in}
+use Rattle.mp_evaluation.proofs.MarkLemmas.{none_in}
 use Rattle.mp_engine.proofs.MergeLemmas.{divided_apart, divided_closed}
 use Rattle.mp_engine.proofs.PartLemmas.{IsKnownTo, IsSeen, region_level}
 use Rattle.mp_engine.proofs.RegionLemmas.{length_heard, module_here, drives_here, region_is}

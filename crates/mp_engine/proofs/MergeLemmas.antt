@@ -12,19 +12,19 @@ use Rattle.mp_records.specs.Outputs.{output_at}
 use Rattle.mp_netlist.specs.Slots.{slot_at}
 use Rattle.mp_netlist.specs.Circuit.{Circuit, IsCircuit, wire_at, module_at}
 use Rattle.mp_model.specs.Waves.{state, slot_wave}
-use Rattle.mp_engine.specs.declared.checkpoints.Checkpoint.{Checkpoint}
+use Rattle.mp_evaluation.specs.declared.checkpoints.Checkpoint.{Checkpoint}
 use Rattle.mp_phase.specs.Phase.{AreDone}
 use Rattle.mp_phase.proofs.PhaseLemmas.{are_done-length, are_done-at}
 use Rattle.mp_engine.specs.declared.part.Part.{Part}
 use Rattle.mp_engine.specs.declared.part_run.PartRun.{PartRun}
-use Rattle.mp_engine.specs.Checkpoints.{kept_at, state_before, IsBorder}
+use Rattle.mp_evaluation.specs.Checkpoints.{kept_at, state_before, IsBorder}
 use Rattle.mp_engine.specs.Divisions.{heard_by, IsAtHome, IsDivision, IsDrivenAt, IsHeardThere, IsReadAt, IsWireAtHome, AreParts, AreRuns}
-use Rattle.mp_engine.specs.Outcomes.{AreSlots}
-use Rattle.mp_engine.specs.PartRuns.{waves_in, kept_in, AreCheckpoints, IsPartRun}
-use Rattle.mp_engine.specs.Marks.{is_marked}
+use Rattle.mp_evaluation.specs.Outcomes.{AreSlots}
+use Rattle.mp_engine.specs.PartRuns.{waves_in, kept_in, IsPartRun}
+use Rattle.mp_evaluation.specs.Runs.{AreCheckpoints, end_memory}
+use Rattle.mp_evaluation.specs.Marks.{is_marked}
 use Rattle.mp_engine.specs.Regions.{home_of, region, HearsOthers}
-use Rattle.mp_engine.specs.Runs.{end_memory}
-use Rattle.mp_engine.proofs.FinishLemmas.{no_module}
+use Rattle.mp_evaluation.proofs.OutcomeLemmas.{no_module}
 use Rattle.mp_engine.proofs.PartLemmas.{IsClosed, IsKnownTo, IsSeen, region_state, region_before, region_wave}
 use Rattle.mp_engine.proofs.RegionLemmas.{length_at_home, length_heard, module_here}
 

@@ -22,8 +22,9 @@ use Rattle.mp_model.specs.Waves.{level, state, slot_wave}
 use Rattle.mp_model.proofs.BehaviourLemmas.{satisfies}
 use Rattle.mp_model.proofs.EndsLemmas.{first_level}
 use Rattle.mp_model.proofs.EvaluationLemmas.{delay_positive}
-use Rattle.mp_engine.specs.Checkpoints.{state_before}
-use Rattle.mp_engine.specs.Marks.{is_marked, Reads}
+use Rattle.mp_evaluation.specs.Checkpoints.{state_before}
+use Rattle.mp_evaluation.specs.Marks.{is_marked}
+use Rattle.mp_engine.specs.Marks.{Reads}
 use Rattle.mp_engine.specs.Regions.{home_of, set_on_slot, region, HearsOthers}
 use Rattle.mp_engine.proofs.RegionLemmas.{module_here, is_here, drives_there, drives_here, wire_heard, wire_unheard, has_stimuli, initial_there, stands_there, module_width_there, region_is}
 

@@ -18,7 +18,7 @@ use Rattle.mp_netlist.specs.Circuit.{Circuit, IsCircuit, IsWire, IsModule, HasWi
 use Rattle.mp_model.specs.Levels.{initial_of}
 use Rattle.mp_model.specs.Waves.{level}
 use Rattle.mp_model.proofs.LevelFitLemmas.{level_fits}
-use Rattle.mp_engine.specs.Marks.{is_marked}
+use Rattle.mp_evaluation.specs.Marks.{is_marked}
 use Rattle.mp_engine.specs.Regions.{home_of, slots_at_home, set_on_slot, slots_heard, region, HearsOthers, HasStimuli}
 
 -- the slots are as many

@@ -22,8 +22,8 @@ use Rattle.mp_engine.specs.declared.entry.Entry.{Entry}
 use Rattle.mp_engine.specs.declared.stimuli.Setting.{Setting}
 use Rattle.mp_engine.specs.Calendars.{IsExact, entry_of}
 use Rattle.mp_engine.specs.Settings.{setting_of, entries_at, settings_after, IsSetting, AreFrom, AreSettings}
-use Rattle.mp_engine.specs.Marks.{is_marked}
-use Rattle.mp_engine.proofs.MarkLemmas.{none_in, contains_cons}
+use Rattle.mp_evaluation.specs.Marks.{is_marked}
+use Rattle.mp_evaluation.proofs.MarkLemmas.{none_in, contains_cons}
 use Rattle.mp_engine.proofs.StartLemmas.{rises_at}
 
 -- all changes of a list that rises come later

@@ -16,12 +16,12 @@ use Rattle.mp_engine.specs.declared.tap.Tap.{Tap}
 use Rattle.mp_engine.specs.Divisions.{heard_by, IsWireAtHome, IsDivision}
 use Rattle.mp_engine.specs.Engines.{IsAfter, IsSteady}
 use Rattle.mp_engine.specs.Letters.{letter_of, IsTelling}
-use Rattle.mp_engine.specs.Marks.{is_marked}
+use Rattle.mp_evaluation.specs.Marks.{is_marked}
 use Rattle.mp_engine.specs.Regions.{home_of}
 use Rattle.mp_engine.specs.Settings.{AreFrom, left_of}
 use Rattle.mp_engine.specs.Stations.{AreStations, AreSteady, AreTelling}
 use Rattle.mp_engine.specs.Taps.{tap_of, IsCalled}
-use Rattle.mp_engine.proofs.MarkLemmas.{none_in, contains_cons}
+use Rattle.mp_evaluation.proofs.MarkLemmas.{none_in, contains_cons}
 
 -- a list that has an element or not, where elements can be told apart
 has_or_not : {A : Type 0} (x : A) (tell : (y : A) → (y ≡ x) ⊎ (y ≡ x → ⊥)) (xs : List A) → Contains xs x ⊎ (Contains xs x → ⊥)

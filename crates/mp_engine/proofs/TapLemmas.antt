@@ -13,10 +13,10 @@ use Rattle.mp_netlist.specs.Circuit.{Circuit}
 use Rattle.mp_model.specs.Waves.{level}
 use Rattle.mp_engine.specs.declared.tap.Tap.{Tap}
 use Rattle.mp_engine.specs.Lines.{building_at}
-use Rattle.mp_engine.specs.Marks.{is_marked}
+use Rattle.mp_evaluation.specs.Marks.{is_marked}
 use Rattle.mp_engine.specs.Taps.{tap_of, AreTaken, IsBefore, IsUnheard, StaysUntil, AreWaves, IsTold, IsCalled, IsListed, AreKept, IsListening, AreListening, AreTapped, AreHeard}
 use Rattle.mp_engine.specs.Taps.IsListening.{Waiting, Called}
-use Rattle.mp_engine.proofs.MarkLemmas.{none_in, contains_cons}
+use Rattle.mp_evaluation.proofs.MarkLemmas.{none_in, contains_cons}
 
 -- before the first change the level stays
 early : (changes : List (ℕ × ℕ)) (before t : ℕ) → (0 < length changes → t < (slice_index_or changes 0 (0, 0)).0) → level_from before changes t ≡ before

@@ -22,7 +22,7 @@ use Rattle.mp_model.specs.Waves.{level, state}
 use Rattle.mp_model.proofs.BehaviourLemmas.{satisfies}
 use Rattle.mp_model.proofs.EvaluationLemmas.{port_level_is}
 use Rattle.mp_response.specs.Span.{state_after, next_state}
-use Rattle.mp_engine.specs.Checkpoints.{state_before}
+use Rattle.mp_evaluation.specs.Checkpoints.{state_before}
 use Rattle.mp_engine.specs.Windows.{Answer, World, IsWindow, Move, state_in_window, answer_of, answered_by, memory_in, output_in, next_level, next_window, after_move, after_moves, IsAllowed, AreAllowed, first_level_of, start_of, first_window, AnyOrder}
 use Rattle.mp_engine.specs.Windows.Move.{AnswerOf, NextTo}
 

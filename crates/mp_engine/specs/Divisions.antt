@@ -5,7 +5,8 @@ use Rattle.mp_records.specs.declared.ports.Output.{Output}
 use Rattle.mp_netlist.specs.Circuit.{Circuit, Drives, stimulus_at}
 use Rattle.mp_engine.specs.declared.part.Part.{Part}
 use Rattle.mp_engine.specs.declared.part_run.PartRun.{PartRun}
-use Rattle.mp_engine.specs.Marks.{Reads, is_marked}
+use Rattle.mp_engine.specs.Marks.{Reads}
+use Rattle.mp_evaluation.specs.Marks.{is_marked}
 use Rattle.mp_engine.specs.PartRuns.{IsPartRun}
 use Rattle.mp_engine.specs.Regions.{home_of, region}
 

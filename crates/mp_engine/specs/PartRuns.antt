@@ -1,28 +1,19 @@
 -- What a part of a netlist gives.
-use Rattle.std.specs.Prelude.{◌≡◌, ℕ, ◌<◌, List, Option, map, option_map, length}
+use Rattle.std.specs.Prelude.{List, Option, map, option_map, length}
 use Rattle.std.specs.Arc.{arc_value}
 use Rattle.mp_wave.specs.Waveform.{Waveform}
-use Rattle.mp_modules.specs.Memories.{blank}
-use Rattle.mp_records.specs.declared.module_record.ModuleRecord.{ModuleRecord}
-use Rattle.mp_netlist.specs.Slots.{slot_at}
-use Rattle.mp_netlist.specs.Circuit.{Circuit, wire_at, module_at}
+use Rattle.mp_netlist.specs.Circuit.{Circuit, wire_at}
 use Rattle.mp_model.specs.Waves.{slot_wave}
-use Rattle.mp_engine.specs.declared.checkpoints.Checkpoint.{Checkpoint}
+use Rattle.mp_evaluation.specs.declared.checkpoints.Checkpoint.{Checkpoint}
 use Rattle.mp_engine.specs.declared.part_run.PartRun.{PartRun}
-use Rattle.mp_engine.specs.Checkpoints.{kept_at, state_before, IsBorder}
-use Rattle.mp_engine.specs.Outcomes.{AreSlots}
-use Rattle.mp_engine.specs.Runs.{end_memory}
+use Rattle.mp_evaluation.specs.Outcomes.{AreSlots}
+use Rattle.mp_evaluation.specs.Runs.{end_memory, AreCheckpoints}
 
 abbrev pub waves_in : PartRun → List (Option Waveform)
 waves_in run = map (option_map arc_value) run.waves.items
 
 abbrev pub kept_in : PartRun → List (Option (List Checkpoint))
 kept_in run = map (option_map arc_value) run.kept.items
-
--- of each module the states before all checkpoints are kept
-pub record AreCheckpoints (n : Circuit) (kept : List (Option (List Checkpoint))) : Type 0 where
-  pub places : length kept ≡ length n.modules
-  pub each : (m c : ℕ) → IsBorder c → c < n.horizon → option_map (λ ks. kept_at ks c blank) (slot_at kept m) ≡ option_map (λ (r : ModuleRecord). state_before n m r c) (module_at n m)
 
 -- the waves of the wires, and the states of the modules, as far as they stand
 pub record IsPartRun (n : Circuit) (run : PartRun) : Type 0 where

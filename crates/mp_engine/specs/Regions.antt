@@ -5,7 +5,7 @@ use Rattle.mp_records.specs.declared.wire_record.WireRecord.{WireRecord}
 use Rattle.mp_records.specs.declared.module_record.ModuleRecord.{ModuleRecord}
 use Rattle.mp_netlist.specs.Circuit.{Circuit, Drives, stimulus_at}
 use Rattle.mp_model.specs.Waves.{level}
-use Rattle.mp_engine.specs.Marks.{is_marked}
+use Rattle.mp_evaluation.specs.Marks.{is_marked}
 
 -- the part in which a module, or what drives a wire, is at home
 abbrev pub home_of : List ℕ → ℕ → ℕ

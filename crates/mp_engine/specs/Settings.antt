@@ -9,7 +9,7 @@ use Rattle.mp_engine.specs.declared.entry.Entry.{Entry}
 use Rattle.mp_engine.specs.declared.stimuli.Setting.{Setting}
 use Rattle.mp_engine.specs.declared.stimuli.Settings.{Settings}
 use Rattle.mp_engine.specs.Calendars.{entry_of}
-use Rattle.mp_engine.specs.Marks.{is_marked}
+use Rattle.mp_evaluation.specs.Marks.{is_marked}
 
 abbrev pub setting_of : ℕ → ℕ × ℕ → Setting
 setting_of w change = record { time = change.0; wire = record { 0 = w }; level = change.1 }

@@ -9,7 +9,7 @@ use Rattle.mp_netlist.specs.Circuit.{Circuit, module_at}
 use Rattle.mp_model.specs.Waves.{level}
 use Rattle.mp_engine.specs.declared.tap.Tap.{Tap}
 use Rattle.mp_engine.specs.Lines.{building_at}
-use Rattle.mp_engine.specs.Marks.{is_marked}
+use Rattle.mp_evaluation.specs.Marks.{is_marked}
 
 abbrev pub tap_of : ℕ → Input → Tap
 tap_of m input = record { id = record { 0 = m }; wire = input.wire.0; delay = input.delay }

@@ -13,7 +13,7 @@ use Rattle.mp_model.specs.Levels.{built, initial_of, inputs_by, stimulus_level}
 use Rattle.mp_model.specs.Evaluations.{delay_in}
 use Rattle.mp_model.specs.Waves.{level}
 use Rattle.mp_response.specs.Span.{state_after}
-use Rattle.mp_engine.specs.Checkpoints.{state_before}
+use Rattle.mp_evaluation.specs.Checkpoints.{state_before}
 
 -- what a module does in a window: its state at the end, and the levels of its outputs before their delays at each time
 pub record Answer : Type 0 where

@@ -3,7 +3,7 @@ ghost use Rattle.std.specs.Prelude.{◌≡◌, ◌<◌, ◌≤◌, ◌⊎◌, �
 ghost use Rattle.mp_records.specs.declared.ports.Input.{Input as Entry};
 ghost use Rattle.mp_records.specs.declared.ports.Output.{Output as Port};
 ghost use Rattle.mp_engine.specs.Divisions.{IsAtHome, IsDivision, IsDrivenAt, IsHeardThere, IsReadAt, heard_by};
-ghost use Rattle.mp_engine.specs.Marks.{is_marked};
+ghost use Rattle.mp_evaluation.specs.Marks.{is_marked};
 
 use crate::groups::homes_of;
 use crate::heard::{Heard, heard_by, is_heard};

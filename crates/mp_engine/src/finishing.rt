@@ -7,15 +7,15 @@ ghost use Rattle.mp_model.specs.Waves.{wave, slot_wave};
 ghost use Rattle.mp_engine.specs.Cells.{AreCells};
 ghost use Rattle.mp_engine.specs.Engines.{IsAfter};
 ghost use Rattle.mp_engine.specs.Lines.{building_at};
-ghost use Rattle.mp_engine.specs.Outcomes.{AreSlots};
+ghost use Rattle.mp_evaluation.specs.Outcomes.{AreSlots};
 ghost use Rattle.mp_engine.specs.PartRuns.{IsPartRun};
-ghost use Rattle.mp_engine.specs.Runs.{end_memory};
+ghost use Rattle.mp_evaluation.specs.Runs.{end_memory};
 
 use crate::cell::Cell;
-use crate::checkpoints::Checkpoints;
 use crate::engine::Engine;
 use crate::part_run::PartRun;
 use crate::region::Region;
+use mp_evaluation::Checkpoints;
 use mp_modules::Memory;
 use mp_netlist::{ModuleId, WireId};
 use mp_wave::{Wave, WaveBuilder};

@@ -1,7 +1,7 @@
 //! The wires that a part of a netlist hears.
 ghost use Rattle.std.specs.Prelude.{◌≡◌};
 ghost use Rattle.mp_engine.specs.Divisions.{heard_by};
-ghost use Rattle.mp_engine.specs.Marks.{is_marked};
+ghost use Rattle.mp_evaluation.specs.Marks.{is_marked};
 
 use mp_netlist::WireId;
 use std::alloc::{AllocError, Global};

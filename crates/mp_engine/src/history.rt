@@ -1,17 +1,14 @@
 //! The states that an evaluation keeps on its way.
 ghost use Rattle.std.specs.Prelude.{◌≡◌, ℕ, false, ◌<◌, OnOk, length, slice_set};
-ghost use Rattle.mp_engine.specs.Checkpoints.{AreKept};
-ghost use Rattle.mp_engine.specs.Marks.{is_marked, AreListed};
+ghost use Rattle.mp_engine.specs.Keeping.{AreKept};
+ghost use Rattle.mp_evaluation.specs.Marks.{is_marked, AreListed};
 
 use crate::answers::is_marked;
 use crate::cell::Cell;
-use crate::checkpoints::{Checkpoint, Checkpoints};
 use crate::region::Region;
+use mp_evaluation::{CHECKPOINT_UNITS, Checkpoint, Checkpoints};
 use mp_netlist::ModuleId;
 use std::alloc::AllocError;
-
-/// At each multiple of so many units the states of modules are kept.
-pub const CHECKPOINT_UNITS: u32 = 1024;
 
 /// What is kept of each module, and which modules answered since the last time that states were kept: marked, and listed.
 #[derive(Drop)]

@@ -4,7 +4,7 @@ ghost use Rattle.std.specs.List.{Contains, list_any};
 ghost use Rattle.mp_netlist.specs.Circuit.{IsCircuit};
 ghost use Rattle.mp_engine.specs.Engines.{IsAfter};
 ghost use Rattle.mp_engine.specs.Letters.{IsOfList, IsOfCalendar, IsOfParts, IsNear, IsTelling, AreLetters, AreEntered, AreTidings, is_sent};
-ghost use Rattle.mp_engine.specs.Marks.{is_marked};
+ghost use Rattle.mp_evaluation.specs.Marks.{is_marked};
 ghost use Rattle.mp_engine.specs.Regions.{home_of};
 ghost use Rattle.mp_engine.specs.Stations.{calendar_of, AreTelling};
 ghost use Rattle.mp_engine.specs.declared.letters.Letter.{Letter as Told};

@@ -4,7 +4,7 @@ ghost use Rattle.mp_netlist.specs.Circuit.{IsCircuit};
 ghost use Rattle.mp_wave.specs.Waveform.{between};
 ghost use Rattle.mp_wave.specs.WaveChanges.{changes_in};
 ghost use Rattle.mp_engine.specs.Lines.{building_at};
-ghost use Rattle.mp_engine.specs.Marks.{AreAdded};
+ghost use Rattle.mp_evaluation.specs.Marks.{AreAdded};
 ghost use Rattle.mp_engine.specs.Taps.{IsBefore, IsUnheard, StaysUntil, AreWaves, IsListed, IsTold, IsCalled, AreKept, AreListening};
 
 use crate::region::Region;

@@ -1,6 +1,6 @@
 //! What a part of a netlist gives.
 
-use crate::checkpoints::Checkpoints;
+use mp_evaluation::Checkpoints;
 use mp_modules::Memory;
 use mp_wave::Wave;
 use std::alloc::Global;

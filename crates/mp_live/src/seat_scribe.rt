@@ -6,11 +6,11 @@ ghost use Rattle.mp_live.specs.SeatReplies.{asks_for_work, no_work_text, seat_re
 use crate::too_long::put_too_long;
 use mp_commands::{Snapshot, put_answer, put_coded, put_refused, put_unread};
 use mp_phase::Crew;
-use mp_redo::Work;
 use mp_seats::{Reply, Scribe};
 use mp_streams::{Failed, Out, Sink, Text, WriteError};
 use mp_text::Question;
 use mp_version::Version;
+use mp_work::Work;
 use std::alloc::Global;
 use std::sync::Wait;
 use std::thread::Threads;

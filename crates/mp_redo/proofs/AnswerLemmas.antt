@@ -26,8 +26,8 @@ use Rattle.mp_response.specs.Delays as spans
 use Rattle.mp_response.specs.Pieces.{put_off}
 use Rattle.mp_response.specs.Span.{extended, output_changes, state_after}
 use Rattle.mp_response.proofs.DelayLemmas.{ends_in_state, gives_levels}
-use Rattle.mp_engine.specs.Checkpoints.{state_before}
-use Rattle.mp_engine.specs.Outcomes.{Outcome, wave_of}
+use Rattle.mp_evaluation.specs.Checkpoints.{state_before}
+use Rattle.mp_evaluation.specs.Outcomes.{Outcome, wave_of}
 use Rattle.mp_redo.specs.declared.cell.Cell.{Cell}
 use Rattle.mp_redo.specs.declared.line.Line.{Line}
 use Rattle.mp_redo.specs.Lines.{line_level, IsOwn}

@@ -9,15 +9,15 @@ use Rattle.mp_model.specs.Levels.{input_by}
 use Rattle.mp_model.specs.Waves.{level}
 use Rattle.mp_model.specs.Reach.{IsApart}
 use Rattle.mp_model.proofs.InputLemmas.{input_is}
-use Rattle.mp_engine.specs.Outcomes.{Outcome, wave_of}
-use Rattle.mp_engine.specs.Runs.{IsRun}
+use Rattle.mp_evaluation.specs.Outcomes.{Outcome, wave_of}
+use Rattle.mp_evaluation.specs.Runs.{IsRun}
 use Rattle.mp_redo.specs.declared.cell.Cell.{Cell}
 use Rattle.mp_redo.specs.declared.line.Line.{Line}
 use Rattle.mp_redo.specs.Lines.{level_in}
-use Rattle.mp_redo.specs.Revisions.{IsRevision, IsKept}
+use Rattle.mp_work.specs.Revisions.{IsRevision, IsKept}
 use Rattle.mp_redo.specs.Redoing.{level_at, AreLines}
 use Rattle.mp_redo.proofs.HeardLemmas.{input_stands, heard_now, old_level}
-use Rattle.mp_redo.proofs.StayLemmas.{decide_apart}
+use Rattle.mp_work.proofs.StayLemmas.{decide_apart}
 use Rattle.mp_redo.proofs.StillLemmas.{alike_from, alike_not}
 
 -- a module hears another level than in the old run just where it is apart

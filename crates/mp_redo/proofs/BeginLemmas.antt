@@ -6,12 +6,12 @@ use Rattle.mp_records.specs.declared.module_record.ModuleRecord.{ModuleRecord}
 use Rattle.mp_netlist.specs.Circuit.{Circuit, IsCircuit, module_at}
 use Rattle.mp_netlist.specs.Delays.{least_delay}
 use Rattle.mp_model.proofs.SlotLemmas.{slot_within}
-use Rattle.mp_engine.specs.Marks.{is_marked, AreListed}
-use Rattle.mp_engine.specs.Outcomes.{Outcome}
-use Rattle.mp_engine.specs.Runs.{IsRun}
+use Rattle.mp_evaluation.specs.Marks.{is_marked, AreListed}
+use Rattle.mp_evaluation.specs.Outcomes.{Outcome}
+use Rattle.mp_evaluation.specs.Runs.{IsRun}
 use Rattle.mp_redo.specs.declared.cell.Cell.{Cell}
 use Rattle.mp_redo.specs.declared.line.Line.{Line}
-use Rattle.mp_redo.specs.Revisions.{IsRevision}
+use Rattle.mp_work.specs.Revisions.{IsRevision}
 use Rattle.mp_redo.specs.Redoing.{cell_at, IsLooking, IsListening, IsBefore, IsDuring}
 use Rattle.mp_redo.specs.Rings.{AreTaken}
 use Rattle.mp_redo.proofs.ListenLemmas.{listening_taken}

@@ -9,7 +9,7 @@ use Rattle.mp_netlist.specs.declared.driver.Driver.TheVariants.{Port}
 use Rattle.mp_netlist.specs.Drivers.{driver, stimulus_driver}
 use Rattle.mp_netlist.proofs.DriverLemmas.{driven_by, finds_ports}
 use Rattle.mp_model.specs.Waves.{level}
-use Rattle.mp_engine.specs.Outcomes.{Outcome, wave_of}
+use Rattle.mp_evaluation.specs.Outcomes.{Outcome, wave_of}
 use Rattle.mp_redo.specs.declared.cell.Cell.{Cell}
 use Rattle.mp_redo.specs.declared.line.Line.{Line}
 use Rattle.mp_redo.specs.Lines.{is_told, level_in, line_level, IsOwn}

@@ -3,18 +3,18 @@ use Rattle.std.proofs.Common.{◌≡◌, ℕ, ◌-◌, ◌%◌, ◌<◌, ◌≤�
 use Rattle.std.proofs.lemmas.Bool.{cases_lt, cases_eq}
 use Rattle.mp_netlist.specs.Circuit.{Circuit, IsCircuit}
 use Rattle.mp_netlist.specs.Delays.{least_delay}
-use Rattle.mp_engine.specs.Checkpoints.{IsBorder}
-use Rattle.mp_engine.specs.Outcomes.{Outcome}
+use Rattle.mp_evaluation.specs.Checkpoints.{IsBorder}
+use Rattle.mp_evaluation.specs.Outcomes.{Outcome}
 use Rattle.mp_redo.specs.declared.cell.Cell.{Cell}
 use Rattle.mp_redo.specs.declared.ledger.Ledger.{Ledger}
 use Rattle.mp_redo.specs.Courses.{last_block}
 use Rattle.mp_redo.specs.Joins.{AreLike}
 use Rattle.mp_redo.specs.Keeping.{IsLedgerAt, IsNextBorder, AreLedgers}
 use Rattle.mp_redo.specs.Ledgers.{ledger_at}
-use Rattle.mp_redo.specs.Merges.{end_of_window}
+use Rattle.mp_work.specs.Merges.{end_of_window}
 use Rattle.mp_redo.specs.Windows.{IsShort, IsWindows}
-use Rattle.mp_redo.specs.Work.{block_of, window_of, window_end, IsWindow}
-use Rattle.mp_redo.proofs.WindowLemmas.{window_within, window_cover, same_block}
+use Rattle.mp_work.specs.Work.{block_of, window_of, window_end, IsWindow}
+use Rattle.mp_work.proofs.WindowLemmas.{window_within, window_cover, same_block}
 
 -- a ledger follows who is live
 pub ledgers_like : (new : Circuit) (run : Outcome) (t : ℕ) (cells after : List Cell) (ledgers : List Ledger) → AreLike cells after → AreLedgers new run t cells ledgers → AreLedgers new run t after ledgers

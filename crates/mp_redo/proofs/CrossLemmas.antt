@@ -6,23 +6,23 @@ use Rattle.std.proofs.lemmas.List.Elements.{Contains-append_right}
 use Rattle.mp_records.specs.declared.ids.ModuleId.{ModuleId}
 use Rattle.mp_records.specs.declared.module_record.ModuleRecord.{ModuleRecord}
 use Rattle.mp_netlist.specs.Circuit.{Circuit, IsCircuit, module_at}
-use Rattle.mp_engine.specs.Checkpoints.{IsBorder}
-use Rattle.mp_engine.specs.Outcomes.{Outcome}
-use Rattle.mp_engine.specs.Runs.{IsRun}
-use Rattle.mp_engine.proofs.MarkLemmas.{none_in, contains_cons}
+use Rattle.mp_evaluation.specs.Checkpoints.{IsBorder}
+use Rattle.mp_evaluation.specs.Outcomes.{Outcome}
+use Rattle.mp_evaluation.specs.Runs.{IsRun}
+use Rattle.mp_evaluation.proofs.MarkLemmas.{none_in, contains_cons}
 use Rattle.mp_redo.specs.declared.cell.Cell.{Cell}
 use Rattle.mp_redo.specs.declared.ledger.Ledger.{Ledger}
 use Rattle.mp_redo.specs.declared.line.Line.{Line}
-use Rattle.mp_redo.specs.declared.stretch.Stretch.{Stretch}
+use Rattle.mp_work.specs.declared.stretch.Stretch.{Stretch}
 use Rattle.mp_redo.specs.Closing.{HasClosed}
 use Rattle.mp_redo.specs.Keeping.{AreLedgers, IsLedgerAt, IsNextBorder, CanKeepAll}
 use Rattle.mp_redo.specs.Leaving.{IsBack, HasLeft, ended, HasEnded, HasHandedBack, IsOverAt, IsCrossing}
 use Rattle.mp_redo.specs.Ledgers.{ledger_at, IsOwn}
 use Rattle.mp_redo.specs.Redoing.{cell_at, looks_at, IsCellAt, IsListening, IsOpenAt, AreOpen, IsListed, IsBefore}
-use Rattle.mp_redo.specs.Revisions.{IsRevision}
+use Rattle.mp_work.specs.Revisions.{IsRevision}
 use Rattle.mp_redo.specs.Steps.{GoesOnListening, GoesOnTelling}
-use Rattle.mp_redo.specs.Stretches.{stretch_at, IsPart, IsIn, HasBegun, EndsWithWindow, AreStretchesTo}
-use Rattle.mp_redo.specs.Work.{IsWindow}
+use Rattle.mp_work.specs.Stretches.{stretch_at, IsPart, IsIn, HasBegun, EndsWithWindow, AreStretchesTo}
+use Rattle.mp_work.specs.Work.{IsWindow}
 use Rattle.mp_redo.proofs.CloseLemmas.{closed_lines}
 use Rattle.mp_redo.proofs.KeepLemmas.{own_later}
 use Rattle.mp_redo.proofs.LeaveLemmas.{stays, leaves}

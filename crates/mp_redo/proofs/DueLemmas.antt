@@ -14,16 +14,16 @@ use Rattle.mp_records.specs.Outputs.{delay_of}
 use Rattle.mp_netlist.specs.Slots.{slot_at}
 use Rattle.mp_netlist.specs.Circuit.{Circuit, IsCircuit, Drives, module_at}
 use Rattle.mp_model.proofs.SlotLemmas.{some_within, slot_within}
-use Rattle.mp_engine.specs.Marks.{is_marked, AreListed}
-use Rattle.mp_engine.specs.Outcomes.{Outcome, wave_of}
-use Rattle.mp_engine.specs.Runs.{IsRun}
-use Rattle.mp_engine.proofs.MarkLemmas.{none_in, contains_cons, marked_within, listed_rest}
+use Rattle.mp_evaluation.specs.Marks.{is_marked, AreListed}
+use Rattle.mp_evaluation.specs.Outcomes.{Outcome, wave_of}
+use Rattle.mp_evaluation.specs.Runs.{IsRun}
+use Rattle.mp_evaluation.proofs.MarkLemmas.{none_in, contains_cons, marked_within, listed_rest}
 use Rattle.mp_redo.specs.declared.cell.Cell.{Cell}
 use Rattle.mp_redo.specs.declared.line.Line.{Line}
 use Rattle.mp_redo.specs.Answers.{IsHeardBy}
 use Rattle.mp_redo.specs.Ledgers.{state_in}
 use Rattle.mp_redo.specs.Lines.{level_in, IsOwn}
-use Rattle.mp_redo.specs.Revisions.{IsRevision, IsKept}
+use Rattle.mp_work.specs.Revisions.{IsRevision, IsKept}
 use Rattle.mp_redo.specs.Redoing.{level_at, line_at, cell_at, no_cell, answered_to, IsWorking, IsCellAt, AreLines, IsDuring}
 use Rattle.mp_redo.specs.Steps.{IsAt, IsStep, AreReady, GoesOn, GoesOnFrom, GoesOnListening, GoesOnTelling}
 use Rattle.mp_redo.specs.Joins.{HaveAnswered, live_cell}

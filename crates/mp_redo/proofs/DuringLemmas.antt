@@ -9,13 +9,13 @@ use Rattle.mp_records.specs.Outputs.{delay_of}
 use Rattle.mp_netlist.specs.Circuit.{Circuit, IsCircuit, Drives, module_at}
 use Rattle.mp_model.specs.Reach.{IsApart}
 use Rattle.mp_model.specs.Waves.{level}
-use Rattle.mp_engine.specs.Marks.{is_marked, AreListed}
-use Rattle.mp_engine.specs.Outcomes.{Outcome}
-use Rattle.mp_engine.specs.Runs.{IsRun}
-use Rattle.mp_engine.proofs.MarkLemmas.{marked_within}
+use Rattle.mp_evaluation.specs.Marks.{is_marked, AreListed}
+use Rattle.mp_evaluation.specs.Outcomes.{Outcome}
+use Rattle.mp_evaluation.specs.Runs.{IsRun}
+use Rattle.mp_evaluation.proofs.MarkLemmas.{marked_within}
 use Rattle.mp_redo.specs.declared.cell.Cell.{Cell}
 use Rattle.mp_redo.specs.declared.line.Line.{Line}
-use Rattle.mp_redo.specs.Revisions.{IsRevision}
+use Rattle.mp_work.specs.Revisions.{IsRevision}
 use Rattle.mp_redo.specs.Redoing.{level_at, cell_at, answered_to, IsWorking, IsCellAt, AreLines, IsListening, IsDuring}
 use Rattle.mp_redo.specs.Steps.{IsStep, GoesOnListening, GoesOnTelling}
 use Rattle.mp_redo.proofs.LineLemmas.{one_delay, idle_kept, idle_line, line_on}

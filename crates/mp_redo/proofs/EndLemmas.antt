@@ -15,12 +15,11 @@ use Rattle.mp_records.specs.declared.module_record.ModuleRecord.{ModuleRecord}
 use Rattle.mp_netlist.specs.Slots.{slot_at}
 use Rattle.mp_netlist.specs.Circuit.{Circuit, wire_at, module_at}
 use Rattle.mp_model.specs.Waves.{level, state, wave, slot_wave}
-use Rattle.mp_engine.specs.declared.checkpoints.Checkpoint.{Checkpoint}
-use Rattle.mp_engine.specs.Checkpoints.{kept_at, state_before}
-use Rattle.mp_engine.specs.Outcomes.{Outcome, AreSlots, wave_of}
-use Rattle.mp_engine.specs.PartRuns.{AreCheckpoints}
-use Rattle.mp_engine.specs.Runs.{IsRun, end_memory}
-use Rattle.mp_engine.proofs.FinishLemmas.{slot_is, no_wave, no_module, checkpoint_is}
+use Rattle.mp_evaluation.specs.declared.checkpoints.Checkpoint.{Checkpoint}
+use Rattle.mp_evaluation.specs.Checkpoints.{kept_at, state_before}
+use Rattle.mp_evaluation.specs.Outcomes.{Outcome, AreSlots, wave_of}
+use Rattle.mp_evaluation.specs.Runs.{AreCheckpoints, IsRun, end_memory}
+use Rattle.mp_evaluation.proofs.OutcomeLemmas.{slot_is, no_wave, no_module, checkpoint_is}
 use Rattle.mp_redo.specs.Lines.{level_in}
 use Rattle.mp_redo.specs.Prefixes.{IsUpTo}
 use Rattle.mp_redo.specs.Endings.{HasCheckpoints}

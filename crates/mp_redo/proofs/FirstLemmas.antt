@@ -14,23 +14,23 @@ use Rattle.mp_netlist.proofs.DelayLemmas.{delays_are_least}
 use Rattle.mp_model.specs.Reach.{IsTouched}
 use Rattle.mp_depend.specs.Known.{AreReaders}
 use Rattle.mp_depend.specs.Rows.{row_at}
-use Rattle.mp_engine.specs.Checkpoints.{state_before}
-use Rattle.mp_engine.specs.Marks.{is_marked}
-use Rattle.mp_engine.specs.Outcomes.{Outcome, wave_of}
-use Rattle.mp_engine.proofs.MarkLemmas.{none_in, contains_cons}
+use Rattle.mp_evaluation.specs.Checkpoints.{state_before}
+use Rattle.mp_evaluation.specs.Marks.{is_marked}
+use Rattle.mp_evaluation.specs.Outcomes.{Outcome, wave_of}
+use Rattle.mp_evaluation.proofs.MarkLemmas.{none_in, contains_cons}
 use Rattle.mp_redo.specs.declared.cell.Cell.{Cell}
 use Rattle.mp_redo.specs.declared.line.Line.{Line}
 use Rattle.mp_redo.specs.declared.line.Line.TheVariants.{Old, Own}
 use Rattle.mp_redo.specs.Redoing.{no_cell, cell_at, line_at, looks_at, IsWorking, IsCellAt, AreCells, AreLines, AreUntold, IsInput, IsTracked, IsNews, IsLooking, AreOpen, IsBefore}
-use Rattle.mp_redo.specs.declared.stretch.Stretch.{Stretch}
+use Rattle.mp_work.specs.declared.stretch.Stretch.{Stretch}
 use Rattle.mp_redo.specs.Lines.{level_in, line_level}
 use Rattle.mp_redo.specs.Joins.{AreLike}
-use Rattle.mp_redo.specs.Stretches.{no_stretch, stretch_at, IsPart, IsIn, AreStretchesTo}
-use Rattle.mp_redo.specs.Merges.{end_of_window}
-use Rattle.mp_redo.specs.Work.{window_end}
+use Rattle.mp_work.specs.Stretches.{no_stretch, stretch_at, IsPart, IsIn, AreStretchesTo}
+use Rattle.mp_work.specs.Merges.{end_of_window}
+use Rattle.mp_work.specs.Work.{window_end}
 use Rattle.mp_redo.specs.Rings.{AreKept}
 use Rattle.mp_redo.proofs.RingLemmas.{looking_kept}
-use Rattle.mp_redo.proofs.WindowLemmas.{window_within}
+use Rattle.mp_work.proofs.WindowLemmas.{window_within}
 use Rattle.mp_redo.proofs.HearerLemmas.{is_reader}
 use Rattle.mp_redo.proofs.ListenLemmas.{looking_later}
 use Rattle.mp_redo.proofs.TellLemmas.{telling_none}

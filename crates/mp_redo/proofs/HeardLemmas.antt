@@ -15,8 +15,8 @@ use Rattle.mp_model.specs.Levels.{input_by}
 use Rattle.mp_model.specs.Waves.{level, slot_wave}
 use Rattle.mp_model.proofs.InputLemmas.{input_is}
 use Rattle.mp_model.proofs.SlotLemmas.{no_some, some_within}
-use Rattle.mp_engine.specs.Outcomes.{Outcome, wave_of}
-use Rattle.mp_engine.specs.Runs.{IsRun}
+use Rattle.mp_evaluation.specs.Outcomes.{Outcome, wave_of}
+use Rattle.mp_evaluation.specs.Runs.{IsRun}
 use Rattle.mp_redo.specs.declared.cell.Cell.{Cell}
 use Rattle.mp_redo.specs.declared.line.Line.{Line}
 use Rattle.mp_redo.specs.Lines.{level_in, line_level}

@@ -5,28 +5,28 @@ use Rattle.std.proofs.lemmas.Bool.{cases_lt}
 use Rattle.std.proofs.lemmas.List.{ext_get_or, length-drop, length-append}
 use Rattle.mp_records.specs.declared.ids.ModuleId.{ModuleId}
 use Rattle.mp_netlist.specs.Circuit.{Circuit, IsCircuit}
-use Rattle.mp_engine.specs.Marks.{is_marked}
-use Rattle.mp_engine.specs.Outcomes.{Outcome}
-use Rattle.mp_engine.specs.Runs.{IsRun}
-use Rattle.mp_engine.proofs.MarkLemmas.{none_in}
+use Rattle.mp_evaluation.specs.Marks.{is_marked}
+use Rattle.mp_evaluation.specs.Outcomes.{Outcome}
+use Rattle.mp_evaluation.specs.Runs.{IsRun}
+use Rattle.mp_evaluation.proofs.MarkLemmas.{none_in}
 use Rattle.mp_redo.specs.declared.cell.Cell.{Cell}
 use Rattle.mp_redo.specs.declared.line.Line.{Line}
-use Rattle.mp_redo.specs.declared.stretch.Stretch.{Stretch}
+use Rattle.mp_work.specs.declared.stretch.Stretch.{Stretch}
 use Rattle.mp_redo.specs.Opened.{HaveOpened}
 use Rattle.mp_redo.specs.Redoing.{looks_at, AreOpen, IsBefore, IsDuring}
-use Rattle.mp_redo.specs.Revisions.{IsRevision}
+use Rattle.mp_work.specs.Revisions.{IsRevision}
 use Rattle.mp_redo.specs.Rings.{AreTaken}
-use Rattle.mp_redo.specs.Stretches.{AreStretchesTo}
+use Rattle.mp_work.specs.Stretches.{AreStretchesTo}
 use Rattle.mp_redo.specs.Windows.{IsShort, IsWindows}
-use Rattle.mp_redo.specs.Work.{block_of, window_of, window_end, IsWindow}
+use Rattle.mp_work.specs.Work.{block_of, window_of, window_end, IsWindow}
 use Rattle.mp_redo.proofs.BeginLemmas.{window_begins}
 use Rattle.mp_redo.proofs.CourseLemmas.{window_short}
 use Rattle.mp_redo.proofs.JoinWorkLemmas.{joined_stretches}
-use Rattle.mp_redo.proofs.PartLemmas.{next_begins}
+use Rattle.mp_work.proofs.PartLemmas.{next_begins}
 use Rattle.mp_redo.proofs.RingLemmas.{at_next}
 use Rattle.mp_redo.proofs.DueLemmas.{answered_none}
 use Rattle.mp_redo.proofs.WindowEndLemmas.{listed_none, window_ends}
-use Rattle.mp_redo.proofs.WindowLemmas.{window_within, window_cover, windows_apart}
+use Rattle.mp_work.proofs.WindowLemmas.{window_within, window_cover, windows_apart}
 
 -- ---- lists move up
 

@@ -6,17 +6,17 @@ use Rattle.std.proofs.lemmas.Option.{none-some}
 use Rattle.mp_records.specs.declared.ids.ModuleId.{ModuleId}
 use Rattle.mp_records.specs.declared.module_record.ModuleRecord.{ModuleRecord}
 use Rattle.mp_netlist.specs.Circuit.{Circuit, module_at}
-use Rattle.mp_engine.specs.Outcomes.{Outcome}
+use Rattle.mp_evaluation.specs.Outcomes.{Outcome}
 use Rattle.mp_redo.specs.declared.cell.Cell.{Cell}
 use Rattle.mp_redo.specs.declared.ledger.Ledger.{Ledger}
-use Rattle.mp_redo.specs.declared.stretch.Stretch.{Stretch}
+use Rattle.mp_work.specs.declared.stretch.Stretch.{Stretch}
 use Rattle.mp_redo.specs.Joins.{HaveAnswered, AreLike}
 use Rattle.mp_redo.specs.Keeping.{IsLedgerAt, AreLedgers}
 use Rattle.mp_redo.specs.Ledgers.{ledger_at}
 use Rattle.mp_redo.specs.Opened.{HasNoStretch, HasNew, HaveOpened, HaveJoined}
 use Rattle.mp_redo.specs.Redoing.{cell_at, IsOpenAt, AreOpen, IsListed}
-use Rattle.mp_redo.specs.Stretches.{stretch_at}
-use Rattle.mp_redo.proofs.StayLemmas.{some_is}
+use Rattle.mp_work.specs.Stretches.{stretch_at}
+use Rattle.mp_work.proofs.StayLemmas.{some_is}
 
 -- ---- which modules are live where some have answered
 

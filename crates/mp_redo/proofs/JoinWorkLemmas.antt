@@ -6,16 +6,16 @@ use Rattle.std.proofs.lemmas.Option.{same_Some}
 use Rattle.mp_records.specs.declared.ids.ModuleId.{ModuleId}
 use Rattle.mp_netlist.specs.Circuit.{Circuit, IsCircuit, module_at}
 use Rattle.mp_redo.specs.declared.cell.Cell.{Cell}
-use Rattle.mp_redo.specs.declared.stretch.Stretch.{Stretch}
+use Rattle.mp_work.specs.declared.stretch.Stretch.{Stretch}
 use Rattle.mp_redo.specs.Joins.{HaveAnswered}
 use Rattle.mp_redo.specs.Opened.{HasNoStretch, stretch_from, HaveOpened}
 use Rattle.mp_redo.specs.Redoing.{cell_at, IsWorking, AreCells, AreOpen}
-use Rattle.mp_redo.specs.Stretches.{stretch_at, IsPart, IsIn, EndsWithWindow, HasBegun, AreStretchesTo}
-use Rattle.mp_redo.specs.Work.{block_of, window_end, IsWindow, IsApartIn, IsAtWork, WorksFrom, IsEntry}
-use Rattle.mp_redo.proofs.EntryLemmas.{ends_before, begins_with}
+use Rattle.mp_work.specs.Stretches.{stretch_at, IsPart, IsIn, EndsWithWindow, HasBegun, AreStretchesTo}
+use Rattle.mp_work.specs.Work.{block_of, window_end, IsWindow, IsApartIn, IsAtWork, WorksFrom, IsEntry}
+use Rattle.mp_work.proofs.EntryLemmas.{ends_before, begins_with}
 use Rattle.mp_redo.proofs.JoinLemmas.{dark_before, kept_place, new_place, open_after}
-use Rattle.mp_redo.proofs.StayLemmas.{some_is}
-use Rattle.mp_redo.proofs.WindowLemmas.{window_within}
+use Rattle.mp_work.proofs.StayLemmas.{some_is}
+use Rattle.mp_work.proofs.WindowLemmas.{window_within}
 
 standing : {A : Type 0} (slot : Option A) → IsSome slot → (x : A) × (slot ≡ Some x)
 standing None some = let none : ⊥ = cc in absurd none

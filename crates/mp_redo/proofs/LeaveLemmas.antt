@@ -5,14 +5,14 @@ use Rattle.mp_records.specs.declared.module_record.ModuleRecord.{ModuleRecord}
 use Rattle.mp_netlist.specs.Slots.{slot_at}
 use Rattle.mp_netlist.specs.Circuit.{Circuit, IsCircuit, module_at}
 use Rattle.mp_model.specs.Waves.{state}
-use Rattle.mp_engine.specs.Checkpoints.{IsBorder}
-use Rattle.mp_engine.specs.Outcomes.{Outcome}
-use Rattle.mp_engine.specs.Runs.{IsRun}
+use Rattle.mp_evaluation.specs.Checkpoints.{IsBorder}
+use Rattle.mp_evaluation.specs.Outcomes.{Outcome}
+use Rattle.mp_evaluation.specs.Runs.{IsRun}
 use Rattle.mp_redo.specs.declared.cell.Cell.{Cell}
 use Rattle.mp_redo.specs.Leaving.{IsBack}
 use Rattle.mp_redo.specs.Ledgers.{state_in}
 use Rattle.mp_redo.specs.Redoing.{IsWorking, IsCellAt}
-use Rattle.mp_redo.specs.Revisions.{IsRevision}
+use Rattle.mp_work.specs.Revisions.{IsRevision}
 use Rattle.mp_redo.proofs.LineLemmas.{before_is, idle_agrees, idle_kept}
 use Rattle.mp_redo.proofs.OverLemmas.{old_state}
 

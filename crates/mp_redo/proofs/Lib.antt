@@ -1,12 +1,3 @@
-pub mod RevisionLemmas
-pub mod SameLemmas
-pub mod StayLemmas
-pub mod LevelLemmas
-pub mod WindowLemmas
-pub mod WorkLemmas
-pub mod EntryLemmas
-pub mod OrderLemmas
-pub mod MergeLemmas
 pub mod PrefixLemmas
 pub mod PushLemmas
 pub mod CutLemmas
@@ -33,10 +24,6 @@ pub mod BeginLemmas
 pub mod DuringLemmas
 pub mod CloseLemmas
 pub mod NewsLemmas
-pub mod PartLemmas
-pub mod LeftLemmas
-pub mod QueueLemmas
-pub mod StretchLemmas
 pub mod DueLemmas
 pub mod LikeLemmas
 pub mod OpenedLemmas
@@ -47,7 +34,6 @@ pub mod WindowEndLemmas
 pub mod LeaveLemmas
 pub mod CrossLemmas
 pub mod FirstLemmas
-pub mod SortLemmas
 pub mod CourseLemmas
 pub mod UnitLemmas
 pub mod TurnLemmas

@@ -2,10 +2,10 @@
 use Rattle.std.proofs.Common.{◌≡◌, ℕ, List, sym, subst, ◌∙◌}
 use Rattle.mp_records.specs.declared.ids.ModuleId.{ModuleId}
 use Rattle.mp_netlist.specs.Circuit.{Circuit}
-use Rattle.mp_engine.specs.Outcomes.{Outcome}
+use Rattle.mp_evaluation.specs.Outcomes.{Outcome}
 use Rattle.mp_redo.specs.declared.cell.Cell.{Cell}
 use Rattle.mp_redo.specs.declared.line.Line.{Line}
-use Rattle.mp_redo.specs.declared.stretch.Stretch.{Stretch}
+use Rattle.mp_work.specs.declared.stretch.Stretch.{Stretch}
 use Rattle.mp_redo.specs.Joins.{AreLike}
 use Rattle.mp_redo.specs.Redoing.{cell_at, AreCells, AreLines, IsListening, AreOpen, IsBefore}
 

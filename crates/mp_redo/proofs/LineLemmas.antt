@@ -17,19 +17,19 @@ use Rattle.mp_netlist.proofs.DriverLemmas.{finds_ports, finds_only_ports}
 use Rattle.mp_model.specs.Waves.{level, state}
 use Rattle.mp_model.proofs.TrackLemmas.{stays}
 use Rattle.mp_model.proofs.EvaluationLemmas.{port_level_is}
-use Rattle.mp_engine.specs.Checkpoints.{state_before}
-use Rattle.mp_engine.specs.Outcomes.{Outcome, wave_of}
-use Rattle.mp_engine.specs.Runs.{IsRun}
+use Rattle.mp_evaluation.specs.Checkpoints.{state_before}
+use Rattle.mp_evaluation.specs.Outcomes.{Outcome, wave_of}
+use Rattle.mp_evaluation.specs.Runs.{IsRun}
 use Rattle.mp_redo.specs.declared.cell.Cell.{Cell}
 use Rattle.mp_redo.specs.declared.line.Line.{Line}
 use Rattle.mp_redo.specs.declared.line.Line.TheVariants.{Old, Own}
 use Rattle.mp_redo.specs.Lines.{level_in, line_level, IsOwn}
-use Rattle.mp_redo.specs.Revisions.{IsRevision, IsKept, AgreeBefore, IsDrivenAlike}
+use Rattle.mp_work.specs.Revisions.{IsRevision, IsKept, AgreeBefore, IsDrivenAlike}
 use Rattle.mp_redo.specs.Redoing.{level_at, line_at, IsWorking, IsCellAt, IsGiven, IsLineAt}
 use Rattle.mp_redo.proofs.HeardLemmas.{old_level}
-use Rattle.mp_redo.proofs.LevelLemmas.{levels_stay}
-use Rattle.mp_redo.proofs.SameLemmas.{same, same_memories}
-use Rattle.mp_redo.proofs.StayLemmas.{states_stay}
+use Rattle.mp_work.proofs.LevelLemmas.{levels_stay}
+use Rattle.mp_work.proofs.SameLemmas.{same, same_memories}
+use Rattle.mp_work.proofs.StayLemmas.{states_stay}
 
 -- the state before a time is that of the unit before
 pub before_is : (n : Circuit) (m t u : ℕ) (r : ModuleRecord) → u + 1 ≡ t → state_before n m r t ≡ state n m u

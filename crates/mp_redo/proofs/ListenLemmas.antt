@@ -15,7 +15,7 @@ use Rattle.mp_netlist.specs.Drivers.{driver}
 use Rattle.mp_netlist.proofs.DriverLemmas.{finds_ports, finds_only_ports}
 use Rattle.mp_response.specs.Pieces.{put_off}
 use Rattle.mp_depend.specs.Known.{AreReaders}
-use Rattle.mp_engine.specs.Outcomes.{Outcome, wave_of}
+use Rattle.mp_evaluation.specs.Outcomes.{Outcome, wave_of}
 use Rattle.mp_redo.specs.declared.line.Line.{Line}
 use Rattle.mp_redo.specs.Lines.{line_level, IsOwn}
 use Rattle.mp_redo.specs.Redoing.{level_at, line_at, looks_at, IsInput, IsNews, IsLooking, IsListening}

@@ -7,12 +7,12 @@ use Rattle.mp_records.specs.Outputs.{delay_of}
 use Rattle.mp_netlist.specs.Circuit.{Circuit, IsCircuit, Drives, module_at}
 use Rattle.mp_netlist.specs.Delays.{least_delay}
 use Rattle.mp_model.specs.Waves.{level}
-use Rattle.mp_engine.specs.Marks.{is_marked}
-use Rattle.mp_engine.specs.Outcomes.{Outcome, wave_of}
-use Rattle.mp_engine.specs.Runs.{IsRun}
+use Rattle.mp_evaluation.specs.Marks.{is_marked}
+use Rattle.mp_evaluation.specs.Outcomes.{Outcome, wave_of}
+use Rattle.mp_evaluation.specs.Runs.{IsRun}
 use Rattle.mp_redo.specs.declared.cell.Cell.{Cell}
 use Rattle.mp_redo.specs.declared.line.Line.{Line}
-use Rattle.mp_redo.specs.Revisions.{IsRevision}
+use Rattle.mp_work.specs.Revisions.{IsRevision}
 use Rattle.mp_redo.specs.Redoing.{level_at, line_at, cell_at, answered_to, IsWorking, IsCellAt, AreCells, AreLines, IsLineAt, IsLooking, IsBefore}
 use Rattle.mp_redo.proofs.LineLemmas.{before_is, one_delay, own_held, idle_kept, idle_line, still_levels, line_on}
 use Rattle.mp_redo.proofs.StillLemmas.{states_same, not_apart}

@@ -9,20 +9,20 @@ use Rattle.mp_modules.specs.Memories.{blank}
 use Rattle.mp_netlist.specs.Slots.{slot_at}
 use Rattle.mp_netlist.specs.Circuit.{Circuit, IsCircuit, module_at}
 use Rattle.mp_model.specs.Waves.{state}
-use Rattle.mp_engine.specs.declared.checkpoints.Checkpoint.{Checkpoint}
-use Rattle.mp_engine.specs.Checkpoints.{kept_at, state_before, IsBorder}
-use Rattle.mp_engine.specs.Outcomes.{Outcome}
-use Rattle.mp_engine.specs.Runs.{IsRun, checkpoint}
+use Rattle.mp_evaluation.specs.declared.checkpoints.Checkpoint.{Checkpoint}
+use Rattle.mp_evaluation.specs.Checkpoints.{kept_at, state_before, IsBorder}
+use Rattle.mp_evaluation.specs.Outcomes.{Outcome}
+use Rattle.mp_evaluation.specs.Runs.{IsRun, checkpoint}
 use Rattle.mp_redo.specs.declared.cell.Cell.{Cell}
 use Rattle.mp_redo.specs.declared.ledger.Ledger.{Ledger}
 use Rattle.mp_redo.specs.declared.line.Line.{Line}
 use Rattle.mp_redo.specs.Endings.{IsEndAt, IsOver}
 use Rattle.mp_redo.specs.Keeping.{AreLedgers, AreStatesAt}
 use Rattle.mp_redo.specs.Redoing.{cell_at, AreCells, AreLines, IsWorking, IsCellAt}
-use Rattle.mp_redo.specs.Revisions.{IsRevision, IsKept}
+use Rattle.mp_work.specs.Revisions.{IsRevision, IsKept}
 use Rattle.mp_redo.specs.Ledgers.{state_in}
-use Rattle.mp_redo.proofs.SameLemmas.{same, same_memories}
-use Rattle.mp_redo.proofs.StayLemmas.{built_same}
+use Rattle.mp_work.proofs.SameLemmas.{same, same_memories}
+use Rattle.mp_work.proofs.StayLemmas.{built_same}
 use Rattle.mp_redo.proofs.LineLemmas.{before_is, idle_agrees, idle_kept}
 use Rattle.mp_redo.proofs.MarkedLemmas.{working_on}
 

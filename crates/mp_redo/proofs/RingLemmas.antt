@@ -5,7 +5,7 @@ use Rattle.std.proofs.lemmas.Bool.{cases_eq, cases_lt}
 use Rattle.std.proofs.lemmas.List.{get_or-set_same, get_or-set_other, get_or_append_left, get_or-drop, get_or_past, length-drop, length-append}
 use Rattle.std.proofs.lemmas.List.Elements.{Contains-append_left, Contains-append_right}
 use Rattle.mp_records.specs.declared.ids.ModuleId.{ModuleId}
-use Rattle.mp_engine.specs.Marks.{is_marked, AreAdded}
+use Rattle.mp_evaluation.specs.Marks.{is_marked, AreAdded}
 use Rattle.mp_redo.specs.Redoing.{looks_at, IsLooking}
 use Rattle.mp_redo.specs.Rings.{AreKept, AreTaken}
 

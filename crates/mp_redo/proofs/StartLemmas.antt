@@ -21,18 +21,18 @@ use Rattle.mp_model.proofs.BehaviourLemmas.{satisfies}
 use Rattle.mp_model.proofs.EndsLemmas.{stimulus_held}
 use Rattle.mp_model.proofs.HeldLemmas.{levels-all}
 use Rattle.mp_model.proofs.HistoryLemmas.{late}
-use Rattle.mp_engine.specs.Outcomes.{Outcome, wave_of}
-use Rattle.mp_engine.specs.Runs.{IsRun}
+use Rattle.mp_evaluation.specs.Outcomes.{Outcome, wave_of}
+use Rattle.mp_evaluation.specs.Runs.{IsRun}
 use Rattle.mp_redo.specs.declared.cell.Cell.{Cell}
 use Rattle.mp_redo.specs.declared.line.Line.{Line}
 use Rattle.mp_redo.specs.declared.line.Line.TheVariants.{Old, Own}
 use Rattle.mp_redo.specs.Lines.{is_told, level_in, line_level}
-use Rattle.mp_redo.specs.Revisions.{IsRevision, IsDrivenAlike}
-use Rattle.mp_redo.specs.Stays.{SourceAgrees}
+use Rattle.mp_work.specs.Revisions.{IsRevision, IsDrivenAlike}
+use Rattle.mp_work.specs.Stays.{SourceAgrees}
 use Rattle.mp_redo.specs.Redoing.{cell_at, line_at, AreCells, AreLines, AreUntold}
 use Rattle.mp_redo.specs.Starts.{IsSetAlike, IsFirstLine}
 use Rattle.mp_redo.proofs.HeardLemmas.{old_level}
-use Rattle.mp_redo.proofs.LevelLemmas.{levels_stay}
+use Rattle.mp_work.proofs.LevelLemmas.{levels_stay}
 use Rattle.mp_redo.proofs.LineLemmas.{driven_alike, own_later}
 
 pub stands : {A : Type 0} (slot : Option A) (x : A) → slot ≡ Some x → IsSome slot

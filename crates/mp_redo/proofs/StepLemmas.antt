@@ -19,7 +19,7 @@ use Rattle.mp_response.specs.declared.piece.Piece.{Piece}
 use Rattle.mp_response.specs.Delays as spans
 use Rattle.mp_response.specs.Span.{IsSpan, next_state, state_after, output_changes, findings_in, extended}
 use Rattle.mp_depend.specs.Known.{AreReaders}
-use Rattle.mp_engine.specs.Outcomes.{Outcome}
+use Rattle.mp_evaluation.specs.Outcomes.{Outcome}
 use Rattle.mp_redo.specs.declared.line.Line.{Line}
 use Rattle.mp_redo.specs.Redoing.{level_at}
 use Rattle.mp_redo.specs.Answers.{IsHeardBy, CanGive, HasGiven, HasOpened}

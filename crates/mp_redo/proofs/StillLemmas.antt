@@ -14,16 +14,16 @@ use Rattle.mp_model.specs.Reach.{IsApart}
 use Rattle.mp_model.proofs.InputLemmas.{input_is}
 use Rattle.mp_model.proofs.QuietLemmas.{same_inputs}
 use Rattle.mp_model.proofs.EndsLemmas.{first_level}
-use Rattle.mp_engine.specs.Outcomes.{Outcome, wave_of}
-use Rattle.mp_engine.specs.Runs.{IsRun}
+use Rattle.mp_evaluation.specs.Outcomes.{Outcome, wave_of}
+use Rattle.mp_evaluation.specs.Runs.{IsRun}
 use Rattle.mp_redo.specs.declared.cell.Cell.{Cell}
 use Rattle.mp_redo.specs.declared.line.Line.{Line}
 use Rattle.mp_redo.specs.Lines.{level_in}
-use Rattle.mp_redo.specs.Revisions.{IsRevision, IsKept}
+use Rattle.mp_work.specs.Revisions.{IsRevision, IsKept}
 use Rattle.mp_redo.specs.Redoing.{level_at, cell_at, IsNews, IsLooking, IsBefore}
 use Rattle.mp_redo.proofs.HeardLemmas.{input_stands, map_same, heard_now, heard_on, no_news, no_other, unheard, old_level}
-use Rattle.mp_redo.proofs.LevelLemmas.{initials_same}
-use Rattle.mp_redo.proofs.StayLemmas.{old_inputs, new_inputs, together}
+use Rattle.mp_work.proofs.LevelLemmas.{initials_same}
+use Rattle.mp_work.proofs.StayLemmas.{old_inputs, new_inputs, together}
 
 -- what stays from each unit to the next is the same over a span
 pub span_same : (f : ℕ → Memory) (a b : ℕ) → ((u : ℕ) → a ≤ u → u + 1 < b → f (u + 1) ≡ f u) → (t : ℕ) → a ≤ t → t < b → f t ≡ f a

@@ -15,9 +15,9 @@ use Rattle.mp_response.specs.Span.{IsSpan}
 use Rattle.mp_response.proofs.JoinLemmas.{inside_alone}
 use Rattle.mp_phase.specs.Phase.{AreDone}
 use Rattle.mp_phase.proofs.PhaseLemmas.{are_done-push}
-use Rattle.mp_engine.specs.Marks.{is_marked}
-use Rattle.mp_engine.specs.Outcomes.{Outcome}
-use Rattle.mp_engine.proofs.MarkLemmas.{none_in, contains_cons}
+use Rattle.mp_evaluation.specs.Marks.{is_marked}
+use Rattle.mp_evaluation.specs.Outcomes.{Outcome}
+use Rattle.mp_evaluation.proofs.MarkLemmas.{none_in, contains_cons}
 use Rattle.mp_redo.specs.declared.cell.Cell.{Cell}
 use Rattle.mp_redo.specs.declared.line.Line.{Line}
 use Rattle.mp_redo.specs.Answers.{IsHeardBy}

@@ -10,7 +10,7 @@ use Rattle.mp_netlist.specs.Circuit.{Circuit, IsCircuit, module_at}
 use Rattle.mp_netlist.specs.Readers.{readers}
 use Rattle.mp_depend.specs.Known.{AreReaders}
 use Rattle.mp_depend.specs.Rows.{row_at}
-use Rattle.mp_engine.specs.Outcomes.{Outcome, wave_of}
+use Rattle.mp_evaluation.specs.Outcomes.{Outcome, wave_of}
 use Rattle.mp_redo.specs.declared.line.Line.{Line}
 use Rattle.mp_redo.specs.declared.line.Line.TheVariants.{Old, Own}
 use Rattle.mp_redo.specs.Lines.{is_told, line_level, with_told, IsOwn}

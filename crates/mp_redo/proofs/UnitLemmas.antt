@@ -3,7 +3,7 @@ use Rattle.std.proofs.Common.{◌≡◌, ℕ, List, [], ◌∙◌}
 use Rattle.std.specs.List.{Contains}
 use Rattle.mp_records.specs.declared.ids.ModuleId.{ModuleId}
 use Rattle.mp_netlist.specs.Circuit.{Circuit}
-use Rattle.mp_engine.proofs.MarkLemmas.{none_in}
+use Rattle.mp_evaluation.proofs.MarkLemmas.{none_in}
 use Rattle.mp_redo.specs.declared.cell.Cell.{Cell}
 use Rattle.mp_redo.specs.Joins.{HaveAnswered, IsToJoin}
 use Rattle.mp_redo.specs.Redoing.{cell_at}

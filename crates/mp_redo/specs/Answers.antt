@@ -6,7 +6,7 @@ use Rattle.mp_records.specs.declared.module_record.ModuleRecord.{ModuleRecord}
 use Rattle.mp_netlist.specs.Circuit.{Circuit}
 use Rattle.mp_model.specs.Levels.{input_by}
 use Rattle.mp_model.specs.Waves.{level}
-use Rattle.mp_engine.specs.Outcomes.{Outcome}
+use Rattle.mp_evaluation.specs.Outcomes.{Outcome}
 use Rattle.mp_redo.specs.declared.line.Line.{Line}
 use Rattle.mp_wave.specs.Waveform.{Waveform, level_from}
 use Rattle.mp_response.specs.Pieces.{put_off}

@@ -1,10 +1,10 @@
 -- A change of a netlist.
 use Rattle.mp_netlist.specs.Circuit.{IsCircuit}
 use Rattle.mp_depend.specs.Known.{AreReaders}
-use Rattle.mp_engine.specs.Runs.{IsRun}
+use Rattle.mp_evaluation.specs.Runs.{IsRun}
 use Rattle.mp_redo.specs.declared.change.Change.{Change}
 use Rattle.mp_redo.specs.Parts.{AreParts}
-use Rattle.mp_redo.specs.Revisions.{IsRevision}
+use Rattle.mp_work.specs.Revisions.{IsRevision}
 
 -- both netlists are well formed, the new one comes of the old one by edits, the run is the old one's, and the readers and
 -- modules are the new one's

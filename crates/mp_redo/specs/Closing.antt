@@ -2,7 +2,7 @@
 use Rattle.std.specs.Prelude.{◌≡◌, ℕ, ◌+◌, ◌<◌, false, List, Some, length}
 use Rattle.mp_records.specs.declared.ports.Output.{Output}
 use Rattle.mp_records.specs.Outputs.{output_in}
-use Rattle.mp_engine.specs.Outcomes.{Outcome, wave_of}
+use Rattle.mp_evaluation.specs.Outcomes.{Outcome, wave_of}
 use Rattle.mp_redo.specs.declared.line.Line.{Line}
 use Rattle.mp_redo.specs.Lines.{is_told, level_in}
 use Rattle.mp_redo.specs.Prefixes.{switched}

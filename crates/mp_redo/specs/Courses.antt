@@ -1,13 +1,13 @@
 -- A re-evaluation on its way from window to window.
 use Rattle.std.specs.Prelude.{◌≡◌, ℕ, ◌-◌, ◌≤◌, false, length, min}
 use Rattle.mp_netlist.specs.Circuit.{Circuit}
-use Rattle.mp_engine.specs.Marks.{is_marked}
-use Rattle.mp_engine.specs.Outcomes.{Outcome}
+use Rattle.mp_evaluation.specs.Marks.{is_marked}
+use Rattle.mp_evaluation.specs.Outcomes.{Outcome}
 use Rattle.mp_redo.specs.declared.course.Course.{Course}
 use Rattle.mp_redo.specs.Keeping.{AreLedgers}
 use Rattle.mp_redo.specs.Redoing.{AreOpen, IsBefore, IsListed}
-use Rattle.mp_redo.specs.Stretches.{AreStretchesTo}
-use Rattle.mp_redo.specs.Work.{block_of}
+use Rattle.mp_work.specs.Stretches.{AreStretchesTo}
+use Rattle.mp_work.specs.Work.{block_of}
 
 -- where a block begins: that of a time below the horizon, and at the horizon the last one
 abbrev pub last_block : Circuit → ℕ → ℕ

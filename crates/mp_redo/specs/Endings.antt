@@ -4,11 +4,11 @@ use Rattle.mp_records.specs.declared.module_record.ModuleRecord.{ModuleRecord}
 use Rattle.mp_netlist.specs.Slots.{slot_at}
 use Rattle.mp_netlist.specs.Circuit.{Circuit, module_at}
 use Rattle.mp_model.specs.Waves.{level, state}
-use Rattle.mp_engine.specs.Checkpoints.{kept_at, state_before, IsBorder}
-use Rattle.mp_engine.specs.declared.checkpoints.Checkpoint.{Checkpoint}
+use Rattle.mp_evaluation.specs.Checkpoints.{kept_at, state_before, IsBorder}
+use Rattle.mp_evaluation.specs.declared.checkpoints.Checkpoint.{Checkpoint}
 use Rattle.mp_modules.specs.Memories.{blank}
-use Rattle.mp_engine.specs.Outcomes.{Outcome, end_of}
-use Rattle.mp_engine.specs.Runs.{end_memory}
+use Rattle.mp_evaluation.specs.Outcomes.{Outcome, end_of}
+use Rattle.mp_evaluation.specs.Runs.{end_memory}
 use Rattle.mp_redo.specs.declared.cell.Cell.{Cell}
 use Rattle.mp_redo.specs.declared.ledger.Ledger.{Ledger}
 use Rattle.mp_redo.specs.declared.line.Line.{Line}

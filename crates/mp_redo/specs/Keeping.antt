@@ -4,9 +4,9 @@ use Rattle.mp_modules.specs.declared.memory.Memory.{Memory}
 use Rattle.mp_records.specs.declared.module_record.ModuleRecord.{ModuleRecord}
 use Rattle.mp_netlist.specs.Slots.{slot_at}
 use Rattle.mp_netlist.specs.Circuit.{Circuit, module_at}
-use Rattle.mp_engine.specs.declared.checkpoints.Checkpoint.{Checkpoint}
-use Rattle.mp_engine.specs.Checkpoints.{state_before, IsBorder}
-use Rattle.mp_engine.specs.Outcomes.{Outcome}
+use Rattle.mp_evaluation.specs.declared.checkpoints.Checkpoint.{Checkpoint}
+use Rattle.mp_evaluation.specs.Checkpoints.{state_before, IsBorder}
+use Rattle.mp_evaluation.specs.Outcomes.{Outcome}
 use Rattle.mp_redo.specs.declared.cell.Cell.{Cell}
 use Rattle.mp_redo.specs.declared.ledger.Ledger.{Ledger}
 use Rattle.mp_redo.specs.Ledgers.{state_in, ledger_state, ledger_at, IsInOrder, IsOwn}

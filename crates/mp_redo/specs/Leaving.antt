@@ -4,15 +4,15 @@ use Rattle.mp_records.specs.declared.ids.ModuleId.{ModuleId}
 use Rattle.mp_records.specs.declared.module_record.ModuleRecord.{ModuleRecord}
 use Rattle.mp_netlist.specs.Slots.{slot_at}
 use Rattle.mp_netlist.specs.Circuit.{Circuit, module_at}
-use Rattle.mp_engine.specs.Outcomes.{Outcome}
+use Rattle.mp_evaluation.specs.Outcomes.{Outcome}
 use Rattle.mp_redo.specs.declared.cell.Cell.{Cell}
 use Rattle.mp_redo.specs.declared.ledger.Ledger.{Ledger}
 use Rattle.mp_redo.specs.declared.line.Line.{Line}
-use Rattle.mp_redo.specs.declared.stretch.Stretch.{Stretch}
+use Rattle.mp_work.specs.declared.stretch.Stretch.{Stretch}
 use Rattle.mp_redo.specs.Keeping.{AreLedgers, IsLedgerAt}
 use Rattle.mp_redo.specs.Ledgers.{state_in, ledger_at}
 use Rattle.mp_redo.specs.Redoing.{cell_at, IsCellAt, AreLines, AreTelling, IsListening, AreOpen}
-use Rattle.mp_redo.specs.Stretches.{stretch_at, AreStretchesTo}
+use Rattle.mp_work.specs.Stretches.{stretch_at, AreStretchesTo}
 
 -- a live module whose record hasn't changed has the state that the old run kept for a time
 pub record IsBack (run : Outcome) (time m : ℕ) (cell : Cell) : Type 0 where

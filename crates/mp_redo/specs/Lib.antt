@@ -1,12 +1,7 @@
-pub mod Revisions
-pub mod Stays
-pub mod Work
 pub mod LateLevels
 pub mod Lines
-pub mod Stretches
 pub mod Redoing
 pub mod Changes
-pub mod Merges
 pub mod Rings
 pub mod Parts
 pub mod Prefixes

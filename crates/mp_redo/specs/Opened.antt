@@ -2,15 +2,15 @@
 use Rattle.std.specs.Prelude.{◌≡◌, ◌⊎◌, ℕ, ◌<◌, ◌≤◌, true, false, List, Some, None, IsSome, length}
 use Rattle.mp_records.specs.declared.module_record.ModuleRecord.{ModuleRecord}
 use Rattle.mp_netlist.specs.Circuit.{Circuit, module_at}
-use Rattle.mp_engine.specs.Outcomes.{Outcome}
+use Rattle.mp_evaluation.specs.Outcomes.{Outcome}
 use Rattle.mp_redo.specs.declared.cell.Cell.{Cell}
 use Rattle.mp_redo.specs.declared.ledger.Ledger.{Ledger}
-use Rattle.mp_redo.specs.declared.stretch.Stretch.{Stretch}
+use Rattle.mp_work.specs.declared.stretch.Stretch.{Stretch}
 use Rattle.mp_redo.specs.Joins.{AreLike}
 use Rattle.mp_redo.specs.Keeping.{IsLedgerAt}
 use Rattle.mp_redo.specs.Ledgers.{ledger_at}
 use Rattle.mp_redo.specs.Redoing.{cell_at}
-use Rattle.mp_redo.specs.Stretches.{stretch_at}
+use Rattle.mp_work.specs.Stretches.{stretch_at}
 
 -- the module stands and is live, and no stretch of it has been opened yet
 pub record HasNoStretch (new : Circuit) (cells : List Cell) (m : ℕ) : Type 0 where

@@ -9,16 +9,16 @@ use Rattle.mp_records.specs.Outputs.{delay_of}
 use Rattle.mp_netlist.specs.Circuit.{Circuit, Drives, module_at}
 use Rattle.mp_model.specs.Waves.{level}
 use Rattle.mp_model.specs.Reach.{IsTouched}
-use Rattle.mp_engine.specs.Checkpoints.{state_before}
-use Rattle.mp_engine.specs.Marks.{is_marked, AreListed}
-use Rattle.mp_engine.specs.Outcomes.{Outcome, wave_of}
+use Rattle.mp_evaluation.specs.Checkpoints.{state_before}
+use Rattle.mp_evaluation.specs.Marks.{is_marked, AreListed}
+use Rattle.mp_evaluation.specs.Outcomes.{Outcome, wave_of}
 use Rattle.mp_redo.specs.declared.cell.Cell.{Cell}
 use Rattle.mp_redo.specs.declared.line.Line.{Line}
 use Rattle.mp_redo.specs.declared.line.Line.TheVariants.{Old, Own}
-use Rattle.mp_redo.specs.declared.stretch.Stretch.{Stretch}
+use Rattle.mp_work.specs.declared.stretch.Stretch.{Stretch}
 use Rattle.mp_redo.specs.Lines.{is_told, level_in, line_level, IsOwn}
-use Rattle.mp_redo.specs.Stretches.{stretch_at}
-use Rattle.mp_redo.specs.Work.{Differs, IsApartIn}
+use Rattle.mp_work.specs.Stretches.{stretch_at}
+use Rattle.mp_work.specs.Work.{Differs, IsApartIn}
 
 abbrev pub no_cell : Cell
 no_cell = record { live = false; touched = false; memory = blank; stretch = None }

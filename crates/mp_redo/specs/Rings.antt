@@ -2,7 +2,7 @@
 use Rattle.std.specs.Prelude.{◌≡◌, ◌⊎◌, ℕ, ◌+◌, ◌-◌, ◌<◌, ◌≤◌, ◌++◌, Bool, true, List, [], drop, length, take, nat_lt, if◌then◌else◌}
 use Rattle.std.specs.List.{Contains}
 use Rattle.mp_records.specs.declared.ids.ModuleId.{ModuleId}
-use Rattle.mp_engine.specs.Marks.{is_marked, AreListed}
+use Rattle.mp_evaluation.specs.Marks.{is_marked, AreListed}
 use Rattle.mp_redo.specs.Redoing.{looks_at}
 
 -- a list of modules for each of some units

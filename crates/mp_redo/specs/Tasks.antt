@@ -9,7 +9,7 @@ use Rattle.mp_model.specs.Waves.{level}
 use Rattle.mp_response.specs.declared.piece.Piece.{Piece}
 use Rattle.mp_response.specs.Pieces.{levels_at}
 use Rattle.mp_response.specs.Span.{IsSpan}
-use Rattle.mp_engine.specs.Outcomes.{Outcome}
+use Rattle.mp_evaluation.specs.Outcomes.{Outcome}
 use Rattle.mp_redo.specs.declared.join.Join.{Join}
 use Rattle.mp_redo.specs.declared.line.Line.{Line}
 use Rattle.mp_redo.specs.Answers.{IsHeardBy}

@@ -8,7 +8,7 @@ use Rattle.mp_records.specs.Outputs.{output_in}
 use Rattle.mp_depend.specs.Rows.{row_at}
 use Rattle.mp_netlist.specs.Circuit.{Circuit}
 use Rattle.mp_depend.specs.Known.{AreReaders}
-use Rattle.mp_engine.specs.Outcomes.{Outcome}
+use Rattle.mp_evaluation.specs.Outcomes.{Outcome}
 use Rattle.mp_redo.specs.declared.line.Line.{Line}
 use Rattle.mp_redo.specs.Lines.{is_told}
 use Rattle.mp_redo.specs.Redoing.{line_at, AreTelling, IsLooking}

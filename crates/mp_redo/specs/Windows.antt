@@ -2,8 +2,8 @@
 use Rattle.std.specs.Prelude.{◌≡◌, ℕ, ◌+◌, ◌<◌, ◌≤◌}
 use Rattle.mp_netlist.specs.Circuit.{Circuit}
 use Rattle.mp_netlist.specs.Delays.{least_delay}
-use Rattle.mp_engine.specs.Checkpoints.{IsBorder}
-use Rattle.mp_redo.specs.Work.{block_of, window_of}
+use Rattle.mp_evaluation.specs.Checkpoints.{IsBorder}
+use Rattle.mp_work.specs.Work.{block_of, window_of}
 
 -- from one time to another no later than the least delay after it, in the block that begins at c
 pub record IsShort (n : Circuit) (c from to : ℕ) : Type 0 where

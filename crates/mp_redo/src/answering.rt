@@ -14,7 +14,7 @@ use crate::opening::open_all;
 use crate::ring::Ring;
 use crate::waking::wake_outputs;
 use mp_depend::Readers;
-use mp_engine::Run;
+use mp_evaluation::Run;
 use mp_modules::Memory;
 use mp_netlist::{ModuleRecord, Netlist};
 use mp_response::Piece;

@@ -7,26 +7,25 @@ ghost use Rattle.mp_netlist.specs.Circuit.{Circuit, IsCircuit, module_at};
 ghost use Rattle.mp_model.specs.Reach.{IsTouched};
 ghost use Rattle.mp_depend.specs.Known.{AreReaders};
 ghost use Rattle.mp_depend.specs.Rows.{row_at};
-ghost use Rattle.mp_engine.specs.Checkpoints.{state_before};
-ghost use Rattle.mp_engine.specs.Marks.{is_marked};
-ghost use Rattle.mp_engine.specs.Outcomes.{Outcome};
+ghost use Rattle.mp_evaluation.specs.Checkpoints.{state_before};
+ghost use Rattle.mp_evaluation.specs.Marks.{is_marked};
+ghost use Rattle.mp_evaluation.specs.Outcomes.{Outcome};
 ghost use Rattle.mp_redo.specs.Joins.{AreLike};
 ghost use Rattle.mp_redo.specs.Redoing.{cell_at, line_at, IsCellAt, AreCells, AreLines, AreUntold, AreOpen, IsBefore, IsTracked, IsListed, IsLooking};
-ghost use Rattle.mp_redo.specs.Revisions.{IsRevision};
+ghost use Rattle.mp_work.specs.Revisions.{IsRevision};
 ghost use Rattle.mp_redo.specs.Rings.{AreKept};
-ghost use Rattle.mp_redo.specs.Stretches.{AreStretchesTo};
+ghost use Rattle.mp_work.specs.Stretches.{AreStretchesTo};
 
 use crate::cell::{Cell, is_live};
 use crate::line::Line;
 use crate::listing::{enter, tell};
 use crate::ring::Ring;
-use crate::stretch::Stretch;
-use crate::work_entries::window_end;
 use mp_depend::{Readers, touched};
-use mp_engine::CHECKPOINT_UNITS;
+use mp_evaluation::CHECKPOINT_UNITS;
 use mp_model::built;
 use mp_modules::{EventModule, Memory};
 use mp_netlist::{ModuleId, Netlist, WireId};
+use mp_work::{Stretch, window_end};
 use std::alloc::{AllocError, Global};
 
 /// The cells of all modules by number: those of touched modules are live, in the states in which they start.

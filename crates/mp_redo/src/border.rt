@@ -1,13 +1,13 @@
 //! The end of a block: states are kept, and modules whose states are those of the old run again are evaluated no longer.
 ghost use Rattle.std.specs.Prelude.{◌≡◌, ◌≢◌, ℕ, ◌<◌, true, OnOk, length};
 ghost use Rattle.std.specs.List.{Contains};
-ghost use Rattle.mp_engine.specs.Checkpoints.{IsBorder};
+ghost use Rattle.mp_evaluation.specs.Checkpoints.{IsBorder};
 ghost use Rattle.mp_redo.specs.Changes.{IsChange};
 ghost use Rattle.mp_redo.specs.Keeping.{AreLedgers, IsNextBorder};
 ghost use Rattle.mp_redo.specs.Leaving.{IsOverAt, IsCrossing};
 ghost use Rattle.mp_redo.specs.Redoing.{cell_at, AreOpen, IsBefore, IsListed};
-ghost use Rattle.mp_redo.specs.Stretches.{AreStretchesTo};
-ghost use Rattle.mp_redo.specs.Work.{IsWindow};
+ghost use Rattle.mp_work.specs.Stretches.{AreStretchesTo};
+ghost use Rattle.mp_work.specs.Work.{IsWindow};
 
 use crate::cell::{Cell, is_live};
 use crate::change::Change;
@@ -16,8 +16,8 @@ use crate::leaving::{end_stretch, hand_ledger_back, is_back, leave_cell, leave_w
 use crate::ledger::Ledger;
 use crate::line::Line;
 use crate::ring::Ring;
-use crate::stretch::Stretch;
 use mp_netlist::ModuleId;
+use mp_work::Stretch;
 use std::alloc::AllocError;
 
 /// A module, if it stands and is live, goes on in the next block, or is live no longer.

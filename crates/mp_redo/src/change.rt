@@ -1,7 +1,7 @@
 //! A change of a netlist.
 use crate::parts::Part;
 use mp_depend::Readers;
-use mp_engine::Run;
+use mp_evaluation::Run;
 use mp_netlist::Netlist;
 
 /// A netlist with its run, and the netlist that has become of it, with the readers of this one's wires and

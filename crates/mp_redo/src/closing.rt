@@ -1,7 +1,7 @@
 //! Lines are handed back by a module that is evaluated again no longer.
 ghost use Rattle.std.specs.Prelude.{◌≡◌, ℕ, ◌+◌, ◌^◌, ◌<◌, false, Some, length};
 ghost use Rattle.mp_records.specs.Outputs.{output_in};
-ghost use Rattle.mp_engine.specs.Outcomes.{Outcome, wave_of};
+ghost use Rattle.mp_evaluation.specs.Outcomes.{Outcome, wave_of};
 ghost use Rattle.mp_redo.specs.Answers.{AreApart};
 ghost use Rattle.mp_redo.specs.Closing.{HasClosed};
 ghost use Rattle.mp_redo.specs.Lines.{is_told, level_in};

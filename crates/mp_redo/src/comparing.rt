@@ -2,12 +2,12 @@
 ghost use Rattle.std.specs.Prelude.{◌≡◌, ◌≢◌, ℕ, ◌-◌, true, false};
 ghost use Rattle.std.specs.List.{Contains};
 ghost use Rattle.mp_records.specs.declared.ports.Input.{Input as Port};
-ghost use Rattle.mp_engine.specs.Outcomes.{wave_of};
+ghost use Rattle.mp_evaluation.specs.Outcomes.{wave_of};
 ghost use Rattle.mp_redo.specs.Lines.{level_in};
 ghost use Rattle.mp_redo.specs.Redoing.{level_at};
 
 use crate::line::Line;
-use mp_engine::Run;
+use mp_evaluation::Run;
 use mp_netlist::Input;
 
 /// Whether an input does at a time.

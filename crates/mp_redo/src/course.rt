@@ -9,12 +9,11 @@ use crate::ledger::Ledger;
 use crate::line::Line;
 use crate::ring::Ring;
 use crate::starting::first_lines;
-use crate::stretch::Stretch;
 use crate::unit::{pass_gate, run_unit};
-use crate::work_entries::window_end;
-use mp_engine::CHECKPOINT_UNITS;
+use mp_evaluation::CHECKPOINT_UNITS;
 use mp_netlist::ModuleId;
 use mp_phase::{Crew, Gate};
+use mp_work::{Stretch, window_end};
 use std::alloc::{AllocError, Global};
 use std::sync::Wait;
 use std::thread::Threads;
@@ -40,14 +39,14 @@ pub(crate) struct Course {
 impl Course {
     ghost use Rattle.std.specs.Prelude.{◌≡◌, ℕ, ◌+◌, ◌-◌, ◌<◌, ◌≤◌, [], false, IfOk, OnOk, length};
     ghost use Rattle.mp_netlist.specs.Delays.{least_delay};
-    ghost use Rattle.mp_engine.specs.Checkpoints.{IsBorder};
-    ghost use Rattle.mp_engine.specs.Marks.{is_marked};
+    ghost use Rattle.mp_evaluation.specs.Checkpoints.{IsBorder};
+    ghost use Rattle.mp_evaluation.specs.Marks.{is_marked};
     ghost use Rattle.mp_redo.specs.Changes.{IsChange};
     ghost use Rattle.mp_redo.specs.Courses.{last_block, IsCourse};
     ghost use Rattle.mp_redo.specs.Joins.{HaveAnswered};
     ghost use Rattle.mp_redo.specs.Redoing.{looks_at, IsBefore};
     ghost use Rattle.mp_redo.specs.Windows.{IsShort, IsWindows};
-    ghost use Rattle.mp_redo.specs.Work.{block_of, window_end, window_of, IsWindow};
+    ghost use Rattle.mp_work.specs.Work.{block_of, window_end, window_of, IsWindow};
 
     /// Before time 0.
     pub(crate) fn first(alloc: Global, change: &Change<'_>) -> Result<Self, AllocError>
@@ -301,7 +300,7 @@ impl Course {
 }
 
 ghost use Rattle.std.specs.Prelude.{◌≡◌, ℕ, ◌+◌, ◌-◌, ◌<◌, ◌≤◌, false, [], IfOk, length};
-ghost use Rattle.mp_engine.specs.Marks.{is_marked};
+ghost use Rattle.mp_evaluation.specs.Marks.{is_marked};
 ghost use Rattle.mp_redo.specs.Redoing.{looks_at};
 
 /// Passes at once the units from a time on in which nobody looks, up to another time. It returns where they end.

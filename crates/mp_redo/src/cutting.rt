@@ -2,12 +2,12 @@
 ghost use Rattle.std.specs.Prelude.{◌≡◌, ℕ, ◌-◌, ◌<◌, ◌≤◌, IfOk};
 ghost use Rattle.mp_wave.specs.Waveform.{level_of, last_from};
 ghost use Rattle.mp_response.specs.Pieces.{IsInPiece, piece_level};
-ghost use Rattle.mp_engine.specs.Outcomes.{wave_of};
+ghost use Rattle.mp_evaluation.specs.Outcomes.{wave_of};
 ghost use Rattle.mp_redo.specs.Lines.{level_in, line_level};
 ghost use Rattle.mp_redo.specs.Prefixes.{switched};
 
 use crate::line::Line;
-use mp_engine::Run;
+use mp_evaluation::Run;
 use mp_netlist::WireId;
 use mp_response::{Changes, InPiece, cut_delayed};
 use mp_wave::Wave;

@@ -1,7 +1,7 @@
 //! The modules that are due in a unit: those that are live answer, and of the others those that are to join are listed.
 ghost use Rattle.std.specs.Prelude.{◌≡◌, ℕ, ◌+◌, ◌<◌, ◌⊎◌, ◌++◌, ◌∷◌, true, false, Some, None, IsSome, [], OnOk, length, slice_set, if◌then◌else◌};
 ghost use Rattle.std.specs.List.{Contains};
-ghost use Rattle.mp_engine.specs.Marks.{is_marked};
+ghost use Rattle.mp_evaluation.specs.Marks.{is_marked};
 ghost use Rattle.mp_model.specs.Levels.{built};
 ghost use Rattle.mp_netlist.specs.Circuit.{module_at};
 ghost use Rattle.mp_netlist.specs.Slots.{slot_at};
@@ -19,7 +19,7 @@ use crate::line::Line;
 use crate::parts::part_at;
 use crate::ring::Ring;
 use crate::stepping::{give_outputs, go_on};
-use mp_engine::Run;
+use mp_evaluation::Run;
 use mp_modules::Memory;
 use mp_netlist::{ModuleId, ModuleRecord};
 use mp_storage::AnyModule;

@@ -6,7 +6,7 @@ ghost use Rattle.mp_redo.specs.Redoing.{level_at};
 
 use crate::cutting::cut;
 use crate::line::Line;
-use mp_engine::Run;
+use mp_evaluation::Run;
 use mp_netlist::Input;
 use mp_response::InPiece;
 use std::alloc::{AllocError, Global};

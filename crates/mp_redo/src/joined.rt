@@ -9,15 +9,15 @@ ghost use Rattle.mp_redo.specs.Keeping.{IsLedgerAt, AreLedgers};
 ghost use Rattle.mp_redo.specs.Ledgers.{ledger_at, IsInOrder};
 ghost use Rattle.mp_redo.specs.Opened.{HasNoStretch, HaveOpened, HaveJoined};
 ghost use Rattle.mp_redo.specs.Redoing.{cell_at, AreCells, AreOpen, IsListed};
-ghost use Rattle.mp_redo.specs.Stretches.{AreStretchesTo};
-ghost use Rattle.mp_redo.specs.Work.{block_of, IsWindow};
+ghost use Rattle.mp_work.specs.Stretches.{AreStretchesTo};
+ghost use Rattle.mp_work.specs.Work.{block_of, IsWindow};
 
 use crate::cell::Cell;
 use crate::keeping::join_ledger;
 use crate::ledger::Ledger;
-use crate::stretch::Stretch;
-use mp_engine::Run;
+use mp_evaluation::Run;
 use mp_netlist::{ModuleId, Netlist};
+use mp_work::Stretch;
 use std::alloc::{AllocError, Global};
 
 /// Whether a module stands and is live, and no stretch of it has been opened yet.

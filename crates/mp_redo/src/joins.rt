@@ -1,7 +1,7 @@
 //! Modules join those that are evaluated again, each with what it did from its block's begin on.
 ghost use Rattle.std.specs.Prelude.{◌≡◌, ◌∷◌, ℕ, ◌+◌, ◌<◌, [], true, false, Some, OnOk, length, slice_set};
 ghost use Rattle.std.specs.List.{Contains};
-ghost use Rattle.mp_engine.specs.Marks.{is_marked};
+ghost use Rattle.mp_evaluation.specs.Marks.{is_marked};
 ghost use Rattle.mp_netlist.specs.Circuit.{module_at};
 ghost use Rattle.mp_phase.specs.Phase.{AreDone};
 ghost use Rattle.mp_redo.specs.Changes.{IsChange};

@@ -2,13 +2,13 @@
 ghost use Rattle.std.specs.Prelude.{◌≡◌, ℕ, ◌+◌, ◌<◌, ◌^◌, true, false, IfOk, OnOk};
 ghost use Rattle.mp_records.specs.declared.module_record.ModuleRecord.{ModuleRecord as Part};
 ghost use Rattle.mp_netlist.specs.Circuit.{Circuit};
-ghost use Rattle.mp_engine.specs.Outcomes.{Outcome};
+ghost use Rattle.mp_evaluation.specs.Outcomes.{Outcome};
 ghost use Rattle.mp_redo.specs.Keeping.{IsLedgerAt, IsStateAt, IsNextBorder, HasKept};
 ghost use Rattle.mp_redo.specs.Ledgers.{IsInOrder, IsOwn};
 
 use crate::cell::Cell;
 use crate::ledger::Ledger;
-use mp_engine::{Checkpoints, Run};
+use mp_evaluation::{Checkpoints, Run};
 use mp_netlist::{ModuleId, Netlist};
 use std::alloc::{AllocError, Global};
 

@@ -9,9 +9,9 @@ use crate::keeping::leave_ledger;
 use crate::ledger::Ledger;
 use crate::listing::enter;
 use crate::ring::Ring;
-use crate::stretch::Stretch;
-use mp_engine::Run;
+use mp_evaluation::Run;
 use mp_netlist::ModuleId;
+use mp_work::Stretch;
 
 /// Whether a live module whose record hasn't changed has the state that the old run kept for a time.
 pub(crate) fn is_back(run: &Run, cell: &Cell, id: ModuleId, time: u32) -> bool
@@ -52,7 +52,7 @@ ghost use Rattle.std.specs.Prelude.{Some, OnOk};
 ghost use Rattle.std.specs.List.{Contains};
 ghost use Rattle.mp_netlist.specs.Circuit.{IsCircuit, module_at};
 ghost use Rattle.mp_depend.specs.Known.{AreReaders};
-ghost use Rattle.mp_engine.specs.Outcomes.{Outcome};
+ghost use Rattle.mp_evaluation.specs.Outcomes.{Outcome};
 ghost use Rattle.mp_redo.specs.Closing.{HasClosed};
 ghost use Rattle.mp_redo.specs.Redoing.{looks_at};
 ghost use Rattle.mp_redo.specs.Rings.{AreKept};

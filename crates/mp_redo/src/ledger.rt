@@ -1,5 +1,5 @@
 //! A module's states that are kept after a change of its netlist, over those that the old run kept.
-use mp_engine::{Checkpoints, Run};
+use mp_evaluation::{Checkpoints, Run};
 use mp_modules::Memory;
 use mp_netlist::ModuleId;
 use std::alloc::{AllocError, Global};
@@ -18,8 +18,8 @@ impl Ledger {
     ghost use Rattle.std.specs.Arc.{arc_value};
     ghost use Rattle.mp_netlist.specs.Slots.{slot_at};
     ghost use Rattle.mp_modules.specs.Memories.{blank};
-    ghost use Rattle.mp_engine.specs.Checkpoints.{kept_at};
-    ghost use Rattle.mp_engine.specs.declared.checkpoints.Checkpoint.{Checkpoint as State};
+    ghost use Rattle.mp_evaluation.specs.Checkpoints.{kept_at};
+    ghost use Rattle.mp_evaluation.specs.declared.checkpoints.Checkpoint.{Checkpoint as State};
     ghost use Rattle.mp_redo.specs.Ledgers.{state_in, ledger_state, IsInOrder, IsOwn, KeepsTo};
 
     /// The states before the units of the times below an end as a list.
@@ -123,7 +123,7 @@ ghost use Rattle.std.specs.Prelude.{◌≡◌, ℕ, ◌<◌, ◌≤◌, nat_lt, 
 ghost use Rattle.std.specs.Arc.{arc_value};
 ghost use Rattle.mp_netlist.specs.Slots.{slot_at};
 ghost use Rattle.mp_modules.specs.Memories.{blank};
-ghost use Rattle.mp_engine.specs.Checkpoints.{kept_at};
+ghost use Rattle.mp_evaluation.specs.Checkpoints.{kept_at};
 ghost use Rattle.mp_redo.specs.Ledgers.{state_in, AreTimesTo, KeepsTo};
 
 /// The states that a list keeps for times below an end.

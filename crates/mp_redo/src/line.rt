@@ -1,7 +1,7 @@
 //! A wire's levels after a change of its netlist, over its wave before.
 use crate::own_wave::OwnWave;
 use crate::prefix::{run_after, run_before};
-use mp_engine::Run;
+use mp_evaluation::Run;
 use mp_netlist::WireId;
 use mp_wave::WaveBuilder;
 use std::alloc::{AllocError, Global};
@@ -19,7 +19,7 @@ pub(crate) enum Line {
 }
 
 ghost use Rattle.std.specs.Prelude.{◌≡◌};
-ghost use Rattle.mp_engine.specs.Outcomes.{wave_of};
+ghost use Rattle.mp_evaluation.specs.Outcomes.{wave_of};
 ghost use Rattle.mp_redo.specs.Lines.{level_in};
 
 /// The level that a wire had in a run at a time, 0 where there was none.
@@ -36,7 +36,7 @@ pub(crate) fn run_level(run: &Run, wire: WireId, time: u32) -> u64
 impl Line {
     ghost use Rattle.std.specs.Prelude.{◌≡◌, ◌≢◌, ◌↔◌, ◌⊎◌, ℕ, ◌+◌, ◌-◌, ◌<◌, ◌≤◌, Option, nat_lt, if◌then◌else◌, true, false, IfOk, IfSome, OnOk, IsTrue};
     ghost use Rattle.mp_wave.specs.Waveform.{Waveform};
-    ghost use Rattle.mp_engine.specs.Outcomes.{wave_of};
+    ghost use Rattle.mp_evaluation.specs.Outcomes.{wave_of};
     ghost use Rattle.mp_redo.specs.Lines.{is_told, level_in, line_level, with_told, IsOwn};
     ghost use Rattle.mp_redo.specs.Prefixes.{IsUpTo};
 

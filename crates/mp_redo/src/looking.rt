@@ -12,7 +12,7 @@ use crate::line::Line;
 use crate::listing::enter;
 use crate::news::next_news;
 use crate::ring::Ring;
-use mp_engine::Run;
+use mp_evaluation::Run;
 use mp_netlist::{Input, ModuleId, WireId};
 use std::alloc::AllocError;
 

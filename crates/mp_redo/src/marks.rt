@@ -1,6 +1,6 @@
 //! Modules that are marked and listed.
 ghost use Rattle.std.specs.Prelude.{◌∷◌, [], OnOk};
-ghost use Rattle.mp_engine.specs.Marks.{AreAdded};
+ghost use Rattle.mp_evaluation.specs.Marks.{AreAdded};
 
 use mp_netlist::ModuleId;
 use std::alloc::AllocError;

@@ -2,12 +2,12 @@
 ghost use Rattle.std.specs.Prelude.{◌≡◌, ℕ, ◌+◌, ◌<◌, ◌≤◌, true, false};
 ghost use Rattle.mp_wave.specs.Waveform.{last_time, level_of};
 ghost use Rattle.mp_wave.specs.WaveChanges.{changes_in};
-ghost use Rattle.mp_engine.specs.Outcomes.{wave_of};
+ghost use Rattle.mp_evaluation.specs.Outcomes.{wave_of};
 ghost use Rattle.mp_redo.specs.Lines.{level_in, line_level};
 
 use crate::line::Line;
 use crate::own_wave::OwnWave;
-use mp_engine::Run;
+use mp_evaluation::Run;
 use mp_netlist::WireId;
 use mp_wave::{Wave, WaveChanges};
 

@@ -6,7 +6,7 @@ ghost use Rattle.mp_redo.specs.Redoing.{line_at, level_at};
 ghost use Rattle.mp_redo.specs.Answers.{HasOpenedTo, AreApart};
 
 use crate::line::Line;
-use mp_engine::Run;
+use mp_evaluation::Run;
 use mp_netlist::Output;
 use std::alloc::{AllocError, Global};
 

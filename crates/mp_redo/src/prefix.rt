@@ -3,11 +3,11 @@ ghost use Rattle.std.specs.Prelude.{◌≡◌, ◌-◌, ◌^◌, ◌<◌, ◌≤
 ghost use Rattle.mp_wave.specs.Waveform.{level_of};
 ghost use Rattle.mp_wave.specs.WaveChanges.{changes_in};
 ghost use Rattle.mp_model.specs.Tracks.{AreTimesIn, held_all};
-ghost use Rattle.mp_engine.specs.Outcomes.{wave_of};
+ghost use Rattle.mp_evaluation.specs.Outcomes.{wave_of};
 ghost use Rattle.mp_redo.specs.Lines.{level_in};
 ghost use Rattle.mp_redo.specs.Prefixes.{switched, IsUpTo};
 
-use mp_engine::Run;
+use mp_evaluation::Run;
 use mp_netlist::WireId;
 use mp_wave::{Wave, WaveBuilder, WaveChanges};
 use std::alloc::{AllocError, Global};

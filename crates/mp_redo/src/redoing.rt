@@ -1,18 +1,18 @@
 //! What has changed with a netlist is evaluated again.
 ghost use Rattle.std.specs.Prelude.{◌≡◌, IfOk};
-ghost use Rattle.mp_engine.specs.Runs.{IsRun};
-ghost use Rattle.mp_redo.specs.Revisions.{IsRevision};
-ghost use Rattle.mp_redo.specs.Work.{IsWork};
+ghost use Rattle.mp_evaluation.specs.Runs.{IsRun};
+ghost use Rattle.mp_work.specs.Revisions.{IsRevision};
+ghost use Rattle.mp_work.specs.Work.{IsWork};
 
 use crate::change::Change;
 use crate::course::Course;
 use crate::finishing::finished;
 use crate::parts::parts_of;
-use crate::work::Work;
 use mp_depend::Readers;
-use mp_engine::Run;
+use mp_evaluation::Run;
 use mp_netlist::Netlist;
 use mp_phase::{Crew, Gate};
+use mp_work::Work;
 use std::alloc::{AllocError, Global};
 use std::sync::Wait;
 use std::thread::Threads;

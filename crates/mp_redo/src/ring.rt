@@ -30,7 +30,7 @@ impl Model for Ring {
 impl Ring {
     ghost use Rattle.std.specs.Prelude.{◌≡◌, ℕ, ◌+◌, ◌<◌, ◌≤◌, ◌++◌, ◌∷◌, [], IfOk, OnOk, drop, length, map, slice_index_or, slice_set};
     ghost use Rattle.mp_records.specs.declared.ids.ModuleId.{ModuleId as Id};
-    ghost use Rattle.mp_engine.specs.Marks.{AreAdded};
+    ghost use Rattle.mp_evaluation.specs.Marks.{AreAdded};
     ghost use Rattle.mp_redo.specs.Redoing.{looks_at};
 
     /// So many lists, without modules.

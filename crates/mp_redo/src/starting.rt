@@ -1,12 +1,12 @@
 //! The lines of all wires before anything is evaluated again.
 ghost use Rattle.std.specs.Prelude.{◌≡◌, ℕ, false, IfOk};
 ghost use Rattle.mp_netlist.specs.Drivers.{driver};
-ghost use Rattle.mp_engine.specs.Outcomes.{Outcome};
-ghost use Rattle.mp_engine.specs.Runs.{IsRun};
+ghost use Rattle.mp_evaluation.specs.Outcomes.{Outcome};
+ghost use Rattle.mp_evaluation.specs.Runs.{IsRun};
 ghost use Rattle.mp_redo.specs.Drivers.{driver_in};
 ghost use Rattle.mp_redo.specs.declared.line.Line.TheVariants.{Own};
 ghost use Rattle.mp_redo.specs.Redoing.{AreCells, AreLines, AreUntold, cell_at};
-ghost use Rattle.mp_redo.specs.Revisions.{IsRevision};
+ghost use Rattle.mp_work.specs.Revisions.{IsRevision};
 ghost use Rattle.mp_redo.specs.Starts.{IsFirstLine};
 
 use crate::cell::Cell;

@@ -13,7 +13,7 @@ use crate::line::{Line, run_level};
 use crate::listing::tell;
 use crate::ring::Ring;
 use mp_depend::Readers;
-use mp_engine::Run;
+use mp_evaluation::Run;
 use mp_modules::{EventModule, MOST_INPUTS, Memory};
 use mp_netlist::{Input, ModuleId, ModuleRecord, Output};
 use mp_storage::AnyModule;
@@ -61,7 +61,7 @@ pub(crate) fn give_outputs(
 }
 
 ghost use Rattle.std.specs.Prelude.{◌-◌, ◌≤◌, true, IfSome, map, take, slice_set};
-ghost use Rattle.mp_engine.specs.Outcomes.{Outcome};
+ghost use Rattle.mp_evaluation.specs.Outcomes.{Outcome};
 ghost use Rattle.std.specs.List.{Contains};
 ghost use Rattle.mp_records.specs.declared.ports.Input.{Input as Port};
 ghost use Rattle.mp_model.specs.Levels.{built};

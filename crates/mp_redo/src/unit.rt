@@ -1,7 +1,7 @@
 //! A re-evaluation goes through one unit.
 ghost use Rattle.std.specs.Prelude.{◌≡◌, ℕ, ◌+◌, ◌<◌, false, [], OnOk, length};
 ghost use Rattle.std.specs.List.{Contains};
-ghost use Rattle.mp_engine.specs.Marks.{is_marked};
+ghost use Rattle.mp_evaluation.specs.Marks.{is_marked};
 ghost use Rattle.mp_redo.specs.Changes.{IsChange};
 ghost use Rattle.mp_redo.specs.Joins.{HaveAnswered};
 ghost use Rattle.mp_redo.specs.Looking.{WillHear};

@@ -2,12 +2,14 @@
 ghost use Rattle.std.specs.Prelude.{◌≡◌, IfOk};
 
 use crate::prepared::Prepared;
-use mp_engine::{Run, evaluate};
+use mp_engine::evaluate;
+use mp_evaluation::Run;
 use mp_netlist::{Edit, EditError, Netlist};
 use mp_phase::{Crew, Gate};
-use mp_redo::laws::edits_revise;
-use mp_redo::{Work, redo};
+use mp_redo::redo;
 use mp_version::{MAX_EDITS, Version};
+use mp_work::Work;
+use mp_work::laws::edits_revise;
 use std::alloc::{AllocError, Global};
 use std::marker::Model;
 use std::sync::{Arc, Wait};
@@ -32,7 +34,7 @@ impl<G: Gate> Model for Session<G> {
 
     ghost Value = { Standing };
 
-    ghost use Rattle.mp_engine.specs.Runs.{IsRun};
+    ghost use Rattle.mp_evaluation.specs.Runs.{IsRun};
     ghost use Rattle.mp_version.specs.Stories.{present};
     ghost use Rattle.mp_session.specs.LastWork.{IsLastWork};
 
@@ -45,10 +47,10 @@ impl<G: Gate> Session<G> {
     ghost use Rattle.std.specs.Prelude.{◌≡◌, ◌<◌, ◌≤◌, Ok, IfOk, IfErr, OnOk, OnErr, length};
     ghost use Rattle.std.specs.Arc.{arc_value};
     ghost use Rattle.mp_netlist.specs.Edits.{RefusedBy, after};
-    ghost use Rattle.mp_engine.specs.Runs.{IsRun};
+    ghost use Rattle.mp_evaluation.specs.Runs.{IsRun};
     ghost use Rattle.mp_version.specs.Limits.{max_edits};
     ghost use Rattle.mp_version.specs.Stories.{present, judged, one_more};
-    ghost use Rattle.mp_redo.specs.Work.{IsWork};
+    ghost use Rattle.mp_work.specs.Work.{IsWork};
     ghost use Rattle.mp_session.specs.LastWork.{IsLastWork};
     ghost use Rattle.mp_session.specs.Sessions.{opened};
 

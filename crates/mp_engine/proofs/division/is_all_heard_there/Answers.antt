@@ -1,5 +1,5 @@
 use Rattle.std.proofs.Common.{arith}
-use Rattle.mp_engine.proofs.MarkLemmas.{marked_within}
+use Rattle.mp_evaluation.proofs.MarkLemmas.{marked_within}
 use Rattle.mp_engine.proofs.division.is_all_heard_there.Goals as goal
 
 pub returns : goal.returns

@@ -1,6 +1,6 @@
 use Rattle.std.proofs.Common.{◌≡◌, ℕ, ◌+◌, ◌-◌, ◌<◌, sym, subst, arith}
 use Rattle.mp_engine.specs.Cells.{AreCells}
-use Rattle.mp_engine.specs.Checkpoints.{AreKept}
+use Rattle.mp_engine.specs.Keeping.{AreKept}
 use Rattle.mp_engine.specs.Starts.{no_cell}
 use Rattle.mp_engine.proofs.FinishLemmas.{checkpoints_are}
 use Rattle.mp_engine.proofs.UnitLemmas.{cells_all}

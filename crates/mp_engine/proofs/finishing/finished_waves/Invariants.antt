@@ -3,7 +3,7 @@ use Rattle.std.specs.Arc.{arc_value}
 use Rattle.mp_netlist.specs.Circuit.{wire_at}
 use Rattle.mp_model.specs.Waves.{wave, slot_wave}
 use Rattle.mp_engine.specs.Lines.{building_at}
-use Rattle.mp_engine.specs.Outcomes.{AreSlots}
+use Rattle.mp_evaluation.specs.Outcomes.{AreSlots}
 use Rattle.mp_engine.proofs.finishing.finished_waves.Given as goal
 
 -- those so far, and the others are left

@@ -2,7 +2,7 @@ use Rattle.std.proofs.Common.{◌≡◌, ◌≤◌, ℕ, [], length, map, option
 use Rattle.std.specs.Arc.{arc_value}
 use Rattle.mp_records.specs.declared.module_record.ModuleRecord.{ModuleRecord}
 use Rattle.mp_netlist.specs.Circuit.{module_at}
-use Rattle.mp_engine.specs.Outcomes.{AreSlots}
+use Rattle.mp_evaluation.specs.Outcomes.{AreSlots}
 use Rattle.mp_engine.proofs.finishing.shared_checkpoints.Given as goal
 
 -- those so far, and the others are left

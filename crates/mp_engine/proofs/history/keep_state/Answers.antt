@@ -1,10 +1,10 @@
 use Rattle.std.proofs.Common.{◌≡◌, ◌<◌, ◌++◌, ◌∷◌, [], true, false, Result, Ok, Err, OnOk, List, length, slice_index_or, slice_set, ap, sym, subst, ◌∙◌, arith}
 use Rattle.std.proofs.lemmas.List.{get_or_read, get_or_default}
-use Rattle.mp_engine.specs.Checkpoints.{AreKept}
-use Rattle.mp_engine.specs.declared.checkpoints.Checkpoint.{Checkpoint}
-use Rattle.mp_engine.specs.Marks.{is_marked}
+use Rattle.mp_engine.specs.Keeping.{AreKept}
+use Rattle.mp_evaluation.specs.declared.checkpoints.Checkpoint.{Checkpoint}
+use Rattle.mp_evaluation.specs.Marks.{is_marked}
 use Rattle.mp_engine.proofs.CheckpointLemmas.{kept_more}
-use Rattle.mp_engine.proofs.MarkLemmas.{marked_within}
+use Rattle.mp_evaluation.proofs.MarkLemmas.{marked_within}
 use Rattle.mp_engine.proofs.history.keep_state.Goals as goal
 
 on_ok : {T E : Type 0} (r : Result T E) (P Q : Type 0) → (P → Q) → OnOk r P → OnOk r Q

@@ -1,6 +1,6 @@
 use Rattle.std.proofs.Common.{drop}
-use Rattle.mp_engine.specs.Checkpoints.{AreKept}
-use Rattle.mp_engine.specs.Marks.{AreListed}
+use Rattle.mp_engine.specs.Keeping.{AreKept}
+use Rattle.mp_evaluation.specs.Marks.{AreListed}
 use Rattle.mp_engine.proofs.history.keep_states.Given as goal
 
 -- the modules that answered are among the rest

@@ -5,7 +5,7 @@ use Rattle.std.specs.Global.{Global}
 use Rattle.mp_engine.specs.declared.entry.Entries.{Entries}
 use Rattle.mp_engine.specs.declared.letters.Letter.{Letter}
 use Rattle.mp_engine.specs.Letters.{AreEntered}
-use Rattle.mp_engine.specs.Marks.{is_marked}
+use Rattle.mp_evaluation.specs.Marks.{is_marked}
 use Rattle.mp_engine.proofs.LetterLemmas.{entered_more, entered_skip}
 use Rattle.mp_engine.proofs.letters.enter_letters.Goals as goal
 use Rattle.mp_engine.proofs.letters.enter_letters.Goals.{then-is_heard+in_ok-enter, else-is_heard}

@@ -1,6 +1,6 @@
 use Rattle.std.proofs.Common.{◌≡◌, drop}
 use Rattle.std.specs.List.{list_any}
-use Rattle.mp_engine.specs.Marks.{is_marked}
+use Rattle.mp_evaluation.specs.Marks.{is_marked}
 use Rattle.mp_engine.proofs.letters.is_heard_anywhere.Given as goal
 
 -- it is among the rest, if anywhere

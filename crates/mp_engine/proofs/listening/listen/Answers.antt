@@ -1,9 +1,9 @@
 use Rattle.std.proofs.Common.{◌≡◌, Bool, true, ◌∷◌, [], subst, arith, inl, inr}
 use Rattle.std.specs.Prelude.{if◌then◌else◌}
 use Rattle.std.proofs.lemmas.Bool.{cases_Bool}
-use Rattle.mp_engine.specs.Marks.{is_marked, AreAdded}
+use Rattle.mp_evaluation.specs.Marks.{is_marked, AreAdded}
 use Rattle.mp_engine.specs.Taps.{IsUnheard, StaysUntil}
-use Rattle.mp_engine.proofs.MarkLemmas.{contains_one}
+use Rattle.mp_evaluation.proofs.MarkLemmas.{contains_one}
 use Rattle.mp_engine.proofs.TapLemmas.{same_now, same_later}
 use Rattle.mp_engine.proofs.listening.listen.Goals as goal
 

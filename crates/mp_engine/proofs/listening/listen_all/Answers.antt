@@ -3,7 +3,7 @@ use Rattle.std.proofs.lemmas.List.{drop_more}
 use Rattle.mp_model.proofs.SlotLemmas.{slot_within}
 use Rattle.mp_engine.specs.declared.tap.Tap.{Tap}
 use Rattle.mp_engine.specs.Taps.{tap_of, IsTold, IsCalled, IsListening}
-use Rattle.mp_engine.proofs.MarkLemmas.{added_none, added_more}
+use Rattle.mp_evaluation.proofs.MarkLemmas.{added_none, added_more}
 use Rattle.mp_engine.proofs.CellLemmas.{input_within}
 use Rattle.mp_engine.proofs.TapLemmas.{listening_more}
 use Rattle.mp_engine.proofs.listening.listen_all.Goals as goal

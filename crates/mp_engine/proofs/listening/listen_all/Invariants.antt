@@ -1,5 +1,5 @@
 use Rattle.std.proofs.Common.{◌≡◌, [], length, drop}
-use Rattle.mp_engine.specs.Marks.{AreAdded}
+use Rattle.mp_evaluation.specs.Marks.{AreAdded}
 use Rattle.mp_engine.specs.Taps.{AreListening}
 use Rattle.mp_engine.proofs.listening.listen_all.Given as goal
 

@@ -1,7 +1,7 @@
 use Rattle.std.proofs.Common.{[], map, option_map, slice_index_or}
 use Rattle.std.specs.Arc.{arc_value}
 use Rattle.mp_netlist.specs.Slots.{slot_at}
-use Rattle.mp_engine.specs.Outcomes.{AreSlots}
+use Rattle.mp_evaluation.specs.Outcomes.{AreSlots}
 use Rattle.mp_engine.specs.PartRuns.{kept_in}
 use Rattle.mp_engine.specs.Regions.{home_of}
 use Rattle.mp_engine.proofs.merging.merged_checkpoints.Given as goal

@@ -2,7 +2,7 @@ use Rattle.std.proofs.Common.{map, option_map}
 use Rattle.std.specs.Arc.{arc_value}
 use Rattle.mp_netlist.specs.Circuit.{wire_at}
 use Rattle.mp_model.specs.Waves.{slot_wave}
-use Rattle.mp_engine.specs.Outcomes.{AreSlots}
+use Rattle.mp_evaluation.specs.Outcomes.{AreSlots}
 use Rattle.mp_engine.proofs.merging.merged_waves.Given as goal
 
 -- those so far

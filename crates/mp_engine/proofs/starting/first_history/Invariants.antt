@@ -3,7 +3,7 @@ use Rattle.mp_records.specs.declared.module_record.ModuleRecord.{ModuleRecord}
 use Rattle.mp_storage.specs.AnyModules.{start}
 use Rattle.mp_netlist.specs.Circuit.{module_at}
 use Rattle.mp_model.specs.Levels.{built}
-use Rattle.mp_engine.specs.Marks.{is_marked}
+use Rattle.mp_evaluation.specs.Marks.{is_marked}
 use Rattle.mp_engine.proofs.starting.first_history.Given as goal
 
 -- those so far

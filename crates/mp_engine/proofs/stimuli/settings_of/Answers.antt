@@ -1,7 +1,7 @@
 use Rattle.std.proofs.Common.{◌≡◌, ◌+◌, ◌++◌, true, false, [], map, length, unwrap_or, Vec, Global, rules, ap, sym, subst, ◌∙◌, arith}
 use Rattle.std.proofs.lemmas.List.Sorted.{IsNonDecreasingBy-from_sort_by_key}
 use Rattle.mp_engine.specs.declared.stimuli.Setting.{Setting}
-use Rattle.mp_engine.specs.Marks.{is_marked}
+use Rattle.mp_evaluation.specs.Marks.{is_marked}
 use Rattle.mp_engine.specs.Settings.{setting_of}
 use Rattle.mp_engine.proofs.SettingLemmas.{AreSetBelow, below_none, below_more, below_heard, settings_sorted}
 use Rattle.mp_engine.proofs.stimuli.settings_of.Goals as goal

@@ -3,7 +3,7 @@ use Rattle.std.specs.List.{Contains}
 use Rattle.std.proofs.lemmas.List.{length_push, get_or_default}
 use Rattle.mp_records.specs.declared.ids.ModuleId.{ModuleId}
 use Rattle.mp_model.proofs.SlotLemmas.{slot_within}
-use Rattle.mp_engine.specs.Marks.{is_marked}
+use Rattle.mp_evaluation.specs.Marks.{is_marked}
 use Rattle.mp_redo.specs.declared.cell.Cell.{Cell}
 use Rattle.mp_redo.specs.Redoing.{cell_at, IsCellAt}
 use Rattle.mp_redo.proofs.FirstLemmas.{first_more, unopened_more}

@@ -1,9 +1,9 @@
 use Rattle.std.proofs.Common.{◌≡◌, ◌+◌, ◌≤◌, ℕ, List, Some, false, true, IsTrue, length, slice_set, refl, ap, sym, subst, ◌∙◌, arith}
 use Rattle.std.specs.Bool.{IsTrue}
 use Rattle.mp_redo.specs.declared.cell.Cell.{Cell}
-use Rattle.mp_redo.specs.declared.stretch.Stretch.{Stretch}
+use Rattle.mp_work.specs.declared.stretch.Stretch.{Stretch}
 use Rattle.mp_redo.specs.Redoing.{cell_at}
-use Rattle.mp_redo.specs.Work.{window_end}
+use Rattle.mp_work.specs.Work.{window_end}
 use Rattle.mp_redo.proofs.FirstLemmas.{AreFirst, first_skipped, first_opened, first_stretches, first_open, first_end}
 use Rattle.mp_redo.proofs.ListedLemmas.{IsListedTo, listed_one, listed_none_here, listed_all}
 use Rattle.mp_redo.proofs.beginning.open_first.Goals as goal

@@ -1,7 +1,7 @@
 use Rattle.std.proofs.Common.{◌≡◌, ℕ, ◌+◌, ◌^◌, ◌<◌, Some, None, length, slice_index_or, sym, subst, arith}
 use Rattle.mp_records.specs.declared.ports.Output.{Output}
 use Rattle.mp_records.specs.Outputs.{output_in}
-use Rattle.mp_engine.specs.Outcomes.{wave_of}
+use Rattle.mp_evaluation.specs.Outcomes.{wave_of}
 use Rattle.mp_redo.specs.Closing.{HasClosed}
 use Rattle.mp_redo.specs.Lines.{level_in}
 use Rattle.mp_redo.specs.Prefixes.{switched}

@@ -1,7 +1,7 @@
 use Rattle.std.proofs.Common.{◌≡◌, ◌-◌, take}
 use Rattle.std.specs.List.{Contains}
 use Rattle.mp_records.specs.declared.ports.Input.{Input}
-use Rattle.mp_engine.specs.Outcomes.{wave_of}
+use Rattle.mp_evaluation.specs.Outcomes.{wave_of}
 use Rattle.mp_redo.specs.Lines.{level_in}
 use Rattle.mp_redo.specs.Redoing.{level_at}
 use Rattle.mp_redo.proofs.comparing.hear_other.Given as goal

@@ -1,7 +1,7 @@
 use Rattle.std.proofs.Common.{◌≡◌, ◌+◌, ◌-◌, ap, arith, ◌∙◌}
 use Rattle.mp_wave.specs.Waveform.{Waveform, level_of}
 use Rattle.std.proofs.lemmas.Result.{IfOk-weaker}
-use Rattle.mp_engine.specs.Outcomes.{wave_of}
+use Rattle.mp_evaluation.specs.Outcomes.{wave_of}
 use Rattle.mp_response.specs.Pieces.{piece_level}
 use Rattle.mp_redo.proofs.CutLemmas.{heard}
 use Rattle.mp_redo.proofs.cutting.cut.Goals as goal

@@ -2,7 +2,7 @@ use Rattle.std.proofs.Common.{ℕ, ◌+◌, [], refl, sym, subst, ◌∙◌, ari
 use Rattle.std.specs.List.{Contains}
 use Rattle.std.proofs.lemmas.List.{take_all}
 use Rattle.mp_records.specs.declared.ids.ModuleId.{ModuleId}
-use Rattle.mp_engine.proofs.MarkLemmas.{none_in}
+use Rattle.mp_evaluation.proofs.MarkLemmas.{none_in}
 use Rattle.mp_redo.specs.Joins.{IsSettled, IsToJoin}
 use Rattle.mp_redo.specs.Looking.{WillHear}
 use Rattle.mp_redo.proofs.DueLemmas.{answered_none, answered_more, due_next}

@@ -1,7 +1,7 @@
 use Rattle.std.proofs.Common.{◌≡◌, ◌+◌, true, false, ap, sym, subst, ◌∙◌}
 use Rattle.std.specs.Option.{option_copied}
 use Rattle.std.proofs.lemmas.Result.{on_ok_weaker}
-use Rattle.mp_engine.specs.Marks.{is_marked}
+use Rattle.mp_evaluation.specs.Marks.{is_marked}
 use Rattle.mp_redo.specs.Redoing.{IsDuring}
 use Rattle.mp_redo.proofs.DueLemmas.{absent_stays, marked_was}
 use Rattle.mp_redo.proofs.LookingLemmas.{hears_listed, listed_more, still_hear}

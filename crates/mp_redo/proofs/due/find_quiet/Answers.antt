@@ -2,8 +2,8 @@ use Rattle.std.proofs.Common.{◌≡◌, ◌⊎◌, ◌+◌, ◌-◌, [], ◌∷
 use Rattle.std.specs.List.{Contains}
 use Rattle.std.proofs.lemmas.List.Elements.{Contains-append_cases}
 use Rattle.mp_records.specs.declared.ids.ModuleId.{ModuleId}
-use Rattle.mp_engine.specs.Outcomes.{wave_of}
-use Rattle.mp_engine.proofs.MarkLemmas.{none_in, contains_cons}
+use Rattle.mp_evaluation.specs.Outcomes.{wave_of}
+use Rattle.mp_evaluation.proofs.MarkLemmas.{none_in, contains_cons}
 use Rattle.mp_redo.specs.Joins.{IsToJoin}
 use Rattle.mp_redo.specs.Lines.{level_in}
 use Rattle.mp_redo.specs.Redoing.{level_at, IsDuring}

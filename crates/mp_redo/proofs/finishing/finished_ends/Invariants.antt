@@ -1,5 +1,5 @@
-use Rattle.mp_engine.specs.Outcomes.{AreSlots}
-use Rattle.mp_engine.specs.Runs.{end_memory}
+use Rattle.mp_evaluation.specs.Outcomes.{AreSlots}
+use Rattle.mp_evaluation.specs.Runs.{end_memory}
 use Rattle.mp_redo.proofs.finishing.finished_ends.Given as goal
 
 -- those so far

@@ -2,7 +2,7 @@ use Rattle.std.proofs.Common.{◌≡◌, ◌≤◌, ◌<◌, ℕ, length, map, o
 use Rattle.std.specs.Arc.{arc_value}
 use Rattle.mp_netlist.specs.Circuit.{wire_at}
 use Rattle.mp_model.specs.Waves.{level, slot_wave}
-use Rattle.mp_engine.specs.Outcomes.{AreSlots}
+use Rattle.mp_evaluation.specs.Outcomes.{AreSlots}
 use Rattle.mp_redo.specs.Redoing.{level_at}
 use Rattle.mp_redo.proofs.finishing.finished_waves.Given as goal
 

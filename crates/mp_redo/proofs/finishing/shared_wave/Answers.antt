@@ -1,7 +1,7 @@
 use Rattle.std.proofs.Common.{ap, sym, ◌∙◌}
 use Rattle.std.specs.Arc.{arc_value}
 use Rattle.std.proofs.lemmas.Result.{IfOk-weaker}
-use Rattle.mp_engine.specs.Outcomes.{wave_of}
+use Rattle.mp_evaluation.specs.Outcomes.{wave_of}
 use Rattle.mp_redo.specs.Lines.{line_level}
 use Rattle.mp_redo.proofs.EndLemmas.{shared_is, wave_is}
 use Rattle.mp_redo.proofs.finishing.shared_wave.Goals as goal

@@ -2,8 +2,8 @@ use Rattle.std.proofs.Common.{◌+◌, ◌<◌, [], ◌∷◌, length, slice_ind
 use Rattle.std.proofs.lemmas.List.{drop_all}
 use Rattle.mp_records.specs.declared.ids.ModuleId.{ModuleId}
 use Rattle.mp_phase.proofs.PhaseLemmas.{are_done-at}
-use Rattle.mp_engine.specs.Marks.{AreListed}
-use Rattle.mp_engine.proofs.MarkLemmas.{none_marked}
+use Rattle.mp_evaluation.specs.Marks.{AreListed}
+use Rattle.mp_evaluation.proofs.MarkLemmas.{none_marked}
 use Rattle.mp_redo.specs.Tasks.{IsAnswerOf}
 use Rattle.mp_redo.proofs.DueLemmas.{answered_none, answered_more, answered_among, listed_next, length_next}
 use Rattle.mp_redo.proofs.TaskLemmas.{marked_still, one_of, still_joins}

@@ -1,5 +1,5 @@
 use Rattle.std.proofs.Common.{◌≡◌, ℕ, ◌+◌, true, length, drop}
-use Rattle.mp_engine.specs.Marks.{is_marked, AreListed}
+use Rattle.mp_evaluation.specs.Marks.{is_marked, AreListed}
 use Rattle.mp_redo.specs.Joins.{HaveAnswered}
 use Rattle.mp_redo.specs.Redoing.{cell_at, IsDuring}
 use Rattle.mp_redo.specs.Steps.{GoesOnListening}

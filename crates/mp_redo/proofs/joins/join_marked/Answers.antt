@@ -3,7 +3,7 @@ use Rattle.mp_modules.specs.declared.memory.Memory.{Memory}
 use Rattle.mp_model.specs.Levels.{built, inputs_by}
 use Rattle.mp_model.specs.Waves.{level}
 use Rattle.mp_response.specs.Span.{IsSpan}
-use Rattle.mp_engine.proofs.MarkLemmas.{contains_one}
+use Rattle.mp_evaluation.proofs.MarkLemmas.{contains_one}
 use Rattle.mp_redo.specs.Joins.{HaveAnswered}
 use Rattle.mp_redo.specs.Redoing.{IsDuring}
 use Rattle.mp_redo.specs.Steps.{IsAt, GoesOnFrom}

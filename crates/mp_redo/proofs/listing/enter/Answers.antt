@@ -1,6 +1,6 @@
 use Rattle.std.proofs.Common.{◌≡◌, ◌<◌, ◌≤◌, length, slice_set, slice_index_or, [], ◌∷◌, ◌++◌, sym, subst, arith}
 use Rattle.std.specs.List.{Contains}
-use Rattle.mp_engine.proofs.MarkLemmas.{contains_one}
+use Rattle.mp_evaluation.proofs.MarkLemmas.{contains_one}
 use Rattle.mp_redo.specs.Redoing.{looks_at, IsLooking}
 use Rattle.mp_redo.specs.Rings.{AreKept}
 use Rattle.mp_redo.proofs.RingLemmas.{kept_entered, looking_entered, place_entered}

@@ -3,7 +3,7 @@ use Rattle.std.specs.List.{Contains}
 use Rattle.std.proofs.lemmas.List.{take_more, take_all}
 use Rattle.std.proofs.lemmas.List.Elements.{Contains-append_cases}
 use Rattle.mp_records.specs.declared.ports.Input.{Input}
-use Rattle.mp_engine.proofs.MarkLemmas.{none_in, contains_cons}
+use Rattle.mp_evaluation.proofs.MarkLemmas.{none_in, contains_cons}
 use Rattle.mp_redo.specs.Redoing.{IsNews}
 use Rattle.mp_redo.specs.Telling.{IsToldTo}
 use Rattle.mp_redo.proofs.looking.first_news.Goals as goal

@@ -1,8 +1,8 @@
 use Rattle.std.proofs.Common.{◌∷◌, [], take, slice_index_or, sym, subst}
 use Rattle.std.proofs.lemmas.List.{take_more}
 use Rattle.mp_records.specs.declared.ids.ModuleId.{ModuleId}
-use Rattle.mp_engine.specs.Marks.{AreAdded}
-use Rattle.mp_engine.proofs.MarkLemmas.{added_more}
+use Rattle.mp_evaluation.specs.Marks.{AreAdded}
+use Rattle.mp_evaluation.proofs.MarkLemmas.{added_more}
 use Rattle.mp_redo.proofs.marks.mark_all.Goals as goal
 
 pub loop-id-preserved : goal.loop-id-preserved

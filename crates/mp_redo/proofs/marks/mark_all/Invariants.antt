@@ -1,5 +1,5 @@
 use Rattle.std.proofs.Common.{take}
-use Rattle.mp_engine.specs.Marks.{AreAdded}
+use Rattle.mp_evaluation.specs.Marks.{AreAdded}
 use Rattle.mp_redo.proofs.marks.mark_all.Given as goal
 
 -- the modules so far are marked

@@ -1,6 +1,6 @@
 use Rattle.std.proofs.Common.{◌≡◌, ◌+◌, arith, inl, inr}
 use Rattle.std.proofs.lemmas.Bool.{cases_eq}
-use Rattle.mp_engine.specs.Outcomes.{wave_of}
+use Rattle.mp_evaluation.specs.Outcomes.{wave_of}
 use Rattle.mp_redo.specs.Lines.{level_in, line_level}
 use Rattle.mp_redo.proofs.NewsLemmas.{alike_on}
 use Rattle.mp_redo.proofs.news.next_other.Goals as goal

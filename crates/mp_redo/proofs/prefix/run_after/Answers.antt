@@ -1,7 +1,7 @@
 use Rattle.std.proofs.Common.{sym, arith}
 use Rattle.std.proofs.lemmas.Result.{IfOk-weaker}
 use Rattle.mp_wave.specs.Waveform.{level_of}
-use Rattle.mp_engine.specs.Outcomes.{wave_of}
+use Rattle.mp_evaluation.specs.Outcomes.{wave_of}
 use Rattle.mp_redo.specs.Lines.{level_in}
 use Rattle.mp_redo.specs.Prefixes.{switched}
 use Rattle.mp_redo.proofs.PrefixLemmas.{switched_before, switched_same, up_to_same}

@@ -4,7 +4,7 @@ use Rattle.std.proofs.lemmas.Grind.{take-set_at}
 use Rattle.std.proofs.lemmas.List.{length-set, map-append, take_more}
 use Rattle.std.proofs.lemmas.List.Elements.{Contains-append_cases}
 use Rattle.mp_records.specs.declared.ports.Input.{Input}
-use Rattle.mp_engine.proofs.MarkLemmas.{none_in, contains_cons}
+use Rattle.mp_evaluation.proofs.MarkLemmas.{none_in, contains_cons}
 use Rattle.mp_redo.specs.Redoing.{level_at}
 use Rattle.mp_redo.specs.Telling.{IsToldTo}
 use Rattle.mp_redo.proofs.stepping.hear_all.Goals.{then-all_told, else-all_told}

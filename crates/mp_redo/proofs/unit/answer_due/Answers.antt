@@ -1,7 +1,7 @@
 use Rattle.std.proofs.Common.{◌+◌, subst}
 use Rattle.std.specs.List.{Contains}
 use Rattle.mp_records.specs.declared.ids.ModuleId.{ModuleId}
-use Rattle.mp_engine.proofs.MarkLemmas.{none_in}
+use Rattle.mp_evaluation.proofs.MarkLemmas.{none_in}
 use Rattle.mp_redo.proofs.LookingLemmas.{still_hear}
 use Rattle.mp_redo.proofs.UnitLemmas.{answered_then}
 use Rattle.mp_redo.proofs.unit.answer_due.Goals as goal

@@ -1,6 +1,6 @@
 use Rattle.std.proofs.Common.{◌+◌, Result, Ok, Err, OnOk, sym, subst, arith}
 use Rattle.mp_engine.specs.Calendars.{heard_until}
-use Rattle.mp_engine.specs.Marks.{AreListed}
+use Rattle.mp_evaluation.specs.Marks.{AreListed}
 use Rattle.mp_engine.proofs.CheckpointLemmas.{kept_answered}
 use Rattle.mp_engine.proofs.engine.Engine.answer.Goals as goal
 

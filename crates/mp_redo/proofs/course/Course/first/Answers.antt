@@ -1,5 +1,5 @@
 use Rattle.std.proofs.Common.{◌≡◌, length, refl, sym, subst, ◌∙◌, arith}
-use Rattle.mp_engine.specs.Outcomes.{Outcome}
+use Rattle.mp_evaluation.specs.Outcomes.{Outcome}
 use Rattle.mp_netlist.specs.Circuit.{Circuit}
 use Rattle.mp_redo.specs.Keeping.{AreLedgers, AreStatesAt}
 use Rattle.mp_redo.specs.Redoing.{AreCells, AreLines, AreUntold, IsBefore}

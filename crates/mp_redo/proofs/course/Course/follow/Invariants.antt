@@ -1,6 +1,6 @@
 use Rattle.std.proofs.Common.{◌≡◌, ◌-◌, ◌<◌, ◌≤◌}
 use Rattle.mp_redo.specs.Courses.{last_block, IsCourse}
-use Rattle.mp_redo.specs.Work.{window_of}
+use Rattle.mp_work.specs.Work.{window_of}
 use Rattle.mp_redo.proofs.course.Course.follow.Given as goal
 
 -- the windows before are followed, and the next one begins here

@@ -3,9 +3,9 @@ use Rattle.mp_records.specs.declared.ids.ModuleId.{ModuleId}
 use Rattle.mp_redo.specs.Joins.{HaveAnswered}
 use Rattle.mp_redo.specs.Keeping.{AreLedgers}
 use Rattle.mp_redo.specs.Redoing.{AreOpen, IsListed}
-use Rattle.mp_redo.specs.Stretches.{AreStretchesTo}
-use Rattle.mp_redo.specs.Work.{block_of}
-use Rattle.mp_redo.proofs.WindowLemmas.{window_within}
+use Rattle.mp_work.specs.Stretches.{AreStretchesTo}
+use Rattle.mp_work.specs.Work.{block_of}
+use Rattle.mp_work.proofs.WindowLemmas.{window_within}
 use Rattle.mp_redo.proofs.CourseLemmas.{window_short}
 use Rattle.mp_redo.proofs.LikeLemmas.{before_like}
 use Rattle.mp_redo.proofs.course.Course.pass.Goals as goal

@@ -1,5 +1,5 @@
 use Rattle.std.proofs.Common.{◌≡◌, ℕ, ◌-◌, ◌≤◌, false, length}
-use Rattle.mp_engine.specs.Marks.{is_marked}
+use Rattle.mp_evaluation.specs.Marks.{is_marked}
 use Rattle.mp_redo.specs.Joins.{HaveAnswered}
 use Rattle.mp_redo.specs.Redoing.{IsBefore}
 use Rattle.mp_redo.proofs.course.Course.run_units.Given as goal

@@ -1,0 +1,4 @@
+pub mod Checkpoints
+pub mod Outcomes
+pub mod Runs
+pub mod Marks

@@ -1,0 +1,122 @@
+//! States of modules that are kept, for evaluations that begin later.
+ghost use Rattle.std.specs.Prelude.{◌≡◌, ◌<◌, ◌≤◌, ◌++◌, ◌∷◌, [], All, OnOk};
+
+use mp_modules::Memory;
+use std::alloc::{AllocError, Global};
+use std::marker::Model;
+
+/// At each multiple of so many units the states of modules are kept.
+pub const CHECKPOINT_UNITS: u32 = 1024;
+
+/// A module's state before the unit of a time.
+#[derive(Clone, Copy)]
+pub struct Checkpoint {
+    pub time: u32,
+    pub memory: Memory,
+}
+
+/// The states of a module that are kept, by rising time. Between two of them it didn't answer before the later's time.
+#[derive(Drop)]
+pub struct Checkpoints {
+    list: Vec<Checkpoint>,
+}
+
+impl Model for Checkpoints {
+    ghost use Rattle.std.specs.Prelude.{List};
+    ghost use Rattle.mp_evaluation.specs.declared.checkpoints.Checkpoint.{Checkpoint};
+
+    ghost Value = { List Checkpoint };
+
+    ghost view = { λ checkpoints. checkpoints.list.items };
+}
+
+impl Checkpoints {
+    ghost use Rattle.mp_evaluation.specs.Checkpoints.{kept_at, KeepsFrom, KeepsBetween};
+    ghost use Rattle.mp_evaluation.specs.declared.checkpoints.Checkpoint.{Checkpoint as Kept};
+    ghost use Rattle.mp_modules.specs.Memories.{blank};
+
+    /// None are kept.
+    pub fn new(alloc: Global) -> Self
+        ensures { result ≡ [] }
+    {
+        Checkpoints {
+            list: Vec::new(alloc),
+        }
+    }
+
+    /// One more, of a time that isn't before the others.
+    pub fn push(&mut self, checkpoint: Checkpoint) -> Result<(), AllocError>
+        ensures { OnOk result (self.new ≡ self.old ++ checkpoint ∷ []) }
+    {
+        self.list.push(checkpoint)?;
+        Ok(())
+    }
+
+    /// From a time on, which isn't before any other, this state is kept.
+    pub fn keep(&mut self, time: u32, memory: Memory) -> Result<(), AllocError>
+        requires { All (λ (kept : Kept). kept.time ≤ time) self.old }
+        ensures { OnOk result (KeepsFrom self.old time memory self.new) }
+    {
+        self.push(Checkpoint { time, memory })
+    }
+
+    /// From a time on, which isn't before any other, the states are kept that another list keeps up to an end. It takes as long as that
+    /// list up to the end.
+    pub fn follow(&mut self, other: &Checkpoints, from: u32, to: u32) -> Result<(), AllocError>
+        requires over { All (λ (kept : Kept). kept.time ≤ from) self.old }
+        requires some { from < to }
+        ensures { OnOk result (KeepsBetween self.old other.now from to self.new) }
+    {
+        let (memory, later) = split(other.list.as_slice(), from);
+        self.push(Checkpoint { time: from, memory })?;
+        add_before(&mut self.list, later, to)
+    }
+
+    /// The last that is kept for a time not after this one, or a blank one.
+    pub fn kept_at(&self, time: u32) -> Memory
+        ensures { result ≡ kept_at self.now time blank }
+    {
+        let mut kept = Memory::with_one_output(&[], 0);
+        let list = self.list.as_slice();
+        for checkpoint in list {
+            if checkpoint.time > time {
+                return kept;
+            }
+            kept = checkpoint.memory;
+        }
+        kept
+    }
+}
+
+ghost use Rattle.std.specs.Prelude.{ℕ};
+ghost use Rattle.mp_evaluation.specs.Checkpoints.{kept_at, kept_before};
+ghost use Rattle.mp_modules.specs.Memories.{blank};
+
+/// The last that is kept for a time not after this one, or a blank one, and what is kept for later times.
+fn split(list: &[Checkpoint], time: u32) -> (Memory, &[Checkpoint])
+    ensures { (c : ℕ) → time ≤ c → kept_at list.now c blank ≡ kept_at result.1.now c result.0 }
+{
+    let mut memory = Memory::with_one_output(&[], 0);
+    let mut rest = list;
+    while let Some((first, later)) = rest.split_first() {
+        if first.time > time {
+            return (memory, rest);
+        }
+        memory = first.memory;
+        rest = later;
+    }
+    (memory, rest)
+}
+
+/// Adds what is kept for times before an end.
+fn add_before(list: &mut Vec<Checkpoint>, more: &[Checkpoint], end: u32) -> Result<(), AllocError>
+    ensures { OnOk result (list.new.items ≡ list.old.items ++ kept_before end more.now) }
+{
+    for checkpoint in more {
+        if checkpoint.time >= end {
+            return Ok(());
+        }
+        list.push(*checkpoint)?;
+    }
+    Ok(())
+}

@@ -1,0 +1,8 @@
+//! What an evaluation of a netlist gives: waves, and states of modules.
+#![tactic(auto)]
+
+mod checkpoints;
+mod run;
+
+pub use checkpoints::{CHECKPOINT_UNITS, Checkpoint, Checkpoints};
+pub use run::Run;
