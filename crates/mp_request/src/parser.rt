@@ -26,14 +26,9 @@ pub(crate) fn parser<'a>(alloc: Global) -> Result<Parser<'a>, AllocError> {
 
 /// The program, with no command yet.
 fn program<'a>(alloc: Global) -> Result<Parser<'a>, AllocError> {
-    let parser = Parser::new(alloc, "mpwb").bin_name("mpwb")?;
-    Ok(
-        parser
-            .version("0.1.0")
-            .about(ABOUT)
-            .after_help(STATUS)
-            .subcommand_required(true),
-    )
+    let parser = told(Parser::new(alloc, "mpwb"), ABOUT, STATUS);
+    let parser = parser.version("0.1.0").subcommand_required(true);
+    parser.bin_name("mpwb")
 }
 
 /// The parser with one more command, where there was memory for that.
@@ -108,10 +103,14 @@ fn described<'a>(
     about: &'static str,
     long_about: &'static str,
 ) -> Parser<'a> {
-    Parser::new(alloc, name)
-        .about(about)
-        .long_about(long_about)
-        .after_help(FORMS)
+    told(Parser::new(alloc, name), about, FORMS).long_about(long_about)
+}
+
+// A value that is built is handed on after two steps: so each proof looks at two of them.
+
+/// The parser with what help says of it, and behind its options.
+fn told<'a>(parser: Parser<'a>, about: &'static str, after: &'static str) -> Parser<'a> {
+    parser.about(about).after_help(after)
 }
 
 // An argument is made where it is taken, so that none has to be dropped where memory runs out for another.
@@ -144,9 +143,8 @@ fn with_drawing<'a>(alloc: Global, command: Parser<'a>) -> Result<Parser<'a>, Al
 }
 
 fn file<'a>(alloc: Global) -> Arg<'a> {
-    Arg::new(alloc, "file")
-        .value_name("FILE")
-        .help("The file to read; `-` or no FILE: standard input")
+    let help = "The file to read; `-` or no FILE: standard input";
+    named(Arg::new(alloc, "file"), "FILE", help)
 }
 
 fn workers<'a>(alloc: Global) -> Arg<'a> {
@@ -160,19 +158,14 @@ fn least<'a>(alloc: Global) -> Arg<'a> {
 
 /// The option that names the folder of a live desk's pipes.
 fn at<'a>(alloc: Global) -> Result<Arg<'a>, AllocError> {
-    Ok(
-        Arg::new(alloc, "at")
-            .long("at")
-            .value_name("FOLDER")
-            .requires_arg("file")?
-            .help("Serve designers and viewers at the named pipes of this folder"),
-    )
+    let help = "Serve designers and viewers at the named pipes of this folder";
+    named(option(alloc, "at"), "FOLDER", help).requires_arg("file")
 }
 
 /// The option that counts the designers of a live desk. It has no default, so that it is refused without such a desk.
 fn designers<'a>(alloc: Global) -> Result<Arg<'a>, AllocError> {
     let help = "How many designers there are with --at, 1 to 8; 2 where none is given";
-    count(alloc, "designers").help(help).requires_arg("at")
+    count(alloc, "designers", help).requires_arg("at")
 }
 
 fn viewers<'a>(alloc: Global) -> Arg<'a> {
@@ -209,35 +202,27 @@ fn svg<'a>(alloc: Global) -> Arg<'a> {
 
 /// The word that is explained.
 fn word<'a>(alloc: Global) -> Arg<'a> {
-    Arg::new(alloc, "word").value_name("WORD").help(
-        "The number or name of a code, or a kind of module; none: the list of all",
-    )
+    let help = "The number or name of a code, or a kind of module; none: the list of all";
+    named(Arg::new(alloc, "word"), "WORD", help)
 }
 
 /// The word that is a wire.
 fn wire<'a>(alloc: Global) -> Arg<'a> {
-    Arg::new(alloc, "wire")
-        .value_name("WIRE")
-        .required(true)
-        .help("The wire's name")
+    named(Arg::new(alloc, "wire"), "WIRE", "The wire's name").required(true)
 }
 
 /// The option that names a wire which is shown.
 fn shown_wire<'a>(alloc: Global) -> Arg<'a> {
-    Arg::new(alloc, "wire")
-        .long("wire")
-        .value_name("NAME")
-        .action(ArgAction::Append)
-        .help("A wire that is shown, in the order in which they are named; none: all wires")
+    let help = "A wire that is shown, in the order in which they are named; none: all wires";
+    named(option(alloc, "wire"), "NAME", help).action(ArgAction::Append)
 }
 
 /// The word that is a time.
 fn time<'a>(alloc: Global) -> Arg<'a> {
-    Arg::new(alloc, "time")
-        .value_name("TIME")
+    let help = "The time; one at or above the horizon is the last one below it";
+    named(Arg::new(alloc, "time"), "TIME", help)
         .required(true)
         .value_parser(value_parser!(u64))
-        .help("The time; one at or above the horizon is the last one below it")
 }
 
 /// An option that takes a number, this one where none is given.
@@ -247,30 +232,30 @@ fn number<'a>(
     default: &'static str,
     help: &'static str,
 ) -> Arg<'a> {
-    count(alloc, name).default_value(default).help(help)
+    count(alloc, name, help).default_value(default)
 }
 
 /// An option that takes a number.
-fn count<'a>(alloc: Global, name: &'static str) -> Arg<'a> {
-    Arg::new(alloc, name)
-        .long(name)
-        .value_name("N")
-        .value_parser(value_parser!(u32))
+fn count<'a>(alloc: Global, name: &'static str, help: &'static str) -> Arg<'a> {
+    named(option(alloc, name), "N", help).value_parser(value_parser!(u32))
 }
 
 /// An option that takes a time.
 fn time_option<'a>(alloc: Global, name: &'static str, help: &'static str) -> Arg<'a> {
-    Arg::new(alloc, name)
-        .long(name)
-        .value_name("T")
-        .value_parser(value_parser!(u64))
-        .help(help)
+    named(option(alloc, name), "T", help).value_parser(value_parser!(u64))
 }
 
 /// An option that takes nothing.
 fn flag<'a>(alloc: Global, name: &'static str, help: &'static str) -> Arg<'a> {
-    Arg::new(alloc, name)
-        .long(name)
-        .action(ArgAction::SetTrue)
-        .help(help)
+    option(alloc, name).action(ArgAction::SetTrue).help(help)
+}
+
+/// An option of this name.
+fn option<'a>(alloc: Global, name: &'static str) -> Arg<'a> {
+    Arg::new(alloc, name).long(name)
+}
+
+/// The argument with what help calls its value, and says of it.
+fn named<'a>(arg: Arg<'a>, value: &'static str, help: &'static str) -> Arg<'a> {
+    arg.value_name(value).help(help)
 }
