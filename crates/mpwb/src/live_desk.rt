@@ -1,17 +1,17 @@
 //! A desk that serves designers and viewers at named pipes.
-ghost use Rattle.std.specs.Prelude.{◌<◌, ◌≤◌, IfSome};
+ghost use Rattle.std.specs.Prelude.{◌≡◌, ◌<◌, ◌≤◌, [], IfSome};
 
-use crate::pipe_exit::PipeExit;
-use crate::pipes::Pipes;
 use mp_commands::{Options, RunFault, put_met};
 use mp_engine::OpenGate;
-use mp_hosting::{Hall, HostFault, Places, host};
+use mp_hosting::{HostFault, Places};
 use mp_lines::LineReader;
 use mp_live::{SeatScribe, fault_of_talk, read_opening};
 use mp_meeting::MeetingFault;
+use mp_netlist::Netlist;
 use mp_phase::Crew;
+use mp_pipes::Pipes;
 use mp_session::Session;
-use mp_streams::{Out, ReadSource, Source, WriteSink};
+use mp_streams::{Out, ReadSource, Sink, Source, WriteSink};
 use std::io;
 use std::rt::Runtime;
 use std::sync::Wait;
@@ -28,48 +28,81 @@ const MAX_VIEWERS: u32 = 24;
 
 /// Reads the netlist, serves those who come to the pipes of the folder, and answers the lines of standard input meanwhile. Then it writes what
 /// `desk` writes, and returns the status with which the program ends. Where a pipe isn't there it tells its path, and runs nothing.
-pub(crate) fn run_live_desk<R: Runtime + Threads + Wait + Sync + AllocGlobal, S: Source + Drop>(
+pub(crate) fn run_live_desk<R: Runtime + Threads + Wait + Sync + AllocGlobal, S: Source>(
     files: &HostRuntime,
     rt: &R,
-    mut netlist: S,
+    source: &mut S,
     options: &Options,
     folder: &str,
     designers: u32,
 ) -> Result<u8, RunFault> {
-    let crew = crew_of(options, designers);
-    let (netlist, crew) = read_opening(rt.alloc(), &mut netlist, crew)?;
+    let (netlist, crew) = read_opening(rt.alloc(), source, crew_of(options, designers))?;
     let places = Places::new(rt.alloc(), designers, options.viewers)?;
-    let pipes = Pipes::new(rt.alloc(), folder, &places)?;
-    if let Some(path) = pipes.missing(files) {
-        let _ = eprintln!(rt; "mpwb: can't open {path}");
+    serve_at(files, rt, folder, &places, &netlist, crew)
+}
+
+/// Serves those who come to the pipes that these seats have in the folder, and returns the status with which the program ends.
+fn serve_at<R: Runtime + Threads + Wait + Sync + AllocGlobal>(
+    files: &HostRuntime,
+    rt: &R,
+    folder: &str,
+    places: &Places,
+    netlist: &Netlist,
+    crew: Crew,
+) -> Result<u8, RunFault> {
+    let pipes = Pipes::new(files, folder, places)?;
+    if is_told_missing(rt, &pipes) {
         return Ok(CANT_OPEN);
     }
-    let session = Session::open(rt, rt.alloc(), &netlist, crew, OpenGate)?;
-    serve(files, rt, session, crew, &pipes)?;
+    serve(rt, &pipes, netlist, crew)
+}
+
+/// Whether a pipe isn't there. Then its path is told.
+fn is_told_missing<R: Eprint>(rt: &R, pipes: &Pipes<'_>) -> bool {
+    match pipes.missing() {
+        Some(path) => {
+            let _ = eprintln!(rt; "mpwb: can't open {path}");
+            true
+        }
+        None => false,
+    }
+}
+
+/// Serves those who come to the pipes, and answers the lines of standard input meanwhile. Then it writes what `desk` writes, and returns the
+/// status with which the program ends.
+fn serve<R: Runtime + Threads + Wait + Sync + AllocGlobal>(
+    rt: &R,
+    pipes: &Pipes<'_>,
+    netlist: &Netlist,
+    crew: Crew,
+) -> Result<u8, RunFault> {
+    let mut lines = LineReader::new(rt.alloc(), ReadSource::new(rt.reader()))?;
+    let mut out = Out::new(rt.alloc(), WriteSink::new(io::writer(rt)))?;
+    serve_lines(rt, pipes, netlist, crew, &mut lines, &mut out)?;
     Ok(0)
 }
 
-/// Serves those who come to the pipes, and answers the lines of standard input meanwhile. Then it writes what `desk` writes.
-fn serve<R: Runtime + Threads + Wait + Sync + AllocGlobal>(
-    files: &HostRuntime,
+/// The same, where the lines are these, and all is written there.
+fn serve_lines<R: Threads + Wait + Sync + AllocGlobal, I: Source, T: Sink>(
     rt: &R,
-    session: Session<OpenGate>,
-    crew: Crew,
     pipes: &Pipes<'_>,
-) -> Result<(), RunFault> {
-    let mut lines = LineReader::new(rt.alloc(), ReadSource::new(rt.reader()))?;
-    let mut out = Out::new(rt.alloc(), WriteSink::new(io::writer(rt)))?;
-    let hall = Hall {
-        designers: pipes.designer_doors(files)?,
-        viewers: pipes.viewer_doors(files)?,
-        exit: PipeExit { files, pipes },
-        scribe: SeatScribe {
-            alloc: rt.alloc(),
-            crew,
-        },
+    netlist: &Netlist,
+    crew: Crew,
+    lines: &mut LineReader<I>,
+    out: &mut Out<T>,
+) -> Result<(), RunFault>
+    requires { out.old.held ≡ [] }
+{
+    let scribe = SeatScribe {
+        alloc: rt.alloc(),
+        crew,
     };
-    let met = host(rt, rt.alloc(), session, hall, &mut lines, &mut out).map_err(fault_of_host)?;
-    put_met(&mut out, &met, crew)?;
+    let session = Session::open(rt, rt.alloc(), netlist, crew, OpenGate)?;
+    let met = match pipes.host(rt, session, scribe, lines, out) {
+        Ok(met) => met,
+        Err(fault) => return Err(fault_of_host(fault)),
+    };
+    put_met(out, &met, crew)?;
     Ok(out.flush()?)
 }
 

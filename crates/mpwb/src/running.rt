@@ -1,0 +1,117 @@
+//! How each command is run.
+ghost use Rattle.std.specs.Prelude.{◌≡◌, []};
+
+use mp_commands::{
+    AskedPicture, Charset, Desk, Drawing, DumpText, GraphText, MeasureLines, Name, Options,
+    PathLines, PictureText, Play, ReportLines, RunFault, TimeRange, View, Viewed, WaitLines,
+    WaveLines, WhyLines, run_command,
+};
+use mp_request::{Command, PictureWords, Request};
+use mp_streams::{Out, Sink, Source, WriteSink};
+use std::alloc::{AllocError, Global};
+use std::io;
+use std::sync::Wait;
+use std::thread::Threads;
+
+/// Runs the command on the source.
+pub(crate) fn run_on<R: Print + Threads + Wait + Sync + AllocGlobal, S: Source>(
+    rt: &R,
+    source: &mut S,
+    request: &Request<'_>,
+    options: &Options,
+) -> Result<(), RunFault> {
+    let names = names_of(rt.alloc(), request.wires())?;
+    let mut out = Out::new(rt.alloc(), WriteSink::new(io::writer(rt)))?;
+    run_named(
+        rt,
+        source,
+        &mut out,
+        &request.command,
+        names.as_slice(),
+        options,
+    )
+}
+
+/// Runs the command on the source, where the wires of which the command speaks have these names.
+fn run_named<R: Threads + Wait + Sync + AllocGlobal, S: Source, T: Sink>(
+    rt: &R,
+    source: &mut S,
+    out: &mut Out<T>,
+    command: &Command<'_>,
+    names: &[Name],
+    options: &Options,
+) -> Result<(), RunFault>
+    requires { out.old.held ≡ [] }
+{
+    match command {
+        Command::Waves => run_view(rt, source, out, options, Some(WaveLines)),
+        Command::Report => run_view(rt, source, out, options, Some(ReportLines)),
+        Command::Dump => run_view(rt, source, out, options, Some(DumpText)),
+        Command::Graph => run_view(rt, source, out, options, Some(GraphText)),
+        Command::Show(words) => run_view(rt, source, out, options, picture(names, words)),
+        Command::Waits { time } => {
+            run_view(rt, source, out, options, Some(WaitLines { time: *time }))
+        }
+        Command::Measure { from, to } => {
+            let range = TimeRange {
+                from: *from,
+                to: *to,
+            };
+            run_view(rt, source, out, options, Some(MeasureLines { range }))
+        }
+        Command::Why { time, steps, .. } => {
+            run_view(rt, source, out, options, chain(names, *time, *steps))
+        }
+        Command::Path { time, .. } => run_view(rt, source, out, options, path(names, *time)),
+        Command::Play => run_command(rt, rt.alloc(), source, out, options, &Play),
+        Command::Desk => run_command(rt, rt.alloc(), source, out, options, &Desk),
+        // its netlist is in a file, since its standard input has lines
+        Command::LiveDesk { .. } => Err(RunFault::ReadFailed),
+    }
+}
+
+/// Runs the command that writes this view.
+fn run_view<R: Threads + Wait + Sync + AllocGlobal, S: Source, T: Sink, V: View + Drop>(
+    rt: &R,
+    source: &mut S,
+    out: &mut Out<T>,
+    options: &Options,
+    view: Option<V>,
+) -> Result<(), RunFault>
+    requires { out.old.held ≡ [] }
+{
+    run_command(rt, rt.alloc(), source, out, options, &Viewed { view })
+}
+
+/// The chain of causes of the level that the first of these wires has at a time, where there may be so many steps.
+fn chain<'a>(names: &'a [Name], time: u64, steps: u32) -> Option<WhyLines<'a>> {
+    WhyLines::new(names.first()?, time, steps)
+}
+
+/// Where the time went of the chain of causes of the level that the first of these wires has at a time.
+fn path<'a>(names: &'a [Name], time: u64) -> Option<PathLines<'a>> {
+    Some(PathLines {
+        wire: names.first()?,
+        time,
+    })
+}
+
+/// The words as names.
+fn names_of(alloc: Global, words: &[&str]) -> Result<Vec<Name>, AllocError> {
+    let mut names = Vec::with_capacity(alloc, words.len())?;
+    for word in words {
+        names.push(Name::new(alloc, word)?)?;
+    }
+    Ok(names)
+}
+
+/// The picture of the wires of these names that the words ask for, where its number of columns is one.
+fn picture<'a>(names: &'a [Name], words: &PictureWords<'_>) -> Option<PictureText<'a>> {
+    let asked = AskedPicture::new(names, words.from, words.to, words.columns)?;
+    let drawing = match (words.svg, words.ascii) {
+        (true, _) => Drawing::Svg,
+        (false, true) => Drawing::Text(Charset::Ascii),
+        (false, false) => Drawing::Text(Charset::Unicode),
+    };
+    Some(PictureText { asked, drawing })
+}

@@ -1,0 +1,21 @@
+//! What is told on standard error.
+use mp_commands::{RunFault, fault_line};
+use mp_request::TellError;
+use std::str;
+
+/// The fault of a run that couldn't tell what it had to.
+pub(crate) fn fault_of_telling(error: TellError) -> RunFault {
+    match error {
+        TellError::OutOfMemory => RunFault::OutOfMemory,
+        TellError::WriteFailed => RunFault::WriteFailed,
+    }
+}
+
+/// Writes the fault's line, where the memory for it can be had. The wires are those that were asked for.
+pub(crate) fn tell_fault<R: Eprint + AllocGlobal>(rt: &R, fault: &RunFault, wires: &[&str]) {
+    if let Ok(line) = fault_line(rt.alloc(), fault, wires) {
+        if let Ok(text) = str::from_utf8(line.as_slice()) {
+            let _ = rt.eprintln(text);
+        }
+    }
+}
