@@ -1,7 +1,6 @@
 //! Small netlists whose waves and states were worked out by hand.
-mod rows;
-
-use mp_engine::{Crew, Gate, OpenGate, Run, evaluate};
+use mp_engine::{Crew, Gate, OpenGate, evaluate};
+use mp_evaluation::Run;
 use mp_modules::Kind;
 use mp_netlist::{ModuleId, Netlist, WireId};
 use mp_part_tests::making::{Part, Plan};

@@ -1,8 +1,9 @@
 //! A module with both its inputs at one wire: who reads it, the states that its run keeps, and that it is new.
-ghost use Rattle.mp_engine.specs.Runs.{IsRun};
+ghost use Rattle.mp_evaluation.specs.Runs.{IsRun};
 
 use mp_depend::{Records, touched};
-use mp_engine::{OpenGate, Run, evaluate_here};
+use mp_engine::{OpenGate, evaluate_here};
+use mp_evaluation::Run;
 use mp_modules::Kind;
 use mp_netlist::{
     Boxed, ModuleId, Netlist, NewModule, OutputName, OutputNames, Params, SingleEdit, WireId,

@@ -2,7 +2,7 @@
 use super::row::{Span, Watch};
 use mp_netlist::ModuleId;
 use mp_phase::Gate;
-use mp_redo::{Work, WorkEntries, WorkEntry};
+use mp_work::{Work, WorkEntries, WorkEntry};
 use std::alloc::{AllocError, Global};
 use std::sync::Wait;
 use std::sync::atomic::{AtomicU64, Ordering};

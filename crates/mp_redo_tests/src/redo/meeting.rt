@@ -4,7 +4,7 @@ use mp_modules::Kind;
 use mp_netlist::ModuleId;
 use mp_part_tests::making::{Change, Part, Plan, Signal};
 use mp_phase::{Crew, Gate};
-use mp_redo::Work;
+use mp_work::Work;
 use std::alloc::Global;
 use std::process::Abort;
 use std::sync::Wait;

@@ -1,17 +1,19 @@
 //! A netlist, a change of it, and what is known of its re-evaluation.
 ghost use Rattle.std.specs.Prelude.{IfOk};
-ghost use Rattle.mp_engine.specs.Runs.{IsRun};
-ghost use Rattle.mp_redo.specs.Revisions.{IsRevision};
+ghost use Rattle.mp_evaluation.specs.Runs.{IsRun};
+ghost use Rattle.mp_work.specs.Revisions.{IsRevision};
 
 use super::counting_gate::CountingGate;
 use mp_depend::touched;
-use mp_engine::{OpenGate, Run, evaluate_here};
+use mp_engine::{OpenGate, evaluate_here};
+use mp_evaluation::Run;
 use mp_netlist::{Edit, ModuleId, Netlist, WireId};
 use mp_part_tests::making::{Change, Plan};
 use mp_part_tests::waves::has_changes;
 use mp_phase::{Crew, Gate};
-use mp_redo::laws::edits_revise;
-use mp_redo::{Work, redo};
+use mp_redo::redo;
+use mp_work::Work;
+use mp_work::laws::edits_revise;
 use std::alloc::Global;
 use std::process::Abort;
 use std::sync::Wait;

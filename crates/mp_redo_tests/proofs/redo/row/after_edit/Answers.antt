@@ -1,6 +1,6 @@
 use Rattle.std.proofs.Common.{◌≡◌, subst, rules}
 use Rattle.mp_netlist.specs.Circuit.{Circuit}
-use Rattle.mp_redo.specs.Revisions.{IsRevision}
+use Rattle.mp_work.specs.Revisions.{IsRevision}
 use Rattle.mp_redo_tests.proofs.redo.row.after_edit.Goals as goal
 
 pub returns : goal.returns
