@@ -1,4 +1,5 @@
 //! Those who edit.
+use crate::log_prefix::LogPrefix;
 use crate::name::DeskName;
 use crate::pass::{Pass, ReadError};
 use mp_version::Version;
@@ -10,22 +11,22 @@ use std::sync::ledger::Share;
 #[derive(Drop)]
 pub struct Designer<L: DeskName> {
     pub(crate) pass: Pass,
-    pub(crate) seen: Arc<Version>,
+    /// How far the history had come that was seen last.
+    pub(crate) seen: LogPrefix,
     pub(crate) accepted: u32,
     pub(crate) share: Share<L>,
 }
 
 impl<L: DeskName> Model for Designer<L> {
     ghost use Rattle.std.specs.Prelude.{◌≡◌};
-    ghost use Rattle.std.specs.Arc.{arc_value};
     ghost use Rattle.mp_desk.specs.Knowing.{Has};
     ghost use Rattle.mp_desk.specs.Holders.{Working};
 
     ghost Value = { Working };
 
-    ghost view = { λ d. record { seen = arc_value d.seen; accepted = d.accepted } };
+    ghost view = { λ d. record { seen = d.seen.story; accepted = d.accepted } };
 
-    ghost invariant = { λ d. Has d.pass (record { book = L.history; story = arc_value d.seen }) × (d.share.parts ≡ 1) × (d.share.amount ≡ d.accepted) };
+    ghost invariant = { λ d. Has d.pass d.seen × (d.seen.book ≡ L.history) × (d.share.parts ≡ 1) × (d.share.amount ≡ d.accepted) };
 }
 
 impl<L: DeskName> Designer<L> {
@@ -42,17 +43,8 @@ impl<L: DeskName> Designer<L> {
         ensures same { self.new.accepted ≡ self.old.accepted }
     {
         let published = self.pass.enter()?;
-        let version = published.into_version();
-        let copy = Arc::try_clone(&version).map_err(|_| ReadError::OutOfMemory)?;
-        self.seen = copy;
-        Ok(version)
-    }
-
-    /// The version that this designer saw last: that of the last edit that was accepted, or the one that judged the last that was refused.
-    pub fn seen(&self) -> &Arc<Version>
-        ensures { arc_value result.now ≡ self.now.seen }
-    {
-        &self.seen
+        self.seen = published.prefix().again();
+        Ok(published.into_version())
     }
 
     /// How many edits of this designer were accepted.

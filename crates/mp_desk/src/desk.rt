@@ -69,7 +69,12 @@ impl<S: EditSession, L: DeskName, R: Wait + Drop> Desk<S, L, R> {
         let (mut book, mut share) = blank.open::<L>();
         book.add(&mut share, session.version().number() as u64);
         let (Ok(designers), Ok(viewers)) = (
-            designers_at(alloc, for_designers, session.version(), &mut share),
+            designers_at(
+                alloc,
+                for_designers,
+                publication.published().prefix(),
+                &mut share,
+            ),
             viewers_at(
                 alloc,
                 for_viewers,

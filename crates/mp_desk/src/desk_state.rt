@@ -39,15 +39,11 @@ impl<S: EditSession, L: DeskName, R: Wait + Drop> Model for DeskState<S, L, R> {
     ghost invariant = { λ k. (k.publication ≡ record { book = L.history; story = S.story k.session }) × (k.writer ≡ L.history) × (k.book.total ≡ length (S.story k.session).edits) × (k.share.parts ≡ 1) × (k.share.amount ≡ L.opening) };
 }
 
-/// Three owners of one version.
-fn owners(version: &Arc<Version>) -> Result<(Arc<Version>, Arc<Version>, Arc<Version>), AllocError>
-    ensures { IfOk result (λ v. (arc_value v.0 ≡ arc_value version.now) × (arc_value v.1 ≡ arc_value version.now) × (arc_value v.2 ≡ arc_value version.now)) }
+/// Two owners of one version.
+fn owners(version: &Arc<Version>) -> Result<(Arc<Version>, Arc<Version>), AllocError>
+    ensures { IfOk result (λ v. (arc_value v.0 ≡ arc_value version.now) × (arc_value v.1 ≡ arc_value version.now)) }
 {
-    Ok((
-        Arc::try_clone(version)?,
-        Arc::try_clone(version)?,
-        Arc::try_clone(version)?,
-    ))
+    Ok((Arc::try_clone(version)?, Arc::try_clone(version)?))
 }
 
 impl<S: EditSession, L: DeskName, R: Wait + Drop> DeskState<S, L, R> {
@@ -74,12 +70,9 @@ impl<S: EditSession, L: DeskName, R: Wait + Drop> DeskState<S, L, R> {
         ensures forward { OnErr result (Extends me.new.seen me.old.seen) }
     {
         show(rt, &self.publication, &mut me.pass);
-        me.seen = match Arc::try_clone(self.session.version()) {
-            Ok(version) => version,
-            Err(_) => return Err(EditError::OutOfMemory),
-        };
+        me.seen = self.publication.published().prefix().again();
         let prepared = self.session.prepare(rt, edit)?;
-        let Ok((version, next, seen)) = owners(S::next_version(&prepared)) else {
+        let Ok((version, next)) = owners(S::next_version(&prepared)) else {
             return Err(EditError::OutOfMemory);
         };
         let number = self.publication.number();
@@ -99,7 +92,7 @@ impl<S: EditSession, L: DeskName, R: Wait + Drop> DeskState<S, L, R> {
         self.book.audit(&mut me.share);
         me.accepted += 1;
         show(rt, &self.publication, &mut me.pass);
-        me.seen = seen;
+        me.seen = notice.prefix.again();
         Ok(Receipt { version, notice })
     }
 }

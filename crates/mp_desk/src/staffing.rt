@@ -18,41 +18,37 @@ use std::sync::ledger::Share;
 pub(crate) fn designers_at<L: DeskName>(
     alloc: Global,
     places: Vec<Pass>,
-    version: &Arc<Version>,
+    prefix: &LogPrefix,
     all: &mut Share<L>,
 ) -> Result<Vec<Designer<L>>, AllocError>
-    requires places { All (λ p. p ≡ record { book = L.history; story = arc_value version.now } ∷ []) places.items }
+    requires book { prefix.now.book ≡ L.history }
+    requires places { All (λ p. p ≡ prefix.now ∷ []) places.items }
     requires parts { all.old.parts ≡ vec_len places + 1 }
     ensures count { IfOk result (λ v. vec_len v ≡ vec_len places) }
-    ensures each { IfOk result (λ v. All (λ d. d ≡ fresh_designer (arc_value version.now)) v.items) }
+    ensures each { IfOk result (λ v. All (λ d. d ≡ fresh_designer prefix.now.story) v.items) }
     ensures share { OnOk result ((all.new.parts ≡ 1) × (all.new.amount ≡ all.old.amount)) }
 {
     let mut made = Vec::new(alloc);
     let mut places = places;
     while let Some(pass) = places.pop() {
-        let next = designer_at(pass, version, all)?;
-        made.push(next)?;
+        made.push(designer_at(pass, prefix, all))?;
     }
     Ok(made)
 }
 
-fn designer_at<L: DeskName>(
-    pass: Pass,
-    version: &Arc<Version>,
-    all: &mut Share<L>,
-) -> Result<Designer<L>, AllocError>
-    requires pass { pass ≡ record { book = L.history; story = arc_value version.now } ∷ [] }
+fn designer_at<L: DeskName>(pass: Pass, prefix: &LogPrefix, all: &mut Share<L>) -> Designer<L>
+    requires book { prefix.now.book ≡ L.history }
+    requires pass { pass ≡ prefix.now ∷ [] }
     requires parts { 1 < all.old.parts }
-    ensures designer { IfOk result (λ d. d ≡ fresh_designer (arc_value version.now)) }
-    ensures share { OnOk result ((all.new.parts + 1 ≡ all.old.parts) × (all.new.amount ≡ all.old.amount)) }
+    ensures designer { result ≡ fresh_designer prefix.now.story }
+    ensures share { (all.new.parts + 1 ≡ all.old.parts) × (all.new.amount ≡ all.old.amount) }
 {
-    let seen = Arc::try_clone(version)?;
-    Ok(Designer {
+    Designer {
         pass,
-        seen,
+        seen: prefix.again(),
         accepted: 0,
         share: all.split_off(1, 0),
-    })
+    }
 }
 
 /// A viewer for each place.
