@@ -1,6 +1,4 @@
 //! Small netlists whose waves and states were worked out by hand.
-mod rows;
-
 use mp_engine::{Crew, Gate, OpenGate, Run, evaluate};
 use mp_modules::Kind;
 use mp_netlist::{ModuleId, Netlist, WireId};
