@@ -73,18 +73,26 @@ class Sweep:
     text: str
     way: str
     later: bool = False
+    # the row whose input is FILE, of which the text is the script
+    netlist: str = ""
 
     @property
     def command(self):
         return self.words[0]
 
     @property
+    def file(self):
+        return ROWS_FOLDER / f"{self.netlist}.in"
+
+    @property
     def right(self):
         name = ROWS.get(tuple(self.words))
-        return of_row(name) if name else answer(self.command, self.text)
+        text = f"{self.file.read_text()}---\n{self.text}" if self.netlist else self.text
+        return of_row(name) if name else answer(self.command, text)
 
     def run(self, runner, refusal=Refusal(), text=None):
-        return runner.run(self.words, (self.text if text is None else text).encode("latin-1"), refusal)
+        words = [*self.words, str(self.file)] if self.netlist else self.words
+        return runner.run(words, (self.text if text is None else text).encode("latin-1"), refusal)
 
     def told(self, at, done, right):
         return f"{self.name}, {at}: status {done.status}, {done.written!r}, {done.complaint!r} where {right.status}, {right.written!r}, {right.complaint!r} is right"
@@ -188,6 +196,18 @@ class Sweep:
 
     def reads(self, runner):
         return self.devices(runner, READ, lambda done, *_: (done.status, done.written, done.complaint) == (3, b"", b"mpwb: read failed\n"))
+
+    def lines(self, runner):
+        """As `reads`, of a script whose lines are answered one by one."""
+        return self.devices(runner, READ, self.is_right_without_script)
+
+    def is_right_without_script(self, done, how, byte):
+        """Whether that is right where a read failed so, in FILE or behind it: just the lines that ended before are answered."""
+        # (where bytes go one by one, FILE ends with a read that gives none)
+        read = self.text if byte is None else self.text[: max(0, byte - len(self.file.read_text()) - 2)]
+        counts = range(read.count("\n") + 1) if byte is None else [read.count("\n")]
+        fronts = [b"".join(self.right.parts[:count]) for count in counts]
+        return (done.status, done.complaint) == (3, b"mpwb: read failed\n") and done.written in fronts
 
     def writes(self, runner):
         return self.devices(runner, WRITE, self.is_right_without_sink)
