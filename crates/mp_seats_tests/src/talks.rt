@@ -1,7 +1,7 @@
 //! Lines that come to a seat over memory.
 use crate::onlooker::Onlooker;
 use crate::words::Words;
-use mp_lines::{LINE_BYTES, LineReader};
+use mp_lines::LineReader;
 use mp_seats::Seat;
 use mp_streams::{Out, ReadSource, WriteSink};
 use mp_talk::TalkFault;
@@ -23,32 +23,9 @@ fn replies<R: Threads + Wait + Sync>(
 }
 
 #[test]
-fn lines_of_a_viewer(rt: HostRuntime) {
-    let lines = b"remove wire a\n\n # nothing\nfoo\nwire a 1 0";
-    if let Ok((text, ended)) = replies(&rt, rt.alloc(), lines) {
-        assert!(rt; text.as_slice() == b"viewer unread viewer ".as_slice());
-        assert!(rt; ended == Ok(()));
-    }
-}
-
-#[test]
 fn question_without_memory(rt: HostRuntime) {
     if let Ok((text, ended)) = replies(&rt, rt.alloc(), b"foo\nwaves\nfoo\n") {
         assert!(rt; text.as_slice() == b"unread ".as_slice());
         assert!(rt; ended == Err(TalkFault::OutOfMemory));
-    }
-}
-
-#[test]
-fn line_that_is_too_long(rt: HostRuntime) {
-    let Ok(mut lines) = vec![in rt.alloc(); b'x'; LINE_BYTES + 1] else {
-        return;
-    };
-    if lines.extend_from_slice(b"\nfoo").is_err() {
-        return;
-    }
-    if let Ok((text, ended)) = replies(&rt, rt.alloc(), lines.as_slice()) {
-        assert!(rt; text.as_slice() == b"long unread ".as_slice());
-        assert!(rt; ended == Ok(()));
     }
 }
