@@ -13,6 +13,7 @@ ghost use Rattle.mp_evaluation.specs.Runs.{end_memory};
 
 use crate::cell::Cell;
 use crate::engine::Engine;
+use crate::history::History;
 use crate::part_run::PartRun;
 use crate::region::Region;
 use mp_evaluation::Checkpoints;
@@ -32,16 +33,32 @@ pub(crate) fn finished(
     requires over { (last : ℕ) → last + 1 ≡ netlist.now.horizon → IsAfter netlist.now last engine }
     ensures { IfOk result (λ run. IsPartRun netlist.now run) }
 {
+    let Remains { waves, cells, kept } = remains_of(engine);
+    let waves = finished_waves(alloc, netlist, waves)?;
+    let ends = end_memories(alloc, netlist, cells.as_slice())?;
+    let kept = shared_checkpoints(alloc, netlist, kept)?;
+    Ok(PartRun { waves, ends, kept })
+}
+
+/// What an evaluation leaves: the wave of each wire, the state of each module, and what was kept of it.
+#[derive(Drop)]
+struct Remains {
+    waves: Vec<WaveBuilder>,
+    cells: Vec<Cell>,
+    kept: Vec<Checkpoints>,
+}
+
+fn remains_of(engine: Engine) -> Remains
+    ensures { result ≡ record { waves = engine.waves; cells = engine.cells; kept = engine.history.kept } }
+{
     let Engine {
         waves,
         cells,
         history,
         ..
     } = engine;
-    let waves = finished_waves(alloc, netlist, waves)?;
-    let ends = end_memories(alloc, netlist, cells.as_slice())?;
-    let kept = shared_checkpoints(alloc, netlist, history.kept)?;
-    Ok(PartRun { waves, ends, kept })
+    let History { kept, .. } = history;
+    Remains { waves, cells, kept }
 }
 
 fn finished_waves(

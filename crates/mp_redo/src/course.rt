@@ -1,14 +1,13 @@
 //! A re-evaluation on its way from window to window.
-use crate::beginning::{first_cells, first_looks, open_first};
+use crate::beginning::first_cells;
 use crate::border::cross_border;
 use crate::cell::Cell;
 use crate::change::Change;
+use crate::first_course::{FirstModules, FirstWires, first_modules, first_wires};
 use crate::joined::open_joined;
-use crate::keeping::first_ledgers;
 use crate::ledger::Ledger;
 use crate::line::Line;
 use crate::ring::Ring;
-use crate::starting::first_lines;
 use crate::unit::{pass_gate, run_unit};
 use mp_evaluation::CHECKPOINT_UNITS;
 use mp_netlist::ModuleId;
@@ -53,21 +52,17 @@ impl Course {
         requires { IsChange change.now }
         ensures { IfOk result (λ course. IsCourse change.now.old.now change.now.new.now change.now.run.now 0 0 course) }
     {
-        let new = change.new;
-        let mut cells = first_cells(alloc, change.old, new)?;
-        let lines = first_lines(alloc, change.old, new, cells.as_slice())?;
-        let looks = first_looks(
-            alloc,
-            new,
-            change.readers,
-            cells.as_slice(),
-            lines.as_slice(),
-        )?;
-        let ledgers = first_ledgers(alloc, cells.as_slice(), new.horizon())?;
-        let mut stretches = Vec::new(alloc);
-        let mut live = Vec::new(alloc);
-        open_first(new, &mut cells, &mut stretches, &mut live)?;
-        let marks = unmarked(alloc, new.module_slots() as usize)?;
+        let cells = first_cells(alloc, change.old, change.new)?;
+        let wires = first_wires(alloc, change, cells.as_slice())?;
+        let modules = first_modules(alloc, change.new, cells)?;
+        let marks = unmarked(alloc, change.new.module_slots() as usize)?;
+        let FirstWires { lines, looks } = wires;
+        let FirstModules {
+            cells,
+            ledgers,
+            stretches,
+            live,
+        } = modules;
         Ok(Course {
             cells,
             lines,

@@ -13,6 +13,7 @@ mod cutting;
 mod drivers;
 mod due;
 mod finishing;
+mod first_course;
 mod giving;
 mod hearing;
 mod join;

@@ -1,18 +1,23 @@
 //! What has changed with a netlist is evaluated again.
 ghost use Rattle.std.specs.Prelude.{◌≡◌, IfOk};
 ghost use Rattle.mp_evaluation.specs.Runs.{IsRun};
+ghost use Rattle.mp_redo.specs.Changes.{IsChange};
+ghost use Rattle.mp_redo.specs.Courses.{last_block, IsCourse};
 ghost use Rattle.mp_work.specs.Revisions.{IsRevision};
 ghost use Rattle.mp_work.specs.Work.{IsWork};
 
+use crate::cell::Cell;
 use crate::change::Change;
 use crate::course::Course;
 use crate::finishing::finished;
+use crate::ledger::Ledger;
+use crate::line::Line;
 use crate::parts::parts_of;
 use mp_depend::Readers;
 use mp_evaluation::Run;
 use mp_netlist::Netlist;
 use mp_phase::{Crew, Gate};
-use mp_work::Work;
+use mp_work::{Stretch, Work};
 use std::alloc::{AllocError, Global};
 use std::sync::Wait;
 use std::thread::Threads;
@@ -39,17 +44,71 @@ pub fn redo<R: Threads + Wait + Sync, G: Gate + Sync>(
     let _old_horizon = old.horizon();
     let _new_horizon = new.horizon();
     let readers = Readers::build(alloc, new)?;
-    let built = parts_of(alloc, new)?;
-    let parts = built.as_slice();
+    let parts = parts_of(alloc, new)?;
     let change = Change {
         old,
         run,
         new,
         readers: &readers,
-        parts,
+        parts: parts.as_slice(),
     };
-    let mut course = Course::first(alloc, &change)?;
-    course.follow(rt, alloc, crew, gate, &change)?;
+    let course = run_course(rt, alloc, crew, gate, &change)?;
+    outcome(alloc, &change, course)
+}
+
+/// The re-evaluation of a change at the horizon.
+fn run_course<R: Threads + Wait + Sync, G: Gate + Sync>(
+    rt: &R,
+    alloc: Global,
+    crew: &Crew,
+    gate: &G,
+    change: &Change<'_>,
+) -> Result<Course, AllocError>
+    requires { IsChange change.now }
+    ensures { IfOk result (λ course. IsCourse change.now.old.now change.now.new.now change.now.run.now (last_block change.now.new.now change.now.new.now.horizon) change.now.new.now.horizon course) }
+{
+    let mut course = Course::first(alloc, change)?;
+    course.follow(rt, alloc, crew, gate, change)?;
+    Ok(course)
+}
+
+/// What a re-evaluation gives that has come to the horizon.
+fn outcome(alloc: Global, change: &Change<'_>, course: Course) -> Result<(Run, Work), AllocError>
+    requires change { IsChange change.now }
+    requires over { IsCourse change.now.old.now change.now.new.now change.now.run.now (last_block change.now.new.now change.now.new.now.horizon) change.now.new.now.horizon course }
+    ensures run { IfOk result (λ both. IsRun change.now.new.now both.0) }
+    ensures work { IfOk result (λ both. IsWork change.now.old.now change.now.new.now both.1) }
+{
+    let Remains {
+        cells,
+        lines,
+        ledgers,
+        stretches,
+    } = remains_of(course);
+    let found = finished(
+        alloc,
+        change.old,
+        change.run,
+        change.new,
+        cells.as_slice(),
+        lines,
+        ledgers,
+    )?;
+    Ok((found, Work::of_change(change.old, change.new, stretches)))
+}
+
+/// What a re-evaluation leaves: the cell and the ledger of each module, the line of each wire, and the stretches of work.
+#[derive(Drop)]
+struct Remains {
+    cells: Vec<Cell>,
+    lines: Vec<Line>,
+    ledgers: Vec<Ledger>,
+    stretches: Vec<Stretch>,
+}
+
+fn remains_of(course: Course) -> Remains
+    ensures { result ≡ record { cells = course.cells; lines = course.lines; ledgers = course.ledgers; stretches = course.stretches } }
+{
     let Course {
         cells,
         lines,
@@ -57,6 +116,10 @@ pub fn redo<R: Threads + Wait + Sync, G: Gate + Sync>(
         stretches,
         ..
     } = course;
-    let found = finished(alloc, old, run, new, cells.as_slice(), lines, ledgers)?;
-    Ok((found, Work::of_change(old, new, stretches)))
+    Remains {
+        cells,
+        lines,
+        ledgers,
+        stretches,
+    }
 }

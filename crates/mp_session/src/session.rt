@@ -67,12 +67,12 @@ impl<G: Gate> Session<G> {
         ensures { IfOk result (λ session. session ≡ opened netlist.now) }
     {
         let run = evaluate(rt, alloc, netlist, &crew, &gate)?;
-        let version = Version::opening(alloc, netlist.copy()?, run.waves().share(alloc)?)?;
+        let version = opening_version(alloc, netlist, &run)?;
         Ok(Session {
             alloc,
             crew,
             gate,
-            version: Arc::new(alloc, version)?,
+            version,
             run,
             last_work: Work::none(alloc),
         })
@@ -250,16 +250,50 @@ impl<G: Gate> Session<G> {
         ensures next { OnOk result (present (one_more self.now.story edit) ≡ next) }
     {
         let edit = Arc::new(self.alloc, edit)?;
-        let waves = run.waves().share(self.alloc)?;
-        let version = self
-            .version
-            .next(self.alloc, Arc::try_clone(&edit)?, next, waves)?;
+        let next = self.next_version(&edit, next, &run)?;
+        let before = Arc::try_clone(&self.version)?;
         Ok(Prepared {
-            before: Arc::try_clone(&self.version)?,
+            before,
             edit,
-            next: Arc::new(self.alloc, version)?,
+            next,
             run,
             work,
         })
     }
+
+    /// The version after the edit, with its netlist and the waves of its run.
+    fn next_version(
+        &self,
+        edit: &Arc<Edit, Global>,
+        next: Netlist,
+        run: &Run,
+    ) -> Result<Arc<Version, Global>, AllocError>
+        requires accepted { after (present self.now.story) (arc_value edit.now) ≡ Ok next }
+        requires room { length self.now.story.edits < max_edits }
+        requires run { IsRun next run.now }
+        ensures story { IfOk result (λ version. arc_value version ≡ one_more self.now.story (arc_value edit.now)) }
+        ensures now { IfOk result (λ version. present (arc_value version) ≡ next) }
+    {
+        let waves = run.waves().share(self.alloc)?;
+        let edit = Arc::try_clone(edit)?;
+        let version = self.version.next(self.alloc, edit, next, waves)?;
+        Ok(Arc::new(self.alloc, version)?)
+    }
+}
+
+ghost use Rattle.std.specs.Arc.{arc_value};
+ghost use Rattle.mp_evaluation.specs.Runs.{IsRun};
+ghost use Rattle.mp_version.specs.Stories.{opening};
+
+/// The version of a netlist before the first edit, with the waves of its run.
+fn opening_version(
+    alloc: Global,
+    netlist: &Netlist,
+    run: &Run,
+) -> Result<Arc<Version, Global>, AllocError>
+    requires { IsRun netlist.now run.now }
+    ensures { IfOk result (λ version. arc_value version ≡ opening netlist.now) }
+{
+    let version = Version::opening(alloc, netlist.copy()?, run.waves().share(alloc)?)?;
+    Ok(Arc::new(alloc, version)?)
 }

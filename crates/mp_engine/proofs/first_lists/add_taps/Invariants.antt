@@ -1,6 +1,6 @@
 use Rattle.std.proofs.Common.{take}
 use Rattle.mp_engine.specs.Taps.{AreTaken}
-use Rattle.mp_engine.proofs.starting.add_taps.Given as goal
+use Rattle.mp_engine.proofs.first_lists.add_taps.Given as goal
 
 -- those so far
 abbrev pub invariant-loop-input : goal.invariant-loop-input

@@ -3,7 +3,7 @@ use Rattle.std.proofs.lemmas.List.{length_push}
 use Rattle.mp_engine.specs.declared.tap.Tap.{Tap}
 use Rattle.mp_engine.specs.Taps.{AreKept, tap_of}
 use Rattle.mp_engine.proofs.TapLemmas.{kept_pushed}
-use Rattle.mp_engine.proofs.starting.first_taps.Goals as goal
+use Rattle.mp_engine.proofs.first_lists.first_taps.Goals as goal
 
 -- a list more keeps those before it
 one_more : (lists new : List (List Tap)) (last : List Tap) → new ≡ lists ++ last ∷ [] → AreKept lists new × (length new ≡ length lists + 1)

@@ -3,7 +3,7 @@ use Rattle.std.proofs.lemmas.List.{take_more}
 use Rattle.mp_records.specs.Inputs.{no_input}
 use Rattle.mp_engine.specs.Taps.{AreTaken}
 use Rattle.mp_engine.proofs.TapLemmas.{taken_none, taken_more}
-use Rattle.mp_engine.proofs.starting.add_taps.Goals as goal
+use Rattle.mp_engine.proofs.first_lists.add_taps.Goals as goal
 
 pub loop-input-init : goal.loop-input-init
 loop-input-init c = taken_none c.args.id.0 c.args.taps.now

@@ -1,6 +1,6 @@
 use Rattle.std.proofs.Common.{◌<◌, [], length, slice_index_or}
 use Rattle.mp_engine.specs.Taps.{AreLate}
-use Rattle.mp_engine.proofs.starting.first_taps.Given as goal
+use Rattle.mp_engine.proofs.first_lists.first_taps.Given as goal
 
 -- the first list stays
 abbrev pub invariant-loop-ahead : goal.invariant-loop-ahead

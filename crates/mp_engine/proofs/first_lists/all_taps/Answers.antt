@@ -2,7 +2,7 @@ use Rattle.std.proofs.Common.{◌≡◌, subst, arith, inl, inr}
 use Rattle.std.specs.List.{Contains}
 use Rattle.std.proofs.lemmas.Bool.{cases_lt}
 use Rattle.mp_engine.specs.Taps.{tap_of, IsLate}
-use Rattle.mp_engine.proofs.starting.all_taps.Goals as goal
+use Rattle.mp_engine.proofs.first_lists.all_taps.Goals as goal
 
 pub loop-m-preserved : goal.loop-m-preserved
 loop-m-preserved c = λ m input low late.
