@@ -4,7 +4,7 @@ ghost use Rattle.mp_evaluation.specs.Runs.{IsRun};
 use mp_depend::{Records, touched};
 use mp_engine::{OpenGate, evaluate_here};
 use mp_evaluation::Run;
-use mp_modules::Kind;
+use mp_modules::{Kind, Memory};
 use mp_netlist::{
     Boxed, ModuleId, Netlist, NewModule, OutputName, OutputNames, Params, SingleEdit, WireId,
 };
@@ -42,11 +42,14 @@ fn are_known(records: &Records) -> bool {
         && records.resume_point(ModuleId(1), 0) == None
 }
 
-/// Whether the records agree with the run that they borrow, at a checkpoint and at no other time.
+/// Whether the records agree with just the state that the run kept at a checkpoint, though another has the same output, and with none at any
+/// other time.
 fn agree(records: &Records, run: &Run) -> bool {
     match run.checkpoint(ModuleId(0), 1024) {
         Some(memory) => {
+            let other = Memory::with_one_output(&[1, 0], memory.output(0));
             records.agrees(ModuleId(0), 1024, memory) == Some(true)
+                && records.agrees(ModuleId(0), 1024, other) == Some(false)
                 && records.agrees(ModuleId(0), 1025, memory) == None
         }
         None => false,

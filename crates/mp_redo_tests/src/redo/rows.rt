@@ -105,61 +105,6 @@ fn delay_edit_work(rt: HostRuntime) -> Result<(), Fail> {
     assert_row(&rt, rt.alloc(), &DELAY_EDIT_WORK)
 }
 
-static TWO_STAGE_CONTROL: Row<'static> = Row {
-    plan: Plan {
-        horizon: 20,
-        wires: &["r", "ack", "q1", "q2"],
-        parts: &[
-            Part {
-                name: "c1",
-                kind: Kind::C,
-                params: &[0, 0, 1],
-                inputs: &[("r", 0), ("q2", 0)],
-                outputs: &[("q1", 2)],
-            },
-            Part {
-                name: "c2",
-                kind: Kind::C,
-                params: &[0, 0, 1],
-                inputs: &[("q1", 0), ("ack", 0)],
-                outputs: &[("q2", 2)],
-            },
-        ],
-        signals: &[
-            Signal {
-                wire: "r",
-                changes: &[(1, 1), (4, 0)],
-            },
-            Signal {
-                wire: "ack",
-                changes: &[(10, 1)],
-            },
-        ],
-    },
-    change: Change::Signal(Signal {
-        wire: "ack",
-        changes: &[(11, 1)],
-    }),
-    waves: &[(2, &[(3, 1), (7, 0)]), (3, &[(5, 1), (13, 0)])],
-    work: &[
-        Span(1, 0, 12, 12),
-        Span(0, 0, 14, 14),
-        Span(1, 12, 14, 2),
-        Span(0, 14, 16, 2),
-        Span(1, 14, 16, 2),
-        Span(0, 16, 18, 2),
-        Span(1, 16, 18, 2),
-        Span(0, 18, 20, 2),
-        Span(1, 18, 20, 2),
-    ],
-};
-
-/// The control of a micropipeline of two stages, acknowledged a unit later: only what the acknowledge tells is found anew.
-#[test]
-fn two_stage_control(rt: HostRuntime) -> Result<(), Fail> {
-    assert_row(&rt, rt.alloc(), &TWO_STAGE_CONTROL)
-}
-
 /// A buffer that hears nothing.
 const QUIET: Plan<'static> = Plan {
     horizon: 2000,
@@ -177,38 +122,6 @@ const QUIET: Plan<'static> = Plan {
     }],
 };
 
-static CHECKPOINT_RESUME: Row<'static> = Row {
-    plan: QUIET,
-    change: Change::Signal(Signal {
-        wire: "a",
-        changes: &[(1500, 1)],
-    }),
-    waves: &[(1, &[(1503, 1)])],
-    work: &[Span(0, 1024, 1501, 477), Span(0, 1501, 2000, 3)],
-};
-
-/// A late change is evaluated from the last kept state on.
-#[test]
-fn checkpoint_resume(rt: HostRuntime) -> Result<(), Fail> {
-    assert_row(&rt, rt.alloc(), &CHECKPOINT_RESUME)
-}
-
-static REJOINING: Row<'static> = Row {
-    plan: QUIET,
-    change: Change::Signal(Signal {
-        wire: "a",
-        changes: &[(100, 1), (200, 0)],
-    }),
-    waves: &[(1, &[(103, 1), (203, 0)])],
-    work: &[Span(0, 0, 102, 102), Span(0, 102, 1024, 3)],
-};
-
-/// What the buffer hears ends as before within its first block.
-#[test]
-fn rejoining(rt: HostRuntime) -> Result<(), Fail> {
-    assert_row(&rt, rt.alloc(), &REJOINING)
-}
-
 static REJOINING_TWICE: Row<'static> = Row {
     plan: QUIET,
     change: Change::Signal(Signal {
@@ -224,66 +137,10 @@ static REJOINING_TWICE: Row<'static> = Row {
     ],
 };
 
-/// It hears something else again in the next block.
+/// What the buffer hears ends as before within its first block, and is something else again in the next one.
 #[test]
 fn rejoining_twice(rt: HostRuntime) -> Result<(), Fail> {
     assert_row(&rt, rt.alloc(), &REJOINING_TWICE)
-}
-
-/// A TOGGLE whose input rises at 1,500.
-const TOGGLE: Plan<'static> = Plan {
-    horizon: 2000,
-    wires: &["a", "p", "q"],
-    parts: &[Part {
-        name: "t",
-        kind: Kind::Toggle,
-        params: &[],
-        inputs: &[("a", 0)],
-        outputs: &[("p", 3), ("q", 3)],
-    }],
-    signals: &[Signal {
-        wire: "a",
-        changes: &[(1500, 1)],
-    }],
-};
-
-static STATE_STAYS_DIFFERENT: Row<'static> = Row {
-    plan: TOGGLE,
-    change: Change::Signal(Signal {
-        wire: "a",
-        changes: &[(100, 1), (1500, 0)],
-    }),
-    waves: &[(1, &[(103, 1)]), (2, &[(1503, 1)])],
-    work: &[
-        Span(0, 0, 102, 102),
-        Span(0, 102, 1024, 3),
-        Span(0, 1024, 2000, 3),
-    ],
-};
-
-/// Its state stays another, though it hears the same for a whole block.
-#[test]
-fn state_stays_different(rt: HostRuntime) -> Result<(), Fail> {
-    assert_row(&rt, rt.alloc(), &STATE_STAYS_DIFFERENT)
-}
-
-static STATE_COMES_BACK: Row<'static> = Row {
-    plan: TOGGLE,
-    change: Change::Signal(Signal {
-        wire: "a",
-        changes: &[(100, 1), (101, 0), (102, 1), (103, 0), (1500, 1)],
-    }),
-    waves: &[
-        (1, &[(103, 1), (105, 0), (1503, 1)]),
-        (2, &[(104, 1), (106, 0)]),
-    ],
-    work: &[Span(0, 0, 102, 102), Span(0, 102, 1024, 3)],
-};
-
-/// Four events leave it with the state that it has without them.
-#[test]
-fn state_comes_back(rt: HostRuntime) -> Result<(), Fail> {
-    assert_row(&rt, rt.alloc(), &STATE_COMES_BACK)
 }
 
 /// A buffer hears its input 4 units late.
@@ -316,20 +173,4 @@ static INPUT_DELAYS: Row<'static> = Row {
 #[test]
 fn input_delays(rt: HostRuntime) -> Result<(), Fail> {
     assert_row(&rt, rt.alloc(), &INPUT_DELAYS)
-}
-
-static INPUT_DELAYS_PAST_HORIZON: Row<'static> = Row {
-    plan: LATE,
-    change: Change::Signal(Signal {
-        wire: "a",
-        changes: &[(2, 1), (5, 0), (17, 1)],
-    }),
-    waves: &[(1, &[(9, 1), (12, 0)])],
-    work: &[],
-};
-
-/// What it would hear behind the horizon makes no work.
-#[test]
-fn input_delays_past_horizon(rt: HostRuntime) -> Result<(), Fail> {
-    assert_row(&rt, rt.alloc(), &INPUT_DELAYS_PAST_HORIZON)
 }
