@@ -1,6 +1,8 @@
 //! Where those who sit down come from.
-ghost use Rattle.std.specs.Prelude.{◌≡◌, ℕ, List, Option, IfSome, IfNone};
+ghost use Rattle.std.specs.Prelude.{◌≡◌, ◌++◌, ℕ, List, Option, IfSome, IfNone};
+ghost use Rattle.mp_hosting.specs.declared.place.SeatName.{SeatName};
 
+use crate::ended::Ended;
 use crate::place::Places;
 use mp_streams::{Sink, Source};
 
@@ -25,8 +27,17 @@ pub trait Door: Drop {
         ensures comes { IfSome result (λ both. Comes self.old self.new (Self.Input.left both.0) (Self.Output.taken both.1)) }
         ensures none { IfNone result (self.new ≡ self.old) };
 
-    /// Tells that the one who came has left, whose input is closed.
+    /// Closes the output: whoever reads there sees the end.
     fn close(&mut self, output: Self::Output)
+        ensures { Leaves self.old self.new (Self.Output.taken output) };
+
+    /// Tells that somebody else may come, where the input has ended.
+    fn free(&mut self, ended: Ended)
+        ensures { self.new ≡ self.old };
+
+    /// Closes the output where the input has ended, and tells that somebody else may come: so whoever sees the end of the output may come again at
+    /// once.
+    fn leave(&mut self, ended: Ended, output: Self::Output)
         ensures { Leaves self.old self.new (Self.Output.taken output) };
 
     /// Tells that the one who came couldn't be served for want of memory.
@@ -39,8 +50,12 @@ pub trait Exit: Drop {
     /// What is to be kept until all of them know it.
     type Held: Drop;
 
+    // The names of the seats, those of designers first.
+    ghost names: { Self → List SeatName };
+
     /// The seats by name, with those who have taken them.
-    fn places(&self) -> &Places;
+    fn places(&self) -> &Places
+        ensures { result.now.designers ++ result.now.viewers ≡ names self.now };
 
     /// Opens every door at which nobody has come.
     fn open_all(&self) -> Self::Held;

@@ -3,6 +3,7 @@
 
 mod designer_guest;
 mod door;
+mod ended;
 mod hall;
 mod host_fault;
 mod hosting;
@@ -14,9 +15,11 @@ mod post;
 mod serves;
 mod service;
 mod staff;
+mod telling;
 mod viewer_guest;
 
 pub use door::{Door, Exit};
+pub use ended::Ended;
 pub use hall::Hall;
 pub use host_fault::HostFault;
 pub use hosting::host;

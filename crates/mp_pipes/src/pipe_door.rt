@@ -1,6 +1,7 @@
 //! The named pipes of a seat as its door.
+
 use crate::pipe_paths::PipePaths;
-use mp_hosting::{Door, Place, Places};
+use mp_hosting::{Door, Ended, Place, Places};
 use mp_streams::{ReadSource, WriteSink};
 use std::fs::{File, OpenOptions};
 
@@ -54,7 +55,15 @@ impl Door for PipeDoor<'_> {
     }
 
     fn close(&mut self, output: Self::Output) {
-        // the output is closed first: once the seat is free, whoever ends the desk may open its pipes for both ends, and nobody would see the end
+        drop(output);
+    }
+
+    fn free(&mut self, _ended: Ended) {
+        self.seat.set_taken(false);
+    }
+
+    fn leave(&mut self, _ended: Ended, output: Self::Output) {
+        // the output is closed before the seat is free: whoever ends the desk opens the pipes of free seats for both ends, and nobody would see the end
         drop(output);
         self.seat.set_taken(false);
     }

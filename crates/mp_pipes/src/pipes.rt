@@ -1,5 +1,5 @@
 //! The named pipes of a desk's seats.
-ghost use Rattle.std.specs.Prelude.{◌≡◌, Ok, [], IfOk, IfErr};
+ghost use Rattle.std.specs.Prelude.{◌≡◌, ◌++◌, Ok, [], IfOk, IfErr};
 ghost use Rattle.mp_hosting.specs.OwnSeats.{HasTalked, EndsFor};
 
 use crate::pipe_door::PipeDoor;
@@ -69,8 +69,8 @@ impl<'a> Pipes<'a> {
     where
         S::Prepared: Send,
         requires { out.old.held ≡ [] }
-        ensures talked { IfOk result (λ met. HasTalked (record { answer = B.answer_text; reply = B.reply_text }) (Ok tt) (S.story session) lines.old lines.new out.old out.new) }
-        ensures fault { IfErr result (λ fault. EndsFor (record { answer = B.answer_text; reply = B.reply_text }) fault (S.story session) lines.old lines.new out.old out.new) }
+        ensures talked { IfOk result (λ met. HasTalked (record { answer = B.answer_text; reply = B.reply_text }) (Ok tt) (S.story session) (self.now.places.now.designers ++ self.now.places.now.viewers) lines.old lines.new out.old out.new) }
+        ensures fault { IfErr result (λ fault. EndsFor (record { answer = B.answer_text; reply = B.reply_text }) fault (S.story session) (self.now.places.now.designers ++ self.now.places.now.viewers) lines.old lines.new out.old out.new) }
         ensures flushed { out.new.held ≡ [] }
     {
         let hall = self.hall(scribe)?;
@@ -81,7 +81,9 @@ impl<'a> Pipes<'a> {
     fn hall<B: Scribe + Copy>(
         &self,
         scribe: B,
-    ) -> Result<Hall<PipeDoor<'_>, PipeExit<'_>, B>, AllocError> {
+    ) -> Result<Hall<PipeDoor<'_>, PipeExit<'_>, B>, AllocError>
+        ensures { IfOk result (λ hall. hall.exit.pipes.now ≡ self.now) }
+    {
         let designers = self.doors(self.designers.as_slice(), self.places.designers())?;
         let viewers = self.doors(self.viewers.as_slice(), self.places.viewers())?;
         Ok(Hall {
