@@ -1,5 +1,5 @@
 //! How faults of a run are told.
-use mp_commands::{RunFault, exit_status, fault_line};
+use mp_command_runs::{RunFault, exit_status, fault_line};
 use mp_netlist::EditError;
 use mp_text::{LineError, TextCode, TextError};
 use std::test::Fail;

@@ -1,5 +1,5 @@
 -- The blocks of an input, and the lines of a meeting.
-use Rattle.std.proofs.Common.{◌≡◌, ℕ, ◌+◌, ◌<◌, true, false, List, [], ◌∷◌, ◌++◌, length, drop, slice_index_or, Result, Ok, Err, IsErr, refl, sym, ap, subst, ◌∙◌}
+use Rattle.std.proofs.Common.{◌≡◌, ℕ, ◌+◌, ◌<◌, true, false, List, [], ◌∷◌, ◌++◌, length, drop, slice_index_or, Result, Ok, Err, IsErr, IsOk, refl, sym, ap, subst, ◌∙◌}
 use Rattle.std.specs.Borrow.{Bor}
 use Rattle.std.proofs.lemmas.List.{length-map, drop_more}
 use Rattle.mp_streams.specs.declared.failed.Failed.{Failed}
@@ -13,9 +13,14 @@ use Rattle.mp_words.specs.Divisions.{parts_of, later_parts, are_divided, lines_o
 use Rattle.mp_words.proofs.PartLemmas.{parts_of-split, parts_of-one}
 use Rattle.mp_version.specs.Stories.{Story, present}
 use Rattle.mp_meeting.specs.declared.tally.Tally.{Tally}
+use Rattle.mp_meeting.specs.declared.meeting_fault.MeetingFault.{MeetingFault}
+use Rattle.mp_meeting.specs.declared.meeting_fault.MeetingFault.TheVariants.{OutOfMemory, NoPlace}
 use Rattle.mp_meeting.specs.Meetings.{IsMeeting}
+use Rattle.mp_command_runs.specs.declared.run_fault.RunFault.{RunFault}
+use Rattle.mp_command_runs.specs.Runs.{Refuses}
 use Rattle.mp_commands.specs.Desks.{blocks_of, met_text, IsDeskText}
-use Rattle.mp_commands.specs.NumberedLines.{lines_from}
+use Rattle.mp_commands.specs.MeetingFaults.{run_fault_of}
+use Rattle.mp_answers.specs.NumberedLines.{lines_from}
 
 -- ---- lines, place by place
 
@@ -45,7 +50,12 @@ blocks_of-some input divided = ap (λ (l : List (List (List ℕ))). drop 1 l) (p
 pub blocks_count : (input : List ℕ) (blocks : List (Bor (List ℕ))) (n : ℕ) → n ≡ length blocks → lines_of_each blocks ≡ blocks_of input → n ≡ length (blocks_of input)
 blocks_count input blocks n same are = same ∙ sym (length-map blocks (λ text. lines_of text.now)) ∙ ap length are
 
--- ---- the text
+-- ---- the meeting
+
+-- one that didn't come about, where designers and viewers sit down
+pub refused_meeting : (opening : Result Circuit RunFault) (fault : MeetingFault) → IsOk opening → Refuses true opening (run_fault_of fault)
+refused_meeting opening OutOfMemory is = tt
+refused_meeting opening NoPlace is = (refl, is)
 
 -- the text of a meeting is one that may be written
 pub is_text : (netlist : Circuit) (blocks : List (List (List ℕ))) (viewers : ℕ) (story : Story) (tallies : List Tally) (numbers : List ℕ)

@@ -1,8 +1,4 @@
-pub mod PutLemmas
-pub mod RunLemmas
-pub mod ViewLemmas
-pub mod ReplyLemmas
-pub mod PlayLemmas
-pub mod EditAnswerLemmas
-pub mod MadeAgainLemmas
-pub mod DeskLemmas
+mod ReplyLemmas
+mod PlayLemmas
+mod MadeAgainLemmas
+mod DeskLemmas

@@ -17,7 +17,8 @@ use Rattle.mp_text.specs.declared.script_line.Line.TheVariants.{Change}
 use Rattle.mp_text.specs.ScriptLines.{line_at}
 use Rattle.mp_edit_lines.specs.EditLines.{edit_lines}
 use Rattle.mp_edit_lines.specs.ReadBack.{AreLinesOfEdits}
-use Rattle.mp_commands.specs.Keepers.{Kept, opened, IsKeptAfter}
+use Rattle.mp_answers.specs.Kept.{Kept}
+use Rattle.mp_commands.specs.Keepers.{opened, IsKeptAfter}
 use Rattle.mp_commands.specs.Replies.{IsKeptNext, IsNext}
 use Rattle.mp_commands.specs.MadeAgain.{LeadTo, IsMadeAgain}
 

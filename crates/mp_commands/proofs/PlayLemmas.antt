@@ -6,7 +6,7 @@ use Rattle.mp_streams.specs.WriteErrors.{Writes}
 use Rattle.mp_streams.specs.declared.write_error.WriteError.{WriteError}
 use Rattle.mp_streams.proofs.OutLemmas.{puts_then, puts_sooner}
 use Rattle.mp_words.specs.Lines.{lines_of}
-use Rattle.mp_commands.specs.Keepers.{Kept}
+use Rattle.mp_answers.specs.Kept.{Kept}
 use Rattle.mp_commands.specs.Replies.{reply, IsNext}
 use Rattle.mp_commands.specs.Plays.{AreReplies, PutsReplies}
 use Rattle.mp_commands.proofs.ReplyLemmas.{next_keeps}

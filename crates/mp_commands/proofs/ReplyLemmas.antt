@@ -22,8 +22,11 @@ use Rattle.mp_streams.specs.declared.write_error.WriteError.{WriteError}
 use Rattle.mp_streams.specs.declared.write_error.WriteError.TheVariants as writes
 use Rattle.mp_streams.proofs.OutLemmas.{puts_unmade}
 use Rattle.mp_version.specs.Stories.{counted_edit}
-use Rattle.mp_commands.specs.Keepers.{Kept, judged, IsOneMore, IsKeptAfter}
-use Rattle.mp_commands.specs.Replies.{IsNext, IsKeptNext, accepted_text, refused_text, outcome, edit_text, answer_text, unread_text, PutsEdit, PutsReply}
+use Rattle.mp_answers.specs.Answers.{answer_text}
+use Rattle.mp_answers.specs.Kept.{Kept}
+use Rattle.mp_answers.specs.ShortReplies.{accepted_text, refused_text, unread_text}
+use Rattle.mp_commands.specs.Keepers.{judged, IsOneMore, IsKeptAfter}
+use Rattle.mp_commands.specs.Replies.{IsNext, IsKeptNext, outcome, edit_text, PutsEdit, PutsReply}
 
 -- ---- what becomes of an edit
 

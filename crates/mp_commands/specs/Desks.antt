@@ -9,9 +9,9 @@ use Rattle.mp_version.specs.Stories.{Story}
 use Rattle.mp_desk.specs.DeskSizes.{is_desk_size}
 use Rattle.mp_meeting.specs.declared.tally.Tally.{Tally}
 use Rattle.mp_meeting.specs.Meetings.{IsMeeting}
-use Rattle.mp_commands.specs.declared.options.Options.{Options}
-use Rattle.mp_commands.specs.OptionLimits.{has_valid_crew}
-use Rattle.mp_commands.specs.NumberedLines.{lines_from}
+use Rattle.mp_command_runs.specs.declared.options.Options.{Options}
+use Rattle.mp_command_runs.specs.OptionLimits.{has_valid_crew}
+use Rattle.mp_answers.specs.NumberedLines.{lines_from}
 use Rattle.mp_views.specs.Outputs.{waves_text}
 
 -- the blocks of an input, one behind each division

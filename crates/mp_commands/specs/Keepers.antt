@@ -1,23 +1,13 @@
 -- A netlist that a script edits.
-use Rattle.std.specs.Prelude.{◌≡◌, List, [], ◌∷◌, ◌++◌, Result, Ok, Err}
+use Rattle.std.specs.Prelude.{◌≡◌, [], ◌∷◌, ◌++◌, Result, Ok, Err}
 use Rattle.mp_records.specs.declared.edit.Edit.{Edit}
 use Rattle.mp_records.specs.declared.edit_error.EditError.{EditError}
 use Rattle.mp_netlist.specs.Circuit.{Circuit}
 use Rattle.mp_netlist.specs.Edits.{after}
-use Rattle.mp_version.specs.Stories.{Story, present, counted_edit}
+use Rattle.mp_version.specs.Stories.{counted_edit}
 use Rattle.mp_session.specs.Sessions.{Standing}
-use Rattle.mp_work.specs.declared.work_entry.WorkEntry.{WorkEntry}
 use Rattle.mp_work.specs.Work.{IsWork}
-
--- a netlist, the edits that led to it, and what was evaluated for the last of them
-pub record Kept : Type 0 where
-  pub netlist : Circuit
-  pub edits : List Edit
-  pub work : List WorkEntry
-
--- what is kept after a story whose last edit has this work
-abbrev pub kept_at : Story → List WorkEntry → Kept
-kept_at story work = record { netlist = present story; edits = story.edits; work = work }
+use Rattle.mp_answers.specs.Kept.{Kept, kept_at}
 
 -- what is kept where a session stands
 abbrev pub kept_of : Standing → Kept

@@ -1,13 +1,8 @@
-pub mod Limits
-pub mod OptionLimits
-pub mod RunFaults
-pub mod Openings
-pub mod Runs
-pub mod NumberedLines
-pub mod EditAnswers
 pub mod Keepers
 pub mod Replies
 pub mod Plays
+pub mod LineAnswers
+pub mod ScriptOpenings
 pub mod MadeAgain
+pub mod MeetingFaults
 pub mod Desks
-pub mod WorkLines

@@ -6,7 +6,8 @@ use Rattle.mp_netlist.specs.Replays.{replay}
 use Rattle.mp_version.specs.Limits.{max_edits}
 use Rattle.mp_words.specs.Lines.{lines_of}
 use Rattle.mp_edit_lines.specs.EditLines.{edit_lines}
-use Rattle.mp_commands.specs.Keepers.{Kept, opened}
+use Rattle.mp_answers.specs.Kept.{Kept}
+use Rattle.mp_commands.specs.Keepers.{opened}
 use Rattle.mp_commands.specs.Replies.{IsNext}
 
 -- lines lead from what is kept before them to what is kept after them, where memory is wanting for none

@@ -1,17 +1,17 @@
 //! The command `desk`.
-ghost use Rattle.std.specs.Prelude.{◌≡◌, ◌≤◌, length, IfOk, true};
+ghost use Rattle.std.specs.Prelude.{◌≡◌, ◌≤◌, length, IfOk, IfSome, is_some, true};
 ghost use Rattle.mp_words.specs.Lines.{lines_of};
 ghost use Rattle.mp_words.specs.Divisions.{first_part, lines_of_each};
 ghost use Rattle.mp_commands.specs.Desks.{IsDeskText, blocks_of, has_valid_desk};
-ghost use Rattle.mp_commands.specs.Openings.{opening_of};
+ghost use Rattle.mp_command_runs.specs.Openings.{opening_of};
 
-use crate::command::Command;
+use crate::meeting_faults::fault_of_meeting;
 use crate::met_lines::put_met;
-use crate::opening::opened;
-use crate::options::Options;
-use crate::run_fault::RunFault;
+use mp_command_runs::{Command, Options, RunFault, opened};
+use mp_desk::DeskSize;
 use mp_engine::OpenGate;
 use mp_meeting::meet;
+use mp_phase::Crew;
 use mp_session::Session;
 use mp_streams::{Out, Sink};
 use mp_text::{divided, parts};
@@ -41,11 +41,22 @@ impl Command for Desk {
         options: &Options,
     ) -> Result<(), RunFault> {
         let (front, blocks) = split(alloc, input)?;
-        let (netlist, (crew, size)) = opened(alloc, front, options.desk_crew(blocks.len()))?;
+        let (netlist, (crew, size)) = opened(alloc, front, desk_crew(options, blocks.len()))?;
         let session = Session::open(rt, alloc, &netlist, crew, OpenGate)?;
-        let met = meet(rt, alloc, session, blocks.as_slice(), size)?;
-        Ok(put_met(out, &met, crew)?)
+        match meet(rt, alloc, session, blocks.as_slice(), size) {
+            Ok(met) => Ok(put_met(out, &met, crew)?),
+            Err(fault) => Err(fault_of_meeting(fault)),
+        }
     }
+}
+
+/// The crew of a desk with so many designers, and its size, where that has 1 to 8 of them, 1 to 32 viewers and a valid crew.
+fn desk_crew(options: &Options, designers: usize) -> Option<(Crew, DeskSize)>
+    ensures valid { is_some result ≡ has_valid_desk designers options.now }
+    ensures size { IfSome result (λ both. (both.1.designers ≡ designers) × (both.1.viewers ≡ options.now.viewers)) }
+{
+    let size = DeskSize::new(designers, options.viewers as usize).ok()?;
+    Some((options.crew()?, size))
 }
 
 /// The netlist's part of an input, and the blocks.

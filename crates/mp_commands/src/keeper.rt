@@ -1,7 +1,7 @@
 //! A netlist with its waves, which a script edits.
 ghost use Rattle.std.specs.Prelude.{◌≡◌};
 
-use crate::snapshot::Snapshot;
+use mp_answers::Snapshot;
 use mp_engine::OpenGate;
 use mp_netlist::{Edit, EditError, Netlist};
 use mp_phase::Crew;
@@ -19,7 +19,8 @@ pub struct Keeper {
 }
 
 impl Model for Keeper {
-    ghost use Rattle.mp_commands.specs.Keepers.{Kept, kept_of};
+    ghost use Rattle.mp_answers.specs.Kept.{Kept};
+    ghost use Rattle.mp_commands.specs.Keepers.{kept_of};
 
     ghost Value = { Kept };
 

@@ -1,39 +1,21 @@
-//! What each command reads and writes.
+//! The commands whose input edits a netlist: scripts, which are answered at once or line by line, and meetings of designers.
 #![tactic(auto)]
 
-mod answers;
-mod command;
 mod desk;
-mod edit_answers;
 mod keeper;
 pub mod laws;
-mod limits;
+mod meeting_faults;
 mod met_lines;
-mod opening;
-mod options;
 mod play;
+mod player;
 mod replies;
-mod run_fault;
-mod snapshot;
-mod viewed;
-mod work_lines;
+mod script_opening;
 
-pub use answers::put_answer;
-pub use command::{Command, run_command};
 pub use desk::Desk;
 pub use keeper::Keeper;
-pub use limits::{MAX_INPUT, MAX_TAKEN};
+pub use meeting_faults::fault_of_meeting;
 pub use met_lines::put_met;
-pub use mp_netlist::Name;
-pub use mp_views::{
-    AskedPicture, Charset, Drawing, DumpText, Evaluated, GraphText, MAX_COLUMNS, MeasureLines,
-    PathLines, PictureText, ReportLines, TimeRange, USUAL_COLUMNS, View, WaitLines, WaveLines,
-    WhyLines,
-};
-pub use opening::opened;
-pub use options::Options;
 pub use play::Play;
-pub use replies::{put_coded, put_refused, put_reply, put_unread};
-pub use run_fault::{RunFault, exit_status, fault_line};
-pub use snapshot::Snapshot;
-pub use viewed::Viewed;
+pub use player::Player;
+pub use replies::put_reply;
+pub use script_opening::open_keeper;

@@ -1,4 +1,2 @@
-pub mod Answers
-pub mod OpenedInputs
 pub mod SeatReplies
 pub mod TalkFaults

@@ -5,9 +5,9 @@ use Rattle.mp_text.specs.declared.question.Question.TheVariants.{Work}
 use Rattle.mp_version.specs.Stories.{Story}
 use Rattle.mp_seats.specs.declared.reply.Reply.{Reply}
 use Rattle.mp_seats.specs.declared.reply.Reply.TheVariants.{Accepted, Refused, NotADesigner, Unread, TooLong}
-use Rattle.mp_commands.specs.Keepers.{kept_at}
-use Rattle.mp_commands.specs.Replies.{accepted_text, refused_text, coded_text, unread_text, answer_text}
-use Rattle.mp_live.specs.Answers.{too_long_text}
+use Rattle.mp_answers.specs.Answers.{answer_text}
+use Rattle.mp_answers.specs.Kept.{kept_at}
+use Rattle.mp_answers.specs.ShortReplies.{accepted_text, refused_text, coded_text, unread_text, too_long_text}
 
 -- whether a question asks for what was evaluated for the last edit
 abbrev pub asks_for_work : Question → Bool

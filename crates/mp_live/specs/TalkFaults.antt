@@ -1,6 +1,6 @@
 -- The fault of a run whose lines ended with one.
-use Rattle.mp_commands.specs.declared.run_fault.RunFault.{RunFault}
-use Rattle.mp_commands.specs.declared.run_fault.RunFault.TheVariants as runs
+use Rattle.mp_command_runs.specs.declared.run_fault.RunFault.{RunFault}
+use Rattle.mp_command_runs.specs.declared.run_fault.RunFault.TheVariants as runs
 use Rattle.mp_talk.specs.declared.talk_fault.TalkFault.{TalkFault}
 use Rattle.mp_talk.specs.declared.talk_fault.TalkFault.TheVariants.{ReadFailed, WriteFailed, OutOfMemory}
 

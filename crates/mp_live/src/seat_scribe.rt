@@ -3,11 +3,12 @@ ghost use Rattle.std.specs.Prelude.{◌≡◌};
 ghost use Rattle.mp_streams.specs.Outgoing.{Writes};
 ghost use Rattle.mp_live.specs.SeatReplies.{asks_for_work, no_work_text, seat_reply};
 
-use crate::too_long::put_too_long;
-use mp_commands::{Snapshot, put_answer, put_coded, put_refused, put_unread};
+use mp_answers::{
+    Snapshot, put_accepted, put_answer, put_coded, put_refused, put_too_long, put_unread,
+};
 use mp_phase::Crew;
 use mp_seats::{Reply, Scribe};
-use mp_streams::{Failed, Out, Sink, Text, WriteError};
+use mp_streams::{Failed, Out, Sink, WriteError};
 use mp_text::Question;
 use mp_version::Version;
 use mp_work::Work;
@@ -66,7 +67,7 @@ fn put_any<T: Sink>(out: &mut Out<T>, reply: Reply) -> Result<(), Failed>
     ensures { Writes result out.old out.new (seat_reply reply) }
 {
     match reply {
-        Reply::Accepted(number) => ("accepted ", number, "\n").put_to(out),
+        Reply::Accepted(number) => put_accepted(out, number),
         Reply::Refused(error) => put_refused(out, error),
         Reply::NotADesigner => put_coded(out, &"refused ", 22, "NotADesigner"),
         Reply::Unread(error) => put_unread(out, error),

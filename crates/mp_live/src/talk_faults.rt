@@ -2,7 +2,7 @@
 ghost use Rattle.std.specs.Prelude.{◌≡◌};
 ghost use Rattle.mp_live.specs.TalkFaults.{run_fault_of};
 
-use mp_commands::RunFault;
+use mp_command_runs::RunFault;
 use mp_talk::TalkFault;
 
 /// The fault of a run whose lines ended with this one.

@@ -1,12 +1,12 @@
 //! A desk that serves designers and viewers at named pipes.
 ghost use Rattle.std.specs.Prelude.{◌≡◌, ◌<◌, ◌≤◌, [], IfSome};
 
-use mp_commands::{Options, RunFault, put_met};
+use mp_command_runs::{Options, RunFault, read_opening};
+use mp_commands::{fault_of_meeting, put_met};
 use mp_engine::OpenGate;
 use mp_hosting::{HostFault, Places};
 use mp_lines::LineReader;
-use mp_live::{SeatScribe, fault_of_talk, read_opening};
-use mp_meeting::MeetingFault;
+use mp_live::{SeatScribe, fault_of_talk};
 use mp_netlist::Netlist;
 use mp_phase::Crew;
 use mp_pipes::Pipes;
@@ -121,8 +121,7 @@ fn crew_of(options: &Options, designers: u32) -> Option<Crew>
 fn fault_of_host(fault: HostFault) -> RunFault {
     match fault {
         HostFault::BadSize => RunFault::BadCount,
-        HostFault::Meeting(MeetingFault::OutOfMemory) => RunFault::OutOfMemory,
-        HostFault::Meeting(MeetingFault::NoPlace) => RunFault::NoPlace,
+        HostFault::Meeting(fault) => fault_of_meeting(fault),
         HostFault::Talk(fault) => fault_of_talk(fault),
     }
 }

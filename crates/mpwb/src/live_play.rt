@@ -1,9 +1,10 @@
 //! A script that edits a netlist, and is answered as it comes.
 ghost use Rattle.std.specs.Prelude.{◌≡◌, []};
 
-use mp_commands::{Options, RunFault};
+use mp_command_runs::{Options, RunFault};
+use mp_commands::{Player, open_keeper};
 use mp_lines::LineReader;
-use mp_live::{Player, Prompted, fault_of_talk, open_keeper};
+use mp_live::{Prompted, fault_of_talk};
 use mp_streams::{Out, ReadSource, Source, WriteSink};
 use std::io;
 use std::rt::Runtime;

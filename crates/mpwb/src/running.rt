@@ -1,13 +1,15 @@
 //! How each command is run.
 ghost use Rattle.std.specs.Prelude.{◌≡◌, []};
 
-use mp_commands::{
-    AskedPicture, Charset, Desk, Drawing, DumpText, GraphText, MeasureLines, Name, Options,
-    PathLines, PictureText, Play, ReportLines, RunFault, TimeRange, View, Viewed, WaitLines,
-    WaveLines, WhyLines, run_command,
-};
+use mp_command_runs::{Options, RunFault, Viewed, run_command};
+use mp_commands::{Desk, Play};
+use mp_netlist::Name;
 use mp_request::{Command, PictureWords, Request};
 use mp_streams::{Out, Sink, Source, WriteSink};
+use mp_views::{
+    AskedPicture, Charset, Drawing, DumpText, GraphText, MeasureLines, PathLines, PictureText,
+    ReportLines, TimeRange, View, WaitLines, WaveLines, WhyLines,
+};
 use std::alloc::{AllocError, Global};
 use std::io;
 use std::sync::Wait;

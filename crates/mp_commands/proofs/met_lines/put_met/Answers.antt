@@ -2,7 +2,7 @@ use Rattle.std.proofs.Common.{◌≡◌, rules}
 use Rattle.mp_streams.proofs.OutLemmas.{puts_then, puts_sooner, writes_failed}
 use Rattle.mp_version.specs.Stories.{present}
 use Rattle.mp_commands.specs.Desks.{viewer_line}
-use Rattle.mp_commands.specs.NumberedLines.{lines_from}
+use Rattle.mp_answers.specs.NumberedLines.{lines_from}
 use Rattle.mp_views.specs.Outputs.{waves_text}
 use Rattle.mp_commands.proofs.met_lines.put_met.Goals as goal
 

@@ -2,7 +2,7 @@ use Rattle.std.proofs.Common.{◌≡◌, ◌+◌, [], drop, ap, arith, rules}
 use Rattle.std.proofs.lemmas.List.{drop_all}
 use Rattle.mp_streams.proofs.LeftLemmas.{left_whole, left_none}
 use Rattle.mp_commands.specs.Desks.{viewer_line}
-use Rattle.mp_commands.specs.NumberedLines.{lines_from}
+use Rattle.mp_answers.specs.NumberedLines.{lines_from}
 use Rattle.mp_commands.proofs.DeskLemmas.{line_put, line_failed}
 use Rattle.mp_commands.proofs.met_lines.put_numbers.Goals as goal
 

@@ -1,7 +1,7 @@
 use Rattle.std.proofs.Common.{◌+◌, drop}
 use Rattle.mp_streams.proofs.LeftLemmas.{Left}
 use Rattle.mp_commands.specs.Desks.{viewer_line}
-use Rattle.mp_commands.specs.NumberedLines.{lines_from}
+use Rattle.mp_answers.specs.NumberedLines.{lines_from}
 use Rattle.mp_commands.proofs.met_lines.put_numbers.Given as goal
 
 -- the lines from this place on are left to write

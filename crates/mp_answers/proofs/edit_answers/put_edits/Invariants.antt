@@ -1,0 +1,7 @@
+use Rattle.mp_streams.proofs.LeftLemmas.{Left}
+use Rattle.mp_answers.specs.EditAnswers.{edits_from}
+use Rattle.mp_answers.proofs.edit_answers.put_edits.Given as goal
+
+-- the lines of the edits from this place on are left to write
+abbrev pub invariant-loop-place : goal.invariant-loop-place
+invariant-loop-place g l = Left (edits_from l.edits l.first) l.fn.out l.out (edits_from l.edits l.place)

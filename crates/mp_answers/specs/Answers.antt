@@ -1,0 +1,66 @@
+-- What questions are answered.
+use Rattle.std.specs.Prelude.{ℕ, ◌+◌, ◌-◌, Bool, List, [], ◌∷◌, ◌++◌, length, Option, Some, None, ◌&&◌, nat_le, if◌then◌else◌, codes}
+use Rattle.std.specs.Fmt.{decimal}
+use Rattle.mp_records.specs.declared.edit.Edit.{Edit}
+use Rattle.mp_records.specs.declared.edit_error.EditError.TheVariants.{NoSuchWire}
+use Rattle.mp_netlist.specs.Circuit.{Circuit, wire_at, wire_named}
+use Rattle.mp_model.specs.Waves.{wave}
+use Rattle.mp_report.specs.Lines.{report_text}
+use Rattle.mp_timing.specs.Waits.{waits}
+use Rattle.mp_timing.specs.Measures.{measure}
+use Rattle.mp_vcd.specs.Dumps.{dump}
+use Rattle.mp_words.specs.declared.line_error.LineError.TheVariants.{BadNumber}
+use Rattle.mp_text.specs.declared.question.Question.{Question}
+use Rattle.mp_text.specs.declared.question.Question.TheVariants.{Wave, Waves, Text, Report, Dump, Work, Show, Why, Path, Waits, Measure, Graph, Version, Edits}
+use Rattle.mp_text.specs.Written.{written}
+use Rattle.mp_picture.specs.declared.mark.Charset.TheVariants.{Unicode}
+use Rattle.mp_picture.specs.GraphSections.{graph}
+use Rattle.mp_views.specs.declared.drawing.Drawing.TheVariants as drawings
+use Rattle.mp_views.specs.AskedWires.{missing_at}
+use Rattle.mp_views.specs.Limits.{usual_columns}
+use Rattle.mp_views.specs.Pictures.{picture_text}
+use Rattle.mp_views.specs.Chains.{why_of, path_of}
+use Rattle.mp_views.specs.Outputs.{slot_line, waves_text}
+use Rattle.mp_answers.specs.WorkLines.{work_text}
+use Rattle.mp_answers.specs.EditAnswers.{edits_from}
+use Rattle.mp_answers.specs.Kept.{Kept}
+use Rattle.mp_answers.specs.ShortReplies.{refused_text, unread_text}
+
+-- the line of a wire, where it stands
+abbrev pub wire_text : Circuit → Option ℕ → List ℕ
+wire_text n None = refused_text NoSuchWire
+wire_text n (Some w) = slot_line (wire_at n w) (wave n w)
+
+-- a text of wires that are asked for, where none is missing
+abbrev pub asked_text : Option ℕ → List ℕ → List ℕ
+asked_text None text = text
+asked_text (Some place) text = refused_text NoSuchWire
+
+-- `version` and how many edits were accepted
+abbrev pub version_text : ℕ → List ℕ
+version_text number = codes "version " ++ (decimal number ++ (10 ∷ []))
+
+-- whether accepted edits have this number, or the next one will have it
+abbrev pub is_edit_number : List Edit → ℕ → Bool
+is_edit_number edits number = nat_le 1 number && nat_le number (length edits + 1)
+
+-- the accepted edits from a number on
+abbrev pub edits_text : List Edit → ℕ → List ℕ
+edits_text edits from = if is_edit_number edits from then edits_from edits (from - 1) else unread_text BadNumber
+
+-- the answer to a question
+abbrev pub answer_text : Kept → Question → List ℕ
+answer_text kept (Wave name) = wire_text kept.netlist (wire_named kept.netlist name)
+answer_text kept Waves = waves_text kept.netlist
+answer_text kept Text = written kept.netlist
+answer_text kept Report = report_text kept.netlist
+answer_text kept Dump = dump kept.netlist
+answer_text kept Work = work_text kept.netlist kept.work
+answer_text kept (Show from to wires) = asked_text (missing_at kept.netlist wires) (picture_text kept.netlist wires from to usual_columns (drawings.Text Unicode))
+answer_text kept (Waits time) = waits kept.netlist time
+answer_text kept (Measure from to) = measure kept.netlist from to
+answer_text kept (Why wire time steps) = asked_text (missing_at kept.netlist (wire ∷ [])) (why_of kept.netlist wire time steps)
+answer_text kept (Path wire time) = asked_text (missing_at kept.netlist (wire ∷ [])) (path_of kept.netlist wire time)
+answer_text kept Graph = graph kept.netlist
+answer_text kept Version = version_text (length kept.edits)
+answer_text kept (Edits from) = edits_text kept.edits from

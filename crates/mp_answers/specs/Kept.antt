@@ -1,0 +1,16 @@
+-- A netlist that is edited, of which questions are asked.
+use Rattle.std.specs.Prelude.{List}
+use Rattle.mp_records.specs.declared.edit.Edit.{Edit}
+use Rattle.mp_netlist.specs.Circuit.{Circuit}
+use Rattle.mp_version.specs.Stories.{Story, present}
+use Rattle.mp_work.specs.declared.work_entry.WorkEntry.{WorkEntry}
+
+-- a netlist, the edits that led to it, and what was evaluated for the last of them
+pub record Kept : Type 0 where
+  pub netlist : Circuit
+  pub edits : List Edit
+  pub work : List WorkEntry
+
+-- what is kept after a story whose last edit has this work
+abbrev pub kept_at : Story → List WorkEntry → Kept
+kept_at story work = record { netlist = present story; edits = story.edits; work = work }

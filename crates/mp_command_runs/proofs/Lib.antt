@@ -1,0 +1,4 @@
+pub mod InputLemmas
+pub mod FlushLemmas
+pub mod RunLemmas
+mod ViewLemmas

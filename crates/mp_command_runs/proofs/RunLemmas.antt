@@ -1,0 +1,133 @@
+-- The ends of a run.
+use Rattle.std.proofs.Common.{◌≡◌, ℕ, ◌≤◌, ◌⊎◌, inl, inr, Bool, false, List, [], length, Option, Result, Ok, Err, IsErrAnd, refl, sym, ap, subst}
+use Rattle.std.proofs.lemmas.Bool.{le-leb}
+use Rattle.std.proofs.lemmas.Result.{err_from_is_err_and}
+use Rattle.mp_netlist.specs.Circuit.{Circuit}
+use Rattle.mp_streams.specs.Outgoing.{Outgoing}
+use Rattle.mp_streams.specs.Outgoing as outs
+use Rattle.mp_streams.specs.WriteErrors.{Writes}
+use Rattle.mp_streams.specs.declared.failed.Failed.{Failed}
+use Rattle.mp_streams.specs.declared.write_error.WriteError.{WriteError}
+use Rattle.mp_streams.specs.declared.write_error.WriteError.TheVariants as writes
+use Rattle.mp_streams.proofs.OutLemmas.{puts_unmade}
+use Rattle.mp_words.specs.declared.line_error.LineError.TheVariants as lines
+use Rattle.mp_text.specs.declared.text_code.TextCode.{TextCode}
+use Rattle.mp_text.specs.declared.text_code.TextCode.TheVariants as texts
+use Rattle.mp_text.specs.declared.text_error.TextError.{TextError}
+use Rattle.mp_text.specs.declared.text_state.TextState.TheVariants.{Fresh}
+use Rattle.mp_text.specs.Texts.{text_at, after_lines}
+use Rattle.mp_words.specs.Lines.{lines_of}
+use Rattle.mp_command_runs.specs.declared.run_fault.RunFault.{RunFault}
+use Rattle.mp_command_runs.specs.declared.run_fault.RunFault.TheVariants.{Text, ReadFailed, WriteFailed, OutOfMemory, NoPlace}
+use Rattle.mp_command_runs.specs.Limits.{max_input}
+use Rattle.mp_command_runs.specs.Openings.{counted_netlist, within_size}
+use Rattle.mp_command_runs.specs.RunFaults.{fault_of_text, fault_at, fault_of_write}
+use Rattle.mp_command_runs.specs.Runs.{IsInput, HasInput, StaysUnread, Refuses, WritesOne, Ran, RanFrom}
+use Rattle.mp_command_runs.proofs.FlushLemmas.{flushed, unflushed, flushed_part, unflushed_part, nothing_held}
+use Rattle.mp_command_runs.proofs.InputLemmas.{some_input, within_size-long, within_size-short}
+
+-- ---- a run that writes nothing
+
+module _ {S : Type 0} (seats : Bool) (opening : Result Circuit RunFault) (IsText : Circuit → List ℕ → Type 0) (a : Outgoing S) where
+  refused_by : (fault : RunFault) → Refuses seats opening fault → Ran seats (Err fault) opening IsText a a
+  refused_by WriteFailed h = absurd h
+  refused_by OutOfMemory h = inl (puts_unmade (Err writes.OutOfMemory) writes.OutOfMemory a [] refl refl)
+  refused_by fault h = (h, refl)
+
+  pub refused : (r : Result (Unit {0}) RunFault) (fault : RunFault) → IsErrAnd r (λ f. f ≡ fault) → Refuses seats opening fault → Ran seats r opening IsText a a
+  refused r fault is h = let p = err_from_is_err_and r is in rw (p.1, p.2) (refused_by fault h)
+
+-- where nobody sits down, no place is wanting
+pub refused_unseated : (seats : Bool) (opening : Result Circuit RunFault) (fault : RunFault) → Refuses false opening fault → Refuses seats opening fault
+refused_unseated seats opening NoPlace (none, is) = cc none
+refused_unseated seats opening fault h = h
+
+-- ---- a run that wrote
+
+module _ {S : Type 0} (seats : Bool) (opening : Result Circuit RunFault) (IsText : Circuit → List ℕ → Type 0) (n : Circuit) (same : opening ≡ Ok n) (text : List ℕ) (is : IsText n text) (a b : Outgoing S) where
+  one : {T : Type 0} (r : Result T WriteError) → Writes r a b text → WritesOne r opening IsText a b
+  one r put = rw same (text, is, put)
+
+  failed_by : (error : WriteError) → Writes {T = Unit {0}} (Err error) a b text → Ran seats (Err (fault_of_write error)) opening IsText a b
+  failed_by writes.WriteFailed put = one (Err writes.WriteFailed) put
+  failed_by writes.OutOfMemory put = inr (one (Err writes.OutOfMemory) put)
+
+  -- a text
+  pub wrote : Writes {T = Unit {0}} (Ok tt) a b text → Ran seats (Ok tt) opening IsText a b
+  wrote put = one (Ok tt) put
+
+  -- a part of one
+  pub wrote_part : (r : Result (Unit {0}) RunFault) (error : WriteError) → IsErrAnd r (λ f. f ≡ fault_of_write error) → Writes {T = Unit {0}} (Err error) a b text → Ran seats r opening IsText a b
+  wrote_part r error is put = let p = err_from_is_err_and r is in rw (p.1, p.2) (failed_by error put)
+
+-- ---- what is held is passed on
+
+module _ {S : Type 0} (opening : Result Circuit RunFault) (IsText : Circuit → List ℕ → Type 0) (a b c : Outgoing S) where
+  -- one text becomes another
+  passed_on : (r s : Result (Unit {0}) WriteError) → ((text : List ℕ) → Writes r a b text → Writes s a c text) → WritesOne r opening IsText a b → WritesOne s opening IsText a c
+  passed_on r s on = by opening
+    where
+      by : (o : Result Circuit RunFault) → WritesOne r o IsText a b → WritesOne s o IsText a c
+      by (Ok n) h = (h.0, h.1, on h.0 h.2)
+      by (Err fault) h = h
+
+  module _ (seats : Bool) where
+    pub ran_flushed : Ran seats (Ok tt) opening IsText a b → outs.Writes {T = Unit {0}} (Ok tt) b c [] → Ran seats (Ok tt) opening IsText a c
+    ran_flushed ran put = passed_on (Ok tt) (Ok tt) (λ text first. flushed a b c text first put) ran
+
+    pub ran_unflushed : {error : Failed} → Ran seats (Ok tt) opening IsText a b → outs.Writes {T = Unit {0}} (Err error) b c [] → Ran seats (Err WriteFailed) opening IsText a c
+    ran_unflushed ran put = passed_on (Ok tt) (Err writes.WriteFailed) (λ text first. unflushed a b c text first put) ran
+
+    pub part_flushed : Ran seats (Err OutOfMemory) opening IsText a b → outs.Writes {T = Unit {0}} (Ok tt) b c [] → Ran seats (Err OutOfMemory) opening IsText a c
+    part_flushed (inl none) put = inl (flushed_part a b c [] none put)
+    part_flushed (inr part) put = inr (passed_on (Err writes.OutOfMemory) (Err writes.OutOfMemory) (λ text first. flushed_part a b c text first put) part)
+
+    pub part_unflushed : {error : Failed} → a.held ≡ [] → Ran seats (Err OutOfMemory) opening IsText a b → outs.Writes {T = Unit {0}} (Err error) b c [] → Ran seats (Err WriteFailed) opening IsText a c
+    part_unflushed {error = error} empty (inl none) put = absurd (nothing_held {error = error} a b c empty none put)
+    part_unflushed {error = error} empty (inr part) put = passed_on (Err writes.OutOfMemory) (Err writes.WriteFailed) (λ text first. unflushed_part a b c text first put) part
+
+-- ---- the input
+
+module _ {S : Type 0} (seats : Bool) (opening : List ℕ → Result Circuit RunFault) (IsText : List ℕ → Circuit → List ℕ → Type 0) (left : Option (List ℕ)) (a : Outgoing S) where
+  -- of a source a run was made that ended so
+  abbrev RanOf : Outgoing S → Result (Unit {0}) RunFault → Type 0
+  RanOf b r = RanFrom r left (λ input. Ran seats r (within_size opening input) (IsText input) a b) a b
+
+  -- what is made of its input is made of the source
+  pub from_input : (b : Outgoing S) (r : Result (Unit {0}) RunFault) (input : List ℕ) → IsInput left input → length input ≤ max_input → Ran seats r (opening input) (IsText input) a b → RanOf b r
+  from_input b r input is short ran =
+      let whole : Ran seats r (within_size opening input) (IsText input) a b = rw (within_size-short opening input short) ran in
+      by r (input, is, whole)
+    where
+      by : (s : Result (Unit {0}) RunFault) → HasInput left (λ i. Ran seats s (within_size opening i) (IsText i) a b) → RanOf b s
+      by (Err ReadFailed) h = absurd h.2.0
+      by s h = h
+
+  unread_by : (fault : RunFault) → StaysUnread left fault → RanOf a (Err fault)
+  unread_by ReadFailed unread = refl
+  unread_by OutOfMemory unread =
+      some_input (λ input. Ran seats (Err OutOfMemory) (within_size opening input) (IsText input) a a) left (λ input. refused_by seats (within_size opening input) (IsText input) a OutOfMemory tt)
+  unread_by fault unread =
+      let long = unread.1 in
+      subst (λ (f : RunFault). RanOf a (Err f)) (sym unread.0) (long.0, long.1, (within_size-long opening long.0 long.2, refl))
+
+  -- a source that is not read
+  pub unread_source : (r : Result (Unit {0}) RunFault) (fault : RunFault) → IsErrAnd r (λ f. f ≡ fault) → StaysUnread left fault → RanOf a r
+  unread_source r fault is unread = let p = err_from_is_err_and r is in rw (p.1, p.2) (unread_by fault unread)
+
+-- ---- a netlist that is not read
+
+pub text_at-short : (text : List ℕ) → length text ≤ max_input → text_at text ≡ after_lines 0 Fresh (lines_of text)
+unfolding text_at
+text_at-short text short = rw (le-leb (length text) max_input short) refl
+
+pub refused_text : (read : Result Circuit TextError) (valid : Bool) (error : TextError) → (error.code ≡ texts.Line lines.OutOfMemory) ⊎ (read ≡ Err error) → Refuses false (counted_netlist read valid) (fault_of_text error)
+refused_text read valid error (inl memory) = rw memory tt
+refused_text read valid error (inr same) = by error.code
+  where
+    told : counted_netlist read valid ≡ Err (Text error)
+    told = ap (λ r. counted_netlist r valid) same
+
+    by : (code : TextCode) → Refuses false (counted_netlist read valid) (fault_at error code)
+    by (texts.Line lines.OutOfMemory) = tt
+    by code = told

@@ -1,0 +1,6 @@
+pub mod Limits
+pub mod OptionLimits
+pub mod RunFaults
+pub mod Openings
+pub mod Runs
+pub mod OpenedInputs

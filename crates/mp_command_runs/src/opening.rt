@@ -1,0 +1,51 @@
+//! The netlist that an input opens with.
+ghost use Rattle.std.specs.Prelude.{◌≡◌, ◌≤◌, length, false, is_some, Some, Ok, IfOk, IfErr};
+ghost use Rattle.mp_streams.specs.StreamBytes.{ConsumesUpTo};
+ghost use Rattle.mp_words.specs.Lines.{lines_of};
+ghost use Rattle.mp_command_runs.specs.Limits.{max_input, max_taken};
+ghost use Rattle.mp_command_runs.specs.OpenedInputs.{opening_with, StaysShutWith};
+ghost use Rattle.mp_command_runs.specs.Openings.{opening_of};
+ghost use Rattle.mp_command_runs.specs.RunFaults.{counted_reads};
+ghost use Rattle.mp_command_runs.specs.Runs.{HasInput, Refuses};
+
+use crate::input::read_input;
+use crate::run_fault::RunFault;
+use mp_netlist::Netlist;
+use mp_streams::Source;
+use mp_text::read_netlist;
+use std::alloc::Global;
+
+/// Reads the text of a netlist, all that the source has. `ReadFailed` comes with a fault of the source; then `Text` where the input is too long
+/// or the text is not read, `BadCount` where there is no crew, and `OutOfMemory` where memory is wanting.
+pub fn read_opening<S: Source, C: Drop>(
+    alloc: Global,
+    source: &mut S,
+    crew: Option<C>,
+) -> Result<(Netlist, C), RunFault>
+    ensures opened { IfOk result (λ both. HasInput (S.left source.old) (λ input. opening_with (is_some crew) input ≡ Ok both.0)) }
+    ensures crew { IfOk result (λ both. crew ≡ Some both.1) }
+    ensures refused { IfErr result (StaysShutWith (S.left source.old) (is_some crew)) }
+    ensures taken { ConsumesUpTo max_taken (S.left source.old) (S.left source.new) }
+    ensures read_faults { S.fault_count source.new ≡ counted_reads result (S.fault_count source.old) }
+{
+    let input = read_input(alloc, source)?;
+    opened(alloc, input.as_slice(), crew)
+}
+
+/// The netlist of a text, with a crew for it. Where there is none `BadCount` comes, after the faults of the text.
+pub fn opened<C: Drop>(
+    alloc: Global,
+    text: &[u8],
+    crew: Option<C>,
+) -> Result<(Netlist, C), RunFault>
+    requires { length text.now ≤ max_input }
+    ensures netlist { IfOk result (λ both. opening_of (lines_of text.now) (is_some crew) ≡ Ok both.0) }
+    ensures crew { IfOk result (λ both. crew ≡ Some both.1) }
+    ensures refused { IfErr result (Refuses false (opening_of (lines_of text.now) (is_some crew))) }
+{
+    let netlist = read_netlist(alloc, text)?;
+    match crew {
+        Some(crew) => Ok((netlist, crew)),
+        None => Err(RunFault::BadCount),
+    }
+}

@@ -1,0 +1,21 @@
+-- How the input of a netlist opens that a script edits.
+use Rattle.std.specs.Prelude.{◌≡◌, ℕ, List, Option, Result, Ok}
+use Rattle.mp_netlist.specs.Circuit.{Circuit}
+use Rattle.mp_answers.specs.Kept.{Kept}
+use Rattle.mp_command_runs.specs.OpenedInputs.{opening_with, StaysShutWith}
+use Rattle.mp_command_runs.specs.OptionLimits.{has_valid_crew}
+use Rattle.mp_command_runs.specs.Runs.{HasInput}
+use Rattle.mp_command_runs.specs.declared.options.Options.{Options}
+use Rattle.mp_command_runs.specs.declared.run_fault.RunFault.{RunFault}
+use Rattle.mp_commands.specs.Keepers.{opened}
+
+abbrev pub opening : Options → List ℕ → Result Circuit RunFault
+opening options = opening_with (has_valid_crew options)
+
+-- the input of a source opens so
+abbrev pub OpensAs : Option (List ℕ) → Options → Kept → Type 0
+OpensAs left options kept = HasInput left (λ input. (n : Circuit) × (opening options input ≡ Ok n) × (kept ≡ opened n))
+
+-- why the input of a source doesn't open
+abbrev pub StaysShut : Option (List ℕ) → Options → RunFault → Type 0
+StaysShut left options fault = StaysShutWith left (has_valid_crew options) fault

@@ -1,0 +1,77 @@
+//! Who answers the lines of a script.
+use crate::keeper::Keeper;
+use crate::replies::put_reply;
+use mp_answers::put_too_long;
+use mp_lines::LineReader;
+use mp_streams::{Out, Sink, Source, WriteError};
+use mp_talk::{Answerer, TalkFault, converse};
+use std::alloc::Global;
+use std::marker::Model;
+use std::sync::Wait;
+use std::thread::Threads;
+
+/// Answers the lines of a script, and keeps the netlist that it edits: an edit, a question or a line that isn't read as `play` answers it, and a line
+/// of more than 65,536 bytes by `unread 8 TooLong`.
+#[derive(Drop)]
+pub struct Player {
+    alloc: Global,
+    keeper: Keeper,
+}
+
+impl Model for Player {
+    ghost use Rattle.mp_answers.specs.Kept.{Kept};
+
+    ghost Value = { Kept };
+
+    ghost view = { λ player. player.keeper };
+}
+
+impl Player {
+    ghost use Rattle.std.specs.Prelude.{◌≡◌, []};
+    ghost use Rattle.mp_talk.specs.Conversations.{Conversed};
+    ghost use Rattle.mp_talk.specs.TalkFaults.{counted_reads};
+    ghost use Rattle.mp_commands.specs.LineAnswers.{IsAnswer};
+
+    /// Who edits what is kept.
+    pub fn new(alloc: Global, keeper: Keeper) -> Player
+        ensures { result ≡ keeper }
+    {
+        Player { alloc, keeper }
+    }
+
+    /// Answers each line, and passes the answer on to the sink, before it reads the next one. It ends where the source ends.
+    ///
+    /// `ReadFailed` comes with a fault of the source, after the answers to all lines that ended before. `WriteFailed` comes with a fault of the
+    /// sink, and `OutOfMemory` where memory is wanting: then a part of the last answer may be written.
+    pub fn play<R: Threads + Wait + Sync, S: Source, T: Sink>(
+        &mut self,
+        rt: &R,
+        lines: &mut LineReader<S>,
+        out: &mut Out<T>,
+    ) -> Result<(), TalkFault>
+        requires { out.old.held ≡ [] }
+        ensures conversed { Conversed IsAnswer result self.old self.new lines.old lines.new out.old out.new }
+        ensures flushed { out.new.held ≡ [] }
+        ensures read_faults { lines.new.faults ≡ counted_reads result lines.old.faults }
+    {
+        converse(rt, self, lines, out)
+    }
+}
+
+impl Answerer for Player {
+    ghost use Rattle.mp_commands.specs.LineAnswers.{IsAnswer};
+
+    ghost Answers = { IsAnswer };
+
+    fn put_answer<R: Threads + Wait + Sync, T: Sink>(
+        &mut self,
+        rt: &R,
+        line: Option<&[u8]>,
+        out: &mut Out<T>,
+    ) -> Result<(), WriteError> {
+        match line {
+            Some(line) => put_reply(rt, self.alloc, out, &mut self.keeper, line),
+            None => Ok(put_too_long(out)?),
+        }
+    }
+}
