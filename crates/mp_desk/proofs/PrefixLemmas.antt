@@ -1,9 +1,9 @@
 -- Beginnings of one list, and stories that extend one another.
-use Rattle.std.proofs.Common.{◌≡◌, ◌≤◌, List, [], ◌∷◌, ◌++◌, length, refl, ap, sym, ◌∙◌, arith, append_assoc}
+use Rattle.std.proofs.Common.{◌≡◌, ◌≤◌, ◌+◌, List, [], ◌∷◌, ◌++◌, length, refl, ap, sym, ◌∙◌, arith, append_assoc, length-append}
 use mathlib.Core.List.{IsPrefix}
 use Rattle.mp_records.specs.declared.edit.Edit.{Edit}
 use Rattle.mp_version.specs.Stories.{Story, one_more}
-use Rattle.mp_desk.specs.Extending.{Extends}
+use Rattle.mp_desk.specs.Extending.{Extends, Succeeds}
 
 pub prefix_self : {A : Type 0} (xs : List A) → IsPrefix xs xs
 prefix_self [] = ([], refl)
@@ -20,15 +20,25 @@ prefix_whole (x ∷ xs) [] p le = absurd (cc (p.1))
 prefix_whole (x ∷ xs) (y ∷ ys) p le =
     let rest = prefix_whole xs ys (p.0, cc (p.1)) (omega arith) in cc (p.1, rest)
 
+prefix_length : {A : Type 0} (xs ys : List A) → IsPrefix xs ys → length xs ≤ length ys
+prefix_length xs ys p = omega (arith, sym (ap length p.1) ∙ length-append xs p.0)
+
 pub extends_self : (s : Story) → Extends s s
 extends_self s = record { same_base = refl; begins = prefix_self s.edits }
 
 pub extends_trans : (c b a : Story) → Extends c b → Extends b a → Extends c a
 extends_trans c b a h k = record { same_base = h.same_base ∙ k.same_base; begins = prefix_trans a.edits b.edits c.edits k.begins h.begins }
 
+-- a story that extends another has no fewer edits
+pub extends_length : (later earlier : Story) → Extends later earlier → length earlier.edits ≤ length later.edits
+extends_length later earlier h = prefix_length earlier.edits later.edits h.begins
+
 -- a story with one more edit extends it
 pub extends_one_more : (s : Story) (edit : Edit) → Extends (one_more s edit) s
 extends_one_more s edit = record { same_base = refl; begins = (edit ∷ [], refl) }
+
+pub succeeds_one_more : (s : Story) (edit : Edit) → Succeeds (one_more s edit) s
+succeeds_one_more s edit = record { extends = extends_one_more s edit; one_more = length-append s.edits (edit ∷ []) }
 
 -- a story as long as the one that it extends is that one
 pub extends_whole : (later earlier : Story) → Extends later earlier → length later.edits ≡ length earlier.edits → later ≡ earlier

@@ -1,5 +1,5 @@
 -- Which stories come after which.
-use Rattle.std.specs.Prelude.{◌≡◌}
+use Rattle.std.specs.Prelude.{◌≡◌, ◌+◌, length}
 use mathlib.Core.List.{IsPrefix}
 use Rattle.mp_version.specs.Stories.{Story}
 
@@ -7,3 +7,8 @@ use Rattle.mp_version.specs.Stories.{Story}
 pub record Extends (later earlier : Story) : Type 0 where
   pub same_base : later.base ≡ earlier.base
   pub begins : IsPrefix earlier.edits later.edits
+
+-- the earlier story with one edit more
+pub record Succeeds (later earlier : Story) : Type 0 where
+  pub extends : Extends later earlier
+  pub one_more : length later.edits ≡ length earlier.edits + 1

@@ -1,5 +1,6 @@
 -- What contracts see of a desk, and of those who work at it.
-use Rattle.std.specs.Prelude.{◌≡◌, ◌⊎◌, ◌∷◌, [], ℕ, ◌+◌, List}
+use Rattle.std.specs.Prelude.{◌≡◌, ◌⊎◌, ◌<◌, ◌∷◌, ◌++◌, [], ℕ, ◌+◌, List, length, slice_index_or}
+use mathlib.Core.List.{IsPrefix}
 use Rattle.logbook.specs.Pages.{Book}
 use Rattle.mp_records.specs.declared.edit.Edit.{Edit}
 use Rattle.mp_records.specs.declared.edit_error.EditError.{EditError}
@@ -7,16 +8,20 @@ use Rattle.mp_records.specs.declared.edit_error.EditError.TheVariants.{OutOfMemo
 use Rattle.mp_netlist.specs.Edits.{RefusedBy}
 use Rattle.mp_version.specs.Stories.{Story, judged}
 use Rattle.mp_desk.specs.Extending.{Extends}
+use Rattle.mp_desk.specs.Chronicles.{unsigned}
 
 -- a viewer: the version that was read last, and the longest of those that were learnt of
 pub record Seeing : Type 0 where
   pub last : Story
   pub learnt : Story
 
--- a designer: the version that was seen last, and how many edits were accepted
+-- a designer: the version that was seen last, how many edits were accepted, the designer's number, and the authors of all edits up to the last one that
+-- was accepted
 pub record Working : Type 0 where
   pub seen : Story
   pub accepted : ℕ
+  pub number : ℕ
+  pub signed : List ℕ
 
 -- the parts of a desk: the session, how many designers and viewers there will be, and which history and ledger it has
 pub record Parts (S : Type 0) : Type 0 where
@@ -35,9 +40,17 @@ pub record Opened : Type 0 where
 abbrev pub RefusedAfter : Story → Story → Edit → EditError → Type 0
 RefusedAfter before seen edit error = RefusedBy edit (judged seen edit) error ⊎ ((error ≡ OutOfMemory) × (seen ≡ before))
 
--- a designer who has just come
-abbrev pub fresh_designer : Story → Working
-fresh_designer s = record { seen = s; accepted = 0 }
+-- a designer of this number who has just come
+abbrev pub fresh_designer : ℕ → Story → Working
+fresh_designer number s = record { seen = s; accepted = 0; number = number; signed = unsigned s }
+
+-- designers who have just come, numbered from 1
+abbrev pub AreFresh : Story → List Working → Type 0
+AreFresh s designers = (k : ℕ) (d : Working) → k < length designers → slice_index_or designers k d ≡ fresh_designer (k + 1) s
+
+-- an edit was accepted as the last one of this story: its author is this designer, and those of the edits before begin with what the designer had signed
+abbrev pub Signs : Working → Working → Story → Type 0
+Signs old new story = (before : List ℕ) × IsPrefix old.signed before × (length before + 1 ≡ length story.edits) × (new.signed ≡ before ++ old.number ∷ [])
 
 -- a viewer who has just come
 abbrev pub fresh_viewer : Story → Seeing
@@ -52,3 +65,12 @@ ExtendsEach now (d ∷ ds) = Extends now d.seen × ExtendsEach now ds
 abbrev pub accepted_by : List Working → ℕ
 accepted_by [] = 0
 accepted_by (d ∷ ds) = d.accepted + accepted_by ds
+
+-- the authors begin with what each designer has signed
+abbrev pub BeginWithEach : List ℕ → List Working → Type 0
+BeginWithEach authors [] = Unit {0}
+BeginWithEach authors (d ∷ ds) = IsPrefix d.signed authors × BeginWithEach authors ds
+
+-- an author for each edit of the story, as each designer has signed
+abbrev pub IsSigned : Story → List Working → Type 0
+IsSigned now designers = (authors : List ℕ) × (length authors ≡ length now.edits) × BeginWithEach authors designers

@@ -1,10 +1,11 @@
 //! How the history of a desk begins.
 ghost use Rattle.std.specs.Prelude.{◌≡◌, ◌∷◌, [], All, IfOk, vec_len};
 ghost use Rattle.std.specs.Arc.{arc_value};
+ghost use Rattle.mp_desk.specs.Chronicles.{unsigned};
 
-use crate::chronicle::{LogWriter, begun};
 use crate::desk_refused::DeskCause;
 use crate::desk_size::DeskSize;
+use crate::log_writer::{LogWriter, begun};
 use crate::pass::Pass;
 use crate::publication::Publication;
 use mp_version::Version;
@@ -28,16 +29,17 @@ pub(crate) fn begin<R: Wait + Drop>(
     version: &Arc<Version>,
     size: DeskSize,
 ) -> Result<Beginning<R>, DeskCause>
-    ensures publication { IfOk result (λ b. b.publication ≡ record { book = b.writer; story = arc_value version.now }) }
+    ensures writer { IfOk result (λ b. (b.writer.story ≡ arc_value version.now) × (b.writer.authors ≡ unsigned (arc_value version.now))) }
+    ensures publication { IfOk result (λ b. b.publication ≡ record { book = b.writer.book; story = arc_value version.now }) }
     ensures designers { IfOk result (λ b. (vec_len b.designers ≡ size.designers) × All (λ p. p ≡ b.publication ∷ []) b.designers.items) }
     ensures viewers { IfOk result (λ b. (vec_len b.viewers ≡ size.viewers) × All (λ p. p ≡ b.publication ∷ []) b.viewers.items) }
 {
     let for_designers = Vec::with_capacity(alloc, size.designers)?;
     let for_viewers = Vec::with_capacity(alloc, size.viewers)?;
     // A history that nobody else has can be begun, so want of memory is the only error.
-    let (writer, prefix) = begun(version).ok_or(AllocError)?;
+    let writer = begun(version).ok_or(AllocError)?;
     let readers = size.designers + size.viewers;
-    let mut publication = Publication::new(rt, alloc, version, &prefix, readers)?;
+    let mut publication = Publication::new(rt, alloc, version, &writer.prefix(), readers)?;
     let designers = publication.places(for_designers, size.designers)?;
     let viewers = publication.places(for_viewers, size.viewers)?;
     Ok(Beginning {

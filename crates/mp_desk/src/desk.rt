@@ -40,7 +40,7 @@ impl<S: EditSession, L: DeskName, R: Wait + Drop> Model for Desk<S, L, R> {
 impl<S: EditSession, L: DeskName, R: Wait + Drop> Desk<S, L, R> {
     ghost use Rattle.std.specs.Prelude.{◌≢◌, ◌+◌, length, vec_len, All, IfOk, IfErr};
     ghost use Rattle.mp_desk.specs.Extending.{Extends};
-    ghost use Rattle.mp_desk.specs.Holders.{fresh_designer, fresh_viewer, ExtendsEach, accepted_by};
+    ghost use Rattle.mp_desk.specs.Holders.{fresh_viewer, AreFresh, ExtendsEach, accepted_by, IsSigned};
     ghost use Rattle.mp_desk.specs.declared.desk_refused.DeskCause.TheVariants.{OutOfMemory};
 
     /// Opens the desk under the name that the caller picked for these parts. It is refused for want of memory alone: then the session is handed
@@ -51,7 +51,7 @@ impl<S: EditSession, L: DeskName, R: Wait + Drop> Desk<S, L, R> {
         requires shares { parts.designers + 1 ≡ L.parts }
         requires opening { length (S.story parts.session).edits ≡ L.opening }
         ensures desk { IfOk result (λ s. (s.desk.opening ≡ length (S.story parts.session).edits) × (s.desk.designers ≡ parts.designers)) }
-        ensures designers { IfOk result (λ s. (vec_len s.designers ≡ parts.designers) × All (λ d. d ≡ fresh_designer (S.story parts.session)) s.designers.items) }
+        ensures designers { IfOk result (λ s. (vec_len s.designers ≡ parts.designers) × AreFresh (S.story parts.session) s.designers.items) }
         ensures viewers { IfOk result (λ s. (vec_len s.viewers ≡ parts.viewers) × All (λ v. v ≡ fresh_viewer (S.story parts.session)) s.viewers.items) }
         ensures refused { IfErr result (λ r. r.session ≡ parts.session) }
         ensures wanting { IfErr result (λ r. r.cause ≡ OutOfMemory) }
@@ -69,7 +69,7 @@ impl<S: EditSession, L: DeskName, R: Wait + Drop> Desk<S, L, R> {
         let (mut book, mut share) = blank.open::<L>();
         book.add(&mut share, session.version().number() as u64);
         let (Ok(designers), Ok(viewers)) = (
-            designers_at(alloc, for_designers, session.version(), &mut share),
+            designers_at(alloc, for_designers, &writer, &mut share),
             viewers_at(
                 alloc,
                 for_viewers,
@@ -126,6 +126,7 @@ impl<S: EditSession, L: DeskName, R: Wait + Drop> Desk<S, L, R> {
         ensures seen { IfOk result (λ s. ExtendsEach (S.story s) designers.items) }
         ensures read { IfOk result (λ s. All (λ v. Extends (S.story s) v.last) viewers.old) }
         ensures counted { IfOk result (λ s. length (S.story s).edits ≡ self.opening + accepted_by designers.items) }
+        ensures signed { IfOk result (λ s. IsSigned (S.story s) designers.items) }
         ensures complete { IfOk result (λ _. vec_len designers ≡ self.designers) }
         ensures incomplete { IfErr result (λ _. vec_len designers ≢ self.designers) }
         ensures refused { IfErr result (λ r. (r.desk ≡ self) × (r.designers ≡ designers)) }
@@ -144,12 +145,12 @@ impl<S: EditSession, L: DeskName, R: Wait + Drop> Desk<S, L, R> {
         } = self;
         let DeskState {
             session,
-            writer: _,
+            writer,
             publication,
             mut book,
             mut share,
         } = state.into_inner();
-        part_designers(rt, &publication, designers, &mut share);
+        part_designers(rt, &publication, &writer, designers, &mut share);
         part_viewers(rt, &publication, viewers);
         book.audit(&mut share);
         Ok(session)
@@ -161,7 +162,7 @@ impl<S: EditSession, L: DeskName, R: Wait + Drop> Desk<S, L, R> {
     ghost use Rattle.std.specs.Arc.{arc_value};
     ghost use Rattle.mp_version.specs.Stories.{Story, one_more};
     ghost use Rattle.mp_desk.specs.Extending.{Extends};
-    ghost use Rattle.mp_desk.specs.Holders.{RefusedAfter};
+    ghost use Rattle.mp_desk.specs.Holders.{RefusedAfter, Signs};
 
     /// Submits an edit, which is judged after all edits that were accepted before it, and where it is accepted published before the answer.
     /// The one lock is held meanwhile: other designers wait, and viewers don't. The error is that of the session; then nothing is published.
@@ -175,8 +176,11 @@ impl<S: EditSession, L: DeskName, R: Wait + Drop> Desk<S, L, R> {
         ensures notice { IfOk result (λ r. r.notice ≡ arc_value r.version) }
         ensures seen { IfOk result (λ r. me.new.seen ≡ arc_value r.version) }
         ensures counted { IfOk result (λ _. me.new.accepted ≡ me.old.accepted + 1) }
+        ensures signed { IfOk result (λ r. Signs me.old me.new (arc_value r.version)) }
         ensures refused { IfErr result (λ error. RefusedAfter me.old.seen me.new.seen edit.now error) }
         ensures uncounted { OnErr result (me.new.accepted ≡ me.old.accepted) }
+        ensures unsigned { OnErr result (me.new.signed ≡ me.old.signed) }
+        ensures number { me.new.number ≡ me.old.number }
         ensures forward { OnErr result (Extends me.new.seen me.old.seen) }
     {
         self.state.lock(rt).submit(rt, me, edit)

@@ -2,9 +2,9 @@
 ghost use Rattle.std.specs.Prelude.{◌≡◌};
 
 use crate::beginning::{Beginning, begin};
-use crate::chronicle::LogWriter;
 use crate::desk_refused::DeskRefused;
 use crate::desk_size::DeskSize;
+use crate::log_writer::LogWriter;
 use crate::pass::Pass;
 use crate::publication::Publication;
 use mp_version::EditSession;
@@ -27,13 +27,14 @@ pub struct DeskParts<S: EditSession, R: Wait + Drop> {
 
 impl<S: EditSession, R: Wait + Drop> Model for DeskParts<S, R> {
     ghost use Rattle.std.specs.Prelude.{◌≡◌, ◌+◌, ◌∷◌, [], All, vec_len};
+    ghost use Rattle.mp_desk.specs.Chronicles.{unsigned};
     ghost use Rattle.mp_desk.specs.Holders.{Parts};
 
     ghost Value = { Parts S };
 
-    ghost view = { λ p. record { session = p.session; designers = vec_len p.designers; viewers = vec_len p.viewers; book = p.writer; ledger = p.blank.name } };
+    ghost view = { λ p. record { session = p.session; designers = vec_len p.designers; viewers = vec_len p.viewers; book = p.writer.book; ledger = p.blank.name } };
 
-    ghost invariant = { λ p. (p.publication ≡ record { book = p.writer; story = S.story p.session }) × (p.blank.parts ≡ vec_len p.designers + 1) × All (λ q. q ≡ p.publication ∷ []) p.designers.items × All (λ q. q ≡ p.publication ∷ []) p.viewers.items };
+    ghost invariant = { λ p. (p.publication ≡ record { book = p.writer.book; story = S.story p.session }) × (p.writer.story ≡ S.story p.session) × (p.writer.authors ≡ unsigned (S.story p.session)) × (p.blank.parts ≡ vec_len p.designers + 1) × All (λ q. q ≡ p.publication ∷ []) p.designers.items × All (λ q. q ≡ p.publication ∷ []) p.viewers.items };
 }
 
 impl<S: EditSession, R: Wait + Drop> DeskParts<S, R> {

@@ -2,8 +2,8 @@
 ghost use Rattle.std.specs.Prelude.{◌≡◌, IfOk};
 ghost use Rattle.std.specs.Arc.{arc_value};
 
-use crate::chronicle::LogWriter;
 use crate::designer::Designer;
+use crate::log_writer::LogWriter;
 use crate::name::DeskName;
 use crate::notice::Notice;
 use crate::publication::Publication;
@@ -36,18 +36,14 @@ impl<S: EditSession, L: DeskName, R: Wait + Drop> Model for DeskState<S, L, R> {
 
     ghost view = { λ k. S.story k.session };
 
-    ghost invariant = { λ k. (k.publication ≡ record { book = L.history; story = S.story k.session }) × (k.writer ≡ L.history) × (k.book.total ≡ length (S.story k.session).edits) × (k.share.parts ≡ 1) × (k.share.amount ≡ L.opening) };
+    ghost invariant = { λ k. (k.publication ≡ record { book = L.history; story = S.story k.session }) × (k.writer.book ≡ L.history) × (k.writer.story ≡ S.story k.session) × (length k.writer.authors ≡ length (S.story k.session).edits) × (k.book.total ≡ length (S.story k.session).edits) × (k.share.parts ≡ 1) × (k.share.amount ≡ L.opening) };
 }
 
-/// Three owners of one version.
-fn owners(version: &Arc<Version>) -> Result<(Arc<Version>, Arc<Version>, Arc<Version>), AllocError>
-    ensures { IfOk result (λ v. (arc_value v.0 ≡ arc_value version.now) × (arc_value v.1 ≡ arc_value version.now) × (arc_value v.2 ≡ arc_value version.now)) }
+/// Two owners of one version.
+fn owners(version: &Arc<Version>) -> Result<(Arc<Version>, Arc<Version>), AllocError>
+    ensures { IfOk result (λ v. (arc_value v.0 ≡ arc_value version.now) × (arc_value v.1 ≡ arc_value version.now)) }
 {
-    Ok((
-        Arc::try_clone(version)?,
-        Arc::try_clone(version)?,
-        Arc::try_clone(version)?,
-    ))
+    Ok((Arc::try_clone(version)?, Arc::try_clone(version)?))
 }
 
 impl<S: EditSession, L: DeskName, R: Wait + Drop> DeskState<S, L, R> {
@@ -55,7 +51,7 @@ impl<S: EditSession, L: DeskName, R: Wait + Drop> DeskState<S, L, R> {
     ghost use Rattle.std.specs.Arc.{arc_value};
     ghost use Rattle.mp_version.specs.Stories.{one_more};
     ghost use Rattle.mp_desk.specs.Extending.{Extends};
-    ghost use Rattle.mp_desk.specs.Holders.{RefusedAfter};
+    ghost use Rattle.mp_desk.specs.Holders.{RefusedAfter, Signs};
 
     /// Judges an edit, and where it is accepted publishes the version after it.
     pub(crate) fn submit<H: Threads + Wait + Sync>(
@@ -69,37 +65,38 @@ impl<S: EditSession, L: DeskName, R: Wait + Drop> DeskState<S, L, R> {
         ensures notice { IfOk result (λ r. r.notice ≡ arc_value r.version) }
         ensures seen { IfOk result (λ r. me.new.seen ≡ arc_value r.version) }
         ensures counted { IfOk result (λ _. me.new.accepted ≡ me.old.accepted + 1) }
+        ensures signed { IfOk result (λ r. Signs me.old me.new (arc_value r.version)) }
         ensures refused { IfErr result (λ error. RefusedAfter me.old.seen me.new.seen edit.now error) }
         ensures uncounted { OnErr result (me.new.accepted ≡ me.old.accepted) }
+        ensures unsigned { OnErr result (me.new.signed ≡ me.old.signed) }
+        ensures number { me.new.number ≡ me.old.number }
         ensures forward { OnErr result (Extends me.new.seen me.old.seen) }
     {
         show(rt, &self.publication, &mut me.pass);
-        me.seen = match Arc::try_clone(self.session.version()) {
-            Ok(version) => version,
-            Err(_) => return Err(EditError::OutOfMemory),
-        };
+        me.seen = self.publication.published().prefix().again();
+        self.writer.begins_with(&me.signed);
         let prepared = self.session.prepare(rt, edit)?;
-        let Ok((version, next, seen)) = owners(S::next_version(&prepared)) else {
+        let Ok((version, next)) = owners(S::next_version(&prepared)) else {
             return Err(EditError::OutOfMemory);
         };
-        let number = self.publication.number();
-        let now = self.publication.published().prefix();
-        let Some(prefix) = now.add(&self.writer, number, &version) else {
+        if !self.writer.add(&version, me.number) {
             // The history ends with what is published, so this doesn't come.
             return Err(EditError::OutOfMemory);
-        };
+        }
         let notice = Notice {
-            prefix: prefix.again(),
+            prefix: self.writer.prefix(),
             number: version.number(),
             of: PhantomData,
         };
-        self.publication.publish(Published::new(next, prefix));
+        let published = Published::new(next, self.writer.prefix());
+        self.publication.publish(published);
         self.session.commit(prepared);
         self.book.add(&mut me.share, 1);
         self.book.audit(&mut me.share);
         me.accepted += 1;
         show(rt, &self.publication, &mut me.pass);
-        me.seen = seen;
+        me.seen = self.writer.prefix();
+        me.signed = self.writer.authors();
         Ok(Receipt { version, notice })
     }
 }

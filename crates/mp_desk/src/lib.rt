@@ -1,6 +1,7 @@
 //! A desk, where designers submit edits of one session and viewers read its versions without waiting.
 #![tactic(auto)]
 
+mod authors;
 mod beginning;
 mod chronicle;
 mod close_refused;
@@ -12,6 +13,7 @@ mod desk_size;
 mod desk_state;
 pub mod laws;
 mod log_prefix;
+mod log_writer;
 mod name;
 mod notice;
 mod parting;

@@ -1,16 +1,14 @@
 //! How far a history has come.
 ghost use Rattle.std.specs.Prelude.{◌≡◌};
 
-use crate::chronicle::{Law, LogWriter, added};
+use crate::chronicle::{Entry, Law};
 use logbook::Seen;
-use mp_version::Version;
 use std::marker::Model;
-use std::sync::Arc;
 
 /// A story that the history has reached. It has no bytes.
 #[derive(Drop)]
 pub(crate) struct LogPrefix {
-    pub seen: Seen<Version, u64, Law>,
+    pub seen: Seen<Entry, u64, Law>,
 }
 
 impl Model for LogPrefix {
@@ -25,8 +23,7 @@ impl Model for LogPrefix {
 }
 
 impl LogPrefix {
-    ghost use Rattle.std.specs.Prelude.{◌+◌, ◌≤◌, length, IfSome};
-    ghost use Rattle.std.specs.Arc.{arc_value};
+    ghost use Rattle.std.specs.Prelude.{◌≤◌, length};
     ghost use Rattle.mp_desk.specs.Extending.{Extends};
 
     /// The same once more.
@@ -45,21 +42,5 @@ impl LogPrefix {
     {
         let mut both = self.seen.again();
         both.learn(&other.seen);
-    }
-
-    /// Adds the version to the history, which ends with this prefix. It does not where the history is longer.
-    pub(crate) fn add(
-        &self,
-        writer: &LogWriter,
-        number: u32,
-        version: &Arc<Version>,
-    ) -> Option<LogPrefix>
-        requires book { writer.now ≡ self.now.book }
-        requires number { number ≡ length self.now.story.edits }
-        requires follows { Extends (arc_value version.now) self.now.story }
-        ensures { IfSome result (λ f. f ≡ record { book = self.now.book; story = arc_value version.now }) }
-    {
-        let next = version.number();
-        added(writer, self.seen.again(), number as u64 + 1, next, version)
     }
 }

@@ -1,9 +1,11 @@
 //! How designers and viewers leave a desk that is closed.
-ghost use Rattle.std.specs.Prelude.{◌≡◌, ◌+◌, vec_len, All};
+ghost use Rattle.std.specs.Prelude.{◌≡◌, ◌+◌, length, vec_len, All};
+ghost use mathlib.Core.List.{IsPrefix};
 ghost use Rattle.mp_desk.specs.Extending.{Extends};
-ghost use Rattle.mp_desk.specs.Holders.{ExtendsEach, accepted_by};
+ghost use Rattle.mp_desk.specs.Holders.{ExtendsEach, BeginWithEach, accepted_by};
 
 use crate::designer::Designer;
+use crate::log_writer::LogWriter;
 use crate::name::DeskName;
 use crate::publication::Publication;
 use crate::showing::show;
@@ -15,16 +17,19 @@ use std::sync::ledger::Share;
 pub(crate) fn part_designers<L: DeskName, R: Wait + Drop>(
     rt: &R,
     publication: &Publication<R>,
+    writer: &LogWriter,
     designers: Vec<Designer<L>>,
     all: &mut Share<L>,
 )
-    requires { publication.now.book ≡ L.history }
+    requires book { (publication.now.book ≡ L.history) × (writer.now.book ≡ L.history) }
+    requires story { length writer.now.authors ≡ length publication.now.story.edits }
     ensures extends { ExtendsEach publication.now.story designers.items }
+    ensures signed { BeginWithEach writer.now.authors designers.items }
     ensures share { (all.new.parts ≡ all.old.parts + vec_len designers) × (all.new.amount ≡ all.old.amount + accepted_by designers.items) }
 {
     let mut designers = designers;
     while let Some(designer) = designers.pop() {
-        part(rt, publication, designer, all);
+        part(rt, publication, writer, designer, all);
     }
 }
 
@@ -32,20 +37,26 @@ pub(crate) fn part_designers<L: DeskName, R: Wait + Drop>(
 fn part<L: DeskName, R: Wait + Drop>(
     rt: &R,
     publication: &Publication<R>,
+    writer: &LogWriter,
     designer: Designer<L>,
     all: &mut Share<L>,
 )
-    requires { publication.now.book ≡ L.history }
+    requires book { (publication.now.book ≡ L.history) × (writer.now.book ≡ L.history) }
+    requires story { length writer.now.authors ≡ length publication.now.story.edits }
     ensures extends { Extends publication.now.story designer.seen }
+    ensures signed { IsPrefix designer.signed writer.now.authors }
     ensures share { (all.new.parts ≡ all.old.parts + 1) × (all.new.amount ≡ all.old.amount + designer.accepted) }
 {
     let Designer {
         mut pass,
         seen: _seen,
         accepted: _,
+        number: _,
+        signed,
         share,
     } = designer;
     show(rt, publication, &mut pass);
+    writer.begins_with(&signed);
     all.merge(share);
 }
 

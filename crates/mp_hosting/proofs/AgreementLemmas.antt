@@ -11,7 +11,7 @@ use Rattle.mp_desk.specs.Extending.{Extends}
 use Rattle.mp_meeting.specs.Fates.{Fate, Accepted, Refused, said, unless_empty, AreFates}
 use Rattle.mp_meeting.specs.Fates as fates_of
 use Rattle.mp_seats.specs.declared.reply.Reply.TheVariants as replies
-use Rattle.mp_seats.specs.Marks.{Mark, AnsweredAt, up_to, Rise, accepted_of}
+use Rattle.mp_seats.specs.Marks.{Mark, AnsweredAt, up_to, Rise, accepted_of, places_of, AreSigned}
 use Rattle.mp_seats.specs.Replies.{Writing, IsReadReply}
 use Rattle.mp_seats.specs.Seats.{AreReplies}
 use Rattle.mp_hosting.specs.Agreement.{with_mark, marks_of, BlocksAreSeats, NumbersAreSeats}
@@ -29,6 +29,11 @@ prefix_get (x ∷ xs) [] k a p got = absurd (cc (p.1))
 prefix_get (x ∷ xs) (y ∷ ys) zero a p got = let same : x ≡ y = cc (p.1) in ap (λ b. Some b) (sym same) ∙ got
 prefix_get (x ∷ xs) (y ∷ ys) (suc k) a p got = prefix_get xs ys k a (p.0, cc (p.1)) got
 
+get_same : {A B : Type 0} (b : B) (xs : List A) (k : ℕ) (a : A) → slice_get xs k ≡ Some a → slice_get (map (λ x. b) xs) k ≡ Some b
+get_same b [] k a got = absurd (cc got)
+get_same b (x ∷ xs) zero a got = refl
+get_same b (x ∷ xs) (suc k) a got = get_same b xs k a got
+
 prefix_take : {A : Type 0} (xs ys : List A) (k : ℕ) → IsPrefix xs ys → k ≤ length xs → take k ys ≡ take k xs
 prefix_take xs ys zero p within = refl
 prefix_take [] ys (suc k) p within = absurd (omega (arith, within))
@@ -43,13 +48,14 @@ rise_within seen last [] rise = rise
 rise_within seen last (Accepted k ∷ fates) rise = let h = rise_within (k + 1) last fates rise.1 in let low = rise.0 in omega (arith, h, low)
 rise_within seen last (Refused k ∷ fates) rise = let h = rise_within k last fates rise.1 in let low = rise.0 in omega (arith, h, low)
 
-module _ (w : Writing) (now : Story) where
+module _ (w : Writing) (number : ℕ) (now : Story) where
   -- lines are answered with these numbers, which rise from what was seen before them
   record Answered (seen : ℕ) (lines : List (Option (List ℕ))) (marks : List Mark) (fates : List Fate) : Type 0 where
     text : List ℕ
     replied : (later : Story) → Extends later now → AreReplies w true later lines marks text
     rise : (last : ℕ) → length now.edits ≤ last → Rise seen last marks
     count : accepted_of marks ≡ fates_of.accepted_of fates
+    signed : (authors : List ℕ) → IsPrefix (map (λ edit. number) now.edits) authors → AreSigned number authors (places_of marks)
 
   -- one line before others
   module _ (line : List ℕ) (lines : List (List ℕ)) (others : (seen : ℕ) (fates : List Fate) → AreFates now (said lines) fates → fates_of.Rise seen (length now.edits) fates
@@ -69,6 +75,7 @@ module _ (w : Writing) (now : Story) where
           );
           rise = λ last le. (omega arith, rest.rise last le);
           count = rest.count;
+          signed = rest.signed;
         }
 
     after_refusal : (seen k : ℕ) (fates : List Fate) (piece : List ℕ) → seen ≤ k → k ≤ length now.edits → IsReadReply w true (up_to now k) (line_at line) piece
@@ -85,6 +92,7 @@ module _ (w : Writing) (now : Story) where
       );
       rise = λ last le. (low, rest.rise last le);
       count = rest.count;
+      signed = rest.signed;
     }
 
     one : (read : Result Line LineError) → line_at line ≡ read → (seen : ℕ) (fates : List Fate) → AreFates now (unless_empty read (said lines)) fates → fates_of.Rise seen (length now.edits) fates
@@ -104,6 +112,10 @@ module _ (w : Writing) (now : Story) where
           );
           rise = λ last le. (rise.0, rest.rise last le);
           count = ap (λ n. n + 1) rest.count;
+          signed = λ authors more. (
+            prefix_get (map (λ e. number) now.edits) authors k number more (get_same number now.edits k edit are.0),
+            rest.signed authors more,
+          );
         }
     one (Ok (Change edit)) is seen (Refused k ∷ fates) are rise =
         after_refusal seen k fates (w.reply (replies.Refused are.0.0)) rise.0 (rise_within k (length now.edits) fates rise.1)
@@ -121,22 +133,27 @@ module _ (w : Writing) (now : Story) where
 
   all : (lines : List (List ℕ)) (seen : ℕ) (fates : List Fate) → AreFates now (said lines) fates → fates_of.Rise seen (length now.edits) fates
       → Answered seen (map (λ l. Some l) lines) (marks_of seen lines fates) fates
-  all [] seen [] are rise = record { text = []; replied = λ later more. refl; rise = λ last le. let low = rise in omega (arith, low, le); count = refl }
+  all [] seen [] are rise = record { text = []; replied = λ later more. refl; rise = λ last le. let low = rise in omega (arith, low, le); count = refl; signed = λ authors more. tt }
   all [] seen (fate ∷ fates) are rise = absurd are
   all (line ∷ lines) seen fates are rise = one line lines (λ s f a r. all lines s f a r) (line_at line) refl seen fates are rise
 
 pub blocks_are_seats : BlocksAreSeats
-blocks_are_seats w now numbers lines tally worked =
-    let answered = all w now lines 0 worked.fates worked.judged worked.rise in
+blocks_are_seats w number now numbers lines tally worked =
+    let answered = all w number now lines 0 worked.fates worked.judged worked.rise in
+    let signed : List ℕ = map (λ edit. number) now.edits in
     let count = answered.count in
     let accepted = worked.accepted in (
       answered.text,
+      signed,
       record {
         marks = marks_of 0 lines worked.fates;
         extends = record { same_base = refl; begins = (now.edits, refl) };
         replies = answered.replied;
         rise = λ later more. answered.rise (length later.edits) (prefix_length now.edits later.edits more.begins);
         accepted = omega (arith, count, accepted);
+        number = refl;
+        begins = (signed, refl);
+        signed = answered.signed;
       },
       refl,
     )
@@ -155,6 +172,9 @@ numbers_are_seats w now number line question within asks = (
     );
     rise = λ later more. (omega arith, let long = prefix_length now.edits later.edits more.begins in omega (arith, long, within));
     accepted = refl;
+    number = refl;
+    begins = ([], refl);
+    signed = λ authors more. tt;
   },
   refl,
 )

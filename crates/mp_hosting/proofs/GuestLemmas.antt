@@ -11,7 +11,7 @@ use Rattle.mp_hosting.specs.Guests.{sitter}
 
 -- an edit that is accepted is counted at its place
 pub is_accepted : (old new : Sitting) (edit : Edit) (n : ℕ) → IsAccepted old new edit → n ≡ new.told → Submits true (Ok n) (sitter old) (sitter new) edit
-is_accepted old new edit n is same = (refl, is.0, is.1, ap sitter is.2, same ∙ ap (λ (s : Sitting). s.told) is.2)
+is_accepted old new edit n is same = (refl, is.0, is.1, is.2, is.3, is.4, ap sitter is.5, same ∙ ap (λ (s : Sitting). s.told) is.5)
 
 -- an edit that is refused changes nothing but what was seen
 pub is_refused : (old new : Sitting) (edit : Edit) (error : EditError) → RefusedAfter old.seen new.seen edit error → new ≡ with_seen old new.seen → Extends new.seen old.seen

@@ -5,3 +5,5 @@ mod OwnLemmas
 mod PeopleLemmas
 mod StayLemmas
 mod TellingLemmas
+mod ClaimLemmas
+mod SeatClaims

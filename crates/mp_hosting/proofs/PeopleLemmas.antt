@@ -1,13 +1,13 @@
 -- Those who sit at a desk, as lists.
-use Rattle.std.proofs.Common.{◌≡◌, zero, suc, List, [], ◌∷◌, ◌++◌, length, map, All, refl, sym, ap, subst, ◌∙◌, arith}
+use Rattle.std.proofs.Common.{◌≡◌, ◌<◌, ℕ, zero, suc, List, [], ◌∷◌, ◌++◌, length, map, slice_index_or, All, refl, sym, ap, subst, ◌∙◌, arith}
 use Rattle.std.proofs.lemmas.List.{map-append, length-map}
 use Rattle.mp_version.specs.Stories.{Story}
 use Rattle.mp_desk.specs.Extending.{Extends}
-use Rattle.mp_desk.specs.Holders.{Working, Seeing, fresh_designer, fresh_viewer, ExtendsEach}
+use Rattle.mp_desk.specs.Holders.{Working, Seeing, fresh_viewer, AreFresh, ExtendsEach}
 use Rattle.mp_meeting.specs.Sittings.{Sitting, begun}
 use Rattle.mp_meeting.specs.Seats.{working}
 use Rattle.mp_seats.specs.Steps.{Seated}
-use Rattle.mp_hosting.specs.Guests.{sitter, looker, just_come}
+use Rattle.mp_hosting.specs.Guests.{sitter, looker, just_looking, HaveCome}
 
 -- one element more on both sides
 pub both_more : {A B C : Type 0} (f : A → C) (g : B → C) (xs zs : List A) (x : A) (ys : List B) (y : B) → zs ≡ xs ++ x ∷ [] → map f xs ≡ map g ys → f x ≡ g y
@@ -44,17 +44,16 @@ module _ {A : Type 0} (P : A → Type 0) where
 
 module _ (start : Story) where
   -- designers who have just come, as those who sit
-  pub sitters_came : (ds : List Working) (ss : List Sitting) → ss ≡ map (λ (d : Working). begun d.seen) ds → All (λ (d : Working). d ≡ fresh_designer start) ds
-      → All (λ (s : Sitting). sitter s ≡ just_come start) ss
-  sitters_came ds ss same fresh = subst (All (λ (s : Sitting). sitter s ≡ just_come start)) (sym same) (by ds fresh)
+  pub sitters_came : (ds : List Working) (ss : List Sitting) → ss ≡ map begun ds → AreFresh start ds → HaveCome start ss
+  sitters_came ds ss same fresh = subst (HaveCome start) (sym same) (λ k s within. by ds k s within ∙ ap (λ d. sitter (begun d)) (fresh k (working s) (omega (arith, within, length-map ds begun))))
     where
-      by : (ds : List Working) → All (λ (d : Working). d ≡ fresh_designer start) ds → All (λ (s : Sitting). sitter s ≡ just_come start) (map (λ (d : Working). begun d.seen) ds)
-      by [] fresh k s within = absurd (omega (arith, within))
-      by (d ∷ ds) fresh zero s within = ap (λ (w : Working). just_come w.seen) (fresh 0 d (omega arith))
-      by (d ∷ ds) fresh (suc k) s within = by ds (λ j e w. fresh (suc j) e (omega (arith, w))) k s (omega (arith, within))
+      by : (ds : List Working) (k : ℕ) (s : Sitting) → k < length (map begun ds) → sitter (slice_index_or (map begun ds) k s) ≡ sitter (begun (slice_index_or ds k (working s)))
+      by [] k s within = absurd (omega (arith, within))
+      by (d ∷ ds) zero s within = refl
+      by (d ∷ ds) (suc k) s within = by ds k s (omega (arith, within))
 
   -- viewers who have just come
-  pub lookers_came : (vs : List Seeing) → All (λ (v : Seeing). v ≡ fresh_viewer start) vs → All (λ (v : Seeing). looker v ≡ just_come start) vs
+  pub lookers_came : (vs : List Seeing) → All (λ (v : Seeing). v ≡ fresh_viewer start) vs → All (λ (v : Seeing). looker v ≡ just_looking start) vs
   lookers_came vs fresh k v within = ap looker (fresh k v within)
 
 module _ (now : Story) where

@@ -1,5 +1,5 @@
 -- Those who come to a seat, one behind the other.
-use Rattle.std.proofs.Common.{◌≡◌, ◌<◌, ℕ, zero, suc, Bool, List, [], ◌∷◌, ◌++◌, length, map, slice_index_or, All, Option, refl, sym, subst, ◌∙◌, inl, inr, arith}
+use Rattle.std.proofs.Common.{◌≡◌, ◌+◌, ◌<◌, ℕ, zero, suc, Bool, List, [], ◌∷◌, ◌++◌, length, map, slice_index_or, All, Option, refl, sym, ap, subst, ◌∙◌, inl, inr, arith}
 use Rattle.mp_version.specs.Stories.{Story}
 use Rattle.mp_desk.specs.Extending.{Extends}
 use Rattle.mp_desk.proofs.PrefixLemmas.{extends_self, extends_trans}
@@ -63,38 +63,43 @@ module _ (T : Type 0) {D : Type 0} (Comes : D → D → Option (List ℕ) → Op
   stays_extend seat door (next ∷ others) last end are =
       extends_trans last.seen next.0.seen seat.seen (stays_extend next.0 next.1 others last end are.1) (stay_extends seat next.0 door next.1 are.0)
 
-  -- what was seen at one of the seats extends what was seen at first
-  pub first_extends : (now : Story) (start : Seated) (doors : List D) (lasts : List Seated) → AreAttended T Comes Leaves TurnsAway w edits start doors lasts → 0 < length doors
-      → All (λ (s : Seated). Extends now s.seen) lasts → Extends now start.seen
-  first_extends now start [] lasts are some seen = absurd (omega (arith, some))
-  first_extends now start (door ∷ doors) [] are some seen = absurd are
-  first_extends now start (door ∷ doors) (last ∷ lasts) are some seen =
-      extends_trans now last.seen start.seen (seen 0 last (omega arith)) (stays_extend start door are.0.1.stays last are.0.0 are.0.1.are)
+  -- what was seen at the first seat extends what was seen there at first
+  pub first_extends : (now : Story) (start : ℕ → Seated) (number : ℕ) (doors : List D) (lasts : List Seated) → AreAttended T Comes Leaves TurnsAway w edits start number doors lasts
+      → 0 < length doors → All (λ (s : Seated). Extends now s.seen) lasts → Extends now (start number).seen
+  first_extends now start number [] lasts are some seen = absurd (omega (arith, some))
+  first_extends now start number (door ∷ doors) [] are some seen = absurd are
+  first_extends now start number (door ∷ doors) (last ∷ lasts) are some seen =
+      extends_trans now last.seen (start number).seen (seen 0 last (omega arith)) (stays_extend (start number) door are.0.1.stays last are.0.0 are.0.1.are)
 
   -- ---- all seats
 
-  module _ {P : Type 0} (seat : P → Seated) (door : P → D) (start : Seated) where
-    -- each post was attended from the same state on
-    posts_attended : (old new : List P) → length new ≡ length old → ((k : ℕ) (p : P) → k < length old → seat (slice_index_or old k p) ≡ start)
-        → Each (λ p q. WasAttended T Comes Leaves TurnsAway w edits (seat p) (door p) (seat q) (door q)) old new → AreAttended T Comes Leaves TurnsAway w edits start (map door old) (map seat new)
-    posts_attended [] [] same here each = tt
-    posts_attended [] (q ∷ qs) same here each = absurd (omega (arith, same))
-    posts_attended (p ∷ ps) [] same here each = absurd (omega (arith, same))
-    posts_attended (p ∷ ps) (q ∷ qs) same here each = (
-      (door q, subst (λ s. WasAttended T Comes Leaves TurnsAway w edits s (door p) (seat q) (door q)) (here 0 p (omega arith)) (each 0 p (omega arith))),
-      posts_attended ps qs (omega (arith, same)) (λ k r within. here (suc k) r (omega (arith, within))) (λ k r within. each (suc k) r (omega (arith, within))),
+  module _ {P : Type 0} (seat : P → Seated) (door : P → D) (start : ℕ → Seated) where
+    -- each post was attended from the state on that its number has
+    posts_attended : (number : ℕ) (old new : List P) → length new ≡ length old → ((k j : ℕ) (p : P) → j ≡ number + k → k < length old → seat (slice_index_or old k p) ≡ start j)
+        → Each (λ p q. WasAttended T Comes Leaves TurnsAway w edits (seat p) (door p) (seat q) (door q)) old new
+        → AreAttended T Comes Leaves TurnsAway w edits start number (map door old) (map seat new)
+    posts_attended number [] [] same here each = tt
+    posts_attended number [] (q ∷ qs) same here each = absurd (omega (arith, same))
+    posts_attended number (p ∷ ps) [] same here each = absurd (omega (arith, same))
+    posts_attended number (p ∷ ps) (q ∷ qs) same here each = (
+      (door q, subst (λ s. WasAttended T Comes Leaves TurnsAway w edits s (door p) (seat q) (door q)) (here 0 number p (omega arith) (omega arith)) (each 0 p (omega arith))),
+      posts_attended (number + 1) ps qs (omega (arith, same)) (λ k j r at within. here (suc k) j r (omega (arith, at)) (omega (arith, within)))
+          (λ k r within. each (suc k) r (omega (arith, within))),
     )
 
     -- all people at the posts have just come
-    all_came : {Q : Type 0} (of : Q → Seated) (people : List Q) (old : List P) → map seat old ≡ map of people → All (λ (q : Q). of q ≡ start) people
-        → (k : ℕ) (p : P) → k < length old → seat (slice_index_or old k p) ≡ start
-    all_came of people [] same came k p within = absurd (omega (arith, within))
-    all_came of [] (o ∷ os) same came k p within = absurd (cc same)
-    all_came of (q ∷ qs) (o ∷ os) same came zero p within = let head : seat o ≡ of q = cc same in head ∙ came 0 q (omega arith)
-    all_came of (q ∷ qs) (o ∷ os) same came (suc k) p within = all_came of qs os (cc same) (λ j r w. came (suc j) r (omega (arith, w))) k p (omega (arith, within))
+    all_came : {Q : Type 0} (of : Q → Seated) (people : List Q) (old : List P) (state : ℕ → Seated) → map seat old ≡ map of people
+        → ((k : ℕ) (q : Q) → k < length people → of (slice_index_or people k q) ≡ state k) → (k : ℕ) (p : P) → k < length old → seat (slice_index_or old k p) ≡ state k
+    all_came of people [] state same came k p within = absurd (omega (arith, within))
+    all_came of [] (o ∷ os) state same came k p within = absurd (cc same)
+    all_came of (q ∷ qs) (o ∷ os) state same came zero p within = let head : seat o ≡ of q = cc same in head ∙ came 0 q (omega arith)
+    all_came of (q ∷ qs) (o ∷ os) state same came (suc k) p within =
+        all_came of qs os (λ j. state (suc j)) (cc same) (λ j r inside. came (suc j) r (omega (arith, inside))) k p (omega (arith, within))
 
-    pub all_attended : {Q : Type 0} (of : Q → Seated) (people : List Q) (doors : List D) (old new : List P) → map seat old ≡ map of people → All (λ (q : Q). of q ≡ start) people
-        → map door old ≡ doors → length new ≡ length old → Each (λ p q. WasAttended T Comes Leaves TurnsAway w edits (seat p) (door p) (seat q) (door q)) old new
-        → AreAttended T Comes Leaves TurnsAway w edits start doors (map seat new)
+    pub all_attended : {Q : Type 0} (of : Q → Seated) (people : List Q) (doors : List D) (old new : List P) → map seat old ≡ map of people
+        → ((k : ℕ) (q : Q) → k < length people → of (slice_index_or people k q) ≡ start (k + 1)) → map door old ≡ doors → length new ≡ length old
+        → Each (λ p q. WasAttended T Comes Leaves TurnsAway w edits (seat p) (door p) (seat q) (door q)) old new
+        → AreAttended T Comes Leaves TurnsAway w edits start 1 doors (map seat new)
     all_attended of people doors old new seats came same_doors same each =
-        subst (λ ds. AreAttended T Comes Leaves TurnsAway w edits start ds (map seat new)) same_doors (posts_attended old new same (all_came of people old seats came) each)
+        subst (λ ds. AreAttended T Comes Leaves TurnsAway w edits start 1 ds (map seat new)) same_doors
+        (posts_attended 1 old new same (λ k j p at within. all_came of people old (λ n. start (n + 1)) seats came k p within ∙ ap start (let e : k + 1 ≡ j = omega (arith, at) in e)) each)

@@ -11,7 +11,7 @@ use Rattle.mp_seats.specs.Steps.{Seated, IsStep}
 use Rattle.mp_hosting.specs.declared.host_fault.HostFault.{HostFault}
 use Rattle.mp_hosting.specs.declared.host_fault.HostFault.TheVariants.{BadSize, Meeting, Talk}
 use Rattle.mp_hosting.specs.declared.place.SeatName.{SeatName}
-use Rattle.mp_hosting.specs.Guests.{just_come}
+use Rattle.mp_hosting.specs.Guests.{just_looking}
 use Rattle.mp_hosting.specs.Places.{TellsOf}
 
 -- whoever runs a desk, as one who sits there, and the names of the desk's seats
@@ -21,7 +21,7 @@ pub record Owner : Type 0 where
 
 -- one who has just come
 abbrev pub own_seat : Story → List SeatName → Owner
-own_seat start names = record { seated = just_come start; names = names }
+own_seat start names = record { seated = just_looking start; names = names }
 
 -- the line asks who has taken the seats
 abbrev pub IsSeatsLine : Option (List ℕ) → Type 0

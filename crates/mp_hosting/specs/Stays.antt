@@ -1,8 +1,10 @@
 -- Those who come to a seat through its door, one behind the other.
-use Rattle.std.specs.Prelude.{◌≡◌, ◌⊎◌, ◌<◌, ℕ, Bool, List, [], ◌∷◌, length, Option, Result, slice_index_or}
+use Rattle.std.specs.Prelude.{◌≡◌, ◌⊎◌, ◌+◌, ◌<◌, ℕ, Bool, List, [], ◌∷◌, ◌++◌, length, Option, Result, slice_index_or}
+use mathlib.Core.Logic.{inl, inr}
 use Rattle.mp_streams.specs.Outgoing.{Outgoing}
 use Rattle.mp_lines.specs.Incoming.{Incoming}
 use Rattle.mp_talk.specs.declared.talk_fault.TalkFault.{TalkFault}
+use Rattle.mp_seats.specs.Marks.{places_of}
 use Rattle.mp_seats.specs.Replies.{Writing}
 use Rattle.mp_seats.specs.Steps.{Seated}
 use Rattle.mp_seats.specs.Seats.{IsVisit}
@@ -56,11 +58,29 @@ module _ (T : Type 0) {D : Type 0} (Comes : D → D → Option (List ℕ) → Op
     pub stays : List (Seated × D)
     pub are : AreStays seat door stays last end
 
-  -- each seat was attended through its door, from this state up to the one in its place
-  abbrev pub AreAttended : Seated → List D → List Seated → Type 0
-  AreAttended start [] [] = Unit {0}
-  AreAttended start (door ∷ doors) (last ∷ lasts) = ((end : D) × WasAttended start door last end) × AreAttended start doors lasts
-  AreAttended start doors lasts = ⊥
+  -- seats of these numbers, from the first on, were attended through their doors, each from the state that its number has up to the one in its place
+  abbrev pub AreAttended : (ℕ → Seated) → ℕ → List D → List Seated → Type 0
+  AreAttended start number [] [] = Unit {0}
+  AreAttended start number (door ∷ doors) (last ∷ lasts) = ((end : D) × WasAttended (start number) door last end) × AreAttended start (number + 1) doors lasts
+  AreAttended start number doors lasts = ⊥
+
+  -- the places in the story that somebody's accepted edits have
+  abbrev pub claims_of_stay : (seat last : Seated) (before after : D) → IsStay seat last before after → List ℕ
+  claims_of_stay seat last before after (inl left) = places_of left.served.visit.seat.marks
+  claims_of_stay seat last before after (inr turned) = []
+
+  -- those of all who came to a seat
+  abbrev pub claims_of_stays : (seat : Seated) (door : D) (stays : List (Seated × D)) (last : Seated) (end : D) → AreStays seat door stays last end → List ℕ
+  claims_of_stays seat door [] last end are = []
+  claims_of_stays seat door (next ∷ others) last end are = claims_of_stay seat next.0 door next.1 are.0 ++ claims_of_stays next.0 next.1 others last end are.1
+
+  -- those of each seat
+  abbrev pub claims : (start : ℕ → Seated) (number : ℕ) (doors : List D) (lasts : List Seated) → AreAttended start number doors lasts → List (List ℕ)
+  claims start number [] [] are = []
+  claims start number [] (last ∷ lasts) are = []
+  claims start number (door ∷ doors) [] are = []
+  claims start number (door ∷ doors) (last ∷ lasts) are =
+      claims_of_stays (start number) door are.0.1.stays last are.0.0 are.0.1.are ∷ claims start (number + 1) doors lasts are.1
 
 -- each of these became what stands in its place
 abbrev pub Each : {P : Type 0} → (P → P → Type 0) → List P → List P → Type 0

@@ -1,7 +1,7 @@
 //! A desk at which designers and viewers come and go, from its beginning to its end.
 ghost use Rattle.std.specs.Prelude.{◌≡◌, ◌+◌, ◌<◌, Ok, [], length, vec_len, All, IfOk, IfErr};
 ghost use Rattle.mp_version.specs.Stories.{Story};
-ghost use Rattle.mp_desk.specs.Holders.{fresh_designer, fresh_viewer};
+ghost use Rattle.mp_desk.specs.Holders.{fresh_viewer, AreFresh};
 ghost use Rattle.mp_hosting.specs.OwnSeats.{HasTalked, EndsFor};
 ghost use Rattle.mp_hosting.specs.Hostings.{IsHosted};
 
@@ -140,7 +140,7 @@ where
     requires some { 0 < vec_len hall.designers }
     requires viewers { vec_len staffed.viewers ≡ vec_len hall.viewers + 1 }
     requires held { out.old.held ≡ [] }
-    ensures hosted { IfOk result (λ met. (start : Story) → All (λ d. d ≡ fresh_designer start) staffed.designers.items → All (λ v. v ≡ fresh_viewer start) staffed.viewers.items → staffed.desk.opening ≡ length start.edits → IsHosted D.Output D.Comes D.Leaves D.TurnsAway (record { answer = B.answer_text; reply = B.reply_text }) start (S.story met.session) hall.designers.items hall.viewers.items met.tallies.items met.numbers.items) }
+    ensures hosted { IfOk result (λ met. (start : Story) → AreFresh start staffed.designers.items → All (λ v. v ≡ fresh_viewer start) staffed.viewers.items → staffed.desk.opening ≡ length start.edits → IsHosted D.Output D.Comes D.Leaves D.TurnsAway (record { answer = B.answer_text; reply = B.reply_text }) start (S.story met.session) hall.designers.items hall.viewers.items met.tallies.items met.numbers.items) }
     ensures talked { IfOk result (λ met. (start : Story) → All (λ v. v ≡ fresh_viewer start) staffed.viewers.items → HasTalked (record { answer = B.answer_text; reply = B.reply_text }) (Ok tt) start (X.names hall.exit) lines.old lines.new out.old out.new) }
     ensures fault { IfErr result (λ fault. (start : Story) → All (λ v. v ≡ fresh_viewer start) staffed.viewers.items → EndsFor (record { answer = B.answer_text; reply = B.reply_text }) fault start (X.names hall.exit) lines.old lines.new out.old out.new) }
     ensures flushed { out.new.held ≡ [] }

@@ -10,7 +10,7 @@ use Rattle.mp_words.specs.Lines.{lines_of}
 use Rattle.mp_words.specs.Divisions.{lines_of_each}
 use Rattle.mp_version.specs.Stories.{Story, opening}
 use Rattle.mp_desk.specs.Extending.{Extends}
-use Rattle.mp_desk.specs.Holders.{Working, Seeing, fresh_designer, ExtendsEach}
+use Rattle.mp_desk.specs.Holders.{Working, Seeing, ExtendsEach}
 use Rattle.mp_desk.specs.Holders as holders
 use Rattle.mp_meeting.specs.Sittings.{Sitting, begun, HasWorked, WorkedEach}
 use Rattle.mp_meeting.specs.Seats.{working, tally_of}
@@ -31,11 +31,10 @@ all_done start (b ∷ bs) [] same h = absurd (omega (arith, same))
 all_done start (b ∷ bs) (s ∷ ss) same h = (h 0 s b (omega arith), all_done start bs ss (omega (arith, same)) (λ k t c within. h (suc k) t c (omega (arith, within))))
 
 -- those who have just come have seen the opening version
-all_begun : (start : Story) (ds : List Working) → All (λ (d : Working). d ≡ fresh_designer start) ds → (k : ℕ) (s : Sitting) → k < length ds
-    → (slice_index_or (map (λ (d : Working). begun d.seen) ds) k s).seen ≡ start
+all_begun : (start : Story) (ds : List Working) → All (λ (d : Working). d.seen ≡ start) ds → (k : ℕ) (s : Sitting) → k < length ds → (slice_index_or (map begun ds) k s).seen ≡ start
 all_begun start [] h k s within = absurd (omega (arith, within))
-all_begun start (d ∷ ds) h zero s within = ap (λ (w : Working). w.seen) (All-head (λ (d : Working). d ≡ fresh_designer start) d ds h)
-all_begun start (d ∷ ds) h (suc k) s within = all_begun start ds (All-tail (λ (d : Working). d ≡ fresh_designer start) d ds h) k s (omega (arith, within))
+all_begun start (d ∷ ds) h zero s within = All-head (λ (d : Working). d.seen ≡ start) d ds h
+all_begun start (d ∷ ds) h (suc k) s within = all_begun start ds (All-tail (λ (d : Working). d.seen ≡ start) d ds h) k s (omega (arith, within))
 
 module _ (now : Story) (numbers : List ℕ) where
   -- the viewers were told of this
@@ -68,12 +67,12 @@ module _ (now : Story) (numbers : List ℕ) where
   based base (b ∷ bs) [] some done extends = absurd done
   based base (b ∷ bs) (s ∷ ss) some done extends = extends.0.same_base ∙ done.0.extends.same_base
 
-  pub met : (base : Circuit) (bs : List (Bor (List ℕ))) (ds : List Working) (old new : List Sitting) → All (λ (d : Working). d ≡ fresh_designer (opening base)) ds
-      → old ≡ map (λ (d : Working). begun d.seen) ds → length ds ≡ length bs → 0 < length bs → length new ≡ length old
+  pub met : (base : Circuit) (bs : List (Bor (List ℕ))) (ds : List Working) (old new : List Sitting) → All (λ (d : Working). d.seen ≡ opening base) ds
+      → old ≡ map begun ds → length ds ≡ length bs → 0 < length bs → length new ≡ length old
       → WorkedEach bs old new → All (λ (s : Sitting). s.wanting ≡ false) new → Told new → ExtendsEach now (map working new) → length now.edits ≡ holders.accepted_by (map working new)
       → All (λ (n : ℕ). n ≤ length now.edits) numbers → IsMeeting base (lines_of_each bs) now (map tally_of new) numbers
   met base bs ds old new fresh seated count some same done whole told extends counted within =
-      let size : length old ≡ length ds = ap (λ (l : List Sitting). length l) seated ∙ length-map ds (λ (d : Working). begun d.seen) in
+      let size : length old ≡ length ds = ap (λ (l : List Sitting). length l) seated ∙ length-map ds begun in
       let all : AllDone (opening base) bs new =
       all_done (opening base) bs new (omega (arith, count, same, size))
       (λ k s b inside.
@@ -88,10 +87,10 @@ module _ (now : Story) (numbers : List ℕ) where
       }
 
 -- those who sat down have only just come
-pub seated_fresh : (ds : List Working) (ss : List Sitting) → ss ≡ map (λ (d : Working). begun d.seen) ds → All (λ (s : Sitting). s ≡ begun s.seen) ss
-seated_fresh ds ss same = subst (All (λ (s : Sitting). s ≡ begun s.seen)) (sym same) (by ds)
+pub seated_fresh : (ds : List Working) (ss : List Sitting) → ss ≡ map begun ds → All (λ (s : Sitting). s ≡ begun (working s)) ss
+seated_fresh ds ss same = subst (All (λ (s : Sitting). s ≡ begun (working s))) (sym same) (by ds)
   where
-    by : (ds : List Working) → All (λ (s : Sitting). s ≡ begun s.seen) (map (λ (d : Working). begun d.seen) ds)
+    by : (ds : List Working) → All (λ (s : Sitting). s ≡ begun (working s)) (map begun ds)
     by [] k s within = absurd (omega (arith, within))
     by (d ∷ ds) zero s within = refl
     by (d ∷ ds) (suc k) s within = by ds k s (omega (arith, within))

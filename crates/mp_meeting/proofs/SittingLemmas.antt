@@ -9,8 +9,10 @@ use Rattle.mp_words.specs.Lines.{lines_of}
 use Rattle.mp_text.specs.ScriptLines.{line_at}
 use Rattle.mp_version.specs.Stories.{Story, one_more, judged}
 use Rattle.mp_desk.specs.Extending.{Extends}
+use Rattle.mp_desk.specs.Holders.{Working, Signs}
 use Rattle.mp_meeting.specs.Fates.{Fate, Accepted, Refused, said, unless_empty, IsFate, AreFates, Rise, AreAmong, accepted_of, refused_of}
 use Rattle.mp_meeting.specs.Sittings.{Sitting, begun, with_edit, with_refusal, IsAccepted, IsRefused, Takes, HasWorked}
+use Rattle.mp_meeting.specs.Seats.{working}
 use Rattle.mp_meeting.proofs.FateLemmas.{accepted_snoc, refused_snoc, among_more, among_snoc, extends_self, extends_trans, extends_one_more, longer, accepted_at, up_to-earlier}
 
 -- these became of the lines before the rest
@@ -24,10 +26,10 @@ pub record SoFar (start : Story) (all rest : List (List ℕ)) (p : Sitting) : Ty
   pub among : AreAmong p.told fates
   pub told : p.told ≤ length p.seen.edits
 
-pub none_yet : (start : Story) (lines : List (List ℕ)) → SoFar start lines lines (begun start)
-none_yet start lines = record {
+pub none_yet : (me : Working) (lines : List (List ℕ)) → SoFar me.seen lines lines (begun me)
+none_yet me lines = record {
   fates = [];
-  extends = extends_self start;
+  extends = extends_self me.seen;
   judged = λ now extends later h. h;
   rise = λ last later h. h;
   accepted = refl;
@@ -35,6 +37,24 @@ none_yet start lines = record {
   among = tt;
   told = omega arith;
 }
+
+-- what the desk tells of an edit that was accepted
+pub accepted_there : (old new : Sitting) (edit : Edit) (before version : Story) → Extends before old.seen → version ≡ one_more before edit → new.seen ≡ version
+    → new.accepted ≡ old.accepted + 1 → new.refused ≡ old.refused → new.told ≡ length version.edits → new.wanting ≡ old.wanting → new.number ≡ old.number
+    → Signs (working old) (working new) version → IsAccepted old new edit
+accepted_there old new edit before version extends is seen accepted refused told wanting number signs =
+    let size : length version.edits ≡ length before.edits + 1 = ap (λ (s : Story). length s.edits) is ∙ length-append before.edits (edit ∷ []) in
+    let many = signs.2 in
+    let same : new ≡ with_edit old before signs.0 edit = λ i. record {
+      seen = (seen ∙ is) i;
+      accepted = accepted i;
+      refused = refused i;
+      told = (told ∙ size) i;
+      wanting = wanting i;
+      number = number i;
+      signed = signs.3 i;
+    } in
+    (before, extends, signs.0, signs.1, omega (arith, size, many), same)
 
 module _ (start : Story) (all : List (List ℕ)) (line : List ℕ) (rest : List (List ℕ)) (old new : Sitting) (before : SoFar start all (line ∷ rest) old) where
   -- a line with this fate
@@ -54,8 +74,8 @@ module _ (start : Story) (all : List (List ℕ)) (line : List ℕ) (rest : List 
     told = told;
   }
 
-  was_accepted : (edit : Edit) → line_at line ≡ Ok (Change edit) → (story : Story) → Extends story old.seen → new ≡ with_edit old story edit → SoFar start all rest new
-  was_accepted edit is story extends same =
+  was_accepted : (edit : Edit) → line_at line ≡ Ok (Change edit) → (story : Story) (authors : List ℕ) → Extends story old.seen → new ≡ with_edit old story authors edit → SoFar start all rest new
+  was_accepted edit is story authors extends same =
       let k = length story.edits in
       let size : length (one_more story edit).edits ≡ k + 1 = length-append story.edits (edit ∷ []) in
       let seen : new.seen ≡ one_more story edit = ap (λ s. s.seen) same in
@@ -106,7 +126,7 @@ module _ (start : Story) (all : List (List ℕ)) (line : List ℕ) (rest : List 
       }
 
       edited : (edit : Edit) → line_at line ≡ Ok (Change edit) → IsAccepted old new edit ⊎ IsRefused old new edit → SoFar start all rest new
-      edited edit is (inl h) = was_accepted edit is h.0 h.1 h.2
+      edited edit is (inl h) = was_accepted edit is h.0 h.2 h.1 h.5
       edited edit is (inr h) =
           was_refused (Ok (Change edit)) h.0 (ap (λ r. unless_empty r (said rest)) is) (λ now more. (h.2, subst (λ s. judged s edit ≡ Err h.2) (sym (up_to-earlier now h.0 more)) h.3)) h.1 h.4
 
@@ -131,7 +151,7 @@ has_worked start all p h = record {
 -- at most one line more was refused
 pub refused_by_one : (old new : Sitting) (read : Result Line LineError) → Takes old new read → new.refused ≤ old.refused + 1
 refused_by_one old new (Ok Empty) h = let e : new.refused ≡ old.refused = ap (λ s. s.refused) h in omega (arith, e)
-refused_by_one old new (Ok (Change edit)) (inl h) = let e : new.refused ≡ old.refused = ap (λ s. s.refused) h.2 in omega (arith, e)
+refused_by_one old new (Ok (Change edit)) (inl h) = let e : new.refused ≡ old.refused = ap (λ s. s.refused) h.5 in omega (arith, e)
 refused_by_one old new (Ok (Change edit)) (inr h) = let e : new.refused ≡ old.refused + 1 = ap (λ s. s.refused) h.4 in omega (arith, e)
 refused_by_one old new (Ok (Ask question)) h = let e : new.refused ≡ old.refused + 1 = ap (λ s. s.refused) h in omega (arith, e)
 refused_by_one old new (Err error) h = let e : new.refused ≡ old.refused + 1 = ap (λ s. s.refused) h in omega (arith, e)

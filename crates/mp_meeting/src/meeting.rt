@@ -4,7 +4,7 @@ ghost use Rattle.mp_netlist.specs.Circuit.{Circuit};
 ghost use Rattle.mp_words.specs.Divisions.{lines_of_each};
 ghost use Rattle.mp_version.specs.Stories.{opening};
 ghost use Rattle.mp_desk.specs.Extending.{Extends};
-ghost use Rattle.mp_desk.specs.Holders.{fresh_designer};
+ghost use Rattle.mp_desk.specs.Holders.{AreFresh};
 ghost use Rattle.mp_meeting.specs.Meetings.{IsMeeting};
 ghost use Rattle.mp_meeting.specs.Seats.{HasAdjourned};
 ghost use Rattle.mp_meeting.specs.declared.meeting_fault.MeetingFault.TheVariants.{OutOfMemory};
@@ -95,7 +95,7 @@ where
     requires all { staffed.desk.designers ≡ vec_len staffed.designers }
     requires fresh { All (λ d. d.accepted ≡ 0) staffed.designers.items }
     requires opening { staffed.desk.opening ≡ 0 }
-    ensures met { IfOk result (λ met. (base : Circuit) → All (λ d. d ≡ fresh_designer (opening base)) staffed.designers.items → IsMeeting base (lines_of_each blocks.now) (S.story met.session) met.tallies.items met.numbers.items) }
+    ensures met { IfOk result (λ met. (base : Circuit) → AreFresh (opening base) staffed.designers.items → IsMeeting base (lines_of_each blocks.now) (S.story met.session) met.tallies.items met.numbers.items) }
     ensures viewers { IfOk result (λ met. vec_len met.numbers ≡ vec_len staffed.viewers) }
 {
     let Staffed {

@@ -1,6 +1,7 @@
 //! Designers and viewers at the same time.
 ghost use Rattle.std.specs.Prelude.{◌≡◌, ◌<◌, length, vec_len, All};
 ghost use Rattle.mp_meeting.specs.Sittings.{begun, WorkedEach};
+ghost use Rattle.mp_meeting.specs.Seats.{working};
 
 use crate::reading::read_often;
 use crate::sitting::Sitting;
@@ -26,7 +27,7 @@ pub(crate) fn race<
 where
     S::Prepared: Send,
     requires blocks { length blocks.now ≡ vec_len sittings }
-    requires fresh { All (λ s. s ≡ begun s.seen) sittings.items }
+    requires fresh { All (λ s. s ≡ begun (working s)) sittings.items }
     ensures count { vec_len result.0 ≡ vec_len sittings }
     ensures worked { WorkedEach blocks.now sittings.items result.0.items }
     ensures viewers { vec_len result.1 ≡ vec_len viewers }
@@ -34,7 +35,7 @@ where
     join(
         rt,
         || -> Vec<Sitting<L>>
-            requires { (length blocks.now ≡ vec_len sittings) × All (λ s. s ≡ begun s.seen) sittings.items }
+            requires { (length blocks.now ≡ vec_len sittings) × All (λ s. s ≡ begun (working s)) sittings.items }
             ensures { (vec_len result ≡ vec_len sittings) × WorkedEach blocks.entry.now sittings.items result.items }
         { submitted(rt, alloc, desk, blocks, sittings) },
         || -> Vec<Viewer<L>>
@@ -58,7 +59,7 @@ fn submitted<
 where
     S::Prepared: Send,
     requires blocks { length blocks.now ≡ vec_len sittings }
-    requires fresh { All (λ s. s ≡ begun s.seen) sittings.items }
+    requires fresh { All (λ s. s ≡ begun (working s)) sittings.items }
     ensures count { vec_len result ≡ vec_len sittings }
     ensures worked { WorkedEach blocks.now sittings.items result.items }
 {
@@ -75,7 +76,7 @@ fn submit_all<
 where
     S::Prepared: Send,
     requires blocks { length blocks.now ≡ length sittings.old }
-    requires fresh { All (λ s. s ≡ begun s.seen) sittings.old }
+    requires fresh { All (λ s. s ≡ begun (working s)) sittings.old }
     ensures count { length sittings.new ≡ length sittings.old }
     ensures worked { WorkedEach blocks.now sittings.old sittings.new }
 {
@@ -84,7 +85,7 @@ where
         sittings,
         MAX_DESIGNERS,
         &|place, sitting: &mut Sitting<L>|
-            requires { (place < length blocks.now) × (sitting.now ≡ begun sitting.now.seen) }
+            requires { (place < length blocks.now) × (sitting.now ≡ begun (working sitting.now)) }
         { sitting.work(rt, alloc, desk, blocks[place]) },
     );
 }

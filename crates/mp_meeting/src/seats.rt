@@ -14,7 +14,7 @@ pub fn start_all<L: DeskName>(
     designers: Vec<Designer<L>>,
 ) -> Result<Vec<Sitting<L>>, AllocError>
     requires { All (λ d. d.accepted ≡ 0) designers.items }
-    ensures { IfOk result (λ v. v.items ≡ map (λ d. begun d.seen) designers.items) }
+    ensures { IfOk result (λ v. v.items ≡ map begun designers.items) }
 {
     let mut sittings = Vec::new(alloc);
     for me in designers {

@@ -28,7 +28,7 @@ impl<L: DeskName> Model for Sitting<L> {
 
     ghost Value = { sittings.Sitting };
 
-    ghost view = { λ s. record { seen = s.me.seen; accepted = s.me.accepted; refused = s.refused; told = told_of s.last; wanting = s.wanting } };
+    ghost view = { λ s. record { seen = s.me.seen; accepted = s.me.accepted; refused = s.refused; told = told_of s.last; wanting = s.wanting; number = s.me.number; signed = s.me.signed } };
 }
 
 impl<L: DeskName> Sitting<L> {
@@ -39,11 +39,12 @@ impl<L: DeskName> Sitting<L> {
     ghost use Rattle.mp_desk.specs.Extending.{Extends};
     ghost use Rattle.mp_desk.specs.Holders.{RefusedAfter};
     ghost use Rattle.mp_meeting.specs.Sittings.{begun, with_seen, IsAccepted, IsRefused, Takes, HasWorked};
+    ghost use Rattle.mp_meeting.specs.Seats.{working};
 
     /// A designer who has just come.
     pub(crate) fn new(me: Designer<L>) -> Sitting<L>
         requires { me.accepted ≡ 0 }
-        ensures { result ≡ begun me.seen }
+        ensures { result ≡ begun me }
     {
         Sitting {
             me,
@@ -154,7 +155,7 @@ impl<L: DeskName> Sitting<L> {
         desk: &Desk<S, L, R>,
         lines: &[u8],
     )
-        requires { self.old ≡ begun self.old.seen }
+        requires { self.old ≡ begun (working self.old) }
         ensures { self.new.wanting ≡ false → HasWorked self.old.seen (lines_of lines.now) self.new }
     {
         let mut rest = lines;

@@ -1,5 +1,5 @@
 -- Numbers of lines, and the stories after so many edits.
-use Rattle.std.proofs.Common.{◌≡◌, ◌≤◌, List, [], ◌∷◌, ◌++◌, length, take, Some, slice_get, refl, sym, ap, ◌∙◌, arith}
+use Rattle.std.proofs.Common.{◌≡◌, ◌≤◌, ℕ, List, [], ◌∷◌, ◌++◌, length, take, Some, slice_get, refl, sym, ap, ◌∙◌, arith}
 use mathlib.Core.List.{IsPrefix}
 use Rattle.mp_records.specs.declared.edit.Edit.{Edit}
 use Rattle.mp_version.specs.Stories.{Story, one_more}
@@ -26,6 +26,10 @@ longer later earlier h = prefix_length earlier.edits later.edits h.begins
 -- the edit that was accepted stands at its place
 pub accepted_at : (now before : Story) (edit : Edit) → Extends now (one_more before edit) → slice_get now.edits (length before.edits) ≡ Some edit
 accepted_at now before edit h = ap (λ edits. slice_get edits (length before.edits)) (sym h.begins.1) ∙ get_here before.edits edit h.begins.0
+
+-- the author of the last edit stands at its place
+pub signed_at : (now before : List ℕ) (author : ℕ) → IsPrefix (before ++ author ∷ []) now → slice_get now (length before) ≡ Some author
+signed_at now before author h = ap (λ authors. slice_get authors (length before)) (sym h.1) ∙ get_here before author h.0
 
 -- a story that another extends is its beginning
 pub up_to-earlier : (now seen : Story) → Extends now seen → up_to now (length seen.edits) ≡ seen

@@ -1,19 +1,20 @@
 -- A seat's lines, one after the other.
-use Rattle.std.proofs.Common.{◌≡◌, inl, inr, ℕ, ◌+◌, Bool, List, [], ◌∷◌, ◌++◌, length, map, Option, Result, sym, ap, subst, ◌∙◌, length-append, arith}
+use Rattle.std.proofs.Common.{◌≡◌, inl, inr, ℕ, ◌+◌, Bool, List, [], ◌∷◌, ◌++◌, length, map, Option, Some, Result, slice_get, refl, sym, ap, subst, ◌∙◌, length-append, arith}
+use mathlib.Core.List.{IsPrefix}
 use Rattle.mp_lines.specs.Given.{given}
 use Rattle.mp_lines.specs.Incoming.{Incoming}
 use Rattle.mp_streams.specs.Outgoing.{Outgoing}
 use Rattle.mp_version.specs.Stories.{Story, one_more}
 use Rattle.mp_desk.specs.Extending.{Extends}
-use Rattle.mp_desk.proofs.PrefixLemmas.{extends_self, extends_trans, extends_one_more}
+use Rattle.mp_desk.proofs.PrefixLemmas.{prefix_self, prefix_trans, extends_self, extends_trans, extends_one_more}
 use Rattle.mp_talk.specs.declared.talk_fault.TalkFault.{TalkFault}
 use Rattle.mp_talk.specs.Answers.{AreAnswers}
 use Rattle.mp_talk.specs.Conversations.{Conversed}
 use Rattle.mp_seats.specs.Replies.{Writing, IsReplyAt}
-use Rattle.mp_seats.specs.Marks.{AcceptedAt, AnsweredAt, Rise}
+use Rattle.mp_seats.specs.Marks.{AcceptedAt, AnsweredAt, Rise, places_of, AreSigned}
 use Rattle.mp_seats.specs.Steps.{Seated, IsAcceptedLine, IsAnsweredLine, IsStep}
 use Rattle.mp_seats.specs.Seats.{IsSeat, IsVisit}
-use Rattle.mp_seats.proofs.MarkLemmas.{longer, accepted_at, up_to-earlier}
+use Rattle.mp_seats.proofs.MarkLemmas.{longer, accepted_at, up_to-earlier, signed_at}
 
 module _ (w : Writing) (edits : Bool) where
   -- no lines
@@ -28,6 +29,9 @@ module _ (w : Writing) (edits : Bool) where
         replies = λ now more. empty;
         rise = λ now more. longer now start.seen (extends_trans now last.seen start.seen more extends);
         accepted = omega (arith, accepted);
+        number = ap (λ (s : Seated). s.number) same;
+        begins = subst (λ (s : Seated). IsPrefix start.signed s.signed) (sym same) (prefix_self start.signed);
+        signed = λ authors more. tt;
       }
 
   -- one line before others
@@ -42,6 +46,11 @@ module _ (w : Writing) (edits : Bool) where
         let size : length next.seen.edits ≡ k + 1 = ap (λ (s : Story). length s.edits) seen ∙ length-append step.before.edits (step.edit ∷ []) in
         let count = rest.accepted in
         let counted = ap (λ (s : Seated). s.accepted) step.stands in
+        let same_number : next.number ≡ start.number = ap (λ (s : Seated). s.number) step.stands in
+        let numbered : last.number ≡ start.number = rest.number ∙ same_number in
+        let signed : next.signed ≡ step.authors ++ start.number ∷ [] = ap (λ (s : Seated). s.signed) step.stands in
+        let begins : IsPrefix start.signed next.signed =
+        subst (IsPrefix start.signed) (sym signed) (prefix_trans start.signed step.authors (step.authors ++ start.number ∷ []) step.begins (start.number ∷ [], refl)) in
         record {
           marks = AcceptedAt k ∷ rest.marks;
           extends = extends_trans last.seen (one_more step.before step.edit) start.seen onward_last back;
@@ -54,6 +63,13 @@ module _ (w : Writing) (edits : Bool) where
           );
           rise = λ now more. (longer step.before start.seen step.extends, subst (λ (n : ℕ). Rise n (length now.edits) rest.marks) size (rest.rise now more));
           accepted = omega (arith, count, counted);
+          number = numbered;
+          begins = prefix_trans start.signed next.signed last.signed begins rest.begins;
+          signed = λ authors more. (
+            subst (λ (place : ℕ). slice_get authors place ≡ Some start.number) step.each
+                (signed_at authors step.authors start.number (subst (λ (signed : List ℕ). IsPrefix signed authors) signed (prefix_trans next.signed last.signed authors rest.begins more))),
+            subst (λ (author : ℕ). AreSigned author authors (places_of rest.marks)) same_number (rest.signed authors more),
+          );
         }
 
     answered : IsAnsweredLine w edits start line next piece → IsSeat w edits start (line ∷ lines) last text
@@ -61,6 +77,7 @@ module _ (w : Writing) (edits : Bool) where
         let k = length next.seen.edits in
         let count = rest.accepted in
         let counted = ap (λ (s : Seated). s.accepted) step.stands in
+        let same_number : next.number ≡ start.number = ap (λ (s : Seated). s.number) step.stands in
         record {
           marks = AnsweredAt k ∷ rest.marks;
           extends = extends_trans last.seen next.seen start.seen rest.extends step.extends;
@@ -73,6 +90,9 @@ module _ (w : Writing) (edits : Bool) where
           );
           rise = λ now more. (longer next.seen start.seen step.extends, rest.rise now more);
           accepted = omega (arith, count, counted);
+          number = rest.number ∙ same_number;
+          begins = subst (λ (signed : List ℕ). IsPrefix signed last.signed) (ap (λ (s : Seated). s.signed) step.stands) rest.begins;
+          signed = λ authors more. subst (λ (author : ℕ). AreSigned author authors (places_of rest.marks)) same_number (rest.signed authors more);
         }
 
     one : IsStep w edits start line next piece → IsSeat w edits start (line ∷ lines) last text

@@ -37,11 +37,14 @@ module _ {S : Type 0} (w : Writing) (r : Result (Unit {0}) WriteError) (old new 
         (record {
           edit = edit;
           before = is.1;
+          authors = is.3;
           edits_may = refl;
           is_edit = says;
           extends = is.2;
-          stands = is.3;
-          replied = ap (λ (k : ℕ). w.reply (replies.Accepted k)) is.4;
+          begins = is.4;
+          each = is.5;
+          stands = is.6;
+          replied = ap (λ (k : ℕ). w.reply (replies.Accepted k)) is.7;
         })),
     put,
   )

@@ -1,5 +1,5 @@
 -- The numbers of a seat's lines.
-use Rattle.std.specs.Prelude.{ℕ, ◌+◌, ◌≤◌, List, [], ◌∷◌, take}
+use Rattle.std.specs.Prelude.{◌≡◌, ℕ, ◌+◌, ◌≤◌, List, [], ◌∷◌, take, Some, slice_get}
 use Rattle.mp_version.specs.Stories.{Story}
 
 -- the edit of a line was accepted behind so many others, or a line was answered otherwise after so many
@@ -22,3 +22,14 @@ abbrev pub accepted_of : List Mark → ℕ
 accepted_of [] = 0
 accepted_of (AcceptedAt k ∷ marks) = accepted_of marks + 1
 accepted_of (AnsweredAt k ∷ marks) = accepted_of marks
+
+-- the places of those that were accepted
+abbrev pub places_of : List Mark → List ℕ
+places_of [] = []
+places_of (AcceptedAt k ∷ marks) = k ∷ places_of marks
+places_of (AnsweredAt k ∷ marks) = places_of marks
+
+-- each of these places has this author
+abbrev pub AreSigned : ℕ → List ℕ → List ℕ → Type 0
+AreSigned author authors [] = Unit {0}
+AreSigned author authors (k ∷ places) = (slice_get authors k ≡ Some author) × AreSigned author authors places

@@ -1,6 +1,7 @@
 -- A seat: the lines that came, their replies, and a number for each line, which says after how many accepted edits it was answered.
 use Rattle.std.specs.Prelude.{◌≡◌, ℕ, ◌+◌, Bool, true, List, [], ◌∷◌, ◌++◌, length, map, Option, Some, Result, slice_get}
 use Rattle.std.specs.Io.KnownBytes.{Consumes}
+use mathlib.Core.List.{IsPrefix}
 use Rattle.mp_records.specs.declared.edit.Edit.{Edit}
 use Rattle.mp_streams.specs.Outgoing.{Outgoing}
 use Rattle.mp_words.specs.Lines.{lines_of}
@@ -11,7 +12,7 @@ use Rattle.mp_desk.specs.Extending.{Extends}
 use Rattle.mp_talk.specs.declared.talk_fault.TalkFault.{TalkFault}
 use Rattle.mp_talk.specs.Conversations.{Closes}
 use Rattle.mp_seats.specs.declared.reply.Reply.TheVariants.{Accepted}
-use Rattle.mp_seats.specs.Marks.{Mark, AcceptedAt, AnsweredAt, up_to, Rise, accepted_of}
+use Rattle.mp_seats.specs.Marks.{Mark, AcceptedAt, AnsweredAt, up_to, Rise, accepted_of, places_of, AreSigned}
 use Rattle.mp_seats.specs.Replies.{Writing, IsEditLine, IsReplyAt}
 use Rattle.mp_seats.specs.Steps.{Seated}
 
@@ -28,13 +29,16 @@ AreReplies w edits now (line ∷ lines) (mark ∷ marks) text =
 AreReplies w edits now lines marks text = ⊥
 
 -- lines came to a seat, and these are their replies in each story that extends the one seen in the end: their numbers never fall, none is less than
--- what the seat had seen before, and as many as were accepted are counted for it
+-- what the seat had seen before, as many as were accepted are counted for it, and the author of each of these is the one who edits there
 pub record IsSeat (w : Writing) (edits : Bool) (start : Seated) (lines : List (Option (List ℕ))) (last : Seated) (text : List ℕ) : Type 0 where
   pub marks : List Mark
   pub extends : Extends last.seen start.seen
   pub replies : (now : Story) → Extends now last.seen → AreReplies w edits now lines marks text
   pub rise : (now : Story) → Extends now last.seen → Rise (length start.seen.edits) (length now.edits) marks
   pub accepted : last.accepted ≡ start.accepted + accepted_of marks
+  pub number : last.number ≡ start.number
+  pub begins : IsPrefix start.signed last.signed
+  pub signed : (authors : List ℕ) → IsPrefix last.signed authors → AreSigned start.number authors (places_of marks)
 
 -- somebody came to a seat: of the source some bytes were taken, whose lines, behind what was held, are those that were answered in order and then those of
 -- the rest; the answers went to the sink, all of them or a part

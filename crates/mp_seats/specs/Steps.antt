@@ -1,5 +1,6 @@
 -- What a line makes of who sits at a seat.
-use Rattle.std.specs.Prelude.{◌≡◌, ◌⊎◌, ℕ, ◌+◌, Bool, true, false, List, length, Option, Result, Ok, Err}
+use Rattle.std.specs.Prelude.{◌≡◌, ◌⊎◌, ℕ, ◌+◌, Bool, true, false, List, [], ◌∷◌, ◌++◌, length, Option, Result, Ok, Err}
+use mathlib.Core.List.{IsPrefix}
 use Rattle.mp_records.specs.declared.edit.Edit.{Edit}
 use Rattle.mp_streams.specs.Outgoing.{Outgoing}
 use Rattle.mp_streams.specs.WriteErrors.{Writes}
@@ -12,35 +13,42 @@ use Rattle.mp_seats.specs.declared.refusal.Refusal.TheVariants as refusals
 use Rattle.mp_seats.specs.declared.reply.Reply.TheVariants.{Accepted}
 use Rattle.mp_seats.specs.Replies.{Writing, IsEditLine, IsReplyAt}
 
--- who sits at a seat: the version seen last, and how many edits were accepted
+-- who sits at a seat: the version seen last, how many edits were accepted, the number of the designer who edits there, and the authors of all edits up to
+-- the last one that was accepted there
 pub record Seated : Type 0 where
   pub seen : Story
   pub accepted : ℕ
+  pub number : ℕ
+  pub signed : List ℕ
 
 -- this was seen, and nothing else changed
 abbrev pub with_seen : Seated → Story → Seated
-with_seen old seen = record { seen = seen; accepted = old.accepted }
+with_seen old seen = record old { seen = seen }
 
--- the edit was accepted after this story
-abbrev pub with_edit : Seated → Story → Edit → Seated
-with_edit old before edit = record { seen = one_more before edit; accepted = old.accepted + 1 }
+-- the edit was accepted after this story by these authors
+abbrev pub with_edit : Seated → Story → List ℕ → Edit → Seated
+with_edit old before authors edit = record old { seen = one_more before edit; accepted = old.accepted + 1; signed = authors ++ old.number ∷ [] }
 
 -- what became of an edit at a seat that edits or doesn't: its number, or why it isn't made
 abbrev pub Submits : Bool → Result ℕ Refusal → Seated → Seated → Edit → Type 0
 Submits edits (Ok n) old new edit =
-    (edits ≡ true) × (before : Story) × Extends before old.seen × (new ≡ with_edit old before edit) × (n ≡ length before.edits + 1)
+    (edits ≡ true) × (before : Story) × Extends before old.seen × (authors : List ℕ) × IsPrefix old.signed authors × (length authors ≡ length before.edits)
+    × (new ≡ with_edit old before authors edit) × (n ≡ length before.edits + 1)
 Submits edits (Err (refusals.Refused error)) old new edit =
     (edits ≡ true) × RefusedAfter old.seen new.seen edit error × (new ≡ with_seen old new.seen) × Extends new.seen old.seen
 Submits edits (Err refusals.NotADesigner) old new edit = (edits ≡ false) × (new ≡ old)
 
--- the edit of a line was accepted after this story
+-- the edit of a line was accepted after this story, which has these authors
 pub record IsAcceptedLine (w : Writing) (edits : Bool) (old : Seated) (line : Option (List ℕ)) (new : Seated) (text : List ℕ) : Type 0 where
   pub edit : Edit
   pub before : Story
+  pub authors : List ℕ
   pub edits_may : edits ≡ true
   pub is_edit : IsEditLine line edit
   pub extends : Extends before old.seen
-  pub stands : new ≡ with_edit old before edit
+  pub begins : IsPrefix old.signed authors
+  pub each : length authors ≡ length before.edits
+  pub stands : new ≡ with_edit old before authors edit
   pub replied : text ≡ w.reply (Accepted (length before.edits + 1))
 
 -- a line was answered after the story that was then seen

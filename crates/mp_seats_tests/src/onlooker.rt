@@ -14,7 +14,7 @@ impl Guest for Onlooker {
     ghost use Rattle.std.specs.Prelude.{[], false};
     ghost use Rattle.mp_version.specs.Stories.{opening};
 
-    ghost seated = { λ _. record { seen = opening (record { horizon = 0; wires = []; modules = []; bundles = [] }); accepted = 0 } };
+    ghost seated = { λ _. record { seen = opening (record { horizon = 0; wires = []; modules = []; bundles = [] }); accepted = 0; number = 0; signed = [] } };
 
     ghost edits = { false };
 

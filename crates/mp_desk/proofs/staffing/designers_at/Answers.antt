@@ -1,17 +1,15 @@
 use Rattle.std.proofs.Common.{rules, ◌≡◌, ◌++◌, ◌∷◌, [], All, sym, subst}
-use Rattle.std.specs.Arc.{arc_value}
-use Rattle.std.proofs.lemmas.List.Elements.{All-push}
 use Rattle.mp_desk.specs.Knowing.{Known}
-use Rattle.mp_desk.specs.Holders.{Working, fresh_designer}
-use Rattle.mp_desk.proofs.StaffLemmas.{all_front}
+use Rattle.mp_desk.specs.Holders.{AreFresh}
+use Rattle.mp_desk.proofs.StaffLemmas.{all_front, one_more_fresh}
 use Rattle.mp_desk.proofs.staffing.designers_at.Goals as goal
 
 pub loop-pass-preserved : goal.loop-pass-preserved
 loop-pass-preserved g c =
+    let story = c.args.writer.now.story in
     let parts : c.loop-pass.places.items ≡ c.pop.new.self.items ++ c.in-Some.pass ∷ [] = search rules in (
-      all_front (λ (p : Known). p ≡ record { book = g.L.DeskName.history; story = arc_value c.args.version.now } ∷ []) c.loop-pass.places.items c.pop.new.self.items (c.in-Some.pass ∷ []) parts c.loop-pass.invariant.0,
-      subst (All (λ (d : Working). d ≡ fresh_designer (arc_value c.args.version.now))) (sym c.in_ok-push.ensures.items)
-          (All-push (λ (d : Working). d ≡ fresh_designer (arc_value c.args.version.now)) c.loop-pass.made.items c.in_ok-next.next c.loop-pass.invariant.1 c.in_ok-next.ensures.designer),
+      all_front (λ (p : Known). p ≡ record { book = g.L.DeskName.history; story = story } ∷ []) c.loop-pass.places.items c.pop.new.self.items (c.in-Some.pass ∷ []) parts c.loop-pass.invariant.0,
+      subst (AreFresh story) (sym c.in_ok-push.ensures.items) (one_more_fresh story c.loop-pass.made.items c.designer_at-next.result c.loop-pass.invariant.1 (search rules)),
       search rules,
       search rules,
       search rules,

@@ -1,12 +1,13 @@
-use Rattle.std.proofs.Common.{◌≡◌, ◌<◌, true, Ok, length, map, vec_len, All, ap, subst, arith}
+use Rattle.std.proofs.Common.{◌≡◌, ◌+◌, ◌<◌, true, Ok, length, map, vec_len, All, ap, subst, arith}
 use Rattle.std.proofs.lemmas.Result.{err_from_is_err_and}
 use Rattle.mp_version.specs.Stories.{Story}
-use Rattle.mp_desk.specs.Holders.{Seeing, fresh_viewer}
-use Rattle.mp_meeting.specs.Seats.{HasAdjourned}
+use Rattle.mp_desk.specs.Holders.{Seeing, fresh_viewer, accepted_by}
+use Rattle.mp_meeting.specs.Seats.{working, HasAdjourned}
 use Rattle.mp_hosting.specs.Guests.{sitter, looker, just_come}
 use Rattle.mp_hosting.specs.OwnSeats.{HasTalked, EndsFor}
 use Rattle.mp_hosting.proofs.PeopleLemmas.{front_all, last_all, sitters_came, lookers_came, sitters_extend, lookers_extend}
 use Rattle.mp_hosting.proofs.StayLemmas.{first_extends}
+use Rattle.mp_hosting.proofs.SeatClaims.{claimed_once}
 use Rattle.mp_hosting.proofs.hosting.host_staffed.Goals as goal
 
 pub returns-clause-hosted : goal.returns-clause-hosted
@@ -31,9 +32,12 @@ returns-clause-hosted g c = λ start designers viewers opening.
       adjourned =
           subst (λ n. HasAdjourned n sittings.items (length c.args.hall.viewers.items) now tallies numbers) opening
           (subst (λ n. HasAdjourned c.args.staffed.desk.opening sittings.items n now tallies numbers) many adjourned);
+      claimed =
+          claimed_once g.row.D-Output.Denot g.D.Door.Comes g.D.Door.Leaves g.D.Door.TurnsAway (record { answer = g.B.Scribe.answer_text; reply = g.B.Scribe.reply_text }) start now
+          c.args.hall.designers.items sittings.items edited adjourned.seen adjourned.signed (subst (λ n. length now.edits ≡ n + accepted_by (map working sittings.items)) opening adjourned.counted);
       extends =
-          first_extends g.row.D-Output.Denot g.D.Door.Comes g.D.Door.Leaves g.D.Door.TurnsAway (record { answer = g.B.Scribe.answer_text; reply = g.B.Scribe.reply_text }) true now (just_come start)
-          c.args.hall.designers.items (map sitter sittings.items) edited some (sitters_extend now sittings.items adjourned.seen);
+          first_extends g.row.D-Output.Denot g.D.Door.Comes g.D.Door.Leaves g.D.Door.TurnsAway (record { answer = g.B.Scribe.answer_text; reply = g.B.Scribe.reply_text }) true now
+          (λ number. just_come number start) 1 c.args.hall.designers.items (map sitter sittings.items) edited some (sitters_extend now sittings.items adjourned.seen);
     }
 
 pub returns-clause-talked : goal.returns-clause-talked

@@ -1,5 +1,5 @@
 use Rattle.std.proofs.Common.{◌≡◌, true, false, Ok, length, sym, subst, arith, rules}
-use Rattle.mp_hosting.specs.Guests.{sitter, looker, just_come}
+use Rattle.mp_hosting.specs.Guests.{sitter, looker, just_come, just_looking}
 use Rattle.mp_hosting.specs.Stays.{AreAttended}
 use Rattle.mp_hosting.proofs.PeopleLemmas.{as_many, as_many_of}
 use Rattle.mp_hosting.proofs.StayLemmas.{all_attended}
@@ -29,11 +29,11 @@ returns-clause-designers g c = λ start came.
     let old = c.in_ok-designer_posts.field-0 in
     let same : length new.items ≡ length old.items = omega (arith, c.serve_all-ended.ensures.designers.0, new.ok.0, old.ok.0) in
     subst
-    (λ lasts. AreAttended g.row.D-Output.Denot g.D.Door.Comes g.D.Door.Leaves g.D.Door.TurnsAway (record { answer = g.B.Scribe.answer_text; reply = g.B.Scribe.reply_text }) true (just_come start)
-    c.args.hall.designers.items lasts)
+    (λ lasts. AreAttended g.row.D-Output.Denot g.D.Door.Comes g.D.Door.Leaves g.D.Door.TurnsAway (record { answer = g.B.Scribe.answer_text; reply = g.B.Scribe.reply_text }) true
+    (λ number. just_come number start) 1 c.args.hall.designers.items lasts)
     (sym c.in_ok-sittings_of.ensures)
     (all_attended g.row.D-Output.Denot g.D.Door.Comes g.D.Door.Leaves g.D.Door.TurnsAway (record { answer = g.B.Scribe.answer_text; reply = g.B.Scribe.reply_text }) true (λ p. p.seat) (λ p. p.door)
-    (just_come start) sitter c.args.people.sittings.items c.args.hall.designers.items old.items new.items c.in_ok-designer_posts.ensures.seats came c.in_ok-designer_posts.ensures.doors same
+    (λ number. just_come number start) sitter c.args.people.sittings.items c.args.hall.designers.items old.items new.items c.in_ok-designer_posts.ensures.seats came c.in_ok-designer_posts.ensures.doors same
     c.serve_all-ended.ensures.designers.1)
 
 pub returns-clause-viewers : goal.returns-clause-viewers
@@ -42,11 +42,11 @@ returns-clause-viewers g c = λ start came.
     let old = c.in_ok-viewer_posts.field-0 in
     let same : length new.items ≡ length old.items = omega (arith, c.serve_all-ended.ensures.viewers.0, new.ok.0, old.ok.0) in
     subst
-    (λ lasts. AreAttended g.row.D-Output.Denot g.D.Door.Comes g.D.Door.Leaves g.D.Door.TurnsAway (record { answer = g.B.Scribe.answer_text; reply = g.B.Scribe.reply_text }) false (just_come start)
-    c.args.hall.viewers.items lasts)
+    (λ lasts. AreAttended g.row.D-Output.Denot g.D.Door.Comes g.D.Door.Leaves g.D.Door.TurnsAway (record { answer = g.B.Scribe.answer_text; reply = g.B.Scribe.reply_text }) false
+    (λ number. just_looking start) 1 c.args.hall.viewers.items lasts)
     (sym c.in_ok-viewers_of.ensures)
     (all_attended g.row.D-Output.Denot g.D.Door.Comes g.D.Door.Leaves g.D.Door.TurnsAway (record { answer = g.B.Scribe.answer_text; reply = g.B.Scribe.reply_text }) false (λ p. p.seat) (λ p. p.door)
-    (just_come start) looker c.args.people.viewers.items c.args.hall.viewers.items old.items new.items c.in_ok-viewer_posts.ensures.seats came c.in_ok-viewer_posts.ensures.doors same
+    (λ number. just_looking start) looker c.args.people.viewers.items c.args.hall.viewers.items old.items new.items c.in_ok-viewer_posts.ensures.seats came c.in_ok-viewer_posts.ensures.doors same
     c.serve_all-ended.ensures.viewers.1)
 
 pub returns-clause-talked : goal.returns-clause-talked

@@ -1,7 +1,7 @@
 use Rattle.std.proofs.Common.{◌≡◌, ◌+◌, ◌<◌, ◌≤◌, ℕ, List, length, map, slice_index, slice_index_or, All, sym, ◌∙◌, subst, rules}
 use Rattle.mp_version.specs.Stories.{Story}
 use Rattle.mp_desk.specs.Extending.{Extends}
-use Rattle.mp_desk.specs.Holders.{Working, Seeing, ExtendsEach, accepted_by}
+use Rattle.mp_desk.specs.Holders.{Working, Seeing, ExtendsEach, accepted_by, IsSigned}
 use Rattle.mp_meeting.specs.Sittings.{Sitting}
 use Rattle.mp_meeting.specs.Seats.{working}
 use Rattle.mp_meeting.proofs.MeetLemmas.{none_more, came_back, all_looked}
@@ -25,6 +25,7 @@ returns-clause-adjourned g c =
       whole = c.in_ok-designers.ensures.whole;
       seen = seen;
       counted = counted;
+      signed = subst (IsSigned now) c.in_ok-designers.ensures.designers c.in-Ok.ensures.signed;
       tallies_are = c.in_ok-designers.ensures.tallies;
       told = told;
       within = none_more now numbers vs all last c.in-Ok.ensures.read;

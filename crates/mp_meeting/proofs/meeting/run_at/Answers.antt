@@ -1,4 +1,4 @@
-use Rattle.std.proofs.Common.{◌≡◌, ℕ, List, length, sym, subst, rules, arith}
+use Rattle.std.proofs.Common.{◌≡◌, ℕ, List, length, ap, sym, subst, rules, arith}
 use Rattle.mp_version.specs.Stories.{Story}
 use Rattle.mp_desk.specs.Holders.{Working}
 use Rattle.mp_words.specs.Divisions.{lines_of_each}
@@ -24,5 +24,5 @@ returns-clause-met g c = λ base fresh.
     let count : length ds ≡ length blocks = search rules in
     let same : length new ≡ length old = search rules in
     subst (λ (tallies : List Tally). IsMeeting base (lines_of_each blocks) now tallies numbers) (sym adjourned.tallies_are)
-    (met now numbers base blocks ds old new fresh c.in_ok-sittings.ensures count c.requires.some same c.race-sittings.ensures.worked adjourned.whole adjourned.told adjourned.seen
+    (met now numbers base blocks ds old new (λ k d within. ap (λ (w : Working). w.seen) (fresh k d within)) c.in_ok-sittings.ensures count c.requires.some same c.race-sittings.ensures.worked adjourned.whole adjourned.told adjourned.seen
     (omega (arith, adjourned.counted, c.requires.opening)) adjourned.within)

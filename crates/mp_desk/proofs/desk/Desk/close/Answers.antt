@@ -19,7 +19,7 @@ returns-clause-counted g c =
     let kept = c.session.invariant in let mine = c.self.invariant in
     let shares = c.part_designers.ensures.share in
     let all_here : vec_len c.args.designers ≡ c.self.inside.designers = search rules in
-    let parts : c.part_designers.new.all.parts ≡ g.L.Ledger.parts = omega (arith, shares.0, kept.3, mine.1, all_here) in
+    let parts : c.part_designers.new.all.parts ≡ g.L.Ledger.parts = omega (arith, shares.0, kept.5, mine.1, all_here) in
     let whole : c.part_designers.new.all.amount ≡ c.session.inside.book.total = c.audit.ensures.whole parts in
     let opening : c.self.inside.opening ≡ c.args.self.opening = ap (λ d. d.opening) c.self.view_is in
-    omega (arith, whole, shares.1, mine.0, kept.2, kept.4, opening)
+    omega (arith, whole, shares.1, mine.0, kept.4, kept.6, opening)

@@ -2,6 +2,7 @@ use Rattle.std.proofs.Common.{◌≡◌, ◌<◌, List, ℕ, length, ap, sym, su
 use Rattle.mp_words.specs.Lines.{lines_of}
 use Rattle.mp_text.specs.ScriptLines.{line_at}
 use Rattle.mp_meeting.specs.Sittings.{Sitting, begun, Takes}
+use Rattle.mp_meeting.specs.Seats.{working}
 use Rattle.mp_meeting.proofs.SittingLemmas.{SoFar, none_yet, one_line, has_worked, refused_by_one, lines_of-none}
 use Rattle.mp_meeting.proofs.sitting.Sitting.work.Goals as goal
 
@@ -34,8 +35,9 @@ pub loop-rest-init : goal.loop-rest-init
 loop-rest-init g c =
     let lines = lines_of c.args.lines.now in
     let start = c.args.self.now.seen in
-    let fresh : c.args.self.now ≡ begun start = c.requires in
+    let me = working c.args.self.now in
+    let fresh : c.args.self.now ≡ begun me = c.requires in
     record {
-      so_far = subst (λ (s : Sitting). SoFar start lines lines s) (sym fresh) (none_yet start lines);
+      so_far = subst (λ (s : Sitting). SoFar start lines lines s) (sym fresh) (none_yet me lines);
       few = let none : c.args.self.now.refused ≡ 0 = ap (λ (s : Sitting). s.refused) fresh in omega (arith, none);
     }

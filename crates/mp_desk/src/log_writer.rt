@@ -1,0 +1,91 @@
+//! How a history goes on.
+ghost use Rattle.std.specs.Prelude.{◌≡◌, IfSome};
+ghost use Rattle.std.specs.Arc.{arc_value};
+ghost use Rattle.mp_desk.specs.Chronicles.{unsigned};
+
+use crate::authors::Authors;
+use crate::chronicle::{Entry, Law, added};
+use crate::log_prefix::LogPrefix;
+use logbook::{Seen, Start, Word};
+use mp_version::Version;
+use std::marker::Model;
+use std::sync::Arc;
+
+/// The word by which a history grows, 1 more than the number of its latest version, and the history up to which it was written. A contract sees
+/// which history it is, its story and the authors of its edits.
+#[derive(Drop)]
+pub(crate) struct LogWriter {
+    word: Word<Entry, u64, Law>,
+    seen: Seen<Entry, u64, Law>,
+}
+
+impl Model for LogWriter {
+    ghost use Rattle.std.specs.Prelude.{◌≡◌, ◌<◌, length};
+    ghost use Rattle.mp_desk.specs.Chronicles.{Written, writer_of, latest, authors};
+
+    ghost Value = { Written };
+
+    ghost view = { λ w. record { book = w.seen.book; story = latest w.seen.log; authors = authors w.seen.log } };
+
+    ghost invariant = { λ w. (w.word ≡ writer_of w.seen.book) × (0 < length w.seen.log) };
+}
+
+impl LogWriter {
+    ghost use Rattle.std.specs.Prelude.{◌≤◌, length, MatchBool};
+    ghost use mathlib.Core.List.{IsPrefix};
+    ghost use Rattle.mp_desk.specs.Extending.{Succeeds};
+    ghost use Rattle.mp_desk.specs.Chronicles.{written_on};
+
+    /// Adds a version by this author to the history. False where that is longer than it was written by this writer.
+    pub(crate) fn add(&mut self, version: &Arc<Version>, author: usize) -> bool
+        requires follows { Succeeds (arc_value version.now) self.old.story }
+        ensures { MatchBool result (self.new ≡ written_on self.old (arc_value version.now) author) (self.new ≡ self.old) }
+    {
+        let old = version.number() as u64;
+        match added(&self.word, self.seen.again(), old, version, author) {
+            Some(seen) => {
+                self.seen = seen;
+                true
+            }
+            None => false,
+        }
+    }
+
+    /// The history up to here.
+    pub(crate) fn prefix(&self) -> LogPrefix
+        ensures { result ≡ record { book = self.now.book; story = self.now.story } }
+    {
+        LogPrefix {
+            seen: self.seen.again(),
+        }
+    }
+
+    /// Its authors up to here.
+    pub(crate) fn authors(&self) -> Authors
+        ensures { result ≡ record { book = self.now.book; authors = self.now.authors } }
+    {
+        Authors {
+            seen: self.seen.again(),
+        }
+    }
+
+    /// The authors begin with those that were known earlier.
+    pub(crate) fn begins_with(&self, earlier: &Authors)
+        requires { earlier.now.book ≡ self.now.book }
+        ensures { length earlier.now.authors ≤ length self.now.authors → IsPrefix earlier.now.authors self.now.authors }
+    {
+        let mut both = self.seen.again();
+        both.learn(&earlier.seen);
+    }
+}
+
+/// A new history, which begins with the version.
+pub(crate) fn begun(version: &Arc<Version>) -> Option<LogWriter>
+    ensures story { IfSome result (λ w. w.story ≡ arc_value version.now) }
+    ensures authors { IfSome result (λ w. w.authors ≡ unsigned (arc_value version.now)) }
+{
+    let (seen, mut first, _second) = Seen::open(Start::alone(), 0, 0);
+    let word = Word::tracked(0, &mut first);
+    let seen = added(&word, seen, 0, version, 0)?;
+    Some(LogWriter { word, seen })
+}
