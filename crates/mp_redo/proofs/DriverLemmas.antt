@@ -1,7 +1,7 @@
 -- What drives each wire, found module by module.
-use Rattle.std.proofs.Common.{◌≡◌, ◌⊎◌, ℕ, ◌+◌, ◌<◌, ◌≤◌, List, Option, Some, None, length, get_or, ap, sym, subst, ◌∙◌, arith, inl, inr}
+use Rattle.std.proofs.Common.{◌≡◌, ◌⊎◌, ℕ, ◌+◌, ◌<◌, ◌≤◌, List, Option, [], ◌∷◌, ◌++◌, Some, None, length, get_or, ap, sym, subst, ◌∙◌, arith, inl, inr}
 use Rattle.std.proofs.lemmas.Bool.{cases_lt, cases_eq}
-use Rattle.std.proofs.lemmas.List.{get_or_default, get_or_past}
+use Rattle.std.proofs.lemmas.List.{get_or_append_left, get_or_default, get_or_past, get_or_push}
 use Rattle.std.proofs.lemmas.Option.{same_Some, none-some}
 use Rattle.mp_records.specs.declared.ids.WireId.{WireId}
 use Rattle.mp_records.specs.declared.ids.ModuleId.{ModuleId}
@@ -10,8 +10,8 @@ use Rattle.mp_records.specs.declared.module_record.ModuleRecord.{ModuleRecord}
 use Rattle.mp_records.specs.Outputs.{output_in}
 use Rattle.mp_netlist.specs.declared.driver.Driver.{Driver}
 use Rattle.mp_netlist.specs.declared.driver.Driver.TheVariants.{Nothing, Port}
-use Rattle.mp_netlist.specs.Circuit.{Circuit, IsCircuit, module_at}
-use Rattle.mp_netlist.specs.Drivers.{driver}
+use Rattle.mp_netlist.specs.Circuit.{Circuit, IsCircuit, module_at, stimulus_at}
+use Rattle.mp_netlist.specs.Drivers.{driver, stimulus_driver}
 use Rattle.mp_netlist.proofs.DriverLemmas.{finds_ports, driven_by, leaves_no_driver}
 use Rattle.mp_model.proofs.SlotLemmas.{slot_within}
 use Rattle.mp_redo.specs.Drivers.{driver_in, AreDrivers, IsNoted, IsDriverBelow, AreDriversBelow}
@@ -105,4 +105,12 @@ drivers_are n ok m drivers le are w = elim (cases_lt w (length n.wires)) as (λ 
   | inr past ↦
       get_or_past drivers w Nothing (let places = are.places in omega (arith, past, places))
       ∙ sym (leaves_no_driver n ok w (get_or_past n.wires w None past))
+]
+
+-- what drives one wire more if no port does
+pub portless_more : (n : Circuit) (drivers : List Driver) (found : Driver) (i : ℕ) → length drivers ≡ i → found ≡ stimulus_driver (stimulus_at n i)
+    → ((w : ℕ) → w < i → driver_in drivers w ≡ stimulus_driver (stimulus_at n w)) → (w : ℕ) → w < i + 1 → driver_in (drivers ++ found ∷ []) w ≡ stimulus_driver (stimulus_at n w)
+portless_more n drivers found i size is are w low = elim (cases_eq w i) as (λ _. driver_in (drivers ++ found ∷ []) w ≡ stimulus_driver (stimulus_at n w)) [
+  | inl same ↦ get_or_push drivers found Nothing w (size ∙ sym same) ∙ is ∙ ap (λ k. stimulus_driver (stimulus_at n k)) (sym same)
+  | inr other ↦ get_or_append_left drivers (found ∷ []) Nothing w (omega (arith, low, other, size)) ∙ are w (omega (arith, low, other))
 ]

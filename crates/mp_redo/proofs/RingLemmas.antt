@@ -2,7 +2,7 @@
 use Rattle.std.proofs.Common.{◌≡◌, ℕ, ◌+◌, ◌<◌, ◌≤◌, Bool, true, List, [], ◌∷◌, ◌++◌, length, drop, slice_index_or, slice_set, zero, suc, refl, ap, sym, subst, ◌∙◌, arith, inl, inr}
 use Rattle.std.specs.List.{Contains}
 use Rattle.std.proofs.lemmas.Bool.{cases_eq, cases_lt}
-use Rattle.std.proofs.lemmas.List.{get_or-set_same, get_or-set_other, get_or_append_left, get_or-drop, get_or_past, length-drop, length-append}
+use Rattle.std.proofs.lemmas.List.{get_or-set_same, get_or-set_other, get_or_append_left, get_or_push, get_or-drop, get_or_past, length_push, length-drop, length-append}
 use Rattle.std.proofs.lemmas.List.Elements.{Contains-append_left, Contains-append_right}
 use Rattle.mp_records.specs.declared.ids.ModuleId.{ModuleId}
 use Rattle.mp_evaluation.specs.Marks.{is_marked, AreAdded}
@@ -77,3 +77,13 @@ taken_more count lists now marks after later due due_after due_later some taken 
       subst (λ xs. Contains xs (record { 0 = m })) (sym (at_next now k)) (taken.moved (k + 1) m (subst (λ j. Contains (looks_at lists j) (record { 0 = m })) e has));
   listed = λ are. added.listed (taken.listed are);
 }
+
+-- one empty list more
+pub idle_more : (lists : List (List ModuleId)) (list : List ModuleId) → list ≡ [] → ((k : ℕ) → looks_at lists k ≡ []) → (k : ℕ) → looks_at (lists ++ list ∷ []) k ≡ []
+idle_more lists list none idle k = elim (cases_lt k (length lists)) as (λ _. looks_at (lists ++ list ∷ []) k ≡ []) [
+  | inl within ↦ get_or_append_left lists (list ∷ []) [] k within ∙ idle k
+  | inr past ↦ elim (cases_eq (length lists) k) as (λ _. looks_at (lists ++ list ∷ []) k ≡ []) [
+    | inl same ↦ get_or_push lists list [] k same ∙ none
+    | inr other ↦ get_or_past (lists ++ list ∷ []) k [] (let size = length_push lists list in omega (arith, size, past, other))
+  ]
+]

@@ -225,33 +225,9 @@ impl<G: Gate> Session<G> {
         ensures edit { IfOk result (λ prepared. prepared.edit ≡ edit) }
         ensures next { OnOk result (present (one_more self.now.story edit) ≡ next) }
     {
-        edits_revise();
-        let now = self.version.now();
-        let (run, work) = redo(
-            rt, self.alloc, now, &self.run, &next, &self.crew, &self.gate,
-        )?;
-        self.evaluated(edit, next, run, work)
-    }
-
-    /// The edit with the version of the netlist after it, which was evaluated: this is its run, and that the work of the edit.
-    fn evaluated(
-        &self,
-        edit: Edit,
-        next: Netlist,
-        run: Run,
-        work: Work,
-    ) -> Result<Prepared, AllocError>
-        requires accepted { after (present self.now.story) edit ≡ Ok next }
-        requires room { length self.now.story.edits < max_edits }
-        requires run { IsRun next run }
-        requires work { IsWork (present self.now.story) next work }
-        ensures fits { IfOk result (λ prepared. prepared.before ≡ self.now.story) }
-        ensures edit { IfOk result (λ prepared. prepared.edit ≡ edit) }
-        ensures next { OnOk result (present (one_more self.now.story edit) ≡ next) }
-    {
-        let edit = Arc::new(self.alloc, edit)?;
-        let next = self.next_version(&edit, next, &run)?;
         let before = Arc::try_clone(&self.version)?;
+        let edit = Arc::new(self.alloc, edit)?;
+        let (next, run, work) = self.evaluated(rt, &edit, next)?;
         Ok(Prepared {
             before,
             edit,
@@ -259,6 +235,31 @@ impl<G: Gate> Session<G> {
             run,
             work,
         })
+    }
+
+    /// The version of the netlist after the edit, its run, and the work of the edit.
+    fn evaluated<R: Threads + Wait + Sync>(
+        &self,
+        rt: &R,
+        edit: &Arc<Edit, Global>,
+        next: Netlist,
+    ) -> Result<(Arc<Version, Global>, Run, Work), AllocError>
+    where
+        G: Sync,
+        requires accepted { after (present self.now.story) (arc_value edit.now) ≡ Ok next }
+        requires room { length self.now.story.edits < max_edits }
+        ensures story { IfOk result (λ found. arc_value found.0 ≡ one_more self.now.story (arc_value edit.now)) }
+        ensures next { OnOk result (present (one_more self.now.story (arc_value edit.now)) ≡ next) }
+        ensures run { IfOk result (λ found. IsRun next found.1) }
+        ensures work { IfOk result (λ found. IsWork (present self.now.story) next found.2) }
+    {
+        edits_revise();
+        let now = self.version.now();
+        let (run, work) = redo(
+            rt, self.alloc, now, &self.run, &next, &self.crew, &self.gate,
+        )?;
+        let version = self.next_version(edit, next, &run)?;
+        Ok((version, run, work))
     }
 
     /// The version after the edit, with its netlist and the waves of its run.

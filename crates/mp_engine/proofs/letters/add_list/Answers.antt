@@ -1,4 +1,5 @@
-use Rattle.std.proofs.Common.{◌+◌, Vec, take, ap, sym, subst, ◌∙◌}
+use Rattle.std.proofs.Common.{◌+◌, Vec, take, ap, sym, subst, ◌∙◌, arith}
+use Rattle.std.proofs.lemmas.List.{take_all}
 use Rattle.std.specs.Global.{Global}
 use Rattle.mp_engine.specs.declared.letters.Letter.{Letter}
 use Rattle.mp_engine.specs.Calendars.{entry_of}
@@ -23,3 +24,9 @@ loop-entry-preserved c =
           subst (AreLetters Kind old) (sym (ap (λ (xs : Vec Letter Global). xs.items) b.letters-is))
           (letter_skipped division.wires.items division.heard.items c.args.part c.args.ahead list i (entry_of 0 0) old now c.loop-entry-test.true (sym c.is_sent.ensures ∙ b.if-is_sent.false) c.loop-entry.invariant)
     ]
+
+pub returns : goal.returns
+returns c =
+    let division = c.args.division.now in
+    subst (λ xs. AreLetters (IsOfList division.wires.items division.heard.items c.args.part c.args.ahead xs) c.args.letters.now.items c.loop-entry.letters.items)
+    (take_all c.loop-entry.entry-index c.args.list.now (omega arith)) c.loop-entry.invariant

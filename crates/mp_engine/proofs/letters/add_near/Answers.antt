@@ -1,4 +1,5 @@
 use Rattle.std.proofs.Common.{◌+◌, Vec, take, ap, sym, subst, ◌∙◌, arith}
+use Rattle.std.proofs.lemmas.List.{take_all}
 use Rattle.std.specs.Global.{Global}
 use Rattle.mp_engine.specs.declared.letters.Letter.{Letter}
 use Rattle.mp_engine.specs.Letters.{IsNear, AreLetters}
@@ -23,3 +24,6 @@ loop-letter-preserved c =
           subst (AreLetters Kind old) (sym (ap (λ (xs : Vec Letter Global). xs.items) b.letters-is))
           (near_skipped span list i none old now c.loop-letter-test.true (λ near. let far = b.if-letter-span.false in let no : ⊥ = omega (arith, near, far) in no) c.loop-letter.invariant)
     ]
+
+pub returns : goal.returns
+returns c = subst (λ xs. AreLetters (IsNear c.args.span xs) c.args.letters.now.items c.loop-letter.letters.items) (take_all c.loop-letter.letter-index c.args.told.now (omega arith)) c.loop-letter.invariant

@@ -1,5 +1,5 @@
 use Rattle.std.proofs.Common.{◌≡◌, ◌<◌, ◌+◌, ◌++◌, ◌∷◌, [], true, false, length, take, slice_index_or, slice_set, sym, subst, ◌∙◌, arith}
-use Rattle.std.proofs.lemmas.List.{take_more}
+use Rattle.std.proofs.lemmas.List.{take_all, take_more}
 use Rattle.std.specs.declared.collections.VecDeque.{VecDeque}
 use Rattle.std.specs.Global.{Global}
 use Rattle.mp_engine.specs.declared.entry.Entries.{Entries}
@@ -32,3 +32,6 @@ loop-letter-preserved c =
           subst (λ (cs : VecDeque Entries Global). AreEntered heard (take (i + 1) letters) lists cs.items) (sym b.calendar-is)
           (subst (λ xs. AreEntered heard xs lists now) (sym more) (entered_skip heard (take i letters) x lists now not c.loop-letter.invariant))
     ]
+
+pub returns : goal.returns
+returns c = subst (λ xs. AreEntered c.args.heard.now xs c.args.calendar.now.items c.loop-letter.calendar.items) (take_all c.loop-letter.letter-index c.args.letters.now (omega arith)) c.loop-letter.invariant

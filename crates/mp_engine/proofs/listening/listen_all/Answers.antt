@@ -1,8 +1,8 @@
 use Rattle.std.proofs.Common.{◌+◌, [], drop, slice_index_or, refl, ap, subst, ◌∙◌, arith}
-use Rattle.std.proofs.lemmas.List.{drop_more}
+use Rattle.std.proofs.lemmas.List.{drop_all, drop_more}
 use Rattle.mp_model.proofs.SlotLemmas.{slot_within}
 use Rattle.mp_engine.specs.declared.tap.Tap.{Tap}
-use Rattle.mp_engine.specs.Taps.{tap_of, IsTold, IsCalled, IsListening}
+use Rattle.mp_engine.specs.Taps.{tap_of, IsTold, IsCalled, IsListening, AreListening}
 use Rattle.mp_evaluation.proofs.MarkLemmas.{added_none, added_more}
 use Rattle.mp_engine.proofs.CellLemmas.{input_within}
 use Rattle.mp_engine.proofs.TapLemmas.{listening_more}
@@ -39,3 +39,8 @@ loop-tap-preserved c =
           ))
           (subst (λ xs. IsListening n t (tap_of m input) xs c.loop-tap.taps.items c.loop-tap.marks.items) (drop_more calls i d c.loop-tap-test.true) (inv.heard m input late));
     }
+
+pub returns-clause-after : goal.returns-clause-after
+returns-clause-after c =
+    subst (λ xs. AreListening c.args.netlist.now c.args.time xs c.loop-tap.taps.items c.loop-tap.marks.items)
+    (drop_all c.loop-tap.tap-index c.args.calls.now (omega arith)) c.loop-tap.invariant.heard

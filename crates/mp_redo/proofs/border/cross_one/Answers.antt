@@ -10,6 +10,33 @@ use Rattle.mp_redo.proofs.CrossLemmas.{one_stays, one_over, one_leaves, open_on}
 use Rattle.mp_redo.proofs.KeepLemmas.{own_later}
 use Rattle.mp_redo.proofs.border.cross_one.Goals as goal
 
+pub index-requires : goal.index-requires
+index-requires c =
+    let within = slot_within c.args.change.now.new.now.modules c.args.id.0 c.in-Some.found.now (sym c.in-Some.ensures.value) in
+    let places = c.requires.crossing.modules.places in
+    omega (arith, within, places)
+
+pub index-requires-2 : goal.index-requires-2
+index-requires-2 c =
+    let within = slot_within c.args.change.now.new.now.modules c.args.id.0 c.in-Some.found.now (sym c.in-Some.ensures.value) in
+    let places = c.requires.crossing.modules.places in
+    omega (arith, within, places)
+
+pub leave_wires-requires-clause-stands : goal.leave_wires-requires-clause-stands
+leave_wires-requires-clause-stands c = sym c.in-Some.ensures.value
+
+pub leave_cell-requires : goal.leave_cell-requires
+leave_cell-requires c =
+    let within = slot_within c.args.change.now.new.now.modules c.args.id.0 c.in-Some.found.now (sym c.in-Some.ensures.value) in
+    let places = c.requires.crossing.modules.places in
+    omega (arith, within, places)
+
+pub hand_ledger_back-requires-clause-within : goal.hand_ledger_back-requires-clause-within
+hand_ledger_back-requires-clause-within c =
+    let within = slot_within c.args.change.now.new.now.modules c.args.id.0 c.in-Some.found.now (sym c.in-Some.ensures.value) in
+    let places = c.requires.crossing.kept.places in
+    omega (arith, within, places)
+
 pub returns-in_default-clause-over : goal.returns-in_default-clause-over
 returns-in_default-clause-over c =
     let none : module_at c.args.change.now.new.now c.args.id.0 ≡ None = search rules in

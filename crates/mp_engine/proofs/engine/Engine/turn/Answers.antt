@@ -6,6 +6,7 @@ use Rattle.mp_engine.specs.declared.cell.Cell.{Cell}
 use Rattle.mp_engine.specs.Taps.{AreKept, AreHeard, AreTapped, AreWaves, AreListening}
 use Rattle.mp_engine.proofs.TapLemmas.{listening_start, listening_end, kept_pushed}
 use Rattle.mp_engine.specs.Calendars.{IsExact, IsCalendar, heard_until}
+use Rattle.mp_engine.specs.Cells.{AreCells}
 use Rattle.mp_engine.specs.Histories.{IsHistory}
 use Rattle.mp_engine.specs.Lines.{AreTurning}
 use Rattle.mp_engine.specs.Marks.{delivered}
@@ -17,6 +18,19 @@ use Rattle.mp_engine.proofs.engine.Engine.turn.Goals as goal
 
 back : (t : ℕ) → 0 < t → t - 1 + 1 ≡ t
 back t later = omega (arith, later)
+
+pub pass-requires-clause-states : goal.pass-requires-clause-states
+pass-requires-clause-states c =
+    let n = c.args.netlist.now in
+    let t = c.args.time in
+    subst (AreCells n (λ m. t)) (sym c.as_slice.ensures.value) (states_after n (t - 1) t c.args.self.now (back t c.requires.later) c.requires.before)
+
+pub pass-requires-clause-before : goal.pass-requires-clause-before
+pass-requires-clause-before c =
+    let n = c.args.netlist.now in
+    let self = c.args.self.now in
+    subst (λ (cells : List Cell). IsHistory n c.args.time cells self.history) (sym c.as_slice.ensures.value)
+    (subst (λ t. IsHistory n t self.cells.items self.history) (back c.args.time c.requires.later) c.requires.before.ready.history)
 
 pub turn_wires-requires-clause-exact : goal.turn_wires-requires-clause-exact
 turn_wires-requires-clause-exact c =
