@@ -39,24 +39,24 @@ pub fn put_answer<R: Threads + Sync, T: Sink>(
 {
     match question {
         Question::Wave(name) => Ok(put_wire(out, of, name)?),
-        Question::Waves => WaveLines.put(rt, alloc, out, &of.evaluated()),
+        Question::Waves => put_view(rt, alloc, out, of, &WaveLines),
         Question::Text => Ok(put_netlist(out, of.netlist())?),
-        Question::Report => ReportLines.put(rt, alloc, out, &of.evaluated()),
-        Question::Dump => DumpText.put(rt, alloc, out, &of.evaluated()),
+        Question::Report => put_view(rt, alloc, out, of, &ReportLines),
+        Question::Dump => put_view(rt, alloc, out, of, &DumpText),
         Question::Work => put_work_lines(out, of.netlist(), of.work),
-        Question::Graph => GraphText.put(rt, alloc, out, &of.evaluated()),
+        Question::Graph => put_view(rt, alloc, out, of, &GraphText),
         Question::Version => Ok(("version ", of.version.number(), "\n").put_to(out)?),
         Question::Edits { from } => Ok(put_edits_from(out, of.version, *from)?),
         Question::Show { from, to, wires } => {
             put_view(rt, alloc, out, of, &shown(*from, *to, wires))
         }
-        Question::Waits { time } => WaitLines { time: *time }.put(rt, alloc, out, &of.evaluated()),
+        Question::Waits { time } => put_view(rt, alloc, out, of, &WaitLines { time: *time }),
         Question::Measure { from, to } => {
             let range = TimeRange {
                 from: *from,
                 to: *to,
             };
-            MeasureLines { range }.put(rt, alloc, out, &of.evaluated())
+            put_view(rt, alloc, out, of, &MeasureLines { range })
         }
         Question::Why { wire, time, steps } => {
             put_view(rt, alloc, out, of, &why(wire, *time, *steps))

@@ -39,6 +39,9 @@ fn schedule_toggles(
     ensures scheduled { OnOk result ((t : AnyToggles) → toggles ≡ toggles_code t → wheel.new ≡ scheduled wheel.old (fired_at ports.now t)) }
     ensures places { OnOk result (length wheel.new ≡ length wheel.old) }
 {
+    if toggles == 0 {
+        return Ok(());
+    }
     schedule_if(toggles % 2 == 1, ports.first, wheel)?;
     schedule_if(toggles / 2 % 2 == 1, ports.second, wheel)?;
     schedule_if(toggles / 4 % 2 == 1, ports.third, wheel)
@@ -94,6 +97,7 @@ pub fn fire_modules(
 }
 
 /// After these wires, or delayed copies of wires, have toggled: the next delayed copy of each, if any, toggles the delay later.
+#[inline(always)]
 pub fn schedule_copies(
     copies: &[OutputPort],
     wheel: &mut EventWheel,

@@ -1,5 +1,7 @@
 mod AgreementLemmas
+mod EndingLemmas
 mod GuestLemmas
 mod OwnLemmas
 mod PeopleLemmas
 mod StayLemmas
+mod TellingLemmas

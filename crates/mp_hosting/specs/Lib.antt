@@ -1,4 +1,6 @@
 pub mod Guests
+pub mod Places
+pub mod Endings
 pub mod OwnSeats
 pub mod Stays
 pub mod Hostings

@@ -1,7 +1,10 @@
 //! Where those who sit down come from.
-ghost use Rattle.std.specs.Prelude.{◌≡◌, ℕ, List, Option, IfSome, IfNone};
+ghost use Rattle.std.specs.Prelude.{◌≡◌, ◌++◌, ℕ, List, Option, IfSome, IfNone};
+ghost use Rattle.mp_hosting.specs.declared.place.SeatName.{SeatName};
+ghost use Rattle.mp_hosting.specs.Endings.{HasEnded};
 
 use crate::place::Places;
+use mp_lines::LineReader;
 use mp_streams::{Sink, Source};
 
 /// Through which somebody comes to a seat, and later somebody else.
@@ -25,8 +28,19 @@ pub trait Door: Drop {
         ensures comes { IfSome result (λ both. Comes self.old self.new (Self.Input.left both.0) (Self.Output.taken both.1)) }
         ensures none { IfNone result (self.new ≡ self.old) };
 
-    /// Tells that the one who came has left, whose input is closed.
+    /// Closes the output: whoever reads there sees the end.
     fn close(&mut self, output: Self::Output)
+        ensures { Leaves self.old self.new (Self.Output.taken output) };
+
+    /// Closes the input, which is at its end or has failed, and tells that somebody else may come.
+    fn free(&mut self, input: LineReader<Self::Input>)
+        requires { HasEnded input }
+        ensures { self.new ≡ self.old };
+
+    /// Closes the input, which is at its end or has failed, then the output, and tells that somebody else may come: so whoever sees the end of the
+    /// output may come again at once.
+    fn leave(&mut self, input: LineReader<Self::Input>, output: Self::Output)
+        requires { HasEnded input }
         ensures { Leaves self.old self.new (Self.Output.taken output) };
 
     /// Tells that the one who came couldn't be served for want of memory.
@@ -39,8 +53,12 @@ pub trait Exit: Drop {
     /// What is to be kept until all of them know it.
     type Held: Drop;
 
+    // The names of the seats, those of designers first.
+    ghost names: { Self → List SeatName };
+
     /// The seats by name, with those who have taken them.
-    fn places(&self) -> &Places;
+    fn places(&self) -> &Places
+        ensures { result.now.designers ++ result.now.viewers ≡ names self.now };
 
     /// Opens every door at which nobody has come.
     fn open_all(&self) -> Self::Held;

@@ -49,8 +49,8 @@ where
     D::Output: Send,
     requires held { out.old.held ≡ [] }
     ensures hosted { IfOk result (λ met. IsHosted D.Output D.Comes D.Leaves D.TurnsAway (record { answer = B.answer_text; reply = B.reply_text }) (S.story session) (S.story met.session) hall.designers.items hall.viewers.items met.tallies.items met.numbers.items) }
-    ensures talked { IfOk result (λ met. HasTalked (record { answer = B.answer_text; reply = B.reply_text }) (Ok tt) (S.story session) lines.old lines.new out.old out.new) }
-    ensures fault { IfErr result (λ fault. EndsFor (record { answer = B.answer_text; reply = B.reply_text }) fault (S.story session) lines.old lines.new out.old out.new) }
+    ensures talked { IfOk result (λ met. HasTalked (record { answer = B.answer_text; reply = B.reply_text }) (Ok tt) (S.story session) (X.names hall.exit) lines.old lines.new out.old out.new) }
+    ensures fault { IfErr result (λ fault. EndsFor (record { answer = B.answer_text; reply = B.reply_text }) fault (S.story session) (X.names hall.exit) lines.old lines.new out.old out.new) }
     ensures flushed { out.new.held ≡ [] }
 {
     let Ok(size) = size_of(hall.designers.as_slice(), hall.viewers.as_slice()) else {
@@ -102,8 +102,8 @@ where
     requires viewers { parts.viewers ≡ vec_len hall.viewers + 1 }
     requires held { out.old.held ≡ [] }
     ensures hosted { IfOk result (λ met. IsHosted D.Output D.Comes D.Leaves D.TurnsAway (record { answer = B.answer_text; reply = B.reply_text }) (S.story parts.session) (S.story met.session) hall.designers.items hall.viewers.items met.tallies.items met.numbers.items) }
-    ensures talked { IfOk result (λ met. HasTalked (record { answer = B.answer_text; reply = B.reply_text }) (Ok tt) (S.story parts.session) lines.old lines.new out.old out.new) }
-    ensures fault { IfErr result (λ fault. EndsFor (record { answer = B.answer_text; reply = B.reply_text }) fault (S.story parts.session) lines.old lines.new out.old out.new) }
+    ensures talked { IfOk result (λ met. HasTalked (record { answer = B.answer_text; reply = B.reply_text }) (Ok tt) (S.story parts.session) (X.names hall.exit) lines.old lines.new out.old out.new) }
+    ensures fault { IfErr result (λ fault. EndsFor (record { answer = B.answer_text; reply = B.reply_text }) fault (S.story parts.session) (X.names hall.exit) lines.old lines.new out.old out.new) }
     ensures flushed { out.new.held ≡ [] }
 {
     match Desk::<S, L, R>::open(parts) {
@@ -141,8 +141,8 @@ where
     requires viewers { vec_len staffed.viewers ≡ vec_len hall.viewers + 1 }
     requires held { out.old.held ≡ [] }
     ensures hosted { IfOk result (λ met. (start : Story) → All (λ d. d ≡ fresh_designer start) staffed.designers.items → All (λ v. v ≡ fresh_viewer start) staffed.viewers.items → staffed.desk.opening ≡ length start.edits → IsHosted D.Output D.Comes D.Leaves D.TurnsAway (record { answer = B.answer_text; reply = B.reply_text }) start (S.story met.session) hall.designers.items hall.viewers.items met.tallies.items met.numbers.items) }
-    ensures talked { IfOk result (λ met. (start : Story) → All (λ v. v ≡ fresh_viewer start) staffed.viewers.items → HasTalked (record { answer = B.answer_text; reply = B.reply_text }) (Ok tt) start lines.old lines.new out.old out.new) }
-    ensures fault { IfErr result (λ fault. (start : Story) → All (λ v. v ≡ fresh_viewer start) staffed.viewers.items → EndsFor (record { answer = B.answer_text; reply = B.reply_text }) fault start lines.old lines.new out.old out.new) }
+    ensures talked { IfOk result (λ met. (start : Story) → All (λ v. v ≡ fresh_viewer start) staffed.viewers.items → HasTalked (record { answer = B.answer_text; reply = B.reply_text }) (Ok tt) start (X.names hall.exit) lines.old lines.new out.old out.new) }
+    ensures fault { IfErr result (λ fault. (start : Story) → All (λ v. v ≡ fresh_viewer start) staffed.viewers.items → EndsFor (record { answer = B.answer_text; reply = B.reply_text }) fault start (X.names hall.exit) lines.old lines.new out.old out.new) }
     ensures flushed { out.new.held ≡ [] }
 {
     let Staffed {

@@ -14,6 +14,7 @@ mod post;
 mod serves;
 mod service;
 mod staff;
+mod telling;
 mod viewer_guest;
 
 pub use door::{Door, Exit};

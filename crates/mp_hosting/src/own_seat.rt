@@ -5,8 +5,8 @@ ghost use Rattle.mp_words.specs.Words.{words_of};
 ghost use Rattle.mp_hosting.specs.OwnSeats.{IsSeatsLine};
 
 use crate::door::Exit;
-use crate::place::put_places;
 use crate::serves::Ends;
+use crate::telling::put_places;
 use mp_seats::{Guest, Scribe, Seat};
 use mp_streams::{Out, Sink, WriteError};
 use mp_talk::Answerer;
@@ -16,7 +16,7 @@ use std::sync::Wait;
 use std::thread::Threads;
 
 /// A seat at which the line `seats` is answered by a line for each seat of the desk, and any other line as at a seat; and how all others learn that
-/// the desk ends. A contract sees the seat.
+/// the desk ends. A contract sees the seat, and the names of the desk's seats.
 #[derive(Drop)]
 pub(crate) struct OwnSeat<B: Scribe, G: Guest, X: Exit> {
     pub seat: Seat<B, G>,
@@ -24,11 +24,11 @@ pub(crate) struct OwnSeat<B: Scribe, G: Guest, X: Exit> {
 }
 
 impl<B: Scribe, G: Guest, X: Exit> Model for OwnSeat<B, G, X> {
-    ghost use Rattle.mp_seats.specs.Steps.{Seated};
+    ghost use Rattle.mp_hosting.specs.OwnSeats.{Owner};
 
-    ghost Value = { Seated };
+    ghost Value = { Owner };
 
-    ghost view = { λ own. own.seat };
+    ghost view = { λ own. record { seated = own.seat; names = X.names own.exit } };
 }
 
 impl<B: Scribe, G: Guest, X: Exit> Answerer for OwnSeat<B, G, X> {

@@ -1,10 +1,8 @@
 //! The seats of a desk by name, and who has taken them.
-ghost use Rattle.std.specs.Prelude.{ℕ, List};
-ghost use Rattle.mp_streams.specs.Outgoing.{Writes as Sends};
-ghost use Rattle.mp_streams.specs.WriteErrors.{Writes};
+ghost use Rattle.std.specs.Prelude.{◌≡◌};
 
-use mp_streams::{Failed, Out, Sink, Text, WriteError};
 use std::alloc::{AllocError, Global};
+use std::marker::Model;
 use std::sync::atomic::{AtomicBool, Ordering};
 
 /// The name of a seat. The seats of each kind are numbered from 1.
@@ -14,16 +12,26 @@ pub enum SeatName {
     Viewer(u32),
 }
 
-/// A seat, and whether somebody has taken it.
+/// A seat, and whether somebody has taken it. A contract sees its name.
 #[derive(Drop)]
 pub struct Place {
     name: SeatName,
     taken: AtomicBool,
 }
 
+impl Model for Place {
+    ghost use Rattle.mp_hosting.specs.declared.place.SeatName.{SeatName};
+
+    ghost Value = { SeatName };
+
+    ghost view = { λ place. place.name };
+}
+
 impl Place {
     /// The seat's name.
-    pub fn name(&self) -> SeatName {
+    pub fn name(&self) -> SeatName
+        ensures { result ≡ self.now }
+    {
         self.name
     }
 
@@ -38,12 +46,20 @@ impl Place {
     }
 }
 
-/// All seats of a desk, and whether it ends.
+/// All seats of a desk, and whether it ends. A contract sees their names.
 #[derive(Drop)]
 pub struct Places {
     designers: Vec<Place>,
     viewers: Vec<Place>,
     ended: AtomicBool,
+}
+
+impl Model for Places {
+    ghost use Rattle.mp_hosting.specs.Places.{SeatNames};
+
+    ghost Value = { SeatNames };
+
+    ghost view = { λ places. record { designers = places.designers.items; viewers = places.viewers.items } };
 }
 
 impl Places {
@@ -57,12 +73,16 @@ impl Places {
     }
 
     /// The seats of designers.
-    pub fn designers(&self) -> &[Place] {
+    pub fn designers(&self) -> &[Place]
+        ensures { result.now ≡ self.now.designers }
+    {
         self.designers.as_slice()
     }
 
     /// The seats of viewers.
-    pub fn viewers(&self) -> &[Place] {
+    pub fn viewers(&self) -> &[Place]
+        ensures { result.now ≡ self.now.viewers }
+    {
         self.viewers.as_slice()
     }
 
@@ -93,38 +113,4 @@ fn free_places<F: Fn(u32) -> SeatName>(
         })?;
     }
     Ok(places)
-}
-
-/// Writes a line for each seat, with whether it is taken.
-pub(crate) fn put_places<T: Sink>(out: &mut Out<T>, places: &Places) -> Result<(), WriteError>
-    ensures { (text : List ℕ) × Writes result out.old out.new text }
-{
-    put_each(out, places.designers())?;
-    Ok(put_each(out, places.viewers())?)
-}
-
-/// Writes a line for each of these seats.
-fn put_each<T: Sink>(out: &mut Out<T>, places: &[Place]) -> Result<(), Failed>
-    ensures { (text : List ℕ) × Sends result out.old out.new text }
-{
-    for place in places {
-        put_place(out, place)?;
-    }
-    Ok(())
-}
-
-/// Writes the line of a seat.
-fn put_place<T: Sink>(out: &mut Out<T>, place: &Place) -> Result<(), Failed>
-    ensures { (text : List ℕ) × Sends result out.old out.new text }
-{
-    let (kind, number) = match place.name {
-        SeatName::Designer(number) => ("designer-", number),
-        SeatName::Viewer(number) => ("viewer-", number),
-    };
-    let state = if place.is_taken() {
-        " taken\n"
-    } else {
-        " free\n"
-    };
-    (kind, number, state).put_to(out)
 }

@@ -1,12 +1,13 @@
 //! A seat from the first who comes to the last.
 ghost use Rattle.std.specs.Prelude.{◌≡◌, [], map, vec_len, IfOk, MatchBool};
+ghost use Rattle.mp_hosting.specs.Endings.{HasEnded};
 ghost use Rattle.mp_hosting.specs.Stays.{IsServed, IsStay, WasAttended};
 
 use crate::door::Door;
 use crate::serves::Serves;
 use mp_lines::LineReader;
 use mp_seats::{Guest, Scribe, Seat};
-use mp_streams::{Out, Sink, Source};
+use mp_streams::{Failed, Out, Sink, Source};
 use std::alloc::{AllocError, Global};
 use std::sync::Wait;
 use std::thread::Threads;
@@ -46,8 +47,9 @@ fn attend_next<R: Threads + Wait + Sync, B: Scribe, G: Guest, D: Door>(
         post.door.turn_away();
         return true;
     };
-    let output = visit(rt, &mut post.seat, lines, out);
-    post.door.close(output);
+    let mut lines = lines;
+    let (is_whole, output) = visit(rt, &mut post.seat, &mut lines, out);
+    leave(rt, &mut post.door, lines, output, is_whole);
     true
 }
 
@@ -65,21 +67,54 @@ fn streams<I: Source + Drop, T: Sink + Drop>(
     Ok((lines, out))
 }
 
-/// Serves one who came, up to the end of the input or a fault, and gives the output back. The input is closed first, so that whoever sees the end
-/// of the output may come again.
+/// Serves one who came, up to the end of the input or a fault. It returns whether all lines were answered, and gives the output back.
 fn visit<R: Threads + Wait + Sync, B: Scribe, G: Guest, I: Source + Drop, T: Sink + Drop>(
     rt: &R,
     seat: &mut Seat<B, G>,
-    lines: LineReader<I>,
+    lines: &mut LineReader<I>,
     out: Out<T>,
-) -> T
-    requires { (lines.held ≡ []) × (out.held ≡ []) }
-    ensures { IsServed T (record { answer = B.answer_text; reply = B.reply_text }) G.edits lines.left out.taken seat.old seat.new (T.taken result) }
+) -> (bool, T)
+    requires { (lines.old.held ≡ []) × (out.held ≡ []) }
+    ensures { IsServed T (record { answer = B.answer_text; reply = B.reply_text }) G.edits lines.old.left out.taken seat.old seat.new (T.taken result.1) }
+{
+    let mut out = out;
+    let served = seat.serve(rt, lines, &mut out);
+    (served.is_ok(), out.into_sink())
+}
+
+/// Lets the one who came leave, and somebody else come. Where not all lines were answered the output is closed first, so that whoever reads there
+/// ends the input.
+fn leave<R: Wait, D: Door>(
+    rt: &R,
+    door: &mut D,
+    lines: LineReader<D::Input>,
+    output: D::Output,
+    is_whole: bool,
+)
+    ensures { D.Leaves door.old door.new (D.Output.taken output) }
+{
+    if is_whole {
+        door.leave(ended(rt, lines), output);
+    } else {
+        door.close(output);
+        door.free(ended(rt, lines));
+    }
+}
+
+/// The input after what is left of it was passed over, up to its end or a fault, so that nobody else is answered it.
+fn ended<R: Wait, I: Source + Drop>(rt: &R, lines: LineReader<I>) -> LineReader<I>
+    ensures { HasEnded result }
 {
     let mut lines = lines;
-    let mut out = out;
-    let _ = seat.serve(rt, &mut lines, &mut out);
-    out.into_sink()
+    for _ in rt.forever() {
+        match lines.read(rt) {
+            Ok(true) => {}
+            Ok(false) => return lines,
+            // no more can be read
+            Err(Failed) => return lines,
+        }
+    }
+    unreachable!()
 }
 
 /// A post for each guest, with the door in its place.

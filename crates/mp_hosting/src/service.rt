@@ -53,8 +53,8 @@ where
     ensures counts { IfOk result (λ both. (vec_len both.0 ≡ vec_len people.entry.sittings) × (vec_len both.1 ≡ vec_len people.entry.viewers)) }
     ensures designers { IfOk result (λ both. (start : Story) → All (λ s. sitter s ≡ just_come start) people.entry.sittings.items → AreAttended D.Output D.Comes D.Leaves D.TurnsAway (record { answer = B.answer_text; reply = B.reply_text }) true (just_come start) hall.designers.items (map sitter both.0.items)) }
     ensures viewers { IfOk result (λ both. (start : Story) → All (λ v. looker v ≡ just_come start) people.entry.viewers.items → AreAttended D.Output D.Comes D.Leaves D.TurnsAway (record { answer = B.answer_text; reply = B.reply_text }) false (just_come start) hall.viewers.items (map looker both.1.items)) }
-    ensures talked { IfOk result (λ both. HasTalked (record { answer = B.answer_text; reply = B.reply_text }) (Ok tt) people.entry.own.last lines.old lines.new out.old out.new) }
-    ensures fault { IfErr result (λ fault. EndsFor (record { answer = B.answer_text; reply = B.reply_text }) fault people.entry.own.last lines.old lines.new out.old out.new) }
+    ensures talked { IfOk result (λ both. HasTalked (record { answer = B.answer_text; reply = B.reply_text }) (Ok tt) people.entry.own.last (X.names hall.exit) lines.old lines.new out.old out.new) }
+    ensures fault { IfErr result (λ fault. EndsFor (record { answer = B.answer_text; reply = B.reply_text }) fault people.entry.own.last (X.names hall.exit) lines.old lines.new out.old out.new) }
     ensures flushed { out.new.held ≡ [] }
 {
     let People {

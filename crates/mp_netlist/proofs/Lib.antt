@@ -10,4 +10,5 @@ pub mod PortLemmas
 pub mod PortEditLemmas
 pub mod ModuleLemmas
 pub mod EditLemmas
+pub mod RefusalLemmas
 mod BatchLemmas

@@ -17,8 +17,6 @@ mod plan;
 mod share;
 mod side;
 mod task;
-#[cfg(test)]
-mod tests;
 mod told;
 mod work;
 mod worker;

@@ -1,6 +1,10 @@
 //! The named pipes of a seat as its door.
+ghost use Rattle.std.specs.Prelude.{◌≡◌};
+ghost use Rattle.mp_hosting.specs.Endings.{HasEnded};
+
 use crate::pipe_paths::PipePaths;
 use mp_hosting::{Door, Place, Places};
+use mp_lines::LineReader;
 use mp_streams::{ReadSource, WriteSink};
 use std::fs::{File, OpenOptions};
 
@@ -54,7 +58,22 @@ impl Door for PipeDoor<'_> {
     }
 
     fn close(&mut self, output: Self::Output) {
-        // the output is closed first: once the seat is free, whoever ends the desk may open its pipes for both ends, and nobody would see the end
+        drop(output);
+    }
+
+    fn free(&mut self, input: LineReader<Self::Input>)
+        requires { HasEnded input }
+        ensures { self.new ≡ self.old }
+    {
+        drop(input);
+        self.seat.set_taken(false);
+    }
+
+    fn leave(&mut self, input: LineReader<Self::Input>, output: Self::Output)
+        requires { HasEnded input }
+    {
+        drop(input);
+        // the output is closed before the seat is free: whoever ends the desk opens the pipes of free seats for both ends, and nobody would see the end
         drop(output);
         self.seat.set_taken(false);
     }

@@ -34,7 +34,11 @@ impl PipeExit<'_> {
 }
 
 impl Exit for PipeExit<'_> {
+    ghost use Rattle.std.specs.Prelude.{◌++◌};
+
     type Held = Vec<File>;
+
+    ghost names = { λ exit. exit.pipes.now.places.now.designers ++ exit.pipes.now.places.now.viewers };
 
     fn places(&self) -> &Places {
         self.pipes.places

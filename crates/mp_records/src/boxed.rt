@@ -3,27 +3,30 @@ ghost use Rattle.std.specs.Prelude.{◌≡◌, IfOk};
 
 use std::alloc::{AllocError, Global};
 use std::marker::Model;
+use std::sync::Arc;
 
-/// A value in a block of memory of its own, so that what holds it is small. Contracts see the value.
+/// A value in a block of memory of its own, so that what holds it is small. Clones share the block. Contracts see the value.
 #[derive(Drop)]
 pub struct Boxed<T> {
-    inner: Box<T>,
+    inner: Arc<T, Global>,
 }
 
 impl<T> Model for Boxed<T> {
+    ghost use Rattle.std.specs.Arc.{arc_value};
+
     ghost Value = { T };
 
     ghost coded = { T.code };
 
-    ghost view = { λ boxed. boxed.inner.value };
+    ghost view = { λ boxed. arc_value boxed.inner };
 }
 
-impl<T: Clone> Clone for Boxed<T> {
-    ghost is_clone = { T.is_clone };
+impl<T: Drop> Clone for Boxed<T> {
+    ghost is_clone = { λ old new. new ≡ old };
 
     fn clone(&self) -> Result<Self, AllocError> {
         Ok(Boxed {
-            inner: self.inner.clone()?,
+            inner: Arc::try_clone(&self.inner)?,
         })
     }
 }
@@ -34,7 +37,7 @@ impl<T: Drop> Boxed<T> {
         ensures { IfOk result (λ boxed. boxed ≡ value) }
     {
         Ok(Boxed {
-            inner: Box::new(alloc, value)?,
+            inner: Arc::new(alloc, value)?,
         })
     }
 }

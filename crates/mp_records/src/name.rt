@@ -1,5 +1,6 @@
 //! The text by which a thing is named.
-ghost use Rattle.std.specs.Prelude.{◌≡◌, ◌≤◌, IfOk, IsOk, length};
+ghost use Rattle.std.specs.Prelude.{◌≡◌, ◌≤◌, IfOk, IsOk, length, string_bytes};
+ghost use Rattle.std.specs.Arc.{arc_value};
 ghost use Rattle.mp_records.specs.Names.{is_name, is_name_byte, begins_with_letter};
 ghost use Rattle.std.specs.List.{list_all};
 
@@ -38,12 +39,10 @@ impl Clone for Name {
     ghost is_clone = { λ old new. new ≡ old };
 
     fn clone(&self) -> Result<Self, AllocError> {
-        Ok(Name {
-            text: match &self.text {
-                Text::Short(text) => Text::Short(*text),
-                Text::Long(text) => Text::Long(Arc::try_clone(text)?),
-            },
-        })
+        match &self.text {
+            Text::Short(text) => Ok(short(*text)),
+            Text::Long(text) => shared(text),
+        }
     }
 }
 
@@ -53,12 +52,10 @@ impl Name {
         ensures value { IfOk result (λ name. name ≡ text.now) }
         ensures short { length text.now ≤ 16 → IsOk result }
     {
-        Ok(Name {
-            text: match ArrayString::from(text) {
-                Ok(short) => Text::Short(short),
-                Err(_) => Text::Long(Arc::new(alloc, String::from_str(alloc, text)?)?),
-            },
-        })
+        match ArrayString::from(text) {
+            Ok(text) => Ok(short(text)),
+            Err(_) => long(alloc, text),
+        }
     }
 
     pub fn as_str(&self) -> &str
@@ -78,6 +75,34 @@ impl Name {
         let bytes = self.as_str().as_bytes();
         begins_with_letter(bytes) && bytes.len() <= 32 && all_name_bytes(bytes)
     }
+}
+
+/// The name whose text stands in place.
+fn short(text: ArrayString<IN_PLACE>) -> Name
+    ensures { result ≡ text.bytes }
+{
+    Name {
+        text: Text::Short(text),
+    }
+}
+
+/// The name of a text, in a block of memory.
+fn long(alloc: Global, text: &str) -> Result<Name, AllocError>
+    ensures { IfOk result (λ name. name ≡ text.now) }
+{
+    let text = String::from_str(alloc, text)?;
+    Ok(Name {
+        text: Text::Long(Arc::new(alloc, text)?),
+    })
+}
+
+/// The name whose text others have too.
+fn shared(text: &Arc<String, Global>) -> Result<Name, AllocError>
+    ensures { IfOk result (λ name. name ≡ string_bytes (arc_value text.now)) }
+{
+    Ok(Name {
+        text: Text::Long(Arc::try_clone(text)?),
+    })
 }
 
 fn begins_with_letter(bytes: &[u8]) -> bool

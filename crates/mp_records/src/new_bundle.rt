@@ -2,7 +2,7 @@
 use crate::name::Name;
 
 /// A bundle that is to be: its name, its wires by name, and its setup in units.
-#[derive(Clone, Drop)]
+#[derive(Drop)]
 pub struct NewBundle {
     pub name: Name,
     pub request: Name,

@@ -5,7 +5,7 @@ use crate::port_names::{InputNames, OutputNames};
 use mp_modules::Kind;
 
 /// A module that is to be: its name, its kind with the parameters, and its ports at wires by name.
-#[derive(Clone, Drop)]
+#[derive(Drop)]
 pub struct NewModule {
     pub name: Name,
     pub kind: Kind,

@@ -2,11 +2,10 @@
 ghost use Rattle.std.specs.Prelude.{◌≡◌};
 
 use crate::name::Name;
-use std::alloc::AllocError;
 use std::marker::Model;
 
 /// An input port that is to be: the name of the wire that it reads, and its transport delay in units.
-#[derive(Clone, Drop)]
+#[derive(Drop)]
 pub struct InputName {
     pub wire: Name,
     pub delay: u64,
@@ -27,16 +26,6 @@ impl Model for InputNames {
     ghost view = { λ inputs. inputs.ports.items };
 }
 
-impl Clone for InputNames {
-    ghost is_clone = { λ old new. new ≡ old };
-
-    fn clone(&self) -> Result<Self, AllocError> {
-        Ok(InputNames {
-            ports: Vec::from_clones(*self.ports.allocator(), self.ports.as_slice())?,
-        })
-    }
-}
-
 impl InputNames {
     /// These input ports, the first being port 0.
     pub fn new(ports: Vec<InputName>) -> Self
@@ -54,7 +43,7 @@ impl InputNames {
 }
 
 /// An output port that is to be: the name of the wire that it drives, if any, and its transport delay in units.
-#[derive(Clone, Drop)]
+#[derive(Drop)]
 pub struct OutputName {
     pub wire: Option<Name>,
     pub delay: u64,
@@ -73,16 +62,6 @@ impl Model for OutputNames {
     ghost Value = { List OutputName };
 
     ghost view = { λ outputs. outputs.ports.items };
-}
-
-impl Clone for OutputNames {
-    ghost is_clone = { λ old new. new ≡ old };
-
-    fn clone(&self) -> Result<Self, AllocError> {
-        Ok(OutputNames {
-            ports: Vec::from_clones(*self.ports.allocator(), self.ports.as_slice())?,
-        })
-    }
 }
 
 impl OutputNames {

@@ -1,9 +1,14 @@
 mod NarrowLemmas
 mod StimulusLemmas
+mod AllStimuliLemmas
+mod PresentLemmas
 mod NumberLemmas
+mod InputLemmas
+mod MoreInputsLemmas
 mod WiringLemmas
 mod WidthLemmas
 mod SettlingLemmas
+mod PortLemmas
 mod SeatingLemmas
 mod NumberingLemmas
 mod BegunLemmas

@@ -50,7 +50,7 @@ use Rattle.mp_run.specs.Settling.{is_below}
 use Rattle.mp_run.specs.Seating.{IsSeatedAt}
 use Rattle.mp_run.specs.Beginnings.{IsBegun}
 use Rattle.mp_run.specs.Evaluations.{IsEvaluated}
-use Rattle.mp_run.proofs.SeatingLemmas.{level_slot, bit_slots}
+use Rattle.mp_run.proofs.PortLemmas.{level_slot, bit_slots}
 use Rattle.mp_run.proofs.SettlingLemmas.{delay_some}
 use Rattle.mp_run.proofs.NarrowLemmas.{one_bit_module, all_bits}
 use Rattle.mp_run.proofs.NumberingLemmas.{kept_before, kept_chained, kept_slots, kept_below, old_before}

@@ -86,6 +86,7 @@ impl Stimuli {
 }
 
 /// Lists what changes at a time, from a place on, and gives the place behind.
+#[inline(always)]
 fn put_present(
     list: &[StimulusChange],
     from: usize,

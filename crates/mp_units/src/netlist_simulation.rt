@@ -63,6 +63,7 @@ impl NetlistSimulation {
         self.bits.simulator.fire()?;
         Ok(())
     }
+
     /// Whether nothing changes in the next unit that isn't set from outside.
     #[inline(always)]
     fn is_still(&self) -> bool

@@ -26,9 +26,23 @@ impl Piece for Change {
     }
 }
 
-/// Writes the number from a place on, in decimal digits, and returns where they end.
-#[inline]
+/// Writes the number from a place on, in decimal digits, and returns where they end. Of most times and levels it is known how many they are.
+#[inline(always)]
 pub(crate) fn write_number(number: u64, room: &mut [u8], at: usize) -> usize
+    requires { at + 20 ≤ length room.old }
+    ensures placed { IsPlaced room.old room.new at (decimal number) result }
+    ensures short { result ≤ at + 20 }
+{
+    match number {
+        1_000..=9_999 => write_counted(number, 4, room, at),
+        10_000..=99_999 => write_counted(number, 5, room, at),
+        100_000..=999_999 => write_counted(number, 6, room, at),
+        _ => write_any(number, room, at),
+    }
+}
+
+/// The same where the digits are to be counted first.
+fn write_any(number: u64, room: &mut [u8], at: usize) -> usize
     requires { at + 20 ≤ length room.old }
     ensures placed { IsPlaced room.old room.new at (decimal number) result }
     ensures short { result ≤ at + 20 }
@@ -38,7 +52,7 @@ pub(crate) fn write_number(number: u64, room: &mut [u8], at: usize) -> usize
 
 /// Writes the number, which has so many decimal digits, from a place on, and returns where they end.
 #[inline(always)]
-pub(crate) fn write_counted(number: u64, digits: usize, room: &mut [u8], at: usize) -> usize
+fn write_counted(number: u64, digits: usize, room: &mut [u8], at: usize) -> usize
     requires count { digits ≡ length (decimal number) }
     requires within { at + digits ≤ length room.old }
     ensures { IsPlaced room.old room.new at (decimal number) result }

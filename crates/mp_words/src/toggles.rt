@@ -6,7 +6,7 @@ ghost use Rattle.mp_streams.specs.Places.{IsPlaced};
 ghost use Rattle.mp_wave.specs.ToggleWaves.{toggle_changes};
 ghost use Rattle.mp_words.specs.WaveLines.{change_text, changes_text};
 
-use crate::change::{Change, write_counted, write_number};
+use crate::change::{Change, write_number};
 use mp_streams::{Failed, Out, Piece, Sink, Text};
 
 /// The changes of a level that toggles at these times, each written as ` T=V`: from 0 to 1, and from any other level to 0.
@@ -99,18 +99,12 @@ fn write_toggle(time: u32, level: u64, room: &mut [u8], at: usize) -> usize
     sign + 2
 }
 
-/// Writes a time from a place on, in decimal digits, and returns where they end. Of most times it is known how many they are.
+/// Writes a time from a place on, in decimal digits, and returns where they end.
 #[inline(always)]
 fn write_time(time: u32, room: &mut [u8], at: usize) -> usize
     requires { at + 20 ≤ length room.old }
     ensures placed { IsPlaced room.old room.new at (decimal time) result }
     ensures short { result ≤ at + 10 }
 {
-    let number = u64::from(time);
-    match time {
-        1_000..=9_999 => write_counted(number, 4, room, at),
-        10_000..=99_999 => write_counted(number, 5, room, at),
-        100_000..=999_999 => write_counted(number, 6, room, at),
-        _ => write_number(number, room, at),
-    }
+    write_number(u64::from(time), room, at)
 }

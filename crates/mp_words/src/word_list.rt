@@ -1,5 +1,6 @@
 //! What each of several words says.
-ghost use Rattle.std.specs.Prelude.{◌≡◌, IfOk, IsAscii};
+ghost use Rattle.std.specs.Prelude.{◌≡◌, ℕ, List, Result, All, IfOk, IsAscii};
+ghost use Rattle.mp_words.specs.declared.line_error.LineError.{LineError};
 ghost use Rattle.mp_words.specs.declared.line_error.LineError.TheVariants.{OutOfMemory};
 ghost use Rattle.mp_words.specs.Reads.{Gives};
 ghost use Rattle.mp_words.specs.Words.{texts, AreAscii};
@@ -20,10 +21,44 @@ pub fn number_word(word: &[u8]) -> Result<u64, LineError>
     number(word).ok_or(LineError::BadNumber)
 }
 
-fn change_word(word: &[u8]) -> Result<(u64, u64), LineError>
-    ensures { result ≡ change_word word.now }
-{
-    time_and_value(word).ok_or(LineError::BadNumber)
+/// What one word says.
+trait Worded: Drop {
+    /// Of which words it may be read: of all, where an impl doesn't say otherwise.
+    ghost may_read: { List ℕ → Type 0 } = { λ _. Unit {0} };
+
+    /// What a word says, or why it says nothing.
+    ghost read: { List ℕ → Result Self LineError };
+
+    /// What the word says. `OutOfMemory` comes where memory is wanting.
+    fn from_word(alloc: Global, word: &[u8]) -> Result<Self, LineError>
+        requires { may_read word.now }
+        ensures { Gives OutOfMemory (λ item. item) result (read word.now) };
+}
+
+impl Worded for u64 {
+    ghost read = { number_word };
+
+    fn from_word(_alloc: Global, word: &[u8]) -> Result<Self, LineError> {
+        number_word(word)
+    }
+}
+
+impl Worded for (u64, u64) {
+    ghost read = { change_word };
+
+    fn from_word(_alloc: Global, word: &[u8]) -> Result<Self, LineError> {
+        time_and_value(word).ok_or(LineError::BadNumber)
+    }
+}
+
+impl Worded for InputName {
+    ghost may_read = { IsAscii };
+
+    ghost read = { input_word };
+
+    fn from_word(alloc: Global, word: &[u8]) -> Result<Self, LineError> {
+        input_word(alloc, word)
+    }
 }
 
 /// An input, as in `a`, or with its delay, as in `a/4`.
@@ -64,6 +99,16 @@ pub fn wire_or_none(alloc: Global, name: &[u8]) -> Result<Option<Name>, AllocErr
     Ok(Some(name_of(alloc, name)?))
 }
 
+impl Worded for OutputName {
+    ghost may_read = { IsAscii };
+
+    ghost read = { output_word };
+
+    fn from_word(alloc: Global, word: &[u8]) -> Result<Self, LineError> {
+        output_word(alloc, word)
+    }
+}
+
 /// An output with its delay, or `-` for one without a wire.
 #[tactic(auto, unfolding(crate::specs::WordLists::output_word))]
 fn output_word(alloc: Global, word: &[u8]) -> Result<OutputName, LineError>
@@ -90,12 +135,7 @@ fn output_word(alloc: Global, word: &[u8]) -> Result<OutputName, LineError>
 pub fn numbers(alloc: Global, words: &[&[u8]]) -> Result<Vec<u64>, LineError>
     ensures { Gives OutOfMemory (λ numbers. numbers.items) result (each_word number_word (texts words.now)) }
 {
-    let mut numbers = Vec::new(alloc);
-    for word in words {
-        let number = number_word(word)?;
-        numbers.push(number)?;
-    }
-    Ok(numbers)
+    each_word(alloc, words)
 }
 
 /// The words as pairs of a time and a value, as in `5=1`, in order. `BadNumber` comes where one of
@@ -103,12 +143,7 @@ pub fn numbers(alloc: Global, words: &[&[u8]]) -> Result<Vec<u64>, LineError>
 pub fn changes(alloc: Global, words: &[&[u8]]) -> Result<Vec<(u64, u64)>, LineError>
     ensures { Gives OutOfMemory (λ changes. changes.items) result (each_word change_word (texts words.now)) }
 {
-    let mut changes = Vec::with_capacity(alloc, words.len())?;
-    for word in words {
-        let change = change_word(word)?;
-        changes.push(change)?;
-    }
-    Ok(changes)
+    each_word(alloc, words)
 }
 
 /// The words as outputs with their delays, as in `y/3`, in order; `-` is one without a wire.
@@ -117,12 +152,7 @@ pub fn outputs(alloc: Global, words: &[&[u8]]) -> Result<Vec<OutputName>, LineEr
     requires { AreAscii words.now }
     ensures { Gives OutOfMemory (λ outputs. outputs.items) result (each_word output_word (texts words.now)) }
 {
-    let mut outputs = Vec::new(alloc);
-    for word in words {
-        let output = output_word(alloc, word)?;
-        outputs.push(output)?;
-    }
-    Ok(outputs)
+    each_word(alloc, words)
 }
 
 /// The words as inputs, as in `a`, or with their delays, as in `a/4`, in order. `BadNumber` comes
@@ -131,10 +161,18 @@ pub fn inputs(alloc: Global, words: &[&[u8]]) -> Result<Vec<InputName>, LineErro
     requires { AreAscii words.now }
     ensures { Gives OutOfMemory (λ inputs. inputs.items) result (each_word input_word (texts words.now)) }
 {
-    let mut inputs = Vec::new(alloc);
+    each_word(alloc, words)
+}
+
+/// What each of the words says, in order.
+fn each_word<W: Worded>(alloc: Global, words: &[&[u8]]) -> Result<Vec<W>, LineError>
+    requires { All (λ word. W.may_read word.now) words.now }
+    ensures { Gives OutOfMemory (λ items. items.items) result (each_word W.read (texts words.now)) }
+{
+    let mut items = Vec::with_capacity(alloc, words.len())?;
     for word in words {
-        let input = input_word(alloc, word)?;
-        inputs.push(input)?;
+        let item = W::from_word(alloc, word)?;
+        items.push(item)?;
     }
-    Ok(inputs)
+    Ok(items)
 }

@@ -1,38 +1,33 @@
-//! Sizes of desks, and a close without all designers.
+//! A desk that opens on a session with an edit, and is closed without all designers and with them.
 ghost use Rattle.std.specs.Prelude.{◌≡◌, ◌+◌, length};
 
-use super::{are_shut, two_wires};
+use super::{are_shut, edited, number_read, submits};
 use mp_desk::{
-    BadDeskSize, CloseCause, CloseRefused, Designer, Desk, DeskName, DeskParts, DeskSize, Staffed,
-    Viewer,
+    CloseCause, CloseRefused, Designer, Desk, DeskName, DeskParts, DeskSize, Staffed, Viewer,
 };
+use mp_part_tests::making::Change;
 use mp_phase::OpenGate;
 use mp_session::Session;
+use std::alloc::Global;
 use std::marker::Brand;
 use std::process::Abort;
 use std::sync::Wait;
 use std::test::Fail;
-
-#[test]
-fn desk_sizes(rt: HostRuntime) {
-    for (designers, viewers) in [(0, 1), (9, 1), (1, 0), (1, 33)] {
-        assert!(rt; DeskSize::new(designers, viewers) == Err(BadDeskSize));
-    }
-    assert!(rt; DeskSize::new(8, 32).is_ok());
-}
+use std::thread::Threads;
 
 #[test]
 fn desk_refusals(rt: HostRuntime) -> Result<(), Fail> {
     let size = DeskSize::new(2, 1)?;
-    let session = two_wires(&rt, rt.alloc())?;
+    let session = edited(&rt, rt.alloc())?;
     let parts = DeskParts::new(&rt, rt.alloc(), session, size)
         .ok()
         .ok_or("no parts")?;
-    close_without_all::<Brand, _>(&rt, parts)
+    close_without_all::<Brand, _>(&rt, rt.alloc(), parts)
 }
 
-fn close_without_all<L: DeskName, R: Wait + Abort + Copy>(
+fn close_without_all<L: DeskName, R: Threads + Wait + Abort + Sync + Copy>(
     rt: R,
+    alloc: Global,
     parts: DeskParts<Session<OpenGate>, R>,
 ) -> Result<(), Fail>
     requires history { parts.book ≡ L.history }
@@ -40,22 +35,50 @@ fn close_without_all<L: DeskName, R: Wait + Abort + Copy>(
     requires shares { parts.designers + 1 ≡ L.parts }
     requires opening { length parts.session.story.edits ≡ L.opening }
 {
-    let staffed = Desk::<Session<OpenGate>, L, R>::open(parts)
+    let mut staffed = Desk::<Session<OpenGate>, L, R>::open(parts)
         .ok()
         .ok_or("no desk")?;
+    let taken = takes_one_more(&rt, alloc, &mut staffed);
+    let closes = closes_with_all(&rt, staffed);
+    assert!(rt; taken && closes);
+    Ok(())
+}
+
+/// Whether the desk opened on one edit, and takes another, which the viewer reads.
+fn takes_one_more<L: DeskName, R: Threads + Wait + Sync + Drop>(
+    rt: &R,
+    alloc: Global,
+    staffed: &mut Staffed<Session<OpenGate>, L, R>,
+) -> bool {
+    let Staffed {
+        desk,
+        designers,
+        viewers,
+    } = staffed;
+    let ([_, me], [viewer]) = (designers.as_mut_slice(), viewers.as_mut_slice()) else {
+        return false;
+    };
+    desk.opening() == 1
+        && submits(rt, alloc, desk, me, &Change::Removal("b"))
+        && number_read(viewer) == Some(2)
+}
+
+/// Whether the desk isn't closed where a designer is missing, and is closed with all of them.
+fn closes_with_all<L: DeskName, R: Wait + Drop>(
+    rt: &R,
+    staffed: Staffed<Session<OpenGate>, L, R>,
+) -> bool {
     let Staffed {
         desk,
         designers,
         mut viewers,
     } = staffed;
-    let closes = closes_with_all(&rt, desk, designers, viewers.as_mut_slice());
+    let closes = closes_after_refusal(rt, desk, designers, viewers.as_mut_slice());
     drop(viewers);
-    assert!(rt; closes);
-    Ok(())
+    closes
 }
 
-/// Whether the desk isn't closed where a designer is missing, and is closed with all of them.
-fn closes_with_all<L: DeskName, R: Wait + Drop>(
+fn closes_after_refusal<L: DeskName, R: Wait + Drop>(
     rt: &R,
     desk: Desk<Session<OpenGate>, L, R>,
     designers: Vec<Designer<L>>,

@@ -15,7 +15,7 @@ impl Netlist {
     ghost use Rattle.mp_records.specs.declared.edit_error.EditError.TheVariants.{OutOfMemory};
     ghost use Rattle.mp_records.specs.PortChanges.{with_input, with_input_delay, with_output, with_delay};
     ghost use Rattle.mp_netlist.specs.Circuit.{IsCircuit, wire_at, module_at, wire_named, module_named, bundle_named};
-    ghost use Rattle.mp_netlist.specs.Edits.{after, after_single, RefusedBy, takes_memory, single_takes_memory, wire_refusal, wire_removal_refusal, module_refusal, module_removal_refusal, bundle_refusal, bundle_removal_refusal, input_refusal, output_refusal, input_delay_refusal, delay_refusal, stimulus_refusal, clearing_refusal, with_wire_record, with_new_wire, new_module, with_new_module, new_bundle, with_new_bundle, with_bundle, with_stimulus, without_stimulus, with_wire, with_module, wire_id, module_id, bundle_id};
+    ghost use Rattle.mp_netlist.specs.Edits.{after, after_single, RefusedBy, takes_memory, single_takes_memory, refusal, edited, wire_refusal, wire_removal_refusal, module_refusal, module_removal_refusal, bundle_refusal, bundle_removal_refusal, input_refusal, output_refusal, input_delay_refusal, delay_refusal, stimulus_refusal, clearing_refusal, with_wire_record, with_new_wire, new_module, with_new_module, new_bundle, with_new_bundle, with_bundle, with_stimulus, without_stimulus, with_wire, with_module, wire_id, module_id, bundle_id};
 
     /// Makes the edit, or says which check fails first, or `OutOfMemory`, which no edit is told but a batch and those that add a thing or
     /// set a stimulus. A batch is made whole, or refused for the first of its edits that is refused: with `InBatch`, or with
@@ -35,7 +35,6 @@ impl Netlist {
         }
     }
 
-    #[tactic(auto, unfolding(crate::specs::Edits::edited, crate::specs::Edits::refusal))]
     /// Makes an edit of one thing, or says why it is refused, as `apply` does.
     pub(crate) fn apply_single(&mut self, edit: &SingleEdit) -> Result<(), EditError>
         ensures ok { OnOk result (after_single self.old edit.now ≡ Ok self.new) }
@@ -43,36 +42,48 @@ impl Netlist {
         ensures memory { IfErr result (λ error. error ≡ OutOfMemory → IsTrue (single_takes_memory edit.now)) }
         ensures err { OnErr result (self.new ≡ self.old) }
     {
-        self.check_single(edit)?;
+        match self.check_single(edit) {
+            Ok(()) => Ok(self.make_single(edit)?),
+            Err(error) => Err(error),
+        }
+    }
+
+    #[tactic(auto, unfolding(crate::specs::Edits::edited, crate::specs::Edits::refusal))]
+    /// Makes an edit of one thing that no check refuses. The error comes where memory is wanting.
+    pub(crate) fn make_single(&mut self, edit: &SingleEdit) -> Result<(), AllocError>
+        requires { refusal self.old edit.now ≡ None }
+        ensures ok { OnOk result (self.new ≡ edited self.old edit.now) }
+        ensures memory { OnErr result (IsTrue (single_takes_memory edit.now)) }
+        ensures err { OnErr result (self.new ≡ self.old) }
+    {
         match edit {
-            SingleEdit::AddWire { name, width, level } => self.add_wire(name, *width, *level)?,
-            SingleEdit::RemoveWire { wire } => self.remove_wire(wire),
-            SingleEdit::AddModule(new) => self.add_module(new.get())?,
-            SingleEdit::RemoveModule { module } => self.remove_module(module),
-            SingleEdit::AddBundle(new) => self.add_bundle(new.get())?,
-            SingleEdit::RemoveBundle { bundle } => self.remove_bundle(bundle),
-            SingleEdit::RewireInput { module, port, wire } => self.rewire_input(
+            SingleEdit::AddWire { name, width, level } => self.add_wire(name, *width, *level),
+            SingleEdit::RemoveWire { wire } => Ok(self.remove_wire(wire)),
+            SingleEdit::AddModule(new) => self.add_module(new.get()),
+            SingleEdit::RemoveModule { module } => Ok(self.remove_module(module)),
+            SingleEdit::AddBundle(new) => self.add_bundle(new.get()),
+            SingleEdit::RemoveBundle { bundle } => Ok(self.remove_bundle(bundle)),
+            SingleEdit::RewireInput { module, port, wire } => Ok(self.rewire_input(
                 module,
                 *port,
                 wire.get(),
-            ),
-            SingleEdit::RewireOutput { module, port, wire } => self.rewire_output(
+            )),
+            SingleEdit::RewireOutput { module, port, wire } => Ok(self.rewire_output(
                 module, *port, wire,
-            ),
+            )),
             SingleEdit::SetInputDelay {
                 module,
                 port,
                 delay,
-            } => self.set_input_delay(module, *port, *delay),
+            } => Ok(self.set_input_delay(module, *port, *delay)),
             SingleEdit::SetDelay {
                 module,
                 port,
                 delay,
-            } => self.set_delay(module, *port, *delay),
-            SingleEdit::SetStimulus { wire, changes } => self.set_stimulus(wire, changes)?,
-            SingleEdit::ClearStimulus { wire } => self.clear_stimulus(wire),
+            } => Ok(self.set_delay(module, *port, *delay)),
+            SingleEdit::SetStimulus { wire, changes } => self.set_stimulus(wire, changes),
+            SingleEdit::ClearStimulus { wire } => Ok(self.clear_stimulus(wire)),
         }
-        Ok(())
     }
 
     fn add_wire(&mut self, name: &Name, width: u64, level: u64) -> Result<(), AllocError>

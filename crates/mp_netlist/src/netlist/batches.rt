@@ -27,7 +27,7 @@ impl Netlist {
         ensures refused { IfErr result (RefusedBy edit.now (after self.old edit.now)) }
     {
         match edit {
-            Edit::Single(single) => self.apply_single(single),
+            Edit::Single(single) => Ok(self.make_single(single)?),
             Edit::Batch(batch) => self.make_each(batch),
         }
     }

@@ -40,7 +40,7 @@ pub returns-clause-talked : goal.returns-clause-talked
 returns-clause-talked g c = λ start viewers.
     let own : c.in-Some.own ≡ fresh_viewer start =
     last_all (λ (v : Seeing). v ≡ fresh_viewer start) c.pop.new.self.items c.in-Some.own (subst (All (λ (v : Seeing). v ≡ fresh_viewer start)) c.in-Some.ensures.items viewers) in
-    subst (λ (s : Story). HasTalked (record { answer = g.B.Scribe.answer_text; reply = g.B.Scribe.reply_text }) (Ok tt) s c.args.lines.now c.serve.new.lines c.args.out.now c.serve.new.out)
+    subst (λ (s : Story). HasTalked (record { answer = g.B.Scribe.answer_text; reply = g.B.Scribe.reply_text }) (Ok tt) s (g.X.Exit.names c.args.hall.exit) c.args.lines.now c.serve.new.lines c.args.out.now c.serve.new.out)
     (ap (λ (v : Seeing). v.last) own) c.in_ok-sittings-2.ensures.talked
 
 pub returns-in_err-sittings-2-clause-fault : goal.returns-in_err-sittings-2-clause-fault
@@ -51,5 +51,5 @@ returns-in_err-sittings-2-clause-fault g c =
     (λ start viewers.
     let own : c.in-Some.own ≡ fresh_viewer start =
     last_all (λ (v : Seeing). v ≡ fresh_viewer start) c.pop.new.self.items c.in-Some.own (subst (All (λ (v : Seeing). v ≡ fresh_viewer start)) c.in-Some.ensures.items viewers) in
-    subst (λ (s : Story). EndsFor (record { answer = g.B.Scribe.answer_text; reply = g.B.Scribe.reply_text }) c.in_err-sittings-2.field-0.0 s c.args.lines.now c.serve.new.lines c.args.out.now c.serve.new.out)
+    subst (λ (s : Story). EndsFor (record { answer = g.B.Scribe.answer_text; reply = g.B.Scribe.reply_text }) c.in_err-sittings-2.field-0.0 s (g.X.Exit.names c.args.hall.exit) c.args.lines.now c.serve.new.lines c.args.out.now c.serve.new.out)
     (ap (λ (v : Seeing). v.last) own) c.in_err-sittings-2.ensures.fault)

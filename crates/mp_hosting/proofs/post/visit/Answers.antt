@@ -3,13 +3,13 @@ use Rattle.mp_hosting.proofs.post.visit.Goals as goal
 
 pub returns : goal.returns
 returns g c = record {
-  result = c.serve.result;
-  old = c.args.lines;
-  new = c.serve.new.lines;
+  result = c.serve-served.result;
+  old = c.args.lines.now;
+  new = c.serve-served.new.lines;
   before = c.args.out;
-  after = c.serve.new.out;
+  after = c.serve-served.new.out;
   written = (refl, c.requires.0);
   unread = (refl, c.requires.1);
-  visit = c.serve.ensures.visit;
+  visit = c.serve-served.ensures.visit;
   received = sym c.into_sink.ensures.taken;
 }

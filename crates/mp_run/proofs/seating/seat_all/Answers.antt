@@ -1,7 +1,8 @@
 use Rattle.std.proofs.Common.{◌∙◌, sym, subst}
 use Rattle.mp_events.specs.Firing.{HasSlot}
 use Rattle.mp_units.specs.DataSeats.{level_port_of}
-use Rattle.mp_run.proofs.SeatingLemmas.{seated_none, seated_next, level_slot}
+use Rattle.mp_run.proofs.SeatingLemmas.{seated_none, seated_next}
+use Rattle.mp_run.proofs.PortLemmas.{level_slot}
 use Rattle.mp_run.proofs.seating.seat_all.Goals as goal
 
 pub loop-m-init : goal.loop-m-init

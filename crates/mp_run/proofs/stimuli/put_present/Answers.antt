@@ -3,7 +3,7 @@ use Rattle.std.proofs.lemmas.List.{drop_more}
 use Rattle.mp_data.specs.declared.level_change.LevelChange.{LevelChange}
 use Rattle.mp_run.specs.declared.stimuli.StimulusChange.{StimulusChange}
 use Rattle.mp_run.specs.Stimuli.{bits_at, levels_at}
-use Rattle.mp_run.proofs.StimulusLemmas.{bits_step, levels_step, left_step}
+use Rattle.mp_run.proofs.PresentLemmas.{bits_step, levels_step, left_step}
 use Rattle.mp_run.proofs.stimuli.put_present.Goals as goal
 
 pub loop-place-preserved : goal.loop-place-preserved

@@ -1,7 +1,7 @@
 use Rattle.std.proofs.Common.{[], List, ap, subst}
 use Rattle.mp_records.specs.declared.ports.Input.{Input}
 use Rattle.mp_run.specs.Wirings.{HasRead, inputs_in}
-use Rattle.mp_run.proofs.WiringLemmas.{adds_none, no_numbers, none_by_port}
+use Rattle.mp_run.proofs.MoreInputsLemmas.{adds_none, no_numbers, none_by_port}
 use Rattle.mp_run.proofs.wiring.add_slot.Goals as goal
 
 pub returns-in-None : goal.returns-in-None

@@ -1,7 +1,7 @@
 use Rattle.std.proofs.Common.{◌≡◌, ◌+◌, length, rules, sym, subst, arith}
 use Rattle.std.proofs.lemmas.List.Sorted.{IsNonDecreasingBy-from_sort_by_key}
 use Rattle.mp_run.specs.declared.stimuli.StimulusChange.{StimulusChange}
-use Rattle.mp_run.proofs.StimulusLemmas.{AreBelow, below_next, changes_sorted}
+use Rattle.mp_run.proofs.AllStimuliLemmas.{AreBelow, below_next, changes_sorted}
 use Rattle.mp_run.proofs.stimuli.Stimuli.of.Goals as goal
 
 pub loop-w-preserved : goal.loop-w-preserved

@@ -1,4 +1,4 @@
-use Rattle.mp_run.proofs.StimulusLemmas.{AreBelow}
+use Rattle.mp_run.proofs.AllStimuliLemmas.{AreBelow}
 use Rattle.mp_run.proofs.stimuli.Stimuli.of.Given as goal
 
 -- the toggles of the wires so far are listed

@@ -1,5 +1,6 @@
 use Rattle.std.proofs.Common.{refl, arith}
-use Rattle.mp_run.proofs.WiringLemmas.{adds_input, row_pushed}
+use Rattle.mp_run.proofs.InputLemmas.{adds_input}
+use Rattle.mp_run.proofs.WiringLemmas.{row_pushed}
 use Rattle.mp_run.proofs.wiring.Wiring.add_input.Goals as goal
 
 pub returns : goal.returns

@@ -4,7 +4,7 @@ use Rattle.std.proofs.lemmas.List.Elements.{All-take, All-weaker}
 use Rattle.mp_records.specs.Inputs.{no_input}
 use Rattle.mp_records.specs.declared.ports.Input.{Input}
 use Rattle.mp_run.specs.Wirings.{AddsInputs, CanRead}
-use Rattle.mp_run.proofs.WiringLemmas.{adds_none, adds_more, none_by_port, port_more}
+use Rattle.mp_run.proofs.MoreInputsLemmas.{adds_none, adds_more, none_by_port, port_more}
 use Rattle.mp_run.proofs.wiring.Wiring.add_module.Goals as goal
 
 pub loop-port-init : goal.loop-port-init

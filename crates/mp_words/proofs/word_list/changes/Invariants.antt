@@ -1,9 +1,0 @@
-use Rattle.std.proofs.Common.{◌≡◌, drop}
-use Rattle.mp_words.specs.Reads.{with_front}
-use Rattle.mp_words.specs.Words.{texts}
-use Rattle.mp_words.specs.WordLists.{each_word, change_word}
-use Rattle.mp_words.proofs.word_list.changes.Given as goal
-
--- what was read so far, and what the words that are left say
-abbrev pub invariant-loop-word : goal.invariant-loop-word
-invariant-loop-word l = with_front l.changes.items (each_word change_word (texts (drop l.word-index l.words))) ≡ each_word change_word (texts l.words)
