@@ -1,4 +1,5 @@
 pub mod PutLemmas
+pub mod InputLemmas
 pub mod RunLemmas
 pub mod ViewLemmas
 pub mod ReplyLemmas

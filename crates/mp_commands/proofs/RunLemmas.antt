@@ -1,5 +1,5 @@
 -- The ends of a run.
-use Rattle.std.proofs.Common.{◌≡◌, ℕ, ◌<◌, ◌≤◌, ◌⊎◌, inl, inr, Bool, true, false, IfSome, List, [], take, length, Option, Some, None, Result, Ok, Err, IsErrAnd, IsOk, refl, ap, subst, arith}
+use Rattle.std.proofs.Common.{◌≡◌, ℕ, ◌+◌, ◌<◌, ◌≤◌, ◌⊎◌, inl, inr, Bool, true, false, IfSome, List, [], take, length, Option, Some, None, Result, Ok, Err, IsErrAnd, IsOk, refl, ap, subst, arith}
 use Rattle.std.proofs.lemmas.Bool.{cases_lt, lt-leb, le-leb}
 use Rattle.std.proofs.lemmas.List.{take_all, length-take-le}
 use Rattle.std.proofs.lemmas.Result.{err_from_is_err_and}
@@ -20,12 +20,13 @@ use Rattle.mp_text.specs.declared.text_code.TextCode.{TextCode}
 use Rattle.mp_text.specs.declared.text_code.TextCode.TheVariants as texts
 use Rattle.mp_text.specs.declared.text_error.TextError.{TextError}
 use Rattle.mp_text.specs.declared.text_state.TextState.TheVariants.{Fresh}
-use Rattle.mp_text.specs.Texts.{text_at, after_lines}
+use Rattle.mp_text.specs.Sizes.{text_limit}
+use Rattle.mp_text.proofs.SizeLemmas.{limit_least, limit_of_front}
 use Rattle.mp_words.specs.Lines.{lines_of}
 use Rattle.mp_commands.specs.declared.run_fault.RunFault.{RunFault}
 use Rattle.mp_commands.specs.declared.run_fault.RunFault.TheVariants.{Text, ReadFailed, WriteFailed, OutOfMemory, NoPlace}
-use Rattle.mp_commands.specs.Limits.{max_input, max_taken}
-use Rattle.mp_commands.specs.Openings.{counted_netlist, within_size, too_long}
+use Rattle.mp_commands.specs.Limits.{max_taken}
+use Rattle.mp_commands.specs.Openings.{taken_of, counted_netlist, within_size, too_long}
 use Rattle.mp_commands.specs.RunFaults.{fault_of_text, fault_at, fault_of_take, fault_of_write, fault_of_meeting, counted_reads}
 use Rattle.mp_commands.specs.Runs.{HasInput, Refuses, WritesOne, Ran, RanFrom}
 use Rattle.mp_commands.proofs.PutLemmas.{flushed, unflushed, flushed_part, unflushed_part, nothing_held}
@@ -97,32 +98,37 @@ ran_unopened : {S : Type 0} (seats : Bool) (fault : RunFault) (I J : Circuit →
 ran_unopened seats fault I J a b (Err OutOfMemory) h = h
 ran_unopened seats fault I J a b r h = h
 
-module _ (opening : List ℕ → Result Circuit RunFault) where
-  pub within_size-long : (input : List ℕ) → max_input < length input → within_size opening input ≡ Err too_long
-  within_size-long input long = rw (lt-leb (length input) max_input long) refl
+-- what is taken of an input tells how long it may be
+pub limit_taken : (input : List ℕ) → text_limit (taken_of input) ≡ text_limit input
+limit_taken input = limit_of_front (text_limit input + 1) input (omega (arith, limit_least input))
 
-  pub within_size-short : (input : List ℕ) → length input ≤ max_input → within_size opening input ≡ opening input
-  within_size-short input short = rw (le-leb (length input) max_input short) refl
+module _ (opening : List ℕ → Result Circuit RunFault) where
+  pub within_size-long : (input : List ℕ) → text_limit input < length input → within_size opening input ≡ Err too_long
+  within_size-long input long = rw (lt-leb (length input) (text_limit input) long) refl
+
+  pub within_size-short : (input : List ℕ) → length input ≤ text_limit input → within_size opening input ≡ opening input
+  within_size-short input short = rw (le-leb (length input) (text_limit input) short) refl
 
   module _ {S : Type 0} (seats : Bool) (IsText : List ℕ → Circuit → List ℕ → Type 0) (r : Result (Unit {0}) RunFault) (a b : Outgoing S) where
     -- one byte more than an input may have is enough to read
-    whole_input : (limit : ℕ) → limit ≡ max_taken → (input : List ℕ) → Ran seats r (within_size opening (take limit input)) (IsText (take limit input)) a b
+    whole_input : (input : List ℕ) → Ran seats r (within_size opening (taken_of input)) (IsText (taken_of input)) a b
         → Ran seats r (within_size opening input) (IsText input) a b
-    whole_input limit same input ran = by (cases_lt (length input) limit)
+    whole_input input ran = by (cases_lt (length input) (text_limit input + 1))
       where
-        by : (length input < limit) ⊎ (limit ≤ length input) → Ran seats r (within_size opening input) (IsText input) a b
-        by (inl less) = subst (λ i. Ran seats r (within_size opening i) (IsText i) a b) (take_all limit input (omega arith)) ran
+        by : (length input < text_limit input + 1) ⊎ (text_limit input + 1 ≤ length input) → Ran seats r (within_size opening input) (IsText input) a b
+        by (inl less) = subst (λ i. Ran seats r (within_size opening i) (IsText i) a b) (take_all (text_limit input + 1) input (omega arith)) ran
         by (inr more) =
-            let cut : length (take limit input) ≡ limit = length-take-le limit input more in
-            let front = rw (within_size-long (take limit input) (omega arith)) at ran in
-            rw (within_size-long input (omega arith)) (ran_unopened seats too_long (IsText (take limit input)) (IsText input) a b r front)
+            let cut : length (taken_of input) ≡ text_limit input + 1 = length-take-le (text_limit input + 1) input more in
+            let same = limit_taken input in
+            let front = rw (within_size-long (taken_of input) (omega arith)) at ran in
+            rw (within_size-long input (omega arith)) (ran_unopened seats too_long (IsText (taken_of input)) (IsText input) a b r front)
 
     -- what holds of the bytes that were read, and so of the whole input, holds of an input of the source
-    for_input : (left : Option (List ℕ)) (text : List ℕ) (limit : ℕ) → IfSome left (λ bytes. text ≡ take limit bytes) → length text ≤ limit → limit ≡ max_taken
+    for_input : (left : Option (List ℕ)) (text : List ℕ) → IfSome left (λ bytes. text ≡ taken_of bytes) → length text ≤ max_taken
         → Ran seats r (within_size opening text) (IsText text) a b → HasInput left (λ input. Ran seats r (within_size opening input) (IsText input) a b)
-    for_input None text limit front within same ran = (text, subst (λ n. length text ≤ n) same within, ran)
-    for_input (Some input) text limit front within same ran =
-        (input, refl, whole_input limit same input (subst (λ t. Ran seats r (within_size opening t) (IsText t) a b) front ran))
+    for_input None text front within ran = (text, within, ran)
+    for_input (Some input) text front within ran =
+        (input, refl, whole_input input (subst (λ t. Ran seats r (within_size opening t) (IsText t) a b) front ran))
 
     -- a run that was not ended by the source
     ran_from : (s : Result (Unit {0}) RunFault) (left : Option (List ℕ)) → HasInput left (λ input. Ran seats s (within_size opening input) (IsText input) a b)
@@ -130,14 +136,14 @@ module _ (opening : List ℕ → Result Circuit RunFault) where
     ran_from (Err ReadFailed) left h = absurd h.2.0
     ran_from s left h = h
 
-    pub from_source : (left : Option (List ℕ)) (text : List ℕ) (limit : ℕ) → IfSome left (λ bytes. text ≡ take limit bytes) → length text ≤ limit → limit ≡ max_taken
+    pub from_source : (left : Option (List ℕ)) (text : List ℕ) → IfSome left (λ bytes. text ≡ taken_of bytes) → length text ≤ max_taken
         → Ran seats r (within_size opening text) (IsText text) a b → RanFrom r left (λ input. Ran seats r (within_size opening input) (IsText input) a b) a b
-    from_source left text limit front within same ran = ran_from r left (for_input left text limit front within same ran)
+    from_source left text front within ran = ran_from r left (for_input left text front within ran)
 
     -- the same of an input that is not too long
-    pub from_input : (left : Option (List ℕ)) (text : List ℕ) (limit : ℕ) → IfSome left (λ bytes. text ≡ take limit bytes) → length text ≤ limit → limit ≡ max_taken
-        → length text ≤ max_input → Ran seats r (opening text) (IsText text) a b → RanFrom r left (λ input. Ran seats r (within_size opening input) (IsText input) a b) a b
-    from_input left text limit front within same short ran = from_source left text limit front within same (rw (within_size-short text short) ran)
+    pub from_input : (left : Option (List ℕ)) (text : List ℕ) → IfSome left (λ bytes. text ≡ taken_of bytes) → length text ≤ max_taken
+        → length text ≤ text_limit text → Ran seats r (opening text) (IsText text) a b → RanFrom r left (λ input. Ran seats r (within_size opening input) (IsText input) a b) a b
+    from_input left text front within short ran = from_source left text front within (rw (within_size-short text short) ran)
 
 -- a source that is not read
 pub unread_source : {S : Type 0} (Holds : Result (Unit {0}) RunFault → List ℕ → Type 0) (left : Option (List ℕ)) (a : Outgoing S) (r : Result (Unit {0}) RunFault) (error : TakeError)
@@ -156,10 +162,6 @@ counted_reads-ran seats opening IsText a b (Err ReadFailed) n ran = absurd ran.0
 counted_reads-ran seats opening IsText a b r n ran = refl
 
 -- ---- a netlist that is not read
-
-pub text_at-short : (text : List ℕ) → length text ≤ max_input → text_at text ≡ after_lines 0 Fresh (lines_of text)
-unfolding text_at
-text_at-short text short = rw (le-leb (length text) max_input short) refl
 
 pub refused_text : (read : Result Circuit TextError) (valid : Bool) (error : TextError) → (error.code ≡ texts.Line lines.OutOfMemory) ⊎ (read ≡ Err error) → Refuses false (counted_netlist read valid) (fault_of_text error)
 refused_text read valid error (inl memory) = rw memory tt

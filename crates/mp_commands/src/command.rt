@@ -10,11 +10,11 @@ ghost use Rattle.mp_commands.specs.Openings.{within_size};
 ghost use Rattle.mp_commands.specs.RunFaults.{counted_reads};
 ghost use Rattle.mp_commands.specs.Runs.{Ran, RanFrom};
 
-use crate::limits::{MAX_INPUT, MAX_TAKEN};
+use crate::input::take_input;
 use crate::options::Options;
 use crate::run_fault::RunFault;
-use mp_streams::{Out, Sink, Source, take_all};
-use mp_text::{TextCode, TextError};
+use mp_streams::{Out, Sink, Source};
+use mp_text::{TextCode, TextError, text_limit};
 use std::alloc::Global;
 use std::sync::Wait;
 use std::thread::Threads;
@@ -65,8 +65,9 @@ pub fn run_command<R: Threads + Wait + Sync, S: Source, T: Sink, C: Command>(
     ensures taken { ConsumesUpTo max_taken (S.left source.old) (S.left source.new) }
     ensures read_faults { S.fault_count source.new ≡ counted_reads result (S.fault_count source.old) }
 {
-    let input = take_all(alloc, source, MAX_TAKEN)?;
-    if input.len() > MAX_INPUT {
+    let input = take_input(alloc, source)?;
+    let limit = text_limit(input.as_slice());
+    if input.len() > limit {
         return Err(RunFault::Text(TextError {
             line: 0,
             code: TextCode::TooLong,

@@ -7,7 +7,7 @@ ghost use Rattle.mp_commands.specs.Runs.{Refuses};
 
 use crate::run_fault::RunFault;
 use mp_netlist::Netlist;
-use mp_text::read_netlist;
+use mp_text::read_lines;
 use std::alloc::Global;
 
 /// The netlist of a text, with a crew for it. Where there is none `BadCount` comes, after the faults of the text.
@@ -21,7 +21,7 @@ pub fn opened<C: Drop>(
     ensures crew { IfOk result (λ both. crew ≡ Some both.1) }
     ensures refused { IfErr result (Refuses false (opening_of (lines_of text.now) (is_some crew))) }
 {
-    let netlist = read_netlist(alloc, text)?;
+    let netlist = read_lines(alloc, text)?;
     match crew {
         Some(crew) => Ok((netlist, crew)),
         None => Err(RunFault::BadCount),

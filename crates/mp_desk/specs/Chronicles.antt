@@ -1,12 +1,13 @@
 -- The one history of a desk: a log of stories, each of which extends the one before. It exists in the proofs alone.
 use Rattle.std.specs.Prelude.{◌≡◌, ℕ, ◌+◌, ◌==◌, ◌<◌, true, List, [], ◌∷◌, length, MatchBool}
 use Rattle.logbook.specs.Pages.{Cell, Step, View, Book, Named}
+use Rattle.mp_netlist.specs.declared.format.Format.TheVariants.{Standard}
 use Rattle.mp_version.specs.Stories.{Story, opening}
 use Rattle.mp_desk.specs.Extending.{Extends}
 
 -- a story for a log that has none
 abbrev pub blank_story : Story
-blank_story = opening (record { horizon = 0; wires = []; modules = []; bundles = [] })
+blank_story = opening (record { format = Standard; horizon = 0; wires = []; modules = []; bundles = [] })
 
 abbrev pub last_of : Story → List Story → Story
 last_of s [] = s

@@ -1,38 +1,40 @@
 -- The whole input of a source, by what was taken of it.
-use Rattle.std.proofs.Common.{◌≡◌, ℕ, ◌<◌, ◌≤◌, IfSome, Bool, List, [], take, length, Option, Some, None, Result, Ok, Err, false, refl, sym, subst, ◌∙◌, arith}
+use Rattle.std.proofs.Common.{◌≡◌, ℕ, ◌+◌, ◌<◌, ◌≤◌, IfSome, Bool, List, [], take, length, Option, Some, None, Result, Ok, Err, false, refl, sym, subst, ◌∙◌, arith}
 use Rattle.std.proofs.lemmas.List.{take_all, length-take}
 use Rattle.mp_netlist.specs.Circuit.{Circuit}
 use Rattle.mp_words.specs.Lines.{lines_of}
-use Rattle.mp_commands.specs.Limits.{max_input, max_taken}
-use Rattle.mp_commands.specs.Openings.{opening_of, too_long}
+use Rattle.mp_text.specs.Sizes.{text_limit}
+use Rattle.mp_text.proofs.SizeLemmas.{limit_most}
+use Rattle.mp_commands.specs.Limits.{max_taken}
+use Rattle.mp_commands.specs.Openings.{opening_of, taken_of, too_long}
 use Rattle.mp_commands.specs.Runs.{HasInput, Refuses}
 use Rattle.mp_commands.specs.RunFaults.{counted_reads, fault_of_take}
 use Rattle.mp_streams.specs.declared.take_error.TakeError.{TakeError}
 use Rattle.mp_streams.specs.declared.take_error.TakeError.TheVariants as takes
 use Rattle.mp_commands.specs.declared.run_fault.RunFault.{RunFault}
 use Rattle.mp_commands.specs.declared.run_fault.RunFault.TheVariants.{Text, BadCount, ReadFailed, WriteFailed, OutOfMemory, NoPlace, NoSuchWire}
-use Rattle.mp_commands.proofs.RunLemmas.{within_size-long, within_size-short}
+use Rattle.mp_commands.proofs.RunLemmas.{limit_taken, within_size-long, within_size-short}
 use Rattle.mp_commands.specs.Keepers.{Kept, opened}
 use Rattle.mp_live.specs.OpenedInputs.{opening_with, StaysShutWith}
 
 -- bytes that are no more than an input may have are all of it
-pub short_input : (Holds : List ℕ → Type 0) (left : Option (List ℕ)) (text : List ℕ) → IfSome left (λ bytes. text ≡ take max_taken bytes) → length text ≤ max_input → Holds text
+pub short_input : (Holds : List ℕ → Type 0) (left : Option (List ℕ)) (text : List ℕ) → IfSome left (λ bytes. text ≡ taken_of bytes) → length text ≤ text_limit text → Holds text
     → HasInput left Holds
-short_input Holds None text front short holds = (text, omega (arith, short), holds)
+short_input Holds None text front short holds = let most = limit_most text in (text, omega (arith, short), holds)
 short_input Holds (Some bytes) text front short holds =
-    let long : length (take max_taken bytes) ≤ max_input = subst (λ l. length l ≤ max_input) front short in
-    (bytes, refl, subst Holds (front ∙ take_all max_taken bytes (whole long)) holds)
+    let long : length (taken_of bytes) ≤ text_limit bytes = subst (λ l. length (taken_of bytes) ≤ l) (limit_taken bytes) (subst (λ l. length l ≤ text_limit l) front short) in
+    (bytes, refl, subst Holds (front ∙ take_all (text_limit bytes + 1) bytes (whole long)) holds)
   where
-    whole : length (take max_taken bytes) ≤ max_input → length bytes ≤ max_taken
-    whole long = omega (arith, long, length-take max_taken bytes)
+    whole : length (taken_of bytes) ≤ text_limit bytes → length bytes ≤ text_limit bytes + 1
+    whole long = omega (arith, long, length-take (text_limit bytes + 1) bytes)
 
 -- and more bytes are a front of an input that is too long
-pub long_input : (Holds : List ℕ → Type 0) (left : Option (List ℕ)) (text : List ℕ) → IfSome left (λ bytes. text ≡ take max_taken bytes) → max_input < length text → length text ≤ max_taken
-    → ((input : List ℕ) → max_input < length input → Holds input) → HasInput left Holds
+pub long_input : (Holds : List ℕ → Type 0) (left : Option (List ℕ)) (text : List ℕ) → IfSome left (λ bytes. text ≡ taken_of bytes) → text_limit text < length text → length text ≤ max_taken
+    → ((input : List ℕ) → text_limit input < length input → Holds input) → HasInput left Holds
 long_input Holds None text front long within each = (text, within, each text long)
 long_input Holds (Some bytes) text front long within each =
-    let more : max_input < length (take max_taken bytes) = subst (λ l. max_input < length l) front long in
-    (bytes, refl, each bytes (omega (arith, more, length-take max_taken bytes)))
+    let more : text_limit bytes < length (taken_of bytes) = subst (λ l. l < length (taken_of bytes)) (limit_taken bytes) (subst (λ l. text_limit l < length l) front long) in
+    (bytes, refl, each bytes (omega (arith, more, length-take (text_limit bytes + 1) bytes)))
 
 -- any input
 pub some_input : (Holds : List ℕ → Type 0) (left : Option (List ℕ)) → ((input : List ℕ) → Holds input) → HasInput left Holds
@@ -56,13 +58,13 @@ module _ (left : Option (List ℕ)) (valid : Bool) where
   shut_not_taken takes.Failed = tt
   shut_not_taken takes.OutOfMemory = shut_for_memory
 
-  module _ (text : List ℕ) (front : IfSome left (λ bytes. text ≡ take max_taken bytes)) where
-    pub shut_too_long : max_input < length text → length text ≤ max_taken → StaysShutWith left valid too_long
+  module _ (text : List ℕ) (front : IfSome left (λ bytes. text ≡ taken_of bytes)) where
+    pub shut_too_long : text_limit text < length text → length text ≤ max_taken → StaysShutWith left valid too_long
     shut_too_long long within =
         long_input (λ input. Refuses false (opening_with valid input) too_long) left text front long within
         (λ input more. within_size-long (λ i. opening_of (lines_of i) valid) input more)
 
-    module _ (short : length text ≤ max_input) where
+    module _ (short : length text ≤ text_limit text) where
       whole : opening_with valid text ≡ opening_of (lines_of text) valid
       whole = within_size-short (λ i. opening_of (lines_of i) valid) text short
 

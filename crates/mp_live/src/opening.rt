@@ -6,10 +6,10 @@ ghost use Rattle.mp_commands.specs.RunFaults.{counted_reads};
 ghost use Rattle.mp_commands.specs.Runs.{HasInput};
 ghost use Rattle.mp_live.specs.OpenedInputs.{opening_with, OpensAs, StaysShut, StaysShutWith};
 
-use mp_commands::{Keeper, MAX_INPUT, MAX_TAKEN, Options, RunFault, opened};
+use mp_commands::{Keeper, Options, RunFault, opened, take_input};
 use mp_netlist::Netlist;
-use mp_streams::{Source, take_all};
-use mp_text::{TextCode, TextError};
+use mp_streams::Source;
+use mp_text::{TextCode, TextError, text_limit};
 use std::alloc::Global;
 use std::sync::Wait;
 use std::thread::Threads;
@@ -44,8 +44,9 @@ pub fn read_opening<S: Source, C: Drop>(
     ensures taken { ConsumesUpTo max_taken (S.left source.old) (S.left source.new) }
     ensures read_faults { S.fault_count source.new ≡ counted_reads result (S.fault_count source.old) }
 {
-    let input = take_all(alloc, source, MAX_TAKEN)?;
-    if input.len() > MAX_INPUT {
+    let input = take_input(alloc, source)?;
+    let limit = text_limit(input.as_slice());
+    if input.len() > limit {
         return Err(RunFault::Text(TextError {
             line: 0,
             code: TextCode::TooLong,

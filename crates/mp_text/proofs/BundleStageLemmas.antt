@@ -12,7 +12,7 @@ use Rattle.mp_records.specs.declared.module_record.ModuleRecord.{ModuleRecord}
 use Rattle.mp_records.specs.declared.bundle_record.BundleRecord.{BundleRecord}
 use Rattle.mp_records.specs.declared.single_edit.SingleEdit.{SingleEdit}
 use Rattle.mp_records.specs.declared.single_edit.SingleEdit.TheVariants.{AddBundle}
-use Rattle.mp_netlist.specs.Limits.{max_bundles, max_setup}
+use Rattle.mp_netlist.specs.Limits.{bundle_limit, max_setup}
 use Rattle.mp_netlist.specs.Circuit.{Circuit, IsCircuit, IsBundle, bundle_at, HasNames}
 use Rattle.mp_netlist.specs.Edits.{refusal, edited, after_single, stands, width_named, bundle_checks, new_bundle}
 use Rattle.mp_text.specs.Written.{wire_name}
@@ -37,7 +37,7 @@ AddsNone q _ = Unit {0}
 module _ (n : Circuit) (circuit : IsCircuit n) (named : HasNames n) (modules : List (Option ModuleRecord)) where
   -- the netlist with these bundles
   abbrev pub bundled : List (Option BundleRecord) → Circuit
-  bundled bundles = made n.horizon (flat_map kept n.wires) modules bundles
+  bundled bundles = made n (flat_map kept n.wires) modules bundles
 
   has_wires : (bundles : List (Option BundleRecord)) → HasWires n (bundled bundles)
   has_wires bundles = HasWires-compact n circuit named (λ r. r) (λ r. refl) (λ r. refl) (bundled bundles) refl
@@ -99,8 +99,8 @@ module _ (n : Circuit) (circuit : IsCircuit n) (named : HasNames n) (modules : L
         (eq-eqb _ _ (request.width ∙ is.request.1)) (eq-eqb _ _ (acknowledge.width ∙ is.acknowledge.1)) in
         let low = is.setup in
         let early : nat_le r.setup max_setup ≡ true = grind (arith, nat_tests) in
-        let within : length front < max_bundles = omega (arith, ap length split, length-append front (Some r ∷ back), circuit.bundles_few) in
-        let room = lt-ltb (length bundles) max_bundles (omega (arith, few)) in
+        let within : length front < bundle_limit n.format = omega (arith, ap length split, length-append front (Some r ∷ back), circuit.bundles_few) in
+        let room = lt-ltb (length bundles) (bundle_limit n.format) (omega (arith, few)) in
         is_done c (added n r)
         (none_failing (bundle_checks c (bundle_by_name n r)) (named.bundles (length front) r at, (free, (found, (wide, (early, (room, tt)))))))
 

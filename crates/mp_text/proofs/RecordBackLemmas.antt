@@ -13,6 +13,7 @@ use Rattle.mp_records.specs.Names.{is_name}
 use Rattle.mp_modules.specs.Levels.{fits_width}
 use Rattle.mp_records.specs.Stimuli.{is_stimulus}
 use Rattle.mp_netlist.specs.Limits.{max_horizon}
+use Rattle.mp_netlist.proofs.LimitLemmas.{horizon_within}
 use Rattle.mp_netlist.specs.Circuit.{Circuit, IsCircuit, wire_at, bundle_at, HasNames}
 use Rattle.mp_words.specs.WordLists.{change_word}
 use Rattle.mp_words.specs.WaveLines.{pair_text}
@@ -108,7 +109,7 @@ module _ (n : Circuit) (circuit : IsCircuit n) (named : HasNames n) where
       → Leads (stimulus_words name stimulus ++ bytes) (set_edits name stimulus ++ edits)
   set_leads name width valid narrow None ok bytes edits rest = rest
   set_leads name width valid narrow (Some changes) ok bytes edits rest =
-      let low = stimulus_low n.horizon width 0 changes circuit.horizon_high narrow ok in
+      let low = stimulus_low n.horizon width 0 changes (horizon_within n circuit) narrow ok in
       let plain = All-cons IsPlain name (map pair_text changes) (IsPlain-name name valid) (All-map IsPlain pair_text changes (All-weaker IsChange (λ change. IsPlain (pair_text change)) pair_plain changes low)) in
       let read = All-weaker IsChange (λ change. change_word (pair_text change) ≡ Ok change) (λ change low. change_back change low.0 low.1) changes low in
       let first : IsPlain (codes "stim") = record { some = omega arith; plain = refl } in

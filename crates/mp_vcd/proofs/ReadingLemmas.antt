@@ -9,6 +9,7 @@ use Rattle.std.proofs.lemmas.Bool.{eqb-true, lt-ltb}
 use Rattle.std.proofs.lemmas.Bool.Decides.{nat_tests}
 use Rattle.mp_records.specs.declared.wire_record.WireRecord.{WireRecord}
 use Rattle.mp_records.specs.Names.{is_name}
+use Rattle.mp_netlist.specs.Limits.{max_wires}
 use Rattle.mp_words.proofs.PlainLemmas.{both}
 use Rattle.mp_vcd.specs.Codes.{code}
 use Rattle.mp_vcd.specs.Values.{bit, bits, value_line}
@@ -85,7 +86,7 @@ var_start vs = record { each = λ rest. refl }
 abbrev pub declared_as : ℕ → WireRecord → Variable
 declared_as w r = record { scopes = codes "top" ∷ []; width = r.width; code = code w; name = r.name }
 
-pub leads_declaration : (vs : List Variable) (w : ℕ) (r : WireRecord) → w < 8836 → r.width < 2 ^ 64 → is_name r.name ≡ true
+pub leads_declaration : (vs : List Variable) (w : ℕ) (r : WireRecord) → w < max_wires → r.width < 2 ^ 64 → is_name r.name ≡ true
     → Leads (declaring vs) (slot_declaration w (Some r)) (declaring (vs ++ declared_as w r ∷ []))
 leads_declaration vs w r few narrow valid =
     let over = var_end vs (decimal r.width) (code w) r.name (decimal_made r.width narrow) (code_made w) in

@@ -3,7 +3,7 @@ use Rattle.mp_words.specs.Lines.{lines_of}
 use Rattle.mp_text.specs.Texts.{after_lines}
 use Rattle.mp_text.specs.Limits.{max_text}
 use Rattle.mp_text.specs.declared.text_state.TextState.TheVariants.{Fresh}
-use Rattle.mp_text.proofs.reading.read_netlist.Given as goal
+use Rattle.mp_text.proofs.reading.read_lines.Given as goal
 
 -- the lines that are left go on from the netlist so far
 abbrev pub invariant-loop-rest : goal.invariant-loop-rest
