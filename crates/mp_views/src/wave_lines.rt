@@ -10,7 +10,7 @@ use crate::view::View;
 use mp_netlist::{Netlist, WireId};
 use mp_streams::{Failed, Out, Sink, Text, WriteError};
 use mp_wave::WaveChanges;
-use mp_words::{Changes, Toggles};
+use mp_words::{Changes, ShortChanges, Toggles};
 use std::alloc::Global;
 use std::thread::Threads;
 
@@ -29,6 +29,7 @@ impl<'a> Text for WrittenChanges<'a> {
     fn put_to<S: Sink>(&self, out: &mut Out<S>) -> Result<(), Failed> {
         match self.changes {
             WaveChanges::Toggles { level, times } => Toggles { level, times }.put_to(out),
+            WaveChanges::ShortPairs(changes) => ShortChanges { changes }.put_to(out),
             WaveChanges::Pairs(changes) => Changes { changes }.put_to(out),
         }
     }

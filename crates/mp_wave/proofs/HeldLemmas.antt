@@ -5,7 +5,7 @@ use Rattle.mp_wave.specs.Waveform.{AreChanges, last_from, last_time, earlier_tha
 use Rattle.mp_wave.specs.ToggleWaves.{toggle_changes}
 use Rattle.mp_wave.specs.WaveChanges.{held_changes, IsHeld, IsLow}
 use Rattle.mp_wave.specs.declared.held.Held.{Held}
-use Rattle.mp_wave.specs.declared.held.Held.TheVariants.{Toggles, Pairs}
+use Rattle.mp_wave.specs.declared.held.Held.TheVariants.{Toggles, ShortPairs, Pairs}
 use Rattle.mp_wave.proofs.PrefixLemmas.{AreChanges-earlier_than, earlier_than-take}
 use Rattle.mp_wave.proofs.ToggleWaveLemmas.{one_more, last_toggle}
 use Rattle.mp_wave.proofs.WaveformLemmas.{AreChanges-append}
@@ -14,6 +14,7 @@ use Rattle.mp_wave.proofs.WaveChangesLemmas.{length_toggles}
 -- how many changes are held is so whatever the level before them
 pub length_held : (one other : ℕ) (held : Held) → length (held_changes one held) ≡ length (held_changes other held)
 length_held one other (Toggles times) = length_toggles one times.items ∙ sym (length_toggles other times.items)
+length_held one other (ShortPairs pairs) = refl
 length_held one other (Pairs pairs) = refl
 
 -- the changes of a wave once more are those of a wave

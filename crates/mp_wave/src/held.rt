@@ -1,15 +1,20 @@
 //! How a wave holds its changes.
-ghost use Rattle.std.specs.Prelude.{◌≡◌, ◌++◌, ◌∷◌, [], IfOk};
+ghost use Rattle.std.specs.Prelude.{◌≡◌, ℕ, ◌++◌, ◌∷◌, [], IfOk};
 ghost use Rattle.mp_wave.specs.ToggleWaves.{toggle_changes};
 ghost use Rattle.mp_wave.specs.WaveChanges.{held_changes, IsLow};
 
-use crate::wave_changes::{WaveChanges, pairs_of};
+use crate::pairs::{long_pairs, pairs_of, short_pairs_of};
+use crate::wave_changes::WaveChanges;
 use std::alloc::{AllocError, Global};
 
-/// The times at which a level of 0 or 1 toggles, or changes with their levels.
+/// The least level that is held in 8 bytes. Where all levels are less, each takes 4.
+const LONG: u64 = 4_294_967_296;
+
+/// The times at which a level of 0 or 1 toggles, or changes with their levels, by how long these are.
 #[derive(Debug, Drop)]
 pub(crate) enum Held {
     Toggles(Vec<u32>),
+    ShortPairs(Vec<(u32, u32)>),
     Pairs(Vec<(u32, u64)>),
 }
 
@@ -25,6 +30,8 @@ impl Held {
     {
         if initial <= 1 {
             Held::Toggles(Vec::new(alloc))
+        } else if initial < LONG {
+            Held::ShortPairs(Vec::new(alloc))
         } else {
             Held::Pairs(Vec::new(alloc))
         }
@@ -40,6 +47,7 @@ impl Held {
                 level: initial,
                 times: times.as_slice(),
             },
+            Held::ShortPairs(pairs) => WaveChanges::ShortPairs(pairs.as_slice()),
             Held::Pairs(pairs) => WaveChanges::Pairs(pairs.as_slice()),
         }
     }
@@ -57,6 +65,12 @@ impl Held {
                 front.extend_from_slice(&all[..count])?;
                 Ok(Held::Toggles(front))
             }
+            Held::ShortPairs(pairs) => {
+                let all = pairs.as_slice();
+                let mut front = Vec::with_capacity(alloc, all.len())?;
+                front.extend_from_slice(&all[..count])?;
+                Ok(Held::ShortPairs(front))
+            }
             Held::Pairs(pairs) => {
                 let all = pairs.as_slice();
                 let mut front = Vec::with_capacity(alloc, all.len())?;
@@ -73,6 +87,7 @@ impl Held {
     {
         match self {
             Held::Toggles(times) => Ok(Held::Toggles(times.clone()?)),
+            Held::ShortPairs(pairs) => Ok(Held::ShortPairs(pairs.clone()?)),
             Held::Pairs(pairs) => Ok(Held::Pairs(pairs.clone()?)),
         }
     }
@@ -88,8 +103,28 @@ impl Held {
         ensures err { OnErr result (held_changes initial self.new ≡ held_changes initial self.old) }
     {
         match self {
+            Held::ShortPairs(pairs) if level < LONG => pairs.push((time, level as u32))?,
             Held::Toggles(times) if level <= 1 => times.push(time)?,
+            Held::Pairs(pairs) => pairs.push((time, level))?,
+            _ => self.push_longer(initial, time, level)?,
+        }
+        Ok(())
+    }
+
+    /// The same where the changes so far can't be held as they are.
+    #[cold]
+    #[inline(never)]
+    fn push_longer(&mut self, initial: u64, time: u32, level: u64) -> Result<(), AllocError>
+        requires held { IsHeld initial self.old }
+        requires later { last_time 0 (held_changes initial self.old) < time }
+        requires other { last_from initial (held_changes initial self.old) ≢ level }
+        ensures ok { OnOk result (held_changes initial self.new ≡ held_changes initial self.old ++ (time, level) ∷ []) }
+        ensures held { IsHeld initial self.new }
+        ensures err { OnErr result (held_changes initial self.new ≡ held_changes initial self.old) }
+    {
+        match self {
             Held::Toggles(times) => *self = listed(initial, times, time, level)?,
+            Held::ShortPairs(pairs) => *self = lengthened(pairs, time, level)?,
             Held::Pairs(pairs) => pairs.push((time, level))?,
         }
         Ok(())
@@ -97,12 +132,27 @@ impl Held {
 }
 
 /// Toggles of a level and one change more, as changes with their levels.
-#[inline(never)]
 fn listed(initial: u64, times: &Vec<u32>, time: u32, level: u64) -> Result<Held, AllocError>
     ensures value { IfOk result (λ held. held_changes initial held ≡ toggle_changes initial times.now.items ++ (time, level) ∷ []) }
     ensures low { IfOk result (IsLow initial) }
 {
-    let mut pairs = pairs_of(*times.allocator(), initial, times.as_slice())?;
+    let alloc = *times.allocator();
+    if level < LONG {
+        let mut pairs = short_pairs_of(alloc, initial, times.as_slice())?;
+        pairs.push((time, level as u32))?;
+        return Ok(Held::ShortPairs(pairs));
+    }
+    let mut pairs = pairs_of(alloc, initial, times.as_slice())?;
+    pairs.push((time, level))?;
+    Ok(Held::Pairs(pairs))
+}
+
+/// Changes with short levels and one change more, as changes with levels of any length.
+fn lengthened(short: &Vec<(u32, u32)>, time: u32, level: u64) -> Result<Held, AllocError>
+    ensures value { (initial : ℕ) → IfOk result (λ held. held_changes initial held ≡ short.now.items ++ (time, level) ∷ []) }
+    ensures low { (initial : ℕ) → IfOk result (IsLow initial) }
+{
+    let mut pairs = long_pairs(*short.allocator(), short.as_slice())?;
     pairs.push((time, level))?;
     Ok(Held::Pairs(pairs))
 }

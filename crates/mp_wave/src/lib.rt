@@ -3,6 +3,7 @@
 
 mod held;
 pub mod laws;
+mod pairs;
 mod search;
 mod toggle_wave;
 mod wave;

@@ -1,7 +1,8 @@
 //! The changes of a wave, as it holds them.
-ghost use Rattle.std.specs.Prelude.{◌≡◌, ◌<◌, ◌≤◌, IfOk, drop, length, slice_index_or};
-ghost use Rattle.mp_wave.specs.ToggleWaves.{level_after, toggle_changes};
+ghost use Rattle.std.specs.Prelude.{◌≡◌, ◌<◌, ◌≤◌, drop, length, slice_index_or};
+ghost use Rattle.mp_wave.specs.ToggleWaves.{level_after};
 
+use crate::pairs::{long_pairs, pairs_of};
 use std::alloc::{AllocError, Global};
 
 /// Changes by rising time, each a time and the level from then on: an iterator over these pairs. Nothing is copied where they are listed.
@@ -9,6 +10,8 @@ use std::alloc::{AllocError, Global};
 pub enum WaveChanges<'a> {
     /// The level before them, and the times at which it toggles: to 1 from 0, and else to 0.
     Toggles { level: u64, times: &'a [u32] },
+    /// The times and levels themselves, where these are below 2^32.
+    ShortPairs(&'a [(u32, u32)]),
     /// The times and levels themselves.
     Pairs(&'a [(u32, u64)]),
 }
@@ -34,6 +37,7 @@ impl<'a> WaveChanges<'a> {
     {
         match self {
             WaveChanges::Toggles { times, .. } => times.len(),
+            WaveChanges::ShortPairs(pairs) => pairs.len(),
             WaveChanges::Pairs(pairs) => pairs.len(),
         }
     }
@@ -46,6 +50,7 @@ impl<'a> WaveChanges<'a> {
     {
         match self {
             WaveChanges::Toggles { times, .. } => time_of(times, place),
+            WaveChanges::ShortPairs(pairs) => pairs[place].0,
             WaveChanges::Pairs(pairs) => pairs[place].0,
         }
     }
@@ -58,6 +63,7 @@ impl<'a> WaveChanges<'a> {
     {
         match self {
             WaveChanges::Toggles { level, .. } => toggled(1u64.saturating_sub(level), place),
+            WaveChanges::ShortPairs(pairs) => u64::from(pairs[place].1),
             WaveChanges::Pairs(pairs) => pairs[place].1,
         }
     }
@@ -105,6 +111,7 @@ impl<'a> WaveChanges<'a> {
                 level: level_after(level, place),
                 times: times_from(times, place),
             },
+            WaveChanges::ShortPairs(pairs) => WaveChanges::ShortPairs(&pairs[place..]),
             WaveChanges::Pairs(pairs) => WaveChanges::Pairs(&pairs[place..]),
         }
     }
@@ -120,6 +127,7 @@ impl<'a> WaveChanges<'a> {
                 level,
                 times: &times[..place],
             },
+            WaveChanges::ShortPairs(pairs) => WaveChanges::ShortPairs(&pairs[..place]),
             WaveChanges::Pairs(pairs) => WaveChanges::Pairs(&pairs[..place]),
         }
     }
@@ -153,6 +161,7 @@ impl<'a> WaveChanges<'a> {
     {
         match self {
             WaveChanges::Toggles { level, times } => pairs_of(alloc, level, times),
+            WaveChanges::ShortPairs(pairs) => long_pairs(alloc, pairs),
             WaveChanges::Pairs(pairs) => Vec::from_slice(alloc, pairs),
         }
     }
@@ -166,6 +175,7 @@ impl<'a> WaveChanges<'a> {
     {
         match self {
             WaveChanges::Toggles { times, .. } => times.partition_point(|t| *t <= time),
+            WaveChanges::ShortPairs(pairs) => pairs.partition_point(|change| change.0 <= time),
             WaveChanges::Pairs(pairs) => pairs.partition_point(|change| change.0 <= time),
         }
     }
@@ -179,6 +189,7 @@ impl<'a> WaveChanges<'a> {
     {
         match self {
             WaveChanges::Toggles { times, .. } => times.partition_point(|t| *t < time),
+            WaveChanges::ShortPairs(pairs) => pairs.partition_point(|change| change.0 < time),
             WaveChanges::Pairs(pairs) => pairs.partition_point(|change| change.0 < time),
         }
     }
@@ -236,21 +247,4 @@ fn level_after(level: u64, toggles: usize) -> u64
         return level;
     }
     toggled(1u64.saturating_sub(level), toggles - 1)
-}
-
-/// The changes of a level that toggles at these times.
-pub(crate) fn pairs_of(
-    alloc: Global,
-    level: u64,
-    times: &[u32],
-) -> Result<Vec<(u32, u64)>, AllocError>
-    ensures { IfOk result (λ pairs. pairs.items ≡ toggle_changes level times.now) }
-{
-    let mut pairs = Vec::with_capacity(alloc, times.len())?;
-    let mut present = level;
-    for time in times {
-        present = 1u64.saturating_sub(present);
-        pairs.push((*time, present))?;
-    }
-    Ok(pairs)
 }

@@ -15,6 +15,6 @@ pub use division::{divided, parts};
 pub use line::{first_line, is_plain, line_words};
 pub use line_error::LineError;
 pub use toggles::Toggles;
-pub use wave_line::Changes;
+pub use wave_line::{Changes, ShortChanges};
 pub use word::{first_word, name_of, word_count, words};
 pub use word_list::{changes, inputs, number_word, numbers, outputs, wire_or_none};

@@ -10,6 +10,11 @@ slice_bounds-extend_from_slice-end c =
     let within = subst (λ (h : Held). c.args.count ≤ length (held_changes 0 h)) c.in-Toggles.is (c.requires 0) in
     length_front c.args.count c.as_slice-all.result.now (omega (arith, within, length_toggles 0 c.in-Toggles.times.items, ap length c.as_slice-all.ensures.value))
 
+pub slice_bounds-extend_from_slice-end-in-ShortPairs : goal.slice_bounds-extend_from_slice-end-in-ShortPairs
+slice_bounds-extend_from_slice-end-in-ShortPairs c =
+    let within = subst (λ (h : Held). c.args.count ≤ length (held_changes 0 h)) c.in-ShortPairs.is (c.requires 0) in
+    length_front c.args.count c.as_slice-all-in-ShortPairs.result.now (omega (arith, within, ap length c.as_slice-all-in-ShortPairs.ensures.value))
+
 pub slice_bounds-extend_from_slice-end-in-Pairs : goal.slice_bounds-extend_from_slice-end-in-Pairs
 slice_bounds-extend_from_slice-end-in-Pairs c =
     let within = subst (λ (h : Held). c.args.count ≤ length (held_changes 0 h)) c.in-Pairs.is (c.requires 0) in

@@ -31,6 +31,18 @@ returns-in-Toggles-clause-late c =
     (c.partition_point.ensures.partitioned (λ (t : ℕ). nat_lt t c.args.time) (always_returns_same _ _ _ (λ a r f k. search (rules, of_calls)))
     (IsPartitionedBy-ltb (λ (t : ℕ). t) c.in-Toggles.times.now c.args.time (times_rise c.in-Toggles.level c.in-Toggles.times.now (subst Rises c.in-Toggles.is c.requires)))))).1
 
+pub returns-in-ShortPairs-clause-early : goal.returns-in-ShortPairs-clause-early
+returns-in-ShortPairs-clause-early c =
+    (subst (λ (w : WaveChanges). IsParted c.args.time w c.partition_point-in-ShortPairs.result) (sym c.in-ShortPairs.is)
+    (c.partition_point-in-ShortPairs.ensures.partitioned (λ (p : ℕ × ℕ). nat_lt p.0 c.args.time) (always_returns_same _ _ _ (λ a r f k. search (rules, of_calls)))
+    (IsPartitionedBy-ltb (λ (p : ℕ × ℕ). p.0) c.in-ShortPairs.pairs.now c.args.time (subst Rises c.in-ShortPairs.is c.requires)))).0
+
+pub returns-in-ShortPairs-clause-late : goal.returns-in-ShortPairs-clause-late
+returns-in-ShortPairs-clause-late c =
+    (subst (λ (w : WaveChanges). IsParted c.args.time w c.partition_point-in-ShortPairs.result) (sym c.in-ShortPairs.is)
+    (c.partition_point-in-ShortPairs.ensures.partitioned (λ (p : ℕ × ℕ). nat_lt p.0 c.args.time) (always_returns_same _ _ _ (λ a r f k. search (rules, of_calls)))
+    (IsPartitionedBy-ltb (λ (p : ℕ × ℕ). p.0) c.in-ShortPairs.pairs.now c.args.time (subst Rises c.in-ShortPairs.is c.requires)))).1
+
 pub returns-in-Pairs-clause-early : goal.returns-in-Pairs-clause-early
 returns-in-Pairs-clause-early c =
     (subst (λ (w : WaveChanges). IsParted c.args.time w c.partition_point-in-Pairs.result) (sym c.in-Pairs.is)

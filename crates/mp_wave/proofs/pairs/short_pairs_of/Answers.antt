@@ -1,6 +1,6 @@
 use Rattle.std.proofs.Common.{arith}
 use Rattle.mp_wave.proofs.WaveChangesLemmas.{pairs_next, pairs_over}
-use Rattle.mp_wave.proofs.wave_changes.pairs_of.Goals as goal
+use Rattle.mp_wave.proofs.pairs.short_pairs_of.Goals as goal
 
 pub loop-time-preserved : goal.loop-time-preserved
 loop-time-preserved c =

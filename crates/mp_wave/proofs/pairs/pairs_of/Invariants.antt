@@ -1,6 +1,6 @@
 use Rattle.std.proofs.Common.{◌≡◌, ◌++◌, drop}
 use Rattle.mp_wave.specs.ToggleWaves.{toggle_changes}
-use Rattle.mp_wave.proofs.wave_changes.pairs_of.Given as goal
+use Rattle.mp_wave.proofs.pairs.pairs_of.Given as goal
 
 -- with the toggles to come those listed are all
 abbrev pub invariant-loop-time : goal.invariant-loop-time
