@@ -1,3 +1,4 @@
 mod WheelLemmas
 mod LevelLemmas
+pub mod PartLemmas
 mod FiringLemmas

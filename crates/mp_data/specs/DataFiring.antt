@@ -1,12 +1,10 @@
 -- Modules with data fire: their states go on, and the wires that they drive are scheduled.
 use Rattle.std.specs.Prelude.{◌≡◌, ℕ, ◌<◌, List, [], Option, Some, None, length, slice_set, slice_index_or, ◌==◌, if◌then◌else◌}
 use Rattle.std.specs.List.{flat_map}
-use Rattle.mp_modules.specs.Memories.{with_outputs}
-use Rattle.mp_modules.specs.declared.core_module.CoreModule.TheVariants as core
-use Rattle.mp_storage.specs.declared.any_module.AnyModule.TheVariants as parts
 use Rattle.mp_events.specs.Adding.{listed}
 use Rattle.mp_events.specs.Firing.{no_port}
 use Rattle.mp_data.specs.declared.level_change.LevelChange.{LevelChange}
+use Rattle.mp_data.specs.declared.data_part.DataPart.TheVariants.{Buf}
 use Rattle.mp_data.specs.declared.data_module.DataModule.{DataModule}
 use Rattle.mp_data.specs.DataModules.{stepped, events_of, changes_of}
 
@@ -15,8 +13,8 @@ place_at places q = slice_index_or places q None
 
 abbrev pub no_module : DataModule
 no_module = record {
-  part = parts.Core core.Buf;
-  memory = with_outputs [] [];
+  part = Buf;
+  outputs = record { first = 0; second = 0; third = 0 };
   inputs = [];
   ports = record { level = no_port; bits = record { first = no_port; second = no_port; third = no_port } };
 }

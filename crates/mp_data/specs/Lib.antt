@@ -1,4 +1,5 @@
 pub mod Levels
 pub mod LevelWheels
+pub mod DataParts
 pub mod DataModules
 pub mod DataFiring

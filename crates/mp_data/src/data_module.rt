@@ -2,36 +2,67 @@
 ghost use Rattle.std.specs.Prelude.{◌≡◌, ℕ, ◌<◌, Some, length};
 ghost use Rattle.mp_data.specs.Levels.{level_at};
 
+use crate::data_part::DataPart;
 use crate::data_ports::DataPorts;
-use mp_modules::{EventModule, MOST_INPUTS, Memory};
-use mp_storage::AnyModule;
+use crate::output_levels::OutputLevels;
+use mp_modules::MOST_INPUTS;
+use mp_storage::Computed;
 
-/// A module with data: what it does, its state, the numbers that its inputs read, and its outputs.
+/// A module with data: what it does, the levels of its outputs, the numbers that its inputs read, and what it drives. No more of its state is
+/// kept, since no step needs it.
 #[derive(Clone, Copy, Debug)]
 pub struct DataModule {
-    pub part: AnyModule,
-    pub memory: Memory,
+    pub part: DataPart,
+    pub outputs: OutputLevels,
     pub inputs: [Option<u16>; MOST_INPUTS],
     pub ports: DataPorts,
 }
 
 impl DataModule {
-    ghost use Rattle.std.specs.Prelude.{◌≡◌, ◌<◌, length};
-    ghost use Rattle.mp_data.specs.DataModules.{ReadsBelow, stepped};
+    ghost use Rattle.std.specs.Prelude.{◌≡◌, ℕ, ◌<◌, length};
+    ghost use Rattle.mp_data.specs.Levels.{level_at};
+    ghost use Rattle.mp_data.specs.DataModules.{ReadsBelow, input_of, stepped};
 
-    /// Goes on to the next unit, in which numbers have these levels.
+    /// Goes on to the next unit, in which numbers have these levels. It reads the inputs that a module of its kind has, and writes the outputs.
     #[inline(always)]
     pub(crate) fn step(&mut self, levels: &[u64])
         requires { ReadsBelow (length levels.now) self.old }
         ensures { self.new ≡ stepped levels.now self.old }
     {
-        let inputs = [
-            level_of(levels, self.inputs[0]),
-            level_of(levels, self.inputs[1]),
-            level_of(levels, self.inputs[2]),
-            level_of(levels, self.inputs[3]),
-        ];
-        self.part.step(&mut self.memory, &inputs);
+        let level = self.input_level(levels, 0);
+        match self.part {
+            DataPart::Buf => self.outputs.first = level,
+            DataPart::Reg { .. } => {
+                let capture = self.input_level(levels, 1);
+                let pass = self.input_level(levels, 2);
+                self.outputs.first = latched(self.outputs.first, [level, capture, pass]);
+                self.outputs.second = capture;
+                self.outputs.third = pass;
+            }
+            DataPart::AddC { width, addend } => {
+                self.outputs.first = Computed::AddC { addend, width }.output(&[level]);
+            }
+            DataPart::XorC { mask } => {
+                self.outputs.first = Computed::XorC { mask }.output(&[level]);
+            }
+            DataPart::Sum { width } => {
+                let other = self.input_level(levels, 1);
+                self.outputs.first = Computed::Sum { width }.output(&[level, other]);
+            }
+            DataPart::Bit { place } => {
+                self.outputs.first = Computed::Bit { place }.output(&[level]);
+            }
+        }
+    }
+
+    /// The level at an input, 0 where it reads no number.
+    #[inline(always)]
+    fn input_level(&self, levels: &[u64], port: usize) -> u64
+        requires port { port < 4 }
+        requires reads { ReadsBelow (length levels.now) self.now }
+        ensures { result ≡ level_at levels.now (input_of self.now port) }
+    {
+        level_of(levels, self.inputs[port])
     }
 }
 
@@ -44,5 +75,19 @@ fn level_of(levels: &[u64], number: Option<u16>) -> u64
     match number {
         Some(number) => levels[number as usize],
         None => 0,
+    }
+}
+
+ghost use Rattle.mp_storage.specs.Reg.{latched};
+
+/// What a register gives that held a level, by the levels of its data, its capture and its pass.
+#[inline(always)]
+fn latched(held: u64, levels: [u64; 3]) -> u64
+    ensures { result ≡ latched held levels }
+{
+    if levels[1] == levels[2] {
+        levels[0]
+    } else {
+        held
     }
 }

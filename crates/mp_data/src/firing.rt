@@ -27,19 +27,19 @@ fn fire_data_module(
     ensures units { OnOk result (length events.new ≡ length events.old) }
     ensures slots { OnOk result (length changes.new ≡ length changes.old) }
 {
-    let before = state.memory;
+    let before = state.outputs;
     state.step(levels);
-    let level = state.memory.output(0);
-    let turns = before.output(0) != level;
+    let level = state.outputs.first;
+    let turns = before.first != level;
     schedule_level_if(turns, state.ports.level, level, changes)?;
     schedule_if(turns, state.ports.bits.first, events)?;
     schedule_if(
-        before.output(1) != state.memory.output(1),
+        before.second != state.outputs.second,
         state.ports.bits.second,
         events,
     )?;
     schedule_if(
-        before.output(2) != state.memory.output(2),
+        before.third != state.outputs.third,
         state.ports.bits.third,
         events,
     )?;

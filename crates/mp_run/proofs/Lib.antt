@@ -7,6 +7,7 @@ mod InputLemmas
 mod MoreInputsLemmas
 mod WiringLemmas
 mod WidthLemmas
+mod PartLemmas
 mod SettlingLemmas
 mod PortLemmas
 mod SeatingLemmas

@@ -6,9 +6,6 @@ use Rattle.std.proofs.lemmas.Bool.{cases_eq, cases_lt}
 use Rattle.std.proofs.lemmas.Bool.Decides.{nat_tests}
 use Rattle.std.proofs.lemmas.List.{get_or_past, get_or_append_left, get_or_push, append-nil, length_push}
 use Rattle.std.proofs.lemmas.Option.{none-some, same_Some}
-use Rattle.mp_modules.specs.declared.memory.Memory.{Memory}
-use Rattle.mp_modules.specs.Memories.{output_of}
-use Rattle.mp_storage.specs.declared.any_module.AnyModule.{AnyModule}
 use Rattle.mp_records.specs.declared.module_record.ModuleRecord.{ModuleRecord}
 use Rattle.mp_netlist.specs.declared.driver.Driver.{Driver}
 use Rattle.mp_netlist.specs.declared.driver.Driver.TheVariants.{Nothing, Stimulus, Port}
@@ -21,7 +18,10 @@ use Rattle.mp_events.specs.declared.output_port.OutputPort.{OutputPort}
 use Rattle.mp_events.specs.declared.output_ports.OutputPorts.{OutputPorts}
 use Rattle.mp_core.specs.Beginnings.{is_first}
 use Rattle.mp_data.specs.declared.level_change.LevelChange.{LevelChange}
+use Rattle.mp_data.specs.declared.data_part.DataPart.{DataPart}
 use Rattle.mp_data.specs.declared.data_module.DataModule.{DataModule}
+use Rattle.mp_data.specs.declared.output_levels.OutputLevels.{OutputLevels}
+use Rattle.mp_data.specs.DataParts.{data_part, outputs_in}
 use Rattle.mp_data.specs.LevelWheels.{scheduled, entry_if}
 use Rattle.mp_data.specs.DataFiring.{place_at, module_at as data_module_at, no_module}
 use Rattle.mp_units.specs.DataLevels.{is_data, changes_of}
@@ -254,22 +254,22 @@ same_ports p a b c first second third =
 
 -- a module with data as it is made
 pub record IsMade (n : Circuit) (m : ℕ) (r : ModuleRecord) (inputs : List (Option ℕ)) (d : DataModule) : Type 0 where
-  pub part : d.part ≡ built n r
-  pub memory : d.memory ≡ state n m 0
+  pub part : d.part ≡ data_part (built n r)
+  pub outputs : d.outputs ≡ outputs_in (state n m 0)
   pub inputs_are : d.inputs ≡ inputs
   pub level : d.ports.level ≡ level_port_of n r
   pub bits : d.ports.bits ≡ bit_ports_of n r
 
 made_is : (n : Circuit) (m : ℕ) (r : ModuleRecord) (inputs : List (Option ℕ)) (d : DataModule) → IsMade n m r inputs d → d ≡ data_module n m r inputs
 made_is n m r inputs d is =
-    ap (λ (x : AnyModule). let v : DataModule = record { part = x; memory = d.memory; inputs = d.inputs; ports = d.ports } in v) is.part
-    ∙ ap (λ (x : Memory). let v : DataModule = record { part = built n r; memory = x; inputs = d.inputs; ports = d.ports } in v) is.memory
-    ∙ ap (λ (x : List (Option ℕ)). let v : DataModule = record { part = built n r; memory = state n m 0; inputs = x; ports = d.ports } in v) is.inputs_are
-    ∙ ap (λ (x : OutputPort). let v : DataModule = record { part = built n r; memory = state n m 0; inputs = inputs; ports = record { level = x; bits = d.ports.bits } } in v) is.level
-    ∙ ap (λ (x : OutputPorts). let v : DataModule = record { part = built n r; memory = state n m 0; inputs = inputs; ports = record { level = level_port_of n r; bits = x } } in v) is.bits
+    ap (λ (x : DataPart). let v : DataModule = record { part = x; outputs = d.outputs; inputs = d.inputs; ports = d.ports } in v) is.part
+    ∙ ap (λ (x : OutputLevels). let v : DataModule = record { part = data_part (built n r); outputs = x; inputs = d.inputs; ports = d.ports } in v) is.outputs
+    ∙ ap (λ (x : List (Option ℕ)). let v : DataModule = record { part = data_part (built n r); outputs = outputs_in (state n m 0); inputs = x; ports = d.ports } in v) is.inputs_are
+    ∙ ap (λ (x : OutputPort). let v : DataModule = record { part = data_part (built n r); outputs = outputs_in (state n m 0); inputs = inputs; ports = record { level = x; bits = d.ports.bits } } in v) is.level
+    ∙ ap (λ (x : OutputPorts). let v : DataModule = record { part = data_part (built n r); outputs = outputs_in (state n m 0); inputs = inputs; ports = record { level = level_port_of n r; bits = x } } in v) is.bits
 
 pub seats_data : (n : Circuit) (m : ℕ) (r : ModuleRecord) (inputs : List (Option ℕ)) (old new : Seating) (d : DataModule) (l : ℕ) → module_at n m ≡ Some r → is_bit_module n r ≡ false → IsMade n m r inputs d →
-    l ≡ output_of d.memory 0 → new.modules.modules.items ≡ old.modules.modules.items ++ d ∷ [] →
+    l ≡ d.outputs.first → new.modules.modules.items ≡ old.modules.modules.items ++ d ∷ [] →
     new.modules.places.items ≡ old.modules.places.items ++ Some (length old.modules.modules.items) ∷ [] →
     new.wheel ≡ scheduled old.wheel (entry_if (level_departs n d.ports.level l) d.ports.level l) → length new.wheel ≡ length old.wheel → Seats n m inputs old new
 seats_data n m r inputs old new d l at wide is level_is modules places wheel units = record {
@@ -281,7 +281,7 @@ seats_data n m r inputs old new d l at wide is level_is modules places wheel uni
       ∙ ap (λ slot. old.modules.places.items ++ place_in n (length old.modules.modules.items) slot ∷ []) (sym at);
   wheel = wheel
       ∙ ap (λ (x : OutputPort). scheduled old.wheel (entry_if (level_departs n x l) x l)) is.level
-      ∙ ap (λ k. scheduled old.wheel (entry_if (level_departs n (level_port_of n r) k) (level_port_of n r) k)) (level_is ∙ ap (λ (x : Memory). output_of x 0) is.memory)
+      ∙ ap (λ k. scheduled old.wheel (entry_if (level_departs n (level_port_of n r) k) (level_port_of n r) k)) (level_is ∙ ap (λ (x : OutputLevels). x.first) is.outputs)
       ∙ ap (λ b. scheduled old.wheel (cond b [] (first_levels n m r))) (sym wide)
       ∙ ap (λ slot. scheduled old.wheel (levels_in n m slot)) (sym at);
   units = units;

@@ -31,6 +31,7 @@ use Rattle.mp_core.specs.Copies.{AreChained}
 use Rattle.mp_core.specs.Beginnings.{is_first}
 use Rattle.mp_core.proofs.ChangeLemmas.{ports_begin, ports_wait}
 use Rattle.mp_data.specs.declared.data_module.DataModule.{DataModule}
+use Rattle.mp_data.specs.DataParts.{any_part}
 use Rattle.mp_data.specs.DataModules.{CanFire}
 use Rattle.mp_data.specs.DataFiring.{place_at, module_at as data_module_at, no_module}
 use Rattle.mp_units.specs.declared.netlist_simulation.NetlistSimulation.{NetlistSimulation}
@@ -55,6 +56,7 @@ use Rattle.mp_run.proofs.SettlingLemmas.{delay_some}
 use Rattle.mp_run.proofs.NarrowLemmas.{one_bit_module, all_bits}
 use Rattle.mp_run.proofs.NumberingLemmas.{kept_before, kept_chained, kept_slots, kept_below, old_before}
 use Rattle.mp_run.proofs.WidthLemmas.{data_first}
+use Rattle.mp_run.proofs.PartLemmas.{data_part_is}
 use Rattle.mp_run.proofs.BegunLemmas.{waves_long, wired, numbers, links, sound_run}
 use Rattle.mp_run.proofs.BeginningLemmas.{seat_of, the_before, scope, sources_own, running, bit_number, whole}
 
@@ -321,8 +323,8 @@ module _ (n : Circuit) (ok : IsCircuit n) (d : Delays) (wiring : Wiring) (ports 
         record_of = is.part;
         stands = is.stands;
         inactive = ap (seat_of n q) is.stands ∙ ap (λ b. cond b (Some q) None) is.wide;
-        does = ap (λ (m : DataModule). m.part) is.is;
-        memory = ap (λ (m : DataModule). m.memory) is.is;
+        does = ap (λ (m : DataModule). any_part m.part) is.is ∙ data_part_is n is.part is.wide;
+        outputs = ap (λ (m : DataModule). m.outputs) is.is;
         sources = sources_own n ok d wiring ports s are q is.part is.stands;
         reads = λ p. ap (λ (m : DataModule). slice_index_or m.inputs p None) is.is ∙ are.wired.by_port q low p;
         low = (wired n ok d wiring ports s are).low q;

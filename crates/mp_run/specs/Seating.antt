@@ -14,6 +14,7 @@ use Rattle.mp_core.specs.Schedules.{output_port_of}
 use Rattle.mp_core.specs.Beginnings.{is_first}
 use Rattle.mp_data.specs.declared.level_change.LevelChange.{LevelChange}
 use Rattle.mp_data.specs.declared.data_module.DataModule.{DataModule}
+use Rattle.mp_data.specs.DataParts.{data_part, outputs_in}
 use Rattle.mp_data.specs.LevelWheels.{scheduled, entry_if}
 use Rattle.mp_data.specs.DataFiring.{place_at, module_at as data_module_at, ArePlaced}
 use Rattle.mp_units.specs.DataLevels.{is_data, changes_of}
@@ -42,7 +43,7 @@ level_output_of n o = if drives_data n o.wire then output_port_of o else no_port
 
 -- a module with data at time 0, its inputs reading these numbers
 abbrev pub data_module : Circuit → ℕ → ModuleRecord → List (Option ℕ) → DataModule
-data_module n m r inputs = record { part = built n r; memory = state n m 0; inputs = inputs; ports = record { level = level_port_of n r; bits = bit_ports_of n r } }
+data_module n m r inputs = record { part = data_part (built n r); outputs = outputs_in (state n m 0); inputs = inputs; ports = record { level = level_port_of n r; bits = bit_ports_of n r } }
 
 -- what comes of it into the level wheel: its level after its delay, if that isn't the wire's initial one
 abbrev pub first_levels : Circuit → ℕ → ModuleRecord → List (ℕ × LevelChange)

@@ -10,7 +10,7 @@ ghost use Rattle.mp_run.specs.Seating.{has_data_at, level_departs, level_output_
 use crate::first_levels::initial_level;
 use crate::settling::{output_port, settled};
 use crate::widths::{has_data, is_bit_module};
-use mp_data::{DataModule, DataPorts, LevelWheel, schedule_level_if};
+use mp_data::{DataModule, DataPart, DataPorts, LevelWheel, OutputLevels, schedule_level_if};
 use mp_events::{OutputPort, OutputPorts};
 use mp_model::built;
 use mp_modules::{EventModule, MOST_INPUTS};
@@ -108,8 +108,8 @@ impl Seating {
         let number = self.modules.modules.len() as u16;
         self.modules.places.push(Some(number))?;
         self.modules.modules.push(DataModule {
-            part,
-            memory,
+            part: DataPart::of(&part),
+            outputs: OutputLevels::of(&memory),
             inputs,
             ports,
         })?;

@@ -35,8 +35,10 @@ use Rattle.mp_core.proofs.ScheduleLemmas.{few_ports, same_part, toggle_between, 
 use Rattle.mp_data.specs.declared.level_change.LevelChange.{LevelChange}
 use Rattle.mp_data.specs.declared.data_ports.DataPorts.{DataPorts}
 use Rattle.mp_data.specs.declared.data_module.DataModule.{DataModule}
+use Rattle.mp_data.specs.declared.output_levels.OutputLevels.{OutputLevels}
+use Rattle.mp_data.specs.DataParts.{any_part, outputs_in}
 use Rattle.mp_data.specs.LevelWheels.{entry_at as level_entry_at, entry_if as level_entry_if}
-use Rattle.mp_data.specs.DataModules.{CanFire, stepped, memory_after}
+use Rattle.mp_data.specs.DataModules.{CanFire, stepped, outputs_after, differing}
 use Rattle.mp_data.specs.DataFiring.{place_at, module_at as data_module_at, no_module, ArePlaced, HasKept, HaveStepped, events_in, changes_in, fired_by, changed_by}
 use Rattle.mp_units.specs.declared.data_modules.DataModules.{DataModules}
 use Rattle.mp_units.specs.DataLevels.{is_data, late_level, IsLevelAt}
@@ -71,10 +73,10 @@ module _ (n : Circuit) (ok : IsCircuit n) (scope : Scope) (numbers places events
     (levels : List ℕ) (right : (x : ℕ) → x < numbers → slice_index levels x ≡ late_level n (scope.source x) (t + 1))
     (rows : List (List FanoutEntry)) (ports : (q : ℕ) → HasPorts rows q (scope.inputs q)) (heard due : List ℕ)
     (each : (x : ℕ) → x < numbers → listed x heard ≡ bit (late_change n (scope.source x) (t + 1))) (only : AreOnlyDue rows heard due) (once : (q : ℕ) → listed q due ≤ 1) where
-  after_is : (q k : ℕ) → place_at s.places.items q ≡ Some k → memory_after levels (data_module_at s.modules.items k) ≡ state n q (t + 1)
+  after_is : (q k : ℕ) → place_at s.places.items q ≡ Some k → outputs_after levels (data_module_at s.modules.items k) ≡ outputs_in (state n q (t + 1))
   after_is q k at =
       let seat = are.seats q k at in
-      steps n ok q t seat.record_of seat.stands scope.source (scope.inputs q) seat.sources (data_module_at s.modules.items k) numbers levels seat.does seat.memory seat.reads seat.low right
+      steps n ok q t seat.record_of seat.stands scope.source (scope.inputs q) seat.sources (data_module_at s.modules.items k) numbers levels seat.does seat.outputs seat.reads seat.low right
 
   pub idle_stays : (q k : ℕ) → place_at s.places.items q ≡ Some k → listed q due ≡ 0 → state n q (t + 1) ≡ state n q t
   idle_stays q k at idle =
@@ -90,9 +92,9 @@ module _ (n : Circuit) (ok : IsCircuit n) (scope : Scope) (numbers places events
       let seat = are.seats q k at in
       let m = data_module_at s.modules.items k in
       ap (events_in levels s.modules.items) at
-      ∙ ap (λ (o : OutputPorts). fired_at o (toggles_between m.memory (memory_after levels m))) seat.bits
-      ∙ ap (λ (x : Memory). fired_at (bit_ports_of n seat.record_of) (toggles_between x (memory_after levels m))) seat.memory
-      ∙ ap (λ (x : Memory). fired_at (bit_ports_of n seat.record_of) (toggles_between (state n q t) x)) (after_is q k at)
+      ∙ ap (λ (o : OutputPorts). fired_at o (differing m.outputs (outputs_after levels m))) seat.bits
+      ∙ ap (λ (x : OutputLevels). fired_at (bit_ports_of n seat.record_of) (differing x (outputs_after levels m))) seat.outputs
+      ∙ ap (λ (x : OutputLevels). fired_at (bit_ports_of n seat.record_of) (differing (outputs_in (state n q t)) x)) (after_is q k at)
 
   abbrev events_at : ℕ → ℕ → ℕ → ℕ
   events_at k w q = count_by (is_entry k w) (events_in levels s.modules.items (place_at s.places.items q))
@@ -156,9 +158,9 @@ module _ (n : Circuit) (ok : IsCircuit n) (scope : Scope) (numbers places events
       let seat = are.seats q k at in
       let m = data_module_at s.modules.items k in
       ap (changes_in levels s.modules.items) at
-      ∙ ap (λ (o : OutputPort). level_entry_if (not (output_of m.memory 0 == output_of (memory_after levels m) 0)) o (output_of (memory_after levels m) 0)) seat.level
-      ∙ ap (λ (x : Memory). level_entry_if (not (output_of x 0 == output_of (memory_after levels m) 0)) (level_port_of n seat.record_of) (output_of (memory_after levels m) 0)) seat.memory
-      ∙ ap (λ (x : Memory). level_entry_if (not (output_of (state n q t) 0 == output_of x 0)) (level_port_of n seat.record_of) (output_of x 0)) (after_is q k at)
+      ∙ ap (λ (o : OutputPort). level_entry_if (not (m.outputs.first == (outputs_after levels m).first)) o (outputs_after levels m).first) seat.level
+      ∙ ap (λ (x : OutputLevels). level_entry_if (not (x.first == (outputs_after levels m).first)) (level_port_of n seat.record_of) (outputs_after levels m).first) seat.outputs
+      ∙ ap (λ (x : OutputLevels). level_entry_if (not (output_of (state n q t) 0 == x.first)) (level_port_of n seat.record_of) x.first) (after_is q k at)
 
   abbrev changes_at : ℕ → ℕ → ℕ → ℕ
   changes_at k x q = count_by (is_change k x) (changes_in levels s.modules.items (place_at s.places.items q))
@@ -254,11 +256,11 @@ module _ (n : Circuit) (ok : IsCircuit n) (scope : Scope) (numbers places events
 
   -- ---- states
 
-  memory_when : (q k : ℕ) (new : DataModule) (idle : Bool) → place_at s.places.items q ≡ Some k → (listed q due == 0) ≡ idle →
-      new ≡ cond idle (data_module_at s.modules.items k) (stepped levels (data_module_at s.modules.items k)) → new.memory ≡ state n q (t + 1)
-  memory_when q k new true at is same =
-      ap (λ (m : DataModule). m.memory) same ∙ (are.seats q k at).memory ∙ sym (idle_stays q k at (eqb_zero (listed q due) is))
-  memory_when q k new false at is same = ap (λ (m : DataModule). m.memory) same ∙ after_is q k at
+  outputs_when : (q k : ℕ) (new : DataModule) (idle : Bool) → place_at s.places.items q ≡ Some k → (listed q due == 0) ≡ idle →
+      new ≡ cond idle (data_module_at s.modules.items k) (stepped levels (data_module_at s.modules.items k)) → new.outputs ≡ outputs_in (state n q (t + 1))
+  outputs_when q k new true at is same =
+      ap (λ (m : DataModule). m.outputs) same ∙ (are.seats q k at).outputs ∙ ap outputs_in (sym (idle_stays q k at (eqb_zero (listed q due) is)))
+  outputs_when q k new false at is same = ap (λ (m : DataModule). m.outputs) same ∙ after_is q k at
 
   can_fire : (new : DataModule) (old : DataModule) → HasKept old new → CanFire numbers events changes old → CanFire numbers events changes new
   can_fire new old kept was = record {
@@ -285,8 +287,8 @@ module _ (n : Circuit) (ok : IsCircuit n) (scope : Scope) (numbers places events
           record_of = seat.record_of;
           stands = seat.stands;
           inactive = ap (λ (f : ℕ → Option ℕ). f q) same_place ∙ seat.inactive;
-          does = kept.part ∙ seat.does;
-          memory = memory_when q k (data_module_at new.modules.items k) (listed q due == 0) at refl (have.fired q k at);
+          does = ap any_part kept.part ∙ seat.does;
+          outputs = outputs_when q k (data_module_at new.modules.items k) (listed q due == 0) at refl (have.fired q k at);
           sources = subst (λ (f : ℕ → ℕ × ℕ). map f (later.inputs q) ≡ map source_of seat.record_of.inputs) (sym same_source)
               (subst (λ (f : ℕ → List ℕ). map scope.source (f q) ≡ map source_of seat.record_of.inputs) (sym same_inputs) seat.sources);
           reads = λ p. ap (λ (xs : List (Option ℕ)). slice_index_or xs p None) kept.inputs ∙ seat.reads p ∙ sym (ap (λ (f : ℕ → List ℕ). number_at (f q) p) same_inputs);

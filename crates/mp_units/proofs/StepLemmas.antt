@@ -1,12 +1,12 @@
 -- A module with data goes on to its state in the next unit, and stays in it where nothing is heard.
-use Rattle.std.proofs.Common.{◌≡◌, ℕ, zero, suc, ◌+◌, ◌<◌, Bool, true, false, not, List, [], ◌∷◌, Some, All, length, map, refl, sym, ap, ◌∙◌, arith}
+use Rattle.std.proofs.Common.{◌≡◌, ℕ, zero, suc, ◌+◌, ◌<◌, Bool, true, false, not, List, [], ◌∷◌, Some, All, length, map, refl, sym, ap, ◌∙◌, arith, subst}
 use Rattle.std.specs.Prelude.{◌==◌, slice_index}
 use Rattle.std.proofs.lemmas.Bool.{eqb-true}
 use Rattle.std.proofs.lemmas.List.Elements.{All-head, All-tail}
 use Rattle.mp_modules.specs.declared.memory.Memory.{Memory}
 use Rattle.mp_modules.specs.Memories.{input_levels, is_event}
 use Rattle.mp_storage.specs.declared.any_module.AnyModule.{AnyModule}
-use Rattle.mp_storage.specs.AnyModules.{step}
+use Rattle.mp_storage.specs.AnyModules.{settle, step}
 use Rattle.mp_records.specs.declared.module_record.ModuleRecord.{ModuleRecord}
 use Rattle.mp_records.specs.declared.ports.Input.{Input}
 use Rattle.mp_netlist.specs.Circuit.{Circuit, IsCircuit, module_at}
@@ -27,7 +27,11 @@ use Rattle.mp_core.proofs.PortEventLemmas.{held, same_head, same_rest, ports_hav
 use Rattle.mp_core.proofs.NumberLemmas.{no_events_when}
 use Rattle.mp_data.specs.declared.data_module.DataModule.{DataModule}
 use Rattle.mp_data.specs.Levels.{level_at}
-use Rattle.mp_data.specs.DataModules.{input_of, inputs_of, memory_after}
+use Rattle.mp_data.specs.declared.data_part.DataPart.{DataPart}
+use Rattle.mp_data.specs.declared.output_levels.OutputLevels.{OutputLevels}
+use Rattle.mp_data.specs.DataParts.{any_part, outputs_in, next_outputs}
+use Rattle.mp_data.specs.DataModules.{input_of, inputs_of, outputs_after}
+use Rattle.mp_data.proofs.PartLemmas.{first_step, later_step}
 use Rattle.mp_units.specs.DataLevels.{late_level}
 use Rattle.mp_units.specs.DataSeats.{number_at}
 
@@ -54,18 +58,33 @@ read_level n source numbers u levels right (x ∷ xs) (i ∷ is) (suc p) same lo
     read_level n source numbers u levels right xs is p (same_rest same) (All-tail (λ y. y < numbers) x xs low)
 
 module _ (n : Circuit) (ok : IsCircuit n) (q t : ℕ) (r : ModuleRecord) (stands : module_at n q ≡ Some r) (source : ℕ → ℕ × ℕ) (xs : List ℕ) (same : map source xs ≡ map source_of r.inputs) where
+  -- a step from its state goes by the outputs alone
+  goes_on : (part : DataPart) → any_part part ≡ built n r → (t : ℕ) (x : List ℕ) → outputs_in (step (any_part part) (state n q t) x) ≡ next_outputs part (outputs_in (state n q t)) x
+  goes_on part does zero x =
+      let first : state n q 0 ≡ settle (any_part part) (inputs_by n (level n) r 0) =
+      (satisfies n ok).settled q r stands ∙ ap (λ (a : AnyModule). settle a (inputs_by n (level n) r 0)) (sym does) in
+      subst (λ (s : Memory). outputs_in (step (any_part part) s x) ≡ next_outputs part (outputs_in s) x) (sym first) (first_step part (inputs_by n (level n) r 0) x)
+  goes_on part does (suc u) x =
+      let next : u + 1 ≡ suc u = omega arith in
+      let later : state n q (suc u) ≡ step (any_part part) (state n q u) (inputs_by n (level n) r (u + 1)) =
+      ap (state n q) (sym next) ∙ (satisfies n ok).stepped q u r stands ∙ ap (λ (a : AnyModule). step a (state n q u) (inputs_by n (level n) r (u + 1))) (sym does) in
+      subst (λ (s : Memory). outputs_in (step (any_part part) s x) ≡ next_outputs part (outputs_in s) x) (sym later)
+      (later_step part (state n q u) (inputs_by n (level n) r (u + 1)) x)
+
   -- where the levels are those of the next unit
-  pub steps : (m : DataModule) (numbers : ℕ) (levels : List ℕ) → m.part ≡ built n r → m.memory ≡ state n q t → ((p : ℕ) → input_of m p ≡ number_at xs p) → All (λ x. x < numbers) xs →
-      ((x : ℕ) → x < numbers → slice_index levels x ≡ late_level n (source x) (t + 1)) → memory_after levels m ≡ state n q (t + 1)
-  steps m numbers levels does memory reads low right =
+  pub steps : (m : DataModule) (numbers : ℕ) (levels : List ℕ) → any_part m.part ≡ built n r → m.outputs ≡ outputs_in (state n q t) → ((p : ℕ) → input_of m p ≡ number_at xs p) → All (λ x. x < numbers) xs →
+      ((x : ℕ) → x < numbers → slice_index levels x ≡ late_level n (source x) (t + 1)) → outputs_after levels m ≡ outputs_in (state n q (t + 1))
+  steps m numbers levels does outputs reads low right =
       let at : (p : ℕ) → level_at levels (input_of m p) ≡ slice_index (inputs_by n (level n) r (t + 1)) p =
       λ p. ap (level_at levels) (reads p) ∙ read_level n source numbers (t + 1) levels right xs r.inputs p same low in
       let inputs : inputs_of levels m ≡ input_levels (inputs_by n (level n) r (t + 1)) = four_same _ _ _ _ _ _ _ _ (at 0) (at 1) (at 2) (at 3) in
-      ap (λ (part : AnyModule). step part m.memory (inputs_of levels m)) does
-      ∙ ap (λ (k : Memory). step (built n r) k (inputs_of levels m)) memory
-      ∙ ap (step (built n r) (state n q t)) inputs
+      ap (λ (o : OutputLevels). next_outputs m.part o (inputs_of levels m)) outputs
+      ∙ sym (goes_on m.part does t (inputs_of levels m))
+      ∙ ap (λ (part : AnyModule). outputs_in (step part (state n q t) (inputs_of levels m))) does
+      ∙ ap outputs_in
+      (ap (step (built n r) (state n q t)) inputs
       ∙ step_padded (built n r) (state n q t) (inputs_by n (level n) r (t + 1))
-      ∙ sym ((satisfies n ok).stepped q t r stands)
+      ∙ sym ((satisfies n ok).stepped q t r stands))
 
   not_none : (b : Bool) → not b ≡ false → b ≡ true
   not_none true is = refl

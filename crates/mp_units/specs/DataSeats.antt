@@ -14,6 +14,7 @@ use Rattle.mp_core.specs.PortEvents.{source_of}
 use Rattle.mp_core.specs.Schedules.{output_port_of}
 use Rattle.mp_core.specs.Scopes.{Scope}
 use Rattle.mp_data.specs.declared.data_module.DataModule.{DataModule}
+use Rattle.mp_data.specs.DataParts.{any_part, outputs_in}
 use Rattle.mp_data.specs.DataModules.{input_of, CanFire}
 use Rattle.mp_data.specs.DataFiring.{place_at, module_at as data_module_at, ArePlaced}
 use Rattle.mp_units.specs.declared.data_modules.DataModules.{DataModules}
@@ -40,14 +41,14 @@ number_at [] p = None
 number_at (x ∷ xs) zero = Some x
 number_at (x ∷ xs) (suc p) = number_at xs p
 
--- at the place of a module with data: its inputs read numbers, its ports are its own, only its first output has data, and it is in its state
+-- at the place of a module with data: its inputs read numbers, its ports are its own, only its first output has data, and its outputs are those
 -- at t
 pub record IsDataSeat (n : Circuit) (scope : Scope) (numbers events changes t q : ℕ) (m : DataModule) : Type 0 where
   pub record_of : ModuleRecord
   pub stands : module_at n q ≡ Some record_of
   pub inactive : scope.place q ≡ None
-  pub does : m.part ≡ built n record_of
-  pub memory : m.memory ≡ state n q t
+  pub does : any_part m.part ≡ built n record_of
+  pub outputs : m.outputs ≡ outputs_in (state n q t)
   pub sources : map scope.source (scope.inputs q) ≡ map source_of record_of.inputs
   pub reads : (p : ℕ) → input_of m p ≡ number_at (scope.inputs q) p
   pub low : All (λ x. x < numbers) (scope.inputs q)

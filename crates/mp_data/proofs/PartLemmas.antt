@@ -1,0 +1,28 @@
+-- Modules with data go on by their outputs alone.
+use Rattle.std.proofs.Common.{◌≡◌, ℕ, List, refl}
+use Rattle.mp_modules.specs.declared.memory.Memory.{Memory}
+use Rattle.mp_storage.specs.AnyModules.{settle, step}
+use Rattle.mp_data.specs.declared.data_part.DataPart.{DataPart}
+use Rattle.mp_data.specs.declared.data_part.DataPart.TheVariants.{Buf, Reg, AddC, XorC, Sum, Bit}
+use Rattle.mp_data.specs.DataParts.{any_part, outputs_in, next_outputs}
+
+-- the outputs of a step after one at time 0
+pub first_step : (part : DataPart) (x y : List ℕ) → outputs_in (step (any_part part) (settle (any_part part) x) y) ≡ next_outputs part (outputs_in (settle (any_part part) x)) y
+unfolding settle step
+first_step Buf x y = refl
+first_step (Reg initial) x y = refl
+first_step (AddC width addend) x y = refl
+first_step (XorC mask) x y = refl
+first_step (Sum width) x y = refl
+first_step (Bit place) x y = refl
+
+-- and of one after another
+pub later_step : (part : DataPart) (memory : Memory) (x y : List ℕ) →
+    outputs_in (step (any_part part) (step (any_part part) memory x) y) ≡ next_outputs part (outputs_in (step (any_part part) memory x)) y
+unfolding step
+later_step Buf memory x y = refl
+later_step (Reg initial) memory x y = refl
+later_step (AddC width addend) memory x y = refl
+later_step (XorC mask) memory x y = refl
+later_step (Sum width) memory x y = refl
+later_step (Bit place) memory x y = refl
