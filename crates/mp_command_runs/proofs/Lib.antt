@@ -1,4 +1,3 @@
 pub mod InputLemmas
-pub mod FlushLemmas
 pub mod RunLemmas
 mod ViewLemmas

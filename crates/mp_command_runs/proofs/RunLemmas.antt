@@ -1,6 +1,7 @@
 -- The ends of a run.
-use Rattle.std.proofs.Common.{◌≡◌, ℕ, ◌≤◌, ◌⊎◌, inl, inr, Bool, false, List, [], length, Option, Result, Ok, Err, IsErrAnd, refl, sym, ap, subst}
+use Rattle.std.proofs.Common.{◌≡◌, ℕ, ◌+◌, ◌<◌, ◌≤◌, ◌⊎◌, inl, inr, Bool, false, List, [], ◌++◌, length, Option, Result, Ok, Err, IsErrAnd, refl, sym, ap, subst, ◌∙◌, arith}
 use Rattle.std.proofs.lemmas.Bool.{le-leb}
+use Rattle.std.proofs.lemmas.List.{length-append}
 use Rattle.std.proofs.lemmas.Result.{err_from_is_err_and}
 use Rattle.mp_netlist.specs.Circuit.{Circuit}
 use Rattle.mp_streams.specs.Outgoing.{Outgoing}
@@ -9,6 +10,7 @@ use Rattle.mp_streams.specs.WriteErrors.{Writes}
 use Rattle.mp_streams.specs.declared.failed.Failed.{Failed}
 use Rattle.mp_streams.specs.declared.write_error.WriteError.{WriteError}
 use Rattle.mp_streams.specs.declared.write_error.WriteError.TheVariants as writes
+use Rattle.mp_streams.proofs.FlushLemmas.{both, flushed, unflushed, flushed_part, unflushed_part}
 use Rattle.mp_streams.proofs.OutLemmas.{puts_unmade}
 use Rattle.mp_words.specs.declared.line_error.LineError.TheVariants as lines
 use Rattle.mp_text.specs.declared.text_code.TextCode.{TextCode}
@@ -23,7 +25,6 @@ use Rattle.mp_command_runs.specs.Limits.{max_input}
 use Rattle.mp_command_runs.specs.Openings.{counted_netlist, within_size}
 use Rattle.mp_command_runs.specs.RunFaults.{fault_of_text, fault_at, fault_of_write}
 use Rattle.mp_command_runs.specs.Runs.{IsInput, HasInput, StaysUnread, Refuses, WritesOne, Ran, RanFrom}
-use Rattle.mp_command_runs.proofs.FlushLemmas.{flushed, unflushed, flushed_part, unflushed_part, nothing_held}
 use Rattle.mp_command_runs.proofs.InputLemmas.{some_input, within_size-long, within_size-short}
 
 -- ---- a run that writes nothing
@@ -61,6 +62,16 @@ module _ {S : Type 0} (seats : Bool) (opening : Result Circuit RunFault) (IsText
   wrote_part r error is put = let p = err_from_is_err_and r is in rw (p.1, p.2) (failed_by error put)
 
 -- ---- what is held is passed on
+
+-- nothing can fail where nothing is held
+pub nothing_held : {S : Type 0} {error : Failed} (a b c : Outgoing S) → a.held ≡ [] → Writes {T = Unit {0}} (Err writes.OutOfMemory) a b [] → outs.Writes {T = Unit {0}} (Err error) b c [] → ⊥
+nothing_held {error = error} a b c none first second =
+    let all = both a b c [] first.front first.lost second.front second.lost first.held second.held in
+    let some : 0 < length second.lost = second.ends.2 in
+    let long : 0 ≡ length (first.front ++ second.front) + (length c.held + (length second.lost + length first.lost)) =
+    sym (ap (λ l. length (l ++ [])) none) ∙ ap length all ∙ length-append (first.front ++ second.front) (c.held ++ (second.lost ++ first.lost))
+    ∙ ap (λ n. length (first.front ++ second.front) + n) (length-append c.held (second.lost ++ first.lost) ∙ ap (λ n. length c.held + n) (length-append second.lost first.lost)) in
+    omega (arith, some, long)
 
 module _ {S : Type 0} (opening : Result Circuit RunFault) (IsText : Circuit → List ℕ → Type 0) (a b c : Outgoing S) where
   -- one text becomes another

@@ -2,3 +2,4 @@ pub mod PlaceLemmas
 pub mod StreamLemmas
 pub mod LeftLemmas
 pub mod OutLemmas
+pub mod FlushLemmas

@@ -6,7 +6,7 @@ use Rattle.mp_streams.specs.Outgoing as outs
 use Rattle.mp_streams.specs.declared.failed.Failed.{Failed}
 use Rattle.mp_streams.specs.declared.write_error.WriteError.{WriteError}
 use Rattle.mp_streams.specs.declared.write_error.WriteError.TheVariants as writes
-use Rattle.mp_talk.proofs.FlushLemmas.{passed_on, not_passed_on}
+use Rattle.mp_streams.proofs.FlushLemmas.{passed_on, not_passed_on}
 use Rattle.mp_talk.specs.Answers.{Answering, AreAnswers, PutsAnswer}
 
 module _ {S K : Type 0} (Answers : Answering K) where

@@ -1,3 +1,2 @@
-mod FlushLemmas
 mod AnswerLemmas
 mod TalkLemmas

@@ -1,22 +1,6 @@
 -- The edits of a netlist's bundles, once its wires are added, are not refused.
-use Rattle.std.proofs.Common.{◌≡◌, ℕ, ◌<◌, ◌≤◌, true, false, ◌==◌, ◌&&◌, List, [], ◌∷◌, ◌++◌, length, get_or, All, Option, Some, None, Ok, is_none, refl, sym, ap, subst, ◌∙◌, arith, length-append}
-use Rattle.std.specs.Prelude.{nat_le}
-use Rattle.std.specs.List.{flat_map}
-use Rattle.std.specs.Str.{bytes_eq}
-use Rattle.std.proofs.lemmas.Bool.{eq-eqb, lt-ltb}
-use Rattle.std.proofs.lemmas.Bool.Decides.{nat_tests}
-use Rattle.std.proofs.lemmas.List.{append-nil, get_or_at, length_push}
-use Rattle.std.proofs.lemmas.List.Concat.{flat_map-append}
-use Rattle.std.proofs.lemmas.List.Elements.{All-cons, All-nil, All-head, All-weaker}
-use Rattle.mp_records.specs.declared.module_record.ModuleRecord.{ModuleRecord}
-use Rattle.mp_records.specs.declared.bundle_record.BundleRecord.{BundleRecord}
-use Rattle.mp_records.specs.declared.single_edit.SingleEdit.{SingleEdit}
-use Rattle.mp_records.specs.declared.single_edit.SingleEdit.TheVariants.{AddBundle}
-use Rattle.mp_netlist.specs.Limits.{max_bundles, max_setup}
-use Rattle.mp_netlist.specs.Circuit.{Circuit, IsCircuit, IsBundle, bundle_at, HasNames}
+use Rattle.mp_text.proofs.Names.{◌≡◌, ℕ, ◌<◌, ◌≤◌, true, false, ◌==◌, ◌&&◌, List, [], ◌∷◌, ◌++◌, length, get_or, All, Option, Some, None, Ok, is_none, refl, sym, ap, subst, ◌∙◌, arith, length-append, nat_le, flat_map, bytes_eq, eq-eqb, lt-ltb, nat_tests, append-nil, get_or_at, length_push, flat_map-append, All-cons, All-nil, All-head, All-weaker, ModuleRecord, BundleRecord, SingleEdit, AddBundle, max_bundles, max_setup, Circuit, IsCircuit, IsBundle, bundle_at, HasNames, wire_name, bundle_by_name, bundle_edits}
 use Rattle.mp_netlist.specs.Edits.{refusal, edited, after_single, stands, width_named, bundle_checks, new_bundle}
-use Rattle.mp_text.specs.Written.{wire_name}
-use Rattle.mp_text.specs.RoundTrips.{bundle_by_name, bundle_edits}
 use Rattle.mp_text.proofs.SlotLemmas.{All-flat_map, All-from_flat_map, Unnamed, named_nowhere, front_unnamed}
 use Rattle.mp_text.proofs.StageLemmas.{none_failing, and_both, is_done, Reaches, Reaches-none, Reaches-one, Steps, stage}
 use Rattle.mp_text.proofs.WireStageLemmas.{made, HasWires, HasWires-compact, IsBack, is_back}

@@ -1,3 +1,4 @@
+mod Names
 pub mod RecordBackLemmas
 pub mod ReplayLemmas
 pub mod RoundTripLemmas

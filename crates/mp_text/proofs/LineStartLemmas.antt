@@ -1,16 +1,5 @@
 -- How a line begins decides what it says.
-use Rattle.std.proofs.Common.{◌≡◌, ◌⊎◌, inl, inr, ℕ, ◌+◌, ◌-◌, ◌<◌, ◌==◌, ◌||◌, min, Bool, true, false, cond, List, [], ◌∷◌, length, drop, None, Some, Result, Ok, Err, IfErr, refl, ap, ◌∙◌, arith, true≢false, length-take, length-drop}
-use Rattle.std.specs.Prelude.{nat_le, slice_get}
-use Rattle.std.specs.Str.{byte}
-use Rattle.std.specs.List.{before_first, after_first, position_or_len, list_all}
-use Rattle.std.specs.Option.{ok_or}
-use Rattle.std.proofs.lemmas.Bool.{cases_eq, leb-false}
-use Rattle.std.proofs.lemmas.Bool.Decides.{nat_tests}
-use Rattle.mp_words.specs.declared.line_error.LineError.{LineError}
-use Rattle.mp_words.specs.declared.line_error.LineError.TheVariants.{WordCount, UnknownStatement, NotAscii, OutOfMemory}
-use Rattle.mp_words.specs.Lines.{is_allowed}
-use Rattle.mp_words.specs.Words.{words_of}
-use Rattle.mp_words.specs.Reads.{◌>>=◌}
+use Rattle.mp_text.proofs.Names.{◌≡◌, ◌⊎◌, inl, inr, ℕ, ◌+◌, ◌-◌, ◌<◌, ◌==◌, ◌||◌, min, Bool, true, false, cond, List, [], ◌∷◌, length, drop, None, Some, Result, Ok, Err, IfErr, refl, ap, ◌∙◌, arith, true≢false, length-take, length-drop, nat_le, slice_get, byte, before_first, after_first, position_or_len, list_all, ok_or, cases_eq, leb-false, nat_tests, LineError, WordCount, UnknownStatement, NotAscii, OutOfMemory, is_allowed, words_of, ◌>>=◌, statement_takes, single_takes, question_takes, takes, is_taken, is_begun, HasForm}
 use Rattle.mp_text.specs.declared.edit_word.EditWord.{EditWord}
 use Rattle.mp_text.specs.declared.edit_word.EditWord.TheVariants.{Wire, Module, Stimulus, Bundle}
 use Rattle.mp_text.specs.declared.single_word.SingleWord.{SingleWord}
@@ -28,7 +17,6 @@ use Rattle.mp_text.specs.SingleEdits.{single_edit, removal, input_edit, output_e
 use Rattle.mp_text.specs.Batches.{part_edit, each_part}
 use Rattle.mp_text.specs.ScriptLines.{line_word, stated_line, single_line, question_line, line_of, line_at}
 use Rattle.mp_text.specs.Questions.{stated_question, wave_question, bare_question, show_question, why_question, path_question, waits_question, measure_question, edits_question}
-use Rattle.mp_text.specs.LineStarts.{statement_takes, single_takes, question_takes, takes, is_taken, is_begun, HasForm}
 
 abbrev Words : Type 0
 Words = List (List ℕ)

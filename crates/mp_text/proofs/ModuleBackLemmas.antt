@@ -1,32 +1,7 @@
 -- The lines of modules lead where the edits of the modules lead.
-use Rattle.std.proofs.Common.{◌≡◌, ℕ, ◌^◌, ◌<◌, ◌≤◌, Bool, true, false, cond, ◌==◌, List, [], ◌∷◌, ◌++◌, length, map, All, Option, Some, None, Ok, decimal, refl, sym, subst, arith, inl, inr}
-use Rattle.std.specs.Prelude.{codes, nat_lt, IsTrue, IsSome, IfSome, option_map}
-use Rattle.std.specs.List.{list_all}
-use Rattle.std.proofs.lemmas.Bool.{cases_Bool, eqb-true}
-use Rattle.std.proofs.lemmas.Bool.Decides.{nat_tests}
-use Rattle.std.proofs.lemmas.List.{append-nil}
-use Rattle.std.proofs.lemmas.List.Elements.{All-cons, All-nil, All-map, All-append, All-get_or, All-from_get_or, All-weaker}
-use Rattle.mp_modules.specs.declared.kind.Kind.{Kind}
+use Rattle.mp_text.proofs.Names.{◌≡◌, ℕ, ◌^◌, ◌<◌, ◌≤◌, Bool, true, false, cond, ◌==◌, List, [], ◌∷◌, ◌++◌, length, map, All, Option, Some, None, Ok, decimal, refl, sym, subst, arith, inl, inr, codes, nat_lt, IsTrue, IsSome, IfSome, option_map, list_all, cases_Bool, eqb-true, nat_tests, append-nil, All-cons, All-nil, All-map, All-append, All-get_or, All-from_get_or, All-weaker, Kind, some_input, some_output, param_bound-low, WireId, WireRecord, ModuleRecord, Input, Output, AddModule, is_name, no_input, input_at, output_at, max_delay, Circuit, IsCircuit, IsModule, IsDelay, IsInputDelay, HasWidth, wire_at, module_at, width_of, module_width, HasNames, is_mark, input_word, output_word, module_line, wire_name, delay_text, input_text, output_name, output_text, module_by_name, module_edits, input_by_name, output_by_name, IsPlain, IsPlain-append, IsPlain-decimal, IsPlain-name, both, input_back, late_input_back, no_wire_back, wire_back}
 use Rattle.mp_modules.specs.declared.kind.Kind.TheVariants as kinds
-use Rattle.mp_modules.proofs.KindLemmas.{some_input, some_output, param_bound-low}
 use Rattle.mp_modules.specs.Kinds.{word_of, param_bound, param_count, are_params, has_width, output_width}
-use Rattle.mp_records.specs.declared.ids.WireId.{WireId}
-use Rattle.mp_records.specs.declared.wire_record.WireRecord.{WireRecord}
-use Rattle.mp_records.specs.declared.module_record.ModuleRecord.{ModuleRecord}
-use Rattle.mp_records.specs.declared.ports.Input.{Input}
-use Rattle.mp_records.specs.declared.ports.Output.{Output}
-use Rattle.mp_records.specs.declared.single_edit.SingleEdit.TheVariants.{AddModule}
-use Rattle.mp_records.specs.Names.{is_name}
-use Rattle.mp_records.specs.Inputs.{no_input, input_at}
-use Rattle.mp_records.specs.Outputs.{output_at}
-use Rattle.mp_netlist.specs.Limits.{max_delay}
-use Rattle.mp_netlist.specs.Circuit.{Circuit, IsCircuit, IsModule, IsDelay, IsInputDelay, HasWidth, wire_at, module_at, width_of, module_width, HasNames}
-use Rattle.mp_text.specs.Statements.{is_mark}
-use Rattle.mp_words.specs.WordLists.{input_word, output_word}
-use Rattle.mp_text.specs.Written.{module_line, wire_name, delay_text, input_text, output_name, output_text}
-use Rattle.mp_text.specs.RoundTrips.{module_by_name, module_edits, input_by_name, output_by_name}
-use Rattle.mp_words.proofs.PlainLemmas.{IsPlain, IsPlain-append, IsPlain-decimal, IsPlain-name, both}
-use Rattle.mp_words.proofs.ReadBackLemmas.{input_back, late_input_back, no_wire_back, wire_back}
 use Rattle.mp_text.proofs.StatementBackLemmas.{name_no_greater, module_stated}
 use Rattle.mp_text.proofs.TextBackLemmas.{SlotLeads, leads_line}
 use Rattle.mp_text.proofs.RecordBackLemmas.{wire_named}

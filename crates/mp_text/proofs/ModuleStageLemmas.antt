@@ -1,29 +1,6 @@
 -- The edits of a netlist's modules, once its wires are added, are not refused.
-use Rattle.std.proofs.Common.{◌≡◌, ℕ, ◌<◌, ◌≤◌, true, ◌==◌, cond, List, [], ◌∷◌, ◌++◌, length, map, get_or, All, Option, Some, None, Ok, option_map, is_none, refl, sym, ap, subst, ◌∙◌, arith, length-append}
-use Rattle.std.specs.Prelude.{nat_le, IsSome, IfSome, slice_index_or}
-use Rattle.std.specs.List.{flat_map, list_all}
-use Rattle.std.proofs.lemmas.Bool.{eq-eqb, lt-ltb}
-use Rattle.std.proofs.lemmas.Bool.Decides.{nat_tests}
-use Rattle.std.proofs.lemmas.List.{append-nil, get_or_at, get_or_append_left, get_or-map, length-map, length_push}
-use Rattle.std.proofs.lemmas.List.Concat.{flat_map-append}
-use Rattle.std.proofs.lemmas.List.Elements.{All-cons, All-nil, All-head, All-tail, All-map, All-weaker, All-from_get_or}
-use Rattle.mp_modules.specs.Kinds.{input_count, output_count, has_width, input_width, output_width, are_params}
-use Rattle.mp_records.specs.declared.ids.WireId.{WireId}
-use Rattle.mp_records.specs.declared.wire_record.WireRecord.{WireRecord}
-use Rattle.mp_records.specs.declared.module_record.ModuleRecord.{ModuleRecord}
-use Rattle.mp_records.specs.declared.ports.Input.{Input}
-use Rattle.mp_records.specs.declared.ports.Output.{Output}
-use Rattle.mp_records.specs.declared.port_names.InputName.{InputName}
-use Rattle.mp_records.specs.declared.port_names.OutputName.{OutputName}
-use Rattle.mp_records.specs.Inputs.{no_input}
-use Rattle.mp_records.specs.Outputs.{output_in}
-use Rattle.mp_netlist.specs.Limits.{max_modules, max_delay}
-use Rattle.mp_netlist.specs.Circuit.{Circuit, IsCircuit, IsModule, IsDelay, IsInputDelay, HasWidth, Drives, wire_at, module_at, width_of, module_width, HasNames}
+use Rattle.mp_text.proofs.Names.{◌≡◌, ℕ, ◌<◌, ◌≤◌, true, ◌==◌, cond, List, [], ◌∷◌, ◌++◌, length, map, get_or, All, Option, Some, None, Ok, option_map, is_none, refl, sym, ap, subst, ◌∙◌, arith, length-append, nat_le, IsSome, IfSome, slice_index_or, flat_map, list_all, eq-eqb, lt-ltb, nat_tests, append-nil, get_or_at, get_or_append_left, get_or-map, length-map, length_push, flat_map-append, All-cons, All-nil, All-head, All-tail, All-map, All-weaker, All-from_get_or, input_count, output_count, has_width, input_width, output_width, are_params, WireId, WireRecord, ModuleRecord, Input, Output, InputName, OutputName, no_input, output_in, max_modules, max_delay, Circuit, IsCircuit, IsModule, IsDelay, IsInputDelay, HasWidth, Drives, wire_at, module_at, width_of, module_width, HasNames, no_name, some_input, wire_name, module_by_name, module_edits, input_by_name, output_by_name}
 use Rattle.mp_netlist.specs.Edits.{refusal, edited, after_single, stands, wire_id, width_named, is_undriven, is_delay, is_input_delay, delays_fit, driven_names, are_distinct, first_width, new_width, inputs_stand, inputs_fit, output_fits, outputs_fit, module_checks, input_of, output_of, new_module, without_stimulus}
-use Rattle.mp_netlist.proofs.PortLemmas.{no_name}
-use Rattle.mp_modules.proofs.KindLemmas.{some_input}
-use Rattle.mp_text.specs.Written.{wire_name}
-use Rattle.mp_text.specs.RoundTrips.{module_by_name, module_edits, input_by_name, output_by_name}
 use Rattle.mp_text.proofs.SlotLemmas.{All-flat_map, All-from_flat_map, list_all_from, Unnamed, named_nowhere, front_unnamed}
 use Rattle.mp_text.proofs.StageLemmas.{none_failing, and_both, is_done, Reaches, Reaches-none, Reaches-one, Steps, stage}
 use Rattle.mp_text.proofs.OutputLemmas.{output_named, is_output, added, DrivesNone, AddsNone, undriven_by_name, drives_none, is_nothing_driven, driven_all, driven_distinct, counted_all}

@@ -1,24 +1,7 @@
 -- The outputs of modules by name.
-use Rattle.std.proofs.Common.{◌≡◌, ℕ, zero, suc, ◌<◌, Bool, true, false, not, List, [], ◌∷◌, length, map, get_or, All, Option, Some, None, option_map, is_some, refl, sym, ap, subst, ◌∙◌, arith, ◌⊎◌, inl, inr}
-use Rattle.std.specs.List.{flat_map, list_all, list_any, enumerate_from}
-use Rattle.std.specs.Str.{bytes_eq}
+use Rattle.mp_text.proofs.Names.{◌≡◌, ℕ, zero, suc, ◌<◌, Bool, true, false, not, List, [], ◌∷◌, length, map, get_or, All, Option, Some, None, option_map, is_some, refl, sym, ap, subst, ◌∙◌, arith, ◌⊎◌, inl, inr, flat_map, list_all, list_any, enumerate_from, bytes_eq, All-cons, All-nil, All-head, All-get_or, All-from_get_or, WireId, ModuleRecord, Output, OutputName, SingleEdit, AddModule, output_in, Circuit, Drives, wire_at, stimulus_at, driver, is_nothing, is_port, stimulus_driver, driven_names, are_distinct, slot_within, no_name, name_in, wire_name, output_by_name, module_by_name, module_edits}
 use Rattle.std.proofs.lemmas.List.FromFn.{get_or-enumerate_from, length-enumerate_from}
-use Rattle.std.proofs.lemmas.List.Elements.{All-cons, All-nil, All-head, All-get_or, All-from_get_or}
-use Rattle.mp_records.specs.declared.ids.WireId.{WireId}
-use Rattle.mp_records.specs.declared.module_record.ModuleRecord.{ModuleRecord}
-use Rattle.mp_records.specs.declared.ports.Output.{Output}
-use Rattle.mp_records.specs.declared.port_names.OutputName.{OutputName}
-use Rattle.mp_records.specs.declared.single_edit.SingleEdit.{SingleEdit}
-use Rattle.mp_records.specs.declared.single_edit.SingleEdit.TheVariants.{AddModule}
-use Rattle.mp_records.specs.Outputs.{output_in}
-use Rattle.mp_netlist.specs.Circuit.{Circuit, Drives, wire_at, stimulus_at}
-use Rattle.mp_netlist.specs.Drivers.{driver, is_nothing, is_port, stimulus_driver}
-use Rattle.mp_netlist.specs.Edits.{driven_names, are_distinct}
-use Rattle.mp_netlist.proofs.TableLemmas.{slot_within}
 use Rattle.mp_netlist.proofs.DriverLemmas.{driven_by}
-use Rattle.mp_netlist.proofs.PortLemmas.{no_name}
-use Rattle.mp_text.specs.Written.{name_in, wire_name}
-use Rattle.mp_text.specs.RoundTrips.{output_by_name, module_by_name, module_edits}
 use Rattle.mp_text.proofs.SlotLemmas.{All-flat_map, All-from_flat_map, list_all_from, unequal_name}
 use Rattle.mp_text.proofs.StageLemmas.{and_both}
 

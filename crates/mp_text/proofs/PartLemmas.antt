@@ -1,14 +1,5 @@
 -- Facts about the parts of a batch's words.
-use Rattle.std.proofs.Common.{◌≡◌, ℕ, ◌+◌, ◌<◌, ◌≤◌, Bool, true, false, cond, List, [], ◌∷◌, ◌++◌, map, All, IsAscii, Bor, Result, Ok, Err, append_assoc, arith, length, get_or, drop, refl, sym, ap, subst, ◌∙◌}
-use Rattle.std.proofs.lemmas.List.{at_drop_more, at_drop_all, append-nil}
-use Rattle.std.proofs.lemmas.List.Elements.{All-head, All-tail, All-cons}
-use Rattle.std.specs.Str.{byte}
-use Rattle.std.specs.List.{slice_split, onto_first}
-use Rattle.mp_records.specs.declared.single_edit.SingleEdit.{SingleEdit}
-use Rattle.mp_words.specs.declared.line_error.LineError.{LineError}
-use Rattle.mp_words.specs.Reads.{with_front, ◌>>=◌}
-use Rattle.mp_words.specs.Words.{texts, AreAscii}
-use Rattle.mp_text.specs.Statements.{is_mark}
+use Rattle.mp_text.proofs.Names.{◌≡◌, ℕ, ◌+◌, ◌<◌, ◌≤◌, Bool, true, false, cond, List, [], ◌∷◌, ◌++◌, map, All, IsAscii, Bor, Result, Ok, Err, append_assoc, arith, length, get_or, drop, refl, sym, ap, subst, ◌∙◌, at_drop_more, at_drop_all, append-nil, All-head, All-tail, All-cons, byte, slice_split, onto_first, SingleEdit, LineError, with_front, ◌>>=◌, texts, AreAscii, is_mark}
 use Rattle.mp_text.specs.Batches.{part_edit, each_part, part_texts}
 
 -- a word that divides parts, where it lies in memory

@@ -1,25 +1,8 @@
 -- The lines of records lead where the edits of the records lead.
-use Rattle.std.proofs.Common.{◌≡◌, ℕ, ◌^◌, ◌<◌, ◌≤◌, Bool, true, ◌&&◌, List, [], ◌∷◌, ◌++◌, map, All, Option, Some, None, Ok, decimal, refl, arith}
-use Rattle.std.specs.Prelude.{codes, nat_lt, IsTrue, IsSome, IfSome}
+use Rattle.mp_text.proofs.Names.{◌≡◌, ℕ, ◌^◌, ◌<◌, ◌≤◌, Bool, true, ◌&&◌, List, [], ◌∷◌, ◌++◌, map, All, Option, Some, None, Ok, decimal, refl, arith, codes, nat_lt, IsTrue, IsSome, IfSome, nat_tests, All-cons, All-nil, All-map, All-from_get_or, All-weaker, WireId, WireRecord, BundleRecord, SingleEdit, AddWire, AddBundle, SetStimulus, is_name, max_horizon, Circuit, IsCircuit, wire_at, bundle_at, HasNames, change_word, pair_text, wire_line, stimulus_line, bundle_line, stimulus_words, name_in, wire_name, wire_edits, stimulus_edits, set_edits, bundle_by_name, bundle_edits, IsPlain, IsPlain-append, IsPlain-decimal, IsPlain-name, both, change_back}
 use Rattle.std.proofs.Math.Nat.{pow-le-pow_right}
-use Rattle.std.proofs.lemmas.Bool.Decides.{nat_tests}
-use Rattle.std.proofs.lemmas.List.Elements.{All-cons, All-nil, All-map, All-from_get_or, All-weaker}
-use Rattle.mp_records.specs.declared.ids.WireId.{WireId}
-use Rattle.mp_records.specs.declared.wire_record.WireRecord.{WireRecord}
-use Rattle.mp_records.specs.declared.bundle_record.BundleRecord.{BundleRecord}
-use Rattle.mp_records.specs.declared.single_edit.SingleEdit.{SingleEdit}
-use Rattle.mp_records.specs.declared.single_edit.SingleEdit.TheVariants.{AddWire, AddBundle, SetStimulus}
-use Rattle.mp_records.specs.Names.{is_name}
 use Rattle.mp_modules.specs.Levels.{fits_width}
 use Rattle.mp_records.specs.Stimuli.{is_stimulus}
-use Rattle.mp_netlist.specs.Limits.{max_horizon}
-use Rattle.mp_netlist.specs.Circuit.{Circuit, IsCircuit, wire_at, bundle_at, HasNames}
-use Rattle.mp_words.specs.WordLists.{change_word}
-use Rattle.mp_words.specs.WaveLines.{pair_text}
-use Rattle.mp_text.specs.Written.{wire_line, stimulus_line, bundle_line, stimulus_words, name_in, wire_name}
-use Rattle.mp_text.specs.RoundTrips.{wire_edits, stimulus_edits, set_edits, bundle_by_name, bundle_edits}
-use Rattle.mp_words.proofs.PlainLemmas.{IsPlain, IsPlain-append, IsPlain-decimal, IsPlain-name, both}
-use Rattle.mp_words.proofs.ReadBackLemmas.{change_back}
 use Rattle.mp_text.proofs.StatementBackLemmas.{wire_stated, stimulus_stated, bundle_stated}
 use Rattle.mp_text.proofs.TextBackLemmas.{Leads, SlotLeads, leads_line}
 

@@ -1,29 +1,9 @@
 -- The netlist of a text is a replay.
-use Rattle.std.proofs.Common.{◌≡◌, ℕ, ◌+◌, Bool, true, false, cond, List, [], ◌∷◌, map, Result, Ok, Err, length, refl, ap, ◌∙◌}
-use Rattle.std.specs.Prelude.{nat_le, ◌&&◌}
-use Rattle.std.specs.Result.{result_map_both}
-use Rattle.std.specs.List.{filter_map, list_all}
+use Rattle.mp_text.proofs.Names.{◌≡◌, ℕ, ◌+◌, Bool, true, false, cond, List, [], ◌∷◌, map, Result, Ok, Err, length, refl, ap, ◌∙◌, nat_le, ◌&&◌, result_map_both, filter_map, list_all, SingleEdit, EditError, Circuit, empty_circuit, after_single, go_on, replay, replay_singles, NotAscii, BadNumber, Line, Refused, TextCode, First, TextState, Fresh, Formatted, Open, ◌>>=◌, TextError, lines_of, is_allowed, words_of, Statement, Blank, Unknown, Format, Start, Change, statement_of, max_text}
 use Rattle.mp_records.specs.declared.edit.Edit.TheVariants.{Single}
-use Rattle.mp_records.specs.declared.single_edit.SingleEdit.{SingleEdit}
-use Rattle.mp_records.specs.declared.edit_error.EditError.{EditError}
-use Rattle.mp_netlist.specs.Circuit.{Circuit, empty_circuit}
-use Rattle.mp_netlist.specs.Edits.{after_single, go_on}
-use Rattle.mp_netlist.specs.Replays.{replay, replay_singles}
-use Rattle.mp_words.specs.declared.line_error.LineError.TheVariants.{NotAscii, BadNumber}
-use Rattle.mp_text.specs.declared.text_code.TextCode.TheVariants.{Line, Refused}
-use Rattle.mp_text.specs.declared.text_code.TextCode.{TextCode}
 use Rattle.mp_text.specs.declared.text_format.TextFormat.{TextFormat}
-use Rattle.mp_text.specs.declared.text_format.TextFormat.TheVariants.{First}
-use Rattle.mp_text.specs.declared.text_state.TextState.{TextState}
-use Rattle.mp_text.specs.declared.text_state.TextState.TheVariants.{Fresh, Formatted, Open}
 use Rattle.mp_text.specs.Formats.{format_of, max_horizon_of}
-use Rattle.mp_words.specs.Reads.{◌>>=◌}
-use Rattle.mp_text.specs.declared.text_error.TextError.{TextError}
-use Rattle.mp_words.specs.Lines.{lines_of, is_allowed}
-use Rattle.mp_words.specs.Words.{words_of}
-use Rattle.mp_text.specs.Statements.{Statement, Blank, Unknown, Format, Start, Change, statement_of}
 use Rattle.mp_text.specs.Texts.{in_text, text_at, after_lines, after_line, after_statement, formatted, next_line}
-use Rattle.mp_text.specs.Limits.{max_text}
 use Rattle.mp_text.specs.Laws.{horizon_of, edit_of, statements, IsReplayed, IsReplay}
 
 -- the lines state no horizon, and lead from one netlist to the other by their edits

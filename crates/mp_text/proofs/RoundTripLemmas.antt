@@ -1,27 +1,13 @@
 -- The text of a netlist is read as the edits of its records.
-use Rattle.std.proofs.Common.{◌≡◌, ℕ, ◌+◌, ◌≤◌, List, [], ◌∷◌, ◌++◌, length, All, Ok, Bool, true, false, cond, decimal, refl, sym, ap, subst, ◌∙◌, arith}
-use Rattle.std.specs.Prelude.{codes, nat_le}
-use Rattle.std.proofs.lemmas.Bool.Decides.{nat_tests}
-use Rattle.std.specs.List.{flat_map}
-use Rattle.std.proofs.lemmas.List.{append-nil}
-use Rattle.std.proofs.lemmas.List.Elements.{All-cons, All-nil}
-use Rattle.mp_netlist.specs.Circuit.{Circuit, IsCircuit, empty_circuit, HasNames}
-use Rattle.mp_words.specs.Lines.{lines_of}
+use Rattle.mp_text.proofs.Names.{◌≡◌, ℕ, ◌+◌, ◌≤◌, List, [], ◌∷◌, ◌++◌, length, All, Ok, Bool, true, false, cond, decimal, refl, sym, ap, subst, ◌∙◌, arith, codes, nat_le, nat_tests, flat_map, append-nil, All-cons, All-nil, Circuit, IsCircuit, empty_circuit, HasNames, lines_of, wire_edits, module_edits, stimulus_edits, bundle_edits, edits_by_name, IsReadAs, IsReadAsWritten, IsPlain, IsPlain-decimal, max_text, max_first_horizon, max_second_horizon, Start, Second, TextState, Fresh, Formatted, Open}
 use Rattle.mp_text.specs.Texts.{after_statement, after_lines, next_line}
 use Rattle.mp_text.specs.Written.{written, written_line, format_line, horizon_line, wire_line, module_line, stimulus_line, bundle_line}
-use Rattle.mp_text.specs.RoundTrips.{wire_edits, module_edits, stimulus_edits, bundle_edits, edits_by_name, IsReadAs, IsReadAsWritten}
-use Rattle.mp_words.proofs.PlainLemmas.{IsPlain, IsPlain-decimal}
 use Rattle.mp_text.proofs.WrittenLineLemmas.{lines_of-written}
 use Rattle.mp_text.proofs.StatementBackLemmas.{format_stated, horizon_stated}
 use Rattle.mp_text.proofs.TextBackLemmas.{Leads, leads_nowhere, leads_slots, line_stated}
 use Rattle.mp_text.proofs.RecordBackLemmas.{wire_slots, stimulus_slots, bundle_slots}
 use Rattle.mp_text.proofs.ModuleBackLemmas.{module_slots}
 use Rattle.mp_text.proofs.SameRecordLemmas.{made_again}
-use Rattle.mp_text.specs.Limits.{max_text, max_first_horizon, max_second_horizon}
-use Rattle.mp_text.specs.Statements.{Start}
-use Rattle.mp_text.specs.declared.text_format.TextFormat.TheVariants.{Second}
-use Rattle.mp_text.specs.declared.text_state.TextState.{TextState}
-use Rattle.mp_text.specs.declared.text_state.TextState.TheVariants.{Fresh, Formatted, Open}
 use Rattle.mp_text.proofs.TextLemmas.{text_within}
 
 -- a horizon that a text of the first form may state

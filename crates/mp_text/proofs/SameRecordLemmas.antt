@@ -1,18 +1,5 @@
 -- The edits of a netlist's records by name lead to a netlist with the same records.
-use Rattle.std.proofs.Common.{◌≡◌, ℕ, zero, suc, List, [], ◌∷◌, ◌++◌, get_or, Option, Some, None, Ok, refl, sym, ap, subst, ◌∙◌}
-use Rattle.std.specs.List.{flat_map}
-use Rattle.std.proofs.lemmas.List.{append-nil}
-use Rattle.mp_records.specs.declared.ids.WireId.{WireId}
-use Rattle.mp_records.specs.declared.wire_record.WireRecord.{WireRecord}
-use Rattle.mp_records.specs.declared.module_record.ModuleRecord.{ModuleRecord}
-use Rattle.mp_records.specs.declared.ports.Input.{Input}
-use Rattle.mp_records.specs.declared.ports.Output.{Output}
-use Rattle.mp_records.specs.declared.port_names.InputName.{InputName}
-use Rattle.mp_records.specs.declared.port_names.OutputName.{OutputName}
-use Rattle.mp_netlist.specs.Circuit.{Circuit, IsCircuit, empty_circuit, HasNames}
-use Rattle.mp_netlist.specs.Replays.{replay_singles}
-use Rattle.mp_text.specs.Written.{name_in, wire_name}
-use Rattle.mp_text.specs.RoundTrips.{SameRecords, standing, input_by_name, output_by_name, module_edits, stimulus_edits, bundle_edits, edits_by_name}
+use Rattle.mp_text.proofs.Names.{◌≡◌, ℕ, zero, suc, List, [], ◌∷◌, ◌++◌, get_or, Option, Some, None, Ok, refl, sym, ap, subst, ◌∙◌, flat_map, append-nil, WireId, WireRecord, ModuleRecord, Input, Output, InputName, OutputName, Circuit, IsCircuit, empty_circuit, HasNames, replay_singles, name_in, wire_name, SameRecords, standing, input_by_name, output_by_name, module_edits, stimulus_edits, bundle_edits, edits_by_name}
 use Rattle.mp_text.proofs.SlotLemmas.{flat_map_agree, map_agree}
 use Rattle.mp_text.proofs.WireStageLemmas.{bare, made, wires_reached}
 use Rattle.mp_text.proofs.ModuleStageLemmas.{modules_reached}

@@ -1,13 +1,6 @@
 -- The lines of a section, slot by slot.
-use Rattle.std.proofs.Common.{◌≡◌, ℕ, ◌+◌, ◌<◌, List, [], ◌++◌, length, take, drop, None, refl, ap, arith}
-use Rattle.std.specs.List.{flat_map}
-use Rattle.std.proofs.lemmas.List.{take_all}
-use Rattle.mp_netlist.specs.Circuit.{Circuit}
+use Rattle.mp_text.proofs.Names.{◌≡◌, ℕ, ◌+◌, ◌<◌, List, [], ◌++◌, length, take, drop, None, refl, ap, arith, flat_map, take_all, Circuit, Wires, Modules, Stimuli, Bundles, slot_count, slot_line, section_text, wire_line, module_line, stimulus_line, bundle_line, next_text, text_with}
 use Rattle.mp_text.specs.declared.section.Section.{Section}
-use Rattle.mp_text.specs.declared.section.Section.TheVariants.{Wires, Modules, Stimuli, Bundles}
-use Rattle.mp_text.specs.Sections.{slot_count, slot_line, section_text}
-use Rattle.mp_text.specs.Written.{wire_line, module_line, stimulus_line, bundle_line}
-use Rattle.mp_streams.proofs.OutLemmas.{next_text, text_with}
 
 -- the lines of the slots with a number below
 unfoldable pub lines_below : Circuit → Section → ℕ → List ℕ

@@ -1,12 +1,6 @@
 -- Slots without the empty ones, and where a name is found among them.
-use Rattle.std.proofs.Common.{◌≡◌, ℕ, suc, ◌+◌, ◌<◌, ◌≤◌, Bool, true, false, List, [], ◌∷◌, ◌++◌, length, get_or, take, drop, map, All, Option, Some, None, is_some, refl, sym, ap, subst, ◌∙◌, arith}
-use Rattle.std.specs.List.{flat_map, list_all, position_from}
-use Rattle.std.specs.Str.{bytes_eq}
-use Rattle.std.proofs.lemmas.List.{append-nil, get_or_at, get_or_append_left, set-get_or, set_split}
-use Rattle.std.proofs.lemmas.List.Concat.{flat_map-append}
-use Rattle.std.proofs.lemmas.List.Elements.{All-cons, All-nil, All-head, All-tail, All-append, All-weaker, All-from_get_or}
+use Rattle.mp_text.proofs.Names.{◌≡◌, ℕ, suc, ◌+◌, ◌<◌, ◌≤◌, Bool, true, false, List, [], ◌∷◌, ◌++◌, length, get_or, take, drop, map, All, Option, Some, None, is_some, refl, sym, ap, subst, ◌∙◌, arith, flat_map, list_all, position_from, bytes_eq, append-nil, get_or_at, get_or_append_left, set-get_or, set_split, flat_map-append, All-cons, All-nil, All-head, All-tail, All-append, All-weaker, All-from_get_or, same_name, equal_name, slot_within}
 use Rattle.mp_netlist.specs.Slots.{slot_at, has_name, number_named}
-use Rattle.mp_netlist.proofs.TableLemmas.{same_name, equal_name, slot_within}
 
 -- a thing that stands, changed, and nothing where none does
 abbrev pub compact : {R : Type 0} → (R → R) → Option R → List (Option R)

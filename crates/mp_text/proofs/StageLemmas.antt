@@ -1,12 +1,5 @@
 -- Edits, slot by slot, that no check refuses.
-use Rattle.std.proofs.Common.{◌≡◌, Bool, true, false, ◌&&◌, List, [], ◌∷◌, ◌++◌, append_assoc, Option, None, Ok, refl, sym, ap, subst, ◌∙◌}
-use Rattle.std.specs.List.{flat_map}
-use Rattle.std.proofs.lemmas.List.{append-nil}
-use Rattle.mp_records.specs.declared.single_edit.SingleEdit.{SingleEdit}
-use Rattle.mp_records.specs.declared.edit_error.EditError.{EditError}
-use Rattle.mp_netlist.specs.Circuit.{Circuit}
-use Rattle.mp_netlist.specs.Edits.{go_on, after_single, unless, refusal, edited, first_failing}
-use Rattle.mp_netlist.specs.Replays.{replay_singles}
+use Rattle.mp_text.proofs.Names.{◌≡◌, Bool, true, false, ◌&&◌, List, [], ◌∷◌, ◌++◌, append_assoc, Option, None, Ok, refl, sym, ap, subst, ◌∙◌, flat_map, append-nil, SingleEdit, EditError, Circuit, go_on, after_single, unless, refusal, edited, first_failing, replay_singles}
 
 -- each check passes
 abbrev pub AllPass : List (Bool × EditError) → Type 0

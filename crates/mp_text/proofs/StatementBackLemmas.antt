@@ -1,28 +1,14 @@
 -- Statements that are written are read again.
-use Rattle.std.proofs.Common.{◌≡◌, ℕ, ◌^◌, ◌<◌, true, false, ◌==◌, ◌&&◌, List, [], ◌∷◌, ◌++◌, length, map, All, Ok, decimal, refl, ap, ◌∙◌, arith}
-use Rattle.std.specs.Prelude.{codes, nat_le, suc}
+use Rattle.mp_text.proofs.Names.{◌≡◌, ℕ, ◌^◌, ◌<◌, true, false, ◌==◌, ◌&&◌, List, [], ◌∷◌, ◌++◌, length, map, All, Ok, decimal, refl, ap, ◌∙◌, arith, codes, nat_le, suc, list_all, nat_tests, map-id, All-map, All-weaker, Kind, word_of, InputName, OutputName, AddWire, AddModule, AddBundle, SetStimulus, number_word, change_word, input_word, output_word, pair_text, both, number_back, each_back}
 use Rattle.std.specs.Char.{is_ascii_digit, is_ascii_alphabetic}
-use Rattle.std.specs.List.{list_all}
-use Rattle.std.proofs.lemmas.Bool.Decides.{nat_tests}
-use Rattle.std.proofs.lemmas.List.{map-id}
-use Rattle.std.proofs.lemmas.List.Elements.{All-map, All-weaker}
-use Rattle.mp_modules.specs.declared.kind.Kind.{Kind}
-use Rattle.mp_modules.specs.Kinds.{word_of}
 use Rattle.mp_modules.proofs.WordLemmas.{by_word}
-use Rattle.mp_records.specs.declared.port_names.InputName.{InputName}
-use Rattle.mp_records.specs.declared.port_names.OutputName.{OutputName}
 use Rattle.mp_records.specs.declared.new_module.NewModule.{NewModule}
 use Rattle.mp_records.specs.declared.new_bundle.NewBundle.{NewBundle}
-use Rattle.mp_records.specs.declared.single_edit.SingleEdit.TheVariants.{AddWire, AddModule, AddBundle, SetStimulus}
 use Rattle.mp_records.specs.Names.{is_name, is_name_byte, begins_with_letter}
-use Rattle.mp_words.specs.WordLists.{number_word, change_word, input_word, output_word}
 use Rattle.mp_text.specs.Statements.{is_mark, Format, Start, Change, wire_edit, module_edit, parts_edit, stimulus_edit, bundle_edit, stated_edit, statement_of}
 use Rattle.mp_words.specs.Numbers.{spelled_number, number_from}
-use Rattle.mp_words.specs.WaveLines.{pair_text}
 use Rattle.mp_words.proofs.DecimalLemmas.{decimal_digits}
 use Rattle.mp_words.proofs.DividedLemmas.{before_first-append, after_first-append}
-use Rattle.mp_words.proofs.PlainLemmas.{both}
-use Rattle.mp_words.proofs.ReadBackLemmas.{number_back, each_back}
 
 pub format_stated : statement_of (codes "format" ∷ codes "2" ∷ []) ≡ Format (Ok 2)
 unfolding statement_of spelled_number number_from

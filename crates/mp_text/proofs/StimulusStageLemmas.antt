@@ -1,22 +1,7 @@
 -- The edits of what is set on a netlist's wires, once its modules are added, are not refused.
-use Rattle.std.proofs.Common.{◌≡◌, ℕ, ◌<◌, true, not, List, [], ◌∷◌, ◌++◌, append_assoc, length, get_or, All, Option, Some, None, Ok, option_map, is_some, unwrap_or, refl, sym, ap, subst, ◌∙◌}
-use Rattle.std.specs.Prelude.{IsTrue, IfSome, slice_set}
-use Rattle.std.specs.List.{flat_map}
-use Rattle.std.specs.Option.{option_and_then}
-use Rattle.std.proofs.lemmas.List.{append-nil, get_or_at, set_at}
-use Rattle.std.proofs.lemmas.List.Concat.{flat_map-append}
-use Rattle.mp_records.specs.declared.ids.WireId.{WireId}
-use Rattle.mp_records.specs.declared.wire_record.WireRecord.{WireRecord}
-use Rattle.mp_records.specs.declared.module_record.ModuleRecord.{ModuleRecord}
-use Rattle.mp_records.specs.declared.single_edit.SingleEdit.TheVariants.{SetStimulus}
+use Rattle.mp_text.proofs.Names.{◌≡◌, ℕ, ◌<◌, true, not, List, [], ◌∷◌, ◌++◌, append_assoc, length, get_or, All, Option, Some, None, Ok, option_map, is_some, unwrap_or, refl, sym, ap, subst, ◌∙◌, IsTrue, IfSome, slice_set, flat_map, option_and_then, append-nil, get_or_at, set_at, flat_map-append, WireId, WireRecord, ModuleRecord, SetStimulus, output_in, number_named, Circuit, IsCircuit, Drives, wire_at, width_of, stimulus_in, stimulus_at, HasNames, driver, is_port, name_in, wire_name, module_edits, set_edits, stimulus_edits}
 use Rattle.mp_records.specs.Stimuli.{is_stimulus}
-use Rattle.mp_records.specs.Outputs.{output_in}
-use Rattle.mp_netlist.specs.Slots.{number_named}
-use Rattle.mp_netlist.specs.Circuit.{Circuit, IsCircuit, Drives, wire_at, width_of, stimulus_in, stimulus_at, HasNames}
-use Rattle.mp_netlist.specs.Drivers.{driver, is_port}
 use Rattle.mp_netlist.specs.Edits.{refusal, edited, after_single, stands, wire_id, width_named, stimulus_checks, with_stimulus, without_stimulus}
-use Rattle.mp_text.specs.Written.{name_in, wire_name}
-use Rattle.mp_text.specs.RoundTrips.{module_edits, set_edits, stimulus_edits}
 use Rattle.mp_text.proofs.SlotLemmas.{compact, compact-none, length-compact, named_behind, front_unnamed, compact_unnamed}
 use Rattle.mp_text.proofs.StageLemmas.{none_failing, is_done, Reaches, Reaches-none, Reaches-one, Steps, stage}
 use Rattle.mp_text.proofs.OutputLemmas.{DrivesNone, undriven_by_name, drives_none, is_no_port}

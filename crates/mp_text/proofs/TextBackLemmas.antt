@@ -1,22 +1,7 @@
 -- Lines that are written lead from netlist to netlist as their edits do.
-use Rattle.std.proofs.Common.{◌≡◌, ℕ, ◌+◌, List, [], ◌∷◌, ◌++◌, append_assoc, All, Option, Result, Ok, Err, sym, ap, subst, ◌∙◌}
-use Rattle.std.specs.List.{flat_map}
-use Rattle.std.specs.Result.{result_map_both}
-use Rattle.std.proofs.lemmas.List.Elements.{All-head, All-tail}
-use Rattle.mp_records.specs.declared.single_edit.SingleEdit.{SingleEdit}
-use Rattle.mp_records.specs.declared.edit_error.EditError.{EditError}
-use Rattle.mp_netlist.specs.Circuit.{Circuit}
-use Rattle.mp_netlist.specs.Edits.{go_on, after_single}
-use Rattle.mp_netlist.specs.Replays.{replay_singles}
-use Rattle.mp_text.specs.declared.text_code.TextCode.TheVariants.{Refused}
-use Rattle.mp_text.specs.declared.text_state.TextState.{TextState}
-use Rattle.mp_text.specs.declared.text_state.TextState.TheVariants.{Open}
+use Rattle.mp_text.proofs.Names.{◌≡◌, ℕ, ◌+◌, List, [], ◌∷◌, ◌++◌, append_assoc, All, Option, Result, Ok, Err, sym, ap, subst, ◌∙◌, flat_map, result_map_both, All-head, All-tail, SingleEdit, EditError, Circuit, go_on, after_single, replay_singles, Refused, TextState, Open, ◌>>=◌, Change, statement_of, spaced, written_line, IsPlain}
 use Rattle.mp_words.specs.Lines.{lines_of}
-use Rattle.mp_words.specs.Reads.{◌>>=◌}
-use Rattle.mp_text.specs.Statements.{Change, statement_of}
 use Rattle.mp_text.specs.Texts.{in_text, after_statement, after_line, after_lines, next_line}
-use Rattle.mp_text.specs.Written.{spaced, written_line}
-use Rattle.mp_words.proofs.PlainLemmas.{IsPlain}
 use Rattle.mp_text.proofs.WrittenLineLemmas.{lines_of-written, line_words-spaced}
 
 -- the lines of the bytes lead where the edits lead

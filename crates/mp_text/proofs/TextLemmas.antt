@@ -1,17 +1,7 @@
 -- Facts about texts as a whole.
-use Rattle.std.proofs.Common.{◌≡◌, ℕ, ◌+◌, ◌<◌, ◌≤◌, List, [], ◌∷◌, length, Result, Ok, Err, IfErr, inr, refl, sym, ap, subst, arith}
-use Rattle.std.specs.List.{before_first, after_first}
-use Rattle.std.proofs.lemmas.Bool.Decides.{nat_tests}
-use Rattle.mp_netlist.specs.Circuit.{Circuit}
-use Rattle.mp_text.specs.declared.text_error.TextError.{TextError}
-use Rattle.mp_text.specs.declared.text_code.TextCode.{TextCode}
-use Rattle.mp_text.specs.declared.text_code.TextCode.TheVariants.{TooLong}
+use Rattle.mp_text.proofs.Names.{◌≡◌, ℕ, ◌+◌, ◌<◌, ◌≤◌, List, [], ◌∷◌, length, Result, Ok, Err, IfErr, inr, refl, sym, ap, subst, arith, before_first, after_first, nat_tests, Circuit, TextError, TextCode, TooLong, max_text, TextState, Fresh, Formatted, Open, lines_of-cons}
 use Rattle.mp_words.specs.Lines.{is_line_feed, lines_of}
 use Rattle.mp_text.specs.Texts.{text_at, after_lines, after_line, next_line, finished, last_line, GivesText, IsReached}
-use Rattle.mp_text.specs.Limits.{max_text}
-use Rattle.mp_text.specs.declared.text_state.TextState.{TextState}
-use Rattle.mp_text.specs.declared.text_state.TextState.TheVariants.{Fresh, Formatted, Open}
-use Rattle.mp_words.proofs.LineLemmas.{lines_of-cons}
 
 -- a text that is not too long is its lines
 pub text_within : (text : List ℕ) → length text ≤ max_text → text_at text ≡ after_lines 0 Fresh (lines_of text)

@@ -1,16 +1,7 @@
 -- The lines of a netlist's text in pieces.
-use Rattle.std.proofs.Common.{◌≡◌, ℕ, List, [], ◌∷◌, ◌++◌, Option, Some, append_assoc, ap, ◌∙◌}
-use Rattle.std.specs.Prelude.{codes}
-use Rattle.std.specs.List.{flat_map}
+use Rattle.mp_text.proofs.Names.{◌≡◌, ℕ, List, [], ◌∷◌, ◌++◌, Option, Some, append_assoc, ap, ◌∙◌, codes, flat_map, word_of, ModuleRecord, flat_map-map, pair_text, changes_text, Circuit, Wires, Modules, Stimuli, Bundles, section_text}
 use Rattle.std.specs.Fmt.{decimal}
-use Rattle.mp_modules.specs.Kinds.{word_of}
-use Rattle.mp_records.specs.declared.module_record.ModuleRecord.{ModuleRecord}
 use Rattle.std.proofs.lemmas.Grind.{flat_map-append}
-use Rattle.std.proofs.lemmas.List.Folds.{flat_map-map}
-use Rattle.mp_words.specs.WaveLines.{pair_text, changes_text}
-use Rattle.mp_netlist.specs.Circuit.{Circuit}
-use Rattle.mp_text.specs.declared.section.Section.TheVariants.{Wires, Modules, Stimuli, Bundles}
-use Rattle.mp_text.specs.Sections.{section_text}
 use Rattle.mp_text.specs.Written.{stimulus_words, input_text, output_text, format_line, module_line, written}
 
 -- the pieces of a stimulus's line

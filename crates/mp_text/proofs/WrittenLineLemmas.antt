@@ -1,15 +1,8 @@
 -- A line that is written is read as its words.
-use Rattle.std.proofs.Common.{◌≡◌, ℕ, ◌+◌, ◌<◌, true, false, ◌==◌, suc, List, [], ◌∷◌, ◌++◌, append_assoc, length, filter, All, Ok, refl, sym, ap, ◌∙◌, arith}
-use Rattle.std.specs.List.{slice_split, onto_first, position_or_len, list_all}
-use Rattle.std.proofs.lemmas.Bool.Decides.{nat_tests}
-use Rattle.std.proofs.lemmas.List.{append-nil}
-use Rattle.std.proofs.lemmas.List.Elements.{All-head, All-tail, All-cons, All-nil}
+use Rattle.mp_text.proofs.Names.{◌≡◌, ℕ, ◌+◌, ◌<◌, true, false, ◌==◌, suc, List, [], ◌∷◌, ◌++◌, append_assoc, length, filter, All, Ok, refl, sym, ap, ◌∙◌, arith, slice_split, onto_first, position_or_len, list_all, nat_tests, append-nil, All-head, All-tail, All-cons, All-nil, list_all-append, spaced, written_line, IsPlain, is_plain_byte, plain_allowed, plain_no_gap, plain_no_hash, All-passing, list_all-passing, both}
 use Rattle.std.proofs.lemmas.List.Splits.{slice_split_at, slice_split_none}
-use Rattle.std.proofs.lemmas.List.Folds.{list_all-append}
 use Rattle.mp_words.specs.Lines.{lines_of, is_line_feed, is_allowed, line_words}
 use Rattle.mp_words.specs.Words.{words_of, statement_part, is_word, is_gap}
-use Rattle.mp_text.specs.Written.{spaced, written_line}
-use Rattle.mp_words.proofs.PlainLemmas.{IsPlain, is_plain_byte, plain_allowed, plain_no_gap, plain_no_hash, All-passing, list_all-passing, both}
 
 no_hash : (w : List ℕ) → IsPlain w → All (λ b. (b == 35) ≡ false) w
 no_hash w plain = All-passing is_plain_byte (λ b. (b == 35) ≡ false) plain_no_hash w plain.plain

@@ -1,55 +1,57 @@
 //! The ports of a module, as a text has them.
-ghost use Rattle.std.specs.Prelude.{◌≡◌, ◌∷◌};
+ghost use Rattle.std.specs.Prelude.{◌≡◌, ℕ, List, ◌∷◌};
 ghost use Rattle.std.specs.List.{flat_map};
+ghost use Rattle.mp_netlist.specs.Circuit.{Circuit};
 ghost use Rattle.mp_streams.specs.Outgoing.{Writes};
 ghost use Rattle.mp_text.specs.Written.{wire_name, input_text, output_name, output_text};
 
 use mp_netlist::{Input, Netlist, Output, WireId};
 use mp_streams::{Failed, Out, Sink, Text};
 
-/// The inputs of a module of the netlist, each behind a space.
-#[derive(Clone, Copy)]
-pub struct Inputs<'a> {
-    pub netlist: &'a Netlist,
-    pub inputs: &'a [Input],
+/// A port of a module, as a text has it.
+pub trait Port {
+    // Its text in a netlist.
+    ghost port_text: { Circuit → Self → List ℕ };
+
+    /// Writes a space and its text. `Failed` is as that of `Out::put_bytes`.
+    fn put_spaced<S: Sink>(&self, out: &mut Out<S>, netlist: &Netlist) -> Result<(), Failed>
+        ensures { Writes result out.old out.new (32 ∷ port_text netlist.now self.now) };
 }
 
-impl<'a> Text for Inputs<'a> {
-    ghost text = { λ ports. flat_map (λ input. 32 ∷ input_text ports.netlist.now input) ports.inputs.now };
+impl Port for Input {
+    ghost port_text = { input_text };
 
-    fn put_to<S: Sink>(&self, out: &mut Out<S>) -> Result<(), Failed> {
-        for input in self.inputs {
-            put_input(out, self.netlist, *input)?;
+    fn put_spaced<S: Sink>(&self, out: &mut Out<S>, netlist: &Netlist) -> Result<(), Failed> {
+        let name = wire_word(netlist, self.wire);
+        if self.delay == 0 {
+            return (" ", name).put_to(out);
         }
-        Ok(())
+        (" ", name, "/", self.delay).put_to(out)
     }
 }
 
-/// Writes a space and the input.
-fn put_input<S: Sink>(out: &mut Out<S>, netlist: &Netlist, input: Input) -> Result<(), Failed>
-    ensures { Writes result out.old out.new (32 ∷ input_text netlist.now input) }
-{
-    let name = wire_word(netlist, input.wire);
-    if input.delay == 0 {
-        return (" ", name).put_to(out);
+impl Port for Output {
+    ghost port_text = { output_text };
+
+    fn put_spaced<S: Sink>(&self, out: &mut Out<S>, netlist: &Netlist) -> Result<(), Failed> {
+        let name = output_word(netlist, self.wire);
+        (" ", name, "/", self.delay).put_to(out)
     }
-    (" ", name, "/", input.delay).put_to(out)
 }
 
-/// The outputs of a module of the netlist, each behind a space.
+/// Ports of a module of the netlist, each behind a space.
 #[derive(Clone, Copy)]
-pub struct Outputs<'a> {
+pub struct Ports<'a, P> {
     pub netlist: &'a Netlist,
-    pub outputs: &'a [Output],
+    pub ports: &'a [P],
 }
 
-impl<'a> Text for Outputs<'a> {
-    ghost text = { λ ports. flat_map (λ output. 32 ∷ output_text ports.netlist.now output) ports.outputs.now };
+impl<'a, P: Port> Text for Ports<'a, P> {
+    ghost text = { λ list. flat_map (λ port. 32 ∷ P.port_text list.netlist.now port) list.ports.now };
 
     fn put_to<S: Sink>(&self, out: &mut Out<S>) -> Result<(), Failed> {
-        for output in self.outputs {
-            let name = output_word(self.netlist, output.wire);
-            (" ", name, "/", output.delay).put_to(out)?;
+        for port in self.ports {
+            port.put_spaced(out, self.netlist)?;
         }
         Ok(())
     }

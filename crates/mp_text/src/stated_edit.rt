@@ -11,7 +11,7 @@ use mp_modules::Kind;
 use mp_netlist::{
     Boxed, Changes, InputNames, NewBundle, NewModule, OutputNames, Params, SingleEdit,
 };
-use mp_words::{LineError, changes, inputs, name_of, number_word, numbers, outputs};
+use mp_words::{LineError, each_word, name_of, number_word};
 use std::alloc::Global;
 
 /// The edit of a first word and the words behind it.
@@ -55,10 +55,10 @@ fn stimulus_edit(alloc: Global, words: &[&[u8]]) -> Result<SingleEdit, LineError
     let [wire, others @ ..] = words else {
         return Err(LineError::WordCount);
     };
-    let changes = changes(alloc, others)?;
+    let changes = Changes::new(each_word(alloc, others)?);
     Ok(SingleEdit::SetStimulus {
         wire: name_of(alloc, wire)?,
-        changes: Changes::new(changes),
+        changes,
     })
 }
 
@@ -115,9 +115,9 @@ fn parts_edit(
     }
     let module = NewModule {
         kind: kind_word(kind)?,
-        params: Params::new(numbers(alloc, params)?),
-        inputs: InputNames::new(inputs(alloc, ins)?),
-        outputs: OutputNames::new(outputs(alloc, outs)?),
+        params: Params::new(each_word(alloc, params)?),
+        inputs: InputNames::new(each_word(alloc, ins)?),
+        outputs: OutputNames::new(each_word(alloc, outs)?),
         name: name_of(alloc, name)?,
     };
     Ok(SingleEdit::AddModule(Boxed::new(alloc, module)?))

@@ -3,7 +3,7 @@ ghost use Rattle.std.specs.Prelude.{◌≡◌, Some};
 ghost use Rattle.mp_streams.specs.Outgoing.{Writes};
 ghost use Rattle.mp_text.specs.Written.{wire_line, module_line, stimulus_line, bundle_line};
 
-use crate::port_texts::{Inputs, Outputs, wire_word};
+use crate::port_texts::{Ports, wire_word};
 use crate::spaced::{Spaced, put_line};
 use itoa::Buffer;
 use mp_netlist::{BundleRecord, ModuleRecord, Netlist, WireRecord};
@@ -35,13 +35,13 @@ pub fn put_module<S: Sink>(
     let params = Spaced {
         items: part.params.as_slice(),
     };
-    let inputs = Inputs {
+    let inputs = Ports {
         netlist,
-        inputs: part.inputs.as_slice(),
+        ports: part.inputs.as_slice(),
     };
-    let outputs = Outputs {
+    let outputs = Ports {
         netlist,
-        outputs: part.outputs.as_slice(),
+        ports: part.outputs.as_slice(),
     };
     let start = ("module ", part.name.as_str(), " ", part.kind.word());
     (start, (params, " :", inputs), (" >", outputs, "\n")).put_to(out)

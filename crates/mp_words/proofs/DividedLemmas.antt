@@ -1,11 +1,6 @@
 -- Where lists of bytes and words are divided.
-use Rattle.std.proofs.Common.{◌≡◌, ℕ, ◌+◌, ◌-◌, ◌<◌, ◌≤◌, Bool, true, false, not, suc, zero, List, [], ◌∷◌, ◌++◌, length, take, drop, get_or, All, Some, nat_lt, position, refl, ap, ◌∙◌, arith, length-append}
-use Rattle.std.specs.List.{list_all, position_or_len, before_first, after_first, before_last, after_last, suffix_len}
-use Rattle.std.proofs.lemmas.Bool.Decides.{nat_tests}
-use Rattle.std.proofs.lemmas.List.Elements.{All-head, All-tail}
-use Rattle.std.proofs.lemmas.List.Sums.{suffix_len_is}
+use Rattle.mp_words.proofs.Names.{◌≡◌, ℕ, ◌+◌, ◌-◌, ◌<◌, ◌≤◌, Bool, true, false, not, suc, zero, List, [], ◌∷◌, ◌++◌, length, take, drop, get_or, All, Some, nat_lt, position, refl, ap, ◌∙◌, arith, length-append, list_all, position_or_len, before_first, after_first, before_last, after_last, suffix_len, nat_tests, All-head, All-tail, suffix_len_is, take-append_seam, drop-append-add, get_or-append_seam, get_or-append_right}
 use Rattle.mp_words.proofs.PlainLemmas.{both}
-use Rattle.std.proofs.Math.Seq.{take-append_seam, drop-append-add, get_or-append_seam, get_or-append_right}
 
 module _ {A : Type 0} (p : A → Bool) (m : A) (ys : List A) (found : p m ≡ true) where
   pub first_at : (xs : List A) → All (λ x. p x ≡ false) xs → position_or_len p (xs ++ m ∷ ys) ≡ length xs

@@ -1,13 +1,6 @@
 -- The lines of an input up to a division.
-use Rattle.std.proofs.Common.{◌≡◌, ℕ, ◌+◌, ◌-◌, ◌<◌, ◌≤◌, ◌⊎◌, inl, inr, Bool, true, false, cond, not, ◌||◌, nat_lt, suc, List, [], ◌∷◌, ◌++◌, length, get_or, take, drop, All, refl, sym, ap, subst, ◌∙◌, append_assoc, length-drop, arith}
-use Rattle.std.specs.List.{onto_first, before_first, after_first, position_or_len}
-use Rattle.std.proofs.lemmas.Bool.{cases_lt, eqb-true, lt-ltb, le-ltb}
-use Rattle.std.proofs.lemmas.List.{append-nil, drop_all, take_all, take_more, take-append-drop, length-take-le}
-use Rattle.std.proofs.lemmas.List.Elements.{All-head, All-tail}
-use Rattle.std.proofs.lemmas.List.Sums.{fails_before_first, passes_at_first, take_while-cons}
-use Rattle.std.proofs.Math.Seq.{take-add, drop-drop, get_or-take, take-length, drop-length}
+use Rattle.mp_words.proofs.Names.{◌≡◌, ℕ, ◌+◌, ◌-◌, ◌<◌, ◌≤◌, ◌⊎◌, inl, inr, Bool, true, false, cond, not, ◌||◌, nat_lt, suc, List, [], ◌∷◌, ◌++◌, length, get_or, take, drop, All, refl, sym, ap, subst, ◌∙◌, append_assoc, length-drop, arith, onto_first, before_first, after_first, position_or_len, cases_lt, eqb-true, lt-ltb, le-ltb, append-nil, drop_all, take_all, take_more, take-append-drop, length-take-le, All-head, All-tail, fails_before_first, passes_at_first, take_while-cons, take-add, drop-drop, get_or-take, take-length, drop-length, is_division, first_part, later_parts, are_divided}
 use Rattle.mp_words.specs.Lines.{is_line_feed, lines_of}
-use Rattle.mp_words.specs.Divisions.{is_division, first_part, later_parts, are_divided}
 use Rattle.mp_words.proofs.LineLemmas.{lines_of-cons}
 
 -- ---- whole lines before others

@@ -1,8 +1,5 @@
 -- Facts about lines.
-use Rattle.std.proofs.Common.{◌≡◌, ℕ, ◌+◌, ◌<◌, ◌≤◌, Bool, true, false, cond, List, [], ◌∷◌, length, IsAscii, suc, ◌&&◌, true≢false, length-drop, refl, sym, ap, arith}
-use Rattle.std.specs.List.{onto_first, before_first, after_first, position_or_len, list_all}
-use Rattle.std.proofs.lemmas.Str.Ascii.{IsAscii-nil, IsAscii-cons}
-use Rattle.std.proofs.lemmas.Bool.Decides.{nat_tests}
+use Rattle.mp_words.proofs.Names.{◌≡◌, ℕ, ◌+◌, ◌<◌, ◌≤◌, Bool, true, false, cond, List, [], ◌∷◌, length, IsAscii, suc, ◌&&◌, true≢false, length-drop, refl, sym, ap, arith, onto_first, before_first, after_first, position_or_len, list_all, IsAscii-nil, IsAscii-cons, nat_tests}
 use Rattle.mp_words.specs.Lines.{is_line_feed, lines_of, is_allowed}
 
 module _ (b : ℕ) (bs : List ℕ) where

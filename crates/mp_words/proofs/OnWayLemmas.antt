@@ -1,8 +1,6 @@
 -- A text of which the front is written.
-use Rattle.std.proofs.Common.{◌≡◌, ℕ, List, [], ◌++◌, append_assoc, append-nil, Result, Ok, Err, IsErr, sym, ap, subst, ◌∙◌}
+use Rattle.mp_words.proofs.Names.{◌≡◌, ℕ, List, [], ◌++◌, append_assoc, append-nil, Result, Ok, Err, IsErr, sym, ap, subst, ◌∙◌, Outgoing, Writes, puts_then, puts_sooner, writes_failed}
 use Rattle.mp_streams.specs.declared.failed.Failed.{Failed}
-use Rattle.mp_streams.specs.Outgoing.{Outgoing, Writes}
-use Rattle.mp_streams.proofs.OutLemmas.{puts_then, puts_sooner, writes_failed}
 
 -- the front of the whole is written, and the rest isn't
 pub record IsOnWay {S : Type 0} (a b : Outgoing S) (whole rest : List ℕ) : Type 0 where

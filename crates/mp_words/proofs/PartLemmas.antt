@@ -1,9 +1,6 @@
 -- The parts of an input, one after the other.
-use Rattle.std.proofs.Common.{◌≡◌, Bool, true, false, cond, List, [], ◌∷◌, ◌++◌, ℕ, refl, sym, ap, ◌∙◌, ◌||◌}
+use Rattle.mp_words.proofs.Names.{◌≡◌, Bool, true, false, cond, List, [], ◌∷◌, ◌++◌, ℕ, refl, sym, ap, ◌∙◌, ◌||◌, onto_first, lines_of, is_division, first_part, later_parts, are_divided, parts_of, lines_of_each}
 use Rattle.std.specs.Borrow.{Bor}
-use Rattle.std.specs.List.{onto_first}
-use Rattle.mp_words.specs.Lines.{lines_of}
-use Rattle.mp_words.specs.Divisions.{is_division, first_part, later_parts, are_divided, parts_of, lines_of_each}
 use Rattle.mp_words.proofs.DivisionLemmas.{first_part-other, first_part-here, later_parts-other, later_parts-here}
 
 -- a line that is no division goes before the first part

@@ -1,8 +1,5 @@
 -- Searches of bytes.
-use Rattle.std.proofs.Common.{◌≡◌, ℕ, ◌<◌, Bool, true, false, List, Option, Some, None, get_or, length, refl, arith}
-use Rattle.std.specs.List.{position, position_or_len}
-use Rattle.std.proofs.lemmas.Bool.Decides.{nat_tests}
-use Rattle.std.proofs.lemmas.List.Sums.{position_or_len_is}
+use Rattle.mp_words.proofs.Names.{◌≡◌, ℕ, ◌<◌, Bool, true, false, List, Option, Some, None, get_or, length, refl, arith, position, position_or_len, nat_tests, position_or_len_is}
 use Rattle.memchr.specs.Find.{IsFirstByte}
 
 not_true : (b : Bool) → (b ≡ true → ⊥) → b ≡ false

@@ -1,16 +1,6 @@
 -- Words as they are written.
-use Rattle.std.proofs.Common.{◌≡◌, ℕ, ◌^◌, ◌<◌, Bool, true, false, not, ◌==◌, ◌&&◌, List, [], ◌∷◌, ◌++◌, length, All, nat_lt, decimal, true≢false, refl, sym, ◌∙◌, arith}
-use Rattle.std.specs.Prelude.{nat_le}
-use Rattle.std.specs.Char.{is_ascii_digit}
-use Rattle.std.specs.List.{list_all}
-use Rattle.std.proofs.lemmas.Fmt.{decimal_nonempty}
-use Rattle.std.proofs.lemmas.Bool.Decides.{nat_tests}
-use Rattle.std.proofs.lemmas.List.{length-append}
-use Rattle.std.proofs.lemmas.List.Elements.{All-cons, All-nil}
-use Rattle.std.proofs.lemmas.List.Folds.{list_all-append}
+use Rattle.mp_words.proofs.Names.{◌≡◌, ℕ, ◌^◌, ◌<◌, Bool, true, false, not, ◌==◌, ◌&&◌, List, [], ◌∷◌, ◌++◌, length, All, nat_lt, decimal, true≢false, refl, sym, ◌∙◌, arith, nat_le, is_ascii_digit, list_all, decimal_nonempty, nat_tests, length-append, All-cons, All-nil, list_all-append, is_allowed, is_gap}
 use Rattle.mp_records.specs.Names.{is_name, is_name_byte, begins_with_letter}
-use Rattle.mp_words.specs.Lines.{is_allowed}
-use Rattle.mp_words.specs.Words.{is_gap}
 use Rattle.mp_words.proofs.DecimalLemmas.{decimal_digits}
 
 -- printed, and neither a space nor `#`

@@ -1,19 +1,11 @@
 -- Words that are written are read again.
-use Rattle.std.proofs.Common.{◌≡◌, ℕ, ◌^◌, ◌<◌, Bool, true, false, not, ◌==◌, ◌&&◌, ◌||◌, List, [], ◌∷◌, ◌++◌, length, map, All, Some, None, Result, Ok, decimal, refl, ap, arith}
-use Rattle.std.specs.Prelude.{codes, nat_le}
+use Rattle.mp_words.proofs.Names.{◌≡◌, ℕ, ◌^◌, ◌<◌, Bool, true, false, not, ◌==◌, ◌&&◌, ◌||◌, List, [], ◌∷◌, ◌++◌, length, map, All, Some, None, Result, Ok, decimal, refl, ap, arith, codes, nat_le, is_ascii_digit, is_ascii_alphabetic, list_all, list_any, nat_tests, All-head, All-tail, take-append_seam, drop-append-add, LineError, pair_text}
 use Rattle.std.specs.Option.{ok_or}
-use Rattle.std.specs.Char.{is_ascii_digit, is_ascii_alphabetic}
 use Rattle.std.specs.Str.{bytes_eq}
-use Rattle.std.specs.List.{list_all, list_any}
-use Rattle.std.proofs.lemmas.Bool.Decides.{nat_tests}
-use Rattle.std.proofs.lemmas.List.Elements.{All-head, All-tail}
-use Rattle.std.proofs.Math.Seq.{take-append_seam, drop-append-add}
 use Rattle.mp_records.specs.Names.{is_name, is_name_byte, begins_with_letter}
-use Rattle.mp_words.specs.declared.line_error.LineError.{LineError}
 use Rattle.mp_words.specs.declared.line_error.LineError.TheVariants.{BadNumber}
 use Rattle.mp_words.specs.Numbers.{time_and_value, parts_at_equals, is_slash, parts_at_slash, name_and_number}
 use Rattle.mp_words.specs.WordLists.{number_word, change_word, input_word, output_word, each_word}
-use Rattle.mp_words.specs.WaveLines.{pair_text}
 use Rattle.mp_words.proofs.DecimalLemmas.{spelled_number-decimal, decimal_digits}
 use Rattle.mp_words.proofs.DividedLemmas.{position-append, before_last-append, after_last-append}
 use Rattle.mp_words.proofs.PlainLemmas.{All-passing, list_all-passing, both}

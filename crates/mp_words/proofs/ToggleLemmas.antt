@@ -1,13 +1,8 @@
 -- Changes of a level that toggles.
-use Rattle.std.proofs.Common.{◌≡◌, ℕ, ◌+◌, ◌-◌, ◌<◌, ◌≤◌, List, [], ◌∷◌, ◌++◌, append_assoc, append-nil, add-one, decimal, drop, get_or, length, refl, sym, ap, subst, ◌∙◌, arith}
-use Rattle.std.proofs.Math.ListN.{set, length-set, drop_of_length-le}
-use Rattle.std.proofs.Math.Seq.{drop-cons}
-use Rattle.std.proofs.lemmas.Fmt.{decimal_digit}
+use Rattle.mp_words.proofs.Names.{◌≡◌, ℕ, ◌+◌, ◌-◌, ◌<◌, ◌≤◌, List, [], ◌∷◌, ◌++◌, append_assoc, append-nil, add-one, decimal, drop, get_or, length, refl, sym, ap, subst, ◌∙◌, arith, set, length-set, drop_of_length-le, drop-cons, decimal_digit, toggle_changes, change_text, changes_text}
 use Rattle.std.proofs.lemmas.List.Concat.{flat_map-append}
 use Rattle.mp_streams.specs.Places.{IsPlaced}
 use Rattle.mp_streams.proofs.PlaceLemmas.{placed_byte, placed_both}
-use Rattle.mp_wave.specs.ToggleWaves.{toggle_changes}
-use Rattle.mp_words.specs.WaveLines.{change_text, changes_text}
 
 -- a space, a time, an equals sign and a level of one digit are a change
 pub toggle_placed : (time level : ℕ) (room timed : List ℕ) (at sign : ℕ) → level ≤ 1 → at < length room → IsPlaced (set room at 32) timed (at + 1) (decimal time) sign →

@@ -1,13 +1,6 @@
 -- Facts about words.
-use Rattle.std.proofs.Common.{ℕ, ◌<◌, Bool, ◌==◌, true, false, cond, List, [], ◌∷◌, ◌-◌, ◌≡◌, Bor, length, drop, take, IsAscii, All, sym, subst, Some, refl}
-use Rattle.std.specs.Prelude.{slice_get, filter}
-use Rattle.std.specs.List.{slice_split, onto_first, position_or_len, find}
-use Rattle.std.proofs.lemmas.List.Elements.{All-cons, All-nil, All-head, All-tail, All-filter}
-use Rattle.std.proofs.lemmas.Str.Ascii.{IsAscii-nil, IsAscii-cons, All-from_ascii}
-use Rattle.std.proofs.lemmas.Str.{IsAscii-take}
+use Rattle.mp_words.proofs.Names.{ℕ, ◌<◌, Bool, ◌==◌, true, false, cond, List, [], ◌∷◌, ◌-◌, ◌≡◌, Bor, length, drop, take, IsAscii, All, sym, subst, Some, refl, slice_get, filter, slice_split, onto_first, position_or_len, find, All-cons, All-nil, All-head, All-tail, All-filter, IsAscii-nil, IsAscii-cons, All-from_ascii, IsAscii-take, take_rest, drop-map, All-drop}
 use Rattle.mp_words.specs.Words.{words_of, is_word, is_gap, statement_part, texts, AreAscii}
-use Rattle.std.proofs.lemmas.List.{take_rest, drop-map}
-use Rattle.std.proofs.lemmas.List.Elements.{All-drop}
 
 All-onto_first : (b : ℕ) (parts : List (List ℕ)) → b < 128 → All IsAscii parts → All IsAscii (onto_first b parts)
 All-onto_first b [] low all = All-cons IsAscii (b ∷ []) [] (IsAscii-cons b [] low IsAscii-nil) (All-nil IsAscii)

@@ -1,10 +1,5 @@
 -- Facts about words that are read in turn.
-use Rattle.std.proofs.Common.{◌≡◌, ℕ, ◌+◌, ◌<◌, ◌≤◌, List, [], ◌∷◌, ◌++◌, Bor, Result, Ok, Err, append_assoc, length, get_or, take, drop, Bool, not, cond, refl, sym, ap, ◌∙◌}
-use Rattle.std.proofs.lemmas.List.{at_drop_more, at_drop_all, append-nil, take-map, drop-map}
-use Rattle.std.specs.List.{before_first, after_first, position_or_len}
-use Rattle.mp_words.specs.declared.line_error.LineError.{LineError}
-use Rattle.mp_words.specs.Reads.{with_front, ◌>>=◌}
-use Rattle.mp_words.specs.Words.{texts}
+use Rattle.mp_words.proofs.Names.{◌≡◌, ℕ, ◌+◌, ◌<◌, ◌≤◌, List, [], ◌∷◌, ◌++◌, Bor, Result, Ok, Err, append_assoc, length, get_or, take, drop, Bool, not, cond, refl, sym, ap, ◌∙◌, at_drop_more, at_drop_all, append-nil, take-map, drop-map, before_first, after_first, position_or_len, LineError, with_front, ◌>>=◌, texts}
 use Rattle.mp_words.specs.WordLists.{each_word}
 
 module _ {A : Type 0} (read : List ℕ → Result A LineError) (ws : List (Bor (List ℕ))) (i : ℕ) (d : Bor (List ℕ)) (front : List A) where

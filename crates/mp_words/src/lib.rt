@@ -17,4 +17,4 @@ pub use line_error::LineError;
 pub use toggles::Toggles;
 pub use wave_line::{Changes, ShortChanges};
 pub use word::{first_word, name_of, word_count, words};
-pub use word_list::{changes, inputs, number_word, numbers, outputs, wire_or_none};
+pub use word_list::{Worded, each_word, number_word, wire_or_none};

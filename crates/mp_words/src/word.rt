@@ -21,6 +21,7 @@ pub fn words<'a>(alloc: Global, line: &'a [u8]) -> Result<Vec<&'a [u8]>, AllocEr
 }
 
 /// The first word before a comment, where there is one. It takes no memory.
+#[tactic(auto, using(crate::proofs::WordLemmas::first_word_of))]
 pub fn first_word(line: &[u8]) -> Option<&[u8]>
     ensures { option_copied result ≡ slice_get (words_of line.now) 0 }
 {

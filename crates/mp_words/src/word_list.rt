@@ -3,7 +3,7 @@ ghost use Rattle.std.specs.Prelude.{◌≡◌, ℕ, List, Result, All, IfOk, IsA
 ghost use Rattle.mp_words.specs.declared.line_error.LineError.{LineError};
 ghost use Rattle.mp_words.specs.declared.line_error.LineError.TheVariants.{OutOfMemory};
 ghost use Rattle.mp_words.specs.Reads.{Gives};
-ghost use Rattle.mp_words.specs.Words.{texts, AreAscii};
+ghost use Rattle.mp_words.specs.Words.{texts};
 ghost use Rattle.std.specs.List.{list_any};
 ghost use Rattle.mp_words.specs.Numbers.{is_slash};
 ghost use Rattle.mp_words.specs.WordLists.{number_word, change_word, input_word, wire_or_none, output_word, each_word};
@@ -22,7 +22,7 @@ pub fn number_word(word: &[u8]) -> Result<u64, LineError>
 }
 
 /// What one word says.
-trait Worded: Drop {
+pub trait Worded: Drop {
     /// Of which words it may be read: of all, where an impl doesn't say otherwise.
     ghost may_read: { List ℕ → Type 0 } = { λ _. Unit {0} };
 
@@ -35,6 +35,7 @@ trait Worded: Drop {
         ensures { Gives OutOfMemory (λ item. item) result (read word.now) };
 }
 
+/// A number, as in `12`.
 impl Worded for u64 {
     ghost read = { number_word };
 
@@ -43,6 +44,7 @@ impl Worded for u64 {
     }
 }
 
+/// A pair of a time and a value, as in `5=1`.
 impl Worded for (u64, u64) {
     ghost read = { change_word };
 
@@ -51,35 +53,28 @@ impl Worded for (u64, u64) {
     }
 }
 
+/// An input, as in `a`, or with its delay, as in `a/4`.
 impl Worded for InputName {
     ghost may_read = { IsAscii };
 
     ghost read = { input_word };
 
+    #[tactic(auto, unfolding(crate::specs::WordLists::input_word))]
     fn from_word(alloc: Global, word: &[u8]) -> Result<Self, LineError> {
-        input_word(alloc, word)
+        if !has_slash(word) {
+            return Ok(InputName {
+                wire: name_of(alloc, word)?,
+                delay: 0,
+            });
+        }
+        let Some((name, delay)) = name_and_number(word) else {
+            return Err(LineError::BadNumber);
+        };
+        Ok(InputName {
+            wire: name_of(alloc, name)?,
+            delay,
+        })
     }
-}
-
-/// An input, as in `a`, or with its delay, as in `a/4`.
-#[tactic(auto, unfolding(crate::specs::WordLists::input_word))]
-fn input_word(alloc: Global, word: &[u8]) -> Result<InputName, LineError>
-    requires { IsAscii word.now }
-    ensures { Gives OutOfMemory (λ input. input) result (input_word word.now) }
-{
-    if !has_slash(word) {
-        return Ok(InputName {
-            wire: name_of(alloc, word)?,
-            delay: 0,
-        });
-    }
-    let Some((name, delay)) = name_and_number(word) else {
-        return Err(LineError::BadNumber);
-    };
-    Ok(InputName {
-        wire: name_of(alloc, name)?,
-        delay,
-    })
 }
 
 fn has_slash(word: &[u8]) -> bool
@@ -99,73 +94,32 @@ pub fn wire_or_none(alloc: Global, name: &[u8]) -> Result<Option<Name>, AllocErr
     Ok(Some(name_of(alloc, name)?))
 }
 
+/// An output with its delay, as in `y/3`, or `-` for one without a wire.
 impl Worded for OutputName {
     ghost may_read = { IsAscii };
 
     ghost read = { output_word };
 
+    #[tactic(auto, unfolding(crate::specs::WordLists::output_word))]
     fn from_word(alloc: Global, word: &[u8]) -> Result<Self, LineError> {
-        output_word(alloc, word)
+        if word == b"-".as_slice() {
+            return Ok(OutputName {
+                wire: None,
+                delay: 1,
+            });
+        }
+        let Some((name, delay)) = name_and_number(word) else {
+            return Err(LineError::BadNumber);
+        };
+        Ok(OutputName {
+            wire: wire_or_none(alloc, name)?,
+            delay,
+        })
     }
 }
 
-/// An output with its delay, or `-` for one without a wire.
-#[tactic(auto, unfolding(crate::specs::WordLists::output_word))]
-fn output_word(alloc: Global, word: &[u8]) -> Result<OutputName, LineError>
-    requires { IsAscii word.now }
-    ensures { Gives OutOfMemory (λ output. output) result (output_word word.now) }
-{
-    if word == b"-".as_slice() {
-        return Ok(OutputName {
-            wire: None,
-            delay: 1,
-        });
-    }
-    let Some((name, delay)) = name_and_number(word) else {
-        return Err(LineError::BadNumber);
-    };
-    Ok(OutputName {
-        wire: wire_or_none(alloc, name)?,
-        delay,
-    })
-}
-
-/// The words as numbers, in order. `BadNumber` comes where one of them spells none, and
-/// `OutOfMemory` where memory is wanting.
-pub fn numbers(alloc: Global, words: &[&[u8]]) -> Result<Vec<u64>, LineError>
-    ensures { Gives OutOfMemory (λ numbers. numbers.items) result (each_word number_word (texts words.now)) }
-{
-    each_word(alloc, words)
-}
-
-/// The words as pairs of a time and a value, as in `5=1`, in order. `BadNumber` comes where one of
-/// them is none, and `OutOfMemory` where memory is wanting.
-pub fn changes(alloc: Global, words: &[&[u8]]) -> Result<Vec<(u64, u64)>, LineError>
-    ensures { Gives OutOfMemory (λ changes. changes.items) result (each_word change_word (texts words.now)) }
-{
-    each_word(alloc, words)
-}
-
-/// The words as outputs with their delays, as in `y/3`, in order; `-` is one without a wire.
-/// `BadNumber` comes where a word is none, and `OutOfMemory` where memory is wanting.
-pub fn outputs(alloc: Global, words: &[&[u8]]) -> Result<Vec<OutputName>, LineError>
-    requires { AreAscii words.now }
-    ensures { Gives OutOfMemory (λ outputs. outputs.items) result (each_word output_word (texts words.now)) }
-{
-    each_word(alloc, words)
-}
-
-/// The words as inputs, as in `a`, or with their delays, as in `a/4`, in order. `BadNumber` comes
-/// where a word with a `/` is none, and `OutOfMemory` where memory is wanting.
-pub fn inputs(alloc: Global, words: &[&[u8]]) -> Result<Vec<InputName>, LineError>
-    requires { AreAscii words.now }
-    ensures { Gives OutOfMemory (λ inputs. inputs.items) result (each_word input_word (texts words.now)) }
-{
-    each_word(alloc, words)
-}
-
-/// What each of the words says, in order.
-fn each_word<W: Worded>(alloc: Global, words: &[&[u8]]) -> Result<Vec<W>, LineError>
+/// What each of the words says, in order; or why the first that says nothing doesn't. `OutOfMemory` comes where memory is wanting.
+pub fn each_word<W: Worded>(alloc: Global, words: &[&[u8]]) -> Result<Vec<W>, LineError>
     requires { All (λ word. W.may_read word.now) words.now }
     ensures { Gives OutOfMemory (λ items. items.items) result (each_word W.read (texts words.now)) }
 {

@@ -1,7 +1,5 @@
-use Rattle.std.proofs.Common.{inl, inr, ℕ, List, [], Bor, arith}
+use Rattle.mp_text.proofs.Names.{inl, inr, ℕ, List, [], Bor, arith, All-get_or, AreAscii}
 use Rattle.std.proofs.lemmas.Result.{err_from_is_err_and}
-use Rattle.std.proofs.lemmas.List.Elements.{All-get_or}
-use Rattle.mp_words.specs.Words.{AreAscii}
 use Rattle.mp_text.proofs.PartLemmas.{part_err, part_ok, part_end}
 use Rattle.mp_text.proofs.batch_line.each_part.Goals as goal
 

@@ -1,6 +1,4 @@
-use Rattle.std.proofs.Common.{◌≡◌, drop}
-use Rattle.mp_words.specs.Reads.{with_front}
-use Rattle.mp_text.specs.Batches.{each_part, part_texts}
+use Rattle.mp_text.proofs.Names.{◌≡◌, drop, with_front, each_part, part_texts}
 use Rattle.mp_text.proofs.batch_line.each_part.Given as goal
 
 -- what was read so far, and what the parts that are left say

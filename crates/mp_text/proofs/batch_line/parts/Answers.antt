@@ -1,10 +1,4 @@
-use Rattle.std.proofs.Common.{◌≡◌, map, List, ℕ, Bor, Vec, Global, Result, Ok, Err, IfOk, All}
-use Rattle.std.specs.Str.{byte}
-use Rattle.std.specs.List.{slice_split}
-use Rattle.std.specs.declared.alloc.AllocError.{AllocError}
-use Rattle.mp_words.specs.Words.{texts, AreAscii}
-use Rattle.mp_text.specs.Statements.{is_mark}
-use Rattle.mp_text.specs.Batches.{part_texts}
+use Rattle.mp_text.proofs.Names.{◌≡◌, map, List, ℕ, Bor, Vec, Global, Result, Ok, Err, IfOk, All, byte, slice_split, AllocError, texts, AreAscii, is_mark, part_texts}
 use Rattle.mp_text.proofs.PartLemmas.{divides, parts_texts, parts_ascii}
 use Rattle.mp_text.proofs.batch_line.parts.Goals as goal
 

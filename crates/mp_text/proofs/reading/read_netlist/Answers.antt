@@ -1,7 +1,5 @@
-use Rattle.std.proofs.Common.{◌≡◌, ◌<◌, length, Ok, Err, sym, ◌∙◌, inl, inr, rules, arith}
-use Rattle.mp_text.specs.Texts.{text_at}
+use Rattle.mp_text.proofs.Names.{◌≡◌, ◌<◌, length, Ok, Err, sym, ◌∙◌, inl, inr, rules, arith, text_at, rest_falls}
 use Rattle.mp_text.proofs.TextLemmas.{text_within, text_over, lines_next, lines_end, lines_counted, line_reached, gives_same, finished_reached}
-use Rattle.mp_words.proofs.LineLemmas.{rest_falls}
 use Rattle.mp_text.proofs.reading.read_netlist.Goals as goal
 
 pub returns-then-text-gt-MAX_TEXT-clause-read : goal.returns-then-text-gt-MAX_TEXT-clause-read

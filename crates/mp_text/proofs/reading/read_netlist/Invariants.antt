@@ -1,8 +1,4 @@
-use Rattle.std.proofs.Common.{◌≡◌, ◌+◌, ◌≤◌, length}
-use Rattle.mp_words.specs.Lines.{lines_of}
-use Rattle.mp_text.specs.Texts.{after_lines}
-use Rattle.mp_text.specs.Limits.{max_text}
-use Rattle.mp_text.specs.declared.text_state.TextState.TheVariants.{Fresh}
+use Rattle.mp_text.proofs.Names.{◌≡◌, ◌+◌, ◌≤◌, length, lines_of, after_lines, max_text, Fresh}
 use Rattle.mp_text.proofs.reading.read_netlist.Given as goal
 
 -- the lines that are left go on from the netlist so far

@@ -1,5 +1,4 @@
-use Rattle.std.proofs.Common.{ℕ, List, ◌∷◌, Bor}
-use Rattle.std.proofs.lemmas.List.Folds.{flat_map-map}
+use Rattle.mp_text.proofs.Names.{ℕ, List, ◌∷◌, Bor, flat_map-map}
 use Rattle.mp_text.proofs.spaced.put_line.Goals as goal
 
 pub returns : goal.returns

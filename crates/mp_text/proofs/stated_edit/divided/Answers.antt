@@ -1,7 +1,4 @@
-use Rattle.std.proofs.Common.{IsAscii, ap, ◌∙◌}
-use Rattle.std.proofs.lemmas.List.Elements.{All-take, All-drop}
-use Rattle.mp_words.specs.Words.{texts}
-use Rattle.mp_text.specs.Statements.{is_mark}
+use Rattle.mp_text.proofs.Names.{IsAscii, ap, ◌∙◌, All-take, All-drop, texts, is_mark}
 use Rattle.mp_words.proofs.WordListLemmas.{texts-before_first, texts-after_first}
 use Rattle.mp_text.proofs.stated_edit.divided.Goals as goal
 

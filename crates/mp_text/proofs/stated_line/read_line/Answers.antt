@@ -1,11 +1,4 @@
-use Rattle.std.proofs.Common.{◌-◌, drop, inr, sym, ap, subst, ◌∙◌}
-use Rattle.std.specs.Option.{option_copied}
-use Rattle.mp_words.specs.declared.line_error.LineError.TheVariants.{OutOfMemory}
-use Rattle.mp_words.specs.Reads.{Gives}
-use Rattle.mp_words.specs.Words.{texts, AreAscii}
-use Rattle.mp_words.proofs.WordLemmas.{rest_ascii, texts_behind}
-use Rattle.mp_text.specs.LineStarts.{takes}
-use Rattle.mp_text.specs.ScriptLines.{stated_line}
+use Rattle.mp_text.proofs.Names.{◌-◌, drop, inr, sym, ap, subst, ◌∙◌, option_copied, OutOfMemory, Gives, texts, AreAscii, rest_ascii, texts_behind, takes, stated_line}
 use Rattle.mp_text.proofs.LineStartLemmas.{not_plain, without_words, with_unknown_word, with_wrong_count, as_stated, has_form, only_with_form}
 use Rattle.mp_text.proofs.stated_line.read_line.Goals as goal
 

@@ -1,6 +1,4 @@
-use Rattle.std.proofs.Common.{ℕ, ◌<◌, List, [], ◌∷◌, ◌++◌, length, take, get_or, Bor, sym, ap, ◌∙◌, arith}
-use Rattle.std.proofs.lemmas.List.{take_more, map-append}
-use Rattle.mp_words.specs.Words.{texts}
+use Rattle.mp_text.proofs.Names.{ℕ, ◌<◌, List, [], ◌∷◌, ◌++◌, length, take, get_or, Bor, sym, ap, ◌∙◌, arith, take_more, map-append, texts}
 use Rattle.mp_text.proofs.stated_question.wire_names.Goals as goal
 
 pub loop-word-preserved : goal.loop-word-preserved

@@ -1,5 +1,4 @@
-use Rattle.std.proofs.Common.{◌≡◌, take}
-use Rattle.mp_words.specs.Words.{texts}
+use Rattle.mp_text.proofs.Names.{◌≡◌, take, texts}
 use Rattle.mp_text.proofs.stated_question.wire_names.Given as goal
 
 -- the names so far

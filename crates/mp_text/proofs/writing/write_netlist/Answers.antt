@@ -1,9 +1,5 @@
-use Rattle.std.proofs.Common.{◌≡◌, ◌≤◌, ℕ, Vec, Global, Result, Ok, Err, IfOk, length}
-use Rattle.std.specs.declared.alloc.AllocError.{AllocError}
-use Rattle.mp_text.specs.RoundTrips.{IsReadAs}
-use Rattle.mp_text.specs.Written.{written}
+use Rattle.mp_text.proofs.Names.{◌≡◌, ◌≤◌, ℕ, Vec, Global, Result, Ok, Err, IfOk, length, AllocError, IsReadAs, written, max_text}
 use Rattle.mp_text.proofs.RoundTripLemmas.{written_is_read}
-use Rattle.mp_text.specs.Limits.{max_text}
 use Rattle.mp_text.proofs.writing.write_netlist.Goals as goal
 
 pub returns-clause-read : goal.returns-clause-read

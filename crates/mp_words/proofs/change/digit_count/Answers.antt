@@ -1,5 +1,4 @@
-use Rattle.std.proofs.Common.{length, sym, ap, arith}
-use Rattle.std.proofs.lemmas.Fmt.{decimal_digit}
+use Rattle.mp_words.proofs.Names.{length, sym, ap, arith, decimal_digit}
 use Rattle.mp_words.proofs.LengthLemmas.{digits_of_power}
 use Rattle.mp_words.proofs.change.digit_count.Goals as goal
 

@@ -1,6 +1,4 @@
-use Rattle.std.proofs.Common.{◌≡◌, ◌<◌, true, false, length, refl, sym, ◌∙◌, rules, arith}
-use Rattle.std.proofs.lemmas.List.{take_rest}
-use Rattle.mp_words.specs.Divisions.{is_division}
+use Rattle.mp_words.proofs.Names.{◌≡◌, ◌<◌, true, false, length, refl, sym, ◌∙◌, rules, arith, take_rest, is_division}
 use Rattle.mp_words.proofs.DivisionLemmas.{front_start, next_line_in, front_next, back_next, divided_next, front_here, back_here, divided_here, front_end, back_end, divided_end}
 use Rattle.mp_words.proofs.division.divided.Goals as goal
 

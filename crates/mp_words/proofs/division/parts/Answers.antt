@@ -1,7 +1,4 @@
-use Rattle.std.proofs.Common.{◌≡◌, ◌∷◌, [], ◌++◌, true, false, sym, ap, ◌∙◌, append_assoc, arith}
-use Rattle.std.proofs.lemmas.Bool.{lt-ltb, le-ltb}
-use Rattle.mp_words.specs.Lines.{lines_of}
-use Rattle.mp_words.specs.Divisions.{parts_of, lines_of_each, later_parts, are_divided}
+use Rattle.mp_words.proofs.Names.{◌≡◌, ◌∷◌, [], ◌++◌, true, false, sym, ap, ◌∙◌, append_assoc, arith, lt-ltb, le-ltb, lines_of, parts_of, lines_of_each, later_parts, are_divided}
 use Rattle.mp_words.proofs.PartLemmas.{parts_of-split, parts_of-one, each_more}
 use Rattle.mp_words.proofs.division.parts.Goals as goal
 

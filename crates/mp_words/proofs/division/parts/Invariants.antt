@@ -1,6 +1,4 @@
-use Rattle.std.proofs.Common.{◌≡◌, ◌++◌, length}
-use Rattle.mp_words.specs.Lines.{lines_of}
-use Rattle.mp_words.specs.Divisions.{parts_of, lines_of_each}
+use Rattle.mp_words.proofs.Names.{◌≡◌, ◌++◌, length, lines_of, parts_of, lines_of_each}
 use Rattle.mp_words.proofs.division.parts.Given as goal
 
 -- the parts so far, and those of the rest

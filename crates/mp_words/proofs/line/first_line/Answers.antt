@@ -1,7 +1,5 @@
-use Rattle.std.proofs.Common.{◌≡◌, ◌+◌, ◌-◌, [], length, take, drop, arith}
+use Rattle.mp_words.proofs.Names.{◌≡◌, ◌+◌, ◌-◌, [], length, take, drop, arith, before_first, after_first, is_line_feed}
 use Rattle.std.proofs.lemmas.Grind.{common_steps}
-use Rattle.std.specs.List.{before_first, after_first}
-use Rattle.mp_words.specs.Lines.{is_line_feed}
 use Rattle.mp_words.proofs.LineLemmas.{lines_of-cons}
 use Rattle.mp_words.proofs.line.first_line.Goals as goal
 

@@ -1,6 +1,4 @@
-use Rattle.std.proofs.Common.{◌≡◌, take}
-use Rattle.std.specs.List.{list_all}
-use Rattle.mp_words.specs.Lines.{is_allowed}
+use Rattle.mp_words.proofs.Names.{◌≡◌, take, list_all, is_allowed}
 use Rattle.mp_words.proofs.line.is_plain.Given as goal
 
 -- the bytes so far are told

@@ -1,6 +1,4 @@
-use Rattle.std.proofs.Common.{◌≡◌, ◌+◌, ◌≤◌, not, length, take}
-use Rattle.std.specs.List.{suffix_len}
-use Rattle.mp_words.specs.Numbers.{is_slash}
+use Rattle.mp_words.proofs.Names.{◌≡◌, ◌+◌, ◌≤◌, not, length, take, suffix_len, is_slash}
 use Rattle.mp_words.proofs.number.behind_slash.Given as goal
 
 -- the bytes from here on hold no slash

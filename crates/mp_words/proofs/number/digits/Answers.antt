@@ -1,5 +1,4 @@
-use Rattle.std.proofs.Common.{◌≡◌, None, false, true, get_or, ◌^◌, ◌≤◌, ◌+◌, ◌-◌, ◌*◌, sym, ◌∙◌, rules, arith}
-use Rattle.std.specs.Char.{is_ascii_digit}
+use Rattle.mp_words.proofs.Names.{◌≡◌, None, false, true, get_or, ◌^◌, ◌≤◌, ◌+◌, ◌-◌, ◌*◌, sym, ◌∙◌, rules, arith, is_ascii_digit}
 use Rattle.mp_words.proofs.DigitLemmas.{number_from_over, number_from_digit, number_from_other, number_from_end}
 use Rattle.mp_words.proofs.number.digits.Goals as goal
 

@@ -1,6 +1,4 @@
-use Rattle.std.proofs.Common.{◌+◌, drop, get_or}
-use Rattle.mp_wave.specs.ToggleWaves.{toggle_changes}
-use Rattle.mp_words.specs.WaveLines.{change_text, changes_text}
+use Rattle.mp_words.proofs.Names.{◌+◌, drop, get_or, toggle_changes, change_text, changes_text}
 use Rattle.mp_words.proofs.OnWayLemmas.{on_way_more, on_way_failed, on_way_done}
 use Rattle.mp_words.proofs.ToggleLemmas.{one_from, none_from}
 use Rattle.mp_words.proofs.toggles.put_few.Goals as goal

@@ -1,6 +1,4 @@
-use Rattle.std.proofs.Common.{drop}
-use Rattle.mp_wave.specs.ToggleWaves.{toggle_changes}
-use Rattle.mp_words.specs.WaveLines.{changes_text}
+use Rattle.mp_words.proofs.Names.{drop, toggle_changes, changes_text}
 use Rattle.mp_words.proofs.OnWayLemmas.{IsOnWay}
 use Rattle.mp_words.proofs.toggles.put_few.Given as goal
 

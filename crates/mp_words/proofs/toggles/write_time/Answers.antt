@@ -1,5 +1,4 @@
-use Rattle.std.proofs.Common.{arith}
-use Rattle.std.proofs.lemmas.Fmt.{length-decimal-le}
+use Rattle.mp_words.proofs.Names.{arith, length-decimal-le}
 use Rattle.mp_words.proofs.toggles.write_time.Goals as goal
 
 pub returns-clause-short : goal.returns-clause-short

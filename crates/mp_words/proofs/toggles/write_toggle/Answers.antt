@@ -1,5 +1,4 @@
-use Rattle.std.proofs.Common.{arith}
-use Rattle.std.proofs.Math.ListN.{length-set}
+use Rattle.mp_words.proofs.Names.{arith, length-set}
 use Rattle.mp_words.proofs.ToggleLemmas.{toggle_placed}
 use Rattle.mp_words.proofs.toggles.write_toggle.Goals as goal
 

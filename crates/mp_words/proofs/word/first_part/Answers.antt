@@ -1,7 +1,5 @@
-use Rattle.std.proofs.Common.{refl, ◌∙◌, rules, tests}
-use Rattle.std.proofs.lemmas.Iterator.Splits.{YieldsList-from_slice_split}
+use Rattle.mp_words.proofs.Names.{refl, ◌∙◌, rules, tests, YieldsList-from_slice_split, is_gap, is_word, statement_part}
 use Rattle.std.proofs.lemmas.Iterator.Search.{find_from_yields_List}
-use Rattle.mp_words.specs.Words.{is_gap, is_word, statement_part}
 use Rattle.mp_words.proofs.word.first_part.Goals as goal
 
 pub returns : goal.returns

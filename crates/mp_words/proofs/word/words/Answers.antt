@@ -1,6 +1,4 @@
-use Rattle.std.proofs.Common.{◌≡◌, refl, ◌∙◌, rules, tests, ℕ, List, Bor, Vec, Global, Result, Ok, Err, IfOk}
-use Rattle.std.proofs.lemmas.Iterator.Splits.{YieldsList-from_slice_split}
-use Rattle.std.proofs.lemmas.Iterator.Consumers.{map_from_collect, YieldsList-from_filter}
+use Rattle.mp_words.proofs.Names.{◌≡◌, refl, ◌∙◌, rules, tests, ℕ, List, Bor, Vec, Global, Result, Ok, Err, IfOk, YieldsList-from_slice_split, map_from_collect, YieldsList-from_filter}
 use Rattle.mp_words.specs.Words.{words_of, is_gap, is_word, statement_part, texts, AreAscii}
 use Rattle.std.specs.declared.alloc.AllocError.{AllocError}
 use Rattle.mp_words.proofs.WordLemmas.{texts_ascii}

@@ -1,6 +1,5 @@
-use Rattle.std.proofs.Common.{inl, inr, ℕ, List, [], Bor, arith}
+use Rattle.mp_words.proofs.Names.{inl, inr, ℕ, List, [], Bor, arith, All-get_or}
 use Rattle.std.proofs.lemmas.Result.{err_from_is_err_and}
-use Rattle.std.proofs.lemmas.List.Elements.{All-get_or}
 use Rattle.mp_words.proofs.WordListLemmas.{each_err, each_ok, each_end}
 use Rattle.mp_words.proofs.word_list.each_word.Goals as goal
 

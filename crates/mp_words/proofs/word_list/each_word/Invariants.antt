@@ -1,7 +1,4 @@
-use Rattle.std.proofs.Common.{◌≡◌, drop}
-use Rattle.mp_words.specs.Reads.{with_front}
-use Rattle.mp_words.specs.Words.{texts}
-use Rattle.mp_words.specs.WordLists.{each_word}
+use Rattle.mp_words.proofs.Names.{◌≡◌, drop, with_front, texts, each_word}
 use Rattle.mp_words.proofs.word_list.each_word.Given as goal
 
 -- what was read so far, and what the words that are left say

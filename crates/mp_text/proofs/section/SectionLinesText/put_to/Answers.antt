@@ -1,7 +1,4 @@
-use Rattle.std.proofs.Common.{◌≡◌, ◌+◌, ◌<◌, Ok, ap, subst, ◌∙◌, arith}
-use Rattle.mp_streams.specs.Outgoing.{Writes}
-use Rattle.mp_streams.proofs.OutLemmas.{puts_none, puts_then, puts_sooner, writes_failed}
-use Rattle.mp_text.specs.Sections.{slot_count}
+use Rattle.mp_text.proofs.Names.{◌≡◌, ◌+◌, ◌<◌, Ok, ap, subst, ◌∙◌, arith, Writes, puts_none, puts_then, puts_sooner, writes_failed, slot_count}
 use Rattle.mp_text.proofs.SectionLemmas.{lines_below, lines_from, lines_below-none, lines_below-all, lines_below-next, section_with}
 use Rattle.mp_text.proofs.section.SectionLinesText.put_to.Goals as goal
 

@@ -1,5 +1,4 @@
-use Rattle.std.proofs.Common.{Ok}
-use Rattle.mp_streams.specs.Outgoing.{Writes}
+use Rattle.mp_text.proofs.Names.{Ok, Writes}
 use Rattle.mp_text.proofs.SectionLemmas.{lines_below}
 use Rattle.mp_text.proofs.section.SectionLinesText.put_to.Given as goal
 

@@ -1,6 +1,4 @@
-use Rattle.std.proofs.Common.{◌∷◌, Ok, take}
-use Rattle.std.specs.List.{flat_map}
-use Rattle.mp_streams.specs.Outgoing.{Writes}
+use Rattle.mp_text.proofs.Names.{◌∷◌, Ok, take, flat_map, Writes}
 use Rattle.mp_text.proofs.spaced.SpacedText.put_to.Given as goal
 
 -- the texts so far are written

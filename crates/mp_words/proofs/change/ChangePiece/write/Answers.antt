@@ -1,5 +1,4 @@
-use Rattle.std.proofs.Common.{arith}
-use Rattle.std.proofs.Math.ListN.{length-set}
+use Rattle.mp_words.proofs.Names.{arith, length-set}
 use Rattle.mp_words.proofs.change.ChangePiece.write.Goals as goal
 
 pub bounds-room-sign : goal.bounds-room-sign

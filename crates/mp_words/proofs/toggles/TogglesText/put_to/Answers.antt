@@ -1,7 +1,4 @@
-use Rattle.std.proofs.Common.{◌≡◌, ◌+◌, ◌-◌, ◌≤◌, [], ◌∷◌, drop, get_or, length, ap, subst, arith}
-use Rattle.mp_streams.specs.Outgoing.{Writes}
-use Rattle.mp_wave.specs.ToggleWaves.{toggle_changes}
-use Rattle.mp_words.specs.WaveLines.{changes_text}
+use Rattle.mp_words.proofs.Names.{◌≡◌, ◌+◌, ◌-◌, ◌≤◌, [], ◌∷◌, drop, get_or, length, ap, subst, arith, Writes, toggle_changes, changes_text}
 use Rattle.mp_words.proofs.OnWayLemmas.{on_way_more, on_way_last, on_way_failed}
 use Rattle.mp_words.proofs.ToggleLemmas.{four_from, from_low}
 use Rattle.mp_words.proofs.toggles.TogglesText.put_to.Goals as goal

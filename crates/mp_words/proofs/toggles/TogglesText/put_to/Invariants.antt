@@ -1,6 +1,4 @@
-use Rattle.std.proofs.Common.{◌-◌, ◌≤◌, drop, length}
-use Rattle.mp_wave.specs.ToggleWaves.{toggle_changes}
-use Rattle.mp_words.specs.WaveLines.{changes_text}
+use Rattle.mp_words.proofs.Names.{◌-◌, ◌≤◌, drop, length, toggle_changes, changes_text}
 use Rattle.mp_words.proofs.OnWayLemmas.{IsOnWay}
 use Rattle.mp_words.proofs.toggles.TogglesText.put_to.Given as goal
 

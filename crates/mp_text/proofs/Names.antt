@@ -1,0 +1,66 @@
+-- The names that many proofs here cite, passed on from one place. Declares nothing.
+pub use Rattle.std.proofs.Common.{All, Bool, Bor, Err, Global, IfErr, IfOk, IfSome, IsAscii, IsSome, IsTrue, List, None, Ok, Option, Result, Some, Vec, [], ap, append-nil, append_assoc, arith, bytes_eq, codes, cond, decimal, drop, eq-eqb, eqb-true, false, filter, filter_map, flat_map, get_or, inl, inr, is_none, is_some, leb-false, length, length-append, length-drop, length-take, lt-ltb, map, map-id, min, nat_le, nat_lt, not, ok_or, option_and_then, option_copied, option_map, refl, rules, slice_get, slice_index_or, slice_set, subst, suc, sym, take, take_all, true, true≢false, unwrap_or, zero, ℕ, ◌&&◌, ◌++◌, ◌+◌, ◌-◌, ◌<◌, ◌==◌, ◌^◌, ◌||◌, ◌∙◌, ◌∷◌, ◌≡◌, ◌≤◌, ◌⊎◌}
+pub use Rattle.std.proofs.lemmas.Bool.{cases_Bool, cases_eq}
+pub use Rattle.std.proofs.lemmas.Bool.Decides.{nat_tests}
+pub use Rattle.std.proofs.lemmas.List.{at_drop_all, at_drop_more, get_or-map, get_or_append_left, get_or_at, length-map, length_push, map-append, set-get_or, set_at, set_split, take_more}
+pub use Rattle.std.proofs.lemmas.List.Concat.{flat_map-append}
+pub use Rattle.std.proofs.lemmas.List.Elements.{All-append, All-cons, All-drop, All-from_get_or, All-get_or, All-head, All-map, All-nil, All-tail, All-take, All-weaker}
+pub use Rattle.std.proofs.lemmas.List.Folds.{flat_map-map, list_all-append}
+pub use Rattle.std.specs.List.{after_first, before_first, enumerate_from, list_all, list_any, onto_first, position_from, position_or_len, slice_split}
+pub use Rattle.std.specs.Result.{result_map_both}
+pub use Rattle.std.specs.Str.{byte}
+pub use Rattle.std.specs.declared.alloc.AllocError.{AllocError}
+pub use Rattle.mp_modules.proofs.KindLemmas.{param_bound-low, some_input, some_output}
+pub use Rattle.mp_modules.specs.Kinds.{are_params, has_width, input_count, input_width, output_count, output_width, word_of}
+pub use Rattle.mp_modules.specs.declared.kind.Kind.{Kind}
+pub use Rattle.mp_netlist.proofs.PortLemmas.{no_name}
+pub use Rattle.mp_netlist.proofs.TableLemmas.{equal_name, same_name, slot_within}
+pub use Rattle.mp_netlist.specs.Circuit.{Circuit, Drives, HasNames, HasWidth, IsBundle, IsCircuit, IsDelay, IsInputDelay, IsModule, bundle_at, empty_circuit, module_at, module_width, stimulus_at, stimulus_in, width_of, wire_at}
+pub use Rattle.mp_netlist.specs.Drivers.{driver, is_nothing, is_port, stimulus_driver}
+pub use Rattle.mp_netlist.specs.Edits.{after_single, are_distinct, driven_names, edited, first_failing, go_on, refusal, unless}
+pub use Rattle.mp_netlist.specs.Limits.{max_bundles, max_delay, max_horizon, max_modules, max_setup, max_wires}
+pub use Rattle.mp_netlist.specs.Replays.{replay, replay_singles}
+pub use Rattle.mp_netlist.specs.Slots.{number_named}
+pub use Rattle.mp_records.specs.Inputs.{input_at, no_input}
+pub use Rattle.mp_records.specs.Names.{is_name}
+pub use Rattle.mp_records.specs.Outputs.{output_at, output_in}
+pub use Rattle.mp_records.specs.declared.bundle_record.BundleRecord.{BundleRecord}
+pub use Rattle.mp_records.specs.declared.edit_error.EditError.{EditError}
+pub use Rattle.mp_records.specs.declared.ids.WireId.{WireId}
+pub use Rattle.mp_records.specs.declared.module_record.ModuleRecord.{ModuleRecord}
+pub use Rattle.mp_records.specs.declared.port_names.InputName.{InputName}
+pub use Rattle.mp_records.specs.declared.port_names.OutputName.{OutputName}
+pub use Rattle.mp_records.specs.declared.ports.Input.{Input}
+pub use Rattle.mp_records.specs.declared.ports.Output.{Output}
+pub use Rattle.mp_records.specs.declared.single_edit.SingleEdit.{SingleEdit}
+pub use Rattle.mp_records.specs.declared.single_edit.SingleEdit.TheVariants.{AddBundle, AddModule, AddWire, SetStimulus}
+pub use Rattle.mp_records.specs.declared.wire_record.WireRecord.{WireRecord}
+pub use Rattle.mp_streams.proofs.OutLemmas.{next_text, puts_next, puts_none, puts_sooner, puts_stopped, puts_then, text_with, writes_failed}
+pub use Rattle.mp_streams.specs.Outgoing.{Writes}
+pub use Rattle.mp_text.specs.Batches.{each_part, part_texts}
+pub use Rattle.mp_text.specs.Limits.{max_first_horizon, max_second_horizon, max_text}
+pub use Rattle.mp_text.specs.LineStarts.{HasForm, is_begun, is_taken, question_takes, single_takes, statement_takes, takes}
+pub use Rattle.mp_text.specs.RoundTrips.{IsReadAs, IsReadAsWritten, SameRecords, bundle_by_name, bundle_edits, edits_by_name, input_by_name, module_by_name, module_edits, output_by_name, set_edits, standing, stimulus_edits, wire_edits}
+pub use Rattle.mp_text.specs.ScriptLines.{stated_line}
+pub use Rattle.mp_text.specs.Sections.{section_text, slot_count, slot_line}
+pub use Rattle.mp_text.specs.Statements.{Blank, Change, Format, Start, Statement, Unknown, is_mark, statement_of}
+pub use Rattle.mp_text.specs.Texts.{after_lines, text_at}
+pub use Rattle.mp_text.specs.Written.{bundle_line, delay_text, input_text, module_line, name_in, output_name, output_text, spaced, stimulus_line, stimulus_words, wire_line, wire_name, written, written_line}
+pub use Rattle.mp_text.specs.declared.section.Section.TheVariants.{Bundles, Modules, Stimuli, Wires}
+pub use Rattle.mp_text.specs.declared.text_code.TextCode.{TextCode}
+pub use Rattle.mp_text.specs.declared.text_code.TextCode.TheVariants.{Line, Refused, TooLong}
+pub use Rattle.mp_text.specs.declared.text_error.TextError.{TextError}
+pub use Rattle.mp_text.specs.declared.text_format.TextFormat.TheVariants.{First, Second}
+pub use Rattle.mp_text.specs.declared.text_state.TextState.{TextState}
+pub use Rattle.mp_text.specs.declared.text_state.TextState.TheVariants.{Formatted, Fresh, Open}
+pub use Rattle.mp_words.proofs.LineLemmas.{lines_of-cons, rest_falls}
+pub use Rattle.mp_words.proofs.PlainLemmas.{All-passing, IsPlain, IsPlain-append, IsPlain-decimal, IsPlain-name, both, is_plain_byte, list_all-passing, plain_allowed, plain_no_gap, plain_no_hash}
+pub use Rattle.mp_words.proofs.ReadBackLemmas.{change_back, each_back, input_back, late_input_back, no_wire_back, number_back, wire_back}
+pub use Rattle.mp_words.proofs.WordLemmas.{rest_ascii, texts_behind}
+pub use Rattle.mp_words.specs.Lines.{is_allowed, lines_of}
+pub use Rattle.mp_words.specs.Reads.{Gives, with_front, ◌>>=◌}
+pub use Rattle.mp_words.specs.WaveLines.{changes_text, pair_text}
+pub use Rattle.mp_words.specs.WordLists.{change_word, input_word, number_word, output_word}
+pub use Rattle.mp_words.specs.Words.{AreAscii, texts, words_of}
+pub use Rattle.mp_words.specs.declared.line_error.LineError.{LineError}
+pub use Rattle.mp_words.specs.declared.line_error.LineError.TheVariants.{BadNumber, NotAscii, OutOfMemory, UnknownStatement, WordCount}
