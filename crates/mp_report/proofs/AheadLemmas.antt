@@ -1,14 +1,6 @@
 -- Lemmas on a wire from a time on.
-use Rattle.std.proofs.Common.{◌≡◌, ◌≢◌, ℕ, ◌+◌, ◌-◌, ◌<◌, ◌≤◌, ◌==◌, inl, inr, true, false, not, List, [], ◌∷◌, zero, suc, refl, ap, sym, subst, ◌∙◌, arith}
-use Rattle.std.specs.Prelude.{Option, Some, None, slice_get}
-use Rattle.std.proofs.lemmas.Bool.{cases_eq, ne_eqb}
-use Rattle.std.proofs.lemmas.Bool.Decides.{nat_tests}
-use Rattle.mp_wave.specs.WaveChanges.{changes_in}
-use Rattle.mp_wave.specs.Waveform.{Waveform, AreChanges, level_from, last_time, wave_upto, changes_after}
+use Rattle.mp_report.proofs.Names.{◌≡◌, ◌≢◌, ℕ, ◌+◌, ◌-◌, ◌<◌, ◌≤◌, ◌==◌, inl, inr, true, false, not, List, [], ◌∷◌, zero, suc, refl, ap, sym, subst, ◌∙◌, arith, Option, Some, None, slice_get, cases_eq, ne_eqb, nat_tests, changes_in, Waveform, AreChanges, level_from, last_time, wave_upto, changes_after, last_time-changes_after, AreChanges-changes_after, level_from-changes_after, has_event, IsAhead}
 use Rattle.mp_wave.proofs.WaveformLemmas.{level_from-before, level_from-first, le-last_time}
-use Rattle.mp_wave.proofs.ChangesLemmas.{last_time-changes_after, AreChanges-changes_after, level_from-changes_after}
-use Rattle.mp_modules.specs.Histories.{has_event}
-use Rattle.mp_report.specs.Ahead.{IsAhead}
 use Rattle.mp_report.specs.declared.ahead.Ahead.{Ahead}
 
 -- a wave from time 1 on

@@ -1,19 +1,9 @@
 -- Lemmas on what is found at bundles.
-use Rattle.std.proofs.Common.{◌≡◌, ℕ, ◌+◌, ◌-◌, ◌<◌, ◌≤◌, inl, inr, Bool, true, false, not, ◌&&◌, [], map, min, nat_le, Some, None, filter, flat_map, refl, ap, sym, ◌∙◌, true≢false, arith}
-use Rattle.std.specs.List.{list_any, range_with_len}
-use Rattle.std.proofs.lemmas.Bool.{cases_Bool, cases_lt}
-use Rattle.std.proofs.lemmas.Bool.Decides.{nat_tests}
-use Rattle.mp_modules.specs.declared.finding_code.FindingCode.{FindingCode}
+use Rattle.mp_report.proofs.Names.{◌≡◌, ℕ, ◌+◌, ◌-◌, ◌<◌, ◌≤◌, inl, inr, Bool, true, false, not, ◌&&◌, [], map, min, nat_le, Some, None, filter, flat_map, refl, ap, sym, ◌∙◌, true≢false, arith, list_any, range_with_len, cases_Bool, cases_lt, nat_tests, FindingCode, FindingSet, by_number, has_code, no_findings, with_code_if, has_event, Circuit, bundle_at, changes, is_busy, is_requested_soon, is_found_at_bundle, bundle_place, bundle_set}
 use Rattle.mp_modules.specs.declared.finding_code.FindingCode.TheVariants as codes
-use Rattle.mp_modules.specs.declared.finding_set.FindingSet.{FindingSet}
-use Rattle.mp_modules.specs.Findings.{by_number, has_code, no_findings, with_code_if}
-use Rattle.mp_modules.specs.Histories.{has_event}
 use Rattle.mp_records.specs.declared.bundle_record.BundleRecord.{BundleRecord}
-use Rattle.mp_netlist.specs.Circuit.{Circuit, bundle_at}
-use Rattle.mp_model.specs.Findings.{changes, is_busy, is_requested_soon, is_found_at_bundle, bundle_place}
 use Rattle.mp_model.proofs.MemberLemmas.{any_passes, passes_any, contains_range, range_contains}
 use Rattle.mp_response.specs.Span.{findings_of}
-use Rattle.mp_report.specs.Bundles.{bundle_set}
 use Rattle.mp_report.specs.Places.{codes_at, found_over}
 use Rattle.mp_report.proofs.TimeLemmas.{told_none, told_same}
 

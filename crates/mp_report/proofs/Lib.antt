@@ -1,3 +1,4 @@
+mod Names
 pub mod TimeLemmas
 pub mod AheadLemmas
 pub mod BundleLemmas

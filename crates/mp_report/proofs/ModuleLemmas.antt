@@ -1,18 +1,8 @@
 -- Lemmas on what is found at modules.
-use Rattle.std.proofs.Common.{◌≡◌, ℕ, ◌-◌, ◌<◌, ◌≤◌, ◌==◌, Bool, false, List, [], ◌++◌, map, Option, Some, None, filter, flat_map, zero, suc, refl, ap, sym, subst, ◌∙◌, arith}
-use Rattle.std.specs.List.{range_with_len}
-use Rattle.std.proofs.lemmas.Bool.Decides.{nat_tests}
-use Rattle.mp_modules.specs.declared.finding_code.FindingCode.{FindingCode}
-use Rattle.mp_modules.specs.declared.memory.Memory.{Memory}
-use Rattle.mp_modules.specs.declared.finding_set.FindingSet.{FindingSet}
-use Rattle.mp_modules.specs.Findings.{by_number, has_code, no_findings}
+use Rattle.mp_report.proofs.Names.{◌≡◌, ℕ, ◌-◌, ◌<◌, ◌≤◌, ◌==◌, Bool, false, List, [], ◌++◌, map, Option, Some, None, filter, flat_map, zero, suc, refl, ap, sym, subst, ◌∙◌, arith, range_with_len, nat_tests, FindingCode, Memory, FindingSet, by_number, has_code, no_findings, Circuit, IsCircuit, module_at, module_width, built, inputs_by, level, state, is_found_at_module, module_place}
 use Rattle.mp_storage.specs.declared.any_module.AnyModule.{AnyModule}
 use Rattle.mp_storage.specs.AnyModules.{start, found, any_part_of}
 use Rattle.mp_records.specs.declared.module_record.ModuleRecord.{ModuleRecord}
-use Rattle.mp_netlist.specs.Circuit.{Circuit, IsCircuit, module_at, module_width}
-use Rattle.mp_model.specs.Levels.{built, inputs_by}
-use Rattle.mp_model.specs.Waves.{level, state}
-use Rattle.mp_model.specs.Findings.{is_found_at_module, module_place}
 use Rattle.mp_model.proofs.BehaviourLemmas.{satisfies}
 use Rattle.mp_response.specs.Span.{IsSpan, findings_of, found_at}
 use Rattle.mp_response.specs.Delays.{state_before}

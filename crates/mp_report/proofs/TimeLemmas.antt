@@ -1,6 +1,5 @@
 -- What is told over a run of times.
-use Rattle.std.proofs.Common.{◌≡◌, ℕ, ◌+◌, ◌<◌, ◌≤◌, List, [], ◌∷◌, ◌++◌, flat_map, zero, suc, refl, ap, ◌∙◌, append-nil, arith}
-use Rattle.std.specs.List.{range_with_len}
+use Rattle.mp_report.proofs.Names.{◌≡◌, ℕ, ◌+◌, ◌<◌, ◌≤◌, List, [], ◌∷◌, ◌++◌, flat_map, zero, suc, refl, ap, ◌∙◌, append-nil, arith, range_with_len}
 use Rattle.std.proofs.lemmas.Grind.{flat_map-append}
 
 pub times_more : (a n : ℕ) → range_with_len a (n + 1) ≡ range_with_len a n ++ (a + n) ∷ []

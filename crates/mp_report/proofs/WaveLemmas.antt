@@ -1,17 +1,9 @@
 -- The waves of wires that stand.
-use Rattle.std.proofs.Common.{◌≡◌, ℕ, ◌-◌, ◌<◌, List, Option, Some, None, IsSome, ap, sym, ◌∙◌, arith}
-use Rattle.mp_wave.specs.Waveform.{Waveform, IsWaveform, level_of, between}
+use Rattle.mp_report.proofs.Names.{◌≡◌, ℕ, ◌-◌, ◌<◌, List, Option, Some, None, IsSome, ap, sym, ◌∙◌, arith, Waveform, IsWaveform, level_of, between, levels_of_wave, Input, Circuit, IsCircuit, wire_at, input_by, level, wave, slot_wave, AreWavesOf, later_by, put_off, piece_level, InPiece}
 use Rattle.mp_wave.proofs.PrefixLemmas.{cut_levels}
-use Rattle.mp_wave.proofs.ChangesLemmas.{levels_of_wave}
 use Rattle.mp_records.specs.declared.wire_record.WireRecord.{WireRecord}
-use Rattle.mp_records.specs.declared.ports.Input.{Input}
 use Rattle.mp_netlist.specs.Slots.{slot_at}
-use Rattle.mp_netlist.specs.Circuit.{Circuit, IsCircuit, wire_at}
-use Rattle.mp_model.specs.Levels.{input_by}
-use Rattle.mp_model.specs.Waves.{level, wave, slot_wave, AreWavesOf}
 use Rattle.mp_model.proofs.InputLemmas.{input_is}
-use Rattle.mp_response.specs.Pieces.{later_by, put_off, piece_level}
-use Rattle.mp_response.specs.declared.in_piece.InPiece.{InPiece}
 use Rattle.mp_response.proofs.LateLemmas.{late_level_of, IsWaveform-later_by}
 
 -- the wave that is kept of a wire that stands

@@ -95,6 +95,7 @@ fn piece(
 }
 
 /// A wave so much later, from time 0 to an end. It is copied as a whole where it isn't put off.
+#[tactic(auto, using(crate::proofs::WaveLemmas::cut_whole, crate::proofs::WaveLemmas::cut_late))]
 fn heard(alloc: Global, wave: &Wave, delay: u32, end: u32) -> Result<InPiece, AllocError>
     requires some { 0 < end }
     requires form { IsWaveform wave.now }

@@ -1,19 +1,5 @@
 -- The changes of a time, one before the others.
-use Rattle.std.proofs.Common.{◌≡◌, ◌≢◌, ℕ, ◌+◌, ◌-◌, ◌<◌, ◌≤◌, ◌⊎◌, inl, inr, Bool, true, false, not, cond, ◌==◌, nat_le, nat_lt, List, [], ◌∷◌, ◌++◌, length, length-append, take, slice_index, slice_set, Some, zero, suc, refl, sym, ap, subst, ◌∙◌, zero-add, add-one, get_or, arith, get_or-set_other, get_or-set_same}
-use Rattle.std.proofs.lemmas.Bool.Decides.{nat_tests}
-use Rattle.std.proofs.lemmas.Bool.{cases_lt, eq-eqb, eqb-true, le-leb, lt-leb, lt-ltb, ne_eqb}
-use Rattle.std.proofs.Math.ListN.{get_or-append, length-set}
-use Rattle.std.proofs.Math.Seq.{get_or-append_seam, take-suc}
-use Rattle.mp_wave.specs.Waveform.{change_after, changes_after, later_than, between}
-use Rattle.mp_records.specs.declared.wire_record.WireRecord.{WireRecord}
-use Rattle.mp_netlist.specs.Circuit.{Circuit, wire_at, width_of}
-use Rattle.mp_model.specs.Waves.{level}
-use Rattle.std.specs.List.{filter, flat_map}
-use Rattle.std.proofs.lemmas.List.Folds.{flat_map-map}
-use Rattle.mp_vcd.specs.Values.{value_line}
-use Rattle.mp_vcd.specs.Dumps.{is_changed, value_at, marked, time_mark}
-use Rattle.mp_vcd.specs.declared.agenda.Entry.{Entry}
-use Rattle.mp_vcd.specs.Agendas.{no_entry, entry_at, IsChain, Tells, told_from, with_told, onto, onto_slot, with_levels, told_lines}
+use Rattle.mp_vcd.proofs.Names.{◌≡◌, ◌≢◌, ℕ, ◌+◌, ◌-◌, ◌<◌, ◌≤◌, ◌⊎◌, inl, inr, Bool, true, false, not, cond, ◌==◌, nat_le, nat_lt, List, [], ◌∷◌, ◌++◌, length, length-append, take, slice_index, slice_set, Some, zero, suc, refl, sym, ap, subst, ◌∙◌, zero-add, add-one, get_or, arith, get_or-set_other, get_or-set_same, nat_tests, cases_lt, eq-eqb, eqb-true, le-leb, lt-leb, lt-ltb, ne_eqb, get_or-append, length-set, get_or-append_seam, take-suc, change_after, changes_after, later_than, between, WireRecord, Circuit, wire_at, width_of, level, filter, flat_map, flat_map-map, value_line, is_changed, value_at, marked, time_mark, Entry, no_entry, entry_at, IsChain, Tells, told_from, with_told, onto, onto_slot, with_levels, told_lines}
 
 -- ---- chains
 

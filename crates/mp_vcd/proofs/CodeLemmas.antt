@@ -1,8 +1,5 @@
 -- Codes and binary digits, digit by digit.
-use Rattle.std.proofs.Common.{◌≡◌, ℕ, ◌+◌, ◌-◌, ◌/◌, ◌%◌, ◌<◌, ◌≤◌, Bool, true, false, cond, nat_lt, List, [], ◌∷◌, ◌++◌, append_assoc, length, drop, slice_set, zero, suc, refl, sym, ap, ◌∙◌, ⊎_elim, arith}
-use Rattle.std.proofs.lemmas.Bool.{cases_lt, ltb-false}
-use Rattle.std.proofs.lemmas.Bool.Decides.{nat_tests}
-use Rattle.std.proofs.lemmas.List.{drop-set, length-append}
+use Rattle.mp_vcd.proofs.Names.{◌≡◌, ℕ, ◌+◌, ◌-◌, ◌/◌, ◌%◌, ◌<◌, ◌≤◌, Bool, true, false, cond, nat_lt, List, [], ◌∷◌, ◌++◌, append_assoc, length, drop, slice_set, zero, suc, refl, sym, ap, ◌∙◌, ⊎_elim, arith, cases_lt, ltb-false, nat_tests, drop-set, length-append}
 use Rattle.mp_vcd.specs.Codes.{digits_of, code}
 use Rattle.mp_vcd.specs.Values.{bit, bits}
 

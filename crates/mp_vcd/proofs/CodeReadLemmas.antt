@@ -1,23 +1,12 @@
 -- Codes and numbers as words, and what they are read as.
-use Rattle.std.proofs.Common.{◌≡◌, ◌≢◌, ℕ, ◌+◌, ◌-◌, ◌*◌, ◌/◌, ◌%◌, ◌^◌, ◌<◌, ◌≤◌, Bool, true, false, cond, nat_lt, List, [], ◌∷◌, ◌++◌, length, zero, suc, decimal, refl, sym, ap, subst, ◌∙◌, add-one, arith}
-use Rattle.std.specs.Prelude.{codes}
-use Rattle.std.specs.Char.{digit_value, is_ascii_digit}
-use Rattle.std.specs.List.{list_all}
-use Rattle.std.specs.Str.{bytes_eq}
-use Rattle.std.specs.Str.Parse.{AllDigits, digits_value_after, digits_value}
-use Rattle.std.proofs.lemmas.Bool.{false_from_ne_true, lt-ltb, ltb-false, ltb-true}
-use Rattle.std.proofs.lemmas.Bool.Decides.{nat_tests}
-use Rattle.std.proofs.lemmas.List.Folds.{list_all-append}
+use Rattle.mp_vcd.proofs.Names.{◌≡◌, ◌≢◌, ℕ, ◌+◌, ◌-◌, ◌*◌, ◌/◌, ◌%◌, ◌^◌, ◌<◌, ◌≤◌, Bool, true, false, cond, nat_lt, List, [], ◌∷◌, ◌++◌, length, zero, suc, decimal, refl, sym, ap, subst, ◌∙◌, add-one, arith, codes, digit_value, is_ascii_digit, list_all, bytes_eq, AllDigits, digits_value_after, digits_value, false_from_ne_true, lt-ltb, ltb-false, ltb-true, nat_tests, list_all-append, bytes_eq-Decides, IsPlain, IsPlain-decimal, IsPlain-name, is_plain_byte, list_all-passing, is_made_of, is_binary, is_printed}
 use Rattle.std.proofs.lemmas.Fmt.{decimal_is_IsNumeral}
 use Rattle.std.proofs.lemmas.Nat.{mod-pow-add}
-use Rattle.std.proofs.lemmas.Slice.Eq.{bytes_eq-Decides}
 use Rattle.mp_records.specs.Names.{is_name}
 use Rattle.mp_words.proofs.DecimalLemmas.{decimal_digits}
-use Rattle.mp_words.proofs.PlainLemmas.{IsPlain, IsPlain-decimal, IsPlain-name, is_plain_byte, list_all-passing}
 use Rattle.mp_vcd.specs.Codes.{digits_of, code}
 use Rattle.mp_vcd.specs.Values.{bit, bits}
 use Rattle.mp_vcd.proofs.CodeLemmas.{bits_long, code-one, code_longer, code_some}
-use Rattle.mp_vcd.specs.Readings.{is_made_of, is_binary, is_printed}
 
 -- ---- words
 

@@ -1,14 +1,7 @@
 -- The whole of a dump, read.
-use Rattle.std.proofs.Common.{◌≡◌, ℕ, ◌+◌, ◌-◌, ◌<◌, ◌≤◌, inl, inr, true, List, [], ◌∷◌, ◌++◌, append_assoc, append-nil, length, map, Option, None, Some, suc, refl, sym, ap, subst, ◌∙◌, add-zero, zero-add, arith}
-use Rattle.std.specs.Prelude.{codes}
+use Rattle.mp_vcd.proofs.Names.{◌≡◌, ℕ, ◌+◌, ◌-◌, ◌<◌, ◌≤◌, inl, inr, true, List, [], ◌∷◌, ◌++◌, append_assoc, append-nil, length, map, Option, None, Some, suc, refl, sym, ap, subst, ◌∙◌, add-zero, zero-add, arith, codes, and_from, le-leb, or_right, flat_map, list_any, range_with_len, WireRecord, Circuit, IsCircuit, wire_at, width_of, slot_at, code}
 use Rattle.std.proofs.Math.Nat.{mod-eq_of_lt}
-use Rattle.std.proofs.lemmas.Bool.{and_from, le-leb, or_right}
-use Rattle.std.specs.List.{flat_map, list_any, range_with_len}
-use Rattle.mp_records.specs.declared.wire_record.WireRecord.{WireRecord}
 use Rattle.mp_netlist.specs.Limits.{max_wires}
-use Rattle.mp_netlist.specs.Circuit.{Circuit, IsCircuit, wire_at, width_of}
-use Rattle.mp_netlist.specs.Slots.{slot_at}
-use Rattle.mp_vcd.specs.Codes.{code}
 use Rattle.mp_vcd.specs.Dumps.{standing, standing_from, slot_declaration, declaration, value_at, unit_text, time_mark, line, opening_lines, block_start, preamble, dump}
 use Rattle.mp_vcd.specs.Readings.{words, Variable, Given, Outside, Inside, Reading, nothing_read, takes, read_words, reading}
 use Rattle.mp_vcd.specs.Laws.{name_of, variable, SaysLevels, IsReadBack}

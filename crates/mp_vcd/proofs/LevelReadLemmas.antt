@@ -1,16 +1,5 @@
 -- The levels that a reader of a dump knows, unit by unit.
-use Rattle.std.proofs.Common.{◌≡◌, ℕ, ◌+◌, ◌-◌, ◌%◌, ◌^◌, ◌<◌, ◌≤◌, ◌⊎◌, inl, inr, Bool, true, false, not, cond, ◌==◌, List, [], ◌∷◌, Option, None, Some, zero, suc, refl, sym, ap, subst, ◌∙◌, add-zero, zero-add, arith}
-use Rattle.std.specs.List.{filter, flat_map, range_with_len}
-use Rattle.std.specs.Str.{bytes_eq}
-use Rattle.std.proofs.lemmas.Bool.{cases_lt, eqb-true, le-leb, lt-leb, not-false}
-use Rattle.std.proofs.lemmas.Slice.Eq.{bytes_eq-Decides}
-use Rattle.mp_records.specs.declared.wire_record.WireRecord.{WireRecord}
-use Rattle.mp_netlist.specs.Circuit.{Circuit, wire_at, width_of}
-use Rattle.mp_netlist.specs.Slots.{slot_at}
-use Rattle.mp_model.specs.Waves.{level}
-use Rattle.mp_vcd.specs.Codes.{code}
-use Rattle.mp_vcd.specs.Dumps.{standing, standing_from, if_stands, value_at, is_changed, changed, marked, unit_text, time_mark}
-use Rattle.mp_vcd.specs.Readings.{Variable, Given, Side, Outside, Reading, value_of}
+use Rattle.mp_vcd.proofs.Names.{◌≡◌, ℕ, ◌+◌, ◌-◌, ◌%◌, ◌^◌, ◌<◌, ◌≤◌, ◌⊎◌, inl, inr, Bool, true, false, not, cond, ◌==◌, List, [], ◌∷◌, Option, None, Some, zero, suc, refl, sym, ap, subst, ◌∙◌, add-zero, zero-add, arith, filter, flat_map, range_with_len, bytes_eq, cases_lt, eqb-true, le-leb, lt-leb, not-false, bytes_eq-Decides, WireRecord, Circuit, wire_at, width_of, slot_at, level, code, standing, standing_from, if_stands, value_at, is_changed, changed, marked, unit_text, time_mark, Variable, Given, Side, Outside, Reading, value_of}
 use Rattle.mp_vcd.proofs.CodeReadLemmas.{own_codes, same_bytes}
 use Rattle.mp_vcd.proofs.ReadingLemmas.{Leads, leads_none, leads_both, leads_time, leads_value, valued, giving, HasVariable}
 

@@ -1,3 +1,4 @@
+mod Names
 pub mod CodeLemmas
 pub mod StandingLemmas
 pub mod AgendaLemmas

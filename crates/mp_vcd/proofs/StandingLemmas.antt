@@ -1,15 +1,5 @@
 -- The wires that stand, one after the other.
-use Rattle.std.proofs.Common.{◌≡◌, ℕ, ◌+◌, ◌-◌, ◌<◌, ◌≤◌, Bool, true, false, cond, List, [], ◌∷◌, ◌++◌, append_assoc, length, drop, Option, None, Some, zero, suc, refl, sym, ap, ◌∙◌, add-one, add-zero, arith}
-use Rattle.std.specs.List.{filter, flat_map, range_with_len}
-use Rattle.std.proofs.Math.Seq.{drop-cons, drop-length}
-use Rattle.mp_wave.specs.Waveform.{Waveform}
-use Rattle.mp_records.specs.declared.wire_record.WireRecord.{WireRecord}
-use Rattle.mp_netlist.specs.Circuit.{Circuit, IsCircuit, wire_at, width_of}
-use Rattle.mp_netlist.specs.Slots.{slot_at}
-use Rattle.mp_model.specs.Waves.{level, wave, slot_wave}
-use Rattle.mp_vcd.specs.Dumps.{if_stands, standing_from, is_changed}
-use Rattle.mp_vcd.specs.Parts.{slot_text}
-use Rattle.mp_vcd.specs.Agendas.{with_levels, onto_slot}
+use Rattle.mp_vcd.proofs.Names.{◌≡◌, ℕ, ◌+◌, ◌-◌, ◌<◌, ◌≤◌, Bool, true, false, cond, List, [], ◌∷◌, ◌++◌, append_assoc, length, drop, Option, None, Some, zero, suc, refl, sym, ap, ◌∙◌, add-one, add-zero, arith, filter, flat_map, range_with_len, drop-cons, drop-length, Waveform, WireRecord, Circuit, IsCircuit, wire_at, width_of, slot_at, level, wave, slot_wave, if_stands, standing_from, is_changed, slot_text, with_levels, onto_slot}
 
 pub standing_step : (slots : List (Option WireRecord)) (w : ℕ) → w < length slots → standing_from w (drop w slots) ≡ if_stands w (slot_at slots w) (standing_from (w + 1) (drop (w + 1) slots))
 standing_step slots w within =

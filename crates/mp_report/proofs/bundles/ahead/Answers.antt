@@ -1,5 +1,4 @@
-use Rattle.std.proofs.Common.{arith}
-use Rattle.mp_model.specs.Waves.{level}
+use Rattle.mp_report.proofs.Names.{arith, level}
 use Rattle.mp_report.proofs.WaveLemmas.{wave_is}
 use Rattle.mp_report.proofs.bundles.ahead.Goals as goal
 

@@ -1,8 +1,4 @@
-use Rattle.std.proofs.Common.{◌≡◌, ◌-◌, ◌+◌, ◌++◌, ℕ, List, flat_map, ap, sym, ◌∙◌, arith}
-use Rattle.std.specs.List.{range_with_len}
-use Rattle.mp_modules.specs.declared.finding_code.FindingCode.{FindingCode}
-use Rattle.mp_response.specs.Span.{findings_of}
-use Rattle.mp_report.specs.Bundles.{bundle_set}
+use Rattle.mp_report.proofs.Names.{◌≡◌, ◌-◌, ◌+◌, ◌++◌, ℕ, List, flat_map, ap, sym, ◌∙◌, arith, range_with_len, FindingCode, findings_of, bundle_set}
 use Rattle.mp_report.proofs.TimeLemmas.{told_more, told_quiet}
 use Rattle.mp_report.proofs.BundleLemmas.{quiet_set}
 use Rattle.mp_report.proofs.bundles.found_by.Goals as goal

@@ -1,8 +1,4 @@
-use Rattle.std.proofs.Common.{◌-◌, ◌≡◌, ◌≤◌, flat_map}
-use Rattle.std.specs.List.{range_with_len}
-use Rattle.mp_report.specs.Ahead.{AreAhead}
-use Rattle.mp_report.specs.Bundles.{bundle_set}
-use Rattle.mp_response.specs.Span.{findings_of}
+use Rattle.mp_report.proofs.Names.{◌-◌, ◌≡◌, ◌≤◌, flat_map, range_with_len, AreAhead, bundle_set, findings_of}
 use Rattle.mp_report.proofs.bundles.found_by.Given as goal
 
 -- what is found before the time of the next change

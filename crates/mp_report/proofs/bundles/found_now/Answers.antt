@@ -1,6 +1,4 @@
-use Rattle.std.proofs.Common.{◌≡◌, ◌==◌, ◌-◌, ℕ, not, ap, ◌∙◌, arith}
-use Rattle.mp_model.specs.Waves.{level}
-use Rattle.mp_model.specs.Findings.{is_busy, is_requested_soon, changes}
+use Rattle.mp_report.proofs.Names.{◌≡◌, ◌==◌, ◌-◌, ℕ, not, ap, ◌∙◌, arith, level, is_busy, is_requested_soon, changes}
 use Rattle.mp_report.proofs.AheadLemmas.{level_before}
 use Rattle.mp_report.proofs.bundles.found_now.Goals as goal
 

@@ -1,8 +1,5 @@
 use Rattle.mp_streams.proofs.OutLemmas.{puts_next, puts_stopped, writes_failed}
-use Rattle.mp_modules.specs.declared.finding_code.FindingCode.TheVariants.{MergeCollision}
-use Rattle.mp_model.specs.declared.finding.Finding.{Finding}
-use Rattle.mp_model.specs.Findings.{module_place}
-use Rattle.mp_report.specs.Lines.{finding_line}
+use Rattle.mp_report.proofs.Names.{MergeCollision, Finding, module_place, finding_line}
 use Rattle.mp_report.proofs.lines.put_report.Goals as goal
 
 abbrev none : Finding

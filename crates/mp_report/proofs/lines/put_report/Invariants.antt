@@ -1,6 +1,5 @@
-use Rattle.std.proofs.Common.{Ok, take}
+use Rattle.mp_report.proofs.Names.{Ok, take, finding_lines}
 use Rattle.mp_streams.specs.Outgoing.{Writes}
-use Rattle.mp_report.specs.Lines.{finding_lines}
 use Rattle.mp_report.proofs.lines.put_report.Given as goal
 
 -- the lines so far are written

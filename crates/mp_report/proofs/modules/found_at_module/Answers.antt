@@ -1,11 +1,5 @@
-use Rattle.std.proofs.Common.{ℕ, List, map, sym, ◌∙◌, ap, subst}
-use Rattle.mp_records.specs.declared.ports.Input.{Input}
-use Rattle.mp_model.specs.Levels.{input_by}
-use Rattle.mp_model.specs.Waves.{level}
+use Rattle.mp_report.proofs.Names.{ℕ, List, map, sym, ◌∙◌, ap, subst, Input, input_by, level, levels_at, IsSpan, InPiece}
 use Rattle.mp_model.proofs.BuiltLemmas.{width_of_module}
-use Rattle.mp_response.specs.Pieces.{levels_at}
-use Rattle.mp_response.specs.Span.{IsSpan}
-use Rattle.mp_response.specs.declared.in_piece.InPiece.{InPiece}
 use Rattle.mp_report.proofs.ModuleLemmas.{answer_over, no_module_over, quiet_module_over}
 use Rattle.mp_report.proofs.modules.found_at_module.Goals as goal
 

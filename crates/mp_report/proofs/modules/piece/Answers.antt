@@ -1,7 +1,4 @@
-use Rattle.std.proofs.Common.{◌-◌, ◌∙◌, sym, subst, arith}
-use Rattle.mp_wave.specs.Waveform.{IsWaveform}
-use Rattle.mp_wave.proofs.ChangesLemmas.{form_of_wave}
-use Rattle.mp_model.specs.Waves.{level}
+use Rattle.mp_report.proofs.Names.{◌-◌, ◌∙◌, sym, subst, arith, IsWaveform, form_of_wave, level}
 use Rattle.mp_report.proofs.WaveLemmas.{wave_is, hears}
 use Rattle.mp_report.proofs.modules.piece.Goals as goal
 

@@ -1,7 +1,4 @@
-use Rattle.std.proofs.Common.{◌≡◌, ◌<◌, ℕ, map, take, vec_len}
-use Rattle.mp_model.specs.Levels.{input_by}
-use Rattle.mp_model.specs.Waves.{level}
-use Rattle.mp_response.specs.Pieces.{levels_at}
+use Rattle.mp_report.proofs.Names.{◌≡◌, ◌<◌, ℕ, map, take, vec_len, input_by, level, levels_at}
 use Rattle.mp_report.proofs.modules.pieces.Given as goal
 
 -- the pieces so far are those of the inputs so far

@@ -1,8 +1,5 @@
-use Rattle.std.proofs.Common.{◌++◌, ◌∷◌, [], List, map, length, append_assoc, ap, sym, ◌∙◌, arith}
-use Rattle.std.specs.List.{range_with_len}
+use Rattle.mp_report.proofs.Names.{◌++◌, ◌∷◌, [], List, map, length, append_assoc, ap, sym, ◌∙◌, arith, range_with_len, Place, module_place, bundle_place}
 use Rattle.std.proofs.lemmas.List.FromFn.{map-range_with_len_more}
-use Rattle.mp_model.specs.declared.finding.Place.{Place}
-use Rattle.mp_model.specs.Findings.{module_place, bundle_place}
 use Rattle.mp_report.proofs.places.places.Goals as goal
 
 pub loop-number-preserved : goal.loop-number-preserved

@@ -1,6 +1,4 @@
-use Rattle.std.proofs.Common.{◌≡◌, ◌++◌, map, length}
-use Rattle.std.specs.List.{range_with_len}
-use Rattle.mp_model.specs.Findings.{module_place, bundle_place}
+use Rattle.mp_report.proofs.Names.{◌≡◌, ◌++◌, map, length, range_with_len, module_place, bundle_place}
 use Rattle.mp_report.proofs.places.places.Given as goal
 
 -- the modules so far

@@ -1,7 +1,5 @@
-use Rattle.std.proofs.Common.{◌≡◌, ap, ◌∙◌, map, IfOk}
+use Rattle.mp_report.proofs.Names.{◌≡◌, ap, ◌∙◌, map, IfOk, Place, found_over, finding_at}
 use Rattle.rayon.proofs.ToStd.{slice-AllZip}
-use Rattle.mp_model.specs.declared.finding.Place.{Place}
-use Rattle.mp_report.specs.Places.{found_over, finding_at}
 use Rattle.mp_report.proofs.ShareLemmas.{collected}
 use Rattle.mp_report.proofs.reporting.found_at_each.Goals as goal
 

@@ -1,10 +1,6 @@
-use Rattle.std.proofs.Common.{◌≡◌, ◌∙◌, rules, map, Vec, Global}
+use Rattle.mp_report.proofs.Names.{◌≡◌, ◌∙◌, rules, map, Vec, Global, Place, Finding, places, found_over, finding_at}
 use Rattle.std.proofs.lemmas.Fn.{always_returns_same}
 use Rattle.std.proofs.lemmas.List.Sorted.{IsNonDecreasingBy-from_sort_by_key}
-use Rattle.mp_model.specs.declared.finding.Place.{Place}
-use Rattle.mp_model.specs.declared.finding.Finding.{Finding}
-use Rattle.mp_model.specs.Findings.{places}
-use Rattle.mp_report.specs.Places.{found_over, finding_at}
 use Rattle.mp_report.proofs.MergeLemmas.{time_of, sorted_findings}
 use Rattle.mp_report.proofs.ShareLemmas.{joined_lists}
 use Rattle.mp_report.proofs.reporting.report.Goals as goal

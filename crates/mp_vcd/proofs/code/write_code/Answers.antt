@@ -1,9 +1,4 @@
-use Rattle.std.proofs.Common.{◌≡◌, ℕ, ◌+◌, ◌%◌, ◌<◌, ◌≤◌, List, [], ◌∷◌, ◌++◌, length, refl, ap, sym, subst, ◌∙◌, rules, arith}
-use Rattle.std.proofs.Math.ListN.{set}
-use Rattle.std.proofs.lemmas.List.{length-append}
-use Rattle.mp_streams.specs.Places.{IsPlaced}
-use Rattle.mp_streams.proofs.PlaceLemmas.{placed_both, placed_byte}
-use Rattle.mp_vcd.specs.Codes.{code}
+use Rattle.mp_vcd.proofs.Names.{◌≡◌, ℕ, ◌+◌, ◌%◌, ◌<◌, ◌≤◌, List, [], ◌∷◌, ◌++◌, length, refl, ap, sym, subst, ◌∙◌, rules, arith, set, length-append, IsPlaced, placed_both, placed_byte, code}
 use Rattle.mp_vcd.proofs.CodeLemmas.{code-one, code_step, code_long, code_some}
 use Rattle.mp_vcd.proofs.code.write_code.Goals as goal
 

@@ -1,6 +1,4 @@
-use Rattle.std.proofs.Common.{◌≡◌, ℕ, List, ◌++◌}
-use Rattle.mp_streams.specs.Places.{IsPlaced}
-use Rattle.mp_vcd.specs.Codes.{code}
+use Rattle.mp_vcd.proofs.Names.{◌≡◌, ℕ, List, ◌++◌, IsPlaced, code}
 use Rattle.mp_vcd.proofs.code.write_code.Given as goal
 
 -- the rest's code completes the wire's

@@ -1,6 +1,4 @@
-use Rattle.std.proofs.Common.{refl}
-use Rattle.mp_streams.proofs.OutLemmas.{puts_as, puts_ok, puts_then, puts_sooner}
-use Rattle.mp_streams.specs.declared.write_error.WriteError.TheVariants.{WriteFailed}
+use Rattle.mp_vcd.proofs.Names.{refl, puts_as, puts_ok, puts_then, puts_sooner, WriteFailed}
 use Rattle.mp_vcd.specs.Dumps.{dump}
 use Rattle.mp_vcd.proofs.DumpReadLemmas.{says_levels}
 use Rattle.mp_vcd.proofs.dumping.put_dump.Goals as goal

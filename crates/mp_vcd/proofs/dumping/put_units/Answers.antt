@@ -1,9 +1,4 @@
-use Rattle.std.proofs.Common.{◌≤◌, [], ap, refl, rules, arith}
-use Rattle.std.specs.List.{flat_map}
-use Rattle.mp_streams.proofs.OutLemmas.{puts_as, puts_unmade}
-use Rattle.mp_streams.specs.declared.write_error.WriteError.TheVariants.{WriteFailed, OutOfMemory}
-use Rattle.mp_vcd.specs.Dumps.{unit_text}
-use Rattle.mp_streams.proofs.LeftLemmas.{left_as, left_then, left_failed, left_none}
+use Rattle.mp_vcd.proofs.Names.{◌≤◌, [], ap, refl, rules, arith, flat_map, puts_as, puts_unmade, WriteFailed, OutOfMemory, unit_text, left_as, left_then, left_failed, left_none}
 use Rattle.mp_vcd.proofs.StandingLemmas.{times_divide, times_end}
 use Rattle.mp_vcd.proofs.dumping.put_units.Goals as goal
 

@@ -1,8 +1,4 @@
-use Rattle.std.proofs.Common.{◌≡◌, ℕ, slice_index_or, ap, ⊎_elim, sym, ◌∙◌, arith}
-use Rattle.std.proofs.lemmas.Bool.{cases_lt}
-use Rattle.std.proofs.lemmas.List.{get_or_default}
-use Rattle.mp_wave.specs.WaveChanges.{changes_in}
-use Rattle.mp_wave.proofs.PrefixLemmas.{nat_lt-true, nat_lt-false, earlier_than-take}
+use Rattle.mp_vcd.proofs.Names.{◌≡◌, ℕ, slice_index_or, ap, ⊎_elim, sym, ◌∙◌, arith, cases_lt, get_or_default, changes_in, nat_lt-true, nat_lt-false, earlier_than-take}
 use Rattle.mp_vcd.proofs.parts.count_before.Goals as goal
 
 pub loop-count-preserved : goal.loop-count-preserved

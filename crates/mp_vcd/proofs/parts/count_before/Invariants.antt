@@ -1,6 +1,4 @@
-use Rattle.std.proofs.Common.{ℕ, ◌-◌, ◌<◌, ◌≤◌, length}
-use Rattle.std.specs.List.{AllWithin}
-use Rattle.mp_wave.specs.WaveChanges.{changes_in}
+use Rattle.mp_vcd.proofs.Names.{ℕ, ◌-◌, ◌<◌, ◌≤◌, length, AllWithin, changes_in}
 use Rattle.mp_vcd.proofs.parts.count_before.Given as goal
 
 -- the changes so far are earlier

@@ -1,7 +1,4 @@
-use Rattle.std.proofs.Common.{◌≡◌, ℕ, ◌≤◌, slice_index_or, ap, arith}
-use Rattle.std.proofs.lemmas.Bool.{leb-true}
-use Rattle.std.proofs.lemmas.List.{get_or_default}
-use Rattle.mp_wave.specs.WaveChanges.{changes_in}
+use Rattle.mp_vcd.proofs.Names.{◌≡◌, ℕ, ◌≤◌, slice_index_or, ap, arith, leb-true, get_or_default, changes_in}
 use Rattle.mp_vcd.proofs.parts.is_ahead.Goals as goal
 
 pub returns-then-place-len-clause-ahead : goal.returns-then-place-len-clause-ahead

@@ -1,7 +1,4 @@
-use Rattle.std.proofs.Common.{◌≡◌, ℕ, ◌-◌, ◌<◌, ◌≤◌, length, slice_index_or, ap, arith}
-use Rattle.std.proofs.lemmas.Bool.{ltb-true}
-use Rattle.std.proofs.lemmas.List.{get_or_default}
-use Rattle.mp_wave.specs.WaveChanges.{changes_in}
+use Rattle.mp_vcd.proofs.Names.{◌≡◌, ℕ, ◌-◌, ◌<◌, ◌≤◌, length, slice_index_or, ap, arith, ltb-true, get_or_default, changes_in}
 use Rattle.mp_vcd.proofs.parts.is_over.Goals as goal
 
 pub returns : goal.returns

@@ -1,10 +1,7 @@
-use Rattle.std.proofs.Common.{◌≡◌, ℕ, ◌-◌, drop, sym, ap, subst, ◌∙◌, arith}
+use Rattle.mp_vcd.proofs.Names.{◌≡◌, ℕ, ◌-◌, drop, sym, ap, subst, ◌∙◌, arith, changes_in, earlier_than, later_than, later_than-drop}
 use Rattle.std.specs.List.Sorted.{IsNonDecreasingBy}
 use Rattle.std.proofs.lemmas.List.Sorted.{IsNonDecreasingBy-drop}
-use Rattle.mp_wave.specs.WaveChanges.{changes_in}
-use Rattle.mp_wave.specs.Waveform.{earlier_than, later_than}
 use Rattle.mp_wave.proofs.WaveformLemmas.{IsNonDecreasingBy-changes, nat_le-true, nat_le-false}
-use Rattle.mp_wave.proofs.PrefixLemmas.{later_than-drop}
 use Rattle.mp_vcd.proofs.parts.part.Goals as goal
 
 pub begins_at-requires : goal.begins_at-requires

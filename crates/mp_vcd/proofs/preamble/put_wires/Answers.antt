@@ -1,8 +1,4 @@
-use Rattle.std.proofs.Common.{◌≡◌, ◌<◌, length, ap, rules}
-use Rattle.std.specs.List.{flat_map}
-use Rattle.mp_streams.proofs.OutLemmas.{writes_failed}
-use Rattle.mp_vcd.specs.Parts.{part_line}
-use Rattle.mp_streams.proofs.LeftLemmas.{left_whole, left_as, left_then, left_failed, left_none}
+use Rattle.mp_vcd.proofs.Names.{◌≡◌, ◌<◌, length, ap, rules, flat_map, writes_failed, part_line, left_whole, left_as, left_then, left_failed, left_none}
 use Rattle.mp_vcd.proofs.StandingLemmas.{lines_step, standing_end}
 use Rattle.mp_vcd.proofs.preamble.put_wires.Goals as goal
 

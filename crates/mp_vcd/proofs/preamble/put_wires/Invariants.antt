@@ -1,8 +1,4 @@
-use Rattle.std.proofs.Common.{drop}
-use Rattle.std.specs.List.{flat_map}
-use Rattle.mp_vcd.specs.Dumps.{standing, standing_from}
-use Rattle.mp_vcd.specs.Parts.{part_line}
-use Rattle.mp_streams.proofs.LeftLemmas.{Left}
+use Rattle.mp_vcd.proofs.Names.{drop, flat_map, standing, standing_from, part_line, Left}
 use Rattle.mp_vcd.proofs.preamble.put_wires.Given as goal
 
 -- the lines of the wires from the number on are left

@@ -1,8 +1,4 @@
-use Rattle.std.proofs.Common.{◌<◌, ◌≤◌, ap, rules}
-use Rattle.std.specs.List.{flat_map}
-use Rattle.mp_streams.proofs.OutLemmas.{writes_failed}
-use Rattle.mp_vcd.specs.Dumps.{unit_text}
-use Rattle.mp_streams.proofs.LeftLemmas.{left_whole, left_as, left_then, left_failed, left_none}
+use Rattle.mp_vcd.proofs.Names.{◌<◌, ◌≤◌, ap, rules, flat_map, writes_failed, unit_text, left_whole, left_as, left_then, left_failed, left_none}
 use Rattle.mp_vcd.proofs.StandingLemmas.{times_step, times_end}
 use Rattle.mp_vcd.proofs.units.put_agenda.Goals as goal
 

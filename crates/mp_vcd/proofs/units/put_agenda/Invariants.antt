@@ -1,7 +1,4 @@
-use Rattle.std.proofs.Common.{◌-◌}
-use Rattle.std.specs.List.{flat_map, range_with_len}
-use Rattle.mp_vcd.specs.Dumps.{unit_text}
-use Rattle.mp_streams.proofs.LeftLemmas.{Left}
+use Rattle.mp_vcd.proofs.Names.{◌-◌, flat_map, range_with_len, unit_text, Left}
 use Rattle.mp_vcd.proofs.units.put_agenda.Given as goal
 
 -- the units from the time on are left

@@ -1,13 +1,5 @@
-use Rattle.std.proofs.Common.{◌≡◌, ◌≢◌, ℕ, ◌+◌, ◌-◌, ◌<◌, ◌≤◌, None, List, map, slice_index, sym, ap, subst, ◌∙◌, rules, arith}
-use Rattle.std.specs.Prelude.{vec_len}
-use Rattle.std.proofs.Math.ListN.{get_or-map}
-use Rattle.mp_streams.proofs.OutLemmas.{writes_failed}
-use Rattle.mp_netlist.specs.Circuit.{Circuit, wire_at, width_of}
-use Rattle.mp_vcd.specs.Values.{value_line}
-use Rattle.mp_vcd.specs.Dumps.{changed}
+use Rattle.mp_vcd.proofs.Names.{◌≡◌, ◌≢◌, ℕ, ◌+◌, ◌-◌, ◌<◌, ◌≤◌, None, List, map, slice_index, sym, ap, subst, ◌∙◌, rules, arith, vec_len, get_or-map, writes_failed, Circuit, wire_at, width_of, value_line, changed, IsChain, Tells, told_from, told_at, left_whole, left_as, left_then, left_failed, left_none}
 use Rattle.mp_vcd.specs.declared.agenda.Agenda.{Agenda}
-use Rattle.mp_vcd.specs.Agendas.{IsChain, Tells, told_from, told_at}
-use Rattle.mp_streams.proofs.LeftLemmas.{left_whole, left_as, left_then, left_failed, left_none}
 use Rattle.mp_vcd.proofs.AgendaLemmas.{chain_within, chain_next, chain_over, marked_none, marked_some}
 use Rattle.mp_vcd.proofs.StandingLemmas.{narrow}
 use Rattle.mp_vcd.proofs.units.put_unit.Goals as goal

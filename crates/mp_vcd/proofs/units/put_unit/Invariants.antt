@@ -1,7 +1,4 @@
-use Rattle.std.proofs.Common.{ℕ, List}
-use Rattle.mp_vcd.specs.Dumps.{unit_text}
-use Rattle.mp_vcd.specs.Agendas.{IsChain, told_lines}
-use Rattle.mp_streams.proofs.LeftLemmas.{Left}
+use Rattle.mp_vcd.proofs.Names.{ℕ, List, unit_text, IsChain, told_lines, Left}
 use Rattle.mp_vcd.proofs.units.put_unit.Given as goal
 
 -- the lines of the changes from the place on are left

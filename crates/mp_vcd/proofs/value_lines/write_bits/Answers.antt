@@ -1,8 +1,4 @@
-use Rattle.std.proofs.Common.{◌≡◌, ◌+◌, ◌-◌, ◌<◌, ◌≤◌, ◌/◌, ◌++◌, drop, length, slice_set, refl, rules, sym, ap, ◌∙◌, arith}
-use Rattle.std.proofs.lemmas.List.{take-set-le}
-use Rattle.std.proofs.Math.ListN.{length-set}
-use Rattle.mp_streams.proofs.PlaceLemmas.{placed_between}
-use Rattle.mp_vcd.specs.Values.{bit, bits}
+use Rattle.mp_vcd.proofs.Names.{◌≡◌, ◌+◌, ◌-◌, ◌<◌, ◌≤◌, ◌/◌, ◌++◌, drop, length, slice_set, refl, rules, sym, ap, ◌∙◌, arith, take-set-le, length-set, placed_between, bit, bits}
 use Rattle.mp_vcd.proofs.CodeLemmas.{bits_step, bits-zero, bits_long}
 use Rattle.mp_vcd.proofs.value_lines.write_bits.Goals as goal
 

@@ -1,7 +1,4 @@
-use Rattle.std.proofs.Common.{◌≡◌, ℕ, ◌+◌, ◌<◌, List, length, get_or, take, sym, ap, subst, ◌∙◌, arith}
-use Rattle.std.proofs.lemmas.List.{take_all}
-use Rattle.mp_wave.specs.WaveChanges.{changes_in}
-use Rattle.mp_vcd.specs.Agendas.{Tells, told_from, onto, with_told}
+use Rattle.mp_vcd.proofs.Names.{◌≡◌, ℕ, ◌+◌, ◌<◌, List, length, get_or, take, sym, ap, subst, ◌∙◌, arith, take_all, changes_in, Tells, told_from, onto, with_told}
 use Rattle.mp_vcd.proofs.AgendaLemmas.{told_as, onto_next}
 use Rattle.mp_vcd.proofs.wave_changes.add_changes.Goals as goal
 

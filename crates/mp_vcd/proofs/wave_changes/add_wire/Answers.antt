@@ -1,7 +1,5 @@
-use Rattle.std.proofs.Common.{◌+◌, ◌-◌, ◌<◌, sym, ap, ◌∙◌, arith}
-use Rattle.mp_netlist.specs.Circuit.{wire_at}
+use Rattle.mp_vcd.proofs.Names.{◌+◌, ◌-◌, ◌<◌, sym, ap, ◌∙◌, arith, wire_at, told_from, onto, onto_slot}
 use Rattle.mp_wave.specs.WaveChanges.{changes_in as listed}
-use Rattle.mp_vcd.specs.Agendas.{told_from, onto, onto_slot}
 use Rattle.mp_vcd.proofs.AgendaLemmas.{told_as, onto_wave, onto_between}
 use Rattle.mp_vcd.proofs.StandingLemmas.{changes_in, none_in}
 use Rattle.mp_vcd.proofs.wave_changes.add_wire.Goals as goal

@@ -1,8 +1,4 @@
-use Rattle.std.proofs.Common.{◌≡◌, ℕ, List, ◌+◌, ◌-◌, ◌<◌, drop, sym, ap, subst, ◌∙◌, rules, arith}
-use Rattle.std.specs.List.{filter}
-use Rattle.mp_netlist.specs.Circuit.{wire_at}
-use Rattle.mp_vcd.specs.Dumps.{standing_from, is_changed}
-use Rattle.mp_vcd.specs.Agendas.{Tells, told_from, with_levels, onto_slot}
+use Rattle.mp_vcd.proofs.Names.{◌≡◌, ℕ, List, ◌+◌, ◌-◌, ◌<◌, drop, sym, ap, subst, ◌∙◌, rules, arith, filter, wire_at, standing_from, is_changed, Tells, told_from, with_levels, onto_slot}
 use Rattle.mp_vcd.proofs.AgendaLemmas.{told_as}
 use Rattle.mp_vcd.proofs.StandingLemmas.{told_step}
 use Rattle.mp_vcd.proofs.wave_changes.agenda_of.Goals as goal

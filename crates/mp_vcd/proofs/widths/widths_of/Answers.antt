@@ -1,6 +1,4 @@
-use Rattle.std.proofs.Common.{◌<◌, None, [], ◌∷◌, ◌++◌, length, map, take, ap, sym, ◌∙◌, rules}
-use Rattle.std.proofs.lemmas.List.{map-append, take_more}
-use Rattle.mp_netlist.specs.Circuit.{width_of, wire_at}
+use Rattle.mp_vcd.proofs.Names.{◌<◌, None, [], ◌∷◌, ◌++◌, length, map, take, ap, sym, ◌∙◌, rules, map-append, take_more, width_of, wire_at}
 use Rattle.mp_vcd.proofs.widths.widths_of.Goals as goal
 
 pub loop-number-preserved : goal.loop-number-preserved

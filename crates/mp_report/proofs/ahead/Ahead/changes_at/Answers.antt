@@ -1,5 +1,4 @@
-use Rattle.std.proofs.Common.{arith, sym, ◌∙◌}
-use Rattle.mp_wave.specs.WaveChanges.{changes_in}
+use Rattle.mp_report.proofs.Names.{arith, sym, ◌∙◌, changes_in}
 use Rattle.mp_report.proofs.AheadLemmas.{changes_now, first_is, no_first, none_at_all}
 use Rattle.mp_report.proofs.ahead.Ahead.changes_at.Goals as goal
 

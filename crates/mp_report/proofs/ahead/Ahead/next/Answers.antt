@@ -1,6 +1,4 @@
-use Rattle.std.proofs.Common.{◌≡◌, ℕ, subst, sym, ◌∙◌, arith, true}
-use Rattle.mp_modules.specs.Histories.{has_event}
-use Rattle.mp_wave.specs.WaveChanges.{changes_in}
+use Rattle.mp_report.proofs.Names.{◌≡◌, ℕ, subst, sym, ◌∙◌, arith, true, has_event, changes_in}
 use Rattle.mp_report.proofs.AheadLemmas.{first_event, first_is, first_late, no_first, none_at_all, none_sooner, still_before, still_none}
 use Rattle.mp_report.proofs.ahead.Ahead.next.Goals as goal
 

@@ -1,5 +1,4 @@
-use Rattle.std.proofs.Common.{arith}
-use Rattle.mp_model.specs.Waves.{level}
+use Rattle.mp_report.proofs.Names.{arith, level}
 use Rattle.mp_report.proofs.watch.Watch.next.Goals as goal
 
 pub returns-clause-later : goal.returns-clause-later

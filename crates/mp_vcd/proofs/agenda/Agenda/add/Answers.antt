@@ -1,7 +1,4 @@
-use Rattle.std.proofs.Common.{◌≡◌, ◌+◌, ◌-◌, ◌<◌, ◌≤◌, [], ◌∷◌, ◌++◌, length, slice_index, rules, refl}
-use Rattle.std.proofs.lemmas.List.{get_or_read_under}
-use Rattle.mp_vcd.specs.declared.agenda.Entry.{Entry}
-use Rattle.mp_vcd.specs.Agendas.{told_from, with_told}
+use Rattle.mp_vcd.proofs.Names.{◌≡◌, ◌+◌, ◌-◌, ◌<◌, ◌≤◌, [], ◌∷◌, ◌++◌, length, slice_index, rules, refl, get_or_read_under, Entry, told_from, with_told}
 use Rattle.mp_vcd.proofs.AgendaLemmas.{told_as, told_more, with_told-from}
 use Rattle.mp_vcd.proofs.agenda.Agenda.add.Goals as goal
 

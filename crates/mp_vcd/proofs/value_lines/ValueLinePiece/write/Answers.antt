@@ -1,5 +1,4 @@
-use Rattle.std.proofs.Common.{◌<◌, length, arith}
-use Rattle.mp_streams.proofs.PlaceLemmas.{placed_both, placed_byte}
+use Rattle.mp_vcd.proofs.Names.{◌<◌, length, arith, placed_both, placed_byte}
 use Rattle.mp_vcd.proofs.value_lines.ValueLinePiece.write.Goals as goal
 
 pub returns : goal.returns
