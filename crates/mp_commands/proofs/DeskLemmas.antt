@@ -1,26 +1,14 @@
 -- The blocks of an input, and the lines of a meeting.
-use Rattle.std.proofs.Common.{◌≡◌, ℕ, ◌+◌, ◌<◌, true, false, List, [], ◌∷◌, ◌++◌, length, drop, slice_index_or, Result, Ok, Err, IsErr, IsOk, refl, sym, ap, subst, ◌∙◌}
+use Rattle.mp_commands.proofs.Names.{◌≡◌, ℕ, ◌+◌, ◌<◌, true, false, List, [], ◌∷◌, ◌++◌, length, drop, slice_index_or, Result, Ok, Err, IsErr, IsOk, refl, sym, ap, subst, ◌∙◌, length-map, drop_more, Failed, Left, left_as, left_then, left_failed, writes_failed, Circuit, replay, lines_of, parts_of, later_parts, are_divided, lines_of_each, Story, present, blocks_of, met_text, IsDeskText, run_fault_of, lines_from}
 use Rattle.std.specs.Borrow.{Bor}
-use Rattle.std.proofs.lemmas.List.{length-map, drop_more}
-use Rattle.mp_streams.specs.declared.failed.Failed.{Failed}
 use Rattle.mp_streams.specs.Outgoing.{Outgoing, Writes}
-use Rattle.mp_streams.proofs.LeftLemmas.{Left, left_as, left_then, left_failed}
-use Rattle.mp_streams.proofs.OutLemmas.{writes_failed}
-use Rattle.mp_netlist.specs.Circuit.{Circuit}
-use Rattle.mp_netlist.specs.Replays.{replay}
-use Rattle.mp_words.specs.Lines.{lines_of}
-use Rattle.mp_words.specs.Divisions.{parts_of, later_parts, are_divided, lines_of_each}
 use Rattle.mp_words.proofs.PartLemmas.{parts_of-split, parts_of-one}
-use Rattle.mp_version.specs.Stories.{Story, present}
 use Rattle.mp_meeting.specs.declared.tally.Tally.{Tally}
 use Rattle.mp_meeting.specs.declared.meeting_fault.MeetingFault.{MeetingFault}
 use Rattle.mp_meeting.specs.declared.meeting_fault.MeetingFault.TheVariants.{OutOfMemory, NoPlace}
 use Rattle.mp_meeting.specs.Meetings.{IsMeeting}
 use Rattle.mp_command_runs.specs.declared.run_fault.RunFault.{RunFault}
 use Rattle.mp_command_runs.specs.Runs.{Refuses}
-use Rattle.mp_commands.specs.Desks.{blocks_of, met_text, IsDeskText}
-use Rattle.mp_commands.specs.MeetingFaults.{run_fault_of}
-use Rattle.mp_answers.specs.NumberedLines.{lines_from}
 
 -- ---- lines, place by place
 

@@ -1,3 +1,4 @@
+mod Names
 mod ReplyLemmas
 mod PlayLemmas
 mod MadeAgainLemmas

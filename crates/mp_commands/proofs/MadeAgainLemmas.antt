@@ -1,25 +1,10 @@
 -- The lines of edits, made one after the other.
-use Rattle.std.proofs.Common.{◌≡◌, ℕ, ◌+◌, ◌<◌, ◌≤◌, true, false, List, [], ◌∷◌, ◌++◌, append_assoc, length, map, Result, Ok, Err, refl, sym, ap, subst, ◌∙◌, nat_lt, arith}
+use Rattle.mp_commands.proofs.Names.{◌≡◌, ℕ, ◌+◌, ◌<◌, ◌≤◌, true, false, List, [], ◌∷◌, ◌++◌, append_assoc, length, map, Result, Ok, Err, refl, sym, ap, subst, ◌∙◌, nat_lt, arith, append-nil, length-append, Edit, EditError, Circuit, IsCircuit, after, go_on, replay, counted_edit, LineError, lines_of, Line, Change, line_at, Kept, opened, IsKeptAfter, IsKeptNext, IsNext}
 use Rattle.std.proofs.lemmas.Bool.Decides.{nat_tests}
-use Rattle.std.proofs.lemmas.List.{append-nil, length-append}
-use Rattle.mp_records.specs.declared.edit.Edit.{Edit}
-use Rattle.mp_records.specs.declared.edit_error.EditError.{EditError}
-use Rattle.mp_netlist.specs.Circuit.{Circuit, IsCircuit}
-use Rattle.mp_netlist.specs.Edits.{after, go_on}
-use Rattle.mp_netlist.specs.Replays.{replay}
 use Rattle.mp_netlist.specs.Laws.{EditsKeepNetlists}
 use Rattle.mp_version.specs.Limits.{max_edits}
-use Rattle.mp_version.specs.Stories.{counted_edit}
-use Rattle.mp_words.specs.declared.line_error.LineError.{LineError}
-use Rattle.mp_words.specs.Lines.{lines_of}
-use Rattle.mp_text.specs.declared.script_line.Line.{Line}
-use Rattle.mp_text.specs.declared.script_line.Line.TheVariants.{Change}
-use Rattle.mp_text.specs.ScriptLines.{line_at}
 use Rattle.mp_edit_lines.specs.EditLines.{edit_lines}
 use Rattle.mp_edit_lines.specs.ReadBack.{AreLinesOfEdits}
-use Rattle.mp_answers.specs.Kept.{Kept}
-use Rattle.mp_commands.specs.Keepers.{opened, IsKeptAfter}
-use Rattle.mp_commands.specs.Replies.{IsKeptNext, IsNext}
 use Rattle.mp_commands.specs.MadeAgain.{LeadTo, IsMadeAgain}
 
 -- the lines of these edits

@@ -1,13 +1,6 @@
 -- A script, line after line.
-use Rattle.std.proofs.Common.{◌≡◌, ℕ, Bool, true, List, [], ◌∷◌, ◌++◌, append_assoc, length, Ok, Err, refl, sym, subst, arith}
-use Rattle.std.proofs.lemmas.List.{append-nil}
-use Rattle.mp_streams.specs.Outgoing.{Outgoing}
-use Rattle.mp_streams.specs.WriteErrors.{Writes}
-use Rattle.mp_streams.specs.declared.write_error.WriteError.{WriteError}
-use Rattle.mp_streams.proofs.OutLemmas.{puts_then, puts_sooner}
+use Rattle.mp_commands.proofs.Names.{◌≡◌, ℕ, Bool, true, List, [], ◌∷◌, ◌++◌, append_assoc, length, Ok, Err, refl, sym, subst, arith, append-nil, Outgoing, Writes, WriteError, puts_then, puts_sooner, Kept, reply, IsNext}
 use Rattle.mp_words.specs.Lines.{lines_of}
-use Rattle.mp_answers.specs.Kept.{Kept}
-use Rattle.mp_commands.specs.Replies.{reply, IsNext}
 use Rattle.mp_commands.specs.Plays.{AreReplies, PutsReplies}
 use Rattle.mp_commands.proofs.ReplyLemmas.{next_keeps}
 

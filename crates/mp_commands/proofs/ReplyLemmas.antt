@@ -1,32 +1,13 @@
 -- The reply to a line that was read.
-use Rattle.std.proofs.Common.{◌≡◌, ◌⊎◌, inl, inr, ℕ, Bool, true, false, ◌&&◌, List, [], ◌∷◌, length, Result, Ok, Err, IsErrAnd, refl, sym, ap, subst, ◌∙◌, true≢false}
-use Rattle.std.specs.Prelude.{if◌then◌else◌}
-use Rattle.std.proofs.lemmas.List.{length-append}
-use Rattle.mp_records.specs.declared.edit.Edit.{Edit}
+use Rattle.mp_commands.proofs.Names.{◌≡◌, ◌⊎◌, inl, inr, ℕ, Bool, true, false, ◌&&◌, List, [], ◌∷◌, length, Result, Ok, Err, IsErrAnd, refl, sym, ap, subst, ◌∙◌, true≢false, if◌then◌else◌, length-append, Edit, EditError, Circuit, after_each, is_batch, may_want, RefusedBy, LineError, Line, Change, Ask, line_at, Outgoing, Writes, Failed, WriteError, puts_unmade, counted_edit, Kept, judged, IsOneMore, IsKeptAfter, IsNext, IsKeptNext, outcome, edit_text, PutsEdit, PutsReply}
 use Rattle.mp_records.specs.declared.edit.Edit.TheVariants.{Single, Batch}
-use Rattle.mp_records.specs.declared.edit_error.EditError.{EditError}
 use Rattle.mp_records.specs.declared.edit_error.EditError.TheVariants as edits
-use Rattle.mp_netlist.specs.Circuit.{Circuit}
-use Rattle.mp_netlist.specs.Edits.{after_each, is_batch, may_want, RefusedBy}
-use Rattle.mp_words.specs.declared.line_error.LineError.{LineError}
 use Rattle.mp_words.specs.declared.line_error.LineError.TheVariants.{OutOfMemory}
-use Rattle.mp_text.specs.declared.script_line.Line.{Line}
-use Rattle.mp_text.specs.declared.script_line.Line.TheVariants.{Change, Ask}
 use Rattle.mp_text.specs.declared.question.Question.{Question}
-use Rattle.mp_text.specs.ScriptLines.{line_at}
-use Rattle.mp_streams.specs.Outgoing.{Outgoing}
 use Rattle.mp_streams.specs.Outgoing as outs
-use Rattle.mp_streams.specs.WriteErrors.{Writes}
-use Rattle.mp_streams.specs.declared.failed.Failed.{Failed}
-use Rattle.mp_streams.specs.declared.write_error.WriteError.{WriteError}
 use Rattle.mp_streams.specs.declared.write_error.WriteError.TheVariants as writes
-use Rattle.mp_streams.proofs.OutLemmas.{puts_unmade}
-use Rattle.mp_version.specs.Stories.{counted_edit}
 use Rattle.mp_answers.specs.Answers.{answer_text}
-use Rattle.mp_answers.specs.Kept.{Kept}
 use Rattle.mp_answers.specs.ShortReplies.{accepted_text, refused_text, unread_text}
-use Rattle.mp_commands.specs.Keepers.{judged, IsOneMore, IsKeptAfter}
-use Rattle.mp_commands.specs.Replies.{IsNext, IsKeptNext, outcome, edit_text, PutsEdit, PutsReply}
 
 -- ---- what becomes of an edit
 

@@ -1,5 +1,5 @@
 //! The lines of a meeting.
-ghost use Rattle.std.specs.Prelude.{◌≡◌, ◌+◌, ◌-◌, ◌^◌, ◌<◌, Ok};
+ghost use Rattle.std.specs.Prelude.{◌≡◌, ℕ, List, Ok};
 ghost use Rattle.mp_netlist.specs.Replays.{replay};
 ghost use Rattle.mp_version.specs.Stories.{present};
 ghost use Rattle.mp_streams.specs.Outgoing.{Writes};
@@ -28,42 +28,45 @@ pub fn put_met<T: Sink>(
         waves: version.waves(),
         crew,
     };
-    put_tallies(out, met.tallies.as_slice())?;
-    put_numbers(out, met.numbers.as_slice())?;
+    put_lines(out, met.tallies.as_slice())?;
+    put_lines(out, met.numbers.as_slice())?;
     put_wave_lines(out, &of)
 }
 
-fn put_tallies<T: Sink>(out: &mut Out<T>, tallies: &[Tally]) -> Result<(), Failed>
-    ensures { Writes result out.old out.new (lines_from tally_line 1 tallies.now) }
+/// What has a line in which it is numbered.
+trait NumberedLine {
+    // Its line under a number.
+    ghost line: { ℕ → Self → List ℕ };
+
+    fn put_line<T: Sink>(&self, out: &mut Out<T>, number: u64) -> Result<(), Failed>
+        ensures { Writes result out.old out.new (line number self.now) };
+}
+
+/// The line of a designer.
+impl NumberedLine for Tally {
+    ghost line = { tally_line };
+
+    fn put_line<T: Sink>(&self, out: &mut Out<T>, number: u64) -> Result<(), Failed> {
+        let counts = (self.accepted, " refused ", (self.refused, "\n"));
+        ("designer ", number, " accepted ", counts).put_to(out)
+    }
+}
+
+/// The line of a viewer who saw so many edits.
+impl NumberedLine for u32 {
+    ghost line = { viewer_line };
+
+    fn put_line<T: Sink>(&self, out: &mut Out<T>, number: u64) -> Result<(), Failed> {
+        ("viewer ", number, " saw ", (*self, "\n")).put_to(out)
+    }
+}
+
+/// Writes the line of each, counted from 1.
+fn put_lines<L: NumberedLine, T: Sink>(out: &mut Out<T>, things: &[L]) -> Result<(), Failed>
+    ensures { Writes result out.old out.new (lines_from L.line 1 things.now) }
 {
-    for place in 0..tallies.len() {
-        put_tally(out, place, tallies[place])?;
+    for place in 0..things.len() {
+        things[place].put_line(out, place as u64 + 1)?;
     }
     Ok(())
-}
-
-/// Writes the line of the designer in this place, counted from 0.
-fn put_tally<T: Sink>(out: &mut Out<T>, place: usize, tally: Tally) -> Result<(), Failed>
-    requires { place < 2 ^ 64 - 1 }
-    ensures { Writes result out.old out.new (tally_line (place + 1) tally) }
-{
-    let counts = (tally.accepted, " refused ", (tally.refused, "\n"));
-    ("designer ", place as u64 + 1, " accepted ", counts).put_to(out)
-}
-
-fn put_numbers<T: Sink>(out: &mut Out<T>, numbers: &[u32]) -> Result<(), Failed>
-    ensures { Writes result out.old out.new (lines_from viewer_line 1 numbers.now) }
-{
-    for place in 0..numbers.len() {
-        put_number(out, place, numbers[place])?;
-    }
-    Ok(())
-}
-
-/// Writes the line of the viewer in this place, counted from 0.
-fn put_number<T: Sink>(out: &mut Out<T>, place: usize, saw: u32) -> Result<(), Failed>
-    requires { place < 2 ^ 64 - 1 }
-    ensures { Writes result out.old out.new (viewer_line (place + 1) saw) }
-{
-    ("viewer ", place as u64 + 1, " saw ", (saw, "\n")).put_to(out)
 }

@@ -1,7 +1,5 @@
-use Rattle.std.proofs.Common.{◌≡◌, true, false, [], sym, ap, ◌∙◌, arith, rules}
+use Rattle.mp_commands.proofs.Names.{◌≡◌, true, false, [], sym, ap, ◌∙◌, arith, rules, lines_of, are_divided, parts_of, lines_of_each}
 use Rattle.std.proofs.lemmas.Bool.{lt-ltb, le-ltb}
-use Rattle.mp_words.specs.Lines.{lines_of}
-use Rattle.mp_words.specs.Divisions.{are_divided, parts_of, lines_of_each}
 use Rattle.mp_commands.proofs.DeskLemmas.{blocks_of-none, blocks_of-some}
 use Rattle.mp_commands.proofs.desk.split.Goals as goal
 

@@ -1,7 +1,4 @@
-use Rattle.std.proofs.Common.{◌≡◌, ◌<◌, [], length, subst, rules}
-use Rattle.std.proofs.lemmas.Result.{err_from_is_err_and}
-use Rattle.mp_streams.proofs.OutLemmas.{puts_none}
-use Rattle.mp_words.specs.Lines.{lines_of}
+use Rattle.mp_commands.proofs.Names.{◌≡◌, ◌<◌, [], length, subst, rules, err_from_is_err_and, puts_none, lines_of}
 use Rattle.mp_commands.proofs.PlayLemmas.{ArePlayed, one_more, replies_all, replies_part, lines_of-none}
 use Rattle.mp_commands.proofs.play.put_replies.Goals as goal
 

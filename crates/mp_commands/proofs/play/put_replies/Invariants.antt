@@ -1,5 +1,4 @@
-use Rattle.std.proofs.Common.{length}
-use Rattle.mp_words.specs.Lines.{lines_of}
+use Rattle.mp_commands.proofs.Names.{length, lines_of}
 use Rattle.mp_commands.proofs.PlayLemmas.{ArePlayed}
 use Rattle.mp_commands.proofs.play.put_replies.Given as goal
 

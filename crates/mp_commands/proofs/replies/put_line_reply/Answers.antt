@@ -1,6 +1,4 @@
-use Rattle.std.proofs.Common.{refl}
-use Rattle.mp_streams.specs.declared.write_error.WriteError.TheVariants.{WriteFailed}
-use Rattle.mp_streams.proofs.OutLemmas.{puts_as}
+use Rattle.mp_commands.proofs.Names.{refl, WriteFailed, puts_as}
 use Rattle.mp_commands.proofs.ReplyLemmas.{change_replied, ask_replied}
 use Rattle.mp_commands.proofs.replies.put_line_reply.Goals as goal
 

@@ -1,6 +1,4 @@
-use Rattle.std.proofs.Common.{◌≡◌, false, refl, rules}
-use Rattle.mp_streams.specs.declared.write_error.WriteError.TheVariants.{WriteFailed}
-use Rattle.mp_streams.proofs.OutLemmas.{puts_as}
+use Rattle.mp_commands.proofs.Names.{◌≡◌, false, refl, rules, WriteFailed, puts_as}
 use Rattle.mp_commands.proofs.ReplyLemmas.{unread_replied, memory_replied, is_memory}
 use Rattle.mp_commands.proofs.replies.put_reply.Goals as goal
 

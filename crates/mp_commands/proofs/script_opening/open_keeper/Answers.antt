@@ -1,6 +1,5 @@
-use Rattle.std.proofs.lemmas.Result.{err_from_is_err_and}
+use Rattle.mp_commands.proofs.Names.{err_from_is_err_and, OutOfMemory}
 use Rattle.mp_command_runs.specs.OptionLimits.{has_valid_crew}
-use Rattle.mp_command_runs.specs.declared.run_fault.RunFault.TheVariants.{OutOfMemory}
 use Rattle.mp_command_runs.proofs.InputLemmas.{shut_unread}
 use Rattle.mp_commands.proofs.script_opening.open_keeper.Goals as goal
 

@@ -1,11 +1,5 @@
-use Rattle.std.proofs.Common.{◌≡◌, true, length, Err, refl, rules}
-use Rattle.std.specs.Prelude.{vec_len}
+use Rattle.mp_commands.proofs.Names.{◌≡◌, true, length, Err, refl, rules, vec_len, puts_as, puts_ok, OutOfMemory, refused, refused_unseated, wrote, wrote_part, blocks_of, run_fault_of}
 use Rattle.mp_streams.specs.declared.write_error.WriteError.TheVariants as writes
-use Rattle.mp_streams.proofs.OutLemmas.{puts_as, puts_ok}
-use Rattle.mp_command_runs.specs.declared.run_fault.RunFault.TheVariants.{OutOfMemory}
-use Rattle.mp_command_runs.proofs.RunLemmas.{refused, refused_unseated, wrote, wrote_part}
-use Rattle.mp_commands.specs.Desks.{blocks_of}
-use Rattle.mp_commands.specs.MeetingFaults.{run_fault_of}
 use Rattle.mp_commands.proofs.DeskLemmas.{blocks_count, is_text, refused_meeting}
 use Rattle.mp_commands.proofs.desk.DeskCommand.answer.Goals as goal
 

@@ -1,6 +1,4 @@
-use Rattle.std.proofs.Common.{false}
-use Rattle.mp_command_runs.specs.declared.run_fault.RunFault.TheVariants.{OutOfMemory}
-use Rattle.mp_command_runs.proofs.RunLemmas.{refused, wrote, wrote_part}
+use Rattle.mp_commands.proofs.Names.{false, OutOfMemory, refused, wrote, wrote_part}
 use Rattle.mp_commands.proofs.play.PlayCommand.answer.Goals as goal
 
 pub returns-in_err-front : goal.returns-in_err-front
