@@ -1,3 +1,4 @@
 pub mod RowLemmas
 pub mod ReaderLemmas
+pub mod RecordLemmas
 pub mod TouchLemmas

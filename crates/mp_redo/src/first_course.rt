@@ -44,7 +44,7 @@ pub(crate) fn first_wires(
 ) -> Result<FirstWires, AllocError>
     requires change { IsChange change.now }
     requires cells { AreCells change.now.old.now change.now.new.now 0 (λ m. 0) cells.now }
-    ensures some { IfOk result (λ wires. min 1024 change.now.new.now.horizon ≤ length wires.looks.items) }
+    ensures some { IfOk result (λ wires. listed_units change.now.new.now ≤ length wires.looks.items) }
     ensures before { IfOk result (λ wires. IsBefore change.now.old.now change.now.new.now change.now.run.now 0 0 cells.now wires.lines.items wires.looks.items) }
 {
     let new = change.new;
