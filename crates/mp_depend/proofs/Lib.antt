@@ -1,4 +1,3 @@
 pub mod RowLemmas
 pub mod ReaderLemmas
-pub mod RecordLemmas
 pub mod TouchLemmas

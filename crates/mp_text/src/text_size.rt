@@ -59,12 +59,12 @@ fn states_third(line: &[u8]) -> bool
 {
     let formed = is_format(word_at(line, 0));
     let third = is_three(word_at(line, 1));
-    word_count(line) == 2 && formed && third
+    (word_count(line) == 2) & formed & third
 }
 
 /// Whether a word is `format`.
 fn is_format(word: Option<&[u8]>) -> bool
-    ensures { (text : List ℕ) → option_copied word ≡ Some text → result ≡ bytes_eq text (codes "format") }
+    ensures { (text : List ℕ) → option_copied word.entry ≡ Some text → result ≡ bytes_eq text (codes "format") }
 {
     match word {
         Some(word) => word == b"format".as_slice(),
@@ -74,7 +74,7 @@ fn is_format(word: Option<&[u8]>) -> bool
 
 /// Whether a word is the number 3.
 fn is_three(word: Option<&[u8]>) -> bool
-    ensures { (text : List ℕ) → option_copied word ≡ Some text → result ≡ is_three (number_word text) }
+    ensures { (text : List ℕ) → option_copied word.entry ≡ Some text → result ≡ is_three (number_word text) }
 {
     match word {
         Some(word) => matches!(number_word(word), Ok(3)),

@@ -40,7 +40,7 @@ blocks_apart horizon t later le differ =
             let apart = multiples_apart units (block_of horizon later) (block_of horizon t) second first more in
             let rest = mod_below later units positive in
             absurd (omega (arith, apart, rest, le))
-        | inr no ↦ absurd (differ (omega (arith, not, no)))
+        | inr last ↦ absurd (differ (omega (arith, not, last)))
       ]
     ]
 

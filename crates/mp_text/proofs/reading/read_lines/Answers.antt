@@ -1,10 +1,15 @@
 use Rattle.mp_text.proofs.Names.{◌≡◌, ◌<◌, length, Ok, Err, sym, ◌∙◌, inl, inr, rules, arith, lines_of, after_lines, rest_falls, Fresh}
+use Rattle.std.proofs.Common.{ℕ, false, ◌==◌, List, [], ◌∷◌}
 use Rattle.mp_text.proofs.TextLemmas.{lines_next, lines_end, lines_counted, line_reached, gives_same, finished_reached}
 use Rattle.mp_text.proofs.reading.read_lines.Goals as goal
 
+some_byte : (xs : List ℕ) → (length xs == 0) ≡ false → 0 < length xs
+some_byte [] none = cc
+some_byte (x ∷ xs) none = omega arith
+
 pub returns-in-Err-clause-read : goal.returns-in-Err-clause-read
 returns-in-Err-clause-read c =
-    let some : 0 < length c.loop-rest.rest.now = search rules in
+    let some = some_byte c.loop-rest.rest.now (sym c.is_empty.ensures ∙ c.loop-rest-test.true) in
     elim (rw c.first_line.ensures.line at c.in-Err.ensures) [
       | inl memory ↦ inl memory
       | inr failed ↦ inr (sym c.loop-rest.invariant.same ∙ lines_next c.loop-rest.number c.loop-rest.state c.loop-rest.rest.now (Err c.in-Err.code) some failed)

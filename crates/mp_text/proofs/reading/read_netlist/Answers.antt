@@ -4,8 +4,8 @@ use Rattle.mp_text.specs.Texts.{GivesText, IsReachedIn}
 use Rattle.mp_text.proofs.TextLemmas.{text_within, text_over}
 use Rattle.mp_text.proofs.reading.read_netlist.Goals as goal
 
-pub returns-then-text-gt-limit-clause-read : goal.returns-then-text-gt-limit-clause-read
-returns-then-text-gt-limit-clause-read c = inr (text_over c.args.text.now (omega arith))
+pub returns-then-text-limit-clause-read : goal.returns-then-text-limit-clause-read
+returns-then-text-limit-clause-read c = inr (text_over c.args.text.now (omega arith))
 
 pub returns-clause-read : goal.returns-clause-read
 returns-clause-read c =
