@@ -1,11 +1,8 @@
 -- The lines of edits, one after the other.
-use Rattle.std.proofs.Common.{◌≡◌, ◌⊎◌, inl, inr, ℕ, ◌+◌, ◌<◌, ◌≤◌, List, ◌∷◌, ◌++◌, length, drop, get_or, Some, None, ap, ◌∙◌, arith}
+use Rattle.mp_answers.proofs.Names.{◌≡◌, ◌⊎◌, inl, inr, ℕ, ◌+◌, ◌<◌, ◌≤◌, List, ◌∷◌, ◌++◌, length, drop, get_or, Some, None, ap, ◌∙◌, arith, drop_more, lines_from, numbered_line, numbered_at, edits_from}
 use Rattle.std.specs.List.{slice_get}
-use Rattle.std.proofs.lemmas.List.{drop_more}
 use Rattle.std.proofs.lemmas.Option.{slice_get_cases}
 use Rattle.mp_records.specs.declared.edit.Edit.{Edit}
-use Rattle.mp_answers.specs.NumberedLines.{lines_from}
-use Rattle.mp_answers.specs.EditAnswers.{numbered_line, numbered_at, edits_from}
 
 -- the line of the edit in a place, and then the others
 pub edits_next : (edits : List Edit) (k : ℕ) → k < length edits → edits_from edits k ≡ numbered_at (k + 1) (slice_get edits k) ++ edits_from edits (k + 1)

@@ -1,7 +1,6 @@
 //! The accepted edits as lines.
 ghost use Rattle.std.specs.Prelude.{◌≡◌, ◌+◌, ◌<◌};
-ghost use Rattle.std.specs.List.{slice_get};
-ghost use Rattle.mp_streams.specs.Outgoing.{Writes};
+ghost use Rattle.mp_answers.specs.Names.{slice_get, Writes};
 ghost use Rattle.mp_version.specs.Limits.{max_edits};
 ghost use Rattle.mp_answers.specs.EditAnswers.{edits_from, numbered_at};
 

@@ -1,20 +1,10 @@
 -- The input of a source, by what was taken of it.
-use Rattle.std.proofs.Common.{◌≡◌, ℕ, ◌+◌, ◌<◌, ◌≤◌, IfSome, Bool, List, [], length, Option, Some, None, Err, refl, sym, subst, ◌∙◌, arith}
-use Rattle.std.proofs.lemmas.List.{take_all, length-take}
-use Rattle.std.proofs.lemmas.Bool.{lt-leb, le-leb}
+use Rattle.mp_command_runs.proofs.Names.{◌≡◌, ℕ, ◌<◌, ◌≤◌, IfSome, Bool, List, [], length, Option, Some, None, Err, refl, sym, subst, ◌∙◌, arith, take_all, length-take, lt-leb, le-leb, Circuit, lines_of, opening_of, within_size, too_long, fault_of_take, IsInput, HasInput, StaysUnread, RunFault, ReadFailed, OutOfMemory, ◌+◌, text_limit, taken_of}
 use Rattle.std.specs.Prelude.{Result}
-use Rattle.mp_netlist.specs.Circuit.{Circuit}
-use Rattle.mp_words.specs.Lines.{lines_of}
-use Rattle.mp_text.specs.Sizes.{text_limit}
 use Rattle.mp_streams.specs.declared.take_error.TakeError.{TakeError}
 use Rattle.mp_streams.specs.declared.take_error.TakeError.TheVariants as takes
 use Rattle.mp_command_runs.specs.OpenedInputs.{StaysShutWith}
-use Rattle.mp_command_runs.specs.Openings.{opening_of, taken_of, within_size, too_long}
-use Rattle.mp_command_runs.specs.RunFaults.{fault_of_take}
-use Rattle.mp_command_runs.specs.Runs.{IsInput, HasInput, StaysUnread}
 use Rattle.mp_command_runs.proofs.TakenLemmas.{limit_taken}
-use Rattle.mp_command_runs.specs.declared.run_fault.RunFault.{RunFault}
-use Rattle.mp_command_runs.specs.declared.run_fault.RunFault.TheVariants.{ReadFailed, OutOfMemory}
 
 -- bytes that are no more than an input may have are all of it
 pub short_input : (left : Option (List ℕ)) (text : List ℕ) → IfSome left (λ bytes. text ≡ taken_of bytes) → length text ≤ text_limit text → IsInput left text

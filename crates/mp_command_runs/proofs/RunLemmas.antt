@@ -1,8 +1,5 @@
 -- The ends of a run.
-use Rattle.std.proofs.Common.{◌≡◌, ℕ, ◌+◌, ◌<◌, ◌≤◌, ◌⊎◌, inl, inr, Bool, false, List, [], ◌++◌, length, Option, Result, Ok, Err, IsErrAnd, refl, sym, ap, subst, ◌∙◌, arith}
-use Rattle.std.proofs.lemmas.List.{length-append}
-use Rattle.std.proofs.lemmas.Result.{err_from_is_err_and}
-use Rattle.mp_netlist.specs.Circuit.{Circuit}
+use Rattle.mp_command_runs.proofs.Names.{◌≡◌, ℕ, ◌+◌, ◌<◌, ◌≤◌, ◌⊎◌, inl, inr, Bool, false, List, [], ◌++◌, length, Option, Result, Ok, Err, IsErrAnd, refl, sym, ap, subst, ◌∙◌, arith, length-append, err_from_is_err_and, Circuit, RunFault, Text, ReadFailed, WriteFailed, OutOfMemory, NoPlace, counted_netlist, within_size, fault_of_text, fault_at, fault_of_write, IsInput, HasInput, StaysUnread, Refuses, WritesOne, Ran, RanFrom, text_limit}
 use Rattle.mp_streams.specs.Outgoing.{Outgoing}
 use Rattle.mp_streams.specs.Outgoing as outs
 use Rattle.mp_streams.specs.WriteErrors.{Writes}
@@ -15,12 +12,6 @@ use Rattle.mp_words.specs.declared.line_error.LineError.TheVariants as lines
 use Rattle.mp_text.specs.declared.text_code.TextCode.{TextCode}
 use Rattle.mp_text.specs.declared.text_code.TextCode.TheVariants as texts
 use Rattle.mp_text.specs.declared.text_error.TextError.{TextError}
-use Rattle.mp_text.specs.Sizes.{text_limit}
-use Rattle.mp_command_runs.specs.declared.run_fault.RunFault.{RunFault}
-use Rattle.mp_command_runs.specs.declared.run_fault.RunFault.TheVariants.{Text, ReadFailed, WriteFailed, OutOfMemory, NoPlace}
-use Rattle.mp_command_runs.specs.Openings.{counted_netlist, within_size}
-use Rattle.mp_command_runs.specs.RunFaults.{fault_of_text, fault_at, fault_of_write}
-use Rattle.mp_command_runs.specs.Runs.{IsInput, HasInput, StaysUnread, Refuses, WritesOne, Ran, RanFrom}
 use Rattle.mp_command_runs.proofs.InputLemmas.{some_input, within_size-long, within_size-short}
 
 -- ---- a run that writes nothing

@@ -1,15 +1,9 @@
 -- What a run takes of its source.
-use Rattle.std.proofs.Common.{◌≡◌, ℕ, ◌+◌, ◌-◌, ◌<◌, ◌≤◌, ◌⊎◌, inl, inr, IfSome, List, ◌++◌, length, take, Option, None, Some, ap, subst, sym, ◌∙◌, arith}
+use Rattle.mp_command_runs.proofs.Names.{◌≡◌, ℕ, ◌+◌, ◌-◌, ◌<◌, ◌≤◌, ◌⊎◌, inl, inr, IfSome, List, ◌++◌, length, take, Option, None, Some, ap, subst, sym, ◌∙◌, arith, length-append, max_short_text, text_limit, limit_least, limit_of_front, taken_of, TakesInput}
 use Rattle.std.specs.Io.KnownBytes.{Consumes, IsAtEnd}
 use Rattle.std.proofs.KnownBytes.{Consumes-trans}
-use Rattle.std.proofs.lemmas.List.{length-append}
 use Rattle.std.proofs.Math.Seq.{take-append_seam}
 use Rattle.mp_streams.proofs.StreamLemmas.{taken_front}
-use Rattle.mp_text.specs.Limits.{max_short_text}
-use Rattle.mp_text.specs.Sizes.{text_limit}
-use Rattle.mp_text.proofs.SizeLemmas.{limit_least, limit_of_front}
-use Rattle.mp_command_runs.specs.Openings.{taken_of}
-use Rattle.mp_command_runs.specs.Runs.{TakesInput}
 
 -- the first bytes tell how long the input may be
 taken_by : (left : Option (List ℕ)) (first text : List ℕ) → IfSome left (λ bytes. first ≡ take (max_short_text + 1) bytes) → IfSome left (λ bytes. text ≡ take (text_limit first + 1) bytes)

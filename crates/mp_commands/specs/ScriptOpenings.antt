@@ -1,11 +1,8 @@
 -- How the input of a netlist opens that a script edits.
 use Rattle.std.specs.Prelude.{◌≡◌, ℕ, List, Option, Result, Ok}
-use Rattle.mp_netlist.specs.Circuit.{Circuit}
-use Rattle.mp_answers.specs.Kept.{Kept}
+use Rattle.mp_commands.specs.Names.{Circuit, Kept, has_valid_crew, Options}
 use Rattle.mp_command_runs.specs.OpenedInputs.{opening_with, StaysShutWith}
-use Rattle.mp_command_runs.specs.OptionLimits.{has_valid_crew}
 use Rattle.mp_command_runs.specs.Runs.{HasInput}
-use Rattle.mp_command_runs.specs.declared.options.Options.{Options}
 use Rattle.mp_command_runs.specs.declared.run_fault.RunFault.{RunFault}
 use Rattle.mp_commands.specs.Keepers.{opened}
 

@@ -19,7 +19,7 @@ pub struct Keeper {
 }
 
 impl Model for Keeper {
-    ghost use Rattle.mp_answers.specs.Kept.{Kept};
+    ghost use Rattle.mp_commands.specs.Names.{Kept};
     ghost use Rattle.mp_commands.specs.Keepers.{kept_of};
 
     ghost Value = { Kept };
@@ -29,7 +29,7 @@ impl Model for Keeper {
 
 impl Keeper {
     ghost use Rattle.std.specs.Prelude.{◌≡◌, Ok, IfOk, IfErr, OnOk, OnErr, length};
-    ghost use Rattle.mp_netlist.specs.Edits.{RefusedBy};
+    ghost use Rattle.mp_commands.specs.Names.{RefusedBy};
     ghost use Rattle.mp_commands.specs.Keepers.{opened, judged, IsOneMore};
 
     /// The netlist before the first edit.

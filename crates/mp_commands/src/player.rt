@@ -19,7 +19,7 @@ pub struct Player {
 }
 
 impl Model for Player {
-    ghost use Rattle.mp_answers.specs.Kept.{Kept};
+    ghost use Rattle.mp_commands.specs.Names.{Kept};
 
     ghost Value = { Kept };
 

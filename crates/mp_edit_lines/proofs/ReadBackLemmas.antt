@@ -3,7 +3,7 @@ use Rattle.std.proofs.Common.{◌≡◌, ℕ, ◌<◌, Bool, true, false, cond, 
 use Rattle.std.specs.Prelude.{codes, nat_le, IfSome}
 use Rattle.std.specs.Char.{is_ascii_alphabetic}
 use Rattle.std.specs.List.{list_all}
-use Rattle.std.proofs.lemmas.Bool.{eqb-true}
+use Rattle.std.proofs.lemmas.Bool.{and_parts, eqb-true}
 use Rattle.std.proofs.lemmas.Bool.Decides.{nat_tests}
 use Rattle.std.proofs.lemmas.List.{append-nil, map-id}
 use Rattle.std.proofs.lemmas.List.Elements.{All-head, All-tail, All-weaker}
@@ -17,7 +17,7 @@ use Rattle.mp_records.specs.Names.{is_name, is_name_byte, begins_with_letter}
 use Rattle.mp_words.specs.declared.line_error.LineError.{LineError}
 use Rattle.mp_words.specs.WordLists.{change_word, input_word, output_word, wire_or_none}
 use Rattle.mp_words.specs.WaveLines.{pair_text}
-use Rattle.mp_words.proofs.PlainLemmas.{IsPlain, IsPlain-name, both}
+use Rattle.mp_words.proofs.PlainLemmas.{IsPlain, IsPlain-name}
 use Rattle.mp_words.proofs.ReadBackLemmas.{number_back, change_back, input_back, late_input_back, no_wire_back, wire_back}
 use Rattle.mp_text.specs.declared.edit_word.EditWord.TheVariants as words
 use Rattle.mp_text.specs.declared.script_line.Line.TheVariants.{Change}
@@ -139,8 +139,8 @@ not_dash : (name : List ℕ) → IsName name → wire_or_none name ≡ Some name
 unfolding is_name
 not_dash [] valid = refl
 not_dash (b ∷ bs) valid =
-    let head = both (begins_with_letter (b ∷ bs) && nat_le (length (b ∷ bs)) 32) (list_all is_name_byte (b ∷ bs)) valid in
-    let other = letter_no_dash b (both (begins_with_letter (b ∷ bs)) (nat_le (length (b ∷ bs)) 32) head.0).0 in
+    let head = and_parts (begins_with_letter (b ∷ bs) && nat_le (length (b ∷ bs)) 32) (list_all is_name_byte (b ∷ bs)) valid in
+    let other = letter_no_dash b (and_parts (begins_with_letter (b ∷ bs)) (nat_le (length (b ∷ bs)) 32) head.0).0 in
     rw other refl
 
 wire_back_at : (wire : Option (List ℕ)) → IfSome wire IsName → wire_or_none (wire_word wire) ≡ wire

@@ -1,10 +1,8 @@
 -- Lemmas on what is found at bundles.
-use Rattle.mp_report.proofs.Names.{◌≡◌, ℕ, ◌+◌, ◌-◌, ◌<◌, ◌≤◌, inl, inr, Bool, true, false, not, ◌&&◌, [], map, min, nat_le, Some, None, filter, flat_map, refl, ap, sym, ◌∙◌, true≢false, arith, list_any, range_with_len, cases_Bool, cases_lt, nat_tests, FindingCode, FindingSet, by_number, has_code, no_findings, with_code_if, has_event, Circuit, bundle_at, changes, is_busy, is_requested_soon, is_found_at_bundle, bundle_place, bundle_set}
+use Rattle.mp_report.proofs.Names.{◌≡◌, ℕ, ◌+◌, ◌-◌, ◌<◌, ◌≤◌, inl, inr, Bool, true, false, not, ◌&&◌, [], map, min, nat_le, Some, None, filter, flat_map, refl, ap, sym, ◌∙◌, true≢false, arith, list_any, range_with_len, cases_Bool, cases_lt, nat_tests, FindingCode, FindingSet, by_number, has_code, no_findings, with_code_if, has_event, Circuit, bundle_at, changes, is_busy, is_requested_soon, is_found_at_bundle, bundle_place, bundle_set, findings_of, codes_at, found_over}
 use Rattle.mp_modules.specs.declared.finding_code.FindingCode.TheVariants as codes
 use Rattle.mp_records.specs.declared.bundle_record.BundleRecord.{BundleRecord}
 use Rattle.mp_model.proofs.MemberLemmas.{any_passes, passes_any, contains_range, range_contains}
-use Rattle.mp_response.specs.Span.{findings_of}
-use Rattle.mp_report.specs.Places.{codes_at, found_over}
 use Rattle.mp_report.proofs.TimeLemmas.{told_none, told_same}
 
 -- no event at any of some times

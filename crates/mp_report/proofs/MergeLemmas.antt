@@ -1,10 +1,9 @@
 -- Findings by place, sorted by time, are the findings by time.
-use Rattle.mp_report.proofs.Names.{◌≡◌, ◌≢◌, ℕ, ◌+◌, ◌-◌, ◌<◌, ◌≤◌, ◌==◌, ◌⊎◌, inl, inr, Bool, true, false, not, ◌&&◌, cond, List, [], ◌∷◌, ◌++◌, map, All, filter, flat_map, nat_cmp, is_lt, nat_lt, Less, Equal, Greater, zero, suc, refl, ap, sym, subst, ◌∙◌, append-nil, ⊎_elim, arith, range_with_len, cases_eq, cases_lt, nat_tests, FindingCode, MergeCollision, by_number, Circuit, Place, Finding}
+use Rattle.mp_report.proofs.Names.{◌≡◌, ◌≢◌, ℕ, ◌+◌, ◌-◌, ◌<◌, ◌≤◌, ◌==◌, ◌⊎◌, inl, inr, Bool, true, false, not, ◌&&◌, cond, List, [], ◌∷◌, ◌++◌, map, All, filter, flat_map, nat_cmp, is_lt, nat_lt, Less, Equal, Greater, zero, suc, refl, ap, sym, subst, ◌∙◌, append-nil, ⊎_elim, arith, range_with_len, cases_eq, cases_lt, nat_tests, FindingCode, MergeCollision, by_number, Circuit, Place, Finding, codes_at, found_over, finding_at, found_by_place}
 use Rattle.std.specs.List.Sorted.{IsNonDecreasingBy, IsStableByKey}
 use Rattle.std.proofs.lemmas.List.{map-append}
 use Rattle.std.proofs.lemmas.List.Elements.{filter-append, filter_agree}
 use Rattle.mp_model.specs.Findings.{is_found, module_place, places, found_at, findings}
-use Rattle.mp_report.specs.Places.{codes_at, found_over, finding_at, found_by_place}
 use Rattle.mp_report.proofs.TimeLemmas.{told_none, told_same}
 
 -- ---- lists by key

@@ -1,15 +1,12 @@
 -- Lemmas on what is found at modules.
-use Rattle.mp_report.proofs.Names.{◌≡◌, ℕ, ◌-◌, ◌<◌, ◌≤◌, ◌==◌, Bool, false, List, [], ◌++◌, map, Option, Some, None, filter, flat_map, zero, suc, refl, ap, sym, subst, ◌∙◌, arith, range_with_len, nat_tests, FindingCode, Memory, FindingSet, by_number, has_code, no_findings, Circuit, IsCircuit, module_at, module_width, built, inputs_by, level, state, is_found_at_module, module_place}
+use Rattle.mp_report.proofs.Names.{◌≡◌, ℕ, ◌-◌, ◌<◌, ◌≤◌, ◌==◌, Bool, false, List, [], ◌++◌, map, Option, Some, None, filter, flat_map, zero, suc, refl, ap, sym, subst, ◌∙◌, arith, range_with_len, nat_tests, FindingCode, Memory, FindingSet, by_number, has_code, no_findings, Circuit, IsCircuit, module_at, module_width, built, inputs_by, level, state, is_found_at_module, module_place, start, found, any_part_of, IsSpan, findings_of, found_at, codes_at, found_over}
 use Rattle.mp_storage.specs.declared.any_module.AnyModule.{AnyModule}
-use Rattle.mp_storage.specs.AnyModules.{start, found, any_part_of}
 use Rattle.mp_records.specs.declared.module_record.ModuleRecord.{ModuleRecord}
 use Rattle.mp_model.proofs.BehaviourLemmas.{satisfies}
-use Rattle.mp_response.specs.Span.{IsSpan, findings_of, found_at}
 use Rattle.mp_response.specs.Delays.{state_before}
 use Rattle.mp_response.specs.declared.piece.Piece.{Piece}
 use Rattle.mp_response.proofs.DelayLemmas.{finds_by_states}
 use Rattle.mp_response.proofs.JoinLemmas.{inside_alone}
-use Rattle.mp_report.specs.Places.{codes_at, found_over}
 use Rattle.mp_report.proofs.TimeLemmas.{told_none, told_same_from}
 
 -- what is found at a module at a time from 1 on

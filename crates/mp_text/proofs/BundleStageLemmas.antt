@@ -1,9 +1,7 @@
 -- The edits of a netlist's bundles, once its wires are added, are not refused.
-use Rattle.mp_text.proofs.Names.{◌≡◌, ℕ, ◌<◌, ◌≤◌, true, false, ◌==◌, ◌&&◌, List, [], ◌∷◌, ◌++◌, length, get_or, All, Option, Some, None, Ok, is_none, refl, sym, ap, subst, ◌∙◌, arith, length-append, nat_le, flat_map, bytes_eq, eq-eqb, lt-ltb, nat_tests, append-nil, get_or_at, length_push, flat_map-append, All-cons, All-nil, All-head, All-weaker, ModuleRecord, BundleRecord, SingleEdit, AddBundle, max_setup, Circuit, IsCircuit, IsBundle, bundle_at, HasNames, wire_name, bundle_by_name, bundle_edits}
-use Rattle.mp_netlist.specs.Limits.{bundle_limit}
-use Rattle.mp_netlist.specs.Edits.{refusal, edited, after_single, stands, width_named, bundle_checks, new_bundle}
+use Rattle.mp_text.proofs.Names.{◌≡◌, ℕ, ◌<◌, ◌≤◌, true, false, ◌==◌, ◌&&◌, List, [], ◌∷◌, ◌++◌, length, get_or, All, Option, Some, None, Ok, is_none, refl, sym, ap, subst, ◌∙◌, arith, length-append, nat_le, flat_map, bytes_eq, eq-eqb, lt-ltb, nat_tests, append-nil, get_or_at, length_push, flat_map-append, All-cons, All-nil, All-head, All-weaker, ModuleRecord, BundleRecord, SingleEdit, AddBundle, max_setup, Circuit, IsCircuit, IsBundle, bundle_at, HasNames, wire_name, bundle_by_name, bundle_edits, and_from, refusal, edited, after_single, stands, width_named, bundle_checks, new_bundle, bundle_limit}
 use Rattle.mp_text.proofs.SlotLemmas.{All-flat_map, All-from_flat_map, Unnamed, named_nowhere, front_unnamed}
-use Rattle.mp_text.proofs.StageLemmas.{none_failing, and_both, is_done, Reaches, Reaches-none, Reaches-one, Steps, stage}
+use Rattle.mp_text.proofs.StageLemmas.{none_failing, is_done, Reaches, Reaches-none, Reaches-one, Steps, stage}
 use Rattle.mp_text.proofs.WireStageLemmas.{made, HasWires, HasWires-compact, IsBack, is_back}
 use Rattle.mp_text.proofs.StimulusStageLemmas.{kept}
 
@@ -79,8 +77,8 @@ module _ (n : Circuit) (circuit : IsCircuit n) (named : HasNames n) (modules : L
         let second = wire_name n r.acknowledge in
         let third = wire_name n r.payload in
         let free = ap is_none (named_nowhere bundle_name r.name bundles unnamed) in
-        let found = and_both (stands c first && stands c second) (stands c third) (and_both (stands c first) (stands c second) request.found acknowledge.found) payload.found in
-        let wide = and_both (width_named c first == 1) (width_named c second == 1)
+        let found = and_from (stands c first && stands c second) (stands c third) (and_from (stands c first) (stands c second) request.found acknowledge.found) payload.found in
+        let wide = and_from (width_named c first == 1) (width_named c second == 1)
         (eq-eqb _ _ (request.width ∙ is.request.1)) (eq-eqb _ _ (acknowledge.width ∙ is.acknowledge.1)) in
         let low = is.setup in
         let early : nat_le r.setup max_setup ≡ true = grind (arith, nat_tests) in

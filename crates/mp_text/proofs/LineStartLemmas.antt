@@ -1,5 +1,5 @@
 -- How a line begins decides what it says.
-use Rattle.mp_text.proofs.Names.{◌≡◌, ◌⊎◌, inl, inr, ℕ, ◌+◌, ◌-◌, ◌<◌, ◌==◌, ◌||◌, min, Bool, true, false, cond, List, [], ◌∷◌, length, drop, None, Some, Result, Ok, Err, IfErr, refl, ap, ◌∙◌, arith, true≢false, length-take, length-drop, nat_le, slice_get, byte, before_first, after_first, position_or_len, list_all, ok_or, cases_eq, leb-false, nat_tests, LineError, WordCount, UnknownStatement, NotAscii, OutOfMemory, is_allowed, words_of, ◌>>=◌, statement_takes, single_takes, question_takes, takes, is_taken, is_begun, HasForm}
+use Rattle.mp_text.proofs.Names.{◌≡◌, ◌⊎◌, inl, inr, ℕ, ◌+◌, ◌-◌, ◌<◌, ◌==◌, ◌||◌, min, Bool, true, false, cond, List, [], ◌∷◌, length, drop, None, Some, Result, Ok, Err, IfErr, refl, ap, ◌∙◌, arith, true≢false, length-take, length-drop, nat_le, slice_get, byte, before_first, after_first, position_or_len, list_all, ok_or, cases_eq, leb-false, nat_tests, LineError, WordCount, UnknownStatement, NotAscii, OutOfMemory, is_allowed, words_of, ◌>>=◌, statement_takes, single_takes, question_takes, takes, is_taken, is_begun, HasForm, is_mark, wire_edit, module_edit, parts_edit, stimulus_edit, bundle_edit, stated_edit, part_edit, line_word, stated_line, single_line, question_line, line_of, line_at, stated_number, each_word}
 use Rattle.mp_text.specs.declared.edit_word.EditWord.{EditWord}
 use Rattle.mp_text.specs.declared.edit_word.EditWord.TheVariants.{Wire, Module, Stimulus, Bundle}
 use Rattle.mp_text.specs.declared.single_word.SingleWord.{SingleWord}
@@ -12,11 +12,8 @@ use Rattle.mp_text.specs.declared.script_line.Line.{Line}
 use Rattle.mp_text.specs.declared.script_line.Line.TheVariants.{Empty}
 use Rattle.mp_text.specs.declared.question.Question.{Question as Asked}
 use Rattle.mp_text.specs.declared.question.Question.TheVariants as questions
-use Rattle.mp_text.specs.Statements.{is_mark, wire_edit, module_edit, parts_edit, stimulus_edit, bundle_edit, stated_edit}
 use Rattle.mp_text.specs.SingleEdits.{single_edit, removal, input_edit, output_edit, input_delay_edit, delay_edit, clearing}
-use Rattle.mp_text.specs.Batches.{part_edit, each_part}
-use Rattle.mp_text.specs.ScriptLines.{line_word, stated_line, single_line, question_line, line_of, line_at}
-use Rattle.mp_text.specs.Questions.{stated_question, wave_question, bare_question, show_question, why_question, path_question, waits_question, measure_question, edits_question}
+use Rattle.mp_text.specs.Questions.{stated_question, wave_question, bare_question, show_question, why_question, path_question, measure_question}
 
 abbrev Words : Type 0
 Words = List (List ℕ)
@@ -121,7 +118,7 @@ not_range (a ∷ []) few = refl
 not_range (a ∷ b ∷ words) few = absurd (omega (arith, leb-false 2 _ few))
 
 question_refused : (first : QuestionWord) (words : Words) → question_takes first (length words) ≡ false → stated_question first words ≡ Err WordCount
-unfolding stated_question wave_question path_question waits_question measure_question edits_question
+unfolding stated_question wave_question path_question measure_question
 question_refused Wave words wrong = not_one wave_question refl (λ a b ws. refl) words wrong
 question_refused Waves words wrong = bare_refused questions.Waves words wrong
 question_refused Text words wrong = bare_refused questions.Text words wrong
@@ -131,15 +128,15 @@ question_refused Work words wrong = bare_refused questions.Work words wrong
 question_refused Show words wrong = not_range words wrong
 question_refused Why words wrong = not_chain words wrong
 question_refused Path words wrong = not_two path_question refl (λ a. refl) (λ a b c ws. refl) words wrong
-question_refused Waits words wrong = not_one waits_question refl (λ a b ws. refl) words wrong
+question_refused Waits words wrong = ap (λ number. number >>= λ time. Ok (questions.Waits time)) (not_one stated_number refl (λ a b ws. refl) words wrong)
 question_refused Measure words wrong = not_two measure_question refl (λ a. refl) (λ a b c ws. refl) words wrong
 question_refused Graph words wrong = bare_refused questions.Graph words wrong
 question_refused Version words wrong = bare_refused questions.Version words wrong
-question_refused Edits words wrong = not_one edits_question refl (λ a b ws. refl) words wrong
+question_refused Edits words wrong = ap (λ number. number >>= λ from. Ok (questions.Edits from)) (not_one stated_number refl (λ a b ws. refl) words wrong)
 
 -- a first word with another number of words behind it than it takes
 refused_by_count : (first : LineWord) (words : Words) → takes first (length words) ≡ false → stated_line first words ≡ Err WordCount
-unfolding stated_line each_part part_edit
+unfolding stated_line each_word part_edit
 refused_by_count (Single word) words wrong = ap single_line (single_refused word words wrong)
 refused_by_count Batch [] wrong = refl
 refused_by_count Batch (word ∷ words) wrong = absurd (omega (arith, leb-false 1 _ wrong))

@@ -1,5 +1,5 @@
 -- The lines of modules lead where the edits of the modules lead.
-use Rattle.mp_text.proofs.Names.{◌≡◌, ℕ, ◌^◌, ◌<◌, ◌≤◌, Bool, true, false, cond, ◌==◌, List, [], ◌∷◌, ◌++◌, length, map, All, Option, Some, None, Ok, decimal, refl, sym, subst, arith, inl, inr, codes, nat_lt, IsTrue, IsSome, IfSome, option_map, list_all, cases_Bool, eqb-true, nat_tests, append-nil, All-cons, All-nil, All-map, All-append, All-get_or, All-from_get_or, All-weaker, Kind, some_input, some_output, param_bound-low, WireId, WireRecord, ModuleRecord, Input, Output, AddModule, is_name, no_input, input_at, output_at, max_delay, Circuit, IsCircuit, IsModule, IsDelay, IsInputDelay, HasWidth, wire_at, module_at, width_of, module_width, HasNames, is_mark, input_word, output_word, module_line, wire_name, delay_text, input_text, output_name, output_text, module_by_name, module_edits, input_by_name, output_by_name, IsPlain, IsPlain-append, IsPlain-decimal, IsPlain-name, both, input_back, late_input_back, no_wire_back, wire_back}
+use Rattle.mp_text.proofs.Names.{◌≡◌, ℕ, ◌^◌, ◌<◌, ◌≤◌, Bool, true, false, cond, ◌==◌, List, [], ◌∷◌, ◌++◌, length, map, All, Option, Some, None, Ok, decimal, refl, sym, subst, arith, inl, inr, codes, nat_lt, IsTrue, IsSome, IfSome, option_map, list_all, cases_Bool, eqb-true, append-nil, All-cons, All-map, All-append, All-get_or, All-from_get_or, All-weaker, Kind, some_input, some_output, param_bound-low, WireId, WireRecord, ModuleRecord, Input, Output, AddModule, is_name, no_input, input_at, output_at, max_delay, Circuit, IsCircuit, IsModule, IsDelay, IsInputDelay, HasWidth, wire_at, module_at, width_of, module_width, HasNames, is_mark, input_word, output_word, module_line, wire_name, delay_text, input_text, output_name, output_text, module_by_name, module_edits, input_by_name, output_by_name, IsPlain, IsPlain-append, IsPlain-decimal, IsPlain-name, and_parts, input_back, late_input_back, no_wire_back, wire_back, All-passing, ltb-true}
 use Rattle.mp_modules.specs.declared.kind.Kind.TheVariants as kinds
 use Rattle.mp_modules.specs.Kinds.{word_of, param_bound, param_count, are_params, has_width, output_width}
 use Rattle.mp_text.proofs.StatementBackLemmas.{name_no_greater, module_stated}
@@ -11,18 +11,13 @@ IsPlain-kind : (kind : Kind) → IsPlain (word_of kind)
 IsPlain-kind kinds.Buf = record { some = omega arith; plain = refl }
 IsPlain-kind _ = record { some = omega arith; plain = refl }
 
-below_low : (bound : ℕ) → bound ≤ 2 ^ 64 → (params : List ℕ) → list_all (λ param. nat_lt param bound) params ≡ true → All (λ p. p < 2 ^ 64) params
-below_low bound low [] all = All-nil (λ p. p < 2 ^ 64)
-below_low bound low (param ∷ params) all =
-    let parts = both (nat_lt param bound) (list_all (λ param. nat_lt param bound) params) all in
-    let first = parts.0 in
-    let below : param < bound = grind (arith, nat_tests) in
-    All-cons (λ p. p < 2 ^ 64) param params (omega (arith, below, low)) (below_low bound low params parts.1)
-
 params_low : (kind : Kind) (width : ℕ) (params : List ℕ) → width ≤ 64 → IsTrue (are_params kind width params) → All (λ p. p < 2 ^ 64) params
 unfolding are_params
 params_low kind width params narrow ok =
-    below_low (param_bound kind width) (param_bound-low kind width narrow) params (both (length params == param_count kind) (list_all (λ param. nat_lt param (param_bound kind width)) params) ok).1
+    let bound = param_bound kind width in
+    let high = param_bound-low kind width narrow in
+    let below = (and_parts (length params == param_count kind) (list_all (λ param. nat_lt param bound) params) ok).1 in
+    All-passing (λ param. nat_lt param bound) (λ p. p < 2 ^ 64) (λ param is. let less = ltb-true param bound is in omega (arith, less, high)) params below
 
 -- a wire that stands, if any
 abbrev Stands : Circuit → Option WireId → Type 0

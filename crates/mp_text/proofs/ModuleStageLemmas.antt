@@ -1,9 +1,7 @@
 -- The edits of a netlist's modules, once its wires are added, are not refused.
-use Rattle.mp_text.proofs.Names.{◌≡◌, ℕ, ◌<◌, ◌≤◌, true, ◌==◌, cond, List, [], ◌∷◌, ◌++◌, length, map, get_or, All, Option, Some, None, Ok, option_map, is_none, refl, sym, ap, subst, ◌∙◌, arith, length-append, nat_le, IsSome, IfSome, slice_index_or, flat_map, list_all, eq-eqb, lt-ltb, nat_tests, append-nil, get_or_at, get_or_append_left, get_or-map, length-map, length_push, flat_map-append, All-cons, All-nil, All-head, All-tail, All-map, All-weaker, All-from_get_or, input_count, output_count, has_width, input_width, output_width, are_params, WireId, WireRecord, ModuleRecord, Input, Output, InputName, OutputName, no_input, output_in, max_delay, Circuit, IsCircuit, IsModule, IsDelay, IsInputDelay, HasWidth, Drives, wire_at, module_at, width_of, module_width, HasNames, no_name, some_input, wire_name, module_by_name, module_edits, input_by_name, output_by_name}
-use Rattle.mp_netlist.specs.Limits.{module_limit}
-use Rattle.mp_netlist.specs.Edits.{refusal, edited, after_single, stands, wire_id, width_named, is_undriven, is_delay, is_input_delay, delays_fit, driven_names, are_distinct, first_width, new_width, inputs_stand, inputs_fit, output_fits, outputs_fit, module_checks, input_of, output_of, new_module, without_stimulus}
-use Rattle.mp_text.proofs.SlotLemmas.{All-flat_map, All-from_flat_map, list_all_from, Unnamed, named_nowhere, front_unnamed}
-use Rattle.mp_text.proofs.StageLemmas.{none_failing, and_both, is_done, Reaches, Reaches-none, Reaches-one, Steps, stage}
+use Rattle.mp_text.proofs.Names.{◌≡◌, ℕ, ◌<◌, ◌≤◌, true, ◌==◌, cond, List, [], ◌∷◌, ◌++◌, length, map, get_or, All, Option, Some, None, Ok, option_map, is_none, refl, sym, ap, subst, ◌∙◌, arith, length-append, nat_le, IsSome, IfSome, slice_index_or, flat_map, list_all, eq-eqb, lt-ltb, nat_tests, append-nil, get_or_at, get_or_append_left, get_or-map, length-map, length_push, flat_map-append, All-cons, All-nil, All-head, All-tail, All-map, All-weaker, All-from_get_or, input_count, output_count, has_width, input_width, output_width, are_params, WireId, ModuleRecord, Input, Output, InputName, OutputName, no_input, output_in, max_delay, Circuit, IsCircuit, IsModule, IsDelay, IsInputDelay, HasWidth, Drives, wire_at, module_at, width_of, module_width, HasNames, no_name, some_input, wire_name, module_by_name, module_edits, input_by_name, output_by_name, list_all-from_AllPass, and_from, refusal, edited, after_single, stands, wire_id, width_named, is_undriven, is_delay, is_input_delay, delays_fit, driven_names, are_distinct, first_width, new_width, inputs_stand, inputs_fit, output_fits, outputs_fit, module_checks, input_of, output_of, new_module, without_stimulus, module_limit}
+use Rattle.mp_text.proofs.SlotLemmas.{All-flat_map, All-from_flat_map, Unnamed, named_nowhere, front_unnamed}
+use Rattle.mp_text.proofs.StageLemmas.{none_failing, is_done, Reaches, Reaches-none, Reaches-one, Steps, stage}
 use Rattle.mp_text.proofs.OutputLemmas.{output_named, is_output, added, DrivesNone, AddsNone, undriven_by_name, drives_none, is_nothing_driven, driven_all, driven_distinct, counted_all}
 use Rattle.mp_text.proofs.WireStageLemmas.{bare, bare_unset, made, HasWires, HasWires-compact, IsBack, is_back, same_wire}
 
@@ -24,7 +22,7 @@ is_low_delay d low =
     let most = low.1 in
     let one : nat_le 1 d ≡ true = grind (arith, nat_tests) in
     let short : nat_le d max_delay ≡ true = grind (arith, nat_tests) in
-    and_both (nat_le 1 d) (nat_le d max_delay) one short
+    and_from (nat_le 1 d) (nat_le d max_delay) one short
 
 is_low_input_delay : (d : ℕ) → IsInputDelay d → is_input_delay d ≡ true
 is_low_input_delay d most = let short : nat_le d max_delay ≡ true = grind (arith, nat_tests) in short
@@ -54,7 +52,7 @@ module _ (n c : Circuit) (has : HasWires n c) (r : ModuleRecord) (is : IsModule 
 
   pub inputs_found : inputs_stand c input_names ≡ true
   inputs_found =
-      list_all_from (λ (i : InputName). stands c i.wire) input_names
+      list_all-from_AllPass (λ (i : InputName). stands c i.wire) input_names
       (All-map (λ (i : InputName). stands c i.wire ≡ true) (input_by_name n) r.inputs (All-from_get_or (λ i. stands c (wire_name n i.wire) ≡ true) r.inputs no_input (λ p within. (input_back p within).found)))
 
   pub inputs_wide : inputs_fit c r.kind (new_width c r.kind input_names) input_names ≡ true
@@ -95,16 +93,16 @@ module _ (n c : Circuit) (has : HasWires n c) (r : ModuleRecord) (is : IsModule 
 
   inputs_low : list_all (λ (i : InputName). is_input_delay i.delay) input_names ≡ true
   inputs_low =
-      list_all_from (λ (i : InputName). is_input_delay i.delay) input_names (All-map (λ (i : InputName). is_input_delay i.delay ≡ true) (input_by_name n) r.inputs
+      list_all-from_AllPass (λ (i : InputName). is_input_delay i.delay) input_names (All-map (λ (i : InputName). is_input_delay i.delay ≡ true) (input_by_name n) r.inputs
       (All-weaker (λ (i : Input). IsInputDelay i.delay) (λ (i : Input). is_input_delay i.delay ≡ true) (λ i low. is_low_input_delay i.delay low) r.inputs is.input_delays))
 
   outputs_low : list_all (λ (o : OutputName). is_delay o.delay) output_names ≡ true
   outputs_low =
-      list_all_from (λ (o : OutputName). is_delay o.delay) output_names (All-map (λ (o : OutputName). is_delay o.delay ≡ true) (output_by_name n) r.outputs
+      list_all-from_AllPass (λ (o : OutputName). is_delay o.delay) output_names (All-map (λ (o : OutputName). is_delay o.delay ≡ true) (output_by_name n) r.outputs
       (All-weaker (λ (o : Output). IsDelay o.delay) (λ (o : Output). is_delay o.delay ≡ true) (λ o low. is_low_delay o.delay low) r.outputs is.delays))
 
   pub delays_low : delays_fit input_names output_names ≡ true
-  delays_low = and_both (list_all (λ (i : InputName). is_input_delay i.delay) input_names) (list_all (λ (o : OutputName). is_delay o.delay) output_names) inputs_low outputs_low
+  delays_low = and_from (list_all (λ (i : InputName). is_input_delay i.delay) input_names) (list_all (λ (o : OutputName). is_delay o.delay) output_names) inputs_low outputs_low
 
   -- the ports of the new module have the names of the old one's
   abbrev heard_as : ℕ → List ℕ → InputName
@@ -149,9 +147,6 @@ module _ (n : Circuit) (circuit : IsCircuit n) (named : HasNames n) where
       let first : Drives n m p w.0 = record { part = r; stands = at; output = drives } in
       let second : Drives n k q v.0 = record { part = s; stands = there; output = other } in
       circuit.one_port m p k q w.0 first (subst (Drives n k q) (sym wires) second)
-
-  abbrev bares : List (Option WireRecord)
-  bares = flat_map bare n.wires
 
   -- the netlist with these modules at wires on which nothing is set
   abbrev pub moduled : List (Option ModuleRecord) → Circuit
@@ -222,12 +217,12 @@ module _ (n : Circuit) (circuit : IsCircuit n) (named : HasNames n) where
         let outputs = map (output_by_name n) r.outputs in
         let has = has_wires modules in
         let free = ap is_none (named_nowhere module_name r.name modules unnamed) in
-        let counts = and_both (length inputs == input_count r.kind) (length outputs == output_count r.kind)
+        let counts = and_from (length inputs == input_count r.kind) (length outputs == output_count r.kind)
         (eq-eqb _ _ (length-map r.inputs (input_by_name n) ∙ is.inputs)) (eq-eqb _ _ (length-map r.outputs (output_by_name n) ∙ is.outputs)) in
-        let found = and_both (inputs_stand c inputs) (list_all (stands c) (driven_names outputs)) (inputs_found n c has r is) (outputs_found n c has r is) in
+        let found = and_from (inputs_stand c inputs) (list_all (stands c) (driven_names outputs)) (inputs_found n c has r is) (outputs_found n c has r is) in
         let width = new_width c r.kind inputs in
-        let wide = and_both (inputs_fit c r.kind width inputs) (outputs_fit c r.kind width outputs) (inputs_wide n c has r is) (outputs_wide n c has r is) in
-        let free_outputs = and_both (list_all (is_undriven c) (driven_names outputs)) (are_distinct (driven_names outputs)) (driven_all (is_undriven c) outputs undriven) (driven_distinct outputs distinct) in
+        let wide = and_from (inputs_fit c r.kind width inputs) (outputs_fit c r.kind width outputs) (inputs_wide n c has r is) (outputs_wide n c has r is) in
+        let free_outputs = and_from (list_all (is_undriven c) (driven_names outputs)) (are_distinct (driven_names outputs)) (driven_all (is_undriven c) outputs undriven) (driven_distinct outputs distinct) in
         let within : length front < module_limit n.format = omega (arith, ap length split, length-append front (Some r ∷ back), circuit.modules_few) in
         let room = lt-ltb (length modules) (module_limit n.format) (omega (arith, few)) in
         is_done c (added n r)

@@ -1,21 +1,16 @@
 -- The outputs of modules by name.
-use Rattle.mp_text.proofs.Names.{◌≡◌, ℕ, zero, suc, ◌<◌, Bool, true, false, not, List, [], ◌∷◌, length, map, get_or, All, Option, Some, None, option_map, is_some, refl, sym, ap, subst, ◌∙◌, arith, ◌⊎◌, inl, inr, flat_map, list_all, list_any, enumerate_from, bytes_eq, All-cons, All-nil, All-head, All-get_or, All-from_get_or, WireId, ModuleRecord, Output, OutputName, SingleEdit, AddModule, output_in, Circuit, Drives, wire_at, stimulus_at, driver, is_nothing, is_port, stimulus_driver, driven_names, are_distinct, slot_within, no_name, name_in, wire_name, output_by_name, module_by_name, module_edits}
+use Rattle.mp_text.proofs.Names.{◌≡◌, ℕ, suc, ◌<◌, Bool, true, false, not, List, [], ◌∷◌, length, map, get_or, All, Option, Some, None, option_map, is_some, refl, sym, ap, subst, ◌∙◌, arith, ◌⊎◌, inl, inr, flat_map, list_all, list_any, enumerate_from, bytes_eq, All-cons, All-nil, All-head, All-get_or, All-from_get_or, WireId, ModuleRecord, Output, OutputName, SingleEdit, AddModule, output_in, Circuit, Drives, wire_at, stimulus_at, driver, is_nothing, is_port, stimulus_driver, driven_names, are_distinct, slot_within, no_name, name_in, wire_name, output_by_name, module_by_name, module_edits, list_all-from_AllPass, and_from}
+use Rattle.std.proofs.Math.ListN.{get_or-map}
 use Rattle.std.proofs.lemmas.List.FromFn.{get_or-enumerate_from, length-enumerate_from}
 use Rattle.mp_netlist.proofs.DriverLemmas.{driven_by}
-use Rattle.mp_text.proofs.SlotLemmas.{All-flat_map, All-from_flat_map, list_all_from, unequal_name}
-use Rattle.mp_text.proofs.StageLemmas.{and_both}
+use Rattle.mp_text.proofs.SlotLemmas.{All-flat_map, All-from_flat_map, unequal_name}
 
 abbrev no_output : Output
 no_output = record { wire = None; delay = 1 }
 
-get_or-map_all : {X Y : Type 0} (f : X → Y) (xs : List X) (p : ℕ) (d : X) (e : Y) → f d ≡ e → get_or (map f xs) p e ≡ f (get_or xs p d)
-get_or-map_all f [] p d e same = sym same
-get_or-map_all f (x ∷ xs) zero d e same = refl
-get_or-map_all f (x ∷ xs) (suc p) d e same = get_or-map_all f xs p d e same
-
 -- an output of a list by name has the name of the output's wire
 pub output_named : (n : Circuit) (outputs : List Output) (p : ℕ) → (get_or (map (output_by_name n) outputs) p no_name).wire ≡ option_map (wire_name n) (output_in outputs p).wire
-output_named n outputs p = ap (λ (o : OutputName). o.wire) (get_or-map_all (output_by_name n) outputs p no_output no_name refl)
+output_named n outputs p = ap (λ (o : OutputName). o.wire) (get_or-map (output_by_name n) outputs p no_output)
 
 -- the wire of an output that has a name
 pub record IsOutput (n : Circuit) (outputs : List Output) (p : ℕ) (q : List ℕ) : Type 0 where
@@ -95,7 +90,7 @@ driven_all test (o ∷ os) each = by o.wire refl (driven_all test os (λ p q at.
   where
     by : (wire : Option (List ℕ)) → o.wire ≡ wire → list_all test (driven_names os) ≡ true → list_all test (name_first wire (driven_names os)) ≡ true
     by None at rest = rest
-    by (Some q) at rest = and_both (test q) (list_all test (driven_names os)) (each 0 q at) rest
+    by (Some q) at rest = and_from (test q) (list_all test (driven_names os)) (each 0 q at) rest
 
 driven_none : (test : List ℕ → Bool) (outputs : List OutputName) → ((p : ℕ) (q : List ℕ) → (get_or outputs p no_name).wire ≡ Some q → test q ≡ false) → list_any test (driven_names outputs) ≡ false
 driven_none test [] each = refl
@@ -117,12 +112,12 @@ driven_distinct (o ∷ os) each =
 
     by : (wire : Option (List ℕ)) → o.wire ≡ wire → are_distinct (driven_names os) ≡ true → are_distinct (name_first wire (driven_names os)) ≡ true
     by None at rest = rest
-    by (Some name) at rest = and_both (not (list_any (bytes_eq name) (driven_names os))) (are_distinct (driven_names os)) (ap not (driven_none (bytes_eq name) os (other name at))) rest
+    by (Some name) at rest = and_from (not (list_any (bytes_eq name) (driven_names os))) (are_distinct (driven_names os)) (ap not (driven_none (bytes_eq name) os (other name at))) rest
 
 -- a test that each place of a list passes, counted
 pub counted_all : {X : Type 0} (test : ℕ × X → Bool) (xs : List X) (d : X) → ((k : ℕ) → k < length xs → test (k, get_or xs k d) ≡ true) → list_all test (enumerate_from 0 xs) ≡ true
 counted_all {X = X} test xs d each =
-    list_all_from test (enumerate_from 0 xs) (All-from_get_or (λ pair. test pair ≡ true) (enumerate_from 0 xs) (0, d) by)
+    list_all-from_AllPass test (enumerate_from 0 xs) (All-from_get_or (λ pair. test pair ≡ true) (enumerate_from 0 xs) (0, d) by)
   where
     by : (k : ℕ) → k < length (enumerate_from 0 xs) → test (get_or (enumerate_from 0 xs) k (0, d)) ≡ true
     by k long =

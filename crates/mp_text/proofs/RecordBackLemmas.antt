@@ -1,9 +1,7 @@
 -- The lines of records lead where the edits of the records lead.
-use Rattle.mp_text.proofs.Names.{◌≡◌, ℕ, ◌^◌, ◌<◌, ◌≤◌, Bool, true, ◌&&◌, List, [], ◌∷◌, ◌++◌, map, All, Option, Some, None, Ok, decimal, refl, arith, codes, nat_lt, IsTrue, IsSome, IfSome, nat_tests, All-cons, All-nil, All-map, All-from_get_or, All-weaker, WireId, WireRecord, BundleRecord, SingleEdit, AddWire, AddBundle, SetStimulus, is_name, max_horizon, Circuit, IsCircuit, wire_at, bundle_at, HasNames, change_word, pair_text, wire_line, stimulus_line, bundle_line, stimulus_words, name_in, wire_name, wire_edits, stimulus_edits, set_edits, bundle_by_name, bundle_edits, IsPlain, IsPlain-append, IsPlain-decimal, IsPlain-name, both, change_back}
-use Rattle.mp_netlist.proofs.LimitLemmas.{horizon_within}
+use Rattle.mp_text.proofs.Names.{◌≡◌, ℕ, ◌^◌, ◌<◌, ◌≤◌, Bool, true, ◌&&◌, List, [], ◌∷◌, ◌++◌, map, All, Option, Some, None, Ok, decimal, refl, arith, codes, nat_lt, IsTrue, IsSome, IfSome, nat_tests, All-cons, All-nil, All-map, All-from_get_or, All-weaker, WireId, WireRecord, BundleRecord, SingleEdit, AddWire, AddBundle, SetStimulus, is_name, max_horizon, Circuit, IsCircuit, wire_at, bundle_at, HasNames, change_word, pair_text, wire_line, stimulus_line, bundle_line, stimulus_words, name_in, wire_name, wire_edits, stimulus_edits, set_edits, bundle_by_name, bundle_edits, IsPlain, IsPlain-append, IsPlain-decimal, IsPlain-name, and_parts, change_back, is_stimulus, horizon_within}
 use Rattle.std.proofs.Math.Nat.{pow-le-pow_right}
 use Rattle.mp_modules.specs.Levels.{fits_width}
-use Rattle.mp_records.specs.Stimuli.{is_stimulus}
 use Rattle.mp_text.proofs.StatementBackLemmas.{wire_stated, stimulus_stated, bundle_stated}
 use Rattle.mp_text.proofs.TextBackLemmas.{Leads, SlotLeads, leads_line}
 
@@ -70,7 +68,7 @@ abbrev IsChange : ℕ × ℕ → Type 0
 IsChange change = (change.0 < 2 ^ 64) × (change.1 < 2 ^ 64)
 
 three : (a b c d : Bool) → (a && b && c && d) ≡ true → (b ≡ true) × (c ≡ true) × (d ≡ true)
-three a b c d all = let front = both (a && b && c) d all in let middle = both (a && b) c front.0 in ((both a b middle.0).1, middle.1, front.1)
+three a b c d all = let front = and_parts (a && b && c) d all in let middle = and_parts (a && b) c front.0 in ((and_parts a b middle.0).1, middle.1, front.1)
 
 stimulus_low : (horizon width before : ℕ) (changes : List (ℕ × ℕ)) → horizon ≤ max_horizon → width ≤ 64 → is_stimulus horizon width before changes ≡ true → All IsChange changes
 unfolding is_stimulus fits_width

@@ -1,14 +1,10 @@
 -- How long a text may be is told by its front.
-use Rattle.std.proofs.Common.{◌≡◌, ◌≢◌, ℕ, ◌+◌, ◌<◌, ◌≤◌, Bool, true, false, cond, List, [], ◌∷◌, Some, min, take, length, zero, suc, refl, ap, arith}
-use Rattle.std.specs.Prelude.{◌&&◌, ◌==◌, codes, slice_get}
+use Rattle.mp_text.proofs.Names.{◌≡◌, ◌≢◌, ℕ, ◌+◌, ◌<◌, ◌≤◌, Bool, true, false, cond, List, [], ◌∷◌, Some, take, length, zero, suc, refl, ap, arith, lines_of, max_text, max_short_text, number_word, first_words, is_three, states_third, text_limit, ne_eqb, words_of}
+use Rattle.std.specs.Prelude.{◌&&◌, codes, slice_get, ◌==◌}
 use Rattle.std.specs.Str.{bytes_eq}
-use Rattle.std.proofs.lemmas.Bool.{eq-eqb, ne_eqb}
+use Rattle.std.proofs.lemmas.Bool.{eq-eqb}
+use Rattle.std.proofs.Common.{min}
 use Rattle.std.proofs.lemmas.List.{take_min}
-use Rattle.mp_words.specs.Lines.{lines_of}
-use Rattle.mp_words.specs.Words.{words_of}
-use Rattle.mp_text.specs.Limits.{max_text, max_short_text}
-use Rattle.mp_words.specs.WordLists.{number_word}
-use Rattle.mp_text.specs.Sizes.{first_words, is_three, states_third, text_limit}
 
 take_twice : {A : Type 0} (j k : ℕ) (xs : List A) → j ≤ k → take j (take k xs) ≡ take j xs
 take_twice zero k xs short = refl

@@ -1,5 +1,5 @@
 -- Edits, slot by slot, that no check refuses.
-use Rattle.mp_text.proofs.Names.{◌≡◌, Bool, true, false, ◌&&◌, List, [], ◌∷◌, ◌++◌, append_assoc, Option, None, Ok, refl, sym, ap, subst, ◌∙◌, flat_map, append-nil, SingleEdit, EditError, Circuit, go_on, after_single, unless, refusal, edited, first_failing, replay_singles}
+use Rattle.mp_text.proofs.Names.{◌≡◌, Bool, true, List, [], ◌∷◌, ◌++◌, append_assoc, Option, None, Ok, refl, sym, ap, subst, ◌∙◌, flat_map, append-nil, SingleEdit, EditError, Circuit, go_on, after_single, unless, refusal, edited, first_failing, replay_singles}
 
 -- each check passes
 abbrev pub AllPass : List (Bool × EditError) → Type 0
@@ -10,10 +10,6 @@ AllPass (check ∷ checks) = (check.0 ≡ true) × AllPass checks
 pub none_failing : (checks : List (Bool × EditError)) → AllPass checks → first_failing checks ≡ None
 none_failing [] all = refl
 none_failing (check ∷ checks) all = let here = all.0 in rw here (none_failing checks all.1)
-
-pub and_both : (a b : Bool) → a ≡ true → b ≡ true → (a && b) ≡ true
-and_both true b first second = second
-and_both false b first second = cc
 
 -- an edit that no check refuses is done
 pub is_done : (c : Circuit) (edit : SingleEdit) → refusal c edit ≡ None → after_single c edit ≡ Ok (edited c edit)

@@ -1,14 +1,11 @@
 -- Statements that are written are read again.
-use Rattle.mp_text.proofs.Names.{◌≡◌, ℕ, ◌^◌, ◌<◌, true, false, ◌==◌, ◌&&◌, List, [], ◌∷◌, ◌++◌, length, map, All, Ok, decimal, refl, ap, ◌∙◌, arith, codes, nat_le, suc, list_all, nat_tests, map-id, All-map, All-weaker, Kind, word_of, InputName, OutputName, AddWire, AddModule, AddBundle, SetStimulus, number_word, change_word, input_word, output_word, pair_text, both, number_back, each_back}
+use Rattle.mp_text.proofs.Names.{◌≡◌, ℕ, ◌^◌, ◌<◌, true, false, ◌==◌, ◌&&◌, List, [], ◌∷◌, ◌++◌, length, map, All, Ok, decimal, refl, ap, ◌∙◌, arith, codes, nat_le, suc, list_all, nat_tests, map-id, All-map, All-weaker, Kind, word_of, InputName, OutputName, AddWire, AddModule, AddBundle, SetStimulus, number_word, change_word, input_word, output_word, pair_text, and_parts, number_back, each_back, is_name, is_name_byte, begins_with_letter, is_mark, Format, Start, Change, wire_edit, module_edit, parts_edit, stimulus_edit, bundle_edit, stated_edit, statement_of, before_first-append, after_first-append}
 use Rattle.std.specs.Char.{is_ascii_digit, is_ascii_alphabetic}
 use Rattle.mp_modules.proofs.WordLemmas.{by_word}
 use Rattle.mp_records.specs.declared.new_module.NewModule.{NewModule}
 use Rattle.mp_records.specs.declared.new_bundle.NewBundle.{NewBundle}
-use Rattle.mp_records.specs.Names.{is_name, is_name_byte, begins_with_letter}
-use Rattle.mp_text.specs.Statements.{is_mark, Format, Start, Change, wire_edit, module_edit, parts_edit, stimulus_edit, bundle_edit, stated_edit, statement_of}
 use Rattle.mp_words.specs.Numbers.{spelled_number, number_from}
 use Rattle.mp_words.proofs.DecimalLemmas.{decimal_digits}
-use Rattle.mp_words.proofs.DividedLemmas.{before_first-append, after_first-append}
 
 pub second_stated : statement_of (codes "format" ∷ codes "2" ∷ []) ≡ Format (Ok 2)
 unfolding statement_of spelled_number number_from
@@ -52,7 +49,7 @@ digit_no_colon b digit = grind (arith, nat_tests)
 
 digits_no_colon : (ds : List ℕ) → list_all is_ascii_digit ds ≡ true → is_mark 58 ds ≡ false
 digits_no_colon [] all = refl
-digits_no_colon (b ∷ bs) all = other_byte 58 b bs (digit_no_colon b (both (is_ascii_digit b) (list_all is_ascii_digit bs) all).0)
+digits_no_colon (b ∷ bs) all = other_byte 58 b bs (digit_no_colon b (and_parts (is_ascii_digit b) (list_all is_ascii_digit bs) all).0)
 
 pub number_no_colon : (n : ℕ) → n < 2 ^ 64 → is_mark 58 (decimal n) ≡ false
 number_no_colon n fits = digits_no_colon (decimal n) (decimal_digits n fits)
@@ -65,8 +62,8 @@ pub name_no_greater : (name rest : List ℕ) → is_name name ≡ true → is_ma
 unfolding is_name
 name_no_greater [] rest valid = let no : ⊥ = cc in absurd no
 name_no_greater (b ∷ bs) rest valid =
-    let head = both (begins_with_letter (b ∷ bs) && nat_le (length (b ∷ bs)) 32) (list_all is_name_byte (b ∷ bs)) valid in
-    other_byte 62 b (bs ++ rest) (letter_no_greater b (both (begins_with_letter (b ∷ bs)) (nat_le (length (b ∷ bs)) 32) head.0).0)
+    let head = and_parts (begins_with_letter (b ∷ bs) && nat_le (length (b ∷ bs)) 32) (list_all is_name_byte (b ∷ bs)) valid in
+    other_byte 62 b (bs ++ rest) (letter_no_greater b (and_parts (begins_with_letter (b ∷ bs)) (nat_le (length (b ∷ bs)) 32) head.0).0)
 
 some_words : {A : Type 0} (write : A → List ℕ) (xs : List A) → 0 < length xs → (length (map write xs) == 0) ≡ false
 some_words write [] some = absurd (omega (arith, some))

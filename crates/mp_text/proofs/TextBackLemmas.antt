@@ -1,7 +1,5 @@
 -- Lines that are written lead from netlist to netlist as their edits do.
-use Rattle.mp_text.proofs.Names.{◌≡◌, ℕ, ◌+◌, List, [], ◌∷◌, ◌++◌, append_assoc, All, Option, Result, Ok, Err, sym, ap, subst, ◌∙◌, flat_map, result_map_both, All-head, All-tail, SingleEdit, EditError, Circuit, go_on, after_single, replay_singles, Refused, TextState, Open, ◌>>=◌, Change, statement_of, spaced, written_line, IsPlain}
-use Rattle.mp_words.specs.Lines.{lines_of}
-use Rattle.mp_text.specs.Texts.{in_text, after_statement, after_line, after_lines, next_line}
+use Rattle.mp_text.proofs.Names.{◌≡◌, ℕ, ◌+◌, List, [], ◌∷◌, ◌++◌, append_assoc, All, Option, Result, Ok, Err, sym, ap, subst, ◌∙◌, flat_map, result_map_both, All-head, All-tail, SingleEdit, EditError, Circuit, go_on, after_single, replay_singles, Refused, TextState, Open, ◌>>=◌, Change, statement_of, spaced, written_line, IsPlain, lines_of, in_text, after_statement, after_line, after_lines, next_line}
 use Rattle.mp_text.proofs.WrittenLineLemmas.{lines_of-written, line_words-spaced}
 
 -- the lines of the bytes lead where the edits lead

@@ -1,9 +1,5 @@
 -- Facts about texts as a whole.
-use Rattle.mp_text.proofs.Names.{◌≡◌, ℕ, ◌+◌, ◌<◌, ◌≤◌, List, [], ◌∷◌, length, Result, Ok, Err, IfErr, inr, refl, sym, ap, subst, arith, before_first, after_first, nat_tests, Circuit, TextError, TextCode, TooLong, TextState, Fresh, Formatted, Open, lines_of-cons}
-use Rattle.mp_text.specs.Texts.{IsReachedIn}
-use Rattle.mp_text.specs.Sizes.{text_limit}
-use Rattle.mp_words.specs.Lines.{is_line_feed, lines_of}
-use Rattle.mp_text.specs.Texts.{text_at, after_lines, after_line, next_line, finished, last_line, GivesText}
+use Rattle.mp_text.proofs.Names.{◌≡◌, ℕ, ◌+◌, ◌<◌, ◌≤◌, List, [], ◌∷◌, length, Result, Ok, Err, IfErr, inr, refl, sym, ap, subst, arith, before_first, after_first, nat_tests, Circuit, TextError, TextCode, TooLong, TextState, Fresh, Formatted, Open, lines_of-cons, is_line_feed, lines_of, text_at, after_lines, after_line, next_line, finished, last_line, GivesText, IsReachedIn, text_limit}
 
 -- a text that is not too long is its lines
 pub text_within : (text : List ℕ) → length text ≤ text_limit text → text_at text ≡ after_lines 0 Fresh (lines_of text)

@@ -1,8 +1,7 @@
 -- A line that is written is read as its words.
-use Rattle.mp_text.proofs.Names.{◌≡◌, ℕ, ◌+◌, ◌<◌, true, false, ◌==◌, suc, List, [], ◌∷◌, ◌++◌, append_assoc, length, filter, All, Ok, refl, sym, ap, ◌∙◌, arith, slice_split, onto_first, position_or_len, list_all, nat_tests, append-nil, All-head, All-tail, All-cons, All-nil, list_all-append, spaced, written_line, IsPlain, is_plain_byte, plain_allowed, plain_no_gap, plain_no_hash, All-passing, list_all-passing, both}
+use Rattle.mp_text.proofs.Names.{◌≡◌, ℕ, ◌+◌, ◌<◌, true, false, ◌==◌, suc, List, [], ◌∷◌, ◌++◌, append_assoc, length, filter, All, Ok, refl, sym, ap, ◌∙◌, arith, slice_split, position_or_len, list_all, nat_tests, append-nil, All-head, All-tail, All-cons, All-nil, list_all-append, spaced, written_line, IsPlain, is_plain_byte, plain_allowed, plain_no_gap, plain_no_hash, All-passing, list_all-passing, lines_of, is_line_feed, is_allowed, line_words, words_of, statement_part, is_word, is_gap}
 use Rattle.std.proofs.lemmas.List.Splits.{slice_split_at, slice_split_none}
-use Rattle.mp_words.specs.Lines.{lines_of, is_line_feed, is_allowed, line_words}
-use Rattle.mp_words.specs.Words.{words_of, statement_part, is_word, is_gap}
+use Rattle.mp_words.proofs.LineLemmas.{lines_of-line as lines_of-ended}
 
 no_hash : (w : List ℕ) → IsPlain w → All (λ b. (b == 35) ≡ false) w
 no_hash w plain = All-passing is_plain_byte (λ b. (b == 35) ≡ false) plain_no_hash w plain.plain
@@ -65,12 +64,7 @@ no_line_feed b allowed = grind (arith, nat_tests)
 
 -- a line in front of others
 pub lines_of-line : (line rest : List ℕ) → list_all is_allowed line ≡ true → lines_of (line ++ 10 ∷ rest) ≡ line ∷ lines_of rest
-unfolding lines_of
-lines_of-line [] rest all = refl
-lines_of-line (b ∷ line) rest all =
-    let parts = both (is_allowed b) (list_all is_allowed line) all in
-    let other = no_line_feed b parts.0 in
-    rw other (ap (onto_first b) (lines_of-line line rest parts.1))
+lines_of-line line rest all = lines_of-ended line (All-passing is_allowed (λ b. is_line_feed b ≡ false) no_line_feed line all) rest
 
 -- a written line in front of others
 pub lines_of-written : (first : List ℕ) (words : List (List ℕ)) (rest : List ℕ) → IsPlain first → All IsPlain words

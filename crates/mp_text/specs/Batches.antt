@@ -1,7 +1,7 @@
 -- What a script's batch says.
-use Rattle.std.specs.Prelude.{ℕ, List, [], ◌∷◌, map, Result, Ok, Err}
+use Rattle.std.specs.Prelude.{ℕ, List, [], ◌∷◌, map, Result, Err}
 use Rattle.std.specs.Borrow.{Bor}
-use Rattle.mp_text.specs.Names.{ok_or, byte, slice_split, SingleEdit, LineError, UnknownStatement, WordCount, texts, ◌>>=◌}
+use Rattle.mp_text.specs.Names.{ok_or, byte, slice_split, SingleEdit, LineError, UnknownStatement, WordCount, each_word, texts, ◌>>=◌}
 use Rattle.mp_text.specs.Statements.{is_mark}
 use Rattle.mp_text.specs.SingleEdits.{single_word, single_edit}
 
@@ -13,12 +13,8 @@ part_edit (word ∷ words) = do
   single_edit first words
 
 -- what each of the parts says, or the code of the first that cannot be read
-unfoldable pub each_part : List (List (List ℕ)) → Result (List SingleEdit) LineError
-each_part [] = Ok []
-each_part (part ∷ parts) = do
-  edit ← part_edit part
-  edits ← each_part parts
-  Ok (edit ∷ edits)
+abbrev pub each_part : List (List (List ℕ)) → Result (List SingleEdit) LineError
+each_part parts = each_word part_edit parts
 
 -- the edits of the words behind `batch`: the words `;` divide them into parts
 abbrev pub batch_of : List (List ℕ) → Result (List SingleEdit) LineError

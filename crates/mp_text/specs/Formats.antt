@@ -5,8 +5,7 @@ use Rattle.mp_text.specs.declared.text_code.TextCode.TheVariants.{BadFormat}
 use Rattle.mp_text.specs.declared.text_format.TextFormat.{TextFormat}
 use Rattle.mp_text.specs.declared.text_format.TextFormat.TheVariants.{First, Second, Third}
 use Rattle.mp_netlist.specs.declared.format.Format.{Format as NetlistFormat}
-use Rattle.mp_netlist.specs.declared.format.Format.TheVariants.{Standard, Large}
-use Rattle.mp_netlist.specs.Limits.{horizon_limit}
+use Rattle.mp_text.specs.Names.{Standard, Large, horizon_limit}
 use Rattle.mp_text.specs.Limits.{max_first_horizon}
 
 -- the form of that number

@@ -1,10 +1,11 @@
 -- What a script asks for.
-use Rattle.std.specs.Prelude.{ℕ, Bool, ◌&&◌, List, [], ◌∷◌, Option, Some, None, Result, Ok, Err, nat_le, if◌then◌else◌, codes}
+use Rattle.std.specs.Prelude.{ℕ, ◌&&◌, List, [], ◌∷◌, Option, Some, None, Result, Ok, Err, nat_le, if◌then◌else◌, codes}
 use Rattle.mp_text.specs.Names.{bytes_eq, LineError, WordCount, BadNumber, ◌>>=◌, number_word}
 use Rattle.mp_text.specs.declared.question.Question.{Question}
 use Rattle.mp_text.specs.declared.question.Question.TheVariants as questions
 use Rattle.mp_text.specs.declared.question_word.QuestionWord.{QuestionWord}
 use Rattle.mp_text.specs.declared.question_word.QuestionWord.TheVariants.{Wave, Waves, Text, Report, Dump, Work, Show, Why, Path, Waits, Measure, Graph, Version, Edits}
+use Rattle.mp_text.specs.Statements.{stated_number}
 use Rattle.mp_text.specs.Limits.{max_steps, usual_steps}
 
 -- the question of the words behind `wave`
@@ -54,13 +55,6 @@ path_question (wire ∷ time ∷ []) = do
   Ok (questions.Path wire t)
 path_question _ = Err WordCount
 
--- the question of the words behind `waits`
-unfoldable pub waits_question : List (List ℕ) → Result Question LineError
-waits_question (time ∷ []) = do
-  t ← number_word time
-  Ok (questions.Waits t)
-waits_question _ = Err WordCount
-
 -- the question of the words behind `measure`
 unfoldable pub measure_question : List (List ℕ) → Result Question LineError
 measure_question (from ∷ to ∷ []) = do
@@ -68,13 +62,6 @@ measure_question (from ∷ to ∷ []) = do
   t ← number_word to
   Ok (questions.Measure f t)
 measure_question _ = Err WordCount
-
--- the question of the words behind `edits`
-unfoldable pub edits_question : List (List ℕ) → Result Question LineError
-edits_question (from ∷ []) = do
-  f ← number_word from
-  Ok (questions.Edits f)
-edits_question _ = Err WordCount
 
 -- the first word of a question
 abbrev pub question_word : List ℕ → Option QuestionWord
@@ -106,8 +93,12 @@ stated_question Work words = bare_question questions.Work words
 stated_question Show words = show_question words
 stated_question Why words = why_question words
 stated_question Path words = path_question words
-stated_question Waits words = waits_question words
+stated_question Waits words = do
+  time ← stated_number words
+  Ok (questions.Waits time)
 stated_question Measure words = measure_question words
 stated_question Graph words = bare_question questions.Graph words
 stated_question Version words = bare_question questions.Version words
-stated_question Edits words = edits_question words
+stated_question Edits words = do
+  from ← stated_number words
+  Ok (questions.Edits from)

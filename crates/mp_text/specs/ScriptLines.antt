@@ -1,6 +1,6 @@
 -- What a script's line says.
 use Rattle.std.specs.Prelude.{ℕ, List, [], ◌∷◌, Option, Some, None, Result, Ok, Err, if◌then◌else◌, codes, option_map}
-use Rattle.mp_text.specs.Names.{ok_or, bytes_eq, SingleEdit, LineError, UnknownStatement, WordCount, line_words, ◌>>=◌}
+use Rattle.mp_text.specs.Names.{ok_or, bytes_eq, SingleEdit, LineError, UnknownStatement, line_words, ◌>>=◌}
 use Rattle.mp_records.specs.declared.edit.Edit.TheVariants as edits
 use Rattle.mp_text.specs.declared.line_word.LineWord.{LineWord}
 use Rattle.mp_text.specs.declared.line_word.LineWord.TheVariants.{Single, Batch, Question}

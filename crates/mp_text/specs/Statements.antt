@@ -7,7 +7,7 @@ use Rattle.mp_text.specs.declared.edit_word.EditWord.TheVariants.{Wire, Module, 
 abbrev pub kind_word : List ℕ → Result Kind LineError
 kind_word word = ok_or (kind_named word) UnknownStatement
 
--- the number of the words behind `format` and `horizon`
+-- the number that the words are, where they are one
 abbrev pub stated_number : List (List ℕ) → Result ℕ LineError
 stated_number (word ∷ []) = number_word word
 stated_number _ = Err WordCount

@@ -1,6 +1,6 @@
 //! Reading a netlist's text.
 ghost use Rattle.std.specs.Prelude.{◌≤◌, IfErr, length};
-ghost use Rattle.mp_words.specs.Lines.{lines_of};
+ghost use Rattle.mp_text.specs.Names.{lines_of};
 ghost use Rattle.mp_text.specs.declared.text_state.TextState.TheVariants.{Fresh};
 ghost use Rattle.mp_text.specs.Limits.{max_text};
 ghost use Rattle.mp_text.specs.Texts.{text_at, after_lines, GivesText, IsReached, IsReachedIn};

@@ -1,10 +1,11 @@
 //! The questions of a script's lines.
 ghost use Rattle.std.specs.Prelude.{◌≡◌, IfOk, IsAscii};
 ghost use Rattle.mp_text.specs.Names.{OutOfMemory, Gives, texts, AreAscii};
-ghost use Rattle.mp_text.specs.Questions.{stated_question, wave_question, bare_question, show_question, why_question, path_question, waits_question, measure_question, edits_question, steps_word, chain_question, chain_steps};
+ghost use Rattle.mp_text.specs.Questions.{stated_question, wave_question, bare_question, show_question, why_question, path_question, measure_question, steps_word, chain_question, chain_steps};
 
 use crate::question::Question;
 use crate::question_word::QuestionWord;
+use crate::statement::stated_number;
 use crate::wire_names::WireNames;
 use mp_words::{LineError, name_of, number_word};
 use std::alloc::{AllocError, Global};
@@ -35,11 +36,15 @@ pub fn stated_question(
         QuestionWord::Show => show_question(alloc, words),
         QuestionWord::Why => why_question(alloc, words),
         QuestionWord::Path => path_question(alloc, words),
-        QuestionWord::Waits => waits_question(words),
+        QuestionWord::Waits => Ok(Question::Waits {
+            time: stated_number(words)?,
+        }),
         QuestionWord::Measure => measure_question(words),
         QuestionWord::Graph => bare_question(Question::Graph, words),
         QuestionWord::Version => bare_question(Question::Version, words),
-        QuestionWord::Edits => edits_question(words),
+        QuestionWord::Edits => Ok(Question::Edits {
+            from: stated_number(words)?,
+        }),
     }
 }
 
@@ -158,19 +163,6 @@ fn path_question(alloc: Global, words: &[&[u8]]) -> Result<Question, LineError>
     })
 }
 
-/// The question of the words behind `waits`.
-#[tactic(auto, unfolding(crate::specs::Questions::waits_question))]
-fn waits_question(words: &[&[u8]]) -> Result<Question, LineError>
-    ensures { Gives OutOfMemory (λ question. question) result (waits_question (texts words.now)) }
-{
-    let [time] = words else {
-        return Err(LineError::WordCount);
-    };
-    Ok(Question::Waits {
-        time: number_word(time)?,
-    })
-}
-
 /// The question of the words behind `measure`.
 #[tactic(auto, unfolding(crate::specs::Questions::measure_question))]
 fn measure_question(words: &[&[u8]]) -> Result<Question, LineError>
@@ -182,18 +174,5 @@ fn measure_question(words: &[&[u8]]) -> Result<Question, LineError>
     Ok(Question::Measure {
         from: number_word(from)?,
         to: number_word(to)?,
-    })
-}
-
-/// The question of the words behind `edits`.
-#[tactic(auto, unfolding(crate::specs::Questions::edits_question))]
-fn edits_question(words: &[&[u8]]) -> Result<Question, LineError>
-    ensures { Gives OutOfMemory (λ question. question) result (edits_question (texts words.now)) }
-{
-    let [from] = words else {
-        return Err(LineError::WordCount);
-    };
-    Ok(Question::Edits {
-        from: number_word(from)?,
     })
 }

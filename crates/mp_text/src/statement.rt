@@ -89,8 +89,8 @@ fn empty_netlist(alloc: Global, format: TextFormat, horizon: u64) -> Result<Netl
     }
 }
 
-/// The number of the words behind `format` and `horizon`.
-fn stated_number(words: &[&[u8]]) -> Result<u64, LineError>
+/// The number that the words are, where they are one.
+pub fn stated_number(words: &[&[u8]]) -> Result<u64, LineError>
     ensures { result ≡ stated_number (texts words.now) }
 {
     match words {

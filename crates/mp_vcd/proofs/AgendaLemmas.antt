@@ -63,9 +63,6 @@ pub onto_next : (w : ℕ) (changes : List (ℕ × ℕ)) (i t : ℕ) (others : Li
 onto_next w changes i t others within =
     ap (λ l. onto w l t others) (ap (λ k. take k changes) (add-one i) ∙ take-suc changes i (0, 0) within) ∙ onto-append w (take i changes) (get_or changes i (0, 0) ∷ []) t others
 
-same_either_way : (a b : ℕ) → (a == b) ≡ (b == a)
-same_either_way a b = grind (arith, nat_tests)
-
 module _ (levels : ℕ → ℕ) (w t : ℕ) where
   -- whether a level differs from the one a unit before
   abbrev differs : Bool
@@ -77,7 +74,8 @@ module _ (levels : ℕ → ℕ) (w t : ℕ) where
   here : (m : ℕ) (test : Bool) → suc m ≡ t → (levels m == levels (suc m)) ≡ test → differs ≡ not test
   here m test same equal =
       let before : t - 1 ≡ m = omega (arith, same) in
-      ap not (ap (λ k. levels t == levels k) before ∙ ap (λ k. levels k == levels m) (sym same) ∙ same_either_way (levels (suc m)) (levels m) ∙ equal)
+      let swapped : (levels (suc m) == levels m) ≡ (levels m == levels (suc m)) = grind (arith, nat_tests) in
+      ap not (ap (λ k. levels t == levels k) before ∙ ap (λ k. levels k == levels m) (sym same) ∙ swapped ∙ equal)
 
   onto_change : (m : ℕ) (others : List (ℕ × ℕ)) → onto w (change_after levels m) t others ≡ cond (suc m == t) (where_differs others) others
   onto_change m others = by (levels m == levels (suc m)) refl (suc m == t) refl
@@ -158,12 +156,8 @@ onto_between w from to changes t others after before =
 -- a change at a time from another on
 pub with_told-from : (told : ℕ → List (ℕ × ℕ)) (from time : ℕ) (change : ℕ × ℕ) (k : ℕ) → from ≤ time → with_told (told_from from told) (time - from) change k ≡ told_from from (with_told told time change) k
 with_told-from told from time change k after =
-    let same : (time - from == k) ≡ (time == from + k) = by (time - from == k) refl in
+    let same : (time - from == k) ≡ (time == from + k) = grind (arith, nat_tests, after) in
     ap (λ test. cond test (change ∷ told (from + k)) (told (from + k))) same
-  where
-    by : (test : Bool) → (time - from == k) ≡ test → (time - from == k) ≡ (time == from + k)
-    by true test = let here : time ≡ from + k = omega (arith, eqb-true (time - from) k test, after) in test ∙ sym (ap (λ n. n == from + k) here ∙ eq-eqb (from + k) (from + k) refl)
-    by false test = let other : time ≢ from + k = grind (arith, nat_tests, test, after) in test ∙ sym (ne_eqb time (from + k) other)
 
 -- the changes of the wave of a wire at a time below the horizon
 pub onto_wave : (n : Circuit) (w t : ℕ) (r : WireRecord) (others : List (ℕ × ℕ)) → t < n.horizon

@@ -1,7 +1,5 @@
 -- Codes and binary digits, digit by digit.
-use Rattle.mp_vcd.proofs.Names.{◌≡◌, ℕ, ◌+◌, ◌-◌, ◌/◌, ◌%◌, ◌<◌, ◌≤◌, Bool, true, false, cond, nat_lt, List, [], ◌∷◌, ◌++◌, append_assoc, length, drop, slice_set, zero, suc, refl, sym, ap, ◌∙◌, ⊎_elim, arith, cases_lt, ltb-false, nat_tests, drop-set, length-append}
-use Rattle.mp_vcd.specs.Codes.{digits_of, code}
-use Rattle.mp_vcd.specs.Values.{bit, bits}
+use Rattle.mp_vcd.proofs.Names.{◌≡◌, ℕ, ◌+◌, ◌-◌, ◌/◌, ◌%◌, ◌<◌, ◌≤◌, Bool, true, false, cond, nat_lt, List, [], ◌∷◌, ◌++◌, append_assoc, length, drop, slice_set, zero, suc, refl, sym, ap, ◌∙◌, ⊎_elim, arith, cases_lt, ltb-false, nat_tests, drop-set, length-append, digits_of, code, bit, bits}
 
 -- more digits than a number has are not written
 digits_of-same : (most least n : ℕ) → n < most → n < least → digits_of most n ≡ digits_of least n

@@ -1,12 +1,8 @@
 -- Codes and numbers as words, and what they are read as.
-use Rattle.mp_vcd.proofs.Names.{◌≡◌, ◌≢◌, ℕ, ◌+◌, ◌-◌, ◌*◌, ◌/◌, ◌%◌, ◌^◌, ◌<◌, ◌≤◌, Bool, true, false, cond, nat_lt, List, [], ◌∷◌, ◌++◌, length, zero, suc, decimal, refl, sym, ap, subst, ◌∙◌, add-one, arith, codes, digit_value, is_ascii_digit, list_all, bytes_eq, AllDigits, digits_value_after, digits_value, false_from_ne_true, lt-ltb, ltb-false, ltb-true, nat_tests, list_all-append, bytes_eq-Decides, IsPlain, IsPlain-decimal, IsPlain-name, is_plain_byte, list_all-passing, is_made_of, is_binary, is_printed}
+use Rattle.mp_vcd.proofs.Names.{◌≡◌, ◌≢◌, ℕ, ◌+◌, ◌-◌, ◌*◌, ◌/◌, ◌%◌, ◌^◌, ◌<◌, ◌≤◌, Bool, true, false, cond, nat_lt, List, [], ◌∷◌, ◌++◌, length, zero, suc, decimal, refl, sym, ap, subst, ◌∙◌, add-one, arith, codes, digit_value, is_ascii_digit, list_all, bytes_eq, AllDigits, digits_value_after, digits_value, false_from_ne_true, lt-ltb, ltb-false, ltb-true, nat_tests, list_all-append, bytes_eq-Decides, IsPlain, IsPlain-decimal, IsPlain-name, is_plain_byte, list_all-passing, is_made_of, is_binary, is_printed, is_name, digits_of, code, bit, bits, max_wires}
 use Rattle.std.proofs.lemmas.Fmt.{decimal_is_IsNumeral}
 use Rattle.std.proofs.lemmas.Nat.{mod-pow-add}
-use Rattle.mp_records.specs.Names.{is_name}
-use Rattle.mp_netlist.specs.Limits.{max_wires}
 use Rattle.mp_words.proofs.DecimalLemmas.{decimal_digits}
-use Rattle.mp_vcd.specs.Codes.{digits_of, code}
-use Rattle.mp_vcd.specs.Values.{bit, bits}
 use Rattle.mp_vcd.proofs.CodeLemmas.{bits_long, code_some}
 
 -- ---- words
@@ -38,11 +34,10 @@ solid_behind b word high solid =
 
 digits_all : (p : ℕ → Bool) → ((n : ℕ) → p (33 + n % 94) ≡ true) → (most n : ℕ) → list_all p (digits_of most n) ≡ true
 digits_all p each zero n = refl
-digits_all p each (suc most) n = let here = each n in rw here (by (nat_lt n 94) (digits_all p each most (n / 94)))
-  where
-    by : (test : Bool) → list_all p (digits_of most (n / 94)) ≡ true → list_all p (cond test [] (digits_of most (n / 94))) ≡ true
-    by true rest = refl
-    by false rest = rest
+digits_all p each (suc most) n =
+    let here = each n in
+    let rest = digits_all p each most (n / 94) in
+    rw here (elim (nat_lt n 94) as (λ test. list_all p (cond test [] (digits_of most (n / 94))) ≡ true) [ true ↦ refl | false ↦ rest ])
 
 code_all : (p : ℕ → Bool) → ((n : ℕ) → p (33 + n % 94) ≡ true) → (w : ℕ) → list_all p (code w) ≡ true
 unfolding code

@@ -1,7 +1,5 @@
 -- What the parts of a dump say to a reader.
-use Rattle.mp_vcd.proofs.Names.{◌≤◌, ◌≡◌, ℕ, ◌+◌, ◌%◌, ◌^◌, ◌<◌, ◌==◌, Bool, true, false, cond, nat_lt, List, [], ◌∷◌, ◌++◌, append_assoc, append-nil, length, Some, None, zero, suc, decimal, refl, sym, ap, subst, ◌∙◌, arith, codes, is_ascii_digit, is_ascii_whitespace, list_all, list_any, bytes_eq, digits_value, eqb-true, lt-ltb, nat_tests, WireRecord, both, code, bit, bits, value_line, slot_declaration, time_mark, word_first, words_from, words, is_made_of, is_printed, Variable, Given, Side, Outside, Inside, Reading, BetweenDeclarations, InDeclaration, AmongValues, BehindDigits, at_place, with_time, takes, with_value, word_in, read_words}
-use Rattle.mp_netlist.specs.Limits.{max_wires}
-use Rattle.mp_records.specs.Names.{is_name}
+use Rattle.mp_vcd.proofs.Names.{◌≤◌, ◌≡◌, ℕ, ◌+◌, ◌%◌, ◌^◌, ◌<◌, ◌==◌, Bool, true, false, cond, nat_lt, List, [], ◌∷◌, ◌++◌, append_assoc, append-nil, length, Some, None, zero, suc, decimal, refl, sym, ap, subst, ◌∙◌, arith, codes, is_ascii_digit, is_ascii_whitespace, list_all, list_any, bytes_eq, digits_value, eqb-true, lt-ltb, nat_tests, WireRecord, and_parts, code, bit, bits, value_line, slot_declaration, time_mark, word_first, words_from, words, is_made_of, is_printed, Variable, Given, Side, Outside, Inside, Reading, BetweenDeclarations, InDeclaration, AmongValues, BehindDigits, at_place, with_time, takes, with_value, word_in, read_words, is_name, max_wires}
 use Rattle.mp_vcd.proofs.CodeLemmas.{bits_long}
 use Rattle.mp_vcd.proofs.CodeReadLemmas.{IsSolid, IsSolid-decimal, IsSolid-name, IsSolid-code, solid_behind, code_solid, bits_solid, decimal_not_end, name_not_end, code_not_end, decimal_read, bits_read, decimal_made, code_made, bits_made, one_bit}
 
@@ -13,7 +11,7 @@ high_not_white b high = grind (arith, nat_tests)
 words_solid : (begun word rest : List ℕ) → list_all (nat_lt 32) word ≡ true → words_from begun (word ++ rest) ≡ words_from (begun ++ word) rest
 words_solid begun [] rest solid = ap (λ l. words_from l rest) (sym (append-nil begun))
 words_solid begun (b ∷ bs) rest solid =
-    let parts = both (nat_lt 32 b) (list_all (nat_lt 32) bs) solid in
+    let parts = and_parts (nat_lt 32 b) (list_all (nat_lt 32) bs) solid in
     let here = high_not_white b parts.0 in
     rw here (words_solid (begun ++ b ∷ []) bs rest parts.1 ∙ ap (λ l. words_from l rest) (append_assoc begun (b ∷ []) bs))
 

@@ -1,5 +1,5 @@
 -- The wires that stand, one after the other.
-use Rattle.mp_vcd.proofs.Names.{◌≡◌, ℕ, ◌+◌, ◌-◌, ◌<◌, ◌≤◌, Bool, true, false, cond, List, [], ◌∷◌, ◌++◌, append_assoc, length, drop, Option, None, Some, zero, suc, refl, sym, ap, ◌∙◌, add-one, add-zero, arith, filter, flat_map, range_with_len, drop-cons, drop-length, Waveform, WireRecord, Circuit, IsCircuit, wire_at, width_of, slot_at, level, wave, slot_wave, if_stands, standing_from, is_changed, slot_text, with_levels, onto_slot}
+use Rattle.mp_vcd.proofs.Names.{◌≡◌, ℕ, ◌+◌, ◌-◌, ◌<◌, ◌≤◌, true, false, cond, List, [], ◌∷◌, ◌++◌, append_assoc, length, drop, Option, None, Some, zero, suc, refl, sym, ap, ◌∙◌, add-one, add-zero, arith, filter, flat_map, range_with_len, drop-cons, drop-length, Waveform, WireRecord, Circuit, IsCircuit, wire_at, width_of, slot_at, level, wave, slot_wave, if_stands, standing_from, is_changed, slot_text, with_levels, onto_slot}
 
 pub standing_step : (slots : List (Option WireRecord)) (w : ℕ) → w < length slots → standing_from w (drop w slots) ≡ if_stands w (slot_at slots w) (standing_from (w + 1) (drop (w + 1) slots))
 standing_step slots w within =
@@ -22,12 +22,9 @@ lines_step told slots w within =
 told_stands : (n : Circuit) (t w : ℕ) (slot : Option WireRecord) (others : List ℕ)
     → with_levels n t (filter (is_changed n t) (if_stands w slot others)) ≡ onto_slot n t w slot (with_levels n t (filter (is_changed n t) others))
 told_stands n t w None others = refl
-told_stands n t w (Some r) others = by (is_changed n t w)
-  where
-    by : (test : Bool) → with_levels n t (cond test (w ∷ filter (is_changed n t) others) (filter (is_changed n t) others))
-        ≡ cond test ((w, level n w t) ∷ with_levels n t (filter (is_changed n t) others)) (with_levels n t (filter (is_changed n t) others))
-    by true = refl
-    by false = refl
+told_stands n t w (Some r) others =
+    let rest = filter (is_changed n t) others in
+    elim (is_changed n t w) as (λ test. with_levels n t (cond test (w ∷ rest) rest) ≡ cond test ((w, level n w t) ∷ with_levels n t rest) (with_levels n t rest)) [ true ↦ refl | false ↦ refl ]
 
 pub told_step : (n : Circuit) (t w : ℕ) → w < length n.wires
     → with_levels n t (filter (is_changed n t) (standing_from w (drop w n.wires)))

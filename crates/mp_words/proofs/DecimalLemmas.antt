@@ -1,6 +1,5 @@
 -- Numbers as they are written.
-use Rattle.mp_words.proofs.Names.{◌≡◌, ℕ, ◌+◌, ◌-◌, ◌*◌, ◌/◌, ◌%◌, ◌^◌, ◌<◌, ◌≤◌, Bool, true, false, cond, ◌&&◌, List, [], ◌∷◌, ◌++◌, None, Some, decimal, nat_lt, refl, ap, ◌∙◌, arith, is_ascii_digit, list_all, decimal_by_steps, length-decimal-le, decimal_nonempty, nat_tests, list_all-append}
-use Rattle.mp_words.specs.Numbers.{number_from, spelled_number}
+use Rattle.mp_words.proofs.Names.{◌≡◌, ℕ, ◌+◌, ◌-◌, ◌*◌, ◌/◌, ◌%◌, ◌^◌, ◌<◌, ◌≤◌, Bool, true, false, cond, ◌&&◌, List, [], ◌∷◌, ◌++◌, None, Some, decimal, nat_lt, refl, ap, ◌∙◌, arith, is_ascii_digit, list_all, decimal_by_steps, length-decimal-le, decimal_nonempty, nat_tests, list_all-append, number_from, spelled_number}
 
 -- one more digit
 number_from-push : (a : ℕ) (ds : List ℕ) (n d : ℕ) → number_from a ds ≡ Some n → d < 10 → n * 10 + d < 2 ^ 64 → number_from a (ds ++ (48 + d) ∷ []) ≡ Some (n * 10 + d)

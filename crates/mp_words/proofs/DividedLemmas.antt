@@ -1,6 +1,5 @@
 -- Where lists of bytes and words are divided.
-use Rattle.mp_words.proofs.Names.{◌≡◌, ℕ, ◌+◌, ◌-◌, ◌<◌, ◌≤◌, Bool, true, false, not, suc, zero, List, [], ◌∷◌, ◌++◌, length, take, drop, get_or, All, Some, nat_lt, position, refl, ap, ◌∙◌, arith, length-append, list_all, position_or_len, before_first, after_first, before_last, after_last, suffix_len, nat_tests, All-head, All-tail, suffix_len_is, take-append_seam, drop-append-add, get_or-append_seam, get_or-append_right}
-use Rattle.mp_words.proofs.PlainLemmas.{both}
+use Rattle.mp_words.proofs.Names.{◌≡◌, ℕ, ◌+◌, ◌-◌, ◌<◌, ◌≤◌, Bool, true, false, not, suc, List, [], ◌∷◌, ◌++◌, length, take, drop, get_or, All, Some, nat_lt, position, refl, ap, ◌∙◌, arith, length-append, list_all, position_or_len, before_first, after_first, before_last, after_last, suffix_len, nat_tests, All-head, All-tail, suffix_len_is, position_or_len_is, take-length, drop_all, AllPass-from_list_all, take-append_seam, drop-append-add, get_or-append_seam, get_or-append_right}
 
 module _ {A : Type 0} (p : A → Bool) (m : A) (ys : List A) (found : p m ≡ true) where
   pub first_at : (xs : List A) → All (λ x. p x ≡ false) xs → position_or_len p (xs ++ m ∷ ys) ≡ length xs
@@ -24,17 +23,16 @@ module _ {A : Type 0} (p : A → Bool) (m : A) (ys : List A) (found : p m ≡ tr
       rw (at, within) refl
 
 -- where nothing passes there is no first
-pub before_first-none : {A : Type 0} (p : A → Bool) (xs : List A) → All (λ x. p x ≡ false) xs → before_first p xs ≡ xs
-before_first-none p [] all = refl
-before_first-none p (x ∷ xs) all =
-    let here = All-head (λ x. p x ≡ false) x xs all in
-    let one : 1 + position_or_len p xs ≡ suc (position_or_len p xs) = omega arith in
-    rw (here, one) (ap (λ l. x ∷ l) (before_first-none p xs (All-tail (λ x. p x ≡ false) x xs all)))
+module _ {A : Type 0} (p : A → Bool) where
+  pub first_none : (xs : List A) → All (λ x. p x ≡ false) xs → position_or_len p xs ≡ length xs
+  first_none [] none = refl
+  first_none (x ∷ xs) none = position_or_len_is p (x ∷ xs) (length (x ∷ xs)) x (omega arith) (λ k within. none k x within) (λ over. absurd (omega (arith, over)))
 
-at_each : (p : ℕ → Bool) (xs : List ℕ) → list_all p xs ≡ true → (k : ℕ) → k < length xs → p (get_or xs k 0) ≡ true
-at_each p [] all k within = absurd (omega (arith, within))
-at_each p (x ∷ xs) all zero within = (both (p x) (list_all p xs) all).0
-at_each p (x ∷ xs) all (suc k) within = at_each p xs (both (p x) (list_all p xs) all).1 k (omega arith)
+  pub before_first-none : (xs : List A) → All (λ x. p x ≡ false) xs → before_first p xs ≡ xs
+  before_first-none xs none = ap (λ n. take n xs) (first_none xs none) ∙ take-length xs
+
+  pub after_first-none : (xs : List A) → All (λ x. p x ≡ false) xs → after_first p xs ≡ []
+  after_first-none xs none = ap (λ n. drop (n + 1) xs) (first_none xs none) ∙ drop_all (length xs + 1) xs (omega arith)
 
 -- bytes that do not pass, behind one that does
 module _ (p : ℕ → Bool) (m : ℕ) (ys : List ℕ) (found : p m ≡ true) (none : list_all (λ y. not (p y)) ys ≡ true) (xs : List ℕ) where
@@ -43,7 +41,7 @@ module _ (p : ℕ → Bool) (m : ℕ) (ys : List ℕ) (found : p m ≡ true) (no
       let long = length-append xs (m ∷ ys) in
       let at = get_or-append_right xs (m ∷ ys) k 0 (omega (arith, from)) in
       let next : k - length xs ≡ suc (k - length xs - 1) = omega (arith, from) in
-      let here = at_each (λ y. not (p y)) ys none (k - length xs - 1) (omega (arith, long, from, within)) in
+      let here = AllPass-from_list_all (λ y. not (p y)) ys none (k - length xs - 1) 0 (omega (arith, long, from, within)) in
       ap (λ y. not (p y)) (at ∙ ap (λ j. get_or (m ∷ ys) j 0) next) ∙ here
 
   at_mark : not (p (get_or (xs ++ m ∷ ys) (length xs + 1 - 1) 0)) ≡ false

@@ -1,40 +1,20 @@
 -- The parts of an input, one after the other.
-use Rattle.mp_words.proofs.Names.{◌≡◌, Bool, true, false, cond, List, [], ◌∷◌, ◌++◌, ℕ, refl, sym, ap, ◌∙◌, ◌||◌, onto_first, lines_of, is_division, first_part, later_parts, are_divided, parts_of, lines_of_each}
-use Rattle.std.specs.Borrow.{Bor}
-use Rattle.mp_words.proofs.DivisionLemmas.{first_part-other, first_part-here, later_parts-other, later_parts-here}
-
--- a line that is no division goes before the first part
-parts_of-other : (line : List ℕ) (lines : List (List ℕ)) → is_division line ≡ false → parts_of (line ∷ lines) ≡ onto_first line (parts_of lines)
-parts_of-other line lines other = ap (λ t. cond t ([] ∷ parts_of lines) (onto_first line (parts_of lines))) other
-
-parts_of-here : (line : List ℕ) (lines : List (List ℕ)) → is_division line ≡ true → parts_of (line ∷ lines) ≡ [] ∷ parts_of lines
-parts_of-here line lines here = ap (λ t. cond t ([] ∷ parts_of lines) (onto_first line (parts_of lines))) here
+use Rattle.mp_words.proofs.Names.{◌≡◌, ◌<◌, ◌≤◌, ◌⊎◌, inl, inr, true, false, true≢false, List, [], ◌∷◌, ℕ, length, get_or, All, sym, ap, ◌∙◌, arith, cases_lt, false_from_ne_true, get_or_default, position_or_len, fails_before_first, list_any_none, list_any-from_Any, slice_split_none, slice_split_first, is_division, first_part, later_parts, are_divided, parts_of}
+use Rattle.mp_words.proofs.DividedLemmas.{before_first-none}
 
 -- the first part, and those behind the first division
 pub parts_of-split : (lines : List (List ℕ)) → are_divided lines ≡ true → parts_of lines ≡ first_part lines ∷ parts_of (later_parts lines)
-parts_of-split [] divided = cc divided
-parts_of-split (line ∷ lines) divided = by (is_division line) refl (parts_of-split lines)
+parts_of-split lines divided = slice_split_first is_division lines [] (by (cases_lt (position_or_len is_division lines) (length lines)))
   where
-    by : (t : Bool) → is_division line ≡ t → (are_divided lines ≡ true → parts_of lines ≡ first_part lines ∷ parts_of (later_parts lines))
-        → parts_of (line ∷ lines) ≡ first_part (line ∷ lines) ∷ parts_of (later_parts (line ∷ lines))
-    by true here others = parts_of-here line lines here ∙ sym (ap (λ l. l ∷ parts_of (later_parts (line ∷ lines))) (first_part-here line lines here) ∙ ap (λ l. [] ∷ parts_of l) (later_parts-here line lines here))
-    by false other others =
-        let later : are_divided lines ≡ true = sym (ap (λ t. t || are_divided lines) other) ∙ divided in
-        parts_of-other line lines other ∙ ap (onto_first line) (others later)
-        ∙ sym (ap (λ l. l ∷ parts_of (later_parts (line ∷ lines))) (first_part-other line lines other) ∙ ap (λ l. (line ∷ first_part lines) ∷ parts_of l) (later_parts-other line lines other))
+    by : (position_or_len is_division lines < length lines) ⊎ (length lines ≤ position_or_len is_division lines) → position_or_len is_division lines < length lines
+    by (inl less) = less
+    by (inr more) =
+        let none = list_any_none is_division lines (λ k d within. fails_before_first is_division lines k d (omega (arith, more, within))) in
+        absurd (true≢false (sym divided ∙ none))
 
 -- without a division there is one part
 pub parts_of-one : (lines : List (List ℕ)) → are_divided lines ≡ false → parts_of lines ≡ first_part lines ∷ []
-parts_of-one [] undivided = refl
-parts_of-one (line ∷ lines) undivided = by (is_division line) refl (parts_of-one lines)
-  where
-    by : (t : Bool) → is_division line ≡ t → (are_divided lines ≡ false → parts_of lines ≡ first_part lines ∷ []) → parts_of (line ∷ lines) ≡ first_part (line ∷ lines) ∷ []
-    by true here others = absurd (cc undivided)
-    by false other others =
-        let later : are_divided lines ≡ false = sym (ap (λ t. t || are_divided lines) other) ∙ undivided in
-        parts_of-other line lines other ∙ ap (onto_first line) (others later) ∙ sym (ap (λ l. l ∷ []) (first_part-other line lines other))
-
--- one text more
-pub each_more : (texts : List (Bor (List ℕ))) (text : Bor (List ℕ)) → lines_of_each (texts ++ text ∷ []) ≡ lines_of_each texts ++ lines_of text.now ∷ []
-each_more [] text = refl
-each_more (t ∷ texts) text = ap (λ l. lines_of t.now ∷ l) (each_more texts text)
+parts_of-one lines undivided =
+    let none : All (λ line. is_division line ≡ false) lines = λ k d within. false_from_ne_true _ (λ here.
+    true≢false (sym (list_any-from_Any is_division lines (k, get_or lines k d, within, get_or_default lines k _ d within, here)) ∙ undivided)) in
+    slice_split_none is_division lines none ∙ ap (λ part. part ∷ []) (sym (before_first-none is_division lines none))

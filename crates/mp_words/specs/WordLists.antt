@@ -38,8 +38,8 @@ output_word word =
     if bytes_eq word (codes "-") then Ok (output_to (word, 1))
     else ok_or (option_map output_to (name_and_number word)) BadNumber
 
--- what each of the words says, or the code of the first that cannot be read
-unfoldable pub each_word : {A : Type 0} → (List ℕ → Result A LineError) → List (List ℕ) → Result (List A) LineError
+-- what each of the words says, or the code of the first that cannot be read; also of what words make together
+unfoldable pub each_word : {W A : Type 0} → (W → Result A LineError) → List W → Result (List A) LineError
 each_word read [] = Ok []
 each_word read (word ∷ words) = do
   item ← read word

@@ -1,9 +1,4 @@
-use Rattle.std.proofs.Common.{◌≡◌, ◌+◌, [], drop, ap, arith}
-use Rattle.std.proofs.lemmas.List.{drop_all}
-use Rattle.mp_streams.proofs.LeftLemmas.{left_whole, left_none, left_as, left_then, left_failed}
-use Rattle.mp_streams.proofs.OutLemmas.{writes_failed}
-use Rattle.mp_answers.specs.EditAnswers.{edits_from, numbered_line}
-use Rattle.mp_answers.specs.NumberedLines.{lines_from}
+use Rattle.mp_answers.proofs.Names.{◌≡◌, ◌+◌, [], drop, ap, arith, drop_all, left_whole, left_none, left_as, left_then, left_failed, writes_failed, edits_from, numbered_line, lines_from}
 use Rattle.mp_answers.proofs.EditAnswerLemmas.{edits_next}
 use Rattle.mp_answers.proofs.edit_answers.put_edits.Goals as goal
 

@@ -1,6 +1,4 @@
-use Rattle.mp_text.proofs.Names.{◌≤◌, length, subst, sym, inr, rules, arith, IfErr}
-use Rattle.mp_text.specs.Sizes.{text_limit}
-use Rattle.mp_text.specs.Texts.{GivesText, IsReachedIn}
+use Rattle.mp_text.proofs.Names.{◌≤◌, length, subst, sym, inr, rules, arith, IfErr, text_limit, GivesText, IsReachedIn}
 use Rattle.mp_text.proofs.TextLemmas.{text_within, text_over}
 use Rattle.mp_text.proofs.reading.read_netlist.Goals as goal
 

@@ -1,5 +1,4 @@
-use Rattle.mp_text.proofs.Names.{◌≡◌, ◌≤◌, ℕ, Vec, Global, Result, Ok, Err, IfOk, length, AllocError, IsReadAs, written}
-use Rattle.mp_text.specs.Sizes.{text_limit}
+use Rattle.mp_text.proofs.Names.{◌≡◌, ◌≤◌, ℕ, Vec, Global, Result, Ok, Err, IfOk, length, AllocError, IsReadAs, written, text_limit}
 use Rattle.mp_text.proofs.RoundTripLemmas.{written_is_read}
 use Rattle.mp_text.proofs.writing.write_netlist.Goals as goal
 

@@ -1,14 +1,12 @@
-use Rattle.mp_words.proofs.Names.{◌≡◌, ◌<◌, true, false, length, refl, sym, ◌∙◌, rules, arith, take_rest, is_division}
-use Rattle.mp_words.proofs.DivisionLemmas.{front_start, next_line_in, front_next, back_next, divided_next, front_here, back_here, divided_here, front_end, back_end, divided_end}
+use Rattle.mp_words.proofs.Names.{◌≡◌, ◌<◌, true, false, length, sym, ◌∙◌, rules, arith, take_rest, is_division}
+use Rattle.mp_words.proofs.DivisionLemmas.{none_whole, none_undivided, next_line_in, undivided_next, front_here, back_here, divided_here, undivided_all, front_end, back_end, divided_end}
 use Rattle.mp_words.proofs.division.divided.Goals as goal
 
 pub loop-at-init : goal.loop-at-init
 loop-at-init c = record {
   within = omega arith;
-  whole = λ some. tt;
-  front = front_start c.args.input.now;
-  back = refl;
-  divided = refl;
+  whole = λ some. none_whole;
+  undivided = none_undivided;
 }
 
 pub loop-at-preserved : goal.loop-at-preserved
@@ -19,39 +17,37 @@ loop-at-preserved c =
     let whole = c.loop-at.invariant.whole inside in
     let other : is_division c.first_line.result.0.now ≡ false = sym c.in_ok-is_division.ensures ∙ c.if-branch.false in
     let here = rw (c.first_line.ensures.line, take_rest input at) at other in
-    let next = next_line_in input at inside in
+    let next = next_line_in input at inside whole in
     rw (c.first_line.ensures.rest, take_rest input at) (record {
       within = next.within;
       whole = next.whole;
-      front = front_next input at inside here whole c.loop-at.invariant.front;
-      back = back_next input at inside here c.loop-at.invariant.back;
-      divided = divided_next input at inside here c.loop-at.invariant.divided;
+      undivided = undivided_next input at inside whole c.loop-at.invariant.undivided here;
     })
 
 pub returns-then-branch-clause-front : goal.returns-then-branch-clause-front
 returns-then-branch-clause-front c =
     let inside : c.loop-at.at < length c.args.input.now = search rules in
     let divides : is_division c.first_line.result.0.now ≡ true = sym c.in_ok-is_division.ensures ∙ c.if-branch.true in
-    front_here c.args.input.now c.loop-at.at inside (rw (c.first_line.ensures.line, take_rest c.args.input.now c.loop-at.at) at divides) c.loop-at.invariant.front
+    front_here c.args.input.now c.loop-at.at inside (c.loop-at.invariant.whole inside) c.loop-at.invariant.undivided (rw (c.first_line.ensures.line, take_rest c.args.input.now c.loop-at.at) at divides)
 
 pub returns-then-branch-clause-back : goal.returns-then-branch-clause-back
 returns-then-branch-clause-back c =
     let inside : c.loop-at.at < length c.args.input.now = search rules in
     let divides : is_division c.first_line.result.0.now ≡ true = sym c.in_ok-is_division.ensures ∙ c.if-branch.true in
-    rw (c.first_line.ensures.rest, take_rest c.args.input.now c.loop-at.at) (back_here c.args.input.now c.loop-at.at inside (rw (c.first_line.ensures.line, take_rest c.args.input.now c.loop-at.at) at divides) c.loop-at.invariant.back)
+    rw (c.first_line.ensures.rest, take_rest c.args.input.now c.loop-at.at)
+    (back_here c.args.input.now c.loop-at.at inside (c.loop-at.invariant.whole inside) c.loop-at.invariant.undivided (rw (c.first_line.ensures.line, take_rest c.args.input.now c.loop-at.at) at divides))
 
 pub returns-clause-front : goal.returns-clause-front
-returns-clause-front c =
-    front_end c.args.input.now c.loop-at.at c.loop-at.invariant.within (search rules) c.loop-at.invariant.front
+returns-clause-front c = front_end c.args.input.now (undivided_all c.args.input.now c.loop-at.at (search rules) c.loop-at.invariant.undivided)
 
 pub returns-clause-back : goal.returns-clause-back
-returns-clause-back c = back_end c.args.input.now c.loop-at.at (search rules) c.loop-at.invariant.back
+returns-clause-back c = back_end c.args.input.now (undivided_all c.args.input.now c.loop-at.at (search rules) c.loop-at.invariant.undivided)
 
 pub returns-then-branch-clause-divided : goal.returns-then-branch-clause-divided
 returns-then-branch-clause-divided c =
     let inside : c.loop-at.at < length c.args.input.now = search rules in
     let divides : is_division c.first_line.result.0.now ≡ true = sym c.in_ok-is_division.ensures ∙ c.if-branch.true in
-    divided_here c.args.input.now c.loop-at.at inside (rw (c.first_line.ensures.line, take_rest c.args.input.now c.loop-at.at) at divides) c.loop-at.invariant.divided
+    divided_here c.args.input.now c.loop-at.at inside (c.loop-at.invariant.whole inside) c.loop-at.invariant.undivided (rw (c.first_line.ensures.line, take_rest c.args.input.now c.loop-at.at) at divides)
 
 pub returns-clause-divided : goal.returns-clause-divided
-returns-clause-divided c = divided_end c.args.input.now c.loop-at.at (search rules) c.loop-at.invariant.divided
+returns-clause-divided c = divided_end c.args.input.now (undivided_all c.args.input.now c.loop-at.at (search rules) c.loop-at.invariant.undivided)

@@ -1,5 +1,4 @@
-use Rattle.mp_words.proofs.Names.{◌≡◌, refl, ◌∙◌, rules, tests, ℕ, List, Bor, Vec, Global, Result, Ok, Err, IfOk, YieldsList-from_slice_split, map_from_collect, YieldsList-from_filter}
-use Rattle.mp_words.specs.Words.{words_of, is_gap, is_word, statement_part, texts, AreAscii}
+use Rattle.mp_words.proofs.Names.{◌≡◌, refl, ◌∙◌, rules, tests, ℕ, List, Bor, Vec, Global, Result, Ok, Err, IfOk, YieldsList-from_slice_split, map_from_collect, YieldsList-from_filter, words_of, is_gap, is_word, statement_part, texts, AreAscii}
 use Rattle.std.specs.declared.alloc.AllocError.{AllocError}
 use Rattle.mp_words.proofs.WordLemmas.{texts_ascii}
 use Rattle.mp_words.proofs.word.words.Goals as goal

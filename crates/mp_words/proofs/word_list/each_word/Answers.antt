@@ -11,14 +11,14 @@ returns-in_err-item g c =
     let p = err_from_is_err_and c.from_residual-in_err-item.result c.from_residual-in_err-item.ensures.1 in
     elim c.in_err-item.ensures [
       | inl memory ↦ rw (p.1, p.2) (inl memory)
-      | inr failed ↦ rw (p.1, p.2) (inr (each_err g.W.Worded.read c.args.words.now c.loop-word.word-index _ c.loop-word.items.items c.in_err-item.field-0.0 (omega arith) c.loop-word.invariant failed))
+      | inr failed ↦ rw (p.1, p.2) (inr (each_err g.W.Worded.read (λ w. w.now) c.args.words.now c.loop-word.word-index _ c.loop-word.items.items c.in_err-item.field-0.0 (omega arith) c.loop-word.invariant failed))
     ]
 
 pub loop-word-preserved : goal.loop-word-preserved
 loop-word-preserved g c =
-    rw c.in_ok-push.ensures.items (each_ok g.W.Worded.read c.args.words.now c.loop-word.word-index _ c.loop-word.items.items c.in_ok-item.item (omega arith) c.loop-word.invariant c.in_ok-item.ensures)
+    rw c.in_ok-push.ensures.items (each_ok g.W.Worded.read (λ w. w.now) c.args.words.now c.loop-word.word-index _ c.loop-word.items.items c.in_ok-item.item (omega arith) c.loop-word.invariant c.in_ok-item.ensures)
 
 pub returns : goal.returns
 returns g c =
     let d : Bor (List ℕ) = record { ref_ptr = (0, 0); now = [] } in
-    each_end g.W.Worded.read c.args.words.now c.loop-word.word-index d c.loop-word.items.items (omega arith) c.loop-word.invariant
+    each_end g.W.Worded.read (λ w. w.now) c.args.words.now c.loop-word.word-index d c.loop-word.items.items (omega arith) c.loop-word.invariant

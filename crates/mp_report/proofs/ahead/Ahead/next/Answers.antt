@@ -17,12 +17,12 @@ returns-in-Some-clause-later c f most time is le =
 pub returns-in-Some-clause-still : goal.returns-in-Some-clause-still
 returns-in-Some-clause-still c f most time t is low upto high =
     let head = first_is (changes_in c.args.self.changes) c.in-Some.change (sym c.first.ensures.value ∙ c.in-Some.is) in
-    still_before f most time t c.args.self c.in-Some.change head.0 is head.1 low (omega (arith, upto, c.min.ensures))
+    still_before f most time c.args.self c.in-Some.change head.0 is head.1 t low (omega (arith, upto, c.min.ensures))
 
 pub returns-in-Some-clause-quiet : goal.returns-in-Some-clause-quiet
 returns-in-Some-clause-quiet c f most time t is low less high =
     let head = first_is (changes_in c.args.self.changes) c.in-Some.change (sym c.first.ensures.value ∙ c.in-Some.is) in
-    none_sooner f most time t c.args.self c.in-Some.change head.0 is head.1 low (omega (arith, less, c.min.ensures)) high
+    none_sooner f most time c.args.self c.in-Some.change head.0 is head.1 t low (omega (arith, less, c.min.ensures)) high
 
 pub returns-in-None-clause-still : goal.returns-in-None-clause-still
 returns-in-None-clause-still c f most time t is low upto high = still_none f most time t c.args.self is (no_first (changes_in c.args.self.changes) (sym c.first.ensures.value ∙ c.in-None.is)) low high
