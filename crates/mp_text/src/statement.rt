@@ -17,16 +17,21 @@ use crate::text_code::TextCode;
 use crate::text_format::TextFormat;
 use crate::text_state::TextState;
 use mp_netlist::{Edit, EditError, Netlist, NewError, SingleEdit};
-use mp_words::{LineError, line_words, number_word};
+use mp_words::{LineError, number_word, read_line_words};
 use std::alloc::Global;
 
-/// Makes of the text so far what a line says. It is lent, since who owns it lets it go at each
-/// place where a fault is told.
+/// Makes of the text so far what a line says, whose words are read in place of those of the line before. The text so far is lent, since
+/// who owns it lets it go at each place where a fault is told.
 #[tactic(auto, unfolding(crate::specs::Texts::after_line))]
-pub fn line(alloc: Global, state: &mut TextState, line: &[u8]) -> Result<(), TextCode>
+pub fn line<'a>(
+    alloc: Global,
+    state: &mut TextState,
+    words: &mut Vec<&'a [u8]>,
+    line: &'a [u8],
+) -> Result<(), TextCode>
     ensures { Gives (Line OutOfMemory) (λ _. state.new) result (after_line state.old line.now) }
 {
-    let words = line_words(alloc, line)?;
+    read_line_words(words, line)?;
     statement(alloc, state, words.as_slice())
 }
 

@@ -1,5 +1,5 @@
 //! The words of a line.
-ghost use Rattle.std.specs.Prelude.{◌≡◌, ◌<◌, ◌==◌, length, position, IfOk, IfSome, IsAscii, slice_get};
+ghost use Rattle.std.specs.Prelude.{◌≡◌, ◌<◌, ◌==◌, length, position, IfOk, OnOk, IfSome, IsAscii, slice_get};
 ghost use Rattle.std.specs.List.{find, slice_split};
 ghost use Rattle.std.specs.Option.{option_copied};
 ghost use Rattle.mp_words.specs.Words.{words_of, texts, is_gap, is_word, statement_part, AreAscii};
@@ -9,15 +9,27 @@ use mp_records::Name;
 use std::alloc::{AllocError, Global};
 
 /// The words before a comment.
-#[tactic(auto, unfolding(crate::specs::Words::words_of))]
 pub fn words<'a>(alloc: Global, line: &'a [u8]) -> Result<Vec<&'a [u8]>, AllocError>
     ensures words { IfOk result (λ words. texts words.items ≡ words_of line.now) }
     ensures ascii { IsAscii line.now → IfOk result (λ words. AreAscii words.items) }
 {
-    before_comment(line)
-        .split(|byte| is_gap(*byte))
-        .filter(|part| !part.is_empty())
-        .collect(alloc)
+    let mut words = Vec::new(alloc);
+    read_words(&mut words, line)?;
+    Ok(words)
+}
+
+/// Reads the words before a comment, in place of those that were read before.
+#[tactic(auto, unfolding(crate::specs::Words::words_of))]
+pub fn read_words<'a>(words: &mut Vec<&'a [u8]>, line: &'a [u8]) -> Result<(), AllocError>
+    ensures words { OnOk result (texts words.new.items ≡ words_of line.now) }
+    ensures ascii { IsAscii line.now → OnOk result (AreAscii words.new.items) }
+{
+    words.clear();
+    words.extend(
+        before_comment(line)
+            .split(|byte| is_gap(*byte))
+            .filter(|part| !part.is_empty()),
+    )
 }
 
 /// The first word before a comment, where there is one. It takes no memory.
