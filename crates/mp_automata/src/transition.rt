@@ -5,12 +5,13 @@ use crate::automaton_state::AutomatonState;
 use crate::events::Events;
 use crate::phase::Phase;
 
-/// What comes of a state: the state before the next unit, and the outputs that toggle in this one. The bit of an output is 1 for the
-/// first, 2 for the second and 4 for the third.
+/// What comes of a state: the state before the next unit, the outputs that toggle in this one, and the ports whose levels change, as
+/// `PortLevels` has them. The bit of an output that toggles is 1 for the first, 2 for the second and 4 for the third.
 #[derive(Clone, Copy, Debug)]
 pub struct Transition {
     pub next: AutomatonState,
-    pub toggles: u16,
+    pub toggles: u8,
+    pub flips: u8,
 }
 
 impl Transition {
@@ -22,9 +23,11 @@ impl Transition {
         ensures { result ≡ transition_of automaton phase events }
     {
         let reaction = automaton.react(phase, events);
+        let toggles = reaction.toggles.code();
         Transition {
             next: AutomatonState::quiet(automaton, reaction.phase),
-            toggles: reaction.toggles.code(),
+            toggles,
+            flips: events.code() + toggles * 16,
         }
     }
 }

@@ -5,7 +5,8 @@ use Rattle.mp_streams.specs.WriteErrors.{Writes}
 use Rattle.mp_streams.specs.declared.write_error.WriteError.{WriteError}
 use Rattle.mp_streams.specs.declared.write_error.WriteError.TheVariants as writes
 use Rattle.mp_netlist.specs.Circuit.{Circuit}
-use Rattle.mp_command_runs.specs.Limits.{max_input, max_taken}
+use Rattle.mp_text.specs.Sizes.{text_limit}
+use Rattle.mp_command_runs.specs.Limits.{max_taken}
 use Rattle.mp_command_runs.specs.Openings.{too_long}
 use Rattle.mp_command_runs.specs.declared.run_fault.RunFault.{RunFault}
 use Rattle.mp_command_runs.specs.declared.run_fault.RunFault.TheVariants.{Text, BadCount, ReadFailed, WriteFailed, OutOfMemory, NoPlace, NoSuchWire}
@@ -23,7 +24,7 @@ HasInput left Holds = (input : List ℕ) × IsInput left input × Holds input
 abbrev pub StaysUnread : Option (List ℕ) → RunFault → Type 0
 StaysUnread left ReadFailed = Unit {0}
 StaysUnread left OutOfMemory = Unit {0}
-StaysUnread left fault = (fault ≡ too_long) × HasInput left (λ input. max_input < length input)
+StaysUnread left fault = (fault ≡ too_long) × HasInput left (λ input. text_limit input < length input)
 
 -- why nothing is written of an input that opens so, or doesn't: a place may be wanting only where some sit down
 abbrev pub Refuses : Bool → Result Circuit RunFault → RunFault → Type 0

@@ -12,7 +12,7 @@ use crate::input::read_input;
 use crate::run_fault::RunFault;
 use mp_netlist::Netlist;
 use mp_streams::Source;
-use mp_text::read_netlist;
+use mp_text::read_lines;
 use std::alloc::Global;
 
 /// Reads the text of a netlist, all that the source has. `ReadFailed` comes with a fault of the source; then `Text` where the input is too long
@@ -43,7 +43,7 @@ pub fn opened<C: Drop>(
     ensures crew { IfOk result (λ both. crew ≡ Some both.1) }
     ensures refused { IfErr result (Refuses false (opening_of (lines_of text.now) (is_some crew))) }
 {
-    let netlist = read_netlist(alloc, text)?;
+    let netlist = read_lines(alloc, text)?;
     match crew {
         Some(crew) => Ok((netlist, crew)),
         None => Err(RunFault::BadCount),

@@ -9,11 +9,13 @@ pub mod NumberLemmas
 pub mod TurnLemmas
 pub mod ApplyLemmas
 pub mod FireLemmas
+pub mod ClientLemmas
 pub mod WidthLemmas
 pub mod CopyLemmas
 pub mod WholeLemmas
 pub mod SimulationLemmas
 pub mod BeginningLemmas
+pub mod IdleLemmas
 pub mod FiredLemmas
 pub mod DueLemmas
 pub mod QuietLemmas

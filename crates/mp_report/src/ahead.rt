@@ -15,6 +15,7 @@ impl<'a> Ahead<'a> {
     ghost use Rattle.mp_report.specs.Ahead.{IsAhead};
 
     /// A wave from time 1 on.
+    #[tactic(auto, using(crate::proofs::AheadLemmas::ahead_of_wave))]
     pub(crate) fn of(wave: &'a Wave) -> Self
         ensures { (f : ℕ → ℕ) (end : ℕ) → 0 < end → wave.now ≡ wave_upto f (end - 1) → IsAhead f end 1 result }
     {

@@ -17,3 +17,4 @@ mod BeginningLemmas
 mod SimulatedLemmas
 mod RunLemmas
 mod FoundLemmas
+mod FirstLevelLemmas

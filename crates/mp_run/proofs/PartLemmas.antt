@@ -6,8 +6,7 @@ use Rattle.mp_modules.specs.declared.kind.Kind.TheVariants as kinds
 use Rattle.mp_modules.specs.Kinds.{has_width}
 use Rattle.mp_storage.specs.AnyModules.{any_part_of}
 use Rattle.mp_records.specs.declared.module_record.ModuleRecord.{ModuleRecord}
-use Rattle.mp_records.specs.Inputs.{input_at}
-use Rattle.mp_netlist.specs.Circuit.{Circuit, wire_at, width_of, module_width}
+use Rattle.mp_netlist.specs.Circuit.{Circuit, wire_at, width_of, input_at, module_width}
 use Rattle.mp_model.specs.Levels.{built}
 use Rattle.mp_data.specs.DataParts.{data_part, any_part}
 use Rattle.mp_run.specs.Widths.{is_bit_module}

@@ -38,7 +38,7 @@ pub use Rattle.mp_records.specs.declared.wire_record.WireRecord.{WireRecord}
 pub use Rattle.mp_streams.proofs.OutLemmas.{next_text, puts_next, puts_none, puts_sooner, puts_stopped, puts_then, text_with, writes_failed}
 pub use Rattle.mp_streams.specs.Outgoing.{Writes}
 pub use Rattle.mp_text.specs.Batches.{each_part, part_texts}
-pub use Rattle.mp_text.specs.Limits.{max_first_horizon, max_second_horizon, max_text}
+pub use Rattle.mp_text.specs.Limits.{max_first_horizon, max_text}
 pub use Rattle.mp_text.specs.LineStarts.{HasForm, is_begun, is_taken, question_takes, single_takes, statement_takes, takes}
 pub use Rattle.mp_text.specs.RoundTrips.{IsReadAs, IsReadAsWritten, SameRecords, bundle_by_name, bundle_edits, edits_by_name, input_by_name, module_by_name, module_edits, output_by_name, set_edits, standing, stimulus_edits, wire_edits}
 pub use Rattle.mp_text.specs.ScriptLines.{stated_line}

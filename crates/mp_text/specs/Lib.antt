@@ -2,6 +2,7 @@ pub mod Limits
 pub mod Formats
 pub mod TextCodes
 pub mod Statements
+pub mod Sizes
 pub mod Texts
 pub mod SingleEdits
 pub mod Batches

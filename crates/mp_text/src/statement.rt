@@ -87,7 +87,7 @@ fn empty_netlist(alloc: Global, format: TextFormat, horizon: u64) -> Result<Netl
     if horizon < 1 || horizon > format.max_horizon() {
         return Err(TextCode::Line(LineError::BadNumber));
     }
-    match Netlist::empty(alloc, horizon) {
+    match Netlist::empty(alloc, format.netlist(), horizon) {
         Ok(netlist) => Ok(netlist),
         Err(NewError::BadHorizon) => Err(TextCode::Line(LineError::BadNumber)),
         Err(NewError::OutOfMemory) => Err(TextCode::Line(LineError::OutOfMemory)),

@@ -16,3 +16,6 @@ pub mod AnsweredLemmas
 pub mod UnitLemmas
 pub mod PassLemmas
 pub mod QuietLemmas
+pub mod FireLemmas
+pub mod MemoryLemmas
+pub mod RestLemmas

@@ -32,8 +32,10 @@ impl<'a> Text for ShortChanges<'a> {
 
     fn put_to<S: Sink>(&self, out: &mut Out<S>) -> Result<(), Failed> {
         for &(time, value) in self.changes {
-            let value = value as u64;
-            out.put_piece(&Change { time, value })?;
+            out.put_piece(&Change {
+                time,
+                value: u64::from(value),
+            })?;
         }
         Ok(())
     }
