@@ -23,17 +23,17 @@ use Rattle.std.specs.declared.collections.VecDeque.{VecDeque}
 use Rattle.std.specs.Global.{Global}
 use Rattle.std.proofs.Math.ListN.{length-set}
 use Rattle.mp_engine.specs.Calendars.{IsChange, IsExact, IsDelivered, entry_of, heard_until}
-use Rattle.mp_engine.specs.Divisions.{heard_by, IsDivision}
+use Rattle.mp_regions.specs.Divisions.{heard_by, IsDivision}
 use Rattle.mp_engine.specs.Engines.{IsAfter}
 use Rattle.mp_engine.specs.Letters.{letter_of, is_sent, IsOfList, IsOfCalendar, IsOfParts, IsNear, IsTelling, AreLetters, AreEntered, AreTidings}
 use Rattle.mp_evaluation.specs.Marks.{is_marked}
 use Rattle.mp_engine.specs.Marks.{delivered}
-use Rattle.mp_engine.specs.Regions.{home_of, region}
+use Rattle.mp_regions.specs.Regions.{home_of, region}
 use Rattle.mp_engine.specs.Stations.{calendar_of, AreStations}
 use Rattle.mp_evaluation.proofs.MarkLemmas.{none_in}
-use Rattle.mp_engine.proofs.MergeLemmas.{divided_apart, divided_closed}
-use Rattle.mp_engine.proofs.PartLemmas.{IsKnownTo, IsSeen, region_level}
-use Rattle.mp_engine.proofs.RegionLemmas.{length_heard, module_here, drives_here, region_is}
+use Rattle.mp_regions.proofs.DivisionLemmas.{divided_apart, divided_closed}
+use Rattle.mp_regions.proofs.PartLemmas.{IsKnownTo, IsSeen, region_level}
+use Rattle.mp_regions.proofs.RegionLemmas.{length_heard, module_here, drives_here, region_is}
 use Rattle.mp_engine.proofs.LineLemmas.{undriven_stays}
 use Rattle.mp_engine.proofs.UnitLemmas.{calendar_after}
 

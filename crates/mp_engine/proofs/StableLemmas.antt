@@ -13,11 +13,11 @@ use Rattle.mp_engine.specs.declared.letters.Letter.{Letter}
 use Rattle.mp_engine.specs.declared.stimuli.Setting.{Setting}
 use Rattle.mp_engine.specs.declared.station.Station.{Station}
 use Rattle.mp_engine.specs.declared.tap.Tap.{Tap}
-use Rattle.mp_engine.specs.Divisions.{heard_by, IsWireAtHome, IsDivision}
+use Rattle.mp_regions.specs.Divisions.{heard_by, IsWireAtHome, IsDivision}
 use Rattle.mp_engine.specs.Engines.{IsAfter, IsSteady}
 use Rattle.mp_engine.specs.Letters.{letter_of, IsTelling}
 use Rattle.mp_evaluation.specs.Marks.{is_marked}
-use Rattle.mp_engine.specs.Regions.{home_of}
+use Rattle.mp_regions.specs.Regions.{home_of}
 use Rattle.mp_engine.specs.Settings.{AreFrom, left_of}
 use Rattle.mp_engine.specs.Stations.{AreStations, AreSteady, AreTelling}
 use Rattle.mp_engine.specs.Taps.{tap_of, IsCalled}

@@ -11,11 +11,12 @@ use Rattle.mp_engine.specs.declared.entry.Entry.{Entry}
 use Rattle.mp_engine.specs.declared.part_run.PartRun.{PartRun}
 use Rattle.mp_engine.specs.declared.station.Station.{Station}
 use Rattle.mp_engine.specs.declared.window.Window.{Window}
-use Rattle.mp_engine.specs.Divisions.{heard_by, AreRuns}
+use Rattle.mp_engine.specs.Divisions.{AreRuns}
+use Rattle.mp_regions.specs.Divisions.{heard_by}
 use Rattle.mp_engine.specs.Engines.{IsAfter}
 use Rattle.mp_engine.specs.Letters.{IsTelling}
 use Rattle.mp_engine.specs.PartRuns.{IsPartRun}
-use Rattle.mp_engine.specs.Regions.{region}
+use Rattle.mp_regions.specs.Regions.{region}
 use Rattle.mp_engine.specs.Stations.{calendar_of, IsStation, AreStations, AreTelling, IsToPass, AreToPass, IsToTell, AreToTell, IsPassed}
 use Rattle.mp_engine.proofs.LetterLemmas.{telling_less}
 

@@ -7,7 +7,7 @@ use Rattle.mp_engine.specs.declared.entry.Entry.{Entry}
 use Rattle.mp_engine.specs.declared.letters.Letter.{Letter}
 use Rattle.mp_engine.specs.Calendars.{IsExact, entry_of}
 use Rattle.mp_evaluation.specs.Marks.{is_marked}
-use Rattle.mp_engine.specs.Regions.{home_of}
+use Rattle.mp_regions.specs.Regions.{home_of}
 
 abbrev pub letter_of : ℕ → Entry → Letter
 letter_of ahead entry = record { ahead = ahead; entry = entry }

@@ -5,10 +5,10 @@ use Rattle.mp_engine.specs.declared.division.Division.{Division}
 use Rattle.mp_engine.specs.declared.entry.Entry.{Entry}
 use Rattle.mp_engine.specs.declared.station.Station.{Station}
 use Rattle.mp_engine.specs.declared.window.Window.{Window}
-use Rattle.mp_engine.specs.Divisions.{heard_by}
+use Rattle.mp_regions.specs.Divisions.{heard_by}
 use Rattle.mp_engine.specs.Engines.{IsAfter, IsSteady}
 use Rattle.mp_engine.specs.Letters.{IsTelling}
-use Rattle.mp_engine.specs.Regions.{region}
+use Rattle.mp_regions.specs.Regions.{region}
 
 abbrev pub calendar_of : Station → List (List Entry)
 calendar_of station = station.engine.calendar.items

@@ -2,18 +2,18 @@
 ghost use Rattle.std.specs.Prelude.{◌≡◌, ◌+◌, ◌-◌, ◌<◌, ◌≤◌, ℕ, IfOk, [], length, map, slice_index_or};
 ghost use Rattle.mp_netlist.specs.Circuit.{IsCircuit};
 ghost use Rattle.mp_netlist.specs.Delays.{least_delay};
-ghost use Rattle.mp_engine.specs.Divisions.{IsDivision, heard_by};
+ghost use Rattle.mp_regions.specs.Divisions.{IsDivision, heard_by};
 ghost use Rattle.mp_engine.specs.Engines.{IsAfter};
 ghost use Rattle.mp_engine.specs.Letters.{AreTidings};
-ghost use Rattle.mp_engine.specs.Regions.{region};
+ghost use Rattle.mp_regions.specs.Regions.{region};
 ghost use Rattle.mp_engine.specs.Stations.{AreStations, AreSteady, AreTelling, AreToPass, AreToTell, IsToTell, calendar_of};
 
-use crate::division::Division;
 use crate::letters::{Letter, hear, lesser, letters_of};
 use crate::station::Station;
 use crate::window::Window;
 use mp_netlist::Netlist;
 use mp_phase::{Gate, Hands, Plan};
+use mp_regions::Division;
 use std::alloc::{AllocError, Global};
 use std::sync::Wait;
 

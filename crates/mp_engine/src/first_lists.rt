@@ -10,9 +10,9 @@ ghost use Rattle.mp_engine.specs.Taps.{tap_of, IsLate, AreLate, AreTaken};
 ghost use Rattle.mp_engine.specs.declared.tap.Tap.{Tap as Listed};
 
 use crate::entry::Entries;
-use crate::region::Region;
 use crate::tap::{Tap, Taps};
 use mp_netlist::{Input, ModuleId, Output};
+use mp_regions::Region;
 use std::alloc::{AllocError, Global};
 use std::collections::VecDeque;
 

@@ -5,9 +5,9 @@ ghost use Rattle.mp_evaluation.specs.Marks.{is_marked, AreListed};
 
 use crate::answers::is_marked;
 use crate::cell::Cell;
-use crate::region::Region;
 use mp_evaluation::{CHECKPOINT_UNITS, Checkpoint, Checkpoints};
 use mp_netlist::ModuleId;
+use mp_regions::Region;
 use std::alloc::AllocError;
 
 /// What is kept of each module, and which modules answered since the last time that states were kept: marked, and listed.

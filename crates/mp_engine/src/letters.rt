@@ -5,19 +5,16 @@ ghost use Rattle.mp_netlist.specs.Circuit.{IsCircuit};
 ghost use Rattle.mp_engine.specs.Engines.{IsAfter};
 ghost use Rattle.mp_engine.specs.Letters.{IsOfList, IsOfCalendar, IsOfParts, IsNear, IsTelling, AreLetters, AreEntered, AreTidings, is_sent};
 ghost use Rattle.mp_evaluation.specs.Marks.{is_marked};
-ghost use Rattle.mp_engine.specs.Regions.{home_of};
+ghost use Rattle.mp_regions.specs.Regions.{home_of};
 ghost use Rattle.mp_engine.specs.Stations.{calendar_of, AreTelling};
 ghost use Rattle.mp_engine.specs.declared.letters.Letter.{Letter as Told};
 
 use crate::calendar::enter;
-use crate::division::Division;
 use crate::engine::Engine;
 use crate::entry::{Entries, Entry};
-use crate::heard::{Heard, is_heard};
-use crate::home::home_of;
-use crate::region::Region;
 use crate::station::Station;
 use mp_netlist::WireId;
+use mp_regions::{Division, Heard, Region, home_of, is_heard};
 use std::alloc::{AllocError, Global};
 use std::collections::VecDeque;
 

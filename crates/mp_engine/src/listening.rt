@@ -7,10 +7,10 @@ ghost use Rattle.mp_engine.specs.Lines.{building_at};
 ghost use Rattle.mp_evaluation.specs.Marks.{AreAdded};
 ghost use Rattle.mp_engine.specs.Taps.{IsBefore, IsUnheard, StaysUntil, AreWaves, IsListed, IsTold, IsCalled, AreKept, AreListening};
 
-use crate::region::Region;
 use crate::tap::{Tap, Taps};
 use crate::turns::mark;
 use mp_netlist::ModuleId;
+use mp_regions::Region;
 use mp_wave::{WaveBuilder, WaveChanges};
 use std::alloc::AllocError;
 use std::collections::VecDeque;

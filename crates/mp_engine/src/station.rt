@@ -2,24 +2,23 @@
 ghost use Rattle.std.specs.Prelude.{◌≡◌, ◌-◌, IfOk};
 ghost use Rattle.mp_netlist.specs.Circuit.{IsCircuit};
 ghost use Rattle.mp_netlist.specs.Delays.{least_delay};
-ghost use Rattle.mp_engine.specs.Divisions.{AreRuns, IsDivision};
+ghost use Rattle.mp_engine.specs.Divisions.{AreRuns};
+ghost use Rattle.mp_regions.specs.Divisions.{IsDivision};
 ghost use Rattle.mp_engine.specs.Engines.{IsAfter};
 ghost use Rattle.mp_engine.specs.Letters.{IsTelling};
-ghost use Rattle.mp_engine.specs.Regions.{HasStimuli};
+ghost use Rattle.mp_regions.specs.Regions.{HasStimuli};
 ghost use Rattle.mp_engine.specs.Stations.{AreStations, AreTelling, IsStation, calendar_of};
 
-use crate::division::Division;
 use crate::engine::Engine;
 use crate::finishing::finished;
 use crate::gate::pass_gate;
-use crate::heard::heard_by;
 use crate::letters::{Letter, tell};
 use crate::part_run::PartRun;
-use crate::region::Region;
 use crate::starting::start;
 use crate::stimuli::settings_of;
 use mp_netlist::Netlist;
 use mp_phase::Gate;
+use mp_regions::{Division, Region, heard_by};
 use std::alloc::{AllocError, Global};
 use std::sync::Wait;
 

@@ -3,11 +3,11 @@
 ghost use Rattle.std.specs.Prelude.{◌-◌, ◌<◌, ◌≤◌};
 ghost use Rattle.mp_engine.specs.Engines.{IsAfter, IsSteady};
 
-use crate::division::Division;
 use crate::evaluation::run_units;
 use crate::letters::tell;
 use crate::station::Station;
 use mp_phase::{Gate, Work};
+use mp_regions::Division;
 use std::alloc::{AllocError, Global};
 use std::sync::Wait;
 

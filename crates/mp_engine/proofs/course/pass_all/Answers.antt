@@ -3,9 +3,9 @@ use Rattle.mp_netlist.specs.Delays.{least_delay}
 use Rattle.mp_netlist.proofs.DelayLemmas.{delays_are_least}
 use Rattle.mp_engine.specs.declared.letters.Letter.{Letter}
 use Rattle.mp_engine.specs.declared.station.Station.{Station}
-use Rattle.mp_engine.specs.Divisions.{heard_by}
+use Rattle.mp_regions.specs.Divisions.{heard_by}
 use Rattle.mp_engine.specs.Letters.{AreLetters, AreTidings, IsOfParts}
-use Rattle.mp_engine.specs.Regions.{region}
+use Rattle.mp_regions.specs.Regions.{region}
 use Rattle.mp_engine.specs.Stations.{calendar_of, AreStations, AreTelling}
 use Rattle.mp_engine.proofs.LetterLemmas.{divided_tidings}
 use Rattle.mp_engine.proofs.StationLemmas.{all_passed, all_telling, all_telling_less, has_lists}

@@ -2,13 +2,13 @@ use Rattle.std.proofs.Common.{◌≡◌, ◌+◌, ◌-◌, ◌<◌, ◌≤◌, B
 use Rattle.std.proofs.lemmas.List.{get_or-map, length_push}
 use Rattle.mp_netlist.specs.Circuit.{Circuit, IsCircuit}
 use Rattle.mp_engine.specs.declared.entry.Entry.{Entry}
-use Rattle.mp_engine.specs.Divisions.{heard_by}
+use Rattle.mp_regions.specs.Divisions.{heard_by}
 use Rattle.mp_engine.specs.Engines.{IsAfter}
 use Rattle.mp_engine.specs.Letters.{AreTidings}
-use Rattle.mp_engine.specs.Regions.{region}
+use Rattle.mp_regions.specs.Regions.{region}
 use Rattle.mp_engine.specs.Stations.{calendar_of, IsStation, AreToPass, IsToTell, AreToTell}
-use Rattle.mp_engine.proofs.MergeLemmas.{divided_apart}
-use Rattle.mp_engine.proofs.RegionLemmas.{region_is}
+use Rattle.mp_regions.proofs.DivisionLemmas.{divided_apart}
+use Rattle.mp_regions.proofs.RegionLemmas.{region_is}
 use Rattle.mp_engine.proofs.StationLemmas.{left_low, left_first, left_rest, left_none, to_pass_push, to_tell_push}
 use Rattle.mp_engine.proofs.course.windows_of.Goals as goal
 

@@ -1,13 +1,14 @@
 use Rattle.std.proofs.Common.{◌≡◌, ◌+◌, ◌-◌, ◌<◌, length, drop, rules, ap, sym, subst, ◌∙◌, arith}
 use Rattle.std.proofs.lemmas.List.{length_push}
 use Rattle.mp_netlist.specs.Circuit.{Circuit, IsCircuit}
-use Rattle.mp_engine.specs.Divisions.{heard_by, AreRuns}
+use Rattle.mp_engine.specs.Divisions.{AreRuns}
+use Rattle.mp_regions.specs.Divisions.{heard_by}
 use Rattle.mp_engine.specs.Engines.{IsAfter}
 use Rattle.mp_engine.specs.PartRuns.{IsPartRun}
-use Rattle.mp_engine.specs.Regions.{region}
+use Rattle.mp_regions.specs.Regions.{region}
 use Rattle.mp_engine.specs.Stations.{IsStation}
-use Rattle.mp_engine.proofs.MergeLemmas.{divided_apart}
-use Rattle.mp_engine.proofs.RegionLemmas.{region_is}
+use Rattle.mp_regions.proofs.DivisionLemmas.{divided_apart}
+use Rattle.mp_regions.proofs.RegionLemmas.{region_is}
 use Rattle.mp_engine.proofs.StationLemmas.{left_low, left_first, left_rest, left_none, runs_push}
 use Rattle.mp_engine.proofs.station.runs_of.Goals as goal
 

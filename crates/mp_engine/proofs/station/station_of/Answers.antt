@@ -1,10 +1,10 @@
 use Rattle.std.proofs.Common.{◌≡◌, ℕ, Bool, List, ap, sym, subst, ◌∙◌}
 use Rattle.mp_netlist.specs.Circuit.{Circuit}
-use Rattle.mp_engine.specs.Divisions.{heard_by}
+use Rattle.mp_regions.specs.Divisions.{heard_by}
 use Rattle.mp_engine.specs.Engines.{IsAfter}
-use Rattle.mp_engine.specs.Regions.{HearsOthers, HasStimuli, region}
-use Rattle.mp_engine.proofs.MergeLemmas.{divided_apart}
-use Rattle.mp_engine.proofs.RegionLemmas.{has_stimuli}
+use Rattle.mp_regions.specs.Regions.{HearsOthers, HasStimuli, region}
+use Rattle.mp_regions.proofs.DivisionLemmas.{divided_apart}
+use Rattle.mp_regions.proofs.RegionLemmas.{has_stimuli}
 use Rattle.mp_engine.proofs.station.station_of.Goals as goal
 
 pub new-region-requires : goal.new-region-requires
