@@ -5,13 +5,8 @@ use Rattle.mp_records.specs.declared.edit_error.EditError.{EditError}
 use Rattle.mp_netlist.specs.Circuit.{Circuit}
 use Rattle.mp_netlist.specs.Edits.{after}
 use Rattle.mp_version.specs.Stories.{counted_edit}
-use Rattle.mp_session.specs.Sessions.{Standing}
 use Rattle.mp_work.specs.Work.{IsWork}
-use Rattle.mp_answers.specs.Kept.{Kept, kept_at}
-
--- what is kept where a session stands
-abbrev pub kept_of : Standing → Kept
-kept_of standing = kept_at standing.story standing.last_work
+use Rattle.mp_answers.specs.Kept.{Kept}
 
 -- a netlist before the first edit
 abbrev pub opened : Circuit → Kept

@@ -7,12 +7,10 @@ ghost use Rattle.mp_command_runs.specs.Openings.{opening_of};
 
 use crate::meeting_faults::fault_of_meeting;
 use crate::met_lines::put_met;
+use crate::sessions::Sessions;
 use mp_command_runs::{Command, Options, RunFault, opened};
 use mp_desk::DeskSize;
-use mp_engine::OpenGate;
-use mp_meeting::meet;
 use mp_phase::Crew;
-use mp_session::Session;
 use mp_streams::{Out, Sink};
 use mp_text::{divided, parts};
 use std::alloc::{AllocError, Global};
@@ -23,9 +21,11 @@ use std::thread::Threads;
 /// time, each in turn, while viewers read. Then a line for each designer is written, a line for each viewer, and the lines of the waves of
 /// the netlist to which the accepted edits led.
 #[derive(Drop)]
-pub struct Desk;
+pub struct Desk<P: Sessions + Drop> {
+    pub sessions: P,
+}
 
-impl Command for Desk {
+impl<P: Sessions + Drop> Command for Desk<P> {
     ghost opening = { λ _ input options. opening_of (first_part (lines_of input)) (has_valid_desk (length (blocks_of input)) options) };
 
     ghost IsText = { λ _ input options n text. IsDeskText n (blocks_of input) options.viewers text };
@@ -42,8 +42,8 @@ impl Command for Desk {
     ) -> Result<(), RunFault> {
         let (front, blocks) = split(alloc, input)?;
         let (netlist, (crew, size)) = opened(alloc, front, desk_crew(options, blocks.len()))?;
-        let session = Session::open(rt, alloc, &netlist, crew, OpenGate)?;
-        match meet(rt, alloc, session, blocks.as_slice(), size) {
+        let session = self.sessions.open(rt, alloc, &netlist, crew)?;
+        match P::meet(rt, alloc, session, blocks.as_slice(), size) {
             Ok(met) => Ok(put_met(out, &met, crew)?),
             Err(fault) => Err(fault_of_meeting(fault)),
         }

@@ -1,48 +1,48 @@
 //! A netlist with its waves, which a script edits.
 ghost use Rattle.std.specs.Prelude.{◌≡◌};
 
+use crate::sessions::Sessions;
 use mp_answers::Snapshot;
-use mp_engine::OpenGate;
 use mp_netlist::{Edit, EditError, Netlist};
 use mp_phase::Crew;
-use mp_session::Session;
+use mp_version::EditSession;
 use std::alloc::{AllocError, Global};
 use std::marker::Model;
 use std::sync::Wait;
 use std::thread::Threads;
 
-/// A session in which no module waits: a netlist, its waves, the edits that led to it, and what was evaluated for the last of them.
+/// A session: a netlist, its waves, the edits that led to it, and what was evaluated for the last of them.
 #[derive(Drop)]
-pub struct Keeper {
-    session: Session<OpenGate>,
+pub struct Keeper<P: Sessions> {
+    session: P::Session,
     crew: Crew,
 }
 
-impl Model for Keeper {
-    ghost use Rattle.mp_answers.specs.Kept.{Kept};
-    ghost use Rattle.mp_commands.specs.Keepers.{kept_of};
+impl<P: Sessions> Model for Keeper<P> {
+    ghost use Rattle.mp_answers.specs.Kept.{Kept, kept_at};
 
     ghost Value = { Kept };
 
-    ghost view = { λ keeper. kept_of keeper.session };
+    ghost view = { λ keeper. kept_at (P.Session.story keeper.session) (P.work keeper.session) };
 }
 
-impl Keeper {
+impl<P: Sessions> Keeper<P> {
     ghost use Rattle.std.specs.Prelude.{◌≡◌, Ok, IfOk, IfErr, OnOk, OnErr, length};
     ghost use Rattle.mp_netlist.specs.Edits.{RefusedBy};
     ghost use Rattle.mp_commands.specs.Keepers.{opened, judged, IsOneMore};
 
     /// The netlist before the first edit.
     pub fn new<R: Threads + Wait + Sync>(
+        sessions: &P,
         rt: &R,
         alloc: Global,
         netlist: &Netlist,
         crew: Crew,
-    ) -> Result<Keeper, AllocError>
+    ) -> Result<Self, AllocError>
         ensures { IfOk result (λ keeper. keeper ≡ opened netlist.now) }
     {
         Ok(Keeper {
-            session: Session::open(rt, alloc, netlist, crew, OpenGate)?,
+            session: sessions.open(rt, alloc, netlist, crew)?,
             crew,
         })
     }
@@ -53,7 +53,7 @@ impl Keeper {
     {
         Snapshot {
             version: self.session.version(),
-            work: self.session.last_work(),
+            work: P::last_work(&self.session),
             crew: self.crew,
         }
     }
@@ -67,7 +67,7 @@ impl Keeper {
         ensures refused { IfErr result (RefusedBy edit (judged self.old edit)) }
         ensures err { OnErr result (self.new ≡ self.old) }
     {
-        self.session.take(rt, edit)?;
+        P::take(&mut self.session, rt, edit)?;
         Ok(self.session.version().number())
     }
 }

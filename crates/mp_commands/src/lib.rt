@@ -10,6 +10,7 @@ mod play;
 mod player;
 mod replies;
 mod script_opening;
+mod sessions;
 
 pub use desk::Desk;
 pub use keeper::Keeper;
@@ -19,3 +20,4 @@ pub use play::Play;
 pub use player::Player;
 pub use replies::put_reply;
 pub use script_opening::open_keeper;
+pub use sessions::Sessions;

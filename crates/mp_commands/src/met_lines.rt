@@ -6,21 +6,20 @@ ghost use Rattle.mp_streams.specs.Outgoing.{Writes};
 ghost use Rattle.mp_commands.specs.Desks.{tally_line, viewer_line, met_text};
 ghost use Rattle.mp_answers.specs.NumberedLines.{lines_from};
 
-use mp_engine::OpenGate;
 use mp_meeting::{Met, Tally};
 use mp_phase::Crew;
-use mp_session::Session;
 use mp_streams::{Failed, Out, Sink, Text};
+use mp_version::EditSession;
 use mp_views::{Evaluated, put_wave_lines};
 
 /// Writes a line for each designer, a line for each viewer, and the lines of the waves after the meeting.
-pub fn put_met<T: Sink>(
+pub fn put_met<S: EditSession, T: Sink>(
     out: &mut Out<T>,
-    met: &Met<Session<OpenGate>>,
+    met: &Met<S>,
     crew: Crew,
 ) -> Result<(), Failed>
-    ensures replayed { replay met.now.session.story.base met.now.session.story.edits ≡ Ok (present met.now.session.story) }
-    ensures written { Writes result out.old out.new (met_text met.now.tallies.items met.now.numbers.items (present met.now.session.story)) }
+    ensures replayed { replay (S.story met.now.session).base (S.story met.now.session).edits ≡ Ok (present (S.story met.now.session)) }
+    ensures written { Writes result out.old out.new (met_text met.now.tallies.items met.now.numbers.items (present (S.story met.now.session))) }
 {
     let version = met.session.version();
     let of = Evaluated {

@@ -9,6 +9,7 @@ ghost use Rattle.mp_commands.specs.Plays.{AreReplies, PutsReplies};
 
 use crate::keeper::Keeper;
 use crate::replies::put_reply;
+use crate::sessions::Sessions;
 use mp_command_runs::{Command, Options, RunFault, opened};
 use mp_streams::{Out, Sink, WriteError};
 use mp_text::{divided, first_line};
@@ -19,9 +20,11 @@ use std::thread::Threads;
 /// The input is a netlist's text and, behind a line `---`, a script. Each line of the script is answered in turn: an edit by `accepted N`
 /// or `refused CODE NAME`, a question by its answer, and a line that is not read by `unread CODE NAME`.
 #[derive(Drop)]
-pub struct Play;
+pub struct Play<P: Sessions + Drop> {
+    pub sessions: P,
+}
 
-impl Command for Play {
+impl<P: Sessions + Drop> Command for Play<P> {
     ghost opening = { λ _ input options. opening_of (first_part (lines_of input)) (has_valid_crew options) };
 
     ghost IsText = { λ _ input _ n text. AreReplies (opened_kept n) (later_parts (lines_of input)) text };
@@ -38,17 +41,17 @@ impl Command for Play {
     ) -> Result<(), RunFault> {
         let (front, script) = divided(alloc, input)?;
         let (netlist, crew) = opened(alloc, front, options.crew())?;
-        let mut keeper = Keeper::new(rt, alloc, &netlist, crew)?;
+        let mut keeper = Keeper::new(&self.sessions, rt, alloc, &netlist, crew)?;
         Ok(put_replies(rt, alloc, out, &mut keeper, script)?)
     }
 }
 
 /// Writes the replies to the lines of a script in turn.
-fn put_replies<R: Threads + Wait + Sync, T: Sink>(
+fn put_replies<R: Threads + Wait + Sync, T: Sink, P: Sessions>(
     rt: &R,
     alloc: Global,
     out: &mut Out<T>,
-    keeper: &mut Keeper,
+    keeper: &mut Keeper<P>,
     script: &[u8],
 ) -> Result<(), WriteError>
     ensures { PutsReplies result out.old out.new keeper.old (lines_of script.now) }

@@ -1,6 +1,7 @@
 //! Who answers the lines of a script.
 use crate::keeper::Keeper;
 use crate::replies::put_reply;
+use crate::sessions::Sessions;
 use mp_answers::put_too_long;
 use mp_lines::LineReader;
 use mp_streams::{Out, Sink, Source, WriteError};
@@ -13,12 +14,12 @@ use std::thread::Threads;
 /// Answers the lines of a script, and keeps the netlist that it edits: an edit, a question or a line that isn't read as `play` answers it, and a line
 /// of more than 65,536 bytes by `unread 8 TooLong`.
 #[derive(Drop)]
-pub struct Player {
+pub struct Player<P: Sessions> {
     alloc: Global,
-    keeper: Keeper,
+    keeper: Keeper<P>,
 }
 
-impl Model for Player {
+impl<P: Sessions> Model for Player<P> {
     ghost use Rattle.mp_answers.specs.Kept.{Kept};
 
     ghost Value = { Kept };
@@ -26,14 +27,14 @@ impl Model for Player {
     ghost view = { λ player. player.keeper };
 }
 
-impl Player {
+impl<P: Sessions> Player<P> {
     ghost use Rattle.std.specs.Prelude.{◌≡◌, []};
     ghost use Rattle.mp_talk.specs.Conversations.{Conversed};
     ghost use Rattle.mp_talk.specs.TalkFaults.{counted_reads};
     ghost use Rattle.mp_commands.specs.LineAnswers.{IsAnswer};
 
     /// Who edits what is kept.
-    pub fn new(alloc: Global, keeper: Keeper) -> Player
+    pub fn new(alloc: Global, keeper: Keeper<P>) -> Self
         ensures { result ≡ keeper }
     {
         Player { alloc, keeper }
@@ -58,7 +59,7 @@ impl Player {
     }
 }
 
-impl Answerer for Player {
+impl<P: Sessions> Answerer for Player<P> {
     ghost use Rattle.mp_commands.specs.LineAnswers.{IsAnswer};
 
     ghost Answers = { IsAnswer };

@@ -4,6 +4,7 @@ ghost use Rattle.mp_text.specs.ScriptLines.{line_at};
 ghost use Rattle.mp_commands.specs.Replies.{PutsReply, PutsEdit};
 
 use crate::keeper::Keeper;
+use crate::sessions::Sessions;
 use mp_answers::{put_accepted, put_answer, put_refused, put_unread};
 use mp_netlist::Edit;
 use mp_streams::{Failed, Out, Sink, WriteError};
@@ -13,11 +14,11 @@ use std::sync::Wait;
 use std::thread::Threads;
 
 /// Writes the reply to a line of a script, after its edit, if it is one. A line without words has none.
-pub fn put_reply<R: Threads + Wait + Sync, T: Sink>(
+pub fn put_reply<R: Threads + Wait + Sync, T: Sink, P: Sessions>(
     rt: &R,
     alloc: Global,
     out: &mut Out<T>,
-    keeper: &mut Keeper,
+    keeper: &mut Keeper<P>,
     line: &[u8],
 ) -> Result<(), WriteError>
     ensures { PutsReply result out.old out.new keeper.old keeper.new (line_at line.now) }
@@ -30,11 +31,11 @@ pub fn put_reply<R: Threads + Wait + Sync, T: Sink>(
 }
 
 /// Writes the reply to a line that was read.
-fn put_line_reply<R: Threads + Wait + Sync, T: Sink>(
+fn put_line_reply<R: Threads + Wait + Sync, T: Sink, P: Sessions>(
     rt: &R,
     alloc: Global,
     out: &mut Out<T>,
-    keeper: &mut Keeper,
+    keeper: &mut Keeper<P>,
     line: Line,
 ) -> Result<(), WriteError>
     ensures { PutsReply result out.old out.new keeper.old keeper.new (Ok line) }
@@ -47,10 +48,10 @@ fn put_line_reply<R: Threads + Wait + Sync, T: Sink>(
 }
 
 /// Makes the edit, and writes whether it is accepted.
-fn put_change<R: Threads + Wait + Sync, T: Sink>(
+fn put_change<R: Threads + Wait + Sync, T: Sink, P: Sessions>(
     rt: &R,
     out: &mut Out<T>,
-    keeper: &mut Keeper,
+    keeper: &mut Keeper<P>,
     edit: Edit,
 ) -> Result<(), Failed>
     ensures { PutsEdit result out.old out.new keeper.old keeper.new edit }

@@ -6,6 +6,7 @@ ghost use Rattle.mp_command_runs.specs.RunFaults.{counted_reads};
 ghost use Rattle.mp_commands.specs.ScriptOpenings.{OpensAs, StaysShut};
 
 use crate::keeper::Keeper;
+use crate::sessions::Sessions;
 use mp_command_runs::{Options, RunFault, read_opening};
 use mp_streams::Source;
 use std::alloc::Global;
@@ -14,17 +15,18 @@ use std::thread::Threads;
 
 /// Reads the text of a netlist, all that the source has, and evaluates it. `ReadFailed` comes with a fault of the source; then `Text` where the
 /// input is too long or the text is not read, `BadCount` where the options have no valid crew, and `OutOfMemory` where memory is wanting.
-pub fn open_keeper<R: Threads + Wait + Sync, S: Source>(
+pub fn open_keeper<R: Threads + Wait + Sync, S: Source, P: Sessions>(
+    sessions: &P,
     rt: &R,
     alloc: Global,
     source: &mut S,
     options: &Options,
-) -> Result<Keeper, RunFault>
+) -> Result<Keeper<P>, RunFault>
     ensures opened { IfOk result (λ keeper. OpensAs (S.left source.old) options.now keeper) }
     ensures refused { IfErr result (StaysShut (S.left source.old) options.now) }
     ensures taken { ConsumesUpTo max_taken (S.left source.old) (S.left source.new) }
     ensures read_faults { S.fault_count source.new ≡ counted_reads result (S.fault_count source.old) }
 {
     let (netlist, crew) = read_opening(alloc, source, options.crew())?;
-    Ok(Keeper::new(rt, alloc, &netlist, crew)?)
+    Ok(Keeper::new(sessions, rt, alloc, &netlist, crew)?)
 }

@@ -1,6 +1,7 @@
 //! A script that edits a netlist, and is answered as it comes.
 ghost use Rattle.std.specs.Prelude.{◌≡◌, []};
 
+use crate::open_sessions::OpenSessions;
 use mp_command_runs::{Options, RunFault};
 use mp_commands::{Player, open_keeper};
 use mp_lines::LineReader;
@@ -19,7 +20,7 @@ pub(crate) fn run_live_play<R: Runtime + Threads + Wait + Sync + AllocGlobal, S:
     options: &Options,
     is_typed: bool,
 ) -> Result<(), RunFault> {
-    let keeper = open_keeper(rt, rt.alloc(), file, options)?;
+    let keeper = open_keeper(&OpenSessions, rt, rt.alloc(), file, options)?;
     let mut player = Player::new(rt.alloc(), keeper);
     let script = ReadSource::new(rt.reader());
     if is_typed {
@@ -32,7 +33,7 @@ pub(crate) fn run_live_play<R: Runtime + Threads + Wait + Sync + AllocGlobal, S:
 /// Answers the lines of a script on standard output.
 fn talk<R: Print + Threads + Wait + Sync + AllocGlobal, S: Source + Drop>(
     rt: &R,
-    player: &mut Player,
+    player: &mut Player<OpenSessions>,
     script: S,
 ) -> Result<(), RunFault> {
     let mut lines = LineReader::new(rt.alloc(), script)?;

@@ -4,6 +4,7 @@
 mod explained;
 mod live_desk;
 mod live_play;
+mod open_sessions;
 mod running;
 mod telling;
 

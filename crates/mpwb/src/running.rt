@@ -1,6 +1,7 @@
 //! How each command is run.
 ghost use Rattle.std.specs.Prelude.{◌≡◌, []};
 
+use crate::open_sessions::OpenSessions;
 use mp_command_runs::{Options, RunFault, Viewed, run_command};
 use mp_commands::{Desk, Play};
 use mp_netlist::Name;
@@ -65,8 +66,14 @@ fn run_named<R: Threads + Wait + Sync + AllocGlobal, S: Source, T: Sink>(
             run_view(rt, source, out, options, chain(names, *time, *steps))
         }
         Command::Path { time, .. } => run_view(rt, source, out, options, path(names, *time)),
-        Command::Play => run_command(rt, rt.alloc(), source, out, options, &Play),
-        Command::Desk => run_command(rt, rt.alloc(), source, out, options, &Desk),
+        Command::Play => {
+            let sessions = OpenSessions;
+            run_command(rt, rt.alloc(), source, out, options, &Play { sessions })
+        }
+        Command::Desk => {
+            let sessions = OpenSessions;
+            run_command(rt, rt.alloc(), source, out, options, &Desk { sessions })
+        }
         // its netlist is in a file, since its standard input has lines
         Command::LiveDesk { .. } => Err(RunFault::ReadFailed),
     }

@@ -31,8 +31,8 @@ returns-in_err-put_met-in-Ok g c =
     let is_opened = rw (c.desk_crew.ensures.valid, c.len.ensures, count, c.in_ok-front.ensures.front) at c.in_ok-netlist.ensures.netlist in
     let sizes = rw c.in_ok-netlist.ensures.crew at c.desk_crew.ensures.size in
     let seen : length m.numbers.items ≡ viewers = search rules in
-    let meeting = rw (c.in_ok-session.ensures, c.as_slice.ensures.value, c.in_ok-front.ensures.blocks) at c.in-Ok.ensures.met in
-    let text = is_text c.in_ok-netlist.netlist (blocks_of c.args.input.now) viewers m.session.story m.tallies.items m.numbers.items meeting seen c.in_err-put_met-in-Ok.ensures.replayed in
+    let meeting = rw (c.in_ok-session.ensures.story, c.as_slice.ensures.value, c.in_ok-front.ensures.blocks) at c.in-Ok.ensures.met in
+    let text = is_text c.in_ok-netlist.netlist (blocks_of c.args.input.now) viewers _ m.tallies.items m.numbers.items meeting seen c.in_err-put_met-in-Ok.ensures.replayed in
     wrote_part true _ _ c.in_ok-netlist.netlist is_opened _ text _ _ r.result writes.WriteFailed r.ensures.1
     (puts_as (Err writes.WriteFailed) writes.WriteFailed refl refl c.in_err-put_met-in-Ok.ensures.written)
 
@@ -44,6 +44,6 @@ returns-in-Ok g c =
     let is_opened = rw (c.desk_crew.ensures.valid, c.len.ensures, count, c.in_ok-front.ensures.front) at c.in_ok-netlist.ensures.netlist in
     let sizes = rw c.in_ok-netlist.ensures.crew at c.desk_crew.ensures.size in
     let seen : length m.numbers.items ≡ viewers = search rules in
-    let meeting = rw (c.in_ok-session.ensures, c.as_slice.ensures.value, c.in_ok-front.ensures.blocks) at c.in-Ok.ensures.met in
-    let text = is_text c.in_ok-netlist.netlist (blocks_of c.args.input.now) viewers m.session.story m.tallies.items m.numbers.items meeting seen c.in_ok-put_met-in-Ok.ensures.replayed in
+    let meeting = rw (c.in_ok-session.ensures.story, c.as_slice.ensures.value, c.in_ok-front.ensures.blocks) at c.in-Ok.ensures.met in
+    let text = is_text c.in_ok-netlist.netlist (blocks_of c.args.input.now) viewers _ m.tallies.items m.numbers.items meeting seen c.in_ok-put_met-in-Ok.ensures.replayed in
     wrote true _ _ c.in_ok-netlist.netlist is_opened _ text _ _ (puts_ok c.in_ok-put_met-in-Ok.ensures.written)
