@@ -9,7 +9,8 @@ import reference
 from circuit import Refused
 from reader import Fault
 
-LONGEST = 4_194_304
+# how many bytes a text may have, and with `format 3`
+SHORT, LONG = 4_194_304, 1_073_741_824
 MOST_EDITS = 4096
 
 
@@ -41,9 +42,16 @@ def sections(text):
     return ["".join(lines) for lines in found]
 
 
+def longest(text):
+    """How many bytes a text may have that begins so."""
+    words = next((words for words in map(reader.words_of, reader.lines_of(text[: SHORT + 1])) if words), [])
+    is_third = len(words) == 2 and words[0] == "format" and re.fullmatch("0{0,19}3", words[1])
+    return LONG if is_third else SHORT
+
+
 def opened(text):
     """The netlist of a text, or the answer where there is none."""
-    if len(text) > LONGEST:
+    if len(text) > longest(text):
         return None, complaint(1, "line 0: 8 TooLong")
     try:
         return reader.netlist(text), None
@@ -132,7 +140,7 @@ class Keeper:
 def play(text, lacking=frozenset()):
     """The answer, where memory is lacking for the edits of the lines of the script with these places."""
     front, *script = sections(text)
-    circuit, fault = opened(front) if len(text) <= LONGEST else opened(text)
+    circuit, fault = opened(front) if len(text) <= longest(text) else opened(text)
     if fault:
         return fault
     keeper, rest = Keeper(circuit), text[len(front) :].partition("\n")[2] if script else ""
@@ -142,7 +150,7 @@ def play(text, lacking=frozenset()):
 def desk(text, viewers=2):
     """The answer, where the edits of each designer leave those of the others as they are."""
     front, *blocks = sections(text)
-    circuit, fault = opened(front) if len(text) <= LONGEST else opened(text)
+    circuit, fault = opened(front) if len(text) <= longest(text) else opened(text)
     if fault:
         return fault
     if not 1 <= len(blocks) <= 8 or not 1 <= viewers <= 32:

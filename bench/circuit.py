@@ -11,6 +11,8 @@ NAMES = dict(
     )
 )
 GREATEST = 65535
+# how many wires, modules and bundles there may be, and with `format 3`
+LIMITS = {False: (8192, 4096, 1024), True: (2_097_152, 1_048_576, 262_144)}
 
 
 class Refused(Exception):
@@ -38,8 +40,9 @@ def place_of(names, things, name):
 class Circuit:
     """Each method is an edit: it is made, or `Refused` is raised. After that the circuit may be half made, so edits go to a copy."""
 
-    def __init__(self, horizon):
-        self.horizon = horizon
+    def __init__(self, horizon, is_large=False):
+        self.horizon, self.is_large = horizon, is_large
+        self.most_wires, self.most_modules, self.most_bundles = LIMITS[is_large]
         self.wires, self.modules, self.module_names, self.bundles, self.stimuli = [], [], [], [], {}
 
     def wire(self, name):
@@ -69,7 +72,7 @@ class Circuit:
         self.check_name(name, self.wire(name))
         check(6, 1 <= width <= 64)
         check(7, level < 1 << width)
-        check(17, len(self.wires) < 8192)
+        check(17, len(self.wires) < self.most_wires)
         self.wires.append((name, width, level))
 
     def remove_wire(self, name):
@@ -95,7 +98,7 @@ class Circuit:
         check(8, all(1 <= delay <= GREATEST for _, delay in outputs) and all(delay <= GREATEST for _, delay in inputs))
         new = [wire for wire, _ in outputs if wire is not None]
         check(13, len(set(new)) == len(new) and not set(new) & (set(self.driven()) | set(self.stimuli)))
-        check(17, len(self.modules) < 4096)
+        check(17, len(self.modules) < self.most_modules)
         self.modules.append((kind, params, inputs, outputs))
         self.module_names.append(name)
 
@@ -110,7 +113,7 @@ class Circuit:
         check(3, None not in wires)
         check(12, all(self.width(wire) == 1 for wire in wires[:2]))
         check(11, setup <= GREATEST)
-        check(17, len(self.bundles) < 1024)
+        check(17, len(self.bundles) < self.most_bundles)
         self.bundles.append((name, *wires, setup))
 
     def remove_bundle(self, name):

@@ -158,6 +158,10 @@ def edited(circuit, made):
     return new
 
 
+# the greatest horizon of each form of a text
+HORIZONS = {1: 65536, 2: 1_048_576, 3: 1_073_741_824}
+
+
 def statement(circuit, words, is_first, greatest):
     """The circuit after a statement, and the greatest horizon."""
     first = words[0]
@@ -173,15 +177,15 @@ def statement(circuit, words, is_first, greatest):
     want(3, len(words) == 2)
     found = number(words[1])
     if first == "format":
-        want(10, found in (1, 2))
-        return None, 65536 if found == 1 else 1048576
+        want(10, found in HORIZONS)
+        return None, HORIZONS[found]
     want(4, 1 <= found <= greatest)
-    return Circuit(found), greatest
+    return Circuit(found, greatest == HORIZONS[3]), greatest
 
 
 def netlist(text):
     """The netlist of a text, or `Fault` with the line in its words."""
-    circuit, is_first, greatest, at = None, True, 65536, 0
+    circuit, is_first, greatest, at = None, True, HORIZONS[1], 0
     try:
         for at, line in enumerate(lines_of(text), 1):
             want(1, is_allowed(line))

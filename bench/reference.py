@@ -224,17 +224,15 @@ def findings(netlist, levels, at_modules):
     return sorted(found, key=lambda one: (one[0], one[1] == "bundle", one[2], CODES.index(one[3])))
 
 
-BLOCK = 1024
-
-
 def windows(netlist):
     """The windows of a netlist, each with the begin of its block."""
+    units = 1024 if netlist.horizon <= 1_048_576 else 1_048_576
     delays = [delay for found in netlist.modules if found for wire, delay in found[3] if wire is not None]
     least = min(delays, default=netlist.horizon)
     start = 0
     while start < netlist.horizon:
-        block = start - start % BLOCK
-        end = min(start + least, block + BLOCK, netlist.horizon)
+        block = start - start % units
+        end = min(start + least, block + units, netlist.horizon)
         yield block, start, end
         start = end
 

@@ -233,7 +233,7 @@ class Sweep:
         with open("/dev/zero", "rb") as zeros:
             done = runner.run(self.words, b"", source=zeros.fileno())
         right = answers.complaint(1, "line 0: 8 TooLong")
-        is_right = is_whole(done, right) and done.bytes_read == answers.LONGEST + 1
+        is_right = is_whole(done, right) and done.bytes_read == answers.SHORT + 1
         return [] if is_right else [self.told(f"{done.bytes_read} bytes read", done, right)]
 
     def prefixes(self, runner):

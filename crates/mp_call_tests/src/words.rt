@@ -37,7 +37,9 @@ fn refused_edits(rt: HostRuntime) -> Result<(), Fail> {
 #[test]
 fn refused_netlists(rt: HostRuntime) -> Result<(), Fail> {
     let text = format!(in rt.alloc(); "{}; {}", NewError::BadHorizon, NewError::OutOfMemory)?;
-    assert!(rt; text.as_str() == "the horizon is not 1 to 1048576; out of memory");
+    assert!(rt;
+        text.as_str() == "the horizon is not 1 to the longest of its format; out of memory"
+    );
     Ok(())
 }
 

@@ -1,3 +1,4 @@
+pub mod TakenLemmas
 pub mod InputLemmas
 pub mod RunLemmas
 mod ViewLemmas

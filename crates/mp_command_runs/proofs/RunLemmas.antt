@@ -1,6 +1,5 @@
 -- The ends of a run.
 use Rattle.std.proofs.Common.{◌≡◌, ℕ, ◌+◌, ◌<◌, ◌≤◌, ◌⊎◌, inl, inr, Bool, false, List, [], ◌++◌, length, Option, Result, Ok, Err, IsErrAnd, refl, sym, ap, subst, ◌∙◌, arith}
-use Rattle.std.proofs.lemmas.Bool.{le-leb}
 use Rattle.std.proofs.lemmas.List.{length-append}
 use Rattle.std.proofs.lemmas.Result.{err_from_is_err_and}
 use Rattle.mp_netlist.specs.Circuit.{Circuit}
@@ -16,12 +15,9 @@ use Rattle.mp_words.specs.declared.line_error.LineError.TheVariants as lines
 use Rattle.mp_text.specs.declared.text_code.TextCode.{TextCode}
 use Rattle.mp_text.specs.declared.text_code.TextCode.TheVariants as texts
 use Rattle.mp_text.specs.declared.text_error.TextError.{TextError}
-use Rattle.mp_text.specs.declared.text_state.TextState.TheVariants.{Fresh}
-use Rattle.mp_text.specs.Texts.{text_at, after_lines}
-use Rattle.mp_words.specs.Lines.{lines_of}
+use Rattle.mp_text.specs.Sizes.{text_limit}
 use Rattle.mp_command_runs.specs.declared.run_fault.RunFault.{RunFault}
 use Rattle.mp_command_runs.specs.declared.run_fault.RunFault.TheVariants.{Text, ReadFailed, WriteFailed, OutOfMemory, NoPlace}
-use Rattle.mp_command_runs.specs.Limits.{max_input}
 use Rattle.mp_command_runs.specs.Openings.{counted_netlist, within_size}
 use Rattle.mp_command_runs.specs.RunFaults.{fault_of_text, fault_at, fault_of_write}
 use Rattle.mp_command_runs.specs.Runs.{IsInput, HasInput, StaysUnread, Refuses, WritesOne, Ran, RanFrom}
@@ -105,7 +101,7 @@ module _ {S : Type 0} (seats : Bool) (opening : List ℕ → Result Circuit RunF
   RanOf b r = RanFrom r left (λ input. Ran seats r (within_size opening input) (IsText input) a b) a b
 
   -- what is made of its input is made of the source
-  pub from_input : (b : Outgoing S) (r : Result (Unit {0}) RunFault) (input : List ℕ) → IsInput left input → length input ≤ max_input → Ran seats r (opening input) (IsText input) a b → RanOf b r
+  pub from_input : (b : Outgoing S) (r : Result (Unit {0}) RunFault) (input : List ℕ) → IsInput left input → length input ≤ text_limit input → Ran seats r (opening input) (IsText input) a b → RanOf b r
   from_input b r input is short ran =
       let whole : Ran seats r (within_size opening input) (IsText input) a b = rw (within_size-short opening input short) ran in
       by r (input, is, whole)
@@ -127,10 +123,6 @@ module _ {S : Type 0} (seats : Bool) (opening : List ℕ → Result Circuit RunF
   unread_source r fault is unread = let p = err_from_is_err_and r is in rw (p.1, p.2) (unread_by fault unread)
 
 -- ---- a netlist that is not read
-
-pub text_at-short : (text : List ℕ) → length text ≤ max_input → text_at text ≡ after_lines 0 Fresh (lines_of text)
-unfolding text_at
-text_at-short text short = rw (le-leb (length text) max_input short) refl
 
 pub refused_text : (read : Result Circuit TextError) (valid : Bool) (error : TextError) → (error.code ≡ texts.Line lines.OutOfMemory) ⊎ (read ≡ Err error) → Refuses false (counted_netlist read valid) (fault_of_text error)
 refused_text read valid error (inl memory) = rw memory tt

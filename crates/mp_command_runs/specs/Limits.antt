@@ -1,14 +1,10 @@
 -- The limits of a run.
-use Rattle.std.specs.Prelude.{ℕ, ◌+◌}
+use Rattle.std.specs.Prelude.{ℕ}
 use Rattle.mp_text.specs.Limits.{max_text}
 
--- how many bytes an input may have: as many as a text
+-- how many bytes an input may have: as many as a text of any form
 abbrev pub max_input : ℕ
 max_input = max_text
-
--- how many bytes a run takes of its source: with one byte too many an input is known to be too long
-abbrev pub max_taken : ℕ
-max_taken = max_input + 1
 
 -- how many workers there may be
 abbrev pub max_workers : ℕ

@@ -1,5 +1,5 @@
 -- How an input opens.
-use Rattle.std.specs.Prelude.{ℕ, Bool, List, length, Option, Some, None, Result, Ok, Err, nat_le, if◌then◌else◌}
+use Rattle.std.specs.Prelude.{ℕ, ◌+◌, Bool, List, length, take, Option, Some, None, Result, Ok, Err, nat_le, if◌then◌else◌}
 use Rattle.mp_netlist.specs.Circuit.{Circuit}
 use Rattle.mp_text.specs.declared.text_code.TextCode.TheVariants.{TooLong}
 use Rattle.mp_text.specs.declared.text_error.TextError.{TextError}
@@ -8,7 +8,7 @@ use Rattle.mp_text.specs.Texts.{after_lines}
 use Rattle.mp_command_runs.specs.declared.run_fault.RunFault.{RunFault}
 use Rattle.mp_command_runs.specs.declared.run_fault.RunFault.TheVariants.{Text, BadCount, NoSuchWire}
 use Rattle.mp_views.specs.AskedWires.{missing_at}
-use Rattle.mp_command_runs.specs.Limits.{max_input}
+use Rattle.mp_text.specs.Sizes.{text_limit}
 
 -- a fault of the text is told before one of the options
 abbrev pub counted_netlist : Result Circuit TextError → Bool → Result Circuit RunFault
@@ -38,6 +38,10 @@ viewed_opening wires (Some view) opening = with_wires (wires view) opening
 abbrev pub too_long : RunFault
 too_long = Text (record { line = 0; code = TooLong })
 
+-- what is taken of an input: as many bytes as it may have, and one more
+abbrev pub taken_of : List ℕ → List ℕ
+taken_of input = take (text_limit input + 1) input
+
 -- an input that is too long doesn't open
 abbrev pub within_size : (List ℕ → Result Circuit RunFault) → List ℕ → Result Circuit RunFault
-within_size opening input = if nat_le (length input) max_input then opening input else Err too_long
+within_size opening input = if nat_le (length input) (text_limit input) then opening input else Err too_long

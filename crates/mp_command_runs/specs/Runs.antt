@@ -1,19 +1,24 @@
 -- What a run takes of its source, and what it makes of its output.
-use Rattle.std.specs.Prelude.{◌≡◌, ◌⊎◌, ℕ, ◌<◌, ◌≤◌, length, Some, None, Bool, true, List, [], Option, Result, Ok, Err, IsOk, IsOkAnd}
+use Rattle.std.specs.Prelude.{◌≡◌, ◌⊎◌, ℕ, ◌+◌, ◌<◌, ◌≤◌, length, IfSome, Some, None, Bool, true, List, [], Option, Result, Ok, Err, IsOk, IsOkAnd}
 use Rattle.mp_streams.specs.Outgoing.{Outgoing}
+use Rattle.mp_streams.specs.StreamBytes.{ConsumesUpTo}
 use Rattle.mp_streams.specs.WriteErrors.{Writes}
 use Rattle.mp_streams.specs.declared.write_error.WriteError.{WriteError}
 use Rattle.mp_streams.specs.declared.write_error.WriteError.TheVariants as writes
 use Rattle.mp_netlist.specs.Circuit.{Circuit}
-use Rattle.mp_command_runs.specs.Limits.{max_input, max_taken}
+use Rattle.mp_text.specs.Sizes.{text_limit}
 use Rattle.mp_command_runs.specs.Openings.{too_long}
 use Rattle.mp_command_runs.specs.declared.run_fault.RunFault.{RunFault}
 use Rattle.mp_command_runs.specs.declared.run_fault.RunFault.TheVariants.{Text, BadCount, ReadFailed, WriteFailed, OutOfMemory, NoPlace, NoSuchWire}
 
--- the input of a run: all bytes of its source, where it tells them, and else no more than a run takes
+-- the input of a run: all bytes of its source, where it tells them, and else no more than an input may have, and one
 abbrev pub IsInput : Option (List ℕ) → List ℕ → Type 0
 IsInput (Some bytes) input = input ≡ bytes
-IsInput None input = length input ≤ max_taken
+IsInput None input = length input ≤ text_limit input + 1
+
+-- a run takes no more bytes of its source than the input may have, and one, by which it is known to be too long
+abbrev pub TakesInput : Option (List ℕ) → Option (List ℕ) → Type 0
+TakesInput left new = IfSome left (λ bytes. ConsumesUpTo (text_limit bytes + 1) left new)
 
 -- a source has an input of which this holds
 abbrev pub HasInput : Option (List ℕ) → (List ℕ → Type 0) → Type 0
@@ -23,7 +28,7 @@ HasInput left Holds = (input : List ℕ) × IsInput left input × Holds input
 abbrev pub StaysUnread : Option (List ℕ) → RunFault → Type 0
 StaysUnread left ReadFailed = Unit {0}
 StaysUnread left OutOfMemory = Unit {0}
-StaysUnread left fault = (fault ≡ too_long) × HasInput left (λ input. max_input < length input)
+StaysUnread left fault = (fault ≡ too_long) × HasInput left (λ input. text_limit input < length input)
 
 -- why nothing is written of an input that opens so, or doesn't: a place may be wanting only where some sit down
 abbrev pub Refuses : Bool → Result Circuit RunFault → RunFault → Type 0

@@ -2,13 +2,12 @@
 ghost use Rattle.std.specs.Prelude.{◌≡◌, ℕ, ◌≤◌, Bool, List, [], length, Result, OnOk};
 ghost use Rattle.std.specs.Thread.{IsSync};
 ghost use Rattle.mp_netlist.specs.Circuit.{Circuit};
-ghost use Rattle.mp_streams.specs.StreamBytes.{ConsumesUpTo};
 ghost use Rattle.mp_command_runs.specs.declared.options.Options.{Options};
 ghost use Rattle.mp_command_runs.specs.declared.run_fault.RunFault.{RunFault};
-ghost use Rattle.mp_command_runs.specs.Limits.{max_input, max_taken};
+ghost use Rattle.mp_command_runs.specs.Limits.{max_input};
 ghost use Rattle.mp_command_runs.specs.Openings.{within_size};
 ghost use Rattle.mp_command_runs.specs.RunFaults.{counted_reads};
-ghost use Rattle.mp_command_runs.specs.Runs.{Ran, RanFrom};
+ghost use Rattle.mp_command_runs.specs.Runs.{Ran, RanFrom, TakesInput};
 
 use crate::input::read_input;
 use crate::options::Options;
@@ -61,7 +60,7 @@ pub fn run_command<R: Threads + Wait + Sync, S: Source, T: Sink, C: Command>(
     requires { out.old.held ≡ [] }
     ensures written { RanFrom result (S.left source.old) (λ input. Ran C.seats result (within_size (λ i. C.opening command.now i options.now) input) (C.IsText command.now input options.now) out.old out.new) out.old out.new }
     ensures all { OnOk result (out.new.held ≡ []) }
-    ensures taken { ConsumesUpTo max_taken (S.left source.old) (S.left source.new) }
+    ensures taken { TakesInput (S.left source.old) (S.left source.new) }
     ensures read_faults { S.fault_count source.new ≡ counted_reads result (S.fault_count source.old) }
 {
     let input = read_input(alloc, source)?;

@@ -1,36 +1,55 @@
 //! The input of a run.
-ghost use Rattle.std.specs.Prelude.{◌≡◌, ◌≤◌, length, IfOk, IfErr};
-ghost use Rattle.mp_streams.specs.StreamBytes.{ConsumesUpTo};
-ghost use Rattle.mp_command_runs.specs.Limits.{max_input, max_taken};
+ghost use Rattle.std.specs.Prelude.{◌≡◌, ◌+◌, ◌≤◌, length, IfOk, IfErr, IfSome};
+ghost use Rattle.mp_streams.specs.TakeErrors.{counted_take};
+ghost use Rattle.mp_text.specs.Sizes.{text_limit};
+ghost use Rattle.mp_command_runs.specs.Limits.{max_input};
+ghost use Rattle.mp_command_runs.specs.Openings.{taken_of};
 ghost use Rattle.mp_command_runs.specs.RunFaults.{counted_reads};
-ghost use Rattle.mp_command_runs.specs.Runs.{IsInput, StaysUnread};
+ghost use Rattle.mp_command_runs.specs.Runs.{IsInput, StaysUnread, TakesInput};
 
 use crate::run_fault::RunFault;
-use mp_streams::{Source, take_all};
-use mp_text::{MAX_TEXT, TextCode, TextError};
+use mp_streams::{Source, TakeError, take_all};
+use mp_text::{MAX_SHORT_TEXT, TextCode, TextError, text_limit};
 use std::alloc::Global;
 
-/// How many bytes an input may have: as many as a text.
-const MAX_INPUT: usize = MAX_TEXT;
-
-/// How many bytes a run takes of its source: with one byte too many an input is known to be too long.
-const MAX_TAKEN: usize = MAX_INPUT + 1;
-
-/// Reads an input, all that the source has. `ReadFailed` comes with a fault of the source, `Text` where the input is too long, and `OutOfMemory`
-/// where memory is wanting.
+/// Reads an input, all that the source has. `ReadFailed` comes with a fault of the source, `Text` where the input is longer than its format
+/// allows, and `OutOfMemory` where memory is wanting.
 pub(crate) fn read_input<S: Source>(alloc: Global, source: &mut S) -> Result<Vec<u8>, RunFault>
     ensures input { IfOk result (λ input. IsInput (S.left source.old) input.items) }
+    ensures within { IfOk result (λ input. length input.items ≤ text_limit input.items) }
     ensures short { IfOk result (λ input. length input.items ≤ max_input) }
     ensures refused { IfErr result (StaysUnread (S.left source.old)) }
-    ensures taken { ConsumesUpTo max_taken (S.left source.old) (S.left source.new) }
+    ensures taken { TakesInput (S.left source.old) (S.left source.new) }
     ensures read_faults { S.fault_count source.new ≡ counted_reads result (S.fault_count source.old) }
 {
-    let input = take_all(alloc, source, MAX_TAKEN)?;
-    if input.len() > MAX_INPUT {
+    let input = take_input(alloc, source)?;
+    let limit = text_limit(input.as_slice());
+    if input.len() > limit {
         return Err(RunFault::Text(TextError {
             line: 0,
             code: TextCode::TooLong,
         }));
     }
+    Ok(input)
+}
+
+/// Takes the input of a run: all that the source has, but no more than as many bytes as a text may have that begins so, and one more, by which
+/// it is known to be too long. `Failed` comes with the first fault of the source, `OutOfMemory` where the memory for the bytes is refused.
+fn take_input<S: Source>(alloc: Global, source: &mut S) -> Result<Vec<u8>, TakeError>
+    ensures within { IfOk result (λ input. length input.items ≤ text_limit input.items + 1) }
+    ensures front { IfOk result (λ input. IfSome (S.left source.old) (λ bytes. input.items ≡ taken_of bytes)) }
+    ensures taken { TakesInput (S.left source.old) (S.left source.new) }
+    ensures faults { S.fault_count source.new ≡ counted_take result (S.fault_count source.old) }
+{
+    let mut input = take_all(alloc, source, MAX_SHORT_TEXT + 1)?;
+    if input.len() <= MAX_SHORT_TEXT {
+        return Ok(input);
+    }
+    let limit = text_limit(input.as_slice());
+    if limit <= MAX_SHORT_TEXT {
+        return Ok(input);
+    }
+    let rest = take_all(alloc, source, limit - MAX_SHORT_TEXT)?;
+    input.extend_from_slice(rest.as_slice())?;
     Ok(input)
 }

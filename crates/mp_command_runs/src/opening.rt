@@ -1,18 +1,17 @@
 //! The netlist that an input opens with.
 ghost use Rattle.std.specs.Prelude.{◌≡◌, ◌≤◌, length, false, is_some, Some, Ok, IfOk, IfErr};
-ghost use Rattle.mp_streams.specs.StreamBytes.{ConsumesUpTo};
 ghost use Rattle.mp_words.specs.Lines.{lines_of};
-ghost use Rattle.mp_command_runs.specs.Limits.{max_input, max_taken};
+ghost use Rattle.mp_command_runs.specs.Limits.{max_input};
 ghost use Rattle.mp_command_runs.specs.OpenedInputs.{opening_with, StaysShutWith};
 ghost use Rattle.mp_command_runs.specs.Openings.{opening_of};
 ghost use Rattle.mp_command_runs.specs.RunFaults.{counted_reads};
-ghost use Rattle.mp_command_runs.specs.Runs.{HasInput, Refuses};
+ghost use Rattle.mp_command_runs.specs.Runs.{HasInput, Refuses, TakesInput};
 
 use crate::input::read_input;
 use crate::run_fault::RunFault;
 use mp_netlist::Netlist;
 use mp_streams::Source;
-use mp_text::read_netlist;
+use mp_text::read_lines;
 use std::alloc::Global;
 
 /// Reads the text of a netlist, all that the source has. `ReadFailed` comes with a fault of the source; then `Text` where the input is too long
@@ -25,7 +24,7 @@ pub fn read_opening<S: Source, C: Drop>(
     ensures opened { IfOk result (λ both. HasInput (S.left source.old) (λ input. opening_with (is_some crew) input ≡ Ok both.0)) }
     ensures crew { IfOk result (λ both. crew ≡ Some both.1) }
     ensures refused { IfErr result (StaysShutWith (S.left source.old) (is_some crew)) }
-    ensures taken { ConsumesUpTo max_taken (S.left source.old) (S.left source.new) }
+    ensures taken { TakesInput (S.left source.old) (S.left source.new) }
     ensures read_faults { S.fault_count source.new ≡ counted_reads result (S.fault_count source.old) }
 {
     let input = read_input(alloc, source)?;
@@ -43,7 +42,7 @@ pub fn opened<C: Drop>(
     ensures crew { IfOk result (λ both. crew ≡ Some both.1) }
     ensures refused { IfErr result (Refuses false (opening_of (lines_of text.now) (is_some crew))) }
 {
-    let netlist = read_netlist(alloc, text)?;
+    let netlist = read_lines(alloc, text)?;
     match crew {
         Some(crew) => Ok((netlist, crew)),
         None => Err(RunFault::BadCount),

@@ -1,8 +1,7 @@
 //! The netlist that a script edits, from an input of its own.
 ghost use Rattle.std.specs.Prelude.{◌≡◌, IfOk, IfErr};
-ghost use Rattle.mp_streams.specs.StreamBytes.{ConsumesUpTo};
-ghost use Rattle.mp_command_runs.specs.Limits.{max_taken};
 ghost use Rattle.mp_command_runs.specs.RunFaults.{counted_reads};
+ghost use Rattle.mp_command_runs.specs.Runs.{TakesInput};
 ghost use Rattle.mp_commands.specs.ScriptOpenings.{OpensAs, StaysShut};
 
 use crate::keeper::Keeper;
@@ -24,7 +23,7 @@ pub fn open_keeper<R: Threads + Wait + Sync, S: Source, P: Sessions>(
 ) -> Result<Keeper<P>, RunFault>
     ensures opened { IfOk result (λ keeper. OpensAs (S.left source.old) options.now keeper) }
     ensures refused { IfErr result (StaysShut (S.left source.old) options.now) }
-    ensures taken { ConsumesUpTo max_taken (S.left source.old) (S.left source.new) }
+    ensures taken { TakesInput (S.left source.old) (S.left source.new) }
     ensures read_faults { S.fault_count source.new ≡ counted_reads result (S.fault_count source.old) }
 {
     let (netlist, crew) = read_opening(alloc, source, options.crew())?;

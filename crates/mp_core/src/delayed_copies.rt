@@ -32,7 +32,7 @@ impl DelayedCopies {
     }
 
     /// In the present unit the present copies have toggled, and these wires. What stands next after them toggles later.
-    pub fn advance(&mut self, wires: &[u16]) -> Result<(), AllocError>
+    pub fn advance(&mut self, wires: &[u32]) -> Result<(), AllocError>
         requires present { All (λ x. x < length self.old.next.items) self.old.present }
         requires wires { All (λ w. w < length self.old.next.items) wires.now }
         requires within { All (HasSlot (length self.old.wheel)) self.old.next.items }

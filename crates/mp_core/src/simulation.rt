@@ -20,7 +20,7 @@ impl Simulation {
     ghost use Rattle.mp_core.specs.Simulations.{copy_slot, IsSoundRun, IsQuiet, IsRunning};
 
     /// Goes through one unit, in which these wires are set from outside.
-    pub fn pass_unit(&mut self, set: &[u16], time: u32) -> Result<(), AllocError>
+    pub fn pass_unit(&mut self, set: &[u32], time: u32) -> Result<(), AllocError>
         requires sound { IsSoundRun self.old }
         requires fit { CanApply self.old.simulator set.now (copy_slot self.old.copies 0) time }
         ensures sound { OnOk result (IsSoundRun self.new) }

@@ -18,7 +18,7 @@ pub struct Simulator {
     pub fanout: Fanout,
     pub outputs: Vec<OutputPorts>,
     pub states: Vec<AutomatonState>,
-    pub due: Vec<u16>,
+    pub due: Vec<u32>,
     pub waves: Vec<ToggleWave>,
     pub wheel: EventWheel,
     pub present: EventSlot,
@@ -33,7 +33,7 @@ impl Simulator {
 
     /// The next unit begins: the wires of its slot toggle, and these others that are set from outside. Inputs that read them have an event, and
     /// so do those that read other numbers that have a change in this unit. A module that isn't due then has had no event.
-    pub fn apply_events(&mut self, set: &[u16], others: &[u16], time: u32) -> Result<(), AllocError>
+    pub fn apply_events(&mut self, set: &[u32], others: &[u32], time: u32) -> Result<(), AllocError>
         requires sound { IsSound self.old }
         requires fit { CanApply self.old set.now others.now time }
         ensures sound { OnOk result (IsSound self.new) }

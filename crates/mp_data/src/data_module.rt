@@ -14,7 +14,7 @@ use mp_storage::Computed;
 pub struct DataModule {
     pub part: DataPart,
     pub outputs: OutputLevels,
-    pub inputs: [Option<u16>; MOST_INPUTS],
+    pub inputs: [Option<u32>; MOST_INPUTS],
     pub ports: DataPorts,
 }
 
@@ -68,7 +68,7 @@ impl DataModule {
 
 /// The level of a number, 0 where there is none.
 #[inline(always)]
-fn level_of(levels: &[u64], number: Option<u16>) -> u64
+fn level_of(levels: &[u64], number: Option<u32>) -> u64
     requires { (x : ℕ) → number ≡ Some x → x < length levels.now }
     ensures { result ≡ level_at levels.now number }
 {

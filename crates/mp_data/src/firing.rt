@@ -49,7 +49,7 @@ fn fire_data_module(
 /// The module of a number, if there is one, goes on to the unit in which numbers have these levels.
 #[inline(always)]
 fn fire_number(
-    number: Option<u16>,
+    number: Option<u32>,
     modules: &mut Vec<DataModule>,
     levels: &[u64],
     events: &mut EventWheel,
@@ -72,12 +72,12 @@ fn fire_number(
 /// The modules with data at these places, each listed once, go on to the unit in which numbers have these levels. Each place has the number of
 /// its module among those with data, where one stands there.
 pub fn fire_data_modules(
-    places: &[Option<u16>],
+    places: &[Option<u32>],
     modules: &mut Vec<DataModule>,
     levels: &[u64],
     events: &mut EventWheel,
     changes: &mut LevelWheel,
-    due: &[u16],
+    due: &[u32],
 ) -> Result<(), AllocError>
     requires due { All (λ q. q < length places.now) due.now }
     requires once { (q : ℕ) → listed q due.now ≤ 1 }

@@ -3,6 +3,6 @@
 /// A wire with data, or a delayed copy of one, by its number, and its level from a unit on.
 #[derive(Clone, Copy, Debug)]
 pub struct LevelChange {
-    pub number: u16,
+    pub number: u32,
     pub level: u64,
 }

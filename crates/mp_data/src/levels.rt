@@ -5,7 +5,7 @@ ghost use Rattle.mp_data.specs.Levels.{toggled, changed};
 use crate::level_change::LevelChange;
 
 /// These numbers of width 1 toggle.
-pub fn toggle_levels(levels: &mut Vec<u64>, numbers: &[u16])
+pub fn toggle_levels(levels: &mut Vec<u64>, numbers: &[u32])
     requires { All (λ x. x < length levels.old.items) numbers.now }
     ensures { levels.new.items ≡ toggled levels.old.items numbers.now }
 {

@@ -1,10 +1,10 @@
 //! What is known of a netlist that was evaluated.
-ghost use Rattle.std.specs.Prelude.{◌≡◌, ◌+◌, ◌%◌, ◌<◌, ◌≤◌};
+ghost use Rattle.std.specs.Prelude.{◌≡◌, ℕ, ◌≤◌};
 
 use crate::readers::Readers;
-use mp_evaluation::{CHECKPOINT_UNITS, Run};
+use mp_evaluation::Run;
 use mp_modules::Memory;
-use mp_netlist::{ModuleId, Netlist, WireId};
+use mp_netlist::{ModuleId, Netlist, WireId, checkpoint_units};
 use std::alloc::{AllocError, Global};
 use std::marker::Model;
 
@@ -67,7 +67,10 @@ impl<'a> Records<'a> {
         ensures greatest { IfSome result (λ c. (k : ℕ) → k ≤ time → IsSome (checkpoint_of self.now.run id.0 k) → k ≤ c) }
     {
         match self.netlist.module(id) {
-            Some(_) => Some(border_before(time.min(self.netlist.horizon() - 1))),
+            Some(_) => {
+                let horizon = self.netlist.horizon();
+                Some(border_before(horizon, time.min(horizon - 1)))
+            }
             None => None,
         }
     }
@@ -84,13 +87,15 @@ impl<'a> Records<'a> {
     }
 }
 
-/// The last time up to this one before which runs keep states.
-fn border_before(time: u32) -> u32
-    ensures border { result % 1024 ≡ 0 }
+ghost use Rattle.mp_evaluation.specs.Checkpoints.{IsBorder};
+
+/// The last time up to this one before which a run up to a horizon keeps states.
+fn border_before(horizon: u32, time: u32) -> u32
+    ensures border { IsBorder horizon result }
     ensures within { result ≤ time }
-    ensures last { time < result + 1024 }
+    ensures last { (b : ℕ) → IsBorder horizon b → b ≤ time → b ≤ result }
 {
-    time - time % CHECKPOINT_UNITS
+    time - time % checkpoint_units(horizon)
 }
 
 ghost use Rattle.std.specs.Prelude.{◌↔◌, IsTrue};

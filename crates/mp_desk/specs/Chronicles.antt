@@ -1,6 +1,7 @@
 -- The one history of a desk: a log of versions, each with one edit more than the one before, and of those who made them. It exists in the proofs alone.
 use Rattle.std.specs.Prelude.{◌≡◌, ℕ, ◌+◌, ◌==◌, true, List, [], ◌∷◌, ◌++◌, map, replicate, length, MatchBool}
 use Rattle.logbook.specs.Pages.{Cell, Step, View, Book, Named}
+use Rattle.mp_netlist.specs.declared.format.Format.TheVariants.{Standard}
 use Rattle.mp_version.specs.Stories.{Story, opening}
 use Rattle.mp_desk.specs.Extending.{Extends, Succeeds}
 use Rattle.mp_desk.specs.declared.chronicle.Entry.{Entry}
@@ -10,7 +11,7 @@ entry story author = record { version = story; author = author }
 
 -- a story for a log that has none
 abbrev pub blank_story : Story
-blank_story = opening (record { horizon = 0; wires = []; modules = []; bundles = [] })
+blank_story = opening (record { format = Standard; horizon = 0; wires = []; modules = []; bundles = [] })
 
 abbrev pub last_of : Story → List Entry → Story
 last_of s [] = s

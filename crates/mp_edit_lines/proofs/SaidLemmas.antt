@@ -23,7 +23,7 @@ use Rattle.mp_records.specs.declared.single_edit.SingleEdit.{SingleEdit}
 use Rattle.mp_records.specs.declared.single_edit.SingleEdit.TheVariants.{AddWire, RemoveWire, AddModule, RemoveModule, AddBundle, RemoveBundle, RewireInput, RewireOutput, SetInputDelay, SetDelay, SetStimulus, ClearStimulus}
 use Rattle.mp_records.specs.Names.{is_name}
 use Rattle.mp_records.specs.Stimuli.{is_stimulus}
-use Rattle.mp_netlist.specs.Limits.{max_delay}
+use Rattle.mp_netlist.specs.Limits.{max_horizon, max_delay}
 use Rattle.mp_netlist.specs.Slots.{has_name}
 use Rattle.mp_netlist.specs.Circuit.{Circuit, IsCircuit}
 use Rattle.mp_netlist.specs.Edits.{stands, width_named, module_of, input_ports, first_failing, input_checks, output_checks, is_delay, is_input_delay, inputs_stand, delays_fit, driven_names, output_stands, first_width, new_width, wire_refusal, input_refusal, output_refusal, refusal, edited, unless, after_single, go_on, in_place, after_each, is_batch, after}
@@ -31,6 +31,7 @@ use Rattle.mp_netlist.specs.Laws.{EditsKeepNetlists}
 use Rattle.mp_netlist.proofs.TableLemmas.{named_has, same_name}
 use Rattle.mp_netlist.proofs.NameLemmas.{Stands, ModuleStands, BundleStands, stands_from, wire_name, module_name, bundle_name}
 use Rattle.mp_netlist.proofs.EditLemmas.{new_wire, free_wire, is_new_module, going_module, is_new_bundle, going_bundle, new_input, new_output, new_input_delay, new_delay, new_stimulus, clearing}
+use Rattle.mp_netlist.proofs.LimitLemmas.{horizon_within}
 use Rattle.mp_words.proofs.PlainLemmas.{both, All-passing}
 use Rattle.mp_edit_lines.specs.ReadBack.{IsName, IsLow, IsInputSaid, IsOutputSaid, IsSaid, IsEditSaid}
 
@@ -69,7 +70,7 @@ params_low kind width params narrow are =
     let below = (both (length params == param_count kind) (list_all (λ param. nat_lt param bound) params) are).1 in
     All-passing (λ param. nat_lt param bound) IsLow (λ param is. low_at param bound (param_bound-low kind width narrow) is) params below
 
-changes_low : (horizon width before : ℕ) (changes : List (ℕ × ℕ)) → horizon ≤ 1048576 → width ≤ 64 → is_stimulus horizon width before changes ≡ true → All (λ (change : ℕ × ℕ). IsLow change.0 × IsLow change.1) changes
+changes_low : (horizon width before : ℕ) (changes : List (ℕ × ℕ)) → horizon ≤ max_horizon → width ≤ 64 → is_stimulus horizon width before changes ≡ true → All (λ (change : ℕ × ℕ). IsLow change.0 × IsLow change.1) changes
 unfolding is_stimulus
 changes_low horizon width before [] short narrow valid = All-nil (λ (change : ℕ × ℕ). IsLow change.0 × IsLow change.1)
 changes_low horizon width before (change ∷ changes) short narrow valid =
@@ -221,7 +222,7 @@ module _ (n : Circuit) (ok : IsCircuit n) where
       (module_said name new.part, output_low name new.part port new.within, delay_low delay new.ranged)
   accepted_single (SetStimulus name changes) none =
       let new = new_stimulus n name changes none in
-      (wire_said name new.wire, changes_low n.horizon (width_named n name) 0 changes ok.horizon_high (wire_narrow name new.wire) new.valid)
+      (wire_said name new.wire, changes_low n.horizon (width_named n name) 0 changes (horizon_within n ok) (wire_narrow name new.wire) new.valid)
   accepted_single (ClearStimulus name) none = wire_said name (clearing n name none)
 
 -- ---- edits of a list

@@ -78,7 +78,7 @@ later_times : (b : ℕ) (ks : List Checkpoint) → All (λ (k : Checkpoint). k.t
 later_times b ks times = All-weaker (λ (k : Checkpoint). k.time ≤ b) (λ (k : Checkpoint). k.time ≤ b + 1) (λ k le. omega (arith, le)) ks times
 
 -- a unit at which nothing is to be kept
-pub kept_no_border : (n : Circuit) (b : ℕ) (cells : List Cell) (stepped : List Bool) (kept : List (List Checkpoint)) → (IsBorder b → ⊥) → AreKept n b cells stepped kept → AreKept n (b + 1) cells stepped kept
+pub kept_no_border : (n : Circuit) (b : ℕ) (cells : List Cell) (stepped : List Bool) (kept : List (List Checkpoint)) → (IsBorder n.horizon b → ⊥) → AreKept n b cells stepped kept → AreKept n (b + 1) cells stepped kept
 kept_no_border n b cells stepped kept not are = record {
   mark_places = are.mark_places;
   places = are.places;
@@ -86,7 +86,7 @@ kept_no_border n b cells stepped kept not are = record {
       let old = are.each m r d at in
       record {
         known = λ c border low. elim (cases_eq c b) as (λ _. kept_at (slice_index_or kept m []) c blank ≡ state_before n m r c) [
-          | inl same ↦ absurd (not (subst IsBorder same border))
+          | inl same ↦ absurd (not (subst (IsBorder n.horizon) same border))
           | inr other ↦ old.known c border (omega (arith, low, other))
         ];
         times = later_times b (slice_index_or kept m []) old.times;

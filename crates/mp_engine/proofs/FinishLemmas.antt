@@ -26,7 +26,7 @@ checkpoints_are n cells stepped kept slots made are d = record {
       ∙ by m c border low (module_at n m) refl;
 }
   where
-    by : (m c : ℕ) → IsBorder c → c < n.horizon → (found : Option ModuleRecord) → module_at n m ≡ found
+    by : (m c : ℕ) → IsBorder n.horizon c → c < n.horizon → (found : Option ModuleRecord) → module_at n m ≡ found
         → option_map (λ ks. kept_at ks c blank) (option_map (λ (r : ModuleRecord). slice_index_or kept m []) found) ≡ option_map (λ (r : ModuleRecord). state_before n m r c) found
     by m c border low None e = refl
     by m c border low (Some r) e = ap Some ((are.each m r d e).known c border low)

@@ -76,7 +76,7 @@ divided_end n ok homes wires heards parts m runs d is are within =
 
 -- its states before checkpoints, from its own part
 pub divided_checkpoint : (n : Circuit) → IsCircuit n → (homes wires : List ℕ) (heards : List (List Bool)) (parts m c : ℕ) (runs : List PartRun) (d : PartRun) → IsDivision n homes wires heards parts → AreRuns n homes heards parts runs
-    → IsBorder c → c < n.horizon
+    → IsBorder n.horizon c → c < n.horizon
     → option_map (λ ks. kept_at ks c blank) (slot_at (kept_in (slice_index_or runs (home_of homes m) d)) m) ≡ option_map (λ (r : ModuleRecord). state_before n m r c) (module_at n m)
 divided_checkpoint n ok homes wires heards parts m c runs d is are border low =
     let part = home_of homes m in

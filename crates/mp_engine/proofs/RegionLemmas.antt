@@ -88,8 +88,8 @@ none_heard n w (slot ∷ slots) = ap (λ xs. slot ∷ xs) (none_heard n (w + 1) 
 
 pub whole_region : (n : Circuit) → region n [] 0 [] ≡ n
 whole_region n =
-    ap (λ slots. let c : Circuit = record { horizon = n.horizon; wires = slots; modules = slots_at_home [] 0 0 n.modules; bundles = n.bundles } in c) (none_heard n 0 n.wires)
-    ∙ ap (λ slots. let c : Circuit = record { horizon = n.horizon; wires = n.wires; modules = slots; bundles = n.bundles } in c) (all_at_home 0 n.modules)
+    ap (λ slots. let c : Circuit = record { format = n.format; horizon = n.horizon; wires = slots; modules = slots_at_home [] 0 0 n.modules; bundles = n.bundles } in c) (none_heard n 0 n.wires)
+    ∙ ap (λ slots. let c : Circuit = record { format = n.format; horizon = n.horizon; wires = n.wires; modules = slots; bundles = n.bundles } in c) (all_at_home 0 n.modules)
 
 module _ (n : Circuit) (homes : List ℕ) (part : ℕ) (heard : List Bool) where
   pub module_here : (m : ℕ) → home_of homes m ≡ part → module_at (region n homes part heard) m ≡ module_at n m

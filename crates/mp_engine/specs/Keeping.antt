@@ -11,7 +11,7 @@ use Rattle.mp_evaluation.specs.Checkpoints.{last_kept, kept_at, IsBorder, state_
 
 -- the states before each border below b are kept, and, unless the module answered since, the last is its present one
 pub record IsKept (n : Circuit) (b m : ℕ) (r : ModuleRecord) (stepped : Bool) (memory : Memory) (ks : List Checkpoint) : Type 0 where
-  pub known : (c : ℕ) → IsBorder c → c < b → kept_at ks c blank ≡ state_before n m r c
+  pub known : (c : ℕ) → IsBorder n.horizon c → c < b → kept_at ks c blank ≡ state_before n m r c
   pub times : All (λ k. k.time ≤ b) ks
   pub last : stepped ≡ false → last_kept ks blank ≡ memory
 

@@ -29,6 +29,7 @@ slots_heard n heard w (slot ∷ slots) = (if is_marked heard w then set_on_slot 
 -- a part as a netlist, in which the levels of wires that are heard come from outside
 abbrev pub region : Circuit → List ℕ → ℕ → List Bool → Circuit
 region n homes part heard = record {
+  format = n.format;
   horizon = n.horizon;
   wires = slots_heard n heard 0 n.wires;
   modules = slots_at_home homes part 0 n.modules;

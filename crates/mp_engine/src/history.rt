@@ -6,8 +6,8 @@ ghost use Rattle.mp_evaluation.specs.Marks.{is_marked, AreListed};
 use crate::answers::is_marked;
 use crate::cell::Cell;
 use crate::region::Region;
-use mp_evaluation::{CHECKPOINT_UNITS, Checkpoint, Checkpoints};
-use mp_netlist::ModuleId;
+use mp_evaluation::{Checkpoint, Checkpoints};
+use mp_netlist::{ModuleId, checkpoint_units};
 use std::alloc::AllocError;
 
 /// What is kept of each module, and which modules answered since the last time that states were kept: marked, and listed.
@@ -80,7 +80,7 @@ impl History {
         requires before { IsHistory netlist.now time cells.now self.old }
         ensures { OnOk result (IsHistory netlist.now (time + 1) cells.now self.new) }
     {
-        if !time.is_multiple_of(CHECKPOINT_UNITS) {
+        if !time.is_multiple_of(checkpoint_units(netlist.horizon())) {
             return Ok(());
         }
         keep_states(

@@ -7,6 +7,7 @@ use Rattle.mp_modules.specs.Memories.{blank}
 use Rattle.mp_records.specs.declared.module_record.ModuleRecord.{ModuleRecord}
 use Rattle.mp_netlist.specs.Slots.{slot_at}
 use Rattle.mp_netlist.specs.Circuit.{Circuit, wire_at, module_at}
+use Rattle.mp_netlist.specs.Limits.{checkpoint_units}
 use Rattle.mp_model.specs.Waves.{slot_wave}
 use Rattle.mp_evaluation.specs.Checkpoints.{kept_at}
 use Rattle.mp_evaluation.specs.Outcomes.{Outcome, AreSlots, checkpoint_of}
@@ -39,11 +40,11 @@ no_module n f m past = ap (option_map f) (get_or_past n.modules m None past)
 -- what is kept of a run is what it tells
 pub checkpoint_is : (n : Circuit) (m c : ℕ) (run : Outcome) → run.horizon ≡ n.horizon → AreCheckpoints n run.kept → checkpoint_of run m c ≡ checkpoint n m c
 checkpoint_is n m c run same are =
-    ap (λ h. if nat_lt c h && c % 1024 == 0 then option_map (λ ks. kept_at ks c blank) (slot_at run.kept m) else None) same ∙ by (cases_Bool (nat_lt c n.horizon && c % 1024 == 0))
+    ap (λ h. if nat_lt c h && c % checkpoint_units h == 0 then option_map (λ ks. kept_at ks c blank) (slot_at run.kept m) else None) same ∙ by (cases_Bool (nat_lt c n.horizon && c % checkpoint_units n.horizon == 0))
   where
-    by : (nat_lt c n.horizon && c % 1024 == 0 ≡ true) ⊎ (nat_lt c n.horizon && c % 1024 == 0 ≡ false)
-        → (if nat_lt c n.horizon && c % 1024 == 0 then option_map (λ ks. kept_at ks c blank) (slot_at run.kept m) else None) ≡ checkpoint n m c
+    by : (nat_lt c n.horizon && c % checkpoint_units n.horizon == 0 ≡ true) ⊎ (nat_lt c n.horizon && c % checkpoint_units n.horizon == 0 ≡ false)
+        → (if nat_lt c n.horizon && c % checkpoint_units n.horizon == 0 then option_map (λ ks. kept_at ks c blank) (slot_at run.kept m) else None) ≡ checkpoint n m c
     by (inl passes) =
-        let parts = and_parts (nat_lt c n.horizon) (c % 1024 == 0) passes in
-        rw passes (are.each m c (eqb-true (c % 1024) 0 parts.1) (ltb-true c n.horizon parts.0))
+        let parts = and_parts (nat_lt c n.horizon) (c % checkpoint_units n.horizon == 0) passes in
+        rw passes (are.each m c (eqb-true (c % checkpoint_units n.horizon) 0 parts.1) (ltb-true c n.horizon parts.0))
     by (inr fails) = rw fails refl

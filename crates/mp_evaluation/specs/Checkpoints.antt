@@ -5,6 +5,7 @@ use Rattle.mp_modules.specs.Memories.{blank}
 use Rattle.mp_storage.specs.AnyModules.{start}
 use Rattle.mp_records.specs.declared.module_record.ModuleRecord.{ModuleRecord}
 use Rattle.mp_netlist.specs.Circuit.{Circuit}
+use Rattle.mp_netlist.specs.Limits.{checkpoint_units}
 use Rattle.mp_model.specs.Levels.{built}
 use Rattle.mp_model.specs.Waves.{state}
 use Rattle.mp_evaluation.specs.declared.checkpoints.Checkpoint.{Checkpoint}
@@ -36,9 +37,9 @@ pub record KeepsBetween (old other : List Checkpoint) (from to : ℕ) (new : Lis
   pub within : (c : ℕ) → from ≤ c → c < to → kept_at new c blank ≡ kept_at other c blank
   pub times : All (λ k. k.time < to) new
 
--- a time at which states are kept
-abbrev pub IsBorder : ℕ → Type 0
-IsBorder c = c % 1024 ≡ 0
+-- a time at which states are kept, in a run up to a horizon
+abbrev pub IsBorder : ℕ → ℕ → Type 0
+IsBorder horizon c = c % checkpoint_units horizon ≡ 0
 
 -- the state of the module before the unit of a time
 abbrev pub state_before : Circuit → ℕ → ModuleRecord → ℕ → Memory

@@ -3,6 +3,7 @@ use Rattle.std.specs.Prelude.{◌≡◌, ℕ, ◌<◌, ◌%◌, List, Option, No
 use Rattle.mp_wave.specs.Waveform.{Waveform}
 use Rattle.mp_modules.specs.declared.memory.Memory.{Memory}
 use Rattle.mp_modules.specs.Memories.{blank}
+use Rattle.mp_netlist.specs.Limits.{checkpoint_units}
 use Rattle.mp_netlist.specs.Slots.{slot_at}
 use Rattle.mp_evaluation.specs.declared.checkpoints.Checkpoint.{Checkpoint}
 use Rattle.mp_evaluation.specs.Checkpoints.{kept_at}
@@ -21,7 +22,7 @@ abbrev pub end_of : Outcome → ℕ → Option Memory
 end_of run m = slot_at run.ends m
 
 abbrev pub checkpoint_of : Outcome → ℕ → ℕ → Option Memory
-checkpoint_of run m c = if nat_lt c run.horizon && c % 1024 == 0 then option_map (λ ks. kept_at ks c blank) (slot_at run.kept m) else None
+checkpoint_of run m c = if nat_lt c run.horizon && c % checkpoint_units run.horizon == 0 then option_map (λ ks. kept_at ks c blank) (slot_at run.kept m) else None
 
 -- there are so many slots, each with what f gives of its number
 pub record AreSlots {X : Type 0} (size : ℕ) (f : ℕ → Option X) (slots : List (Option X)) : Type 0 where

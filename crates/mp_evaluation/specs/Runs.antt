@@ -3,6 +3,7 @@ use Rattle.std.specs.Prelude.{◌≡◌, ℕ, ◌-◌, ◌%◌, Option, None, op
 use Rattle.mp_modules.specs.declared.memory.Memory.{Memory}
 use Rattle.mp_records.specs.declared.module_record.ModuleRecord.{ModuleRecord}
 use Rattle.mp_netlist.specs.Circuit.{Circuit, wire_at, module_at}
+use Rattle.mp_netlist.specs.Limits.{checkpoint_units}
 use Rattle.mp_model.specs.Waves.{state, slot_wave}
 use Rattle.mp_evaluation.specs.Checkpoints.{state_before, kept_at, IsBorder}
 use Rattle.mp_evaluation.specs.Outcomes.{Outcome, wave_of, end_of, checkpoint_of}
@@ -16,7 +17,7 @@ end_memory n m = option_map (λ (r : ModuleRecord). state n m (n.horizon - 1)) (
 
 -- the state before the unit of a checkpoint of a module that stands
 abbrev pub checkpoint : Circuit → ℕ → ℕ → Option Memory
-checkpoint n m c = if nat_lt c n.horizon && c % 1024 == 0 then option_map (λ (r : ModuleRecord). state_before n m r c) (module_at n m) else None
+checkpoint n m c = if nat_lt c n.horizon && c % checkpoint_units n.horizon == 0 then option_map (λ (r : ModuleRecord). state_before n m r c) (module_at n m) else None
 
 -- the wave of each wire that stands, and of each module its state after the last unit and before each checkpoint
 pub record IsRun (n : Circuit) (run : Outcome) : Type 0 where
@@ -27,4 +28,4 @@ pub record IsRun (n : Circuit) (run : Outcome) : Type 0 where
 -- of each module the states before all checkpoints are kept
 pub record AreCheckpoints (n : Circuit) (kept : List (Option (List Checkpoint))) : Type 0 where
   pub places : length kept ≡ length n.modules
-  pub each : (m c : ℕ) → IsBorder c → c < n.horizon → option_map (λ ks. kept_at ks c blank) (slot_at kept m) ≡ option_map (λ (r : ModuleRecord). state_before n m r c) (module_at n m)
+  pub each : (m c : ℕ) → IsBorder n.horizon c → c < n.horizon → option_map (λ ks. kept_at ks c blank) (slot_at kept m) ≡ option_map (λ (r : ModuleRecord). state_before n m r c) (module_at n m)

@@ -5,9 +5,6 @@ use mp_modules::Memory;
 use std::alloc::{AllocError, Global};
 use std::marker::Model;
 
-/// At each multiple of so many units the states of modules are kept.
-pub const CHECKPOINT_UNITS: u32 = 1024;
-
 /// A module's state before the unit of a time.
 #[derive(Clone, Copy)]
 pub struct Checkpoint {

@@ -4,5 +4,5 @@
 mod checkpoints;
 mod run;
 
-pub use checkpoints::{CHECKPOINT_UNITS, Checkpoint, Checkpoints};
+pub use checkpoints::{Checkpoint, Checkpoints};
 pub use run::Run;

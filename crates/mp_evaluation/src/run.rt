@@ -1,10 +1,10 @@
 //! What an evaluation gives.
 ghost use Rattle.std.specs.Prelude.{◌≡◌};
 
-use crate::checkpoints::{CHECKPOINT_UNITS, Checkpoints};
+use crate::checkpoints::Checkpoints;
 use mp_model::Waves;
 use mp_modules::Memory;
-use mp_netlist::{ModuleId, WireId};
+use mp_netlist::{ModuleId, WireId, checkpoint_units};
 use mp_wave::Wave;
 use std::alloc::{AllocError, Global};
 use std::marker::Model;
@@ -100,12 +100,12 @@ impl Run {
         }
     }
 
-    /// The state of a module that stands, before the unit of a checkpoint: a multiple of `CHECKPOINT_UNITS` below the horizon. The state
+    /// The state of a module that stands, before the unit of a checkpoint: a multiple of `checkpoint_units` below the horizon. The state
     /// before time 0 is that in which the module starts. Nothing for any other time.
     pub fn checkpoint(&self, id: ModuleId, time: u32) -> Option<Memory>
         ensures { result ≡ checkpoint_of self.now id.0 time }
     {
-        if time >= self.horizon || !time.is_multiple_of(CHECKPOINT_UNITS) {
+        if time >= self.horizon || !time.is_multiple_of(checkpoint_units(self.horizon)) {
             return None;
         }
         match self.kept.get(id.0 as usize) {

@@ -12,7 +12,7 @@ use std::alloc::AllocError;
 #[inline(always)]
 pub fn add_event(
     states: &mut Vec<AutomatonState>,
-    due: &mut Vec<u16>,
+    due: &mut Vec<u32>,
     entry: FanoutEntry,
 ) -> Result<(), AllocError>
     requires { IsAdding states.old.items due.old.items (entry ∷ []) }
@@ -31,7 +31,7 @@ pub fn add_event(
 #[inline(always)]
 pub(crate) fn add_events(
     states: &mut Vec<AutomatonState>,
-    due: &mut Vec<u16>,
+    due: &mut Vec<u32>,
     entries: &[FanoutEntry],
 ) -> Result<(), AllocError>
     requires { IsAdding states.old.items due.old.items entries.now }
@@ -49,8 +49,8 @@ pub(crate) fn add_events(
 pub fn add_fanout_events(
     rows: &Fanout,
     states: &mut Vec<AutomatonState>,
-    due: &mut Vec<u16>,
-    wires: &[u16],
+    due: &mut Vec<u32>,
+    wires: &[u32],
 ) -> Result<(), AllocError>
     requires rows { All (λ w. w < length rows.now) wires.now }
     requires adding { IsAdding states.old.items due.old.items (entries_from rows.now wires.now) }

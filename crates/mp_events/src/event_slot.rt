@@ -6,7 +6,7 @@ use std::marker::Model;
 /// The wires that toggle in one unit.
 #[derive(Drop)]
 pub struct EventSlot {
-    wires: Vec<u16>,
+    wires: Vec<u32>,
 }
 
 impl Model for EventSlot {
@@ -31,7 +31,7 @@ impl EventSlot {
 
     /// The wires, in the order in which they were pushed.
     #[inline(always)]
-    pub fn as_slice(&self) -> &[u16]
+    pub fn as_slice(&self) -> &[u32]
         ensures { result.now ≡ self.now }
     {
         self.wires.as_slice()
@@ -47,7 +47,7 @@ impl EventSlot {
 
     /// One wire more toggles.
     #[inline(always)]
-    pub fn push(&mut self, wire: u16) -> Result<(), AllocError>
+    pub fn push(&mut self, wire: u32) -> Result<(), AllocError>
         ensures { OnOk result (self.new ≡ self.old ++ wire ∷ []) }
     {
         self.wires.push(wire)?;
@@ -56,7 +56,7 @@ impl EventSlot {
 
     /// These wires toggle too.
     #[inline(always)]
-    pub fn extend_from_slice(&mut self, wires: &[u16]) -> Result<(), AllocError>
+    pub fn extend_from_slice(&mut self, wires: &[u32]) -> Result<(), AllocError>
         ensures { OnOk result (self.new ≡ self.old ++ wires.now) }
     {
         self.wires.extend_from_slice(wires)?;

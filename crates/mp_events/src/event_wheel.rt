@@ -75,7 +75,7 @@ impl EventWheel {
 
     /// The wire toggles the delay, in units, after the present unit.
     #[inline(always)]
-    pub fn schedule(&mut self, delay: usize, wire: u16) -> Result<(), AllocError>
+    pub fn schedule(&mut self, delay: usize, wire: u32) -> Result<(), AllocError>
         requires some { 0 < delay }
         requires within { delay ≤ length self.old }
         ensures { OnOk result (self.new ≡ with_entry self.old (delay - 1) wire) }

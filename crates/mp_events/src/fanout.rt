@@ -46,7 +46,7 @@ impl Fanout {
 
     /// The inputs that read a wire.
     #[inline(always)]
-    pub fn of(&self, wire: u16) -> &[FanoutEntry]
+    pub fn of(&self, wire: u32) -> &[FanoutEntry]
         requires { wire < length self.now }
         ensures { result.now ≡ row_at self.now wire }
     {

@@ -3,6 +3,6 @@
 /// An input of a module of width 1: the module's place among the states, and the bit of the port's event (`mp_automata::event_bit`).
 #[derive(Clone, Copy, Debug)]
 pub struct FanoutEntry {
-    pub module: u16,
+    pub module: u32,
     pub event: u16,
 }

@@ -54,7 +54,7 @@ fn fire_module(
     ports: &[OutputPorts],
     states: &mut Vec<AutomatonState>,
     wheel: &mut EventWheel,
-    place: u16,
+    place: u32,
 ) -> Result<(), AllocError>
     requires ports { place < length ports.now }
     requires within { All (HaveSlots (length wheel.old)) ports.now }
@@ -78,7 +78,7 @@ pub fn fire_modules(
     ports: &[OutputPorts],
     states: &mut Vec<AutomatonState>,
     wheel: &mut EventWheel,
-    due: &[u16],
+    due: &[u32],
 ) -> Result<(), AllocError>
     requires ports { All (λ m. m < length ports.now) due.now }
     requires within { All (HaveSlots (length wheel.old)) ports.now }
@@ -101,7 +101,7 @@ pub fn fire_modules(
 pub fn schedule_copies(
     copies: &[OutputPort],
     wheel: &mut EventWheel,
-    wires: &[u16],
+    wires: &[u32],
 ) -> Result<(), AllocError>
     requires copies { All (λ w. w < length copies.now) wires.now }
     requires within { All (HasSlot (length wheel.old)) copies.now }

@@ -3,6 +3,6 @@
 /// The wire that an output drives, if any, and the delay in units after which it follows the output.
 #[derive(Clone, Copy, Debug)]
 pub struct OutputPort {
-    pub wire: Option<u16>,
+    pub wire: Option<u32>,
     pub delay: u16,
 }

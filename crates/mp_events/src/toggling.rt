@@ -16,9 +16,9 @@ use std::alloc::AllocError;
 fn toggle_wire(
     rows: &Fanout,
     states: &mut Vec<AutomatonState>,
-    due: &mut Vec<u16>,
+    due: &mut Vec<u32>,
     waves: &mut Vec<ToggleWave>,
-    wire: u16,
+    wire: u32,
     time: u32,
 ) -> Result<(), AllocError>
     requires row { wire < length rows.now }
@@ -39,9 +39,9 @@ fn toggle_wire(
 pub fn toggle_wires(
     rows: &Fanout,
     states: &mut Vec<AutomatonState>,
-    due: &mut Vec<u16>,
+    due: &mut Vec<u32>,
     waves: &mut Vec<ToggleWave>,
-    wires: &[u16],
+    wires: &[u32],
     time: u32,
 ) -> Result<(), AllocError>
     requires rows { All (λ w. w < length rows.now) wires.now }

@@ -81,16 +81,16 @@ bundle_name r = r.name
 
 module _ (n : Circuit) where
   same_circuit : UsesNumbersOnce n n
-  same_circuit = record { horizon = refl; wires = kept wire_name n.wires; modules = kept module_name n.modules; bundles = kept bundle_name n.bundles }
+  same_circuit = record { format = refl; horizon = refl; wires = kept wire_name n.wires; modules = kept module_name n.modules; bundles = kept bundle_name n.bundles }
 
   wires_kept : (wires : List (Option WireRecord)) → KeepsNumbers wire_name n.wires wires → UsesNumbersOnce n (record n { wires = wires })
-  wires_kept wires keeps = record { horizon = refl; wires = keeps; modules = kept module_name n.modules; bundles = kept bundle_name n.bundles }
+  wires_kept wires keeps = record { format = refl; horizon = refl; wires = keeps; modules = kept module_name n.modules; bundles = kept bundle_name n.bundles }
 
   modules_kept : (modules : List (Option ModuleRecord)) → KeepsNumbers module_name n.modules modules → UsesNumbersOnce n (record n { modules = modules })
-  modules_kept modules keeps = record { horizon = refl; wires = kept wire_name n.wires; modules = keeps; bundles = kept bundle_name n.bundles }
+  modules_kept modules keeps = record { format = refl; horizon = refl; wires = kept wire_name n.wires; modules = keeps; bundles = kept bundle_name n.bundles }
 
   bundles_kept : (bundles : List (Option BundleRecord)) → KeepsNumbers bundle_name n.bundles bundles → UsesNumbersOnce n (record n { bundles = bundles })
-  bundles_kept bundles keeps = record { horizon = refl; wires = kept wire_name n.wires; modules = kept module_name n.modules; bundles = keeps }
+  bundles_kept bundles keeps = record { format = refl; horizon = refl; wires = kept wire_name n.wires; modules = kept module_name n.modules; bundles = keeps }
 
   wire_kept : (w : ℕ) (wire : Option WireRecord) → ComesFrom wire_name (wire_at n w) wire → UsesNumbersOnce n (with_wire n w wire)
   wire_kept w wire comes = wires_kept _ (kept-set wire_name n.wires w wire comes)
@@ -123,6 +123,7 @@ module _ (n : Circuit) where
 
 once_on : (a b c : Circuit) → UsesNumbersOnce a b → UsesNumbersOnce b c → UsesNumbersOnce a c
 once_on a b c first second = record {
+  format = second.format ∙ first.format;
   horizon = second.horizon ∙ first.horizon;
   wires = kept_on wire_name a.wires b.wires c.wires first.wires second.wires;
   modules = kept_on module_name a.modules b.modules c.modules first.modules second.modules;

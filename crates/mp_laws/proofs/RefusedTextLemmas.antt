@@ -1,20 +1,32 @@
 -- A text is refused by its lines alone.
-use Rattle.std.proofs.Common.{◌≡◌, ◌⊎◌, inl, inr, ℕ, ◌+◌, ◌≤◌, List, [], ◌∷◌, ◌++◌, length, Result, Ok, Err, refl, sym, ap, ◌∙◌, arith, codes}
+use Rattle.std.proofs.Common.{◌≡◌, ◌⊎◌, inl, inr, ℕ, ◌+◌, ◌≤◌, Bool, true, false, List, [], ◌∷◌, ◌++◌, length, Result, Ok, Err, refl, sym, ap, subst, ◌∙◌, arith, codes}
+use Rattle.std.specs.Prelude.{◌==◌, ◌&&◌, nat_le, if◌then◌else◌}
+use Rattle.std.specs.List.{list_all}
+use Rattle.std.specs.Result.{result_map_both}
 use Rattle.std.proofs.lemmas.List.{append-nil}
+use Rattle.mp_records.specs.declared.edit_error.EditError.{EditError}
+use Rattle.mp_netlist.specs.declared.format.Format.{Format as NetlistFormat}
+use Rattle.mp_netlist.specs.declared.format.Format.TheVariants.{Standard, Large}
 use Rattle.mp_netlist.specs.Circuit.{Circuit, empty_circuit}
-use Rattle.mp_words.specs.Lines.{lines_of}
+use Rattle.mp_netlist.specs.Edits.{after_single}
+use Rattle.mp_words.specs.declared.line_error.LineError.TheVariants.{NotAscii, BadNumber}
+use Rattle.mp_words.specs.Lines.{is_allowed, lines_of}
 use Rattle.mp_words.specs.Numbers.{spelled_number, number_from}
 use Rattle.mp_words.specs.Reads.{◌>>=◌}
 use Rattle.mp_words.specs.Words.{words_of}
 use Rattle.mp_text.specs.declared.text_code.TextCode.{TextCode}
-use Rattle.mp_text.specs.declared.text_code.TextCode.TheVariants.{NoHorizon}
+use Rattle.mp_text.specs.declared.text_code.TextCode.TheVariants.{Line, NoHorizon, Refused}
 use Rattle.mp_text.specs.declared.text_error.TextError.{TextError}
-use Rattle.mp_text.specs.declared.text_format.TextFormat.TheVariants.{First, Second}
+use Rattle.mp_text.specs.declared.text_format.TextFormat.{TextFormat}
+use Rattle.mp_text.specs.declared.text_format.TextFormat.TheVariants.{First, Second, Third}
 use Rattle.mp_text.specs.declared.text_state.TextState.{TextState}
 use Rattle.mp_text.specs.declared.text_state.TextState.TheVariants.{Fresh, Formatted, Open}
-use Rattle.mp_text.specs.Limits.{max_text}
-use Rattle.mp_text.specs.Texts.{text_at, after_lines, after_line, after_statement, next_line, finished}
-use Rattle.mp_text.specs.Statements.{statement_of}
+use Rattle.mp_text.specs.Formats.{format_of, max_horizon_of, netlist_format}
+use Rattle.mp_text.specs.Laws.{statements, format_by}
+use Rattle.mp_text.specs.Sizes.{text_limit}
+use Rattle.mp_text.specs.Texts.{in_text, formatted, text_at, after_lines, after_line, after_statement, next_line, finished}
+use Rattle.mp_text.specs.Statements.{Statement, Blank, Unknown, Format, Start, Change, statement_of}
+use Rattle.mp_text.proofs.ReplayLemmas.{format_numbered}
 use Rattle.mp_text.proofs.TextLemmas.{text_within}
 use Rattle.mp_laws.specs.RefusedTexts.{AreRead, LackHorizon, AreRefusedAt, TextsAreRefusedByLines}
 
@@ -121,7 +133,7 @@ refused_by n state (line ∷ lines) error refused =
         })
 
 -- a text of these lines, not too long
-module _ (text : List ℕ) (lines : List (List ℕ)) (short : length text ≤ max_text) (are : lines_of text ≡ lines) where
+module _ (text : List ℕ) (lines : List (List ℕ)) (short : length text ≤ text_limit text) (are : lines_of text ≡ lines) where
   of_lines : text_at text ≡ after_lines 0 Fresh lines
   of_lines = text_within text short ∙ ap (after_lines 0 Fresh) are
 
@@ -131,13 +143,92 @@ IsUnopened Fresh = Unit {0}
 IsUnopened (Formatted format) = Unit {0}
 IsUnopened (Open net) = ⊥
 
+-- the format of the netlist of a text that goes on from there
+abbrev format_at : TextState → NetlistFormat
+format_at Fresh = Standard
+format_at (Formatted form) = netlist_format form
+format_at (Open net) = net.format
+
 -- the line `horizon 1` opens the text
-opens_at_one : (state : TextState) → IsUnopened state → after_line state (codes "horizon 1") ≡ Ok (Open (empty_circuit 1))
+opens_at_one : (state : TextState) → IsUnopened state → after_line state (codes "horizon 1") ≡ Ok (Open (empty_circuit (format_at state) 1))
 unfolding after_line after_statement statement_of words_of spelled_number number_from
 opens_at_one Fresh is = refl
 opens_at_one (Formatted First) is = refl
 opens_at_one (Formatted Second) is = refl
+opens_at_one (Formatted Third) is = refl
 opens_at_one (Open net) is = absurd is
+
+-- where a line leads whose bytes are allowed
+module _ {P : Type 0} (next : TextState) (lines : List (List ℕ)) (state : TextState) (words : List (List ℕ)) where
+  by_words : ((after_statement state (statement_of words) >>= λ mid. led mid lines) ≡ Ok next → P) → (allowed : Bool)
+      → ((in_text (if allowed then Ok words else Err NotAscii) >>= λ ws. after_statement state (statement_of ws)) >>= λ mid. led mid lines) ≡ Ok next → P
+  by_words go true leads = go leads
+  by_words go false leads = cc
+
+module _ (next : TextState) (is : IsUnopened next) where
+  open_by : (lines : List (List ℕ)) (net : Circuit) → ((m : Circuit) → led (Open m) lines ≡ Ok next → ⊥) → (s : Statement)
+      → (after_statement (Open net) s >>= λ mid. led mid lines) ≡ Ok next → ⊥
+  unfolding after_statement
+  open_by lines net later Blank leads = later net leads
+  open_by lines net later Unknown leads = cc
+  open_by lines net later (Format number) leads = cc
+  open_by lines net later (Start horizon) leads = cc
+  open_by lines net later (Change (Err code)) leads = cc
+  open_by lines net later (Change (Ok edit)) leads = by (after_single net edit) leads
+    where
+      by : (r : Result Circuit EditError) → (result_map_both Open Refused r >>= λ mid. led mid lines) ≡ Ok next → ⊥
+      by (Ok m) leads = later m leads
+      by (Err error) leads = cc
+
+  -- a netlist that was opened stays open
+  stays_open : (lines : List (List ℕ)) (net : Circuit) → led (Open net) lines ≡ Ok next → ⊥
+  unfolding after_line
+  stays_open [] net leads = let same : Open net ≡ next = cc in subst IsUnopened (sym same) is
+  stays_open (line ∷ lines) net leads =
+      by_words next lines (Open net) (words_of line) (open_by lines net (stays_open lines) (statement_of (words_of line))) (list_all is_allowed line) leads
+
+  begun_by : (lines : List (List ℕ)) (P : Type 0) (f : NetlistFormat) (h : ℕ) (allowed : Bool) → ((if allowed then Ok (Open (empty_circuit f h)) else Err (Line BadNumber)) >>= λ mid. led mid lines) ≡ Ok next → P
+  begun_by lines P f h true leads = absurd (stays_open lines (empty_circuit f h) leads)
+  begun_by lines P f h false leads = cc
+
+  formed_by : (lines : List (List ℕ)) (form : TextFormat) → (led (Formatted form) lines ≡ Ok next → format_at next ≡ netlist_format form) → (s : Statement)
+      → (after_statement (Formatted form) s >>= λ mid. led mid lines) ≡ Ok next → format_at next ≡ netlist_format form
+  unfolding after_statement
+  formed_by lines form later Blank leads = later leads
+  formed_by lines form later Unknown leads = cc
+  formed_by lines form later (Format number) leads = cc
+  formed_by lines form later (Start (Ok h)) leads = begun_by lines _ (netlist_format form) h (nat_le 1 h && nat_le h (max_horizon_of form)) leads
+  formed_by lines form later (Start (Err code)) leads = cc
+  formed_by lines form later (Change edit) leads = cc
+
+  -- a form that was stated stays
+  stays_formed : (lines : List (List ℕ)) (form : TextFormat) → led (Formatted form) lines ≡ Ok next → format_at next ≡ netlist_format form
+  unfolding after_line
+  stays_formed [] form leads = let same : Formatted form ≡ next = cc in ap format_at (sym same)
+  stays_formed (line ∷ lines) form leads =
+      by_words next lines (Formatted form) (words_of line) (formed_by lines form (stays_formed lines form) (statement_of (words_of line))) (list_all is_allowed line) leads
+
+  fresh_by : (lines : List (List ℕ)) → (led Fresh lines ≡ Ok next → format_at next ≡ format_by (statements lines)) → (s : Statement)
+      → (after_statement Fresh s >>= λ mid. led mid lines) ≡ Ok next → format_at next ≡ format_by (s ∷ statements lines)
+  unfolding after_statement
+  fresh_by lines later Blank leads = later leads
+  fresh_by lines later Unknown leads = cc
+  fresh_by lines later (Format (Err code)) leads = cc
+  fresh_by lines later (Start (Ok h)) leads = begun_by lines _ Standard h (nat_le 1 h && nat_le h (max_horizon_of First)) leads
+  fresh_by lines later (Start (Err code)) leads = cc
+  fresh_by lines later (Change edit) leads = cc
+  fresh_by lines later (Format (Ok number)) leads = by (format_of number) refl leads
+    where
+      by : (r : Result TextFormat TextCode) → format_of number ≡ r → (formatted r >>= λ mid. led mid lines) ≡ Ok next → format_at next ≡ (if number == 3 then Large else Standard)
+      by (Ok form) e leads = stays_formed lines form leads ∙ format_numbered number form e
+      by (Err code) e leads = cc
+
+  -- the format of a text without a netlist is the one that its lines state
+  format_led : (lines : List (List ℕ)) → led Fresh lines ≡ Ok next → format_at next ≡ format_by (statements lines)
+  unfolding after_line
+  format_led [] leads = let same : Fresh ≡ next = cc in ap format_at (sym same)
+  format_led (line ∷ lines) leads =
+      by_words next lines Fresh (words_of line) (fresh_by lines (format_led lines) (statement_of (words_of line))) (list_all is_allowed line) leads
 
 unfinished_at : (n : ℕ) (state : TextState) → IsUnopened state → finished n state ≡ Err (record { line = n; code = NoHorizon })
 unfinished_at n Fresh is = refl
@@ -159,10 +250,11 @@ lack_horizon lines next is leads = record {
         let far : 0 + length lines ≡ length lines = omega arith in
         ap (after_lines 0 Fresh) all ∙ goes_on 0 Fresh next lines [] leads ∙ ap (λ n. after_lines n next []) far ∙ lines_done (length lines) next ∙ unfinished_at (length lines) next is
 
-    opened : after_lines 0 Fresh (lines ++ codes "horizon 1" ∷ []) ≡ Ok (empty_circuit 1)
+    opened : after_lines 0 Fresh (lines ++ codes "horizon 1" ∷ []) ≡ Ok (empty_circuit (format_by (statements lines)) 1)
     opened =
         goes_on 0 Fresh next lines (codes "horizon 1" ∷ []) leads ∙ lines_behind (0 + length lines) next (codes "horizon 1") []
-        ∙ ap (behind (0 + length lines) []) (opens_at_one next is) ∙ lines_done (0 + length lines + 1) (Open (empty_circuit 1))
+        ∙ ap (behind (0 + length lines) []) (opens_at_one next is) ∙ lines_done (0 + length lines + 1) (Open (empty_circuit (format_at next) 1))
+        ∙ ap (λ f. Ok (empty_circuit f 1)) (format_led next is lines leads)
 
 -- lines that lead to a netlist are read
 are_read : (lines : List (List ℕ)) (net : Circuit) → led Fresh lines ≡ Ok (Open net) → AreRead lines net

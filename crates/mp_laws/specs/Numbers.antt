@@ -19,6 +19,7 @@ pub record KeepsNumbers {R : Type 0} (name_of : R → List ℕ) (old new : List 
 
 -- the horizon stays, and no number of a wire, a module or a bundle is used again
 pub record UsesNumbersOnce (n m : Circuit) : Type 0 where
+  pub format : m.format ≡ n.format
   pub horizon : m.horizon ≡ n.horizon
   pub wires : KeepsNumbers (λ (r : WireRecord). r.name) n.wires m.wires
   pub modules : KeepsNumbers (λ (r : ModuleRecord). r.name) n.modules m.modules

@@ -8,6 +8,7 @@ use Rattle.mp_records.specs.declared.module_record.ModuleRecord.{ModuleRecord}
 use Rattle.mp_records.specs.declared.ids.WireId.{WireId}
 use Rattle.mp_records.specs.declared.ports.Input.{Input}
 use Rattle.mp_records.specs.declared.ports.Output.{Output}
+use Rattle.mp_netlist.specs.declared.format.Format.TheVariants.{Standard}
 use Rattle.mp_netlist.specs.Circuit.{Circuit}
 use Rattle.mp_model.specs.Waves.{waves}
 
@@ -35,6 +36,7 @@ shown changes = Some (record { initial = 0; changes = changes })
 -- an inverter that reads its own output, and a buffer behind it
 abbrev pub self_loop : Circuit
 self_loop = record {
+  format = Standard;
   horizon = 5;
   wires = wire (codes "y") None ∷ wire (codes "z") None ∷ [];
   modules = part (codes "n") kinds.Not [] (reading 0 ∷ []) (output 0 1) ∷ part (codes "b") kinds.Buf [] (reading 0 ∷ []) (output 1 3) ∷ [];
@@ -44,6 +46,7 @@ self_loop = record {
 -- a C-element waits for both its inputs
 abbrev pub c_element : Circuit
 c_element = record {
+  format = Standard;
   horizon = 20;
   wires = wire (codes "a") (Some ((3, 1) ∷ [])) ∷ wire (codes "b") (Some ((7, 1) ∷ [])) ∷ wire (codes "y") None ∷ [];
   modules = part (codes "c") kinds.C (0 ∷ 0 ∷ 0 ∷ []) (reading 0 ∷ reading 1 ∷ []) (output 2 2) ∷ [];
@@ -53,6 +56,7 @@ c_element = record {
 -- the control of a micropipeline of two stages
 abbrev pub two_stage_control : Circuit
 two_stage_control = record {
+  format = Standard;
   horizon = 20;
   wires = wire (codes "r") (Some ((1, 1) ∷ (4, 0) ∷ [])) ∷ wire (codes "ack") (Some ((10, 1) ∷ [])) ∷ wire (codes "q1") None ∷ wire (codes "q2") None ∷ [];
   modules =
@@ -64,6 +68,7 @@ two_stage_control = record {
 -- a buffer that hears of its wire 4 units late
 abbrev pub late_buffer : Circuit
 late_buffer = record {
+  format = Standard;
   horizon = 20;
   wires = wire (codes "a") (Some ((2, 1) ∷ (5, 0) ∷ [])) ∷ wire (codes "y") None ∷ [];
   modules = part (codes "b") kinds.Buf [] ((let port : Input = record { wire = number 0; delay = 4 } in port) ∷ []) (output 1 3) ∷ [];

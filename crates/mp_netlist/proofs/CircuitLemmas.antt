@@ -15,7 +15,7 @@ use Rattle.mp_records.specs.Inputs.{no_input}
 use Rattle.mp_records.specs.Outputs.{output_at}
 use Rattle.mp_records.specs.Names.{is_name}
 use Rattle.mp_records.specs.NamedWires.{module_names, bundle_names}
-use Rattle.mp_netlist.specs.Limits.{max_wires, max_modules, max_bundles}
+use Rattle.mp_netlist.specs.Limits.{wire_limit, module_limit, bundle_limit}
 use Rattle.mp_netlist.specs.Circuit.{Circuit, IsCircuit, IsWire, IsModule, IsBundle, HasWidth, Drives, wire_at, module_at, bundle_at, width_of, module_width, stimulus_in, stimulus_at, wire_named, module_named, bundle_named}
 use Rattle.mp_netlist.specs.Drivers.{driver, is_nothing}
 use Rattle.mp_netlist.specs.Uses.{is_used}
@@ -110,7 +110,7 @@ module _ (n : Circuit) (ok : IsCircuit n) where
 
   -- one more wire
   module _ (r : WireRecord) (is_wire : IsWire n.horizon r) (named : is_name r.name ≡ true) (unnamed : is_none (wire_named n r.name) ≡ true)
-      (free : r.stimulus ≡ None) (room : length n.wires < max_wires) where
+      (free : r.stimulus ≡ None) (room : length n.wires < wire_limit n.format) where
     abbrev more : Circuit
     more = with_wire_record n r
 
@@ -189,7 +189,7 @@ module _ (n : Circuit) (ok : IsCircuit n) where
   -- one more module, whose outputs are at different wires that nothing drives
   module _ (r : ModuleRecord) (is_module : IsModule n r) (named : is_name r.name ≡ true) (unnamed : is_none (module_named n r.name) ≡ true)
       (distinct : (p q w : ℕ) → (output_at r p).wire ≡ Some (record { 0 = w }) → (output_at r q).wire ≡ Some (record { 0 = w }) → p ≡ q)
-      (undriven : (p w : ℕ) → (output_at r p).wire ≡ Some (record { 0 = w }) → is_nothing (driver n w) ≡ true) (room : length n.modules < max_modules) where
+      (undriven : (p w : ℕ) → (output_at r p).wire ≡ Some (record { 0 = w }) → is_nothing (driver n w) ≡ true) (room : length n.modules < module_limit n.format) where
     abbrev grown : Circuit
     grown = with_new_module n r
 
@@ -290,7 +290,7 @@ module _ (n : Circuit) (ok : IsCircuit n) where
     }
 
   -- one more bundle
-  module _ (r : BundleRecord) (is_bundle : IsBundle n r) (named : is_name r.name ≡ true) (unnamed : is_none (bundle_named n r.name) ≡ true) (room : length n.bundles < max_bundles) where
+  module _ (r : BundleRecord) (is_bundle : IsBundle n r) (named : is_name r.name ≡ true) (unnamed : is_none (bundle_named n r.name) ≡ true) (room : length n.bundles < bundle_limit n.format) where
     abbrev bundled : Circuit
     bundled = with_new_bundle n r
 

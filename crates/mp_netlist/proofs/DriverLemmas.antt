@@ -1,6 +1,7 @@
 -- The search for a driver finds the port that has a wire as its output.
-use Rattle.std.proofs.Common.{◌≡◌, ◌≢◌, ℕ, ◌+◌, ◌==◌, Bool, true, false, cond, List, [], ◌∷◌, Option, Some, None, slice_index_or, is_some, zero, suc, refl, ap, sym, subst, ◌∙◌, arith, inl, inr, ◌⊎◌}
+use Rattle.std.proofs.Common.{◌≡◌, ◌≢◌, ℕ, ◌+◌, ◌==◌, Bool, true, false, cond, List, [], ◌∷◌, Option, Some, None, slice_index_or, is_some, length, zero, suc, refl, ap, sym, subst, ◌∙◌, arith, inl, inr, ◌⊎◌}
 use Rattle.std.proofs.lemmas.Bool.{and_parts, eqb-true, eq-eqb}
+use Rattle.std.proofs.lemmas.List.{get_or_past}
 use Rattle.mp_records.specs.declared.ids.WireId.{WireId}
 use Rattle.mp_records.specs.declared.ids.ModuleId.{ModuleId}
 use Rattle.mp_records.specs.declared.module_record.ModuleRecord.{ModuleRecord}
@@ -9,7 +10,7 @@ use Rattle.mp_records.specs.Outputs.{output_at}
 use Rattle.mp_records.specs.NamedWires.{is_wire}
 use Rattle.mp_netlist.specs.declared.driver.Driver.{Driver}
 use Rattle.mp_netlist.specs.declared.driver.Driver.TheVariants.{Nothing, Stimulus, Port}
-use Rattle.mp_netlist.specs.Circuit.{Circuit, IsCircuit, Drives, wire_at, stimulus_in, stimulus_at}
+use Rattle.mp_netlist.specs.Circuit.{Circuit, IsCircuit, Drives, wire_at, module_at, stimulus_in, stimulus_at}
 use Rattle.mp_netlist.specs.Drivers.{port_from, port_of, or_later, driver, driver_from, stimulus_driver, is_port, is_nothing, is_free_for, FindsPorts, FindsOnlyPorts, LeavesNoDriver}
 
 abbrev no_output : Output
@@ -179,6 +180,24 @@ leaves_no_driver n ok w none = by (driven_by n w)
     by : ((m p : ℕ) × Drives n m p w) ⊎ (driver n w ≡ stimulus_driver (stimulus_at n w)) → driver n w ≡ Nothing
     by (inl found) = let no = sym (ap is_some none) ∙ driven_stands n ok found.0 found.1 w found.2 in cc
     by (inr same) = same ∙ ap (λ slot. stimulus_driver (stimulus_in slot)) none
+
+-- no port drives a wire that is yet to be added
+pub next_is_undriven : (n : Circuit) → IsCircuit n → (w : ℕ) → w ≡ length n.wires → (m : ℕ) → port_of (module_at n m) w ≡ None
+next_is_undriven n ok w next m = by (module_at n m) refl
+  where
+    absent : wire_at n w ≡ None
+    absent = get_or_past n.wires w None (omega (arith, next))
+
+    undriven : (r : ModuleRecord) → module_at n m ≡ Some r → (found : Option ℕ) → port_from 0 r.outputs w ≡ found → port_from 0 r.outputs w ≡ None
+    undriven r at None is = is
+    undriven r at (Some p) is =
+        let port = port_found 0 r.outputs w p is in
+        let stands = driven_stands n ok m port.0 w (record { part = r; stands = at; output = port.2 }) in
+        let no = sym (ap is_some absent) ∙ stands in cc
+
+    by : (slot : Option ModuleRecord) → module_at n m ≡ slot → port_of slot w ≡ None
+    by None at = refl
+    by (Some r) at = undriven r at (port_from 0 r.outputs w) refl
 
 -- the driver of a wire without a stimulus is found among the ports
 pub portless_driver : (n : Circuit) (w : ℕ) → is_some (stimulus_at n w) ≡ false → driver_from 0 n.modules w Nothing ≡ driver n w

@@ -17,11 +17,12 @@ use Rattle.mp_records.specs.declared.module_record.ModuleRecord.{ModuleRecord}
 use Rattle.mp_records.specs.declared.wire_record.WireRecord.{WireRecord}
 use Rattle.mp_records.specs.PortChanges.{with_input, with_input_delay, with_output, with_delay}
 use Rattle.mp_records.specs.Names.{is_name}
-use Rattle.mp_netlist.specs.Limits.{max_wires, max_modules, max_bundles, max_setup}
+use Rattle.mp_netlist.specs.Limits.{wire_limit, module_limit, bundle_limit, max_setup}
 use Rattle.mp_netlist.specs.Circuit.{Circuit, IsCircuit, IsWire, IsModule, HasWidth, Drives, wire_at, module_at, wire_named, module_named, bundle_named, width_of, module_width}
 use Rattle.mp_netlist.specs.Drivers.{driver, is_port, is_free_for}
 use Rattle.mp_netlist.specs.Uses.{is_used}
 use Rattle.mp_netlist.specs.Edits.{first_failing, stands, wire_id, module_id, module_of, bundle_id, input_ports, output_ports, input_width_of, output_width_of, output_stands, output_fits, output_is_free, is_delay, is_input_delay, inputs_stand, width_named, driven_names, are_distinct, is_undriven, new_width, inputs_fit, outputs_fit, wire_checks, wire_removal_checks, module_checks, module_removal_checks, bundle_checks, bundle_removal_checks, input_checks, output_checks, input_delay_checks, delay_checks, stimulus_checks, clearing_checks, wire_refusal, wire_removal_refusal, module_refusal, module_removal_refusal, bundle_refusal, bundle_removal_refusal, input_refusal, output_refusal, input_delay_refusal, delay_refusal, stimulus_refusal, clearing_refusal, refusal, edited, new_module, with_new_wire, with_new_module, new_bundle, with_new_bundle, with_module, with_stimulus, without_stimulus, with_wire}
+use Rattle.mp_netlist.proofs.LimitLemmas.{horizon_within}
 use Rattle.mp_netlist.proofs.TableLemmas.{IsNamesake}
 use Rattle.mp_netlist.proofs.NameLemmas.{wire_name, module_name, Stands, stands_from, stands_within, ModuleStands, module_stands_from, module_within, BundleStands, bundle_stands_from, bundle_within}
 use Rattle.mp_netlist.proofs.DriverLemmas.{portless_is_undriven}
@@ -75,13 +76,13 @@ pub record IsNewWire (n : Circuit) (name : List ℕ) (width level : ℕ) : Type 
   pub low : 1 ≤ width
   pub high : width ≤ 64
   pub fits : fits_width width level ≡ true
-  pub room : length n.wires < max_wires
+  pub room : length n.wires < wire_limit n.format
 
 pub new_wire : (n : Circuit) (name : List ℕ) (width level : ℕ) → wire_refusal n name width level ≡ None → IsNewWire n name width level
 new_wire n name width level none =
     let all = all_pass (wire_checks n name width level) none in
     let bounds = and_parts (nat_le 1 width) (nat_le width 64) all.1.1.0 in
-    record { named = all.0; free = all.1.0; low = leb-true 1 width bounds.0; high = leb-true width 64 bounds.1; fits = all.1.1.1.0; room = ltb-true (length n.wires) max_wires all.1.1.1.1.0 }
+    record { named = all.0; free = all.1.0; low = leb-true 1 width bounds.0; high = leb-true width 64 bounds.1; fits = all.1.1.1.0; room = ltb-true (length n.wires) (wire_limit n.format) all.1.1.1.1.0 }
 
 pub IsCircuit-with_new_wire : (n : Circuit) → IsCircuit n → (name : List ℕ) (width level : ℕ) → wire_refusal n name width level ≡ None → IsCircuit (with_new_wire n name width level)
 IsCircuit-with_new_wire n ok name width level none =
@@ -110,7 +111,7 @@ pub record IsNewModule (n : Circuit) (new : NewModule) : Type 0 where
   pub free : is_none (module_named n new.name) ≡ true
   pub ports : ArePorts n new.kind new.inputs new.outputs
   pub ranged : are_params new.kind (new_width n new.kind new.inputs) new.params ≡ true
-  pub room : length n.modules < max_modules
+  pub room : length n.modules < module_limit n.format
 
 pub is_new_module : (n : Circuit) (new : NewModule) → module_refusal n new ≡ None → IsNewModule n new
 is_new_module n new none =
@@ -136,7 +137,7 @@ is_new_module n new none =
         distinct = drivers.1;
       };
       ranged = rest.0;
-      room = ltb-true (length n.modules) max_modules rest.1.1.1.0;
+      room = ltb-true (length n.modules) (module_limit n.format) rest.1.1.1.0;
     }
 
 pub IsCircuit-with_new_module : (n : Circuit) → IsCircuit n → (new : NewModule) → module_refusal n new ≡ None → IsCircuit (with_new_module n (new_module n new))
@@ -161,7 +162,7 @@ pub record IsNewBundle (n : Circuit) (new : NewBundle) : Type 0 where
   pub request_wide : width_named n new.request ≡ 1
   pub acknowledge_wide : width_named n new.acknowledge ≡ 1
   pub early : new.setup ≤ max_setup
-  pub room : length n.bundles < max_bundles
+  pub room : length n.bundles < bundle_limit n.format
 
 pub is_new_bundle : (n : Circuit) (new : NewBundle) → bundle_refusal n new ≡ None → IsNewBundle n new
 is_new_bundle n new none =
@@ -178,7 +179,7 @@ is_new_bundle n new none =
       request_wide = eqb-true _ _ wide.0;
       acknowledge_wide = eqb-true _ _ wide.1;
       early = leb-true new.setup max_setup all.1.1.1.1.0;
-      room = ltb-true (length n.bundles) max_bundles all.1.1.1.1.1.0;
+      room = ltb-true (length n.bundles) (bundle_limit n.format) all.1.1.1.1.1.0;
     }
 
 pub IsCircuit-with_new_bundle : (n : Circuit) → IsCircuit n → (new : NewBundle) → bundle_refusal n new ≡ None → IsCircuit (with_new_bundle n (new_bundle n new))
@@ -387,4 +388,4 @@ pub stimulus_early : (n : Circuit) → IsCircuit n → (name : List ℕ) (change
     → All (λ (change : ℕ × ℕ). change.0 < 4294967296) changes
 stimulus_early n ok name changes none k d here =
     let early = is_stimulus-early n.horizon (width_named n name) 0 changes (new_stimulus n name changes none).valid k d here in
-    omega (arith, ok.horizon_high)
+    omega (arith, horizon_within n ok)

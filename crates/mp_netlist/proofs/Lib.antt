@@ -1,3 +1,4 @@
+pub mod LimitLemmas
 pub mod IndexLemmas
 pub mod TableLemmas
 pub mod DriverLemmas

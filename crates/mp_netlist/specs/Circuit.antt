@@ -10,18 +10,20 @@ use Rattle.mp_records.specs.Outputs.{output_at}
 use Rattle.mp_records.specs.Names.{is_name}
 use Rattle.mp_modules.specs.Levels.{fits_width}
 use Rattle.mp_records.specs.Stimuli.{is_stimulus}
-use Rattle.mp_netlist.specs.Limits.{max_horizon, max_wires, max_modules, max_bundles, max_delay, max_setup}
+use Rattle.mp_netlist.specs.declared.format.Format.{Format}
+use Rattle.mp_netlist.specs.Limits.{horizon_limit, wire_limit, module_limit, bundle_limit, max_delay, max_setup}
 use Rattle.mp_netlist.specs.Slots.{slot_at, number_named}
 
--- the horizon, and a slot for each number of a wire, a module and a bundle
+-- the format, the horizon, and a slot for each number of a wire, a module and a bundle
 pub record Circuit : Type 0 where
+  pub format : Format
   pub horizon : ℕ
   pub wires : List (Option WireRecord)
   pub modules : List (Option ModuleRecord)
   pub bundles : List (Option BundleRecord)
 
-abbrev pub empty_circuit : ℕ → Circuit
-empty_circuit horizon = record { horizon = horizon; wires = []; modules = []; bundles = [] }
+abbrev pub empty_circuit : Format → ℕ → Circuit
+empty_circuit format horizon = record { format = format; horizon = horizon; wires = []; modules = []; bundles = [] }
 
 abbrev pub wire_at : Circuit → ℕ → Option WireRecord
 wire_at n w = slot_at n.wires w
@@ -112,13 +114,13 @@ pub record HasNames (n : Circuit) : Type 0 where
 -- what holds of every netlist
 pub record IsCircuit (n : Circuit) : Type 0 where
   pub horizon_low : 1 ≤ n.horizon
-  pub horizon_high : n.horizon ≤ max_horizon
+  pub horizon_high : n.horizon ≤ horizon_limit n.format
   pub wires_ok : (w : ℕ) (r : WireRecord) → wire_at n w ≡ Some r → IsWire n.horizon r
   pub modules_ok : (m : ℕ) (r : ModuleRecord) → module_at n m ≡ Some r → IsModule n r
   pub bundles_ok : (b : ℕ) (r : BundleRecord) → bundle_at n b ≡ Some r → IsBundle n r
   pub names : HasNames n
   pub one_port : (m p k q w : ℕ) → Drives n m p w → Drives n k q w → (m ≡ k) × (p ≡ q)
   pub port_or_stimulus : (m p w : ℕ) → Drives n m p w → stimulus_at n w ≡ None
-  pub wires_few : length n.wires ≤ max_wires
-  pub modules_few : length n.modules ≤ max_modules
-  pub bundles_few : length n.bundles ≤ max_bundles
+  pub wires_few : length n.wires ≤ wire_limit n.format
+  pub modules_few : length n.modules ≤ module_limit n.format
+  pub bundles_few : length n.bundles ≤ bundle_limit n.format

@@ -27,7 +27,7 @@ use Rattle.mp_records.specs.Names.{is_name}
 use Rattle.mp_records.specs.Stimuli.{is_stimulus}
 use Rattle.mp_modules.specs.Levels.{fits_width}
 use Rattle.mp_records.specs.PortChanges.{with_input, with_input_delay, with_output, with_delay}
-use Rattle.mp_netlist.specs.Limits.{max_wires, max_modules, max_bundles, max_delay, max_setup, max_batch}
+use Rattle.mp_netlist.specs.Limits.{wire_limit, module_limit, bundle_limit, max_delay, max_setup, max_batch}
 use Rattle.mp_netlist.specs.Circuit.{Circuit, wire_at, module_at, wire_named, module_named, bundle_named, width_of, module_width, stimulus_at}
 use Rattle.mp_netlist.specs.Drivers.{driver, is_port, is_nothing, is_free_for}
 use Rattle.mp_netlist.specs.Uses.{is_used}
@@ -162,7 +162,7 @@ wire_checks n name width level =
     ∷ (is_none (wire_named n name), NameTaken)
     ∷ (is_width width, BadWidth)
     ∷ (fits_width width level, BadLevel)
-    ∷ (nat_lt (length n.wires) max_wires, TableFull)
+    ∷ (nat_lt (length n.wires) (wire_limit n.format), TableFull)
     ∷ []
 
 abbrev pub wire_refusal : Circuit → List ℕ → ℕ → ℕ → Option EditError
@@ -189,7 +189,7 @@ module_checks n new =
     ∷ (are_params new.kind (new_width n new.kind new.inputs) new.params, BadParam)
     ∷ (delays_fit new.inputs new.outputs, BadDelay)
     ∷ (list_all (is_undriven n) (driven_names new.outputs) && are_distinct (driven_names new.outputs), AlreadyDriven)
-    ∷ (nat_lt (length n.modules) max_modules, TableFull)
+    ∷ (nat_lt (length n.modules) (module_limit n.format), TableFull)
     ∷ []
 
 abbrev pub module_refusal : Circuit → NewModule → Option EditError
@@ -210,7 +210,7 @@ bundle_checks n new =
     ∷ (stands n new.request && stands n new.acknowledge && stands n new.payload, NoSuchWire)
     ∷ (width_named n new.request == 1 && width_named n new.acknowledge == 1, WidthMismatch)
     ∷ (nat_le new.setup max_setup, BadParam)
-    ∷ (nat_lt (length n.bundles) max_bundles, TableFull)
+    ∷ (nat_lt (length n.bundles) (bundle_limit n.format), TableFull)
     ∷ []
 
 abbrev pub bundle_refusal : Circuit → NewBundle → Option EditError

@@ -4,6 +4,7 @@ use Rattle.mp_netlist.specs.Circuit.{Circuit, IsCircuit}
 
 abbrev pub circuit_of : Inside → Circuit
 circuit_of fields = record {
+  format = fields.format;
   horizon = fields.horizon;
   wires = fields.wires;
   modules = fields.modules;

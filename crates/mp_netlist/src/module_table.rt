@@ -4,7 +4,6 @@ ghost use Rattle.mp_records.specs.NamedWires.{is_wire};
 ghost use Rattle.mp_netlist.specs.Drivers.{port_from};
 ghost use Rattle.mp_netlist.specs.DrivenWires.{may_be_driven};
 
-use crate::netlist::MAX_WIRES;
 use crate::table::{Change, Table};
 use mp_records::{ModuleRecord, Output, WireId};
 use std::alloc::{AllocError, Global};
@@ -31,11 +30,11 @@ impl Model for ModuleTable {
 }
 
 impl ModuleTable {
-    ghost use Rattle.std.specs.Prelude.{◌≡◌, ◌<◌, ◌^◌, ◌++◌, ◌∷◌, [], false, None, Some, OnOk, OnErr, IfOk, length, slice_set, option_map};
+    ghost use Rattle.std.specs.Prelude.{◌≡◌, ℕ, ◌<◌, ◌^◌, ◌++◌, ◌∷◌, [], false, None, Some, OnOk, OnErr, IfOk, length, slice_set, option_map};
     ghost use Rattle.std.specs.Option.{option_copied};
     ghost use Rattle.mp_records.specs.declared.module_record.ModuleRecord.{ModuleRecord as Record};
     ghost use Rattle.mp_netlist.specs.declared.driver.Driver.TheVariants.{Nothing};
-    ghost use Rattle.mp_netlist.specs.Drivers.{driver_from};
+    ghost use Rattle.mp_netlist.specs.Drivers.{driver_from, port_of};
     ghost use Rattle.mp_netlist.specs.Slots.{slot_at, number_named};
 
     /// A table of nothing.
@@ -69,6 +68,17 @@ impl ModuleTable {
         may_be_driven(self.driven.as_slice(), wire)
     }
 
+    /// Makes a place for the mark of a wire, if it is the next one. No module drives the wire.
+    pub fn add_mark(&mut self, wire: WireId) -> Result<(), AllocError>
+        requires { (m : ℕ) → port_of (slot_at self.old m) wire.0 ≡ None }
+        ensures { self.new ≡ self.old }
+    {
+        if self.driven.len() == wire.0 as usize {
+            self.driven.push(false)?;
+        }
+        Ok(())
+    }
+
     /// Adds a module of a new name, with the next number.
     pub fn push(&mut self, added: ModuleRecord) -> Result<(), AllocError>
         requires room { length self.old < 2 ^ 32 }
@@ -76,9 +86,6 @@ impl ModuleTable {
         ensures ok { OnOk result (self.new ≡ self.old ++ Some added ∷ []) }
         ensures err { OnErr result (self.new ≡ self.old) }
     {
-        if self.table.len() == 0 {
-            self.driven = no_marks(self.table.allocator())?;
-        }
         note_outputs(&mut self.driven, added.outputs.as_slice());
         self.table.push(added)
     }
@@ -127,15 +134,6 @@ impl ModuleTable {
     pub fn allocator(&self) -> Global {
         self.table.allocator()
     }
-}
-
-/// A place for the mark of each wire, none of which is marked.
-fn no_marks(alloc: Global) -> Result<Vec<bool>, AllocError> {
-    let mut marks = Vec::with_capacity(alloc, MAX_WIRES)?;
-    for _w in 0..MAX_WIRES {
-        marks.push(false)?;
-    }
-    Ok(marks)
 }
 
 /// Whether a wire is marked, or has no place for a mark.

@@ -11,24 +11,13 @@ mod readers;
 mod uses;
 mod widths;
 
+use crate::format::Format;
 use crate::module_table::ModuleTable;
 use crate::new_error::NewError;
 use crate::table::Table;
 use mp_records::{BundleId, BundleRecord, ModuleId, ModuleRecord, WireId, WireRecord};
 use std::alloc::Global;
 use std::marker::Model;
-
-/// The longest time that a netlist runs for, in units.
-pub const MAX_HORIZON: u64 = 1048576;
-
-/// How many wires may ever be added to a netlist.
-pub const MAX_WIRES: usize = 8192;
-
-/// How many modules may ever be added to a netlist.
-pub const MAX_MODULES: usize = 4096;
-
-/// How many bundles may ever be added to a netlist.
-pub const MAX_BUNDLES: usize = 1024;
 
 /// The longest delay of a port, in units.
 pub const MAX_DELAY: u64 = 65535;
@@ -39,9 +28,10 @@ pub const MAX_SETUP: u64 = 65535;
 /// How many edits a batch may have.
 pub const MAX_BATCH: usize = 256;
 
-/// Wires, modules and bundles by number, and for how many units they run.
+/// Wires, modules and bundles by number, for how many units they run, and how many there may be.
 #[derive(Drop)]
 pub struct Netlist {
+    format: Format,
     horizon: u32,
     wires: Table<WireRecord>,
     modules: ModuleTable,
@@ -64,25 +54,33 @@ impl Netlist {
     ghost use Rattle.std.specs.Prelude.{◌≡◌, ◌≤◌, ◌<◌, ℕ, length, option_map, IfSome, IfOk, IfErr, IsOk, ◌↔◌};
     ghost use Rattle.std.specs.Option.{option_copied};
     ghost use Rattle.mp_netlist.specs.declared.new_error.NewError.TheVariants.{BadHorizon};
-    ghost use Rattle.mp_netlist.specs.Limits.{max_horizon, max_wires, max_modules, max_bundles};
+    ghost use Rattle.mp_netlist.specs.Limits.{max_horizon, max_wires, max_modules, max_bundles, horizon_limit};
     ghost use Rattle.mp_netlist.specs.Circuit.{IsCircuit, IsWire, IsModule, IsBundle, empty_circuit, wire_at, module_at, bundle_at, wire_named, module_named, bundle_named};
 
-    /// A netlist without records that runs for `horizon` units: refused as `BadHorizon` exactly where they are not 1 to
-    /// `MAX_HORIZON`.
-    pub fn empty(alloc: Global, horizon: u64) -> Result<Netlist, NewError>
-        ensures ok { IfOk result (λ netlist. netlist ≡ empty_circuit horizon) }
-        ensures allowed { IsOk result ↔ ((1 ≤ horizon) × (horizon ≤ max_horizon)) }
+    /// A netlist of a format without records that runs for `horizon` units: refused as `BadHorizon` exactly where they are not 1 to
+    /// the longest of the format.
+    pub fn empty(alloc: Global, format: Format, horizon: u64) -> Result<Netlist, NewError>
+        ensures ok { IfOk result (λ netlist. netlist ≡ empty_circuit format horizon) }
+        ensures allowed { IsOk result ↔ ((1 ≤ horizon) × (horizon ≤ horizon_limit format)) }
         ensures refused { IfErr result (λ error. error ≡ BadHorizon) }
     {
-        if horizon == 0 || horizon > MAX_HORIZON {
+        if horizon == 0 || horizon > format.max_horizon() {
             return Err(NewError::BadHorizon);
         }
         Ok(Netlist {
+            format,
             horizon: horizon as u32,
             wires: Table::new(alloc),
             modules: ModuleTable::new(alloc),
             bundles: Table::new(alloc),
         })
+    }
+
+    /// How large it may get.
+    pub fn format(&self) -> Format
+        ensures { result ≡ self.now.format }
+    {
+        self.format
     }
 
     /// For how many units it runs: times are from 0 to one below.

@@ -2,8 +2,8 @@
 //! `drop` and at one place, since at each other end of a function the proof spells out how each part of it is let go.
 use mp_modules::Kind;
 use mp_netlist::{
-    Boxed, Changes, Edit, InputName, InputNames, Name, Netlist, NewModule, OutputName, OutputNames,
-    Params, SingleEdit,
+    Boxed, Changes, Edit, Format, InputName, InputNames, Name, Netlist, NewModule, OutputName,
+    OutputNames, Params, SingleEdit,
 };
 use std::alloc::{AllocError, Global};
 
@@ -174,7 +174,7 @@ impl Plan<'_> {
 
     /// The netlist, where there is memory and no edit is refused.
     pub fn netlist(&self, alloc: Global) -> Option<Netlist> {
-        let mut netlist = Netlist::empty(alloc, self.horizon).ok()?;
+        let mut netlist = Netlist::empty(alloc, Format::Standard, self.horizon).ok()?;
         if self.fills(alloc, &mut netlist) {
             Some(netlist)
         } else {

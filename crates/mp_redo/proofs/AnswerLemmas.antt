@@ -15,6 +15,7 @@ use Rattle.mp_netlist.specs.declared.driver.Driver.TheVariants.{Nothing, Stimulu
 use Rattle.mp_netlist.specs.Circuit.{Circuit, IsCircuit, IsDelay, Drives, module_at}
 use Rattle.mp_netlist.specs.Drivers.{driver}
 use Rattle.mp_netlist.proofs.DriverLemmas.{finds_ports, finds_only_ports}
+use Rattle.mp_netlist.proofs.LimitLemmas.{horizon_within}
 use Rattle.mp_model.specs.Levels.{built, inputs_by}
 use Rattle.mp_model.specs.Tracks.{AreTimesIn}
 use Rattle.mp_model.specs.Waves.{level, state}
@@ -99,7 +100,7 @@ module _ (n : Circuit) (ok : IsCircuit n) (m : ℕ) (r : ModuleRecord) (at : mod
           late = (delay_ok r.outputs p (ok.modules_ok m r at).delays low).0;
           low =
               let short = (delay_ok r.outputs p (ok.modules_ok m r at).delays low).1 in
-              let high = ok.horizon_high in
+              let high = horizon_within n ok in
               omega (arith, short, high, within);
           own = has.own p w wire;
         },

@@ -178,7 +178,7 @@ left_ledgers new run time m cells after ledgers later are live left handed = rec
 -- ---- all
 
 module _ (old new : Circuit) (old_ok : IsCircuit old) (new_ok : IsCircuit new) (revised : IsRevision old new) (run : Outcome) (is_run : IsRun old run)
-    (block time : ℕ) (border : IsBorder time) (later : block < time) (low : time < new.horizon)
+    (block time : ℕ) (border : IsBorder new.horizon time) (later : block < time) (low : time < new.horizon)
     (m : ℕ) (cells : List Cell) (lines : List Line) (looks : List (List ModuleId)) (ledgers : List Ledger) (stretches : List Stretch)
     (is : IsCrossing old new run block time cells lines looks ledgers stretches) where
   positive : 0 < time
@@ -259,7 +259,7 @@ listed_more new live m cells after has others are k stands on = elim (cases_eq k
 ]
 
 -- when the listed modules are over
-pub crossing_ends : (old new : Circuit) → IsCircuit old → IsCircuit new → IsRevision old new → (run : Outcome) → IsRun old run → (block time : ℕ) → IsBorder time → block < time → time < new.horizon
+pub crossing_ends : (old new : Circuit) → IsCircuit old → IsCircuit new → IsRevision old new → (run : Outcome) → IsRun old run → (block time : ℕ) → IsBorder new.horizon time → block < time → time < new.horizon
     → (live : List ModuleId) (cells : List Cell) (lines : List Line) (looks : List (List ModuleId)) (ledgers : List Ledger) (stretches : List Stretch)
     → IsListed new cells live → ((m : ℕ) → Contains live (record { 0 = m }) → IsOverAt old new time cells m)
     → IsCrossing old new run block time cells lines looks ledgers stretches → IsBefore old new run time time cells lines looks

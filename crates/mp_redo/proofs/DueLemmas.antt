@@ -1,8 +1,8 @@
 -- A module that is due in a short span.
-use Rattle.std.proofs.Common.{◌≡◌, ◌≢◌, ℕ, ◌+◌, ◌-◌, ◌<◌, ◌≤◌, ◌⊎◌, Bool, true, false, List, [], Some, None, ◌∷◌, suc, length, drop, take, slice_index_or, slice_set, refl, ap, sym, subst, ◌∙◌, arith, inl, inr}
+use Rattle.std.proofs.Common.{◌≡◌, ◌≢◌, ℕ, ◌+◌, ◌-◌, ◌<◌, ◌≤◌, ◌⊎◌, Bool, true, false, List, [], Some, None, ◌∷◌, ◌++◌, suc, length, drop, take, slice_index_or, slice_set, refl, ap, sym, subst, ◌∙◌, arith, inl, inr}
 use Rattle.std.specs.List.{Contains}
 use Rattle.std.proofs.lemmas.Bool.{cases_eq}
-use Rattle.std.proofs.lemmas.List.{get_or-set_same, get_or-set_other, take_more}
+use Rattle.std.proofs.lemmas.List.{append-nil, drop_all, take_all, get_or-set_same, get_or-set_other, take_more}
 use Rattle.std.proofs.lemmas.List.Elements.{Contains-append_cases}
 use Rattle.std.proofs.Math.ListN.{length-set}
 use Rattle.std.proofs.Math.Seq.{drop-cons}
@@ -258,3 +258,10 @@ module _ (old new : Circuit) (old_ok : IsCircuit old) (new_ok : IsCircuit new) (
             (let a = answered_marked from to marks m marked in let b = answered_here from to marks m mark_within in let le = rise in omega (arith, a, b, le))
         | inr other ↦ let e = answered_other from to marks m k other in omega (arith, e)
       ]
+
+-- what is lent and comes back as long as it was
+pub put_back : {A : Type 0} (len : ℕ) (items new : List A) → length items ≡ len → length new ≡ len → take len (new ++ drop (length new) items) ≡ new
+put_back {A} len items new long same =
+    ap (λ (xs : List A). take len (new ++ xs)) (drop_all (length new) items (omega (arith, long, same)))
+    ∙ ap (take len) (append-nil new)
+    ∙ take_all len new (omega (arith, same))

@@ -11,6 +11,7 @@ use Rattle.mp_records.specs.declared.module_record.ModuleRecord.{ModuleRecord}
 use Rattle.mp_netlist.specs.Circuit.{Circuit, IsCircuit, module_at}
 use Rattle.mp_netlist.specs.Delays.{least_delay}
 use Rattle.mp_netlist.proofs.DelayLemmas.{delays_are_least}
+use Rattle.mp_netlist.proofs.LimitLemmas.{units_positive}
 use Rattle.mp_model.specs.Reach.{IsTouched}
 use Rattle.mp_depend.specs.Known.{AreReaders}
 use Rattle.mp_depend.specs.Rows.{row_at}
@@ -353,7 +354,8 @@ module _ (old new : Circuit) (ok : IsCircuit new) (end horizon count : ℕ) (cel
   some_time =
       let positive = (delays_are_least new ok).positive in
       let low = ok.horizon_low in
-      omega (arith, positive, low)
+      let units = units_positive new.horizon in
+      omega (arith, positive, low, units)
 
   none_ends : (m from to k : ℕ) → to ≤ 0 → IsIn new stretches m from to k → ⊥
   none_ends m from to k le is = by is.at

@@ -1,10 +1,14 @@
 -- Units and windows in which nobody looks are passed at once.
-use Rattle.std.proofs.Common.{◌≡◌, ℕ, ◌+◌, ◌-◌, ◌<◌, ◌≤◌, Bool, false, List, [], ◌∷◌, ◌++◌, length, drop, zero, suc, refl, ap, sym, subst, ◌∙◌, arith, inl, inr}
+use Rattle.std.proofs.Common.{◌≡◌, ℕ, ◌+◌, ◌-◌, ◌%◌, ◌<◌, ◌≤◌, min, Bool, false, List, [], ◌∷◌, ◌++◌, length, drop, zero, suc, refl, ap, sym, subst, ◌∙◌, arith, inl, inr}
 use Rattle.std.specs.List.{Contains}
 use Rattle.std.proofs.lemmas.Bool.{cases_lt}
+use Rattle.std.proofs.lemmas.Nat.{mod_below}
 use Rattle.std.proofs.lemmas.List.{ext_get_or, length-drop, length-append}
 use Rattle.mp_records.specs.declared.ids.ModuleId.{ModuleId}
 use Rattle.mp_netlist.specs.Circuit.{Circuit, IsCircuit}
+use Rattle.mp_netlist.specs.Delays.{least_delay}
+use Rattle.mp_netlist.specs.Limits.{checkpoint_units}
+use Rattle.mp_netlist.proofs.LimitLemmas.{units_positive}
 use Rattle.mp_evaluation.specs.Marks.{is_marked}
 use Rattle.mp_evaluation.specs.Outcomes.{Outcome}
 use Rattle.mp_evaluation.specs.Runs.{IsRun}
@@ -22,11 +26,12 @@ use Rattle.mp_work.specs.Work.{block_of, window_of, window_end, IsWindow}
 use Rattle.mp_redo.proofs.BeginLemmas.{window_begins}
 use Rattle.mp_redo.proofs.CourseLemmas.{window_short}
 use Rattle.mp_redo.proofs.JoinWorkLemmas.{joined_stretches}
+use Rattle.mp_work.proofs.MultipleLemmas.{rest_le, whole_rest, next_rest}
 use Rattle.mp_work.proofs.PartLemmas.{next_begins}
 use Rattle.mp_redo.proofs.RingLemmas.{at_next}
 use Rattle.mp_redo.proofs.DueLemmas.{answered_none}
 use Rattle.mp_redo.proofs.WindowEndLemmas.{listed_none, window_ends}
-use Rattle.mp_work.proofs.WindowLemmas.{window_within, window_cover, windows_apart}
+use Rattle.mp_work.proofs.WindowLemmas.{window_within, window_cover, windows_apart, in_block}
 
 -- ---- lists move up
 
@@ -118,10 +123,28 @@ module _ (old new : Circuit) (old_ok : IsCircuit old) (ok : IsCircuit new) (revi
 
 -- ---- where windows end
 
-pub idle_windows : (new : Circuit) → IsCircuit new → (from time : ℕ) → time < block_of from + 1024 → time < new.horizon → from < window_of new time → IsWindows new from (window_of new time)
+pub idle_windows : (new : Circuit) → IsCircuit new → (from time : ℕ) → time < block_of new.horizon from + checkpoint_units new.horizon → time < new.horizon → from < window_of new time → IsWindows new from (window_of new time)
 idle_windows new ok from time inside below later =
     let cover = window_cover new ok time below in
     record { later = later; block = omega (arith, cover.1, inside); within = omega (arith, cover.1, below); begins = λ before. cover.0.begins }
+
+-- up to the end of the block, or to the horizon
+pub block_windows : (new : Circuit) (from time : ℕ) → from < new.horizon → time ≡ from + min (checkpoint_units new.horizon - from % checkpoint_units new.horizon) (new.horizon - from) → IsWindows new from time
+block_windows new from time below is =
+    let units = checkpoint_units new.horizon in
+    let positive = units_positive new.horizon in
+    let rest = rest_le from units in
+    let small = mod_below from units positive in
+    record {
+      later = omega (arith, is, rest, small, below);
+      block = omega (arith, is, rest, small, below);
+      within = omega (arith, is, below);
+      begins = λ before.
+          let next : time ≡ block_of new.horizon from + units = omega (arith, is, rest, small, before) in
+          let border : time % units ≡ 0 = ap (λ t. t % units) next ∙ next_rest units (block_of new.horizon from) positive (whole_rest from units positive) in
+          let none = rest_le 0 (least_delay new) in
+          ap (λ r. time - r % least_delay new) border ∙ omega (arith, none);
+    }
 
 pub one_is : (new : Circuit) → IsCircuit new → (from to : ℕ) → IsWindow new from to → IsWindows new from to
 one_is new ok from to window =
@@ -147,7 +170,7 @@ module _ (old new : Circuit) (old_ok : IsCircuit old) (ok : IsCircuit new) (revi
     pub worked : AreStretchesTo old new t stretches
     pub opened : AreOpen new t cells stretches
 
-  one_window : (t to : ℕ) → IsWindow new t to → block ≡ block_of t → (looks : List (List ModuleId)) → 0 < length looks → ((k : ℕ) → t + k < to → looks_at looks k ≡ [])
+  one_window : (t to : ℕ) → IsWindow new t to → block ≡ block_of new.horizon t → (looks : List (List ModuleId)) → 0 < length looks → ((k : ℕ) → t + k < to → looks_at looks k ≡ [])
       → IsIdleAt t looks → IsIdleAt to (moved (to - t) looks)
   one_window t to window same looks some idle is = record { before = over; worked = work.0; opened = work.1 }
     where
@@ -181,7 +204,7 @@ module _ (old new : Circuit) (old_ok : IsCircuit old) (ok : IsCircuit new) (revi
   idle_there : (t to : ℕ) → t ≡ to → (looks : List (List ModuleId)) → IsIdleAt t looks → IsIdleTo t to looks
   idle_there t to e looks is = subst (IsIdleAt to) (sym (moved_none t to (omega (arith, e)) looks)) (subst (λ x. IsIdleAt x looks) e is)
 
-  module _ (from to : ℕ) (same : block ≡ block_of from) (windows : IsWindows new from to) where
+  module _ (from to : ℕ) (same : block ≡ block_of new.horizon from) (windows : IsWindows new from to) where
     next : (t : ℕ) → from ≤ t → t < to → window_of new t ≡ t → (looks : List (List ModuleId)) → 0 < length looks → ((k : ℕ) → t + k < to → looks_at looks k ≡ []) → IsIdleAt t looks
         → ((end : ℕ) (lists : List (List ModuleId)) → t < end → end ≤ to → window_of new end ≡ end → 0 < length lists → ((k : ℕ) → end + k < to → looks_at lists k ≡ []) → IsIdleAt end lists → IsIdleTo end to lists)
         → IsIdleTo t to looks
@@ -208,8 +231,8 @@ module _ (old new : Circuit) (old_ok : IsCircuit old) (ok : IsCircuit new) (revi
         reach : end ≤ to
         reach = ends_within t from to window less windows
 
-        same_here : block ≡ block_of t
-        same_here = let over = windows.block in omega (arith, same, low, less, over)
+        same_here : block ≡ block_of new.horizon t
+        same_here = let over = windows.block in same ∙ sym (in_block new.horizon from t (omega (arith, low)) (omega (arith, less, over)))
 
         lists : List (List ModuleId)
         lists = moved (end - t) looks
@@ -233,7 +256,7 @@ module _ (old new : Circuit) (old_ok : IsCircuit old) (ok : IsCircuit new) (revi
       | inr not ↦ idle_there t to (omega (arith, not, high)) looks is
     ]
 
-  pub idle_passed : (from to : ℕ) → window_of new from ≡ from → block ≡ block_of from → IsWindows new from to → (looks after : List (List ModuleId)) → 0 < length looks → length after ≡ length looks
+  pub idle_passed : (from to : ℕ) → window_of new from ≡ from → block ≡ block_of new.horizon from → IsWindows new from to → (looks after : List (List ModuleId)) → 0 < length looks → length after ≡ length looks
       → ((k : ℕ) → from + k < to → looks_at looks k ≡ []) → ((k : ℕ) → looks_at after k ≡ looks_at looks (k + (to - from)))
       → IsBefore old new run block from cells lines looks → AreStretchesTo old new from stretches → AreOpen new from cells stretches
       → IsBefore old new run block to cells lines after × AreStretchesTo old new to stretches × AreOpen new to cells stretches

@@ -27,7 +27,7 @@ working_stands old new c m t (inl touched) = touched.stands
 working_stands old new c m t (inr (inl differs)) = some_is (module_at new m) differs.part differs.kept.after
 working_stands old new c m t (inr (inr found)) = found.3.after
 
-module _ (old new : Circuit) (ok : IsCircuit new) (from to block : ℕ) (window : IsWindow new from to) (same : block ≡ block_of from)
+module _ (old new : Circuit) (ok : IsCircuit new) (from to block : ℕ) (window : IsWindow new from to) (same : block ≡ block_of new.horizon from)
     (joined : List ModuleId) (before cells after : List Cell) (stretches opened : List Stretch) (have : HaveAnswered joined before cells) (goes : AreOpen new from before stretches)
     (rel : HaveOpened new block to cells after stretches opened) (done : (m : ℕ) → Contains joined (record { 0 = m }) → HasNoStretch new after m → ⊥)
     (at_from : AreCells old new block (λ m. from) before) (at_to : AreCells old new block (λ m. to) cells) (are : AreStretchesTo old new from stretches) where
@@ -52,12 +52,12 @@ module _ (old new : Circuit) (ok : IsCircuit new) (from to block : ℕ) (window 
     | inr off ↦ absurd (was_idle m stands off work)
   ]
 
-  now_at_work : (m : ℕ) → IsSome (module_at new m) → (cell_at cells m).live ≡ true → IsWorking old new (block_of from) m to
+  now_at_work : (m : ℕ) → IsSome (module_at new m) → (cell_at cells m).live ≡ true → IsWorking old new (block_of new.horizon from) m to
   now_at_work m stands on =
       let r = standing (module_at new m) stands in
       subst (λ c. IsWorking old new c m to) same ((at_to.each m r.0 r.1).live on)
 
-  now_live : (m : ℕ) → IsSome (module_at new m) → IsWorking old new (block_of from) m to → (cell_at cells m).live ≡ true
+  now_live : (m : ℕ) → IsSome (module_at new m) → IsWorking old new (block_of new.horizon from) m to → (cell_at cells m).live ≡ true
   now_live m stands work = elim (cases_Bool (cell_at cells m).live) as (λ _. (cell_at cells m).live ≡ true) [
     | inl on ↦ on
     | inr off ↦
@@ -65,7 +65,7 @@ module _ (old new : Circuit) (ok : IsCircuit new) (from to block : ℕ) (window 
         absurd ((at_to.each m r.0 r.1).quiet off (subst (λ c. IsWorking old new c m to) (sym same) work))
   ]
 
-  first_apart : (m : ℕ) → (IsAtWork old new m from → ⊥) → IsWorking old new (block_of from) m to → IsApartIn old new m from to
+  first_apart : (m : ℕ) → (IsAtWork old new m from → ⊥) → IsWorking old new (block_of new.horizon from) m to → IsApartIn old new m from to
   first_apart m idle (inl touched) = absurd (idle (inl touched))
   first_apart m idle (inr (inl differs)) = absurd (idle (inr (inl differs)))
   first_apart m idle (inr (inr found)) = elim (cases_lt found.0 from) as (λ _. IsApartIn old new m from to) [
@@ -146,7 +146,7 @@ module _ (old new : Circuit) (ok : IsCircuit new) (from to block : ℕ) (window 
 
   here : (m a : ℕ) → WorksFrom old new m from a to → (k : ℕ) × IsIn new opened m a to k
   here m a (inl works) =
-      let stands = working_stands old new (block_of from) m from works.0 in
+      let stands = working_stands old new (block_of new.horizon from) m from works.0 in
       let found = goes.opened m stands (was_live m stands works.0) in
       let s = stretch_at stretches found.0 in
       let has = found.2 in

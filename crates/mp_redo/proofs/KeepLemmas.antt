@@ -74,7 +74,7 @@ live_kept new run t time m r cell ledger after live next at own before from is =
     now : IsOwn after time new.horizon
     now = own new.horizon (own_later ledger (t + 1) time new.horizon new.horizon first (omega arith) (is.ready live))
 
-    sooner : (c : ℕ) → IsBorder c → c < time → c ≤ t
+    sooner : (c : ℕ) → IsBorder new.horizon c → c < time → c ≤ t
     sooner c border less = elim (cases_lt t c) as (λ _. c ≤ t) [
       | inl later ↦ absurd (next.none c border later less)
       | inr le ↦ le

@@ -17,14 +17,14 @@ use Rattle.mp_redo.proofs.LineLemmas.{before_is, idle_agrees, idle_kept}
 use Rattle.mp_redo.proofs.OverLemmas.{old_state}
 
 module _ (old new : Circuit) (old_ok : IsCircuit old) (new_ok : IsCircuit new) (revised : IsRevision old new) (run : Outcome) (is_run : IsRun old run)
-    (block time : ℕ) (border : IsBorder time) (positive : 0 < time) (low : time < new.horizon)
+    (block time : ℕ) (border : IsBorder new.horizon time) (positive : 0 < time) (low : time < new.horizon)
     (m : ℕ) (r : ModuleRecord) (at : module_at new m ≡ Some r) (cell : Cell) (is : IsCellAt old new block time m r cell) where
   last : time - 1 + 1 ≡ time
   last = omega (arith, positive)
 
   -- the old run kept the old state
   old_is : module_at old m ≡ Some r → state_in (slot_at run.kept m) time ≡ state old m (time - 1)
-  old_is was = let same = revised.horizon in old_state old new old_ok new_ok revised run is_run m time r was border (omega (arith, low, same)) ∙ before_is old m time (time - 1) r last
+  old_is was = let same = revised.horizon in old_state old new old_ok new_ok revised run is_run m time r was (subst (λ h. IsBorder h time) same border) (omega (arith, low, same)) ∙ before_is old m time (time - 1) r last
 
   new_is : cell.live ≡ true → cell.memory ≡ state new m (time - 1)
   new_is live = is.memory live ∙ before_is new m time (time - 1) r last

@@ -1,5 +1,5 @@
 -- A re-evaluation is over once all units are answered.
-use Rattle.std.proofs.Common.{◌≡◌, ℕ, ◌+◌, ◌-◌, ◌%◌, ◌<◌, ◌≤◌, Bool, true, false, List, Option, Some, None, nat_lt, ◌==◌, option_map, zero, suc, refl, ap, sym, ◌∙◌, arith, inl, inr}
+use Rattle.std.proofs.Common.{◌≡◌, ℕ, ◌+◌, ◌-◌, ◌%◌, ◌<◌, ◌≤◌, Bool, true, false, List, Option, Some, None, nat_lt, ◌==◌, option_map, zero, suc, refl, ap, sym, subst, ◌∙◌, arith, inl, inr}
 use Rattle.std.specs.Prelude.{◌&&◌, if◌then◌else◌}
 use Rattle.std.proofs.lemmas.Bool.{cases_lt, and_from, lt-ltb, eq-eqb}
 use Rattle.std.proofs.lemmas.Option.{same_Some, none-some}
@@ -8,6 +8,7 @@ use Rattle.mp_storage.specs.AnyModules.{start}
 use Rattle.mp_modules.specs.Memories.{blank}
 use Rattle.mp_netlist.specs.Slots.{slot_at}
 use Rattle.mp_netlist.specs.Circuit.{Circuit, IsCircuit, module_at}
+use Rattle.mp_netlist.specs.Limits.{checkpoint_units}
 use Rattle.mp_model.specs.Waves.{state}
 use Rattle.mp_evaluation.specs.declared.checkpoints.Checkpoint.{Checkpoint}
 use Rattle.mp_evaluation.specs.Checkpoints.{kept_at, state_before, IsBorder}
@@ -45,7 +46,7 @@ module _ (old new : Circuit) (old_ok : IsCircuit old) (new_ok : IsCircuit new) (
       }
 
   -- all is there where all units are answered, and the states before all borders kept
-  pub is_over : (c t : ℕ) (cells : List Cell) (lines : List Line) (ledgers : List Ledger) → c < new.horizon → ((b : ℕ) → IsBorder b → b < new.horizon → b ≤ t)
+  pub is_over : (c t : ℕ) (cells : List Cell) (lines : List Line) (ledgers : List Ledger) → c < new.horizon → ((b : ℕ) → IsBorder new.horizon b → b < new.horizon → b ≤ t)
       → AreCells old new c (λ m. new.horizon) cells → AreLines new run (λ m. new.horizon) cells lines → AreLedgers new run t cells ledgers → IsOver new run cells lines ledgers
   is_over c t cells lines ledgers low borders are wires kept = record {
     line_places = wires.places;
@@ -58,11 +59,11 @@ module _ (old new : Circuit) (old_ok : IsCircuit old) (new_ok : IsCircuit new) (
   }
 
   -- the state before a border that the old run kept
-  pub old_state : (m b : ℕ) (r : ModuleRecord) → module_at old m ≡ Some r → IsBorder b → b < old.horizon → state_in (slot_at run.kept m) b ≡ state_before old m r b
-  old_state m b r at border low = by (slot_at run.kept m) (opened (nat_lt b run.horizon && b % 1024 == 0) (is.checkpoints m b ∙ told ∙ ap (option_map (λ (x : ModuleRecord). state_before old m x b)) at))
+  pub old_state : (m b : ℕ) (r : ModuleRecord) → module_at old m ≡ Some r → IsBorder old.horizon b → b < old.horizon → state_in (slot_at run.kept m) b ≡ state_before old m r b
+  old_state m b r at border low = by (slot_at run.kept m) (opened (nat_lt b run.horizon && b % checkpoint_units run.horizon == 0) (is.checkpoints m b ∙ told ∙ ap (option_map (λ (x : ModuleRecord). state_before old m x b)) at))
     where
-      test : (nat_lt b old.horizon && b % 1024 == 0) ≡ true
-      test = and_from (nat_lt b old.horizon) (b % 1024 == 0) (lt-ltb b old.horizon low) (eq-eqb (b % 1024) 0 border)
+      test : (nat_lt b old.horizon && b % checkpoint_units old.horizon == 0) ≡ true
+      test = and_from (nat_lt b old.horizon) (b % checkpoint_units old.horizon == 0) (lt-ltb b old.horizon low) (eq-eqb (b % checkpoint_units old.horizon) 0 border)
 
       told : checkpoint old m b ≡ option_map (λ (x : ModuleRecord). state_before old m x b) (module_at old m)
       told = rw test refl
@@ -87,7 +88,7 @@ module _ (old new : Circuit) (old_ok : IsCircuit old) (new_ok : IsCircuit new) (
   ]
 
   -- at a border up to which all units are answered, the states before it
-  pub states_at : (c b : ℕ) (cells : List Cell) → c ≤ b → IsBorder b → b < new.horizon → AreCells old new c (λ m. b) cells → AreStatesAt new run b cells
+  pub states_at : (c b : ℕ) (cells : List Cell) → c ≤ b → IsBorder new.horizon b → b < new.horizon → AreCells old new c (λ m. b) cells → AreStatesAt new run b cells
   states_at c b cells le border low are m r at =
       let cell = are.each m r at in
       record {
@@ -96,14 +97,14 @@ module _ (old new : Circuit) (old_ok : IsCircuit old) (new_ok : IsCircuit new) (
             let idle = cell.quiet quiet in
             let was = idle_kept old new c b b m r (cell_at cells m) cell idle in
             let same = revised.horizon in
-            old_state m b r was border (omega (arith, low, same)) ∙ agree c b m r (record { before = was; after = at }) idle le;
+            old_state m b r was (subst (λ h. IsBorder h b) same border) (omega (arith, low, same)) ∙ agree c b m r (record { before = was; after = at }) idle le;
       }
 
   -- so they are, of a module that isn't live, at its block's begin
-  pub begin_state : (c t m : ℕ) (r : ModuleRecord) (cell : Cell) → c ≤ t → IsBorder c → c < new.horizon → module_at new m ≡ Some r → IsCellAt old new c t m r cell → cell.live ≡ false
+  pub begin_state : (c t m : ℕ) (r : ModuleRecord) (cell : Cell) → c ≤ t → IsBorder new.horizon c → c < new.horizon → module_at new m ≡ Some r → IsCellAt old new c t m r cell → cell.live ≡ false
       → state_in (slot_at run.kept m) c ≡ state_before new m r c
   begin_state c t m r cell le border low at is quiet =
       let idle = is.quiet quiet in
       let was = idle_kept old new c t t m r cell is idle in
       let same = revised.horizon in
-      old_state m c r was border (omega (arith, low, same)) ∙ agree c c m r (record { before = was; after = at }) (λ works. idle (working_on old new c c t m le works)) (omega arith)
+      old_state m c r was (subst (λ h. IsBorder h c) same border) (omega (arith, low, same)) ∙ agree c c m r (record { before = was; after = at }) (λ works. idle (working_on old new c c t m le works)) (omega arith)

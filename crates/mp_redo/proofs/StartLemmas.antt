@@ -14,6 +14,7 @@ use Rattle.mp_netlist.specs.declared.driver.Driver.TheVariants.{Port}
 use Rattle.mp_netlist.specs.Circuit.{Circuit, IsCircuit, Drives, wire_at, module_at, stimulus_at}
 use Rattle.mp_netlist.specs.Drivers.{driver, stimulus_driver}
 use Rattle.mp_netlist.proofs.DriverLemmas.{finds_ports, finds_only_ports, driven_by}
+use Rattle.mp_netlist.proofs.LimitLemmas.{horizon_within}
 use Rattle.mp_model.specs.Levels.{initial_of, stimulus_level, driven_level, port_level}
 use Rattle.mp_model.specs.Waves.{level, state}
 use Rattle.mp_model.specs.Tracks.{AreTimesIn, held_all, unchanged}
@@ -66,7 +67,7 @@ level_set n ok w t none =
 -- a stimulus can be held
 pub times_of_stimulus : (n : Circuit) → IsCircuit n → (w : ℕ) (r : WireRecord) (changes : List (ℕ × ℕ)) → wire_at n w ≡ Some r → r.stimulus ≡ Some changes → AreTimesIn 1 (2 ^ 32 - 1) changes
 times_of_stimulus n ok w r changes at is =
-    subst (λ s. IfSome s (AreTimesIn 1 (2 ^ 32 - 1))) is (stimulus_held n.horizon r.width r.stimulus ok.horizon_high (ok.wires_ok w r at).stimulus)
+    subst (λ s. IfSome s (AreTimesIn 1 (2 ^ 32 - 1))) is (stimulus_held n.horizon r.width r.stimulus (horizon_within n ok) (ok.wires_ok w r at).stimulus)
 
 first_building : (initial : ℕ) → IsBuilding (unchanged initial)
 first_building initial = record { form = tt; over = omega arith }

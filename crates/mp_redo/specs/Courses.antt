@@ -6,12 +6,13 @@ use Rattle.mp_evaluation.specs.Outcomes.{Outcome}
 use Rattle.mp_redo.specs.declared.course.Course.{Course}
 use Rattle.mp_redo.specs.Keeping.{AreLedgers}
 use Rattle.mp_redo.specs.Redoing.{AreOpen, IsBefore, IsListed}
+use Rattle.mp_redo.specs.Windows.{listed_units}
 use Rattle.mp_work.specs.Stretches.{AreStretchesTo}
 use Rattle.mp_work.specs.Work.{block_of}
 
 -- where a block begins: that of a time below the horizon, and at the horizon the last one
 abbrev pub last_block : Circuit → ℕ → ℕ
-last_block n t = block_of (min t (n.horizon - 1))
+last_block n t = block_of n.horizon (min t (n.horizon - 1))
 
 -- before the window that begins at t, in the block that begins at c, where no module is marked
 pub record IsCourse (old new : Circuit) (run : Outcome) (c t : ℕ) (course : Course) : Type 0 where
@@ -20,6 +21,6 @@ pub record IsCourse (old new : Circuit) (run : Outcome) (c t : ℕ) (course : Co
   pub stretches : AreStretchesTo old new t course.stretches.items
   pub opened : AreOpen new t course.cells.items course.stretches.items
   pub listed : IsListed new course.cells.items course.live.items
-  pub room : min 1024 new.horizon ≤ length course.looks.items
+  pub room : listed_units new ≤ length course.looks.items
   pub marks : length course.marks.items ≡ length new.modules
   pub free : (m : ℕ) → is_marked course.marks.items m ≡ false

@@ -23,7 +23,7 @@ pub record IsEndAt (run : Outcome) (new : Circuit) (m : ℕ) (cell : Cell) : Typ
 -- the ledger has the module's state before each border
 pub record IsWhole (new : Circuit) (run : Outcome) (m : ℕ) (r : ModuleRecord) (ledger : Ledger) : Type 0 where
   pub order : IsInOrder ledger
-  pub states : (c : ℕ) → IsBorder c → c < new.horizon → ledger_state ledger (slot_at run.kept m) c ≡ state_before new m r c
+  pub states : (c : ℕ) → IsBorder new.horizon c → c < new.horizon → ledger_state ledger (slot_at run.kept m) c ≡ state_before new m r c
 
 -- the lines have the levels of all wires, the cells the last states of the modules, and the ledgers their states before the borders
 pub record IsOver (new : Circuit) (run : Outcome) (cells : List Cell) (lines : List Line) (ledgers : List Ledger) : Type 0 where
@@ -35,4 +35,4 @@ pub record IsOver (new : Circuit) (run : Outcome) (cells : List Cell) (lines : L
 
 -- what is kept of a module that stands are its states before the borders, and nothing is kept of another
 abbrev pub HasCheckpoints : Circuit → ℕ → Option (List Checkpoint) → Type 0
-HasCheckpoints new m kept = (c : ℕ) → IsBorder c → c < new.horizon → option_map (λ ks. kept_at ks c blank) kept ≡ option_map (λ (r : ModuleRecord). state_before new m r c) (module_at new m)
+HasCheckpoints new m kept = (c : ℕ) → IsBorder new.horizon c → c < new.horizon → option_map (λ ks. kept_at ks c blank) kept ≡ option_map (λ (r : ModuleRecord). state_before new m r c) (module_at new m)

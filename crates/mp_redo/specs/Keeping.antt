@@ -15,7 +15,7 @@ use Rattle.mp_redo.specs.Redoing.{cell_at}
 -- the ledger has the module's states before the borders up to t; behind t it can keep states where the module is live, and is the old
 -- run's where it isn't
 pub record IsLedgerAt (new : Circuit) (run : Outcome) (t m : ℕ) (r : ModuleRecord) (live : Bool) (ledger : Ledger) : Type 0 where
-  pub right : (c : ℕ) → IsBorder c → c ≤ t → c < new.horizon → ledger_state ledger (slot_at run.kept m) c ≡ state_before new m r c
+  pub right : (c : ℕ) → IsBorder new.horizon c → c ≤ t → c < new.horizon → ledger_state ledger (slot_at run.kept m) c ≡ state_before new m r c
   pub order : IsInOrder ledger
   pub ready : live ≡ true → IsOwn ledger (t + 1) new.horizon
   pub follows : live ≡ false → (c : ℕ) → t < c → ledger_state ledger (slot_at run.kept m) c ≡ state_in (slot_at run.kept m) c
@@ -40,7 +40,7 @@ pub record IsStateAt (new : Circuit) (run : Outcome) (time m : ℕ) (r : ModuleR
 pub record IsNextBorder (new : Circuit) (t time : ℕ) : Type 0 where
   pub later : t < time
   pub below : time < new.horizon
-  pub none : (b : ℕ) → IsBorder b → t < b → b < time → ⊥
+  pub none : (b : ℕ) → IsBorder new.horizon b → t < b → b < time → ⊥
 
 -- so it is of each module
 abbrev pub AreStatesAt : Circuit → Outcome → ℕ → List Cell → Type 0

@@ -14,6 +14,7 @@ ghost use Rattle.mp_redo.specs.Joins.{AreLike};
 ghost use Rattle.mp_redo.specs.Redoing.{cell_at, line_at, IsCellAt, AreCells, AreLines, AreUntold, AreOpen, IsBefore, IsTracked, IsListed, IsLooking};
 ghost use Rattle.mp_work.specs.Revisions.{IsRevision};
 ghost use Rattle.mp_redo.specs.Rings.{AreKept};
+ghost use Rattle.mp_redo.specs.Windows.{listed_units};
 ghost use Rattle.mp_work.specs.Stretches.{AreStretchesTo};
 
 use crate::cell::{Cell, is_live};
@@ -21,10 +22,9 @@ use crate::line::Line;
 use crate::listing::{enter, tell};
 use crate::ring::Ring;
 use mp_depend::{Readers, touched};
-use mp_evaluation::CHECKPOINT_UNITS;
 use mp_model::built;
 use mp_modules::{EventModule, Memory};
-use mp_netlist::{ModuleId, Netlist, WireId};
+use mp_netlist::{ModuleId, Netlist, WireId, checkpoint_units};
 use mp_work::{Stretch, window_end};
 use std::alloc::{AllocError, Global};
 
@@ -115,15 +115,27 @@ pub(crate) fn first_looks(
 ) -> Result<Ring, AllocError>
     requires rows { AreReaders new.now readers.now }
     requires untold { AreUntold lines.now }
-    ensures some { IfOk result (λ looks. min 1024 new.now.horizon ≤ length looks.items) }
+    ensures some { IfOk result (λ looks. listed_units new.now ≤ length looks.items) }
     ensures before { IfOk result (λ looks. (old : Circuit) (run : Outcome) → AreCells old new.now 0 (λ m. 0) cells.now → AreLines new.now run (λ m. 0) cells.now lines.now
         → IsBefore old new.now run 0 0 cells.now lines.now looks.items) }
 {
-    // No more units are passed at once.
-    let mut looks = Ring::new(alloc, CHECKPOINT_UNITS.min(new.horizon()))?;
+    let mut looks = Ring::new(alloc, listed_units(new))?;
     enter_live(&mut looks, cells, new.module_slots())?;
     tell_readers(&mut looks, readers, lines, new.wire_slots())?;
     Ok(looks)
+}
+
+/// No more units are passed at once, unless a window has more.
+const IDLE_UNITS: u32 = 1024;
+
+/// For how many units to come it is listed who looks.
+fn listed_units(netlist: &Netlist) -> u32
+    ensures value { result ≡ listed_units netlist.now }
+    ensures some { 0 < result }
+{
+    let horizon = netlist.horizon();
+    let longest = netlist.least_delay().max(IDLE_UNITS);
+    longest.min(checkpoint_units(horizon)).min(horizon)
 }
 
 /// Those of the first modules that are live look in the next unit.

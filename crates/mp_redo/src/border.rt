@@ -34,7 +34,7 @@ fn cross_one(
 ) -> Result<(), AllocError>
     requires change { IsChange change.now }
     requires some { 0 < length looks.old.items }
-    requires border { IsBorder time }
+    requires border { IsBorder change.now.new.now.horizon time }
     requires later { block < time }
     requires below { time < change.now.new.now.horizon }
     requires window { (start : ℕ) × IsWindow change.now.new.now start time }
@@ -75,7 +75,7 @@ fn cross_all(
 ) -> Result<(), AllocError>
     requires change { IsChange change.now }
     requires some { 0 < length looks.old.items }
-    requires border { IsBorder time }
+    requires border { IsBorder change.now.new.now.horizon time }
     requires later { block < time }
     requires below { time < change.now.new.now.horizon }
     requires window { (start : ℕ) × IsWindow change.now.new.now start time }
@@ -116,7 +116,7 @@ pub(crate) fn cross_border(
 ) -> Result<(), AllocError>
     requires change { IsChange change.now }
     requires some { 0 < length looks.old.items }
-    requires border { IsBorder time }
+    requires border { IsBorder change.now.new.now.horizon time }
     requires next { IsNextBorder change.now.new.now block time }
     requires window { (start : ℕ) × IsWindow change.now.new.now start time }
     requires listed { IsListed change.now.new.now cells.old.items live.old.items }

@@ -9,10 +9,9 @@ use crate::ledger::Ledger;
 use crate::line::Line;
 use crate::ring::Ring;
 use crate::unit::{pass_gate, run_unit};
-use mp_evaluation::CHECKPOINT_UNITS;
-use mp_netlist::ModuleId;
+use mp_netlist::{ModuleId, checkpoint_units};
 use mp_phase::{Crew, Gate};
-use mp_work::{Stretch, window_end};
+use mp_work::{Stretch, block_of, window_end};
 use std::alloc::{AllocError, Global};
 use std::sync::Wait;
 use std::thread::Threads;
@@ -115,13 +114,13 @@ impl Course {
         requires least { least ≡ least_delay change.now.new.now }
         requires change { IsChange change.now }
         requires window { IsWindow change.now.new.now from (window_end change.now.new.now from) }
-        requires before { IsCourse change.now.old.now change.now.new.now change.now.run.now (block_of from) from self.old }
+        requires before { IsCourse change.now.old.now change.now.new.now change.now.run.now (block_of change.now.new.now.horizon from) from self.old }
         ensures windows { IfOk result (IsWindows change.now.new.now from) }
         ensures before { IfOk result (λ to. IsCourse change.now.old.now change.now.new.now change.now.run.now (last_block change.now.new.now to) to self.new) }
     {
         let horizon = change.new.horizon();
         let to = self.pass_on(rt, alloc, crew, gate, change, least, from)?;
-        if to < horizon && to.is_multiple_of(CHECKPOINT_UNITS) {
+        if to < horizon && to.is_multiple_of(checkpoint_units(horizon)) {
             self.cross(change, to)?;
         }
         Ok(to)
@@ -142,9 +141,9 @@ impl Course {
         requires least { least ≡ least_delay change.now.new.now }
         requires change { IsChange change.now }
         requires window { IsWindow change.now.new.now from (window_end change.now.new.now from) }
-        requires before { IsCourse change.now.old.now change.now.new.now change.now.run.now (block_of from) from self.old }
+        requires before { IsCourse change.now.old.now change.now.new.now change.now.run.now (block_of change.now.new.now.horizon from) from self.old }
         ensures windows { IfOk result (IsWindows change.now.new.now from) }
-        ensures before { IfOk result (λ to. IsCourse change.now.old.now change.now.new.now change.now.run.now (block_of from) to self.new) }
+        ensures before { IfOk result (λ to. IsCourse change.now.old.now change.now.new.now change.now.run.now (block_of change.now.new.now.horizon from) to self.new) }
     {
         let horizon = change.new.horizon();
         let idle_end = self.idle_end(change, least, horizon, from);
@@ -158,26 +157,29 @@ impl Course {
     }
 
     /// Where nobody is live, the last time of the block, its end included, at which a window begins and before which, from a time on, nobody
-    /// looks; else that time.
+    /// looks, as far as that is listed; else that time.
     fn idle_end(&self, change: &Change<'_>, least: u32, horizon: u32, from: u32) -> u32
         requires least { least ≡ least_delay change.now.new.now }
         requires end { horizon ≡ change.now.new.now.horizon }
         requires change { IsChange change.now }
         requires window { IsWindow change.now.new.now from (window_end change.now.new.now from) }
-        requires before { IsCourse change.now.old.now change.now.new.now change.now.run.now (block_of from) from self.now }
+        requires before { IsCourse change.now.old.now change.now.new.now change.now.run.now (block_of change.now.new.now.horizon from) from self.now }
         ensures windows { from < result → IsWindows change.now.new.now from result }
+        ensures room { result ≤ from + length self.now.looks.items }
         ensures idle { (k : ℕ) → from + k < result → looks_at self.now.looks.items k ≡ [] }
     {
         if !self.live.is_empty() {
             return from;
         }
-        let most = (CHECKPOINT_UNITS - from % CHECKPOINT_UNITS).min(horizon - from);
-        let units = self.looks.idle_units(most);
+        let block = checkpoint_units(horizon);
+        let most = (block - from % block).min(horizon - from);
+        let near = (most as usize).min(self.looks.len()) as u32;
+        let units = self.looks.idle_units(near);
         let time = from + units;
         if units == most {
             return time;
         }
-        time - time % CHECKPOINT_UNITS % least
+        time - time % block % least
     }
 
     /// A window: the live modules pass the gate for it, it is gone through unit by unit, and the stretches of the modules that have joined
@@ -194,10 +196,10 @@ impl Course {
     ) -> Result<(), AllocError>
         requires change { IsChange change.now }
         requires window { IsWindow change.now.new.now from to }
-        requires before { IsCourse change.now.old.now change.now.new.now change.now.run.now (block_of from) from self.old }
-        ensures { OnOk result (IsCourse change.now.old.now change.now.new.now change.now.run.now (block_of from) to self.new) }
+        requires before { IsCourse change.now.old.now change.now.new.now change.now.run.now (block_of change.now.new.now.horizon from) from self.old }
+        ensures { OnOk result (IsCourse change.now.old.now change.now.new.now change.now.run.now (block_of change.now.new.now.horizon from) to self.new) }
     {
-        let block = from - from % CHECKPOINT_UNITS;
+        let block = block_of(change.new.horizon(), from);
         pass_gate(rt, gate, self.live.as_slice(), from, to);
         self.run_units(rt, alloc, crew, gate, change, block, from, to)?;
         open_joined(
@@ -272,13 +274,13 @@ impl Course {
     /// From the end of a block to the next one.
     fn cross(&mut self, change: &Change<'_>, time: u32) -> Result<(), AllocError>
         requires change { IsChange change.now }
-        requires border { IsBorder time }
+        requires border { IsBorder change.now.new.now.horizon time }
         requires later { 0 < time }
         requires within { time < change.now.new.now.horizon }
-        requires before { IsCourse change.now.old.now change.now.new.now change.now.run.now (block_of (time - 1)) time self.old }
+        requires before { IsCourse change.now.old.now change.now.new.now change.now.run.now (block_of change.now.new.now.horizon (time - 1)) time self.old }
         ensures { OnOk result (IsCourse change.now.old.now change.now.new.now change.now.run.now time time self.new) }
     {
-        let block = (time - 1) - (time - 1) % CHECKPOINT_UNITS;
+        let block = block_of(change.new.horizon(), time - 1);
         cross_border(
             change,
             block,

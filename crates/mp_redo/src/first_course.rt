@@ -1,10 +1,11 @@
 //! The wires and the modules of a re-evaluation before time 0.
-ghost use Rattle.std.specs.Prelude.{◌≡◌, ℕ, ◌≤◌, None, IfOk, length, min};
+ghost use Rattle.std.specs.Prelude.{◌≡◌, ℕ, ◌≤◌, None, IfOk, length};
 ghost use Rattle.mp_netlist.specs.Circuit.{Circuit, IsCircuit};
 ghost use Rattle.mp_evaluation.specs.Outcomes.{Outcome};
 ghost use Rattle.mp_redo.specs.Changes.{IsChange};
 ghost use Rattle.mp_redo.specs.Joins.{AreLike};
 ghost use Rattle.mp_redo.specs.Keeping.{AreLedgers, AreStatesAt};
+ghost use Rattle.mp_redo.specs.Windows.{listed_units};
 ghost use Rattle.mp_redo.specs.Redoing.{cell_at, AreCells, AreOpen, IsBefore, IsListed};
 ghost use Rattle.mp_work.specs.Stretches.{AreStretchesTo};
 
@@ -44,7 +45,7 @@ pub(crate) fn first_wires(
 ) -> Result<FirstWires, AllocError>
     requires change { IsChange change.now }
     requires cells { AreCells change.now.old.now change.now.new.now 0 (λ m. 0) cells.now }
-    ensures some { IfOk result (λ wires. min 1024 change.now.new.now.horizon ≤ length wires.looks.items) }
+    ensures some { IfOk result (λ wires. listed_units change.now.new.now ≤ length wires.looks.items) }
     ensures before { IfOk result (λ wires. IsBefore change.now.old.now change.now.new.now change.now.run.now 0 0 cells.now wires.lines.items wires.looks.items) }
 {
     let new = change.new;

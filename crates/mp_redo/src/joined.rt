@@ -134,7 +134,7 @@ pub(crate) fn open_joined(
         → IsListed new.now before live.old.items → IsListed new.now cells.new.items live.new.items) }
     ensures ledgers { OnOk result ((from : ℕ) (before : List Place) → AreOpen new.now from before stretches.old.items → HaveAnswered joined.now before cells.old.items
         → AreLedgers new.now run.now block before ledgers.old.items → AreLedgers new.now run.now block cells.new.items ledgers.new.items) }
-    ensures stretches { OnOk result ((old : Circuit) (from : ℕ) (before : List Place) → IsCircuit new.now → IsWindow new.now from to → block ≡ block_of from → HaveAnswered joined.now before cells.old.items
+    ensures stretches { OnOk result ((old : Circuit) (from : ℕ) (before : List Place) → IsCircuit new.now → IsWindow new.now from to → block ≡ block_of new.now.horizon from → HaveAnswered joined.now before cells.old.items
         → AreCells old new.now block (λ m. from) before → AreCells old new.now block (λ m. to) cells.old.items
         → AreStretchesTo old new.now from stretches.old.items → AreOpen new.now from before stretches.old.items
         → AreStretchesTo old new.now to stretches.new.items × AreOpen new.now to cells.new.items stretches.new.items) }

@@ -6,7 +6,8 @@ use mp_engine::{OpenGate, evaluate_here};
 use mp_evaluation::Run;
 use mp_modules::{Kind, Memory};
 use mp_netlist::{
-    Boxed, ModuleId, Netlist, NewModule, OutputName, OutputNames, Params, SingleEdit, WireId,
+    Boxed, Format, ModuleId, Netlist, NewModule, OutputName, OutputNames, Params, SingleEdit,
+    WireId,
 };
 use mp_part_tests::making::{accepts, inputs, name, wire};
 use std::alloc::{AllocError, Global};
@@ -87,7 +88,7 @@ fn touches(
 
 /// Whether the module is touched where it is new, and nothing is where nothing has changed.
 fn is_new(alloc: Global, netlist: &Netlist) -> Result<bool, Fail> {
-    let empty = Netlist::empty(alloc, 2000)?;
+    let empty = Netlist::empty(alloc, Format::Standard, 2000)?;
     let new = touches(alloc, &empty, netlist, &[ModuleId(0)]);
     drop(empty);
     Ok(new? && touches(alloc, netlist, netlist, &[])?)
@@ -105,7 +106,7 @@ fn is_shown(rt: &impl Wait, alloc: Global, netlist: &mut Netlist) -> Result<bool
 
 #[test]
 fn one_merge(rt: HostRuntime) -> Result<(), Fail> {
-    let mut netlist = Netlist::empty(rt.alloc(), 2000)?;
+    let mut netlist = Netlist::empty(rt.alloc(), Format::Standard, 2000)?;
     let shown = is_shown(&rt, rt.alloc(), &mut netlist);
     drop(netlist);
     assert!(rt; shown?);

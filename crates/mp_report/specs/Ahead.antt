@@ -1,10 +1,6 @@
 -- A wire's level before a time, and its changes from that time on.
 use Rattle.std.specs.Prelude.{◌≡◌, ℕ, ◌+◌, ◌-◌, ◌<◌, ◌≤◌}
-use Rattle.mp_wave.specs.Waveform.{AreChanges, level_from, last_time}
-use Rattle.mp_wave.specs.WaveChanges.{changes_in}
-use Rattle.mp_netlist.specs.Circuit.{Circuit}
-use Rattle.mp_records.specs.declared.bundle_record.BundleRecord.{BundleRecord}
-use Rattle.mp_model.specs.Waves.{level}
+use Rattle.mp_report.specs.Names.{AreChanges, level_from, last_time, changes_in, Circuit, BundleRecord, level}
 use Rattle.mp_report.specs.declared.ahead.Ahead.{Ahead}
 use Rattle.mp_report.specs.declared.watch.Watch.{Watch}
 

@@ -1,12 +1,6 @@
 -- What is found at a bundle, as a set.
 use Rattle.std.specs.Prelude.{ℕ, Some}
-use Rattle.mp_modules.specs.declared.finding_code.FindingCode.{FindingCode}
-use Rattle.mp_modules.specs.declared.finding_code.FindingCode.TheVariants.{DataWhileBusy, Setup, RequestWhileBusy, AckWhileIdle}
-use Rattle.mp_modules.specs.declared.finding_set.FindingSet.{FindingSet}
-use Rattle.mp_modules.specs.Findings.{no_findings, with_code_if}
-use Rattle.mp_records.specs.declared.bundle_record.BundleRecord.{BundleRecord}
-use Rattle.mp_netlist.specs.Circuit.{Circuit}
-use Rattle.mp_model.specs.Findings.{is_found_at_bundle}
+use Rattle.mp_report.specs.Names.{FindingCode, DataWhileBusy, Setup, RequestWhileBusy, AckWhileIdle, FindingSet, no_findings, with_code_if, BundleRecord, Circuit, is_found_at_bundle}
 
 -- a set, with a code too where it is found at the bundle
 abbrev pub with_found : Circuit → BundleRecord → ℕ → FindingCode → FindingSet → FindingSet

@@ -1,16 +1,9 @@
 -- How findings are written.
 use Rattle.std.specs.Prelude.{ℕ, List, [], ◌∷◌, ◌++◌, Option, Some, None, codes}
-use Rattle.std.specs.List.{flat_map}
+use Rattle.mp_report.specs.Names.{flat_map, FindingCode, code_word, BundleRecord, Circuit, module_at, bundle_at, Place, Finding, findings}
 use Rattle.std.specs.Fmt.{decimal}
-use Rattle.mp_modules.specs.declared.finding_code.FindingCode.{FindingCode}
-use Rattle.mp_modules.specs.Findings.{code_word}
 use Rattle.mp_records.specs.declared.module_record.ModuleRecord.{ModuleRecord}
-use Rattle.mp_records.specs.declared.bundle_record.BundleRecord.{BundleRecord}
-use Rattle.mp_netlist.specs.Circuit.{Circuit, module_at, bundle_at}
-use Rattle.mp_model.specs.declared.finding.Place.{Place}
 use Rattle.mp_model.specs.declared.finding.Place.TheVariants.{Module, Bundle}
-use Rattle.mp_model.specs.declared.finding.Finding.{Finding}
-use Rattle.mp_model.specs.Findings.{findings}
 
 -- the name of a place, a space, the word of a code and a line feed
 abbrev pub placed_end : List ℕ → FindingCode → List ℕ

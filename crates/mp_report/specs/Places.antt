@@ -1,12 +1,6 @@
 -- What is found at one place.
 use Rattle.std.specs.Prelude.{ℕ, ◌-◌, List, map}
-use Rattle.std.specs.List.{filter, flat_map, range_with_len}
-use Rattle.mp_modules.specs.declared.finding_code.FindingCode.{FindingCode}
-use Rattle.mp_modules.specs.Findings.{by_number}
-use Rattle.mp_netlist.specs.Circuit.{Circuit}
-use Rattle.mp_model.specs.declared.finding.Place.{Place}
-use Rattle.mp_model.specs.declared.finding.Finding.{Finding}
-use Rattle.mp_model.specs.Findings.{is_found}
+use Rattle.mp_report.specs.Names.{filter, flat_map, range_with_len, FindingCode, by_number, Circuit, Place, Finding, is_found}
 
 -- the codes that are found at a place at a time, by number, each with the time
 abbrev pub codes_at : Circuit → Place → ℕ → List (ℕ × FindingCode)

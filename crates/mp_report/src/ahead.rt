@@ -10,8 +10,7 @@ pub(crate) struct Ahead<'a> {
 
 impl<'a> Ahead<'a> {
     ghost use Rattle.std.specs.Prelude.{◌≡◌, ℕ, ◌+◌, ◌-◌, ◌<◌, ◌≤◌, false, true};
-    ghost use Rattle.mp_wave.specs.Waveform.{wave_upto};
-    ghost use Rattle.mp_modules.specs.Histories.{has_event};
+    ghost use Rattle.mp_report.specs.Names.{wave_upto, has_event};
     ghost use Rattle.mp_report.specs.Ahead.{IsAhead};
 
     /// A wave from time 1 on.

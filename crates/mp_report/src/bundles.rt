@@ -1,13 +1,9 @@
 //! What is found at a bundle.
 ghost use Rattle.std.specs.Prelude.{◌≡◌, ◌-◌, ◌<◌, ◌&&◌, IsSome, IfOk};
-ghost use Rattle.std.specs.List.{flat_map, range_with_len};
-ghost use Rattle.mp_netlist.specs.Circuit.{IsBundle, IsCircuit, wire_at};
-ghost use Rattle.mp_model.specs.Waves.{AreWavesOf, level};
-ghost use Rattle.mp_model.specs.Findings.{bundle_place, is_requested_soon};
+ghost use Rattle.mp_report.specs.Names.{flat_map, range_with_len, IsBundle, IsCircuit, wire_at, AreWavesOf, level, bundle_place, is_requested_soon, findings_of};
 ghost use Rattle.mp_report.specs.Ahead.{IsAhead, AreAhead};
 ghost use Rattle.mp_report.specs.Bundles.{bundle_set};
 ghost use Rattle.mp_report.specs.Places.{found_over};
-ghost use Rattle.mp_response.specs.Span.{findings_of};
 
 use crate::ahead::Ahead;
 use crate::watch::Watch;

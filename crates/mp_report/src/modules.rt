@@ -1,15 +1,8 @@
 //! What is found at a module.
 ghost use Rattle.std.specs.Prelude.{◌≡◌, ℕ, ◌-◌, ◌<◌, true, List, IsSome, IfOk, All, map, vec_len, length};
-ghost use Rattle.mp_wave.specs.Waveform.{IsWaveform, level_of};
-ghost use Rattle.mp_modules.specs.declared.memory.Memory.{Memory};
-ghost use Rattle.mp_modules.specs.Findings.{no_findings};
+ghost use Rattle.mp_report.specs.Names.{IsWaveform, level_of, Memory, no_findings, wire_at, input_by, AreWavesOf, level, module_place, levels_at, piece_level};
 ghost use Rattle.mp_storage.specs.AnyModules.{any_part_of, found};
 ghost use Rattle.mp_records.specs.declared.ports.Input.{Input as Port};
-ghost use Rattle.mp_netlist.specs.Circuit.{wire_at};
-ghost use Rattle.mp_model.specs.Levels.{input_by};
-ghost use Rattle.mp_model.specs.Waves.{AreWavesOf, level};
-ghost use Rattle.mp_model.specs.Findings.{module_place};
-ghost use Rattle.mp_response.specs.Pieces.{levels_at, piece_level};
 ghost use Rattle.mp_report.specs.Places.{found_over};
 
 use mp_model::{Waves, built};

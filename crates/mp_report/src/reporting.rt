@@ -1,8 +1,6 @@
 //! The report of a netlist.
 ghost use Rattle.std.specs.Prelude.{◌≡◌, ◌++◌, IfOk, OnOk, map};
-ghost use Rattle.std.specs.List.{AllZip, flat_map};
-ghost use Rattle.mp_model.specs.Waves.{AreWavesOf};
-ghost use Rattle.mp_model.specs.Findings.{findings};
+ghost use Rattle.mp_report.specs.Names.{AllZip, flat_map, AreWavesOf, findings};
 ghost use Rattle.mp_report.specs.Places.{found_over, found_by_place, finding_at};
 
 use crate::places::{found_at_place, places};

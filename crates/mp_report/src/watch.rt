@@ -11,9 +11,7 @@ pub(crate) struct Watch<'a> {
 
 impl<'a> Watch<'a> {
     ghost use Rattle.std.specs.Prelude.{◌≡◌, ℕ, ◌+◌, ◌<◌, ◌≤◌, false};
-    ghost use Rattle.mp_netlist.specs.Circuit.{Circuit};
-    ghost use Rattle.mp_records.specs.declared.bundle_record.BundleRecord.{BundleRecord};
-    ghost use Rattle.mp_model.specs.Findings.{changes};
+    ghost use Rattle.mp_report.specs.Names.{Circuit, BundleRecord, changes};
     ghost use Rattle.mp_report.specs.Ahead.{AreAhead};
 
     /// The time of the next change of one of the wires, or an end that comes first.

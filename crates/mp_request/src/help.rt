@@ -53,7 +53,7 @@ pub(crate) const WAVES: &str = "Writes the wave of each wire of a netlist";
 pub(crate) const WAVES_LONG: &str = "\
 Writes the wave of each wire of a netlist.
 
-Reads a netlist of at most 4194304 bytes, a statement a line:
+Reads a netlist, a statement a line:
 
   horizon H
   wire NAME WIDTH LEVEL
@@ -61,9 +61,12 @@ Reads a netlist of at most 4194304 bytes, a statement a line:
   stim WIRE T=V ..
   bundle NAME REQ ACK DATA SETUP
 
-H is 1 to 65536, or 1 to 1048576 behind a first line `format 2`. WIDTH is 1 to
-64. DELAY is 1 to 65535, and SETUP 0 to 65535. An input that hears of its wire
-E units later is IN/E.
+H is 1 to 65536, or 1 to 1048576 behind a first line `format 2`. Behind a first
+line `format 3` it is 1 to 1073741824, there may be 2097152 wires and 1048576
+modules, where else there may be 8192 and 4096, and all that is read may have
+1073741824 bytes, where else it may have 4194304. WIDTH is 1 to 64. DELAY is 1 to
+65535, and SETUP 0 to 65535. An input that hears of its wire E units later is
+IN/E.
 
 Writes a line `NAME LEVEL T=V ..` for each wire, in the order in which they
 were added: its level at time 0, and its level V from each time T on at which
@@ -200,7 +203,7 @@ Edits a netlist by a script, and answers its questions.
 Reads a netlist from FILE, as `waves` does, and a script from standard input.
 Each line of the script is answered before the next one is read, and has at most
 65536 bytes. Without a FILE the script stands in standard input behind the
-netlist and a line `---`: at most 4194304 bytes in all. Its lines are edits:
+netlist and a line `---`, and counts as a part of it. Its lines are edits:
 
   wire .., module .., stim .., bundle ..    as in a netlist
   remove wire NAME
@@ -250,11 +253,11 @@ are answered as a viewer's; `seats` tells who is there. The desk ends where
 standard input has ended and all seats are left.
 
 Without --at it reads a netlist, as `waves` does, and behind it a block of lines
-for each of 1 to 8 designers, each behind a line `---`: at most 4194304 bytes in
-all. The lines are edits, as in a script of `play`. Each designer submits its
-lines in turn, on a thread of its own, and each viewer reads 100 times
-meanwhile, on a thread of its own. In which order the edits of different
-designers come is open.
+for each of 1 to 8 designers, each behind a line `---`. All of them count as a
+part of the netlist's text. The lines are edits, as in a script of `play`. Each
+designer submits its lines in turn, on a thread of its own, and each viewer
+reads 100 times meanwhile, on a thread of its own. In which order the edits of
+different designers come is open.
 
 Writes at the end `designer J accepted A refused B` for each designer, where a
 line that isn't read counts as refused, and in a block so does a question; then

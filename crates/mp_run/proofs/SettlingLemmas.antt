@@ -41,7 +41,7 @@ use Rattle.mp_units.specs.DataLevels.{is_data}
 use Rattle.mp_core.proofs.ScheduleLemmas.{not_led, own_led, port_toggle, few_ports, same_part}
 use Rattle.mp_run.specs.declared.delays.Delays.{Delays}
 use Rattle.mp_run.specs.Delays.{IsWithin, AreWithin}
-use Rattle.mp_run.specs.Settling.{IsSmall, ports_of, departs_from, departing, first_unit, first_entries_in, first_entries, is_below, is_first_bit, IsSettled}
+use Rattle.mp_run.specs.Settling.{IsShort, ports_of, departs_from, departing, first_unit, first_entries_in, first_entries, is_below, is_first_bit, IsSettled}
 
 -- ---- outputs
 
@@ -58,20 +58,11 @@ driven_low n (Some v) width driven w is = subst (λ (x : WireId). x.0 < length n
 pub output_low : (n : Circuit) → IsCircuit n → (m p : ℕ) (r : ModuleRecord) (w : WireId) → module_at n m ≡ Some r → (output_at r p).wire ≡ Some w → w.0 < length n.wires
 output_low n ok m p r w at is = driven_low n (output_at r p).wire (output_width r.kind (module_width n r) p) ((ok.modules_ok m r at).drives p) w is
 
-pub small_module : (n : Circuit) → IsCircuit n → (r : ModuleRecord) → IsModule n r → All IsSmall r.outputs
-small_module n ok r form k d within =
-    let same : slice_index_or r.outputs k d ≡ output_at r k = get_or_default r.outputs k d (record { wire = None; delay = 1 }) within in
-    let delay = form.delays k d within in
-    record {
-      wire = λ w is.
-          let low = driven_low n (output_at r k).wire (output_width r.kind (module_width n r) k) (form.drives k) w (sym (ap (λ (o : Output). o.wire) same) ∙ is) in
-          let few = ok.wires_few in
-          omega arith;
-      delay = let high = delay.1 in omega arith;
-    }
+pub short_module : (n : Circuit) (r : ModuleRecord) → IsModule n r → All IsShort r.outputs
+short_module n r form k d within = let high = (form.delays k d within).1 in omega arith
 
-pub small_outputs : (n : Circuit) → IsCircuit n → (m : ℕ) (r : ModuleRecord) → module_at n m ≡ Some r → All IsSmall r.outputs
-small_outputs n ok m r at = small_module n ok r (ok.modules_ok m r at)
+pub short_outputs : (n : Circuit) → IsCircuit n → (m : ℕ) (r : ModuleRecord) → module_at n m ≡ Some r → All IsShort r.outputs
+short_outputs n ok m r at = short_module n r (ok.modules_ok m r at)
 
 -- a port has a slot where no output has a longer delay
 pub slot_within : (n : Circuit) → IsCircuit n → (units m p : ℕ) (r : ModuleRecord) → module_at n m ≡ Some r → All (λ (o : Output). o.delay ≤ units) r.outputs → 0 < units →

@@ -2,7 +2,6 @@
 use Rattle.std.specs.Prelude.{◌≡◌, ℕ, ◌+◌, ◌^◌, ◌<◌, Bool, true, false, not, List, [], Option, Some, None, length, slice_index_or, nat_lt, ◌==◌, ◌&&◌, if◌then◌else◌}
 use Rattle.mp_modules.specs.declared.memory.Memory.{Memory}
 use Rattle.mp_modules.specs.Memories.{output_of}
-use Rattle.mp_records.specs.declared.ids.WireId.{WireId}
 use Rattle.mp_records.specs.declared.ports.Output.{Output}
 use Rattle.mp_records.specs.declared.module_record.ModuleRecord.{ModuleRecord}
 use Rattle.mp_netlist.specs.declared.driver.Driver.{Driver}
@@ -26,10 +25,9 @@ use Rattle.mp_core.specs.Beginnings.{is_first}
 use Rattle.mp_units.specs.DataLevels.{is_data}
 use Rattle.mp_run.specs.Widths.{is_bit_module}
 
--- the wire and the delay of an output have numbers of 16 bits
-pub record IsSmall (o : Output) : Type 0 where
-  pub wire : (w : WireId) → o.wire ≡ Some w → w.0 < 2 ^ 16
-  pub delay : o.delay < 2 ^ 16
+-- the delay of an output is a number of 16 bits
+abbrev pub IsShort : Output → Type 0
+IsShort o = o.delay < 2 ^ 16
 
 -- the outputs of what stands in a module's slot
 abbrev pub ports_of : Option ModuleRecord → OutputPorts

@@ -17,7 +17,7 @@ use std::alloc::{AllocError, Global};
 pub(crate) fn bit_copies(
     alloc: Global,
     netlist: &Netlist,
-    wires: &[u16],
+    wires: &[u32],
     next: &[OutputPort],
 ) -> Result<Vec<OutputPort>, AllocError>
     requires { length wires.now ≡ length next.now }
@@ -25,7 +25,7 @@ pub(crate) fn bit_copies(
 {
     let mut copies = Vec::new(alloc);
     for x in 0..next.len() {
-        let is_bit = !has_data(netlist, WireId(u32::from(wires[x])));
+        let is_bit = !has_data(netlist, WireId(wires[x]));
         copies.push(kept_if(is_bit, next[x]))?;
     }
     Ok(copies)
@@ -35,7 +35,7 @@ pub(crate) fn bit_copies(
 pub(crate) fn data_copies(
     alloc: Global,
     netlist: &Netlist,
-    wires: &[u16],
+    wires: &[u32],
     next: &[OutputPort],
 ) -> Result<Vec<OutputPort>, AllocError>
     requires { length wires.now ≡ length next.now }
@@ -43,7 +43,7 @@ pub(crate) fn data_copies(
 {
     let mut copies = Vec::new(alloc);
     for x in 0..next.len() {
-        let is_data = has_data(netlist, WireId(u32::from(wires[x])));
+        let is_data = has_data(netlist, WireId(wires[x]));
         copies.push(kept_if(is_data, next[x]))?;
     }
     Ok(copies)
@@ -60,13 +60,13 @@ fn kept_if(is_kept: bool, port: OutputPort) -> OutputPort
 pub(crate) fn levels_of(
     alloc: Global,
     netlist: &Netlist,
-    wires: &[u16],
+    wires: &[u32],
 ) -> Result<Vec<u64>, AllocError>
     ensures { IfOk result (λ levels. levels.items ≡ map (level_of_wire netlist.now) wires.now) }
 {
     let mut levels = Vec::new(alloc);
     for wire in wires {
-        levels.push(initial_level(netlist, WireId(u32::from(*wire))))?;
+        levels.push(initial_level(netlist, WireId(*wire)))?;
     }
     Ok(levels)
 }

@@ -4,7 +4,7 @@ ghost use Rattle.mp_records.specs.Outputs.{output_in};
 ghost use Rattle.mp_netlist.specs.Circuit.{IsCircuit};
 ghost use Rattle.mp_events.specs.Firing.{no_port};
 ghost use Rattle.mp_units.specs.DataSeats.{bit_port_of};
-ghost use Rattle.mp_run.specs.Settling.{IsSmall};
+ghost use Rattle.mp_run.specs.Settling.{IsShort};
 ghost use Rattle.mp_run.specs.Seating.{has_data_at, level_departs, level_output_of, AreOutputsWithin, IsSeated};
 
 use crate::first_levels::initial_level;
@@ -30,7 +30,7 @@ pub(crate) struct Seating {
 pub(crate) fn seat_all(
     alloc: Global,
     netlist: &Netlist,
-    inputs: &[[Option<u16>; MOST_INPUTS]],
+    inputs: &[[Option<u32>; MOST_INPUTS]],
     units: usize,
 ) -> Result<Seating, AllocError>
     requires form { IsCircuit netlist.now }
@@ -67,10 +67,10 @@ impl Seating {
         &mut self,
         netlist: &Netlist,
         id: ModuleId,
-        inputs: [Option<u16>; MOST_INPUTS],
+        inputs: [Option<u32>; MOST_INPUTS],
     ) -> Result<(), AllocError>
         requires form { IsCircuit netlist.now }
-        requires few { length self.old.modules.modules.items < 2 ^ 16 }
+        requires few { length self.old.modules.modules.items < 2 ^ 32 }
         requires within { (r : Part) → module_at netlist.now id.0 ≡ Some r → HasSlot (length self.old.wheel) (level_port_of netlist.now r) }
         ensures { OnOk result (Seats netlist.now id.0 inputs self.old self.new) }
     {
@@ -90,12 +90,12 @@ impl Seating {
         &mut self,
         netlist: &Netlist,
         found: &ModuleRecord,
-        inputs: [Option<u16>; MOST_INPUTS],
+        inputs: [Option<u32>; MOST_INPUTS],
     ) -> Result<(), AllocError>
         requires form { IsCircuit netlist.now }
         requires module { IsModule netlist.now found.now }
         requires wide { is_bit_module netlist.now found.now ≡ false }
-        requires few { length self.old.modules.modules.items < 2 ^ 16 }
+        requires few { length self.old.modules.modules.items < 2 ^ 32 }
         requires within { HasSlot (length self.old.wheel) (level_port_of netlist.now found.now) }
         ensures { OnOk result ((m : ℕ) → module_at netlist.now m ≡ Some found.now → Seats netlist.now m inputs self.old self.new) }
     {
@@ -105,7 +105,7 @@ impl Seating {
         let level = memory.output(0);
         let departs = level_departs(netlist, ports.level, level);
         schedule_level_if(departs, ports.level, level, &mut self.wheel)?;
-        let number = self.modules.modules.len() as u16;
+        let number = self.modules.modules.len() as u32;
         self.modules.places.push(Some(number))?;
         self.modules.modules.push(DataModule {
             part: DataPart::of(&part),
@@ -119,7 +119,7 @@ impl Seating {
 
 /// The outputs of a module with data, told apart by whether their wires have data.
 fn data_ports(netlist: &Netlist, outputs: &[Output]) -> DataPorts
-    requires { All IsSmall outputs.now }
+    requires { All IsShort outputs.now }
     ensures level { result.level ≡ level_output_of netlist.now (output_in outputs.now 0) }
     ensures first { result.bits.first ≡ bit_port_of netlist.now (output_in outputs.now 0) }
     ensures second { result.bits.second ≡ bit_port_of netlist.now (output_in outputs.now 1) }
@@ -137,7 +137,7 @@ fn data_ports(netlist: &Netlist, outputs: &[Output]) -> DataPorts
 
 /// The first output, if its wire has data.
 fn level_port(netlist: &Netlist, outputs: &[Output]) -> OutputPort
-    requires { All IsSmall outputs.now }
+    requires { All IsShort outputs.now }
     ensures { result ≡ level_output_of netlist.now (output_in outputs.now 0) }
 {
     let port = output_port(outputs, 0);
@@ -150,7 +150,7 @@ fn level_port(netlist: &Netlist, outputs: &[Output]) -> OutputPort
 
 /// An output, if its wire has width 1.
 fn bit_port(netlist: &Netlist, outputs: &[Output], port: usize) -> OutputPort
-    requires { All IsSmall outputs.now }
+    requires { All IsShort outputs.now }
     ensures { result ≡ bit_port_of netlist.now (output_in outputs.now port) }
 {
     let port = output_port(outputs, port);
@@ -176,7 +176,7 @@ fn drives_data(netlist: &Netlist, port: OutputPort) -> bool
     ensures { result ≡ has_data_at netlist.now port.wire }
 {
     match port.wire {
-        Some(wire) => has_data(netlist, WireId(u32::from(wire))),
+        Some(wire) => has_data(netlist, WireId(wire)),
         None => false,
     }
 }
@@ -186,7 +186,7 @@ fn level_departs(netlist: &Netlist, port: OutputPort, level: u64) -> bool
     ensures { result ≡ level_departs netlist.now port level }
 {
     match port.wire {
-        Some(wire) => initial_level(netlist, WireId(u32::from(wire))) != level,
+        Some(wire) => initial_level(netlist, WireId(wire)) != level,
         None => false,
     }
 }

@@ -8,7 +8,7 @@ ghost use Rattle.mp_model.specs.Waves.{state};
 ghost use Rattle.mp_events.specs.Firing.{HaveSlots, scheduled, fired_at, number_of};
 ghost use Rattle.mp_core.specs.Schedules.{output_port_of};
 ghost use Rattle.mp_units.specs.DataLevels.{is_data};
-ghost use Rattle.mp_run.specs.Settling.{IsSmall, ports_of, departs, departing, no_unit, first_unit_of, first_unit, first_entries, IsSettled};
+ghost use Rattle.mp_run.specs.Settling.{IsShort, ports_of, departs, departing, no_unit, first_unit_of, first_unit, first_entries, IsSettled};
 
 use crate::first_levels::initial_level;
 use crate::widths::{has_data, is_bit_module};
@@ -43,7 +43,7 @@ fn outputs_of(netlist: &Netlist, id: ModuleId) -> OutputPorts
 }
 
 fn output_ports(outputs: &[Output]) -> OutputPorts
-    requires { All IsSmall outputs.now }
+    requires { All IsShort outputs.now }
     ensures first { result.first ≡ output_port_of (output_in outputs.now 0) }
     ensures second { result.second ≡ output_port_of (output_in outputs.now 1) }
     ensures third { result.third ≡ output_port_of (output_in outputs.now 2) }
@@ -56,12 +56,12 @@ fn output_ports(outputs: &[Output]) -> OutputPorts
 }
 
 pub(crate) fn output_port(outputs: &[Output], port: usize) -> OutputPort
-    requires { All IsSmall outputs.now }
+    requires { All IsShort outputs.now }
     ensures { result ≡ output_port_of (output_in outputs.now port) }
 {
     match outputs.get(port) {
         Some(output) => OutputPort {
-            wire: output.wire.map(|wire| wire.0 as u16),
+            wire: output.wire.map(|wire| wire.0),
             delay: output.delay as u16,
         },
         None => OutputPort {
@@ -194,7 +194,7 @@ fn departs(netlist: &Netlist, port: OutputPort, level: u64) -> bool
     ensures { result ≡ departs netlist.now port level }
 {
     match port.wire {
-        Some(wire) => is_departure(netlist, WireId(u32::from(wire)), level),
+        Some(wire) => is_departure(netlist, WireId(wire), level),
         None => false,
     }
 }

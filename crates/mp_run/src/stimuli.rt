@@ -1,5 +1,5 @@
 //! What stimuli set, by time.
-ghost use Rattle.std.specs.Prelude.{◌≡◌, ◌++◌, ◌<◌, ◌^◌, [], drop, map, IfOk, OnOk, unwrap_or};
+ghost use Rattle.std.specs.Prelude.{◌≡◌, ◌++◌, ◌<◌, [], drop, map, IfOk, OnOk, unwrap_or};
 ghost use Rattle.mp_netlist.specs.Circuit.{IsCircuit, wire_at, stimulus_at};
 ghost use Rattle.mp_model.specs.Levels.{initial_of};
 ghost use Rattle.mp_units.specs.DataLevels.{is_data};
@@ -13,7 +13,7 @@ use std::alloc::{AllocError, Global};
 #[derive(Clone, Copy)]
 pub(crate) struct StimulusChange {
     pub time: u32,
-    pub wire: u16,
+    pub wire: u32,
     pub has_data: bool,
     pub level: u64,
 }
@@ -24,7 +24,7 @@ pub(crate) struct StimulusChange {
 pub(crate) struct Stimuli {
     pub list: Vec<StimulusChange>,
     pub place: usize,
-    pub bits: Vec<u16>,
+    pub bits: Vec<u32>,
     pub levels: Vec<LevelChange>,
 }
 
@@ -53,7 +53,7 @@ impl Stimuli {
 
     /// The wires of width 1 that are set to another level in the present unit.
     #[inline(always)]
-    pub(crate) fn bits(&self) -> &[u16]
+    pub(crate) fn bits(&self) -> &[u32]
         ensures { result.now ≡ self.now.bits.items }
     {
         self.bits.as_slice()
@@ -91,7 +91,7 @@ fn put_present(
     list: &[StimulusChange],
     from: usize,
     time: u32,
-    bits: &mut Vec<u16>,
+    bits: &mut Vec<u32>,
     levels: &mut Vec<LevelChange>,
 ) -> Result<usize, AllocError>
     ensures bits { OnOk result (bits.new.items ≡ bits.old.items ++ bits_at time (drop from list.now)) }
@@ -109,7 +109,7 @@ fn put_present(
 /// Lists a change, by whether its wire has data.
 fn put_change(
     change: StimulusChange,
-    bits: &mut Vec<u16>,
+    bits: &mut Vec<u32>,
     levels: &mut Vec<LevelChange>,
 ) -> Result<(), AllocError>
     ensures bits { OnOk result (bits.new.items ≡ bits.old.items ++ bits_of change) }
@@ -132,7 +132,6 @@ fn add_wire(
     wire: WireId,
     list: &mut Vec<StimulusChange>,
 ) -> Result<(), AllocError>
-    requires { wire.0 < 2 ^ 16 }
     ensures { OnOk result (list.new.items ≡ list.old.items ++ map (change_of wire.0 (is_data netlist.now wire.0)) (set_changes (initial_of (wire_at netlist.now wire.0)) (unwrap_or (stimulus_at netlist.now wire.0) []))) }
 {
     let Some(found) = netlist.wire(wire) else {
@@ -141,7 +140,7 @@ fn add_wire(
     match &found.stimulus {
         Some(stimulus) => {
             add_changes(
-                wire.0 as u16,
+                wire.0,
                 found.width != 1,
                 found.initial,
                 stimulus.as_slice(),
@@ -154,7 +153,7 @@ fn add_wire(
 
 /// Adds the changes of a wire at those times at which it is set to another level than before.
 fn add_changes(
-    wire: u16,
+    wire: u32,
     has_data: bool,
     initial: u64,
     changes: &[(u32, u64)],

@@ -16,20 +16,20 @@ use std::alloc::{AllocError, Global};
 pub struct Wiring {
     pub rows: Vec<FanoutRow>,
     pub next: Vec<OutputPort>,
-    pub wires: Vec<u16>,
+    pub wires: Vec<u32>,
 }
 
 /// The wires and all that their readers need, and the numbers that the inputs of each module read, by port.
 #[derive(Drop)]
 pub struct WiredInputs {
     pub wiring: Wiring,
-    pub inputs: Vec<[Option<u16>; MOST_INPUTS]>,
+    pub inputs: Vec<[Option<u32>; MOST_INPUTS]>,
 }
 
 /// Where a wanted copy of a wire is or belongs: the latest number of the wire that isn't later than it, and how much later it is than that.
 #[derive(Clone, Copy)]
 struct CopyPlace {
-    number: u16,
+    number: u32,
     later: u16,
 }
 
@@ -51,24 +51,22 @@ fn add_slot(
     netlist: &Netlist,
     id: ModuleId,
     wiring: &mut Wiring,
-) -> Result<[Option<u16>; MOST_INPUTS], AllocError>
+) -> Result<[Option<u32>; MOST_INPUTS], AllocError>
     requires form { IsCircuit netlist.now }
-    requires place { id.0 < 2 ^ 16 }
-    requires numbers { length wiring.old.next.items + 4 < 2 ^ 16 }
+    requires numbers { length wiring.old.next.items + 4 < 2 ^ 32 }
     requires wires { length netlist.now.wires ≤ length wiring.old.next.items }
     requires rows { HaveRows wiring.old }
     requires links { AreLinks 65535 wiring.old.next.items }
     ensures { IfOk result (λ numbers. HasRead wiring.old wiring.new id.0 (inputs_in (module_at netlist.now id.0)) numbers) }
 {
     match netlist.module(id) {
-        Some(found) => wiring.add_module(id.0 as u16, found.inputs.as_slice()),
+        Some(found) => wiring.add_module(id.0, found.inputs.as_slice()),
         None => Ok([None; MOST_INPUTS]),
     }
 }
 
 /// Wires that nothing reads.
 fn unread_wires(alloc: Global, wires: u32) -> Result<Wiring, AllocError>
-    requires { wires ≤ 65536 }
     ensures { IfOk result (λ wiring. AreUnread wires wiring) }
 {
     let mut wiring = Wiring {
@@ -81,7 +79,7 @@ fn unread_wires(alloc: Global, wires: u32) -> Result<Wiring, AllocError>
             wire: None,
             delay: 1,
         })?;
-        wiring.wires.push(wire as u16)?;
+        wiring.wires.push(wire)?;
     }
     Ok(wiring)
 }
@@ -96,11 +94,11 @@ impl Wiring {
     /// Adds the inputs of a module at a place, and gives the numbers that they read.
     fn add_module(
         &mut self,
-        place: u16,
+        place: u32,
         inputs: &[Input],
-    ) -> Result<[Option<u16>; MOST_INPUTS], AllocError>
+    ) -> Result<[Option<u32>; MOST_INPUTS], AllocError>
         requires few { length inputs.now ≤ 4 }
-        requires numbers { length self.old.next.items + length inputs.now < 2 ^ 16 }
+        requires numbers { length self.old.next.items + length inputs.now < 2 ^ 32 }
         requires inputs { All (CanRead (length self.old.next.items)) inputs.now }
         requires rows { HaveRows self.old }
         requires links { AreLinks 65535 self.old.next.items }
@@ -119,32 +117,28 @@ impl Wiring {
     }
 
     /// Adds an input, and gives the number that it reads.
-    fn add_input(&mut self, input: Input, entry: FanoutEntry) -> Result<u16, AllocError>
-        requires numbers { length self.old.next.items + 1 < 2 ^ 16 }
+    fn add_input(&mut self, input: Input, entry: FanoutEntry) -> Result<u32, AllocError>
+        requires numbers { length self.old.next.items + 1 < 2 ^ 32 }
         requires input { CanRead (length self.old.next.items) input }
         requires rows { HaveRows self.old }
         requires links { AreLinks 65535 self.old.next.items }
         ensures { IfOk result (λ number. (port : ℕ) → entry.event ≡ 2 ^ port → AddsInputs self.old self.new entry.module port (input ∷ []) (number ∷ [])) }
     {
         let number = self.number_of(input)?;
-        note_wire(number, input.wire.0 as u16, &mut self.wires)?;
+        note_wire(number, input.wire.0, &mut self.wires)?;
         self.rows[number as usize].push(entry)?;
         Ok(number)
     }
 
     /// The number that an input reads. A copy that was not there before is added.
-    fn number_of(&mut self, input: Input) -> Result<u16, AllocError>
-        requires numbers { length self.old.next.items + 1 < 2 ^ 16 }
+    fn number_of(&mut self, input: Input) -> Result<u32, AllocError>
+        requires numbers { length self.old.next.items + 1 < 2 ^ 32 }
         requires input { CanRead (length self.old.next.items) input }
         requires links { AreLinks 65535 self.old.next.items }
         ensures number { IfOk result (λ number. HasNumber (source_of input) self.old.next.items self.new.next.items number) }
         ensures rows { OnOk result (KeepsRows self.old self.new) }
     {
-        let place = place_of(
-            self.next.as_slice(),
-            input.wire.0 as u16,
-            input.delay as u16,
-        );
+        let place = place_of(self.next.as_slice(), input.wire.0, input.delay as u16);
         if place.later == 0 {
             return Ok(place.number);
         }
@@ -152,8 +146,8 @@ impl Wiring {
     }
 
     /// Adds a copy at a place where none is.
-    fn insert_copy(&mut self, place: CopyPlace) -> Result<u16, AllocError>
-        requires numbers { length self.old.next.items + 1 < 2 ^ 16 }
+    fn insert_copy(&mut self, place: CopyPlace) -> Result<u32, AllocError>
+        requires numbers { length self.old.next.items + 1 < 2 ^ 32 }
         requires within { place.number < length self.old.next.items }
         requires room { HasRoom self.old.next.items place.number place.later }
         ensures number { IfOk result (λ number. number ≡ length self.old.next.items) }
@@ -161,7 +155,7 @@ impl Wiring {
         ensures rows { OnOk result (KeepsRows self.old self.new) }
     {
         let CopyPlace { number, later } = place;
-        let copy = self.next.len() as u16;
+        let copy = self.next.len() as u32;
         let following = port_at(self.next.as_slice(), number);
         self.add_number(behind(following, later))?;
         self.next[number as usize] = OutputPort {
@@ -184,7 +178,7 @@ impl Wiring {
 }
 
 /// Lists the wire of a number, if the number is the next one.
-fn note_wire(number: u16, wire: u16, wires: &mut Vec<u16>) -> Result<(), AllocError>
+fn note_wire(number: u32, wire: u32, wires: &mut Vec<u32>) -> Result<(), AllocError>
     ensures { OnOk result (wires.new.items ≡ noted number wire wires.old.items) }
 {
     if number as usize == wires.len() {
@@ -194,7 +188,7 @@ fn note_wire(number: u16, wire: u16, wires: &mut Vec<u16>) -> Result<(), AllocEr
 }
 
 /// Where the copy of a wire with a delay is or belongs.
-fn place_of(next: &[OutputPort], wire: u16, delay: u16) -> CopyPlace
+fn place_of(next: &[OutputPort], wire: u32, delay: u16) -> CopyPlace
     requires within { wire < length next.now }
     requires links { AreLinks 65535 next.now }
     ensures { IsPlace next.now wire delay result }
@@ -209,7 +203,7 @@ fn place_of(next: &[OutputPort], wire: u16, delay: u16) -> CopyPlace
 }
 
 /// What is next after a number.
-fn port_at(next: &[OutputPort], number: u16) -> OutputPort
+fn port_at(next: &[OutputPort], number: u32) -> OutputPort
     requires { number < length next.now }
     ensures { result ≡ copy_at next.now number }
 {
@@ -217,7 +211,7 @@ fn port_at(next: &[OutputPort], number: u16) -> OutputPort
 }
 
 /// The next copy, where it isn't later than so much.
-fn copy_within(port: OutputPort, later: u16) -> Option<u16>
+fn copy_within(port: OutputPort, later: u16) -> Option<u32>
     ensures { result ≡ copy_within port later }
 {
     if port.delay <= later { port.wire } else { None }

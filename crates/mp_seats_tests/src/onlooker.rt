@@ -12,9 +12,10 @@ pub(crate) struct Onlooker;
 
 impl Guest for Onlooker {
     ghost use Rattle.std.specs.Prelude.{[], false};
+    ghost use Rattle.mp_netlist.specs.declared.format.Format.TheVariants.{Standard};
     ghost use Rattle.mp_version.specs.Stories.{opening};
 
-    ghost seated = { λ _. record { seen = opening (record { horizon = 0; wires = []; modules = []; bundles = [] }); accepted = 0; number = 0; signed = [] } };
+    ghost seated = { λ _. record { seen = opening (record { format = Standard; horizon = 0; wires = []; modules = []; bundles = [] }); accepted = 0; number = 0; signed = [] } };
 
     ghost edits = { false };
 

@@ -1,5 +1,6 @@
 -- The edits of a netlist's bundles, once its wires are added, are not refused.
-use Rattle.mp_text.proofs.Names.{◌≡◌, ℕ, ◌<◌, ◌≤◌, true, false, ◌==◌, ◌&&◌, List, [], ◌∷◌, ◌++◌, length, get_or, All, Option, Some, None, Ok, is_none, refl, sym, ap, subst, ◌∙◌, arith, length-append, nat_le, flat_map, bytes_eq, eq-eqb, lt-ltb, nat_tests, append-nil, get_or_at, length_push, flat_map-append, All-cons, All-nil, All-head, All-weaker, ModuleRecord, BundleRecord, SingleEdit, AddBundle, max_bundles, max_setup, Circuit, IsCircuit, IsBundle, bundle_at, HasNames, wire_name, bundle_by_name, bundle_edits}
+use Rattle.mp_text.proofs.Names.{◌≡◌, ℕ, ◌<◌, ◌≤◌, true, false, ◌==◌, ◌&&◌, List, [], ◌∷◌, ◌++◌, length, get_or, All, Option, Some, None, Ok, is_none, refl, sym, ap, subst, ◌∙◌, arith, length-append, nat_le, flat_map, bytes_eq, eq-eqb, lt-ltb, nat_tests, append-nil, get_or_at, length_push, flat_map-append, All-cons, All-nil, All-head, All-weaker, ModuleRecord, BundleRecord, SingleEdit, AddBundle, max_setup, Circuit, IsCircuit, IsBundle, bundle_at, HasNames, wire_name, bundle_by_name, bundle_edits}
+use Rattle.mp_netlist.specs.Limits.{bundle_limit}
 use Rattle.mp_netlist.specs.Edits.{refusal, edited, after_single, stands, width_named, bundle_checks, new_bundle}
 use Rattle.mp_text.proofs.SlotLemmas.{All-flat_map, All-from_flat_map, Unnamed, named_nowhere, front_unnamed}
 use Rattle.mp_text.proofs.StageLemmas.{none_failing, and_both, is_done, Reaches, Reaches-none, Reaches-one, Steps, stage}
@@ -21,7 +22,7 @@ AddsNone q _ = Unit {0}
 module _ (n : Circuit) (circuit : IsCircuit n) (named : HasNames n) (modules : List (Option ModuleRecord)) where
   -- the netlist with these bundles
   abbrev pub bundled : List (Option BundleRecord) → Circuit
-  bundled bundles = made n.horizon (flat_map kept n.wires) modules bundles
+  bundled bundles = made n (flat_map kept n.wires) modules bundles
 
   has_wires : (bundles : List (Option BundleRecord)) → HasWires n (bundled bundles)
   has_wires bundles = HasWires-compact n circuit named (λ r. r) (λ r. refl) (λ r. refl) (bundled bundles) refl
@@ -83,8 +84,8 @@ module _ (n : Circuit) (circuit : IsCircuit n) (named : HasNames n) (modules : L
         (eq-eqb _ _ (request.width ∙ is.request.1)) (eq-eqb _ _ (acknowledge.width ∙ is.acknowledge.1)) in
         let low = is.setup in
         let early : nat_le r.setup max_setup ≡ true = grind (arith, nat_tests) in
-        let within : length front < max_bundles = omega (arith, ap length split, length-append front (Some r ∷ back), circuit.bundles_few) in
-        let room = lt-ltb (length bundles) max_bundles (omega (arith, few)) in
+        let within : length front < bundle_limit n.format = omega (arith, ap length split, length-append front (Some r ∷ back), circuit.bundles_few) in
+        let room = lt-ltb (length bundles) (bundle_limit n.format) (omega (arith, few)) in
         is_done c (added n r)
         (none_failing (bundle_checks c (bundle_by_name n r)) (named.bundles (length front) r at, (free, (found, (wide, (early, (room, tt)))))))
 

@@ -4,6 +4,7 @@ pub mod ReplayLemmas
 pub mod RoundTripLemmas
 pub mod StatementBackLemmas
 pub mod TextBackLemmas
+pub mod SizeLemmas
 pub mod TextLemmas
 pub mod WriteLemmas
 pub mod SectionLemmas

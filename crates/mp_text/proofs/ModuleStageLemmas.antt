@@ -1,5 +1,6 @@
 -- The edits of a netlist's modules, once its wires are added, are not refused.
-use Rattle.mp_text.proofs.Names.{◌≡◌, ℕ, ◌<◌, ◌≤◌, true, ◌==◌, cond, List, [], ◌∷◌, ◌++◌, length, map, get_or, All, Option, Some, None, Ok, option_map, is_none, refl, sym, ap, subst, ◌∙◌, arith, length-append, nat_le, IsSome, IfSome, slice_index_or, flat_map, list_all, eq-eqb, lt-ltb, nat_tests, append-nil, get_or_at, get_or_append_left, get_or-map, length-map, length_push, flat_map-append, All-cons, All-nil, All-head, All-tail, All-map, All-weaker, All-from_get_or, input_count, output_count, has_width, input_width, output_width, are_params, WireId, WireRecord, ModuleRecord, Input, Output, InputName, OutputName, no_input, output_in, max_modules, max_delay, Circuit, IsCircuit, IsModule, IsDelay, IsInputDelay, HasWidth, Drives, wire_at, module_at, width_of, module_width, HasNames, no_name, some_input, wire_name, module_by_name, module_edits, input_by_name, output_by_name}
+use Rattle.mp_text.proofs.Names.{◌≡◌, ℕ, ◌<◌, ◌≤◌, true, ◌==◌, cond, List, [], ◌∷◌, ◌++◌, length, map, get_or, All, Option, Some, None, Ok, option_map, is_none, refl, sym, ap, subst, ◌∙◌, arith, length-append, nat_le, IsSome, IfSome, slice_index_or, flat_map, list_all, eq-eqb, lt-ltb, nat_tests, append-nil, get_or_at, get_or_append_left, get_or-map, length-map, length_push, flat_map-append, All-cons, All-nil, All-head, All-tail, All-map, All-weaker, All-from_get_or, input_count, output_count, has_width, input_width, output_width, are_params, WireId, WireRecord, ModuleRecord, Input, Output, InputName, OutputName, no_input, output_in, max_delay, Circuit, IsCircuit, IsModule, IsDelay, IsInputDelay, HasWidth, Drives, wire_at, module_at, width_of, module_width, HasNames, no_name, some_input, wire_name, module_by_name, module_edits, input_by_name, output_by_name}
+use Rattle.mp_netlist.specs.Limits.{module_limit}
 use Rattle.mp_netlist.specs.Edits.{refusal, edited, after_single, stands, wire_id, width_named, is_undriven, is_delay, is_input_delay, delays_fit, driven_names, are_distinct, first_width, new_width, inputs_stand, inputs_fit, output_fits, outputs_fit, module_checks, input_of, output_of, new_module, without_stimulus}
 use Rattle.mp_text.proofs.SlotLemmas.{All-flat_map, All-from_flat_map, list_all_from, Unnamed, named_nowhere, front_unnamed}
 use Rattle.mp_text.proofs.StageLemmas.{none_failing, and_both, is_done, Reaches, Reaches-none, Reaches-one, Steps, stage}
@@ -154,7 +155,7 @@ module _ (n : Circuit) (circuit : IsCircuit n) (named : HasNames n) where
 
   -- the netlist with these modules at wires on which nothing is set
   abbrev pub moduled : List (Option ModuleRecord) → Circuit
-  moduled modules = made n.horizon (flat_map bare n.wires) modules []
+  moduled modules = made n (flat_map bare n.wires) modules []
 
   has_wires : (modules : List (Option ModuleRecord)) → HasWires n (moduled modules)
   has_wires modules = HasWires-compact n circuit named without_stimulus (λ r. refl) (λ r. refl) (moduled modules) refl
@@ -227,8 +228,8 @@ module _ (n : Circuit) (circuit : IsCircuit n) (named : HasNames n) where
         let width = new_width c r.kind inputs in
         let wide = and_both (inputs_fit c r.kind width inputs) (outputs_fit c r.kind width outputs) (inputs_wide n c has r is) (outputs_wide n c has r is) in
         let free_outputs = and_both (list_all (is_undriven c) (driven_names outputs)) (are_distinct (driven_names outputs)) (driven_all (is_undriven c) outputs undriven) (driven_distinct outputs distinct) in
-        let within : length front < max_modules = omega (arith, ap length split, length-append front (Some r ∷ back), circuit.modules_few) in
-        let room = lt-ltb (length modules) max_modules (omega (arith, few)) in
+        let within : length front < module_limit n.format = omega (arith, ap length split, length-append front (Some r ∷ back), circuit.modules_few) in
+        let room = lt-ltb (length modules) (module_limit n.format) (omega (arith, few)) in
         is_done c (added n r)
         (none_failing (module_checks c (module_by_name n r))
         (named.modules (length front) r at, (free, (counts, (found, (wide, (params_ranged n c has r is, (delays_low n c has r is, (free_outputs, (room, tt))))))))))

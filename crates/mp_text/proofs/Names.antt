@@ -6,39 +6,20 @@ pub use Rattle.std.proofs.lemmas.List.{at_drop_all, at_drop_more, get_or-map, ge
 pub use Rattle.std.proofs.lemmas.List.Concat.{flat_map-append}
 pub use Rattle.std.proofs.lemmas.List.Elements.{All-append, All-cons, All-drop, All-from_get_or, All-get_or, All-head, All-map, All-nil, All-tail, All-take, All-weaker}
 pub use Rattle.std.proofs.lemmas.List.Folds.{flat_map-map, list_all-append}
-pub use Rattle.std.specs.List.{after_first, before_first, enumerate_from, list_all, list_any, onto_first, position_from, position_or_len, slice_split}
-pub use Rattle.std.specs.Result.{result_map_both}
-pub use Rattle.std.specs.Str.{byte}
 pub use Rattle.std.specs.declared.alloc.AllocError.{AllocError}
 pub use Rattle.mp_modules.proofs.KindLemmas.{param_bound-low, some_input, some_output}
-pub use Rattle.mp_modules.specs.Kinds.{are_params, has_width, input_count, input_width, output_count, output_width, word_of}
-pub use Rattle.mp_modules.specs.declared.kind.Kind.{Kind}
 pub use Rattle.mp_netlist.proofs.PortLemmas.{no_name}
 pub use Rattle.mp_netlist.proofs.TableLemmas.{equal_name, same_name, slot_within}
-pub use Rattle.mp_netlist.specs.Circuit.{Circuit, Drives, HasNames, HasWidth, IsBundle, IsCircuit, IsDelay, IsInputDelay, IsModule, bundle_at, empty_circuit, module_at, module_width, stimulus_at, stimulus_in, width_of, wire_at}
 pub use Rattle.mp_netlist.specs.Drivers.{driver, is_nothing, is_port, stimulus_driver}
-pub use Rattle.mp_netlist.specs.Edits.{after_single, are_distinct, driven_names, edited, first_failing, go_on, refusal, unless}
-pub use Rattle.mp_netlist.specs.Limits.{max_bundles, max_delay, max_horizon, max_modules, max_setup, max_wires}
-pub use Rattle.mp_netlist.specs.Replays.{replay, replay_singles}
 pub use Rattle.mp_netlist.specs.Slots.{number_named}
 pub use Rattle.mp_records.specs.Inputs.{input_at, no_input}
 pub use Rattle.mp_records.specs.Names.{is_name}
 pub use Rattle.mp_records.specs.Outputs.{output_at, output_in}
-pub use Rattle.mp_records.specs.declared.bundle_record.BundleRecord.{BundleRecord}
 pub use Rattle.mp_records.specs.declared.edit_error.EditError.{EditError}
-pub use Rattle.mp_records.specs.declared.ids.WireId.{WireId}
-pub use Rattle.mp_records.specs.declared.module_record.ModuleRecord.{ModuleRecord}
-pub use Rattle.mp_records.specs.declared.port_names.InputName.{InputName}
-pub use Rattle.mp_records.specs.declared.port_names.OutputName.{OutputName}
-pub use Rattle.mp_records.specs.declared.ports.Input.{Input}
-pub use Rattle.mp_records.specs.declared.ports.Output.{Output}
-pub use Rattle.mp_records.specs.declared.single_edit.SingleEdit.{SingleEdit}
-pub use Rattle.mp_records.specs.declared.single_edit.SingleEdit.TheVariants.{AddBundle, AddModule, AddWire, SetStimulus}
-pub use Rattle.mp_records.specs.declared.wire_record.WireRecord.{WireRecord}
 pub use Rattle.mp_streams.proofs.OutLemmas.{next_text, puts_next, puts_none, puts_sooner, puts_stopped, puts_then, text_with, writes_failed}
-pub use Rattle.mp_streams.specs.Outgoing.{Writes}
+pub use Rattle.mp_text.specs.Names.{AddBundle, AddModule, AddWire, AreAscii, BadNumber, BundleRecord, Circuit, Drives, Gives, HasNames, HasWidth, Input, InputName, IsBundle, IsCircuit, IsDelay, IsInputDelay, IsModule, Kind, LineError, ModuleRecord, NotAscii, OutOfMemory, Output, OutputName, SetStimulus, SingleEdit, UnknownStatement, WireId, WireRecord, WordCount, Writes, after_first, after_single, are_distinct, are_params, before_first, bundle_at, byte, change_word, changes_text, driven_names, edited, empty_circuit, enumerate_from, first_failing, go_on, has_width, input_count, input_width, input_word, is_allowed, lines_of, list_all, list_any, max_bundles, max_delay, max_horizon, max_modules, max_setup, max_wires, module_at, module_width, number_word, onto_first, output_count, output_width, output_word, pair_text, position_from, position_or_len, refusal, replay, replay_singles, result_map_both, slice_split, stimulus_at, stimulus_in, texts, unless, width_of, wire_at, with_front, word_of, words_of, ◌>>=◌}
 pub use Rattle.mp_text.specs.Batches.{each_part, part_texts}
-pub use Rattle.mp_text.specs.Limits.{max_first_horizon, max_second_horizon, max_text}
+pub use Rattle.mp_text.specs.Limits.{max_first_horizon, max_text}
 pub use Rattle.mp_text.specs.LineStarts.{HasForm, is_begun, is_taken, question_takes, single_takes, statement_takes, takes}
 pub use Rattle.mp_text.specs.RoundTrips.{IsReadAs, IsReadAsWritten, SameRecords, bundle_by_name, bundle_edits, edits_by_name, input_by_name, module_by_name, module_edits, output_by_name, set_edits, standing, stimulus_edits, wire_edits}
 pub use Rattle.mp_text.specs.ScriptLines.{stated_line}
@@ -57,10 +38,3 @@ pub use Rattle.mp_words.proofs.LineLemmas.{lines_of-cons, rest_falls}
 pub use Rattle.mp_words.proofs.PlainLemmas.{All-passing, IsPlain, IsPlain-append, IsPlain-decimal, IsPlain-name, both, is_plain_byte, list_all-passing, plain_allowed, plain_no_gap, plain_no_hash}
 pub use Rattle.mp_words.proofs.ReadBackLemmas.{change_back, each_back, input_back, late_input_back, no_wire_back, number_back, wire_back}
 pub use Rattle.mp_words.proofs.WordLemmas.{rest_ascii, texts_behind}
-pub use Rattle.mp_words.specs.Lines.{is_allowed, lines_of}
-pub use Rattle.mp_words.specs.Reads.{Gives, with_front, ◌>>=◌}
-pub use Rattle.mp_words.specs.WaveLines.{changes_text, pair_text}
-pub use Rattle.mp_words.specs.WordLists.{change_word, input_word, number_word, output_word}
-pub use Rattle.mp_words.specs.Words.{AreAscii, texts, words_of}
-pub use Rattle.mp_words.specs.declared.line_error.LineError.{LineError}
-pub use Rattle.mp_words.specs.declared.line_error.LineError.TheVariants.{BadNumber, NotAscii, OutOfMemory, UnknownStatement, WordCount}

@@ -1,5 +1,6 @@
 -- The lines of records lead where the edits of the records lead.
 use Rattle.mp_text.proofs.Names.{◌≡◌, ℕ, ◌^◌, ◌<◌, ◌≤◌, Bool, true, ◌&&◌, List, [], ◌∷◌, ◌++◌, map, All, Option, Some, None, Ok, decimal, refl, arith, codes, nat_lt, IsTrue, IsSome, IfSome, nat_tests, All-cons, All-nil, All-map, All-from_get_or, All-weaker, WireId, WireRecord, BundleRecord, SingleEdit, AddWire, AddBundle, SetStimulus, is_name, max_horizon, Circuit, IsCircuit, wire_at, bundle_at, HasNames, change_word, pair_text, wire_line, stimulus_line, bundle_line, stimulus_words, name_in, wire_name, wire_edits, stimulus_edits, set_edits, bundle_by_name, bundle_edits, IsPlain, IsPlain-append, IsPlain-decimal, IsPlain-name, both, change_back}
+use Rattle.mp_netlist.proofs.LimitLemmas.{horizon_within}
 use Rattle.std.proofs.Math.Nat.{pow-le-pow_right}
 use Rattle.mp_modules.specs.Levels.{fits_width}
 use Rattle.mp_records.specs.Stimuli.{is_stimulus}
@@ -91,7 +92,7 @@ module _ (n : Circuit) (circuit : IsCircuit n) (named : HasNames n) where
       → Leads (stimulus_words name stimulus ++ bytes) (set_edits name stimulus ++ edits)
   set_leads name width valid narrow None ok bytes edits rest = rest
   set_leads name width valid narrow (Some changes) ok bytes edits rest =
-      let low = stimulus_low n.horizon width 0 changes circuit.horizon_high narrow ok in
+      let low = stimulus_low n.horizon width 0 changes (horizon_within n circuit) narrow ok in
       let plain = All-cons IsPlain name (map pair_text changes) (IsPlain-name name valid) (All-map IsPlain pair_text changes (All-weaker IsChange (λ change. IsPlain (pair_text change)) pair_plain changes low)) in
       let read = All-weaker IsChange (λ change. change_word (pair_text change) ≡ Ok change) (λ change low. change_back change low.0 low.1) changes low in
       let first : IsPlain (codes "stim") = record { some = omega arith; plain = refl } in

@@ -1,5 +1,13 @@
 -- The netlist of a text is a replay.
-use Rattle.mp_text.proofs.Names.{◌≡◌, ℕ, ◌+◌, Bool, true, false, cond, List, [], ◌∷◌, map, Result, Ok, Err, length, refl, ap, ◌∙◌, nat_le, ◌&&◌, result_map_both, filter_map, list_all, SingleEdit, EditError, Circuit, empty_circuit, after_single, go_on, replay, replay_singles, NotAscii, BadNumber, Line, Refused, TextCode, First, TextState, Fresh, Formatted, Open, ◌>>=◌, TextError, lines_of, is_allowed, words_of, Statement, Blank, Unknown, Format, Start, Change, statement_of, max_text}
+use Rattle.mp_text.proofs.Names.{◌≡◌, ℕ, ◌+◌, Bool, true, false, cond, List, [], ◌∷◌, map, Result, Ok, Err, length, refl, ap, ◌∙◌, nat_le, ◌&&◌, result_map_both, filter_map, list_all, SingleEdit, EditError, Circuit, empty_circuit, after_single, go_on, replay, replay_singles, NotAscii, BadNumber, Line, Refused, TextCode, First, TextState, Fresh, Formatted, Open, ◌>>=◌, TextError, lines_of, is_allowed, words_of, Statement, Blank, Unknown, Format, Start, Change, statement_of, sym, subst, eqb-true, Second}
+use Rattle.std.specs.Prelude.{◌==◌, if◌then◌else◌}
+use Rattle.mp_netlist.specs.declared.format.Format.{Format as NetlistFormat}
+use Rattle.mp_netlist.specs.declared.format.Format.TheVariants.{Standard, Large}
+use Rattle.mp_text.specs.declared.text_code.TextCode.TheVariants.{BadFormat}
+use Rattle.mp_text.specs.declared.text_format.TextFormat.TheVariants.{Third}
+use Rattle.mp_text.specs.Formats.{netlist_format}
+use Rattle.mp_text.specs.Sizes.{text_limit}
+use Rattle.mp_text.specs.Laws.{format_by}
 use Rattle.mp_records.specs.declared.edit.Edit.TheVariants.{Single}
 use Rattle.mp_text.specs.declared.text_format.TextFormat.{TextFormat}
 use Rattle.mp_text.specs.Formats.{format_of, max_horizon_of}
@@ -42,50 +50,65 @@ leads_on k n c (line ∷ lines) h =
     (on_statement k n c (statements lines) (λ after. after_lines (k + 1) after lines) (λ m. leads_on (k + 1) m c lines)) (list_all is_allowed line) (words_of line) h
 
 -- the lines state one horizon, and lead from its empty netlist to the other by their edits
-abbrev Opens : List Statement → Circuit → Type 0
-Opens ss c = (h : ℕ) × ((filter_map horizon_of ss ≡ h ∷ []) × (replay_singles (empty_circuit h) (filter_map edit_of ss) ≡ Ok c))
+abbrev Opens : NetlistFormat → List Statement → Circuit → Type 0
+Opens f ss c = (h : ℕ) × ((filter_map horizon_of ss ≡ h ∷ []) × (replay_singles (empty_circuit f h) (filter_map edit_of ss) ≡ Ok c))
+
+-- the format of a text of the form of a number
+pub format_numbered : (number : ℕ) (form : TextFormat) → format_of number ≡ Ok form → netlist_format form ≡ (if number == 3 then Large else Standard)
+format_numbered number form is = by (number == 1) refl (number == 2) refl (number == 3) refl is
+  where
+    -- a number that is another isn't 3
+    other : (k : ℕ) (three : Bool) → (number == k) ≡ true → (k == 3) ≡ false → (number == 3) ≡ three → three ≡ false
+    other k three same differs is_three = sym is_three ∙ ap (λ l. l == 3) (eqb-true number k same) ∙ differs
+
+    by : (one : Bool) → (number == 1) ≡ one → (two : Bool) → (number == 2) ≡ two → (three : Bool) → (number == 3) ≡ three
+        → cond one (Ok First) (cond two (Ok Second) (cond three (Ok Third) (Err BadFormat))) ≡ Ok form → netlist_format form ≡ cond three Large Standard
+    by true e two f three g is = let same : First ≡ form = cc in let no = other 1 three e refl g in rw (sym same, no) refl
+    by false e true f three g is = let same : Second ≡ form = cc in let no = other 2 three f refl g in rw (sym same, no) refl
+    by false e false f true g is = let same : Third ≡ form = cc in rw (sym same) refl
+    by false e false f false g is = cc
 
 module _ (k : ℕ) (c : Circuit) (ss : List Statement) (go : TextState → Result Circuit TextError)
-    (formed : (format : TextFormat) → go (Formatted format) ≡ Ok c → Opens ss c) (next : (m : Circuit) → go (Open m) ≡ Ok c → LeadsOn ss m c) where
-  on_begun : (h : ℕ) (allowed : Bool) → next_line k go (cond allowed (Ok (Open (empty_circuit h))) (Err (Line BadNumber))) ≡ Ok c → Opens (Start (Ok h) ∷ ss) c
-  on_begun h true same = let rest = next (empty_circuit h) same in (h, (ap (λ hs. h ∷ hs) rest.0, rest.1))
-  on_begun h false same = cc
+    (formed : (format : TextFormat) → go (Formatted format) ≡ Ok c → Opens (netlist_format format) ss c) (next : (m : Circuit) → go (Open m) ≡ Ok c → LeadsOn ss m c) where
+  on_begun : (f : NetlistFormat) (h : ℕ) (allowed : Bool) → next_line k go (cond allowed (Ok (Open (empty_circuit f h))) (Err (Line BadNumber))) ≡ Ok c → Opens f (Start (Ok h) ∷ ss) c
+  on_begun f h true same = let rest = next (empty_circuit f h) same in (h, (ap (λ hs. h ∷ hs) rest.0, rest.1))
+  on_begun f h false same = cc
 
-  on_format : (number : ℕ) (r : Result TextFormat TextCode) → next_line k go (formatted r) ≡ Ok c → Opens (Format (Ok number) ∷ ss) c
-  on_format number (Ok format) h = formed format h
-  on_format number (Err code) h = cc
+  on_format : (number : ℕ) (r : Result TextFormat TextCode) → format_of number ≡ r → next_line k go (formatted r) ≡ Ok c → Opens (if number == 3 then Large else Standard) (Format (Ok number) ∷ ss) c
+  on_format number (Ok format) is h = subst (λ f. Opens f (Format (Ok number) ∷ ss) c) (format_numbered number format is) (formed format h)
+  on_format number (Err code) is h = cc
 
-  opens_formatted : (format : TextFormat) (s : Statement) → next_line k go (after_statement (Formatted format) s) ≡ Ok c → Opens (s ∷ ss) c
+  opens_formatted : (format : TextFormat) (s : Statement) → next_line k go (after_statement (Formatted format) s) ≡ Ok c → Opens (netlist_format format) (s ∷ ss) c
   unfolding after_statement
   opens_formatted format Blank h = formed format h
   opens_formatted format Unknown h = cc
   opens_formatted format (Format number) h = cc
-  opens_formatted format (Start (Ok horizon)) h = on_begun horizon (nat_le 1 horizon && nat_le horizon (max_horizon_of format)) h
+  opens_formatted format (Start (Ok horizon)) h = on_begun (netlist_format format) horizon (nat_le 1 horizon && nat_le horizon (max_horizon_of format)) h
   opens_formatted format (Start (Err code)) h = cc
   opens_formatted format (Change edit) h = cc
 
-  opens_fresh : (go Fresh ≡ Ok c → Opens ss c) → (s : Statement) → next_line k go (after_statement Fresh s) ≡ Ok c → Opens (s ∷ ss) c
+  opens_fresh : (go Fresh ≡ Ok c → Opens (format_by ss) ss c) → (s : Statement) → next_line k go (after_statement Fresh s) ≡ Ok c → Opens (format_by (s ∷ ss)) (s ∷ ss) c
   unfolding after_statement
   opens_fresh later Blank h = later h
   opens_fresh later Unknown h = cc
-  opens_fresh later (Format (Ok number)) h = on_format number (format_of number) h
+  opens_fresh later (Format (Ok number)) h = on_format number (format_of number) refl h
   opens_fresh later (Format (Err code)) h = cc
-  opens_fresh later (Start (Ok horizon)) h = on_begun horizon (nat_le 1 horizon && nat_le horizon (max_horizon_of First)) h
+  opens_fresh later (Start (Ok horizon)) h = on_begun Standard horizon (nat_le 1 horizon && nat_le horizon (max_horizon_of First)) h
   opens_fresh later (Start (Err code)) h = cc
   opens_fresh later (Change edit) h = cc
 
-opens_behind : (k : ℕ) (c : Circuit) (lines : List (List ℕ)) (format : TextFormat) → after_lines k (Formatted format) lines ≡ Ok c → Opens (statements lines) c
+opens_behind : (k : ℕ) (c : Circuit) (lines : List (List ℕ)) (format : TextFormat) → after_lines k (Formatted format) lines ≡ Ok c → Opens (netlist_format format) (statements lines) c
 unfolding after_lines after_line
 opens_behind k c [] format h = cc
 opens_behind k c (line ∷ lines) format h =
-    by_line k c (Formatted format) (λ after. after_lines (k + 1) after lines) (λ s. Opens (s ∷ statements lines) c)
+    by_line k c (Formatted format) (λ after. after_lines (k + 1) after lines) (λ s. Opens (netlist_format format) (s ∷ statements lines) c)
     (opens_formatted k c (statements lines) (λ after. after_lines (k + 1) after lines) (opens_behind (k + 1) c lines) (λ m. leads_on (k + 1) m c lines) format) (list_all is_allowed line) (words_of line) h
 
-opens : (k : ℕ) (c : Circuit) (lines : List (List ℕ)) → after_lines k Fresh lines ≡ Ok c → Opens (statements lines) c
+opens : (k : ℕ) (c : Circuit) (lines : List (List ℕ)) → after_lines k Fresh lines ≡ Ok c → Opens (format_by (statements lines)) (statements lines) c
 unfolding after_lines after_line
 opens k c [] h = cc
 opens k c (line ∷ lines) h =
-    by_line k c Fresh (λ after. after_lines (k + 1) after lines) (λ s. Opens (s ∷ statements lines) c)
+    by_line k c Fresh (λ after. after_lines (k + 1) after lines) (λ s. Opens (format_by (s ∷ statements lines)) (s ∷ statements lines) c)
     (opens_fresh k c (statements lines) (λ after. after_lines (k + 1) after lines) (opens_behind (k + 1) c lines) (λ m. leads_on (k + 1) m c lines) (opens (k + 1) c lines)) (list_all is_allowed line) (words_of line) h
 
 of_length : (b : Bool) (lines : Result Circuit TextError) (c : Circuit) (e : TextError) → cond b lines (Err e) ≡ Ok c → lines ≡ Ok c
@@ -102,10 +125,10 @@ singles_replayed n (edit ∷ edits) = by (after_single n edit) (λ next. singles
     by (Ok next) later = later next
     by (Err error) later = refl
 
-replayed : (lines : List (List ℕ)) (c : Circuit) → Opens (statements lines) c → IsReplayed lines c
+replayed : (lines : List (List ℕ)) (c : Circuit) → Opens (format_by (statements lines)) (statements lines) c → IsReplayed lines c
 replayed lines c opened =
-    (opened.0, (opened.1.0, singles_replayed (empty_circuit opened.0) (filter_map edit_of (statements lines)) ∙ opened.1.1))
+    (opened.0, (opened.1.0, singles_replayed (empty_circuit (format_by (statements lines)) opened.0) (filter_map edit_of (statements lines)) ∙ opened.1.1))
 
 pub text_is_replay : IsReplay
 unfolding text_at
-text_is_replay text c h = replayed (lines_of text) c (opens 0 c (lines_of text) (of_length (nat_le (length text) max_text) (after_lines 0 Fresh (lines_of text)) c _ h))
+text_is_replay text c h = replayed (lines_of text) c (opens 0 c (lines_of text) (of_length (nat_le (length text) (text_limit text)) (after_lines 0 Fresh (lines_of text)) c _ h))

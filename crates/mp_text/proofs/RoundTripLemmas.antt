@@ -1,9 +1,17 @@
 -- The text of a netlist is read as the edits of its records.
-use Rattle.mp_text.proofs.Names.{◌≡◌, ℕ, ◌+◌, ◌≤◌, List, [], ◌∷◌, ◌++◌, length, All, Ok, Bool, true, false, cond, decimal, refl, sym, ap, subst, ◌∙◌, arith, codes, nat_le, nat_tests, flat_map, append-nil, All-cons, All-nil, Circuit, IsCircuit, empty_circuit, HasNames, lines_of, wire_edits, module_edits, stimulus_edits, bundle_edits, edits_by_name, IsReadAs, IsReadAsWritten, IsPlain, IsPlain-decimal, max_text, max_first_horizon, max_second_horizon, Start, Second, TextState, Fresh, Formatted, Open}
+use Rattle.mp_text.proofs.Names.{◌≡◌, ℕ, ◌+◌, ◌≤◌, List, [], ◌∷◌, ◌++◌, length, All, Ok, Bool, true, false, cond, decimal, refl, sym, ap, subst, ◌∙◌, arith, codes, nat_le, nat_tests, flat_map, append-nil, All-cons, All-nil, Circuit, IsCircuit, empty_circuit, HasNames, lines_of, wire_edits, module_edits, stimulus_edits, bundle_edits, edits_by_name, IsReadAs, IsReadAsWritten, IsPlain, IsPlain-decimal, max_first_horizon, Start, Second, TextState, Fresh, Formatted, Open, ◌⊎◌, inl, inr, statement_of}
+use Rattle.mp_netlist.specs.declared.format.Format.{Format as NetlistFormat}
+use Rattle.mp_netlist.specs.declared.format.Format.TheVariants.{Standard, Large}
+use Rattle.mp_netlist.specs.Limits.{horizon_limit}
+use Rattle.mp_netlist.proofs.LimitLemmas.{horizon_within}
+use Rattle.mp_text.specs.Formats.{netlist_format, max_horizon_of}
+use Rattle.mp_text.specs.Sizes.{text_limit}
+use Rattle.mp_text.specs.declared.text_format.TextFormat.{TextFormat}
+use Rattle.mp_text.specs.declared.text_format.TextFormat.TheVariants.{Third}
 use Rattle.mp_text.specs.Texts.{after_statement, after_lines, next_line}
 use Rattle.mp_text.specs.Written.{written, written_line, format_line, horizon_line, wire_line, module_line, stimulus_line, bundle_line}
 use Rattle.mp_text.proofs.WrittenLineLemmas.{lines_of-written}
-use Rattle.mp_text.proofs.StatementBackLemmas.{format_stated, horizon_stated}
+use Rattle.mp_text.proofs.StatementBackLemmas.{second_stated, third_stated, horizon_stated}
 use Rattle.mp_text.proofs.TextBackLemmas.{Leads, leads_nowhere, leads_slots, line_stated}
 use Rattle.mp_text.proofs.RecordBackLemmas.{wire_slots, stimulus_slots, bundle_slots}
 use Rattle.mp_text.proofs.ModuleBackLemmas.{module_slots}
@@ -11,29 +19,37 @@ use Rattle.mp_text.proofs.SameRecordLemmas.{made_again}
 use Rattle.mp_text.proofs.TextLemmas.{text_within}
 
 -- a horizon that a text of the first form may state
-opens_short : (h : ℕ) → 1 ≤ h → nat_le h max_first_horizon ≡ true → after_statement Fresh (Start (Ok h)) ≡ Ok (Open (empty_circuit h))
+opens_short : (h : ℕ) → 1 ≤ h → nat_le h max_first_horizon ≡ true → after_statement Fresh (Start (Ok h)) ≡ Ok (Open (empty_circuit Standard h))
 unfolding after_statement
 opens_short h low most = let one : nat_le 1 h ≡ true = grind (arith, nat_tests) in rw (one, most) refl
 
--- a horizon that a text of the second form may state
-opens_long : (h : ℕ) → 1 ≤ h → h ≤ max_second_horizon → after_statement (Formatted Second) (Start (Ok h)) ≡ Ok (Open (empty_circuit h))
+-- a horizon that a text of that form may state
+opens_formatted : (form : TextFormat) (h : ℕ) → 1 ≤ h → h ≤ max_horizon_of form → after_statement (Formatted form) (Start (Ok h)) ≡ Ok (Open (empty_circuit (netlist_format form) h))
 unfolding after_statement
-opens_long h low high =
+opens_formatted form h low high =
     let one : nat_le 1 h ≡ true = grind (arith, nat_tests) in
-    let most : nat_le h max_second_horizon ≡ true = grind (arith, nat_tests) in
+    let most : nat_le h (max_horizon_of form) ≡ true = grind (arith, nat_tests) in
     rw (one, most) refl
 
--- the line of the second form
-format_begins : (rest : List ℕ) → after_lines 0 Fresh (lines_of (written_line (codes "format") (codes "2" ∷ []) ++ rest)) ≡ after_lines (0 + 1) (Formatted Second) (lines_of rest)
-unfolding after_lines after_statement
-format_begins rest =
-    let words = codes "2" ∷ [] in
-    let two : IsPlain (codes "2") = record { some = omega arith; plain = refl } in
-    let plain : All IsPlain words = All-cons IsPlain (codes "2") [] two (All-nil IsPlain) in
+-- the line of a form
+format_begins : (digit : List ℕ) (form : TextFormat) (rest : List ℕ) → IsPlain digit → after_statement Fresh (statement_of (codes "format" ∷ digit ∷ [])) ≡ Ok (Formatted form)
+    → after_lines 0 Fresh (lines_of (written_line (codes "format") (digit ∷ []) ++ rest)) ≡ after_lines (0 + 1) (Formatted form) (lines_of rest)
+unfolding after_lines
+format_begins digit form rest number formed =
+    let words = digit ∷ [] in
+    let plain : All IsPlain words = All-cons IsPlain digit [] number (All-nil IsPlain) in
     let first : IsPlain (codes "format") = record { some = omega arith; plain = refl } in
-    let line = line_stated Fresh (codes "format") words first plain ∙ ap (after_statement Fresh) format_stated in
+    let line = line_stated Fresh (codes "format") words first plain ∙ formed in
     ap (after_lines 0 Fresh) (lines_of-written (codes "format") words rest first plain)
     ∙ ap (next_line 0 (λ after. after_lines (0 + 1) after (lines_of rest))) line
+
+second_formed : after_statement Fresh (statement_of (codes "format" ∷ codes "2" ∷ [])) ≡ Ok (Formatted Second)
+unfolding after_statement
+second_formed = rw second_stated refl
+
+third_formed : after_statement Fresh (statement_of (codes "format" ∷ codes "3" ∷ [])) ≡ Ok (Formatted Third)
+unfolding after_statement
+third_formed = rw third_stated refl
 
 module _ (n : Circuit) (circuit : IsCircuit n) (named : HasNames n) where
   -- the lines of the records
@@ -52,25 +68,48 @@ module _ (n : Circuit) (circuit : IsCircuit n) (named : HasNames n) where
       (flat_map (module_edits n) n.modules ++ (flat_map stimulus_edits n.wires ++ bundle_changes)) (wire_slots n circuit named) modules
 
   -- the line of the horizon begins an empty netlist
-  horizon_begins : (k : ℕ) (state : TextState) (rest : List ℕ) → after_statement state (Start (Ok n.horizon)) ≡ Ok (Open (empty_circuit n.horizon))
-      → after_lines k state (lines_of (horizon_line n.horizon ++ rest)) ≡ after_lines (k + 1) (Open (empty_circuit n.horizon)) (lines_of rest)
+  horizon_begins : (k : ℕ) (state : TextState) (rest : List ℕ) → after_statement state (Start (Ok n.horizon)) ≡ Ok (Open (empty_circuit n.format n.horizon))
+      → after_lines k state (lines_of (horizon_line n.horizon ++ rest)) ≡ after_lines (k + 1) (Open (empty_circuit n.format n.horizon)) (lines_of rest)
   unfolding after_lines
   horizon_begins k state rest opens =
       let words = decimal n.horizon ∷ [] in
-      let plain : All IsPlain words = All-cons IsPlain (decimal n.horizon) [] (IsPlain-decimal n.horizon (omega (arith, circuit.horizon_high))) (All-nil IsPlain) in
+      let plain : All IsPlain words = All-cons IsPlain (decimal n.horizon) [] (IsPlain-decimal n.horizon (omega (arith, horizon_within n circuit))) (All-nil IsPlain) in
       let first : IsPlain (codes "horizon") = record { some = omega arith; plain = refl } in
-      let line = line_stated state (codes "horizon") words first plain ∙ ap (after_statement state) (horizon_stated n.horizon (omega (arith, circuit.horizon_high))) ∙ opens in
+      let line = line_stated state (codes "horizon") words first plain ∙ ap (after_statement state) (horizon_stated n.horizon (omega (arith, horizon_within n circuit))) ∙ opens in
       ap (after_lines k state) (lines_of-written (codes "horizon") words rest first plain)
       ∙ ap (next_line k (λ after. after_lines (k + 1) after (lines_of rest))) line
 
   -- the lines in front of the records begin an empty netlist
-  begins : (rest : List ℕ) → (k : ℕ) × (after_lines 0 Fresh (lines_of (format_line n.horizon ++ (horizon_line n.horizon ++ rest))) ≡ after_lines k (Open (empty_circuit n.horizon)) (lines_of rest))
-  begins rest = by (nat_le n.horizon max_first_horizon) refl
+  begins : (rest : List ℕ) → (k : ℕ) × (after_lines 0 Fresh (lines_of (format_line n.format n.horizon ++ (horizon_line n.horizon ++ rest))) ≡ after_lines k (Open (empty_circuit n.format n.horizon)) (lines_of rest))
+  begins rest = by n.format refl
     where
-      by : (short : Bool) → nat_le n.horizon max_first_horizon ≡ short
-          → (k : ℕ) × (after_lines 0 Fresh (lines_of (cond short [] (written_line (codes "format") (codes "2" ∷ [])) ++ (horizon_line n.horizon ++ rest))) ≡ after_lines k (Open (empty_circuit n.horizon)) (lines_of rest))
-      by true short = (0 + 1, horizon_begins 0 Fresh rest (opens_short n.horizon circuit.horizon_low short))
-      by false long = (0 + 1 + 1, format_begins (horizon_line n.horizon ++ rest) ∙ horizon_begins (0 + 1) (Formatted Second) rest (opens_long n.horizon circuit.horizon_low circuit.horizon_high))
+      digit : (word : List ℕ) → word ≡ codes "2" ⊎ word ≡ codes "3" → IsPlain word
+      digit word (inl two) = subst IsPlain (sym two) (record { some = omega arith; plain = refl })
+      digit word (inr three) = subst IsPlain (sym three) (record { some = omega arith; plain = refl })
+
+      standard : n.format ≡ Standard → (short : Bool) → nat_le n.horizon max_first_horizon ≡ short
+          → (k : ℕ) × (after_lines 0 Fresh (lines_of (cond short [] (written_line (codes "format") (codes "2" ∷ [])) ++ (horizon_line n.horizon ++ rest))) ≡ after_lines k (Open (empty_circuit n.format n.horizon)) (lines_of rest))
+      standard is true short = (0 + 1, horizon_begins 0 Fresh rest (opens_short n.horizon circuit.horizon_low short ∙ ap (λ f. Ok (Open (empty_circuit f n.horizon))) (sym is)))
+      standard is false long =
+          let high : n.horizon ≤ horizon_limit Standard = subst (λ f. n.horizon ≤ horizon_limit f) is circuit.horizon_high in (
+            0 + 1 + 1,
+            format_begins (codes "2") Second (horizon_line n.horizon ++ rest) (digit (codes "2") (inl refl)) second_formed
+                ∙ horizon_begins (0 + 1) (Formatted Second) rest (opens_formatted Second n.horizon circuit.horizon_low high ∙ ap (λ f. Ok (Open (empty_circuit f n.horizon))) (sym is)),
+          )
+
+      large : n.format ≡ Large
+          → (k : ℕ) × (after_lines 0 Fresh (lines_of (written_line (codes "format") (codes "3" ∷ []) ++ (horizon_line n.horizon ++ rest))) ≡ after_lines k (Open (empty_circuit n.format n.horizon)) (lines_of rest))
+      large is =
+          let high : n.horizon ≤ horizon_limit Large = subst (λ f. n.horizon ≤ horizon_limit f) is circuit.horizon_high in (
+            0 + 1 + 1,
+            format_begins (codes "3") Third (horizon_line n.horizon ++ rest) (digit (codes "3") (inr refl)) third_formed
+                ∙ horizon_begins (0 + 1) (Formatted Third) rest (opens_formatted Third n.horizon circuit.horizon_low high ∙ ap (λ f. Ok (Open (empty_circuit f n.horizon))) (sym is)),
+          )
+
+      by : (f : NetlistFormat) → n.format ≡ f
+          → (k : ℕ) × (after_lines 0 Fresh (lines_of (format_line f n.horizon ++ (horizon_line n.horizon ++ rest))) ≡ after_lines k (Open (empty_circuit n.format n.horizon)) (lines_of rest))
+      by Standard is = standard is (nat_le n.horizon max_first_horizon) refl
+      by Large is = large is
 
 pub read_as_written : IsReadAsWritten
 unfolding written
@@ -79,9 +118,9 @@ read_as_written n circuit short =
     let made = made_again n circuit named in
     let begun = begins n circuit named (record_lines n circuit named) in
     let read =
-    text_within (format_line n.horizon ++ (horizon_line n.horizon ++ record_lines n circuit named)) short ∙ begun.1
-    ∙ (records_lead n circuit named).each begun.0 (empty_circuit n.horizon) made.again made.replayed in
+    text_within (format_line n.format n.horizon ++ (horizon_line n.horizon ++ record_lines n circuit named)) short ∙ begun.1
+    ∙ (records_lead n circuit named).each begun.0 (empty_circuit n.format n.horizon) made.again made.replayed in
     (made.again, read, made.same)
 
-pub written_is_read : (n : Circuit) (text : List ℕ) → IsCircuit n → text ≡ written n → length text ≤ max_text → IsReadAs text n
-written_is_read n text circuit same short = subst (λ t. IsReadAs t n) (sym same) (read_as_written n circuit (subst (λ t. length t ≤ max_text) same short))
+pub written_is_read : (n : Circuit) (text : List ℕ) → IsCircuit n → text ≡ written n → length text ≤ text_limit text → IsReadAs text n
+written_is_read n text circuit same short = subst (λ t. IsReadAs t n) (sym same) (read_as_written n circuit (subst (λ t. length t ≤ text_limit t) same short))

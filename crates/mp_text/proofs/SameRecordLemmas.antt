@@ -43,19 +43,20 @@ module _ (c d : Circuit) (names : (w : WireId) → wire_name c w ≡ wire_name d
 -- the edits of the records lead to a netlist with the same records
 pub record IsMadeAgain (n : Circuit) : Type 0 where
   pub again : Circuit
-  pub replayed : replay_singles (empty_circuit n.horizon) (edits_by_name n) ≡ Ok again
+  pub replayed : replay_singles (empty_circuit n.format n.horizon) (edits_by_name n) ≡ Ok again
   pub same : SameRecords n again
 
 module _ (n : Circuit) (circuit : IsCircuit n) (named : HasNames n) (modules : List (Option ModuleRecord))
-    (same : flat_map (module_edits (made n.horizon (flat_map bare n.wires) [] [])) modules ≡ flat_map (module_edits n) n.modules) where
+    (same : flat_map (module_edits (made n (flat_map bare n.wires) [] [])) modules ≡ flat_map (module_edits n) n.modules) where
   -- a netlist of the same wires, modules and bundles by name
   same_records : (c : Circuit) → AtBundles n circuit named modules n.bundles [] c → SameRecords n c
   same_records c at = subst (SameRecords n) (sym at.is) (record {
+    format = refl;
     horizon = refl;
     wires = standing-kept n.wires;
     modules =
-        flat_map_agree (module_edits (made n.horizon (flat_map kept n.wires) modules at.bundles)) (module_edits (made n.horizon (flat_map bare n.wires) [] []))
-        (module_agrees (made n.horizon (flat_map kept n.wires) modules at.bundles) (made n.horizon (flat_map bare n.wires) [] []) (λ w. names_kept n.wires w.0)) modules
+        flat_map_agree (module_edits (made n (flat_map kept n.wires) modules at.bundles)) (module_edits (made n (flat_map bare n.wires) [] []))
+        (module_agrees (made n (flat_map kept n.wires) modules at.bundles) (made n (flat_map bare n.wires) [] []) (λ w. names_kept n.wires w.0)) modules
         ∙ same;
     bundles = at.same;
   })
@@ -78,7 +79,7 @@ made_again n circuit named =
           ∙ ap (λ c. replay_singles c (stimulus_changes ++ bundle_changes)) modules.holds.is
           ∙ stimuli.leads bundle_changes
           ∙ ap (λ c. replay_singles c bundle_changes) stimuli.holds
-          ∙ ap (replay_singles (made n.horizon (flat_map kept n.wires) modules.holds.modules [])) (sym (append-nil bundle_changes))
+          ∙ ap (replay_singles (made n (flat_map kept n.wires) modules.holds.modules [])) (sym (append-nil bundle_changes))
           ∙ bundles.leads [];
       same = same_records n circuit named modules.holds.modules modules.holds.same bundles.goal bundles.holds;
     }

@@ -10,9 +10,13 @@ use Rattle.mp_words.specs.Numbers.{spelled_number, number_from}
 use Rattle.mp_words.proofs.DecimalLemmas.{decimal_digits}
 use Rattle.mp_words.proofs.DividedLemmas.{before_first-append, after_first-append}
 
-pub format_stated : statement_of (codes "format" ∷ codes "2" ∷ []) ≡ Format (Ok 2)
+pub second_stated : statement_of (codes "format" ∷ codes "2" ∷ []) ≡ Format (Ok 2)
 unfolding statement_of spelled_number number_from
-format_stated = refl
+second_stated = refl
+
+pub third_stated : statement_of (codes "format" ∷ codes "3" ∷ []) ≡ Format (Ok 3)
+unfolding statement_of spelled_number number_from
+third_stated = refl
 
 pub horizon_stated : (h : ℕ) → h < 2 ^ 64 → statement_of (codes "horizon" ∷ decimal h ∷ []) ≡ Start (Ok h)
 unfolding statement_of

@@ -16,10 +16,10 @@ abbrev with_set : WireRecord → Option (List (ℕ × ℕ)) → WireRecord
 with_set r stimulus = record r { stimulus = stimulus }
 
 module _ (n : Circuit) (circuit : IsCircuit n) (named : HasNames n) (modules : List (Option ModuleRecord))
-    (same : flat_map (module_edits (made n.horizon (flat_map bare n.wires) [] [])) modules ≡ flat_map (module_edits n) n.modules) where
+    (same : flat_map (module_edits (made n (flat_map bare n.wires) [] [])) modules ≡ flat_map (module_edits n) n.modules) where
   -- the wires of the front have what is set on them, and those behind nothing yet
   abbrev AtStimuli : List (Option WireRecord) → List (Option WireRecord) → Circuit → Type 0
-  AtStimuli front back c = c ≡ made n.horizon (flat_map kept front ++ flat_map bare back) modules []
+  AtStimuli front back c = c ≡ made n (flat_map kept front ++ flat_map bare back) modules []
 
   module _ (front back : List (Option WireRecord)) (r : WireRecord) (split : n.wires ≡ front ++ Some r ∷ back) where
     abbrev before : List (Option WireRecord)
@@ -29,11 +29,11 @@ module _ (n : Circuit) (circuit : IsCircuit n) (named : HasNames n) (modules : L
     behind = flat_map bare back
 
     abbrev c : Circuit
-    c = made n.horizon (before ++ Some (without_stimulus r) ∷ behind) modules []
+    c = made n (before ++ Some (without_stimulus r) ∷ behind) modules []
 
     -- the netlist before anything is set
     abbrev unset : Circuit
-    unset = made n.horizon (flat_map bare n.wires) modules []
+    unset = made n (flat_map bare n.wires) modules []
 
     now_set : flat_map kept (front ++ Some r ∷ []) ++ behind ≡ before ++ Some r ∷ behind
     now_set = ap (λ wires. wires ++ behind) (flat_map-append kept front (Some r ∷ [])) ∙ append_assoc before (Some r ∷ []) behind
@@ -77,7 +77,7 @@ module _ (n : Circuit) (circuit : IsCircuit n) (named : HasNames n) (modules : L
           let all = subst (All (DrivesNone r.name)) (sym same) (drives_none n r.name n.modules nobody) in
           undriven_by_name unset (wire_id c r.name).0 r.name unset_name all k p (record { part = drives.part; stands = drives.stands; output = drives.output })
 
-      stimulus_done : after_single c (SetStimulus r.name changes) ≡ Ok (made n.horizon (before ++ Some r ∷ behind) modules [])
+      stimulus_done : after_single c (SetStimulus r.name changes) ≡ Ok (made n (before ++ Some r ∷ behind) modules [])
       unfolding refusal edited
       stimulus_done =
           let found : stands c r.name ≡ true = ap is_some number_found in
@@ -85,28 +85,28 @@ module _ (n : Circuit) (circuit : IsCircuit n) (named : HasNames n) (modules : L
           let ok = subst (λ stimulus. IfSome stimulus (λ (changes : List (ℕ × ℕ)). IsTrue (is_stimulus n.horizon r.width 0 changes))) set (circuit.wires_ok (length front) r at).stimulus in
           let valid : is_stimulus n.horizon (width_named c r.name) 0 changes ≡ true = ap (λ w. is_stimulus n.horizon w 0 changes) width ∙ ok in
           is_done c (SetStimulus r.name changes) (none_failing (stimulus_checks c r.name changes) (found, (free, (valid, tt))))
-          ∙ ap (λ i. Ok (made n.horizon (slice_set c.wires i (option_map (with_stimulus changes) (wire_at c i))) modules [])) place
-          ∙ ap (λ wire. Ok (made n.horizon (slice_set c.wires (length before) (option_map (with_stimulus changes) wire)) modules [])) slot
-          ∙ ap (λ wires. Ok (made n.horizon wires modules [])) (set_at before (Some (without_stimulus r)) behind (Some (with_stimulus changes (without_stimulus r))) (length before) refl)
-          ∙ ap (λ stimulus. Ok (made n.horizon (before ++ Some (with_set r stimulus) ∷ behind) modules [])) (sym set)
+          ∙ ap (λ i. Ok (made n (slice_set c.wires i (option_map (with_stimulus changes) (wire_at c i))) modules [])) place
+          ∙ ap (λ wire. Ok (made n (slice_set c.wires (length before) (option_map (with_stimulus changes) wire)) modules [])) slot
+          ∙ ap (λ wires. Ok (made n wires modules [])) (set_at before (Some (without_stimulus r)) behind (Some (with_stimulus changes (without_stimulus r))) (length before) refl)
+          ∙ ap (λ stimulus. Ok (made n (before ++ Some (with_set r stimulus) ∷ behind) modules [])) (sym set)
 
     -- the netlist once the wire has what is set on it
     wire_set : (stimulus : Option (List (ℕ × ℕ))) → r.stimulus ≡ stimulus → Reaches (AtStimuli (front ++ Some r ∷ []) back) c (set_edits r.name stimulus)
     wire_set None none =
         Reaches-none (AtStimuli (front ++ Some r ∷ []) back) c
-        (ap (λ stimulus. made n.horizon (before ++ Some (with_set r stimulus) ∷ behind) modules []) (sym none) ∙ ap (λ wires. made n.horizon wires modules []) (sym now_set))
+        (ap (λ stimulus. made n (before ++ Some (with_set r stimulus) ∷ behind) modules []) (sym none) ∙ ap (λ wires. made n wires modules []) (sym now_set))
     wire_set (Some changes) set =
-        Reaches-one (AtStimuli (front ++ Some r ∷ []) back) c (made n.horizon (before ++ Some r ∷ behind) modules []) (SetStimulus r.name changes) (stimulus_done changes set)
-        (ap (λ wires. made n.horizon wires modules []) (sym now_set))
+        Reaches-one (AtStimuli (front ++ Some r ∷ []) back) c (made n (before ++ Some r ∷ behind) modules []) (SetStimulus r.name changes) (stimulus_done changes set)
+        (ap (λ wires. made n wires modules []) (sym now_set))
 
   stimulus_step : Steps n.wires stimulus_edits AtStimuli
   stimulus_step front back None split d so =
-      Reaches-none (AtStimuli (front ++ None ∷ []) back) d (so ∙ ap (λ wires. made n.horizon (wires ++ flat_map bare back) modules []) (sym (compact-none (λ (r : WireRecord). r) front)))
+      Reaches-none (AtStimuli (front ++ None ∷ []) back) d (so ∙ ap (λ wires. made n (wires ++ flat_map bare back) modules []) (sym (compact-none (λ (r : WireRecord). r) front)))
   stimulus_step front back (Some r) split d so =
       subst (λ e. Reaches (AtStimuli (front ++ Some r ∷ []) back) e (stimulus_edits (Some r))) (sym so) (wire_set front back r split r.stimulus refl)
 
   -- what is set on the wires is set
-  pub stimuli_reached : Reaches (λ c. c ≡ made n.horizon (flat_map kept n.wires) modules []) (made n.horizon (flat_map bare n.wires) modules []) (flat_map stimulus_edits n.wires)
+  pub stimuli_reached : Reaches (λ c. c ≡ made n (flat_map kept n.wires) modules []) (made n (flat_map bare n.wires) modules []) (flat_map stimulus_edits n.wires)
   stimuli_reached =
-      let all = stage n.wires stimulus_edits AtStimuli stimulus_step n.wires [] refl (made n.horizon (flat_map bare n.wires) modules []) refl in
-      record { goal = all.goal; holds = all.holds ∙ ap (λ wires. made n.horizon wires modules []) (append-nil (flat_map kept n.wires)); leads = all.leads }
+      let all = stage n.wires stimulus_edits AtStimuli stimulus_step n.wires [] refl (made n (flat_map bare n.wires) modules []) refl in
+      record { goal = all.goal; holds = all.holds ∙ ap (λ wires. made n wires modules []) (append-nil (flat_map kept n.wires)); leads = all.leads }

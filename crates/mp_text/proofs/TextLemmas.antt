@@ -1,14 +1,16 @@
 -- Facts about texts as a whole.
-use Rattle.mp_text.proofs.Names.{◌≡◌, ℕ, ◌+◌, ◌<◌, ◌≤◌, List, [], ◌∷◌, length, Result, Ok, Err, IfErr, inr, refl, sym, ap, subst, arith, before_first, after_first, nat_tests, Circuit, TextError, TextCode, TooLong, max_text, TextState, Fresh, Formatted, Open, lines_of-cons}
+use Rattle.mp_text.proofs.Names.{◌≡◌, ℕ, ◌+◌, ◌<◌, ◌≤◌, List, [], ◌∷◌, length, Result, Ok, Err, IfErr, inr, refl, sym, ap, subst, arith, before_first, after_first, nat_tests, Circuit, TextError, TextCode, TooLong, TextState, Fresh, Formatted, Open, lines_of-cons}
+use Rattle.mp_text.specs.Texts.{IsReachedIn}
+use Rattle.mp_text.specs.Sizes.{text_limit}
 use Rattle.mp_words.specs.Lines.{is_line_feed, lines_of}
-use Rattle.mp_text.specs.Texts.{text_at, after_lines, after_line, next_line, finished, last_line, GivesText, IsReached}
+use Rattle.mp_text.specs.Texts.{text_at, after_lines, after_line, next_line, finished, last_line, GivesText}
 
 -- a text that is not too long is its lines
-pub text_within : (text : List ℕ) → length text ≤ max_text → text_at text ≡ after_lines 0 Fresh (lines_of text)
+pub text_within : (text : List ℕ) → length text ≤ text_limit text → text_at text ≡ after_lines 0 Fresh (lines_of text)
 unfolding text_at
 text_within text within = grind (arith, nat_tests)
 
-pub text_over : (text : List ℕ) → max_text < length text → text_at text ≡ Err (record { line = 0; code = TooLong })
+pub text_over : (text : List ℕ) → text_limit text < length text → text_at text ≡ Err (record { line = 0; code = TooLong })
 unfolding text_at
 text_over text over = grind (arith, nat_tests)
 
@@ -73,7 +75,7 @@ gives_same (Ok x) read same = same
 gives_same (Err error) read same = inr same
 
 -- the end of a text doesn't tell of memory
-pub finished_reached : (text : List ℕ) (n : ℕ) (state : TextState) → IfErr (finished n state) (IsReached text)
-finished_reached text n Fresh = λ wanting. cc
-finished_reached text n (Formatted format) = λ wanting. cc
-finished_reached text n (Open net) = tt
+pub finished_reached : (text : List ℕ) (read : Result Circuit TextError) (n : ℕ) (state : TextState) → IfErr (finished n state) (IsReachedIn text read)
+finished_reached text read n Fresh = λ wanting. cc
+finished_reached text read n (Formatted format) = λ wanting. cc
+finished_reached text read n (Open net) = tt

@@ -1,5 +1,6 @@
 -- The edits of a netlist's wires, on an empty netlist, are not refused.
-use Rattle.mp_text.proofs.Names.{◌≡◌, ℕ, zero, suc, ◌<◌, true, List, [], ◌∷◌, ◌++◌, length, get_or, Option, Some, None, is_none, is_some, unwrap_or, Ok, refl, sym, ap, subst, ◌∙◌, arith, length-append, nat_le, IsSome, flat_map, option_and_then, lt-ltb, nat_tests, get_or_at, flat_map-append, WireId, WireRecord, ModuleRecord, BundleRecord, AddWire, max_wires, Circuit, IsCircuit, wire_at, width_of, stimulus_in, HasNames, name_in, wire_name, wire_edits}
+use Rattle.mp_text.proofs.Names.{◌≡◌, ℕ, zero, suc, ◌<◌, true, List, [], ◌∷◌, ◌++◌, length, get_or, Option, Some, None, is_none, is_some, unwrap_or, Ok, refl, sym, ap, subst, ◌∙◌, arith, length-append, nat_le, IsSome, flat_map, option_and_then, lt-ltb, nat_tests, get_or_at, flat_map-append, WireId, WireRecord, ModuleRecord, BundleRecord, AddWire, Circuit, IsCircuit, wire_at, width_of, stimulus_in, HasNames, name_in, wire_name, wire_edits}
+use Rattle.mp_netlist.specs.Limits.{wire_limit}
 use Rattle.mp_netlist.specs.Edits.{refusal, edited, after_single, stands, wire_id, width_named, wire_checks, without_stimulus}
 use Rattle.mp_text.proofs.SlotLemmas.{compact, compact-none, compact_few, IsAt, IsAt-compact, named_nowhere, front_unnamed, compact_unnamed}
 use Rattle.mp_text.proofs.StageLemmas.{none_failing, and_both, is_done, Reaches, Reaches-none, Reaches-one, Steps, stage}
@@ -12,8 +13,8 @@ abbrev pub bare : Option WireRecord → List (Option WireRecord)
 bare slot = compact without_stimulus slot
 
 -- a netlist with these records
-abbrev pub made : ℕ → List (Option WireRecord) → List (Option ModuleRecord) → List (Option BundleRecord) → Circuit
-made horizon wires modules bundles = record { horizon = horizon; wires = wires; modules = modules; bundles = bundles }
+abbrev pub made : Circuit → List (Option WireRecord) → List (Option ModuleRecord) → List (Option BundleRecord) → Circuit
+made n wires modules bundles = record { format = n.format; horizon = n.horizon; wires = wires; modules = modules; bundles = bundles }
 
 -- a wire of the one netlist has its name and its width in the other
 pub record IsKept (c : Circuit) (r : WireRecord) : Type 0 where
@@ -65,7 +66,7 @@ bare_unset (Some r ∷ slots) (suc v) = bare_unset slots v
 module _ (n : Circuit) (circuit : IsCircuit n) (named : HasNames n) where
   -- the netlist once the wires of the front are added
   abbrev pub wired : List (Option WireRecord) → Circuit
-  wired front = made n.horizon (flat_map bare front) [] []
+  wired front = made n (flat_map bare front) [] []
 
   wire_done : (front back : List (Option WireRecord)) (r : WireRecord) → n.wires ≡ front ++ Some r ∷ back → after_single (wired front) (AddWire r.name r.width r.initial) ≡ Ok (wired (front ++ Some r ∷ []))
   unfolding refusal edited
@@ -73,22 +74,22 @@ module _ (n : Circuit) (circuit : IsCircuit n) (named : HasNames n) where
       let at : wire_at n (length front) ≡ Some r = ap (λ xs. get_or xs (length front) None) same ∙ get_or_at front (Some r) back None (length front) refl in
       let ok = circuit.wires_ok (length front) r at in
       let free = named_nowhere name_of r.name (flat_map bare front) (compact_unnamed name_of without_stimulus (λ s. refl) r.name front (front_unnamed name_of n.wires front back r named.one_wire same)) in
-      let few : length front < max_wires = omega (arith, ap length same, length-append front (Some r ∷ back), circuit.wires_few) in
+      let few : length front < wire_limit n.format = omega (arith, ap length same, length-append front (Some r ∷ back), circuit.wires_few) in
       let low = ok.wide in
       let high = ok.narrow in
       let one : nat_le 1 r.width ≡ true = grind (arith, nat_tests) in
       let most : nat_le r.width 64 ≡ true = grind (arith, nat_tests) in
-      let room = lt-ltb (length (flat_map bare front)) max_wires (omega (arith, compact_few without_stimulus front)) in
+      let room = lt-ltb (length (flat_map bare front)) (wire_limit n.format) (omega (arith, compact_few without_stimulus front)) in
       let none = none_failing (wire_checks (wired front) r.name r.width r.initial) (named.wires (length front) r at, (ap is_none free, (and_both (nat_le 1 r.width) (nat_le r.width 64) one most, (ok.level, (room, tt))))) in
       is_done (wired front) (AddWire r.name r.width r.initial) none
-      ∙ ap (λ wires. Ok (made n.horizon wires [] [])) (sym (flat_map-append bare front (Some r ∷ [])))
+      ∙ ap (λ wires. Ok (made n wires [] [])) (sym (flat_map-append bare front (Some r ∷ [])))
 
   abbrev AtWires : List (Option WireRecord) → List (Option WireRecord) → Circuit → Type 0
   AtWires front back c = c ≡ wired front
 
   wire_step : Steps n.wires wire_edits AtWires
   wire_step front back None same c at =
-      Reaches-none (λ d. d ≡ wired (front ++ None ∷ [])) c (at ∙ ap (λ wires. made n.horizon wires [] []) (sym (compact-none without_stimulus front)))
+      Reaches-none (λ d. d ≡ wired (front ++ None ∷ [])) c (at ∙ ap (λ wires. made n wires [] []) (sym (compact-none without_stimulus front)))
   wire_step front back (Some r) same c at =
       Reaches-one (λ d. d ≡ wired (front ++ Some r ∷ [])) c (wired (front ++ Some r ∷ [])) (AddWire r.name r.width r.initial) (ap (λ d. after_single d (AddWire r.name r.width r.initial)) at ∙ wire_done front back r same) refl
 

@@ -20,7 +20,7 @@ module_pieces n r = simp (flat_map-append, flat_map-map, append_assoc)
 
 -- the pieces of a netlist's text
 pub written_pieces : (n : Circuit) → written n
-    ≡ (format_line n.horizon ++ (codes "horizon " ++ (decimal n.horizon ++ codes "\n")))
+    ≡ (format_line n.format n.horizon ++ (codes "horizon " ++ (decimal n.horizon ++ codes "\n")))
     ++ (section_text n Wires ++ (section_text n Modules ++ (section_text n Stimuli ++ section_text n Bundles)))
 unfolding written
 written_pieces n = simp append_assoc

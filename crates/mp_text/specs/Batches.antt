@@ -1,14 +1,7 @@
 -- What a script's batch says.
 use Rattle.std.specs.Prelude.{ℕ, List, [], ◌∷◌, map, Result, Ok, Err}
 use Rattle.std.specs.Borrow.{Bor}
-use Rattle.std.specs.Option.{ok_or}
-use Rattle.std.specs.Str.{byte}
-use Rattle.std.specs.List.{slice_split}
-use Rattle.mp_records.specs.declared.single_edit.SingleEdit.{SingleEdit}
-use Rattle.mp_words.specs.declared.line_error.LineError.{LineError}
-use Rattle.mp_words.specs.declared.line_error.LineError.TheVariants.{UnknownStatement, WordCount}
-use Rattle.mp_words.specs.Words.{texts}
-use Rattle.mp_words.specs.Reads.{◌>>=◌}
+use Rattle.mp_text.specs.Names.{ok_or, byte, slice_split, SingleEdit, LineError, UnknownStatement, WordCount, texts, ◌>>=◌}
 use Rattle.mp_text.specs.Statements.{is_mark}
 use Rattle.mp_text.specs.SingleEdits.{single_word, single_edit}
 

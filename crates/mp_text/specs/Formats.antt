@@ -3,17 +3,28 @@ use Rattle.std.specs.Prelude.{ℕ, ◌==◌, Result, Ok, Err, if◌then◌else�
 use Rattle.mp_text.specs.declared.text_code.TextCode.{TextCode}
 use Rattle.mp_text.specs.declared.text_code.TextCode.TheVariants.{BadFormat}
 use Rattle.mp_text.specs.declared.text_format.TextFormat.{TextFormat}
-use Rattle.mp_text.specs.declared.text_format.TextFormat.TheVariants.{First, Second}
-use Rattle.mp_text.specs.Limits.{max_first_horizon, max_second_horizon}
+use Rattle.mp_text.specs.declared.text_format.TextFormat.TheVariants.{First, Second, Third}
+use Rattle.mp_netlist.specs.declared.format.Format.{Format as NetlistFormat}
+use Rattle.mp_netlist.specs.declared.format.Format.TheVariants.{Standard, Large}
+use Rattle.mp_netlist.specs.Limits.{horizon_limit}
+use Rattle.mp_text.specs.Limits.{max_first_horizon}
 
 -- the form of that number
 abbrev pub format_of : ℕ → Result TextFormat TextCode
 format_of number =
     if number == 1 then Ok First
     else (if number == 2 then Ok Second
-    else Err BadFormat)
+    else (if number == 3 then Ok Third
+    else Err BadFormat))
+
+-- the format of the netlist of a text of that form
+abbrev pub netlist_format : TextFormat → NetlistFormat
+netlist_format First = Standard
+netlist_format Second = Standard
+netlist_format Third = Large
 
 -- the longest horizon that a text of that form may state
 abbrev pub max_horizon_of : TextFormat → ℕ
 max_horizon_of First = max_first_horizon
-max_horizon_of Second = max_second_horizon
+max_horizon_of Second = horizon_limit Standard
+max_horizon_of Third = horizon_limit Large

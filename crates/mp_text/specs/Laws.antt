@@ -1,13 +1,10 @@
 -- What the netlist of a text is made of.
-use Rattle.std.specs.Prelude.{◌≡◌, ℕ, List, [], ◌∷◌, Option, Some, None, Ok, map}
-use Rattle.std.specs.List.{filter_map}
+use Rattle.std.specs.Prelude.{◌≡◌, ℕ, ◌==◌, List, [], ◌∷◌, Option, Some, None, Ok, map, if◌then◌else◌}
+use Rattle.mp_text.specs.Names.{filter_map, SingleEdit, Circuit, empty_circuit, replay, lines_of, words_of}
 use Rattle.mp_records.specs.declared.edit.Edit.TheVariants.{Single}
-use Rattle.mp_records.specs.declared.single_edit.SingleEdit.{SingleEdit}
-use Rattle.mp_netlist.specs.Circuit.{Circuit, empty_circuit}
-use Rattle.mp_netlist.specs.Replays.{replay}
-use Rattle.mp_words.specs.Lines.{lines_of}
-use Rattle.mp_words.specs.Words.{words_of}
-use Rattle.mp_text.specs.Statements.{Statement, Start, Change, statement_of}
+use Rattle.mp_netlist.specs.declared.format.Format.{Format as NetlistFormat}
+use Rattle.mp_netlist.specs.declared.format.Format.TheVariants.{Standard, Large}
+use Rattle.mp_text.specs.Statements.{Statement, Blank, Format, Start, Change, statement_of}
 use Rattle.mp_text.specs.Texts.{text_at}
 
 abbrev pub horizon_of : Statement → Option ℕ
@@ -30,9 +27,16 @@ horizons_of lines = filter_map horizon_of (statements lines)
 abbrev pub edits_of : List (List ℕ) → List SingleEdit
 edits_of lines = filter_map edit_of (statements lines)
 
--- the lines state one horizon, and the netlist is the replay of their edits on its empty netlist
+-- the format that the first line with words states, if it states one
+abbrev pub format_by : List Statement → NetlistFormat
+format_by [] = Standard
+format_by (Blank ∷ later) = format_by later
+format_by (Format (Ok number) ∷ later) = if number == 3 then Large else Standard
+format_by (other ∷ later) = Standard
+
+-- the lines state one horizon, and the netlist is the replay of their edits on the empty netlist of this horizon and of their format
 abbrev pub IsReplayed : List (List ℕ) → Circuit → Type 0
-IsReplayed lines n = (h : ℕ) × ((horizons_of lines ≡ h ∷ []) × (replay (empty_circuit h) (map Single (edits_of lines)) ≡ Ok n))
+IsReplayed lines n = (h : ℕ) × ((horizons_of lines ≡ h ∷ []) × (replay (empty_circuit (format_by (statements lines)) h) (map Single (edits_of lines)) ≡ Ok n))
 
 -- each text that is read is replayed
 abbrev pub IsReplay : Type 0

@@ -1,7 +1,9 @@
+pub mod Names
 pub mod Limits
 pub mod Formats
 pub mod TextCodes
 pub mod Statements
+pub mod Sizes
 pub mod Texts
 pub mod SingleEdits
 pub mod Batches

@@ -1,17 +1,17 @@
 -- The limits of a text.
 use Rattle.std.specs.Prelude.{ℕ}
 
--- how many bytes a text may have
+-- how many bytes a text of any form may have
 abbrev pub max_text : ℕ
-max_text = 4194304
+max_text = 1073741824
+
+-- how many bytes a text of the first or the second form may have
+abbrev pub max_short_text : ℕ
+max_short_text = 4194304
 
 -- the longest horizon of a text of the first form
 abbrev pub max_first_horizon : ℕ
 max_first_horizon = 65536
-
--- the longest horizon of a text of the second form
-abbrev pub max_second_horizon : ℕ
-max_second_horizon = 1048576
 
 -- how many steps of a chain may be asked for
 abbrev pub max_steps : ℕ

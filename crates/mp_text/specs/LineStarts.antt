@@ -1,8 +1,6 @@
 -- How a script's line begins: what is looked at before memory is taken.
 use Rattle.std.specs.Prelude.{ℕ, Bool, false, ◌==◌, ◌||◌, List, [], ◌∷◌, length, Option, None, Some, IsTrue, nat_le}
-use Rattle.std.specs.List.{list_all}
-use Rattle.mp_words.specs.Lines.{is_allowed}
-use Rattle.mp_words.specs.Words.{words_of}
+use Rattle.mp_text.specs.Names.{list_all, is_allowed, words_of}
 use Rattle.mp_text.specs.declared.edit_word.EditWord.{EditWord}
 use Rattle.mp_text.specs.declared.edit_word.EditWord.TheVariants.{Wire, Module, Stimulus, Bundle}
 use Rattle.mp_text.specs.declared.single_word.SingleWord.{SingleWord}

@@ -1,10 +1,6 @@
 -- What a script asks for.
 use Rattle.std.specs.Prelude.{ℕ, Bool, ◌&&◌, List, [], ◌∷◌, Option, Some, None, Result, Ok, Err, nat_le, if◌then◌else◌, codes}
-use Rattle.std.specs.Str.{bytes_eq}
-use Rattle.mp_words.specs.declared.line_error.LineError.{LineError}
-use Rattle.mp_words.specs.declared.line_error.LineError.TheVariants.{WordCount, BadNumber}
-use Rattle.mp_words.specs.Reads.{◌>>=◌}
-use Rattle.mp_words.specs.WordLists.{number_word}
+use Rattle.mp_text.specs.Names.{bytes_eq, LineError, WordCount, BadNumber, ◌>>=◌, number_word}
 use Rattle.mp_text.specs.declared.question.Question.{Question}
 use Rattle.mp_text.specs.declared.question.Question.TheVariants as questions
 use Rattle.mp_text.specs.declared.question_word.QuestionWord.{QuestionWord}

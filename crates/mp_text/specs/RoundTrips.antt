@@ -1,19 +1,9 @@
 -- What is written is read again.
 use Rattle.std.specs.Prelude.{◌≡◌, ℕ, ◌≤◌, List, [], ◌∷◌, ◌++◌, length, map, Option, Some, None, Ok, option_map}
-use Rattle.std.specs.List.{flat_map, filter_map}
-use Rattle.mp_records.specs.declared.wire_record.WireRecord.{WireRecord}
-use Rattle.mp_records.specs.declared.module_record.ModuleRecord.{ModuleRecord}
-use Rattle.mp_records.specs.declared.bundle_record.BundleRecord.{BundleRecord}
-use Rattle.mp_records.specs.declared.ports.Input.{Input}
-use Rattle.mp_records.specs.declared.ports.Output.{Output}
-use Rattle.mp_records.specs.declared.port_names.InputName.{InputName}
-use Rattle.mp_records.specs.declared.port_names.OutputName.{OutputName}
+use Rattle.mp_text.specs.Names.{flat_map, filter_map, WireRecord, ModuleRecord, BundleRecord, Input, Output, InputName, OutputName, SingleEdit, AddWire, AddModule, AddBundle, SetStimulus, Circuit, IsCircuit}
 use Rattle.mp_records.specs.declared.new_module.NewModule.{NewModule}
 use Rattle.mp_records.specs.declared.new_bundle.NewBundle.{NewBundle}
-use Rattle.mp_records.specs.declared.single_edit.SingleEdit.{SingleEdit}
-use Rattle.mp_records.specs.declared.single_edit.SingleEdit.TheVariants.{AddWire, AddModule, AddBundle, SetStimulus}
-use Rattle.mp_netlist.specs.Circuit.{Circuit, IsCircuit}
-use Rattle.mp_text.specs.Limits.{max_text}
+use Rattle.mp_text.specs.Sizes.{text_limit}
 use Rattle.mp_text.specs.Texts.{text_at}
 use Rattle.mp_text.specs.Written.{written, wire_name}
 
@@ -71,8 +61,9 @@ edits_by_name n = flat_map wire_edits n.wires ++ (flat_map (module_edits n) n.mo
 abbrev pub standing : {R : Type 0} → List (Option R) → List R
 standing slots = filter_map (λ slot. slot) slots
 
--- the same horizon, the same wires with what is set on them, and the same modules and bundles with the names of their wires, each in order of number
+-- the same format and horizon, the same wires with what is set on them, and the same modules and bundles with the names of their wires, each in order of number
 pub record SameRecords (n m : Circuit) : Type 0 where
+  pub format : m.format ≡ n.format
   pub horizon : m.horizon ≡ n.horizon
   pub wires : standing m.wires ≡ standing n.wires
   pub modules : flat_map (module_edits m) m.modules ≡ flat_map (module_edits n) n.modules
@@ -84,4 +75,4 @@ IsReadAs text n = (m : Circuit) × (text_at text ≡ Ok m) × SameRecords n m
 
 -- the text of a netlist is read as a netlist with the same records
 abbrev pub IsReadAsWritten : Type 0
-IsReadAsWritten = (n : Circuit) → IsCircuit n → length (written n) ≤ max_text → IsReadAs (written n) n
+IsReadAsWritten = (n : Circuit) → IsCircuit n → length (written n) ≤ text_limit (written n) → IsReadAs (written n) n

@@ -1,11 +1,7 @@
 -- What a script's line says.
 use Rattle.std.specs.Prelude.{ℕ, List, [], ◌∷◌, Option, Some, None, Result, Ok, Err, if◌then◌else◌, codes, option_map}
-use Rattle.std.specs.Option.{ok_or}
-use Rattle.std.specs.Str.{bytes_eq}
+use Rattle.mp_text.specs.Names.{ok_or, bytes_eq, SingleEdit, LineError, UnknownStatement, WordCount, line_words, ◌>>=◌}
 use Rattle.mp_records.specs.declared.edit.Edit.TheVariants as edits
-use Rattle.mp_records.specs.declared.single_edit.SingleEdit.{SingleEdit}
-use Rattle.mp_words.specs.declared.line_error.LineError.{LineError}
-use Rattle.mp_words.specs.declared.line_error.LineError.TheVariants.{UnknownStatement, WordCount}
 use Rattle.mp_text.specs.declared.line_word.LineWord.{LineWord}
 use Rattle.mp_text.specs.declared.line_word.LineWord.TheVariants.{Single, Batch, Question}
 use Rattle.mp_text.specs.declared.script_line.Line.{Line}
@@ -13,11 +9,9 @@ use Rattle.mp_text.specs.declared.script_line.Line.TheVariants.{Empty, Change, A
 use Rattle.mp_text.specs.declared.question.Question.{Question as Asked}
 use Rattle.mp_text.specs.declared.question_word.QuestionWord.{QuestionWord}
 use Rattle.mp_text.specs.declared.single_word.SingleWord.{SingleWord}
-use Rattle.mp_words.specs.Lines.{line_words}
 use Rattle.mp_text.specs.SingleEdits.{single_word, single_edit}
 use Rattle.mp_text.specs.Batches.{batch_of}
 use Rattle.mp_text.specs.Questions.{question_word, stated_question}
-use Rattle.mp_words.specs.Reads.{◌>>=◌}
 
 abbrev pub single_line : Result SingleEdit LineError → Result Line LineError
 single_line (Ok edit) = Ok (Change (edits.Single edit))

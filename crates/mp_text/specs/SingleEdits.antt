@@ -1,15 +1,9 @@
 -- What a script's edit of one thing says.
 use Rattle.std.specs.Prelude.{ℕ, List, [], ◌∷◌, Option, Some, Result, Ok, Err, if◌then◌else◌, codes, option_map}
-use Rattle.std.specs.Str.{bytes_eq}
-use Rattle.mp_records.specs.declared.single_edit.SingleEdit.{SingleEdit}
-use Rattle.mp_records.specs.declared.single_edit.SingleEdit.TheVariants.{RemoveWire, RemoveModule, RemoveBundle, RewireInput, RewireOutput, SetInputDelay, SetDelay, ClearStimulus}
-use Rattle.mp_words.specs.declared.line_error.LineError.{LineError}
-use Rattle.mp_words.specs.declared.line_error.LineError.TheVariants.{UnknownStatement, WordCount}
+use Rattle.mp_text.specs.Names.{bytes_eq, SingleEdit, RemoveWire, RemoveModule, RemoveBundle, RewireInput, RewireOutput, SetInputDelay, SetDelay, ClearStimulus, LineError, UnknownStatement, WordCount, number_word, wire_or_none, ◌>>=◌}
 use Rattle.mp_text.specs.declared.single_word.SingleWord.{SingleWord}
 use Rattle.mp_text.specs.declared.single_word.SingleWord.TheVariants.{Stated, Remove, Input, Output, InputDelay, Delay, Clear}
-use Rattle.mp_words.specs.WordLists.{number_word, wire_or_none}
 use Rattle.mp_text.specs.Statements.{edit_word, stated_edit}
-use Rattle.mp_words.specs.Reads.{◌>>=◌}
 
 -- the edit of the words behind `remove`
 unfoldable pub removal : List (List ℕ) → Result SingleEdit LineError

@@ -1,18 +1,8 @@
 -- What a line's words say.
 use Rattle.std.specs.Prelude.{ℕ, ◌||◌, Bool, ◌==◌, List, [], ◌∷◌, length, Option, Some, None, Result, Ok, Err, if◌then◌else◌, codes}
-use Rattle.std.specs.Option.{ok_or}
-use Rattle.std.specs.Str.{byte, bytes_eq}
-use Rattle.std.specs.List.{before_first, after_first}
-use Rattle.mp_modules.specs.declared.kind.Kind.{Kind}
-use Rattle.mp_modules.specs.Kinds.{kind_named}
-use Rattle.mp_records.specs.declared.single_edit.SingleEdit.{SingleEdit}
-use Rattle.mp_records.specs.declared.single_edit.SingleEdit.TheVariants.{AddWire, AddModule, AddBundle, SetStimulus}
-use Rattle.mp_words.specs.declared.line_error.LineError.{LineError}
-use Rattle.mp_words.specs.declared.line_error.LineError.TheVariants.{UnknownStatement, WordCount}
+use Rattle.mp_text.specs.Names.{ok_or, byte, bytes_eq, before_first, after_first, Kind, kind_named, SingleEdit, AddWire, AddModule, AddBundle, SetStimulus, LineError, UnknownStatement, WordCount, number_word, change_word, input_word, output_word, each_word, ◌>>=◌}
 use Rattle.mp_text.specs.declared.edit_word.EditWord.{EditWord}
 use Rattle.mp_text.specs.declared.edit_word.EditWord.TheVariants.{Wire, Module, Stimulus, Bundle}
-use Rattle.mp_words.specs.WordLists.{number_word, change_word, input_word, output_word, each_word}
-use Rattle.mp_words.specs.Reads.{◌>>=◌}
 
 abbrev pub kind_word : List ℕ → Result Kind LineError
 kind_word word = ok_or (kind_named word) UnknownStatement

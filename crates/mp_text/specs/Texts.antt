@@ -1,10 +1,6 @@
 -- What a netlist's text means.
 use Rattle.std.specs.Prelude.{◌≡◌, ◌⊎◌, ℕ, ◌+◌, ◌≤◌, List, [], ◌∷◌, ◌&&◌, length, Result, Ok, Err, nat_le, if◌then◌else◌}
-use Rattle.std.specs.Result.{result_map_both}
-use Rattle.mp_netlist.specs.Circuit.{Circuit, empty_circuit}
-use Rattle.mp_netlist.specs.Edits.{after_single}
-use Rattle.mp_words.specs.declared.line_error.LineError.{LineError}
-use Rattle.mp_words.specs.declared.line_error.LineError.TheVariants.{UnknownStatement, BadNumber, OutOfMemory}
+use Rattle.mp_text.specs.Names.{result_map_both, Circuit, empty_circuit, after_single, LineError, UnknownStatement, BadNumber, OutOfMemory, lines_of, line_words, ◌>>=◌}
 use Rattle.mp_text.specs.declared.text_code.TextCode.{TextCode}
 use Rattle.mp_text.specs.declared.text_code.TextCode.TheVariants.{Line, BadFormat, NoHorizon, SecondHorizon, Refused, TooLong}
 use Rattle.mp_text.specs.declared.text_error.TextError.{TextError}
@@ -12,11 +8,9 @@ use Rattle.mp_text.specs.declared.text_format.TextFormat.{TextFormat}
 use Rattle.mp_text.specs.declared.text_format.TextFormat.TheVariants.{First}
 use Rattle.mp_text.specs.declared.text_state.TextState.{TextState}
 use Rattle.mp_text.specs.declared.text_state.TextState.TheVariants.{Fresh, Formatted, Open}
-use Rattle.mp_text.specs.Formats.{format_of, max_horizon_of}
-use Rattle.mp_text.specs.Limits.{max_text}
-use Rattle.mp_words.specs.Lines.{lines_of, line_words}
+use Rattle.mp_text.specs.Formats.{format_of, max_horizon_of, netlist_format}
+use Rattle.mp_text.specs.Sizes.{text_limit}
 use Rattle.mp_text.specs.Statements.{Statement, Blank, Unknown, Format, Start, Change, statement_of}
-use Rattle.mp_words.specs.Reads.{◌>>=◌}
 
 -- what a line says, as a part of a text
 abbrev pub in_text : {A : Type 0} → Result A LineError → Result A TextCode
@@ -30,7 +24,7 @@ formatted (Err code) = Err code
 
 -- the empty netlist of a horizon that a text of this form may state
 abbrev pub begun : TextFormat → ℕ → Result TextState TextCode
-begun format h = if nat_le 1 h && nat_le h (max_horizon_of format) then Ok (Open (empty_circuit h)) else Err (Line BadNumber)
+begun format h = if nat_le 1 h && nat_le h (max_horizon_of format) then Ok (Open (empty_circuit (netlist_format format) h)) else Err (Line BadNumber)
 
 -- where a text is after a statement: its form, if it is stated, is the first, and its horizon comes before the edits
 unfoldable pub after_statement : TextState → Statement → Result TextState TextCode
@@ -77,7 +71,7 @@ after_lines n state (line ∷ lines) = next_line n (λ after. after_lines (n + 1
 
 -- the netlist of a text, or the first line that fails
 unfoldable pub text_at : List ℕ → Result Circuit TextError
-text_at text = if nat_le (length text) max_text then after_lines 0 Fresh (lines_of text) else Err (record { line = 0; code = TooLong })
+text_at text = if nat_le (length text) (text_limit text) then after_lines 0 Fresh (lines_of text) else Err (record { line = 0; code = TooLong })
 
 -- the whole text was read, or its first fault is told, or memory ran out at some line
 abbrev pub GivesText : {X : Type 0} → Result X TextError → Result X TextError → Type 0
@@ -89,6 +83,9 @@ abbrev pub last_line : List ℕ → Result Circuit TextError → ℕ
 last_line text (Ok n) = length (lines_of text)
 last_line text (Err error) = error.line
 
--- want of memory is told of a line that was reached
+-- want of memory is told of a line that was reached, where so much of a text is read
+abbrev pub IsReachedIn : List ℕ → Result Circuit TextError → TextError → Type 0
+IsReachedIn text read error = error.code ≡ Line OutOfMemory → (1 ≤ error.line) × (error.line ≤ last_line text read)
+
 abbrev pub IsReached : List ℕ → TextError → Type 0
-IsReached text error = error.code ≡ Line OutOfMemory → (1 ≤ error.line) × (error.line ≤ last_line text (text_at text))
+IsReached text error = IsReachedIn text (text_at text) error

@@ -1,16 +1,9 @@
 -- How a netlist is written.
 use Rattle.std.specs.Prelude.{ℕ, List, [], ◌∷◌, ◌++◌, map, Option, Some, None, codes, nat_le, ◌==◌, if◌then◌else◌}
-use Rattle.std.specs.List.{flat_map}
+use Rattle.mp_text.specs.Names.{flat_map, word_of, WireId, WireRecord, ModuleRecord, BundleRecord, Input, Output, Circuit, wire_at, pair_text}
 use Rattle.std.specs.Fmt.{decimal}
-use Rattle.mp_modules.specs.Kinds.{word_of}
-use Rattle.mp_records.specs.declared.ids.WireId.{WireId}
-use Rattle.mp_records.specs.declared.wire_record.WireRecord.{WireRecord}
-use Rattle.mp_records.specs.declared.module_record.ModuleRecord.{ModuleRecord}
-use Rattle.mp_records.specs.declared.bundle_record.BundleRecord.{BundleRecord}
-use Rattle.mp_records.specs.declared.ports.Input.{Input}
-use Rattle.mp_records.specs.declared.ports.Output.{Output}
-use Rattle.mp_netlist.specs.Circuit.{Circuit, wire_at}
-use Rattle.mp_words.specs.WaveLines.{pair_text}
+use Rattle.mp_netlist.specs.declared.format.Format.{Format as NetlistFormat}
+use Rattle.mp_netlist.specs.declared.format.Format.TheVariants.{Standard, Large}
 use Rattle.mp_text.specs.Limits.{max_first_horizon}
 
 -- words, each behind a space
@@ -21,9 +14,10 @@ spaced words = flat_map (λ word. 32 ∷ word) words
 abbrev pub written_line : List ℕ → List (List ℕ) → List ℕ
 written_line first words = first ++ (spaced words ++ (10 ∷ []))
 
--- the line of the second form, which only a long horizon needs
-abbrev pub format_line : ℕ → List ℕ
-format_line horizon = if nat_le horizon max_first_horizon then [] else written_line (codes "format") (codes "2" ∷ [])
+-- the line of the form: the third that of a large netlist, the second one that a long horizon needs
+abbrev pub format_line : NetlistFormat → ℕ → List ℕ
+format_line Large horizon = written_line (codes "format") (codes "3" ∷ [])
+format_line Standard horizon = if nat_le horizon max_first_horizon then [] else written_line (codes "format") (codes "2" ∷ [])
 
 abbrev pub horizon_line : ℕ → List ℕ
 horizon_line horizon = written_line (codes "horizon") (decimal horizon ∷ [])
@@ -81,7 +75,7 @@ bundle_line n (Some r) =
 -- the form where it is needed, the horizon, the wires, the modules, the stimuli by wire and the bundles, each by number
 unfoldable pub written : Circuit → List ℕ
 written n =
-    format_line n.horizon
+    format_line n.format n.horizon
     ++ (horizon_line n.horizon
     ++ (flat_map wire_line n.wires
     ++ (flat_map (module_line n) n.modules

@@ -1,10 +1,6 @@
 //! The batches that scripts have.
 ghost use Rattle.std.specs.Prelude.{◌≡◌, ◌∷◌, IfOk, All, map};
-ghost use Rattle.std.specs.List.{slice_split};
-ghost use Rattle.std.specs.Str.{byte};
-ghost use Rattle.mp_words.specs.declared.line_error.LineError.TheVariants.{OutOfMemory};
-ghost use Rattle.mp_words.specs.Reads.{Gives};
-ghost use Rattle.mp_words.specs.Words.{texts, AreAscii};
+ghost use Rattle.mp_text.specs.Names.{slice_split, byte, OutOfMemory, Gives, texts, AreAscii};
 ghost use Rattle.mp_text.specs.Statements.{is_mark};
 ghost use Rattle.mp_text.specs.Batches.{part_edit, each_part, batch_of, part_texts};
 

@@ -1,8 +1,6 @@
 //! The ports of a module, as a text has them.
 ghost use Rattle.std.specs.Prelude.{◌≡◌, ℕ, List, ◌∷◌};
-ghost use Rattle.std.specs.List.{flat_map};
-ghost use Rattle.mp_netlist.specs.Circuit.{Circuit};
-ghost use Rattle.mp_streams.specs.Outgoing.{Writes};
+ghost use Rattle.mp_text.specs.Names.{flat_map, Circuit, Writes};
 ghost use Rattle.mp_text.specs.Written.{wire_name, input_text, output_name, output_text};
 
 use mp_netlist::{Input, Netlist, Output, WireId};

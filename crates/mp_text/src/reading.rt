@@ -1,17 +1,18 @@
 //! Reading a netlist's text.
-ghost use Rattle.std.specs.Prelude.{IfErr};
-ghost use Rattle.mp_text.specs.Texts.{text_at, GivesText, IsReached};
+ghost use Rattle.std.specs.Prelude.{◌≤◌, IfErr, length};
+ghost use Rattle.mp_words.specs.Lines.{lines_of};
+ghost use Rattle.mp_text.specs.declared.text_state.TextState.TheVariants.{Fresh};
+ghost use Rattle.mp_text.specs.Limits.{max_text};
+ghost use Rattle.mp_text.specs.Texts.{text_at, after_lines, GivesText, IsReached, IsReachedIn};
 
 use crate::statement::line;
 use crate::text_code::TextCode;
 use crate::text_error::TextError;
+use crate::text_size::text_limit;
 use crate::text_state::TextState;
 use mp_netlist::Netlist;
 use mp_words::first_line;
 use std::alloc::Global;
-
-/// How many bytes a text may have.
-pub const MAX_TEXT: usize = 4_194_304;
 
 /// The netlist of a text of `horizon`, `wire`, `module`, `stim` and `bundle` statements, one a
 /// line: the empty netlist of the horizon after the edits of the others in turn. A statement
@@ -22,20 +23,30 @@ pub const MAX_TEXT: usize = 4_194_304;
 /// (`UnknownStatement`); a `format` that is not on the first line with words (`BadFormat`), a second
 /// `horizon` (`SecondHorizon`) or another statement before it (`NoHorizon`); the number or shape of
 /// the words (`WordCount`); a kind that is none (`UnknownStatement`); a word that is not the number
-/// or pair that it should be, or a horizon not 1 to 65,536, or with `format 2` not 1 to 1,048,576
-/// (`BadNumber`); a `format` that is not 1 or 2 (`BadFormat`); an edit that is refused (`Refused`).
-/// `TooLong` with line 0 is a text over 4,194,304 bytes, and `NoHorizon` with the number of lines one without a horizon.
+/// or pair that it should be, or a horizon not 1 to 65,536, or with `format 2` not 1 to 1,048,576, or
+/// with `format 3` not 1 to 1,073,741,824 (`BadNumber`); a `format` that is not 1, 2 or 3 (`BadFormat`); an edit that is refused (`Refused`).
+/// `TooLong` with line 0 is a text longer than its format allows, and `NoHorizon` with the number of lines one without a horizon.
 /// `OutOfMemory` comes with the line at which memory was wanting, none behind the first that fails.
 pub fn read_netlist(alloc: Global, text: &[u8]) -> Result<Netlist, TextError>
     ensures read { GivesText result (text_at text.now) }
     ensures reached { IfErr result (IsReached text.now) }
 {
-    if text.len() > MAX_TEXT {
+    let limit = text_limit(text);
+    if text.len() > limit {
         return Err(TextError {
             line: 0,
             code: TextCode::TooLong,
         });
     }
+    read_lines(alloc, text)
+}
+
+/// The same of a text that isn't longer than one of any format may be, whatever format it states.
+pub fn read_lines(alloc: Global, text: &[u8]) -> Result<Netlist, TextError>
+    requires { length text.now ≤ max_text }
+    ensures read { GivesText result (after_lines 0 Fresh (lines_of text.now)) }
+    ensures reached { IfErr result (IsReachedIn text.now (after_lines 0 Fresh (lines_of text.now))) }
+{
     let mut state = TextState::Fresh;
     let mut number = 0;
     let mut rest = text;

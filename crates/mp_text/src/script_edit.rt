@@ -1,9 +1,6 @@
 //! The edits that scripts alone have.
 ghost use Rattle.std.specs.Prelude.{◌≡◌, IfOk, IsAscii};
-ghost use Rattle.mp_words.specs.declared.line_error.LineError.TheVariants.{OutOfMemory};
-ghost use Rattle.mp_words.specs.Reads.{Gives};
-ghost use Rattle.mp_words.specs.WordLists.{wire_or_none};
-ghost use Rattle.mp_words.specs.Words.{texts, AreAscii};
+ghost use Rattle.mp_text.specs.Names.{OutOfMemory, Gives, wire_or_none, texts, AreAscii};
 ghost use Rattle.mp_text.specs.SingleEdits.{removal, input_edit, output_edit, input_delay_edit, delay_edit, clearing, single_edit};
 
 use crate::single_word::SingleWord;

@@ -1,6 +1,6 @@
 //! The sections of a netlist's text.
 ghost use Rattle.std.specs.Prelude.{◌≡◌};
-ghost use Rattle.mp_streams.specs.Outgoing.{Writes};
+ghost use Rattle.mp_text.specs.Names.{Writes};
 
 use crate::written_lines::{put_bundle, put_module, put_stimulus, put_wire};
 use mp_netlist::{BundleId, ModuleId, Netlist, WireId};

@@ -1,8 +1,6 @@
 //! Lines of words.
 ghost use Rattle.std.specs.Prelude.{◌≡◌, ◌∷◌};
-ghost use Rattle.std.specs.List.{flat_map};
-ghost use Rattle.mp_streams.specs.Outgoing.{Writes};
-ghost use Rattle.mp_words.specs.Words.{texts};
+ghost use Rattle.mp_text.specs.Names.{flat_map, Writes, texts};
 ghost use Rattle.mp_text.specs.Written.{written_line};
 
 use mp_streams::{Failed, Out, Sink, Text};

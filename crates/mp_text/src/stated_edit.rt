@@ -1,9 +1,6 @@
 //! The edits of statements.
 ghost use Rattle.std.specs.Prelude.{◌≡◌, ◌<◌, IsAscii, IfSome, length, position};
-ghost use Rattle.std.specs.List.{before_first, after_first};
-ghost use Rattle.mp_words.specs.declared.line_error.LineError.TheVariants.{OutOfMemory};
-ghost use Rattle.mp_words.specs.Reads.{Gives};
-ghost use Rattle.mp_words.specs.Words.{texts, AreAscii};
+ghost use Rattle.mp_text.specs.Names.{before_first, after_first, OutOfMemory, Gives, texts, AreAscii};
 ghost use Rattle.mp_text.specs.Statements.{stated_edit, wire_edit, parts_edit, module_edit, stimulus_edit, bundle_edit, kind_word, is_mark};
 
 use crate::edit_word::EditWord;

@@ -1,8 +1,6 @@
 //! Reading a script's line.
 ghost use Rattle.std.specs.Prelude.{◌≡◌, IfErr};
-ghost use Rattle.mp_words.specs.declared.line_error.LineError.TheVariants.{OutOfMemory};
-ghost use Rattle.mp_words.specs.Reads.{Gives};
-ghost use Rattle.mp_words.specs.Words.{texts, AreAscii};
+ghost use Rattle.mp_text.specs.Names.{OutOfMemory, Gives, texts, AreAscii};
 ghost use Rattle.mp_text.specs.LineStarts.{HasForm};
 ghost use Rattle.mp_text.specs.ScriptLines.{line_at, stated_line};
 

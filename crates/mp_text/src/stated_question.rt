@@ -1,8 +1,6 @@
 //! The questions of a script's lines.
 ghost use Rattle.std.specs.Prelude.{◌≡◌, IfOk, IsAscii};
-ghost use Rattle.mp_words.specs.declared.line_error.LineError.TheVariants.{OutOfMemory};
-ghost use Rattle.mp_words.specs.Reads.{Gives};
-ghost use Rattle.mp_words.specs.Words.{texts, AreAscii};
+ghost use Rattle.mp_text.specs.Names.{OutOfMemory, Gives, texts, AreAscii};
 ghost use Rattle.mp_text.specs.Questions.{stated_question, wave_question, bare_question, show_question, why_question, path_question, waits_question, measure_question, edits_question, steps_word, chain_question, chain_steps};
 
 use crate::question::Question;

@@ -1,13 +1,8 @@
 //! What a line makes of a netlist.
 ghost use Rattle.std.specs.Prelude.{◌≡◌};
-ghost use Rattle.std.specs.Result.{result_map_both};
-ghost use Rattle.mp_words.specs.declared.line_error.LineError.TheVariants.{OutOfMemory};
+ghost use Rattle.mp_text.specs.Names.{result_map_both, OutOfMemory, max_horizon, after_single, Gives, texts, AreAscii};
 ghost use Rattle.mp_text.specs.declared.text_code.TextCode.TheVariants.{Line, Refused};
-ghost use Rattle.mp_netlist.specs.Limits.{max_horizon};
-ghost use Rattle.mp_netlist.specs.Edits.{after_single};
 ghost use Rattle.mp_text.specs.declared.text_state.TextState.TheVariants.{Open};
-ghost use Rattle.mp_words.specs.Reads.{Gives};
-ghost use Rattle.mp_words.specs.Words.{texts, AreAscii};
 ghost use Rattle.mp_text.specs.Statements.{stated_number, stated_edit, Format, Start, Change, statement_of};
 ghost use Rattle.mp_text.specs.Texts.{begun, after_statement, after_line};
 
@@ -87,7 +82,7 @@ fn empty_netlist(alloc: Global, format: TextFormat, horizon: u64) -> Result<Netl
     if horizon < 1 || horizon > format.max_horizon() {
         return Err(TextCode::Line(LineError::BadNumber));
     }
-    match Netlist::empty(alloc, horizon) {
+    match Netlist::empty(alloc, format.netlist(), horizon) {
         Ok(netlist) => Ok(netlist),
         Err(NewError::BadHorizon) => Err(TextCode::Line(LineError::BadNumber)),
         Err(NewError::OutOfMemory) => Err(TextCode::Line(LineError::OutOfMemory)),

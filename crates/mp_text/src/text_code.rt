@@ -1,6 +1,6 @@
 //! What is wrong with a line of a text.
 ghost use Rattle.std.specs.Prelude.{◌≡◌};
-ghost use Rattle.mp_words.specs.declared.line_error.LineError.TheVariants.{OutOfMemory};
+ghost use Rattle.mp_text.specs.Names.{OutOfMemory};
 ghost use Rattle.mp_text.specs.declared.text_code.TextCode.TheVariants.{Line};
 
 use mp_netlist::EditError;

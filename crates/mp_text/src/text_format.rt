@@ -1,19 +1,22 @@
 //! Forms of a netlist's text.
 ghost use Rattle.std.specs.Prelude.{◌≡◌};
-ghost use Rattle.mp_text.specs.Formats.{format_of, max_horizon_of};
+ghost use Rattle.mp_text.specs.Formats.{format_of, max_horizon_of, netlist_format};
 
 use crate::text_code::TextCode;
+use mp_netlist::Format;
 
 /// The longest horizon of a text of the first form.
 pub const MAX_FIRST_HORIZON: u64 = 65_536;
 
-/// The form of a text: how long a horizon it may state.
+/// The form of a text: how long a horizon it may state, and how large its netlist may get.
 #[derive(Clone, Copy, Debug, PartialEq, Eq)]
 pub enum TextFormat {
     /// `format 1`, and a text that states none: at most 65,536 units.
     First,
     /// `format 2`: at most 1,048,576 units.
     Second,
+    /// `format 3`: at most 1,073,741,824 units, and larger netlists.
+    Third,
 }
 
 impl TextFormat {
@@ -25,6 +28,8 @@ impl TextFormat {
             Ok(TextFormat::First)
         } else if number == 2 {
             Ok(TextFormat::Second)
+        } else if number == 3 {
+            Ok(TextFormat::Third)
         } else {
             Err(TextCode::BadFormat)
         }
@@ -36,7 +41,17 @@ impl TextFormat {
     {
         match self {
             TextFormat::First => MAX_FIRST_HORIZON,
-            TextFormat::Second => 1_048_576,
+            TextFormat::Second | TextFormat::Third => self.netlist().max_horizon(),
+        }
+    }
+
+    /// The format of its netlist.
+    pub fn netlist(self) -> Format
+        ensures { result ≡ netlist_format self }
+    {
+        match self {
+            TextFormat::First | TextFormat::Second => Format::Standard,
+            TextFormat::Third => Format::Large,
         }
     }
 }

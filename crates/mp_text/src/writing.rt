@@ -1,25 +1,24 @@
 //! Writing a netlist's text.
 ghost use Rattle.std.specs.Prelude.{◌≡◌, ◌≤◌, ◌++◌, IfOk, OnOk, length};
 ghost use Rattle.std.specs.Io.KnownBytes.{Appends};
-ghost use Rattle.mp_streams.specs.Outgoing.{Writes};
-ghost use Rattle.mp_netlist.specs.Circuit.{IsCircuit};
-ghost use Rattle.mp_text.specs.Limits.{max_text};
+ghost use Rattle.mp_text.specs.Names.{Writes, IsCircuit};
+ghost use Rattle.mp_text.specs.Sizes.{text_limit};
 ghost use Rattle.mp_text.specs.RoundTrips.{IsReadAs};
 ghost use Rattle.mp_text.specs.Written.{format_line, written};
 
 use crate::section::{Section, SectionLines};
 use crate::text_format::MAX_FIRST_HORIZON;
-use mp_netlist::Netlist;
+use mp_netlist::{Format, Netlist};
 use mp_streams::{Failed, Out, Sink, Text, WriteSink};
 use std::alloc::{AllocError, Global};
 
-/// The text of a netlist: `format 2` where its horizon is over 65,536, its horizon, then its wires, modules, stimuli (by wire) and bundles, each
+/// The text of a netlist: `format 3` where that is its format, or `format 2` where its horizon is over 65,536, its horizon, then its wires, modules, stimuli (by wire) and bundles, each
 /// by number and only those that stand, with single spaces, and a line feed after each line. Numbers
-/// have no leading zeros, and every output has its delay. Where the text is not over 4,194,304 bytes,
+/// have no leading zeros, and every output has its delay. Where the text is not longer than its format allows,
 /// it is read as a netlist with the same records, if perhaps under other numbers.
 pub fn write_netlist(alloc: Global, netlist: &Netlist) -> Result<Vec<u8>, AllocError>
     ensures text { IfOk result (λ text. text.items ≡ written netlist.now) }
-    ensures read { IfOk result (λ text. length text.items ≤ max_text → IsReadAs text.items netlist.now) }
+    ensures read { IfOk result (λ text. length text.items ≤ text_limit text.items → IsReadAs text.items netlist.now) }
 {
     written(alloc, netlist)
 }
@@ -51,7 +50,12 @@ pub fn put_netlist<S: Sink>(out: &mut Out<S>, netlist: &Netlist) -> Result<(), F
     ensures { Writes result out.old out.new (written netlist.now) }
 {
     let horizon = netlist.horizon();
-    let head = (format_text(horizon), "horizon ", horizon, "\n");
+    let head = (
+        format_text(netlist.format(), horizon),
+        "horizon ",
+        horizon,
+        "\n",
+    );
     let wires = SectionLines::new(netlist, Section::Wires);
     let modules = SectionLines::new(netlist, Section::Modules);
     let stimuli = SectionLines::new(netlist, Section::Stimuli);
@@ -59,13 +63,13 @@ pub fn put_netlist<S: Sink>(out: &mut Out<S>, netlist: &Netlist) -> Result<(), F
     (head, wires, modules, (stimuli, bundles)).put_to(out)
 }
 
-/// The line of the form, where a netlist of this horizon needs one.
-fn format_text(horizon: u32) -> &'static str
-    ensures { result.now ≡ format_line horizon }
+/// The line of the form, where a netlist of this format and horizon needs one.
+fn format_text(format: Format, horizon: u32) -> &'static str
+    ensures { result.now ≡ format_line format horizon }
 {
-    if u64::from(horizon) > MAX_FIRST_HORIZON {
-        "format 2\n"
-    } else {
-        ""
+    match format {
+        Format::Large => "format 3\n",
+        Format::Standard if u64::from(horizon) > MAX_FIRST_HORIZON => "format 2\n",
+        Format::Standard => "",
     }
 }

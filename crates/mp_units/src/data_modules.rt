@@ -5,6 +5,6 @@ use mp_data::DataModule;
 /// The modules with data. Each place of the simulator has the number of its module among them, where one stands there.
 #[derive(Drop)]
 pub struct DataModules {
-    pub places: Vec<Option<u16>>,
+    pub places: Vec<Option<u32>>,
     pub modules: Vec<DataModule>,
 }

@@ -20,7 +20,7 @@ pub struct DataWires {
     pub wheel: LevelWheel,
     pub present: LevelSlot,
     pub waves: Vec<WaveBuilder>,
-    pub heard: Vec<u16>,
+    pub heard: Vec<u32>,
 }
 
 impl DataWires {
@@ -34,7 +34,7 @@ impl DataWires {
 
     /// The next unit begins: what changes in it is what its slot has, and these changes that are set from outside. Modules hear of these, and
     /// of the copies of wires of width 1 that toggle.
-    pub fn begin_unit(&mut self, late: &[u16], set: &[LevelChange]) -> Result<(), AllocError>
+    pub fn begin_unit(&mut self, late: &[u32], set: &[LevelChange]) -> Result<(), AllocError>
         requires { 0 < length self.old.wheel }
         ensures present { OnOk result (self.new.present ≡ data_slot self.old.wheel 0 ++ set.now) }
         ensures wheel { OnOk result (self.new.wheel ≡ drop 1 self.old.wheel ++ [] ∷ []) }
@@ -51,7 +51,7 @@ impl DataWires {
     }
 
     /// The numbers get the levels that they have in the present unit, where these wires of width 1 and these copies of such toggle.
-    pub fn apply(&mut self, wires: &[u16], late: &[u16], time: u32) -> Result<(), AllocError>
+    pub fn apply(&mut self, wires: &[u32], late: &[u32], time: u32) -> Result<(), AllocError>
         requires wires { All (λ x. x < length self.old.levels.items) wires.now }
         requires late { All (λ x. x < length self.old.levels.items) late.now }
         requires present { All (λ c. c.number < length self.old.levels.items) self.old.present }
@@ -89,7 +89,7 @@ impl DataWires {
 }
 
 /// Lists the numbers of changes.
-fn list_numbers(heard: &mut Vec<u16>, changes: &[LevelChange]) -> Result<(), AllocError>
+fn list_numbers(heard: &mut Vec<u32>, changes: &[LevelChange]) -> Result<(), AllocError>
     ensures { OnOk result (heard.new.items ≡ heard.old.items ++ map number_of_change changes.now) }
 {
     for change in changes {

@@ -24,7 +24,7 @@ impl NetlistSimulation {
     /// Goes through one unit, in which these wires of width 1 toggle and these with data change from outside.
     pub fn pass_unit(
         &mut self,
-        set: &[u16],
+        set: &[u32],
         levels: &[LevelChange],
         time: u32,
     ) -> Result<(), AllocError>

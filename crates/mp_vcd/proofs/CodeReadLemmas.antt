@@ -3,10 +3,11 @@ use Rattle.mp_vcd.proofs.Names.{◌≡◌, ◌≢◌, ℕ, ◌+◌, ◌-◌, ◌
 use Rattle.std.proofs.lemmas.Fmt.{decimal_is_IsNumeral}
 use Rattle.std.proofs.lemmas.Nat.{mod-pow-add}
 use Rattle.mp_records.specs.Names.{is_name}
+use Rattle.mp_netlist.specs.Limits.{max_wires}
 use Rattle.mp_words.proofs.DecimalLemmas.{decimal_digits}
 use Rattle.mp_vcd.specs.Codes.{digits_of, code}
 use Rattle.mp_vcd.specs.Values.{bit, bits}
-use Rattle.mp_vcd.proofs.CodeLemmas.{bits_long, code-one, code_longer, code_some}
+use Rattle.mp_vcd.proofs.CodeLemmas.{bits_long, code_some}
 
 -- ---- words
 
@@ -77,9 +78,6 @@ code_worth w = worth-digits (suc w) w (omega arith)
 pub own_codes : (w v : ℕ) → code w ≡ code v → w ≡ v
 own_codes w v same = sym (code_worth w) ∙ ap worth same ∙ code_worth v
 
-length-code : (w : ℕ) → w < 8836 → length (code w) ≤ 2
-length-code w few = code_longer w 1 (omega arith) (λ _. let low : w / 94 < 94 = omega (arith, few) in omega (arith, ap length (code-one (w / 94) low)))
-
 -- ---- words that end nothing
 
 other_bytes : (xs ys : List ℕ) → xs ≢ ys → bytes_eq xs ys ≡ false
@@ -97,10 +95,11 @@ pub name_not_end : (name : List ℕ) → is_name name ≡ true → bytes_eq name
 unfolding is_name
 name_not_end name valid = other_bytes name (codes "$end") (λ e. let bad : false ≡ true = subst (λ l. is_name l ≡ true) e valid in cc bad)
 
-pub code_not_end : (w : ℕ) → w < 8836 → bytes_eq (code w) (codes "$end") ≡ false
+-- the word is the code of a number that no wire has
+pub code_not_end : (w : ℕ) → w < max_wires → bytes_eq (code w) (codes "$end") ≡ false
 code_not_end w few =
     other_bytes (code w) (codes "$end")
-    (λ e. let long : length (code w) ≡ 4 = ap length e in let short = length-code w few in omega (arith, long, short))
+    (λ e. let number : w ≡ 56335895 = sym (code_worth w) ∙ ap worth e in omega (arith, few, number))
 
 -- ---- numbers
 

@@ -1,5 +1,6 @@
 -- The whole of a dump, read.
 use Rattle.mp_vcd.proofs.Names.{◌≡◌, ℕ, ◌+◌, ◌-◌, ◌<◌, ◌≤◌, inl, inr, true, List, [], ◌∷◌, ◌++◌, append_assoc, append-nil, length, map, Option, None, Some, suc, refl, sym, ap, subst, ◌∙◌, add-zero, zero-add, arith, codes, and_from, le-leb, or_right, flat_map, list_any, range_with_len, WireRecord, Circuit, IsCircuit, wire_at, width_of, slot_at, code}
+use Rattle.mp_netlist.proofs.LimitLemmas.{horizon_within, wires_within}
 use Rattle.std.proofs.Math.Nat.{mod-eq_of_lt}
 use Rattle.mp_netlist.specs.Limits.{max_wires}
 use Rattle.mp_vcd.specs.Dumps.{standing, standing_from, slot_declaration, declaration, value_at, unit_text, time_mark, line, opening_lines, block_start, preamble, dump}
@@ -81,18 +82,18 @@ module _ (n : Circuit) (circuit : IsCircuit n) where
   units = flat_map (unit_text n) (range_with_len 1 (n.horizon - 1))
 
   all_units : Units n all_variables (valued Outside all_variables 0 first_given) units (0 + (n.horizon - 1))
-  all_units = leads_units n all_variables (n.horizon - 1) 0 0 first_given all_readable (omega arith) (omega (arith, circuit.horizon_high)) (knows_first n)
+  all_units = leads_units n all_variables (n.horizon - 1) 0 0 first_given all_readable (omega arith) (omega (arith, horizon_within n circuit)) (knows_first n)
 
   leads_dump : Leads nothing_read (dump n) (valued Outside all_variables n.horizon all_units.given)
   unfolding dump
   leads_dump =
       let vs = all_variables in
-      let end = leads_time vs all_units.time n.horizon all_units.given (omega (arith, all_units.upto, circuit.horizon_low)) (omega (arith, circuit.horizon_high)) in
+      let end = leads_time vs all_units.time n.horizon all_units.given (omega (arith, all_units.upto, circuit.horizon_low)) (omega (arith, horizon_within n circuit)) in
       let changes = leads_both _ _ _ units (time_mark n.horizon) all_units.leads end in
       let levels = leads_both _ _ _ (flat_map (value_at n 0) (standing n)) _ (leads_values Inside n vs 0 (standing n) [] all_readable) (block_ends vs first_given) in
       let block = leads_both _ _ _ block_start _ (block_starts vs) levels in
       let stands : (i : ℕ) (r : WireRecord) → slot_at n.wires i ≡ Some r → wire_at n (0 + i) ≡ Some r = λ i r at. ap (wire_at n) (zero-add i) ∙ at in
-      let declared = leads_both _ _ _ (flat_map (declaration n) (standing n)) _ (leads_declarations n circuit [] 0 n.wires (omega (arith, circuit.wires_few)) stands) block in
+      let declared = leads_both _ _ _ (flat_map (declaration n) (standing n)) _ (leads_declarations n circuit [] 0 n.wires (omega (arith, wires_within n circuit)) stands) block in
       leads_both _ _ _ (preamble n) _ (leads_both _ _ _ opening_lines _ starts declared) changes
 
   says : SaysLevels n (valued Outside all_variables n.horizon all_units.given)

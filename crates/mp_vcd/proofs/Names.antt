@@ -7,18 +7,13 @@ pub use Rattle.std.proofs.lemmas.Bool.Decides.{nat_tests}
 pub use Rattle.std.proofs.lemmas.List.{drop-set, get_or_default, get_or_read_under, map-append, take-set-le, take_more}
 pub use Rattle.std.proofs.lemmas.List.Folds.{flat_map-map, list_all-append}
 pub use Rattle.std.proofs.lemmas.Slice.Eq.{bytes_eq-Decides}
-pub use Rattle.std.specs.Char.{digit_value, is_ascii_digit, is_ascii_whitespace}
-pub use Rattle.std.specs.List.{AllWithin, list_all, list_any, range_with_len}
-pub use Rattle.std.specs.Str.Parse.{AllDigits, digits_value, digits_value_after}
-pub use Rattle.mp_model.specs.Waves.{level, slot_wave, wave}
-pub use Rattle.mp_netlist.specs.Circuit.{Circuit, IsCircuit, width_of, wire_at}
 pub use Rattle.mp_netlist.specs.Slots.{slot_at}
-pub use Rattle.mp_records.specs.declared.wire_record.WireRecord.{WireRecord}
 pub use Rattle.mp_streams.proofs.LeftLemmas.{Left, left_as, left_failed, left_none, left_then, left_whole}
 pub use Rattle.mp_streams.proofs.OutLemmas.{puts_as, puts_ok, puts_sooner, puts_then, puts_unmade, writes_failed}
 pub use Rattle.mp_streams.proofs.PlaceLemmas.{placed_between, placed_both, placed_byte}
 pub use Rattle.mp_streams.specs.Places.{IsPlaced}
 pub use Rattle.mp_streams.specs.declared.write_error.WriteError.TheVariants.{OutOfMemory, WriteFailed}
+pub use Rattle.mp_vcd.specs.Names.{AllDigits, AllWithin, Circuit, IsCircuit, Waveform, WireRecord, between, change_after, changes_after, changes_in, digit_value, digits_value, digits_value_after, earlier_than, is_ascii_digit, is_ascii_whitespace, later_than, level, list_all, list_any, range_with_len, slot_wave, wave, width_of, wire_at}
 pub use Rattle.mp_vcd.specs.Agendas.{IsChain, Tells, entry_at, no_entry, onto, onto_slot, told_at, told_from, told_lines, with_levels, with_told}
 pub use Rattle.mp_vcd.specs.Codes.{code}
 pub use Rattle.mp_vcd.specs.Dumps.{changed, if_stands, is_changed, marked, slot_declaration, standing, standing_from, time_mark, unit_text, value_at}
@@ -27,6 +22,4 @@ pub use Rattle.mp_vcd.specs.Readings.{AmongValues, BehindDigits, BetweenDeclarat
 pub use Rattle.mp_vcd.specs.Values.{bit, bits, value_line}
 pub use Rattle.mp_vcd.specs.declared.agenda.Entry.{Entry}
 pub use Rattle.mp_wave.proofs.PrefixLemmas.{earlier_than-take, later_than-drop, nat_lt-false, nat_lt-true}
-pub use Rattle.mp_wave.specs.WaveChanges.{changes_in}
-pub use Rattle.mp_wave.specs.Waveform.{Waveform, between, change_after, changes_after, earlier_than, later_than}
 pub use Rattle.mp_words.proofs.PlainLemmas.{IsPlain, IsPlain-decimal, IsPlain-name, both, is_plain_byte, list_all-passing}

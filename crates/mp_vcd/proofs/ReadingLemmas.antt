@@ -1,5 +1,6 @@
 -- What the parts of a dump say to a reader.
 use Rattle.mp_vcd.proofs.Names.{◌≤◌, ◌≡◌, ℕ, ◌+◌, ◌%◌, ◌^◌, ◌<◌, ◌==◌, Bool, true, false, cond, nat_lt, List, [], ◌∷◌, ◌++◌, append_assoc, append-nil, length, Some, None, zero, suc, decimal, refl, sym, ap, subst, ◌∙◌, arith, codes, is_ascii_digit, is_ascii_whitespace, list_all, list_any, bytes_eq, digits_value, eqb-true, lt-ltb, nat_tests, WireRecord, both, code, bit, bits, value_line, slot_declaration, time_mark, word_first, words_from, words, is_made_of, is_printed, Variable, Given, Side, Outside, Inside, Reading, BetweenDeclarations, InDeclaration, AmongValues, BehindDigits, at_place, with_time, takes, with_value, word_in, read_words}
+use Rattle.mp_netlist.specs.Limits.{max_wires}
 use Rattle.mp_records.specs.Names.{is_name}
 use Rattle.mp_vcd.proofs.CodeLemmas.{bits_long}
 use Rattle.mp_vcd.proofs.CodeReadLemmas.{IsSolid, IsSolid-decimal, IsSolid-name, IsSolid-code, solid_behind, code_solid, bits_solid, decimal_not_end, name_not_end, code_not_end, decimal_read, bits_read, decimal_made, code_made, bits_made, one_bit}
@@ -72,7 +73,7 @@ var_start vs = record { each = λ rest. refl }
 abbrev pub declared_as : ℕ → WireRecord → Variable
 declared_as w r = record { scopes = codes "top" ∷ []; width = r.width; code = code w; name = r.name }
 
-pub leads_declaration : (vs : List Variable) (w : ℕ) (r : WireRecord) → w < 8836 → r.width < 2 ^ 64 → is_name r.name ≡ true
+pub leads_declaration : (vs : List Variable) (w : ℕ) (r : WireRecord) → w < max_wires → r.width < 2 ^ 64 → is_name r.name ≡ true
     → Leads (declaring vs) (slot_declaration w (Some r)) (declaring (vs ++ declared_as w r ∷ []))
 leads_declaration vs w r few narrow valid =
     let over = var_end vs (decimal r.width) (code w) r.name (decimal_made r.width narrow) (code_made w) in

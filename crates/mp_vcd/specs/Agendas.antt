@@ -1,9 +1,6 @@
 -- The changes of all wires by time.
 use Rattle.std.specs.Prelude.{◌≡◌, ℕ, ◌+◌, ◌-◌, ◌<◌, ◌≤◌, List, [], ◌∷◌, length, map, Option, Some, None, slice_index, slice_index_or, ◌==◌, if◌then◌else◌}
-use Rattle.std.specs.List.{flat_map}
-use Rattle.mp_records.specs.declared.wire_record.WireRecord.{WireRecord}
-use Rattle.mp_netlist.specs.Circuit.{Circuit, wire_at, width_of}
-use Rattle.mp_model.specs.Waves.{level}
+use Rattle.mp_vcd.specs.Names.{flat_map, WireRecord, Circuit, wire_at, width_of, level}
 use Rattle.mp_vcd.specs.Values.{value_line}
 use Rattle.mp_vcd.specs.Dumps.{is_changed, changed}
 use Rattle.mp_vcd.specs.declared.agenda.Entry.{Entry}

@@ -1,10 +1,7 @@
 -- The value change dump of a netlist.
 use Rattle.std.specs.Prelude.{ℕ, ◌+◌, ◌-◌, List, [], ◌∷◌, ◌++◌, Option, Some, None, Bool, not, codes, ◌==◌}
-use Rattle.std.specs.List.{filter, flat_map, range_with_len}
+use Rattle.mp_vcd.specs.Names.{filter, flat_map, range_with_len, WireRecord, Circuit, wire_at, width_of, level}
 use Rattle.std.specs.Fmt.{decimal}
-use Rattle.mp_records.specs.declared.wire_record.WireRecord.{WireRecord}
-use Rattle.mp_netlist.specs.Circuit.{Circuit, wire_at, width_of}
-use Rattle.mp_model.specs.Waves.{level}
 use Rattle.mp_vcd.specs.Codes.{code}
 use Rattle.mp_vcd.specs.Values.{value_line}
 

@@ -1,7 +1,6 @@
 -- What is told of wires before their changes.
 use Rattle.std.specs.Prelude.{ℕ, List, [], Option, Some, None}
-use Rattle.mp_records.specs.declared.wire_record.WireRecord.{WireRecord}
-use Rattle.mp_netlist.specs.Circuit.{Circuit}
+use Rattle.mp_vcd.specs.Names.{WireRecord, Circuit}
 use Rattle.mp_vcd.specs.Dumps.{declaration, value_at}
 use Rattle.mp_vcd.specs.declared.preamble.Part.{Part}
 use Rattle.mp_vcd.specs.declared.preamble.Part.TheVariants.{Declarations, FirstLevels}

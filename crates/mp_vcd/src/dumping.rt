@@ -1,8 +1,7 @@
 //! The dump of a netlist.
 ghost use Rattle.std.specs.Prelude.{◌-◌};
-ghost use Rattle.std.specs.List.{flat_map, range_with_len};
+ghost use Rattle.mp_vcd.specs.Names.{flat_map, range_with_len, AreWavesOf};
 ghost use Rattle.mp_streams.specs.WriteErrors.{Writes};
-ghost use Rattle.mp_model.specs.Waves.{AreWavesOf};
 ghost use Rattle.mp_vcd.specs.Dumps.{unit_text, dump};
 ghost use Rattle.mp_vcd.specs.Laws.{SaysLevels};
 ghost use Rattle.mp_vcd.specs.Readings.{reading};

@@ -1,6 +1,6 @@
 //! The lines of a dump.
 ghost use Rattle.std.specs.Prelude.{Some};
-ghost use Rattle.mp_streams.specs.Outgoing.{Writes};
+ghost use Rattle.mp_vcd.specs.Names.{Writes};
 ghost use Rattle.mp_vcd.specs.Dumps.{slot_declaration, time_mark};
 
 use crate::code::Code;

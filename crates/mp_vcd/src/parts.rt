@@ -1,9 +1,7 @@
 //! The part of a wave between two times.
 ghost use Rattle.std.specs.Prelude.{◌≡◌, ℕ, ◌+◌, ◌-◌, ◌^◌, ◌<◌, ◌≤◌, true, false, take, length, slice_index_or};
-ghost use Rattle.std.specs.List.{AllWithin};
+ghost use Rattle.mp_vcd.specs.Names.{AllWithin, changes_in, between, earlier_than};
 ghost use Rattle.std.specs.List.Sorted.{IsNonDecreasingBy};
-ghost use Rattle.mp_wave.specs.WaveChanges.{changes_in};
-ghost use Rattle.mp_wave.specs.Waveform.{between, earlier_than};
 
 use mp_wave::{Wave, WaveChanges};
 

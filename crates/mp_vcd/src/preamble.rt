@@ -1,8 +1,5 @@
 //! What a dump says before the changes.
-ghost use Rattle.std.specs.List.{flat_map};
-ghost use Rattle.mp_streams.specs.Outgoing.{Writes};
-ghost use Rattle.mp_netlist.specs.Circuit.{wire_at};
-ghost use Rattle.mp_model.specs.Waves.{AreWavesOf};
+ghost use Rattle.mp_vcd.specs.Names.{flat_map, Writes, wire_at, AreWavesOf};
 ghost use Rattle.mp_vcd.specs.Dumps.{standing, preamble};
 ghost use Rattle.mp_vcd.specs.Parts.{part_line, slot_text};
 

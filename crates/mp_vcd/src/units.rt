@@ -1,8 +1,6 @@
 //! The changes of a dump.
 ghost use Rattle.std.specs.Prelude.{◌≡◌, ◌+◌, ◌-◌, ◌<◌, ◌≤◌, map, slice_index, vec_len};
-ghost use Rattle.std.specs.List.{flat_map, range_with_len};
-ghost use Rattle.mp_streams.specs.Outgoing.{Writes};
-ghost use Rattle.mp_netlist.specs.Circuit.{IsCircuit, width_of};
+ghost use Rattle.mp_vcd.specs.Names.{flat_map, range_with_len, Writes, IsCircuit, width_of};
 ghost use Rattle.mp_vcd.specs.Agendas.{Tells, told_from, told_at};
 ghost use Rattle.mp_vcd.specs.Dumps.{unit_text};
 ghost use Rattle.mp_vcd.specs.Values.{value_line};

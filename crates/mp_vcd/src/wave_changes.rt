@@ -1,8 +1,6 @@
 //! The changes of a netlist's waves by time.
 ghost use Rattle.std.specs.Prelude.{◌≡◌, ℕ, ◌+◌, ◌-◌, ◌<◌, ◌≤◌, List, IfOk, OnOk, vec_len};
-ghost use Rattle.mp_netlist.specs.Circuit.{wire_at};
-ghost use Rattle.mp_model.specs.Waves.{AreWavesOf};
-ghost use Rattle.mp_wave.specs.WaveChanges.{changes_in};
+ghost use Rattle.mp_vcd.specs.Names.{wire_at, AreWavesOf, changes_in};
 ghost use Rattle.mp_vcd.specs.Agendas.{Tells, told_from, onto, onto_slot, told_at};
 
 use crate::agenda::Agenda;

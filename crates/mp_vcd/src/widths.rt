@@ -1,6 +1,6 @@
 //! The widths of wires as a list.
 ghost use Rattle.std.specs.Prelude.{◌≡◌, IfOk, map};
-ghost use Rattle.mp_netlist.specs.Circuit.{wire_at, width_of};
+ghost use Rattle.mp_vcd.specs.Names.{wire_at, width_of};
 
 use mp_netlist::{Netlist, WireId};
 use std::alloc::{AllocError, Global};

@@ -74,7 +74,8 @@ impl Same for BundleRecord {
 
 impl Same for Netlist {
     fn same(&self, other: &Self) -> bool {
-        self.horizon() == other.horizon()
+        self.format() == other.format()
+            && self.horizon() == other.horizon()
             && same_wires(self, other)
             && same_modules(self, other)
             && same_bundles(self, other)

@@ -16,5 +16,5 @@ pub use line::{first_line, is_plain, line_words};
 pub use line_error::LineError;
 pub use toggles::Toggles;
 pub use wave_line::{Changes, ShortChanges};
-pub use word::{first_word, name_of, word_count, words};
+pub use word::{first_word, name_of, word_at, word_count, words};
 pub use word_list::{Worded, each_word, number_word, wire_or_none};

@@ -36,6 +36,17 @@ fn first_part(line: &[u8]) -> Option<&[u8]>
         .find(|part| !part.is_empty())
 }
 
+/// The word at a place, where there is one. It takes no memory.
+#[tactic(auto, unfolding(crate::specs::Words::words_of))]
+pub fn word_at(line: &[u8], place: usize) -> Option<&[u8]>
+    ensures { option_copied result ≡ slice_get (words_of line.now) place }
+{
+    before_comment(line)
+        .split(|byte| is_gap(*byte))
+        .filter(|part| !part.is_empty())
+        .nth(place)
+}
+
 /// How many words stand before a comment. It takes no memory.
 #[tactic(auto, unfolding(crate::specs::Words::words_of))]
 pub fn word_count(line: &[u8]) -> usize

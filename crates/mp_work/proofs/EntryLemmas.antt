@@ -2,18 +2,19 @@
 use Rattle.std.proofs.Common.{◌≡◌, ℕ, ◌+◌, ◌<◌, ◌≤◌, refl, ap, sym, subst, ◌∙◌, arith, inl, inr}
 use Rattle.std.proofs.lemmas.Bool.{cases_lt, cases_eq}
 use Rattle.mp_netlist.specs.Circuit.{Circuit, IsCircuit}
+use Rattle.mp_netlist.specs.Limits.{checkpoint_units}
 use Rattle.mp_model.specs.Reach.{IsApart}
 use Rattle.mp_work.specs.Work.{block_of, window_end, IsWindow, Differs, IsAtWork, WorksFrom, IsEntry, WorksOnce, WorksThroughout}
-use Rattle.mp_work.proofs.WindowLemmas.{window_within, windows_apart}
+use Rattle.mp_work.proofs.WindowLemmas.{window_within, windows_apart, blocks_apart}
 
 -- a module that works in a window is at work before each later one of the block
-at_work_later : (old new : Circuit) → IsCircuit new → (m from to later : ℕ) → (entry : IsEntry old new m from to) → to ≤ later → block_of entry.start ≡ block_of later → IsAtWork old new m later
+at_work_later : (old new : Circuit) → IsCircuit new → (m from to later : ℕ) → (entry : IsEntry old new m from to) → to ≤ later → block_of new.horizon entry.start ≡ block_of new.horizon later → IsAtWork old new m later
 at_work_later old new ok m from to later entry over same = by entry.works
   where
-    within : (block_of entry.start ≤ entry.start) × (entry.start < to) × (to ≤ block_of entry.start + 1024)
+    within : (block_of new.horizon entry.start ≤ entry.start) × (entry.start < to) × (to ≤ block_of new.horizon entry.start + checkpoint_units new.horizon)
     within = window_within new ok entry.start to entry.window
 
-    apart : (t : ℕ) → block_of entry.start ≤ t → t < to → IsApart old new m t → IsAtWork old new m later
+    apart : (t : ℕ) → block_of new.horizon entry.start ≤ t → t < to → IsApart old new m t → IsAtWork old new m later
     apart t from_block below is = inr (inr (t, omega (arith, from_block, same), omega (arith, below, over), is))
 
     at_work : IsAtWork old new m entry.start → IsAtWork old new m later
@@ -70,11 +71,12 @@ works_once old new ok m from to after end one other = (apart, together)
 
         by : WorksFrom old new m other.start after end → to ≤ after
         by (inl works) = omega (arith, works.1, over)
-        by (inr joins) = elim (cases_eq (block_of one.start) (block_of other.start)) as (λ _. to ≤ after) [
+        by (inr joins) = elim (cases_eq (block_of new.horizon one.start) (block_of new.horizon other.start)) as (λ _. to ≤ after) [
           | inl same ↦ absurd (joins.0 (at_work_later old new ok m from to other.start one over same))
           | inr differ ↦
               let within = window_within new ok one.start to one.window in
-              omega (arith, joins.2, differ, within.2, within.1, within.0, over)
+              let next = blocks_apart new.horizon one.start other.start (omega (arith, within.1, over)) differ in
+              omega (arith, joins.2, next, within.2)
         ]
 
     together : to ≡ end → from ≡ after

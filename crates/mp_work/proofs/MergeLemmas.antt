@@ -3,6 +3,9 @@ use Rattle.std.proofs.Common.{◌≡◌, ℕ, zero, suc, ◌+◌, ◌-◌, ◌<�
 use Rattle.std.proofs.lemmas.Bool.{ltb-true}
 use Rattle.std.proofs.lemmas.List.Elements.{All-nil, All-cons, All-tail, All-head, All-append}
 use Rattle.std.proofs.lemmas.List.Sums.{sum_by-append, sum_by-cons}
+use Rattle.std.proofs.lemmas.Nat.{mod_below}
+use Rattle.mp_netlist.specs.Limits.{checkpoint_units}
+use Rattle.mp_netlist.proofs.LimitLemmas.{units_positive}
 use Rattle.mp_work.specs.declared.work_entry.WorkEntry.{WorkEntry}
 use Rattle.mp_work.specs.declared.stretch.Stretch.{Stretch}
 use Rattle.mp_work.specs.Merges.{end_of_window, IsStretch, first_entry, rest_of, is_sooner, merged, most_entries, entries_left, takes_waiting, Takes}
@@ -20,7 +23,8 @@ rest_is least horizon s some is = by (nat_lt s.first_end s.last_end) refl
     by true goes_on =
         let before = ltb-true s.first_end s.last_end goes_on in
         let ends = is.ends in
-        let one : IsStretch horizon next = record { begins = omega (arith, before, ends, some); ends = ends } in
+        let rest = mod_below s.first_end (checkpoint_units horizon) (units_positive horizon) in
+        let one : IsStretch horizon next = record { begins = omega (arith, before, ends, some, rest); ends = ends } in
         All-cons (IsStretch horizon) next [] one (All-nil (IsStretch horizon))
     by false ended = All-nil (IsStretch horizon)
 

@@ -2,6 +2,7 @@
 use Rattle.std.proofs.Common.{◌≡◌, ℕ, ◌+◌, ◌<◌, ◌≤◌, List, [], ◌∷◌, length, All, zero, suc, refl, sym, subst, arith, inl, inr}
 use Rattle.std.proofs.lemmas.List.Elements.{All-nil, All-cons}
 use Rattle.mp_netlist.specs.Circuit.{Circuit, IsCircuit}
+use Rattle.mp_netlist.specs.Limits.{checkpoint_units}
 use Rattle.mp_work.specs.declared.work_entry.WorkEntry.{WorkEntry}
 use Rattle.mp_work.specs.declared.stretch.Stretch.{Stretch}
 use Rattle.mp_work.specs.Work.{block_of, IsWindow, WorksFrom, IsEntry}
@@ -90,7 +91,7 @@ module _ (old new : Circuit) (ok : IsCircuit new) (stretches : List Stretch) (ar
       entry : IsEntry old new s.«module».0 s.from s.first_end
       entry = entry_of s.«module».0 s.from s.first_end k within (refl, inl (refl, refl))
 
-      inside : (block_of entry.start ≤ entry.start) × (entry.start < s.first_end) × (s.first_end ≤ block_of entry.start + 1024)
+      inside : (block_of new.horizon entry.start ≤ entry.start) × (entry.start < s.first_end) × (s.first_end ≤ block_of new.horizon entry.start + checkpoint_units new.horizon)
       inside = window_within new ok entry.start s.first_end entry.window
 
       begins : WorksFrom old new s.«module».0 entry.start s.from s.first_end → s.from < s.first_end

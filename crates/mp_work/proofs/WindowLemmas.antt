@@ -1,69 +1,87 @@
 -- Blocks and windows of time.
-use Rattle.std.proofs.Common.{◌≡◌, ℕ, ◌+◌, ◌-◌, ◌*◌, ◌/◌, ◌%◌, ◌<◌, ◌≤◌, refl, ap, ◌∙◌, arith, inl, inr}
+use Rattle.std.proofs.Common.{◌≡◌, ◌≢◌, ℕ, ◌+◌, ◌-◌, ◌%◌, ◌<◌, ◌≤◌, refl, ap, ◌∙◌, arith, inl, inr}
 use Rattle.std.proofs.lemmas.Bool.{cases_lt, cases_eq}
-use Rattle.std.proofs.lemmas.Nat.{div-add-mod', mod_below, mul-le, mod-mul-add}
+use Rattle.std.proofs.lemmas.Nat.{mod_below}
 use Rattle.mp_netlist.specs.Circuit.{Circuit, IsCircuit}
 use Rattle.mp_netlist.specs.Delays.{least_delay}
+use Rattle.mp_netlist.specs.Limits.{checkpoint_units}
 use Rattle.mp_netlist.proofs.DelayLemmas.{delays_are_least}
+use Rattle.mp_netlist.proofs.LimitLemmas.{units_positive}
 use Rattle.mp_work.specs.Work.{block_of, window_of, IsWindow, WindowsCover, WindowsApart}
+use Rattle.mp_work.proofs.MultipleLemmas.{rest_le, whole_rest, rest_above, whole_is, multiples_apart}
 
 -- a window lies in one block
-pub window_within : (n : Circuit) → IsCircuit n → (start to : ℕ) → IsWindow n start to → (block_of start ≤ start) × (start < to) × (to ≤ block_of start + 1024)
+pub window_within : (n : Circuit) → IsCircuit n → (start to : ℕ) → IsWindow n start to → (block_of n.horizon start ≤ start) × (start < to) × (to ≤ block_of n.horizon start + checkpoint_units n.horizon)
 window_within n ok start to window =
     let positive = (delays_are_least n ok).positive in
+    let rest = mod_below start (checkpoint_units n.horizon) (units_positive n.horizon) in
     let ends = window.ends in
     let below = window.below in
-    omega (arith, positive, ends, below)
+    omega (arith, positive, rest, ends, below)
 
-pub same_block : (start to : ℕ) → start < to → to ≤ block_of start + 1024 → block_of (to - 1) ≡ block_of start
-same_block start to less within = omega arith
+-- times of a block
+pub in_block : (horizon start t : ℕ) → block_of horizon start ≤ t → t < block_of horizon start + checkpoint_units horizon → block_of horizon t ≡ block_of horizon start
+in_block horizon start t from below = whole_is (checkpoint_units horizon) (block_of horizon start) t (whole_rest start (checkpoint_units horizon) (units_positive horizon)) from below
 
--- of two multiples the lesser is less by one more
-multiples_apart : (k a b : ℕ) → 0 < k → a % k ≡ 0 → b % k ≡ 0 → a < b → a + k ≤ b
-multiples_apart k a b positive first second less = elim (cases_lt (a / k) (b / k)) as (λ _. a + k ≤ b) [
-  | inl below ↦
-      let c = div-add-mod' a k in
-      let d = div-add-mod' b k in
-      let more = mul-le (a / k + 1) k (b / k) k (omega arith) (omega arith) in
-      omega (arith, c, d, first, second, more)
-  | inr above ↦
-      let c = div-add-mod' a k in
-      let d = div-add-mod' b k in
-      let more = mul-le (b / k) k (a / k) k above (omega arith) in
-      absurd (omega (arith, c, d, first, second, more, less))
-]
+pub same_block : (horizon start to : ℕ) → start < to → to ≤ block_of horizon start + checkpoint_units horizon → block_of horizon (to - 1) ≡ block_of horizon start
+same_block horizon start to less within = in_block horizon start (to - 1) (omega (arith, less)) (omega (arith, less, within))
+
+-- of two blocks the later one begins where the other ends, or after it
+pub blocks_apart : (horizon t later : ℕ) → t ≤ later → block_of horizon t ≢ block_of horizon later → block_of horizon t + checkpoint_units horizon ≤ block_of horizon later
+blocks_apart horizon t later le differ =
+    let units = checkpoint_units horizon in
+    let positive = units_positive horizon in
+    let first = whole_rest t units positive in
+    let second = whole_rest later units positive in
+    elim (cases_lt (block_of horizon t) (block_of horizon later)) as (λ _. block_of horizon t + units ≤ block_of horizon later) [
+      | inl less ↦ multiples_apart units (block_of horizon t) (block_of horizon later) first second less
+      | inr not ↦ elim (cases_lt (block_of horizon later) (block_of horizon t)) as (λ _. block_of horizon t + units ≤ block_of horizon later) [
+        | inl more ↦
+            let apart = multiples_apart units (block_of horizon later) (block_of horizon t) second first more in
+            let rest = mod_below later units positive in
+            absurd (omega (arith, apart, rest, le))
+        | inr last ↦ absurd (differ (omega (arith, not, last)))
+      ]
+    ]
 
 -- the rest of a rest is none where a window begins
-begins_at : (n : Circuit) (start : ℕ) → window_of n start ≡ start → start % 1024 % least_delay n ≡ 0
-begins_at n start begins = omega (arith, rest_le (start % 1024) (least_delay n), rest_le start 1024, begins)
-  where
-    rest_le : (a k : ℕ) → a % k ≤ a
-    rest_le a k = let e = div-add-mod' a k in omega (arith, e)
+begins_at : (n : Circuit) (start : ℕ) → window_of n start ≡ start → start % checkpoint_units n.horizon % least_delay n ≡ 0
+begins_at n start begins =
+    let rest = rest_le (start % checkpoint_units n.horizon) (least_delay n) in
+    let low = rest_le start (checkpoint_units n.horizon) in
+    omega (arith, rest, low, begins)
 
 -- a window that begins later begins at the end of the one before, or later
 pub windows_apart : WindowsApart
-windows_apart n ok start to later end first second less = elim (cases_eq (block_of start) (block_of later)) as (λ _. to ≤ later) [
+windows_apart n ok start to later end first second less = elim (cases_eq (block_of n.horizon start) (block_of n.horizon later)) as (λ _. to ≤ later) [
   | inl one ↦
-      let positive = (delays_are_least n ok).positive in
-      let apart = multiples_apart (least_delay n) (start % 1024) (later % 1024) positive (begins_at n start first.begins) (begins_at n later second.begins) (omega (arith, one, less)) in
+      let units = checkpoint_units n.horizon in
+      let low = rest_le start units in
+      let high = rest_le later units in
+      let apart = multiples_apart (least_delay n) (start % units) (later % units) (begins_at n start first.begins) (begins_at n later second.begins) (omega (arith, one, less, low, high)) in
       let ends = first.ends in
-      omega (arith, one, apart, ends)
+      omega (arith, one, apart, ends, low, high)
   | inr other ↦
       let within = window_within n ok start to first in
-      omega (arith, other, within.2, less)
+      let apart = blocks_apart n.horizon start later (omega (arith, less)) other in
+      omega (arith, within.2, apart)
 ]
 
 pub window_cover : WindowsCover
 window_cover n ok t below =
     let positive = (delays_are_least n ok).positive in
+    let units = checkpoint_units n.horizon in
+    let some = units_positive n.horizon in
     let k = least_delay n in
-    let r = t % 1024 in
-    let whole = div-add-mod' r k in
+    let r = t % units in
+    let low = rest_le t units in
+    let high = mod_below t units some in
+    let small = rest_le r k in
     let rest = mod_below r k positive in
-    let even : (r - r % k) % k ≡ 0 = ap (λ x. x % k) (let e : r - r % k ≡ r / k * k + 0 = omega (arith, whole) in e) ∙ mod-mul-add (r / k) k 0 positive in
-    let inner : window_of n t % 1024 ≡ r - r % k = omega (arith, whole) in
-    let first : window_of n t % 1024 % k ≡ 0 = ap (λ x. x % k) inner ∙ even in (
-      record { below = omega arith; begins = omega (arith, first); ends = refl },
+    let above : window_of n t % units ≡ window_of n t - (t - r) = rest_above units (t - r) (window_of n t) (whole_rest t units some) (omega (arith, small)) (omega (arith, low, high)) in
+    let inner : window_of n t % units ≡ r - r % k = omega (arith, above, low, small) in
+    let first : window_of n t % units % k ≡ 0 = ap (λ x. x % k) inner ∙ whole_rest r k positive in (
+      record { below = omega (arith, below); begins = omega (arith, first); ends = refl },
       omega arith,
-      omega (arith, rest, inner, whole, positive, below),
+      omega (arith, rest, inner, low, high, small, below),
     )

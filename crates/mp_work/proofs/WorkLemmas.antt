@@ -5,6 +5,7 @@ use Rattle.mp_records.specs.Outputs.{delay_of}
 use Rattle.mp_records.specs.declared.ids.ModuleId.{ModuleId}
 use Rattle.mp_records.specs.declared.module_record.ModuleRecord.{ModuleRecord}
 use Rattle.mp_netlist.specs.Circuit.{Circuit, IsCircuit, module_at}
+use Rattle.mp_netlist.specs.Limits.{checkpoint_units}
 use Rattle.mp_model.specs.Waves.{state}
 use Rattle.mp_model.specs.Reach.{IsApart, IsReached}
 use Rattle.mp_work.specs.Revisions.{IsRevision, IsKept, AgreeBefore}
@@ -25,13 +26,13 @@ apart_before old new old_ok new_ok revised m c differs =
 pub only_reached : WorksOnlyReached
 only_reached old new old_ok new_ok revised m from to entry = by entry.works
   where
-    within : (block_of entry.start ≤ entry.start) × (entry.start < to) × (to ≤ block_of entry.start + 1024)
+    within : (block_of new.horizon entry.start ≤ entry.start) × (entry.start < to) × (to ≤ block_of new.horizon entry.start + checkpoint_units new.horizon)
     within = window_within new new_ok entry.start to entry.window
 
     at_work : IsAtWork old new m entry.start → IsReached old new m to
     at_work (inl touched) = inl touched
     at_work (inr (inl differs)) =
-        let found = apart_before old new old_ok new_ok revised m (block_of entry.start) differs in
+        let found = apart_before old new old_ok new_ok revised m (block_of new.horizon entry.start) differs in
         inr (found.0, omega (arith, found.2, within.0, within.1), found.3)
     at_work (inr (inr found)) = inr (found.0, omega (arith, found.2, within.1), found.3)
 
@@ -41,35 +42,35 @@ only_reached old new old_ok new_ok revised m from to entry = by entry.works
 
 pub rejoins : WorksWhileDifferent
 rejoins old new new_ok m from to r kept entry =
-    subst (λ c. Differs old new m c ⊎ IsApartIn old new m c to) (sym (same_block entry.start to within.1 within.2)) (by entry.works)
+    subst (λ c. Differs old new m c ⊎ IsApartIn old new m c to) (sym (same_block new.horizon entry.start to within.1 within.2)) (by entry.works)
   where
-    within : (block_of entry.start ≤ entry.start) × (entry.start < to) × (to ≤ block_of entry.start + 1024)
+    within : (block_of new.horizon entry.start ≤ entry.start) × (entry.start < to) × (to ≤ block_of new.horizon entry.start + checkpoint_units new.horizon)
     within = window_within new new_ok entry.start to entry.window
 
-    at_work : IsAtWork old new m entry.start → Differs old new m (block_of entry.start) ⊎ IsApartIn old new m (block_of entry.start) to
+    at_work : IsAtWork old new m entry.start → Differs old new m (block_of new.horizon entry.start) ⊎ IsApartIn old new m (block_of new.horizon entry.start) to
     at_work (inl touched) = absurd (touched.differ (kept.before ∙ sym kept.after))
     at_work (inr (inl differs)) = inl differs
     at_work (inr (inr found)) = inr (found.0, found.1, omega (arith, found.2, within.1), found.3)
 
-    by : WorksFrom old new m entry.start from to → Differs old new m (block_of entry.start) ⊎ IsApartIn old new m (block_of entry.start) to
+    by : WorksFrom old new m entry.start from to → Differs old new m (block_of new.horizon entry.start) ⊎ IsApartIn old new m (block_of new.horizon entry.start) to
     by (inl works) = at_work works.0
     by (inr joins) = inr (joins.1.0, omega (arith, joins.1.1, within.0), joins.1.2, joins.1.3)
 
 pub agrees_outside : AgreesOutside
 agrees_outside old new old_ok new_ok revised m r kept start to window none =
-    states_stay old new old_ok new_ok revised m r kept (block_of start) to before together
+    states_stay old new old_ok new_ok revised m r kept (block_of new.horizon start) to before together
   where
     idle : IsAtWork old new m start → ⊥
     idle work = none start (record { start = start; window = window; works = inl (work, refl) })
 
-    before : AgreeBefore old new m (block_of start)
+    before : AgreeBefore old new m (block_of new.horizon start)
     before u e = same (state old m u) (state new m u) (same_memories (state old m u) (state new m u))
         (λ differ. idle (inr (inl (record { part = r; kept = kept; last = u; before = e; differ = differ }))))
 
-    together : (t : ℕ) → block_of start ≤ t → t < to → IsApart old new m t → ⊥
+    together : (t : ℕ) → block_of new.horizon start ≤ t → t < to → IsApart old new m t → ⊥
     together t from below apart = elim (cases_lt t start) as (λ _. ⊥) [
       | inl earlier ↦ idle (inr (inr (t, from, earlier, apart)))
-      | inr later ↦ none (block_of start) (record { start = start; window = window; works = inr (idle, (t, later, below, apart), refl) })
+      | inr later ↦ none (block_of new.horizon start) (record { start = start; window = window; works = inr (idle, (t, later, below, apart), refl) })
     ]
 
 pub levels_agree_outside : LevelsAgreeOutside

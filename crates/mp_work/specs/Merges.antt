@@ -1,11 +1,12 @@
 -- The entries of stretches of time, in order.
 use Rattle.std.specs.Prelude.{◌≡◌, ◌⊎◌, ℕ, zero, suc, ◌+◌, ◌-◌, ◌%◌, ◌<◌, ◌≤◌, Bool, true, false, List, [], ◌∷◌, ◌++◌, nat_lt, ◌==◌, ◌&&◌, ◌||◌, if◌then◌else◌, min, sum_by}
+use Rattle.mp_netlist.specs.Limits.{checkpoint_units}
 use Rattle.mp_work.specs.declared.work_entry.WorkEntry.{WorkEntry}
 use Rattle.mp_work.specs.declared.stretch.Stretch.{Stretch}
 
 -- where the window ends that begins at a time, for a least delay and a horizon
 abbrev pub end_of_window : ℕ → ℕ → ℕ → ℕ
-end_of_window least horizon t = min (t + least) (min (t - t % 1024 + 1024) horizon)
+end_of_window least horizon t = min (t + least) (min (t - t % checkpoint_units horizon + checkpoint_units horizon) horizon)
 
 -- a stretch has some time before its first end, and ends by the horizon
 pub record IsStretch (horizon : ℕ) (s : Stretch) : Type 0 where

@@ -8,22 +8,23 @@ use Rattle.mp_netlist.specs.declared.driver.Driver.TheVariants.{Port}
 use Rattle.mp_netlist.specs.Circuit.{Circuit, IsCircuit, module_at}
 use Rattle.mp_netlist.specs.Drivers.{driver}
 use Rattle.mp_netlist.specs.Delays.{least_delay}
+use Rattle.mp_netlist.specs.Limits.{checkpoint_units}
 use Rattle.mp_model.specs.Waves.{level, state}
 use Rattle.mp_model.specs.Reach.{IsApart, IsTouched, IsReached}
 use Rattle.mp_work.specs.declared.work_entry.WorkEntry.{WorkEntry}
 use Rattle.mp_work.specs.Revisions.{IsRevision, IsKept, IsDrivenAlike}
 
--- a block begins at each multiple of 1,024, where states are kept
-abbrev pub block_of : ℕ → ℕ
-block_of t = t - t % 1024
+-- in a run up to a horizon a block begins wherever states are kept
+abbrev pub block_of : ℕ → ℕ → ℕ
+block_of horizon t = t - t % checkpoint_units horizon
 
 -- from a block's begin on, a window begins after each least delay
 abbrev pub window_of : Circuit → ℕ → ℕ
-window_of n t = t - t % 1024 % least_delay n
+window_of n t = t - t % checkpoint_units n.horizon % least_delay n
 
 -- a window ends where the next one begins, with its block, or at the horizon
 abbrev pub window_end : Circuit → ℕ → ℕ
-window_end n from = min (from + least_delay n) (min (block_of from + 1024) n.horizon)
+window_end n from = min (from + least_delay n) (min (block_of n.horizon from + checkpoint_units n.horizon) n.horizon)
 
 pub record IsWindow (n : Circuit) (from to : ℕ) : Type 0 where
   pub below : from < n.horizon
@@ -44,12 +45,12 @@ IsApartIn old new m a b = (t : ℕ) × (a ≤ t) × (t < b) × IsApart old new m
 
 -- the module is at work before a time: it is touched, its states differ before the time's block, or it is apart in the block before the time
 abbrev pub IsAtWork : Circuit → Circuit → ℕ → ℕ → Type 0
-IsAtWork old new m t = IsTouched old new m ⊎ Differs old new m (block_of t) ⊎ IsApartIn old new m (block_of t) t
+IsAtWork old new m t = IsTouched old new m ⊎ Differs old new m (block_of new.horizon t) ⊎ IsApartIn old new m (block_of new.horizon t) t
 
 -- a module that is at work before a window works in the window, and one that is first apart in it works from the block's begin on
 abbrev pub WorksFrom : Circuit → Circuit → ℕ → ℕ → ℕ → ℕ → Type 0
 WorksFrom old new m start from to =
-    (IsAtWork old new m start × (from ≡ start)) ⊎ ((IsAtWork old new m start → ⊥) × IsApartIn old new m start to × (from ≡ block_of start))
+    (IsAtWork old new m start × (from ≡ start)) ⊎ ((IsAtWork old new m start → ⊥) × IsApartIn old new m start to × (from ≡ block_of new.horizon start))
 
 -- the module works from one time to before another, which is the end of a window
 pub record IsEntry (old new : Circuit) (m from to : ℕ) : Type 0 where
@@ -78,13 +79,13 @@ WorksOnlyReached = (old new : Circuit) → IsCircuit old → IsCircuit new → I
 -- a module that isn't touched works up to a time only where its states differ before the last block, or it is apart in this block
 abbrev pub WorksWhileDifferent : Type 0
 WorksWhileDifferent = (old new : Circuit) → IsCircuit new → (m from to : ℕ) (r : ModuleRecord) → IsKept old new m r → IsEntry old new m from to →
-    Differs old new m (block_of (to - 1)) ⊎ IsApartIn old new m (block_of (to - 1)) to
+    Differs old new m (block_of new.horizon (to - 1)) ⊎ IsApartIn old new m (block_of new.horizon (to - 1)) to
 
 -- where a module that isn't touched doesn't work in a window, its states agree from the block's begin to the window's end
 abbrev pub AgreesOutside : Type 0
 AgreesOutside = (old new : Circuit) → IsCircuit old → IsCircuit new → IsRevision old new → (m : ℕ) (r : ModuleRecord) → IsKept old new m r →
     (start to : ℕ) → IsWindow new start to → ((from : ℕ) → IsEntry old new m from to → ⊥) →
-    (t : ℕ) → block_of start ≤ t → t < to → state old m t ≡ state new m t
+    (t : ℕ) → block_of new.horizon start ≤ t → t < to → state old m t ≡ state new m t
 
 -- of two entries of a module the one that ends earlier ends before the other begins, and two that end together are one
 abbrev pub WorksOnce : Type 0
@@ -110,4 +111,4 @@ abbrev pub LevelsAgreeOutside : Type 0
 LevelsAgreeOutside = (old new : Circuit) → IsCircuit old → IsCircuit new → IsRevision old new → (w : ℕ) → IsDrivenAlike old new w →
     (m : ModuleId) (p : ℕ) (r : ModuleRecord) → driver new w ≡ Port m p → module_at new m.0 ≡ Some r →
     (start to : ℕ) → IsWindow new start to → ((from : ℕ) → IsEntry old new m.0 from to → ⊥) →
-    (t : ℕ) → block_of start + delay_of r p ≤ t → t < to + delay_of r p → level old w t ≡ level new w t
+    (t : ℕ) → block_of new.horizon start + delay_of r p ≤ t → t < to + delay_of r p → level old w t ≡ level new w t

@@ -9,5 +9,5 @@ mod work_entry;
 
 pub use stretch::Stretch;
 pub use work::Work;
-pub use work_entries::{WorkEntries, window_end};
+pub use work_entries::{WorkEntries, block_of, window_end};
 pub use work_entry::WorkEntry;

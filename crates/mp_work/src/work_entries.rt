@@ -2,9 +2,11 @@
 ghost use Rattle.std.specs.Prelude.{◌≡◌, ◌+◌, ◌<◌, ◌≤◌, [], ◌++◌, All, IfSome, IfNone, IfOk};
 ghost use Rattle.std.specs.VecDeque.{deque_len, deque_capacity};
 ghost use Rattle.mp_work.specs.Merges.{IsStretch, end_of_window, rest_of, is_sooner, entries_left, Takes};
+ghost use Rattle.mp_work.specs.Work.{block_of};
 
 use crate::stretch::Stretch;
 use crate::work_entry::WorkEntry;
+use mp_netlist::checkpoint_units;
 use std::alloc::{AllocError, Global};
 use std::collections::VecDeque;
 use std::marker::Model;
@@ -98,8 +100,15 @@ pub fn window_end(least: u32, horizon: u32, from: u32) -> u32
     ensures { result ≡ end_of_window least horizon from }
 {
     let (start, wide) = (u64::from(from), u64::from(least));
-    let block_end = start - start % 1024 + 1024;
+    let block_end = u64::from(block_of(horizon, from)) + u64::from(checkpoint_units(horizon));
     (start + wide).min(block_end).min(u64::from(horizon)) as u32
+}
+
+/// Where the block of a time begins, in a run up to a horizon.
+pub fn block_of(horizon: u32, time: u32) -> u32
+    ensures { result ≡ block_of horizon time }
+{
+    time - time % checkpoint_units(horizon)
 }
 
 /// Takes the stretch whose first entry comes before that of the others: the first of those that have begun, or of those that wait.

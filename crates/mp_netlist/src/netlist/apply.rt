@@ -5,7 +5,7 @@ use crate::record_changes::{
 };
 use mp_records::{
     Boxed, BundleRecord, Changes, Edit, EditError, ModuleRecord, Name, NewBundle, NewModule,
-    SingleEdit, WireRecord,
+    SingleEdit, WireId, WireRecord,
 };
 use std::alloc::AllocError;
 
@@ -106,6 +106,8 @@ impl Netlist {
         ensures ok { OnOk result (self.new ≡ with_wire_record self.old added) }
         ensures err { OnErr result (self.new ≡ self.old) }
     {
+        let number = self.wires.len() as u32;
+        self.modules.add_mark(WireId(number))?;
         self.wires.push(added)
     }
 

@@ -9,9 +9,7 @@ ghost use Rattle.mp_netlist.specs.Drivers.{is_free_for};
 ghost use Rattle.mp_netlist.specs.Edits.{first_failing, batch_checks, delays_fit, is_input_delay, is_delay};
 
 use crate::driver::Driver;
-use crate::netlist::{
-    MAX_BATCH, MAX_BUNDLES, MAX_DELAY, MAX_MODULES, MAX_SETUP, MAX_WIRES, Netlist,
-};
+use crate::netlist::{MAX_BATCH, MAX_DELAY, MAX_SETUP, Netlist};
 use mp_modules::{Kind, fits_width};
 use mp_records::{
     Batch, Boxed, Changes, Edit, EditError, InputNames, ModuleId, Name, NewBundle, NewModule,
@@ -84,7 +82,7 @@ impl Netlist {
         if !fits_width(level, width) {
             return Err(EditError::BadLevel);
         }
-        if self.wires.len() >= MAX_WIRES {
+        if self.wires.len() >= self.format.max_wires() {
             return Err(EditError::TableFull);
         }
         Ok(())
@@ -130,7 +128,7 @@ impl Netlist {
         if !self.outputs_are_free(&new.outputs) {
             return Err(EditError::AlreadyDriven);
         }
-        if self.modules.len() >= MAX_MODULES {
+        if self.modules.len() >= self.format.max_modules() {
             return Err(EditError::TableFull);
         }
         Ok(())
@@ -166,7 +164,7 @@ impl Netlist {
         if new.setup > MAX_SETUP {
             return Err(EditError::BadParam);
         }
-        if self.bundles.len() >= MAX_BUNDLES {
+        if self.bundles.len() >= self.format.max_bundles() {
             return Err(EditError::TableFull);
         }
         Ok(())

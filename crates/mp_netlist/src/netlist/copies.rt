@@ -10,6 +10,7 @@ impl Netlist {
         ensures { IfOk result (λ netlist. netlist ≡ self.now) }
     {
         Ok(Netlist {
+            format: self.format,
             horizon: self.horizon,
             wires: self.wires.copy()?,
             modules: self.modules.copy()?,

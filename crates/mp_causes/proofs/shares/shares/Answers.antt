@@ -1,4 +1,5 @@
 use Rattle.std.proofs.Common.{◌≡◌, ◌<◌, Some, List, option_map, length, slice_index_or, sym, ap, ◌∙◌, subst, arith}
+use Rattle.mp_netlist.proofs.LimitLemmas.{horizon_within}
 use Rattle.mp_causes.specs.declared.levels.Levels.{Levels}
 use Rattle.mp_causes.specs.declared.wire_change.WireChange.{WireChange}
 use Rattle.mp_causes.specs.Causes.{cause_of, cause_seen, followed, port_of, port_seen}
@@ -29,7 +30,7 @@ note-requires c =
     record {
       room = λ m d low here.
           step_room n c.requires.form change c.loop-next.next c.followed-next.result (option_map port_seen c.port.result) c.time_of.result c.in-Some.is from next (c.port.ensures ∙ ap port_of known) c.time_of.ensures
-          c.args.last m (slice_index_or c.loop-next.shares.items m d) c.requires.from (omega (arith, c.requires.within, c.requires.form.horizon_high)) here
+          c.args.last m (slice_index_or c.loop-next.shares.items m d) c.requires.from (omega (arith, c.requires.within, horizon_within _ c.requires.form)) here
           (c.loop-next.invariant.each m d (omega (arith, low, c.loop-next.invariant.places)));
     }
 

@@ -1,5 +1,6 @@
-use Rattle.std.proofs.Common.{refl, arith}
+use Rattle.std.proofs.Common.{◌<◌, ◌≤◌, length, refl, rules}
 use Rattle.std.proofs.lemmas.Result.{err_from_is_err_and}
+use Rattle.mp_text.specs.Sizes.{text_limit}
 use Rattle.mp_command_runs.proofs.InputLemmas.{short_input, long_input, unread_as}
 use Rattle.mp_command_runs.proofs.input.read_input.Goals as goal
 
@@ -8,9 +9,12 @@ returns-in_err-input-clause-refused g c =
     let p = err_from_is_err_and c.from_residual.result c.from_residual.ensures.1 in
     rw (p.1, p.2) (unread_as (g.S.Source.left c.args.source.now) c.in_err-input.field-0.0)
 
-pub returns-then-len-gt-MAX_INPUT-clause-refused : goal.returns-then-len-gt-MAX_INPUT-clause-refused
-returns-then-len-gt-MAX_INPUT-clause-refused g c =
-    (refl, long_input (g.S.Source.left c.args.source.now) c.in_ok-input.input.items c.in_ok-input.ensures.front (omega arith) c.in_ok-input.ensures.limit)
+pub returns-then-len-limit-clause-refused : goal.returns-then-len-limit-clause-refused
+returns-then-len-limit-clause-refused g c =
+    let long : text_limit c.in_ok-input.input.items < length c.in_ok-input.input.items = search rules in
+    (refl, long_input (g.S.Source.left c.args.source.now) c.in_ok-input.input.items c.in_ok-input.ensures.front long c.in_ok-input.ensures.within)
 
 pub returns-clause-input : goal.returns-clause-input
-returns-clause-input g c = short_input (g.S.Source.left c.args.source.now) c.in_ok-input.input.items c.in_ok-input.ensures.front (omega arith)
+returns-clause-input g c =
+    let short : length c.in_ok-input.input.items ≤ text_limit c.in_ok-input.input.items = search rules in
+    short_input (g.S.Source.left c.args.source.now) c.in_ok-input.input.items c.in_ok-input.ensures.front short

@@ -1,26 +1,26 @@
-use Rattle.std.proofs.Common.{◌≡◌, is_some, true, false, Ok, sym, ap, ◌∙◌, rules}
+use Rattle.std.proofs.Common.{◌≡◌, is_some, true, false, Ok, ap, ◌∙◌, rules}
 use Rattle.std.proofs.lemmas.Result.{err_from_is_err_and}
 use Rattle.mp_text.specs.declared.text_state.TextState.TheVariants.{Fresh}
 use Rattle.mp_text.specs.Texts.{after_lines}
 use Rattle.mp_words.specs.Lines.{lines_of}
 use Rattle.mp_command_runs.specs.Openings.{counted_netlist}
-use Rattle.mp_command_runs.proofs.RunLemmas.{refused_text, text_at-short}
+use Rattle.mp_command_runs.proofs.RunLemmas.{refused_text}
 use Rattle.mp_command_runs.proofs.opening.opened.Goals as goal
 
 pub returns-in_err-netlist-clause-refused : goal.returns-in_err-netlist-clause-refused
 returns-in_err-netlist-clause-refused g c =
-    let read = rw (text_at-short c.args.text.now c.requires) at c.in_err-netlist.ensures.read in
+    let read = c.in_err-netlist.ensures.read in
     let p = err_from_is_err_and c.from_residual.result c.from_residual.ensures.1 in
     rw (p.1, p.2) (refused_text (after_lines 0 Fresh (lines_of c.args.text.now)) (is_some c.args.crew) c.in_err-netlist.field-0.0 read)
 
 pub returns-in-Some-clause-netlist : goal.returns-in-Some-clause-netlist
 returns-in-Some-clause-netlist g c =
-    let read = sym (text_at-short c.args.text.now c.requires) ∙ c.in_ok-netlist.ensures.read in
+    let read = c.in_ok-netlist.ensures.read in
     let some : is_some c.args.crew ≡ true = search rules in
     ap (λ r. counted_netlist r (is_some c.args.crew)) read ∙ ap (λ valid. counted_netlist (Ok c.in_ok-netlist.netlist) valid) some
 
 pub returns-in-None-clause-refused : goal.returns-in-None-clause-refused
 returns-in-None-clause-refused g c =
-    let read = sym (text_at-short c.args.text.now c.requires) ∙ c.in_ok-netlist.ensures.read in
+    let read = c.in_ok-netlist.ensures.read in
     let none : is_some c.args.crew ≡ false = search rules in
     ap (λ r. counted_netlist r (is_some c.args.crew)) read ∙ ap (λ valid. counted_netlist (Ok c.in_ok-netlist.netlist) valid) none

@@ -3,6 +3,7 @@ use Rattle.std.proofs.lemmas.List.{get_or_default}
 use Rattle.mp_modules.specs.Memories.{output_of}
 use Rattle.mp_records.specs.declared.ports.Output.{Output}
 use Rattle.mp_netlist.specs.Slots.{slot_at}
+use Rattle.mp_netlist.proofs.LimitLemmas.{horizon_within}
 use Rattle.mp_records.specs.Outputs.{output_at, delay_of}
 use Rattle.mp_model.specs.Tracks.{Progress}
 use Rattle.mp_model.specs.Evaluations.{AreTracks, IsOpenAt, delivered, with_expected}
@@ -27,7 +28,7 @@ overflow_add-later c =
     let found = c.requires.form.modules_ok c.args.id.0 c.args.found.now c.requires.found in
     let delay = found.delays c.loop-p.p unread (rw (← c.as_slice-output-items.ensures) c.loop-p-test.true) in
     let same : (get_or items c.loop-p.p unread).delay ≡ (get_or c.args.found.now.outputs c.loop-p.p unread).delay = ap (λ xs. (get_or xs c.loop-p.p unread).delay) c.as_slice-output-items.ensures in
-    omega (arith, delay.1, same, c.requires.time, c.requires.form.horizon_high)
+    omega (arith, delay.1, same, c.requires.time, horizon_within _ c.requires.form)
 
 pub expect-requires-clause-free : goal.expect-requires-clause-free
 expect-requires-clause-free c =

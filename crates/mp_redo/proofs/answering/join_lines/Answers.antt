@@ -1,4 +1,5 @@
 use Rattle.std.proofs.Common.{◌≡◌, ◌+◌, ◌^◌, ◌<◌, ◌≤◌, Some, length, sym, subst, ap, ◌∙◌, arith}
+use Rattle.mp_netlist.proofs.LimitLemmas.{horizon_within}
 use Rattle.mp_records.specs.Outputs.{output_in}
 use Rattle.mp_redo.specs.Answers.{CanGive, HasOpenedTo, AreApart}
 use Rattle.mp_redo.specs.Telling.{AreWoken}
@@ -31,7 +32,7 @@ open_all-requires-clause-late c = λ p low.
 pub open_all-requires-clause-low : goal.open_all-requires-clause-low
 open_all-requires-clause-low c = λ p low.
     let short = (delay_ok c.args.found.now.outputs p c.requires.part.delays (subst (λ os. p < length os) c.as_slice-outputs.ensures low)).1 in
-    let high = c.requires.form.horizon_high in
+    let high = horizon_within _ c.requires.form in
     let span = c.requires.span in
     let within = c.requires.within in
     subst (λ os. c.args.from + (output_in os p).delay < 2 ^ 32) (sym c.as_slice-outputs.ensures) (omega (arith, short, high, span, within))

@@ -2,6 +2,7 @@ use Rattle.std.proofs.Common.{◌≡◌, ◌+◌, ◌^◌, ◌<◌, Some, length
 use Rattle.std.specs.List.{Contains}
 use Rattle.mp_records.specs.Outputs.{output_in}
 use Rattle.mp_netlist.specs.Circuit.{IsModule}
+use Rattle.mp_netlist.proofs.LimitLemmas.{horizon_within}
 use Rattle.mp_model.proofs.SlotLemmas.{some_within}
 use Rattle.mp_redo.specs.Answers.{AreApart}
 use Rattle.mp_redo.specs.Closing.{HasClosed}
@@ -31,7 +32,7 @@ close_all-requires-clause-low c = λ p within.
     let r = c.args.found.now in
     let part : IsModule c.args.netlist.now r = c.requires.form.modules_ok c.args.id.0 r c.requires.stands in
     let short = (delay_ok r.outputs p part.delays (subst (λ os. p < length os) c.as_slice-outputs.ensures within)).1 in
-    let high = c.requires.form.horizon_high in
+    let high = horizon_within _ c.requires.form in
     let below = c.requires.below in
     subst (λ os. c.args.time + (output_in os p).delay < 2 ^ 32) (sym c.as_slice-outputs.ensures) (omega (arith, short, high, below))
 

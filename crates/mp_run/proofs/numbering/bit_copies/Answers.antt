@@ -14,8 +14,7 @@ loop-x-preserved c =
     copies_more (is_bit n) c.args.wires.now next c.loop-x.x c.loop-x.copies.items c.push.new.self.items c.kept_if.result
     (c.kept_if.ensures
     ∙ ap (λ (p : OutputPort). cond (not c.has_data-is_bit.result) p no_port) (get_or_default next c.loop-x.x _ no_port within)
-    ∙ ap (λ b. cond (not b) (copy_at next c.loop-x.x) no_port) c.has_data-is_bit.ensures
-    ∙ ap (λ w. cond (is_bit n w) (copy_at next c.loop-x.x) no_port) c.from.ensures)
+    ∙ ap (λ b. cond (not b) (copy_at next c.loop-x.x) no_port) c.has_data-is_bit.ensures)
     c.loop-x.invariant c.in_ok-push.ensures.items
 
 pub returns : goal.returns

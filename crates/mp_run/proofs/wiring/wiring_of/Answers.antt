@@ -1,4 +1,5 @@
 use Rattle.std.proofs.Common.{◌<◌, length, subst, arith}
+use Rattle.mp_netlist.proofs.LimitLemmas.{modules_within, wires_within}
 use Rattle.mp_run.specs.Wirings.{AreUnread}
 use Rattle.mp_run.proofs.WiringLemmas.{inputs_none, inputs_next}
 use Rattle.mp_run.proofs.wiring.wiring_of.Goals as goal
@@ -19,8 +20,8 @@ add_slot-requires-clause-rows c = c.loop-m.invariant.wired.rows
 pub add_slot-requires-clause-numbers : goal.add_slot-requires-clause-numbers
 add_slot-requires-clause-numbers c =
     let few = c.loop-m.invariant.wired.few in
-    let wires = c.requires.wires_few in
-    let modules = c.requires.modules_few in
+    let wires = wires_within _ c.requires in
+    let modules = modules_within _ c.requires in
     omega arith
 
 pub loop-m-preserved : goal.loop-m-preserved

@@ -1,41 +1,18 @@
-use Rattle.mp_text.proofs.Names.{◌≡◌, ◌<◌, length, Ok, Err, sym, ◌∙◌, inl, inr, rules, arith, text_at, rest_falls}
-use Rattle.mp_text.proofs.TextLemmas.{text_within, text_over, lines_next, lines_end, lines_counted, line_reached, gives_same, finished_reached}
+use Rattle.mp_text.proofs.Names.{◌≤◌, length, subst, sym, inr, rules, arith, IfErr}
+use Rattle.mp_text.specs.Sizes.{text_limit}
+use Rattle.mp_text.specs.Texts.{GivesText, IsReachedIn}
+use Rattle.mp_text.proofs.TextLemmas.{text_within, text_over}
 use Rattle.mp_text.proofs.reading.read_netlist.Goals as goal
 
-pub returns-then-text-gt-MAX_TEXT-clause-read : goal.returns-then-text-gt-MAX_TEXT-clause-read
-returns-then-text-gt-MAX_TEXT-clause-read c = inr (text_over c.args.text.now (omega arith))
-
-pub returns-in-Err-clause-read : goal.returns-in-Err-clause-read
-returns-in-Err-clause-read c =
-    let some : 0 < length c.loop-rest.rest.now = search rules in
-    let all = text_within c.args.text.now (omega arith) in
-    elim (rw c.first_line.ensures.line at c.in-Err.ensures) [
-      | inl memory ↦ inl memory
-      | inr failed ↦ inr (all ∙ sym c.loop-rest.invariant.same ∙ lines_next c.loop-rest.number c.loop-rest.state c.loop-rest.rest.now (Err c.in-Err.code) some failed)
-    ]
-
-pub returns-in-Err-clause-reached : goal.returns-in-Err-clause-reached
-returns-in-Err-clause-reached c memory =
-    let some : 0 < length c.loop-rest.rest.now = search rules in
-    let all = text_within c.args.text.now (omega arith) in
-    let reached = line_reached c.loop-rest.number c.loop-rest.state c.loop-rest.rest.now c.args.text.now some c.loop-rest.invariant.counted (text_at c.args.text.now) (c.loop-rest.invariant.same ∙ sym all) in
-    (omega arith, omega (arith, reached))
-
-pub loop-rest-preserved : goal.loop-rest-preserved
-loop-rest-preserved c =
-    let some : 0 < length c.loop-rest.rest.now = search rules in
-    let falls = rest_falls c.loop-rest.rest.now some in
-    record {
-      within = rw c.first_line.ensures.rest (omega (arith, falls));
-      counted = rw c.first_line.ensures.rest (lines_counted c.loop-rest.rest.now c.args.text.now c.loop-rest.number some c.loop-rest.invariant.counted);
-      same = rw c.first_line.ensures.rest (sym (lines_next c.loop-rest.number c.loop-rest.state c.loop-rest.rest.now (Ok c.line.new.state) some (rw c.first_line.ensures.line at c.in-Ok.ensures)) ∙ c.loop-rest.invariant.same);
-    }
+pub returns-then-text-limit-clause-read : goal.returns-then-text-limit-clause-read
+returns-then-text-limit-clause-read c = inr (text_over c.args.text.now (omega arith))
 
 pub returns-clause-read : goal.returns-clause-read
 returns-clause-read c =
-    let none : length c.loop-rest.rest.now ≡ 0 = search rules in
-    let whole = text_within c.args.text.now (omega arith) ∙ sym c.loop-rest.invariant.same ∙ lines_end c.loop-rest.number c.loop-rest.state c.loop-rest.rest.now none in
-    gives_same _ _ (whole ∙ sym c.finished.ensures)
+    let short : length c.args.text.now ≤ text_limit c.args.text.now = search rules in
+    subst (GivesText c.read_lines.result) (sym (text_within c.args.text.now short)) c.read_lines.ensures.read
 
 pub returns-clause-reached : goal.returns-clause-reached
-returns-clause-reached c = rw c.finished.ensures (finished_reached c.args.text.now c.loop-rest.number c.loop-rest.state)
+returns-clause-reached c =
+    let short : length c.args.text.now ≤ text_limit c.args.text.now = search rules in
+    subst (λ read. IfErr c.read_lines.result (IsReachedIn c.args.text.now read)) (sym (text_within c.args.text.now short)) c.read_lines.ensures.reached

@@ -1,11 +1,13 @@
-use Rattle.std.proofs.Common.{◌≡◌, true}
+use Rattle.std.proofs.Common.{◌≡◌, ℕ, ◌%◌, true, ap, sym, subst, ◌∙◌}
+use Rattle.mp_netlist.specs.Limits.{checkpoint_units}
 use Rattle.mp_engine.proofs.CheckpointLemmas.{kept_no_border, kept_border}
 use Rattle.mp_engine.proofs.history.History.pass.Goals as goal
 
 pub returns-then-not-is_multiple_of : goal.returns-then-not-is_multiple_of
 returns-then-not-is_multiple_of c = record {
   kept = kept_no_border c.args.netlist.now c.args.time c.args.cells.now c.args.self.now.stepped.items c.args.self.now.kept.items (λ border.
-      let is : c.is_multiple_of.result ≡ true = c.is_multiple_of.ensures.1 border in
+      let units : c.checkpoint_units.result ≡ checkpoint_units c.args.netlist.now.horizon = c.checkpoint_units.ensures.value ∙ ap checkpoint_units c.horizon.ensures.value in
+      let is : c.is_multiple_of.result ≡ true = c.is_multiple_of.ensures.1 (subst (λ (k : ℕ). c.args.time % k ≡ 0) (sym units) border) in
       let not = c.if-not-is_multiple_of.true in
       let no : ⊥ = cc in no) c.requires.before.kept;
   listed = c.requires.before.listed;

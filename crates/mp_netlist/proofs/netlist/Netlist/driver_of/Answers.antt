@@ -1,4 +1,4 @@
-use Rattle.std.proofs.Common.{◌≡◌, ℕ, All, Option, Some, None, slice_index_or, is_some, true, false, sym, ap, subst, ◌∙◌, arith, rules}
+use Rattle.std.proofs.Common.{◌≡◌, ℕ, All, Option, Some, None, slice_index_or, is_some, length, true, false, sym, ap, subst, ◌∙◌, arith, rules}
 use Rattle.std.proofs.lemmas.List.{get_or_default}
 use Rattle.mp_modules.proofs.KindLemmas.{few_outputs}
 use Rattle.mp_records.specs.declared.module_record.ModuleRecord.{ModuleRecord}
@@ -8,6 +8,7 @@ use Rattle.mp_netlist.specs.declared.driver.Driver.TheVariants.{Nothing, Stimulu
 use Rattle.mp_netlist.specs.DriverSearch.{HasFewPorts}
 use Rattle.mp_netlist.specs.Records.{circuit_of}
 use Rattle.mp_netlist.proofs.DriverLemmas.{stimulus_drives, portless_driver}
+use Rattle.mp_netlist.proofs.LimitLemmas.{modules_within}
 use Rattle.mp_netlist.proofs.netlist.Netlist.driver_of.Goals as goal
 
 few_ports : (n : Circuit) → IsCircuit n → (m : ℕ) (slot : Option ModuleRecord) → module_at n m ≡ slot → HasFewPorts slot
@@ -16,6 +17,9 @@ few_ports n ok m (Some r) at = omega (arith, (ok.modules_ok m r at).outputs, few
 
 all_few : (n : Circuit) → IsCircuit n → All HasFewPorts n.modules
 all_few n ok k d in_range = few_ports n ok k (slice_index_or n.modules k d) (get_or_default n.modules k None d in_range)
+
+pub driver_among-requires-clause-few : goal.driver_among-requires-clause-few
+driver_among-requires-clause-few c = omega (arith, ap length c.as_slice-modules.ensures, modules_within (circuit_of c.self.inside) c.self.invariant.circuit)
 
 pub driver_among-requires-clause-forms : goal.driver_among-requires-clause-forms
 driver_among-requires-clause-forms c = rw c.as_slice-modules.ensures (all_few (circuit_of c.self.inside) c.self.invariant.circuit)

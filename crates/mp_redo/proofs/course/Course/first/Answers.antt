@@ -1,4 +1,6 @@
 use Rattle.std.proofs.Common.{◌≡◌, refl, sym, subst, ◌∙◌, arith}
+use Rattle.mp_netlist.specs.Limits.{checkpoint_units}
+use Rattle.mp_work.proofs.MultipleLemmas.{zero_rest}
 use Rattle.mp_redo.specs.Redoing.{AreCells, IsBefore}
 use Rattle.mp_redo.proofs.OverLemmas.{states_at}
 use Rattle.mp_redo.proofs.LikeLemmas.{before_like}
@@ -19,7 +21,7 @@ returns c =
     let wires = c.in_ok-wires.wires in
     let modules = c.in_ok-modules.modules in
     let are : AreCells old new 0 (λ m. 0) cells = c.in_ok-cells.ensures.cells in
-    let states = states_at old new c.requires.old_form form c.requires.revision run c.requires.run 0 0 cells (omega arith) refl (omega (arith, some)) are in
+    let states = states_at old new c.requires.old_form form c.requires.revision run c.requires.run 0 0 cells (omega arith) (zero_rest (checkpoint_units new.horizon)) (omega (arith, some)) are in
     let work = c.in_ok-modules.ensures.stretches old are in
     let before : IsBefore old new run 0 0 cells wires.lines.items wires.looks.items = rw c.as_slice.ensures.value at c.in_ok-wires.ensures.before in
     record {

@@ -1,4 +1,5 @@
 use Rattle.std.proofs.Common.{refl, arith}
+use Rattle.mp_netlist.proofs.LimitLemmas.{units_positive}
 use Rattle.mp_redo.proofs.CourseLemmas.{ended_window}
 use Rattle.mp_redo.proofs.IdleLemmas.{idle_passed, one_is}
 use Rattle.mp_redo.proofs.course.Course.pass_on.Goals as goal
@@ -15,10 +16,11 @@ returns-then-from-idle_end-clause-before g c =
     let looks = now.looks.items in
     let below = c.requires.window.below in
     let room = is.room in
+    let units = units_positive change.new.now.horizon in
     let after = c.move_up.new.self.items in
     let up = c.move_up.ensures in
     let done = idle_passed change.old.now change.new.now form.old_form form.form form.revision change.run.now form.run _ now.cells.items now.lines.items now.stretches.items now.marks.items is.marks is.free
-    from to c.requires.window.begins refl (idle.windows c.if-from-idle_end.true) looks after (omega (arith, below, room)) up.places idle.idle up.moved is.before is.stretches is.opened in
+    from to c.requires.window.begins refl (idle.windows c.if-from-idle_end.true) looks after (omega (arith, below, room, units)) up.places idle.idle up.moved is.before is.stretches is.opened in
     record {
       before = done.0;
       kept = is.kept;

@@ -7,9 +7,9 @@ use Rattle.mp_data.specs.declared.data_module.DataModule.{DataModule}
 use Rattle.mp_data.specs.DataParts.{data_part, outputs_in}
 use Rattle.mp_data.specs.LevelWheels.{scheduled, entry_if}
 use Rattle.mp_units.specs.DataSeats.{bit_port_of}
-use Rattle.mp_run.specs.Settling.{IsSmall}
+use Rattle.mp_run.specs.Settling.{IsShort}
 use Rattle.mp_run.specs.Seating.{level_output_of}
-use Rattle.mp_run.proofs.SettlingLemmas.{small_module}
+use Rattle.mp_run.proofs.SettlingLemmas.{short_module}
 use Rattle.mp_run.proofs.SeatingLemmas.{seats_data, same_ports}
 use Rattle.mp_run.proofs.seating.Seating.seat.Goals as goal
 
@@ -18,7 +18,7 @@ built-part-requires-clause-width c = width_of_module c.args.netlist.now c.requir
 
 pub data_ports-ports-requires : goal.data_ports-ports-requires
 data_ports-ports-requires c =
-    subst (λ (xs : List Output). All IsSmall xs) (sym c.as_slice.ensures) (small_module c.args.netlist.now c.requires.form c.args.found.now c.requires.module)
+    subst (λ (xs : List Output). All IsShort xs) (sym c.as_slice.ensures) (short_module c.args.netlist.now c.args.found.now c.requires.module)
 
 pub returns : goal.returns
 returns c m at =

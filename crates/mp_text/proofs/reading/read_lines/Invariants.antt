@@ -1,5 +1,5 @@
 use Rattle.mp_text.proofs.Names.{◌≡◌, ◌+◌, ◌≤◌, length, lines_of, after_lines, max_text, Fresh}
-use Rattle.mp_text.proofs.reading.read_netlist.Given as goal
+use Rattle.mp_text.proofs.reading.read_lines.Given as goal
 
 -- the lines that are left go on from the netlist so far
 abbrev pub invariant-loop-rest : goal.invariant-loop-rest

@@ -1,0 +1,18 @@
+//! How often the states of modules are kept.
+ghost use Rattle.std.specs.Prelude.{◌≡◌, ◌<◌, ◌≤◌};
+ghost use Rattle.mp_netlist.specs.Limits.{checkpoint_units};
+
+use crate::format::Format;
+
+/// In a run up to a horizon the states of modules are kept at each multiple of so many units.
+pub fn checkpoint_units(horizon: u32) -> u32
+    ensures value { result ≡ checkpoint_units horizon }
+    ensures some { 0 < result }
+    ensures most { result ≤ 1048576 }
+{
+    if u64::from(horizon) <= Format::Standard.max_horizon() {
+        1024
+    } else {
+        1_048_576
+    }
+}

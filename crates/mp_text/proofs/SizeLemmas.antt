@@ -1,0 +1,60 @@
+-- How long a text may be is told by its front.
+use Rattle.std.proofs.Common.{◌≡◌, ◌≢◌, ℕ, ◌+◌, ◌<◌, ◌≤◌, Bool, true, false, cond, List, [], ◌∷◌, Some, min, take, length, zero, suc, refl, ap, arith}
+use Rattle.std.specs.Prelude.{◌&&◌, ◌==◌, codes, slice_get}
+use Rattle.std.specs.Str.{bytes_eq}
+use Rattle.std.proofs.lemmas.Bool.{eq-eqb, ne_eqb}
+use Rattle.std.proofs.lemmas.List.{take_min}
+use Rattle.mp_words.specs.Lines.{lines_of}
+use Rattle.mp_words.specs.Words.{words_of}
+use Rattle.mp_text.specs.Limits.{max_text, max_short_text}
+use Rattle.mp_words.specs.WordLists.{number_word}
+use Rattle.mp_text.specs.Sizes.{first_words, is_three, states_third, text_limit}
+
+take_twice : {A : Type 0} (j k : ℕ) (xs : List A) → j ≤ k → take j (take k xs) ≡ take j xs
+take_twice zero k xs short = refl
+take_twice (suc j) zero xs short = absurd (omega (arith, short))
+take_twice (suc j) (suc k) [] short = refl
+take_twice (suc j) (suc k) (x ∷ xs) short = ap (λ ys. x ∷ ys) (take_twice j k xs (omega (arith, short)))
+
+limits : (third : Bool) → (max_short_text ≤ cond third max_text max_short_text) × (cond third max_text max_short_text ≤ max_text)
+limits true = (omega arith, omega arith)
+limits false = (omega arith, omega arith)
+
+-- a text may always be as long as one of the first form
+pub limit_least : (text : List ℕ) → max_short_text ≤ text_limit text
+unfolding text_limit
+limit_least text = (limits (states_third (first_words (lines_of (take (max_short_text + 1) text))))).0
+
+pub limit_most : (text : List ℕ) → text_limit text ≤ max_text
+unfolding text_limit
+limit_most text = (limits (states_third (first_words (lines_of (take (max_short_text + 1) text))))).1
+
+-- a front of more bytes than a text of the first form may have tells it
+pub limit_of_front : (k : ℕ) (text : List ℕ) → max_short_text < k → text_limit (take k text) ≡ text_limit text
+unfolding text_limit
+limit_of_front k text long =
+    ap (λ front. cond (states_third (first_words (lines_of front))) max_text max_short_text) (take_twice (max_short_text + 1) k text (omega (arith, long)))
+
+pub front_taken : (text : List ℕ) → take (min (max_short_text + 1) (length text)) text ≡ take (max_short_text + 1) text
+front_taken text = take_min (max_short_text + 1) text
+
+-- ---- the first line that has words
+
+pub first_blank : (line : List ℕ) (lines : List (List ℕ)) → length (words_of line) ≡ 0 → first_words (line ∷ lines) ≡ first_words lines
+first_blank line lines none = rw (eq-eqb (length (words_of line)) 0 none) refl
+
+pub first_worded : (line : List ℕ) (lines : List (List ℕ)) → length (words_of line) ≢ 0 → first_words (line ∷ lines) ≡ words_of line
+first_worded line lines some = rw (ne_eqb (length (words_of line)) 0 some) refl
+
+pub no_words : (text : List ℕ) → length text ≡ 0 → first_words (lines_of text) ≡ []
+unfolding lines_of
+no_words [] none = refl
+no_words (b ∷ bs) none = absurd (omega (arith, none))
+
+-- two words are looked at
+pub third_of : (words : List (List ℕ)) (first second : Bool) → ((text : List ℕ) → slice_get words 0 ≡ Some text → first ≡ bytes_eq text (codes "format"))
+    → ((text : List ℕ) → slice_get words 1 ≡ Some text → second ≡ is_three (number_word text)) → (length words == 2 && first && second) ≡ states_third words
+third_of [] first second is_first is_second = refl
+third_of (word ∷ []) first second is_first is_second = refl
+third_of (word ∷ number ∷ []) first second is_first is_second = let one = is_first word refl in let other = is_second number refl in rw (one, other) refl
+third_of (word ∷ number ∷ another ∷ words) first second is_first is_second = rw (ne_eqb (length (word ∷ number ∷ another ∷ words)) 2 (λ e. omega (arith, e))) refl

@@ -1,0 +1,27 @@
+-- How long a text may be.
+use Rattle.std.specs.Prelude.{ℕ, ◌+◌, Bool, false, ◌&&◌, ◌==◌, List, [], ◌∷◌, take, length, Result, Ok, Err, codes, if◌then◌else◌}
+use Rattle.std.specs.Str.{bytes_eq}
+use Rattle.mp_words.specs.declared.line_error.LineError.{LineError}
+use Rattle.mp_words.specs.Lines.{lines_of}
+use Rattle.mp_words.specs.Words.{words_of}
+use Rattle.mp_words.specs.WordLists.{number_word}
+use Rattle.mp_text.specs.Limits.{max_text, max_short_text}
+
+-- the words of the first line that has some
+abbrev pub first_words : List (List ℕ) → List (List ℕ)
+first_words [] = []
+first_words (line ∷ lines) = if length (words_of line) == 0 then first_words lines else words_of line
+
+abbrev pub is_three : Result ℕ LineError → Bool
+is_three (Ok number) = number == 3
+is_three (Err error) = false
+
+-- the words say that a text has the third form
+abbrev pub states_third : List (List ℕ) → Bool
+states_third (word ∷ number ∷ []) = bytes_eq word (codes "format") && is_three (number_word number)
+states_third _ = false
+
+-- how many bytes a text may have, by the form that its first line with words states, so far as this is among the bytes that a text of the
+-- first form may have and one more
+unfoldable pub text_limit : List ℕ → ℕ
+text_limit text = if states_third (first_words (lines_of (take (max_short_text + 1) text))) then max_text else max_short_text

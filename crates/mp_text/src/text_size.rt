@@ -1,0 +1,83 @@
+//! How long a text may be.
+ghost use Rattle.std.specs.Prelude.{◌≡◌, ◌+◌, ◌≤◌, List, ℕ, Some, codes, take};
+ghost use Rattle.std.specs.Option.{option_copied};
+ghost use Rattle.std.specs.Str.{bytes_eq};
+ghost use Rattle.mp_words.specs.Lines.{lines_of};
+ghost use Rattle.mp_words.specs.WordLists.{number_word};
+ghost use Rattle.mp_words.specs.Words.{words_of};
+ghost use Rattle.mp_text.specs.Limits.{max_short_text, max_text};
+ghost use Rattle.mp_text.specs.Sizes.{first_words, is_three, states_third, text_limit};
+
+use mp_words::{first_line, number_word, word_at, word_count};
+
+/// How many bytes a text of format 1 or 2 may have.
+pub const MAX_SHORT_TEXT: usize = 4_194_304;
+
+/// How many bytes a text of format 3 may have.
+const MAX_TEXT: usize = 1_073_741_824;
+
+/// How many bytes a text may have: those of format 3 where its first line with words states that, and begins among the bytes that another
+/// text may have and one more.
+#[tactic(auto, unfolding(crate::specs::Sizes::text_limit))]
+pub fn text_limit(text: &[u8]) -> usize
+    ensures value { result ≡ text_limit text.now }
+    ensures most { result ≤ max_text }
+{
+    if begins_third(front_of(text)) {
+        MAX_TEXT
+    } else {
+        MAX_SHORT_TEXT
+    }
+}
+
+/// As many bytes of a text as one of format 1 or 2 may have, and one more, or all.
+#[tactic(auto, using(crate::proofs::SizeLemmas::front_taken))]
+fn front_of(text: &[u8]) -> &[u8]
+    ensures { result.now ≡ take (max_short_text + 1) text.now }
+{
+    &text[..(MAX_SHORT_TEXT + 1).min(text.len())]
+}
+
+/// Whether the first line with words says that a text has the third form.
+fn begins_third(text: &[u8]) -> bool
+    ensures { result ≡ states_third (first_words (lines_of text.now)) }
+{
+    let mut rest = text;
+    while !rest.is_empty() {
+        let (line, others) = first_line(rest);
+        if word_count(line) != 0 {
+            return states_third(line);
+        }
+        rest = others;
+    }
+    false
+}
+
+/// Whether the words of a line say that a text has the third form.
+fn states_third(line: &[u8]) -> bool
+    ensures { result ≡ states_third (words_of line.now) }
+{
+    let formed = is_format(word_at(line, 0));
+    let third = is_three(word_at(line, 1));
+    (word_count(line) == 2) & formed & third
+}
+
+/// Whether a word is `format`.
+fn is_format(word: Option<&[u8]>) -> bool
+    ensures { (text : List ℕ) → option_copied word.entry ≡ Some text → result ≡ bytes_eq text (codes "format") }
+{
+    match word {
+        Some(word) => word == b"format".as_slice(),
+        None => false,
+    }
+}
+
+/// Whether a word is the number 3.
+fn is_three(word: Option<&[u8]>) -> bool
+    ensures { (text : List ℕ) → option_copied word.entry ≡ Some text → result ≡ is_three (number_word text) }
+{
+    match word {
+        Some(word) => matches!(number_word(word), Ok(3)),
+        None => false,
+    }
+}

@@ -1,0 +1,13 @@
+use Rattle.std.proofs.Common.{refl, ◌∙◌, rules, tests}
+use Rattle.std.proofs.lemmas.Iterator.Splits.{YieldsList-from_slice_split}
+use Rattle.std.proofs.lemmas.Iterator.Consumers.{nth_from_yields_List, YieldsList-from_filter}
+use Rattle.mp_words.specs.Words.{words_of, is_gap, is_word, statement_part}
+use Rattle.mp_words.proofs.word.word_at.Goals as goal
+
+pub returns : goal.returns
+unfolding words_of
+returns c =
+    nth_from_yields_List c.nth.result _ c.args.place c.nth.ensures.ran
+    (YieldsList-from_filter _ is_word
+    (YieldsList-from_slice_split _ is_gap (statement_part c.args.line.now) (rw c.filter.ensures.source (c.split.ensures.rest ∙ c.before_comment.ensures)) (rw c.filter.ensures.source c.split.ensures.done) refl (λ x b q k. search (rules, tests)))
+    c.filter.ensures.closure (λ x b q k. search (rules, tests)))
