@@ -17,3 +17,4 @@ pub mod BeginningLemmas
 pub mod FiredLemmas
 pub mod DueLemmas
 pub mod QuietLemmas
+pub mod IdleLemmas

@@ -1,10 +1,11 @@
 -- Simulators with the delayed copies that they read, in an evaluation that follows no other.
 use Rattle.std.specs.Prelude.{◌≡◌, ℕ, ◌+◌, ◌<◌, List, [], All, Option, length, slice_index_or}
 use Rattle.mp_netlist.specs.Circuit.{Circuit, IsCircuit}
+use Rattle.mp_events.specs.EventWheels.{AreEmpty}
 use Rattle.mp_events.specs.Firing.{HasSlot}
 use Rattle.mp_core.specs.declared.delayed_copies.DelayedCopies.{DelayedCopies}
 use Rattle.mp_core.specs.declared.simulation.Simulation.{Simulation}
-use Rattle.mp_core.specs.Scopes.{Scope}
+use Rattle.mp_core.specs.Scopes.{Scope, with_answers}
 use Rattle.mp_core.specs.Simulators.{next_slot, IsBelow, IsSound, CanApply}
 use Rattle.mp_core.specs.Units.{IsBefore}
 use Rattle.mp_core.specs.Copies.{AreChained, HaveCopies, AreListedBelow}
@@ -30,6 +31,11 @@ pub record IsQuiet (s : Simulation) : Type 0 where
   pub wires : next_slot s.simulator ≡ []
   pub copies : copy_slot s.copies 0 ≡ []
 
+-- nothing changes in any unit to come that isn't set from outside
+pub record IsIdle (s : Simulation) : Type 0 where
+  pub wires : AreEmpty s.simulator.wheel
+  pub copies : AreEmpty s.copies.wheel
+
 -- the unit t is over
 pub record IsRunning (n : Circuit) (scope : Scope) (before : ℕ → Option ℕ) (t : ℕ) (s : Simulation) : Type 0 where
   pub simulator : IsBefore n scope t s.simulator
@@ -40,3 +46,8 @@ pub record IsRunning (n : Circuit) (scope : Scope) (before : ℕ → Option ℕ)
 abbrev pub CanGoOn : Type 0
 CanGoOn = (n : Circuit) → IsCircuit n → (scope : Scope) (before : ℕ → Option ℕ) (t : ℕ) (s : Simulation) (set : List ℕ) → IsSoundRun s → IsRunning n scope before t s →
     IsWhole n scope before t → AreSet n scope set (t + 1) → All (λ w. w < length s.simulator.waves.items) set → CanApply s.simulator set (copy_slot s.copies 0) (t + 1)
+
+-- and then a unit is over as soon as the one before, where nothing is set in it
+abbrev pub StaysIdle : Type 0
+StaysIdle = (n : Circuit) → IsCircuit n → (scope : Scope) (before : ℕ → Option ℕ) (t : ℕ) (s : Simulation) → IsSoundRun s → IsIdle s → IsWhole n scope before t →
+    AreSet n scope [] (t + 1) → IsRunning n scope before t s → IsRunning n (with_answers scope (t + 2)) before (t + 1) s

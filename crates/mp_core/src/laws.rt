@@ -7,7 +7,7 @@ ghost use Rattle.mp_core.specs.Schedules.{FiringSchedules, FiringLeavesOthers};
 ghost use Rattle.mp_core.specs.Widths.{HaveBits};
 ghost use Rattle.mp_core.specs.UnitLaws.{CanApplyWhenDue};
 ghost use Rattle.mp_core.specs.WholeRuns.{SlotsHaveAll};
-ghost use Rattle.mp_core.specs.Simulations.{CanGoOn};
+ghost use Rattle.mp_core.specs.Simulations.{CanGoOn, StaysIdle};
 ghost use Rattle.mp_core.specs.Beginnings.{FirstAreKnown, NoCopiesAtFirst};
 
 /// A wire that a port drives changes where the module's output did, the port's delay before: first where the settled level isn't the
@@ -77,6 +77,11 @@ pub fn slots_have_all()
 /// In an evaluation that follows no other, what changes in the next unit can be applied.
 pub fn can_go_on()
     ensures { CanGoOn }
+{}
+
+/// Where nothing is known to change, a unit in which nothing is set is over without a step.
+pub fn stays_idle()
+    ensures { StaysIdle }
 {}
 
 /// Before the unit 1 the wheel has what is known where each wire is in the slot of its first change, if its settled level isn't the initial

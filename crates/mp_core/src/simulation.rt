@@ -17,7 +17,7 @@ impl Simulation {
     ghost use Rattle.mp_core.specs.Scopes.{Scope, with_answers};
     ghost use Rattle.mp_core.specs.Simulators.{CanApply};
     ghost use Rattle.mp_core.specs.WholeRuns.{IsWhole, AreSet};
-    ghost use Rattle.mp_core.specs.Simulations.{copy_slot, IsSoundRun, IsQuiet, IsRunning};
+    ghost use Rattle.mp_core.specs.Simulations.{copy_slot, IsSoundRun, IsQuiet, IsIdle, IsRunning};
 
     /// Goes through one unit, in which these wires are set from outside.
     pub fn pass_unit(&mut self, set: &[u32], time: u32) -> Result<(), AllocError>
@@ -47,6 +47,13 @@ impl Simulation {
         ensures { IsTrue result ↔ IsQuiet self.now }
     {
         self.simulator.wheel.is_quiet() && self.copies.wheel.is_quiet()
+    }
+
+    /// Whether nothing changes in any unit to come that isn't set from outside. A unit in which nothing is set is then over without a step.
+    pub fn is_idle(&self) -> bool
+        ensures { IsTrue result ↔ IsIdle self.now }
+    {
+        self.simulator.wheel.is_idle() && self.copies.wheel.is_idle()
     }
 
     /// Goes through one unit in which nothing changes.

@@ -1,6 +1,8 @@
 //! The level wheel.
 
 ghost use Rattle.std.specs.Prelude.{◌≡◌, ◌+◌, ◌-◌, ◌<◌, ◌≤◌, nat_lt, if◌then◌else◌};
+ghost use Rattle.std.specs.List.{list_all};
+ghost use Rattle.mp_events.specs.EventWheels.{is_empty};
 
 use crate::level_change::LevelChange;
 use crate::level_slot::LevelSlot;
@@ -30,6 +32,7 @@ impl Model for LevelWheel {
 
 impl LevelWheel {
     ghost use Rattle.std.specs.Prelude.{◌≡◌, ◌↔◌, ℕ, ◌-◌, ◌<◌, ◌≤◌, ◌++◌, ◌∷◌, [], drop, length, IsTrue, IfOk, OnOk, slice_index_or};
+    ghost use Rattle.mp_events.specs.EventWheels.{AreEmpty};
     ghost use Rattle.mp_data.specs.LevelWheels.{with_entry};
 
     /// A wheel of so many units, in which nothing changes.
@@ -51,6 +54,13 @@ impl LevelWheel {
         ensures { IsTrue result ↔ slice_index_or self.now 0 [] ≡ [] }
     {
         self.slots[self.next].is_empty()
+    }
+
+    /// Whether nothing changes in any unit to come, so far as this is known.
+    pub fn is_idle(&self) -> bool
+        ensures { IsTrue result ↔ AreEmpty self.now }
+    {
+        are_empty(self.slots.as_slice())
     }
 
     /// The next unit begins: its slot becomes the present one, and the one that was present before is emptied and becomes that of the last unit.
@@ -86,6 +96,13 @@ impl LevelWheel {
         self.slots[place].push(change)?;
         Ok(())
     }
+}
+
+/// Whether nothing is in any of the slots.
+fn are_empty(slots: &[LevelSlot]) -> bool
+    ensures { result ≡ list_all is_empty slots.now }
+{
+    slots.iter().all(|slot| slot.as_slice().is_empty())
 }
 
 /// The place so many after another, in a circle of so many places.

@@ -5,3 +5,4 @@ pub mod FiringLemmas
 pub mod EntryLemmas
 pub mod FanoutLemmas
 pub mod WheelLemmas
+pub mod EmptyLemmas

@@ -1,6 +1,8 @@
 //! The event wheel.
 
 ghost use Rattle.std.specs.Prelude.{◌≡◌, ◌+◌, ◌-◌, ◌<◌, ◌≤◌, nat_lt, if◌then◌else◌};
+ghost use Rattle.std.specs.List.{list_all};
+ghost use Rattle.mp_events.specs.EventWheels.{is_empty};
 
 use crate::event_slot::EventSlot;
 use std::alloc::{AllocError, Global};
@@ -28,7 +30,7 @@ impl Model for EventWheel {
 
 impl EventWheel {
     ghost use Rattle.std.specs.Prelude.{◌≡◌, ◌↔◌, ℕ, ◌-◌, ◌<◌, ◌≤◌, ◌++◌, ◌∷◌, [], drop, length, IsTrue, IfOk, OnOk, slice_index_or};
-    ghost use Rattle.mp_events.specs.EventWheels.{with_entry};
+    ghost use Rattle.mp_events.specs.EventWheels.{with_entry, AreEmpty};
 
     /// A wheel of so many units, in which nothing toggles.
     pub fn new(alloc: Global, units: usize) -> Result<EventWheel, AllocError>
@@ -49,6 +51,13 @@ impl EventWheel {
         ensures { IsTrue result ↔ slice_index_or self.now 0 [] ≡ [] }
     {
         self.slots[self.next].is_empty()
+    }
+
+    /// Whether nothing toggles in any unit to come, so far as this is known.
+    pub fn is_idle(&self) -> bool
+        ensures { IsTrue result ↔ AreEmpty self.now }
+    {
+        are_empty(self.slots.as_slice())
     }
 
     /// The next unit begins: its slot becomes the present one, and the one that was present before is emptied and becomes that of the last unit.
@@ -84,6 +93,13 @@ impl EventWheel {
         self.slots[place].push(wire)?;
         Ok(())
     }
+}
+
+/// Whether nothing is in any of the slots.
+fn are_empty(slots: &[EventSlot]) -> bool
+    ensures { result ≡ list_all is_empty slots.now }
+{
+    slots.iter().all(|slot| slot.as_slice().is_empty())
 }
 
 /// The place so many after another, in a circle of so many places.

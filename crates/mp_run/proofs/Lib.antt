@@ -16,4 +16,5 @@ mod BegunLemmas
 mod BeginningLemmas
 mod SimulatedLemmas
 mod RunLemmas
+mod RestLemmas
 mod FoundLemmas

@@ -16,6 +16,7 @@ use Rattle.mp_core.specs.Changes.{change_at}
 use Rattle.mp_core.specs.WholeRuns.{is_stimulus}
 use Rattle.mp_data.specs.declared.level_change.LevelChange.{LevelChange}
 use Rattle.mp_units.specs.DataLevels.{is_data, is_bit_wire, changes_of}
+use Rattle.mp_units.specs.NetlistSimulations.{AreStimuli}
 use Rattle.mp_units.proofs.LevelWheelLemmas.{changes_append}
 use Rattle.mp_run.specs.declared.stimuli.StimulusChange.{StimulusChange}
 use Rattle.mp_run.specs.declared.stimuli.Stimuli.{Stimuli}
@@ -211,24 +212,29 @@ within_wires n ok w u = elim (cases_lt w (length n.wires)) as (λ _. bit ((chang
     and_false true = refl
     and_false false = refl
 
+-- the changes that come first are those of the next unit
+pub stimuli_now : (n : Circuit) → IsCircuit n → (t : ℕ) (rest : List StimulusChange) (set : List ℕ) (changes : List LevelChange) → set ≡ bits_at (t + 1) rest →
+    changes ≡ levels_at (t + 1) rest → AreAhead n t rest → AreStimuli n set changes (t + 1)
+stimuli_now n ok t rest set changes bits levels are = record {
+  bits = λ scope traces w.
+      ap (listed w) bits ∙ bits_now n w (t + 1) rest are.set are.listed
+      ∙ ap (λ k. cond (is_data n w) 0 k) (are.each w (t + 1) (omega arith))
+      ∙ bit_sort (change_at n w (t + 1) && is_stimulus (driver n w)) (is_data n w)
+      ∙ within_wires n ok w (t + 1)
+      ∙ ap (λ b. bit ((change_at n w (t + 1) && is_stimulus (driver n w)) && b)) (sym (traces w));
+  levels = record {
+    each = λ w.
+        ap (changes_of w) levels ∙ levels_now n w (t + 1) rest are.set are.listed
+        ∙ ap (λ k. cond (is_data n w) k 0) (are.each w (t + 1) (omega arith))
+        ∙ level_sort (change_at n w (t + 1) && is_stimulus (driver n w)) (is_data n w);
+    levels = subst (λ (cs : List LevelChange). All (λ (c : LevelChange). c.level ≡ level n c.number (t + 1)) cs) (sym levels) (set_at n (t + 1) rest are.set);
+  };
+}
+
 pub unit_begins : (n : Circuit) → IsCircuit n → (t : ℕ) (old new : Stimuli) → new.bits.items ≡ bits_at (t + 1) (rest_of old) → new.levels.items ≡ levels_at (t + 1) (rest_of old) →
     rest_of new ≡ changes_after (t + 1) (rest_of old) → AreAhead n t (rest_of old) → Advances n t new
 unit_begins n ok t old new bits levels left are = record {
-  present = record {
-    bits = λ scope traces w.
-        ap (listed w) bits ∙ bits_now n w (t + 1) (rest_of old) are.set are.listed
-        ∙ ap (λ k. cond (is_data n w) 0 k) (are.each w (t + 1) (omega arith))
-        ∙ bit_sort (change_at n w (t + 1) && is_stimulus (driver n w)) (is_data n w)
-        ∙ within_wires n ok w (t + 1)
-        ∙ ap (λ b. bit ((change_at n w (t + 1) && is_stimulus (driver n w)) && b)) (sym (traces w));
-    levels = record {
-      each = λ w.
-          ap (changes_of w) levels ∙ levels_now n w (t + 1) (rest_of old) are.set are.listed
-          ∙ ap (λ k. cond (is_data n w) k 0) (are.each w (t + 1) (omega arith))
-          ∙ level_sort (change_at n w (t + 1) && is_stimulus (driver n w)) (is_data n w);
-      levels = subst (λ (cs : List LevelChange). All (λ (c : LevelChange). c.level ≡ level n c.number (t + 1)) cs) (sym levels) (set_at n (t + 1) (rest_of old) are.set);
-    };
-  };
+  present = stimuli_now n ok t (rest_of old) new.bits.items new.levels.items bits levels are;
   ahead = subst (AreAhead n (t + 1)) (sym left) (record {
     listed = from_after (t + 1) (rest_of old) are.listed;
     each = λ w u later. after_now w u (t + 1) (rest_of old) later ∙ are.each w u (omega arith);

@@ -1,8 +1,9 @@
 //! A whole run.
-ghost use Rattle.std.specs.Prelude.{◌≡◌, ◌-◌, IfOk, OnOk};
+ghost use Rattle.std.specs.Prelude.{◌≡◌, ◌-◌, IsTrue, IfOk, OnOk};
 ghost use Rattle.mp_netlist.specs.Circuit.{IsCircuit, wire_at};
 ghost use Rattle.mp_model.specs.Waves.{AreWavesOf};
-ghost use Rattle.mp_units.specs.NetlistSimulations.{IsSimulated};
+ghost use Rattle.mp_core.specs.Simulations.{IsIdle};
+ghost use Rattle.mp_units.specs.NetlistSimulations.{IsSimulated, IsAtRest};
 ghost use Rattle.mp_run.specs.Evaluations.{IsEvaluated};
 ghost use Rattle.mp_run.specs.Narrow.{IsNarrow};
 ghost use Rattle.mp_run.specs.Runs.{wave_in};
@@ -17,6 +18,9 @@ use mp_netlist::{Netlist, WireId};
 use mp_units::NetlistSimulation;
 use mp_wave::{ToggleWave, Wave};
 use std::alloc::{AllocError, Global};
+
+/// Once in so many units it is looked whether only stimuli change what comes: a look goes over as many slots as the longest delay has units.
+const LOOK_UNITS: u32 = 65_536;
 
 /// The wave of each wire of a netlist up to its horizon: one place per wire number, and none where no wire stands.
 pub fn run_waves(alloc: Global, netlist: &Netlist) -> Result<Vec<Option<Wave>>, AllocError>
@@ -55,11 +59,23 @@ fn pass_all(
     requires ahead { AreAhead netlist.now 0 (rest_of stimuli.old) }
     ensures { OnOk result (IsSimulated netlist.now (netlist.now.horizon - 1) simulation.new) }
 {
-    for time in 1..netlist.horizon() {
+    let horizon = netlist.horizon();
+    let mut time = 1;
+    while time < horizon {
         stimuli.advance(time)?;
         simulation.pass_unit(stimuli.bits(), stimuli.levels(), time)?;
+        let rests = is_seen_at_rest(simulation, time);
+        time = stimuli.unit_after(time, rests, horizon);
     }
     Ok(())
+}
+
+/// Whether it is looked in this unit, and nothing changes from then on that no stimulus sets.
+#[inline(always)]
+fn is_seen_at_rest(simulation: &NetlistSimulation, time: u32) -> bool
+    ensures { IsTrue result → IsAtRest simulation.now }
+{
+    time.is_multiple_of(LOOK_UNITS) && simulation.is_at_rest()
 }
 
 /// Goes on from time 0 to the last unit before the horizon, all wires having width 1.
@@ -73,11 +89,23 @@ fn run(
     requires ahead { AreAhead netlist.now 0 (rest_of stimuli.old) }
     ensures { OnOk result (IsEvaluated netlist.now (netlist.now.horizon - 1) simulation.new) }
 {
-    for time in 1..netlist.horizon() {
+    let horizon = netlist.horizon();
+    let mut time = 1;
+    while time < horizon {
         stimuli.advance(time)?;
         simulation.pass_unit(stimuli.bits(), time)?;
+        let rests = is_seen_idle(simulation, time);
+        time = stimuli.unit_after(time, rests, horizon);
     }
     Ok(())
+}
+
+/// Whether it is looked in this unit, and nothing changes from then on that no stimulus sets.
+#[inline(always)]
+fn is_seen_idle(simulation: &Simulation, time: u32) -> bool
+    ensures { IsTrue result → IsIdle simulation.now }
+{
+    time.is_multiple_of(LOOK_UNITS) && simulation.is_idle()
 }
 
 /// The waves of a simulation that has come to the horizon.

@@ -29,9 +29,9 @@ pub(crate) struct Stimuli {
 }
 
 impl Stimuli {
-    ghost use Rattle.std.specs.Prelude.{◌≡◌, ℕ, ◌+◌, IfOk, OnOk};
+    ghost use Rattle.std.specs.Prelude.{◌≡◌, ℕ, ◌+◌, ◌<◌, ◌≤◌, IsTrue, IfOk, OnOk};
     ghost use Rattle.mp_netlist.specs.Circuit.{Circuit, IsCircuit};
-    ghost use Rattle.mp_run.specs.Stimuli.{rest_of, AreAhead, Advances};
+    ghost use Rattle.mp_run.specs.Stimuli.{rest_of, AreFrom, AreAhead, Advances};
 
     /// What all stimuli change, where all is to come.
     pub(crate) fn of(alloc: Global, netlist: &Netlist) -> Result<Stimuli, AllocError>
@@ -65,6 +65,25 @@ impl Stimuli {
         ensures { result.now ≡ self.now.levels.items }
     {
         self.levels.as_slice()
+    }
+
+    /// The unit to go through after this one, or the horizon: the next unit, or where all else rests that of the next change.
+    #[inline(always)]
+    pub(crate) fn unit_after(&self, time: u32, rests: bool, horizon: u32) -> u32
+        requires time { time < horizon }
+        requires ahead { AreFrom (time + 1) (rest_of self.now) }
+        ensures later { time < result }
+        ensures most { result ≤ horizon }
+        ensures rests { time + 1 < result → IsTrue rests }
+        ensures ahead { AreFrom result (rest_of self.now) }
+    {
+        if !rests {
+            return time + 1;
+        }
+        match self.list.get(self.place) {
+            Some(change) => change.time.min(horizon),
+            None => horizon,
+        }
     }
 
     /// A unit begins, which is the next after those before.

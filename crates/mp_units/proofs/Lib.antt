@@ -16,3 +16,4 @@ pub mod AnsweredLemmas
 pub mod UnitLemmas
 pub mod PassLemmas
 pub mod QuietLemmas
+pub mod RestLemmas

@@ -2,9 +2,10 @@
 use Rattle.std.specs.Prelude.{◌≡◌, ℕ, ◌+◌, ◌<◌, true, false, List, [], Option, Some, None, length}
 use Rattle.mp_records.specs.declared.module_record.ModuleRecord.{ModuleRecord}
 use Rattle.mp_netlist.specs.Circuit.{Circuit, IsCircuit, module_at}
+use Rattle.mp_events.specs.EventWheels.{AreEmpty}
 use Rattle.mp_core.specs.Scopes.{Scope}
 use Rattle.mp_core.specs.Simulators.{next_slot}
-use Rattle.mp_core.specs.Simulations.{copy_slot, IsSoundRun, IsRunning}
+use Rattle.mp_core.specs.Simulations.{copy_slot, IsSoundRun, IsIdle, IsRunning}
 use Rattle.mp_core.specs.WholeRuns.{is_number, IsWhole, AreSet}
 use Rattle.mp_data.specs.declared.level_change.LevelChange.{LevelChange}
 use Rattle.mp_units.specs.declared.netlist_simulation.NetlistSimulation.{NetlistSimulation}
@@ -55,3 +56,8 @@ pub record IsStill (s : NetlistSimulation) : Type 0 where
   pub wires : next_slot s.bits.simulator ≡ []
   pub copies : copy_slot s.bits.copies 0 ≡ []
   pub changes : data_slot s.wires.wheel 0 ≡ []
+
+-- nothing changes in any unit to come that isn't set from outside
+pub record IsAtRest (s : NetlistSimulation) : Type 0 where
+  pub bits : IsIdle s.bits
+  pub changes : AreEmpty s.wires.wheel

@@ -19,7 +19,7 @@ impl NetlistSimulation {
     ghost use Rattle.std.specs.Prelude.{◌≡◌, ◌↔◌, ℕ, ◌+◌, ◌-◌, ◌<◌, ◌^◌, [], IsTrue, OnOk, length};
     ghost use Rattle.mp_netlist.specs.Circuit.{Circuit, IsCircuit};
     ghost use Rattle.mp_core.specs.Simulations.{IsSoundRun};
-    ghost use Rattle.mp_units.specs.NetlistSimulations.{IsSimulated, AreStimuli, CanPass, IsStill};
+    ghost use Rattle.mp_units.specs.NetlistSimulations.{IsSimulated, AreStimuli, CanPass, IsStill, IsAtRest};
 
     /// Goes through one unit, in which these wires of width 1 toggle and these with data change from outside.
     pub fn pass_unit(
@@ -74,6 +74,13 @@ impl NetlistSimulation {
         self.bits.simulator.wheel.is_quiet()
             && self.bits.copies.wheel.is_quiet()
             && self.wires.wheel.is_quiet()
+    }
+
+    /// Whether nothing changes in any unit to come that isn't set from outside. A unit in which nothing is set is then over without a step.
+    pub fn is_at_rest(&self) -> bool
+        ensures { IsTrue result ↔ IsAtRest self.now }
+    {
+        self.bits.is_idle() && self.wires.wheel.is_idle()
     }
 
     /// Goes through one unit in which nothing changes.

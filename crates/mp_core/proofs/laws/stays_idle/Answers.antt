@@ -1,0 +1,5 @@
+use Rattle.mp_core.proofs.IdleLemmas.{stays_idle}
+use Rattle.mp_core.proofs.laws.stays_idle.Goals as goal
+
+pub returns : goal.returns
+returns c = stays_idle
