@@ -9,6 +9,7 @@ returns c =
     let slots = c.self.inside.slots.items in
     let next = c.self.inside.next in
     let same : c.as_slice.result.now ≡ c.self.inside.slots.items = search rules in
-    let seen = c.are_empty.ensures ∙ ap (λ (xs : List (List ℕ)). list_all is_empty xs) same in
-    (λ idle. subst AreEmpty c.self.view_is (empty_from next slots (seen_empty slots (sym seen ∙ idle))),
-     λ empty. seen ∙ empty_seen slots (empty_whole next slots (subst AreEmpty (sym c.self.view_is) empty)))
+    let seen = c.are_empty.ensures ∙ ap (λ (xs : List (List ℕ)). list_all is_empty xs) same in (
+      λ idle. subst AreEmpty c.self.view_is (empty_from next slots (seen_empty slots (sym seen ∙ idle))),
+      λ empty. seen ∙ empty_seen slots (empty_whole next slots (subst AreEmpty (sym c.self.view_is) empty)),
+    )
