@@ -8,6 +8,9 @@ use Rattle.mp_storage.specs.declared.any_module.AnyModule.TheVariants as parts
 use Rattle.mp_storage.specs.AnyModules.{step}
 use Rattle.mp_automata.specs.declared.events.Events.{Events}
 use Rattle.mp_automata.specs.declared.toggles.Toggles.{Toggles}
+use Rattle.mp_automata.specs.declared.phase.Phase.{Phase}
+use Rattle.mp_automata.specs.Automata.{automaton_of}
+use Rattle.mp_automata.specs.Phases.{phase_of, clients_in}
 
 -- the events of a unit that begins in a state, where the inputs have these levels in it
 abbrev pub events_in : Memory → List ℕ → Events
@@ -32,9 +35,14 @@ IsOfBits (parts.Computed (computed.Sum width)) = width ≡ 1
 IsOfBits (parts.Computed (computed.Bit place)) = place ≡ 0
 IsOfBits _ = Unit {0}
 
--- a state of a module of width 1: its levels are bits, and it stays as it is while no input changes
+-- whom a module serves in a state, and who waits
+abbrev pub clients_of : Memory → Phase
+clients_of m = record { served = m.served; waiting = m.waiting }
+
+-- a state of a module of width 1: its levels are bits, it serves nobody if its kind has no clients, and it stays as it is while no input changes
 pub record IsBitState (part : AnyModule) (m : Memory) : Type 0 where
   pub inputs : AreBits m.inputs
   pub outputs : AreBits m.outputs
   pub shape : m.outputs ≡ output_of m 0 ∷ output_of m 1 ∷ output_of m 2 ∷ []
+  pub clients : clients_of m ≡ clients_in (automaton_of part) (phase_of part m)
   pub stays : step part m m.inputs ≡ m

@@ -4,4 +4,5 @@ pub mod BitModules
 pub mod Reactions
 pub mod AutomatonLaws
 pub mod Codes
+pub mod PortLevels
 pub mod Transitions

@@ -8,6 +8,8 @@ use Rattle.mp_modules.specs.CElement.{bubbled}
 use Rattle.mp_modules.specs.Memories.{output_of}
 use Rattle.mp_storage.specs.declared.any_module.AnyModule.{AnyModule}
 use Rattle.mp_storage.specs.declared.any_module.AnyModule.TheVariants as parts
+use Rattle.mp_automata.specs.declared.automaton.Automaton.{Automaton}
+use Rattle.mp_automata.specs.declared.automaton.Automaton.TheVariants.{Serve, Grant}
 use Rattle.mp_automata.specs.declared.phase.Phase.{Phase}
 
 -- nobody is served, and these wait
@@ -33,3 +35,9 @@ phase_of (parts.Core part) m = core_phase part m
 phase_of (parts.Reg part) m =
     unserved (not (slice_index m.inputs 1 == slice_index m.inputs 2)) (not (slice_index m.inputs 0 == output_of m 0))
 phase_of (parts.Computed part) m = unserved false false
+
+-- whom an automaton serves in a phase, and who waits: nobody, if it serves no clients
+abbrev pub clients_in : Automaton → Phase → Phase
+clients_in Serve phase = phase
+clients_in Grant phase = phase
+clients_in _ phase = unserved false false

@@ -6,17 +6,18 @@ use Rattle.mp_automata.specs.declared.events.Events.{Events}
 use Rattle.mp_automata.specs.declared.reaction.Reaction.{Reaction}
 use Rattle.mp_automata.specs.declared.transition.Transition.{Transition}
 use Rattle.mp_automata.specs.Reactions.{react}
-use Rattle.mp_automata.specs.Codes.{no_events, state_code, toggles_code}
+use Rattle.mp_automata.specs.Codes.{no_events, state_code}
+use Rattle.mp_automata.specs.PortLevels.{ports_code}
 
-abbrev pub transition_by : Automaton → Reaction → Transition
-transition_by a r = record { next = record { 0 = state_code a r.phase no_events }; toggles = toggles_code r.toggles }
+abbrev pub transition_by : Automaton → Events → Reaction → Transition
+transition_by a e r = record { next = record { 0 = state_code a r.phase no_events }; flips = ports_code e r.toggles }
 
 -- what comes of a state
 abbrev pub transition_of : Automaton → Phase → Events → Transition
-transition_of a k e = transition_by a (react a k e)
+transition_of a k e = transition_by a e (react a k e)
 
 abbrev pub no_transition : Transition
-no_transition = record { next = record { 0 = 0 }; toggles = 0 }
+no_transition = record { next = record { 0 = 0 }; flips = 0 }
 
 -- for each state what comes of it
 pub record IsTable (list : List Transition) : Type 0 where

@@ -40,6 +40,7 @@ impl Automaton {
     ghost use Rattle.std.specs.Prelude.{◌≡◌, ◌<◌};
     ghost use Rattle.mp_automata.specs.declared.automaton.Automaton.{Automaton as AnyAutomaton};
     ghost use Rattle.mp_automata.specs.Automata.{automaton_of};
+    ghost use Rattle.mp_automata.specs.Phases.{clients_in};
     ghost use Rattle.mp_automata.specs.Codes.{automaton_code};
     ghost use Rattle.mp_automata.specs.Reactions.{react};
 
@@ -70,6 +71,16 @@ impl Automaton {
             Automaton::Grant => grant(events, quiet),
             Automaton::Hold => hold(phase, events),
             Automaton::Sleep => quiet,
+        }
+    }
+
+    /// Whom a module serves in a phase, and who waits: nobody, if it serves no clients.
+    pub(crate) fn clients(self, phase: Phase) -> Phase
+        ensures { result ≡ clients_in self phase }
+    {
+        match self {
+            Automaton::Serve | Automaton::Grant => phase,
+            _ => Phase::unserved(false, false),
         }
     }
 

@@ -3,6 +3,8 @@
 use crate::automaton::Automaton;
 use crate::events::EVENT_SETS;
 use crate::phase::{PHASES, Phase};
+use crate::port_levels::PortLevels;
+use mp_modules::Memory;
 
 /// The state of a module of width 1 within a unit: its automaton, its phase before the unit, and which inputs have had an event in it so
 /// far. It is the place of what comes of them in a `TransitionTable`.
@@ -11,7 +13,13 @@ pub struct AutomatonState(pub u16);
 
 impl AutomatonState {
     ghost use Rattle.std.specs.Prelude.{◌≡◌, ◌<◌, ◌+◌, ◌%◌, ◌^◌, ◌==◌};
+    ghost use Rattle.mp_modules.specs.declared.memory.Memory.{Memory as AnyMemory};
+    ghost use Rattle.mp_storage.specs.declared.any_module.AnyModule.{AnyModule};
+    ghost use Rattle.mp_automata.specs.Automata.{automaton_of};
+    ghost use Rattle.mp_automata.specs.Phases.{phase_of};
+    ghost use Rattle.mp_automata.specs.BitModules.{IsBitState};
     ghost use Rattle.mp_automata.specs.Codes.{state_code, no_events};
+    ghost use Rattle.mp_automata.specs.PortLevels.{levels_code};
 
     /// The state before the first event of a unit.
     pub fn quiet(automaton: Automaton, phase: Phase) -> AutomatonState
@@ -31,5 +39,21 @@ impl AutomatonState {
         let is_first = self.0 % EVENT_SETS == 0;
         self.0 += event;
         is_first
+    }
+
+    /// The module's state where it has had no event in this unit and its ports have these levels.
+    pub fn memory(self, levels: PortLevels) -> Memory
+        ensures { (part : AnyModule) (m : AnyMemory) → IsBitState part m → self.0 ≡ state_code (automaton_of part) (phase_of part m) no_events → levels.0 ≡ levels_code m →
+            result ≡ m }
+    {
+        let automaton = Automaton::from_code(self.0 / (EVENT_SETS * PHASES));
+        let phase = Phase::from_code(self.0 / EVENT_SETS % PHASES);
+        let clients = automaton.clients(phase);
+        Memory {
+            inputs: levels.inputs(),
+            outputs: levels.outputs(),
+            served: clients.served,
+            waiting: clients.waiting,
+        }
     }
 }

@@ -14,9 +14,20 @@ pub struct Events {
 }
 
 impl Events {
-    ghost use Rattle.std.specs.Prelude.{◌≡◌};
+    ghost use Rattle.std.specs.Prelude.{◌≡◌, ◌<◌};
     ghost use Rattle.mp_automata.specs.declared.events.Events.{Events as AnyEvents};
     ghost use Rattle.mp_automata.specs.Codes.{events_code};
+
+    /// Their number: 1 for the first input, 2 for the second, 4 for the third and 8 for the fourth.
+    pub(crate) fn code(self) -> u8
+        ensures value { result ≡ events_code self }
+        ensures low { result < 16 }
+    {
+        u8::from(self.first)
+            + u8::from(self.second) * 2
+            + u8::from(self.third) * 4
+            + u8::from(self.fourth) * 8
+    }
 
     /// The events whose bits make up a number.
     pub(crate) fn from_code(code: u16) -> Events

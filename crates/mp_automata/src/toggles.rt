@@ -9,13 +9,14 @@ pub struct Toggles {
 }
 
 impl Toggles {
-    ghost use Rattle.std.specs.Prelude.{◌≡◌};
+    ghost use Rattle.std.specs.Prelude.{◌≡◌, ◌<◌};
     ghost use Rattle.mp_automata.specs.Codes.{toggles_code};
 
     /// Their number: 1 for the first output, 2 for the second and 4 for the third.
-    pub(crate) fn code(self) -> u16
-        ensures { result ≡ toggles_code self }
+    pub(crate) fn code(self) -> u8
+        ensures value { result ≡ toggles_code self }
+        ensures low { result < 8 }
     {
-        u16::from(self.first) + u16::from(self.second) * 2 + u16::from(self.third) * 4
+        u8::from(self.first) + u8::from(self.second) * 2 + u8::from(self.third) * 4
     }
 }

@@ -5,12 +5,12 @@ use crate::automaton_state::AutomatonState;
 use crate::events::Events;
 use crate::phase::Phase;
 
-/// What comes of a state: the state before the next unit, and the outputs that toggle in this one. The bit of an output is 1 for the
-/// first, 2 for the second and 4 for the third.
+/// What comes of a state: the state before the next unit, and the ports whose levels change in this one, as `PortLevels` has them. The bit of
+/// an output that toggles is 16 for the first, 32 for the second and 64 for the third.
 #[derive(Clone, Copy, Debug)]
 pub struct Transition {
     pub next: AutomatonState,
-    pub toggles: u16,
+    pub flips: u8,
 }
 
 impl Transition {
@@ -24,7 +24,7 @@ impl Transition {
         let reaction = automaton.react(phase, events);
         Transition {
             next: AutomatonState::quiet(automaton, reaction.phase),
-            toggles: reaction.toggles.code(),
+            flips: events.code() + reaction.toggles.code() * 16,
         }
     }
 }

@@ -18,6 +18,7 @@ use Rattle.mp_model.specs.Evaluations.{delay_in}
 use Rattle.mp_model.specs.Levels.{built, inputs_by}
 use Rattle.mp_model.specs.Waves.{level, state}
 use Rattle.mp_automata.specs.declared.automaton_state.AutomatonState.{AutomatonState}
+use Rattle.mp_automata.specs.declared.port_levels.PortLevels.{PortLevels}
 use Rattle.mp_automata.specs.declared.events.Events.{Events}
 use Rattle.mp_automata.specs.Automata.{automaton_of}
 use Rattle.mp_automata.specs.Phases.{phase_of}
@@ -31,6 +32,7 @@ use Rattle.mp_wave.specs.ToggleWaves.{toggled_at}
 use Rattle.mp_events.specs.Toggling.{row_at, wave_at, entries_from, AreToggled}
 use Rattle.mp_events.specs.Ports.{HasPorts}
 use Rattle.mp_events.specs.Firing.{UnitState, AreNumbered, HaveSlots, ports_at}
+use Rattle.mp_events.specs.LevelFlips.{levels_at}
 use Rattle.mp_events.proofs.AddingLemmas.{added_both}
 use Rattle.mp_events.proofs.PortLemmas.{events_add_up}
 use Rattle.mp_core.specs.declared.simulator.Simulator.{Simulator}
@@ -50,6 +52,7 @@ use Rattle.mp_core.proofs.NumberLemmas.{events_with, events_of_code, events_part
 pub record IsApplied (s new : Simulator) (set others : List ℕ) (time : ℕ) : Type 0 where
   pub turned : new.wheel ≡ drop 1 s.wheel ++ [] ∷ []
   pub fanout : new.fanout ≡ s.fanout
+  pub levels : new.levels.items ≡ s.levels.items
   pub outputs : new.outputs.items ≡ s.outputs.items
   pub added : AreAdded s.states.items new.states.items (entries_from s.fanout (next_slot s ++ set) ++ entries_from s.fanout others)
   pub adding : IsAdding new.states.items new.due.items []
@@ -57,13 +60,14 @@ pub record IsApplied (s new : Simulator) (set others : List ℕ) (time : ℕ) : 
   pub waves : AreToggled s.waves.items new.waves.items (next_slot s ++ set) time
 
 pub is_applied : (s new : Simulator) (set others wires : List ℕ) (time : ℕ) (mid : List AutomatonState) →
-    wires ≡ next_slot s ++ set → new.wheel ≡ drop 1 s.wheel ++ [] ∷ [] → new.fanout ≡ s.fanout → new.outputs.items ≡ s.outputs.items →
+    wires ≡ next_slot s ++ set → new.wheel ≡ drop 1 s.wheel ++ [] ∷ [] → new.fanout ≡ s.fanout → new.levels.items ≡ s.levels.items → new.outputs.items ≡ s.outputs.items →
     AreAdded s.states.items mid (entries_from s.fanout wires) → AreAdded mid new.states.items (entries_from s.fanout others) →
     IsAdding new.states.items new.due.items [] → length new.states.items ≡ length s.states.items → AreToggled s.waves.items new.waves.items wires time →
     IsApplied s new set others time
-is_applied s new set others wires time mid same turned fanout outputs first then adding places waves = record {
+is_applied s new set others wires time mid same turned fanout levels outputs first then adding places waves = record {
   turned = turned;
   fanout = fanout;
+  levels = levels;
   outputs = outputs;
   added = added_both (entries_from s.fanout (next_slot s ++ set)) (entries_from s.fanout others)
       (subst (λ ws. AreAdded s.states.items mid (entries_from s.fanout ws)) same first) then;
@@ -140,6 +144,7 @@ module _ (s new : Simulator) (set others : List ℕ) (time : ℕ) (sound : IsSou
     units = λ q. with_events (sound.units q) (state_at new.states.items q);
     numbered = numbered_now sound.units sound.numbered;
     events = is.adding;
+    levels = ap (length {A = PortLevels}) is.levels ∙ sound.levels ∙ sym is.places;
     outputs = ap (length {A = OutputPorts}) is.outputs ∙ sound.outputs ∙ sym is.places;
     rows = let rows = sound.rows in let a = waved_as in let b = ap (length {A = List FanoutEntry}) is.fanout in omega arith;
     placed = λ x. subst (λ (rows : List (List FanoutEntry)). All (λ (l : FanoutEntry). l.module < length new.states.items) (row_at rows x)) (sym is.fanout)
@@ -250,6 +255,7 @@ module _ (s new : Simulator) (set others : List ℕ) (time : ℕ) (sound : IsSou
       numbered = numbered_now before.stands.units before.stands.numbered;
       asleep = before.stands.asleep;
       active = units_now;
+      levels = λ m q r at place. ap (λ (xs : List PortLevels). levels_at xs q) is.levels ∙ before.stands.levels m q r at place;
       answered = before.stands.answered;
       waves = waves_now;
       events = events_now;

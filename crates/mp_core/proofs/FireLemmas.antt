@@ -14,6 +14,7 @@ use Rattle.mp_events.specs.declared.output_ports.OutputPorts.{OutputPorts}
 use Rattle.mp_events.specs.Adding.{state_at, listed, IsAdding}
 use Rattle.mp_events.specs.Toggling.{row_at}
 use Rattle.mp_events.specs.Firing.{UnitState, reaction, number_of, next_state, events_of, AreNumbered, HaveFired, HaveSlots, ports_at, no_port, scheduled, fired_at, fired_by, is_entry}
+use Rattle.mp_events.specs.LevelFlips.{HaveFlipped}
 use Rattle.mp_events.proofs.EntryLemmas.{schedules_each}
 use Rattle.mp_core.specs.declared.simulator.Simulator.{Simulator}
 use Rattle.mp_core.specs.Simulators.{slot_at, AreBelow, IsSound}
@@ -24,9 +25,11 @@ use Rattle.mp_core.proofs.NumberLemmas.{events_part, number_low}
 -- what becomes of a simulator whose modules fire
 pub record IsFired (s new : Simulator) : Type 0 where
   pub states : (state_of : ℕ → UnitState) → AreNumbered s.states.items state_of → HaveFired state_of s.due.items s.states.items new.states.items
+  pub levels : (state_of : ℕ → UnitState) → AreNumbered s.states.items state_of → HaveFlipped state_of s.due.items s.levels.items new.levels.items
   pub wheel : (state_of : ℕ → UnitState) → AreNumbered s.states.items state_of → new.wheel ≡ scheduled s.wheel (fired_by state_of s.outputs.items s.due.items)
   pub units : length new.wheel ≡ length s.wheel
   pub places : length new.states.items ≡ length s.states.items
+  pub leveled : length new.levels.items ≡ length s.levels.items
   pub due : new.due.items ≡ []
   pub fanout : new.fanout ≡ s.fanout
   pub outputs : new.outputs.items ≡ s.outputs.items
@@ -34,17 +37,20 @@ pub record IsFired (s new : Simulator) : Type 0 where
 
 pub is_fired : (s new : Simulator) (outputs : List OutputPorts) (due : List ℕ) → outputs ≡ s.outputs.items → due ≡ s.due.items →
     ((state_of : ℕ → UnitState) → AreNumbered s.states.items state_of → HaveFired state_of due s.states.items new.states.items) →
+    ((state_of : ℕ → UnitState) → AreNumbered s.states.items state_of → HaveFlipped state_of due s.levels.items new.levels.items) →
     ((state_of : ℕ → UnitState) → AreNumbered s.states.items state_of → new.wheel ≡ scheduled s.wheel (fired_by state_of outputs due)) →
-    length new.wheel ≡ length s.wheel → length new.states.items ≡ length s.states.items → new.due.items ≡ [] →
+    length new.wheel ≡ length s.wheel → length new.states.items ≡ length s.states.items → length new.levels.items ≡ length s.levels.items → new.due.items ≡ [] →
     new.fanout ≡ s.fanout → new.outputs.items ≡ s.outputs.items → new.waves.items ≡ s.waves.items → IsFired s new
-is_fired s new outputs due same_outputs same_due states wheel units places none fanout same waves = record {
+is_fired s new outputs due same_outputs same_due states levels wheel units places leveled none fanout same waves = record {
   states = λ state_of numbered. subst (λ (xs : List ℕ). HaveFired state_of xs s.states.items new.states.items) same_due (states state_of numbered);
+  levels = λ state_of numbered. subst (λ (xs : List ℕ). HaveFlipped state_of xs s.levels.items new.levels.items) same_due (levels state_of numbered);
   wheel = λ state_of numbered.
       wheel state_of numbered
       ∙ ap (λ (xs : List OutputPorts). scheduled s.wheel (fired_by state_of xs due)) same_outputs
       ∙ ap (λ (xs : List ℕ). scheduled s.wheel (fired_by state_of s.outputs.items xs)) same_due;
   units = units;
   places = places;
+  leveled = leveled;
   due = none;
   fanout = fanout;
   outputs = same;
@@ -178,6 +184,7 @@ module _ (s new : Simulator) (sound : IsSound s) (is : IsFired s new) where
     units = units_then;
     numbered = numbered_now;
     events = adding_now;
+    levels = is.leveled ∙ sound.levels ∙ sym is.places;
     outputs = ap (length {A = OutputPorts}) is.outputs ∙ sound.outputs ∙ sym is.places;
     rows = let rows = sound.rows in let a = ap (length {A = Waveform}) is.waves in let b = ap (length {A = List FanoutEntry}) is.fanout in omega arith;
     placed = λ x. subst (λ (rows : List (List FanoutEntry)). All (λ (l : FanoutEntry). l.module < length new.states.items) (row_at rows x)) (sym is.fanout)

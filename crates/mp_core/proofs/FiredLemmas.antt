@@ -1,6 +1,6 @@
 -- When the modules that are due have fired, the unit is over.
-use Rattle.std.proofs.Common.{◌≡◌, ◌≢◌, ℕ, zero, suc, ◌+◌, ◌-◌, ◌%◌, ◌<◌, ◌≤◌, Bool, true, false, cond, nat_lt, List, [], length, Option, Some, None, refl, sym, ap, ◌∙◌, arith, subst}
-use Rattle.std.specs.Prelude.{◌==◌, ◌&&◌, slice_index_or}
+use Rattle.std.proofs.Common.{◌≡◌, ◌≢◌, ℕ, zero, suc, ◌+◌, ◌-◌, ◌<◌, ◌≤◌, Bool, true, false, cond, nat_lt, List, [], length, Option, Some, None, refl, sym, ap, ◌∙◌, arith, subst}
+use Rattle.std.specs.Prelude.{◌==◌, ◌&&◌, slice_index_or, bit_xor}
 use Rattle.std.proofs.lemmas.Bool.{eqb-true, eqb-false}
 use Rattle.std.proofs.lemmas.Bool.Decides.{nat_tests}
 use Rattle.mp_wave.specs.Waveform.{Waveform}
@@ -15,15 +15,12 @@ use Rattle.mp_netlist.proofs.DriverLemmas.{finds_ports, finds_only_ports, portle
 use Rattle.mp_model.specs.Evaluations.{delay_in}
 use Rattle.mp_model.specs.Levels.{built}
 use Rattle.mp_model.specs.Waves.{level, state}
-use Rattle.mp_automata.specs.declared.automaton.Automaton.{Automaton}
-use Rattle.mp_automata.specs.declared.automaton.Automaton.TheVariants.{Sleep}
 use Rattle.mp_automata.specs.declared.events.Events.{Events}
 use Rattle.mp_automata.specs.declared.phase.Phase.{Phase}
 use Rattle.mp_automata.specs.declared.reaction.Reaction.{Reaction}
 use Rattle.mp_automata.specs.Automata.{automaton_of}
-use Rattle.mp_automata.specs.Phases.{phase_of}
-use Rattle.mp_automata.specs.Reactions.{react, quiet}
 use Rattle.mp_automata.specs.Codes.{bit, no_events}
+use Rattle.mp_automata.specs.PortLevels.{ports_code, levels_code}
 use Rattle.mp_events.specs.declared.fanout_entry.FanoutEntry.{FanoutEntry}
 use Rattle.mp_events.specs.declared.output_port.OutputPort.{OutputPort}
 use Rattle.mp_events.specs.declared.output_ports.OutputPorts.{OutputPorts}
@@ -31,34 +28,18 @@ use Rattle.mp_events.specs.Adding.{state_at, listed}
 use Rattle.mp_events.specs.Toggling.{wave_at}
 use Rattle.mp_events.specs.Ports.{HasPorts}
 use Rattle.mp_events.specs.Firing.{UnitState, reaction, number_of, next_state, AreNumbered, HasSlot, HaveSlots, ports_at, no_port, scheduled, fired_by}
+use Rattle.mp_events.specs.LevelFlips.{levels_at}
 use Rattle.mp_core.specs.declared.simulator.Simulator.{Simulator}
 use Rattle.mp_core.specs.Changes.{change_at, is_decided}
-use Rattle.mp_core.specs.Advancing.{unit_state_at}
 use Rattle.mp_core.specs.Schedules.{output_port_of, output_ports_of, IsFiring, IsUndrivenBy}
 use Rattle.mp_core.specs.Scopes.{Scope, is_expected, known_after, with_answers}
 use Rattle.mp_core.specs.Simulators.{slot_at, IsSound}
 use Rattle.mp_core.specs.Traces.{IsTrace}
-use Rattle.mp_core.specs.Units.{IsSeat, IsLaidOut, HaveEvents, rest_state_at, IsBefore, IsDuring}
-use Rattle.mp_core.proofs.ChangeLemmas.{rests_without_events}
-use Rattle.mp_core.proofs.AdvanceLemmas.{states_advance}
+use Rattle.mp_core.specs.Units.{IsLaidOut, HaveEvents, HaveLevels, rest_state_at, IsBefore, IsDuring}
+use Rattle.mp_core.proofs.AdvanceLemmas.{states_advance, levels_advance}
 use Rattle.mp_core.proofs.ScheduleLemmas.{inside, few_ports, firing_schedules, firing_leaves_others}
-use Rattle.mp_core.proofs.NumberLemmas.{no_events_when, events_part}
-use Rattle.mp_core.proofs.FireLemmas.{IsFired, after, by_once, due_once, due_placed}
-
--- a sleeping module has no output that toggles, and keeps its phase
-sleeps : (a : Automaton) (phase : Phase) (events : Events) → a ≡ Sleep → react a phase events ≡ quiet phase
-unfolding react
-sleeps a phase events is = ap (λ (k : Automaton). react k phase events) is
-
--- and neither does an active one without events
-rests : (n : Circuit) → IsCircuit n → (scope : Scope) (s : Simulator) (m q t : ℕ) (r : ModuleRecord) → IsSeat n scope s m q r → (u : UnitState) → u ≡ unit_state_at n r m t →
-    u.events ≡ no_events → reaction u ≡ quiet u.phase
-rests n ok scope s m q t r seat u is none =
-    let part = built n r in
-    let own = rests_without_events part (state n m t) seat.of_bits (seat.state_bits t) in
-    let here : reaction (unit_state_at n r m t) ≡ quiet (phase_of part (state n m t)) =
-    ap (λ (e : Events). react (automaton_of part) (phase_of part (state n m t)) e) (sym (ap (λ (k : UnitState). k.events) is) ∙ none) ∙ own in
-    ap reaction is ∙ here ∙ ap quiet (sym (ap (λ (k : UnitState). k.phase) is))
+use Rattle.mp_core.proofs.FireLemmas.{IsFired, after, due_once, due_placed}
+use Rattle.mp_core.proofs.IdleLemmas.{sleeps, rests, idle_rests, idle_quiet, flips_when}
 
 abbrev port_module : Driver → ℕ
 port_module Nothing = 0
@@ -102,20 +83,6 @@ module _ (s new : Simulator) (sound : IsSound s) (is : IsFired s new) (n : Circu
   abbrev unit_at : ℕ → UnitState
   unit_at q = during.units q
 
-  -- an idle place keeps its phase, and no output of it toggles
-  idle_rests : (q : ℕ) (active : Bool) → scope.is_active q ≡ active → q < length s.states.items → (during.units q).events ≡ no_events → reaction (during.units q) ≡ quiet (during.units q).phase
-  idle_rests q true active within none =
-      let h = during.layout.placed q within active in
-      rests n ok scope s h.number q t h.part (during.layout.seats h.number q h.part h.stands h.is) (during.units q) (during.active h.number q h.part h.stands h.is) none
-  idle_rests q false active within none = sleeps (during.units q).automaton (during.units q).phase (during.units q).events (during.asleep q active)
-
-  -- an idle place has no events
-  idle_quiet : (q : ℕ) → q < length s.states.items → listed q s.due.items ≡ 0 → (during.units q).events ≡ no_events
-  idle_quiet q within none =
-      let number = during.numbered q within in
-      let zero_part = by_once (state_at s.states.items q % 16) (listed q s.due.items) (state_at s.states.items q % 16 == 0) refl (sound.events.once q) none in
-      no_events_when (during.units q).events (sym (events_part (during.units q)) ∙ sym (ap (λ k. k % 16) number) ∙ zero_part)
-
   state_here : (q : ℕ) → q < length s.states.items → state_at new.states.items q ≡ cond (listed q s.due.items == 0) (state_at s.states.items q) (next_state (during.units q)).0
   state_here q within = is.states during.units during.numbered q within
 
@@ -124,8 +91,8 @@ module _ (s new : Simulator) (sound : IsSound s) (is : IsFired s new) (n : Circu
   number_when q true idle within =
       let u = during.units q in
       let none = eqb-true (listed q s.due.items) 0 idle in
-      let quiet_u = idle_quiet q within none in
-      let stays = idle_rests q (scope.is_active q) refl within quiet_u in
+      let quiet_u = idle_quiet s sound n ok scope t during q within none in
+      let stays = idle_rests s sound n ok scope t during q (scope.is_active q) refl within quiet_u in
       during.numbered q within
       ∙ ap (λ (e : Events). number_of (let k : UnitState = record { automaton = u.automaton; phase = u.phase; events = e } in k)) quiet_u
       ∙ ap (λ (p : Phase). number_of (let k : UnitState = record { automaton = u.automaton; phase = p; events = no_events } in k)) (sym (ap (λ (k : Reaction). k.phase) stays))
@@ -144,6 +111,17 @@ module _ (s new : Simulator) (sound : IsSound s) (is : IsFired s new) (n : Circu
       ap after (during.active m q r at place)
       ∙ ap (λ (p : Phase). let k : UnitState = record { automaton = automaton_of (built n r); phase = p; events = no_events } in k) next.phase
 
+  levels_next : HaveLevels n (with_answers scope (t + 2)) (t + 1) new
+  levels_next m q r at place =
+      let seat = during.layout.seats m q r at place in
+      let long = sound.levels in
+      let within = seat.within in
+      is.levels during.units during.numbered q (omega arith)
+      ∙ flips_when s sound n ok scope t during q (levels_at s.levels.items q) (listed q s.due.items == 0) refl seat.within
+      ∙ ap (λ x. bit_xor x (ports_code (during.units q).events (reaction (during.units q)).toggles)) (during.levels m q r at place)
+      ∙ ap (λ (u : UnitState). bit_xor (levels_code (state n m t)) (ports_code u.events (reaction u).toggles)) (during.active m q r at place)
+      ∙ levels_advance n ok m t r at seat.of_bits seat.state_bits (seat.input_bits (t + 1))
+
   firing : IsFiring n scope.place scope.is_active t during.units s.outputs.items s.due.items
   firing = record {
     placed = λ k d within active. during.layout.placed (slice_index_or s.due.items k d) (due_placed s sound k d within) active;
@@ -157,7 +135,7 @@ module _ (s new : Simulator) (sound : IsSound s) (is : IsFired s new) (n : Circu
     idle = λ m q r at place none.
         let seat = during.layout.seats m q r at place in
         ap (λ (k : Reaction). k.toggles)
-        (rests n ok scope s m q t r seat (during.units q) (during.active m q r at place) (idle_quiet q seat.within none));
+        (rests n ok scope s m q t r seat (during.units q) (during.active m q r at place) (idle_quiet s sound n ok scope t during q seat.within none));
   }
 
   layout_next : IsLaidOut n (with_answers scope (t + 2)) new
@@ -281,6 +259,7 @@ module _ (s new : Simulator) (sound : IsSound s) (is : IsFired s new) (n : Circu
       numbered = numbered_next;
       asleep = during.asleep;
       active = active_next;
+      levels = levels_next;
       answered = λ m q place. ap (λ (o : Option ℕ). known_after o (t + 2) (scope.known m)) place ∙ (let e : t + 2 ≡ t + 1 + 1 = omega arith in e);
       waves = λ w within traced.
           subst (λ (xs : List Waveform). IsTrace (level n w) (t + 1) (wave_at xs w)) (sym is.waves)

@@ -1,18 +1,71 @@
--- A simulation in which nothing is known to change.
-use Rattle.std.proofs.Common.{◌≡◌, ℕ, ◌+◌, ◌<◌, drop, List, [], ◌∷◌, ◌++◌, refl, sym}
-use Rattle.mp_events.specs.EventWheels.{AreEmpty}
-use Rattle.mp_events.proofs.EmptyLemmas.{empty_turned, empty_next}
-use Rattle.mp_core.specs.declared.simulation.Simulation.{Simulation}
-use Rattle.mp_core.specs.Simulations.{IsQuiet, IsIdle, IsSoundRun, StaysIdle}
-use Rattle.mp_core.proofs.QuietLemmas.{quiet_before, quiet_copies}
-use Rattle.mp_core.proofs.SimulationLemmas.{running}
+-- Places of modules that have no event in a unit.
+use Rattle.std.proofs.Common.{◌≡◌, ℕ, ◌%◌, ◌<◌, Bool, true, false, cond, length, refl, sym, ap, ◌∙◌}
+use Rattle.std.specs.Prelude.{◌==◌, bit_xor}
+use Rattle.std.specs.Int.Bits.{xor_zero_r}
+use Rattle.std.proofs.lemmas.Bool.{eqb-true}
+use Rattle.mp_records.specs.declared.module_record.ModuleRecord.{ModuleRecord}
+use Rattle.mp_netlist.specs.Circuit.{Circuit, IsCircuit}
+use Rattle.mp_model.specs.Levels.{built}
+use Rattle.mp_model.specs.Waves.{state}
+use Rattle.mp_automata.specs.declared.automaton.Automaton.{Automaton}
+use Rattle.mp_automata.specs.declared.automaton.Automaton.TheVariants.{Sleep}
+use Rattle.mp_automata.specs.declared.events.Events.{Events}
+use Rattle.mp_automata.specs.declared.phase.Phase.{Phase}
+use Rattle.mp_automata.specs.declared.reaction.Reaction.{Reaction}
+use Rattle.mp_automata.specs.Automata.{automaton_of}
+use Rattle.mp_automata.specs.Phases.{phase_of}
+use Rattle.mp_automata.specs.Reactions.{react, quiet}
+use Rattle.mp_automata.specs.Codes.{no_events}
+use Rattle.mp_automata.specs.PortLevels.{ports_code}
+use Rattle.mp_events.specs.Adding.{state_at, listed}
+use Rattle.mp_events.specs.Firing.{UnitState, reaction}
+use Rattle.mp_events.specs.LevelFlips.{flipped}
+use Rattle.mp_core.specs.declared.simulator.Simulator.{Simulator}
+use Rattle.mp_core.specs.Advancing.{unit_state_at}
+use Rattle.mp_core.specs.Scopes.{Scope}
+use Rattle.mp_core.specs.Simulators.{IsSound}
+use Rattle.mp_core.specs.Units.{IsSeat, IsDuring}
+use Rattle.mp_core.proofs.ChangeLemmas.{rests_without_events}
+use Rattle.mp_core.proofs.NumberLemmas.{no_events_when, events_part}
+use Rattle.mp_core.proofs.FireLemmas.{by_once}
 
-pub quiet : (s : Simulation) → IsIdle s → IsQuiet s
-quiet s idle = record { wires = empty_next s.simulator.wheel idle.wires; copies = empty_next s.copies.wheel idle.copies }
+-- a sleeping module has no output that toggles, and keeps its phase
+pub sleeps : (a : Automaton) (phase : Phase) (events : Events) → a ≡ Sleep → react a phase events ≡ quiet phase
+unfolding react
+sleeps a phase events is = ap (λ (k : Automaton). react k phase events) is
 
-pub stays_idle : StaysIdle
-stays_idle n ok scope before t s sound idle whole sets is =
-    let still = quiet s idle in
-    running n scope before t s s.copies s.simulator is refl
-    (quiet_copies n ok scope before t s sound still whole sets is s.copies.wheel (sym (empty_turned s.copies.wheel sound.copies.some idle.copies)))
-    (quiet_before n ok scope before t s sound still whole sets is s.simulator.wheel (sym (empty_turned s.simulator.wheel sound.simulator.some idle.wires)))
+-- and neither does an active one without events
+pub rests : (n : Circuit) → IsCircuit n → (scope : Scope) (s : Simulator) (m q t : ℕ) (r : ModuleRecord) → IsSeat n scope s m q r → (u : UnitState) → u ≡ unit_state_at n r m t →
+    u.events ≡ no_events → reaction u ≡ quiet u.phase
+rests n ok scope s m q t r seat u is none =
+    let part = built n r in
+    let own = rests_without_events part (state n m t) seat.of_bits (seat.state_bits t) in
+    let here : reaction (unit_state_at n r m t) ≡ quiet (phase_of part (state n m t)) =
+    ap (λ (e : Events). react (automaton_of part) (phase_of part (state n m t)) e) (sym (ap (λ (k : UnitState). k.events) is) ∙ none) ∙ own in
+    ap reaction is ∙ here ∙ ap quiet (sym (ap (λ (k : UnitState). k.phase) is))
+
+module _ (s : Simulator) (sound : IsSound s) (n : Circuit) (ok : IsCircuit n) (scope : Scope) (t : ℕ) (during : IsDuring n scope t s) where
+  -- an idle place keeps its phase, and no output of it toggles
+  pub idle_rests : (q : ℕ) (active : Bool) → scope.is_active q ≡ active → q < length s.states.items → (during.units q).events ≡ no_events → reaction (during.units q) ≡ quiet (during.units q).phase
+  idle_rests q true active within none =
+      let h = during.layout.placed q within active in
+      rests n ok scope s h.number q t h.part (during.layout.seats h.number q h.part h.stands h.is) (during.units q) (during.active h.number q h.part h.stands h.is) none
+  idle_rests q false active within none = sleeps (during.units q).automaton (during.units q).phase (during.units q).events (during.asleep q active)
+
+  -- an idle place has no events
+  pub idle_quiet : (q : ℕ) → q < length s.states.items → listed q s.due.items ≡ 0 → (during.units q).events ≡ no_events
+  idle_quiet q within none =
+      let number = during.numbered q within in
+      let zero_part = by_once (state_at s.states.items q % 16) (listed q s.due.items) (state_at s.states.items q % 16 == 0) refl (sound.events.once q) none in
+      no_events_when (during.units q).events (sym (events_part (during.units q)) ∙ sym (ap (λ k. k % 16) number) ∙ zero_part)
+
+  -- an idle place keeps its levels
+  pub flips_when : (q x : ℕ) (idle : Bool) → (listed q s.due.items == 0) ≡ idle → q < length s.states.items →
+      cond idle x (flipped (during.units q) x).0 ≡ bit_xor x (ports_code (during.units q).events (reaction (during.units q)).toggles)
+  flips_when q x true idle within =
+      let none = idle_quiet q within (eqb-true (listed q s.due.items) 0 idle) in
+      let stays = idle_rests q (scope.is_active q) refl within none in
+      sym (ap (λ (e : Events). bit_xor x (ports_code e (reaction (during.units q)).toggles)) none
+      ∙ ap (λ (k : Reaction). bit_xor x (ports_code no_events k.toggles)) stays
+      ∙ xor_zero_r x)
+  flips_when q x false idle within = refl

@@ -9,12 +9,14 @@ pub mod NumberLemmas
 pub mod TurnLemmas
 pub mod ApplyLemmas
 pub mod FireLemmas
+pub mod ClientLemmas
 pub mod WidthLemmas
 pub mod CopyLemmas
 pub mod WholeLemmas
 pub mod SimulationLemmas
 pub mod BeginningLemmas
+pub mod IdleLemmas
 pub mod FiredLemmas
 pub mod DueLemmas
 pub mod QuietLemmas
-pub mod IdleLemmas
+pub mod RestingLemmas

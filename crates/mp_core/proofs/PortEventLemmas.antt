@@ -15,7 +15,8 @@ use Rattle.mp_events.specs.Ports.{listed_at}
 use Rattle.mp_core.specs.Changes.{late_change}
 use Rattle.mp_core.specs.PortEvents.{source_of, AreHeard, PortsHaveEvents}
 use Rattle.mp_core.proofs.ChangeLemmas.{inputs_change}
-use Rattle.mp_core.proofs.StayLemmas.{step_inputs, settle_steps}
+use Rattle.mp_automata.proofs.LevelLemmas.{step_inputs}
+use Rattle.mp_core.proofs.StayLemmas.{settle_steps}
 
 -- a state holds the levels at its inputs
 pub held : (n : Circuit) → IsCircuit n → (m t : ℕ) (r : ModuleRecord) → module_at n m ≡ Some r → (state n m t).inputs ≡ input_levels (inputs_by n (level n) r t)

@@ -49,6 +49,7 @@ pub quiet_applied : (s : Simulator) (wheel : List (List ℕ)) (time : ℕ) → I
 quiet_applied s wheel time sound none is = record {
   turned = is;
   fanout = refl;
+  levels = refl;
   outputs = refl;
   added = subst (λ (xs : List ℕ). AreAdded s.states.items s.states.items (entries_from s.fanout (xs ++ []) ++ entries_from s.fanout [])) (sym none) (none_added s);
   adding = sound.events;
@@ -63,9 +64,11 @@ quiet_sound s wheel sound none is = applied_sound s (turned s wheel) [] [] 0 sou
 pub none_fired : (s : Simulator) → s.due.items ≡ [] → IsFired s s
 none_fired s none = record {
   states = λ state_of numbered m within. rw none refl;
+  levels = λ state_of numbered m within. rw none refl;
   wheel = λ state_of numbered. rw none refl;
   units = refl;
   places = refl;
+  leveled = refl;
   due = none;
   fanout = refl;
   outputs = refl;

@@ -12,9 +12,9 @@ use Rattle.mp_core.specs.declared.simulator.Simulator.{Simulator}
 use Rattle.mp_core.specs.Changes.{late_change}
 use Rattle.mp_core.specs.Scopes.{Scope, with_answers}
 use Rattle.mp_core.specs.Simulators.{next_slot, IsBelow}
-use Rattle.mp_core.specs.Units.{IsBefore}
+use Rattle.mp_core.specs.Units.{IsBefore, IsDuring}
 use Rattle.mp_core.specs.Copies.{AreChained, HaveCopies, AreListedBelow}
-use Rattle.mp_core.specs.Simulations.{copy_slot, AreSoundCopies, IsSoundRun, IsRunning, CanGoOn}
+use Rattle.mp_core.specs.Simulations.{copy_slot, AreSoundCopies, IsSoundRun, IsRunning, HasHeard, CanGoOn}
 use Rattle.mp_core.specs.WholeRuns.{is_number, IsWhole, AreSet, IsAll}
 use Rattle.mp_core.proofs.ListedLemmas.{all_below}
 use Rattle.mp_core.proofs.DueLemmas.{can_apply}
@@ -78,6 +78,15 @@ pub running : (n : Circuit) (scope : Scope) (before : ℕ → Option ℕ) (t : �
     IsBefore n (with_answers scope (t + 2)) (t + 1) simulator → IsRunning n (with_answers scope (t + 2)) before (t + 1) (record { simulator = simulator; copies = new })
 running n scope before t s new simulator is same next after = record {
   simulator = after;
+  chained = subst (λ (ports : List OutputPort). AreChained scope.source before ports) (sym same) is.chained;
+  copies = subst (λ (ports : List OutputPort). HaveCopies n scope.source before ports (t + 1) new.wheel) (sym same) next;
+}
+
+pub all_heard : (n : Circuit) (scope : Scope) (before : ℕ → Option ℕ) (t : ℕ) (s : Simulation) (new : DelayedCopies) (simulator : Simulator) →
+    IsRunning n scope before t s → new.next.items ≡ s.copies.next.items → HaveCopies n scope.source before s.copies.next.items (t + 1) new.wheel →
+    IsDuring n scope t simulator → HasHeard n scope before t (record { simulator = simulator; copies = new })
+all_heard n scope before t s new simulator is same next during = record {
+  simulator = during;
   chained = subst (λ (ports : List OutputPort). AreChained scope.source before ports) (sym same) is.chained;
   copies = subst (λ (ports : List OutputPort). HaveCopies n scope.source before ports (t + 1) new.wheel) (sym same) next;
 }

@@ -12,26 +12,11 @@ use Rattle.mp_storage.specs.declared.any_module.AnyModule.{AnyModule}
 use Rattle.mp_storage.specs.declared.any_module.AnyModule.TheVariants as parts
 use Rattle.mp_storage.specs.AnyModules.{step, settle, start}
 use Rattle.mp_storage.specs.QuietAny.{stepped_stays}
+use Rattle.mp_automata.proofs.LevelLemmas.{step_inputs}
 use Rattle.mp_model.specs.Levels.{built, inputs_by}
 use Rattle.mp_model.specs.Waves.{level, state}
 use Rattle.mp_model.proofs.BehaviourLemmas.{satisfies}
 use Rattle.mp_core.specs.ChangeLaws.{StatesStay}
-
-core_inputs : (part : CoreModule) (m : Memory) (x : List ℕ) → (tables.step part m x).inputs ≡ input_levels x
-core_inputs core.Buf m x = refl
-core_inputs core.Not m x = refl
-core_inputs core.Xor m x = refl
-core_inputs (core.C c) m x = refl
-core_inputs core.Toggle m x = refl
-core_inputs core.Select m x = refl
-core_inputs core.Call m x = refl
-core_inputs core.Arbiter m x = refl
-
-pub step_inputs : (part : AnyModule) (m : Memory) (x : List ℕ) → (step part m x).inputs ≡ input_levels x
-unfolding step
-step_inputs (parts.Core part) m x = core_inputs part m x
-step_inputs (parts.Reg part) m x = refl
-step_inputs (parts.Computed part) m x = refl
 
 core_padded : (part : CoreModule) (m : Memory) (x : List ℕ) → tables.step part m (input_levels x) ≡ tables.step part m x
 core_padded core.Buf m x = refl

@@ -38,6 +38,7 @@ use Rattle.mp_automata.specs.BitModules.{AreBits, IsOfBits, IsBitState}
 use Rattle.mp_core.specs.Widths.{HasBits, HaveBits}
 use Rattle.mp_core.proofs.StayLemmas.{settle_steps, states_stay}
 use Rattle.mp_core.proofs.PortEventLemmas.{held}
+use Rattle.mp_core.proofs.ClientLemmas.{clients_at}
 
 -- ---- three outputs
 
@@ -253,6 +254,7 @@ module _ (n : Circuit) (ok : IsCircuit n) (m : ℕ) (r : ModuleRecord) (at : mod
     inputs = subst (λ (xs : List ℕ). AreBits xs) (sym (held n ok m t r at)) (four_bits (inputs_by n (level n) r t) (inputs_are t));
     outputs = outputs_are t;
     shape = shape_of (state n m t).outputs (three_at t);
+    clients = clients_at n ok m t r at;
     stays = states_stay n ok m t r at;
   }
 

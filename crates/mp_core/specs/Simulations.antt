@@ -7,7 +7,7 @@ use Rattle.mp_core.specs.declared.delayed_copies.DelayedCopies.{DelayedCopies}
 use Rattle.mp_core.specs.declared.simulation.Simulation.{Simulation}
 use Rattle.mp_core.specs.Scopes.{Scope, with_answers}
 use Rattle.mp_core.specs.Simulators.{next_slot, IsBelow, IsSound, CanApply}
-use Rattle.mp_core.specs.Units.{IsBefore}
+use Rattle.mp_core.specs.Units.{IsBefore, IsDuring}
 use Rattle.mp_core.specs.Copies.{AreChained, HaveCopies, AreListedBelow}
 use Rattle.mp_core.specs.WholeRuns.{IsWhole, AreSet}
 
@@ -42,7 +42,13 @@ pub record IsRunning (n : Circuit) (scope : Scope) (before : ℕ → Option ℕ)
   pub chained : AreChained scope.source before s.copies.next.items
   pub copies : HaveCopies n scope.source before s.copies.next.items t s.copies.wheel
 
--- then what changes in the next unit can be applied
+-- all events of the unit after t have been heard, and no module has fired
+pub record HasHeard (n : Circuit) (scope : Scope) (before : ℕ → Option ℕ) (t : ℕ) (s : Simulation) : Type 0 where
+  pub simulator : IsDuring n scope t s.simulator
+  pub chained : AreChained scope.source before s.copies.next.items
+  pub copies : HaveCopies n scope.source before s.copies.next.items (t + 1) s.copies.wheel
+
+-- before a unit what changes in it can be applied
 abbrev pub CanGoOn : Type 0
 CanGoOn = (n : Circuit) → IsCircuit n → (scope : Scope) (before : ℕ → Option ℕ) (t : ℕ) (s : Simulation) (set : List ℕ) → IsSoundRun s → IsRunning n scope before t s →
     IsWhole n scope before t → AreSet n scope set (t + 1) → All (λ w. w < length s.simulator.waves.items) set → CanApply s.simulator set (copy_slot s.copies 0) (t + 1)

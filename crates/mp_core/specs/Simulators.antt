@@ -24,12 +24,13 @@ pub record AreBelow (wires : ℕ) (ports : OutputPorts) : Type 0 where
   pub second : IsBelow wires ports.second
   pub third : IsBelow wires ports.third
 
--- each state is that of an automaton; a module is due where it has an event, once; each module has its outputs, each wire a wave and a row of
+-- each state is that of an automaton; a module is due where it has an event, once; each module has levels and outputs, each wire a wave and a row of
 -- inputs, which stand at places and have the bits of events; the wheel has a slot for each delay, and each wire in it has a wave
 pub record IsSound (s : Simulator) : Type 0 where
   pub units : ℕ → UnitState
   pub numbered : AreNumbered s.states.items units
   pub events : IsAdding s.states.items s.due.items []
+  pub levels : length s.levels.items ≡ length s.states.items
   pub outputs : length s.outputs.items ≡ length s.states.items
   pub rows : length s.waves.items ≤ length s.fanout
   pub placed : (x : ℕ) → All (λ (l : FanoutEntry). l.module < length s.states.items) (row_at s.fanout x)

@@ -13,10 +13,12 @@ use Rattle.mp_automata.specs.Automata.{automaton_of}
 use Rattle.mp_automata.specs.Phases.{phase_of}
 use Rattle.mp_automata.specs.BitModules.{AreBits, IsOfBits, IsBitState}
 use Rattle.mp_automata.specs.Codes.{bit, no_events}
+use Rattle.mp_automata.specs.PortLevels.{levels_code}
 use Rattle.mp_events.specs.Adding.{listed}
 use Rattle.mp_events.specs.Toggling.{wave_at}
 use Rattle.mp_events.specs.Ports.{HasPorts}
 use Rattle.mp_events.specs.Firing.{UnitState, AreNumbered, ports_at}
+use Rattle.mp_events.specs.LevelFlips.{levels_at}
 use Rattle.mp_core.specs.declared.simulator.Simulator.{Simulator}
 use Rattle.mp_core.specs.Changes.{change_at}
 use Rattle.mp_core.specs.PortEvents.{source_of, AreHeard}
@@ -57,6 +59,10 @@ abbrev pub HaveRoom : Circuit → Scope → ℕ → Simulator → Type 0
 HaveRoom n scope t s = (w p : ℕ) (m : ModuleId) (r : ModuleRecord) → driver n w ≡ Port m p → module_at n m.0 ≡ Some r →
     scope.known m.0 + delay_of r p ≤ t + 1 + length s.wheel
 
+-- the levels at the ports of active modules are those of t
+abbrev pub HaveLevels : Circuit → Scope → ℕ → Simulator → Type 0
+HaveLevels n scope t s = (m q : ℕ) (r : ModuleRecord) → module_at n m ≡ Some r → scope.place m ≡ Some q → levels_at s.levels.items q ≡ levels_code (state n m t)
+
 -- what holds before a unit and within it: active modules have answered up to t, and their states and waves are told by two further times
 pub record Stands (n : Circuit) (scope : Scope) (t now : ℕ) (unit_of : Circuit → ModuleRecord → ℕ → ℕ → UnitState) (s : Simulator) : Type 0 where
   pub layout : IsLaidOut n scope s
@@ -64,6 +70,7 @@ pub record Stands (n : Circuit) (scope : Scope) (t now : ℕ) (unit_of : Circuit
   pub numbered : AreNumbered s.states.items units
   pub asleep : (q : ℕ) → scope.is_active q ≡ false → (units q).automaton ≡ Sleep
   pub active : (m q : ℕ) (r : ModuleRecord) → module_at n m ≡ Some r → scope.place m ≡ Some q → units q ≡ unit_of n r m t
+  pub levels : HaveLevels n scope t s
   pub answered : (m q : ℕ) → scope.place m ≡ Some q → scope.known m ≡ t + 1
   pub waves : HaveWaves n scope now s
   pub events : HaveEvents n scope now s

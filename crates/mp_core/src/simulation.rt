@@ -17,7 +17,7 @@ impl Simulation {
     ghost use Rattle.mp_core.specs.Scopes.{Scope, with_answers};
     ghost use Rattle.mp_core.specs.Simulators.{CanApply};
     ghost use Rattle.mp_core.specs.WholeRuns.{IsWhole, AreSet};
-    ghost use Rattle.mp_core.specs.Simulations.{copy_slot, IsSoundRun, IsQuiet, IsIdle, IsRunning};
+    ghost use Rattle.mp_core.specs.Simulations.{copy_slot, IsSoundRun, IsQuiet, IsIdle, IsRunning, HasHeard};
 
     /// Goes through one unit, in which these wires are set from outside.
     pub fn pass_unit(&mut self, set: &[u32], time: u32) -> Result<(), AllocError>
@@ -32,17 +32,42 @@ impl Simulation {
             self.skip_unit();
             return Ok(());
         }
+        self.apply(set, time)?;
+        self.fire()?;
+        Ok(())
+    }
+
+    /// The next unit begins, in which these wires are set from outside: modules have their events, and those that have one are due.
+    pub fn apply(&mut self, set: &[u32], time: u32) -> Result<(), AllocError>
+        requires sound { IsSoundRun self.old }
+        requires fit { CanApply self.old.simulator set.now (copy_slot self.old.copies 0) time }
+        ensures sound { OnOk result (IsSoundRun self.new) }
+        ensures heard { OnOk result ((n : Circuit) (scope : Scope) (before : ℕ → Option ℕ) (t : ℕ) → IsCircuit n → time ≡ t + 1 → IsWhole n scope before t →
+            AreSet n scope set.now (t + 1) → IsRunning n scope before t self.old → HasHeard n scope before t self.new) }
+        ensures waves { OnOk result (length self.new.simulator.waves.items ≡ length self.old.simulator.waves.items) }
+    {
         self.copies.begin_unit();
         self.simulator
             .apply_events(set, self.copies.present.as_slice(), time)?;
         self.copies.advance(self.simulator.present.as_slice())?;
+        Ok(())
+    }
+
+    /// The modules that are due fire, and the unit is over.
+    pub fn fire(&mut self) -> Result<(), AllocError>
+        requires { IsSoundRun self.old }
+        ensures sound { OnOk result (IsSoundRun self.new) }
+        ensures fired { OnOk result ((n : Circuit) (scope : Scope) (before : ℕ → Option ℕ) (t : ℕ) → IsCircuit n → HasHeard n scope before t self.old →
+            IsRunning n (with_answers scope (t + 2)) before (t + 1) self.new) }
+        ensures waves { OnOk result (length self.new.simulator.waves.items ≡ length self.old.simulator.waves.items) }
+    {
         self.simulator.fire()?;
         Ok(())
     }
 
     /// Whether nothing changes in the next unit that isn't set from outside.
     #[inline(always)]
-    fn is_quiet(&self) -> bool
+    pub fn is_quiet(&self) -> bool
         requires { IsSoundRun self.now }
         ensures { IsTrue result ↔ IsQuiet self.now }
     {
@@ -58,7 +83,7 @@ impl Simulation {
 
     /// Goes through one unit in which nothing changes.
     #[inline(always)]
-    fn skip_unit(&mut self)
+    pub fn skip_unit(&mut self)
         requires sound { IsSoundRun self.old }
         requires quiet { IsQuiet self.old }
         ensures sound { IsSoundRun self.new }

@@ -1,15 +1,16 @@
 //! A simulator of modules of width 1.
 ghost use Rattle.std.specs.Prelude.{◌≡◌};
 
-use mp_automata::{AutomatonState, TransitionTable};
+use mp_automata::{AutomatonState, PortLevels, TransitionTable};
 use mp_events::{
     EventSlot, EventWheel, Fanout, OutputPorts, add_fanout_events, fire_modules, toggle_wires,
 };
+use mp_modules::Memory;
 use mp_wave::ToggleWave;
 use std::alloc::AllocError;
 
-/// The modules of width 1 of a netlist, so far as they stand in one: each has a place, with its state and its outputs. The fanout tells of each
-/// number which inputs read it: the numbers of wires, and behind them those of their delayed copies. Modules that have had an event in
+/// The modules of width 1 of a netlist, so far as they stand in one: each has a place, with its state, the levels at its ports, and its outputs. The
+/// fanout tells of each number which inputs read it: the numbers of wires, and behind them those of their delayed copies. Modules that have had an event in
 /// this unit are due. Each wire of width 1 has a wave, and the wheel has the events to come. The wires that toggled in the present unit are kept
 /// until others do.
 #[derive(Drop)]
@@ -18,6 +19,7 @@ pub struct Simulator {
     pub fanout: Fanout,
     pub outputs: Vec<OutputPorts>,
     pub states: Vec<AutomatonState>,
+    pub levels: Vec<PortLevels>,
     pub due: Vec<u32>,
     pub waves: Vec<ToggleWave>,
     pub wheel: EventWheel,
@@ -25,8 +27,10 @@ pub struct Simulator {
 }
 
 impl Simulator {
-    ghost use Rattle.std.specs.Prelude.{◌≡◌, ℕ, ◌+◌, ◌++◌, [], OnOk, length};
-    ghost use Rattle.mp_netlist.specs.Circuit.{Circuit, IsCircuit};
+    ghost use Rattle.std.specs.Prelude.{◌≡◌, ℕ, ◌+◌, ◌<◌, ◌++◌, [], Some, OnOk, length};
+    ghost use Rattle.mp_records.specs.declared.module_record.ModuleRecord.{ModuleRecord};
+    ghost use Rattle.mp_netlist.specs.Circuit.{Circuit, IsCircuit, module_at};
+    ghost use Rattle.mp_model.specs.Waves.{state};
     ghost use Rattle.mp_core.specs.Scopes.{Scope, with_answers};
     ghost use Rattle.mp_core.specs.Simulators.{next_slot, IsSound, CanApply, AreOnlyDue};
     ghost use Rattle.mp_core.specs.Units.{IsBefore, IsDuring, AreDue};
@@ -75,10 +79,22 @@ impl Simulator {
             &self.table,
             self.outputs.as_slice(),
             &mut self.states,
+            &mut self.levels,
             &mut self.wheel,
             self.due.as_slice(),
         )?;
         self.due.clear();
         Ok(())
+    }
+
+    /// The state of the module at a place, between two units.
+    pub fn memory(&self, place: u32) -> Memory
+        requires sound { IsSound self.now }
+        requires within { place < length self.now.states.items }
+        ensures { (n : Circuit) (scope : Scope) (t m : ℕ) (r : ModuleRecord) → IsBefore n scope t self.now → module_at n m ≡ Some r → scope.place m ≡ Some place →
+            result ≡ state n m t }
+    {
+        let q = place as usize;
+        self.states[q].memory(self.levels[q])
     }
 }

@@ -1,12 +1,13 @@
 -- A module with data goes on to the next unit.
 use Rattle.std.specs.Prelude.{◌≡◌, ℕ, ◌<◌, not, List, [], ◌∷◌, Option, Some, None, slice_index_or, ◌==◌}
+use Rattle.mp_modules.specs.declared.memory.Memory.{Memory}
 use Rattle.mp_automata.specs.declared.toggles.Toggles.{Toggles}
 use Rattle.mp_events.specs.Firing.{HasSlot, HaveSlots, fired_at}
 use Rattle.mp_data.specs.declared.level_change.LevelChange.{LevelChange}
 use Rattle.mp_data.specs.declared.output_levels.OutputLevels.{OutputLevels}
 use Rattle.mp_data.specs.declared.data_module.DataModule.{DataModule}
 use Rattle.mp_data.specs.Levels.{level_at}
-use Rattle.mp_data.specs.DataParts.{next_outputs}
+use Rattle.mp_data.specs.DataParts.{next_outputs, memory_with}
 use Rattle.mp_data.specs.LevelWheels.{entry_if}
 
 -- the number that an input reads, if there is such an input
@@ -26,6 +27,10 @@ outputs_after levels m = next_outputs m.part m.outputs (inputs_of levels m)
 
 abbrev pub stepped : List ℕ → DataModule → DataModule
 stepped levels m = record m { outputs = outputs_after levels m }
+
+-- its state, where numbers have these levels
+abbrev pub memory_of : List ℕ → DataModule → Memory
+memory_of levels m = memory_with m.outputs (inputs_of levels m)
 
 -- the outputs whose levels differ
 abbrev pub differing : OutputLevels → OutputLevels → Toggles

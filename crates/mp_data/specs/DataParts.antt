@@ -1,12 +1,13 @@
 -- What modules with data do, by their outputs alone.
-use Rattle.std.specs.Prelude.{ℕ, List, slice_index}
+use Rattle.std.specs.Prelude.{◌≡◌, ℕ, List, [], ◌∷◌, slice_index}
 use Rattle.mp_modules.specs.declared.core_module.CoreModule.TheVariants as core
 use Rattle.mp_modules.specs.declared.memory.Memory.{Memory}
-use Rattle.mp_modules.specs.Memories.{output_of}
+use Rattle.mp_modules.specs.Memories.{output_of, with_outputs}
 use Rattle.mp_storage.specs.declared.any_module.AnyModule.{AnyModule}
 use Rattle.mp_storage.specs.declared.any_module.AnyModule.TheVariants as parts
 use Rattle.mp_storage.specs.declared.computed.Computed.{Computed}
 use Rattle.mp_storage.specs.declared.computed.Computed.TheVariants as computed
+use Rattle.mp_storage.specs.AnyModules.{settle, step}
 use Rattle.mp_storage.specs.Computed.{output}
 use Rattle.mp_storage.specs.Reg.{latched}
 use Rattle.mp_data.specs.declared.output_levels.OutputLevels.{OutputLevels}
@@ -37,6 +38,15 @@ any_part (Bit place) = parts.Computed (computed.Bit place)
 -- the outputs in a state
 abbrev pub outputs_in : Memory → OutputLevels
 outputs_in memory = record { first = output_of memory 0; second = output_of memory 1; third = output_of memory 2 }
+
+-- the state with these outputs, and these levels at the inputs
+abbrev pub memory_with : OutputLevels → List ℕ → Memory
+memory_with outputs x = with_outputs x (outputs.first ∷ outputs.second ∷ outputs.third ∷ [])
+
+-- the state that a module with data settles in, or goes on to, is told by its outputs and the levels at its inputs
+pub record IsToldByOutputs (part : DataPart) : Type 0 where
+  pub settled : (x : List ℕ) → settle (any_part part) x ≡ memory_with (outputs_in (settle (any_part part) x)) x
+  pub stepped : (memory : Memory) (x : List ℕ) → step (any_part part) memory x ≡ memory_with (outputs_in (step (any_part part) memory x)) x
 
 -- the outputs after these, with these levels at the inputs: a module that isn't a register has one
 abbrev pub next_outputs : DataPart → OutputLevels → List ℕ → OutputLevels

@@ -5,11 +5,11 @@ ghost use Rattle.mp_data.specs.Levels.{level_at};
 use crate::data_part::DataPart;
 use crate::data_ports::DataPorts;
 use crate::output_levels::OutputLevels;
-use mp_modules::MOST_INPUTS;
+use mp_modules::{MOST_INPUTS, Memory};
 use mp_storage::Computed;
 
-/// A module with data: what it does, the levels of its outputs, the numbers that its inputs read, and what it drives. No more of its state is
-/// kept, since no step needs it.
+/// A module with data: what it does, the levels of its outputs, the numbers that its inputs read, and what it drives. The rest of its state
+/// is the levels of those numbers.
 #[derive(Clone, Copy, Debug)]
 pub struct DataModule {
     pub part: DataPart,
@@ -21,7 +21,7 @@ pub struct DataModule {
 impl DataModule {
     ghost use Rattle.std.specs.Prelude.{◌≡◌, ℕ, ◌<◌, length};
     ghost use Rattle.mp_data.specs.Levels.{level_at};
-    ghost use Rattle.mp_data.specs.DataModules.{ReadsBelow, input_of, stepped};
+    ghost use Rattle.mp_data.specs.DataModules.{ReadsBelow, input_of, stepped, memory_of};
 
     /// Goes on to the next unit, in which numbers have these levels. It reads the inputs that a module of its kind has, and writes the outputs.
     #[inline(always)]
@@ -53,6 +53,25 @@ impl DataModule {
                 self.outputs.first = Computed::Bit { place }.output(&[level]);
             }
         }
+    }
+
+    /// The module's state, where numbers have these levels.
+    pub fn memory(&self, levels: &[u64]) -> Memory
+        requires { ReadsBelow (length levels.now) self.now }
+        ensures { result ≡ memory_of levels.now self.now }
+    {
+        let inputs = [
+            self.input_level(levels, 0),
+            self.input_level(levels, 1),
+            self.input_level(levels, 2),
+            self.input_level(levels, 3),
+        ];
+        let OutputLevels {
+            first,
+            second,
+            third,
+        } = self.outputs;
+        Memory::with_outputs(&inputs, [first, second, third])
     }
 
     /// The level at an input, 0 where it reads no number.

@@ -5,6 +5,7 @@ mod data_module;
 mod data_part;
 mod data_ports;
 mod firing;
+pub mod laws;
 mod level_change;
 mod level_scheduling;
 mod level_slot;

@@ -77,20 +77,6 @@ stimulus_changes horizon width f (suc k) low fit = by (f (0 + k) == f (suc (0 + 
     by false before = stimulus_push horizon width 0 (changes_after f 0 k) (suc (0 + k), f (suc (0 + k))) before
         (let last = last_time-changes_after f 0 k in omega (arith, last)) (omega (arith, low)) (fit (suc (0 + k)))
 
--- where all modules are at home in the first part, which hears of nothing, it is the netlist
-all_at_home : (m : ℕ) (slots : List (Option ModuleRecord)) → slots_at_home [] 0 m slots ≡ slots
-all_at_home m [] = refl
-all_at_home m (slot ∷ slots) = ap (λ xs. slot ∷ xs) (all_at_home (m + 1) slots)
-
-none_heard : (n : Circuit) (w : ℕ) (slots : List (Option WireRecord)) → slots_heard n [] w slots ≡ slots
-none_heard n w [] = refl
-none_heard n w (slot ∷ slots) = ap (λ xs. slot ∷ xs) (none_heard n (w + 1) slots)
-
-pub whole_region : (n : Circuit) → region n [] 0 [] ≡ n
-whole_region n =
-    ap (λ slots. let c : Circuit = record { format = n.format; horizon = n.horizon; wires = slots; modules = slots_at_home [] 0 0 n.modules; bundles = n.bundles } in c) (none_heard n 0 n.wires)
-    ∙ ap (λ slots. let c : Circuit = record { format = n.format; horizon = n.horizon; wires = n.wires; modules = slots; bundles = n.bundles } in c) (all_at_home 0 n.modules)
-
 module _ (n : Circuit) (homes : List ℕ) (part : ℕ) (heard : List Bool) where
   pub module_here : (m : ℕ) → home_of homes m ≡ part → module_at (region n homes part heard) m ≡ module_at n m
   module_here m home = let e : 0 + m ≡ m = omega arith in slot_here homes part 0 n.modules m ∙ rw e (rw (eq-eqb (home_of homes m) part home) refl)

@@ -13,3 +13,12 @@ pub(crate) fn pass_gate<G: Gate, R: Wait>(rt: &R, gate: &G, due: &[ModuleId], ti
         gate.enter(rt, *id, time, time + 1);
     }
 }
+
+/// The modules of these numbers pass the gate, each for the unit at a time.
+pub(crate) fn pass_gate_at<G: Gate, R: Wait>(rt: &R, gate: &G, modules: &[u32], time: u32)
+    requires { time + 1 < 2 ^ 32 }
+{
+    for number in modules {
+        gate.enter(rt, ModuleId(*number), time, time + 1);
+    }
+}

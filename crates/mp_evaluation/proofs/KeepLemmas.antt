@@ -1,7 +1,8 @@
 -- Lists of states that go on with a state or with another list.
-use Rattle.std.proofs.Common.{◌≡◌, ℕ, ◌<◌, ◌≤◌, List, [], ◌∷◌, ◌++◌, nat_le, suc, refl, ap, sym, ◌∙◌, arith, inl, inr, append_assoc}
+use Rattle.std.proofs.Common.{◌≡◌, ℕ, ◌+◌, ◌<◌, ◌≤◌, List, [], ◌∷◌, ◌++◌, Some, length, slice_get, nat_le, zero, suc, refl, ap, sym, ◌∙◌, arith, inl, inr, append_assoc}
 use Rattle.std.specs.Prelude.{All}
 use Rattle.std.proofs.lemmas.Bool.{cases_Bool, cases_lt, lt-ltb, le-ltb}
+use Rattle.std.proofs.lemmas.Option.{same_Some}
 use Rattle.std.proofs.lemmas.List.Elements.{All-push, All-weaker, All-nil, All-cons}
 use Rattle.mp_wave.proofs.WaveformLemmas.{nat_le-true, nat_le-false}
 use Rattle.mp_modules.specs.declared.memory.Memory.{Memory}
@@ -77,3 +78,28 @@ keeps_between ks other later from to memory times less same = record {
 
     first : (c : ℕ) → kept_at ((ks ++ new ∷ []) ++ kept_before to later) c blank ≡ kept_at (ks ++ (new ∷ kept_before to later)) c blank
     first c = ap (λ xs. kept_at xs c blank) (append_assoc ks (new ∷ []) (kept_before to later))
+
+-- the last is kept for all times from then on
+pub kept_at-last : (ks : List Checkpoint) (time c : ℕ) (before : Memory) → All (λ (k : Checkpoint). k.time ≤ time) ks → time ≤ c → kept_at ks c before ≡ last_kept ks before
+kept_at-last [] time c before times le = refl
+kept_at-last (x ∷ ks) time c before times le =
+    let first = times 0 x (omega arith) in
+    rw (nat_le-true x.time c (omega (arith, first, le))) (kept_at-last ks time c x.memory (λ i d within. times (suc i) d (omega (arith, within))) le)
+
+-- the same state as the last
+pub keeps_last : (ks : List Checkpoint) (time : ℕ) (memory : Memory) → All (λ (k : Checkpoint). k.time ≤ time) ks → last_kept ks blank ≡ memory → KeepsFrom ks time memory ks
+keeps_last ks time memory times last = record {
+  before = λ c less. refl;
+  from = λ c le. kept_at-last ks time c blank times le ∙ last;
+  times = times;
+}
+
+last_of_none : (ks : List Checkpoint) (memory : Memory) → length ks ≤ 0 → last_kept ks memory ≡ memory
+last_of_none [] memory none = refl
+last_of_none (k ∷ ks) memory none = absurd (omega arith)
+
+-- the last is at the last place
+pub last_kept-at : (ks : List Checkpoint) (k : Checkpoint) (i : ℕ) (before : Memory) → i + 1 ≡ length ks → slice_get ks i ≡ Some k → last_kept ks before ≡ k.memory
+last_kept-at [] k i before end is = absurd (omega arith)
+last_kept-at (x ∷ ks) k zero before end is = last_of_none ks x.memory (omega arith) ∙ ap (λ (y : Checkpoint). y.memory) (same_Some x k is)
+last_kept-at (x ∷ ks) k (suc i) before end is = last_kept-at ks k i x.memory (omega arith) is

@@ -57,6 +57,17 @@ impl Checkpoints {
         self.push(Checkpoint { time, memory })
     }
 
+    /// The same, but that it takes no room where this state is kept already.
+    pub fn keep_change(&mut self, time: u32, memory: Memory) -> Result<(), AllocError>
+        requires { All (λ (kept : Kept). kept.time ≤ time) self.old }
+        ensures { OnOk result (KeepsFrom self.old time memory self.new) }
+    {
+        if is_last(self.list.as_slice(), memory) {
+            return Ok(());
+        }
+        self.keep(time, memory)
+    }
+
     /// From a time on, which isn't before any other, the states are kept that another list keeps up to an end. It takes as long as that
     /// list up to the end.
     pub fn follow(&mut self, other: &Checkpoints, from: u32, to: u32) -> Result<(), AllocError>
@@ -85,9 +96,25 @@ impl Checkpoints {
     }
 }
 
-ghost use Rattle.std.specs.Prelude.{ℕ};
-ghost use Rattle.mp_evaluation.specs.Checkpoints.{kept_at, kept_before};
+ghost use Rattle.std.specs.Prelude.{◌↔◌, ℕ, IsTrue};
+ghost use Rattle.mp_evaluation.specs.Checkpoints.{kept_at, kept_before, last_kept};
 ghost use Rattle.mp_modules.specs.Memories.{blank};
+
+/// Whether this state is the last that is kept.
+fn is_last(list: &[Checkpoint], memory: Memory) -> bool
+    ensures { IsTrue result → last_kept list.now blank ≡ memory }
+{
+    match list.last() {
+        Some(last) => is_same(last.memory, memory),
+        None => false,
+    }
+}
+
+fn is_same(one: Memory, other: Memory) -> bool
+    ensures { IsTrue result ↔ one ≡ other }
+{
+    one == other
+}
 
 /// The last that is kept for a time not after this one, or a blank one, and what is kept for later times.
 fn split(list: &[Checkpoint], time: u32) -> (Memory, &[Checkpoint])

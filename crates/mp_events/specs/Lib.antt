@@ -3,4 +3,5 @@ pub mod Adding
 pub mod Toggling
 pub mod Ports
 pub mod Firing
+pub mod LevelFlips
 pub mod Fanouts

@@ -4,11 +4,12 @@ ghost use Rattle.mp_automata.specs.declared.toggles.Toggles.{Toggles as AnyToggl
 ghost use Rattle.mp_automata.specs.Codes.{toggles_code};
 ghost use Rattle.mp_events.specs.Adding.{state_at, listed};
 ghost use Rattle.mp_events.specs.Firing.{UnitState, HasSlot, HaveSlots, scheduled, entry_if, fired_at, ports_at, number_of, next_state, events_of, AreNumbered, HaveFired, fired_by, copied_from, StayElse};
+ghost use Rattle.mp_events.specs.LevelFlips.{levels_at, flipped, HaveFlipped};
 
 use crate::event_wheel::EventWheel;
 use crate::output_port::OutputPort;
 use crate::output_ports::OutputPorts;
-use mp_automata::{AutomatonState, TransitionTable};
+use mp_automata::{AutomatonState, PortLevels, TransitionTable};
 use std::alloc::AllocError;
 
 /// Where an output toggles, its wire does so after the delay.
@@ -32,7 +33,7 @@ pub fn schedule_if(
 #[inline(always)]
 fn schedule_toggles(
     ports: &OutputPorts,
-    toggles: u16,
+    toggles: u8,
     wheel: &mut EventWheel,
 ) -> Result<(), AllocError>
     requires { HaveSlots (length wheel.old) ports.now }
@@ -53,45 +54,54 @@ fn fire_module(
     table: &TransitionTable,
     ports: &[OutputPorts],
     states: &mut Vec<AutomatonState>,
+    levels: &mut Vec<PortLevels>,
     wheel: &mut EventWheel,
     place: u32,
 ) -> Result<(), AllocError>
     requires ports { place < length ports.now }
     requires within { All (HaveSlots (length wheel.old)) ports.now }
     requires state { place < length states.old.items }
+    requires levels { place < length levels.old.items }
     requires low { state_at states.old.items place < 1728 }
     ensures states { OnOk result ((s : UnitState) → state_at states.old.items place ≡ number_of s → states.new.items ≡ slice_set states.old.items place (next_state s)) }
+    ensures levels { OnOk result ((s : UnitState) → state_at states.old.items place ≡ number_of s → levels.new.items ≡ slice_set levels.old.items place (flipped s (levels_at levels.old.items place))) }
     ensures wheel { OnOk result ((s : UnitState) → state_at states.old.items place ≡ number_of s → wheel.new ≡ scheduled wheel.old (events_of s (ports_at ports.now place))) }
     ensures others { OnOk result (StayElse place states.old.items states.new.items) }
+    ensures kept { OnOk result (length levels.new.items ≡ length levels.old.items) }
     ensures places { OnOk result (length wheel.new ≡ length wheel.old) }
 {
     let m = place as usize;
     let transition = table.of(states[m]);
     states[m] = transition.next;
-    schedule_toggles(&ports[m], transition.toggles, wheel)
+    levels[m].flip(transition.flips);
+    schedule_toggles(&ports[m], transition.flips / 16, wheel)
 }
 
-/// The modules at these places, each listed once, go on from the events of a unit: their states become those before the next unit, and the
-/// wires of the outputs that toggle are scheduled. Other states stay.
+/// The modules at these places, each listed once, go on from the events of a unit: their states become those before the next unit, the levels
+/// at their ports change by their events and toggles, and the wires of the outputs that toggle are scheduled. Other states and levels stay.
 pub fn fire_modules(
     table: &TransitionTable,
     ports: &[OutputPorts],
     states: &mut Vec<AutomatonState>,
+    levels: &mut Vec<PortLevels>,
     wheel: &mut EventWheel,
     due: &[u32],
 ) -> Result<(), AllocError>
     requires ports { All (λ m. m < length ports.now) due.now }
     requires within { All (HaveSlots (length wheel.old)) ports.now }
     requires states { All (λ m. m < length states.old.items) due.now }
+    requires levels { length levels.old.items ≡ length states.old.items }
     requires low { (m : ℕ) → state_at states.old.items m < 1728 }
     requires once { (m : ℕ) → listed m due.now ≤ 1 }
     ensures kept { OnOk result (length states.new.items ≡ length states.old.items) }
     ensures states { OnOk result ((state_of : ℕ → UnitState) → AreNumbered states.old.items state_of → HaveFired state_of due.now states.old.items states.new.items) }
+    ensures levels { OnOk result ((state_of : ℕ → UnitState) → AreNumbered states.old.items state_of → HaveFlipped state_of due.now levels.old.items levels.new.items) }
+    ensures same { OnOk result (length levels.new.items ≡ length levels.old.items) }
     ensures wheel { OnOk result ((state_of : ℕ → UnitState) → AreNumbered states.old.items state_of → wheel.new ≡ scheduled wheel.old (fired_by state_of ports.now due.now)) }
     ensures places { OnOk result (length wheel.new ≡ length wheel.old) }
 {
     for place in due {
-        fire_module(table, ports, states, wheel, *place)?;
+        fire_module(table, ports, states, levels, wheel, *place)?;
     }
     Ok(())
 }

@@ -14,3 +14,4 @@ pub mod MemberLemmas
 pub mod FindingLemmas
 pub mod ModuleFitLemmas
 pub mod LevelFitLemmas
+mod MappingLemmas

@@ -37,6 +37,17 @@ impl Waves {
         Waves { list }
     }
 
+    /// These waves, each to be shared.
+    pub fn of_all(alloc: Global, found: Vec<Option<Wave>>) -> Result<Waves, AllocError>
+        ensures { IfOk result (λ waves. waves ≡ found.items) }
+    {
+        let mut list = Vec::with_capacity(alloc, found.len())?;
+        for wave in found {
+            list.push(given(alloc, wave)?)?;
+        }
+        Ok(Waves { list })
+    }
+
     /// The wave of a wire that stands.
     pub fn of(&self, wire: WireId) -> Option<&Wave>
         ensures { option_copied result ≡ slot_at self.now wire.0 }
@@ -66,6 +77,15 @@ impl Waves {
             list.push(shared(slot)?)?;
         }
         Ok(Waves { list })
+    }
+}
+
+fn given(alloc: Global, wave: Option<Wave>) -> Result<Option<Arc<Wave, Global>>, AllocError>
+    ensures { IfOk result (λ given. option_map arc_value given ≡ wave) }
+{
+    match wave {
+        Some(wave) => Ok(Some(Arc::new(alloc, wave)?)),
+        None => Ok(None),
     }
 }
 

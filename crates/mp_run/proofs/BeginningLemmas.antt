@@ -18,15 +18,17 @@ use Rattle.mp_netlist.specs.Circuit.{Circuit, IsCircuit, Drives, wire_at, module
 use Rattle.mp_netlist.specs.Drivers.{driver}
 use Rattle.mp_netlist.proofs.DriverLemmas.{finds_only_ports, driven_stands}
 use Rattle.mp_model.specs.Levels.{initial_of}
-use Rattle.mp_model.specs.Waves.{level}
+use Rattle.mp_model.specs.Waves.{level, state}
 use Rattle.mp_model.proofs.EndsLemmas.{first_level}
 use Rattle.mp_model.proofs.SlotLemmas.{slot_within}
 use Rattle.mp_automata.specs.declared.automaton.Automaton.TheVariants.{Sleep}
 use Rattle.mp_automata.specs.Codes.{bit}
+use Rattle.mp_automata.specs.PortLevels.{levels_code}
 use Rattle.mp_events.specs.declared.output_port.OutputPort.{OutputPort}
 use Rattle.mp_events.specs.declared.output_ports.OutputPorts.{OutputPorts}
 use Rattle.mp_events.specs.declared.fanout_entry.FanoutEntry.{FanoutEntry}
 use Rattle.mp_events.specs.Adding.{listed}
+use Rattle.mp_events.specs.LevelFlips.{levels_at}
 use Rattle.mp_events.specs.Toggling.{wave_at}
 use Rattle.mp_events.specs.Firing.{HasSlot, HaveSlots, no_port, ports_at}
 use Rattle.mp_events.specs.Ports.{HasPorts}
@@ -202,6 +204,11 @@ module _ (n : Circuit) (ok : IsCircuit n) (d : Delays) (wiring : Wiring) (ports 
       let here = placed m q place in
       subst (λ x. first_unit n x ≡ rest_state_at n r m 0) here.same (ap (first_unit_in n m) at ∙ ap (λ b. cond b (rest_state_at n r m 0) no_unit) (seat_is m q r at here))
 
+  levels_first : (m q : ℕ) (r : ModuleRecord) → module_at n m ≡ Some r → scope.place m ≡ Some q → levels_at s.bits.simulator.levels.items q ≡ levels_code (state n m 0)
+  levels_first m q r at place =
+      let here = placed m q place in
+      subst (λ x. levels_at s.bits.simulator.levels.items x ≡ levels_code (state n m 0)) here.same (are.bits.levels.each m r (slot_within n.modules m r at) at)
+
   unit_asleep : (q : ℕ) (slot : Option ModuleRecord) → module_at n q ≡ slot → is_some (seat_of n q slot) ≡ false → (first_unit_in n q slot).automaton ≡ Sleep
   unit_asleep q None at none = refl
   unit_asleep q (Some r) at none = by (is_bit_module n r) none
@@ -268,6 +275,7 @@ module _ (n : Circuit) (ok : IsCircuit n) (d : Delays) (wiring : Wiring) (ports 
       numbered = λ m within. are.bits.settled.each m (let places = are.bits.settled.places in omega arith);
       asleep = λ q none. unit_asleep q (module_at n q) refl none;
       active = unit_active;
+      levels = levels_first;
       answered = λ m q place. refl;
       waves = λ w within traced. first_trace w within traced;
       events = events_are;

@@ -105,6 +105,7 @@ module _ (n : Circuit) (ok : IsCircuit n) (d : Delays) (wiring : Wiring) (ports 
     units = first_unit n;
     numbered = λ m within. are.bits.settled.each m (let places = are.bits.settled.places in omega arith);
     events = adding;
+    levels = are.bits.levels.places ∙ sym are.bits.settled.places;
     outputs = ap (length {A = OutputPorts}) are.bits.outputs ∙ length-map n.modules ports_of ∙ sym are.bits.settled.places;
     rows = let a = waves_long in let b = numbers in let c = wired.numbers.enough in omega arith;
     placed = λ x. subst (λ (rows : List (List FanoutEntry)). All (λ (l : FanoutEntry). l.module < length s.bits.simulator.states.items) (row_at rows x)) (sym are.bits.fanout)

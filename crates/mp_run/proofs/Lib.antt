@@ -18,3 +18,4 @@ mod SimulatedLemmas
 mod RunLemmas
 mod RestLemmas
 mod FoundLemmas
+mod FirstLevelLemmas

@@ -4,11 +4,11 @@ use Rattle.std.proofs.lemmas.Bool.{cases_lt, ne_eqb}
 use Rattle.mp_netlist.specs.Circuit.{Circuit, IsCircuit}
 use Rattle.mp_core.specs.declared.simulation.Simulation.{Simulation}
 use Rattle.mp_core.specs.Simulations.{IsIdle}
-use Rattle.mp_core.proofs.IdleLemmas.{stays_idle}
+use Rattle.mp_core.proofs.RestingLemmas.{stays_idle}
 use Rattle.mp_data.specs.declared.level_change.LevelChange.{LevelChange}
 use Rattle.mp_units.specs.declared.netlist_simulation.NetlistSimulation.{NetlistSimulation}
 use Rattle.mp_units.specs.NetlistSimulations.{IsSimulated, AreStimuli, IsAtRest}
-use Rattle.mp_units.proofs.RestLemmas.{rests_on}
+use Rattle.mp_units.proofs.RestingLemmas.{rests_on}
 use Rattle.mp_run.specs.declared.stimuli.StimulusChange.{StimulusChange}
 use Rattle.mp_run.specs.Evaluations.{IsEvaluated}
 use Rattle.mp_run.specs.Narrow.{IsNarrow}

@@ -362,6 +362,8 @@ module _ (n : Circuit) (ok : IsCircuit n) (d : Delays) (wiring : Wiring) (ports 
     own = λ w u. refl;
     traces = λ w. refl;
     known = λ m r at. refl;
+    places = are.bits.settled.places;
+    seats = λ m r at. ap (seat_of n m) at;
     waves = waves_long n ok d wiring ports s are;
     split = split;
     wires = subst (λ k. AreDataWires n source data_before k 0 s.wires) (sym (numbers n ok d wiring ports s are)) wires_first;

@@ -10,7 +10,7 @@ use Rattle.mp_run.specs.declared.delays.Delays.{Delays}
 use Rattle.mp_run.specs.declared.wiring.Wiring.{Wiring}
 use Rattle.mp_run.specs.Delays.{AreWithin}
 use Rattle.mp_run.specs.FirstLevels.{first_wave, first_building}
-use Rattle.mp_run.specs.Settling.{ports_of, IsSettled}
+use Rattle.mp_run.specs.Settling.{ports_of, IsSettled, AreFirstLevels}
 use Rattle.mp_run.specs.Wirings.{AreWiredInputs}
 use Rattle.mp_run.specs.Numbering.{AreCopiesOf, level_of_wire, is_bit}
 use Rattle.mp_run.specs.Seating.{IsSeated}
@@ -18,6 +18,7 @@ use Rattle.mp_run.specs.Seating.{IsSeated}
 -- the modules and wires of width 1
 pub record AreFirstBits (n : Circuit) (wiring : Wiring) (d : Delays) (s : Simulation) : Type 0 where
   pub settled : IsSettled n (length n.modules) s.simulator.states.items s.simulator.wheel
+  pub levels : AreFirstLevels n (length n.modules) s.simulator.levels.items
   pub outputs : s.simulator.outputs.items ≡ map ports_of n.modules
   pub fanout : s.simulator.fanout ≡ wiring.rows.items
   pub waves : s.simulator.waves.items ≡ map first_wave n.wires

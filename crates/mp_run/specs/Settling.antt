@@ -13,12 +13,15 @@ use Rattle.mp_model.specs.Waves.{state}
 use Rattle.mp_automata.specs.declared.automaton.Automaton.TheVariants.{Sleep}
 use Rattle.mp_automata.specs.declared.automaton_state.AutomatonState.{AutomatonState}
 use Rattle.mp_automata.specs.declared.toggles.Toggles.{Toggles}
+use Rattle.mp_automata.specs.declared.port_levels.PortLevels.{PortLevels}
 use Rattle.mp_automata.specs.Codes.{bit, no_events}
+use Rattle.mp_automata.specs.PortLevels.{levels_code}
 use Rattle.mp_automata.specs.Phases.{unserved}
 use Rattle.mp_events.specs.declared.output_port.OutputPort.{OutputPort}
 use Rattle.mp_events.specs.declared.output_ports.OutputPorts.{OutputPorts}
 use Rattle.mp_events.specs.Adding.{state_at, listed}
 use Rattle.mp_events.specs.Firing.{UnitState, no_port, number_of, fired_at}
+use Rattle.mp_events.specs.LevelFlips.{levels_at}
 use Rattle.mp_core.specs.Schedules.{output_ports_of}
 use Rattle.mp_core.specs.Units.{rest_state_at}
 use Rattle.mp_core.specs.Beginnings.{is_first}
@@ -87,3 +90,8 @@ pub record IsSettled (n : Circuit) (modules : ℕ) (states : List AutomatonState
   pub places : length states ≡ modules
   pub each : (m : ℕ) → m < modules → state_at states m ≡ number_of (first_unit n m)
   pub slots : (w k : ℕ) → k < length wheel → listed w (slice_index_or wheel k []) ≡ bit (is_below modules (driver n w) && is_first_bit n (driver n w) w (k + 1))
+
+-- the levels at the ports of the modules below a number
+pub record AreFirstLevels (n : Circuit) (modules : ℕ) (levels : List PortLevels) : Type 0 where
+  pub places : length levels ≡ modules
+  pub each : (m : ℕ) (r : ModuleRecord) → m < modules → module_at n m ≡ Some r → levels_at levels m ≡ levels_code (state n m 0)

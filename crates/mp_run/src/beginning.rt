@@ -77,7 +77,11 @@ fn first_bits(
 {
     let outputs = all_outputs(alloc, netlist)?;
     let units = delays.outputs as usize;
-    let Settling { states, wheel } = settle_all(alloc, netlist, outputs.as_slice(), units)?;
+    let Settling {
+        states,
+        levels,
+        wheel,
+    } = settle_all(alloc, netlist, outputs.as_slice(), units)?;
     let next = bit_copies(
         alloc,
         netlist,
@@ -89,6 +93,7 @@ fn first_bits(
         fanout: Fanout::from_rows(alloc, wiring.rows.as_slice())?,
         outputs,
         states,
+        levels,
         due: Vec::new(alloc),
         waves: first_waves(alloc, netlist)?,
         wheel,

@@ -12,7 +12,7 @@ use mp_wave::{ToggleWave, Wave, WaveBuilder};
 use std::alloc::{AllocError, Global};
 
 /// The wave of each wire of a netlist, of which all units are over: one place per wire number, and none where no wire stands.
-pub(crate) fn found_waves(
+pub fn found_waves(
     alloc: Global,
     netlist: &Netlist,
     simulation: NetlistSimulation,

@@ -15,5 +15,7 @@ mod widths;
 mod wiring;
 
 pub use beginning::begin;
+pub use finishing::found_waves;
 pub use narrow::is_narrow;
 pub use running::run_waves;
+pub use stimuli::{Stimuli, StimulusChange};

@@ -1,18 +1,20 @@
 //! Modules at time 0: what they drive, how they settle, and which wires change by that.
 ghost use Rattle.std.specs.Prelude.{◌≡◌, ◌==◌, ◌&&◌, ℕ, ◌≤◌, Some, not, IfOk, OnOk, All, length, map, take};
 ghost use Rattle.mp_records.specs.declared.ports.Input.{Input as Entry};
+ghost use Rattle.mp_records.specs.declared.module_record.ModuleRecord.{ModuleRecord as Part};
 ghost use Rattle.mp_records.specs.Outputs.{output_in};
 ghost use Rattle.mp_netlist.specs.Circuit.{IsCircuit, wire_at, module_at};
 ghost use Rattle.mp_model.specs.Levels.{initial_of, built};
 ghost use Rattle.mp_model.specs.Waves.{state};
+ghost use Rattle.mp_automata.specs.PortLevels.{levels_code};
 ghost use Rattle.mp_events.specs.Firing.{HaveSlots, scheduled, fired_at, number_of};
 ghost use Rattle.mp_core.specs.Schedules.{output_port_of};
 ghost use Rattle.mp_units.specs.DataLevels.{is_data};
-ghost use Rattle.mp_run.specs.Settling.{IsShort, ports_of, departs, departing, no_unit, first_unit_of, first_unit, first_entries, IsSettled};
+ghost use Rattle.mp_run.specs.Settling.{IsShort, ports_of, departs, departing, no_unit, first_unit_of, first_unit, first_entries, IsSettled, AreFirstLevels};
 
 use crate::first_levels::initial_level;
 use crate::widths::{has_data, is_bit_module};
-use mp_automata::{Automaton, AutomatonState, Phase};
+use mp_automata::{Automaton, AutomatonState, Phase, PortLevels};
 use mp_events::{EventWheel, OutputPort, OutputPorts, schedule_if};
 use mp_model::built;
 use mp_modules::{EventModule, MOST_INPUTS, Memory};
@@ -71,11 +73,19 @@ pub(crate) fn output_port(outputs: &[Output], port: usize) -> OutputPort
     }
 }
 
-/// The states of modules, by number, and the wheel of the events to come of wires of width 1.
+/// The states of modules, by number, with the levels at their ports, and the wheel of the events to come of wires of width 1.
 #[derive(Drop)]
 pub(crate) struct Settling {
     pub states: Vec<AutomatonState>,
+    pub levels: Vec<PortLevels>,
     pub wheel: EventWheel,
+}
+
+/// A module that is settled: its state, and the levels at its ports. Where it has data, or none stands, the state is asleep.
+#[derive(Clone, Copy)]
+pub(crate) struct SettledModule {
+    pub state: AutomatonState,
+    pub levels: PortLevels,
 }
 
 /// Settles all modules. An output whose wire has width 1, and whose level isn't the initial one, changes that after its delay. Modules with data
@@ -90,38 +100,53 @@ pub(crate) fn settle_all(
     requires ports { outputs.now ≡ map ports_of netlist.now.modules }
     requires within { All (HaveSlots units) outputs.now }
     ensures settled { IfOk result (λ s. IsSettled netlist.now (length netlist.now.modules) s.states.items s.wheel) }
+    ensures levels { IfOk result (λ s. AreFirstLevels netlist.now (length netlist.now.modules) s.levels.items) }
     ensures units { IfOk result (λ s. length s.wheel ≡ units) }
 {
     let mut states = Vec::new(alloc);
+    let mut levels = Vec::new(alloc);
     let mut wheel = EventWheel::new(alloc, units)?;
     for m in 0..netlist.module_slots() {
         let ports = outputs[m as usize];
-        states.push(settle_module(netlist, ModuleId(m), ports, &mut wheel)?)?;
+        let settled = settle_module(netlist, ModuleId(m), ports, &mut wheel)?;
+        states.push(settled.state)?;
+        levels.push(settled.levels)?;
     }
-    Ok(Settling { states, wheel })
+    Ok(Settling {
+        states,
+        levels,
+        wheel,
+    })
 }
 
-/// Settles a module, and gives its state. Where none stands, the place sleeps.
+/// Settles a module. Where none stands, the place sleeps.
 fn settle_module(
     netlist: &Netlist,
     id: ModuleId,
     ports: OutputPorts,
     wheel: &mut EventWheel,
-) -> Result<AutomatonState, AllocError>
+) -> Result<SettledModule, AllocError>
     requires form { IsCircuit netlist.now }
     requires ports { ports ≡ ports_of (module_at netlist.now id.0) }
     requires within { HaveSlots (length wheel.old) ports }
-    ensures state { IfOk result (λ state. state.0 ≡ number_of (first_unit netlist.now id.0)) }
+    ensures state { IfOk result (λ settled. settled.state.0 ≡ number_of (first_unit netlist.now id.0)) }
+    ensures levels { IfOk result (λ settled. (r : Part) → module_at netlist.now id.0 ≡ Some r → settled.levels.0 ≡ levels_code (state netlist.now id.0 0)) }
     ensures wheel { OnOk result (wheel.new ≡ scheduled wheel.old (first_entries netlist.now id.0)) }
     ensures units { OnOk result (length wheel.new ≡ length wheel.old) }
 {
     let Some(found) = netlist.module(id) else {
-        return Ok(asleep());
+        return Ok(SettledModule {
+            state: asleep(),
+            levels: PortLevels(0),
+        });
     };
     let part = built(netlist, found);
     let memory = settled(netlist, found, &part);
     schedule_departing(netlist, ports, &memory, wheel)?;
-    Ok(first_state(netlist, found, &part, &memory))
+    Ok(SettledModule {
+        state: first_state(netlist, found, &part, &memory),
+        levels: PortLevels::of(&memory),
+    })
 }
 
 /// The state of a place that sleeps.

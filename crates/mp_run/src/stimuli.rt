@@ -11,7 +11,7 @@ use std::alloc::{AllocError, Global};
 
 /// A wire is set to another level at a time. It is told whether the wire has data.
 #[derive(Clone, Copy)]
-pub(crate) struct StimulusChange {
+pub struct StimulusChange {
     pub time: u32,
     pub wire: u32,
     pub has_data: bool,
@@ -21,7 +21,7 @@ pub(crate) struct StimulusChange {
 /// What stimuli change, by time. The changes before the place are past or present. Of the present ones, wires of width 1 are listed, and the levels
 /// of wires with data.
 #[derive(Drop)]
-pub(crate) struct Stimuli {
+pub struct Stimuli {
     pub list: Vec<StimulusChange>,
     pub place: usize,
     pub bits: Vec<u32>,
@@ -34,7 +34,7 @@ impl Stimuli {
     ghost use Rattle.mp_run.specs.Stimuli.{rest_of, AreFrom, AreAhead, Advances};
 
     /// What all stimuli change, where all is to come.
-    pub(crate) fn of(alloc: Global, netlist: &Netlist) -> Result<Stimuli, AllocError>
+    pub fn of(alloc: Global, netlist: &Netlist) -> Result<Stimuli, AllocError>
         requires { IsCircuit netlist.now }
         ensures { IfOk result (λ stimuli. AreAhead netlist.now 0 (rest_of stimuli)) }
     {
@@ -53,7 +53,7 @@ impl Stimuli {
 
     /// The wires of width 1 that are set to another level in the present unit.
     #[inline(always)]
-    pub(crate) fn bits(&self) -> &[u32]
+    pub fn bits(&self) -> &[u32]
         ensures { result.now ≡ self.now.bits.items }
     {
         self.bits.as_slice()
@@ -61,7 +61,7 @@ impl Stimuli {
 
     /// The wires with data that are set to another level in the present unit, with their levels.
     #[inline(always)]
-    pub(crate) fn levels(&self) -> &[LevelChange]
+    pub fn levels(&self) -> &[LevelChange]
         ensures { result.now ≡ self.now.levels.items }
     {
         self.levels.as_slice()
@@ -88,7 +88,7 @@ impl Stimuli {
 
     /// A unit begins, which is the next after those before.
     #[inline(always)]
-    pub(crate) fn advance(&mut self, time: u32) -> Result<(), AllocError>
+    pub fn advance(&mut self, time: u32) -> Result<(), AllocError>
         ensures { OnOk result ((n : Circuit) (t : ℕ) → IsCircuit n → time ≡ t + 1 → AreAhead n t (rest_of self.old) → Advances n t self.new) }
     {
         self.bits.clear();

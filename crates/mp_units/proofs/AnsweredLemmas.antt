@@ -39,6 +39,7 @@ use Rattle.mp_units.specs.DataLevels.{is_data, is_bit_wire, late_level, number_o
 use Rattle.mp_units.specs.DataWheels.{data_slot, driver_delay, ahead_by, ahead, AreChangesBelow}
 use Rattle.mp_units.specs.DataSeats.{drives_data, AreDataModules}
 use Rattle.mp_units.specs.NetlistSimulations.{IsSimulated, AreStimuli}
+use Rattle.mp_units.specs.Units.{present_of, others_of}
 use Rattle.mp_units.proofs.LevelWheelLemmas.{HoldsOf, holds_scheduled, turned_at}
 use Rattle.mp_units.proofs.AheadLemmas.{AreEntered}
 use Rattle.mp_units.proofs.LevelCopyLemmas.{copied_hold}
@@ -49,13 +50,6 @@ use Rattle.mp_units.proofs.PresentLemmas.{data_wire}
 use Rattle.mp_units.proofs.EnteredLemmas.{entered}
 use Rattle.mp_units.proofs.LevelsNextLemmas.{levels_now}
 use Rattle.mp_units.proofs.HeardLemmas.{delays, enough, data_own, each, right, below, bits_heard, data_quiet, heard_each, due}
-
--- what changes in the next unit of numbers with data, and what is heard beside wires of width 1
-abbrev pub present_of : NetlistSimulation → List LevelChange → List LevelChange
-present_of s levels = data_slot s.wires.wheel 0 ++ levels
-
-abbrev pub others_of : NetlistSimulation → List LevelChange → List ℕ
-others_of s levels = copy_slot s.bits.copies 0 ++ map number_of_change (data_slot s.wires.wheel 0 ++ levels)
 
 -- what is there when the modules have had their events, in mid, and those with data have answered: levels are those of numbers, and events is
 -- the wheel of the simulator
@@ -93,6 +87,7 @@ sound_with s wheel sound units none = record {
   units = sound.units;
   numbered = sound.numbered;
   events = sound.events;
+  levels = sound.levels;
   outputs = sound.outputs;
   rows = sound.rows;
   placed = sound.placed;

@@ -177,6 +177,7 @@ module _ (n : Circuit) (ok : IsCircuit n) (scope : Scope) (t : ℕ) (s : Simulat
     numbered = during.numbered;
     asleep = during.asleep;
     active = during.active;
+    levels = during.levels;
     answered = λ m q place. ap (λ (o : Option ℕ). data_known o (t + 2) (scope.known m)) place ∙ during.answered m q place;
     waves = during.waves;
     events = events_next;

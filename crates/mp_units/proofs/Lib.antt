@@ -16,4 +16,7 @@ pub mod AnsweredLemmas
 pub mod UnitLemmas
 pub mod PassLemmas
 pub mod QuietLemmas
+pub mod FireLemmas
+pub mod MemoryLemmas
 pub mod RestLemmas
+pub mod RestingLemmas

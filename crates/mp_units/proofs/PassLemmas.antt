@@ -1,30 +1,26 @@
 -- A simulation that can pass a unit meets what each step of it asks.
-use Rattle.std.proofs.Common.{◌≡◌, ℕ, ◌+◌, ◌<◌, ◌≤◌, drop, List, [], ◌∷◌, ◌++◌, Option, All, length, sym, ap, ◌∙◌, arith, subst}
+use Rattle.std.proofs.Common.{◌≡◌, ℕ, ◌+◌, ◌<◌, ◌≤◌, drop, List, [], ◌∷◌, ◌++◌, All, length, sym, ap, ◌∙◌, arith, subst}
 use Rattle.mp_netlist.specs.Circuit.{Circuit, IsCircuit}
 use Rattle.mp_events.specs.declared.output_port.OutputPort.{OutputPort}
-use Rattle.mp_events.specs.Firing.{scheduled as events_scheduled}
 use Rattle.mp_core.specs.declared.simulator.Simulator.{Simulator}
-use Rattle.mp_core.specs.Scopes.{Scope}
-use Rattle.mp_core.specs.Simulators.{next_slot, IsSound, CanApply, AreOnlyDue}
-use Rattle.mp_core.specs.Units.{IsBefore, IsDuring, AreDue}
+use Rattle.mp_core.specs.Simulators.{next_slot, IsSound, CanApply}
 use Rattle.mp_core.specs.Simulations.{copy_slot}
 use Rattle.mp_core.proofs.ApplyLemmas.{all_waved, all_rowed}
 use Rattle.mp_core.proofs.FireLemmas.{due_placed}
 use Rattle.mp_core.proofs.SimulationLemmas.{all_numbers}
 use Rattle.mp_data.specs.declared.level_change.LevelChange.{LevelChange}
-use Rattle.mp_data.specs.declared.data_module.DataModule.{DataModule}
 use Rattle.mp_data.specs.Levels.{toggled, changed}
 use Rattle.mp_data.specs.LevelWheels.{scheduled, copied_from}
 use Rattle.mp_data.specs.DataModules.{CanFire}
-use Rattle.mp_data.specs.DataFiring.{HaveStepped, fired_by, changed_by}
 use Rattle.mp_units.specs.declared.netlist_simulation.NetlistSimulation.{NetlistSimulation}
 use Rattle.mp_units.specs.DataLevels.{changes_of}
 use Rattle.mp_units.specs.DataWaves.{building_at}
 use Rattle.mp_units.specs.NetlistSimulations.{IsSimulated, AreStimuli, CanPass}
+use Rattle.mp_units.specs.Units.{present_of, others_of}
 use Rattle.mp_units.proofs.DuringLemmas.{with_wheel}
 use Rattle.mp_units.proofs.HeardLemmas.{below, few, waved, fit}
-use Rattle.mp_units.proofs.AnsweredLemmas.{present_of, others_of, IsAnswered, sound_events}
-use Rattle.mp_units.proofs.UnitLemmas.{IsPassed, levels_both, passed}
+use Rattle.mp_units.proofs.AnsweredLemmas.{IsAnswered, sound_events}
+use Rattle.mp_units.proofs.UnitLemmas.{IsPassed, passed}
 
 module _ (s : NetlistSimulation) (set : List ℕ) (levels : List LevelChange) (time : ℕ) (f : CanPass set levels time s) where
   sets : AreStimuli f.n set levels (f.t + 1)
@@ -83,56 +79,21 @@ unit_passed n ok t s new set levels time now is sets mid lv events h p =
     passed n ok t s is set levels (subst (λ u. AreStimuli n set levels u) now sets) mid lv events (subst (λ u. IsAnswered s set levels u mid lv events) now h)
     new (subst (λ u. IsPassed s new set levels u mid lv events) now p)
 
--- what the steps of a unit give
-pub is_answered : (s : NetlistSimulation) (set : List ℕ) (levels : List LevelChange) (time : ℕ) (mid : Simulator) (lv : List ℕ) (events : List (List ℕ)) →
-    (others : List ℕ) → others ≡ others_of s levels → IsSound mid →
-    ((n : Circuit) (scope : Scope) (t : ℕ) → IsCircuit n → time ≡ t + 1 → IsBefore n scope t s.bits.simulator → AreDue n scope t (next_slot s.bits.simulator ++ set) others → IsDuring n scope t mid) →
-    (s.bits.simulator.due.items ≡ [] → AreOnlyDue s.bits.simulator.fanout ((next_slot s.bits.simulator ++ set) ++ others) mid.due.items) → mid.fanout ≡ s.bits.simulator.fanout →
-    length mid.wheel ≡ length s.bits.simulator.wheel → length mid.states.items ≡ length s.bits.simulator.states.items → length mid.waves.items ≡ length s.bits.simulator.waves.items →
-    (first wires late : List ℕ) (present : List LevelChange) → first ≡ s.wires.levels.items → wires ≡ next_slot s.bits.simulator ++ set → late ≡ copy_slot s.bits.copies 0 →
-    present ≡ present_of s levels → lv ≡ changed (toggled (toggled first wires) late) present →
-    (now : List ℕ) (places : List (Option ℕ)) (due : List ℕ) → now ≡ lv → places ≡ s.modules.places.items → due ≡ mid.due.items →
-    events ≡ events_scheduled mid.wheel (fired_by now places s.modules.modules.items due) → length events ≡ length mid.wheel → IsAnswered s set levels time mid lv events
-is_answered s set levels time mid lv events others same sound applied only fanout units places_same waves first wires late present one two three four is now places due levels_now places_now due_now entered units_same = record {
-  sound = sound;
-  applied = λ n scope t ok at before are. applied n scope t ok at before (subst (λ (xs : List ℕ). AreDue n scope t (next_slot s.bits.simulator ++ set) xs) (sym same) are);
-  only = λ none. subst (λ (xs : List ℕ). AreOnlyDue s.bits.simulator.fanout ((next_slot s.bits.simulator ++ set) ++ xs) mid.due.items) same (only none);
-  fanout = fanout;
-  units = units;
-  places = places_same;
-  bit_waves = waves;
-  levels_are =
-      is ∙ ap (λ (xs : List ℕ). changed (toggled (toggled xs wires) late) present) one
-      ∙ ap (λ (xs : List ℕ). changed (toggled (toggled s.wires.levels.items xs) late) present) two
-      ∙ ap (λ (xs : List ℕ). changed (toggled (toggled s.wires.levels.items (next_slot s.bits.simulator ++ set)) xs) present) three
-      ∙ ap (λ (cs : List LevelChange). changed (toggled (toggled s.wires.levels.items (next_slot s.bits.simulator ++ set)) (copy_slot s.bits.copies 0)) cs) four;
-  events_are =
-      entered ∙ ap (λ (xs : List ℕ). events_scheduled mid.wheel (fired_by xs places s.modules.modules.items due)) levels_now
-      ∙ ap (λ (xs : List (Option ℕ)). events_scheduled mid.wheel (fired_by lv xs s.modules.modules.items due)) places_now
-      ∙ ap (λ (xs : List ℕ). events_scheduled mid.wheel (fired_by lv s.modules.places.items s.modules.modules.items xs)) due_now;
-  events_units = units_same;
-}
+-- the levels of numbers, with what they come from told by other names
+pub levels_as : (s : NetlistSimulation) (set : List ℕ) (levels : List LevelChange) (new first wires late : List ℕ) (present : List LevelChange) → first ≡ s.wires.levels.items →
+    wires ≡ next_slot s.bits.simulator ++ set → late ≡ copy_slot s.bits.copies 0 → present ≡ present_of s levels → new ≡ changed (toggled (toggled first wires) late) present →
+    new ≡ changed (toggled (toggled s.wires.levels.items (next_slot s.bits.simulator ++ set)) (copy_slot s.bits.copies 0)) (present_of s levels)
+levels_as s set levels new first wires late present one two three four is =
+    is ∙ ap (λ (xs : List ℕ). changed (toggled (toggled xs wires) late) present) one
+    ∙ ap (λ (xs : List ℕ). changed (toggled (toggled s.wires.levels.items xs) late) present) two
+    ∙ ap (λ (xs : List ℕ). changed (toggled (toggled s.wires.levels.items (next_slot s.bits.simulator ++ set)) xs) present) three
+    ∙ ap (λ (cs : List LevelChange). changed (toggled (toggled s.wires.levels.items (next_slot s.bits.simulator ++ set)) (copy_slot s.bits.copies 0)) cs) four
 
--- the level wheel after copies were put there, and then what modules with data change
-pub wheel_is : (s : NetlistSimulation) (levels : List LevelChange) (lv due_of : List ℕ) (turned copied new : List (List LevelChange)) (next : List OutputPort) (present : List LevelChange)
-    (now : List ℕ) (places : List (Option ℕ)) (due : List ℕ) → turned ≡ drop 1 s.wires.wheel ++ [] ∷ [] → next ≡ s.wires.next.items → present ≡ present_of s levels →
-    copied ≡ scheduled turned (copied_from next present) → now ≡ lv → places ≡ s.modules.places.items → due ≡ due_of →
-    new ≡ scheduled copied (changed_by now places s.modules.modules.items due) →
-    new ≡ scheduled (drop 1 s.wires.wheel ++ [] ∷ []) (copied_from s.wires.next.items (present_of s levels) ++ changed_by lv s.modules.places.items s.modules.modules.items due_of)
-wheel_is s levels lv due_of turned copied new next present now places due one two three first four five six is =
-    is
-    ∙ ap (λ (slots : List (List LevelChange)). scheduled slots (changed_by now places s.modules.modules.items due)) first
-    ∙ levels_both turned (copied_from next present) (changed_by now places s.modules.modules.items due)
-    ∙ ap (λ (slots : List (List LevelChange)). scheduled slots (copied_from next present ++ changed_by now places s.modules.modules.items due)) one
-    ∙ ap (λ (xs : List OutputPort). scheduled (drop 1 s.wires.wheel ++ [] ∷ []) (copied_from xs present ++ changed_by now places s.modules.modules.items due)) two
-    ∙ ap (λ (cs : List LevelChange). scheduled (drop 1 s.wires.wheel ++ [] ∷ []) (copied_from s.wires.next.items cs ++ changed_by now places s.modules.modules.items due)) three
-    ∙ ap (λ (xs : List ℕ). scheduled (drop 1 s.wires.wheel ++ [] ∷ []) (copied_from s.wires.next.items (present_of s levels) ++ changed_by xs places s.modules.modules.items due)) four
-    ∙ ap (λ (xs : List (Option ℕ)). scheduled (drop 1 s.wires.wheel ++ [] ∷ []) (copied_from s.wires.next.items (present_of s levels) ++ changed_by lv xs s.modules.modules.items due)) five
-    ∙ ap (λ (xs : List ℕ). scheduled (drop 1 s.wires.wheel ++ [] ∷ []) (copied_from s.wires.next.items (present_of s levels) ++ changed_by lv s.modules.places.items s.modules.modules.items xs)) six
-
-pub stepped_is : (s : NetlistSimulation) (lv due_of : List ℕ) (new : List DataModule) (now : List ℕ) (places : List (Option ℕ)) (due : List ℕ) → now ≡ lv → places ≡ s.modules.places.items →
-    due ≡ due_of → HaveStepped now places due s.modules.modules.items new → HaveStepped lv s.modules.places.items due_of s.modules.modules.items new
-stepped_is s lv due_of new now places due one two three is =
-    subst (λ (xs : List ℕ). HaveStepped lv s.modules.places.items xs s.modules.modules.items new) three
-    (subst (λ (xs : List (Option ℕ)). HaveStepped lv xs due s.modules.modules.items new) two
-    (subst (λ (xs : List ℕ). HaveStepped xs places due s.modules.modules.items new) one is))
+-- and the level wheel after the next copies were put there
+pub copied_as : (s : NetlistSimulation) (levels : List LevelChange) (new turned : List (List LevelChange)) (next : List OutputPort) (present : List LevelChange) →
+    turned ≡ drop 1 s.wires.wheel ++ [] ∷ [] → next ≡ s.wires.next.items → present ≡ present_of s levels → new ≡ scheduled turned (copied_from next present) →
+    new ≡ scheduled (drop 1 s.wires.wheel ++ [] ∷ []) (copied_from s.wires.next.items (present_of s levels))
+copied_as s levels new turned next present one two three is =
+    is ∙ ap (λ (slots : List (List LevelChange)). scheduled slots (copied_from next present)) one
+    ∙ ap (λ (xs : List OutputPort). scheduled (drop 1 s.wires.wheel ++ [] ∷ []) (copied_from xs present)) two
+    ∙ ap (λ (cs : List LevelChange). scheduled (drop 1 s.wires.wheel ++ [] ∷ []) (copied_from s.wires.next.items cs)) three

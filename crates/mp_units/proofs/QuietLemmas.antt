@@ -2,27 +2,24 @@
 use Rattle.std.proofs.Common.{◌≡◌, ℕ, ◌+◌, ◌<◌, drop, List, [], ◌∷◌, ◌++◌, All, length, map, refl, sym, ap, ◌∙◌, subst}
 use Rattle.mp_events.specs.Adding.{events_for}
 use Rattle.mp_events.specs.Toggling.{entries_from}
-use Rattle.mp_events.specs.Firing.{HasSlot, scheduled as events_scheduled}
+use Rattle.mp_events.specs.Firing.{HasSlot}
 use Rattle.mp_core.specs.Simulators.{next_slot}
 use Rattle.mp_core.specs.Units.{AreDue}
 use Rattle.mp_core.specs.Copies.{HaveCopies, AreOriginals, AreListedBelow}
 use Rattle.mp_core.specs.Simulations.{copy_slot, IsSoundRun}
 use Rattle.mp_core.proofs.ApplyLemmas.{applied}
 use Rattle.mp_core.proofs.CopyLemmas.{copies_next}
-use Rattle.mp_core.proofs.FiredLemmas.{fired}
-use Rattle.mp_core.proofs.QuietLemmas.{turned, quiet_fit, quiet_applied, quiet_sound, none_fired}
+use Rattle.mp_core.proofs.QuietLemmas.{turned, quiet_fit, quiet_applied, quiet_sound}
 use Rattle.mp_core.proofs.TurnLemmas.{turned_length}
 use Rattle.mp_data.specs.declared.level_change.LevelChange.{LevelChange}
 use Rattle.mp_data.specs.Levels.{toggled, changed}
 use Rattle.mp_data.specs.LevelWheels.{scheduled, copied_from}
-use Rattle.mp_data.specs.DataFiring.{HaveStepped, fired_by, changed_by}
 use Rattle.mp_units.specs.declared.netlist_simulation.NetlistSimulation.{NetlistSimulation}
 use Rattle.mp_units.specs.DataLevels.{number_of_change}
 use Rattle.mp_units.specs.DataWaves.{pushed}
 use Rattle.mp_units.specs.DataWheels.{data_slot}
+use Rattle.mp_units.specs.Units.{present_of, others_of, HaveToggled, HaveAdvanced, HaveTurned, HasApplied}
 use Rattle.mp_units.proofs.LevelWheelLemmas.{turned_length as changes_turned}
-use Rattle.mp_units.proofs.AnsweredLemmas.{present_of, others_of, IsAnswered}
-use Rattle.mp_units.proofs.UnitLemmas.{IsPassed}
 
 -- the simulation whose wheels have gone on
 abbrev pub skipped : NetlistSimulation → List (List ℕ) → List (List ℕ) → List (List LevelChange) → NetlistSimulation
@@ -31,22 +28,14 @@ skipped s events copies changes = record s {
   wires = record s.wires { wheel = changes };
 }
 
-none_stepped : (levels : List ℕ) (s : NetlistSimulation) → HaveStepped levels s.modules.places.items [] s.modules.modules.items s.modules.modules.items
-none_stepped levels s = record {
-  placed = refl;
-  fired = λ q k at. refl;
-  others = λ k none. refl;
-  kept = λ k. record { part = refl; inputs = refl; ports = refl };
-}
-
 module _ (s : NetlistSimulation) (sound : IsSoundRun s.bits) (wires : next_slot s.bits.simulator ≡ []) (late : copy_slot s.bits.copies 0 ≡ []) (still : data_slot s.wires.wheel 0 ≡ [])
-    (idle : s.bits.simulator.due.items ≡ []) (time : ℕ) (events : List (List ℕ)) (turns : events ≡ drop 1 s.bits.simulator.wheel ++ [] ∷ []) where
+    (time : ℕ) (events : List (List ℕ)) (turns : events ≡ drop 1 s.bits.simulator.wheel ++ [] ∷ []) where
   no_others : others_of s [] ≡ []
   no_others =
       ap (λ (xs : List ℕ). xs ++ map number_of_change (data_slot s.wires.wheel 0 ++ [])) late ∙ ap (λ (cs : List LevelChange). map number_of_change (cs ++ [])) still
 
-  pub quiet_answered : IsAnswered s [] [] time (turned s.bits.simulator events) s.wires.levels.items events
-  quiet_answered = record {
+  quiet_toggled : (copies : List (List ℕ)) (changes : List (List LevelChange)) → HaveToggled s (skipped s events copies changes) [] [] time
+  quiet_toggled copies changes = record {
     sound = quiet_sound s.bits.simulator events sound.simulator wires turns;
     applied = λ n scope t ok now before due.
         applied s.bits.simulator (turned s.bits.simulator events) [] [] time sound.simulator (quiet_fit s.bits.simulator time sound.simulator wires)
@@ -58,21 +47,14 @@ module _ (s : NetlistSimulation) (sound : IsSoundRun s.bits) (wires : next_slot 
     fanout = refl;
     units = ap (length {A = List ℕ}) turns ∙ turned_length s.bits.simulator.wheel sound.simulator.some;
     places = refl;
-    bit_waves = refl;
-    levels_are =
-        sym (ap (λ (xs : List ℕ). changed (toggled (toggled s.wires.levels.items (xs ++ [])) (copy_slot s.bits.copies 0)) (present_of s [])) wires
-        ∙ ap (λ (xs : List ℕ). changed (toggled s.wires.levels.items xs) (present_of s [])) late
-        ∙ ap (λ (cs : List LevelChange). changed s.wires.levels.items (cs ++ [])) still);
-    events_are = sym (ap (λ (due : List ℕ). events_scheduled events (fired_by s.wires.levels.items s.modules.places.items s.modules.modules.items due)) idle);
-    events_units = refl;
+    waves = refl;
   }
 
-  pub quiet_passed : (copies : List (List ℕ)) → copies ≡ drop 1 s.bits.copies.wheel ++ [] ∷ [] → (changes : List (List LevelChange)) → changes ≡ drop 1 s.wires.wheel ++ [] ∷ [] → 0 < length s.wires.wheel →
-      IsPassed s (skipped s events copies changes) [] [] time (turned s.bits.simulator events) s.wires.levels.items events
-  quiet_passed copies copies_turn changes changes_turn some = record {
-    copies_next = refl;
-    copies_units = ap (length {A = List ℕ}) copies_turn ∙ turned_length s.bits.copies.wheel sound.copies.some;
-    copies_low = λ bound below low. subst (λ (slots : List (List ℕ)). AreListedBelow bound slots) (sym copies_turn) low;
+  quiet_advanced : (copies : List (List ℕ)) → copies ≡ drop 1 s.bits.copies.wheel ++ [] ∷ [] → (changes : List (List LevelChange)) → HaveAdvanced s (skipped s events copies changes) []
+  quiet_advanced copies copies_turn changes = record {
+    next = refl;
+    units = ap (length {A = List ℕ}) copies_turn ∙ turned_length s.bits.copies.wheel sound.copies.some;
+    low = λ bound below low. subst (λ (slots : List (List ℕ)). AreListedBelow bound slots) (sym copies_turn) low;
     copies = λ n source before t chained later originals.
         let next = s.bits.copies.next.items in
         let long = turned_length s.bits.copies.wheel sound.copies.some in
@@ -82,23 +64,27 @@ module _ (s : NetlistSimulation) (sound : IsSoundRun s.bits) (wires : next_slot 
         subst (λ (slots : List (List ℕ)). HaveCopies n source before s.bits.copies.next.items (t + 1) slots) (sym copies_turn)
         (copies_next n source before next t (drop 1 s.bits.copies.wheel ++ [] ∷ []) [] chained
         (subst (λ k. All (HasSlot k) s.bits.copies.next.items) (sym long) sound.copies.within) later none (drop 1 s.bits.copies.wheel ++ [] ∷ []) refl refl);
-    levels_same = refl;
+  }
+
+  quiet_turned : (copies : List (List ℕ)) (changes : List (List LevelChange)) → changes ≡ drop 1 s.wires.wheel ++ [] ∷ [] → 0 < length s.wires.wheel →
+      HaveTurned s (skipped s events copies changes) [] [] time
+  quiet_turned copies changes changes_turn some = record {
+    levels =
+        sym (ap (λ (xs : List ℕ). changed (toggled (toggled s.wires.levels.items (xs ++ [])) (copy_slot s.bits.copies 0)) (present_of s [])) wires
+        ∙ ap (λ (xs : List ℕ). changed (toggled s.wires.levels.items xs) (present_of s [])) late
+        ∙ ap (λ (cs : List LevelChange). changed s.wires.levels.items (cs ++ [])) still);
     waves = sym (ap (λ (cs : List LevelChange). pushed s.wires.waves.items time (cs ++ [])) still);
     next = refl;
-    wheel =
-        changes_turn
-        ∙ sym (ap (λ (cs : List LevelChange). scheduled (drop 1 s.wires.wheel ++ [] ∷ [])
-        (copied_from s.wires.next.items (cs ++ []) ++ changed_by s.wires.levels.items s.modules.places.items s.modules.modules.items s.bits.simulator.due.items)) still
-        ∙ ap (λ (due : List ℕ). scheduled (drop 1 s.wires.wheel ++ [] ∷ []) (changed_by s.wires.levels.items s.modules.places.items s.modules.modules.items due)) idle);
-    wheel_units = ap (length {A = List LevelChange}) changes_turn ∙ changes_turned s.wires.wheel some;
-    kept = refl;
-    stepped = subst (λ (due : List ℕ). HaveStepped s.wires.levels.items s.modules.places.items due s.modules.modules.items s.modules.modules.items) (sym idle) (none_stepped s.wires.levels.items s);
-    fired = λ n scope t ok during.
-        fired (turned s.bits.simulator events) (turned s.bits.simulator events) (quiet_sound s.bits.simulator events sound.simulator wires turns)
-        (none_fired (turned s.bits.simulator events) idle) n ok scope t during;
-    sound_new = quiet_sound s.bits.simulator events sound.simulator wires turns;
-    fanout_new = refl;
-    waves_new = refl;
-    units_new = refl;
-    places_new = refl;
+    wheel = changes_turn ∙ sym (ap (λ (cs : List LevelChange). scheduled (drop 1 s.wires.wheel ++ [] ∷ []) (copied_from s.wires.next.items (cs ++ []))) still);
+    units = ap (length {A = List LevelChange}) changes_turn ∙ changes_turned s.wires.wheel some;
+  }
+
+  -- nothing is all that changes, and it has been applied
+  pub quiet_unit : (copies : List (List ℕ)) → copies ≡ drop 1 s.bits.copies.wheel ++ [] ∷ [] → (changes : List (List LevelChange)) → changes ≡ drop 1 s.wires.wheel ++ [] ∷ [] →
+      0 < length s.wires.wheel → HasApplied s (skipped s events copies changes) [] [] time
+  quiet_unit copies copies_turn changes changes_turn some = record {
+    toggled = quiet_toggled copies changes;
+    advanced = quiet_advanced copies copies_turn changes;
+    turned = quiet_turned copies changes changes_turn some;
+    modules = refl;
   }

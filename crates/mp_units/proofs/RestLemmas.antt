@@ -1,26 +1,41 @@
--- A simulation in which nothing is known to change.
-use Rattle.std.proofs.Common.{ℕ, ◌+◌, [], refl, sym}
-use Rattle.mp_netlist.specs.Circuit.{Circuit, IsCircuit}
-use Rattle.mp_events.proofs.EmptyLemmas.{empty_turned, empty_next}
-use Rattle.mp_core.proofs.QuietLemmas.{turned}
+-- A module that isn't due in a unit stays in its state.
+use Rattle.std.proofs.Common.{◌≡◌, ℕ, ◌+◌, ◌++◌, Option, Some, None, refl}
+use Rattle.std.specs.Prelude.{slice_index_or}
+use Rattle.mp_records.specs.declared.module_record.ModuleRecord.{ModuleRecord}
+use Rattle.mp_netlist.specs.Circuit.{Circuit, IsCircuit, module_at}
+use Rattle.mp_model.specs.Waves.{state}
+use Rattle.mp_events.specs.Adding.{listed}
+use Rattle.mp_core.specs.Simulators.{next_slot, AreOnlyDue}
+use Rattle.mp_data.specs.DataFiring.{place_at}
 use Rattle.mp_units.specs.declared.netlist_simulation.NetlistSimulation.{NetlistSimulation}
-use Rattle.mp_units.specs.NetlistSimulations.{IsSimulated, AreStimuli, IsAtRest}
-use Rattle.mp_units.proofs.PassLemmas.{unit_passed}
-use Rattle.mp_units.proofs.QuietLemmas.{quiet_answered, quiet_passed}
+use Rattle.mp_units.specs.Units.{others_of, IsApplied}
+use Rattle.mp_units.proofs.StepLemmas.{rests}
+use Rattle.mp_units.proofs.HeardLemmas.{heard_each, due}
+use Rattle.mp_units.proofs.MemoryLemmas.{own_place}
 
--- a unit in which nothing is set is over as soon as the one before
-pub rests_on : (n : Circuit) → IsCircuit n → (t : ℕ) (s : NetlistSimulation) → IsAtRest s → IsSimulated n t s → AreStimuli n [] [] (t + 1) → IsSimulated n (t + 1) s
-rests_on n ok t s rest is sets =
-    let events = s.bits.simulator.wheel in
-    let copies = s.bits.copies.wheel in
-    let changes = s.wires.wheel in
-    let events_turn = sym (empty_turned events is.sound.simulator.some rest.bits.wires) in
-    let copies_turn = sym (empty_turned copies is.sound.copies.some rest.bits.copies) in
-    let changes_turn = sym (empty_turned changes is.wires.some rest.changes) in
-    let none = empty_next events rest.bits.wires in
-    let late = empty_next copies rest.bits.copies in
-    let still = empty_next changes rest.changes in
-    let due = is.running.simulator.due in
-    unit_passed n ok t s s [] [] (t + 1) refl is sets (turned s.bits.simulator events) s.wires.levels.items events
-    (quiet_answered s is.sound none late still due (t + 1) events events_turn)
-    (quiet_passed s is.sound none late still due (t + 1) events events_turn copies copies_turn changes changes_turn is.wires.some)
+module _ (n : Circuit) (ok : IsCircuit n) (t : ℕ) (now : NetlistSimulation) (a : IsApplied n t now) where
+  only : AreOnlyDue a.before.bits.simulator.fanout ((next_slot a.before.bits.simulator ++ a.set) ++ others_of a.before a.changes) now.bits.simulator.due.items
+  only = a.applied.toggled.only a.is.running.simulator.due
+
+  bit_rests : (m : ℕ) (r : ModuleRecord) → module_at n m ≡ Some r → a.is.scope.place m ≡ Some m → listed m now.bits.simulator.due.items ≡ 0 → state n m (t + 1) ≡ state n m t
+  bit_rests m r at place idle =
+      let layout = a.is.running.simulator.stands.layout in
+      let seat = layout.seats m m r at place in
+      rests n ok m t r at a.is.scope.source (a.is.scope.inputs m) seat.reads a.before.bits.simulator.fanout
+      ((next_slot a.before.bits.simulator ++ a.set) ++ others_of a.before a.changes) now.bits.simulator.due.items (layout.ports m)
+      ((due n ok t a.before a.is a.set a.changes a.stimuli).heard m seat.active) only idle
+
+  data_rests : (m k : ℕ) → place_at a.before.modules.places.items m ≡ Some k → listed m now.bits.simulator.due.items ≡ 0 → state n m (t + 1) ≡ state n m t
+  data_rests m k place idle =
+      let seat = a.is.modules.seats m k place in
+      rests n ok m t seat.record_of seat.stands a.is.scope.source (a.is.scope.inputs m) seat.sources a.before.bits.simulator.fanout
+      ((next_slot a.before.bits.simulator ++ a.set) ++ others_of a.before a.changes) now.bits.simulator.due.items (a.is.running.simulator.stands.layout.ports m)
+      (λ j d within. heard_each n ok t a.before a.is a.set a.changes a.stimuli (slice_index_or (a.is.scope.inputs m) j d) (seat.low j d within)) only idle
+
+  by_place : (m : ℕ) (r : ModuleRecord) (o : Option ℕ) → module_at n m ≡ Some r → place_at a.before.modules.places.items m ≡ o → listed m now.bits.simulator.due.items ≡ 0 →
+      state n m (t + 1) ≡ state n m t
+  by_place m r None at place idle = bit_rests m r at (own_place n ok t a.before a.is m r at place) idle
+  by_place m r (Some k) at place idle = data_rests m k place idle
+
+  pub stays : (m : ℕ) (r : ModuleRecord) → module_at n m ≡ Some r → listed m now.bits.simulator.due.items ≡ 0 → state n m (t + 1) ≡ state n m t
+  stays m r at idle = by_place m r (place_at a.before.modules.places.items m) at refl idle

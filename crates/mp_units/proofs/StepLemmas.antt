@@ -1,4 +1,4 @@
--- A module with data goes on to its state in the next unit, and stays in it where nothing is heard.
+-- A module with data goes on to its state in the next unit, and stays in it where nothing is heard; and its outputs and inputs tell its state.
 use Rattle.std.proofs.Common.{◌≡◌, ℕ, zero, suc, ◌+◌, ◌<◌, Bool, true, false, not, List, [], ◌∷◌, Some, All, length, map, refl, sym, ap, ◌∙◌, arith, subst}
 use Rattle.std.specs.Prelude.{◌==◌, slice_index}
 use Rattle.std.proofs.lemmas.Bool.{eqb-true}
@@ -29,9 +29,9 @@ use Rattle.mp_data.specs.declared.data_module.DataModule.{DataModule}
 use Rattle.mp_data.specs.Levels.{level_at}
 use Rattle.mp_data.specs.declared.data_part.DataPart.{DataPart}
 use Rattle.mp_data.specs.declared.output_levels.OutputLevels.{OutputLevels}
-use Rattle.mp_data.specs.DataParts.{any_part, outputs_in, next_outputs}
-use Rattle.mp_data.specs.DataModules.{input_of, inputs_of, outputs_after}
-use Rattle.mp_data.proofs.PartLemmas.{first_step, later_step}
+use Rattle.mp_data.specs.DataParts.{any_part, outputs_in, next_outputs, memory_with}
+use Rattle.mp_data.specs.DataModules.{input_of, inputs_of, outputs_after, memory_of}
+use Rattle.mp_data.proofs.PartLemmas.{first_step, later_step, told_by_outputs}
 use Rattle.mp_units.specs.DataLevels.{late_level}
 use Rattle.mp_units.specs.DataSeats.{number_at}
 
@@ -85,6 +85,31 @@ module _ (n : Circuit) (ok : IsCircuit n) (q t : ℕ) (r : ModuleRecord) (stands
       (ap (step (built n r) (state n q t)) inputs
       ∙ step_padded (built n r) (state n q t) (inputs_by n (level n) r (t + 1))
       ∙ sym ((satisfies n ok).stepped q t r stands))
+
+  -- its state is told by its outputs and the levels at its inputs
+  tells : (part : DataPart) → any_part part ≡ built n r → (t : ℕ) → state n q t ≡ memory_with (outputs_in (state n q t)) (inputs_by n (level n) r t)
+  tells part does zero =
+      let first : state n q 0 ≡ settle (any_part part) (inputs_by n (level n) r 0) =
+      (satisfies n ok).settled q r stands ∙ ap (λ (a : AnyModule). settle a (inputs_by n (level n) r 0)) (sym does) in
+      subst (λ (s : Memory). s ≡ memory_with (outputs_in s) (inputs_by n (level n) r 0)) (sym first) ((told_by_outputs part).settled (inputs_by n (level n) r 0))
+  tells part does (suc u) =
+      let next : u + 1 ≡ suc u = omega arith in
+      let later : state n q (u + 1) ≡ step (any_part part) (state n q u) (inputs_by n (level n) r (u + 1)) =
+      (satisfies n ok).stepped q u r stands ∙ ap (λ (a : AnyModule). step a (state n q u) (inputs_by n (level n) r (u + 1))) (sym does) in
+      subst (λ k. state n q k ≡ memory_with (outputs_in (state n q k)) (inputs_by n (level n) r k)) next
+      (subst (λ (s : Memory). s ≡ memory_with (outputs_in s) (inputs_by n (level n) r (u + 1))) (sym later)
+      ((told_by_outputs part).stepped (state n q u) (inputs_by n (level n) r (u + 1))))
+
+  -- where the levels are those of this unit
+  pub memory_is : (m : DataModule) (numbers : ℕ) (levels : List ℕ) → any_part m.part ≡ built n r → m.outputs ≡ outputs_in (state n q t) → ((p : ℕ) → input_of m p ≡ number_at xs p) → All (λ x. x < numbers) xs →
+      ((x : ℕ) → x < numbers → slice_index levels x ≡ late_level n (source x) t) → memory_of levels m ≡ state n q t
+  memory_is m numbers levels does outputs reads low right =
+      let at : (p : ℕ) → level_at levels (input_of m p) ≡ slice_index (inputs_by n (level n) r t) p =
+      λ p. ap (level_at levels) (reads p) ∙ read_level n source numbers t levels right xs r.inputs p same low in
+      let inputs : inputs_of levels m ≡ input_levels (inputs_by n (level n) r t) = four_same _ _ _ _ _ _ _ _ (at 0) (at 1) (at 2) (at 3) in
+      ap (λ (o : OutputLevels). memory_with o (inputs_of levels m)) outputs
+      ∙ ap (memory_with (outputs_in (state n q t))) inputs
+      ∙ sym (tells m.part does t)
 
   not_none : (b : Bool) → not b ≡ false → b ≡ true
   not_none true is = refl

@@ -30,12 +30,13 @@ use Rattle.mp_units.specs.DataWaves.{building_at, pushed}
 use Rattle.mp_units.specs.DataWheels.{data_slot, HaveLevels, AreChangesBelow, AreDataWires}
 use Rattle.mp_units.specs.DataSeats.{AreDataModules}
 use Rattle.mp_units.specs.NetlistSimulations.{AreSplit, IsSimulated, AreStimuli}
+use Rattle.mp_units.specs.Units.{present_of}
 use Rattle.mp_units.proofs.LateLemmas.{own_level}
 use Rattle.mp_units.proofs.LevelLemmas.{toggled_length, changed_length}
 use Rattle.mp_units.proofs.AheadLemmas.{levels_next}
 use Rattle.mp_units.proofs.DuringLemmas.{data_known, with_data, with_wheel}
 use Rattle.mp_units.proofs.PresentLemmas.{at_once, data_wire}
-use Rattle.mp_units.proofs.AnsweredLemmas.{present_of, IsAnswered, far, are_entered, answered, level_is, positive, entries_low, modules_stepped}
+use Rattle.mp_units.proofs.AnsweredLemmas.{IsAnswered, far, are_entered, answered, level_is, positive, entries_low, modules_stepped}
 use Rattle.mp_units.proofs.WaveLemmas.{held_upto, same_upto, pushed_length, pushed_other, pushed_own, pushed_over}
 use Rattle.mp_units.proofs.HeardLemmas.{enough, each, right, all}
 
@@ -214,6 +215,8 @@ module _ (n : Circuit) (ok : IsCircuit n) (t : ℕ) (s : NetlistSimulation) (is 
         own = is.own;
         traces = is.traces;
         known = λ m r at. known_when m r (is.scope.place m) refl at;
+        places = places ∙ is.places;
+        seats = is.seats;
         waves = ap (length {A = Waveform}) p.waves_new ∙ h.bit_waves ∙ is.waves;
         split = subst (λ k. AreSplit n (with_answers (with_data is.scope (t + 2)) (t + 2)) is.before is.data_before k) (sym same_count) split_next;
         wires = subst (λ k. AreDataWires n is.scope.source is.data_before k (t + 1) new.wires) (sym same_count) wires_next;

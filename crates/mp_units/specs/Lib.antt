@@ -3,3 +3,4 @@ pub mod DataWaves
 pub mod DataWheels
 pub mod DataSeats
 pub mod NetlistSimulations
+pub mod Units

@@ -1,7 +1,7 @@
 -- A simulation of a netlist of any widths.
-use Rattle.std.specs.Prelude.{◌≡◌, ℕ, ◌+◌, ◌<◌, true, false, List, [], Option, Some, None, length}
+use Rattle.std.specs.Prelude.{◌≡◌, ℕ, ◌+◌, ◌<◌, true, false, List, [], Option, Some, None, length, ◌==◌, if◌then◌else◌}
 use Rattle.mp_records.specs.declared.module_record.ModuleRecord.{ModuleRecord}
-use Rattle.mp_netlist.specs.Circuit.{Circuit, IsCircuit, module_at}
+use Rattle.mp_netlist.specs.Circuit.{Circuit, IsCircuit, module_at, module_width}
 use Rattle.mp_events.specs.EventWheels.{AreEmpty}
 use Rattle.mp_core.specs.Scopes.{Scope}
 use Rattle.mp_core.specs.Simulators.{next_slot}
@@ -32,6 +32,8 @@ pub record IsSimulated (n : Circuit) (t : ℕ) (s : NetlistSimulation) : Type 0 
   pub own : (w u : ℕ) → scope.owns w u ≡ scope.traces w
   pub traces : (w : ℕ) → scope.traces w ≡ is_bit_wire n w
   pub known : (m : ℕ) (r : ModuleRecord) → module_at n m ≡ Some r → scope.known m ≡ t + 1
+  pub places : length s.bits.simulator.states.items ≡ length n.modules
+  pub seats : (m : ℕ) (r : ModuleRecord) → module_at n m ≡ Some r → scope.place m ≡ (if module_width n r == 1 then Some m else None)
   pub waves : length s.bits.simulator.waves.items ≡ length n.wires
   pub split : AreSplit n scope before data_before (length s.bits.simulator.fanout)
   pub wires : AreDataWires n scope.source data_before (length s.bits.simulator.fanout) t s.wires
@@ -61,3 +63,11 @@ pub record IsStill (s : NetlistSimulation) : Type 0 where
 pub record IsAtRest (s : NetlistSimulation) : Type 0 where
   pub bits : IsIdle s.bits
   pub changes : AreEmpty s.wires.wheel
+
+-- a unit of some netlist is over, which has a slot for a module of this number
+pub record CanTell (module_number : ℕ) (s : NetlistSimulation) : Type 0 where
+  pub n : Circuit
+  pub ok : IsCircuit n
+  pub t : ℕ
+  pub is : IsSimulated n t s
+  pub within : module_number < length n.modules

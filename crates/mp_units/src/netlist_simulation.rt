@@ -4,6 +4,7 @@ use crate::data_modules::DataModules;
 use crate::data_wires::DataWires;
 use mp_core::Simulation;
 use mp_data::{LevelChange, fire_data_modules};
+use mp_modules::Memory;
 use std::alloc::AllocError;
 
 /// A simulation of a netlist of any widths. A module with data has a place of the simulator of modules of width 1, where it sleeps: so its
@@ -16,10 +17,14 @@ pub struct NetlistSimulation {
 }
 
 impl NetlistSimulation {
-    ghost use Rattle.std.specs.Prelude.{◌≡◌, ◌↔◌, ℕ, ◌+◌, ◌-◌, ◌<◌, ◌^◌, [], IsTrue, OnOk, length};
-    ghost use Rattle.mp_netlist.specs.Circuit.{Circuit, IsCircuit};
+    ghost use Rattle.std.specs.Prelude.{◌≡◌, ◌↔◌, ℕ, ◌+◌, ◌-◌, ◌<◌, ◌^◌, [], Some, IsTrue, OnOk, length};
+    ghost use Rattle.mp_records.specs.declared.module_record.ModuleRecord.{ModuleRecord as Part};
+    ghost use Rattle.mp_netlist.specs.Circuit.{Circuit, IsCircuit, module_at};
+    ghost use Rattle.mp_model.specs.Waves.{state};
+    ghost use Rattle.mp_events.specs.Adding.{listed};
     ghost use Rattle.mp_core.specs.Simulations.{IsSoundRun};
-    ghost use Rattle.mp_units.specs.NetlistSimulations.{IsSimulated, AreStimuli, CanPass, IsStill, IsAtRest};
+    ghost use Rattle.mp_units.specs.NetlistSimulations.{IsSimulated, AreStimuli, CanPass, CanTell, IsStill, IsAtRest};
+    ghost use Rattle.mp_units.specs.Units.{IsApplied, CanFire};
 
     /// Goes through one unit, in which these wires of width 1 toggle and these with data change from outside.
     pub fn pass_unit(
@@ -32,6 +37,24 @@ impl NetlistSimulation {
         requires low { time < 2 ^ 32 - 1 }
         ensures { OnOk result ((n : Circuit) (t : ℕ) → IsCircuit n → time ≡ t + 1 → IsSimulated n t self.old → AreStimuli n set.now levels.now time →
             IsSimulated n (t + 1) self.new) }
+    {
+        self.apply(set, levels, time)?;
+        self.fire()?;
+        Ok(())
+    }
+
+    /// Applies what changes in the next unit, in which these wires of width 1 toggle and these with data change from outside. Modules whose
+    /// inputs change are due.
+    pub fn apply(
+        &mut self,
+        set: &[u32],
+        levels: &[LevelChange],
+        time: u32,
+    ) -> Result<(), AllocError>
+        requires fit { CanPass set.now levels.now time self.old }
+        requires low { time < 2 ^ 32 - 1 }
+        ensures { OnOk result ((n : Circuit) (t : ℕ) → IsCircuit n → time ≡ t + 1 → IsSimulated n t self.old → AreStimuli n set.now levels.now time →
+            IsApplied n t self.new) }
     {
         if set.is_empty() && levels.is_empty() && self.is_still() {
             self.skip_unit();
@@ -52,6 +75,22 @@ impl NetlistSimulation {
             .copies
             .advance(self.bits.simulator.present.as_slice())?;
         self.wires.advance()?;
+        Ok(())
+    }
+
+    /// The modules that are due, by number: those that have had an event in the present unit and haven't fired. The others stay as they are.
+    pub fn due(&self) -> &[u32]
+        ensures { (n : Circuit) (t m : ℕ) (r : Part) → IsCircuit n → IsApplied n t self.now → module_at n m ≡ Some r → listed m result.now ≡ 0 →
+            state n m (t + 1) ≡ state n m t }
+    {
+        self.bits.simulator.due.as_slice()
+    }
+
+    /// The modules that are due fire, and the unit is over.
+    pub fn fire(&mut self) -> Result<(), AllocError>
+        requires { CanFire self.old }
+        ensures { OnOk result ((n : Circuit) (t : ℕ) → IsCircuit n → IsApplied n t self.old → IsSimulated n (t + 1) self.new) }
+    {
         fire_data_modules(
             self.modules.places.as_slice(),
             &mut self.modules.modules,
@@ -62,6 +101,19 @@ impl NetlistSimulation {
         )?;
         self.bits.simulator.fire()?;
         Ok(())
+    }
+
+    /// The state of the module of a number.
+    pub fn memory(&self, number: u32) -> Memory
+        requires { CanTell number self.now }
+        ensures { (n : Circuit) (t : ℕ) (r : Part) → IsCircuit n → IsSimulated n t self.now → module_at n number ≡ Some r → result ≡ state n number t }
+    {
+        match self.modules.places[number as usize] {
+            Some(place) => {
+                self.modules.modules[place as usize].memory(self.wires.levels.as_slice())
+            }
+            None => self.bits.simulator.memory(number),
+        }
     }
 
     /// Whether nothing changes in the next unit that isn't set from outside.
@@ -89,7 +141,7 @@ impl NetlistSimulation {
         requires bits { IsSoundRun self.old.bits }
         requires wheel { 0 < length self.old.wires.wheel }
         requires still { IsStill self.old }
-        ensures { (n : Circuit) (t : ℕ) → IsCircuit n → IsSimulated n t self.old → AreStimuli n [] [] (t + 1) → IsSimulated n (t + 1) self.new }
+        ensures { (n : Circuit) (t : ℕ) → IsCircuit n → IsSimulated n t self.old → AreStimuli n [] [] (t + 1) → IsApplied n t self.new }
     {
         self.bits.simulator.wheel.skip();
         self.bits.copies.wheel.skip();

@@ -1,5 +1,5 @@
-use Rattle.std.proofs.Common.{◌≡◌, ◌<◌, ◌≤◌, ◌-◌, []}
-use Rattle.mp_engine.specs.Engines.{IsAfter}
+use Rattle.std.proofs.Common.{◌<◌, ◌≤◌, ◌-◌}
+use Rattle.mp_engine.specs.WholeRuns.{IsUnderWay}
 use Rattle.mp_engine.proofs.quiet.run_quiet.Given as goal
 
 -- the units before are over
@@ -8,6 +8,5 @@ invariant-loop-look g l = record {
   later : 0 < l.from;
   some : l.from ≤ l.to;
   within : l.to ≤ l.horizon;
-  heard : l.engine.heard.items ≡ [];
-  after : IsAfter l.whole (l.from - 1) l.engine;
+  under_way : IsUnderWay l.netlist (l.from - 1) l.run;
 }

@@ -1,6 +1,6 @@
 use Rattle.std.proofs.Common.{◌<◌, length, sym, ◌∙◌, arith, subst}
 use Rattle.std.specs.Prelude.{slice_index_or}
-use Rattle.mp_events.proofs.FiringLemmas.{not_yet, coded, fired_next_states, fired_next, others_next}
+use Rattle.mp_events.proofs.FiringLemmas.{not_yet, coded, fired_next_states, flips_next, fired_next, others_next}
 use Rattle.mp_events.proofs.firing.fire_modules.Goals as goal
 
 pub loop-place-preserved : goal.loop-place-preserved
@@ -17,15 +17,28 @@ loop-place-preserved c =
     let states = c.args.states.now.items in
     let now = c.loop-place.states.items in
     let new = c.fire_module.new.states.items in
+    let leveled = v.leveled in
+    let long = c.requires.levels in
+    let seated : slice_index_or due i 0 < length c.loop-place.levels.items = omega arith in
     record {
       states = λ state_of is. fired_next_states due i within once states now new state_of (v.states state_of is) placed
           (e.states (state_of (slice_index_or due i 0)) (coded due i within once states now state_of v.others low is)) e.others;
       wheel = λ state_of is. fired_next due i within once state_of c.args.ports.now c.args.wheel.now c.loop-place.wheel c.fire_module.new.wheel (v.wheel state_of is)
           (e.wheel (state_of (slice_index_or due i 0)) (coded due i within once states now state_of v.others low is));
+      levels = λ state_of is. flips_next due i within once c.args.levels.now.items c.loop-place.levels.items c.fire_module.new.levels.items state_of (v.levels state_of is) seated
+          (e.levels (state_of (slice_index_or due i 0)) (coded due i within once states now state_of v.others low is));
       others = others_next due i within once states now new v.others e.others;
       placed = e.others.placed ∙ v.placed;
+      leveled = e.kept ∙ v.leveled;
       units = e.places ∙ v.units;
     }
+
+pub fire_module-requires-clause-levels : goal.fire_module-requires-clause-levels
+fire_module-requires-clause-levels c =
+    let low : slice_index_or c.args.due.now c.loop-place.place-index 0 < length c.args.states.now.items = c.requires.states c.loop-place.place-index 0 c.loop-place-test.true in
+    let long = c.requires.levels in
+    let leveled = c.loop-place.invariant.leveled in
+    omega arith
 
 pub fire_module-requires-clause-low : goal.fire_module-requires-clause-low
 fire_module-requires-clause-low c =

@@ -14,6 +14,7 @@ settle_all-requires-clause-within c =
 pub returns : goal.returns
 returns c = record {
   settled = c.in_ok-states.ensures.settled;
+  levels = c.in_ok-states.ensures.levels;
   outputs = c.in_ok-outputs.ensures;
   fanout = c.in_ok-from_rows.ensures ∙ c.as_slice-4.ensures.value;
   waves = c.in_ok-first_waves.ensures;

@@ -56,7 +56,7 @@ returns-clause-sound c =
     let f = c.in_ok-add_fanout_events.ensures in
     applied_sound s _ set c.args.others.now c.args.time c.requires.sound c.requires.fit
     (is_applied s _ set c.args.others.now c.as_slice.result.now c.args.time c.toggle_wires.new.states.items
-    same c.turn.ensures.turned refl refl e.added f.added f.adding (f.places ∙ e.places) e.waves)
+    same c.turn.ensures.turned refl refl refl e.added f.added f.adding (f.places ∙ e.places) e.waves)
 
 pub returns-clause-applied : goal.returns-clause-applied
 returns-clause-applied c n scope t ok now before due =
@@ -67,7 +67,7 @@ returns-clause-applied c n scope t ok now before due =
     let f = c.in_ok-add_fanout_events.ensures in
     applied s _ set c.args.others.now c.args.time c.requires.sound c.requires.fit
     (is_applied s _ set c.args.others.now c.as_slice.result.now c.args.time c.toggle_wires.new.states.items
-    same c.turn.ensures.turned refl refl e.added f.added f.adding (f.places ∙ e.places) e.waves)
+    same c.turn.ensures.turned refl refl refl e.added f.added f.adding (f.places ∙ e.places) e.waves)
     n ok scope t now before due
 
 pub returns-clause-only : goal.returns-clause-only

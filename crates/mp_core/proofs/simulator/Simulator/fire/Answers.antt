@@ -14,6 +14,9 @@ pub fire_modules-requires-clause-states : goal.fire_modules-requires-clause-stat
 fire_modules-requires-clause-states c =
     subst (λ (due : List ℕ). All (λ q. q < length c.args.self.now.states.items) due) (sym c.as_slice-2.ensures.value) (due_placed c.args.self.now c.requires.sound)
 
+pub fire_modules-requires-clause-levels : goal.fire_modules-requires-clause-levels
+fire_modules-requires-clause-levels c = c.requires.sound.levels
+
 pub fire_modules-requires-clause-once : goal.fire_modules-requires-clause-once
 fire_modules-requires-clause-once c q =
     subst (λ (due : List ℕ). listed q due ≤ 1) (sym c.as_slice-2.ensures.value) (due_once c.args.self.now c.requires.sound q)
@@ -22,13 +25,13 @@ pub returns-clause-sound : goal.returns-clause-sound
 returns-clause-sound c =
     let e = c.in_ok-fire_modules.ensures in
     fired_sound c.args.self.now _ c.requires.sound
-    (is_fired c.args.self.now _ c.as_slice.result.now c.as_slice-2.result.now c.as_slice.ensures.value c.as_slice-2.ensures.value e.states e.wheel e.places e.kept c.clear.ensures.items refl refl refl)
+    (is_fired c.args.self.now _ c.as_slice.result.now c.as_slice-2.result.now c.as_slice.ensures.value c.as_slice-2.ensures.value e.states e.levels e.wheel e.places e.kept e.same c.clear.ensures.items refl refl refl)
 
 pub returns-clause-fired : goal.returns-clause-fired
 returns-clause-fired c n scope t ok during =
     let e = c.in_ok-fire_modules.ensures in
     fired c.args.self.now _ c.requires.sound
-    (is_fired c.args.self.now _ c.as_slice.result.now c.as_slice-2.result.now c.as_slice.ensures.value c.as_slice-2.ensures.value e.states e.wheel e.places e.kept c.clear.ensures.items refl refl refl)
+    (is_fired c.args.self.now _ c.as_slice.result.now c.as_slice-2.result.now c.as_slice.ensures.value c.as_slice-2.ensures.value e.states e.levels e.wheel e.places e.kept e.same c.clear.ensures.items refl refl refl)
     n ok scope t during
 
 pub returns-clause-units : goal.returns-clause-units

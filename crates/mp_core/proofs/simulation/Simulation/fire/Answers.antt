@@ -1,0 +1,20 @@
+use Rattle.std.proofs.Common.{length, sym, ap, subst}
+use Rattle.mp_wave.specs.Waveform.{Waveform}
+use Rattle.mp_core.specs.Simulations.{AreSoundCopies}
+use Rattle.mp_core.proofs.simulation.Simulation.fire.Goals as goal
+
+pub returns-clause-sound : goal.returns-clause-sound
+returns-clause-sound c = record {
+  simulator = c.in_ok-fire.ensures.sound;
+  copies = subst (λ k. AreSoundCopies k c.args.self.now.copies) (sym (ap length c.in_ok-fire.ensures.same)) c.requires.copies;
+}
+
+pub returns-clause-fired : goal.returns-clause-fired
+returns-clause-fired c n scope before t ok heard = record {
+  simulator = c.in_ok-fire.ensures.fired n scope t ok heard.simulator;
+  chained = heard.chained;
+  copies = heard.copies;
+}
+
+pub returns-clause-waves : goal.returns-clause-waves
+returns-clause-waves c = ap (length {A = Waveform}) c.in_ok-fire.ensures.waves

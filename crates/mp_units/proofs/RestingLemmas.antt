@@ -1,0 +1,63 @@
+-- A simulation in which nothing is known to change.
+use Rattle.std.proofs.Common.{ℕ, ◌+◌, List, [], refl, sym, ap, subst}
+use Rattle.mp_netlist.specs.Circuit.{Circuit, IsCircuit}
+use Rattle.mp_events.specs.Firing.{scheduled as events_scheduled}
+use Rattle.mp_events.proofs.EmptyLemmas.{empty_turned, empty_next}
+use Rattle.mp_core.proofs.FiredLemmas.{fired as bits_fired}
+use Rattle.mp_core.proofs.QuietLemmas.{none_fired}
+use Rattle.mp_data.specs.LevelWheels.{scheduled}
+use Rattle.mp_data.specs.DataFiring.{HaveStepped, fired_by, changed_by}
+use Rattle.mp_units.specs.declared.netlist_simulation.NetlistSimulation.{NetlistSimulation}
+use Rattle.mp_units.specs.NetlistSimulations.{IsSimulated, AreStimuli, IsAtRest}
+use Rattle.mp_units.specs.Units.{IsApplied}
+use Rattle.mp_units.proofs.FireLemmas.{IsFired, fired}
+use Rattle.mp_units.proofs.QuietLemmas.{quiet_unit}
+
+none_stepped : (levels : List ℕ) (s : NetlistSimulation) → HaveStepped levels s.modules.places.items [] s.modules.modules.items s.modules.modules.items
+none_stepped levels s = record {
+  placed = refl;
+  fired = λ q k at. refl;
+  others = λ k none. refl;
+  kept = λ k. record { part = refl; inputs = refl; ports = refl };
+}
+
+-- no module is due, so none fires
+rests : (n : Circuit) → IsCircuit n → (t : ℕ) (s : NetlistSimulation) → IsSimulated n t s → IsFired s s s.bits.simulator.wheel
+rests n ok t s is =
+    let due = is.running.simulator.due in
+    record {
+      entered = sym (ap (λ (xs : List ℕ). events_scheduled s.bits.simulator.wheel (fired_by s.wires.levels.items s.modules.places.items s.modules.modules.items xs)) due);
+      entered_units = refl;
+      changes = sym (ap (λ (xs : List ℕ). scheduled s.wires.wheel (changed_by s.wires.levels.items s.modules.places.items s.modules.modules.items xs)) due);
+      changes_units = refl;
+      stepped = subst (λ (xs : List ℕ). HaveStepped s.wires.levels.items s.modules.places.items xs s.modules.modules.items s.modules.modules.items) (sym due) (none_stepped s.wires.levels.items s);
+      places = refl;
+      copies = refl;
+      levels = refl;
+      waves = refl;
+      next = refl;
+      fired = λ n scope t ok during. bits_fired s.bits.simulator s.bits.simulator is.sound.simulator (none_fired s.bits.simulator due) n ok scope t during;
+      sound = is.sound.simulator;
+      fanout = refl;
+      bit_waves = refl;
+      units = refl;
+      seats = refl;
+    }
+
+-- a unit in which nothing is set is over as soon as the one before
+pub rests_on : (n : Circuit) → IsCircuit n → (t : ℕ) (s : NetlistSimulation) → IsAtRest s → IsSimulated n t s → AreStimuli n [] [] (t + 1) → IsSimulated n (t + 1) s
+rests_on n ok t s rest is sets =
+    let events = s.bits.simulator.wheel in
+    let copies = s.bits.copies.wheel in
+    let changes = s.wires.wheel in
+    let applied : IsApplied n t s = record {
+      before = s;
+      is = is;
+      set = [];
+      changes = [];
+      stimuli = sets;
+      applied = quiet_unit s is.sound (empty_next events rest.bits.wires) (empty_next copies rest.bits.copies) (empty_next changes rest.changes) (t + 1)
+          events (sym (empty_turned events is.sound.simulator.some rest.bits.wires))
+          copies (sym (empty_turned copies is.sound.copies.some rest.bits.copies)) changes (sym (empty_turned changes is.wires.some rest.changes)) is.wires.some;
+    } in
+    fired n ok t s applied s events (rests n ok t s is)
