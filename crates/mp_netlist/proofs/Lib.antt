@@ -10,6 +10,7 @@ pub mod CircuitLemmas
 pub mod PortLemmas
 pub mod PortEditLemmas
 pub mod ModuleLemmas
+pub mod NewPortLemmas
 pub mod EditLemmas
 pub mod RefusalLemmas
 mod BatchLemmas

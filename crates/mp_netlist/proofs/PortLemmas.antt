@@ -11,7 +11,7 @@ use Rattle.mp_netlist.proofs.TableLemmas.{equal_name}
 abbrev pub no_name : OutputName
 no_name = record { wire = None; delay = 1 }
 
-abbrev name_first : Option (List ℕ) → List (List ℕ) → List (List ℕ)
+abbrev pub name_first : Option (List ℕ) → List (List ℕ) → List (List ℕ)
 name_first None names = names
 name_first (Some name) names = name ∷ names
 

@@ -1,17 +1,18 @@
 //! Numbers by name.
-ghost use Rattle.std.specs.Prelude.{◌≡◌, List, ℕ, cond, None, Some, IfOk, OnOk, OnErr, string_bytes};
+ghost use Rattle.std.specs.Prelude.{◌≡◌, List, ℕ, cond, None, Some, IfOk, OnOk, OnErr};
 ghost use Rattle.std.specs.Str.{bytes_eq};
 ghost use Rattle.std.specs.Arc.{arc_value};
-ghost use Rattle.indexmap.specs.IndexMap.{get_by_text};
+ghost use Rattle.indexmap.specs.IndexMap.{get};
 
 use indexmap::IndexMap;
+use mp_records::Name;
 use std::alloc::{AllocError, Global};
 use std::sync::Arc;
 
 /// Numbers by name. Copies share them until one of them gets another name.
 #[derive(Drop)]
 pub struct Index {
-    numbers: Option<Arc<IndexMap<String, u32>, Global>>,
+    numbers: Option<Arc<IndexMap<Name, u32>, Global>>,
 }
 
 impl Index {
@@ -37,11 +38,11 @@ impl Index {
     }
 
     /// Sets the number of this name. On an error each name keeps its number.
-    pub fn insert(&mut self, alloc: Global, name: &str, number: u32) -> Result<(), AllocError>
+    pub fn insert(&mut self, alloc: Global, name: &Name, number: u32) -> Result<(), AllocError>
         ensures ok { OnOk result ((other : List ℕ) → number_in self.new other ≡ cond (bytes_eq name.now other) (Some number) (number_in self.old other)) }
         ensures err { OnErr result ((other : List ℕ) → number_in self.new other ≡ number_in self.old other) }
     {
-        let key = String::from_str(alloc, name)?;
+        let key = name.clone()?;
         match &mut self.numbers {
             Some(shared) => insert_shared(shared, key, number)?,
             None => self.numbers = Some(first(alloc, key, number)?),
@@ -64,12 +65,12 @@ impl Index {
 
 /// Sets the number of a name, in a copy where others look there too.
 fn insert_shared(
-    shared: &mut Arc<IndexMap<String, u32>, Global>,
-    name: String,
+    shared: &mut Arc<IndexMap<Name, u32>, Global>,
+    name: Name,
     number: u32,
 ) -> Result<(), AllocError>
-    ensures ok { OnOk result ((other : List ℕ) → get_by_text (arc_value shared.new) other ≡ cond (bytes_eq (string_bytes name) other) (Some number) (get_by_text (arc_value shared.old) other)) }
-    ensures err { OnErr result ((other : List ℕ) → get_by_text (arc_value shared.new) other ≡ get_by_text (arc_value shared.old) other) }
+    ensures ok { OnOk result ((other : List ℕ) → get bytes_eq (arc_value shared.new) other ≡ cond (bytes_eq name other) (Some number) (get bytes_eq (arc_value shared.old) other)) }
+    ensures err { OnErr result ((other : List ℕ) → get bytes_eq (arc_value shared.new) other ≡ get bytes_eq (arc_value shared.old) other) }
 {
     Arc::make_mut(shared)?.insert(name, number)?;
     Ok(())
@@ -78,10 +79,10 @@ fn insert_shared(
 /// The number of one name.
 fn first(
     alloc: Global,
-    name: String,
+    name: Name,
     number: u32,
-) -> Result<Arc<IndexMap<String, u32>, Global>, AllocError>
-    ensures { IfOk result (λ shared. (other : List ℕ) → get_by_text (arc_value shared) other ≡ cond (bytes_eq (string_bytes name) other) (Some number) None) }
+) -> Result<Arc<IndexMap<Name, u32>, Global>, AllocError>
+    ensures { IfOk result (λ shared. (other : List ℕ) → get bytes_eq (arc_value shared) other ≡ cond (bytes_eq name other) (Some number) None) }
 {
     let mut numbers = IndexMap::new(alloc);
     numbers.insert(name, number)?;

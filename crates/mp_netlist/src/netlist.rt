@@ -6,6 +6,7 @@ mod copies;
 mod delays;
 mod drivers;
 mod names;
+mod new_ports;
 mod ports;
 mod readers;
 mod uses;

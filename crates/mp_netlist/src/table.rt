@@ -93,7 +93,7 @@ impl<R: Named> Table<R> {
         let number = self.slots.len() as u32;
         let alloc = *self.slots.allocator();
         self.slots.reserve(1)?;
-        self.index.insert(alloc, added.name().as_str(), number)?;
+        self.index.insert(alloc, added.name(), number)?;
         self.slots.push(Some(added)).unwrap();
         Ok(())
     }

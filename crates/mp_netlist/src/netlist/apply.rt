@@ -1,5 +1,6 @@
 //! What an edit does to a netlist.
 use crate::netlist::Netlist;
+use crate::netlist::new_ports::NewPorts;
 use crate::record_changes::{
     NewDelay, NewInput, NewInputDelay, NewOutput, NewStimulus, NoStimulus,
 };
@@ -10,12 +11,13 @@ use mp_records::{
 use std::alloc::AllocError;
 
 impl Netlist {
-    ghost use Rattle.std.specs.Prelude.{◌≡◌, ◌<◌, [], ◌∷◌, ◌++◌, Ok, None, Some, length, IfOk, IfErr, OnOk, OnErr, IsTrue, option_map, string_bytes};
+    ghost use Rattle.std.specs.Prelude.{◌≡◌, ◌<◌, [], ◌∷◌, ◌++◌, Ok, None, Some, length, IfOk, IfErr, OnOk, OnErr, IsTrue, map, option_map, string_bytes};
     ghost use Rattle.mp_records.specs.declared.edit.Edit.TheVariants.{Single};
+    ghost use Rattle.mp_records.specs.declared.single_edit.SingleEdit.TheVariants.{AddModule};
     ghost use Rattle.mp_records.specs.declared.edit_error.EditError.TheVariants.{OutOfMemory};
     ghost use Rattle.mp_records.specs.PortChanges.{with_input, with_input_delay, with_output, with_delay};
     ghost use Rattle.mp_netlist.specs.Circuit.{IsCircuit, wire_at, module_at, wire_named, module_named, bundle_named};
-    ghost use Rattle.mp_netlist.specs.Edits.{after, after_single, RefusedBy, takes_memory, single_takes_memory, refusal, edited, wire_refusal, wire_removal_refusal, module_refusal, module_removal_refusal, bundle_refusal, bundle_removal_refusal, input_refusal, output_refusal, input_delay_refusal, delay_refusal, stimulus_refusal, clearing_refusal, with_wire_record, with_new_wire, new_module, with_new_module, new_bundle, with_new_bundle, with_bundle, with_stimulus, without_stimulus, with_wire, with_module, wire_id, module_id, bundle_id};
+    ghost use Rattle.mp_netlist.specs.Edits.{after, after_single, RefusedBy, takes_memory, single_takes_memory, refusal, edited, wire_refusal, wire_removal_refusal, module_refusal, module_removal_refusal, bundle_refusal, bundle_removal_refusal, input_refusal, output_refusal, input_delay_refusal, delay_refusal, stimulus_refusal, clearing_refusal, with_wire_record, with_new_wire, input_of, output_of, new_module, with_new_module, new_bundle, with_new_bundle, with_bundle, with_stimulus, without_stimulus, with_wire, with_module, wire_id, module_id, bundle_id};
 
     /// Makes the edit, or says which check fails first, or `OutOfMemory`, which no edit is told but a batch and those that add a thing or
     /// set a stimulus. A batch is made whole, or refused for the first of its edits that is refused: with `InBatch`, or with
@@ -42,8 +44,24 @@ impl Netlist {
         ensures memory { IfErr result (λ error. error ≡ OutOfMemory → IsTrue (single_takes_memory edit.now)) }
         ensures err { OnErr result (self.new ≡ self.old) }
     {
+        if let SingleEdit::AddModule(new) = edit {
+            return self.apply_module(new.get());
+        }
         match self.check_single(edit) {
             Ok(()) => Ok(self.make_single(edit)?),
+            Err(error) => Err(error),
+        }
+    }
+
+    #[tactic(auto, unfolding(crate::specs::Edits::edited, crate::specs::Edits::refusal))]
+    /// Adds a module, or says why it is refused. The wires at its ports are looked up once.
+    fn apply_module(&mut self, new: &NewModule) -> Result<(), EditError>
+        ensures ok { OnOk result (after_single self.old (AddModule new.now) ≡ Ok self.new) }
+        ensures refused { IfErr result (RefusedBy (Single (AddModule new.now)) (after_single self.old (AddModule new.now))) }
+        ensures err { OnErr result (self.new ≡ self.old) }
+    {
+        match self.check_module(new) {
+            Ok(ports) => Ok(self.add_module(new, ports)?),
             Err(error) => Err(error),
         }
     }
@@ -59,7 +77,7 @@ impl Netlist {
         match edit {
             SingleEdit::AddWire { name, width, level } => self.add_wire(name, *width, *level),
             SingleEdit::RemoveWire { wire } => Ok(self.remove_wire(wire)),
-            SingleEdit::AddModule(new) => self.add_module(new.get()),
+            SingleEdit::AddModule(new) => self.make_module(new.get()),
             SingleEdit::RemoveModule { module } => Ok(self.remove_module(module)),
             SingleEdit::AddBundle(new) => self.add_bundle(new.get()),
             SingleEdit::RemoveBundle { bundle } => Ok(self.remove_bundle(bundle)),
@@ -119,8 +137,22 @@ impl Netlist {
         self.wires.remove(id.0);
     }
 
-    fn add_module(&mut self, new: &NewModule) -> Result<(), AllocError>
+    /// Adds a module that no check refuses.
+    fn make_module(&mut self, new: &NewModule) -> Result<(), AllocError>
         requires { module_refusal self.old new.now ≡ None }
+        ensures ok { OnOk result (self.new ≡ with_new_module self.old (new_module self.old new.now)) }
+        ensures err { OnErr result (self.new ≡ self.old) }
+    {
+        match self.check_module(new) {
+            Ok(ports) => self.add_module(new, ports),
+            Err(_) => unreachable!(),
+        }
+    }
+
+    fn add_module(&mut self, new: &NewModule, ports: NewPorts) -> Result<(), AllocError>
+        requires allowed { module_refusal self.old new.now ≡ None }
+        requires inputs { ports.inputs ≡ map (input_of self.old) new.now.inputs }
+        requires outputs { ports.outputs ≡ map (output_of self.old) new.now.outputs }
         ensures ok { OnOk result (self.new ≡ with_new_module self.old (new_module self.old new.now)) }
         ensures err { OnErr result (self.new ≡ self.old) }
     {
@@ -128,8 +160,8 @@ impl Netlist {
             name: new.name.clone()?,
             kind: new.kind,
             params: new.params.clone()?,
-            inputs: self.inputs_of(&new.inputs),
-            outputs: self.outputs_of(&new.outputs),
+            inputs: ports.inputs,
+            outputs: ports.outputs,
         };
         self.put_module(added)
     }

@@ -1,25 +1,20 @@
 //! Why an edit is refused.
-ghost use Rattle.std.specs.Prelude.{◌≡◌, ◌==◌, ◌&&◌, length};
-ghost use Rattle.std.specs.List.{list_all};
-ghost use Rattle.mp_modules.specs.Kinds.{input_count, output_count};
-ghost use Rattle.mp_records.specs.declared.port_names.InputName.{InputName};
-ghost use Rattle.mp_records.specs.declared.port_names.OutputName.{OutputName};
+ghost use Rattle.std.specs.Prelude.{◌≡◌};
 ghost use Rattle.std.specs.Result.{result_err};
-ghost use Rattle.mp_netlist.specs.Drivers.{is_free_for};
-ghost use Rattle.mp_netlist.specs.Edits.{first_failing, batch_checks, delays_fit, is_input_delay, is_delay};
+ghost use Rattle.mp_netlist.specs.Edits.{first_failing, batch_checks};
 
 use crate::driver::Driver;
+use crate::netlist::drivers::is_free_for;
+use crate::netlist::new_ports::NewPorts;
+use crate::netlist::ports::{delays_fit, has_ports, is_delay};
 use crate::netlist::{MAX_BATCH, MAX_DELAY, MAX_SETUP, Netlist};
-use mp_modules::{Kind, fits_width};
-use mp_records::{
-    Batch, Boxed, Changes, Edit, EditError, InputNames, ModuleId, Name, NewBundle, NewModule,
-    OutputNames, SingleEdit,
-};
+use mp_modules::fits_width;
+use mp_records::{Batch, Boxed, Changes, Edit, EditError, Name, NewBundle, NewModule, SingleEdit};
 
 impl Netlist {
-    ghost use Rattle.std.specs.Prelude.{◌≡◌};
+    ghost use Rattle.std.specs.Prelude.{◌≡◌, IfOk, map};
     ghost use Rattle.std.specs.Result.{result_err};
-    ghost use Rattle.mp_netlist.specs.Edits.{checked, refusal, wire_refusal, wire_removal_refusal, module_refusal, module_removal_refusal, bundle_refusal, bundle_removal_refusal, input_refusal, output_refusal, input_delay_refusal, delay_refusal, stimulus_refusal, clearing_refusal};
+    ghost use Rattle.mp_netlist.specs.Edits.{checked, refusal, wire_refusal, wire_removal_refusal, module_refusal, module_removal_refusal, bundle_refusal, bundle_removal_refusal, input_refusal, output_refusal, input_delay_refusal, delay_refusal, stimulus_refusal, clearing_refusal, input_of, output_of};
 
     /// The first check that the edit fails, in the order of its kind, where it is not want of memory. Of a batch it tells `BadBatch` alone:
     /// its edits are judged as they are made.
@@ -40,7 +35,10 @@ impl Netlist {
         match edit {
             SingleEdit::AddWire { name, width, level } => self.check_wire(name, *width, *level),
             SingleEdit::RemoveWire { wire } => self.check_wire_removal(wire),
-            SingleEdit::AddModule(new) => self.check_module(new.get()),
+            SingleEdit::AddModule(new) => {
+                self.check_module(new.get())?;
+                Ok(())
+            }
             SingleEdit::RemoveModule { module } => self.check_module_removal(module),
             SingleEdit::AddBundle(new) => self.check_bundle(new.get()),
             SingleEdit::RemoveBundle { bundle } => self.check_bundle_removal(bundle),
@@ -100,8 +98,11 @@ impl Netlist {
         Ok(())
     }
 
-    fn check_module(&self, new: &NewModule) -> Result<(), EditError>
-        ensures { result_err result ≡ module_refusal self.now new.now }
+    /// The ports of a module that is to be added, or the first check that it fails.
+    pub(crate) fn check_module(&self, new: &NewModule) -> Result<NewPorts, EditError>
+        ensures refused { result_err result ≡ module_refusal self.now new.now }
+        ensures inputs { IfOk result (λ ports. ports.inputs ≡ map (input_of self.now) new.now.inputs) }
+        ensures outputs { IfOk result (λ ports. ports.outputs ≡ map (output_of self.now) new.now.outputs) }
     {
         if !new.name.is_valid() {
             return Err(EditError::BadName);
@@ -112,11 +113,11 @@ impl Netlist {
         if !has_ports(new.kind, &new.inputs, &new.outputs) {
             return Err(EditError::WrongPorts);
         }
-        if !self.ports_stand(&new.inputs, &new.outputs) {
+        let Some(ports) = self.named_ports(new) else {
             return Err(EditError::NoSuchWire);
-        }
-        let width = self.new_width(new.kind, &new.inputs);
-        if !self.ports_fit(new.kind, width, &new.inputs, &new.outputs) {
+        };
+        let width = self.new_width(new, &ports);
+        if !self.ports_fit(new, &ports, width) {
             return Err(EditError::WidthMismatch);
         }
         if !new.kind.accepts(width, new.params.as_slice()) {
@@ -125,13 +126,13 @@ impl Netlist {
         if !delays_fit(&new.inputs, &new.outputs) {
             return Err(EditError::BadDelay);
         }
-        if !self.outputs_are_free(&new.outputs) {
+        if !self.outputs_are_free(new, &ports) {
             return Err(EditError::AlreadyDriven);
         }
         if self.modules.len() >= self.format.max_modules() {
             return Err(EditError::TableFull);
         }
-        Ok(())
+        Ok(ports)
     }
 
     fn check_module_removal(&self, name: &Name) -> Result<(), EditError>
@@ -294,50 +295,4 @@ fn check_batch(batch: &Batch) -> Result<(), EditError>
         return Err(EditError::BadBatch);
     }
     Ok(())
-}
-
-/// Whether the driver is nothing, or just that port of that module.
-fn is_free_for(id: ModuleId, port: u64, driver: Driver) -> bool
-    ensures { result ≡ is_free_for id.0 port driver }
-{
-    match driver {
-        Driver::Nothing => true,
-        Driver::Stimulus => false,
-        Driver::Port(other, output) => other.0 == id.0 && u64::from(output) == port,
-    }
-}
-
-/// Whether there are as many inputs and outputs as the kind has.
-fn has_ports(kind: Kind, inputs: &InputNames, outputs: &OutputNames) -> bool
-    ensures { result ≡ (length inputs.now == input_count kind && length outputs.now == output_count kind) }
-{
-    inputs.as_slice().len() == kind.inputs() && outputs.as_slice().len() == kind.outputs()
-}
-
-/// Whether each port has a delay that it may have.
-fn delays_fit(inputs: &InputNames, outputs: &OutputNames) -> bool
-    ensures { result ≡ delays_fit inputs.now outputs.now }
-{
-    are_input_delays(inputs) && are_delays(outputs)
-}
-
-/// Whether each input has a delay that an input may have.
-fn are_input_delays(inputs: &InputNames) -> bool
-    ensures { result ≡ list_all (λ (port : InputName). is_input_delay port.delay) inputs.now }
-{
-    inputs.as_slice().iter().all(|port| port.delay <= MAX_DELAY)
-}
-
-/// Whether each output has a delay that an output may have.
-fn are_delays(outputs: &OutputNames) -> bool
-    ensures { result ≡ list_all (λ (port : OutputName). is_delay port.delay) outputs.now }
-{
-    outputs.as_slice().iter().all(|port| is_delay(port.delay))
-}
-
-/// Whether an output port may have the delay.
-fn is_delay(delay: u64) -> bool
-    ensures { result ≡ is_delay delay }
-{
-    1 <= delay && delay <= MAX_DELAY
 }

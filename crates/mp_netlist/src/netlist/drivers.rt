@@ -1,7 +1,7 @@
 //! What drives a wire of a netlist.
 ghost use Rattle.std.specs.Prelude.{◌≡◌, ◌<◌, ◌^◌, All, length};
 ghost use Rattle.mp_netlist.specs.declared.driver.Driver.TheVariants.{Nothing};
-ghost use Rattle.mp_netlist.specs.Drivers.{port_from, driver_from};
+ghost use Rattle.mp_netlist.specs.Drivers.{port_from, driver_from, is_free_for};
 ghost use Rattle.mp_netlist.specs.DriverSearch.{HasFewPorts};
 
 use crate::driver::Driver;
@@ -36,6 +36,17 @@ impl Netlist {
             Some(found) => found.stimulus.is_some(),
             None => false,
         }
+    }
+}
+
+/// Whether the driver is nothing, or just that port of that module.
+pub(crate) fn is_free_for(id: ModuleId, port: u64, driver: Driver) -> bool
+    ensures { result ≡ is_free_for id.0 port driver }
+{
+    match driver {
+        Driver::Nothing => true,
+        Driver::Stimulus => false,
+        Driver::Port(other, output) => other.0 == id.0 && u64::from(output) == port,
     }
 }
 

@@ -1,5 +1,4 @@
-use Rattle.std.proofs.Common.{◌≡◌, Some, cond, ap, ◌∙◌, rules, string_bytes}
-use Rattle.std.proofs.lemmas.Map.Text.{hash_map_updates_text}
+use Rattle.std.proofs.Common.{◌≡◌, Some, cond, ap, ◌∙◌, rules}
 use Rattle.std.proofs.lemmas.Result.{err_from_is_err_and}
 use Rattle.std.specs.Arc.{arc_value}
 use Rattle.std.specs.Str.{bytes_eq}
@@ -23,6 +22,6 @@ pub returns-clause-ok : goal.returns-clause-ok
 returns-clause-ok c other =
     let held : arc_value (c.make_mut.follows.lender c.insert.new.self) ≡ c.insert.new.self = search rules in
     rw held (
-    hash_map_updates_text (string_bytes c.args.name) c.in_ok-make_mut.field-0.now c.insert.new.self _ c.in_ok-insert.ensures.updates other
-    ∙ ap (cond (bytes_eq (string_bytes c.args.name) other) (Some c.args.number)) (get-same (arc_value c.args.shared.now) c.in_ok-make_mut.field-0.now c.in_ok-make_mut.ensures.value other)
+    c.in_ok-insert.ensures.updates.0 other
+    ∙ ap (cond (bytes_eq c.args.name other) (Some c.args.number)) (get-same (arc_value c.args.shared.now) c.in_ok-make_mut.field-0.now c.in_ok-make_mut.ensures.value other)
     )

@@ -22,10 +22,10 @@ invariant_of-self-2 g c =
     let name = name_of c.args.added in
     let pushed : c.push.new.self.items ≡ old.slots.items ++ Some c.args.added ∷ [] = search rules in
     let number : c.len-number.result ≡ length old.slots.items = search rules in
-    let same : c.as_str.result.now ≡ name = search rules in
+    let same : c.name.result.now ≡ name = search rules in
     let free = subst (λ slots. is_none (number_named name_of slots name) ≡ true) (sym c.self.view_is) (ap is_none c.requires.free) in
     subst (λ slots. IsTable name_of slots (number_in c.insert.new.self)) (sym pushed)
     (IsTable-push name_of name old.slots.items c.args.added (number_in old.index) refl free c.self.invariant (number_in c.insert.new.self) (λ q.
     c.in_ok-insert.ensures.ok q
-    ∙ ap (λ n. cond (bytes_eq c.as_str.result.now q) (Some n) (number_in old.index q)) number
+    ∙ ap (λ n. cond (bytes_eq c.name.result.now q) (Some n) (number_in old.index q)) number
     ∙ ap (λ text. cond (bytes_eq text q) (Some (length old.slots.items)) (number_in old.index q)) same))
