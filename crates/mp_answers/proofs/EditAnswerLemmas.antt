@@ -1,17 +1,12 @@
 -- The lines of edits, one after the other.
-use Rattle.std.proofs.Common.{◌≡◌, ◌⊎◌, inl, inr, ℕ, ◌+◌, ◌<◌, ◌≤◌, List, ◌∷◌, ◌++◌, length, drop, get_or, Some, None, ap, ◌∙◌, arith}
+use Rattle.std.specs.Prelude.{◌≡◌, ◌+◌, ◌<◌, ◌++◌}
+use Rattle.mp_answers.proofs.Names.{left_none, drop_all, left_as, left_then, left_whole, ℕ, List, length, arith, drop_more, numbered_at, edits_from}
 use Rattle.std.specs.List.{slice_get}
-use Rattle.std.proofs.lemmas.List.{drop_more}
 use Rattle.std.proofs.lemmas.Option.{slice_get_cases}
 use Rattle.mp_records.specs.declared.edit.Edit.{Edit}
-use Rattle.mp_answers.specs.NumberedLines.{lines_from}
-use Rattle.mp_answers.specs.EditAnswers.{numbered_line, numbered_at, edits_from}
 
 -- the line of the edit in a place, and then the others
 pub edits_next : (edits : List Edit) (k : ℕ) → k < length edits → edits_from edits k ≡ numbered_at (k + 1) (slice_get edits k) ++ edits_from edits (k + 1)
-edits_next edits k low = by (slice_get_cases edits k).1
-  where
-    by : ((x : Edit) × (k < length edits) × (slice_get edits k ≡ Some x) × (get_or edits k x ≡ x)) ⊎ ((length edits ≤ k) × (slice_get edits k ≡ None))
-        → edits_from edits k ≡ numbered_at (k + 1) (slice_get edits k) ++ edits_from edits (k + 1)
-    by (inl h) = rw h.2 (ap (lines_from numbered_line (k + 1)) (drop_more edits k h.0 h.1 ∙ ap (λ y. y ∷ drop (k + 1) edits) h.3))
-    by (inr h) = absurd (omega (arith, low, h.0))
+edits_next edits k low = grind (arith, slice_get_cases, drop_more)
+
+pub ruleset edit_answers_put_edits_steps = (left_whole, edits_next, left_then, left_as, drop_all, left_none)

@@ -1,26 +1,7 @@
 -- What questions are answered.
-use Rattle.std.specs.Prelude.{ℕ, ◌+◌, ◌-◌, Bool, List, [], ◌∷◌, ◌++◌, length, Option, Some, None, ◌&&◌, nat_le, if◌then◌else◌, codes}
-use Rattle.std.specs.Fmt.{decimal}
-use Rattle.mp_records.specs.declared.edit.Edit.{Edit}
-use Rattle.mp_records.specs.declared.edit_error.EditError.TheVariants.{NoSuchWire}
-use Rattle.mp_netlist.specs.Circuit.{Circuit, wire_at, wire_named}
-use Rattle.mp_model.specs.Waves.{wave}
-use Rattle.mp_report.specs.Lines.{report_text}
-use Rattle.mp_timing.specs.Waits.{waits}
-use Rattle.mp_timing.specs.Measures.{measure}
-use Rattle.mp_vcd.specs.Dumps.{dump}
-use Rattle.mp_words.specs.declared.line_error.LineError.TheVariants.{BadNumber}
-use Rattle.mp_text.specs.declared.question.Question.{Question}
-use Rattle.mp_text.specs.declared.question.Question.TheVariants.{Wave, Waves, Text, Report, Dump, Work, Show, Why, Path, Waits, Measure, Graph, Version, Edits}
-use Rattle.mp_text.specs.Written.{written}
-use Rattle.mp_picture.specs.declared.mark.Charset.TheVariants.{Unicode}
-use Rattle.mp_picture.specs.GraphSections.{graph}
+use Rattle.std.specs.Prelude.{◌+◌, ◌-◌, ◌∷◌, ◌++◌, ◌&&◌, if◌then◌else◌}
+use Rattle.mp_answers.specs.Names.{decimal, Edit, NoSuchWire, Circuit, wire_at, wire_named, Unicode, missing_at, usual_columns, ℕ, Bool, List, [], length, Option, Some, None, nat_le, codes, wave, report_text, waits, measure, dump, BadNumber, Question, Wave, Waves, Text, Report, Dump, Work, Show, Why, Path, Waits, Measure, Graph, Version, Edits, written, graph, picture_text, why_of, path_of, slot_line, waves_text}
 use Rattle.mp_views.specs.declared.drawing.Drawing.TheVariants as drawings
-use Rattle.mp_views.specs.AskedWires.{missing_at}
-use Rattle.mp_views.specs.Limits.{usual_columns}
-use Rattle.mp_views.specs.Pictures.{picture_text}
-use Rattle.mp_views.specs.Chains.{why_of, path_of}
-use Rattle.mp_views.specs.Outputs.{slot_line, waves_text}
 use Rattle.mp_answers.specs.WorkLines.{work_text}
 use Rattle.mp_answers.specs.EditAnswers.{edits_from}
 use Rattle.mp_answers.specs.Kept.{Kept}

@@ -1,8 +1,6 @@
 -- The accepted edits as lines.
-use Rattle.std.specs.Prelude.{ℕ, ◌+◌, List, [], ◌∷◌, ◌++◌, drop, Option, Some, None, codes}
-use Rattle.std.specs.Fmt.{decimal}
-use Rattle.mp_records.specs.declared.edit.Edit.{Edit}
-use Rattle.mp_edit_lines.specs.EditLines.{edit_text}
+use Rattle.std.specs.Prelude.{◌+◌, ◌∷◌, ◌++◌}
+use Rattle.mp_answers.specs.Names.{decimal, Edit, ℕ, List, [], drop, Option, Some, None, codes, edit_text}
 use Rattle.mp_answers.specs.NumberedLines.{lines_from}
 
 -- `N EDIT`: the number of an edit, and the line of a script that makes it

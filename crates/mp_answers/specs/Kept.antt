@@ -1,9 +1,5 @@
 -- A netlist that is edited, of which questions are asked.
-use Rattle.std.specs.Prelude.{List}
-use Rattle.mp_records.specs.declared.edit.Edit.{Edit}
-use Rattle.mp_netlist.specs.Circuit.{Circuit}
-use Rattle.mp_version.specs.Stories.{Story, present}
-use Rattle.mp_work.specs.declared.work_entry.WorkEntry.{WorkEntry}
+use Rattle.mp_answers.specs.Names.{Edit, Circuit, WorkEntry, List, Story, present}
 
 -- a netlist, the edits that led to it, and what was evaluated for the last of them
 pub record Kept : Type 0 where

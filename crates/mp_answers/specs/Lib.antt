@@ -1,3 +1,4 @@
+pub mod Names
 pub mod NumberedLines
 pub mod EditAnswers
 pub mod WorkLines

@@ -1,5 +1,6 @@
 -- Lines that are numbered.
-use Rattle.std.specs.Prelude.{ℕ, ◌+◌, List, [], ◌∷◌, ◌++◌}
+use Rattle.std.specs.Prelude.{◌+◌, ◌∷◌, ◌++◌}
+use Rattle.mp_answers.specs.Names.{ℕ, List, []}
 
 -- a line for each thing, counted from this number
 abbrev pub lines_from : {X : Type 0} → (ℕ → X → List ℕ) → ℕ → List X → List ℕ

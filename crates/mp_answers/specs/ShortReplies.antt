@@ -1,11 +1,7 @@
 -- Replies of one line: to edits, and to lines that aren't read.
-use Rattle.std.specs.Prelude.{ℕ, List, [], ◌∷◌, ◌++◌, codes, unwrap_or}
-use Rattle.std.specs.Fmt.{decimal}
-use Rattle.mp_records.specs.declared.edit_error.EditError.{EditError}
-use Rattle.mp_records.specs.declared.edit_error.EditError.TheVariants.{InBatch}
+use Rattle.std.specs.Prelude.{◌∷◌, ◌++◌}
+use Rattle.mp_answers.specs.Names.{decimal, InBatch, ℕ, List, [], codes, unwrap_or, EditError, LineError, line_number_of, line_name_of}
 use Rattle.mp_records.specs.EditErrors as edits
-use Rattle.mp_words.specs.declared.line_error.LineError.{LineError}
-use Rattle.mp_words.specs.LineErrors.{line_number_of, line_name_of}
 
 -- `accepted` and how many edits were
 abbrev pub accepted_text : ℕ → List ℕ

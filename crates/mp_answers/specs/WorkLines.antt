@@ -1,10 +1,6 @@
 -- How work is written.
-use Rattle.std.specs.Prelude.{ℕ, List, [], ◌∷◌, ◌++◌, Option, Some, None}
-use Rattle.std.specs.List.{flat_map}
-use Rattle.std.specs.Fmt.{decimal}
-use Rattle.mp_records.specs.declared.module_record.ModuleRecord.{ModuleRecord}
-use Rattle.mp_netlist.specs.Circuit.{Circuit, module_at}
-use Rattle.mp_work.specs.declared.work_entry.WorkEntry.{WorkEntry}
+use Rattle.std.specs.Prelude.{◌∷◌, ◌++◌}
+use Rattle.mp_answers.specs.Names.{flat_map, decimal, Circuit, module_at, WorkEntry, ℕ, List, [], Option, Some, None, ModuleRecord}
 
 -- a space and a time
 abbrev pub spaced : ℕ → List ℕ

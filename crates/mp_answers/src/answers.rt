@@ -1,13 +1,9 @@
 //! The answers to questions.
 ghost use Rattle.std.specs.Prelude.{◌≡◌};
 ghost use Rattle.std.specs.Thread.{IsSync};
-ghost use Rattle.mp_netlist.specs.Circuit.{wire_named};
-ghost use Rattle.mp_streams.specs.Outgoing.{Writes};
+ghost use Rattle.mp_answers.specs.Names.{wire_named, Writes, Unicode, missing_at, usual_columns};
 ghost use Rattle.mp_streams.specs.WriteErrors.{Writes as WritesAll};
-ghost use Rattle.mp_picture.specs.declared.mark.Charset.TheVariants.{Unicode};
 ghost use Rattle.mp_views.specs.declared.drawing.Drawing.TheVariants.{Text};
-ghost use Rattle.mp_views.specs.AskedWires.{missing_at};
-ghost use Rattle.mp_views.specs.Limits.{usual_columns};
 ghost use Rattle.mp_answers.specs.Answers.{asked_text, wire_text, version_text, edits_text, answer_text};
 
 use crate::edit_answers::put_edits;

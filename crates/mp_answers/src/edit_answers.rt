@@ -1,7 +1,6 @@
 //! The accepted edits as lines.
 ghost use Rattle.std.specs.Prelude.{◌≡◌, ◌+◌, ◌<◌};
-ghost use Rattle.std.specs.List.{slice_get};
-ghost use Rattle.mp_streams.specs.Outgoing.{Writes};
+ghost use Rattle.mp_answers.specs.Names.{slice_get, Writes};
 ghost use Rattle.mp_version.specs.Limits.{max_edits};
 ghost use Rattle.mp_answers.specs.EditAnswers.{edits_from, numbered_at};
 
@@ -10,6 +9,7 @@ use mp_streams::{Failed, Out, Sink, Text};
 use mp_version::History;
 
 /// Writes a line `N EDIT` for each edit from this place on, the first place being 0.
+#[tactic(auto, using(crate::proofs::EditAnswerLemmas::edit_answers_put_edits_steps))]
 pub(crate) fn put_edits<T: Sink>(
     out: &mut Out<T>,
     edits: &History,

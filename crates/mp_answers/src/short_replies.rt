@@ -1,5 +1,5 @@
 //! Replies of one line: to edits, and to lines that aren't read.
-ghost use Rattle.mp_streams.specs.Outgoing.{Writes};
+ghost use Rattle.mp_answers.specs.Names.{Writes};
 ghost use Rattle.mp_answers.specs.ShortReplies.{accepted_text, unread_text, refused_text, refusal_text, coded_text, too_long_text};
 
 use mp_netlist::EditError;

@@ -1,6 +1,6 @@
 //! The lines of work.
 ghost use Rattle.std.specs.Prelude.{◌≡◌};
-ghost use Rattle.mp_streams.specs.Outgoing.{Writes};
+ghost use Rattle.mp_answers.specs.Names.{Writes};
 ghost use Rattle.mp_streams.specs.WriteErrors.{Writes as WritesAll};
 ghost use Rattle.mp_answers.specs.WorkLines.{entry_line, work_text};
 

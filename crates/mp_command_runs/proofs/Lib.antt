@@ -1,3 +1,4 @@
+mod Names
 pub mod TakenLemmas
 pub mod InputLemmas
 pub mod RunLemmas

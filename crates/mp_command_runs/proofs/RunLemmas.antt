@@ -1,8 +1,6 @@
 -- The ends of a run.
-use Rattle.std.proofs.Common.{◌≡◌, ℕ, ◌+◌, ◌<◌, ◌≤◌, ◌⊎◌, inl, inr, Bool, false, List, [], ◌++◌, length, Option, Result, Ok, Err, IsErrAnd, refl, sym, ap, subst, ◌∙◌, arith}
-use Rattle.std.proofs.lemmas.List.{length-append}
-use Rattle.std.proofs.lemmas.Result.{err_from_is_err_and}
-use Rattle.mp_netlist.specs.Circuit.{Circuit}
+use Rattle.std.specs.Prelude.{◌≡◌, ◌+◌, ◌<◌, ◌≤◌, ◌⊎◌, ◌++◌}
+use Rattle.mp_command_runs.proofs.Names.{ℕ, inl, inr, Bool, false, List, [], length, Option, Result, Ok, Err, IsErrAnd, refl, sym, ap, subst, ◌∙◌, arith, length-append, err_from_is_err_and, Circuit, RunFault, ReadFailed, WriteFailed, OutOfMemory, NoPlace, counted_netlist, within_size, fault_of_text, fault_of_write, IsInput, StaysUnread, Refuses, WritesOne, Ran, RanFrom, text_limit}
 use Rattle.mp_streams.specs.Outgoing.{Outgoing}
 use Rattle.mp_streams.specs.Outgoing as outs
 use Rattle.mp_streams.specs.WriteErrors.{Writes}
@@ -12,15 +10,8 @@ use Rattle.mp_streams.specs.declared.write_error.WriteError.TheVariants as write
 use Rattle.mp_streams.proofs.FlushLemmas.{both, flushed, unflushed, flushed_part, unflushed_part}
 use Rattle.mp_streams.proofs.OutLemmas.{puts_unmade}
 use Rattle.mp_words.specs.declared.line_error.LineError.TheVariants as lines
-use Rattle.mp_text.specs.declared.text_code.TextCode.{TextCode}
 use Rattle.mp_text.specs.declared.text_code.TextCode.TheVariants as texts
 use Rattle.mp_text.specs.declared.text_error.TextError.{TextError}
-use Rattle.mp_text.specs.Sizes.{text_limit}
-use Rattle.mp_command_runs.specs.declared.run_fault.RunFault.{RunFault}
-use Rattle.mp_command_runs.specs.declared.run_fault.RunFault.TheVariants.{Text, ReadFailed, WriteFailed, OutOfMemory, NoPlace}
-use Rattle.mp_command_runs.specs.Openings.{counted_netlist, within_size}
-use Rattle.mp_command_runs.specs.RunFaults.{fault_of_text, fault_at, fault_of_write}
-use Rattle.mp_command_runs.specs.Runs.{IsInput, HasInput, StaysUnread, Refuses, WritesOne, Ran, RanFrom}
 use Rattle.mp_command_runs.proofs.InputLemmas.{some_input, within_size-long, within_size-short}
 
 -- ---- a run that writes nothing
@@ -36,8 +27,8 @@ module _ {S : Type 0} (seats : Bool) (opening : Result Circuit RunFault) (IsText
 
 -- where nobody sits down, no place is wanting
 pub refused_unseated : (seats : Bool) (opening : Result Circuit RunFault) (fault : RunFault) → Refuses false opening fault → Refuses seats opening fault
-refused_unseated seats opening NoPlace (none, is) = cc none
-refused_unseated seats opening fault h = h
+refused_unseated seats opening NoPlace (none, is) = grind arith
+refused_unseated seats opening fault h = grind arith
 
 -- ---- a run that wrote
 
@@ -46,8 +37,8 @@ module _ {S : Type 0} (seats : Bool) (opening : Result Circuit RunFault) (IsText
   one r put = rw same (text, is, put)
 
   failed_by : (error : WriteError) → Writes {T = Unit {0}} (Err error) a b text → Ran seats (Err (fault_of_write error)) opening IsText a b
-  failed_by writes.WriteFailed put = one (Err writes.WriteFailed) put
-  failed_by writes.OutOfMemory put = inr (one (Err writes.OutOfMemory) put)
+  failed_by writes.WriteFailed put = grind arith
+  failed_by writes.OutOfMemory put = grind arith
 
   -- a text
   pub wrote : Writes {T = Unit {0}} (Ok tt) a b text → Ran seats (Ok tt) opening IsText a b
@@ -102,13 +93,7 @@ module _ {S : Type 0} (seats : Bool) (opening : List ℕ → Result Circuit RunF
 
   -- what is made of its input is made of the source
   pub from_input : (b : Outgoing S) (r : Result (Unit {0}) RunFault) (input : List ℕ) → IsInput left input → length input ≤ text_limit input → Ran seats r (opening input) (IsText input) a b → RanOf b r
-  from_input b r input is short ran =
-      let whole : Ran seats r (within_size opening input) (IsText input) a b = rw (within_size-short opening input short) ran in
-      by r (input, is, whole)
-    where
-      by : (s : Result (Unit {0}) RunFault) → HasInput left (λ i. Ran seats s (within_size opening i) (IsText i) a b) → RanOf b s
-      by (Err ReadFailed) h = absurd h.2.0
-      by s h = h
+  from_input b r input is short ran = grind (arith, within_size-short)
 
   unread_by : (fault : RunFault) → StaysUnread left fault → RanOf a (Err fault)
   unread_by ReadFailed unread = refl
@@ -125,12 +110,5 @@ module _ {S : Type 0} (seats : Bool) (opening : List ℕ → Result Circuit RunF
 -- ---- a netlist that is not read
 
 pub refused_text : (read : Result Circuit TextError) (valid : Bool) (error : TextError) → (error.code ≡ texts.Line lines.OutOfMemory) ⊎ (read ≡ Err error) → Refuses false (counted_netlist read valid) (fault_of_text error)
-refused_text read valid error (inl memory) = rw memory tt
-refused_text read valid error (inr same) = by error.code
-  where
-    told : counted_netlist read valid ≡ Err (Text error)
-    told = ap (λ r. counted_netlist r valid) same
-
-    by : (code : TextCode) → Refuses false (counted_netlist read valid) (fault_at error code)
-    by (texts.Line lines.OutOfMemory) = tt
-    by code = told
+refused_text read valid error (inl memory) = grind arith
+refused_text read valid error (inr same) = grind arith

@@ -1,15 +1,10 @@
 -- What a run takes of its source.
-use Rattle.std.proofs.Common.{◌≡◌, ℕ, ◌+◌, ◌-◌, ◌<◌, ◌≤◌, ◌⊎◌, inl, inr, IfSome, List, ◌++◌, length, take, Option, None, Some, ap, subst, sym, ◌∙◌, arith}
+use Rattle.std.specs.Prelude.{◌≡◌, ◌+◌, ◌-◌, ◌<◌, ◌≤◌, ◌⊎◌, ◌++◌}
+use Rattle.mp_command_runs.proofs.Names.{ℕ, inl, inr, IfSome, List, length, take, Option, None, Some, ap, subst, sym, ◌∙◌, arith, length-append, max_short_text, text_limit, limit_least, limit_of_front, taken_of, TakesInput}
 use Rattle.std.specs.Io.KnownBytes.{Consumes, IsAtEnd}
 use Rattle.std.proofs.KnownBytes.{Consumes-trans}
-use Rattle.std.proofs.lemmas.List.{length-append}
 use Rattle.std.proofs.Math.Seq.{take-append_seam}
 use Rattle.mp_streams.proofs.StreamLemmas.{taken_front}
-use Rattle.mp_text.specs.Limits.{max_short_text}
-use Rattle.mp_text.specs.Sizes.{text_limit}
-use Rattle.mp_text.proofs.SizeLemmas.{limit_least, limit_of_front}
-use Rattle.mp_command_runs.specs.Openings.{taken_of}
-use Rattle.mp_command_runs.specs.Runs.{TakesInput}
 
 -- the first bytes tell how long the input may be
 taken_by : (left : Option (List ℕ)) (first text : List ℕ) → IfSome left (λ bytes. first ≡ take (max_short_text + 1) bytes) → IfSome left (λ bytes. text ≡ take (text_limit first + 1) bytes)
@@ -45,8 +40,8 @@ limit_taken input = limit_of_front (text_limit input + 1) input (omega (arith, l
 
 -- the first bytes are no more than any input may have, and one
 pub takes_first : (old new : Option (List ℕ)) (first : List ℕ) → Consumes old new first → length first ≤ max_short_text + 1 → TakesInput old new
-takes_first None new first took most = tt
-takes_first (Some bytes) new first took most = (first, omega (arith, most, limit_least bytes), took)
+takes_first None new first took most = grind arith
+takes_first (Some bytes) new first took most = grind (arith, limit_least)
 
 -- and more bytes are no more than the first ones allow
 pub takes_more : (old mid new : Option (List ℕ)) (first rest : List ℕ) → Consumes old mid first → Consumes mid new rest → length first ≤ max_short_text + 1

@@ -1,11 +1,7 @@
 -- The opening of a view.
-use Rattle.std.proofs.Common.{◌≡◌, ℕ, false, List, Option, Some, None, Result, Ok, Err, refl, ap, ◌∙◌}
-use Rattle.mp_netlist.specs.Circuit.{Circuit}
-use Rattle.mp_command_runs.specs.declared.run_fault.RunFault.{RunFault}
-use Rattle.mp_command_runs.specs.declared.run_fault.RunFault.TheVariants.{Text, BadCount, ReadFailed, WriteFailed, OutOfMemory, NoPlace, NoSuchWire}
+use Rattle.std.specs.Prelude.{◌≡◌}
+use Rattle.mp_command_runs.proofs.Names.{ℕ, false, List, Option, Some, None, Result, Ok, Err, refl, ap, ◌∙◌, Circuit, RunFault, Text, BadCount, ReadFailed, WriteFailed, OutOfMemory, NoPlace, NoSuchWire, viewed_opening, Refuses}
 use Rattle.mp_views.specs.AskedWires.{missing_at}
-use Rattle.mp_command_runs.specs.Openings.{viewed_opening}
-use Rattle.mp_command_runs.specs.Runs.{Refuses}
 
 module _ {V : Type 0} (wires : V → List (List ℕ)) (view : Option V) where
   -- a fault of the text or of a number is told before a wire

@@ -1,6 +1,5 @@
 -- The limits of a run.
-use Rattle.std.specs.Prelude.{ℕ}
-use Rattle.mp_text.specs.Limits.{max_text}
+use Rattle.mp_command_runs.specs.Names.{ℕ, max_text}
 
 -- how many bytes an input may have: as many as a text of any form
 abbrev pub max_input : ℕ

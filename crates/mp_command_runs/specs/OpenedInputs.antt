@@ -1,11 +1,7 @@
 -- How the input of a netlist alone opens.
-use Rattle.std.specs.Prelude.{ℕ, Bool, false, List, Option, Result}
-use Rattle.mp_netlist.specs.Circuit.{Circuit}
-use Rattle.mp_words.specs.Lines.{lines_of}
+use Rattle.mp_command_runs.specs.Names.{ℕ, Bool, false, List, Option, Result, Circuit, lines_of, RunFault, ReadFailed}
 use Rattle.mp_command_runs.specs.Openings.{opening_of, within_size}
 use Rattle.mp_command_runs.specs.Runs.{HasInput, Refuses}
-use Rattle.mp_command_runs.specs.declared.run_fault.RunFault.{RunFault}
-use Rattle.mp_command_runs.specs.declared.run_fault.RunFault.TheVariants.{ReadFailed}
 
 -- the netlist of an input, which is not too long, with options that are valid or not
 abbrev pub opening_with : Bool → List ℕ → Result Circuit RunFault

@@ -1,14 +1,6 @@
 -- How an input opens.
-use Rattle.std.specs.Prelude.{ℕ, ◌+◌, Bool, List, length, take, Option, Some, None, Result, Ok, Err, nat_le, if◌then◌else◌}
-use Rattle.mp_netlist.specs.Circuit.{Circuit}
-use Rattle.mp_text.specs.declared.text_code.TextCode.TheVariants.{TooLong}
-use Rattle.mp_text.specs.declared.text_error.TextError.{TextError}
-use Rattle.mp_text.specs.declared.text_state.TextState.TheVariants.{Fresh}
-use Rattle.mp_text.specs.Texts.{after_lines}
-use Rattle.mp_command_runs.specs.declared.run_fault.RunFault.{RunFault}
-use Rattle.mp_command_runs.specs.declared.run_fault.RunFault.TheVariants.{Text, BadCount, NoSuchWire}
-use Rattle.mp_views.specs.AskedWires.{missing_at}
-use Rattle.mp_text.specs.Sizes.{text_limit}
+use Rattle.std.specs.Prelude.{◌+◌, if◌then◌else◌}
+use Rattle.mp_command_runs.specs.Names.{ℕ, Bool, List, length, take, Option, Some, None, Result, Ok, Err, nat_le, Circuit, TooLong, TextError, Fresh, after_lines, RunFault, Text, BadCount, NoSuchWire, missing_at, text_limit}
 
 -- a fault of the text is told before one of the options
 abbrev pub counted_netlist : Result Circuit TextError → Bool → Result Circuit RunFault

@@ -1,7 +1,7 @@
 -- The limits of a run's numbers.
-use Rattle.std.specs.Prelude.{Bool, ◌&&◌, nat_le}
+use Rattle.std.specs.Prelude.{◌&&◌}
+use Rattle.mp_command_runs.specs.Names.{Bool, nat_le, Options}
 use Rattle.mp_command_runs.specs.Limits.{max_workers, max_least}
-use Rattle.mp_command_runs.specs.declared.options.Options.{Options}
 
 -- 1 to 16 workers, for 1 to 4,096 tasks at least
 abbrev pub has_valid_crew : Options → Bool

@@ -1,19 +1,11 @@
 -- How a fault of a run is told.
-use Rattle.std.specs.Prelude.{ℕ, List, [], ◌∷◌, ◌++◌, Result, Err, codes, unwrap_or, slice_index_or}
-use Rattle.std.specs.Fmt.{decimal}
+use Rattle.std.specs.Prelude.{◌∷◌, ◌++◌}
+use Rattle.mp_command_runs.specs.Names.{ℕ, List, [], Result, Err, codes, unwrap_or, slice_index_or, decimal, TakeError, WriteError, one_more, TextCode, TextError, number_of, name_of, RunFault, Text, BadCount, ReadFailed, WriteFailed, OutOfMemory, NoPlace, NoSuchWire}
 use Rattle.mp_records.specs.EditErrors as edits
-use Rattle.mp_streams.specs.declared.take_error.TakeError.{TakeError}
 use Rattle.mp_streams.specs.declared.take_error.TakeError.TheVariants as takes
-use Rattle.mp_streams.specs.declared.write_error.WriteError.{WriteError}
 use Rattle.mp_streams.specs.declared.write_error.WriteError.TheVariants as writes
-use Rattle.mp_streams.specs.StreamFaults.{one_more}
 use Rattle.mp_words.specs.declared.line_error.LineError.TheVariants as lines
-use Rattle.mp_text.specs.declared.text_code.TextCode.{TextCode}
 use Rattle.mp_text.specs.declared.text_code.TextCode.TheVariants as texts
-use Rattle.mp_text.specs.declared.text_error.TextError.{TextError}
-use Rattle.mp_text.specs.TextCodes.{number_of, name_of}
-use Rattle.mp_command_runs.specs.declared.run_fault.RunFault.{RunFault}
-use Rattle.mp_command_runs.specs.declared.run_fault.RunFault.TheVariants.{Text, BadCount, ReadFailed, WriteFailed, OutOfMemory, NoPlace, NoSuchWire}
 
 -- want of memory in a text is that of the run
 abbrev pub fault_at : TextError → TextCode → RunFault

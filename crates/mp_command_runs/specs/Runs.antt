@@ -1,15 +1,8 @@
 -- What a run takes of its source, and what it makes of its output.
-use Rattle.std.specs.Prelude.{◌≡◌, ◌⊎◌, ℕ, ◌+◌, ◌<◌, ◌≤◌, length, IfSome, Some, None, Bool, true, List, [], Option, Result, Ok, Err, IsOk, IsOkAnd}
-use Rattle.mp_streams.specs.Outgoing.{Outgoing}
-use Rattle.mp_streams.specs.StreamBytes.{ConsumesUpTo}
-use Rattle.mp_streams.specs.WriteErrors.{Writes}
-use Rattle.mp_streams.specs.declared.write_error.WriteError.{WriteError}
+use Rattle.std.specs.Prelude.{◌≡◌, ◌⊎◌, ◌+◌, ◌<◌, ◌≤◌}
+use Rattle.mp_command_runs.specs.Names.{ℕ, length, IfSome, Some, None, Bool, true, List, [], Option, Result, Ok, Err, IsOk, IsOkAnd, Outgoing, ConsumesUpTo, Writes, WriteError, Circuit, text_limit, RunFault, Text, BadCount, ReadFailed, WriteFailed, OutOfMemory, NoPlace, NoSuchWire}
 use Rattle.mp_streams.specs.declared.write_error.WriteError.TheVariants as writes
-use Rattle.mp_netlist.specs.Circuit.{Circuit}
-use Rattle.mp_text.specs.Sizes.{text_limit}
 use Rattle.mp_command_runs.specs.Openings.{too_long}
-use Rattle.mp_command_runs.specs.declared.run_fault.RunFault.{RunFault}
-use Rattle.mp_command_runs.specs.declared.run_fault.RunFault.TheVariants.{Text, BadCount, ReadFailed, WriteFailed, OutOfMemory, NoPlace, NoSuchWire}
 
 -- the input of a run: all bytes of its source, where it tells them, and else no more than an input may have, and one
 abbrev pub IsInput : Option (List ℕ) → List ℕ → Type 0

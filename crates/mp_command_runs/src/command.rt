@@ -1,13 +1,6 @@
 //! What a command is, and how it is run.
-ghost use Rattle.std.specs.Prelude.{◌≡◌, ℕ, ◌≤◌, Bool, List, [], length, Result, OnOk};
-ghost use Rattle.std.specs.Thread.{IsSync};
-ghost use Rattle.mp_netlist.specs.Circuit.{Circuit};
-ghost use Rattle.mp_command_runs.specs.declared.options.Options.{Options};
-ghost use Rattle.mp_command_runs.specs.declared.run_fault.RunFault.{RunFault};
-ghost use Rattle.mp_command_runs.specs.Limits.{max_input};
-ghost use Rattle.mp_command_runs.specs.Openings.{within_size};
-ghost use Rattle.mp_command_runs.specs.RunFaults.{counted_reads};
-ghost use Rattle.mp_command_runs.specs.Runs.{Ran, RanFrom, TakesInput};
+ghost use Rattle.std.specs.Prelude.{◌≡◌, ◌≤◌};
+ghost use Rattle.mp_command_runs.specs.Clauses.{ℕ, Bool, List, [], length, Result, OnOk, IsSync, Circuit, Options, RunFault, max_input, within_size, counted_reads, Ran, RanFrom, TakesInput};
 
 use crate::input::read_input;
 use crate::options::Options;

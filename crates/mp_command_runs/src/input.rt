@@ -1,11 +1,6 @@
 //! The input of a run.
-ghost use Rattle.std.specs.Prelude.{◌≡◌, ◌+◌, ◌≤◌, length, IfOk, IfErr, IfSome};
-ghost use Rattle.mp_streams.specs.TakeErrors.{counted_take};
-ghost use Rattle.mp_text.specs.Sizes.{text_limit};
-ghost use Rattle.mp_command_runs.specs.Limits.{max_input};
-ghost use Rattle.mp_command_runs.specs.Openings.{taken_of};
-ghost use Rattle.mp_command_runs.specs.RunFaults.{counted_reads};
-ghost use Rattle.mp_command_runs.specs.Runs.{IsInput, StaysUnread, TakesInput};
+ghost use Rattle.std.specs.Prelude.{◌≡◌, ◌+◌, ◌≤◌};
+ghost use Rattle.mp_command_runs.specs.Clauses.{length, IfOk, IfErr, IfSome, counted_take, text_limit, max_input, taken_of, counted_reads, IsInput, StaysUnread, TakesInput};
 
 use crate::run_fault::RunFault;
 use mp_streams::{Source, TakeError, take_all};

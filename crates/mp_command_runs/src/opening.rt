@@ -1,11 +1,6 @@
 //! The netlist that an input opens with.
-ghost use Rattle.std.specs.Prelude.{◌≡◌, ◌≤◌, length, false, is_some, Some, Ok, IfOk, IfErr};
-ghost use Rattle.mp_words.specs.Lines.{lines_of};
-ghost use Rattle.mp_command_runs.specs.Limits.{max_input};
-ghost use Rattle.mp_command_runs.specs.OpenedInputs.{opening_with, StaysShutWith};
-ghost use Rattle.mp_command_runs.specs.Openings.{opening_of};
-ghost use Rattle.mp_command_runs.specs.RunFaults.{counted_reads};
-ghost use Rattle.mp_command_runs.specs.Runs.{HasInput, Refuses, TakesInput};
+ghost use Rattle.std.specs.Prelude.{◌≡◌, ◌≤◌};
+ghost use Rattle.mp_command_runs.specs.Clauses.{length, false, is_some, Some, Ok, IfOk, IfErr, lines_of, max_input, opening_with, StaysShutWith, opening_of, counted_reads, HasInput, Refuses, TakesInput};
 
 use crate::input::read_input;
 use crate::run_fault::RunFault;

@@ -15,8 +15,7 @@ pub struct Options {
 }
 
 impl Options {
-    ghost use Rattle.std.specs.Prelude.{is_some};
-    ghost use Rattle.mp_command_runs.specs.OptionLimits.{has_valid_crew};
+    ghost use Rattle.mp_command_runs.specs.Clauses.{is_some, has_valid_crew};
 
     /// The crew of these numbers, where there are 1 to 16 workers, and 1 to 4,096 modules are the least for which they are called on.
     pub fn crew(&self) -> Option<Crew>

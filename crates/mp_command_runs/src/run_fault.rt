@@ -1,7 +1,6 @@
 //! Why a run ends early.
-ghost use Rattle.std.specs.Prelude.{◌≡◌, [], ◌++◌, IfOk, map, slice_index_or};
-ghost use Rattle.mp_command_runs.specs.declared.run_fault.RunFault.TheVariants.{WriteFailed, OutOfMemory};
-ghost use Rattle.mp_command_runs.specs.RunFaults.{status_of, line_of, text_line, wire_fault_line, numbered, fault_of_text, fault_of_take, fault_of_write};
+ghost use Rattle.std.specs.Prelude.{◌≡◌, ◌++◌};
+ghost use Rattle.mp_command_runs.specs.Clauses.{[], IfOk, map, slice_index_or, WriteFailed, OutOfMemory, status_of, line_of, text_line, wire_fault_line, numbered, fault_of_text, fault_of_take, fault_of_write};
 
 use mp_netlist::EditError;
 use mp_streams::{Failed, TakeError, WriteError};

@@ -1,8 +1,6 @@
 //! The command that writes a view.
-ghost use Rattle.std.specs.Prelude.{◌≡◌, false, ◌&&◌, is_some, IsSomeAnd};
-ghost use Rattle.mp_words.specs.Lines.{lines_of};
-ghost use Rattle.mp_command_runs.specs.OptionLimits.{has_valid_crew};
-ghost use Rattle.mp_command_runs.specs.Openings.{opening_of, viewed_opening};
+ghost use Rattle.std.specs.Prelude.{◌≡◌, ◌&&◌};
+ghost use Rattle.mp_command_runs.specs.Clauses.{false, is_some, IsSomeAnd, lines_of, has_valid_crew, opening_of, viewed_opening};
 
 use crate::command::Command;
 use crate::opening::opened;
@@ -25,8 +23,8 @@ pub struct Viewed<V> {
 }
 
 impl<V: View> Viewed<V> {
-    ghost use Rattle.std.specs.Prelude.{◌≡◌, ◌&&◌, is_some};
-    ghost use Rattle.mp_command_runs.specs.OptionLimits.{has_valid_crew};
+    ghost use Rattle.std.specs.Prelude.{◌≡◌, ◌&&◌};
+    ghost use Rattle.mp_command_runs.specs.Clauses.{is_some, has_valid_crew};
 
     /// The crew of the options, where there is a view too.
     fn crew(&self, options: &Options) -> Option<Crew>

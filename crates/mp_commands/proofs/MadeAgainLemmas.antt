@@ -1,5 +1,6 @@
 -- The lines of edits, made one after the other.
-use Rattle.mp_commands.proofs.Names.{◌≡◌, ℕ, ◌+◌, ◌<◌, ◌≤◌, true, false, List, [], ◌∷◌, ◌++◌, append_assoc, length, map, Result, Ok, Err, refl, sym, ap, subst, ◌∙◌, nat_lt, arith, append-nil, length-append, Edit, EditError, Circuit, IsCircuit, after, go_on, replay, counted_edit, LineError, lines_of, Line, Change, line_at, Kept, opened, IsKeptAfter, IsKeptNext, IsNext}
+use Rattle.std.specs.Prelude.{◌≡◌, ◌+◌, ◌<◌, ◌≤◌, ◌∷◌, ◌++◌}
+use Rattle.mp_commands.proofs.Names.{ℕ, true, false, List, [], append_assoc, length, map, Result, Ok, Err, refl, sym, ap, subst, ◌∙◌, nat_lt, arith, append-nil, length-append, Edit, EditError, Circuit, IsCircuit, after, go_on, replay, counted_edit, LineError, lines_of, Line, Change, line_at, Kept, opened, IsKeptAfter, IsKeptNext, IsNext}
 use Rattle.std.proofs.lemmas.Bool.Decides.{nat_tests}
 use Rattle.mp_netlist.specs.Laws.{EditsKeepNetlists}
 use Rattle.mp_version.specs.Limits.{max_edits}

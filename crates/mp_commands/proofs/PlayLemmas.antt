@@ -1,6 +1,6 @@
 -- A script, line after line.
-use Rattle.mp_commands.proofs.Names.{◌≡◌, ℕ, Bool, true, List, [], ◌∷◌, ◌++◌, append_assoc, length, Ok, Err, refl, sym, subst, arith, append-nil, Outgoing, Writes, WriteError, puts_then, puts_sooner, Kept, reply, IsNext}
-use Rattle.mp_words.specs.Lines.{lines_of}
+use Rattle.std.specs.Prelude.{◌≡◌, ◌∷◌, ◌++◌}
+use Rattle.mp_commands.proofs.Names.{ℕ, Bool, true, List, [], append_assoc, length, Ok, Err, refl, sym, subst, arith, append-nil, Outgoing, Writes, WriteError, puts_then, puts_sooner, Kept, reply, IsNext, lines_of}
 use Rattle.mp_commands.specs.Plays.{AreReplies, PutsReplies}
 use Rattle.mp_commands.proofs.ReplyLemmas.{next_keeps}
 

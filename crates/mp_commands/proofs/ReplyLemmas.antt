@@ -1,5 +1,6 @@
 -- The reply to a line that was read.
-use Rattle.mp_commands.proofs.Names.{◌≡◌, ◌⊎◌, inl, inr, ℕ, Bool, true, false, ◌&&◌, List, [], ◌∷◌, length, Result, Ok, Err, IsErrAnd, refl, sym, ap, subst, ◌∙◌, true≢false, if◌then◌else◌, length-append, Edit, EditError, Circuit, after_each, is_batch, may_want, RefusedBy, LineError, Line, Change, Ask, line_at, Outgoing, Writes, Failed, WriteError, puts_unmade, counted_edit, Kept, judged, IsOneMore, IsKeptAfter, IsNext, IsKeptNext, outcome, edit_text, PutsEdit, PutsReply}
+use Rattle.std.specs.Prelude.{◌≡◌, ◌⊎◌, ◌&&◌, ◌∷◌, if◌then◌else◌}
+use Rattle.mp_commands.proofs.Names.{inl, inr, ℕ, Bool, true, false, List, [], length, Result, Ok, Err, IsErrAnd, refl, sym, ap, subst, ◌∙◌, true≢false, length-append, Edit, EditError, Circuit, after_each, is_batch, may_want, RefusedBy, LineError, Line, Change, Ask, line_at, Outgoing, Writes, Failed, WriteError, puts_unmade, counted_edit, Kept, judged, IsOneMore, IsKeptAfter, IsNext, IsKeptNext, outcome, edit_text, PutsEdit, PutsReply}
 use Rattle.mp_records.specs.declared.edit.Edit.TheVariants.{Single, Batch}
 use Rattle.mp_records.specs.declared.edit_error.EditError.TheVariants as edits
 use Rattle.mp_words.specs.declared.line_error.LineError.TheVariants.{OutOfMemory}

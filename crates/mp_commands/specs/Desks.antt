@@ -1,18 +1,6 @@
 -- What `desk` writes for its input.
-use Rattle.std.specs.Prelude.{◌≡◌, ℕ, Bool, List, [], ◌∷◌, ◌++◌, length, drop, Ok, ◌&&◌, codes}
-use Rattle.std.specs.Fmt.{decimal}
-use Rattle.mp_netlist.specs.Circuit.{Circuit}
-use Rattle.mp_netlist.specs.Replays.{replay}
-use Rattle.mp_words.specs.Lines.{lines_of}
-use Rattle.mp_words.specs.Divisions.{parts_of}
-use Rattle.mp_version.specs.Stories.{Story}
-use Rattle.mp_desk.specs.DeskSizes.{is_desk_size}
-use Rattle.mp_meeting.specs.declared.tally.Tally.{Tally}
-use Rattle.mp_meeting.specs.Meetings.{IsMeeting}
-use Rattle.mp_command_runs.specs.declared.options.Options.{Options}
-use Rattle.mp_command_runs.specs.OptionLimits.{has_valid_crew}
-use Rattle.mp_answers.specs.NumberedLines.{lines_from}
-use Rattle.mp_views.specs.Outputs.{waves_text}
+use Rattle.std.specs.Prelude.{◌≡◌, ◌∷◌, ◌++◌, ◌&&◌}
+use Rattle.mp_commands.specs.Names.{Circuit, replay, lines_of, parts_of, Story, Options, has_valid_crew, lines_from, ℕ, Bool, List, [], length, drop, Ok, codes, decimal, is_desk_size, Tally, IsMeeting, waves_text}
 
 -- the blocks of an input, one behind each division
 abbrev pub blocks_of : List ℕ → List (List (List ℕ))

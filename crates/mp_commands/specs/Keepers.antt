@@ -1,12 +1,6 @@
 -- A netlist that a script edits.
-use Rattle.std.specs.Prelude.{◌≡◌, [], ◌∷◌, ◌++◌, Result, Ok, Err}
-use Rattle.mp_records.specs.declared.edit.Edit.{Edit}
-use Rattle.mp_records.specs.declared.edit_error.EditError.{EditError}
-use Rattle.mp_netlist.specs.Circuit.{Circuit}
-use Rattle.mp_netlist.specs.Edits.{after}
-use Rattle.mp_version.specs.Stories.{counted_edit}
-use Rattle.mp_work.specs.Work.{IsWork}
-use Rattle.mp_answers.specs.Kept.{Kept}
+use Rattle.std.specs.Prelude.{◌≡◌, ◌∷◌, ◌++◌}
+use Rattle.mp_commands.specs.Names.{Edit, EditError, Circuit, after, counted_edit, Kept, [], Result, Ok, Err, IsWork}
 
 -- a netlist before the first edit
 abbrev pub opened : Circuit → Kept

@@ -1,3 +1,4 @@
+pub mod Names
 pub mod Keepers
 pub mod Replies
 pub mod Plays

@@ -1,7 +1,6 @@
 -- What a line that comes is answered.
-use Rattle.std.specs.Prelude.{◌≡◌, Bool, ℕ, List, Option, Some, None}
-use Rattle.mp_answers.specs.Kept.{Kept}
-use Rattle.mp_answers.specs.ShortReplies.{too_long_text}
+use Rattle.std.specs.Prelude.{◌≡◌}
+use Rattle.mp_commands.specs.Names.{Kept, too_long_text, Bool, ℕ, List, Option, Some, None}
 use Rattle.mp_commands.specs.Replies.{reply, IsNext}
 
 -- the answer to a line that was given, where memory was wanting for it or not: the reply that a script has there

@@ -1,12 +1,6 @@
 -- The lines of a session's edits make the session again.
-use Rattle.std.specs.Prelude.{◌≡◌, ◌≤◌, ℕ, false, List, [], ◌∷◌, length, Ok}
-use Rattle.mp_records.specs.declared.edit.Edit.{Edit}
-use Rattle.mp_netlist.specs.Circuit.{Circuit, IsCircuit}
-use Rattle.mp_netlist.specs.Replays.{replay}
-use Rattle.mp_version.specs.Limits.{max_edits}
-use Rattle.mp_words.specs.Lines.{lines_of}
-use Rattle.mp_edit_lines.specs.EditLines.{edit_lines}
-use Rattle.mp_answers.specs.Kept.{Kept}
+use Rattle.std.specs.Prelude.{◌≡◌, ◌≤◌, ◌∷◌}
+use Rattle.mp_commands.specs.Names.{Edit, Circuit, IsCircuit, replay, lines_of, Kept, ℕ, false, List, [], length, Ok, max_edits, edit_lines}
 use Rattle.mp_commands.specs.Keepers.{opened}
 use Rattle.mp_commands.specs.Replies.{IsNext}
 

@@ -1,7 +1,5 @@
 -- The fault of a run whose meeting didn't come about.
-use Rattle.mp_meeting.specs.declared.meeting_fault.MeetingFault.{MeetingFault}
-use Rattle.mp_meeting.specs.declared.meeting_fault.MeetingFault.TheVariants.{OutOfMemory, NoPlace}
-use Rattle.mp_command_runs.specs.declared.run_fault.RunFault.{RunFault}
+use Rattle.mp_commands.specs.Names.{MeetingFault, OutOfMemory, NoPlace, RunFault}
 use Rattle.mp_command_runs.specs.declared.run_fault.RunFault.TheVariants as runs
 
 abbrev pub run_fault_of : MeetingFault → RunFault

@@ -1,9 +1,7 @@
 -- The replies to a script.
-use Rattle.std.specs.Prelude.{◌≡◌, ℕ, Bool, List, [], ◌∷◌, ◌++◌, Result}
-use Rattle.mp_streams.specs.Outgoing.{Outgoing}
+use Rattle.std.specs.Prelude.{◌≡◌, ◌∷◌, ◌++◌}
+use Rattle.mp_commands.specs.Names.{Outgoing, WriteError, Kept, ℕ, Bool, List, [], Result}
 use Rattle.mp_streams.specs.WriteErrors.{Writes}
-use Rattle.mp_streams.specs.declared.write_error.WriteError.{WriteError}
-use Rattle.mp_answers.specs.Kept.{Kept}
 use Rattle.mp_commands.specs.Replies.{reply, IsNext}
 
 -- these bytes are the replies to the lines of a script in turn, where memory was wanting for the edits of some

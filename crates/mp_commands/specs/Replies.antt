@@ -1,21 +1,9 @@
 -- What the lines of a script are answered.
-use Rattle.std.specs.Prelude.{◌≡◌, ℕ, ◌+◌, Bool, List, [], length, Result, Ok, Err, ◌&&◌, if◌then◌else◌}
-use Rattle.mp_records.specs.declared.edit.Edit.{Edit}
-use Rattle.mp_records.specs.declared.edit_error.EditError.{EditError}
+use Rattle.std.specs.Prelude.{◌≡◌, ◌+◌, ◌&&◌, if◌then◌else◌}
+use Rattle.mp_commands.specs.Names.{Edit, EditError, Circuit, may_want, LineError, Line, Empty, Change, Ask, line_at, Failed, Outgoing, WriteError, Kept, accepted_text, refused_text, unread_text, ℕ, Bool, List, [], length, Result, Ok, Err, answer_text}
 use Rattle.mp_records.specs.declared.edit_error.EditError.TheVariants.{OutOfMemory}
-use Rattle.mp_netlist.specs.Circuit.{Circuit}
-use Rattle.mp_netlist.specs.Edits.{may_want}
-use Rattle.mp_words.specs.declared.line_error.LineError.{LineError}
-use Rattle.mp_text.specs.declared.script_line.Line.{Line}
-use Rattle.mp_text.specs.declared.script_line.Line.TheVariants.{Empty, Change, Ask}
-use Rattle.mp_text.specs.ScriptLines.{line_at}
-use Rattle.mp_streams.specs.declared.failed.Failed.{Failed}
-use Rattle.mp_streams.specs.Outgoing.{Outgoing, Writes as Sends}
+use Rattle.mp_streams.specs.Outgoing.{Writes as Sends}
 use Rattle.mp_streams.specs.WriteErrors.{Writes}
-use Rattle.mp_streams.specs.declared.write_error.WriteError.{WriteError}
-use Rattle.mp_answers.specs.Answers.{answer_text}
-use Rattle.mp_answers.specs.Kept.{Kept}
-use Rattle.mp_answers.specs.ShortReplies.{accepted_text, refused_text, unread_text}
 use Rattle.mp_commands.specs.Keepers.{judged, IsKeptAfter}
 
 -- the netlist after an edit, or why the edit is refused, where its memory was wanting or not

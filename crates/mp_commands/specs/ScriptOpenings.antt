@@ -1,12 +1,6 @@
 -- How the input of a netlist opens that a script edits.
-use Rattle.std.specs.Prelude.{◌≡◌, ℕ, List, Option, Result, Ok}
-use Rattle.mp_netlist.specs.Circuit.{Circuit}
-use Rattle.mp_answers.specs.Kept.{Kept}
-use Rattle.mp_command_runs.specs.OpenedInputs.{opening_with, StaysShutWith}
-use Rattle.mp_command_runs.specs.OptionLimits.{has_valid_crew}
-use Rattle.mp_command_runs.specs.Runs.{HasInput}
-use Rattle.mp_command_runs.specs.declared.options.Options.{Options}
-use Rattle.mp_command_runs.specs.declared.run_fault.RunFault.{RunFault}
+use Rattle.std.specs.Prelude.{◌≡◌}
+use Rattle.mp_commands.specs.Names.{Circuit, Kept, has_valid_crew, Options, ℕ, List, Option, Result, Ok, opening_with, StaysShutWith, HasInput, RunFault}
 use Rattle.mp_commands.specs.Keepers.{opened}
 
 abbrev pub opening : Options → List ℕ → Result Circuit RunFault

@@ -1,9 +1,7 @@
 //! The command `desk`.
 ghost use Rattle.std.specs.Prelude.{◌≡◌, ◌≤◌, length, IfOk, IfSome, is_some, true};
-ghost use Rattle.mp_words.specs.Lines.{lines_of};
-ghost use Rattle.mp_words.specs.Divisions.{first_part, lines_of_each};
+ghost use Rattle.mp_commands.specs.Names.{lines_of, first_part, lines_of_each, opening_of};
 ghost use Rattle.mp_commands.specs.Desks.{IsDeskText, blocks_of, has_valid_desk};
-ghost use Rattle.mp_command_runs.specs.Openings.{opening_of};
 
 use crate::meeting_faults::fault_of_meeting;
 use crate::met_lines::put_met;

@@ -19,7 +19,7 @@ pub struct Keeper<P: Sessions> {
 }
 
 impl<P: Sessions> Model for Keeper<P> {
-    ghost use Rattle.mp_answers.specs.Kept.{Kept, kept_at};
+    ghost use Rattle.mp_commands.specs.Names.{Kept, kept_at};
 
     ghost Value = { Kept };
 
@@ -28,7 +28,7 @@ impl<P: Sessions> Model for Keeper<P> {
 
 impl<P: Sessions> Keeper<P> {
     ghost use Rattle.std.specs.Prelude.{◌≡◌, Ok, IfOk, IfErr, OnOk, OnErr, length};
-    ghost use Rattle.mp_netlist.specs.Edits.{RefusedBy};
+    ghost use Rattle.mp_commands.specs.Names.{RefusedBy};
     ghost use Rattle.mp_commands.specs.Keepers.{opened, judged, IsOneMore};
 
     /// The netlist before the first edit.

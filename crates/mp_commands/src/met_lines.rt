@@ -1,10 +1,7 @@
 //! The lines of a meeting.
 ghost use Rattle.std.specs.Prelude.{◌≡◌, ℕ, List, Ok};
-ghost use Rattle.mp_netlist.specs.Replays.{replay};
-ghost use Rattle.mp_version.specs.Stories.{present};
-ghost use Rattle.mp_streams.specs.Outgoing.{Writes};
+ghost use Rattle.mp_commands.specs.Names.{replay, present, Writes, lines_from};
 ghost use Rattle.mp_commands.specs.Desks.{tally_line, viewer_line, met_text};
-ghost use Rattle.mp_answers.specs.NumberedLines.{lines_from};
 
 use mp_meeting::{Met, Tally};
 use mp_phase::Crew;

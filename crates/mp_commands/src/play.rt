@@ -1,10 +1,7 @@
 //! The command `play`.
 ghost use Rattle.std.specs.Prelude.{◌≡◌, false};
-ghost use Rattle.mp_words.specs.Lines.{lines_of};
-ghost use Rattle.mp_words.specs.Divisions.{first_part, later_parts};
+ghost use Rattle.mp_commands.specs.Names.{lines_of, first_part, later_parts, has_valid_crew, opening_of};
 ghost use Rattle.mp_commands.specs.Keepers.{opened as opened_kept};
-ghost use Rattle.mp_command_runs.specs.OptionLimits.{has_valid_crew};
-ghost use Rattle.mp_command_runs.specs.Openings.{opening_of};
 ghost use Rattle.mp_commands.specs.Plays.{AreReplies, PutsReplies};
 
 use crate::keeper::Keeper;

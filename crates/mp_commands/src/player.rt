@@ -20,7 +20,7 @@ pub struct Player<P: Sessions> {
 }
 
 impl<P: Sessions> Model for Player<P> {
-    ghost use Rattle.mp_answers.specs.Kept.{Kept};
+    ghost use Rattle.mp_commands.specs.Names.{Kept};
 
     ghost Value = { Kept };
 

@@ -1,6 +1,6 @@
 //! The replies to the lines of a script.
 ghost use Rattle.std.specs.Prelude.{◌≡◌, Ok};
-ghost use Rattle.mp_text.specs.ScriptLines.{line_at};
+ghost use Rattle.mp_commands.specs.Names.{line_at};
 ghost use Rattle.mp_commands.specs.Replies.{PutsReply, PutsEdit};
 
 use crate::keeper::Keeper;

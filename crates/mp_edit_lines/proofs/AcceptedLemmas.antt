@@ -1,16 +1,14 @@
 -- The lines of edits that netlists accept.
-use Rattle.std.proofs.Common.{◌≡◌, ℕ, Bool, true, false, cond, List, [], ◌∷◌, ◌++◌, append_assoc, map, Result, Ok, Err, refl, ap, ◌∙◌}
+use Rattle.std.proofs.Common.{◌≡◌, ℕ, Bool, true, false, List, [], ◌∷◌, append_assoc, map, Result, Ok, Err, refl, ap, ◌∙◌}
 use Rattle.std.specs.List.{list_all}
 use Rattle.std.specs.Prelude.{if◌then◌else◌}
-use Rattle.mp_records.specs.declared.edit.Edit.{Edit}
 use Rattle.mp_records.specs.declared.edit_error.EditError.{EditError}
 use Rattle.mp_netlist.specs.Circuit.{Circuit, IsCircuit}
 use Rattle.mp_netlist.specs.Edits.{after, go_on}
 use Rattle.mp_netlist.specs.Replays.{replay}
 use Rattle.mp_netlist.specs.Laws.{EditsKeepNetlists}
-use Rattle.mp_words.specs.declared.line_error.LineError.{LineError}
 use Rattle.mp_words.specs.declared.line_error.LineError.TheVariants.{NotAscii}
-use Rattle.mp_words.specs.Lines.{lines_of, is_allowed, line_words}
+use Rattle.mp_words.specs.Lines.{lines_of, is_allowed}
 use Rattle.mp_words.specs.Words.{words_of}
 use Rattle.mp_words.specs.Reads.{◌>>=◌}
 use Rattle.mp_text.specs.declared.script_line.Line.{Line}

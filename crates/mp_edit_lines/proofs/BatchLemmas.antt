@@ -5,7 +5,7 @@ use Rattle.std.specs.Str.{bytes_eq}
 use Rattle.std.specs.List.{flat_map, slice_split}
 use Rattle.std.specs.Option.{ok_or}
 use Rattle.std.proofs.lemmas.Grind.{flat_map-append}
-use Rattle.std.proofs.lemmas.List.{append-nil}
+use Rattle.std.proofs.lemmas.List.{append-nil, map-id}
 use Rattle.std.proofs.lemmas.List.Elements.{All-nil, All-cons, All-head, All-tail, All-weaker, All-append}
 use Rattle.std.proofs.lemmas.List.Splits.{slice_split_none, slice_split_at}
 use Rattle.mp_records.specs.declared.edit.Edit.TheVariants as edits
@@ -14,6 +14,7 @@ use Rattle.mp_words.specs.declared.line_error.LineError.{LineError}
 use Rattle.mp_words.specs.declared.line_error.LineError.TheVariants.{UnknownStatement}
 use Rattle.mp_words.specs.Reads.{◌>>=◌}
 use Rattle.mp_words.proofs.PlainLemmas.{IsPlain}
+use Rattle.mp_words.proofs.ReadBackLemmas.{each_back}
 use Rattle.mp_text.specs.declared.script_line.Line.TheVariants.{Change}
 use Rattle.mp_text.specs.declared.line_word.LineWord.TheVariants.{Batch}
 use Rattle.mp_text.specs.declared.question.Question.{Question as Asked}
@@ -99,14 +100,13 @@ module _ (words : List (List ℕ)) (edit : SingleEdit) where
   part_known : (is_batch : Bool) (question : Option QuestionWord) (single : Option SingleWord)
       → (ok_or (if is_batch then Some Batch else known_word question single) UnknownStatement >>= λ first. stated_line first words) ≡ Ok (Change (edits.Single edit))
       → (ok_or single UnknownStatement >>= λ first. single_edit first words) ≡ Ok edit
-  unfolding stated_line
   part_known true question single read = absurd (no_batch (batch_of words) edit read)
   part_known false (Some question) single read = absurd (no_question (stated_question question words) edit read)
   part_known false None (Some single) read = the_single (single_edit single words) edit read
   part_known false None None read = let no : ⊥ = cc in absurd no
 
   part_said : (word : List ℕ) → line_of (word ∷ words) ≡ Ok (Change (edits.Single edit)) → part_edit (word ∷ words) ≡ Ok edit
-  unfolding line_of part_edit
+  unfolding line_of
   part_said word read = part_known (bytes_eq word (codes "batch")) (question_word word) (single_word word) read
 
 part_of_line : (words : List (List ℕ)) (edit : SingleEdit) → line_of words ≡ Ok (Change (edits.Single edit)) → part_edit words ≡ Ok edit
@@ -114,16 +114,13 @@ unfolding line_of
 part_of_line [] edit read = let no : ⊥ = cc in absurd no
 part_of_line (word ∷ words) edit read = part_said words edit word read
 
-each_read : (several : List SingleEdit) → All IsSaid several → each_part (map edit_words several) ≡ Ok several
-unfolding each_part
-each_read [] said = refl
-each_read (edit ∷ others) said =
-    let here = part_of_line (edit_words edit) edit (words_read edit (All-head IsSaid edit others said)) in
-    let rest = each_read others (All-tail IsSaid edit others said) in
-    rw (here, rest) refl
+each_said : (several : List SingleEdit) → All IsSaid several → each_part (map edit_words several) ≡ Ok several
+each_said several said =
+    let each = All-weaker IsSaid (λ edit. part_edit (edit_words edit) ≡ Ok edit) (λ edit is. part_of_line (edit_words edit) edit (words_read edit is)) several said in
+    each_back part_edit edit_words (λ edit. edit) several each ∙ ap Ok (map-id several)
 
 batch_words_read : (words : List (List ℕ)) → line_of (codes "batch" ∷ words) ≡ batch_line (batch_of words)
-unfolding line_of stated_line
+unfolding line_of
 batch_words_read words = refl
 
 batch_read : (first : SingleEdit) (others : List SingleEdit) → All IsSaid (first ∷ others) → line_at (batch_text (first ∷ others)) ≡ Ok (Change (edits.Batch (first ∷ others)))
@@ -134,7 +131,7 @@ batch_read first others said =
     let plain = All-append IsPlain (edit_words first) (flat_map behind_words others) (plain_words first here) (plain_others others rest) in
     let whole = All-cons IsPlain (codes "batch") words (record { some = omega arith; plain = refl }) plain in
     ap line_at (batch_joined first others) ∙ read_words (codes "batch" ∷ words) (omega arith) whole ∙ batch_words_read words
-    ∙ ap (λ l. batch_line (each_part l)) (parts_are first others here rest) ∙ ap batch_line (each_read (first ∷ others) said)
+    ∙ ap (λ l. batch_line (each_part l)) (parts_are first others here rest) ∙ ap batch_line (each_said (first ∷ others) said)
 
 -- ---- each edit
 

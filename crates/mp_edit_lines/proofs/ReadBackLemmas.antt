@@ -3,7 +3,7 @@ use Rattle.std.proofs.Common.{◌≡◌, ℕ, ◌<◌, Bool, true, false, cond, 
 use Rattle.std.specs.Prelude.{codes, nat_le, IfSome}
 use Rattle.std.specs.Char.{is_ascii_alphabetic}
 use Rattle.std.specs.List.{list_all}
-use Rattle.std.proofs.lemmas.Bool.{eqb-true}
+use Rattle.std.proofs.lemmas.Bool.{and_parts, eqb-true}
 use Rattle.std.proofs.lemmas.Bool.Decides.{nat_tests}
 use Rattle.std.proofs.lemmas.List.{append-nil, map-id}
 use Rattle.std.proofs.lemmas.List.Elements.{All-head, All-tail, All-weaker}
@@ -17,14 +17,13 @@ use Rattle.mp_records.specs.Names.{is_name, is_name_byte, begins_with_letter}
 use Rattle.mp_words.specs.declared.line_error.LineError.{LineError}
 use Rattle.mp_words.specs.WordLists.{change_word, input_word, output_word, wire_or_none}
 use Rattle.mp_words.specs.WaveLines.{pair_text}
-use Rattle.mp_words.proofs.PlainLemmas.{IsPlain, IsPlain-name, both}
+use Rattle.mp_words.proofs.PlainLemmas.{IsPlain, IsPlain-name}
 use Rattle.mp_words.proofs.ReadBackLemmas.{number_back, change_back, input_back, late_input_back, no_wire_back, wire_back}
 use Rattle.mp_text.specs.declared.edit_word.EditWord.TheVariants as words
 use Rattle.mp_text.specs.declared.script_line.Line.TheVariants.{Change}
 use Rattle.mp_text.specs.Statements as stated
 use Rattle.mp_text.specs.Statements.{is_mark, stated_edit, statement_of}
-use Rattle.mp_text.specs.SingleEdits.{single_edit, removal, input_edit, output_edit, input_delay_edit, delay_edit, clearing}
-use Rattle.mp_text.specs.ScriptLines.{line_of, line_at, stated_line}
+use Rattle.mp_text.specs.ScriptLines.{line_of, line_at}
 use Rattle.mp_text.specs.Written.{delay_text}
 use Rattle.mp_text.proofs.StatementBackLemmas.{wire_stated, bundle_stated, stimulus_stated, module_stated, name_no_greater}
 use Rattle.mp_text.proofs.WrittenLineLemmas.{line_words-spaced}
@@ -69,19 +68,19 @@ said_of r s same = cc
 
 module _ (rest : List (List ℕ)) (edit : SingleEdit) where
   wire_line : statement_of (codes "wire" ∷ rest) ≡ stated.Change (Ok edit) → line_of (codes "wire" ∷ rest) ≡ Ok (Change (edits.Single edit))
-  unfolding statement_of line_of stated_line single_edit
+  unfolding statement_of line_of
   wire_line read = let said : stated_edit words.Wire rest ≡ Ok edit = said_of _ _ read in rw said refl
 
   module_line : statement_of (codes "module" ∷ rest) ≡ stated.Change (Ok edit) → line_of (codes "module" ∷ rest) ≡ Ok (Change (edits.Single edit))
-  unfolding statement_of line_of stated_line single_edit
+  unfolding statement_of line_of
   module_line read = let said : stated_edit words.Module rest ≡ Ok edit = said_of _ _ read in rw said refl
 
   stimulus_line : statement_of (codes "stim" ∷ rest) ≡ stated.Change (Ok edit) → line_of (codes "stim" ∷ rest) ≡ Ok (Change (edits.Single edit))
-  unfolding statement_of line_of stated_line single_edit
+  unfolding statement_of line_of
   stimulus_line read = let said : stated_edit words.Stimulus rest ≡ Ok edit = said_of _ _ read in rw said refl
 
   bundle_line : statement_of (codes "bundle" ∷ rest) ≡ stated.Change (Ok edit) → line_of (codes "bundle" ∷ rest) ≡ Ok (Change (edits.Single edit))
-  unfolding statement_of line_of stated_line single_edit
+  unfolding statement_of line_of
   bundle_line read = let said : stated_edit words.Bundle rest ≡ Ok edit = said_of _ _ read in rw said refl
 
 module_said : (new : NewModule) → IsModuleSaid new → statement_of (codes "module" ∷ module_words new) ≡ stated.Change (Ok (AddModule new))
@@ -98,37 +97,37 @@ module_said new said =
 
 module _ (part : List ℕ) (port number : ℕ) (low : IsLow port) (fits : IsLow number) where
   input_delay_line : line_of (codes "indelay" ∷ part ∷ decimal port ∷ decimal number ∷ []) ≡ Ok (Change (edits.Single (SetInputDelay part port number)))
-  unfolding line_of stated_line single_edit input_delay_edit
+  unfolding line_of
   input_delay_line = let p = number_back port low in let d = number_back number fits in rw (p, d) refl
 
   delay_line : line_of (codes "delay" ∷ part ∷ decimal port ∷ decimal number ∷ []) ≡ Ok (Change (edits.Single (SetDelay part port number)))
-  unfolding line_of stated_line single_edit delay_edit
+  unfolding line_of
   delay_line = let p = number_back port low in let d = number_back number fits in rw (p, d) refl
 
 input_line : (part : List ℕ) (port : ℕ) (wire : List ℕ) → IsLow port → line_of (codes "input" ∷ part ∷ decimal port ∷ wire ∷ []) ≡ Ok (Change (edits.Single (RewireInput part port wire)))
-unfolding line_of stated_line single_edit input_edit
+unfolding line_of
 input_line part port wire low = let p = number_back port low in rw p refl
 
 output_line : (part : List ℕ) (port : ℕ) (wire : Option (List ℕ)) → IsLow port → wire_or_none (wire_word wire) ≡ wire
     → line_of (codes "output" ∷ part ∷ decimal port ∷ wire_word wire ∷ []) ≡ Ok (Change (edits.Single (RewireOutput part port wire)))
-unfolding line_of stated_line single_edit output_edit
+unfolding line_of
 output_line part port wire low same = let p = number_back port low in rw (p, same) refl
 
 module _ (name : List ℕ) where
   remove_wire_line : line_of (codes "remove" ∷ codes "wire" ∷ name ∷ []) ≡ Ok (Change (edits.Single (RemoveWire name)))
-  unfolding line_of stated_line single_edit removal
+  unfolding line_of
   remove_wire_line = refl
 
   remove_module_line : line_of (codes "remove" ∷ codes "module" ∷ name ∷ []) ≡ Ok (Change (edits.Single (RemoveModule name)))
-  unfolding line_of stated_line single_edit removal
+  unfolding line_of
   remove_module_line = refl
 
   remove_bundle_line : line_of (codes "remove" ∷ codes "bundle" ∷ name ∷ []) ≡ Ok (Change (edits.Single (RemoveBundle name)))
-  unfolding line_of stated_line single_edit removal
+  unfolding line_of
   remove_bundle_line = refl
 
   clear_line : line_of (codes "clear" ∷ name ∷ []) ≡ Ok (Change (edits.Single (ClearStimulus name)))
-  unfolding line_of stated_line single_edit clearing
+  unfolding line_of
   clear_line = refl
 
 letter_no_dash : (b : ℕ) → is_ascii_alphabetic b ≡ true → (b == 45) ≡ false
@@ -139,8 +138,8 @@ not_dash : (name : List ℕ) → IsName name → wire_or_none name ≡ Some name
 unfolding is_name
 not_dash [] valid = refl
 not_dash (b ∷ bs) valid =
-    let head = both (begins_with_letter (b ∷ bs) && nat_le (length (b ∷ bs)) 32) (list_all is_name_byte (b ∷ bs)) valid in
-    let other = letter_no_dash b (both (begins_with_letter (b ∷ bs)) (nat_le (length (b ∷ bs)) 32) head.0).0 in
+    let head = and_parts (begins_with_letter (b ∷ bs) && nat_le (length (b ∷ bs)) 32) (list_all is_name_byte (b ∷ bs)) valid in
+    let other = letter_no_dash b (and_parts (begins_with_letter (b ∷ bs)) (nat_le (length (b ∷ bs)) 32) head.0).0 in
     rw other refl
 
 wire_back_at : (wire : Option (List ℕ)) → IfSome wire IsName → wire_or_none (wire_word wire) ≡ wire

@@ -1,9 +1,9 @@
 -- A line can say each edit that a netlist accepts.
-use Rattle.std.proofs.Common.{◌≡◌, ℕ, ◌+◌, ◌^◌, ◌<◌, ◌≤◌, Bool, true, false, cond, ◌==◌, ◌&&◌, List, [], ◌∷◌, length, map, All, Option, None, Some, Result, Ok, Err, refl, sym, ap, subst, ◌∙◌, arith}
-use Rattle.std.specs.Prelude.{IfSome, nat_le, nat_lt, if◌then◌else◌}
-use Rattle.std.specs.List.{list_all, filter_map}
+use Rattle.std.proofs.Common.{◌≡◌, ℕ, ◌+◌, ◌^◌, ◌<◌, ◌≤◌, Bool, true, false, cond, ◌==◌, ◌&&◌, List, [], ◌∷◌, length, All, Option, None, Some, Result, Ok, Err, refl, sym, subst, arith}
+use Rattle.std.specs.Prelude.{IfSome, nat_le, nat_lt}
+use Rattle.std.specs.List.{list_all}
 use Rattle.std.proofs.Math.Nat.{pow-le-pow_right}
-use Rattle.std.proofs.lemmas.Bool.{leb-true, ltb-true, eqb-true}
+use Rattle.std.proofs.lemmas.Bool.{and_parts, leb-true, ltb-true}
 use Rattle.std.proofs.lemmas.List.Elements.{All-nil, All-cons}
 use Rattle.mp_modules.specs.declared.kind.Kind.{Kind}
 use Rattle.mp_modules.specs.declared.kind.Kind.TheVariants as kinds
@@ -14,25 +14,21 @@ use Rattle.mp_records.specs.declared.edit.Edit.{Edit}
 use Rattle.mp_records.specs.declared.edit.Edit.TheVariants.{Single, Batch}
 use Rattle.mp_records.specs.declared.edit_error.EditError.{EditError}
 use Rattle.mp_records.specs.declared.edit_error.EditError.TheVariants.{BadBatch}
-use Rattle.mp_records.specs.declared.module_record.ModuleRecord.{ModuleRecord}
-use Rattle.mp_records.specs.declared.new_bundle.NewBundle.{NewBundle}
-use Rattle.mp_records.specs.declared.new_module.NewModule.{NewModule}
 use Rattle.mp_records.specs.declared.port_names.InputName.{InputName}
 use Rattle.mp_records.specs.declared.port_names.OutputName.{OutputName}
 use Rattle.mp_records.specs.declared.single_edit.SingleEdit.{SingleEdit}
 use Rattle.mp_records.specs.declared.single_edit.SingleEdit.TheVariants.{AddWire, RemoveWire, AddModule, RemoveModule, AddBundle, RemoveBundle, RewireInput, RewireOutput, SetInputDelay, SetDelay, SetStimulus, ClearStimulus}
-use Rattle.mp_records.specs.Names.{is_name}
 use Rattle.mp_records.specs.Stimuli.{is_stimulus}
 use Rattle.mp_netlist.specs.Limits.{max_horizon, max_delay}
 use Rattle.mp_netlist.specs.Slots.{has_name}
 use Rattle.mp_netlist.specs.Circuit.{Circuit, IsCircuit}
-use Rattle.mp_netlist.specs.Edits.{stands, width_named, module_of, input_ports, first_failing, input_checks, output_checks, is_delay, is_input_delay, inputs_stand, delays_fit, driven_names, output_stands, first_width, new_width, wire_refusal, input_refusal, output_refusal, refusal, edited, unless, after_single, go_on, in_place, after_each, is_batch, after}
+use Rattle.mp_netlist.specs.Edits.{stands, width_named, first_failing, input_checks, output_checks, is_delay, is_input_delay, inputs_stand, driven_names, output_stands, first_width, new_width, refusal, edited, unless, after_single, go_on, in_place, after_each, is_batch, after}
 use Rattle.mp_netlist.specs.Laws.{EditsKeepNetlists}
 use Rattle.mp_netlist.proofs.TableLemmas.{named_has, same_name}
 use Rattle.mp_netlist.proofs.NameLemmas.{Stands, ModuleStands, BundleStands, stands_from, wire_name, module_name, bundle_name}
 use Rattle.mp_netlist.proofs.EditLemmas.{new_wire, free_wire, is_new_module, going_module, is_new_bundle, going_bundle, new_input, new_output, new_input_delay, new_delay, new_stimulus, clearing}
+use Rattle.mp_words.proofs.PlainLemmas.{All-passing}
 use Rattle.mp_netlist.proofs.LimitLemmas.{horizon_within}
-use Rattle.mp_words.proofs.PlainLemmas.{both, All-passing}
 use Rattle.mp_edit_lines.specs.ReadBack.{IsName, IsLow, IsInputSaid, IsOutputSaid, IsSaid, IsEditSaid}
 
 -- ---- numbers
@@ -45,7 +41,7 @@ unfolding fits_width
 level_low width level narrow fits = low_at level (2 ^ width) (pow-le-pow_right (omega arith) narrow) fits
 
 delay_low : (delay : ℕ) → is_delay delay ≡ true → IsLow delay
-delay_low delay is = let high = leb-true delay max_delay (both (nat_le 1 delay) (nat_le delay max_delay) is).1 in omega (arith, high)
+delay_low delay is = let high = leb-true delay max_delay (and_parts (nat_le 1 delay) (nat_le delay max_delay) is).1 in omega (arith, high)
 
 input_delay_low : (delay : ℕ) → is_input_delay delay ≡ true → IsLow delay
 input_delay_low delay is = let high = leb-true delay max_delay is in omega (arith, high)
@@ -67,16 +63,16 @@ params_low : (kind : Kind) (width : ℕ) (params : List ℕ) → width ≤ 64 �
 unfolding are_params
 params_low kind width params narrow are =
     let bound = param_bound kind width in
-    let below = (both (length params == param_count kind) (list_all (λ param. nat_lt param bound) params) are).1 in
+    let below = (and_parts (length params == param_count kind) (list_all (λ param. nat_lt param bound) params) are).1 in
     All-passing (λ param. nat_lt param bound) IsLow (λ param is. low_at param bound (param_bound-low kind width narrow) is) params below
 
 changes_low : (horizon width before : ℕ) (changes : List (ℕ × ℕ)) → horizon ≤ max_horizon → width ≤ 64 → is_stimulus horizon width before changes ≡ true → All (λ (change : ℕ × ℕ). IsLow change.0 × IsLow change.1) changes
 unfolding is_stimulus
 changes_low horizon width before [] short narrow valid = All-nil (λ (change : ℕ × ℕ). IsLow change.0 × IsLow change.1)
 changes_low horizon width before (change ∷ changes) short narrow valid =
-    let rest = both (nat_lt before change.0 && nat_lt change.0 horizon && fits_width width change.1) (is_stimulus horizon width change.0 changes) valid in
-    let here = both (nat_lt before change.0 && nat_lt change.0 horizon) (fits_width width change.1) rest.0 in
-    let early = (both (nat_lt before change.0) (nat_lt change.0 horizon) here.0).1 in
+    let rest = and_parts (nat_lt before change.0 && nat_lt change.0 horizon && fits_width width change.1) (is_stimulus horizon width change.0 changes) valid in
+    let here = and_parts (nat_lt before change.0 && nat_lt change.0 horizon) (fits_width width change.1) rest.0 in
+    let early = (and_parts (nat_lt before change.0) (nat_lt change.0 horizon) here.0).1 in
     All-cons (λ (c : ℕ × ℕ). IsLow c.0 × IsLow c.1) change changes (low_at change.0 horizon (omega (arith, short)) early, level_low width change.1 narrow here.1) (changes_low horizon width change.0 changes short narrow rest.1)
 
 -- each check passes
@@ -125,7 +121,7 @@ module _ (n : Circuit) (ok : IsCircuit n) where
 
   first_narrow : (inputs : List InputName) → inputs_stand n inputs ≡ true → first_width n inputs ≤ 64
   first_narrow [] stand = omega arith
-  first_narrow (first ∷ others) stand = wire_narrow first.wire (stands_from n first.wire (both (stands n first.wire) (inputs_stand n others) stand).0)
+  first_narrow (first ∷ others) stand = wire_narrow first.wire (stands_from n first.wire (and_parts (stands n first.wire) (inputs_stand n others) stand).0)
 
   narrow : (kind : Kind) (inputs : List InputName) → inputs_stand n inputs ≡ true → new_width n kind inputs ≤ 64
   narrow kind inputs stand = by (has_width kind) (first_narrow inputs stand)
@@ -137,8 +133,8 @@ module _ (n : Circuit) (ok : IsCircuit n) where
   inputs_said : (inputs : List InputName) → inputs_stand n inputs ≡ true → list_all (λ (i : InputName). is_input_delay i.delay) inputs ≡ true → All IsInputSaid inputs
   inputs_said [] stand low = All-nil IsInputSaid
   inputs_said (input ∷ inputs) stand low =
-      let stands_all = both (stands n input.wire) (inputs_stand n inputs) stand in
-      let lows = both (is_input_delay input.delay) (list_all (λ (i : InputName). is_input_delay i.delay) inputs) low in
+      let stands_all = and_parts (stands n input.wire) (inputs_stand n inputs) stand in
+      let lows = and_parts (is_input_delay input.delay) (list_all (λ (i : InputName). is_input_delay i.delay) inputs) low in
       All-cons IsInputSaid input inputs (standing_said input.wire stands_all.0, input_delay_low input.delay lows.0) (inputs_said inputs stands_all.1 lows.1)
 
   -- the name of a wire that is driven, if any, before other names
@@ -148,13 +144,13 @@ module _ (n : Circuit) (ok : IsCircuit n) where
 
   driven_said : (wire : Option (List ℕ)) (names : List (List ℕ)) → list_all (stands n) (onto wire names) ≡ true → IfSome wire IsName × (list_all (stands n) names ≡ true)
   driven_said None names stand = (tt, stand)
-  driven_said (Some name) names stand = let parts = both (stands n name) (list_all (stands n) names) stand in (standing_said name parts.0, parts.1)
+  driven_said (Some name) names stand = let parts = and_parts (stands n name) (list_all (stands n) names) stand in (standing_said name parts.0, parts.1)
 
   outputs_said : (outputs : List OutputName) → list_all (stands n) (driven_names outputs) ≡ true → list_all (λ (o : OutputName). is_delay o.delay) outputs ≡ true → All IsOutputSaid outputs
   outputs_said [] stand low = All-nil IsOutputSaid
   outputs_said (output ∷ outputs) stand low =
       let here = driven_said output.wire (driven_names outputs) stand in
-      let lows = both (is_delay output.delay) (list_all (λ (o : OutputName). is_delay o.delay) outputs) low in
+      let lows = and_parts (is_delay output.delay) (list_all (λ (o : OutputName). is_delay o.delay) outputs) low in
       All-cons IsOutputSaid output outputs (here.0, delay_low output.delay lows.0) (outputs_said outputs here.1 lows.1)
 
   port_low : (name : List ℕ) (part : ModuleStands n name) (port : ℕ) → port < length part.thing.inputs → IsLow port
@@ -181,7 +177,7 @@ module _ (n : Circuit) (ok : IsCircuit n) where
   accepted_single (AddModule new) none =
       let is = is_new_module n new none in
       let ports = is.ports in
-      let delays = both (list_all (λ (i : InputName). is_input_delay i.delay) new.inputs) (list_all (λ (o : OutputName). is_delay o.delay) new.outputs) ports.delays in
+      let delays = and_parts (list_all (λ (i : InputName). is_input_delay i.delay) new.inputs) (list_all (λ (o : OutputName). is_delay o.delay) new.outputs) ports.delays in
       let inputs = ports.inputs_count in
       let outputs = ports.outputs_count in
       let has_input = some_input new.kind in
@@ -248,5 +244,5 @@ accepted_said keeps n m ok (Single edit) made = said_single n m ok edit made
 accepted_said keeps n m ok (Batch edits) made = by (is_batch edits) refl made
   where
     by : (b : Bool) → is_batch edits ≡ b → cond b (after_each 1 n edits) (Err BadBatch) ≡ Ok m → IsEditSaid (Batch edits)
-    by true is later = (leb-true 1 (length edits) (both (nat_le 1 (length edits)) (nat_le (length edits) 256) is).0, said_each keeps 1 n m ok edits later)
+    by true is later = (leb-true 1 (length edits) (and_parts (nat_le 1 (length edits)) (nat_le (length edits) 256) is).0, said_each keeps 1 n m ok edits later)
     by false is later = cc

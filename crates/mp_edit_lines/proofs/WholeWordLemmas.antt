@@ -4,12 +4,13 @@ use Rattle.std.specs.Prelude.{nat_le}
 use Rattle.std.specs.Char.{is_ascii_digit}
 use Rattle.std.specs.List.{list_all}
 use Rattle.std.proofs.lemmas.Fmt.{decimal_nonempty}
+use Rattle.std.proofs.lemmas.Bool.{and_parts}
 use Rattle.std.proofs.lemmas.Bool.Decides.{nat_tests}
 use Rattle.std.proofs.lemmas.List.{length-append}
 use Rattle.std.proofs.lemmas.List.Folds.{list_all-append}
 use Rattle.mp_records.specs.Names.{is_name, is_name_byte, begins_with_letter}
 use Rattle.mp_words.proofs.DecimalLemmas.{decimal_digits}
-use Rattle.mp_words.proofs.PlainLemmas.{IsPlain, is_plain_byte, list_all-passing, both}
+use Rattle.mp_words.proofs.PlainLemmas.{IsPlain, is_plain_byte, list_all-passing}
 use Rattle.mp_text.specs.Statements.{is_mark}
 
 -- printed, and neither a space nor `#` nor `;`
@@ -28,7 +29,7 @@ name_byte_whole : (b : ℕ) → is_name_byte b ≡ true → is_whole_byte b ≡ 
 name_byte_whole b name = grind (arith, nat_tests)
 
 whole_plain : (b : ℕ) → is_whole_byte b ≡ true → is_plain_byte b ≡ true
-whole_plain b whole = (both (is_plain_byte b) (not (b == 59)) whole).0
+whole_plain b whole = (and_parts (is_plain_byte b) (not (b == 59)) whole).0
 
 whole_no_mark : (b : ℕ) → is_whole_byte b ≡ true → (b == 59) ≡ false
 whole_no_mark b whole = grind (arith, nat_tests)
@@ -50,7 +51,7 @@ unfolding is_name
 IsWhole-name [] valid = absurd (true≢false (sym valid))
 IsWhole-name (b ∷ bs) valid = record {
   some = omega arith;
-  whole = list_all-passing is_name_byte is_whole_byte name_byte_whole (b ∷ bs) ((both (begins_with_letter (b ∷ bs) && nat_le (length (b ∷ bs)) 32) (list_all is_name_byte (b ∷ bs)) valid).1);
+  whole = list_all-passing is_name_byte is_whole_byte name_byte_whole (b ∷ bs) ((and_parts (begins_with_letter (b ∷ bs) && nat_le (length (b ∷ bs)) 32) (list_all is_name_byte (b ∷ bs)) valid).1);
 }
 
 -- such a word is read as itself
@@ -60,4 +61,4 @@ IsPlain-whole word whole = record { some = whole.some; plain = list_all-passing 
 -- and divides no batch
 pub whole_unmarked : (word : List ℕ) → IsWhole word → is_mark 59 word ≡ false
 whole_unmarked [] whole = absurd (omega (arith, whole.some))
-whole_unmarked (b ∷ bs) whole = let other = whole_no_mark b (both (is_whole_byte b) (list_all is_whole_byte bs) whole.whole).0 in rw other refl
+whole_unmarked (b ∷ bs) whole = let other = whole_no_mark b (and_parts (is_whole_byte b) (list_all is_whole_byte bs) whole.whole).0 in rw other refl

@@ -8,7 +8,7 @@ use Rattle.mp_netlist.specs.Edits.{refusal, edited}
 use Rattle.mp_words.specs.Lines.{lines_of}
 use Rattle.mp_words.specs.Numbers.{spelled_number, number_from}
 use Rattle.mp_words.specs.Words.{words_of}
-use Rattle.mp_text.specs.Statements.{statement_of, stated_edit, wire_edit}
+use Rattle.mp_text.specs.Statements.{statement_of}
 use Rattle.mp_text.specs.Sizes.{text_limit}
 use Rattle.mp_text.specs.Texts.{text_at, after_lines, after_line, after_statement}
 use Rattle.mp_laws.specs.Examples.{BatchExamples, NumberExample, TextExamples}
@@ -22,5 +22,5 @@ unfolding refusal edited number_named is_name fits_width is_used
 number_example = refl
 
 pub text_examples : TextExamples
-unfolding refusal edited number_named is_name lines_of spelled_number number_from words_of statement_of stated_edit wire_edit text_limit text_at after_lines after_line after_statement
+unfolding refusal edited number_named is_name lines_of spelled_number number_from words_of statement_of text_limit text_at after_lines after_line after_statement
 text_examples = record { at_second = refl; at_first = refl; lacking = refl; with_horizon = refl }

@@ -1,10 +1,9 @@
 -- Lemmas on what is found at bundles.
-use Rattle.mp_report.proofs.Names.{◌≡◌, ℕ, ◌+◌, ◌-◌, ◌<◌, ◌≤◌, inl, inr, Bool, true, false, not, ◌&&◌, [], map, min, nat_le, Some, None, filter, flat_map, refl, ap, sym, ◌∙◌, true≢false, arith, list_any, range_with_len, cases_Bool, cases_lt, nat_tests, FindingCode, FindingSet, by_number, has_code, no_findings, with_code_if, has_event, Circuit, bundle_at, changes, is_busy, is_requested_soon, is_found_at_bundle, bundle_place, bundle_set}
+use Rattle.std.specs.Prelude.{◌≡◌, ◌+◌, ◌-◌, ◌<◌, ◌≤◌, ◌&&◌}
+use Rattle.mp_report.proofs.Names.{ℕ, inl, inr, Bool, true, false, not, [], map, min, nat_le, Some, None, filter, flat_map, refl, ap, sym, ◌∙◌, true≢false, arith, list_any, range_with_len, cases_Bool, cases_lt, nat_tests, FindingCode, FindingSet, by_number, has_code, no_findings, with_code_if, has_event, Circuit, bundle_at, changes, is_busy, is_requested_soon, is_found_at_bundle, bundle_place, bundle_set, findings_of, found_over}
 use Rattle.mp_modules.specs.declared.finding_code.FindingCode.TheVariants as codes
 use Rattle.mp_records.specs.declared.bundle_record.BundleRecord.{BundleRecord}
 use Rattle.mp_model.proofs.MemberLemmas.{any_passes, passes_any, contains_range, range_contains}
-use Rattle.mp_response.specs.Span.{findings_of}
-use Rattle.mp_report.specs.Places.{codes_at, found_over}
 use Rattle.mp_report.proofs.TimeLemmas.{told_none, told_same}
 
 -- no event at any of some times
@@ -67,9 +66,7 @@ codes_of_set false false false false = refl
 
 found_is : (n : Circuit) (r : BundleRecord) (t : ℕ) → findings_of t (bundle_set n r t) ≡ map (λ code. (t, code)) (filter (is_found_at_bundle n (Some r) t) by_number)
 unfolding findings_of
-found_is n r t =
-    ap (map (λ (code : FindingCode). let pair : ℕ × FindingCode = (t, code) in pair))
-    (codes_of_set (changes n r.payload t && is_busy n r (t - 1)) (changes n r.payload t && is_requested_soon n r t) (changes n r.request t && is_busy n r (t - 1)) (changes n r.acknowledge t && not (is_busy n r (t - 1))))
+found_is n r t = grind (arith, nat_tests, codes_of_set)
 
 -- nothing is found where nothing changes
 none_of : (t : ℕ) (x y z w : Bool) → findings_of t (set_of (false && x) (false && y) (false && z) (false && w)) ≡ []
@@ -88,15 +85,9 @@ quiet_set n r t quiet =
 -- what is found at a bundle that stands
 pub bundle_over : (n : Circuit) (b : ℕ) (r : BundleRecord) → bundle_at n b ≡ Some r → flat_map (λ t. findings_of t (bundle_set n r t)) (range_with_len 1 (n.horizon - 1)) ≡ found_over n (bundle_place b)
 unfolding found_over
-bundle_over n b r at =
-    told_same (λ t. findings_of t (bundle_set n r t)) (codes_at n (bundle_place b))
-    (λ t. found_is n r t ∙ sym (ap (λ slot. map (λ (code : FindingCode). let pair : ℕ × FindingCode = (t, code) in pair) (filter (is_found_at_bundle n slot t) by_number)) at))
-    (range_with_len 1 (n.horizon - 1))
+bundle_over n b r at = grind (arith, nat_tests, told_same, found_is)
 
 -- nothing is found where none stands
 pub no_bundle_over : (n : Circuit) (b : ℕ) → bundle_at n b ≡ None → [] ≡ found_over n (bundle_place b)
 unfolding found_over
-no_bundle_over n b at =
-    sym (told_none (codes_at n (bundle_place b))
-    (λ t. ap (λ slot. map (λ (code : FindingCode). let pair : ℕ × FindingCode = (t, code) in pair) (filter (is_found_at_bundle n slot t) by_number)) at)
-    (range_with_len 1 (n.horizon - 1)))
+no_bundle_over n b at = grind (arith, nat_tests, told_none)

@@ -1,10 +1,10 @@
 -- Findings by place, sorted by time, are the findings by time.
-use Rattle.mp_report.proofs.Names.{◌≡◌, ◌≢◌, ℕ, ◌+◌, ◌-◌, ◌<◌, ◌≤◌, ◌==◌, ◌⊎◌, inl, inr, Bool, true, false, not, ◌&&◌, cond, List, [], ◌∷◌, ◌++◌, map, All, filter, flat_map, nat_cmp, is_lt, nat_lt, Less, Equal, Greater, zero, suc, refl, ap, sym, subst, ◌∙◌, append-nil, ⊎_elim, arith, range_with_len, cases_eq, cases_lt, nat_tests, FindingCode, MergeCollision, by_number, Circuit, Place, Finding}
+use Rattle.std.specs.Prelude.{◌≡◌, ◌≢◌, ◌+◌, ◌-◌, ◌<◌, ◌≤◌, ◌==◌, ◌⊎◌, ◌&&◌, ◌∷◌, ◌++◌}
+use Rattle.mp_report.proofs.Names.{ℕ, inl, inr, Bool, true, false, not, cond, List, [], map, All, filter, flat_map, nat_cmp, is_lt, Less, Equal, Greater, zero, suc, refl, ap, sym, subst, ◌∙◌, append-nil, arith, range_with_len, cases_eq, cases_lt, nat_tests, FindingCode, MergeCollision, by_number, Circuit, Place, Finding, codes_at, found_over, finding_at, found_by_place}
 use Rattle.std.specs.List.Sorted.{IsNonDecreasingBy, IsStableByKey}
 use Rattle.std.proofs.lemmas.List.{map-append}
 use Rattle.std.proofs.lemmas.List.Elements.{filter-append, filter_agree}
 use Rattle.mp_model.specs.Findings.{is_found, module_place, places, found_at, findings}
-use Rattle.mp_report.specs.Places.{codes_at, found_over, finding_at, found_by_place}
 use Rattle.mp_report.proofs.TimeLemmas.{told_none, told_same}
 
 -- ---- lists by key
@@ -31,29 +31,22 @@ module _ {X : Type 0} (key : X → ℕ) where
 
   none_at : (a b : ℕ) (xs : List X) → a < b → Rising b xs → filter (at_key a) xs ≡ []
   none_at a b [] lt up = refl
-  none_at a b (x ∷ xs) lt up = no_key a x xs (λ same. absurd (omega (arith, lt, same, up.0))) ∙ none_at a (key x) xs (omega (arith, lt, up.0)) up.1
+  none_at a b (x ∷ xs) lt up = grind (arith, nat_tests, no_key, (none_at a (key x) xs (omega (arith, lt, up.0)) up.1))
 
   none_other : (t u : ℕ) (xs : List X) → u ≢ t → AllAt u xs → filter (at_key t) xs ≡ []
   none_other t u [] other are = refl
-  none_other t u (x ∷ xs) other are = no_key t x xs (λ same. other (sym are.0 ∙ same)) ∙ none_other t u xs other are.1
+  none_other t u (x ∷ xs) other are = grind (arith, nat_tests, no_key, (none_other t u xs other are.1))
 
   -- ---- rising lists with the same elements of each key
 
   not_below : (x y : X) (xs ys : List X) → Rising (key y) ys → filter (at_key (key x)) (x ∷ xs) ≡ filter (at_key (key x)) (y ∷ ys) → key y ≤ key x
-  not_below x y xs ys up same = ⊎_elim
-      (λ low.
-      let none = none_at (key x) (key y) (y ∷ ys) low (omega arith, up) in
-      let some : x ∷ filter (at_key (key x)) xs ≡ [] = sym (yes_key (key x) x xs refl) ∙ same ∙ none in
-      let no : ⊥ = cc in
-      absurd no)
-      (λ more. more)
-      (cases_lt (key x) (key y))
+  not_below x y xs ys up same = grind (arith, nat_tests, none_at, yes_key, cases_lt)
 
   same_rest : (x y : X) (l m : List X) (b c : Bool) → b ≡ c → cond b (x ∷ l) l ≡ cond c (y ∷ m) m → l ≡ m
-  same_rest x y l m true true is same = cc
-  same_rest x y l m true false is same = cc
-  same_rest x y l m false true is same = cc
-  same_rest x y l m false false is same = same
+  same_rest x y l m true true is same = grind (arith, nat_tests)
+  same_rest x y l m true false is same = grind (arith, nat_tests)
+  same_rest x y l m false true is same = grind (arith, nat_tests)
+  same_rest x y l m false false is same = grind (arith, nat_tests)
 
   pub same_lists : (a : ℕ) (xs ys : List X) → Rising a xs → Rising a ys → ((t : ℕ) → filter (at_key t) xs ≡ filter (at_key t) ys) → xs ≡ ys
   same_lists a [] [] up rises same = refl
@@ -72,13 +65,13 @@ module _ {X : Type 0} (key : X → ℕ) where
   -- ---- which lists rise
 
   rising_front : (a : ℕ) (xs ys : List X) → AllAt a xs → Rising (a + 1) ys → Rising a (xs ++ ys)
-  rising_front a [] [] are up = tt
-  rising_front a [] (y ∷ ys) are up = (omega (arith, up.0), up.1)
-  rising_front a (x ∷ xs) ys are up = (omega (arith, are.0), subst (λ (k : ℕ). Rising k (xs ++ ys)) (sym are.0) (rising_front a xs ys are.1 up))
+  rising_front a [] [] are up = grind (arith, nat_tests)
+  rising_front a [] (y ∷ ys) are up = grind (arith, nat_tests)
+  rising_front a (x ∷ xs) ys are up = grind (arith, nat_tests, (rising_front a xs ys are.1 up))
 
   rising_times : (told : ℕ → List X) → ((t : ℕ) → AllAt t (told t)) → (a n : ℕ) → Rising a (flat_map told (range_with_len a n))
-  rising_times told are a zero = tt
-  rising_times told are a (suc n) = rising_front a (told a) (flat_map told (range_with_len (a + 1) n)) (are a) (rising_times told are (a + 1) n)
+  rising_times told are a zero = grind (arith, nat_tests)
+  rising_times told are a (suc n) = grind (arith, nat_tests, rising_front, (rising_times told are (a + 1) n))
 
   rising_from : (a : ℕ) (xs : List X) → IsNonDecreasingBy key xs → All (λ x. a ≤ key x) xs → Rising a xs
   rising_from a [] up low = tt
@@ -86,22 +79,22 @@ module _ {X : Type 0} (key : X → ℕ) where
       (low 0 x (omega arith), rising_from (key x) xs (λ i j d le within. up (suc i) (suc j) d (omega (arith, le)) (omega (arith, within))) (λ k d within. up 0 (suc k) d (omega arith) (omega (arith, within))))
 
   all_append : (t : ℕ) (xs ys : List X) → AllAt t xs → AllAt t ys → AllAt t (xs ++ ys)
-  all_append t [] ys are too = too
-  all_append t (x ∷ xs) ys are too = (are.0, all_append t xs ys are.1 too)
+  all_append t [] ys are too = grind (arith, nat_tests)
+  all_append t (x ∷ xs) ys are too = grind (arith, nat_tests, (all_append t xs ys are.1 too))
 
   all_flat : {P : Type 0} (t : ℕ) (f : P → List X) → ((p : P) → AllAt t (f p)) → (ps : List P) → AllAt t (flat_map f ps)
-  all_flat t f are [] = tt
-  all_flat t f are (p ∷ ps) = all_append t (f p) (flat_map f ps) (are p) (all_flat t f are ps)
+  all_flat t f are [] = grind (arith, nat_tests)
+  all_flat t f are (p ∷ ps) = grind (arith, nat_tests, all_append, (all_flat t f are ps))
 
 -- ---- by place and then by time, or by time and then by place
 
 filter_flat_map : {X Y : Type 0} (p : Y → Bool) (f : X → List Y) (xs : List X) → filter p (flat_map f xs) ≡ flat_map (λ x. filter p (f x)) xs
 filter_flat_map p f [] = refl
-filter_flat_map p f (x ∷ xs) = filter-append p (f x) (flat_map f xs) ∙ ap (λ l. filter p (f x) ++ l) (filter_flat_map p f xs)
+filter_flat_map p f (x ∷ xs) = grind (arith, nat_tests, filter-append, (filter_flat_map p f xs))
 
 map_flat_map : {X Y Z : Type 0} (g : Y → Z) (f : X → List Y) (xs : List X) → map g (flat_map f xs) ≡ flat_map (λ x. map g (f x)) xs
 map_flat_map g f [] = refl
-map_flat_map g f (x ∷ xs) = map-append g (f x) (flat_map f xs) ∙ ap (λ l. map g (f x) ++ l) (map_flat_map g f xs)
+map_flat_map g f (x ∷ xs) = grind (arith, nat_tests, map-append, (map_flat_map g f xs))
 
 module _ {P X : Type 0} (key : X → ℕ) (at : ℕ → P → List X) (are : (u : ℕ) (p : P) → AllAt key u (at u p)) (ps : List P) (t : ℕ) where
   abbrev of_place : ℕ → ℕ → P → List X
@@ -144,15 +137,15 @@ abbrev one_finding : ℕ → Place → FindingCode → Finding
 one_finding t place code = record { time = t; place = place; code = code }
 
 all_at : (place : Place) (t : ℕ) (codes : List FindingCode) → AllAt time_of t (map (one_finding t place) codes)
-all_at place t [] = tt
-all_at place t (code ∷ codes) = (refl, all_at place t codes)
+all_at place t [] = grind (arith, nat_tests)
+all_at place t (code ∷ codes) = grind (arith, nat_tests, (all_at place t codes))
 
 all_found : (n : Circuit) (t : ℕ) (place : Place) → AllAt time_of t (found_at n t place)
 all_found n t place = all_at place t (filter (is_found n place t) by_number)
 
 found_is : (place : Place) (t : ℕ) (codes : List FindingCode) → map (finding_at place) (map (λ (code : FindingCode). let pair : ℕ × FindingCode = (t, code) in pair) codes) ≡ map (one_finding t place) codes
 found_is place t [] = refl
-found_is place t (code ∷ codes) = ap (λ l. one_finding t place code ∷ l) (found_is place t codes)
+found_is place t (code ∷ codes) = grind (arith, nat_tests, (found_is place t codes))
 
 -- what is found at a place, time by time
 over_times : (n : Circuit) (place : Place) → map (finding_at place) (found_over n place) ≡ flat_map (λ u. found_at n u place) (range_with_len 1 (n.horizon - 1))
@@ -169,11 +162,7 @@ less_is false true = refl
 less_is false false = refl
 
 tie_is : (t u : ℕ) → not (is_lt (nat_cmp t u)) && not (is_lt (nat_cmp u t)) ≡ (u == t)
-tie_is t u =
-    ap (λ b. not b && not (is_lt (nat_cmp u t))) (less_is (nat_lt t u) (t == u)) ∙ ap (λ b. not (nat_lt t u) && not b) (less_is (nat_lt u t) (u == t)) ∙ tested
-  where
-    tested : not (nat_lt t u) && not (nat_lt u t) ≡ (u == t)
-    tested = grind (arith, nat_tests)
+tie_is t u = grind (arith, is_lt, less_is, nat_tests)
 
 -- a stable sort by time leaves the findings of each time as they were
 same_at : (xs ys : List Finding) → IsStableByKey time_of nat_cmp xs ys → (t : ℕ) → filter (is_at t) ys ≡ filter (is_at t) xs

@@ -1,30 +1,21 @@
 -- Lemmas on what is found at modules.
-use Rattle.mp_report.proofs.Names.{◌≡◌, ℕ, ◌-◌, ◌<◌, ◌≤◌, ◌==◌, Bool, false, List, [], ◌++◌, map, Option, Some, None, filter, flat_map, zero, suc, refl, ap, sym, subst, ◌∙◌, arith, range_with_len, nat_tests, FindingCode, Memory, FindingSet, by_number, has_code, no_findings, Circuit, IsCircuit, module_at, module_width, built, inputs_by, level, state, is_found_at_module, module_place}
+use Rattle.std.specs.Prelude.{◌≡◌, ◌-◌, ◌<◌, ◌≤◌, ◌++◌}
+use Rattle.mp_report.proofs.Names.{ℕ, List, [], Some, None, flat_map, zero, suc, refl, ap, subst, ◌∙◌, arith, range_with_len, nat_tests, FindingCode, Memory, no_findings, Circuit, IsCircuit, module_at, built, inputs_by, level, state, module_place, start, found, any_part_of, IsSpan, findings_of, found_at, codes_at, found_over}
 use Rattle.mp_storage.specs.declared.any_module.AnyModule.{AnyModule}
-use Rattle.mp_storage.specs.AnyModules.{start, found, any_part_of}
 use Rattle.mp_records.specs.declared.module_record.ModuleRecord.{ModuleRecord}
 use Rattle.mp_model.proofs.BehaviourLemmas.{satisfies}
-use Rattle.mp_response.specs.Span.{IsSpan, findings_of, found_at}
 use Rattle.mp_response.specs.Delays.{state_before}
 use Rattle.mp_response.specs.declared.piece.Piece.{Piece}
 use Rattle.mp_response.proofs.DelayLemmas.{finds_by_states}
 use Rattle.mp_response.proofs.JoinLemmas.{inside_alone}
-use Rattle.mp_report.specs.Places.{codes_at, found_over}
 use Rattle.mp_report.proofs.TimeLemmas.{told_none, told_same_from}
 
 -- what is found at a module at a time from 1 on
 later_found : (n : Circuit) (m t : ℕ) (r : ModuleRecord) → module_at n m ≡ Some r → 1 ≤ t
     → findings_of t (found_at (built n r) (state_before (built n r) (state n m) t) (inputs_by n (level n) r t) t) ≡ codes_at n (module_place m) t
 unfolding findings_of
-later_found n m zero r at some = absurd (omega (arith, some))
-later_found n m (suc u) r at some =
-    let later : (suc u == 0) ≡ false = grind (arith, nat_tests) in
-    let back : u ≡ suc u - 1 = omega arith in
-    let pairs : (FindingCode → Bool) → List (ℕ × FindingCode) = (λ (p : FindingCode → Bool). map (λ (code : FindingCode). let pair : ℕ × FindingCode = (suc u, code) in pair) (filter p by_number)) in
-    let x = inputs_by n (level n) r (suc u) in
-    rw later
-    (ap (λ (v : ℕ). pairs (has_code (found (built n r) (state n m v) x))) back
-    ∙ sym (ap (λ (slot : Option ModuleRecord). pairs (is_found_at_module n m slot (suc u))) at))
+later_found n m zero r at some = grind (arith, nat_tests)
+later_found n m (suc u) r at some = grind (arith, nat_tests)
 
 first_found : (part : AnyModule) (s : Memory) (x : List ℕ) → findings_of 0 (found_at part s x 0) ≡ []
 unfolding findings_of
@@ -54,19 +45,10 @@ answer_over n ok m r part s x piece at is starts hears span =
 -- nothing is found where none stands
 pub no_module_over : (n : Circuit) (m : ℕ) → module_at n m ≡ None → [] ≡ found_over n (module_place m)
 unfolding found_over
-no_module_over n m at =
-    sym (told_none (codes_at n (module_place m))
-    (λ t. ap (λ (slot : Option ModuleRecord). map (λ (code : FindingCode). let pair : ℕ × FindingCode = (t, code) in pair) (filter (is_found_at_module n m slot t) by_number)) at)
-    (range_with_len 1 (n.horizon - 1)))
+no_module_over n m at = grind (arith, nat_tests, told_none)
 
 -- nothing is found where the module's table finds nothing, whatever its state
 pub quiet_module_over : (n : Circuit) (m : ℕ) (r : ModuleRecord) → module_at n m ≡ Some r
     → ((params : List ℕ) (width : ℕ) (s : Memory) (x : List ℕ) → found (any_part_of r.kind params width) s x ≡ no_findings) → [] ≡ found_over n (module_place m)
 unfolding found_over
-quiet_module_over n m r at quiet =
-    let pairs : ℕ → (FindingCode → Bool) → List (ℕ × FindingCode) = (λ (t : ℕ) (p : FindingCode → Bool). map (λ (code : FindingCode). let pair : ℕ × FindingCode = (t, code) in pair) (filter p by_number)) in
-    sym (told_none (codes_at n (module_place m))
-    (λ t.
-    ap (λ (slot : Option ModuleRecord). pairs t (is_found_at_module n m slot t)) at
-    ∙ ap (λ (set : FindingSet). pairs t (has_code set)) (quiet r.params (module_width n r) (state n m (t - 1)) (inputs_by n (level n) r t)))
-    (range_with_len 1 (n.horizon - 1)))
+quiet_module_over n m r at quiet = grind (arith, nat_tests, told_none)

@@ -1,5 +1,6 @@
 -- Lists that several threads make.
-use Rattle.mp_report.proofs.Names.{◌≡◌, List, [], ◌∷◌, ◌++◌, map, flat_map, Ok, Err, refl, sym, ap, subst, ◌∙◌, AllZip, IfOk, MatchResult}
+use Rattle.std.specs.Prelude.{◌≡◌, ◌∷◌, ◌++◌}
+use Rattle.mp_report.proofs.Names.{List, [], map, flat_map, Ok, Err, refl, sym, ap, subst, ◌∙◌, AllZip, IfOk, MatchResult}
 use Rattle.std.specs.declared.result.Result.{Result}
 
 -- where each answer is there, what holds of it holds of what it has

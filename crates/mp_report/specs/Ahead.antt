@@ -1,8 +1,6 @@
 -- A wire's level before a time, and its changes from that time on.
-use Rattle.std.specs.Prelude.{◌≡◌, ℕ, ◌+◌, ◌-◌, ◌<◌, ◌≤◌}
-use Rattle.mp_report.specs.Names.{AreChanges, level_from, last_time, changes_in, Circuit, BundleRecord, level}
-use Rattle.mp_report.specs.declared.ahead.Ahead.{Ahead}
-use Rattle.mp_report.specs.declared.watch.Watch.{Watch}
+use Rattle.std.specs.Prelude.{◌≡◌, ◌+◌, ◌-◌, ◌<◌, ◌≤◌}
+use Rattle.mp_report.specs.Names.{AreChanges, level_from, last_time, changes_in, Circuit, BundleRecord, level, ℕ, Ahead, Watch}
 
 -- the level of f one unit before a time from 1 on, and its changes from then to below an end
 pub record IsAhead (f : ℕ → ℕ) (end time : ℕ) (ahead : Ahead) : Type 0 where

@@ -1,6 +1,5 @@
 -- What is found at a bundle, as a set.
-use Rattle.std.specs.Prelude.{ℕ, Some}
-use Rattle.mp_report.specs.Names.{FindingCode, DataWhileBusy, Setup, RequestWhileBusy, AckWhileIdle, FindingSet, no_findings, with_code_if, BundleRecord, Circuit, is_found_at_bundle}
+use Rattle.mp_report.specs.Names.{FindingCode, DataWhileBusy, Setup, RequestWhileBusy, AckWhileIdle, FindingSet, no_findings, with_code_if, BundleRecord, Circuit, is_found_at_bundle, ℕ, Some}
 
 -- a set, with a code too where it is found at the bundle
 abbrev pub with_found : Circuit → BundleRecord → ℕ → FindingCode → FindingSet → FindingSet

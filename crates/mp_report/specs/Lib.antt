@@ -3,3 +3,4 @@ pub mod Places
 pub mod Ahead
 pub mod Bundles
 pub mod Lines
+pub mod Clauses

@@ -1,9 +1,6 @@
 -- How findings are written.
-use Rattle.std.specs.Prelude.{ℕ, List, [], ◌∷◌, ◌++◌, Option, Some, None, codes}
-use Rattle.mp_report.specs.Names.{flat_map, FindingCode, code_word, BundleRecord, Circuit, module_at, bundle_at, Place, Finding, findings}
-use Rattle.std.specs.Fmt.{decimal}
-use Rattle.mp_records.specs.declared.module_record.ModuleRecord.{ModuleRecord}
-use Rattle.mp_model.specs.declared.finding.Place.TheVariants.{Module, Bundle}
+use Rattle.std.specs.Prelude.{◌∷◌, ◌++◌}
+use Rattle.mp_report.specs.Names.{flat_map, FindingCode, code_word, BundleRecord, Circuit, module_at, bundle_at, Place, Finding, findings, ℕ, List, [], Option, Some, None, codes, decimal, ModuleRecord, Module, Bundle}
 
 -- the name of a place, a space, the word of a code and a line feed
 abbrev pub placed_end : List ℕ → FindingCode → List ℕ

@@ -1,6 +1,6 @@
 -- What is found at one place.
-use Rattle.std.specs.Prelude.{ℕ, ◌-◌, List, map}
-use Rattle.mp_report.specs.Names.{filter, flat_map, range_with_len, FindingCode, by_number, Circuit, Place, Finding, is_found}
+use Rattle.std.specs.Prelude.{◌-◌}
+use Rattle.mp_report.specs.Names.{filter, flat_map, range_with_len, FindingCode, by_number, Circuit, Place, Finding, is_found, ℕ, List, map}
 
 -- the codes that are found at a place at a time, by number, each with the time
 abbrev pub codes_at : Circuit → Place → ℕ → List (ℕ × FindingCode)

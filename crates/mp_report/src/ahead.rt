@@ -9,9 +9,8 @@ pub(crate) struct Ahead<'a> {
 }
 
 impl<'a> Ahead<'a> {
-    ghost use Rattle.std.specs.Prelude.{◌≡◌, ℕ, ◌+◌, ◌-◌, ◌<◌, ◌≤◌, false, true};
-    ghost use Rattle.mp_report.specs.Names.{wave_upto, has_event};
-    ghost use Rattle.mp_report.specs.Ahead.{IsAhead};
+    ghost use Rattle.std.specs.Prelude.{◌≡◌, ◌+◌, ◌-◌, ◌<◌, ◌≤◌};
+    ghost use Rattle.mp_report.specs.Clauses.{ℕ, false, true, wave_upto, has_event, IsAhead};
 
     /// A wave from time 1 on.
     pub(crate) fn of(wave: &'a Wave) -> Self
@@ -24,6 +23,7 @@ impl<'a> Ahead<'a> {
     }
 
     /// Whether the level changes at a time that no change comes before.
+    #[tactic(auto, using(crate::proofs::AheadLemmas::none_at_all, crate::proofs::AheadLemmas::no_first))]
     pub(crate) fn changes_at(self, time: u32) -> bool
         ensures { (f : ℕ → ℕ) (end : ℕ) → IsAhead f end time self.entry → time < end → result ≡ has_event f time }
     {
@@ -34,6 +34,7 @@ impl<'a> Ahead<'a> {
     }
 
     /// The time of the next change, or an end that comes first.
+    #[tactic(auto, using(crate::proofs::AheadLemmas::ahead_next_steps))]
     pub(crate) fn next(self, end: u32) -> u32
         ensures within { result ≤ end }
         ensures later { (f : ℕ → ℕ) (most time : ℕ) → IsAhead f most time self.entry → time ≤ end → time ≤ result }

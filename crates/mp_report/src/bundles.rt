@@ -1,9 +1,7 @@
 //! What is found at a bundle.
-ghost use Rattle.std.specs.Prelude.{◌≡◌, ◌-◌, ◌<◌, ◌&&◌, IsSome, IfOk};
-ghost use Rattle.mp_report.specs.Names.{flat_map, range_with_len, IsBundle, IsCircuit, wire_at, AreWavesOf, level, bundle_place, is_requested_soon, findings_of};
-ghost use Rattle.mp_report.specs.Ahead.{IsAhead, AreAhead};
+ghost use Rattle.std.specs.Prelude.{◌≡◌, ◌-◌, ◌<◌, ◌&&◌};
+ghost use Rattle.mp_report.specs.Clauses.{IsSome, IfOk, flat_map, range_with_len, IsBundle, IsCircuit, wire_at, AreWavesOf, level, bundle_place, is_requested_soon, findings_of, IsAhead, AreAhead, found_over};
 ghost use Rattle.mp_report.specs.Bundles.{bundle_set};
-ghost use Rattle.mp_report.specs.Places.{found_over};
 
 use crate::ahead::Ahead;
 use crate::watch::Watch;
@@ -47,6 +45,7 @@ fn watch<'a>(netlist: &Netlist, waves: &'a Waves, bundle: &BundleRecord) -> Watc
 }
 
 /// A wire that stands from time 1 on.
+#[tactic(auto, using(crate::proofs::WaveLemmas::wave_is))]
 fn ahead<'a>(netlist: &Netlist, waves: &'a Waves, wire: WireId) -> Ahead<'a>
     requires waves { AreWavesOf netlist.now waves.now }
     requires form { IsCircuit netlist.now }

@@ -1,9 +1,8 @@
 //! What is found at a module.
-ghost use Rattle.std.specs.Prelude.{◌≡◌, ℕ, ◌-◌, ◌<◌, true, List, IsSome, IfOk, All, map, vec_len, length};
-ghost use Rattle.mp_report.specs.Names.{IsWaveform, level_of, Memory, no_findings, wire_at, input_by, AreWavesOf, level, module_place, levels_at, piece_level};
+ghost use Rattle.std.specs.Prelude.{◌≡◌, ◌-◌, ◌<◌};
+ghost use Rattle.mp_report.specs.Clauses.{ℕ, true, List, IsSome, IfOk, All, map, vec_len, length, IsWaveform, level_of, Memory, no_findings, wire_at, input_by, AreWavesOf, level, module_place, levels_at, piece_level, found_over};
 ghost use Rattle.mp_storage.specs.AnyModules.{any_part_of, found};
 ghost use Rattle.mp_records.specs.declared.ports.Input.{Input as Port};
-ghost use Rattle.mp_report.specs.Places.{found_over};
 
 use mp_model::{Waves, built};
 use mp_modules::{EventModule, Kind};
@@ -68,6 +67,7 @@ fn pieces(
 }
 
 /// What an input hears over the whole horizon.
+#[tactic(auto, using(crate::proofs::WaveLemmas::modules_piece_steps))]
 fn piece(
     alloc: Global,
     netlist: &Netlist,

@@ -1,7 +1,6 @@
 //! The places of a netlist, and what is found at each.
-ghost use Rattle.std.specs.Prelude.{◌≡◌, IfOk};
-ghost use Rattle.mp_report.specs.Names.{AreWavesOf, places};
-ghost use Rattle.mp_report.specs.Places.{found_over};
+ghost use Rattle.std.specs.Prelude.{◌≡◌};
+ghost use Rattle.mp_report.specs.Clauses.{IfOk, AreWavesOf, places, found_over};
 
 use crate::bundles::found_at_bundle;
 use crate::modules::found_at_module;

@@ -1,7 +1,6 @@
 //! The report of a netlist.
-ghost use Rattle.std.specs.Prelude.{◌≡◌, ◌++◌, IfOk, OnOk, map};
-ghost use Rattle.mp_report.specs.Names.{AllZip, flat_map, AreWavesOf, findings};
-ghost use Rattle.mp_report.specs.Places.{found_over, found_by_place, finding_at};
+ghost use Rattle.std.specs.Prelude.{◌≡◌, ◌++◌};
+ghost use Rattle.mp_report.specs.Clauses.{IfOk, OnOk, map, AllZip, flat_map, AreWavesOf, findings, found_over, found_by_place, finding_at};
 
 use crate::places::{found_at_place, places};
 use mp_model::{Finding, Place, Waves};

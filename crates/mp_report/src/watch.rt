@@ -10,9 +10,8 @@ pub(crate) struct Watch<'a> {
 }
 
 impl<'a> Watch<'a> {
-    ghost use Rattle.std.specs.Prelude.{◌≡◌, ℕ, ◌+◌, ◌<◌, ◌≤◌, false};
-    ghost use Rattle.mp_report.specs.Names.{Circuit, BundleRecord, changes};
-    ghost use Rattle.mp_report.specs.Ahead.{AreAhead};
+    ghost use Rattle.std.specs.Prelude.{◌≡◌, ◌+◌, ◌<◌, ◌≤◌};
+    ghost use Rattle.mp_report.specs.Clauses.{ℕ, false, Circuit, BundleRecord, changes, AreAhead};
 
     /// The time of the next change of one of the wires, or an end that comes first.
     pub(crate) fn next(self, end: u32) -> u32

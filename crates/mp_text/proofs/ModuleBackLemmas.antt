@@ -1,5 +1,6 @@
 -- The lines of modules lead where the edits of the modules lead.
-use Rattle.mp_text.proofs.Names.{◌≡◌, ℕ, ◌^◌, ◌<◌, ◌≤◌, Bool, true, false, cond, ◌==◌, List, [], ◌∷◌, ◌++◌, length, map, All, Option, Some, None, Ok, decimal, refl, sym, subst, arith, inl, inr, codes, nat_lt, IsTrue, IsSome, IfSome, option_map, list_all, cases_Bool, eqb-true, nat_tests, append-nil, All-cons, All-nil, All-map, All-append, All-get_or, All-from_get_or, All-weaker, Kind, some_input, some_output, param_bound-low, WireId, WireRecord, ModuleRecord, Input, Output, AddModule, is_name, no_input, input_at, output_at, max_delay, Circuit, IsCircuit, IsModule, IsDelay, IsInputDelay, HasWidth, wire_at, module_at, width_of, module_width, HasNames, is_mark, input_word, output_word, module_line, wire_name, delay_text, input_text, output_name, output_text, module_by_name, module_edits, input_by_name, output_by_name, IsPlain, IsPlain-append, IsPlain-decimal, IsPlain-name, both, input_back, late_input_back, no_wire_back, wire_back}
+use Rattle.std.specs.Prelude.{◌≡◌, ◌^◌, ◌<◌, ◌≤◌, ◌==◌, ◌∷◌, ◌++◌}
+use Rattle.mp_text.proofs.Names.{ℕ, Bool, true, false, cond, List, [], length, map, All, Option, Some, None, Ok, decimal, refl, arith, inl, inr, codes, nat_lt, IsTrue, IsSome, IfSome, option_map, list_all, cases_Bool, eqb-true, append-nil, All-cons, All-map, All-append, All-get_or, All-from_get_or, All-weaker, Kind, some_input, some_output, param_bound-low, WireId, WireRecord, ModuleRecord, Input, Output, added_module, is_name, input_at, output_at, max_delay, Circuit, IsCircuit, IsModule, IsDelay, HasWidth, wire_at, module_at, width_of, module_width, HasNames, input_word, output_word, module_line, wire_name, delay_text, input_text, output_name, output_text, module_edits, statement_of, Change, IsPlain, IsPlain-append, IsPlain-decimal, IsPlain-name, and_parts, input_back, late_input_back, no_wire_back, wire_back, All-passing, ltb-true}
 use Rattle.mp_modules.specs.declared.kind.Kind.TheVariants as kinds
 use Rattle.mp_modules.specs.Kinds.{word_of, param_bound, param_count, are_params, has_width, output_width}
 use Rattle.mp_text.proofs.StatementBackLemmas.{name_no_greater, module_stated}
@@ -8,29 +9,24 @@ use Rattle.mp_text.proofs.RecordBackLemmas.{wire_named}
 
 -- the word of a kind
 IsPlain-kind : (kind : Kind) → IsPlain (word_of kind)
-IsPlain-kind kinds.Buf = record { some = omega arith; plain = refl }
-IsPlain-kind _ = record { some = omega arith; plain = refl }
-
-below_low : (bound : ℕ) → bound ≤ 2 ^ 64 → (params : List ℕ) → list_all (λ param. nat_lt param bound) params ≡ true → All (λ p. p < 2 ^ 64) params
-below_low bound low [] all = All-nil (λ p. p < 2 ^ 64)
-below_low bound low (param ∷ params) all =
-    let parts = both (nat_lt param bound) (list_all (λ param. nat_lt param bound) params) all in
-    let first = parts.0 in
-    let below : param < bound = grind (arith, nat_tests) in
-    All-cons (λ p. p < 2 ^ 64) param params (omega (arith, below, low)) (below_low bound low params parts.1)
+IsPlain-kind kinds.Buf = grind arith
+IsPlain-kind _ = grind arith
 
 params_low : (kind : Kind) (width : ℕ) (params : List ℕ) → width ≤ 64 → IsTrue (are_params kind width params) → All (λ p. p < 2 ^ 64) params
 unfolding are_params
 params_low kind width params narrow ok =
-    below_low (param_bound kind width) (param_bound-low kind width narrow) params (both (length params == param_count kind) (list_all (λ param. nat_lt param (param_bound kind width)) params) ok).1
+    let bound = param_bound kind width in
+    let high = param_bound-low kind width narrow in
+    let below = (and_parts (length params == param_count kind) (list_all (λ param. nat_lt param bound) params) ok).1 in
+    All-passing (λ param. nat_lt param bound) (λ p. p < 2 ^ 64) (λ param is. let less = ltb-true param bound is in omega (arith, less, high)) params below
 
 -- a wire that stands, if any
 abbrev Stands : Circuit → Option WireId → Type 0
 Stands n wire = IfSome wire (λ w. IsSome (wire_at n w.0))
 
 wide : (n : Circuit) (r : ModuleRecord) (p : ℕ) (wire : Option WireId) → IfSome wire (λ w. HasWidth n w.0 (output_width r.kind (module_width n r) p)) → Stands n wire
-wide n r p None ok = ok
-wide n r p (Some w) ok = ok.0
+wide n r p None ok = grind arith
+wide n r p (Some w) ok = grind arith
 
 module _ (n : Circuit) (circuit : IsCircuit n) (named : HasNames n) where
   slot_narrow : (w : ℕ) (slot : Option WireRecord) → wire_at n w ≡ slot → width_of slot ≤ 64
@@ -38,15 +34,13 @@ module _ (n : Circuit) (circuit : IsCircuit n) (named : HasNames n) where
   slot_narrow w (Some r) at = (circuit.wires_ok w r at).narrow
 
   module_narrow : (b : Bool) (w : ℕ) → cond b (width_of (wire_at n w)) 1 ≤ 64
-  module_narrow true w = slot_narrow w (wire_at n w) refl
-  module_narrow false w = omega arith
+  module_narrow true w = grind (arith, slot_narrow)
+  module_narrow false w = grind arith
 
   output_back : (wire : Option WireId) (delay : ℕ) → delay ≤ max_delay → Stands n wire
       → output_word (output_name n wire ++ (47 ∷ decimal delay)) ≡ Ok (record { wire = option_map (wire_name n) wire; delay = delay })
-  output_back None delay low stands = no_wire_back delay (omega (arith, low))
-  output_back (Some w) delay low stands =
-      let name = wire_named n circuit named w stands in
-      wire_back (wire_name n w) delay name (IsPlain-name (wire_name n w) name).some (omega (arith, low))
+  output_back None delay low stands = grind (arith, no_wire_back)
+  output_back (Some w) delay low stands = grind (arith, wire_named, wire_back, IsPlain-name)
 
   output_plain : (wire : Option WireId) (delay : ℕ) → delay ≤ max_delay → Stands n wire → IsPlain (output_name n wire ++ (47 ∷ decimal delay))
   output_plain wire delay low stands =
@@ -59,11 +53,7 @@ module _ (n : Circuit) (circuit : IsCircuit n) (named : HasNames n) where
 
   -- a name, with a delay behind it where there is one
   named_back : (name : List ℕ) (delay : ℕ) → is_name name ≡ true → delay ≤ max_delay → input_word (name ++ delay_text delay) ≡ Ok (record { wire = name; delay = delay })
-  named_back name delay valid low =
-      elim (cases_Bool (delay == 0)) as (λ _. input_word (name ++ delay_text delay) ≡ Ok (record { wire = name; delay = delay })) [
-        | inl none ↦ let zero = eqb-true delay 0 none in rw zero (rw append-nil (input_back name valid))
-        | inr some ↦ rw some (late_input_back name delay (IsPlain-name name valid).some (omega (arith, low)))
-      ]
+  named_back name delay valid low = grind (arith, cases_Bool, eqb-true, append-nil, input_back, late_input_back, IsPlain-name)
 
   named_plain : (name : List ℕ) (delay : ℕ) → is_name name ≡ true → delay ≤ max_delay → IsPlain (name ++ delay_text delay)
   named_plain name delay valid low =
@@ -91,45 +81,32 @@ module _ (n : Circuit) (circuit : IsCircuit n) (named : HasNames n) where
     abbrev output_words : List (List ℕ)
     output_words = map (output_text n) r.outputs
 
+    abbrev behind_colon : List (List ℕ)
+    behind_colon = input_words ++ (codes ">" ∷ output_words)
+
     params_ok : All (λ p. p < 2 ^ 64) r.params
     params_ok = params_low r.kind (module_width n r) r.params (module_narrow (has_width r.kind) (input_at r 0).wire.0) ok.params
 
     inputs_ok : All IsInput r.inputs
-    inputs_ok = All-from_get_or IsInput r.inputs no_input
-        (λ p within. (wire_named n circuit named (input_at r p).wire (ok.reads p no_input within).0, All-get_or (λ i. IsInputDelay i.delay) r.inputs p no_input within ok.input_delays))
+    inputs_ok = grind (arith, All-from_get_or, wire_named, All-get_or)
 
     outputs_ok : All IsOutput r.outputs
     outputs_ok = All-from_get_or IsOutput r.outputs (record { wire = None; delay = 1 })
         (λ p within. ((All-get_or (λ o. IsDelay o.delay) r.outputs p (record { wire = None; delay = 1 }) within ok.delays).1, wide n r p (output_at r p).wire (ok.drives p)))
 
-    plain_words : All IsPlain (r.name ∷ word_of r.kind ∷ (params_words ++ (codes ":" ∷ (input_words ++ (codes ">" ∷ output_words)))))
+    plain_words : All IsPlain (r.name ∷ word_of r.kind ∷ (params_words ++ (codes ":" ∷ behind_colon)))
     plain_words =
         let outs = All-map IsPlain (output_text n) r.outputs (All-weaker IsOutput (λ o. IsPlain (output_text n o)) (λ o low. output_plain o.wire o.delay low.0 low.1) r.outputs outputs_ok) in
         let ins = All-map IsPlain (input_text n) r.inputs (All-weaker IsInput (λ i. IsPlain (input_text n i)) (λ i is. named_plain (wire_name n i.wire) i.delay is.0 is.1) r.inputs inputs_ok) in
         let numbers = All-map IsPlain decimal r.params (All-weaker (λ p. p < 2 ^ 64) (λ p. IsPlain (decimal p)) IsPlain-decimal r.params params_ok) in
         let back = All-append IsPlain input_words (codes ">" ∷ output_words) ins (All-cons IsPlain (codes ">") output_words (record { some = omega arith; plain = refl }) outs) in
-        let rest = All-append IsPlain params_words (codes ":" ∷ (input_words ++ (codes ">" ∷ output_words))) numbers
-        (All-cons IsPlain (codes ":") (input_words ++ (codes ">" ∷ output_words)) (record { some = omega arith; plain = refl }) back) in
-        All-cons IsPlain r.name (word_of r.kind ∷ (params_words ++ (codes ":" ∷ (input_words ++ (codes ">" ∷ output_words))))) (IsPlain-name r.name (named.modules m r at))
-        (All-cons IsPlain (word_of r.kind) (params_words ++ (codes ":" ∷ (input_words ++ (codes ">" ∷ output_words)))) (IsPlain-kind r.kind) rest)
+        let rest = All-append IsPlain params_words (codes ":" ∷ behind_colon) numbers (All-cons IsPlain (codes ":") behind_colon (record { some = omega arith; plain = refl }) back) in
+        All-cons IsPlain r.name (word_of r.kind ∷ (params_words ++ (codes ":" ∷ behind_colon))) (IsPlain-name r.name (named.modules m r at)) (All-cons IsPlain (word_of r.kind) (params_words ++ (codes ":" ∷ behind_colon)) (IsPlain-kind r.kind) rest)
 
-    module_leads : SlotLeads (module_line n) (module_edits n) (Some r)
-    module_leads =
-        let outs = All-weaker IsOutput (λ o. output_word (output_text n o) ≡ Ok (output_by_name n o)) (λ o low. output_back o.wire o.delay low.0 low.1) r.outputs outputs_ok in
-        let some_inputs : 0 < length r.inputs = subst (λ k. 0 < k) (sym ok.inputs) (some_input r.kind) in
-        let some_outputs : 0 < length r.outputs = subst (λ k. 0 < k) (sym ok.outputs) (some_output r.kind) in
-        let unmarked = All-weaker IsInput (λ i. is_mark 62 (input_text n i) ≡ false) (λ i is. name_no_greater (wire_name n i.wire) (delay_text i.delay) is.0) r.inputs inputs_ok in
-        let heard = All-weaker IsInput (λ i. input_word (input_text n i) ≡ Ok (input_by_name n i)) (λ i is. named_back (wire_name n i.wire) i.delay is.0 is.1) r.inputs inputs_ok in
-        let stated = module_stated r.name r.kind r.params r.inputs r.outputs (input_text n) (input_by_name n) (output_text n) (output_by_name n) params_ok unmarked heard outs some_inputs some_outputs in
-        let first : IsPlain (codes "module") = record { some = omega arith; plain = refl } in
-        record {
-          each = leads_line (codes "module") (r.name ∷ word_of r.kind ∷ (params_words ++ (codes ":" ∷ (input_words ++ (codes ">" ∷ output_words)))))
-              (AddModule (module_by_name n r)) first plain_words stated;
-        }
+    module_again : statement_of (codes "module" ∷ r.name ∷ word_of r.kind ∷ (params_words ++ (codes ":" ∷ behind_colon))) ≡ Change (Ok (added_module n r))
+    module_again = grind (arith, All-weaker, output_back, outputs_ok, some_input, some_output, name_no_greater, inputs_ok, named_back, module_stated, params_ok)
 
-  module_slot : (m : ℕ) (slot : Option ModuleRecord) → module_at n m ≡ slot → SlotLeads (module_line n) (module_edits n) slot
-  module_slot m None at = record { each = λ bytes edits rest. rest }
-  module_slot m (Some r) at = module_leads m r at (circuit.modules_ok m r at)
-
-  pub module_slots : All (SlotLeads (module_line n) (module_edits n)) n.modules
-  module_slots = All-from_get_or (SlotLeads (module_line n) (module_edits n)) n.modules None (λ m within. module_slot m (module_at n m) refl)
+  pub module_leads : (m : ℕ) (r : ModuleRecord) → module_at n m ≡ Some r → SlotLeads (module_line n) (module_edits n) (Some r)
+  module_leads m r at = record {
+    each = leads_line (codes "module") (r.name ∷ word_of r.kind ∷ (map decimal r.params ++ (codes ":" ∷ (map (input_text n) r.inputs ++ (codes ">" ∷ map (output_text n) r.outputs))))) (added_module n r) (record { some = omega arith; plain = refl }) (plain_words m r at (circuit.modules_ok m r at)) (module_again m r at (circuit.modules_ok m r at));
+  }

@@ -1,10 +1,9 @@
 -- The edits of a netlist's modules, once its wires are added, are not refused.
-use Rattle.mp_text.proofs.Names.{◌≡◌, ℕ, ◌<◌, ◌≤◌, true, ◌==◌, cond, List, [], ◌∷◌, ◌++◌, length, map, get_or, All, Option, Some, None, Ok, option_map, is_none, refl, sym, ap, subst, ◌∙◌, arith, length-append, nat_le, IsSome, IfSome, slice_index_or, flat_map, list_all, eq-eqb, lt-ltb, nat_tests, append-nil, get_or_at, get_or_append_left, get_or-map, length-map, length_push, flat_map-append, All-cons, All-nil, All-head, All-tail, All-map, All-weaker, All-from_get_or, input_count, output_count, has_width, input_width, output_width, are_params, WireId, WireRecord, ModuleRecord, Input, Output, InputName, OutputName, no_input, output_in, max_delay, Circuit, IsCircuit, IsModule, IsDelay, IsInputDelay, HasWidth, Drives, wire_at, module_at, width_of, module_width, HasNames, no_name, some_input, wire_name, module_by_name, module_edits, input_by_name, output_by_name}
-use Rattle.mp_netlist.specs.Limits.{module_limit}
-use Rattle.mp_netlist.specs.Edits.{refusal, edited, after_single, stands, wire_id, width_named, is_undriven, is_delay, is_input_delay, delays_fit, driven_names, are_distinct, first_width, new_width, inputs_stand, inputs_fit, output_fits, outputs_fit, module_checks, input_of, output_of, new_module, without_stimulus}
-use Rattle.mp_text.proofs.SlotLemmas.{All-flat_map, All-from_flat_map, list_all_from, Unnamed, named_nowhere, front_unnamed}
-use Rattle.mp_text.proofs.StageLemmas.{none_failing, and_both, is_done, Reaches, Reaches-none, Reaches-one, Steps, stage}
-use Rattle.mp_text.proofs.OutputLemmas.{output_named, is_output, added, DrivesNone, AddsNone, undriven_by_name, drives_none, is_nothing_driven, driven_all, driven_distinct, counted_all}
+use Rattle.std.specs.Prelude.{◌≡◌, ◌<◌, ◌≤◌, ◌==◌, ◌∷◌, ◌++◌}
+use Rattle.mp_text.proofs.Names.{added_module, ℕ, true, List, [], length, map, get_or, All, Option, Some, None, Ok, option_map, is_none, refl, sym, ap, subst, ◌∙◌, arith, length-append, nat_le, IsSome, IfSome, slice_index_or, flat_map, list_all, eq-eqb, lt-ltb, nat_tests, get_or_at, get_or_append_left, get_or-map, length-map, All-head, All-tail, All-map, All-weaker, All-from_get_or, input_count, output_count, input_width, output_width, are_params, WireId, ModuleRecord, Input, Output, InputName, OutputName, no_input, output_in, max_delay, Circuit, IsCircuit, IsModule, IsDelay, IsInputDelay, HasWidth, Drives, wire_at, module_at, width_of, module_width, HasNames, no_name, some_input, wire_name, module_by_name, module_edits, input_by_name, output_by_name, list_all-from_AllPass, and_from, refusal, edited, after_single, stands, wire_id, width_named, is_undriven, is_delay, is_input_delay, delays_fit, driven_names, are_distinct, first_width, new_width, inputs_stand, inputs_fit, output_fits, outputs_fit, module_checks, input_of, output_of, new_module, without_stimulus, module_limit}
+use Rattle.mp_text.proofs.SlotLemmas.{Unnamed, named_nowhere, front_unnamed}
+use Rattle.mp_text.proofs.StageLemmas.{none_failing, is_done, Reaches, Added, AddsOne, added_reached, unnamed_again}
+use Rattle.mp_text.proofs.OutputLemmas.{output_named, is_output, DrivesNone, undriven_by_name, drives_none, is_nothing_driven, driven_all, driven_distinct, counted_all}
 use Rattle.mp_text.proofs.WireStageLemmas.{bare, bare_unset, made, HasWires, HasWires-compact, IsBack, is_back, same_wire}
 
 abbrev module_name : ModuleRecord → List ℕ
@@ -19,12 +18,7 @@ map_back g a b (x ∷ xs) all =
     rw (head, rest) refl
 
 is_low_delay : (d : ℕ) → IsDelay d → is_delay d ≡ true
-is_low_delay d low =
-    let some = low.0 in
-    let most = low.1 in
-    let one : nat_le 1 d ≡ true = grind (arith, nat_tests) in
-    let short : nat_le d max_delay ≡ true = grind (arith, nat_tests) in
-    and_both (nat_le 1 d) (nat_le d max_delay) one short
+is_low_delay d low = grind (arith, nat_tests, and_from)
 
 is_low_input_delay : (d : ℕ) → IsInputDelay d → is_input_delay d ≡ true
 is_low_input_delay d most = let short : nat_le d max_delay ≡ true = grind (arith, nat_tests) in short
@@ -44,17 +38,15 @@ module _ (n c : Circuit) (has : HasWires n c) (r : ModuleRecord) (is : IsModule 
   input_back p within = is_back n c has (get_or r.inputs p no_input).wire (is.reads p no_input within).0
 
   width_first : (inputs : List Input) → 0 < length inputs → (0 < length inputs → IsBack n c (get_or inputs 0 no_input).wire) → first_width c (map (input_by_name n) inputs) ≡ width_of (wire_at n (slice_index_or inputs 0 no_input).wire.0)
-  width_first [] some back = absurd (omega (arith, some))
-  width_first (i ∷ is) some back = (back some).width
+  width_first [] some back = grind (arith, nat_tests)
+  width_first (i ∷ is) some back = grind (arith, nat_tests)
 
   pub width_same : new_width c r.kind input_names ≡ module_width n r
-  width_same =
-      let some : 0 < length r.inputs = omega (arith, is.inputs, some_input r.kind) in
-      ap (λ width. cond (has_width r.kind) width 1) (width_first r.inputs some (input_back 0))
+  width_same = grind (arith, nat_tests, some_input, width_first, input_back)
 
   pub inputs_found : inputs_stand c input_names ≡ true
   inputs_found =
-      list_all_from (λ (i : InputName). stands c i.wire) input_names
+      list_all-from_AllPass (λ (i : InputName). stands c i.wire) input_names
       (All-map (λ (i : InputName). stands c i.wire ≡ true) (input_by_name n) r.inputs (All-from_get_or (λ i. stands c (wire_name n i.wire) ≡ true) r.inputs no_input (λ p within. (input_back p within).found)))
 
   pub inputs_wide : inputs_fit c r.kind (new_width c r.kind input_names) input_names ≡ true
@@ -95,16 +87,16 @@ module _ (n c : Circuit) (has : HasWires n c) (r : ModuleRecord) (is : IsModule 
 
   inputs_low : list_all (λ (i : InputName). is_input_delay i.delay) input_names ≡ true
   inputs_low =
-      list_all_from (λ (i : InputName). is_input_delay i.delay) input_names (All-map (λ (i : InputName). is_input_delay i.delay ≡ true) (input_by_name n) r.inputs
+      list_all-from_AllPass (λ (i : InputName). is_input_delay i.delay) input_names (All-map (λ (i : InputName). is_input_delay i.delay ≡ true) (input_by_name n) r.inputs
       (All-weaker (λ (i : Input). IsInputDelay i.delay) (λ (i : Input). is_input_delay i.delay ≡ true) (λ i low. is_low_input_delay i.delay low) r.inputs is.input_delays))
 
   outputs_low : list_all (λ (o : OutputName). is_delay o.delay) output_names ≡ true
   outputs_low =
-      list_all_from (λ (o : OutputName). is_delay o.delay) output_names (All-map (λ (o : OutputName). is_delay o.delay ≡ true) (output_by_name n) r.outputs
+      list_all-from_AllPass (λ (o : OutputName). is_delay o.delay) output_names (All-map (λ (o : OutputName). is_delay o.delay ≡ true) (output_by_name n) r.outputs
       (All-weaker (λ (o : Output). IsDelay o.delay) (λ (o : Output). is_delay o.delay ≡ true) (λ o low. is_low_delay o.delay low) r.outputs is.delays))
 
   pub delays_low : delays_fit input_names output_names ≡ true
-  delays_low = and_both (list_all (λ (i : InputName). is_input_delay i.delay) input_names) (list_all (λ (o : OutputName). is_delay o.delay) output_names) inputs_low outputs_low
+  delays_low = and_from (list_all (λ (i : InputName). is_input_delay i.delay) input_names) (list_all (λ (o : OutputName). is_delay o.delay) output_names) inputs_low outputs_low
 
   -- the ports of the new module have the names of the old one's
   abbrev heard_as : ℕ → List ℕ → InputName
@@ -130,7 +122,7 @@ module _ (n c : Circuit) (has : HasWires n c) (r : ModuleRecord) (is : IsModule 
       (All-from_get_or (λ o. output_by_name c (output_of c (output_by_name n o)) ≡ output_by_name n o) r.outputs (record { wire = None; delay = 1 })
       (λ p within. output_again (output_in r.outputs p).delay p (output_in r.outputs p).wire refl))
 
-  pub added_again : added c (new_module c (module_by_name n r)) ≡ added n r
+  pub added_again : added_module c (new_module c (module_by_name n r)) ≡ added_module n r
   added_again = rw (inputs_again, outputs_again) refl
 
 module _ (n : Circuit) (circuit : IsCircuit n) (named : HasNames n) where
@@ -150,9 +142,6 @@ module _ (n : Circuit) (circuit : IsCircuit n) (named : HasNames n) where
       let second : Drives n k q v.0 = record { part = s; stands = there; output = other } in
       circuit.one_port m p k q w.0 first (subst (Drives n k q) (sym wires) second)
 
-  abbrev bares : List (Option WireRecord)
-  bares = flat_map bare n.wires
-
   -- the netlist with these modules at wires on which nothing is set
   abbrev pub moduled : List (Option ModuleRecord) → Circuit
   moduled modules = made n (flat_map bare n.wires) modules []
@@ -161,11 +150,8 @@ module _ (n : Circuit) (circuit : IsCircuit n) (named : HasNames n) where
   has_wires modules = HasWires-compact n circuit named without_stimulus (λ r. refl) (λ r. refl) (moduled modules) refl
 
   -- the modules of the front are added
-  pub record AtModules (front back : List (Option ModuleRecord)) (c : Circuit) : Type 0 where
-    pub modules : List (Option ModuleRecord)
-    pub is : c ≡ moduled modules
-    pub same : flat_map (module_edits (moduled [])) modules ≡ flat_map (module_edits n) front
-    pub few : length modules ≤ length front
+  abbrev pub AtModules : List (Option ModuleRecord) → List (Option ModuleRecord) → Circuit → Type 0
+  AtModules = Added n.modules (added_module n) (added_module (moduled [])) moduled
 
   module _ (front back : List (Option ModuleRecord)) (r : ModuleRecord) (split : n.modules ≡ front ++ Some r ∷ back) (modules : List (Option ModuleRecord))
       (same : flat_map (module_edits (moduled [])) modules ≡ flat_map (module_edits n) front) (few : length modules ≤ length front) where
@@ -197,66 +183,36 @@ module _ (n : Circuit) (circuit : IsCircuit n) (named : HasNames n) where
         let b = is_output n r.outputs q name second in
         (one_name (length front) p (length front) q r r a.wire b.wire at a.drives at b.drives (a.name ∙ sym b.name)).1
 
-    front_adds : (slot : Option ModuleRecord) → Unnamed module_name r.name slot → All (AddsNone r.name) (module_edits n slot)
-    front_adds None none = All-nil (AddsNone r.name)
-    front_adds (Some s) none = All-cons (AddsNone r.name) (added n s) [] none (All-nil (AddsNone r.name))
-
-    slot_adds : (slot : Option ModuleRecord) → All (AddsNone r.name) (module_edits c slot) → Unnamed module_name r.name slot
-    slot_adds None none = refl
-    slot_adds (Some s) none = All-head (AddsNone r.name) (added c s) [] none
-
     unnamed : All (Unnamed module_name r.name) modules
     unnamed =
-        let old = front_unnamed module_name n.modules front back r named.one_module split in
-        let adds = All-flat_map (AddsNone r.name) (module_edits n) front (All-weaker (Unnamed module_name r.name) (λ slot. All (AddsNone r.name) (module_edits n slot)) front_adds front old) in
-        let now = subst (All (AddsNone r.name)) (sym same) adds in
-        All-weaker (λ slot. All (AddsNone r.name) (module_edits c slot)) (Unnamed module_name r.name) slot_adds modules (All-from_flat_map (AddsNone r.name) (module_edits c) modules now)
+        unnamed_again n.modules (added_module n) (added_module c) moduled module_name r.name (λ s none. none) (λ s none. none) front modules same
+        (front_unnamed module_name n.modules front back r named.one_module split)
 
     abbrev new : ModuleRecord
     new = new_module c (module_by_name n r)
 
-    module_done : after_single c (added n r) ≡ Ok (moduled (modules ++ Some new ∷ []))
+    module_done : after_single c (added_module n r) ≡ Ok (moduled (modules ++ Some new ∷ []))
     unfolding refusal edited
     module_done =
         let inputs = map (input_by_name n) r.inputs in
         let outputs = map (output_by_name n) r.outputs in
         let has = has_wires modules in
         let free = ap is_none (named_nowhere module_name r.name modules unnamed) in
-        let counts = and_both (length inputs == input_count r.kind) (length outputs == output_count r.kind)
+        let counts = and_from (length inputs == input_count r.kind) (length outputs == output_count r.kind)
         (eq-eqb _ _ (length-map r.inputs (input_by_name n) ∙ is.inputs)) (eq-eqb _ _ (length-map r.outputs (output_by_name n) ∙ is.outputs)) in
-        let found = and_both (inputs_stand c inputs) (list_all (stands c) (driven_names outputs)) (inputs_found n c has r is) (outputs_found n c has r is) in
+        let found = and_from (inputs_stand c inputs) (list_all (stands c) (driven_names outputs)) (inputs_found n c has r is) (outputs_found n c has r is) in
         let width = new_width c r.kind inputs in
-        let wide = and_both (inputs_fit c r.kind width inputs) (outputs_fit c r.kind width outputs) (inputs_wide n c has r is) (outputs_wide n c has r is) in
-        let free_outputs = and_both (list_all (is_undriven c) (driven_names outputs)) (are_distinct (driven_names outputs)) (driven_all (is_undriven c) outputs undriven) (driven_distinct outputs distinct) in
+        let wide = and_from (inputs_fit c r.kind width inputs) (outputs_fit c r.kind width outputs) (inputs_wide n c has r is) (outputs_wide n c has r is) in
+        let free_outputs = and_from (list_all (is_undriven c) (driven_names outputs)) (are_distinct (driven_names outputs)) (driven_all (is_undriven c) outputs undriven) (driven_distinct outputs distinct) in
         let within : length front < module_limit n.format = omega (arith, ap length split, length-append front (Some r ∷ back), circuit.modules_few) in
         let room = lt-ltb (length modules) (module_limit n.format) (omega (arith, few)) in
-        is_done c (added n r)
+        is_done c (added_module n r)
         (none_failing (module_checks c (module_by_name n r))
         (named.modules (length front) r at, (free, (counts, (found, (wide, (params_ranged n c has r is, (delays_low n c has r is, (free_outputs, (room, tt))))))))))
 
-    same_more : flat_map (module_edits (moduled [])) (modules ++ Some new ∷ []) ≡ flat_map (module_edits n) (front ++ Some r ∷ [])
-    same_more =
-        flat_map-append (module_edits (moduled [])) modules (Some new ∷ [])
-        ∙ ap (λ edits. edits ++ added c new ∷ []) same
-        ∙ ap (λ edit. flat_map (module_edits n) front ++ edit ∷ []) (added_again n c (has_wires modules) r is)
-        ∙ sym (flat_map-append (module_edits n) front (Some r ∷ []))
-
-    module_reached : Reaches (AtModules (front ++ Some r ∷ []) back) c (module_edits n (Some r))
-    module_reached =
-        Reaches-one (AtModules (front ++ Some r ∷ []) back) c (moduled (modules ++ Some new ∷ [])) (added n r) module_done
-        (record { modules = modules ++ Some new ∷ []; is = refl; same = same_more; few = omega (arith, few, length_push modules (Some new), length_push front (Some r)) })
-
-  module_step : Steps n.modules (module_edits n) AtModules
-  module_step front back None split d so =
-      Reaches-none (AtModules (front ++ None ∷ []) back) d (record {
-        modules = so.modules;
-        is = so.is;
-        same = so.same ∙ sym (flat_map-append (module_edits n) front (None ∷ []) ∙ append-nil (flat_map (module_edits n) front));
-        few = (let none : Option ModuleRecord = None in omega (arith, so.few, length_push front none));
-      })
-  module_step front back (Some r) split d so =
-      subst (λ e. Reaches (AtModules (front ++ Some r ∷ []) back) e (module_edits n (Some r))) (sym so.is) (module_reached front back r split so.modules so.same so.few)
+    module_added : AddsOne n.modules (added_module n) (added_module (moduled [])) moduled r modules
+    module_added = record { new = new; done = module_done; same = added_again n c (has_wires modules) r is }
 
   -- the modules are added
   pub modules_reached : Reaches (AtModules n.modules []) (moduled []) (flat_map (module_edits n) n.modules)
-  modules_reached = stage n.modules (module_edits n) AtModules module_step n.modules [] refl (moduled []) (record { modules = []; is = refl; same = refl; few = omega arith })
+  modules_reached = added_reached n.modules (added_module n) (added_module (moduled [])) moduled module_added

@@ -1,17 +1,9 @@
 -- The netlist of a text is a replay.
-use Rattle.mp_text.proofs.Names.{◌≡◌, ℕ, ◌+◌, Bool, true, false, cond, List, [], ◌∷◌, map, Result, Ok, Err, length, refl, ap, ◌∙◌, nat_le, ◌&&◌, result_map_both, filter_map, list_all, SingleEdit, EditError, Circuit, empty_circuit, after_single, go_on, replay, replay_singles, NotAscii, BadNumber, Line, Refused, TextCode, First, TextState, Fresh, Formatted, Open, ◌>>=◌, TextError, lines_of, is_allowed, words_of, Statement, Blank, Unknown, Format, Start, Change, statement_of, sym, subst, eqb-true, Second}
-use Rattle.std.specs.Prelude.{◌==◌, if◌then◌else◌}
+use Rattle.mp_text.proofs.Names.{ℕ, Bool, true, false, cond, List, [], map, Result, Ok, Err, length, refl, ap, ◌∙◌, nat_le, result_map_both, filter_map, list_all, SingleEdit, EditError, Circuit, empty_circuit, after_single, go_on, replay, replay_singles, NotAscii, BadNumber, Line, Refused, TextCode, First, TextState, Fresh, Formatted, Open, ◌>>=◌, TextError, lines_of, is_allowed, words_of, Statement, Blank, Unknown, Format, Start, Change, statement_of, in_text, text_at, after_lines, after_line, after_statement, formatted, next_line, sym, subst, Second, Standard, Large, BadFormat, Third, netlist_format, text_limit, TextFormat, format_of, max_horizon_of, eqb-true}
+use Rattle.std.specs.Prelude.{◌≡◌, ◌+◌, ◌∷◌, ◌&&◌, if◌then◌else◌, ◌==◌}
 use Rattle.mp_netlist.specs.declared.format.Format.{Format as NetlistFormat}
-use Rattle.mp_netlist.specs.declared.format.Format.TheVariants.{Standard, Large}
-use Rattle.mp_text.specs.declared.text_code.TextCode.TheVariants.{BadFormat}
-use Rattle.mp_text.specs.declared.text_format.TextFormat.TheVariants.{Third}
-use Rattle.mp_text.specs.Formats.{netlist_format}
-use Rattle.mp_text.specs.Sizes.{text_limit}
 use Rattle.mp_text.specs.Laws.{format_by}
 use Rattle.mp_records.specs.declared.edit.Edit.TheVariants.{Single}
-use Rattle.mp_text.specs.declared.text_format.TextFormat.{TextFormat}
-use Rattle.mp_text.specs.Formats.{format_of, max_horizon_of}
-use Rattle.mp_text.specs.Texts.{in_text, text_at, after_lines, after_line, after_statement, formatted, next_line}
 use Rattle.mp_text.specs.Laws.{horizon_of, edit_of, statements, IsReplayed, IsReplay}
 
 -- the lines state no horizon, and lead from one netlist to the other by their edits

@@ -1,20 +1,13 @@
 -- The text of a netlist is read as the edits of its records.
-use Rattle.mp_text.proofs.Names.{◌≡◌, ℕ, ◌+◌, ◌≤◌, List, [], ◌∷◌, ◌++◌, length, All, Ok, Bool, true, false, cond, decimal, refl, sym, ap, subst, ◌∙◌, arith, codes, nat_le, nat_tests, flat_map, append-nil, All-cons, All-nil, Circuit, IsCircuit, empty_circuit, HasNames, lines_of, wire_edits, module_edits, stimulus_edits, bundle_edits, edits_by_name, IsReadAs, IsReadAsWritten, IsPlain, IsPlain-decimal, max_first_horizon, Start, Second, TextState, Fresh, Formatted, Open, ◌⊎◌, inl, inr, statement_of}
+use Rattle.std.specs.Prelude.{◌≡◌, ◌+◌, ◌≤◌, ◌∷◌, ◌++◌}
+use Rattle.mp_text.proofs.Names.{ℕ, List, [], length, All, Ok, Bool, true, false, cond, decimal, refl, sym, ap, subst, ◌∙◌, arith, codes, nat_le, nat_tests, flat_map, append-nil, All-cons, All-nil, SingleEdit, Circuit, IsCircuit, empty_circuit, HasNames, lines_of, wire_edits, module_edits, stimulus_edits, bundle_edits, edits_by_name, IsReadAs, IsReadAsWritten, IsPlain, IsPlain-decimal, max_first_horizon, Start, Second, TextState, Fresh, Formatted, Open, after_statement, after_lines, next_line, written, written_line, format_line, horizon_line, wire_line, module_line, stimulus_line, bundle_line, statement_of, Standard, Large, horizon_limit, horizon_within, netlist_format, max_horizon_of, text_limit, TextFormat, Third}
 use Rattle.mp_netlist.specs.declared.format.Format.{Format as NetlistFormat}
-use Rattle.mp_netlist.specs.declared.format.Format.TheVariants.{Standard, Large}
-use Rattle.mp_netlist.specs.Limits.{horizon_limit}
-use Rattle.mp_netlist.proofs.LimitLemmas.{horizon_within}
-use Rattle.mp_text.specs.Formats.{netlist_format, max_horizon_of}
-use Rattle.mp_text.specs.Sizes.{text_limit}
-use Rattle.mp_text.specs.declared.text_format.TextFormat.{TextFormat}
-use Rattle.mp_text.specs.declared.text_format.TextFormat.TheVariants.{Third}
-use Rattle.mp_text.specs.Texts.{after_statement, after_lines, next_line}
-use Rattle.mp_text.specs.Written.{written, written_line, format_line, horizon_line, wire_line, module_line, stimulus_line, bundle_line}
 use Rattle.mp_text.proofs.WrittenLineLemmas.{lines_of-written}
-use Rattle.mp_text.proofs.StatementBackLemmas.{second_stated, third_stated, horizon_stated}
+use Rattle.mp_words.specs.Numbers.{spelled_number, number_from}
+use Rattle.mp_text.proofs.StatementBackLemmas.{horizon_stated}
 use Rattle.mp_text.proofs.TextBackLemmas.{Leads, leads_nowhere, leads_slots, line_stated}
-use Rattle.mp_text.proofs.RecordBackLemmas.{wire_slots, stimulus_slots, bundle_slots}
-use Rattle.mp_text.proofs.ModuleBackLemmas.{module_slots}
+use Rattle.mp_text.proofs.RecordBackLemmas.{wire_leads, stimulus_leads, bundle_leads}
+use Rattle.mp_text.proofs.ModuleBackLemmas.{module_leads}
 use Rattle.mp_text.proofs.SameRecordLemmas.{made_again}
 use Rattle.mp_text.proofs.TextLemmas.{text_within}
 
@@ -26,10 +19,7 @@ opens_short h low most = let one : nat_le 1 h ≡ true = grind (arith, nat_tests
 -- a horizon that a text of that form may state
 opens_formatted : (form : TextFormat) (h : ℕ) → 1 ≤ h → h ≤ max_horizon_of form → after_statement (Formatted form) (Start (Ok h)) ≡ Ok (Open (empty_circuit (netlist_format form) h))
 unfolding after_statement
-opens_formatted form h low high =
-    let one : nat_le 1 h ≡ true = grind (arith, nat_tests) in
-    let most : nat_le h (max_horizon_of form) ≡ true = grind (arith, nat_tests) in
-    rw (one, most) refl
+opens_formatted form h low high = grind (arith, nat_tests)
 
 -- the line of a form
 format_begins : (digit : List ℕ) (form : TextFormat) (rest : List ℕ) → IsPlain digit → after_statement Fresh (statement_of (codes "format" ∷ digit ∷ [])) ≡ Ok (Formatted form)
@@ -44,12 +34,12 @@ format_begins digit form rest number formed =
     ∙ ap (next_line 0 (λ after. after_lines (0 + 1) after (lines_of rest))) line
 
 second_formed : after_statement Fresh (statement_of (codes "format" ∷ codes "2" ∷ [])) ≡ Ok (Formatted Second)
-unfolding after_statement
-second_formed = rw second_stated refl
+unfolding after_statement statement_of spelled_number number_from
+second_formed = refl
 
 third_formed : after_statement Fresh (statement_of (codes "format" ∷ codes "3" ∷ [])) ≡ Ok (Formatted Third)
-unfolding after_statement
-third_formed = rw third_stated refl
+unfolding after_statement statement_of spelled_number number_from
+third_formed = refl
 
 module _ (n : Circuit) (circuit : IsCircuit n) (named : HasNames n) where
   -- the lines of the records
@@ -58,14 +48,15 @@ module _ (n : Circuit) (circuit : IsCircuit n) (named : HasNames n) where
 
   records_lead : Leads record_lines (edits_by_name n)
   records_lead =
+      let none = λ (bytes : List ℕ) (edits : List SingleEdit) (rest : Leads bytes edits). rest in
       let bundle_bytes = flat_map (bundle_line n) n.bundles in
       let bundle_changes = flat_map (bundle_edits n) n.bundles in
-      let nil = leads_slots (bundle_line n) (bundle_edits n) n.bundles [] [] (bundle_slots n circuit named) leads_nowhere in
+      let nil = leads_slots (bundle_line n) (bundle_edits n) n.bundles [] [] (record { each = none }) (bundle_leads n circuit named) leads_nowhere in
       let bundles = subst (λ bs. Leads bs bundle_changes) (append-nil bundle_bytes) (subst (λ es. Leads (bundle_bytes ++ []) es) (append-nil bundle_changes) nil) in
-      let stimuli = leads_slots stimulus_line stimulus_edits n.wires bundle_bytes bundle_changes (stimulus_slots n circuit named) bundles in
-      let modules = leads_slots (module_line n) (module_edits n) n.modules (flat_map stimulus_line n.wires ++ bundle_bytes) (flat_map stimulus_edits n.wires ++ bundle_changes) (module_slots n circuit named) stimuli in
+      let stimuli = leads_slots stimulus_line stimulus_edits n.wires bundle_bytes bundle_changes (record { each = none }) (stimulus_leads n circuit named) bundles in
+      let modules = leads_slots (module_line n) (module_edits n) n.modules (flat_map stimulus_line n.wires ++ bundle_bytes) (flat_map stimulus_edits n.wires ++ bundle_changes) (record { each = none }) (module_leads n circuit named) stimuli in
       leads_slots wire_line wire_edits n.wires (flat_map (module_line n) n.modules ++ (flat_map stimulus_line n.wires ++ bundle_bytes))
-      (flat_map (module_edits n) n.modules ++ (flat_map stimulus_edits n.wires ++ bundle_changes)) (wire_slots n circuit named) modules
+      (flat_map (module_edits n) n.modules ++ (flat_map stimulus_edits n.wires ++ bundle_changes)) (record { each = none }) (wire_leads n circuit named) modules
 
   -- the line of the horizon begins an empty netlist
   horizon_begins : (k : ℕ) (state : TextState) (rest : List ℕ) → after_statement state (Start (Ok n.horizon)) ≡ Ok (Open (empty_circuit n.format n.horizon))
@@ -79,37 +70,31 @@ module _ (n : Circuit) (circuit : IsCircuit n) (named : HasNames n) where
       ap (after_lines k state) (lines_of-written (codes "horizon") words rest first plain)
       ∙ ap (next_line k (λ after. after_lines (k + 1) after (lines_of rest))) line
 
-  -- the lines in front of the records begin an empty netlist
-  begins : (rest : List ℕ) → (k : ℕ) × (after_lines 0 Fresh (lines_of (format_line n.format n.horizon ++ (horizon_line n.horizon ++ rest))) ≡ after_lines k (Open (empty_circuit n.format n.horizon)) (lines_of rest))
+  -- some lines in front of the rest begin an empty netlist
+  abbrev Begins : List ℕ → List ℕ → Type 0
+  Begins front rest = (k : ℕ) × (after_lines 0 Fresh (lines_of (front ++ (horizon_line n.horizon ++ rest))) ≡ after_lines k (Open (empty_circuit n.format n.horizon)) (lines_of rest))
+
+  -- the line of a form that states such a netlist
+  begins_formed : (digit rest : List ℕ) (form : TextFormat) → IsPlain digit → after_statement Fresh (statement_of (codes "format" ∷ digit ∷ [])) ≡ Ok (Formatted form)
+      → n.format ≡ netlist_format form → n.horizon ≤ max_horizon_of form → Begins (written_line (codes "format") (digit ∷ [])) rest
+  begins_formed digit rest form plain formed is high = (
+    0 + 1 + 1,
+    format_begins digit form (horizon_line n.horizon ++ rest) plain formed
+        ∙ horizon_begins (0 + 1) (Formatted form) rest (opens_formatted form n.horizon circuit.horizon_low high ∙ ap (λ f. Ok (Open (empty_circuit f n.horizon))) (sym is)),
+  )
+
+  -- the lines in front of the records
+  begins : (rest : List ℕ) → Begins (format_line n.format n.horizon) rest
   begins rest = by n.format refl
     where
-      digit : (word : List ℕ) → word ≡ codes "2" ⊎ word ≡ codes "3" → IsPlain word
-      digit word (inl two) = subst IsPlain (sym two) (record { some = omega arith; plain = refl })
-      digit word (inr three) = subst IsPlain (sym three) (record { some = omega arith; plain = refl })
-
-      standard : n.format ≡ Standard → (short : Bool) → nat_le n.horizon max_first_horizon ≡ short
-          → (k : ℕ) × (after_lines 0 Fresh (lines_of (cond short [] (written_line (codes "format") (codes "2" ∷ [])) ++ (horizon_line n.horizon ++ rest))) ≡ after_lines k (Open (empty_circuit n.format n.horizon)) (lines_of rest))
+      standard : n.format ≡ Standard → (short : Bool) → nat_le n.horizon max_first_horizon ≡ short → Begins (cond short [] (written_line (codes "format") (codes "2" ∷ []))) rest
       standard is true short = (0 + 1, horizon_begins 0 Fresh rest (opens_short n.horizon circuit.horizon_low short ∙ ap (λ f. Ok (Open (empty_circuit f n.horizon))) (sym is)))
       standard is false long =
-          let high : n.horizon ≤ horizon_limit Standard = subst (λ f. n.horizon ≤ horizon_limit f) is circuit.horizon_high in (
-            0 + 1 + 1,
-            format_begins (codes "2") Second (horizon_line n.horizon ++ rest) (digit (codes "2") (inl refl)) second_formed
-                ∙ horizon_begins (0 + 1) (Formatted Second) rest (opens_formatted Second n.horizon circuit.horizon_low high ∙ ap (λ f. Ok (Open (empty_circuit f n.horizon))) (sym is)),
-          )
+          begins_formed (codes "2") rest Second (record { some = omega arith; plain = refl }) second_formed is (subst (λ f. n.horizon ≤ horizon_limit f) is circuit.horizon_high)
 
-      large : n.format ≡ Large
-          → (k : ℕ) × (after_lines 0 Fresh (lines_of (written_line (codes "format") (codes "3" ∷ []) ++ (horizon_line n.horizon ++ rest))) ≡ after_lines k (Open (empty_circuit n.format n.horizon)) (lines_of rest))
-      large is =
-          let high : n.horizon ≤ horizon_limit Large = subst (λ f. n.horizon ≤ horizon_limit f) is circuit.horizon_high in (
-            0 + 1 + 1,
-            format_begins (codes "3") Third (horizon_line n.horizon ++ rest) (digit (codes "3") (inr refl)) third_formed
-                ∙ horizon_begins (0 + 1) (Formatted Third) rest (opens_formatted Third n.horizon circuit.horizon_low high ∙ ap (λ f. Ok (Open (empty_circuit f n.horizon))) (sym is)),
-          )
-
-      by : (f : NetlistFormat) → n.format ≡ f
-          → (k : ℕ) × (after_lines 0 Fresh (lines_of (format_line f n.horizon ++ (horizon_line n.horizon ++ rest))) ≡ after_lines k (Open (empty_circuit n.format n.horizon)) (lines_of rest))
+      by : (f : NetlistFormat) → n.format ≡ f → Begins (format_line f n.horizon) rest
       by Standard is = standard is (nat_le n.horizon max_first_horizon) refl
-      by Large is = large is
+      by Large is = begins_formed (codes "3") rest Third (record { some = omega arith; plain = refl }) third_formed is (subst (λ f. n.horizon ≤ horizon_limit f) is circuit.horizon_high)
 
 pub read_as_written : IsReadAsWritten
 unfolding written

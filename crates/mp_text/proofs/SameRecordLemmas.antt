@@ -1,5 +1,6 @@
 -- The edits of a netlist's records by name lead to a netlist with the same records.
-use Rattle.mp_text.proofs.Names.{◌≡◌, ℕ, zero, suc, List, [], ◌∷◌, ◌++◌, get_or, Option, Some, None, Ok, refl, sym, ap, subst, ◌∙◌, flat_map, append-nil, WireId, WireRecord, ModuleRecord, Input, Output, InputName, OutputName, Circuit, IsCircuit, empty_circuit, HasNames, replay_singles, name_in, wire_name, SameRecords, standing, input_by_name, output_by_name, module_edits, stimulus_edits, bundle_edits, edits_by_name}
+use Rattle.std.specs.Prelude.{◌≡◌, ◌∷◌, ◌++◌}
+use Rattle.mp_text.proofs.Names.{ℕ, zero, suc, List, [], get_or, Option, Some, None, Ok, refl, sym, ap, subst, ◌∙◌, flat_map, append-nil, WireId, WireRecord, ModuleRecord, Input, Output, InputName, OutputName, Circuit, IsCircuit, empty_circuit, HasNames, replay_singles, name_in, wire_name, SameRecords, standing, input_by_name, output_by_name, module_edits, stimulus_edits, bundle_edits, edits_by_name}
 use Rattle.mp_text.proofs.SlotLemmas.{flat_map_agree, map_agree}
 use Rattle.mp_text.proofs.WireStageLemmas.{bare, made, wires_reached}
 use Rattle.mp_text.proofs.ModuleStageLemmas.{modules_reached}
@@ -55,8 +56,8 @@ module _ (n : Circuit) (circuit : IsCircuit n) (named : HasNames n) (modules : L
     horizon = refl;
     wires = standing-kept n.wires;
     modules =
-        flat_map_agree (module_edits (made n (flat_map kept n.wires) modules at.bundles)) (module_edits (made n (flat_map bare n.wires) [] []))
-        (module_agrees (made n (flat_map kept n.wires) modules at.bundles) (made n (flat_map bare n.wires) [] []) (λ w. names_kept n.wires w.0)) modules
+        flat_map_agree (module_edits (made n (flat_map kept n.wires) modules at.things)) (module_edits (made n (flat_map bare n.wires) [] []))
+        (module_agrees (made n (flat_map kept n.wires) modules at.things) (made n (flat_map bare n.wires) [] []) (λ w. names_kept n.wires w.0)) modules
         ∙ same;
     bundles = at.same;
   })
@@ -65,8 +66,8 @@ pub made_again : (n : Circuit) → IsCircuit n → HasNames n → IsMadeAgain n
 made_again n circuit named =
     let wires = wires_reached n circuit named in
     let modules = modules_reached n circuit named in
-    let stimuli = stimuli_reached n circuit named modules.holds.modules modules.holds.same in
-    let bundles = bundles_reached n circuit named modules.holds.modules in
+    let stimuli = stimuli_reached n circuit named modules.holds.things modules.holds.same in
+    let bundles = bundles_reached n circuit named modules.holds.things in
     let stimulus_changes = flat_map stimulus_edits n.wires in
     let bundle_changes = flat_map (bundle_edits n) n.bundles in
     let module_changes = flat_map (module_edits n) n.modules in
@@ -79,7 +80,7 @@ made_again n circuit named =
           ∙ ap (λ c. replay_singles c (stimulus_changes ++ bundle_changes)) modules.holds.is
           ∙ stimuli.leads bundle_changes
           ∙ ap (λ c. replay_singles c bundle_changes) stimuli.holds
-          ∙ ap (replay_singles (made n (flat_map kept n.wires) modules.holds.modules [])) (sym (append-nil bundle_changes))
+          ∙ ap (replay_singles (made n (flat_map kept n.wires) modules.holds.things [])) (sym (append-nil bundle_changes))
           ∙ bundles.leads [];
-      same = same_records n circuit named modules.holds.modules modules.holds.same bundles.goal bundles.holds;
+      same = same_records n circuit named modules.holds.things modules.holds.same bundles.goal bundles.holds;
     }

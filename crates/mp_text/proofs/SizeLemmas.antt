@@ -1,33 +1,25 @@
 -- How long a text may be is told by its front.
-use Rattle.std.proofs.Common.{◌≡◌, ◌≢◌, ℕ, ◌+◌, ◌<◌, ◌≤◌, Bool, true, false, cond, List, [], ◌∷◌, Some, min, take, length, zero, suc, refl, ap, arith}
-use Rattle.std.specs.Prelude.{◌&&◌, ◌==◌, codes, slice_get}
+use Rattle.mp_text.proofs.Names.{ℕ, Bool, true, false, cond, List, [], Some, take, length, zero, suc, refl, ap, arith, lines_of, max_text, max_short_text, number_word, first_words, is_three, states_third, text_limit, ne_eqb, words_of}
+use Rattle.std.specs.Prelude.{◌≡◌, ◌≢◌, ◌+◌, ◌<◌, ◌≤◌, ◌∷◌, ◌&&◌, codes, slice_get, ◌==◌}
 use Rattle.std.specs.Str.{bytes_eq}
-use Rattle.std.proofs.lemmas.Bool.{eq-eqb, ne_eqb}
+use Rattle.std.proofs.lemmas.Bool.{eq-eqb}
+use Rattle.std.proofs.Common.{min}
 use Rattle.std.proofs.lemmas.List.{take_min}
-use Rattle.mp_words.specs.Lines.{lines_of}
-use Rattle.mp_words.specs.Words.{words_of}
-use Rattle.mp_text.specs.Limits.{max_text, max_short_text}
-use Rattle.mp_words.specs.WordLists.{number_word}
-use Rattle.mp_text.specs.Sizes.{first_words, is_three, states_third, text_limit}
 
 take_twice : {A : Type 0} (j k : ℕ) (xs : List A) → j ≤ k → take j (take k xs) ≡ take j xs
 take_twice zero k xs short = refl
-take_twice (suc j) zero xs short = absurd (omega (arith, short))
+take_twice (suc j) zero xs short = grind arith
 take_twice (suc j) (suc k) [] short = refl
-take_twice (suc j) (suc k) (x ∷ xs) short = ap (λ ys. x ∷ ys) (take_twice j k xs (omega (arith, short)))
+take_twice (suc j) (suc k) (x ∷ xs) short = grind (arith, (take_twice j k xs (omega (arith, short))))
 
 limits : (third : Bool) → (max_short_text ≤ cond third max_text max_short_text) × (cond third max_text max_short_text ≤ max_text)
-limits true = (omega arith, omega arith)
-limits false = (omega arith, omega arith)
+limits true = grind arith
+limits false = grind arith
 
 -- a text may always be as long as one of the first form
 pub limit_least : (text : List ℕ) → max_short_text ≤ text_limit text
 unfolding text_limit
 limit_least text = (limits (states_third (first_words (lines_of (take (max_short_text + 1) text))))).0
-
-pub limit_most : (text : List ℕ) → text_limit text ≤ max_text
-unfolding text_limit
-limit_most text = (limits (states_third (first_words (lines_of (take (max_short_text + 1) text))))).1
 
 -- a front of more bytes than a text of the first form may have tells it
 pub limit_of_front : (k : ℕ) (text : List ℕ) → max_short_text < k → text_limit (take k text) ≡ text_limit text
@@ -49,12 +41,12 @@ first_worded line lines some = rw (ne_eqb (length (words_of line)) 0 some) refl
 pub no_words : (text : List ℕ) → length text ≡ 0 → first_words (lines_of text) ≡ []
 unfolding lines_of
 no_words [] none = refl
-no_words (b ∷ bs) none = absurd (omega (arith, none))
+no_words (b ∷ bs) none = grind arith
 
 -- two words are looked at
 pub third_of : (words : List (List ℕ)) (first second : Bool) → ((text : List ℕ) → slice_get words 0 ≡ Some text → first ≡ bytes_eq text (codes "format"))
     → ((text : List ℕ) → slice_get words 1 ≡ Some text → second ≡ is_three (number_word text)) → (length words == 2 && first && second) ≡ states_third words
 third_of [] first second is_first is_second = refl
 third_of (word ∷ []) first second is_first is_second = refl
-third_of (word ∷ number ∷ []) first second is_first is_second = let one = is_first word refl in let other = is_second number refl in rw (one, other) refl
-third_of (word ∷ number ∷ another ∷ words) first second is_first is_second = rw (ne_eqb (length (word ∷ number ∷ another ∷ words)) 2 (λ e. omega (arith, e))) refl
+third_of (word ∷ number ∷ []) first second is_first is_second = grind arith
+third_of (word ∷ number ∷ another ∷ words) first second is_first is_second = grind (arith, ne_eqb)

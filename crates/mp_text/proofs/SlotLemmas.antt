@@ -1,6 +1,7 @@
 -- Slots without the empty ones, and where a name is found among them.
-use Rattle.mp_text.proofs.Names.{◌≡◌, ℕ, suc, ◌+◌, ◌<◌, ◌≤◌, Bool, true, false, List, [], ◌∷◌, ◌++◌, length, get_or, take, drop, map, All, Option, Some, None, is_some, refl, sym, ap, subst, ◌∙◌, arith, flat_map, list_all, position_from, bytes_eq, append-nil, get_or_at, get_or_append_left, set-get_or, set_split, flat_map-append, All-cons, All-nil, All-head, All-tail, All-append, All-weaker, All-from_get_or, same_name, equal_name, slot_within}
-use Rattle.mp_netlist.specs.Slots.{slot_at, has_name, number_named}
+use Rattle.std.specs.Prelude.{◌≡◌, ◌+◌, ◌<◌, ◌≤◌, ◌∷◌, ◌++◌}
+use Rattle.mp_text.proofs.Names.{ℕ, suc, false, List, [], length, get_or, take, drop, map, All, Option, Some, None, is_some, refl, sym, ap, subst, ◌∙◌, arith, flat_map, bytes_eq, append-nil, get_or_at, get_or_append_left, set-get_or, set_split, flat_map-append, All-cons, All-nil, All-head, All-tail, All-append, All-weaker, All-from_get_or, false_from_ne_true, same_name, equal_name, slot_within, slot_at, has_name, number_named, nat_lt, nat_tests, first_none, position-append}
+use Rattle.std.proofs.lemmas.Iterator.Adapters.{position_from-zero}
 
 -- a thing that stands, changed, and nothing where none does
 abbrev pub compact : {R : Type 0} → (R → R) → Option R → List (Option R)
@@ -13,10 +14,8 @@ All-flat_map P f [] all = All-nil P
 All-flat_map P f (x ∷ xs) all = All-append P (f x) (flat_map f xs) (All-head (λ x. All P (f x)) x xs all) (All-flat_map P f xs (All-tail (λ x. All P (f x)) x xs all))
 
 All-parts : {Y : Type 0} (P : Y → Type 0) (xs ys : List Y) → All P (xs ++ ys) → All P xs × All P ys
-All-parts P [] ys all = (All-nil P, all)
-All-parts P (x ∷ xs) ys all =
-    let rest = All-parts P xs ys (All-tail P x (xs ++ ys) all) in
-    (All-cons P x xs (All-head P x (xs ++ ys) all) rest.0, rest.1)
+All-parts P [] ys all = grind (arith, nat_tests, All-nil)
+All-parts P (x ∷ xs) ys all = grind (arith, nat_tests, All-tail, All-cons, All-head, (All-parts P xs ys (All-tail P x (xs ++ ys) all)))
 
 pub All-from_flat_map : {X Y : Type 0} (P : Y → Type 0) (f : X → List Y) (xs : List X) → All P (flat_map f xs) → All (λ x. All P (f x)) xs
 All-from_flat_map P f [] all = All-nil (λ x. All P (f x))
@@ -24,30 +23,14 @@ All-from_flat_map P f (x ∷ xs) all =
     let parts = All-parts P (f x) (flat_map f xs) all in
     All-cons (λ x. All P (f x)) x xs parts.0 (All-from_flat_map P f xs parts.1)
 
-pub list_all_from : {X : Type 0} (test : X → Bool) (xs : List X) → All (λ x. test x ≡ true) xs → list_all test xs ≡ true
-list_all_from test [] all = refl
-list_all_from test (x ∷ xs) all = rw (All-head (λ x. test x ≡ true) x xs all) (list_all_from test xs (All-tail (λ x. test x ≡ true) x xs all))
-
 -- lists end to end that are the same each are the same
 pub flat_map_agree : {X Y : Type 0} (f g : X → List Y) → ((x : X) → f x ≡ g x) → (xs : List X) → flat_map f xs ≡ flat_map g xs
 flat_map_agree f g same [] = refl
-flat_map_agree f g same (x ∷ xs) = rw (same x, flat_map_agree f g same xs) refl
+flat_map_agree f g same (x ∷ xs) = grind (arith, nat_tests, (flat_map_agree f g same xs))
 
 pub map_agree : {X Y : Type 0} (f g : X → Y) → ((x : X) → f x ≡ g x) → (xs : List X) → map f xs ≡ map g xs
 map_agree f g same [] = refl
-map_agree f g same (x ∷ xs) = rw (same x, map_agree f g same xs) refl
-
--- a search passes what fails the test
-position_behind : {X : Type 0} (t : X → Bool) (k : ℕ) (front : List X) (x : X) (back : List X) → All (λ y. t y ≡ false) front → t x ≡ true → position_from t k (front ++ x ∷ back) ≡ Some (k + length front)
-position_behind t k [] x back none here = rw here (ap Some (omega arith))
-position_behind t k (y ∷ ys) x back none here =
-    let later = position_behind t (k + 1) ys x back (All-tail (λ y. t y ≡ false) y ys none) here in
-    let head = All-head (λ y. t y ≡ false) y ys none in
-    rw head (later ∙ ap Some (omega arith))
-
-position_none : {X : Type 0} (t : X → Bool) (k : ℕ) (xs : List X) → All (λ y. t y ≡ false) xs → position_from t k xs ≡ None
-position_none t k [] none = refl
-position_none t k (y ∷ ys) none = let head = All-head (λ y. t y ≡ false) y ys none in rw head (position_none t (k + 1) ys (All-tail (λ y. t y ≡ false) y ys none))
+map_agree f g same (x ∷ xs) = grind (arith, nat_tests, (map_agree f g same xs))
 
 -- a place in a list parts it
 pub parted : {R : Type 0} (slots : List (Option R)) (w : ℕ) (r : R) → slot_at slots w ≡ Some r → slots ≡ take w slots ++ Some r ∷ drop (suc w) slots
@@ -60,20 +43,16 @@ compact-none change front = flat_map-append (compact change) front (None ∷ [])
 
 pub length-compact : {R : Type 0} (f g : R → R) (slots : List (Option R)) → length (flat_map (compact f) slots) ≡ length (flat_map (compact g) slots)
 length-compact f g [] = refl
-length-compact f g (None ∷ slots) = length-compact f g slots
-length-compact f g (Some r ∷ slots) = ap suc (length-compact f g slots)
+length-compact f g (None ∷ slots) = grind (arith, nat_tests, (length-compact f g slots))
+length-compact f g (Some r ∷ slots) = grind (arith, nat_tests, (length-compact f g slots))
 
 pub compact_few : {R : Type 0} (f : R → R) (slots : List (Option R)) → length (flat_map (compact f) slots) ≤ length slots
-compact_few f [] = omega arith
-compact_few f (None ∷ slots) = omega (arith, compact_few f slots)
-compact_few f (Some r ∷ slots) = omega (arith, compact_few f slots)
+compact_few f [] = grind (arith, nat_tests)
+compact_few f (None ∷ slots) = grind (arith, nat_tests, (compact_few f slots))
+compact_few f (Some r ∷ slots) = grind (arith, nat_tests, (compact_few f slots))
 
 pub unequal_name : (a b : List ℕ) → (a ≡ b → ⊥) → bytes_eq a b ≡ false
-unequal_name a b not = by (bytes_eq a b) refl
-  where
-    by : (c : Bool) → bytes_eq a b ≡ c → c ≡ false
-    by true e = absurd (not (same_name a b e))
-    by false e = refl
+unequal_name a b other = false_from_ne_true (bytes_eq a b) (λ same. other (same_name a b same))
 
 module _ {R : Type 0} (name_of : R → List ℕ) where
   -- what stands in the slot, if anything, has another name
@@ -82,7 +61,10 @@ module _ {R : Type 0} (name_of : R → List ℕ) where
 
   pub named_nowhere : (q : List ℕ) (slots : List (Option R)) → All (Unnamed q) slots → number_named name_of slots q ≡ None
   unfolding number_named
-  named_nowhere q slots all = position_none (has_name name_of q) 0 slots all
+  named_nowhere q slots all =
+      let over = first_none (has_name name_of q) slots all in
+      let none : nat_lt (length slots) (length slots) ≡ false = grind (arith, nat_tests) in
+      sym (position_from-zero (has_name name_of q) slots) ∙ rw (over, none) refl
 
   -- a name finds a thing at a place
   pub record IsAt (slots : List (Option R)) (q : List ℕ) (thing : R) : Type 0 where
@@ -93,7 +75,8 @@ module _ {R : Type 0} (name_of : R → List ℕ) where
   -- a name that nothing in front has finds the thing behind
   pub named_behind : (front back : List (Option R)) (thing : R) (q : List ℕ) → All (Unnamed q) front → name_of thing ≡ q → number_named name_of (front ++ Some thing ∷ back) q ≡ Some (length front)
   unfolding number_named
-  named_behind front back thing q all is = position_behind (has_name name_of q) 0 front (Some thing) back all (equal_name q (name_of thing) (sym is)) ∙ ap Some (omega arith)
+  named_behind front back thing q all is =
+      sym (position_from-zero (has_name name_of q) (front ++ Some thing ∷ back)) ∙ position-append (has_name name_of q) (Some thing) back (equal_name q (name_of thing) (sym is)) front all
 
   pub IsAt-behind : (front back : List (Option R)) (thing : R) (q : List ℕ) → All (Unnamed q) front → name_of thing ≡ q → IsAt (front ++ Some thing ∷ back) q thing
   IsAt-behind front back thing q all is = record { place = length front; named = named_behind front back thing q all is; at = get_or_at front (Some thing) back None (length front) refl }
@@ -116,8 +99,8 @@ module _ {R : Type 0} (name_of : R → List ℕ) where
 
   module _ (change : R → R) (kept : (r : R) → name_of (change r) ≡ name_of r) where
     compact_unnamed_slot : (q : List ℕ) (slot : Option R) → Unnamed q slot → All (Unnamed q) (compact change slot)
-    compact_unnamed_slot q None none = All-nil (Unnamed q)
-    compact_unnamed_slot q (Some r) none = All-cons (Unnamed q) (Some (change r)) [] (ap (bytes_eq q) (kept r) ∙ none) (All-nil (Unnamed q))
+    compact_unnamed_slot q None none = grind (arith, nat_tests, All-nil)
+    compact_unnamed_slot q (Some r) none = grind (arith, nat_tests, All-cons, All-nil)
 
     pub compact_unnamed : (q : List ℕ) (slots : List (Option R)) → All (Unnamed q) slots → All (Unnamed q) (flat_map (compact change) slots)
     compact_unnamed q slots all =

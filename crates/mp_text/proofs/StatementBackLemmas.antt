@@ -1,22 +1,11 @@
 -- Statements that are written are read again.
-use Rattle.mp_text.proofs.Names.{◌≡◌, ℕ, ◌^◌, ◌<◌, true, false, ◌==◌, ◌&&◌, List, [], ◌∷◌, ◌++◌, length, map, All, Ok, decimal, refl, ap, ◌∙◌, arith, codes, nat_le, suc, list_all, nat_tests, map-id, All-map, All-weaker, Kind, word_of, InputName, OutputName, AddWire, AddModule, AddBundle, SetStimulus, number_word, change_word, input_word, output_word, pair_text, both, number_back, each_back}
+use Rattle.std.specs.Prelude.{◌≡◌, ◌^◌, ◌<◌, ◌==◌, ◌∷◌, ◌++◌}
+use Rattle.mp_text.proofs.Names.{ℕ, true, false, List, [], length, map, All, Ok, decimal, refl, ap, ◌∙◌, arith, codes, list_all, nat_tests, map-id, All-map, All-weaker, Kind, word_of, InputName, OutputName, AddWire, AddModule, AddBundle, SetStimulus, number_word, change_word, input_word, output_word, pair_text, and_parts, number_back, each_back, is_name, is_mark, Start, Change, statement_of, before_first-append, after_first-append}
 use Rattle.std.specs.Char.{is_ascii_digit, is_ascii_alphabetic}
 use Rattle.mp_modules.proofs.WordLemmas.{by_word}
 use Rattle.mp_records.specs.declared.new_module.NewModule.{NewModule}
 use Rattle.mp_records.specs.declared.new_bundle.NewBundle.{NewBundle}
-use Rattle.mp_records.specs.Names.{is_name, is_name_byte, begins_with_letter}
-use Rattle.mp_text.specs.Statements.{is_mark, Format, Start, Change, wire_edit, module_edit, parts_edit, stimulus_edit, bundle_edit, stated_edit, statement_of}
-use Rattle.mp_words.specs.Numbers.{spelled_number, number_from}
 use Rattle.mp_words.proofs.DecimalLemmas.{decimal_digits}
-use Rattle.mp_words.proofs.DividedLemmas.{before_first-append, after_first-append}
-
-pub second_stated : statement_of (codes "format" ∷ codes "2" ∷ []) ≡ Format (Ok 2)
-unfolding statement_of spelled_number number_from
-second_stated = refl
-
-pub third_stated : statement_of (codes "format" ∷ codes "3" ∷ []) ≡ Format (Ok 3)
-unfolding statement_of spelled_number number_from
-third_stated = refl
 
 pub horizon_stated : (h : ℕ) → h < 2 ^ 64 → statement_of (codes "horizon" ∷ decimal h ∷ []) ≡ Start (Ok h)
 unfolding statement_of
@@ -24,20 +13,17 @@ horizon_stated h low = let number = number_back h low in rw number refl
 
 pub wire_stated : (name : List ℕ) (width level : ℕ) → width < 2 ^ 64 → level < 2 ^ 64
     → statement_of (codes "wire" ∷ name ∷ decimal width ∷ decimal level ∷ []) ≡ Change (Ok (AddWire name width level))
-unfolding statement_of stated_edit wire_edit
-wire_stated name width level narrow low =
-    let w = number_back width narrow in
-    let l = number_back level low in
-    rw (w, l) refl
+unfolding statement_of
+wire_stated name width level narrow low = grind (arith, nat_tests, number_back)
 
 pub bundle_stated : (new : NewBundle) → new.setup < 2 ^ 64
     → statement_of (codes "bundle" ∷ new.name ∷ new.request ∷ new.acknowledge ∷ new.payload ∷ decimal new.setup ∷ []) ≡ Change (Ok (AddBundle new))
-unfolding statement_of stated_edit bundle_edit
+unfolding statement_of
 bundle_stated new low = let s = number_back new.setup low in rw s refl
 
 pub stimulus_stated : (name : List ℕ) (changes : List (ℕ × ℕ)) → All (λ change. change_word (pair_text change) ≡ Ok change) changes
     → statement_of (codes "stim" ∷ name ∷ map pair_text changes) ≡ Change (Ok (SetStimulus name changes))
-unfolding statement_of stated_edit stimulus_edit
+unfolding statement_of
 stimulus_stated name changes all =
     let read = each_back change_word pair_text (λ change. change) changes all in
     let same = map-id changes in
@@ -52,7 +38,7 @@ digit_no_colon b digit = grind (arith, nat_tests)
 
 digits_no_colon : (ds : List ℕ) → list_all is_ascii_digit ds ≡ true → is_mark 58 ds ≡ false
 digits_no_colon [] all = refl
-digits_no_colon (b ∷ bs) all = other_byte 58 b bs (digit_no_colon b (both (is_ascii_digit b) (list_all is_ascii_digit bs) all).0)
+digits_no_colon (b ∷ bs) all = grind (arith, nat_tests, other_byte, digit_no_colon, and_parts)
 
 pub number_no_colon : (n : ℕ) → n < 2 ^ 64 → is_mark 58 (decimal n) ≡ false
 number_no_colon n fits = digits_no_colon (decimal n) (decimal_digits n fits)
@@ -63,14 +49,12 @@ letter_no_greater b letter = grind (arith, nat_tests)
 -- a word that begins with a name is not `>`
 pub name_no_greater : (name rest : List ℕ) → is_name name ≡ true → is_mark 62 (name ++ rest) ≡ false
 unfolding is_name
-name_no_greater [] rest valid = let no : ⊥ = cc in absurd no
-name_no_greater (b ∷ bs) rest valid =
-    let head = both (begins_with_letter (b ∷ bs) && nat_le (length (b ∷ bs)) 32) (list_all is_name_byte (b ∷ bs)) valid in
-    other_byte 62 b (bs ++ rest) (letter_no_greater b (both (begins_with_letter (b ∷ bs)) (nat_le (length (b ∷ bs)) 32) head.0).0)
+name_no_greater [] rest valid = grind (arith, nat_tests)
+name_no_greater (b ∷ bs) rest valid = grind (arith, nat_tests, and_parts, other_byte, letter_no_greater)
 
 some_words : {A : Type 0} (write : A → List ℕ) (xs : List A) → 0 < length xs → (length (map write xs) == 0) ≡ false
-some_words write [] some = absurd (omega (arith, some))
-some_words write (x ∷ xs) some = let no : (suc (length (map write xs)) == 0) ≡ false = grind (arith, nat_tests) in no
+some_words write [] some = grind (arith, nat_tests)
+some_words write (x ∷ xs) some = grind (arith, nat_tests)
 
 module _ {I O : Type 0} (name : List ℕ) (kind : Kind) (params : List ℕ) (inputs : List I) (outputs : List O)
     (input : I → List ℕ) (hear : I → InputName) (output : O → List ℕ) (see : O → OutputName)
@@ -83,7 +67,7 @@ module _ {I O : Type 0} (name : List ℕ) (kind : Kind) (params : List ℕ) (inp
   back = map input inputs ++ (codes ">" ∷ map output outputs)
 
   pub module_stated : statement_of (codes "module" ∷ name ∷ word_of kind ∷ (map decimal params ++ (codes ":" ∷ back))) ≡ Change (Ok (AddModule new))
-  unfolding statement_of stated_edit module_edit parts_edit
+  unfolding statement_of
   module_stated =
       let no_colon = All-map (λ w. is_mark 58 w ≡ false) decimal params (All-weaker (λ p. p < 2 ^ 64) (λ p. is_mark 58 (decimal p) ≡ false) number_no_colon params low) in
       let no_greater = All-map (λ w. is_mark 62 w ≡ false) input inputs unmarked in

@@ -1,7 +1,6 @@
 -- Lines that are written lead from netlist to netlist as their edits do.
-use Rattle.mp_text.proofs.Names.{◌≡◌, ℕ, ◌+◌, List, [], ◌∷◌, ◌++◌, append_assoc, All, Option, Result, Ok, Err, sym, ap, subst, ◌∙◌, flat_map, result_map_both, All-head, All-tail, SingleEdit, EditError, Circuit, go_on, after_single, replay_singles, Refused, TextState, Open, ◌>>=◌, Change, statement_of, spaced, written_line, IsPlain}
-use Rattle.mp_words.specs.Lines.{lines_of}
-use Rattle.mp_text.specs.Texts.{in_text, after_statement, after_line, after_lines, next_line}
+use Rattle.std.specs.Prelude.{◌≡◌, ◌+◌, ◌∷◌, ◌++◌}
+use Rattle.mp_text.proofs.Names.{ℕ, List, [], append_assoc, suc, All, Option, Some, None, Result, Ok, Err, refl, sym, ap, subst, ◌∙◌, flat_map, result_map_both, slot_at, SingleEdit, EditError, Circuit, go_on, after_single, replay_singles, Refused, TextState, Open, ◌>>=◌, Change, statement_of, spaced, written_line, IsPlain, lines_of, in_text, after_statement, after_line, after_lines, next_line}
 use Rattle.mp_text.proofs.WrittenLineLemmas.{lines_of-written, line_words-spaced}
 
 -- the lines of the bytes lead where the edits lead
@@ -42,12 +41,16 @@ module _ (first : List ℕ) (words : List (List ℕ)) (edit : SingleEdit) (plain
 pub record SlotLeads {R : Type 0} (line : Option R → List ℕ) (change : Option R → List SingleEdit) (slot : Option R) : Type 0 where
   pub each : (bytes : List ℕ) (edits : List SingleEdit) → Leads bytes edits → Leads (line slot ++ bytes) (change slot ++ edits)
 
--- the lines of slots in front of others
+-- the lines of slots in front of others, where the line of each thing leads where its edit leads
 pub leads_slots : {R : Type 0} (line : Option R → List ℕ) (change : Option R → List SingleEdit) (slots : List (Option R)) (bytes : List ℕ) (edits : List SingleEdit)
-    → All (SlotLeads line change) slots → Leads bytes edits → Leads (flat_map line slots ++ bytes) (flat_map change slots ++ edits)
-leads_slots line change [] bytes edits all rest = rest
-leads_slots line change (slot ∷ slots) bytes edits all rest =
-    let later = leads_slots line change slots bytes edits (All-tail (SlotLeads line change) slot slots all) rest in
-    let here = (All-head (SlotLeads line change) slot slots all).each (flat_map line slots ++ bytes) (flat_map change slots ++ edits) later in
+    → SlotLeads line change None → ((k : ℕ) (r : R) → slot_at slots k ≡ Some r → SlotLeads line change (Some r)) → Leads bytes edits → Leads (flat_map line slots ++ bytes) (flat_map change slots ++ edits)
+leads_slots line change [] bytes edits none each rest = rest
+leads_slots {R} line change (slot ∷ slots) bytes edits none each rest =
+    let later = leads_slots line change slots bytes edits none (λ k. each (suc k)) rest in
+    let here = (by slot (each 0)).each (flat_map line slots ++ bytes) (flat_map change slots ++ edits) later in
     subst (λ bs. Leads bs ((change slot ++ flat_map change slots) ++ edits)) (sym (append_assoc (line slot) (flat_map line slots) bytes))
     (subst (λ es. Leads (line slot ++ (flat_map line slots ++ bytes)) es) (sym (append_assoc (change slot) (flat_map change slots) edits)) here)
+  where
+    by : (s : Option R) → ((r : R) → s ≡ Some r → SlotLeads line change (Some r)) → SlotLeads line change s
+    by None each = none
+    by (Some r) each = each r refl

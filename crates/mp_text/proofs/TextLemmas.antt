@@ -1,9 +1,6 @@
 -- Facts about texts as a whole.
-use Rattle.mp_text.proofs.Names.{◌≡◌, ℕ, ◌+◌, ◌<◌, ◌≤◌, List, [], ◌∷◌, length, Result, Ok, Err, IfErr, inr, refl, sym, ap, subst, arith, before_first, after_first, nat_tests, Circuit, TextError, TextCode, TooLong, TextState, Fresh, Formatted, Open, lines_of-cons}
-use Rattle.mp_text.specs.Texts.{IsReachedIn}
-use Rattle.mp_text.specs.Sizes.{text_limit}
-use Rattle.mp_words.specs.Lines.{is_line_feed, lines_of}
-use Rattle.mp_text.specs.Texts.{text_at, after_lines, after_line, next_line, finished, last_line, GivesText}
+use Rattle.std.specs.Prelude.{◌≡◌, ◌+◌, ◌<◌, ◌≤◌, ◌∷◌}
+use Rattle.mp_text.proofs.Names.{rest_falls, ℕ, List, [], length, Result, Ok, Err, IfErr, refl, sym, ap, subst, arith, before_first, after_first, nat_tests, Circuit, TextError, TextCode, TooLong, TextState, Fresh, Formatted, Open, lines_of-cons, is_line_feed, lines_of, text_at, after_lines, after_line, next_line, finished, last_line, GivesText, IsReachedIn, text_limit}
 
 -- a text that is not too long is its lines
 pub text_within : (text : List ℕ) → length text ≤ text_limit text → text_at text ≡ after_lines 0 Fresh (lines_of text)
@@ -24,7 +21,7 @@ lines_next n state rest read some e = rw (lines_of-cons rest some, e) refl
 pub lines_end : (n : ℕ) (state : TextState) (rest : List ℕ) → length rest ≡ 0 → after_lines n state (lines_of rest) ≡ finished n state
 unfolding after_lines lines_of
 lines_end n state [] none = refl
-lines_end n state (b ∷ bs) none = absurd (omega (arith, none))
+lines_end n state (b ∷ bs) none = grind (arith, nat_tests)
 
 -- where lines that begin behind line n end
 abbrev end_behind : ℕ → List (List ℕ) → Result Circuit TextError → ℕ
@@ -33,21 +30,15 @@ end_behind n lines (Err error) = error.line
 
 end_next : (n : ℕ) (line : List ℕ) (lines : List (List ℕ)) → ((state : TextState) → n + 1 ≤ end_behind (n + 1) lines (after_lines (n + 1) state lines))
     → (read : Result (TextState) TextCode) → n + 1 ≤ end_behind n (line ∷ lines) (next_line n (λ after. after_lines (n + 1) after lines) read)
-end_next n line lines low (Ok state) = by (after_lines (n + 1) state lines) (low state)
-  where
-    by : (r : Result Circuit TextError) → n + 1 ≤ end_behind (n + 1) lines r → n + 1 ≤ end_behind n (line ∷ lines) r
-    by (Ok net) low = omega arith
-    by (Err error) low = low
-end_next n line lines low (Err code) = omega arith
+end_next n line lines low (Ok state) = grind (arith, nat_tests)
+end_next n line lines low (Err code) = grind (arith, nat_tests)
 
 end_low : (n : ℕ) (lines : List (List ℕ)) (state : TextState) → n ≤ end_behind n lines (after_lines n state lines)
 unfolding after_lines
-end_low n [] Fresh = omega arith
-end_low n [] (Formatted format) = omega arith
-end_low n [] (Open net) = omega arith
-end_low n (line ∷ lines) state =
-    let next = end_next n line lines (end_low (n + 1) lines) (after_line state line) in
-    omega (arith, next)
+end_low n [] Fresh = grind (arith, nat_tests)
+end_low n [] (Formatted format) = grind (arith, nat_tests)
+end_low n [] (Open net) = grind (arith, nat_tests)
+end_low n (line ∷ lines) state = grind (arith, nat_tests, end_next, (end_low (n + 1) lines))
 
 -- no line before the next is the last
 pub line_reached : (n : ℕ) (state : TextState) (rest text : List ℕ) → 0 < length rest → n + length (lines_of rest) ≡ length (lines_of text)
@@ -71,11 +62,13 @@ lines_counted rest text n some counted = let cons = ap length (lines_of-cons res
 
 -- what was read is given
 pub gives_same : {X : Type 0} (result read : Result X TextError) → read ≡ result → GivesText result read
-gives_same (Ok x) read same = same
-gives_same (Err error) read same = inr same
+gives_same (Ok x) read same = grind (arith, nat_tests)
+gives_same (Err error) read same = grind (arith, nat_tests)
 
 -- the end of a text doesn't tell of memory
 pub finished_reached : (text : List ℕ) (read : Result Circuit TextError) (n : ℕ) (state : TextState) → IfErr (finished n state) (IsReachedIn text read)
-finished_reached text read n Fresh = λ wanting. cc
-finished_reached text read n (Formatted format) = λ wanting. cc
-finished_reached text read n (Open net) = tt
+finished_reached text read n Fresh = grind (arith, nat_tests)
+finished_reached text read n (Formatted format) = grind (arith, nat_tests)
+finished_reached text read n (Open net) = grind (arith, nat_tests)
+
+pub ruleset reading_read_lines_steps = (rest_falls, lines_counted, lines_next, lines_end, gives_same, finished_reached)

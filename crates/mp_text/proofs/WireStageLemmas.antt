@@ -1,9 +1,8 @@
 -- The edits of a netlist's wires, on an empty netlist, are not refused.
-use Rattle.mp_text.proofs.Names.{◌≡◌, ℕ, zero, suc, ◌<◌, true, List, [], ◌∷◌, ◌++◌, length, get_or, Option, Some, None, is_none, is_some, unwrap_or, Ok, refl, sym, ap, subst, ◌∙◌, arith, length-append, nat_le, IsSome, flat_map, option_and_then, lt-ltb, nat_tests, get_or_at, flat_map-append, WireId, WireRecord, ModuleRecord, BundleRecord, AddWire, Circuit, IsCircuit, wire_at, width_of, stimulus_in, HasNames, name_in, wire_name, wire_edits}
-use Rattle.mp_netlist.specs.Limits.{wire_limit}
-use Rattle.mp_netlist.specs.Edits.{refusal, edited, after_single, stands, wire_id, width_named, wire_checks, without_stimulus}
+use Rattle.std.specs.Prelude.{◌≡◌, ◌<◌, ◌∷◌, ◌++◌}
+use Rattle.mp_text.proofs.Names.{ℕ, zero, suc, true, List, [], length, get_or, Option, Some, None, is_none, is_some, unwrap_or, Ok, refl, sym, ap, subst, ◌∙◌, arith, length-append, nat_le, IsSome, flat_map, option_and_then, lt-ltb, nat_tests, get_or_at, flat_map-append, WireId, WireRecord, ModuleRecord, BundleRecord, AddWire, Circuit, IsCircuit, wire_at, width_of, stimulus_in, HasNames, name_in, wire_name, wire_edits, and_from, refusal, edited, after_single, stands, wire_id, width_named, wire_checks, without_stimulus, wire_limit}
 use Rattle.mp_text.proofs.SlotLemmas.{compact, compact-none, compact_few, IsAt, IsAt-compact, named_nowhere, front_unnamed, compact_unnamed}
-use Rattle.mp_text.proofs.StageLemmas.{none_failing, and_both, is_done, Reaches, Reaches-none, Reaches-one, Steps, stage}
+use Rattle.mp_text.proofs.StageLemmas.{none_failing, is_done, Reaches, Reaches-none, Reaches-one, Steps, stage}
 
 abbrev pub name_of : WireRecord → List ℕ
 name_of r = r.name
@@ -49,19 +48,14 @@ is_back n c has w some = by (wire_at n w.0) refl some
 
 -- two wires of one name are one
 pub same_wire : (n : Circuit) → HasNames n → (w v : ℕ) → IsSome (wire_at n w) → IsSome (wire_at n v) → name_in (wire_at n w) ≡ name_in (wire_at n v) → w ≡ v
-same_wire n named w v first second same = by (wire_at n w) (wire_at n v) refl refl first second same
-  where
-    by : (a b : Option WireRecord) → wire_at n w ≡ a → wire_at n v ≡ b → IsSome a → IsSome b → name_in a ≡ name_in b → w ≡ v
-    by None b p q first second same = cc
-    by (Some r) None p q first second same = cc
-    by (Some r) (Some s) p q first second same = named.one_wire w v r s p q same
+same_wire n named w v first second same = grind (arith, nat_tests)
 
 -- nothing is set on bare wires
 pub bare_unset : (slots : List (Option WireRecord)) (v : ℕ) → stimulus_in (get_or (flat_map bare slots) v None) ≡ None
 bare_unset [] v = refl
-bare_unset (None ∷ slots) v = bare_unset slots v
+bare_unset (None ∷ slots) v = grind (arith, nat_tests, (bare_unset slots v))
 bare_unset (Some r ∷ slots) zero = refl
-bare_unset (Some r ∷ slots) (suc v) = bare_unset slots v
+bare_unset (Some r ∷ slots) (suc v) = grind (arith, nat_tests, (bare_unset slots v))
 
 module _ (n : Circuit) (circuit : IsCircuit n) (named : HasNames n) where
   -- the netlist once the wires of the front are added
@@ -80,7 +74,7 @@ module _ (n : Circuit) (circuit : IsCircuit n) (named : HasNames n) where
       let one : nat_le 1 r.width ≡ true = grind (arith, nat_tests) in
       let most : nat_le r.width 64 ≡ true = grind (arith, nat_tests) in
       let room = lt-ltb (length (flat_map bare front)) (wire_limit n.format) (omega (arith, compact_few without_stimulus front)) in
-      let none = none_failing (wire_checks (wired front) r.name r.width r.initial) (named.wires (length front) r at, (ap is_none free, (and_both (nat_le 1 r.width) (nat_le r.width 64) one most, (ok.level, (room, tt))))) in
+      let none = none_failing (wire_checks (wired front) r.name r.width r.initial) (named.wires (length front) r at, (ap is_none free, (and_from (nat_le 1 r.width) (nat_le r.width 64) one most, (ok.level, (room, tt))))) in
       is_done (wired front) (AddWire r.name r.width r.initial) none
       ∙ ap (λ wires. Ok (made n wires [] [])) (sym (flat_map-append bare front (Some r ∷ [])))
 

@@ -1,8 +1,8 @@
 -- The lines of a netlist's text in pieces.
-use Rattle.mp_text.proofs.Names.{◌≡◌, ℕ, List, [], ◌∷◌, ◌++◌, Option, Some, append_assoc, ap, ◌∙◌, codes, flat_map, word_of, ModuleRecord, flat_map-map, pair_text, changes_text, Circuit, Wires, Modules, Stimuli, Bundles, section_text}
+use Rattle.std.specs.Prelude.{◌≡◌, ◌∷◌, ◌++◌}
+use Rattle.mp_text.proofs.Names.{ℕ, List, [], Option, Some, append_assoc, ap, ◌∙◌, codes, flat_map, word_of, ModuleRecord, flat_map-map, pair_text, changes_text, Circuit, Wires, Modules, Stimuli, Bundles, section_text, stimulus_words, input_text, output_text, format_line, module_line, written}
 use Rattle.std.specs.Fmt.{decimal}
 use Rattle.std.proofs.lemmas.Grind.{flat_map-append}
-use Rattle.mp_text.specs.Written.{stimulus_words, input_text, output_text, format_line, module_line, written}
 
 -- the pieces of a stimulus's line
 pub stimulus_pieces : (name : List ℕ) (stimulus : Option (List (ℕ × ℕ))) (changes : List (ℕ × ℕ)) → stimulus ≡ Some changes

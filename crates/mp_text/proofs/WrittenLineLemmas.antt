@@ -1,8 +1,8 @@
 -- A line that is written is read as its words.
-use Rattle.mp_text.proofs.Names.{◌≡◌, ℕ, ◌+◌, ◌<◌, true, false, ◌==◌, suc, List, [], ◌∷◌, ◌++◌, append_assoc, length, filter, All, Ok, refl, sym, ap, ◌∙◌, arith, slice_split, onto_first, position_or_len, list_all, nat_tests, append-nil, All-head, All-tail, All-cons, All-nil, list_all-append, spaced, written_line, IsPlain, is_plain_byte, plain_allowed, plain_no_gap, plain_no_hash, All-passing, list_all-passing, both}
+use Rattle.std.specs.Prelude.{◌≡◌, ◌+◌, ◌<◌, ◌==◌, ◌∷◌, ◌++◌}
+use Rattle.mp_text.proofs.Names.{ℕ, true, false, suc, List, [], append_assoc, length, filter, All, Ok, refl, sym, ap, ◌∙◌, arith, slice_split, position_or_len, list_all, nat_tests, append-nil, All-head, All-tail, All-cons, All-nil, list_all-append, spaced, written_line, IsPlain, is_plain_byte, plain_allowed, plain_no_gap, plain_no_hash, All-passing, list_all-passing, lines_of, is_line_feed, is_allowed, line_words, words_of, statement_part, is_word, is_gap}
 use Rattle.std.proofs.lemmas.List.Splits.{slice_split_at, slice_split_none}
-use Rattle.mp_words.specs.Lines.{lines_of, is_line_feed, is_allowed, line_words}
-use Rattle.mp_words.specs.Words.{words_of, statement_part, is_word, is_gap}
+use Rattle.mp_words.proofs.LineLemmas.{lines_of-line as lines_of-ended}
 
 no_hash : (w : List ℕ) → IsPlain w → All (λ b. (b == 35) ≡ false) w
 no_hash w plain = All-passing is_plain_byte (λ b. (b == 35) ≡ false) plain_no_hash w plain.plain
@@ -18,17 +18,13 @@ part-append (b ∷ w) rest all =
     rw (here, one) (ap (λ l. b ∷ l) (part-append w rest (All-tail (λ b. (b == 35) ≡ false) b w all)))
 
 word_kept : (w : List ℕ) (parts : List (List ℕ)) → 0 < length w → filter is_word (w ∷ parts) ≡ w ∷ filter is_word parts
-word_kept [] parts some = absurd (omega (arith, some))
-word_kept (b ∷ w) parts some = let no : (suc (length w) == 0) ≡ false = grind (arith, nat_tests) in rw no refl
+word_kept [] parts some = grind (arith, nat_tests)
+word_kept (b ∷ w) parts some = grind (arith, nat_tests)
 
 -- a word and a space in front of a line
 pub words_of-cons : (w line : List ℕ) → IsPlain w → words_of (w ++ 32 ∷ line) ≡ w ∷ words_of line
 unfolding words_of
-words_of-cons w line plain =
-    let space : statement_part (32 ∷ line) ≡ 32 ∷ statement_part line = part-append (32 ∷ []) line (All-cons (λ b. (b == 35) ≡ false) 32 [] refl (All-nil (λ b. (b == 35) ≡ false))) in
-    let part : statement_part (w ++ 32 ∷ line) ≡ w ++ 32 ∷ statement_part line = part-append w (32 ∷ line) (no_hash w plain) ∙ ap (λ l. w ++ l) space in
-    let split : slice_split is_gap (w ++ 32 ∷ statement_part line) ≡ w ∷ slice_split is_gap (statement_part line) = slice_split_at is_gap w 32 (statement_part line) (no_gap w plain) refl in
-    ap (λ l. filter is_word (slice_split is_gap l)) part ∙ ap (filter is_word) split ∙ word_kept w (slice_split is_gap (statement_part line)) plain.some
+words_of-cons w line plain = grind (arith, nat_tests, part-append, All-cons, All-nil, no_hash, slice_split_at, no_gap, word_kept)
 
 -- a last word
 pub words_of-last : (w : List ℕ) → IsPlain w → words_of w ≡ w ∷ []
@@ -39,42 +35,26 @@ words_of-last w plain =
 
 -- the words of a line as it is written
 pub words_of-spaced : (first : List ℕ) (words : List (List ℕ)) → IsPlain first → All IsPlain words → words_of (first ++ spaced words) ≡ first ∷ words
-words_of-spaced first [] plain all = ap words_of (append-nil first) ∙ words_of-last first plain
-words_of-spaced first (word ∷ words) plain all =
-    words_of-cons first (word ++ spaced words) plain
-    ∙ ap (λ l. first ∷ l) (words_of-spaced word words (All-head IsPlain word words all) (All-tail IsPlain word words all))
+words_of-spaced first [] plain all = grind (arith, nat_tests, append-nil, words_of-last)
+words_of-spaced first (word ∷ words) plain all = grind (arith, nat_tests, words_of-cons, All-head, All-tail, (words_of-spaced word words (All-head IsPlain word words all) (All-tail IsPlain word words all)))
 
 -- the bytes of such a line are allowed
 pub allowed-spaced : (first : List ℕ) (words : List (List ℕ)) → IsPlain first → All IsPlain words → list_all is_allowed (first ++ spaced words) ≡ true
-allowed-spaced first [] plain all =
-    ap (list_all is_allowed) (append-nil first) ∙ list_all-passing is_plain_byte is_allowed plain_allowed first plain.plain
-allowed-spaced first (word ∷ words) plain all =
-    let front = list_all-passing is_plain_byte is_allowed plain_allowed first plain.plain in
-    let back = allowed-spaced word words (All-head IsPlain word words all) (All-tail IsPlain word words all) in
-    list_all-append is_allowed first (32 ∷ (word ++ spaced words)) ∙ rw (front, back) refl
+allowed-spaced first [] plain all = grind (arith, nat_tests, append-nil, list_all-passing, plain_allowed)
+allowed-spaced first (word ∷ words) plain all = grind (arith, nat_tests, list_all-passing, plain_allowed, All-head, All-tail, list_all-append, (allowed-spaced word words (All-head IsPlain word words all) (All-tail IsPlain word words all)))
 
 -- such a line is read as its words
 pub line_words-spaced : (first : List ℕ) (words : List (List ℕ)) → IsPlain first → All IsPlain words → line_words (first ++ spaced words) ≡ Ok (first ∷ words)
-line_words-spaced first words plain all =
-    let allowed = allowed-spaced first words plain all in
-    let words = words_of-spaced first words plain all in
-    rw (allowed, words) refl
+line_words-spaced first words plain all = grind (arith, nat_tests, allowed-spaced, words_of-spaced)
 
 no_line_feed : (b : ℕ) → is_allowed b ≡ true → is_line_feed b ≡ false
 no_line_feed b allowed = grind (arith, nat_tests)
 
 -- a line in front of others
 pub lines_of-line : (line rest : List ℕ) → list_all is_allowed line ≡ true → lines_of (line ++ 10 ∷ rest) ≡ line ∷ lines_of rest
-unfolding lines_of
-lines_of-line [] rest all = refl
-lines_of-line (b ∷ line) rest all =
-    let parts = both (is_allowed b) (list_all is_allowed line) all in
-    let other = no_line_feed b parts.0 in
-    rw other (ap (onto_first b) (lines_of-line line rest parts.1))
+lines_of-line line rest all = lines_of-ended line (All-passing is_allowed (λ b. is_line_feed b ≡ false) no_line_feed line all) rest
 
 -- a written line in front of others
 pub lines_of-written : (first : List ℕ) (words : List (List ℕ)) (rest : List ℕ) → IsPlain first → All IsPlain words
     → lines_of (written_line first words ++ rest) ≡ (first ++ spaced words) ∷ lines_of rest
-lines_of-written first words rest plain all =
-    let same : written_line first words ++ rest ≡ (first ++ spaced words) ++ 10 ∷ rest = simp append_assoc in
-    ap lines_of same ∙ lines_of-line (first ++ spaced words) rest (allowed-spaced first words plain all)
+lines_of-written first words rest plain all = grind (arith, nat_tests, append_assoc, lines_of-line, allowed-spaced)

@@ -1,24 +1,19 @@
 -- What a script's batch says.
-use Rattle.std.specs.Prelude.{ℕ, List, [], ◌∷◌, map, Result, Ok, Err}
-use Rattle.std.specs.Borrow.{Bor}
-use Rattle.mp_text.specs.Names.{ok_or, byte, slice_split, SingleEdit, LineError, UnknownStatement, WordCount, texts, ◌>>=◌}
+use Rattle.std.specs.Prelude.{◌∷◌}
+use Rattle.mp_text.specs.Names.{ok_or, byte, slice_split, SingleEdit, LineError, UnknownStatement, WordCount, each_word, texts, ◌>>=◌, ℕ, List, [], map, Result, Err, Bor}
 use Rattle.mp_text.specs.Statements.{is_mark}
 use Rattle.mp_text.specs.SingleEdits.{single_word, single_edit}
 
 -- the edit of one thing that a part's words say
-unfoldable pub part_edit : List (List ℕ) → Result SingleEdit LineError
+abbrev pub part_edit : List (List ℕ) → Result SingleEdit LineError
 part_edit [] = Err WordCount
 part_edit (word ∷ words) = do
   first ← ok_or (single_word word) UnknownStatement
   single_edit first words
 
 -- what each of the parts says, or the code of the first that cannot be read
-unfoldable pub each_part : List (List (List ℕ)) → Result (List SingleEdit) LineError
-each_part [] = Ok []
-each_part (part ∷ parts) = do
-  edit ← part_edit part
-  edits ← each_part parts
-  Ok (edit ∷ edits)
+abbrev pub each_part : List (List (List ℕ)) → Result (List SingleEdit) LineError
+each_part parts = each_word part_edit parts
 
 -- the edits of the words behind `batch`: the words `;` divide them into parts
 abbrev pub batch_of : List (List ℕ) → Result (List SingleEdit) LineError

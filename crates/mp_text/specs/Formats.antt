@@ -1,12 +1,7 @@
 -- The forms of a text.
-use Rattle.std.specs.Prelude.{ℕ, ◌==◌, Result, Ok, Err, if◌then◌else◌}
-use Rattle.mp_text.specs.declared.text_code.TextCode.{TextCode}
-use Rattle.mp_text.specs.declared.text_code.TextCode.TheVariants.{BadFormat}
-use Rattle.mp_text.specs.declared.text_format.TextFormat.{TextFormat}
-use Rattle.mp_text.specs.declared.text_format.TextFormat.TheVariants.{First, Second, Third}
+use Rattle.std.specs.Prelude.{◌==◌, if◌then◌else◌}
 use Rattle.mp_netlist.specs.declared.format.Format.{Format as NetlistFormat}
-use Rattle.mp_netlist.specs.declared.format.Format.TheVariants.{Standard, Large}
-use Rattle.mp_netlist.specs.Limits.{horizon_limit}
+use Rattle.mp_text.specs.Names.{Standard, Large, horizon_limit, ℕ, Result, Ok, Err, TextCode, BadFormat, TextFormat, First, Second, Third}
 use Rattle.mp_text.specs.Limits.{max_first_horizon}
 
 -- the form of that number

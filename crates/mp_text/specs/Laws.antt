@@ -1,9 +1,8 @@
 -- What the netlist of a text is made of.
-use Rattle.std.specs.Prelude.{◌≡◌, ℕ, ◌==◌, List, [], ◌∷◌, Option, Some, None, Ok, map, if◌then◌else◌}
-use Rattle.mp_text.specs.Names.{filter_map, SingleEdit, Circuit, empty_circuit, replay, lines_of, words_of}
+use Rattle.std.specs.Prelude.{◌≡◌, ◌==◌, ◌∷◌, if◌then◌else◌}
+use Rattle.mp_text.specs.Names.{filter_map, SingleEdit, Circuit, empty_circuit, replay, lines_of, words_of, Standard, Large, ℕ, List, [], Option, Some, None, Ok, map}
 use Rattle.mp_records.specs.declared.edit.Edit.TheVariants.{Single}
 use Rattle.mp_netlist.specs.declared.format.Format.{Format as NetlistFormat}
-use Rattle.mp_netlist.specs.declared.format.Format.TheVariants.{Standard, Large}
 use Rattle.mp_text.specs.Statements.{Statement, Blank, Format, Start, Change, statement_of}
 use Rattle.mp_text.specs.Texts.{text_at}
 

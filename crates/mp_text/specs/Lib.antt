@@ -14,3 +14,4 @@ pub mod Laws
 pub mod Written
 pub mod Sections
 pub mod RoundTrips
+pub mod Clauses

@@ -1,5 +1,5 @@
 -- The limits of a text.
-use Rattle.std.specs.Prelude.{ℕ}
+use Rattle.mp_text.specs.Names.{ℕ}
 
 -- how many bytes a text of any form may have
 abbrev pub max_text : ℕ

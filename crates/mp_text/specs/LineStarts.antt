@@ -1,14 +1,7 @@
 -- How a script's line begins: what is looked at before memory is taken.
-use Rattle.std.specs.Prelude.{ℕ, Bool, false, ◌==◌, ◌||◌, List, [], ◌∷◌, length, Option, None, Some, IsTrue, nat_le}
-use Rattle.mp_text.specs.Names.{list_all, is_allowed, words_of}
-use Rattle.mp_text.specs.declared.edit_word.EditWord.{EditWord}
-use Rattle.mp_text.specs.declared.edit_word.EditWord.TheVariants.{Wire, Module, Stimulus, Bundle}
-use Rattle.mp_text.specs.declared.single_word.SingleWord.{SingleWord}
-use Rattle.mp_text.specs.declared.single_word.SingleWord.TheVariants.{Stated, Remove, Input, Output, InputDelay, Delay, Clear}
-use Rattle.mp_text.specs.declared.line_word.LineWord.{LineWord}
-use Rattle.mp_text.specs.declared.line_word.LineWord.TheVariants.{Single, Batch, Question}
-use Rattle.mp_text.specs.declared.question_word.QuestionWord.{QuestionWord}
-use Rattle.mp_text.specs.declared.question_word.QuestionWord.TheVariants.{Wave, Waves, Text, Report, Dump, Work, Show, Why, Path, Waits, Measure, Graph, Version, Edits}
+use Rattle.std.specs.Prelude.{◌==◌, ◌||◌, ◌∷◌}
+use Rattle.mp_text.specs.Names.{list_all, is_allowed, words_of, ℕ, Bool, false, List, [], length, Option, None, Some, IsTrue, nat_le, EditWord, Wire, Module, Stimulus, Bundle, SingleWord, LineWord, Single, Batch, Question, QuestionWord, Wave, Show, Why, Path, Waits, Measure, Edits}
+use Rattle.mp_text.specs.declared.single_word.SingleWord.TheVariants.{Stated, Remove, Clear}
 use Rattle.mp_text.specs.ScriptLines.{line_word}
 
 -- whether so many words may stand behind the first word of a statement
@@ -22,28 +15,19 @@ statement_takes Bundle count = count == 5
 abbrev pub single_takes : SingleWord → ℕ → Bool
 single_takes (Stated word) count = statement_takes word count
 single_takes Remove count = count == 2
-single_takes Input count = count == 3
-single_takes Output count = count == 3
-single_takes InputDelay count = count == 3
-single_takes Delay count = count == 3
 single_takes Clear count = count == 1
+single_takes port count = count == 3
 
 -- whether so many words may stand behind the first word of a question
 abbrev pub question_takes : QuestionWord → ℕ → Bool
 question_takes Wave count = count == 1
-question_takes Waves count = count == 0
-question_takes Text count = count == 0
-question_takes Report count = count == 0
-question_takes Dump count = count == 0
-question_takes Work count = count == 0
 question_takes Show count = nat_le 2 count
 question_takes Why count = count == 2 || count == 3
 question_takes Path count = count == 2
 question_takes Waits count = count == 1
 question_takes Measure count = count == 2
-question_takes Graph count = count == 0
-question_takes Version count = count == 0
 question_takes Edits count = count == 1
+question_takes bare count = count == 0
 
 -- whether so many words may stand behind the first word of a line
 abbrev pub takes : LineWord → ℕ → Bool

@@ -1,17 +1,23 @@
 -- The names that many clauses and definitions here cite, passed on from one place. Declares nothing.
-pub use Rattle.std.specs.List.{after_first, before_first, enumerate_from, filter_map, flat_map, list_all, list_any, onto_first, position_from, position_or_len, slice_split}
-pub use Rattle.std.specs.Option.{ok_or}
+pub use Rattle.std.specs.Borrow.{Bor}
+pub use Rattle.std.specs.Fmt.{decimal}
+pub use Rattle.std.specs.List.{after_first, before_first, enumerate_from, filter_map, flat_map, list_all, list_any, onto_first, position_or_len, slice_split}
+pub use Rattle.std.specs.Option.{ok_or, option_copied}
+pub use Rattle.std.specs.Prelude.{Bool, Err, IsTrue, List, None, Ok, Option, Result, Some, [], codes, false, if◌then◌else◌, length, map, nat_le, option_map, take, ℕ, ◌&&◌, ◌++◌, ◌+◌, ◌==◌, ◌||◌, ◌∷◌, ◌≡◌, ◌≤◌, ◌⊎◌}
 pub use Rattle.std.specs.Result.{result_map_both}
 pub use Rattle.std.specs.Str.{byte, bytes_eq}
 pub use Rattle.mp_modules.specs.Kinds.{are_params, has_width, input_count, input_width, kind_named, output_count, output_width, word_of}
 pub use Rattle.mp_modules.specs.declared.kind.Kind.{Kind}
 pub use Rattle.mp_netlist.specs.Circuit.{Circuit, Drives, HasNames, HasWidth, IsBundle, IsCircuit, IsDelay, IsInputDelay, IsModule, bundle_at, empty_circuit, module_at, module_width, stimulus_at, stimulus_in, width_of, wire_at}
-pub use Rattle.mp_netlist.specs.Edits.{after_single, are_distinct, driven_names, edited, first_failing, go_on, refusal, unless}
-pub use Rattle.mp_netlist.specs.Limits.{max_bundles, max_delay, max_horizon, max_modules, max_setup, max_wires}
+pub use Rattle.mp_netlist.specs.Edits.{after_single, are_distinct, driven_names, first_failing, go_on, unless}
+pub use Rattle.mp_netlist.specs.Limits.{horizon_limit, max_delay, max_horizon, max_setup}
 pub use Rattle.mp_netlist.specs.Replays.{replay, replay_singles}
+pub use Rattle.mp_netlist.specs.declared.format.Format.TheVariants.{Large, Standard}
 pub use Rattle.mp_records.specs.declared.bundle_record.BundleRecord.{BundleRecord}
 pub use Rattle.mp_records.specs.declared.ids.WireId.{WireId}
 pub use Rattle.mp_records.specs.declared.module_record.ModuleRecord.{ModuleRecord}
+pub use Rattle.mp_records.specs.declared.new_bundle.NewBundle.{NewBundle}
+pub use Rattle.mp_records.specs.declared.new_module.NewModule.{NewModule}
 pub use Rattle.mp_records.specs.declared.port_names.InputName.{InputName}
 pub use Rattle.mp_records.specs.declared.port_names.OutputName.{OutputName}
 pub use Rattle.mp_records.specs.declared.ports.Input.{Input}
@@ -20,6 +26,7 @@ pub use Rattle.mp_records.specs.declared.single_edit.SingleEdit.{SingleEdit}
 pub use Rattle.mp_records.specs.declared.single_edit.SingleEdit.TheVariants.{AddBundle, AddModule, AddWire, ClearStimulus, RemoveBundle, RemoveModule, RemoveWire, RewireInput, RewireOutput, SetDelay, SetInputDelay, SetStimulus}
 pub use Rattle.mp_records.specs.declared.wire_record.WireRecord.{WireRecord}
 pub use Rattle.mp_streams.specs.Outgoing.{Writes}
+pub use Rattle.mp_words.specs.LineErrors.{line_name_of, line_number_of}
 pub use Rattle.mp_words.specs.Lines.{is_allowed, line_words, lines_of}
 pub use Rattle.mp_words.specs.Reads.{Gives, with_front, ◌>>=◌}
 pub use Rattle.mp_words.specs.WaveLines.{changes_text, pair_text}
@@ -27,3 +34,20 @@ pub use Rattle.mp_words.specs.WordLists.{change_word, each_word, input_word, num
 pub use Rattle.mp_words.specs.Words.{AreAscii, texts, words_of}
 pub use Rattle.mp_words.specs.declared.line_error.LineError.{LineError}
 pub use Rattle.mp_words.specs.declared.line_error.LineError.TheVariants.{BadNumber, NotAscii, OutOfMemory, UnknownStatement, WordCount}
+pub use Rattle.mp_text.specs.declared.edit_word.EditWord.{EditWord}
+pub use Rattle.mp_text.specs.declared.edit_word.EditWord.TheVariants.{Bundle, Module, Stimulus, Wire}
+pub use Rattle.mp_text.specs.declared.line_word.LineWord.{LineWord}
+pub use Rattle.mp_text.specs.declared.line_word.LineWord.TheVariants.{Batch, Question, Single}
+pub use Rattle.mp_text.specs.declared.question_word.QuestionWord.{QuestionWord}
+pub use Rattle.mp_text.specs.declared.question_word.QuestionWord.TheVariants.{Dump, Edits, Graph, Measure, Path, Report, Show, Text, Version, Waits, Wave, Waves, Why, Work}
+pub use Rattle.mp_text.specs.declared.script_line.Line.TheVariants.{Ask, Change, Empty}
+pub use Rattle.mp_text.specs.declared.section.Section.{Section}
+pub use Rattle.mp_text.specs.declared.section.Section.TheVariants.{Bundles, Modules, Stimuli, Wires}
+pub use Rattle.mp_text.specs.declared.single_word.SingleWord.{SingleWord}
+pub use Rattle.mp_text.specs.declared.text_code.TextCode.{TextCode}
+pub use Rattle.mp_text.specs.declared.text_code.TextCode.TheVariants.{BadFormat, Line, NoHorizon, Refused, SecondHorizon, TooLong}
+pub use Rattle.mp_text.specs.declared.text_error.TextError.{TextError}
+pub use Rattle.mp_text.specs.declared.text_format.TextFormat.{TextFormat}
+pub use Rattle.mp_text.specs.declared.text_format.TextFormat.TheVariants.{First, Second, Third}
+pub use Rattle.mp_text.specs.declared.text_state.TextState.{TextState}
+pub use Rattle.mp_text.specs.declared.text_state.TextState.TheVariants.{Formatted, Fresh, Open}

@@ -1,14 +1,13 @@
 -- What a script asks for.
-use Rattle.std.specs.Prelude.{ℕ, Bool, ◌&&◌, List, [], ◌∷◌, Option, Some, None, Result, Ok, Err, nat_le, if◌then◌else◌, codes}
-use Rattle.mp_text.specs.Names.{bytes_eq, LineError, WordCount, BadNumber, ◌>>=◌, number_word}
+use Rattle.std.specs.Prelude.{◌&&◌, ◌∷◌, if◌then◌else◌}
+use Rattle.mp_text.specs.Names.{bytes_eq, LineError, WordCount, BadNumber, ◌>>=◌, number_word, ℕ, List, [], Option, Some, None, Result, Ok, Err, nat_le, codes, QuestionWord, Wave, Waves, Text, Report, Dump, Work, Show, Why, Path, Waits, Measure, Graph, Version, Edits}
 use Rattle.mp_text.specs.declared.question.Question.{Question}
 use Rattle.mp_text.specs.declared.question.Question.TheVariants as questions
-use Rattle.mp_text.specs.declared.question_word.QuestionWord.{QuestionWord}
-use Rattle.mp_text.specs.declared.question_word.QuestionWord.TheVariants.{Wave, Waves, Text, Report, Dump, Work, Show, Why, Path, Waits, Measure, Graph, Version, Edits}
+use Rattle.mp_text.specs.Statements.{stated_number}
 use Rattle.mp_text.specs.Limits.{max_steps, usual_steps}
 
 -- the question of the words behind `wave`
-unfoldable pub wave_question : List (List ℕ) → Result Question LineError
+abbrev pub wave_question : List (List ℕ) → Result Question LineError
 wave_question (wire ∷ []) = Ok (questions.Wave wire)
 wave_question _ = Err WordCount
 
@@ -18,7 +17,7 @@ bare_question question [] = Ok question
 bare_question question (word ∷ words) = Err WordCount
 
 -- the question of the words behind `show`
-unfoldable pub show_question : List (List ℕ) → Result Question LineError
+abbrev pub show_question : List (List ℕ) → Result Question LineError
 show_question (from ∷ to ∷ wires) = do
   f ← number_word from
   t ← number_word to
@@ -29,52 +28,38 @@ show_question _ = Err WordCount
 abbrev pub chain_steps : ℕ → Result ℕ LineError
 chain_steps steps = if nat_le 1 steps && nat_le steps max_steps then Ok steps else Err BadNumber
 
-unfoldable pub steps_word : List ℕ → Result ℕ LineError
+abbrev pub steps_word : List ℕ → Result ℕ LineError
 steps_word word = do
   steps ← number_word word
   chain_steps steps
 
 -- a wire, a time and a number of steps
-unfoldable pub chain_question : List ℕ → List ℕ → Result ℕ LineError → Result Question LineError
+abbrev pub chain_question : List ℕ → List ℕ → Result ℕ LineError → Result Question LineError
 chain_question wire time steps = do
   t ← number_word time
   k ← steps
   Ok (questions.Why wire t k)
 
 -- the question of the words behind `why`
-unfoldable pub why_question : List (List ℕ) → Result Question LineError
+abbrev pub why_question : List (List ℕ) → Result Question LineError
 why_question (wire ∷ time ∷ []) = chain_question wire time (Ok usual_steps)
 why_question (wire ∷ time ∷ steps ∷ []) = chain_question wire time (steps_word steps)
 why_question _ = Err WordCount
 
 -- the question of the words behind `path`
-unfoldable pub path_question : List (List ℕ) → Result Question LineError
+abbrev pub path_question : List (List ℕ) → Result Question LineError
 path_question (wire ∷ time ∷ []) = do
   t ← number_word time
   Ok (questions.Path wire t)
 path_question _ = Err WordCount
 
--- the question of the words behind `waits`
-unfoldable pub waits_question : List (List ℕ) → Result Question LineError
-waits_question (time ∷ []) = do
-  t ← number_word time
-  Ok (questions.Waits t)
-waits_question _ = Err WordCount
-
 -- the question of the words behind `measure`
-unfoldable pub measure_question : List (List ℕ) → Result Question LineError
+abbrev pub measure_question : List (List ℕ) → Result Question LineError
 measure_question (from ∷ to ∷ []) = do
   f ← number_word from
   t ← number_word to
   Ok (questions.Measure f t)
 measure_question _ = Err WordCount
-
--- the question of the words behind `edits`
-unfoldable pub edits_question : List (List ℕ) → Result Question LineError
-edits_question (from ∷ []) = do
-  f ← number_word from
-  Ok (questions.Edits f)
-edits_question _ = Err WordCount
 
 -- the first word of a question
 abbrev pub question_word : List ℕ → Option QuestionWord
@@ -96,7 +81,7 @@ question_word word =
     else None)))))))))))))
 
 -- the question of that word and the words behind it
-unfoldable pub stated_question : QuestionWord → List (List ℕ) → Result Question LineError
+abbrev pub stated_question : QuestionWord → List (List ℕ) → Result Question LineError
 stated_question Wave words = wave_question words
 stated_question Waves words = bare_question questions.Waves words
 stated_question Text words = bare_question questions.Text words
@@ -106,8 +91,12 @@ stated_question Work words = bare_question questions.Work words
 stated_question Show words = show_question words
 stated_question Why words = why_question words
 stated_question Path words = path_question words
-stated_question Waits words = waits_question words
+stated_question Waits words = do
+  time ← stated_number words
+  Ok (questions.Waits time)
 stated_question Measure words = measure_question words
 stated_question Graph words = bare_question questions.Graph words
 stated_question Version words = bare_question questions.Version words
-stated_question Edits words = edits_question words
+stated_question Edits words = do
+  from ← stated_number words
+  Ok (questions.Edits from)

@@ -1,16 +1,17 @@
 -- What is written is read again.
-use Rattle.std.specs.Prelude.{◌≡◌, ℕ, ◌≤◌, List, [], ◌∷◌, ◌++◌, length, map, Option, Some, None, Ok, option_map}
-use Rattle.mp_text.specs.Names.{flat_map, filter_map, WireRecord, ModuleRecord, BundleRecord, Input, Output, InputName, OutputName, SingleEdit, AddWire, AddModule, AddBundle, SetStimulus, Circuit, IsCircuit}
-use Rattle.mp_records.specs.declared.new_module.NewModule.{NewModule}
-use Rattle.mp_records.specs.declared.new_bundle.NewBundle.{NewBundle}
+use Rattle.std.specs.Prelude.{◌≡◌, ◌≤◌, ◌∷◌, ◌++◌}
+use Rattle.mp_text.specs.Names.{flat_map, filter_map, WireRecord, ModuleRecord, BundleRecord, Input, Output, InputName, OutputName, SingleEdit, AddWire, AddModule, AddBundle, SetStimulus, Circuit, IsCircuit, ℕ, List, [], length, map, Option, Some, None, Ok, option_map, NewModule, NewBundle}
 use Rattle.mp_text.specs.Sizes.{text_limit}
 use Rattle.mp_text.specs.Texts.{text_at}
 use Rattle.mp_text.specs.Written.{written, wire_name}
 
--- the edit that adds what stands in a wire's slot, and none where nothing does
+-- the edit for what stands in a slot, and none where nothing does
+abbrev pub edit_for : {R : Type 0} → (R → SingleEdit) → Option R → List SingleEdit
+edit_for edit None = []
+edit_for edit (Some r) = edit r ∷ []
+
 abbrev pub wire_edits : Option WireRecord → List SingleEdit
-wire_edits None = []
-wire_edits (Some r) = AddWire r.name r.width r.initial ∷ []
+wire_edits = edit_for (λ r. AddWire r.name r.width r.initial)
 
 -- an input with its wire's name
 abbrev pub input_by_name : Circuit → Input → InputName
@@ -25,13 +26,14 @@ abbrev pub module_by_name : Circuit → ModuleRecord → NewModule
 module_by_name n r =
     record { name = r.name; kind = r.kind; params = r.params; inputs = map (input_by_name n) r.inputs; outputs = map (output_by_name n) r.outputs }
 
+abbrev pub added_module : Circuit → ModuleRecord → SingleEdit
+added_module n r = AddModule (module_by_name n r)
+
 abbrev pub module_edits : Circuit → Option ModuleRecord → List SingleEdit
-module_edits n None = []
-module_edits n (Some r) = AddModule (module_by_name n r) ∷ []
+module_edits n = edit_for (added_module n)
 
 abbrev pub set_edits : List ℕ → Option (List (ℕ × ℕ)) → List SingleEdit
-set_edits name None = []
-set_edits name (Some changes) = SetStimulus name changes ∷ []
+set_edits name = edit_for (SetStimulus name)
 
 -- the edit that sets the stimulus of what stands in a wire's slot, if any
 abbrev pub stimulus_edits : Option WireRecord → List SingleEdit
@@ -49,9 +51,11 @@ bundle_by_name n r =
       setup = r.setup;
     }
 
+abbrev pub added_bundle : Circuit → BundleRecord → SingleEdit
+added_bundle n r = AddBundle (bundle_by_name n r)
+
 abbrev pub bundle_edits : Circuit → Option BundleRecord → List SingleEdit
-bundle_edits n None = []
-bundle_edits n (Some r) = AddBundle (bundle_by_name n r) ∷ []
+bundle_edits n = edit_for (added_bundle n)
 
 -- the edits that add the records of a netlist by name: wires, modules, stimuli by wire and bundles, each by number
 abbrev pub edits_by_name : Circuit → List SingleEdit

@@ -1,14 +1,9 @@
 -- What a script's line says.
-use Rattle.std.specs.Prelude.{ℕ, List, [], ◌∷◌, Option, Some, None, Result, Ok, Err, if◌then◌else◌, codes, option_map}
-use Rattle.mp_text.specs.Names.{ok_or, bytes_eq, SingleEdit, LineError, UnknownStatement, WordCount, line_words, ◌>>=◌}
+use Rattle.std.specs.Prelude.{◌∷◌, if◌then◌else◌}
+use Rattle.mp_text.specs.Names.{ok_or, bytes_eq, SingleEdit, LineError, UnknownStatement, line_words, ◌>>=◌, ℕ, List, [], Option, Some, None, Result, Ok, Err, codes, option_map, LineWord, Single, Batch, Question, Empty, Change, Ask, QuestionWord, SingleWord}
 use Rattle.mp_records.specs.declared.edit.Edit.TheVariants as edits
-use Rattle.mp_text.specs.declared.line_word.LineWord.{LineWord}
-use Rattle.mp_text.specs.declared.line_word.LineWord.TheVariants.{Single, Batch, Question}
 use Rattle.mp_text.specs.declared.script_line.Line.{Line}
-use Rattle.mp_text.specs.declared.script_line.Line.TheVariants.{Empty, Change, Ask}
 use Rattle.mp_text.specs.declared.question.Question.{Question as Asked}
-use Rattle.mp_text.specs.declared.question_word.QuestionWord.{QuestionWord}
-use Rattle.mp_text.specs.declared.single_word.SingleWord.{SingleWord}
 use Rattle.mp_text.specs.SingleEdits.{single_word, single_edit}
 use Rattle.mp_text.specs.Batches.{batch_of}
 use Rattle.mp_text.specs.Questions.{question_word, stated_question}
@@ -37,7 +32,7 @@ line_word word =
     else known_word (question_word word) (single_word word)
 
 -- the line of that word and the words behind it
-unfoldable pub stated_line : LineWord → List (List ℕ) → Result Line LineError
+abbrev pub stated_line : LineWord → List (List ℕ) → Result Line LineError
 stated_line (Single word) words = single_line (single_edit word words)
 stated_line Batch words = batch_line (batch_of words)
 stated_line (Question word) words = question_line (stated_question word words)

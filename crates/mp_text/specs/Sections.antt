@@ -1,8 +1,5 @@
 -- The sections of a netlist's text, slot by slot.
-use Rattle.std.specs.Prelude.{ℕ, List, length}
-use Rattle.mp_text.specs.Names.{flat_map, Circuit, wire_at, module_at, bundle_at}
-use Rattle.mp_text.specs.declared.section.Section.{Section}
-use Rattle.mp_text.specs.declared.section.Section.TheVariants.{Wires, Modules, Stimuli, Bundles}
+use Rattle.mp_text.specs.Names.{flat_map, Circuit, wire_at, module_at, bundle_at, ℕ, List, length, Section, Wires, Modules, Stimuli, Bundles}
 use Rattle.mp_text.specs.Written.{wire_line, module_line, stimulus_line, bundle_line}
 
 -- how many slots a section goes through

@@ -1,12 +1,11 @@
 -- What a script's edit of one thing says.
-use Rattle.std.specs.Prelude.{ℕ, List, [], ◌∷◌, Option, Some, Result, Ok, Err, if◌then◌else◌, codes, option_map}
-use Rattle.mp_text.specs.Names.{bytes_eq, SingleEdit, RemoveWire, RemoveModule, RemoveBundle, RewireInput, RewireOutput, SetInputDelay, SetDelay, ClearStimulus, LineError, UnknownStatement, WordCount, number_word, wire_or_none, ◌>>=◌}
-use Rattle.mp_text.specs.declared.single_word.SingleWord.{SingleWord}
+use Rattle.std.specs.Prelude.{◌∷◌, if◌then◌else◌}
+use Rattle.mp_text.specs.Names.{bytes_eq, SingleEdit, RemoveWire, RemoveModule, RemoveBundle, RewireInput, RewireOutput, SetInputDelay, SetDelay, ClearStimulus, LineError, UnknownStatement, WordCount, number_word, wire_or_none, ◌>>=◌, ℕ, List, [], Option, Some, Result, Ok, Err, codes, option_map, SingleWord}
 use Rattle.mp_text.specs.declared.single_word.SingleWord.TheVariants.{Stated, Remove, Input, Output, InputDelay, Delay, Clear}
 use Rattle.mp_text.specs.Statements.{edit_word, stated_edit}
 
 -- the edit of the words behind `remove`
-unfoldable pub removal : List (List ℕ) → Result SingleEdit LineError
+abbrev pub removal : List (List ℕ) → Result SingleEdit LineError
 removal (thing ∷ name ∷ []) =
     if bytes_eq thing (codes "wire") then Ok (RemoveWire name)
     else (if bytes_eq thing (codes "module") then Ok (RemoveModule name)
@@ -15,21 +14,21 @@ removal (thing ∷ name ∷ []) =
 removal _ = Err WordCount
 
 -- the edit of the words behind `input`
-unfoldable pub input_edit : List (List ℕ) → Result SingleEdit LineError
+abbrev pub input_edit : List (List ℕ) → Result SingleEdit LineError
 input_edit (part ∷ port ∷ wire ∷ []) = do
   p ← number_word port
   Ok (RewireInput part p wire)
 input_edit _ = Err WordCount
 
 -- the edit of the words behind `output`, where `-` is no wire
-unfoldable pub output_edit : List (List ℕ) → Result SingleEdit LineError
+abbrev pub output_edit : List (List ℕ) → Result SingleEdit LineError
 output_edit (part ∷ port ∷ wire ∷ []) = do
   p ← number_word port
   Ok (RewireOutput part p (wire_or_none wire))
 output_edit _ = Err WordCount
 
 -- the edit of the words behind `indelay`
-unfoldable pub input_delay_edit : List (List ℕ) → Result SingleEdit LineError
+abbrev pub input_delay_edit : List (List ℕ) → Result SingleEdit LineError
 input_delay_edit (part ∷ port ∷ delay ∷ []) = do
   p ← number_word port
   d ← number_word delay
@@ -37,7 +36,7 @@ input_delay_edit (part ∷ port ∷ delay ∷ []) = do
 input_delay_edit _ = Err WordCount
 
 -- the edit of the words behind `delay`
-unfoldable pub delay_edit : List (List ℕ) → Result SingleEdit LineError
+abbrev pub delay_edit : List (List ℕ) → Result SingleEdit LineError
 delay_edit (part ∷ port ∷ delay ∷ []) = do
   p ← number_word port
   d ← number_word delay
@@ -45,7 +44,7 @@ delay_edit (part ∷ port ∷ delay ∷ []) = do
 delay_edit _ = Err WordCount
 
 -- the edit of the words behind `clear`
-unfoldable pub clearing : List (List ℕ) → Result SingleEdit LineError
+abbrev pub clearing : List (List ℕ) → Result SingleEdit LineError
 clearing (wire ∷ []) = Ok (ClearStimulus wire)
 clearing _ = Err WordCount
 
@@ -61,7 +60,7 @@ single_word word =
     else option_map Stated (edit_word word))))))
 
 -- the edit of that word and the words behind it
-unfoldable pub single_edit : SingleWord → List (List ℕ) → Result SingleEdit LineError
+abbrev pub single_edit : SingleWord → List (List ℕ) → Result SingleEdit LineError
 single_edit (Stated word) words = stated_edit word words
 single_edit Remove words = removal words
 single_edit Input words = input_edit words

@@ -1,10 +1,6 @@
 -- How long a text may be.
-use Rattle.std.specs.Prelude.{ℕ, ◌+◌, Bool, false, ◌&&◌, ◌==◌, List, [], ◌∷◌, take, length, Result, Ok, Err, codes, if◌then◌else◌}
-use Rattle.std.specs.Str.{bytes_eq}
-use Rattle.mp_words.specs.declared.line_error.LineError.{LineError}
-use Rattle.mp_words.specs.Lines.{lines_of}
-use Rattle.mp_words.specs.Words.{words_of}
-use Rattle.mp_words.specs.WordLists.{number_word}
+use Rattle.std.specs.Prelude.{◌+◌, ◌&&◌, ◌==◌, ◌∷◌, if◌then◌else◌}
+use Rattle.mp_text.specs.Names.{bytes_eq, LineError, lines_of, words_of, number_word, ℕ, Bool, false, List, [], take, length, Result, Ok, Err, codes}
 use Rattle.mp_text.specs.Limits.{max_text, max_short_text}
 
 -- the words of the first line that has some

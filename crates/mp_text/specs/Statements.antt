@@ -1,19 +1,17 @@
 -- What a line's words say.
-use Rattle.std.specs.Prelude.{ℕ, ◌||◌, Bool, ◌==◌, List, [], ◌∷◌, length, Option, Some, None, Result, Ok, Err, if◌then◌else◌, codes}
-use Rattle.mp_text.specs.Names.{ok_or, byte, bytes_eq, before_first, after_first, Kind, kind_named, SingleEdit, AddWire, AddModule, AddBundle, SetStimulus, LineError, UnknownStatement, WordCount, number_word, change_word, input_word, output_word, each_word, ◌>>=◌}
-use Rattle.mp_text.specs.declared.edit_word.EditWord.{EditWord}
-use Rattle.mp_text.specs.declared.edit_word.EditWord.TheVariants.{Wire, Module, Stimulus, Bundle}
+use Rattle.std.specs.Prelude.{◌||◌, ◌==◌, ◌∷◌, if◌then◌else◌}
+use Rattle.mp_text.specs.Names.{ok_or, byte, bytes_eq, before_first, after_first, Kind, kind_named, SingleEdit, AddWire, AddModule, AddBundle, SetStimulus, LineError, UnknownStatement, WordCount, number_word, change_word, input_word, output_word, each_word, ◌>>=◌, ℕ, Bool, List, [], length, Option, Some, None, Result, Ok, Err, codes, EditWord, Wire, Module, Stimulus, Bundle}
 
 abbrev pub kind_word : List ℕ → Result Kind LineError
 kind_word word = ok_or (kind_named word) UnknownStatement
 
--- the number of the words behind `format` and `horizon`
+-- the number that the words are, where they are one
 abbrev pub stated_number : List (List ℕ) → Result ℕ LineError
 stated_number (word ∷ []) = number_word word
 stated_number _ = Err WordCount
 
 -- the edit of the words behind `wire`
-unfoldable pub wire_edit : List (List ℕ) → Result SingleEdit LineError
+abbrev pub wire_edit : List (List ℕ) → Result SingleEdit LineError
 wire_edit (name ∷ width ∷ level ∷ []) = do
   w ← number_word width
   l ← number_word level
@@ -21,7 +19,7 @@ wire_edit (name ∷ width ∷ level ∷ []) = do
 wire_edit _ = Err WordCount
 
 -- the edit of the parts of the words behind `module`, where there is an input and an output
-unfoldable pub parts_edit : List ℕ → List ℕ → List (List ℕ) → List (List ℕ) → List (List ℕ) → Result SingleEdit LineError
+abbrev pub parts_edit : List ℕ → List ℕ → List (List ℕ) → List (List ℕ) → List (List ℕ) → Result SingleEdit LineError
 parts_edit name kind params inputs outputs =
     if length inputs == 0 || length outputs == 0 then Err WordCount
     else (do
@@ -37,21 +35,21 @@ is_mark mark word = bytes_eq word (mark ∷ [])
 
 -- the edit of the words behind `module`: the first `:` behind the kind and the first `>` behind it divide them
 -- (where one of these is missing there are no outputs)
-unfoldable pub module_edit : List (List ℕ) → Result SingleEdit LineError
+abbrev pub module_edit : List (List ℕ) → Result SingleEdit LineError
 module_edit (name ∷ kind ∷ words) =
     let ports = after_first (is_mark (byte ":")) words in
     parts_edit name kind (before_first (is_mark (byte ":")) words) (before_first (is_mark (byte ">")) ports) (after_first (is_mark (byte ">")) ports)
 module_edit _ = Err WordCount
 
 -- the edit of the words behind `stim`
-unfoldable pub stimulus_edit : List (List ℕ) → Result SingleEdit LineError
+abbrev pub stimulus_edit : List (List ℕ) → Result SingleEdit LineError
 stimulus_edit [] = Err WordCount
 stimulus_edit (wire ∷ words) = do
   changes ← each_word change_word words
   Ok (SetStimulus wire changes)
 
 -- the edit of the words behind `bundle`
-unfoldable pub bundle_edit : List (List ℕ) → Result SingleEdit LineError
+abbrev pub bundle_edit : List (List ℕ) → Result SingleEdit LineError
 bundle_edit (name ∷ request ∷ acknowledge ∷ payload ∷ setup ∷ []) = do
   s ← number_word setup
   Ok (AddBundle (record { name = name; request = request; acknowledge = acknowledge; payload = payload; setup = s }))
@@ -67,7 +65,7 @@ edit_word word =
     else None)))
 
 -- the edit of the words behind that word
-unfoldable pub stated_edit : EditWord → List (List ℕ) → Result SingleEdit LineError
+abbrev pub stated_edit : EditWord → List (List ℕ) → Result SingleEdit LineError
 stated_edit Wire words = wire_edit words
 stated_edit Module words = module_edit words
 stated_edit Stimulus words = stimulus_edit words

@@ -1,8 +1,5 @@
 -- The number and the name of each fault of a text.
-use Rattle.std.specs.Prelude.{ℕ, List, codes}
-use Rattle.mp_words.specs.LineErrors.{line_number_of, line_name_of}
-use Rattle.mp_text.specs.declared.text_code.TextCode.{TextCode}
-use Rattle.mp_text.specs.declared.text_code.TextCode.TheVariants.{Line, NoHorizon, SecondHorizon, Refused, TooLong, BadFormat}
+use Rattle.mp_text.specs.Names.{ℕ, List, codes, line_number_of, line_name_of, TextCode, Line, NoHorizon, SecondHorizon, Refused, TooLong, BadFormat}
 
 abbrev pub number_of : TextCode → ℕ
 number_of (Line error) = line_number_of error

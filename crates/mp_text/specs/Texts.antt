@@ -1,13 +1,6 @@
 -- What a netlist's text means.
-use Rattle.std.specs.Prelude.{◌≡◌, ◌⊎◌, ℕ, ◌+◌, ◌≤◌, List, [], ◌∷◌, ◌&&◌, length, Result, Ok, Err, nat_le, if◌then◌else◌}
-use Rattle.mp_text.specs.Names.{result_map_both, Circuit, empty_circuit, after_single, LineError, UnknownStatement, BadNumber, OutOfMemory, lines_of, line_words, ◌>>=◌}
-use Rattle.mp_text.specs.declared.text_code.TextCode.{TextCode}
-use Rattle.mp_text.specs.declared.text_code.TextCode.TheVariants.{Line, BadFormat, NoHorizon, SecondHorizon, Refused, TooLong}
-use Rattle.mp_text.specs.declared.text_error.TextError.{TextError}
-use Rattle.mp_text.specs.declared.text_format.TextFormat.{TextFormat}
-use Rattle.mp_text.specs.declared.text_format.TextFormat.TheVariants.{First}
-use Rattle.mp_text.specs.declared.text_state.TextState.{TextState}
-use Rattle.mp_text.specs.declared.text_state.TextState.TheVariants.{Fresh, Formatted, Open}
+use Rattle.std.specs.Prelude.{◌≡◌, ◌⊎◌, ◌+◌, ◌≤◌, ◌∷◌, ◌&&◌, if◌then◌else◌}
+use Rattle.mp_text.specs.Names.{result_map_both, Circuit, empty_circuit, after_single, LineError, UnknownStatement, BadNumber, OutOfMemory, lines_of, line_words, ◌>>=◌, ℕ, List, [], length, Result, Ok, Err, nat_le, TextCode, Line, BadFormat, NoHorizon, SecondHorizon, Refused, TooLong, TextError, TextFormat, First, TextState, Fresh, Formatted, Open}
 use Rattle.mp_text.specs.Formats.{format_of, max_horizon_of, netlist_format}
 use Rattle.mp_text.specs.Sizes.{text_limit}
 use Rattle.mp_text.specs.Statements.{Statement, Blank, Unknown, Format, Start, Change, statement_of}

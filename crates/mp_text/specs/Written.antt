@@ -1,9 +1,7 @@
 -- How a netlist is written.
-use Rattle.std.specs.Prelude.{ℕ, List, [], ◌∷◌, ◌++◌, map, Option, Some, None, codes, nat_le, ◌==◌, if◌then◌else◌}
-use Rattle.mp_text.specs.Names.{flat_map, word_of, WireId, WireRecord, ModuleRecord, BundleRecord, Input, Output, Circuit, wire_at, pair_text}
-use Rattle.std.specs.Fmt.{decimal}
+use Rattle.std.specs.Prelude.{◌∷◌, ◌++◌, ◌==◌, if◌then◌else◌}
+use Rattle.mp_text.specs.Names.{flat_map, word_of, WireId, WireRecord, ModuleRecord, BundleRecord, Input, Output, Circuit, wire_at, pair_text, Standard, Large, ℕ, List, [], map, Option, Some, None, codes, nat_le, decimal}
 use Rattle.mp_netlist.specs.declared.format.Format.{Format as NetlistFormat}
-use Rattle.mp_netlist.specs.declared.format.Format.TheVariants.{Standard, Large}
 use Rattle.mp_text.specs.Limits.{max_first_horizon}
 
 -- words, each behind a space

@@ -1,8 +1,6 @@
 //! The batches that scripts have.
-ghost use Rattle.std.specs.Prelude.{◌≡◌, ◌∷◌, IfOk, All, map};
-ghost use Rattle.mp_text.specs.Names.{slice_split, byte, OutOfMemory, Gives, texts, AreAscii};
-ghost use Rattle.mp_text.specs.Statements.{is_mark};
-ghost use Rattle.mp_text.specs.Batches.{part_edit, each_part, batch_of, part_texts};
+ghost use Rattle.std.specs.Prelude.{◌≡◌, ◌∷◌};
+ghost use Rattle.mp_text.specs.Clauses.{IfOk, All, map, slice_split, byte, OutOfMemory, Gives, texts, AreAscii, is_mark, part_edit, each_part, batch_of, part_texts};
 
 use crate::script_edit::single_edit;
 use crate::single_word::SingleWord;
@@ -26,7 +24,8 @@ fn parts<'a, 'b>(alloc: Global, words: &'a [&'b [u8]]) -> Result<Vec<&'a [&'b [u
     ensures parts { IfOk result (λ parts. part_texts parts.items ≡ slice_split (is_mark (byte ";")) (texts words.now)) }
     ensures ascii { IfOk result (λ parts. All (λ part. AreAscii part.now) parts.items) }
 {
-    split_parts(alloc, words)
+    let parts = split_parts(alloc, words)?;
+    Ok(parts)
 }
 
 fn split_parts<'a, 'b>(
@@ -39,6 +38,7 @@ fn split_parts<'a, 'b>(
 }
 
 /// The batch of the edits that the parts say, in order.
+#[tactic(auto, using(crate::proofs::BundleStageLemmas::batch_line_each_part_steps))]
 fn each_part(alloc: Global, parts: &[&[&[u8]]]) -> Result<Batch, LineError>
     requires { All (λ part. AreAscii part.now) parts.now }
     ensures { Gives OutOfMemory (λ batch. batch) result (each_part (part_texts parts.now)) }
@@ -52,7 +52,6 @@ fn each_part(alloc: Global, parts: &[&[&[u8]]]) -> Result<Batch, LineError>
 }
 
 /// The edit of one thing that a part's words say.
-#[tactic(auto, unfolding(crate::specs::Batches::part_edit))]
 fn part_edit(alloc: Global, words: &[&[u8]]) -> Result<SingleEdit, LineError>
     requires { AreAscii words.now }
     ensures { Gives OutOfMemory (λ edit. edit) result (part_edit (texts words.now)) }

@@ -15,8 +15,7 @@ pub enum EditWord {
 
 impl EditWord {
     ghost use Rattle.std.specs.Prelude.{◌≡◌};
-    ghost use Rattle.mp_text.specs.Statements.{edit_word};
-    ghost use Rattle.mp_text.specs.LineStarts.{statement_takes};
+    ghost use Rattle.mp_text.specs.Clauses.{edit_word, statement_takes};
 
     /// What the word is as such a first word, where it is one.
     pub fn from_word(word: &[u8]) -> Option<EditWord>

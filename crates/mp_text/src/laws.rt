@@ -1,6 +1,5 @@
 //! What the netlist of a text is made of.
-ghost use Rattle.mp_text.specs.Laws.{IsReplay};
-ghost use Rattle.mp_text.specs.RoundTrips.{IsReadAsWritten};
+ghost use Rattle.mp_text.specs.Clauses.{IsReplay, IsReadAsWritten};
 
 /// A text that is read states one horizon, and its netlist is the replay of its other statements'
 /// edits, in order, on the empty netlist of that horizon and of the format that it states.

@@ -15,8 +15,7 @@ pub enum LineWord {
 
 impl LineWord {
     ghost use Rattle.std.specs.Prelude.{◌≡◌};
-    ghost use Rattle.mp_text.specs.ScriptLines.{line_word};
-    ghost use Rattle.mp_text.specs.LineStarts.{takes};
+    ghost use Rattle.mp_text.specs.Clauses.{line_word, takes};
 
     /// What the word is as such a first word, where it is one.
     pub fn from_word(word: &[u8]) -> Option<LineWord>

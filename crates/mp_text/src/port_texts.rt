@@ -1,7 +1,6 @@
 //! The ports of a module, as a text has them.
-ghost use Rattle.std.specs.Prelude.{◌≡◌, ℕ, List, ◌∷◌};
-ghost use Rattle.mp_text.specs.Names.{flat_map, Circuit, Writes};
-ghost use Rattle.mp_text.specs.Written.{wire_name, input_text, output_name, output_text};
+ghost use Rattle.std.specs.Prelude.{◌≡◌, ◌∷◌};
+ghost use Rattle.mp_text.specs.Clauses.{ℕ, List, flat_map, Circuit, Writes, wire_name, input_text, output_name, output_text};
 
 use mp_netlist::{Input, Netlist, Output, WireId};
 use mp_streams::{Failed, Out, Sink, Text};

@@ -35,8 +35,7 @@ pub enum QuestionWord {
 
 impl QuestionWord {
     ghost use Rattle.std.specs.Prelude.{◌≡◌};
-    ghost use Rattle.mp_text.specs.Questions.{question_word};
-    ghost use Rattle.mp_text.specs.LineStarts.{question_takes};
+    ghost use Rattle.mp_text.specs.Clauses.{question_word, question_takes};
 
     /// What the word is as such a first word, where it is one.
     pub fn from_word(word: &[u8]) -> Option<QuestionWord>

@@ -1,9 +1,6 @@
 //! Reading a netlist's text.
-ghost use Rattle.std.specs.Prelude.{◌≤◌, IfErr, length};
-ghost use Rattle.mp_words.specs.Lines.{lines_of};
-ghost use Rattle.mp_text.specs.declared.text_state.TextState.TheVariants.{Fresh};
-ghost use Rattle.mp_text.specs.Limits.{max_text};
-ghost use Rattle.mp_text.specs.Texts.{text_at, after_lines, GivesText, IsReached, IsReachedIn};
+ghost use Rattle.std.specs.Prelude.{◌≤◌};
+ghost use Rattle.mp_text.specs.Clauses.{IfErr, length, lines_of, Fresh, max_text, text_at, after_lines, GivesText, IsReached, IsReachedIn};
 
 use crate::statement::line;
 use crate::text_code::TextCode;
@@ -27,6 +24,7 @@ use std::alloc::Global;
 /// with `format 3` not 1 to 1,073,741,824 (`BadNumber`); a `format` that is not 1, 2 or 3 (`BadFormat`); an edit that is refused (`Refused`).
 /// `TooLong` with line 0 is a text longer than its format allows, and `NoHorizon` with the number of lines one without a horizon.
 /// `OutOfMemory` comes with the line at which memory was wanting, none behind the first that fails.
+#[tactic(auto, using(crate::proofs::TextLemmas::text_over, crate::proofs::TextLemmas::text_within))]
 pub fn read_netlist(alloc: Global, text: &[u8]) -> Result<Netlist, TextError>
     ensures read { GivesText result (text_at text.now) }
     ensures reached { IfErr result (IsReached text.now) }
@@ -42,6 +40,7 @@ pub fn read_netlist(alloc: Global, text: &[u8]) -> Result<Netlist, TextError>
 }
 
 /// The same of a text that isn't longer than one of any format may be, whatever format it states.
+#[tactic(auto, using(crate::proofs::TextLemmas::reading_read_lines_steps))]
 pub fn read_lines(alloc: Global, text: &[u8]) -> Result<Netlist, TextError>
     requires { length text.now ≤ max_text }
     ensures read { GivesText result (after_lines 0 Fresh (lines_of text.now)) }

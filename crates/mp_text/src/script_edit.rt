@@ -1,7 +1,6 @@
 //! The edits that scripts alone have.
-ghost use Rattle.std.specs.Prelude.{◌≡◌, IfOk, IsAscii};
-ghost use Rattle.mp_text.specs.Names.{OutOfMemory, Gives, wire_or_none, texts, AreAscii};
-ghost use Rattle.mp_text.specs.SingleEdits.{removal, input_edit, output_edit, input_delay_edit, delay_edit, clearing, single_edit};
+ghost use Rattle.std.specs.Prelude.{◌≡◌};
+ghost use Rattle.mp_text.specs.Clauses.{IfOk, IsAscii, OutOfMemory, Gives, wire_or_none, texts, AreAscii, removal, input_edit, output_edit, input_delay_edit, delay_edit, clearing, single_edit};
 
 use crate::single_word::SingleWord;
 use crate::stated_edit::stated_edit;
@@ -10,7 +9,6 @@ use mp_words::{LineError, name_of, number_word, wire_or_none};
 use std::alloc::{AllocError, Global};
 
 /// The edit of a first word and the words behind it.
-#[tactic(auto, unfolding(crate::specs::SingleEdits::single_edit))]
 pub fn single_edit(
     alloc: Global,
     first: SingleWord,
@@ -31,7 +29,6 @@ pub fn single_edit(
 }
 
 /// The edit of the words behind `remove`.
-#[tactic(auto, unfolding(crate::specs::SingleEdits::removal))]
 fn removal(alloc: Global, words: &[&[u8]]) -> Result<SingleEdit, LineError>
     requires { AreAscii words.now }
     ensures { Gives OutOfMemory (λ edit. edit) result (removal (texts words.now)) }
@@ -58,7 +55,6 @@ fn removal(alloc: Global, words: &[&[u8]]) -> Result<SingleEdit, LineError>
 }
 
 /// The edit of the words behind `input`.
-#[tactic(auto, unfolding(crate::specs::SingleEdits::input_edit))]
 fn input_edit(alloc: Global, words: &[&[u8]]) -> Result<SingleEdit, LineError>
     requires { AreAscii words.now }
     ensures { Gives OutOfMemory (λ edit. edit) result (input_edit (texts words.now)) }
@@ -75,7 +71,6 @@ fn input_edit(alloc: Global, words: &[&[u8]]) -> Result<SingleEdit, LineError>
 }
 
 /// The edit of the words behind `output`, where `-` is no wire.
-#[tactic(auto, unfolding(crate::specs::SingleEdits::output_edit))]
 fn output_edit(alloc: Global, words: &[&[u8]]) -> Result<SingleEdit, LineError>
     requires { AreAscii words.now }
     ensures { Gives OutOfMemory (λ edit. edit) result (output_edit (texts words.now)) }
@@ -103,7 +98,6 @@ fn driven_wire(alloc: Global, name: &[u8]) -> Result<Option<Boxed<Name>>, AllocE
 }
 
 /// The edit of the words behind `indelay`.
-#[tactic(auto, unfolding(crate::specs::SingleEdits::input_delay_edit))]
 fn input_delay_edit(alloc: Global, words: &[&[u8]]) -> Result<SingleEdit, LineError>
     requires { AreAscii words.now }
     ensures { Gives OutOfMemory (λ edit. edit) result (input_delay_edit (texts words.now)) }
@@ -121,7 +115,6 @@ fn input_delay_edit(alloc: Global, words: &[&[u8]]) -> Result<SingleEdit, LineEr
 }
 
 /// The edit of the words behind `delay`.
-#[tactic(auto, unfolding(crate::specs::SingleEdits::delay_edit))]
 fn delay_edit(alloc: Global, words: &[&[u8]]) -> Result<SingleEdit, LineError>
     requires { AreAscii words.now }
     ensures { Gives OutOfMemory (λ edit. edit) result (delay_edit (texts words.now)) }
@@ -139,7 +132,6 @@ fn delay_edit(alloc: Global, words: &[&[u8]]) -> Result<SingleEdit, LineError>
 }
 
 /// The edit of the words behind `clear`.
-#[tactic(auto, unfolding(crate::specs::SingleEdits::clearing))]
 fn clearing(alloc: Global, words: &[&[u8]]) -> Result<SingleEdit, LineError>
     requires { AreAscii words.now }
     ensures { Gives OutOfMemory (λ edit. edit) result (clearing (texts words.now)) }

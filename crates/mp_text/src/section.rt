@@ -1,6 +1,6 @@
 //! The sections of a netlist's text.
 ghost use Rattle.std.specs.Prelude.{◌≡◌};
-ghost use Rattle.mp_text.specs.Names.{Writes};
+ghost use Rattle.mp_text.specs.Clauses.{Writes};
 
 use crate::written_lines::{put_bundle, put_module, put_stimulus, put_wire};
 use mp_netlist::{BundleId, ModuleId, Netlist, WireId};
@@ -27,6 +27,7 @@ impl<'a> Text for SectionLines<'a> {
 
     ghost text = { λ lines. section_text lines.netlist.now lines.section };
 
+    #[tactic(auto, using(crate::proofs::SectionLemmas::sectionlinestext_put_to_steps))]
     fn put_to<S: Sink>(&self, out: &mut Out<S>) -> Result<(), Failed> {
         for number in 0..self.slot_count() {
             self.put_slot(out, number)?;

@@ -22,8 +22,7 @@ pub enum SingleWord {
 
 impl SingleWord {
     ghost use Rattle.std.specs.Prelude.{◌≡◌};
-    ghost use Rattle.mp_text.specs.SingleEdits.{single_word};
-    ghost use Rattle.mp_text.specs.LineStarts.{single_takes};
+    ghost use Rattle.mp_text.specs.Clauses.{single_word, single_takes};
 
     /// What the word is as such a first word, where it is one.
     pub fn from_word(word: &[u8]) -> Option<SingleWord>

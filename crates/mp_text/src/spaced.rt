@@ -1,7 +1,6 @@
 //! Lines of words.
 ghost use Rattle.std.specs.Prelude.{◌≡◌, ◌∷◌};
-ghost use Rattle.mp_text.specs.Names.{flat_map, Writes, texts};
-ghost use Rattle.mp_text.specs.Written.{written_line};
+ghost use Rattle.mp_text.specs.Clauses.{flat_map, Writes, texts, written_line};
 
 use mp_streams::{Failed, Out, Sink, Text};
 

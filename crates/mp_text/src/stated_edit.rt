@@ -1,7 +1,6 @@
 //! The edits of statements.
-ghost use Rattle.std.specs.Prelude.{◌≡◌, ◌<◌, IsAscii, IfSome, length, position};
-ghost use Rattle.mp_text.specs.Names.{before_first, after_first, OutOfMemory, Gives, texts, AreAscii};
-ghost use Rattle.mp_text.specs.Statements.{stated_edit, wire_edit, parts_edit, module_edit, stimulus_edit, bundle_edit, kind_word, is_mark};
+ghost use Rattle.std.specs.Prelude.{◌≡◌, ◌<◌};
+ghost use Rattle.mp_text.specs.Clauses.{IsAscii, IfSome, length, position, before_first, after_first, OutOfMemory, Gives, texts, AreAscii, stated_edit, wire_edit, parts_edit, module_edit, stimulus_edit, bundle_edit, kind_word, is_mark};
 
 use crate::edit_word::EditWord;
 use mp_modules::Kind;
@@ -12,7 +11,6 @@ use mp_words::{LineError, each_word, name_of, number_word};
 use std::alloc::Global;
 
 /// The edit of a first word and the words behind it.
-#[tactic(auto, unfolding(crate::specs::Statements::stated_edit))]
 pub fn stated_edit(alloc: Global, word: EditWord, words: &[&[u8]]) -> Result<SingleEdit, LineError>
     requires { AreAscii words.now }
     ensures { Gives OutOfMemory (λ edit. edit) result (stated_edit word (texts words.now)) }
@@ -26,7 +24,6 @@ pub fn stated_edit(alloc: Global, word: EditWord, words: &[&[u8]]) -> Result<Sin
 }
 
 /// The edit of the words behind `wire`.
-#[tactic(auto, unfolding(crate::specs::Statements::wire_edit))]
 fn wire_edit(alloc: Global, words: &[&[u8]]) -> Result<SingleEdit, LineError>
     requires { AreAscii words.now }
     ensures { Gives OutOfMemory (λ edit. edit) result (wire_edit (texts words.now)) }
@@ -44,7 +41,6 @@ fn wire_edit(alloc: Global, words: &[&[u8]]) -> Result<SingleEdit, LineError>
 }
 
 /// The edit of the words behind `stim`.
-#[tactic(auto, unfolding(crate::specs::Statements::stimulus_edit))]
 fn stimulus_edit(alloc: Global, words: &[&[u8]]) -> Result<SingleEdit, LineError>
     requires { AreAscii words.now }
     ensures { Gives OutOfMemory (λ edit. edit) result (stimulus_edit (texts words.now)) }
@@ -60,7 +56,6 @@ fn stimulus_edit(alloc: Global, words: &[&[u8]]) -> Result<SingleEdit, LineError
 }
 
 /// The edit of the words behind `bundle`.
-#[tactic(auto, unfolding(crate::specs::Statements::bundle_edit))]
 fn bundle_edit(alloc: Global, words: &[&[u8]]) -> Result<SingleEdit, LineError>
     requires { AreAscii words.now }
     ensures { Gives OutOfMemory (λ edit. edit) result (bundle_edit (texts words.now)) }
@@ -79,7 +74,6 @@ fn bundle_edit(alloc: Global, words: &[&[u8]]) -> Result<SingleEdit, LineError>
 }
 
 /// The edit of the words behind `module`.
-#[tactic(auto, unfolding(crate::specs::Statements::module_edit))]
 fn module_edit(alloc: Global, words: &[&[u8]]) -> Result<SingleEdit, LineError>
     requires { AreAscii words.now }
     ensures { Gives OutOfMemory (λ edit. edit) result (module_edit (texts words.now)) }
@@ -93,7 +87,6 @@ fn module_edit(alloc: Global, words: &[&[u8]]) -> Result<SingleEdit, LineError>
 }
 
 /// The edit of the parts of the words behind `module`.
-#[tactic(auto, unfolding(crate::specs::Statements::parts_edit))]
 fn parts_edit(
     alloc: Global,
     name: &[u8],

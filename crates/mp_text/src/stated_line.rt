@@ -1,8 +1,6 @@
 //! Reading a script's line.
-ghost use Rattle.std.specs.Prelude.{◌≡◌, IfErr};
-ghost use Rattle.mp_text.specs.Names.{OutOfMemory, Gives, texts, AreAscii};
-ghost use Rattle.mp_text.specs.LineStarts.{HasForm};
-ghost use Rattle.mp_text.specs.ScriptLines.{line_at, stated_line};
+ghost use Rattle.std.specs.Prelude.{◌≡◌};
+ghost use Rattle.mp_text.specs.Clauses.{IfErr, OutOfMemory, Gives, texts, AreAscii, HasForm, line_at, stated_line};
 
 use crate::batch_line::batch;
 use crate::line_word::LineWord;
@@ -45,7 +43,6 @@ pub fn read_line(alloc: Global, line: &[u8]) -> Result<Line, LineError>
 }
 
 /// The line of a first word and the words behind it.
-#[tactic(auto, unfolding(crate::specs::ScriptLines::stated_line))]
 fn stated_line(alloc: Global, first: LineWord, words: &[&[u8]]) -> Result<Line, LineError>
     requires { AreAscii words.now }
     ensures { Gives OutOfMemory (λ line. line) result (stated_line first (texts words.now)) }

@@ -1,10 +1,10 @@
 //! The questions of a script's lines.
-ghost use Rattle.std.specs.Prelude.{◌≡◌, IfOk, IsAscii};
-ghost use Rattle.mp_text.specs.Names.{OutOfMemory, Gives, texts, AreAscii};
-ghost use Rattle.mp_text.specs.Questions.{stated_question, wave_question, bare_question, show_question, why_question, path_question, waits_question, measure_question, edits_question, steps_word, chain_question, chain_steps};
+ghost use Rattle.std.specs.Prelude.{◌≡◌};
+ghost use Rattle.mp_text.specs.Clauses.{IfOk, IsAscii, OutOfMemory, Gives, texts, AreAscii, stated_question, wave_question, bare_question, show_question, why_question, path_question, measure_question, steps_word, chain_question, chain_steps};
 
 use crate::question::Question;
 use crate::question_word::QuestionWord;
+use crate::statement::stated_number;
 use crate::wire_names::WireNames;
 use mp_words::{LineError, name_of, number_word};
 use std::alloc::{AllocError, Global};
@@ -16,7 +16,6 @@ pub const MAX_STEPS: u32 = 1_048_576;
 pub const USUAL_STEPS: u32 = 20;
 
 /// The question of a first word and the words behind it.
-#[tactic(auto, unfolding(crate::specs::Questions::stated_question))]
 pub fn stated_question(
     alloc: Global,
     word: QuestionWord,
@@ -35,16 +34,19 @@ pub fn stated_question(
         QuestionWord::Show => show_question(alloc, words),
         QuestionWord::Why => why_question(alloc, words),
         QuestionWord::Path => path_question(alloc, words),
-        QuestionWord::Waits => waits_question(words),
+        QuestionWord::Waits => Ok(Question::Waits {
+            time: stated_number(words)?,
+        }),
         QuestionWord::Measure => measure_question(words),
         QuestionWord::Graph => bare_question(Question::Graph, words),
         QuestionWord::Version => bare_question(Question::Version, words),
-        QuestionWord::Edits => edits_question(words),
+        QuestionWord::Edits => Ok(Question::Edits {
+            from: stated_number(words)?,
+        }),
     }
 }
 
 /// The question of the words behind `wave`.
-#[tactic(auto, unfolding(crate::specs::Questions::wave_question))]
 fn wave_question(alloc: Global, words: &[&[u8]]) -> Result<Question, LineError>
     requires { AreAscii words.now }
     ensures { Gives OutOfMemory (λ question. question) result (wave_question (texts words.now)) }
@@ -66,7 +68,6 @@ fn bare_question(question: Question, words: &[&[u8]]) -> Result<Question, LineEr
 }
 
 /// The question of the words behind `show`.
-#[tactic(auto, unfolding(crate::specs::Questions::show_question))]
 fn show_question(alloc: Global, words: &[&[u8]]) -> Result<Question, LineError>
     requires { AreAscii words.now }
     ensures { Gives OutOfMemory (λ question. question) result (show_question (texts words.now)) }
@@ -95,7 +96,6 @@ fn wire_names(alloc: Global, words: &[&[u8]]) -> Result<WireNames, AllocError>
 }
 
 /// The question of the words behind `why`.
-#[tactic(auto, unfolding(crate::specs::Questions::why_question))]
 fn why_question(alloc: Global, words: &[&[u8]]) -> Result<Question, LineError>
     requires { AreAscii words.now }
     ensures { Gives OutOfMemory (λ question. question) result (why_question (texts words.now)) }
@@ -108,7 +108,6 @@ fn why_question(alloc: Global, words: &[&[u8]]) -> Result<Question, LineError>
 }
 
 /// The question of a wire, a time and a number of steps, which is looked at behind the time.
-#[tactic(auto, unfolding(crate::specs::Questions::chain_question))]
 fn chain_question(
     alloc: Global,
     wire: &[u8],
@@ -126,7 +125,6 @@ fn chain_question(
 }
 
 /// The number of steps that the word spells, 1 to `MAX_STEPS`, and `BadNumber` for any other word.
-#[tactic(auto, unfolding(crate::specs::Questions::steps_word))]
 fn steps_word(word: &[u8]) -> Result<u32, LineError>
     ensures { result ≡ steps_word word.now }
 {
@@ -144,7 +142,6 @@ fn chain_steps(steps: u64) -> Result<u32, LineError>
 }
 
 /// The question of the words behind `path`.
-#[tactic(auto, unfolding(crate::specs::Questions::path_question))]
 fn path_question(alloc: Global, words: &[&[u8]]) -> Result<Question, LineError>
     requires { AreAscii words.now }
     ensures { Gives OutOfMemory (λ question. question) result (path_question (texts words.now)) }
@@ -158,21 +155,7 @@ fn path_question(alloc: Global, words: &[&[u8]]) -> Result<Question, LineError>
     })
 }
 
-/// The question of the words behind `waits`.
-#[tactic(auto, unfolding(crate::specs::Questions::waits_question))]
-fn waits_question(words: &[&[u8]]) -> Result<Question, LineError>
-    ensures { Gives OutOfMemory (λ question. question) result (waits_question (texts words.now)) }
-{
-    let [time] = words else {
-        return Err(LineError::WordCount);
-    };
-    Ok(Question::Waits {
-        time: number_word(time)?,
-    })
-}
-
 /// The question of the words behind `measure`.
-#[tactic(auto, unfolding(crate::specs::Questions::measure_question))]
 fn measure_question(words: &[&[u8]]) -> Result<Question, LineError>
     ensures { Gives OutOfMemory (λ question. question) result (measure_question (texts words.now)) }
 {
@@ -182,18 +165,5 @@ fn measure_question(words: &[&[u8]]) -> Result<Question, LineError>
     Ok(Question::Measure {
         from: number_word(from)?,
         to: number_word(to)?,
-    })
-}
-
-/// The question of the words behind `edits`.
-#[tactic(auto, unfolding(crate::specs::Questions::edits_question))]
-fn edits_question(words: &[&[u8]]) -> Result<Question, LineError>
-    ensures { Gives OutOfMemory (λ question. question) result (edits_question (texts words.now)) }
-{
-    let [from] = words else {
-        return Err(LineError::WordCount);
-    };
-    Ok(Question::Edits {
-        from: number_word(from)?,
     })
 }

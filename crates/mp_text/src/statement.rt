@@ -1,10 +1,8 @@
 //! What a line makes of a netlist.
+#![tactic(auto, unfolding(crate::specs::Texts::after_line, crate::specs::Statements::statement_of, crate::specs::Texts::after_statement))]
+
 ghost use Rattle.std.specs.Prelude.{◌≡◌};
-ghost use Rattle.mp_text.specs.Names.{result_map_both, OutOfMemory, max_horizon, after_single, Gives, texts, AreAscii};
-ghost use Rattle.mp_text.specs.declared.text_code.TextCode.TheVariants.{Line, Refused};
-ghost use Rattle.mp_text.specs.declared.text_state.TextState.TheVariants.{Open};
-ghost use Rattle.mp_text.specs.Statements.{stated_number, stated_edit, Format, Start, Change, statement_of};
-ghost use Rattle.mp_text.specs.Texts.{begun, after_statement, after_line};
+ghost use Rattle.mp_text.specs.Clauses.{result_map_both, OutOfMemory, max_horizon, after_single, Gives, texts, AreAscii, Line, Refused, Open, stated_number, stated_edit, Format, Start, Change, statement_of, begun, after_statement, after_line};
 
 use crate::edit_word::EditWord;
 use crate::stated_edit::stated_edit;
@@ -17,7 +15,6 @@ use std::alloc::Global;
 
 /// Makes of the text so far what a line says. It is lent, since who owns it lets it go at each
 /// place where a fault is told.
-#[tactic(auto, unfolding(crate::specs::Texts::after_line))]
 pub fn line(alloc: Global, state: &mut TextState, line: &[u8]) -> Result<(), TextCode>
     ensures { Gives (Line OutOfMemory) (λ _. state.new) result (after_line state.old line.now) }
 {
@@ -26,7 +23,6 @@ pub fn line(alloc: Global, state: &mut TextState, line: &[u8]) -> Result<(), Tex
 }
 
 /// Makes of the text so far what a line's words say.
-#[tactic(auto, unfolding(crate::specs::Statements::statement_of, crate::specs::Texts::after_statement))]
 fn statement(alloc: Global, state: &mut TextState, words: &[&[u8]]) -> Result<(), TextCode>
     requires { AreAscii words.now }
     ensures { Gives (Line OutOfMemory) (λ _. state.new) result (after_statement state.old (statement_of (texts words.now))) }
@@ -48,7 +44,6 @@ fn statement(alloc: Global, state: &mut TextState, words: &[&[u8]]) -> Result<()
 }
 
 /// Takes the form that the words state, on the first line with words.
-#[tactic(auto, unfolding(crate::specs::Texts::after_statement))]
 fn format(state: &mut TextState, words: &[&[u8]]) -> Result<(), TextCode>
     ensures { Gives (Line OutOfMemory) (λ _. state.new) result (after_statement state.old (Format (stated_number (texts words.now)))) }
 {
@@ -61,7 +56,6 @@ fn format(state: &mut TextState, words: &[&[u8]]) -> Result<(), TextCode>
 }
 
 /// Begins the netlist with the horizon that the words state.
-#[tactic(auto, unfolding(crate::specs::Texts::after_statement))]
 fn start(alloc: Global, state: &mut TextState, words: &[&[u8]]) -> Result<(), TextCode>
     ensures { Gives (Line OutOfMemory) (λ _. state.new) result (after_statement state.old (Start (stated_number (texts words.now)))) }
 {
@@ -89,8 +83,8 @@ fn empty_netlist(alloc: Global, format: TextFormat, horizon: u64) -> Result<Netl
     }
 }
 
-/// The number of the words behind `format` and `horizon`.
-fn stated_number(words: &[&[u8]]) -> Result<u64, LineError>
+/// The number that the words are, where they are one.
+pub fn stated_number(words: &[&[u8]]) -> Result<u64, LineError>
     ensures { result ≡ stated_number (texts words.now) }
 {
     match words {
@@ -100,7 +94,6 @@ fn stated_number(words: &[&[u8]]) -> Result<u64, LineError>
 }
 
 /// Makes the edit that a line states, where a netlist stands.
-#[tactic(auto, unfolding(crate::specs::Texts::after_statement))]
 fn change(
     alloc: Global,
     state: &mut TextState,
@@ -117,7 +110,6 @@ fn change(
 }
 
 /// Makes the edit that a line states.
-#[tactic(auto, unfolding(crate::specs::Texts::after_statement))]
 fn make_edit(
     alloc: Global,
     netlist: &mut Netlist,

@@ -1,11 +1,9 @@
 //! What is wrong with a line of a text.
 ghost use Rattle.std.specs.Prelude.{◌≡◌};
-ghost use Rattle.mp_text.specs.Names.{OutOfMemory};
-ghost use Rattle.mp_text.specs.declared.text_code.TextCode.TheVariants.{Line};
+ghost use Rattle.mp_text.specs.Clauses.{Line};
 
 use mp_netlist::EditError;
 use mp_words::LineError;
-use std::alloc::{AllocError, AllocFailed};
 use thiserror::Error;
 
 /// What is wrong with a line of a netlist's text.
@@ -24,22 +22,6 @@ pub enum TextCode {
     TooLong,
     #[error("no such format, or not on the first line with words")]
     BadFormat,
-}
-
-impl From<AllocError> for TextCode {
-    ghost from_gives = { λ _ code. code ≡ Line OutOfMemory };
-
-    fn from(_error: AllocError) -> TextCode {
-        TextCode::Line(LineError::OutOfMemory)
-    }
-}
-
-impl<T: Drop> From<AllocFailed<T>> for TextCode {
-    ghost from_gives = { λ _ code. code ≡ Line OutOfMemory };
-
-    fn from(_error: AllocFailed<T>) -> TextCode {
-        TextCode::Line(LineError::OutOfMemory)
-    }
 }
 
 impl From<LineError> for TextCode {

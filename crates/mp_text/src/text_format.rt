@@ -1,6 +1,6 @@
 //! Forms of a netlist's text.
 ghost use Rattle.std.specs.Prelude.{◌≡◌};
-ghost use Rattle.mp_text.specs.Formats.{format_of, max_horizon_of, netlist_format};
+ghost use Rattle.mp_text.specs.Clauses.{format_of, max_horizon_of, netlist_format};
 
 use crate::text_code::TextCode;
 use mp_netlist::Format;

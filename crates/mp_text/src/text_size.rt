@@ -1,12 +1,6 @@
 //! How long a text may be.
-ghost use Rattle.std.specs.Prelude.{◌≡◌, ◌+◌, ◌≤◌, List, ℕ, Some, codes, take};
-ghost use Rattle.std.specs.Option.{option_copied};
-ghost use Rattle.std.specs.Str.{bytes_eq};
-ghost use Rattle.mp_words.specs.Lines.{lines_of};
-ghost use Rattle.mp_words.specs.WordLists.{number_word};
-ghost use Rattle.mp_words.specs.Words.{words_of};
-ghost use Rattle.mp_text.specs.Limits.{max_short_text, max_text};
-ghost use Rattle.mp_text.specs.Sizes.{first_words, is_three, states_third, text_limit};
+ghost use Rattle.std.specs.Prelude.{◌≡◌, ◌≤◌, ◌+◌};
+ghost use Rattle.mp_text.specs.Clauses.{List, ℕ, Some, codes, take, option_copied, bytes_eq, lines_of, number_word, words_of, max_text, max_short_text, first_words, is_three, states_third, text_limit};
 
 use mp_words::{first_line, number_word, word_at, word_count};
 

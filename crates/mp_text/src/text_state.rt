@@ -17,7 +17,7 @@ pub enum TextState {
 
 impl TextState {
     ghost use Rattle.std.specs.Prelude.{◌≡◌};
-    ghost use Rattle.mp_text.specs.Texts.{finished};
+    ghost use Rattle.mp_text.specs.Clauses.{finished};
 
     /// The netlist of a text that ends here, after so many lines, and `NoHorizon` where it has none.
     pub fn finished(self, lines: u32) -> Result<Netlist, TextError>

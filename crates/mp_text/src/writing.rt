@@ -1,10 +1,6 @@
 //! Writing a netlist's text.
-ghost use Rattle.std.specs.Prelude.{◌≡◌, ◌≤◌, ◌++◌, IfOk, OnOk, length};
-ghost use Rattle.std.specs.Io.KnownBytes.{Appends};
-ghost use Rattle.mp_text.specs.Names.{Writes, IsCircuit};
-ghost use Rattle.mp_text.specs.Sizes.{text_limit};
-ghost use Rattle.mp_text.specs.RoundTrips.{IsReadAs};
-ghost use Rattle.mp_text.specs.Written.{format_line, written};
+ghost use Rattle.std.specs.Prelude.{◌≡◌, ◌≤◌, ◌++◌};
+ghost use Rattle.mp_text.specs.Clauses.{IfOk, OnOk, length, Appends, Writes, IsCircuit, text_limit, IsReadAs, format_line, written};
 
 use crate::section::{Section, SectionLines};
 use crate::text_format::MAX_FIRST_HORIZON;
@@ -20,15 +16,6 @@ pub fn write_netlist(alloc: Global, netlist: &Netlist) -> Result<Vec<u8>, AllocE
     ensures text { IfOk result (λ text. text.items ≡ written netlist.now) }
     ensures read { IfOk result (λ text. length text.items ≤ text_limit text.items → IsReadAs text.items netlist.now) }
 {
-    written(alloc, netlist)
-}
-
-/// The text, written into memory: a sink over memory fails where memory is wanting alone.
-fn written(alloc: Global, netlist: &Netlist) -> Result<Vec<u8>, AllocError>
-    ensures text { IfOk result (λ text. text.items ≡ written netlist.now) }
-    ensures form { IsCircuit netlist.now }
-{
-    let _horizon = netlist.horizon();
     let mut out = Out::new(alloc, WriteSink::new(Vec::new(alloc)))?;
     match put_whole(&mut out, netlist) {
         Ok(()) => Ok(out.into_sink().into_inner()),
@@ -38,7 +25,8 @@ fn written(alloc: Global, netlist: &Netlist) -> Result<Vec<u8>, AllocError>
 
 /// Writes the text of a netlist and passes all of it on to the sink.
 fn put_whole<S: Sink>(out: &mut Out<S>, netlist: &Netlist) -> Result<(), Failed>
-    ensures { OnOk result (Appends out.old.taken out.new.taken (out.old.held ++ written netlist.now)) }
+    ensures whole { OnOk result (Appends out.old.taken out.new.taken (out.old.held ++ written netlist.now)) }
+    ensures form { IsCircuit netlist.now }
 {
     put_netlist(out, netlist)?;
     out.flush()
@@ -47,7 +35,8 @@ fn put_whole<S: Sink>(out: &mut Out<S>, netlist: &Netlist) -> Result<(), Failed>
 /// Writes the text of a netlist, which is that of `write_netlist`, as it is made. It takes no memory.
 /// `Failed` is as that of `Out::put_bytes`.
 pub fn put_netlist<S: Sink>(out: &mut Out<S>, netlist: &Netlist) -> Result<(), Failed>
-    ensures { Writes result out.old out.new (written netlist.now) }
+    ensures written { Writes result out.old out.new (written netlist.now) }
+    ensures form { IsCircuit netlist.now }
 {
     let horizon = netlist.horizon();
     let head = (

@@ -1,7 +1,6 @@
 //! The lines of a netlist's text.
-ghost use Rattle.std.specs.Prelude.{◌≡◌, Some};
-ghost use Rattle.mp_text.specs.Names.{Writes};
-ghost use Rattle.mp_text.specs.Written.{wire_line, module_line, stimulus_line, bundle_line};
+ghost use Rattle.std.specs.Prelude.{◌≡◌};
+ghost use Rattle.mp_text.specs.Clauses.{Some, Writes, wire_line, module_line, stimulus_line, bundle_line};
 
 use crate::port_texts::{Ports, wire_word};
 use crate::spaced::{Spaced, put_line};

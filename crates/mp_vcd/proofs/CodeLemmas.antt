@@ -1,7 +1,6 @@
 -- Codes and binary digits, digit by digit.
-use Rattle.mp_vcd.proofs.Names.{◌≡◌, ℕ, ◌+◌, ◌-◌, ◌/◌, ◌%◌, ◌<◌, ◌≤◌, Bool, true, false, cond, nat_lt, List, [], ◌∷◌, ◌++◌, append_assoc, length, drop, slice_set, zero, suc, refl, sym, ap, ◌∙◌, ⊎_elim, arith, cases_lt, ltb-false, nat_tests, drop-set, length-append}
-use Rattle.mp_vcd.specs.Codes.{digits_of, code}
-use Rattle.mp_vcd.specs.Values.{bit, bits}
+use Rattle.std.specs.Prelude.{◌≡◌, ◌+◌, ◌-◌, ◌/◌, ◌%◌, ◌<◌, ◌≤◌, ◌∷◌, ◌++◌}
+use Rattle.mp_vcd.proofs.Names.{ℕ, Bool, true, false, cond, nat_lt, List, [], append_assoc, length, drop, slice_set, zero, suc, refl, sym, ap, ◌∙◌, arith, cases_lt, ltb-false, nat_tests, drop-set, length-append, digits_of, code, bit, bits}
 
 -- more digits than a number has are not written
 digits_of-same : (most least n : ℕ) → n < most → n < least → digits_of most n ≡ digits_of least n
@@ -16,16 +15,11 @@ digits_of-same (suc most) (suc least) n below under =
 
 pub code-one : (n : ℕ) → n < 94 → code n ≡ (33 + n) ∷ []
 unfolding code
-code-one n low =
-    let small : nat_lt n 94 ≡ true = grind (arith, nat_tests) in
-    let same : n % 94 ≡ n = omega arith in
-    rw (small, same) refl
+code-one n low = grind (arith, nat_tests)
 
 code-more : (n : ℕ) → 94 ≤ n → code n ≡ (33 + n % 94) ∷ code (n / 94)
 unfolding code
-code-more n high =
-    let large : nat_lt n 94 ≡ false = grind (arith, nat_tests) in
-    rw large (ap (λ l. (33 + n % 94) ∷ l) (digits_of-same n (suc (n / 94)) (n / 94) (omega arith) (omega arith)))
+code-more n high = grind (arith, nat_tests, digits_of-same)
 
 -- one digit more is written
 pub code_step : (text whole : List ℕ) (n : ℕ) → 94 ≤ n → text ++ code n ≡ whole → (text ++ (33 + n % 94) ∷ []) ++ code (n / 94) ≡ whole
@@ -51,17 +45,13 @@ bits_step whole digits start left rest some room within same =
     ∙ append_assoc (bits (left - 1) (rest / 2)) (bit rest ∷ []) (drop start digits) ∙ ap (λ l. bits (left - 1) (rest / 2) ++ l) (sym back)
 
 pub bits_long : (width level : ℕ) → length (bits width level) ≡ width
-bits_long zero level = ap length (bits-zero level)
-bits_long (suc width) level =
-    ap length (bits-suc width level) ∙ length-append (bits width (level / 2)) (bit level ∷ []) ∙ ap (λ k. k + 1) (bits_long width (level / 2)) ∙ (omega arith)
+bits_long zero level = grind (arith, nat_tests, bits-zero)
+bits_long (suc width) level = grind (arith, nat_tests, bits-suc, length-append, (bits_long width (level / 2)))
 
 -- ---- how long a code is
 
 pub code_longer : (w most : ℕ) → 0 < most → (94 ≤ w → length (code (w / 94)) ≤ most) → length (code w) ≤ most + 1
-code_longer w most some later = ⊎_elim
-    (λ low. omega (arith, ap length (code-one w low)))
-    (λ high. omega (arith, later high, ap length (code-more w high)))
-    (cases_lt w 94)
+code_longer w most some later = grind (arith, nat_tests, code-one, code-more, cases_lt)
 
 -- five digits at most
 pub code_long : (w : ℕ) → w < 4294967296 → length (code w) ≤ 5
@@ -71,7 +61,4 @@ code_long w low =
 
 -- one at least
 pub code_some : (w : ℕ) → 0 < length (code w)
-code_some w = ⊎_elim
-    (λ low. omega (arith, ap length (code-one w low)))
-    (λ high. omega (arith, ap length (code-more w high)))
-    (cases_lt w 94)
+code_some w = grind (arith, nat_tests, code-one, code-more, cases_lt)

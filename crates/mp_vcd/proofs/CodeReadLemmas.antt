@@ -1,12 +1,9 @@
 -- Codes and numbers as words, and what they are read as.
-use Rattle.mp_vcd.proofs.Names.{◌≡◌, ◌≢◌, ℕ, ◌+◌, ◌-◌, ◌*◌, ◌/◌, ◌%◌, ◌^◌, ◌<◌, ◌≤◌, Bool, true, false, cond, nat_lt, List, [], ◌∷◌, ◌++◌, length, zero, suc, decimal, refl, sym, ap, subst, ◌∙◌, add-one, arith, codes, digit_value, is_ascii_digit, list_all, bytes_eq, AllDigits, digits_value_after, digits_value, false_from_ne_true, lt-ltb, ltb-false, ltb-true, nat_tests, list_all-append, bytes_eq-Decides, IsPlain, IsPlain-decimal, IsPlain-name, is_plain_byte, list_all-passing, is_made_of, is_binary, is_printed}
+use Rattle.std.specs.Prelude.{◌≡◌, ◌≢◌, ◌+◌, ◌-◌, ◌*◌, ◌/◌, ◌%◌, ◌^◌, ◌<◌, ◌≤◌, ◌∷◌, ◌++◌}
+use Rattle.mp_vcd.proofs.Names.{ℕ, Bool, true, false, nat_lt, List, [], length, zero, suc, decimal, refl, sym, ap, subst, ◌∙◌, add-one, arith, codes, digit_value, is_ascii_digit, list_all, bytes_eq, AllDigits, digits_value_after, digits_value, false_from_ne_true, lt-ltb, ltb-false, ltb-true, nat_tests, list_all-append, bytes_eq-Decides, IsPlain, IsPlain-decimal, IsPlain-name, is_plain_byte, list_all-passing, is_made_of, is_binary, is_printed, is_name, digits_of, code, bit, bits, max_wires}
 use Rattle.std.proofs.lemmas.Fmt.{decimal_is_IsNumeral}
 use Rattle.std.proofs.lemmas.Nat.{mod-pow-add}
-use Rattle.mp_records.specs.Names.{is_name}
-use Rattle.mp_netlist.specs.Limits.{max_wires}
 use Rattle.mp_words.proofs.DecimalLemmas.{decimal_digits}
-use Rattle.mp_vcd.specs.Codes.{digits_of, code}
-use Rattle.mp_vcd.specs.Values.{bit, bits}
 use Rattle.mp_vcd.proofs.CodeLemmas.{bits_long, code_some}
 
 -- ---- words
@@ -30,19 +27,13 @@ IsSolid-name name valid = IsSolid-plain name (IsPlain-name name valid)
 
 -- a byte before solid bytes
 pub solid_behind : (b : ℕ) (word : List ℕ) → 32 < b → list_all (nat_lt 32) word ≡ true → IsSolid (b ∷ word)
-solid_behind b word high solid =
-    let here : nat_lt 32 b ≡ true = grind (arith, nat_tests) in
-    record { some = omega arith; solid = rw (here, solid) refl }
+solid_behind b word high solid = grind (arith, nat_tests)
 
 -- ---- codes
 
 digits_all : (p : ℕ → Bool) → ((n : ℕ) → p (33 + n % 94) ≡ true) → (most n : ℕ) → list_all p (digits_of most n) ≡ true
 digits_all p each zero n = refl
-digits_all p each (suc most) n = let here = each n in rw here (by (nat_lt n 94) (digits_all p each most (n / 94)))
-  where
-    by : (test : Bool) → list_all p (digits_of most (n / 94)) ≡ true → list_all p (cond test [] (digits_of most (n / 94))) ≡ true
-    by true rest = refl
-    by false rest = rest
+digits_all p each (suc most) n = grind (arith, nat_tests, (digits_all p each most (n / 94)))
 
 code_all : (p : ℕ → Bool) → ((n : ℕ) → p (33 + n % 94) ≡ true) → (w : ℕ) → list_all p (code w) ≡ true
 unfolding code
@@ -60,16 +51,8 @@ worth [] = 0
 worth (digit ∷ digits) = (digit - 33) + 94 * worth digits
 
 worth-digits : (most n : ℕ) → n < most → worth (digits_of most n) ≡ n
-worth-digits zero n below = absurd (omega arith)
-worth-digits (suc most) n below = by (nat_lt n 94) refl (worth-digits most (n / 94))
-  where
-    by : (test : Bool) → nat_lt n 94 ≡ test → (n / 94 < most → worth (digits_of most (n / 94)) ≡ n / 94)
-        → ((33 + n % 94) - 33) + 94 * worth (cond test [] (digits_of most (n / 94))) ≡ n
-    by true test later = let small = ltb-true n 94 test in omega (arith, small)
-    by false test later =
-        let large = ltb-false n 94 test in
-        let rest = later (omega (arith, large, below)) in
-        omega (arith, rest)
+worth-digits zero n below = grind (arith, nat_tests)
+worth-digits (suc most) n below = grind (arith, nat_tests, ltb-true, ltb-false, (worth-digits most (n / 94)))
 
 pub code_worth : (w : ℕ) → worth (code w) ≡ w
 unfolding code
@@ -107,16 +90,11 @@ pub decimal_read : (n : ℕ) → n < 2 ^ 64 → digits_value 10 (decimal n) ≡ 
 decimal_read n fits = (decimal_is_IsNumeral n fits).1
 
 bit_value : (level : ℕ) → digit_value (bit level) ≡ level % 2
-bit_value level = by (level % 2) (omega arith)
-  where
-    by : (d : ℕ) → d < 2 → digit_value (48 + d) ≡ d
-    by zero few = refl
-    by (suc zero) few = refl
-    by (suc (suc d)) few = absurd (omega (arith, few))
+bit_value level = grind (arith, nat_tests)
 
 digits_value-append : (n : ℕ) (xs : List ℕ) (d : ℕ) → digits_value_after 2 n (xs ++ d ∷ []) ≡ digits_value_after 2 n xs * 2 + digit_value d
 digits_value-append n [] d = refl
-digits_value-append n (x ∷ xs) d = digits_value-append (n * 2 + digit_value x) xs d
+digits_value-append n (x ∷ xs) d = grind (arith, nat_tests, (digits_value-append (n * 2 + digit_value x) xs d))
 
 half_of : (width level : ℕ) → (level / 2) % 2 ^ width * 2 + level % 2 ≡ level % 2 ^ suc width
 half_of width level = sym (mod-pow-add level width 1) ∙ ap (λ k. level % 2 ^ k) (add-one width)
@@ -124,20 +102,13 @@ half_of width level = sym (mod-pow-add level width 1) ∙ ap (λ k. level % 2 ^ 
 -- the digits of a level are read as its lowest bits
 pub bits_read : (width level : ℕ) → digits_value 2 (bits width level) ≡ level % 2 ^ width
 unfolding bits
-bits_read zero level = omega arith
-bits_read (suc width) level =
-    digits_value-append 0 (bits width (level / 2)) (bit level)
-    ∙ ap (λ v. v * 2 + digit_value (bit level)) (bits_read width (level / 2))
-    ∙ ap (λ d. (level / 2) % 2 ^ width * 2 + d) (bit_value level)
-    ∙ half_of width level
+bits_read zero level = grind (arith, nat_tests)
+bits_read (suc width) level = grind (arith, nat_tests, digits_value-append, bit_value, half_of, (bits_read width (level / 2)))
 
 bits_all : (p : ℕ → Bool) → ((level : ℕ) → p (bit level) ≡ true) → (width level : ℕ) → list_all p (bits width level) ≡ true
 unfolding bits
 bits_all p each zero level = refl
-bits_all p each (suc width) level =
-    let last = each level in
-    let rest = bits_all p each width (level / 2) in
-    list_all-append p (bits width (level / 2)) (bit level ∷ []) ∙ rw (rest, last) refl
+bits_all p each (suc width) level = grind (arith, nat_tests, list_all-append, (bits_all p each width (level / 2)))
 
 pub bits_solid : (width level : ℕ) → list_all (nat_lt 32) (bits width level) ≡ true
 bits_solid width level = bits_all (nat_lt 32) (λ l. grind (arith, nat_tests)) width level
@@ -145,22 +116,13 @@ bits_solid width level = bits_all (nat_lt 32) (λ l. grind (arith, nat_tests)) w
 -- ---- of what words are made
 
 pub decimal_made : (n : ℕ) → n < 2 ^ 64 → is_made_of is_ascii_digit (decimal n) ≡ true
-decimal_made n fits =
-    let some : nat_lt 0 (length (decimal n)) ≡ true = lt-ltb 0 (length (decimal n)) (IsSolid-decimal n fits).some in
-    let digits = decimal_digits n fits in
-    rw (some, digits) refl
+decimal_made n fits = grind (arith, nat_tests, lt-ltb, IsSolid-decimal, decimal_digits)
 
 pub code_made : (w : ℕ) → is_made_of is_printed (code w) ≡ true
-code_made w =
-    let some : nat_lt 0 (length (code w)) ≡ true = lt-ltb 0 (length (code w)) (IsSolid-code w).some in
-    let all = code_all is_printed (λ n. grind (arith, nat_tests)) w in
-    rw (some, all) refl
+code_made w = grind (arith, lt-ltb, IsSolid-code, code_all, nat_tests)
 
 pub bits_made : (width level : ℕ) → 1 ≤ width → is_made_of is_binary (bits width level) ≡ true
-bits_made width level wide =
-    let some : nat_lt 0 (length (bits width level)) ≡ true = lt-ltb 0 (length (bits width level)) (omega (arith, bits_long width level, wide)) in
-    let all = bits_all is_binary (λ l. grind (arith, nat_tests)) width level in
-    rw (some, all) refl
+bits_made width level wide = grind (arith, lt-ltb, bits_long, bits_all, nat_tests)
 
 pub one_bit : (level : ℕ) → bits 1 level ≡ bit level ∷ []
 unfolding bits

@@ -1,14 +1,12 @@
 -- The whole of a dump, read.
-use Rattle.mp_vcd.proofs.Names.{◌≡◌, ℕ, ◌+◌, ◌-◌, ◌<◌, ◌≤◌, inl, inr, true, List, [], ◌∷◌, ◌++◌, append_assoc, append-nil, length, map, Option, None, Some, suc, refl, sym, ap, subst, ◌∙◌, add-zero, zero-add, arith, codes, and_from, le-leb, or_right, flat_map, list_any, range_with_len, WireRecord, Circuit, IsCircuit, wire_at, width_of, slot_at, code}
+use Rattle.std.specs.Prelude.{◌≡◌, ◌+◌, ◌-◌, ◌<◌, ◌≤◌, ◌∷◌, ◌++◌}
+use Rattle.mp_vcd.proofs.Names.{ℕ, List, [], append_assoc, append-nil, length, map, Option, None, Some, suc, refl, sym, ap, subst, ◌∙◌, add-zero, zero-add, arith, codes, and_from, le-leb, flat_map, range_with_len, WireRecord, Circuit, IsCircuit, wire_at, width_of, slot_at, code, standing, standing_from, slot_declaration, declaration, value_at, unit_text, time_mark, line, opening_lines, block_start, preamble, dump, words, Variable, Given, Outside, Inside, Reading, nothing_read, takes, read_words, reading, Contains, Contains-get_or, slice_index_or, max_wires, any_passes, contains_map}
 use Rattle.mp_netlist.proofs.LimitLemmas.{horizon_within, wires_within}
 use Rattle.std.proofs.Math.Nat.{mod-eq_of_lt}
-use Rattle.mp_netlist.specs.Limits.{max_wires}
-use Rattle.mp_vcd.specs.Dumps.{standing, standing_from, slot_declaration, declaration, value_at, unit_text, time_mark, line, opening_lines, block_start, preamble, dump}
-use Rattle.mp_vcd.specs.Readings.{words, Variable, Given, Outside, Inside, Reading, nothing_read, takes, read_words, reading}
 use Rattle.mp_vcd.specs.Laws.{name_of, variable, SaysLevels, IsReadBack}
 use Rattle.mp_vcd.proofs.CodeReadLemmas.{same_bytes}
 use Rattle.mp_vcd.proofs.ReadingLemmas.{Leads, leads_none, leads_both, leads_as, declaring, declared_as, leads_declaration, leads_time, valued, HasVariable}
-use Rattle.mp_vcd.proofs.LevelReadLemmas.{In, given_at, leads_values, stands_in, stands_of, AreReadable, knows_first, Units, leads_units}
+use Rattle.mp_vcd.proofs.LevelReadLemmas.{given_at, leads_values, stands_in, stands_of, IsReadable, AreReadable, knows_first, Units, leads_units}
 use Rattle.mp_model.proofs.LevelFitLemmas.{level_fits}
 
 -- ---- the declarations
@@ -58,25 +56,19 @@ module _ (n : Circuit) (circuit : IsCircuit n) where
   abbrev first_given : List Given
   first_given = given_at n 0 (standing n) []
 
-  has_variable : (w : ℕ) (ws : List ℕ) → In w ws → HasVariable (map (variable n) ws) w (width_of (wire_at n w))
-  has_variable w [] within = absurd within
-  has_variable w (v ∷ ws) (inl same) = λ digits few.
-      let own : takes (code w) digits (variable n v) ≡ true =
-      subst (λ u. takes (code u) digits (variable n v) ≡ true) same (and_from _ _ (same_bytes (code v)) (le-leb (length digits) (width_of (wire_at n v)) (subst (λ u. length digits ≤ width_of (wire_at n u)) (sym same) few))) in
-      rw own refl
-  has_variable w (v ∷ ws) (inr later) = λ digits few.
-      let rest = has_variable w ws later digits few in
-      or_right (takes (code w) digits (variable n v)) (list_any (takes (code w) digits) (map (variable n) ws)) rest
+  has_variable : (w : ℕ) → Contains (standing n) w → HasVariable all_variables w (width_of (wire_at n w))
+  has_variable w within digits few =
+      any_passes (takes (code w) digits) (variable n w) all_variables (contains_map (variable n) w (standing n) within) (and_from _ _ (same_bytes (code w)) (le-leb (length digits) (width_of (wire_at n w)) few))
 
-  all_readable : AreReadable n all_variables (standing n)
-  all_readable w within =
+  is_readable : (w : ℕ) → Contains (standing n) w → IsReadable n all_variables w
+  is_readable w within =
       let wire = stands_of n w within in
       let width = ap width_of wire.1 in
       let ok = circuit.wires_ok w wire.0 wire.1 in
-      record {
-        wide = omega (arith, ok.wide, width);
-        declared = has_variable w (standing n) within;
-      }
+      record { wide = omega (arith, ok.wide, width); declared = has_variable w within }
+
+  all_readable : AreReadable n all_variables (standing n)
+  all_readable k d within = is_readable (slice_index_or (standing n) k d) (Contains-get_or (standing n) k d within)
 
   abbrev units : List ℕ
   units = flat_map (unit_text n) (range_with_len 1 (n.horizon - 1))

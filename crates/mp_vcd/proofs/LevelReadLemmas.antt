@@ -1,5 +1,6 @@
 -- The levels that a reader of a dump knows, unit by unit.
-use Rattle.mp_vcd.proofs.Names.{◌≡◌, ℕ, ◌+◌, ◌-◌, ◌%◌, ◌^◌, ◌<◌, ◌≤◌, ◌⊎◌, inl, inr, Bool, true, false, not, cond, ◌==◌, List, [], ◌∷◌, Option, None, Some, zero, suc, refl, sym, ap, subst, ◌∙◌, add-zero, zero-add, arith, filter, flat_map, range_with_len, bytes_eq, cases_lt, eqb-true, le-leb, lt-leb, not-false, bytes_eq-Decides, WireRecord, Circuit, wire_at, width_of, slot_at, level, code, standing, standing_from, if_stands, value_at, is_changed, changed, marked, unit_text, time_mark, Variable, Given, Side, Outside, Reading, value_of}
+use Rattle.std.specs.Prelude.{◌≡◌, ◌+◌, ◌-◌, ◌%◌, ◌^◌, ◌<◌, ◌≤◌, ◌⊎◌, ◌∷◌}
+use Rattle.mp_vcd.proofs.Names.{ℕ, inl, inr, Bool, true, false, List, [], Option, None, Some, zero, suc, refl, sym, ap, subst, ◌∙◌, add-zero, zero-add, arith, flat_map, range_with_len, cases_lt, eqb-true, le-leb, lt-leb, not-false, bytes_eq-Decides, WireRecord, Circuit, wire_at, width_of, slot_at, level, code, standing, standing_from, if_stands, value_at, is_changed, changed, marked, unit_text, time_mark, Variable, Given, Side, Outside, Reading, value_of, All, Contains, All-head, All-tail, All-filter, contains_here, contains_there, contains_cases, contains_filter}
 use Rattle.mp_vcd.proofs.CodeReadLemmas.{own_codes, same_bytes}
 use Rattle.mp_vcd.proofs.ReadingLemmas.{Leads, leads_none, leads_both, leads_time, leads_value, valued, giving, HasVariable}
 
@@ -16,50 +17,30 @@ given_at n t (w ∷ ws) given = given_at n t ws (giving t w (level_bits n w t) �
 
 -- ---- wires among others
 
-abbrev pub In : ℕ → List ℕ → Type 0
-In w [] = ⊥
-In w (v ∷ ws) = (v ≡ w) ⊎ In w ws
+behind_slot : (k w : ℕ) (slot : Option WireRecord) (others : List ℕ) → Contains others w → Contains (if_stands k slot others) w
+behind_slot k w None others within = grind arith
+behind_slot k w (Some r) others within = grind (arith, contains_there)
 
-in_filter : (p : ℕ → Bool) (w : ℕ) (ws : List ℕ) → In w ws → p w ≡ true → In w (filter p ws)
-in_filter p w [] within passes = absurd within
-in_filter p w (v ∷ ws) (inl same) passes = let here : p v ≡ true = ap p same ∙ passes in rw here (inl same)
-in_filter p w (v ∷ ws) (inr later) passes = by (p v) (in_filter p w ws later passes)
-  where
-    by : (test : Bool) → In w (filter p ws) → In w (cond test (v ∷ filter p ws) (filter p ws))
-    by true rest = inr rest
-    by false rest = rest
+in_standing : (k i : ℕ) (slots : List (Option WireRecord)) (r : WireRecord) → slot_at slots i ≡ Some r → Contains (standing_from k slots) (k + i)
+in_standing k i [] r stands = grind arith
+in_standing k zero (slot ∷ slots) r stands = grind (arith, add-zero, contains_here)
+in_standing k (suc i) (slot ∷ slots) r stands = grind (arith, behind_slot, (in_standing (k + 1) i slots r stands))
 
-filter_in : (p : ℕ → Bool) (w : ℕ) (ws : List ℕ) → In w (filter p ws) → In w ws
-filter_in p w [] within = within
-filter_in p w (v ∷ ws) within = by (p v) (filter_in p w ws) within
-  where
-    by : (test : Bool) → (In w (filter p ws) → In w ws) → In w (cond test (v ∷ filter p ws) (filter p ws)) → In w (v ∷ ws)
-    by true rest (inl same) = inl same
-    by true rest (inr later) = inr (rest later)
-    by false rest later = inr (rest later)
+pub stands_in : (n : Circuit) (w : ℕ) (r : WireRecord) → wire_at n w ≡ Some r → Contains (standing n) w
+stands_in n w r stands = subst (Contains (standing n)) (zero-add w) (in_standing 0 w n.wires r stands)
 
-behind_slot : (k w : ℕ) (slot : Option WireRecord) (others : List ℕ) → In w others → In w (if_stands k slot others)
-behind_slot k w None others within = within
-behind_slot k w (Some r) others within = inr within
-
-in_standing : (k i : ℕ) (slots : List (Option WireRecord)) (r : WireRecord) → slot_at slots i ≡ Some r → In (k + i) (standing_from k slots)
-in_standing k i [] r stands = let bad : None ≡ Some r = stands in cc bad
-in_standing k zero (slot ∷ slots) r stands = rw stands (inl (sym (add-zero k)))
-in_standing k (suc i) (slot ∷ slots) r stands =
-    let same : k + 1 + i ≡ k + suc i = omega arith in
-    behind_slot k (k + suc i) slot (standing_from (k + 1) slots) (subst (λ v. In v (standing_from (k + 1) slots)) same (in_standing (k + 1) i slots r stands))
-
-pub stands_in : (n : Circuit) (w : ℕ) (r : WireRecord) → wire_at n w ≡ Some r → In w (standing n)
-stands_in n w r stands = subst (λ v. In v (standing n)) (zero-add w) (in_standing 0 w n.wires r stands)
-
-standing_in : (k w : ℕ) (slots : List (Option WireRecord)) → In w (standing_from k slots) → (i : ℕ) × (r : WireRecord) × (k + i ≡ w) × (slot_at slots i ≡ Some r)
-standing_in k w [] within = absurd within
+standing_in : (k w : ℕ) (slots : List (Option WireRecord)) → Contains (standing_from k slots) w → (i : ℕ) × (r : WireRecord) × (k + i ≡ w) × (slot_at slots i ≡ Some r)
+standing_in k w [] within = absurd (omega (arith, within.1))
 standing_in k w (None ∷ slots) within = let found = standing_in (k + 1) w slots within in (suc found.0, found.1, omega (arith, found.2), found.3)
-standing_in k w (Some r ∷ slots) (inl same) = (0, r, omega (arith, same), refl)
-standing_in k w (Some r ∷ slots) (inr later) = let found = standing_in (k + 1) w slots later in (suc found.0, found.1, omega (arith, found.2), found.3)
+standing_in k w (Some r ∷ slots) within = by (contains_cases w k (standing_from (k + 1) slots) within) (standing_in (k + 1) w slots)
+  where
+    by : (k ≡ w) ⊎ Contains (standing_from (k + 1) slots) w → (Contains (standing_from (k + 1) slots) w → (i : ℕ) × (s : WireRecord) × (k + 1 + i ≡ w) × (slot_at slots i ≡ Some s))
+        → (i : ℕ) × (s : WireRecord) × (k + i ≡ w) × (slot_at (Some r ∷ slots) i ≡ Some s)
+    by (inl same) later = (0, r, omega (arith, same), refl)
+    by (inr there) later = let found = later there in (suc found.0, found.1, omega (arith, found.2), found.3)
 
 -- a wire that is among those that stand does stand
-pub stands_of : (n : Circuit) (w : ℕ) → In w (standing n) → (r : WireRecord) × (wire_at n w ≡ Some r)
+pub stands_of : (n : Circuit) (w : ℕ) → Contains (standing n) w → (r : WireRecord) × (wire_at n w ≡ Some r)
 stands_of n w within =
     let found = standing_in 0 w n.wires within in
     let same : w ≡ found.0 = omega (arith, found.2) in
@@ -73,16 +54,16 @@ pub record IsReadable (n : Circuit) (vs : List Variable) (w : ℕ) : Type 0 wher
   pub declared : HasVariable vs w (width_of (wire_at n w))
 
 abbrev pub AreReadable : Circuit → List Variable → List ℕ → Type 0
-AreReadable n vs ws = (w : ℕ) → In w ws → IsReadable n vs w
+AreReadable n vs ws = All (IsReadable n vs) ws
 
 pub leads_values : (side : Side) (n : Circuit) (vs : List Variable) (t : ℕ) (ws : List ℕ) (given : List Given) → AreReadable n vs ws
     → Leads (valued side vs t given) (flat_map (value_at n t) ws) (valued side vs t (given_at n t ws given))
 leads_values side n vs t [] given each = leads_none (valued side vs t given)
 leads_values side n vs t (w ∷ ws) given each =
-    let here = each w (inl refl) in
+    let here = All-head (IsReadable n vs) w ws each in
     leads_both (valued side vs t given) (valued side vs t (giving t w (level_bits n w t) ∷ given)) _ (value_at n t w) (flat_map (value_at n t) ws)
     (leads_value side vs t w (level n w t) given (width_of (wire_at n w)) here.wide here.declared)
-    (leads_values side n vs t ws (giving t w (level_bits n w t) ∷ given) (λ v within. each v (inr within)))
+    (leads_values side n vs t ws (giving t w (level_bits n w t) ∷ given) (All-tail (IsReadable n vs) w ws each))
 
 -- the time at the end of a unit
 abbrev marked_time : ℕ → ℕ → List ℕ → ℕ
@@ -90,8 +71,8 @@ marked_time before t [] = before
 marked_time before t (w ∷ ws) = t
 
 marked_upto : (before t : ℕ) (ws : List ℕ) → before ≤ t → marked_time before t ws ≤ t
-marked_upto before t [] early = early
-marked_upto before t (w ∷ ws) early = omega arith
+marked_upto before t [] early = grind arith
+marked_upto before t (w ∷ ws) early = grind arith
 
 leads_marked : (n : Circuit) (vs : List Variable) (before t : ℕ) (ws : List ℕ) (given : List Given) → before < t → t < 2 ^ 64 → AreReadable n vs ws
     → Leads (valued Outside vs before given) (marked n t ws) (valued Outside vs (marked_time before t ws) (given_at n t ws given))
@@ -105,39 +86,25 @@ leads_marked n vs before t (w ∷ ws) given later fits each =
 -- earlier values stay
 value_before : (n : Circuit) (t s : ℕ) (c : List ℕ) (ws : List ℕ) (given : List Given) → s < t → value_of c s (given_at n t ws given) ≡ value_of c s given
 value_before n t s c [] given sooner = refl
-value_before n t s c (w ∷ ws) given sooner =
-    let none = lt-leb t s sooner in
-    value_before n t s c ws (giving t w (level_bits n w t) ∷ given) sooner ∙ rw none refl
+value_before n t s c (w ∷ ws) given sooner = grind (arith, lt-leb, (value_before n t s c ws))
 
 -- a value that a code has already is not changed by that of its wire, nor by those of others
 value_kept : (n : Circuit) (t s w : ℕ) (ws : List ℕ) (given : List Given) → t ≤ s → value_of (code w) s given ≡ Some (level_bits n w t)
     → value_of (code w) s (given_at n t ws given) ≡ Some (level_bits n w t)
-value_kept n t s w [] given not_later known = known
-value_kept n t s w (v ∷ ws) given not_later known =
-    let on = le-leb t s not_later in
-    value_kept n t s w ws (giving t v (level_bits n v t) ∷ given) not_later (rw on (by (bytes_eq (code v) (code w)) refl))
-  where
-    by : (test : Bool) → bytes_eq (code v) (code w) ≡ test → cond test (Some (level_bits n v t)) (value_of (code w) s given) ≡ Some (level_bits n w t)
-    by true test =
-        let same : v ≡ w = own_codes v w ((bytes_eq-Decides (code v) (code w)).0 test) in
-        ap (λ k. Some (level_bits n k t)) same
-    by false test = known
+value_kept n t s w [] given not_later known = grind arith
+value_kept n t s w (v ∷ ws) given not_later known = grind (arith, le-leb, own_codes, bytes_eq-Decides, (value_kept n t s w ws))
 
 -- a wire that is among them has its value
-value_given : (n : Circuit) (t s w : ℕ) (ws : List ℕ) (given : List Given) → t ≤ s → In w ws → value_of (code w) s (given_at n t ws given) ≡ Some (level_bits n w t)
-value_given n t s w [] given not_later within = absurd within
-value_given n t s w (v ∷ ws) given not_later (inl same) =
-    let on = le-leb t s not_later in
-    let equal : bytes_eq (code v) (code w) ≡ true = ap (λ k. bytes_eq (code k) (code w)) same ∙ same_bytes (code w) in
-    value_kept n t s w ws (giving t v (level_bits n v t) ∷ given) not_later (rw (on, equal) (ap (λ k. Some (level_bits n k t)) same))
-value_given n t s w (v ∷ ws) given not_later (inr later) = value_given n t s w ws (giving t v (level_bits n v t) ∷ given) not_later later
+value_given : (n : Circuit) (t s w : ℕ) (ws : List ℕ) (given : List Given) → t ≤ s → Contains ws w → value_of (code w) s (given_at n t ws given) ≡ Some (level_bits n w t)
+value_given n t s w [] given not_later within = grind arith
+value_given n t s w (v ∷ ws) given not_later within = grind (arith, contains_cases, le-leb, same_bytes, value_kept, (value_given n t s w ws))
 
 -- ---- what is known at a time
 
 -- the values of the wires that stand are their levels up to a time, and from then on the last of them
 pub record Knows (n : Circuit) (t : ℕ) (given : List Given) : Type 0 where
-  pub before : (w s : ℕ) → In w (standing n) → s ≤ t → value_of (code w) s given ≡ Some (level_bits n w s)
-  pub after : (w s : ℕ) → In w (standing n) → t ≤ s → value_of (code w) s given ≡ Some (level_bits n w t)
+  pub before : (w s : ℕ) → Contains (standing n) w → s ≤ t → value_of (code w) s given ≡ Some (level_bits n w s)
+  pub after : (w s : ℕ) → Contains (standing n) w → t ≤ s → value_of (code w) s given ≡ Some (level_bits n w t)
 
 pub knows_first : (n : Circuit) → Knows n 0 (given_at n 0 (standing n) [])
 knows_first n = record {
@@ -150,16 +117,13 @@ knows_first n = record {
 module _ (n : Circuit) (t : ℕ) (given : List Given) (known : Knows n t given) where
   -- the level of a wire that does not change stays
   stays : (w : ℕ) → is_changed n (t + 1) w ≡ false → level_bits n w t ≡ level_bits n w (t + 1)
-  stays w test =
-      let place : t + 1 - 1 ≡ t = omega arith in
-      let equal : (level n w (t + 1) == level n w t) ≡ true = not-false (level n w (t + 1) == level n w t) (ap (λ k. not (level n w (t + 1) == level n w k)) (sym place) ∙ test) in
-      ap (λ v. v % 2 ^ width_of (wire_at n w)) (sym (eqb-true (level n w (t + 1)) (level n w t) equal))
+  stays w test = grind (arith, not-false, eqb-true)
 
-  later_value : (w s : ℕ) → In w (standing n) → t + 1 ≤ s → value_of (code w) s (given_at n (t + 1) (changed n (t + 1)) given) ≡ Some (level_bits n w (t + 1))
+  later_value : (w s : ℕ) → Contains (standing n) w → t + 1 ≤ s → value_of (code w) s (given_at n (t + 1) (changed n (t + 1)) given) ≡ Some (level_bits n w (t + 1))
   later_value w s within later = by (is_changed n (t + 1) w) refl
     where
       by : (test : Bool) → is_changed n (t + 1) w ≡ test → value_of (code w) s (given_at n (t + 1) (changed n (t + 1)) given) ≡ Some (level_bits n w (t + 1))
-      by true test = value_given n (t + 1) s w (changed n (t + 1)) given later (in_filter (is_changed n (t + 1)) w (standing n) within test)
+      by true test = value_given n (t + 1) s w (changed n (t + 1)) given later (contains_filter (is_changed n (t + 1)) w (standing n) within test)
       by false test =
           value_kept n (t + 1) s w (changed n (t + 1)) given later
           (known.after w s within (omega (arith, later)) ∙ ap Some (stays w test))
@@ -170,7 +134,7 @@ module _ (n : Circuit) (t : ℕ) (given : List Given) (known : Knows n t given) 
     after = later_value;
   }
     where
-      by : (w s : ℕ) → In w (standing n) → s ≤ t + 1 → (s < t + 1) ⊎ (t + 1 ≤ s) → value_of (code w) s (given_at n (t + 1) (changed n (t + 1)) given) ≡ Some (level_bits n w s)
+      by : (w s : ℕ) → Contains (standing n) w → s ≤ t + 1 → (s < t + 1) ⊎ (t + 1 ≤ s) → value_of (code w) s (given_at n (t + 1) (changed n (t + 1)) given) ≡ Some (level_bits n w s)
       by w s within upto (inl sooner) =
           value_before n (t + 1) s (code w) (changed n (t + 1)) given sooner ∙ known.before w s within (omega (arith, sooner))
       by w s within upto (inr late) =
@@ -208,7 +172,7 @@ leads_units n vs (suc k) t before given each early fits known =
       given = rest.given;
       leads =
           leads_both (valued Outside vs before given) (valued Outside vs time next) _ (unit_text n (t + 1)) (flat_map (unit_text n) (range_with_len (t + 1 + 1) k))
-          (leads_marked n vs before (t + 1) ws given (omega (arith, early)) (omega (arith, fits)) (λ w within. each w (filter_in (is_changed n (t + 1)) w (standing n) within)))
+          (leads_marked n vs before (t + 1) ws given (omega (arith, early)) (omega (arith, fits)) (All-filter (is_changed n (t + 1)) (IsReadable n vs) (standing n) each))
           rest.leads;
       knows = subst (λ s. Knows n s rest.given) same rest.knows;
     }

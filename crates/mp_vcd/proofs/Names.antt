@@ -1,25 +1,33 @@
 -- The names that many proofs here cite, passed on from one place. Declares nothing.
-pub use Rattle.std.proofs.Common.{Bool, List, None, Option, Some, [], add-one, add-zero, ap, append-nil, append_assoc, arith, bytes_eq, codes, cond, decimal, drop, drop-cons, eq-eqb, eqb-true, false, filter, flat_map, get_or, get_or-set_other, get_or-set_same, inl, inr, le-leb, leb-true, length, length-append, length-set, lt-ltb, ltb-false, ltb-true, map, nat_le, nat_lt, ne_eqb, not, refl, rules, set, slice_index, slice_index_or, slice_set, subst, suc, sym, take, take-suc, take_all, true, vec_len, zero, zero-add, ℕ, ⊎_elim, ◌%◌, ◌*◌, ◌++◌, ◌+◌, ◌-◌, ◌/◌, ◌<◌, ◌==◌, ◌^◌, ◌∙◌, ◌∷◌, ◌≡◌, ◌≢◌, ◌≤◌, ◌⊎◌}
+pub use Rattle.std.proofs.Common.{All, Bool, Contains, List, None, Option, Some, [], add-one, add-zero, ap, append-nil, append_assoc, arith, bytes_eq, codes, cond, decimal, drop, drop-cons, eq-eqb, eqb-true, false, filter, flat_map, get_or, get_or-set_other, get_or-set_same, inl, inr, le-leb, leb-true, length, length-append, length-set, lt-ltb, ltb-false, ltb-true, map, nat_le, nat_lt, ne_eqb, not, refl, rules, set, slice_index, slice_index_or, slice_set, subst, suc, sym, take, take-suc, take_all, true, vec_len, zero, zero-add, ℕ, ⊎_elim, ◌%◌, ◌*◌, ◌++◌, ◌+◌, ◌-◌, ◌/◌, ◌<◌, ◌==◌, ◌^◌, ◌∙◌, ◌∷◌, ◌≡◌, ◌≢◌, ◌≤◌, ◌⊎◌}
 pub use Rattle.std.proofs.Math.ListN.{get_or-append, get_or-map}
 pub use Rattle.std.proofs.Math.Seq.{drop-length, get_or-append_seam}
-pub use Rattle.std.proofs.lemmas.Bool.{and_from, cases_lt, false_from_ne_true, lt-leb, not-false, or_right}
+pub use Rattle.std.proofs.lemmas.Bool.{and_from, and_parts, cases_lt, false_from_ne_true, lt-leb, not-false}
 pub use Rattle.std.proofs.lemmas.Bool.Decides.{nat_tests}
 pub use Rattle.std.proofs.lemmas.List.{drop-set, get_or_default, get_or_read_under, map-append, take-set-le, take_more}
+pub use Rattle.std.proofs.lemmas.List.Elements.{All-filter, All-head, All-tail, Contains-get_or}
 pub use Rattle.std.proofs.lemmas.List.Folds.{flat_map-map, list_all-append}
 pub use Rattle.std.proofs.lemmas.Slice.Eq.{bytes_eq-Decides}
+pub use Rattle.mp_model.proofs.MemberLemmas.{any_passes, contains_cases, contains_filter, contains_here, contains_map, contains_there}
+pub use Rattle.mp_netlist.specs.Limits.{max_wires}
 pub use Rattle.mp_netlist.specs.Slots.{slot_at}
+unfoldable pub use Rattle.mp_records.specs.Names.{is_name}
 pub use Rattle.mp_streams.proofs.LeftLemmas.{Left, left_as, left_failed, left_none, left_then, left_whole}
 pub use Rattle.mp_streams.proofs.OutLemmas.{puts_as, puts_ok, puts_sooner, puts_then, puts_unmade, writes_failed}
 pub use Rattle.mp_streams.proofs.PlaceLemmas.{placed_between, placed_both, placed_byte}
 pub use Rattle.mp_streams.specs.Places.{IsPlaced}
 pub use Rattle.mp_streams.specs.declared.write_error.WriteError.TheVariants.{OutOfMemory, WriteFailed}
-pub use Rattle.mp_vcd.specs.Names.{AllDigits, AllWithin, Circuit, IsCircuit, Waveform, WireRecord, between, change_after, changes_after, changes_in, digit_value, digits_value, digits_value_after, earlier_than, is_ascii_digit, is_ascii_whitespace, later_than, level, list_all, list_any, range_with_len, slot_wave, wave, width_of, wire_at}
 pub use Rattle.mp_vcd.specs.Agendas.{IsChain, Tells, entry_at, no_entry, onto, onto_slot, told_at, told_from, told_lines, with_levels, with_told}
-pub use Rattle.mp_vcd.specs.Codes.{code}
-pub use Rattle.mp_vcd.specs.Dumps.{changed, if_stands, is_changed, marked, slot_declaration, standing, standing_from, time_mark, unit_text, value_at}
+pub use Rattle.mp_vcd.specs.Codes.{digits_of}
+unfoldable pub use Rattle.mp_vcd.specs.Codes.{code}
+pub use Rattle.mp_vcd.specs.Dumps.{block_start, changed, declaration, if_stands, is_changed, line, marked, opening_lines, preamble, slot_declaration, standing, standing_from, time_mark, unit_text, value_at}
+unfoldable pub use Rattle.mp_vcd.specs.Dumps.{dump}
+pub use Rattle.mp_vcd.specs.Names.{AllDigits, AllWithin, Circuit, IsCircuit, Waveform, WireRecord, between, change_after, changes_after, changes_in, digit_value, digits_value, digits_value_after, earlier_than, is_ascii_digit, is_ascii_whitespace, later_than, level, list_all, list_any, range_with_len, slot_wave, wave, width_of, wire_at}
 pub use Rattle.mp_vcd.specs.Parts.{part_line, slot_text}
-pub use Rattle.mp_vcd.specs.Readings.{AmongValues, BehindDigits, BetweenDeclarations, Given, InDeclaration, Inside, Outside, Reading, Side, Variable, at_place, is_binary, is_made_of, is_printed, read_words, takes, value_of, with_time, with_value, word_first, word_in, words, words_from}
-pub use Rattle.mp_vcd.specs.Values.{bit, bits, value_line}
+pub use Rattle.mp_vcd.specs.Readings.{AmongValues, BehindDigits, BetweenDeclarations, Given, InDeclaration, Inside, Outside, Reading, Side, Variable, at_place, is_binary, is_made_of, is_printed, nothing_read, read_words, takes, value_of, with_time, with_value, word_first, word_in, words, words_from}
+unfoldable pub use Rattle.mp_vcd.specs.Readings.{reading}
+pub use Rattle.mp_vcd.specs.Values.{bit, value_line}
+unfoldable pub use Rattle.mp_vcd.specs.Values.{bits}
 pub use Rattle.mp_vcd.specs.declared.agenda.Entry.{Entry}
 pub use Rattle.mp_wave.proofs.PrefixLemmas.{earlier_than-take, later_than-drop, nat_lt-false, nat_lt-true}
-pub use Rattle.mp_words.proofs.PlainLemmas.{IsPlain, IsPlain-decimal, IsPlain-name, both, is_plain_byte, list_all-passing}
+pub use Rattle.mp_words.proofs.PlainLemmas.{IsPlain, IsPlain-decimal, IsPlain-name, is_plain_byte, list_all-passing}

@@ -1,7 +1,6 @@
 -- What the parts of a dump say to a reader.
-use Rattle.mp_vcd.proofs.Names.{◌≤◌, ◌≡◌, ℕ, ◌+◌, ◌%◌, ◌^◌, ◌<◌, ◌==◌, Bool, true, false, cond, nat_lt, List, [], ◌∷◌, ◌++◌, append_assoc, append-nil, length, Some, None, zero, suc, decimal, refl, sym, ap, subst, ◌∙◌, arith, codes, is_ascii_digit, is_ascii_whitespace, list_all, list_any, bytes_eq, digits_value, eqb-true, lt-ltb, nat_tests, WireRecord, both, code, bit, bits, value_line, slot_declaration, time_mark, word_first, words_from, words, is_made_of, is_printed, Variable, Given, Side, Outside, Inside, Reading, BetweenDeclarations, InDeclaration, AmongValues, BehindDigits, at_place, with_time, takes, with_value, word_in, read_words}
-use Rattle.mp_netlist.specs.Limits.{max_wires}
-use Rattle.mp_records.specs.Names.{is_name}
+use Rattle.std.specs.Prelude.{◌≤◌, ◌≡◌, ◌+◌, ◌%◌, ◌^◌, ◌<◌, ◌∷◌, ◌++◌}
+use Rattle.mp_vcd.proofs.Names.{ℕ, true, false, nat_lt, List, [], append_assoc, append-nil, length, Some, None, decimal, refl, sym, ap, subst, ◌∙◌, arith, codes, is_ascii_digit, is_ascii_whitespace, list_all, list_any, bytes_eq, digits_value, eqb-true, lt-ltb, nat_tests, WireRecord, and_parts, code, bit, bits, value_line, slot_declaration, time_mark, word_first, words_from, words, is_made_of, is_printed, Variable, Given, Side, Outside, Reading, BetweenDeclarations, InDeclaration, AmongValues, BehindDigits, at_place, with_time, takes, with_value, word_in, read_words, is_name, max_wires}
 use Rattle.mp_vcd.proofs.CodeLemmas.{bits_long}
 use Rattle.mp_vcd.proofs.CodeReadLemmas.{IsSolid, IsSolid-decimal, IsSolid-name, IsSolid-code, solid_behind, code_solid, bits_solid, decimal_not_end, name_not_end, code_not_end, decimal_read, bits_read, decimal_made, code_made, bits_made, one_bit}
 
@@ -11,19 +10,15 @@ high_not_white : (b : ℕ) → nat_lt 32 b ≡ true → is_ascii_whitespace b �
 high_not_white b high = grind (arith, nat_tests)
 
 words_solid : (begun word rest : List ℕ) → list_all (nat_lt 32) word ≡ true → words_from begun (word ++ rest) ≡ words_from (begun ++ word) rest
-words_solid begun [] rest solid = ap (λ l. words_from l rest) (sym (append-nil begun))
-words_solid begun (b ∷ bs) rest solid =
-    let parts = both (nat_lt 32 b) (list_all (nat_lt 32) bs) solid in
-    let here = high_not_white b parts.0 in
-    rw here (words_solid (begun ++ b ∷ []) bs rest parts.1 ∙ ap (λ l. words_from l rest) (append_assoc begun (b ∷ []) bs))
+words_solid begun [] rest solid = grind (arith, nat_tests, append-nil)
+words_solid begun (b ∷ bs) rest solid = grind (arith, nat_tests, and_parts, high_not_white, append_assoc, (words_solid (begun ++ b ∷ []) bs rest))
 
 first_word : (word : List ℕ) (others : List (List ℕ)) → 0 < length word → word_first word others ≡ word ∷ others
-first_word [] others some = absurd (omega (arith, some))
+first_word [] others some = grind (arith, nat_tests)
 first_word (b ∷ bs) others some = refl
 
 word_then : (word : List ℕ) (space : ℕ) (rest : List ℕ) → IsSolid word → is_ascii_whitespace space ≡ true → words (word ++ space ∷ rest) ≡ word ∷ words rest
-word_then word space rest solid white =
-    words_solid [] word (space ∷ rest) solid.solid ∙ ap (λ test. cond test (word_first word (words rest)) (words_from (word ++ space ∷ []) rest)) white ∙ first_word word (words rest) solid.some
+word_then word space rest solid white = grind (arith, nat_tests, words_solid, first_word)
 
 -- ---- texts that lead a reader on
 
@@ -90,11 +85,7 @@ abbrev pub valued : Side → List Variable → ℕ → List Given → Reading
 valued side vs t given = record { place = AmongValues side; unit = Some (1, codes "ns"); scopes = []; variables = vs; time = Some t; given = given }
 
 time_read : (vs : List Variable) (t new : ℕ) (given : List Given) → t < new → new < 2 ^ 64 → with_time (decimal new) (valued Outside vs t given) ≡ valued Outside vs new given
-time_read vs t new given later fits =
-    let digits = decimal_made new fits in
-    let read = decimal_read new fits in
-    let rises = lt-ltb t new later in
-    rw (digits, read, rises) refl
+time_read vs t new given later fits = grind (arith, nat_tests, decimal_made, decimal_read, lt-ltb)
 
 pub leads_time : (vs : List Variable) (t new : ℕ) (given : List Given) → t < new → new < 2 ^ 64 → Leads (valued Outside vs t given) (time_mark new) (valued Outside vs new given)
 leads_time vs t new given later fits =
@@ -112,22 +103,10 @@ HasVariable vs w width = (digits : List ℕ) → length digits ≤ width → lis
 module _ (side : Side) (vs : List Variable) (t w level : ℕ) (given : List Given) (width : ℕ) (wide : 1 ≤ width) (declared : HasVariable vs w width) where
   -- a code behind the bits of a level
   code_read : (digits : List ℕ) → digits ≡ bits width level → with_value (Some t) (code w) digits (valued side vs t given) ≡ valued side vs t (giving t w (level % 2 ^ width) ∷ given)
-  code_read digits same =
-      let few : length digits ≤ width = omega (arith, ap length same, bits_long width level) in
-      let takes_it = declared digits few in
-      let value = ap (digits_value 2) same ∙ bits_read width level in
-      rw (takes_it, value) refl
+  code_read digits same = grind (arith, nat_tests, bits_long, bits_read)
 
   scalar_word : (d : ℕ) → d < 2 → word_in (AmongValues side) ((48 + d) ∷ code w) (valued side vs t given) ≡ with_value (Some t) (code w) ((48 + d) ∷ []) (valued side vs t given)
-  scalar_word = by side
-    where
-      by : (s : Side) (d : ℕ) → d < 2 → word_in (AmongValues s) ((48 + d) ∷ code w) (valued s vs t given) ≡ with_value (Some t) (code w) ((48 + d) ∷ []) (valued s vs t given)
-      by Outside zero few = refl
-      by Outside (suc zero) few = refl
-      by Outside (suc (suc d)) few = absurd (omega (arith, few))
-      by Inside zero few = refl
-      by Inside (suc zero) few = refl
-      by Inside (suc (suc d)) few = absurd (omega (arith, few))
+  scalar_word = grind (arith, nat_tests)
 
   leads_scalar : width ≡ 1 → Leads (valued side vs t given) (bit level ∷ [] ++ (code w ++ 10 ∷ [])) (valued side vs t (giving t w (level % 2 ^ width) ∷ given))
   leads_scalar one =
@@ -140,11 +119,7 @@ module _ (side : Side) (vs : List Variable) (t w level : ℕ) (given : List Give
   behind = at_place (BehindDigits side (bits width level)) (valued side vs t given)
 
   vector_word : word_in (AmongValues side) (98 ∷ bits width level) (valued side vs t given) ≡ behind
-  vector_word = by side
-    where
-      by : (s : Side) → word_in (AmongValues s) (98 ∷ bits width level) (valued s vs t given) ≡ at_place (BehindDigits s (bits width level)) (valued s vs t given)
-      by Outside = let made = bits_made width level wide in rw made refl
-      by Inside = let made = bits_made width level wide in rw made refl
+  vector_word = grind (arith, nat_tests, bits_made)
 
   leads_vector : Leads (valued side vs t given) ((98 ∷ (bits width level ++ 32 ∷ [])) ++ (code w ++ 10 ∷ [])) (valued side vs t (giving t w (level % 2 ^ width) ∷ given))
   leads_vector =
@@ -157,9 +132,4 @@ module _ (side : Side) (vs : List Variable) (t w level : ℕ) (given : List Give
       leads_as (valued side vs t given) to to _ _ (sym (append_assoc (98 ∷ bits width level) (32 ∷ []) (code w ++ 10 ∷ []))) refl all
 
   pub leads_value : Leads (valued side vs t given) (value_line width w level) (valued side vs t (giving t w (level % 2 ^ width) ∷ given))
-  leads_value = by (width == 1) refl
-    where
-      by : (test : Bool) → (width == 1) ≡ test
-          → Leads (valued side vs t given) (cond test (bit level ∷ []) (98 ∷ (bits width level ++ 32 ∷ [])) ++ (code w ++ 10 ∷ [])) (valued side vs t (giving t w (level % 2 ^ width) ∷ given))
-      by true test = leads_scalar (eqb-true width 1 test)
-      by false test = leads_vector
+  leads_value = grind (arith, nat_tests, leads_scalar, eqb-true, leads_vector)

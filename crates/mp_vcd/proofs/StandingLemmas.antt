@@ -1,9 +1,9 @@
 -- The wires that stand, one after the other.
-use Rattle.mp_vcd.proofs.Names.{◌≡◌, ℕ, ◌+◌, ◌-◌, ◌<◌, ◌≤◌, Bool, true, false, cond, List, [], ◌∷◌, ◌++◌, append_assoc, length, drop, Option, None, Some, zero, suc, refl, sym, ap, ◌∙◌, add-one, add-zero, arith, filter, flat_map, range_with_len, drop-cons, drop-length, Waveform, WireRecord, Circuit, IsCircuit, wire_at, width_of, slot_at, level, wave, slot_wave, if_stands, standing_from, is_changed, slot_text, with_levels, onto_slot}
+use Rattle.std.specs.Prelude.{◌≡◌, ◌+◌, ◌-◌, ◌<◌, ◌≤◌, ◌∷◌, ◌++◌}
+use Rattle.mp_vcd.proofs.Names.{ℕ, List, [], append_assoc, length, drop, Option, None, Some, zero, suc, refl, sym, ap, ◌∙◌, add-one, add-zero, arith, filter, flat_map, range_with_len, drop-cons, drop-length, Waveform, WireRecord, Circuit, IsCircuit, wire_at, width_of, slot_at, wave, slot_wave, if_stands, standing_from, is_changed, slot_text, with_levels, onto_slot}
 
 pub standing_step : (slots : List (Option WireRecord)) (w : ℕ) → w < length slots → standing_from w (drop w slots) ≡ if_stands w (slot_at slots w) (standing_from (w + 1) (drop (w + 1) slots))
-standing_step slots w within =
-    ap (standing_from w) (drop-cons slots w None within) ∙ ap (λ k. if_stands w (slot_at slots w) (standing_from (w + 1) (drop k slots))) (sym (add-one w))
+standing_step slots w within = grind (arith, drop-cons, add-one)
 
 pub standing_end : (slots : List (Option WireRecord)) (w : ℕ) → w ≡ length slots → standing_from w (drop w slots) ≡ []
 standing_end slots w over = ap (λ k. standing_from w (drop k slots)) over ∙ ap (standing_from w) (drop-length slots)
@@ -15,25 +15,18 @@ flat_map_stands told w (Some r) others = refl
 
 pub lines_step : (told : ℕ → List ℕ) (slots : List (Option WireRecord)) (w : ℕ) → w < length slots
     → flat_map told (standing_from w (drop w slots)) ≡ slot_text told w (slot_at slots w) ++ flat_map told (standing_from (w + 1) (drop (w + 1) slots))
-lines_step told slots w within =
-    ap (flat_map told) (standing_step slots w within) ∙ flat_map_stands told w (slot_at slots w) (standing_from (w + 1) (drop (w + 1) slots))
+lines_step told slots w within = grind (arith, standing_step, flat_map_stands)
 
 -- a wire's change at a time, where there is one, before those of others
 told_stands : (n : Circuit) (t w : ℕ) (slot : Option WireRecord) (others : List ℕ)
     → with_levels n t (filter (is_changed n t) (if_stands w slot others)) ≡ onto_slot n t w slot (with_levels n t (filter (is_changed n t) others))
 told_stands n t w None others = refl
-told_stands n t w (Some r) others = by (is_changed n t w)
-  where
-    by : (test : Bool) → with_levels n t (cond test (w ∷ filter (is_changed n t) others) (filter (is_changed n t) others))
-        ≡ cond test ((w, level n w t) ∷ with_levels n t (filter (is_changed n t) others)) (with_levels n t (filter (is_changed n t) others))
-    by true = refl
-    by false = refl
+told_stands n t w (Some r) others = grind arith
 
 pub told_step : (n : Circuit) (t w : ℕ) → w < length n.wires
     → with_levels n t (filter (is_changed n t) (standing_from w (drop w n.wires)))
     ≡ onto_slot n t w (wire_at n w) (with_levels n t (filter (is_changed n t) (standing_from (w + 1) (drop (w + 1) n.wires))))
-told_step n t w within =
-    ap (λ ws. with_levels n t (filter (is_changed n t) ws)) (standing_step n.wires w within) ∙ told_stands n t w (wire_at n w) (standing_from (w + 1) (drop (w + 1) n.wires))
+told_step n t w within = grind (arith, standing_step, told_stands)
 
 -- ---- times
 
@@ -69,7 +62,7 @@ changes_in n w (Some r) v same = let is : v ≡ wave n w = cc in (r, refl, ap (�
 
 pub none_in : (n : Circuit) (w t : ℕ) (slot : Option WireRecord) (others : List (ℕ × ℕ)) → None ≡ slot_wave n w slot → others ≡ onto_slot n t w slot others
 none_in n w t None others same = refl
-none_in n w t (Some r) others same = cc
+none_in n w t (Some r) others same = grind arith
 
 -- ---- the widths of wires
 

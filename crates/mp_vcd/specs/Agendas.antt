@@ -1,9 +1,8 @@
 -- The changes of all wires by time.
-use Rattle.std.specs.Prelude.{◌≡◌, ℕ, ◌+◌, ◌-◌, ◌<◌, ◌≤◌, List, [], ◌∷◌, length, map, Option, Some, None, slice_index, slice_index_or, ◌==◌, if◌then◌else◌}
-use Rattle.mp_vcd.specs.Names.{flat_map, WireRecord, Circuit, wire_at, width_of, level}
+use Rattle.std.specs.Prelude.{◌≡◌, ◌+◌, ◌-◌, ◌<◌, ◌≤◌, ◌∷◌, ◌==◌, if◌then◌else◌}
+use Rattle.mp_vcd.specs.Names.{flat_map, WireRecord, Circuit, wire_at, width_of, level, ℕ, List, [], length, map, Option, Some, None, slice_index, slice_index_or, Entry}
 use Rattle.mp_vcd.specs.Values.{value_line}
 use Rattle.mp_vcd.specs.Dumps.{is_changed, changed}
-use Rattle.mp_vcd.specs.declared.agenda.Entry.{Entry}
 
 abbrev pub no_entry : Entry
 no_entry = record { level = 0; wire = 0; next = 0 }

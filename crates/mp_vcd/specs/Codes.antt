@@ -1,5 +1,6 @@
 -- The identifier codes of wires.
-use Rattle.std.specs.Prelude.{ℕ, ◌+◌, ◌/◌, ◌%◌, List, [], ◌∷◌, nat_lt, zero, suc, if◌then◌else◌}
+use Rattle.std.specs.Prelude.{◌+◌, ◌/◌, ◌%◌, ◌∷◌, if◌then◌else◌}
+use Rattle.mp_vcd.specs.Names.{ℕ, List, [], nat_lt, zero, suc}
 
 -- the digits of a number in base 94, so many at most, the least first: a digit is the character so far behind `!`
 abbrev pub digits_of : ℕ → ℕ → List ℕ

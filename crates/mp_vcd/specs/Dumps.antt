@@ -1,7 +1,6 @@
 -- The value change dump of a netlist.
-use Rattle.std.specs.Prelude.{ℕ, ◌+◌, ◌-◌, List, [], ◌∷◌, ◌++◌, Option, Some, None, Bool, not, codes, ◌==◌}
-use Rattle.mp_vcd.specs.Names.{filter, flat_map, range_with_len, WireRecord, Circuit, wire_at, width_of, level}
-use Rattle.std.specs.Fmt.{decimal}
+use Rattle.std.specs.Prelude.{◌+◌, ◌-◌, ◌∷◌, ◌++◌, ◌==◌}
+use Rattle.mp_vcd.specs.Names.{filter, flat_map, range_with_len, WireRecord, Circuit, wire_at, width_of, level, ℕ, List, [], Option, Some, None, Bool, not, codes, decimal}
 use Rattle.mp_vcd.specs.Codes.{code}
 use Rattle.mp_vcd.specs.Values.{value_line}
 

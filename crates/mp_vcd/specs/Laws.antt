@@ -1,6 +1,6 @@
 -- What a dump says to a reader.
-use Rattle.std.specs.Prelude.{◌≡◌, ℕ, ◌<◌, List, [], ◌∷◌, map, codes, Option, Some, None}
-use Rattle.mp_vcd.specs.Names.{WireRecord, Circuit, IsCircuit, wire_at, width_of, level}
+use Rattle.std.specs.Prelude.{◌≡◌, ◌<◌, ◌∷◌}
+use Rattle.mp_vcd.specs.Names.{WireRecord, Circuit, IsCircuit, wire_at, width_of, level, ℕ, List, [], map, codes, Option, Some, None}
 use Rattle.mp_vcd.specs.Codes.{code}
 use Rattle.mp_vcd.specs.Dumps.{standing, dump}
 use Rattle.mp_vcd.specs.Readings.{Variable, Reading, AmongValues, Outside, reading, value_of}

@@ -6,3 +6,4 @@ pub mod Agendas
 pub mod Parts
 pub mod Readings
 pub mod Laws
+pub mod Clauses

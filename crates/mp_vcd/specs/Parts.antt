@@ -1,9 +1,6 @@
 -- What is told of wires before their changes.
-use Rattle.std.specs.Prelude.{ℕ, List, [], Option, Some, None}
-use Rattle.mp_vcd.specs.Names.{WireRecord, Circuit}
+use Rattle.mp_vcd.specs.Names.{WireRecord, Circuit, ℕ, List, [], Option, Some, None, Part, Declarations, FirstLevels}
 use Rattle.mp_vcd.specs.Dumps.{declaration, value_at}
-use Rattle.mp_vcd.specs.declared.preamble.Part.{Part}
-use Rattle.mp_vcd.specs.declared.preamble.Part.TheVariants.{Declarations, FirstLevels}
 
 -- the line of a part for a wire
 abbrev pub part_line : Circuit → Part → ℕ → List ℕ

@@ -1,8 +1,7 @@
 -- How IEEE Std 1364 has a value change dump read, word after word. The reading is strict: its values are 0 and 1 alone, each at a time and
 -- of a declared variable, times rise, a unit of time is declared, and variables stand in scopes, which end before the declarations do.
-use Rattle.std.specs.Prelude.{ℕ, Bool, true, ◌&&◌, ◌||◌, ◌==◌, nat_lt, nat_le, List, [], ◌∷◌, ◌++◌, length, Option, Some, None, codes, if◌then◌else◌}
-use Rattle.mp_vcd.specs.Names.{is_ascii_digit, is_ascii_whitespace, list_all, list_any, digits_value}
-use Rattle.std.specs.Str.{byte, bytes_eq}
+use Rattle.std.specs.Prelude.{◌&&◌, ◌||◌, ◌==◌, ◌∷◌, ◌++◌, if◌then◌else◌}
+use Rattle.mp_vcd.specs.Names.{is_ascii_digit, is_ascii_whitespace, list_all, list_any, digits_value, ℕ, Bool, true, nat_lt, nat_le, List, [], length, Option, Some, None, codes, byte, bytes_eq}
 
 -- ---- words
 

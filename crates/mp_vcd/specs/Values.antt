@@ -1,5 +1,6 @@
 -- How the level of a wire is written.
-use Rattle.std.specs.Prelude.{ℕ, ◌+◌, ◌/◌, ◌%◌, List, [], ◌∷◌, ◌++◌, ◌==◌, zero, suc, if◌then◌else◌}
+use Rattle.std.specs.Prelude.{◌+◌, ◌/◌, ◌%◌, ◌∷◌, ◌++◌, ◌==◌, if◌then◌else◌}
+use Rattle.mp_vcd.specs.Names.{ℕ, List, [], zero, suc}
 use Rattle.mp_vcd.specs.Codes.{code}
 
 -- a binary digit

@@ -1,6 +1,6 @@
 //! Changes of wires by time.
-ghost use Rattle.std.specs.Prelude.{◌≡◌, ℕ, ◌+◌, ◌-◌, ◌<◌, ◌≤◌, List, [], IfOk, OnOk, slice_index, vec_len};
-ghost use Rattle.mp_vcd.specs.Agendas.{Tells, told_from, with_told, entry_at};
+ghost use Rattle.std.specs.Prelude.{◌≡◌, ◌+◌, ◌-◌, ◌<◌, ◌≤◌};
+ghost use Rattle.mp_vcd.specs.Clauses.{ℕ, List, [], IfOk, OnOk, slice_index, vec_len, Tells, told_from, with_told, entry_at};
 
 use std::alloc::{AllocError, Global};
 

@@ -1,7 +1,6 @@
 //! The identifier codes of wires.
-ghost use Rattle.std.specs.Prelude.{◌+◌, ◌≤◌, length};
-ghost use Rattle.mp_streams.specs.Places.{IsPlaced};
-ghost use Rattle.mp_vcd.specs.Codes.{code};
+ghost use Rattle.std.specs.Prelude.{◌+◌, ◌≤◌};
+ghost use Rattle.mp_vcd.specs.Clauses.{length, IsPlaced, code};
 
 use mp_streams::{Failed, Out, Piece, Sink, Text};
 
@@ -16,7 +15,7 @@ const FIRST_DIGIT: u8 = b'!';
 pub(crate) struct Code(pub(crate) u32);
 
 impl Piece for Code {
-    ghost use Rattle.mp_vcd.specs.Codes.{code};
+    ghost use Rattle.mp_vcd.specs.Clauses.{code};
 
     ghost text = { λ wire. code wire.0 };
 
@@ -26,8 +25,6 @@ impl Piece for Code {
 }
 
 impl Text for Code {
-    ghost use Rattle.mp_vcd.specs.Codes.{code};
-
     ghost text = { λ wire. code wire.0 };
 
     fn put_to<S: Sink>(&self, out: &mut Out<S>) -> Result<(), Failed> {

@@ -1,10 +1,7 @@
 //! The dump of a netlist.
 ghost use Rattle.std.specs.Prelude.{◌-◌};
-ghost use Rattle.mp_vcd.specs.Names.{flat_map, range_with_len, AreWavesOf};
+ghost use Rattle.mp_vcd.specs.Clauses.{flat_map, range_with_len, AreWavesOf, unit_text, dump, SaysLevels, reading};
 ghost use Rattle.mp_streams.specs.WriteErrors.{Writes};
-ghost use Rattle.mp_vcd.specs.Dumps.{unit_text, dump};
-ghost use Rattle.mp_vcd.specs.Laws.{SaysLevels};
-ghost use Rattle.mp_vcd.specs.Readings.{reading};
 
 use crate::lines::put_time_mark;
 use crate::preamble::put_preamble;
@@ -41,6 +38,7 @@ pub fn put_dump<S: Sink>(
 }
 
 /// Writes the changes of each time from 1 to one below the horizon, portion by portion.
+#[tactic(auto, using(mp_streams::proofs::LeftLemmas::left_none, crate::proofs::StandingLemmas::times_end))]
 fn put_units<S: Sink>(
     alloc: Global,
     out: &mut Out<S>,

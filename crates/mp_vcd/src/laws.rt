@@ -1,5 +1,5 @@
 //! What a dump says to a reader.
-ghost use Rattle.mp_vcd.specs.Laws.{IsReadBack, HaveOwnCodes, HaveKnownCodes};
+ghost use Rattle.mp_vcd.specs.Clauses.{IsReadBack, HaveOwnCodes, HaveKnownCodes};
 
 /// The dump of a well-formed netlist, read strictly by the rules of IEEE Std 1364, declares a unit of 1 ns and each
 /// wire that stands as a variable of one scope, with the wire's name and width; it gives each at each time below the

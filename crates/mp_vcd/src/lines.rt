@@ -1,7 +1,5 @@
 //! The lines of a dump.
-ghost use Rattle.std.specs.Prelude.{Some};
-ghost use Rattle.mp_vcd.specs.Names.{Writes};
-ghost use Rattle.mp_vcd.specs.Dumps.{slot_declaration, time_mark};
+ghost use Rattle.mp_vcd.specs.Clauses.{Some, Writes, slot_declaration, time_mark};
 
 use crate::code::Code;
 use mp_netlist::{WireId, WireRecord};

@@ -1,7 +1,6 @@
 //! The part of a wave between two times.
-ghost use Rattle.std.specs.Prelude.{◌≡◌, ℕ, ◌+◌, ◌-◌, ◌^◌, ◌<◌, ◌≤◌, true, false, take, length, slice_index_or};
-ghost use Rattle.mp_vcd.specs.Names.{AllWithin, changes_in, between, earlier_than};
-ghost use Rattle.std.specs.List.Sorted.{IsNonDecreasingBy};
+ghost use Rattle.std.specs.Prelude.{◌≡◌, ◌+◌, ◌-◌, ◌^◌, ◌<◌, ◌≤◌};
+ghost use Rattle.mp_vcd.specs.Clauses.{ℕ, true, false, take, length, slice_index_or, AllWithin, changes_in, between, earlier_than, IsNonDecreasingBy};
 
 use mp_wave::{Wave, WaveChanges};
 
@@ -56,6 +55,7 @@ fn is_ahead(changes: WaveChanges<'_>, place: usize, time: u32) -> bool
 }
 
 /// How many changes are earlier than a time, counted from the first on.
+#[tactic(auto, using(crate::proofs::AgendaLemmas::parts_count_before_steps))]
 fn count_before(changes: WaveChanges<'_>, time: u32) -> usize
     requires { IsNonDecreasingBy (λ (c : ℕ × ℕ). c.0) (changes_in changes) }
     ensures within { result ≤ length (changes_in changes.entry) }

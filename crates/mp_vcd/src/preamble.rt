@@ -1,7 +1,5 @@
 //! What a dump says before the changes.
-ghost use Rattle.mp_vcd.specs.Names.{flat_map, Writes, wire_at, AreWavesOf};
-ghost use Rattle.mp_vcd.specs.Dumps.{standing, preamble};
-ghost use Rattle.mp_vcd.specs.Parts.{part_line, slot_text};
+ghost use Rattle.mp_vcd.specs.Clauses.{flat_map, Writes, wire_at, AreWavesOf, standing, preamble, part_line, slot_text};
 
 use crate::lines::put_declaration;
 use crate::value_lines::ValueLine;

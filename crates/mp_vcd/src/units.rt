@@ -1,9 +1,6 @@
 //! The changes of a dump.
-ghost use Rattle.std.specs.Prelude.{◌≡◌, ◌+◌, ◌-◌, ◌<◌, ◌≤◌, map, slice_index, vec_len};
-ghost use Rattle.mp_vcd.specs.Names.{flat_map, range_with_len, Writes, IsCircuit, width_of};
-ghost use Rattle.mp_vcd.specs.Agendas.{Tells, told_from, told_at};
-ghost use Rattle.mp_vcd.specs.Dumps.{unit_text};
-ghost use Rattle.mp_vcd.specs.Values.{value_line};
+ghost use Rattle.std.specs.Prelude.{◌≡◌, ◌+◌, ◌-◌, ◌<◌, ◌≤◌};
+ghost use Rattle.mp_vcd.specs.Clauses.{map, slice_index, vec_len, flat_map, range_with_len, Writes, IsCircuit, width_of, Tells, told_from, told_at, unit_text, value_line};
 
 use crate::agenda::{Agenda, Entry};
 use crate::lines::put_time_mark;
@@ -33,6 +30,7 @@ pub fn put_agenda<S: Sink>(
 }
 
 /// Writes the changes of a time.
+#[tactic(auto, using(crate::proofs::AgendaLemmas::units_put_unit_steps))]
 fn put_unit<S: Sink>(
     out: &mut Out<S>,
     netlist: &Netlist,

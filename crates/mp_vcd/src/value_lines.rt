@@ -1,7 +1,6 @@
 //! Value lines that write themselves.
-ghost use Rattle.std.specs.Prelude.{◌≡◌, ◌+◌, ◌≤◌, length};
-ghost use Rattle.mp_streams.specs.Places.{IsPlaced};
-ghost use Rattle.mp_vcd.specs.Values.{bit, bits, value_text};
+ghost use Rattle.std.specs.Prelude.{◌≡◌, ◌+◌, ◌≤◌};
+ghost use Rattle.mp_vcd.specs.Clauses.{length, IsPlaced, bit, bits, value_text};
 
 use crate::code::write_code;
 use mp_streams::Piece;
@@ -16,7 +15,7 @@ pub(crate) struct ValueLine {
 }
 
 impl Piece for ValueLine {
-    ghost use Rattle.mp_vcd.specs.Values.{value_line};
+    ghost use Rattle.mp_vcd.specs.Clauses.{value_line};
 
     ghost text = { λ line. value_line line.width line.wire line.level };
 

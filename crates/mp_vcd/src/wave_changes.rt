@@ -1,7 +1,6 @@
 //! The changes of a netlist's waves by time.
-ghost use Rattle.std.specs.Prelude.{◌≡◌, ℕ, ◌+◌, ◌-◌, ◌<◌, ◌≤◌, List, IfOk, OnOk, vec_len};
-ghost use Rattle.mp_vcd.specs.Names.{wire_at, AreWavesOf, changes_in};
-ghost use Rattle.mp_vcd.specs.Agendas.{Tells, told_from, onto, onto_slot, told_at};
+ghost use Rattle.std.specs.Prelude.{◌≡◌, ◌+◌, ◌-◌, ◌<◌, ◌≤◌};
+ghost use Rattle.mp_vcd.specs.Clauses.{ℕ, List, IfOk, OnOk, vec_len, wire_at, AreWavesOf, changes_in, Tells, told_from, onto, onto_slot, told_at};
 
 use crate::agenda::Agenda;
 use crate::parts::part;
@@ -80,6 +79,7 @@ pub fn agenda_of(
 }
 
 /// Puts the changes of a wire at the agenda's times, the last of which is before another, before the others of their times.
+#[tactic(auto, using(crate::proofs::AgendaLemmas::told_as, crate::proofs::StandingLemmas::none_in))]
 fn add_wire(
     agenda: &mut Agenda,
     netlist: &Netlist,
@@ -123,6 +123,7 @@ fn set_place(places: &mut [usize], id: WireId, place: usize) {
     }
 }
 
+#[tactic(auto, using(std::proofs::Common::take_all, crate::proofs::AgendaLemmas::told_as))]
 fn add_changes(agenda: &mut Agenda, wire: u32, changes: WaveChanges<'_>) -> Result<(), AllocError>
     ensures from { OnOk result (agenda.new.from ≡ agenda.old.from) }
     ensures times { OnOk result (vec_len agenda.new.firsts ≡ vec_len agenda.old.firsts) }

@@ -1,6 +1,6 @@
 //! The widths of wires as a list.
-ghost use Rattle.std.specs.Prelude.{◌≡◌, IfOk, map};
-ghost use Rattle.mp_vcd.specs.Names.{wire_at, width_of};
+ghost use Rattle.std.specs.Prelude.{◌≡◌};
+ghost use Rattle.mp_vcd.specs.Clauses.{IfOk, map, wire_at, width_of};
 
 use mp_netlist::{Netlist, WireId};
 use std::alloc::{AllocError, Global};

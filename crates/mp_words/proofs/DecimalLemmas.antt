@@ -1,27 +1,12 @@
 -- Numbers as they are written.
-use Rattle.mp_words.proofs.Names.{◌≡◌, ℕ, ◌+◌, ◌-◌, ◌*◌, ◌/◌, ◌%◌, ◌^◌, ◌<◌, ◌≤◌, Bool, true, false, cond, ◌&&◌, List, [], ◌∷◌, ◌++◌, None, Some, decimal, nat_lt, refl, ap, ◌∙◌, arith, is_ascii_digit, list_all, decimal_by_steps, length-decimal-le, decimal_nonempty, nat_tests, list_all-append}
-use Rattle.mp_words.specs.Numbers.{number_from, spelled_number}
+use Rattle.std.specs.Prelude.{◌≡◌, ◌+◌, ◌-◌, ◌*◌, ◌/◌, ◌%◌, ◌^◌, ◌<◌, ◌≤◌, ◌&&◌, ◌∷◌, ◌++◌}
+use Rattle.mp_words.proofs.Names.{length-set, ℕ, true, List, [], Some, decimal, refl, ap, ◌∙◌, arith, is_ascii_digit, list_all, decimal_by_steps, length-decimal-le, decimal_nonempty, nat_tests, list_all-append, number_from, spelled_number}
 
 -- one more digit
 number_from-push : (a : ℕ) (ds : List ℕ) (n d : ℕ) → number_from a ds ≡ Some n → d < 10 → n * 10 + d < 2 ^ 64 → number_from a (ds ++ (48 + d) ∷ []) ≡ Some (n * 10 + d)
 unfolding number_from
-number_from-push a [] n d read low fits = by (nat_lt a (2 ^ 64)) refl read
-  where
-    by : (t : Bool) → nat_lt a (2 ^ 64) ≡ t → cond t (Some a) None ≡ Some n → cond (is_ascii_digit (48 + d)) (cond (nat_lt (a * 10 + ((48 + d) - 48)) (2 ^ 64)) (Some (a * 10 + ((48 + d) - 48))) None) None ≡ Some (n * 10 + d)
-    by true e same =
-        let eq : a ≡ n = cc in
-        let digit : is_ascii_digit (48 + d) ≡ true = grind (arith, nat_tests) in
-        let value : a * 10 + ((48 + d) - 48) ≡ n * 10 + d = omega arith in
-        let small : nat_lt (n * 10 + d) (2 ^ 64) ≡ true = grind (arith, nat_tests) in
-        rw (digit, value, small) refl
-    by false e same = cc
-number_from-push a (b ∷ bs) n d read low fits = by (is_ascii_digit b) read (λ h. number_from-push (a * 10 + (b - 48)) bs n d h low fits)
-  where
-    by : (t : Bool) → cond t (number_from (a * 10 + (b - 48)) bs) None ≡ Some n
-        → (number_from (a * 10 + (b - 48)) bs ≡ Some n → number_from (a * 10 + (b - 48)) (bs ++ (48 + d) ∷ []) ≡ Some (n * 10 + d))
-        → cond t (number_from (a * 10 + (b - 48)) (bs ++ (48 + d) ∷ [])) None ≡ Some (n * 10 + d)
-    by true h next = next h
-    by false h next = cc
+number_from-push a [] n d read low fits = grind (arith, nat_tests)
+number_from-push a (b ∷ bs) n d read low fits = grind (arith, nat_tests, (number_from-push (a * 10 + (b - 48)) bs n d))
 
 Reads : ℕ → List ℕ → Type 0
 Reads n ds = n < 2 ^ 64 → number_from 0 ds ≡ Some n
@@ -67,3 +52,5 @@ decimal_digits n fits = decimal_by_steps AreDigits one more n fits
     more n ds high before =
         let last = digit (n % 10) (omega arith) in
         list_all-append is_ascii_digit ds ((48 + n % 10) ∷ []) ∙ rw (before, last) refl
+
+pub ruleset changepiece_write_steps = (length-set)

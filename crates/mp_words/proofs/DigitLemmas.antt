@@ -1,14 +1,12 @@
 -- A step of reading digits.
-use Rattle.mp_words.proofs.Names.{◌≡◌, ℕ, ◌+◌, ◌-◌, ◌*◌, ◌^◌, ◌<◌, ◌≤◌, true, false, cond, List, [], ◌∷◌, length, get_or, drop, None, Some, refl, ap, ◌∙◌, arith, is_ascii_digit, at_drop_more, at_drop_all, nat_tests}
-use Rattle.mp_words.specs.Numbers.{number_from}
+use Rattle.std.specs.Prelude.{◌≡◌, ◌+◌, ◌-◌, ◌*◌, ◌^◌, ◌<◌, ◌≤◌, ◌∷◌}
+use Rattle.mp_words.proofs.Names.{ℕ, true, false, cond, List, [], length, get_or, drop, None, Some, ap, ◌∙◌, arith, is_ascii_digit, at_drop_more, at_drop_all, nat_tests, number_from}
 
 -- a number that is too large stays so
 pub number_from_over : (n : ℕ) (bytes : List ℕ) → 2 ^ 64 ≤ n → number_from n bytes ≡ None
 unfolding number_from
 number_from_over n [] over = grind (arith, nat_tests)
-number_from_over n (byte ∷ bytes) over =
-    let next = number_from_over (n * 10 + (byte - 48)) bytes (omega arith) in
-    elim (is_ascii_digit byte) as (λ b. cond b (number_from (n * 10 + (byte - 48)) bytes) None ≡ None) [ true ↦ next | false ↦ refl ]
+number_from_over n (byte ∷ bytes) over = grind (arith, nat_tests, (number_from_over (n * 10 + (byte - 48)) bytes (omega arith)))
 
 -- at a digit
 pub number_from_digit : (word : List ℕ) (i n : ℕ) → i < length word → is_ascii_digit (get_or word i 0) ≡ true → number_from n (drop i word) ≡ number_from (n * 10 + (get_or word i 0 - 48)) (drop (i + 1) word)
@@ -26,3 +24,5 @@ unfolding number_from
 number_from_end word i n over fits =
     let at = at_drop_all (number_from n) word i over in
     at ∙ grind (arith, nat_tests)
+
+pub ruleset digit_steps = (number_from_over, number_from_digit, number_from_other, number_from_end)

@@ -1,14 +1,11 @@
 -- Where lists of bytes and words are divided.
-use Rattle.mp_words.proofs.Names.{◌≡◌, ℕ, ◌+◌, ◌-◌, ◌<◌, ◌≤◌, Bool, true, false, not, suc, zero, List, [], ◌∷◌, ◌++◌, length, take, drop, get_or, All, Some, nat_lt, position, refl, ap, ◌∙◌, arith, length-append, list_all, position_or_len, before_first, after_first, before_last, after_last, suffix_len, nat_tests, All-head, All-tail, suffix_len_is, take-append_seam, drop-append-add, get_or-append_seam, get_or-append_right}
-use Rattle.mp_words.proofs.PlainLemmas.{both}
+use Rattle.std.specs.Prelude.{◌≡◌, ◌+◌, ◌-◌, ◌<◌, ◌≤◌, ◌∷◌, ◌++◌}
+use Rattle.mp_words.proofs.Names.{ℕ, Bool, true, false, not, List, [], length, take, drop, get_or, All, Some, position, refl, ap, ◌∙◌, arith, length-append, list_all, position_or_len, before_first, after_first, before_last, after_last, suffix_len, nat_tests, All-head, All-tail, suffix_len_is, position_or_len_is, take-length, drop_all, AllPass-from_list_all, take-append_seam, drop-append-add, get_or-append_seam, get_or-append_right}
 
 module _ {A : Type 0} (p : A → Bool) (m : A) (ys : List A) (found : p m ≡ true) where
   pub first_at : (xs : List A) → All (λ x. p x ≡ false) xs → position_or_len p (xs ++ m ∷ ys) ≡ length xs
-  first_at [] all = rw found refl
-  first_at (x ∷ xs) all =
-      let here = All-head (λ x. p x ≡ false) x xs all in
-      let rest = first_at xs (All-tail (λ x. p x ≡ false) x xs all) in
-      rw (here, rest) (omega arith)
+  first_at [] all = grind (arith, nat_tests)
+  first_at (x ∷ xs) all = grind (arith, nat_tests, All-head, All-tail, (first_at xs (All-tail (λ x. p x ≡ false) x xs all)))
 
   pub before_first-append : (xs : List A) → All (λ x. p x ≡ false) xs → before_first p (xs ++ m ∷ ys) ≡ xs
   before_first-append xs all = ap (λ n. take n (xs ++ m ∷ ys)) (first_at xs all) ∙ take-append_seam xs (m ∷ ys)
@@ -17,34 +14,24 @@ module _ {A : Type 0} (p : A → Bool) (m : A) (ys : List A) (found : p m ≡ tr
   after_first-append xs all = ap (λ n. drop (n + 1) (xs ++ m ∷ ys)) (first_at xs all) ∙ drop-append-add xs (m ∷ ys) 1
 
   pub position-append : (xs : List A) → All (λ x. p x ≡ false) xs → position p (xs ++ m ∷ ys) ≡ Some (length xs)
-  position-append xs all =
-      let at = first_at xs all in
-      let long = length-append xs (m ∷ ys) in
-      let within : nat_lt (length xs) (length (xs ++ m ∷ ys)) ≡ true = grind (arith, nat_tests) in
-      rw (at, within) refl
+  position-append xs all = grind (arith, first_at, length-append, nat_tests)
 
 -- where nothing passes there is no first
-pub before_first-none : {A : Type 0} (p : A → Bool) (xs : List A) → All (λ x. p x ≡ false) xs → before_first p xs ≡ xs
-before_first-none p [] all = refl
-before_first-none p (x ∷ xs) all =
-    let here = All-head (λ x. p x ≡ false) x xs all in
-    let one : 1 + position_or_len p xs ≡ suc (position_or_len p xs) = omega arith in
-    rw (here, one) (ap (λ l. x ∷ l) (before_first-none p xs (All-tail (λ x. p x ≡ false) x xs all)))
+module _ {A : Type 0} (p : A → Bool) where
+  pub first_none : (xs : List A) → All (λ x. p x ≡ false) xs → position_or_len p xs ≡ length xs
+  first_none [] none = refl
+  first_none (x ∷ xs) none = position_or_len_is p (x ∷ xs) (length (x ∷ xs)) x (omega arith) (λ k within. none k x within) (λ over. absurd (omega (arith, over)))
 
-at_each : (p : ℕ → Bool) (xs : List ℕ) → list_all p xs ≡ true → (k : ℕ) → k < length xs → p (get_or xs k 0) ≡ true
-at_each p [] all k within = absurd (omega (arith, within))
-at_each p (x ∷ xs) all zero within = (both (p x) (list_all p xs) all).0
-at_each p (x ∷ xs) all (suc k) within = at_each p xs (both (p x) (list_all p xs) all).1 k (omega arith)
+  pub before_first-none : (xs : List A) → All (λ x. p x ≡ false) xs → before_first p xs ≡ xs
+  before_first-none xs none = ap (λ n. take n xs) (first_none xs none) ∙ take-length xs
+
+  pub after_first-none : (xs : List A) → All (λ x. p x ≡ false) xs → after_first p xs ≡ []
+  after_first-none xs none = ap (λ n. drop (n + 1) xs) (first_none xs none) ∙ drop_all (length xs + 1) xs (omega arith)
 
 -- bytes that do not pass, behind one that does
 module _ (p : ℕ → Bool) (m : ℕ) (ys : List ℕ) (found : p m ≡ true) (none : list_all (λ y. not (p y)) ys ≡ true) (xs : List ℕ) where
   after_mark : (k : ℕ) → length xs + 1 ≤ k → k < length (xs ++ m ∷ ys) → not (p (get_or (xs ++ m ∷ ys) k 0)) ≡ true
-  after_mark k from within =
-      let long = length-append xs (m ∷ ys) in
-      let at = get_or-append_right xs (m ∷ ys) k 0 (omega (arith, from)) in
-      let next : k - length xs ≡ suc (k - length xs - 1) = omega (arith, from) in
-      let here = at_each (λ y. not (p y)) ys none (k - length xs - 1) (omega (arith, long, from, within)) in
-      ap (λ y. not (p y)) (at ∙ ap (λ j. get_or (m ∷ ys) j 0) next) ∙ here
+  after_mark k from within = grind (arith, nat_tests, length-append, get_or-append_right, AllPass-from_list_all)
 
   at_mark : not (p (get_or (xs ++ m ∷ ys) (length xs + 1 - 1) 0)) ≡ false
   at_mark =
@@ -52,13 +39,7 @@ module _ (p : ℕ → Bool) (m : ℕ) (ys : List ℕ) (found : p m ≡ true) (no
       ap (λ j. not (p (get_or (xs ++ m ∷ ys) j 0))) same ∙ ap (λ y. not (p y)) (get_or-append_seam xs m ys 0) ∙ ap not found
 
   pub behind_last : suffix_len (λ y. not (p y)) (xs ++ m ∷ ys) ≡ length ys
-  behind_last =
-      let long = length-append xs (m ∷ ys) in
-      let each : (k : ℕ) → length xs + 1 ≤ k → k < length (xs ++ m ∷ ys) → not (p (get_or (xs ++ m ∷ ys) k 0)) ≡ true
-      = after_mark in
-      let last : 0 < length xs + 1 → not (p (get_or (xs ++ m ∷ ys) (length xs + 1 - 1) 0)) ≡ false = λ _. at_mark in
-      let all = suffix_len_is (λ y. not (p y)) (xs ++ m ∷ ys) (length xs + 1) 0 (omega (arith, long)) each last in
-      all ∙ omega (arith, long)
+  behind_last = grind (arith, nat_tests, length-append, after_mark, at_mark, suffix_len_is)
 
   pub before_last-append : before_last p (xs ++ m ∷ ys) ≡ xs
   before_last-append =

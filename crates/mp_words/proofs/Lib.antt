@@ -2,7 +2,6 @@ mod Names
 pub mod DecimalLemmas
 pub mod DigitLemmas
 pub mod LengthLemmas
-pub mod OnWayLemmas
 pub mod ToggleLemmas
 pub mod LineLemmas
 pub mod PlaceOfLemmas

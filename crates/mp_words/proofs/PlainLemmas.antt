@@ -1,6 +1,6 @@
 -- Words as they are written.
-use Rattle.mp_words.proofs.Names.{◌≡◌, ℕ, ◌^◌, ◌<◌, Bool, true, false, not, ◌==◌, ◌&&◌, List, [], ◌∷◌, ◌++◌, length, All, nat_lt, decimal, true≢false, refl, sym, ◌∙◌, arith, nat_le, is_ascii_digit, list_all, decimal_nonempty, nat_tests, length-append, All-cons, All-nil, list_all-append, is_allowed, is_gap}
-use Rattle.mp_records.specs.Names.{is_name, is_name_byte, begins_with_letter}
+use Rattle.std.specs.Prelude.{◌≡◌, ◌^◌, ◌<◌, ◌==◌, ◌&&◌, ◌∷◌, ◌++◌}
+use Rattle.mp_words.proofs.Names.{ℕ, Bool, true, false, not, List, [], length, All, nat_lt, decimal, true≢false, refl, sym, ◌∙◌, arith, nat_le, is_ascii_digit, list_all, decimal_nonempty, nat_tests, length-append, All-weaker, and_parts, AllPass-from_list_all, list_all-from_AllPass, list_all-append, is_allowed, is_gap, is_name, is_name_byte, begins_with_letter}
 use Rattle.mp_words.proofs.DecimalLemmas.{decimal_digits}
 
 -- printed, and neither a space nor `#`
@@ -27,24 +27,12 @@ digit_plain b digit = grind (arith, nat_tests)
 name_byte_plain : (b : ℕ) → is_name_byte b ≡ true → is_plain_byte b ≡ true
 name_byte_plain b name = grind (arith, nat_tests)
 
-pub both : (x y : Bool) → (x && y) ≡ true → (x ≡ true) × (y ≡ true)
-both true y h = (refl, h)
-both false y h = absurd (true≢false (sym h))
-
 -- what holds of each byte that passes holds of all
 pub All-passing : (p : ℕ → Bool) (P : ℕ → Type 0) → ((b : ℕ) → p b ≡ true → P b) → (w : List ℕ) → list_all p w ≡ true → All P w
-All-passing p P each [] all = All-nil P
-All-passing p P each (b ∷ w) all =
-    let parts = both (p b) (list_all p w) all in
-    All-cons P b w (each b parts.0) (All-passing p P each w parts.1)
+All-passing p P each w all = All-weaker (λ b. p b ≡ true) P each w (AllPass-from_list_all p w all)
 
 pub list_all-passing : (p q : ℕ → Bool) → ((b : ℕ) → p b ≡ true → q b ≡ true) → (w : List ℕ) → list_all p w ≡ true → list_all q w ≡ true
-list_all-passing p q each [] all = refl
-list_all-passing p q each (b ∷ w) all =
-    let parts = both (p b) (list_all p w) all in
-    let here = each b parts.0 in
-    let rest = list_all-passing p q each w parts.1 in
-    rw (here, rest) refl
+list_all-passing p q each w all = list_all-from_AllPass q w (All-passing p (λ b. q b ≡ true) each w all)
 
 pub IsPlain-append : (v w : List ℕ) → IsPlain v → IsPlain w → IsPlain (v ++ w)
 IsPlain-append v w front back = record {
@@ -63,5 +51,5 @@ unfolding is_name
 IsPlain-name [] valid = absurd (true≢false (sym valid))
 IsPlain-name (b ∷ bs) valid = record {
   some = omega arith;
-  plain = list_all-passing is_name_byte is_plain_byte name_byte_plain (b ∷ bs) ((both (begins_with_letter (b ∷ bs) && nat_le (length (b ∷ bs)) 32) (list_all is_name_byte (b ∷ bs)) valid).1);
+  plain = list_all-passing is_name_byte is_plain_byte name_byte_plain (b ∷ bs) ((and_parts (begins_with_letter (b ∷ bs) && nat_le (length (b ∷ bs)) 32) (list_all is_name_byte (b ∷ bs)) valid).1);
 }

@@ -1,14 +1,12 @@
 -- Words that are written are read again.
-use Rattle.mp_words.proofs.Names.{◌≡◌, ℕ, ◌^◌, ◌<◌, Bool, true, false, not, ◌==◌, ◌&&◌, ◌||◌, List, [], ◌∷◌, ◌++◌, length, map, All, Some, None, Result, Ok, decimal, refl, ap, arith, codes, nat_le, is_ascii_digit, is_ascii_alphabetic, list_all, list_any, nat_tests, All-head, All-tail, take-append_seam, drop-append-add, LineError, pair_text}
+use Rattle.std.specs.Prelude.{◌≡◌, ◌^◌, ◌<◌, ◌==◌, ◌&&◌, ◌∷◌, ◌++◌}
+use Rattle.mp_words.proofs.Names.{ℕ, true, false, not, List, [], length, map, All, Some, None, Result, Ok, decimal, refl, ap, ◌∙◌, arith, codes, nat_le, is_ascii_digit, is_ascii_alphabetic, list_all, list_any, nat_tests, and_parts, false_from_ne_true, or_right, length-append, bytes_eq-Decides, list_any-append, list_any_none, All-head, All-tail, take-append_seam, drop-append-add, LineError, pair_text, is_name, is_name_byte, begins_with_letter, time_and_value, parts_at_equals, is_slash, parts_at_slash, name_and_number, number_word, change_word, input_word, output_word, each_word}
 use Rattle.std.specs.Option.{ok_or}
 use Rattle.std.specs.Str.{bytes_eq}
-use Rattle.mp_records.specs.Names.{is_name, is_name_byte, begins_with_letter}
 use Rattle.mp_words.specs.declared.line_error.LineError.TheVariants.{BadNumber}
-use Rattle.mp_words.specs.Numbers.{time_and_value, parts_at_equals, is_slash, parts_at_slash, name_and_number}
-use Rattle.mp_words.specs.WordLists.{number_word, change_word, input_word, output_word, each_word}
 use Rattle.mp_words.proofs.DecimalLemmas.{spelled_number-decimal, decimal_digits}
 use Rattle.mp_words.proofs.DividedLemmas.{position-append, before_last-append, after_last-append}
-use Rattle.mp_words.proofs.PlainLemmas.{All-passing, list_all-passing, both}
+use Rattle.mp_words.proofs.PlainLemmas.{All-passing, list_all-passing}
 
 -- a number
 pub number_back : (n : ℕ) → n < 2 ^ 64 → number_word (decimal n) ≡ Ok n
@@ -46,28 +44,17 @@ name_and_number-back name n some fits =
     rw (front, back) (rw long (rw value refl))
 
 -- what each word says
-pub each_back : {X A : Type 0} (read : List ℕ → Result A LineError) (write : X → List ℕ) (see : X → A) (xs : List X)
+pub each_back : {W X A : Type 0} (read : W → Result A LineError) (write : X → W) (see : X → A) (xs : List X)
     → All (λ x. read (write x) ≡ Ok (see x)) xs → each_word read (map write xs) ≡ Ok (map see xs)
 unfolding each_word
 each_back read write see [] all = refl
-each_back read write see (x ∷ xs) all =
-    let here = All-head (λ x. read (write x) ≡ Ok (see x)) x xs all in
-    let rest = each_back read write see xs (All-tail (λ x. read (write x) ≡ Ok (see x)) x xs all) in
-    rw (here, rest) refl
+each_back read write see (x ∷ xs) all = grind (arith, nat_tests, All-head, All-tail, (each_back read write see xs (All-tail (λ x. read (write x) ≡ Ok (see x)) x xs all)))
 
 -- a word with a slash in it is not `-`
 longer : (name ds : List ℕ) → 0 < length name → bytes_eq (name ++ 47 ∷ ds) (codes "-") ≡ false
-longer [] ds some = absurd (omega (arith, some))
-longer (b ∷ []) ds some = by (b == 45)
-  where
-    by : (t : Bool) → (t && false) ≡ false
-    by true = refl
-    by false = refl
-longer (b ∷ c ∷ name) ds some = by (b == 45)
-  where
-    by : (t : Bool) → (t && false) ≡ false
-    by true = refl
-    by false = refl
+longer name ds some =
+    let long = length-append name (47 ∷ ds) in
+    false_from_ne_true _ (λ same. let one = ap length ((bytes_eq-Decides (name ++ 47 ∷ ds) (codes "-")).0 same) in omega (arith, some, long, one))
 
 -- an output without a wire
 pub no_wire_back : (delay : ℕ) → delay < 2 ^ 64 → output_word (codes "-" ++ (47 ∷ decimal delay)) ≡ Ok (record { wire = None; delay = delay })
@@ -84,44 +71,26 @@ letter_no_dash b letter = grind (arith, nat_tests)
 name_not_dash : (name : List ℕ) → is_name name ≡ true → bytes_eq name (codes "-") ≡ false
 unfolding is_name
 name_not_dash [] valid = refl
-name_not_dash (b ∷ bs) valid =
-    let head = both (begins_with_letter (b ∷ bs) && nat_le (length (b ∷ bs)) 32) (list_all is_name_byte (b ∷ bs)) valid in
-    let other = letter_no_dash b (both (begins_with_letter (b ∷ bs)) (nat_le (length (b ∷ bs)) 32) head.0).0 in
-    rw other refl
+name_not_dash (b ∷ bs) valid = grind (arith, nat_tests, and_parts, letter_no_dash)
 
 -- an output at a wire
 pub wire_back : (name : List ℕ) (delay : ℕ) → is_name name ≡ true → 0 < length name → delay < 2 ^ 64
     → output_word (name ++ (47 ∷ decimal delay)) ≡ Ok (record { wire = Some name; delay = delay })
 unfolding output_word
-wire_back name delay valid some fits =
-    let word = longer name (decimal delay) some in
-    let pair = name_and_number-back name delay some fits in
-    let dash = name_not_dash name valid in
-    rw (word, pair) (rw dash refl)
+wire_back name delay valid some fits = grind (arith, nat_tests, longer, name_and_number-back, name_not_dash)
 
 -- a byte of a name is no slash
 name_byte_no_slash : (b : ℕ) → is_name_byte b ≡ true → is_slash b ≡ false
 name_byte_no_slash b name = grind (arith, nat_tests)
 
-no_slash : (name : List ℕ) → list_all is_name_byte name ≡ true → list_any is_slash name ≡ false
-no_slash [] all = refl
-no_slash (b ∷ bs) all =
-    let parts = both (is_name_byte b) (list_all is_name_byte bs) all in
-    let here = name_byte_no_slash b parts.0 in
-    let rest = no_slash bs parts.1 in
-    rw (here, rest) refl
-
 name_no_slash : (name : List ℕ) → is_name name ≡ true → list_any is_slash name ≡ false
 unfolding is_name
-name_no_slash name valid = no_slash name (both (begins_with_letter name && nat_le (length name) 32) (list_all is_name_byte name) valid).1
+name_no_slash name valid =
+    let bytes = (and_parts (begins_with_letter name && nat_le (length name) 32) (list_all is_name_byte name) valid).1 in
+    list_any_none is_slash name (All-passing is_name_byte (λ b. is_slash b ≡ false) name_byte_no_slash name bytes)
 
 slash_within : (name ds : List ℕ) → list_any is_slash (name ++ 47 ∷ ds) ≡ true
-slash_within [] ds = refl
-slash_within (b ∷ bs) ds = by (is_slash b) (slash_within bs ds)
-  where
-    by : (t : Bool) {u : Bool} → u ≡ true → (t || u) ≡ true
-    by true some = refl
-    by false some = some
+slash_within name ds = list_any-append is_slash name (47 ∷ ds) ∙ or_right (list_any is_slash name) (list_any is_slash (47 ∷ ds)) refl
 
 -- an input without a delay
 pub input_back : (name : List ℕ) → is_name name ≡ true → input_word name ≡ Ok (record { wire = name; delay = 0 })
@@ -131,7 +100,4 @@ input_back name valid = let none = name_no_slash name valid in rw none refl
 -- an input with one
 pub late_input_back : (name : List ℕ) (delay : ℕ) → 0 < length name → delay < 2 ^ 64 → input_word (name ++ (47 ∷ decimal delay)) ≡ Ok (record { wire = name; delay = delay })
 unfolding input_word
-late_input_back name delay some fits =
-    let slash = slash_within name (decimal delay) in
-    let pair = name_and_number-back name delay some fits in
-    rw (slash, pair) refl
+late_input_back name delay some fits = grind (arith, nat_tests, slash_within, name_and_number-back)

@@ -1,5 +1,6 @@
 -- Changes of a level that toggles.
-use Rattle.mp_words.proofs.Names.{◌≡◌, ℕ, ◌+◌, ◌-◌, ◌<◌, ◌≤◌, List, [], ◌∷◌, ◌++◌, append_assoc, append-nil, add-one, decimal, drop, get_or, length, refl, sym, ap, subst, ◌∙◌, arith, set, length-set, drop_of_length-le, drop-cons, decimal_digit, toggle_changes, change_text, changes_text}
+use Rattle.std.specs.Prelude.{◌≡◌, ◌+◌, ◌-◌, ◌<◌, ◌≤◌, ◌∷◌, ◌++◌}
+use Rattle.mp_words.proofs.Names.{left_as, left_whole, puts_then, ℕ, List, [], append_assoc, append-nil, add-one, decimal, drop, get_or, length, refl, sym, ap, subst, ◌∙◌, arith, set, length-set, drop_of_length-le, drop-cons, decimal_digit, toggle_changes, change_text, changes_text}
 use Rattle.std.proofs.lemmas.List.Concat.{flat_map-append}
 use Rattle.mp_streams.specs.Places.{IsPlaced}
 use Rattle.mp_streams.proofs.PlaceLemmas.{placed_byte, placed_both}
@@ -24,12 +25,7 @@ dropped times i next is within = rw (is, add-one, drop-cons times i 0) refl
 -- the times from a place on are four, and those behind them
 dropped_four : (times : List ℕ) (i : ℕ) → i + 4 ≤ length times →
     drop i times ≡ get_or times i 0 ∷ get_or times (i + 1) 0 ∷ get_or times (i + 2) 0 ∷ get_or times (i + 3) 0 ∷ drop (i + 4) times
-dropped_four times i within =
-    let one = dropped times i (i + 1) refl (omega arith) in
-    let two = dropped times (i + 1) (i + 2) (omega arith) (omega arith) in
-    let three = dropped times (i + 2) (i + 3) (omega arith) (omega arith) in
-    let four = dropped times (i + 3) (i + 4) (omega arith) (omega arith) in
-    cc
+dropped_four times i within = grind (arith, dropped)
 
 -- the changes at four times, and at those behind them
 pub four_more : (level one two three four : ℕ) (others : List ℕ) → level ≤ 1 →
@@ -45,16 +41,12 @@ pub four_from : (level : ℕ) (times : List ℕ) (i : ℕ) → level ≤ 1 → i
     changes_text (toggle_changes level (drop i times)) ≡
     changes_text (toggle_changes level (get_or times i 0 ∷ get_or times (i + 1) 0 ∷ get_or times (i + 2) 0 ∷ get_or times (i + 3) 0 ∷ []))
     ++ changes_text (toggle_changes level (drop (i + 4) times))
-four_from level times i low within =
-    ap (λ l. changes_text (toggle_changes level l)) (dropped_four times i within)
-    ∙ four_more level (get_or times i 0) (get_or times (i + 1) 0) (get_or times (i + 2) 0) (get_or times (i + 3) 0) (drop (i + 4) times) low
+four_from level times i low within = grind (arith, dropped_four, four_more)
 
 -- one change, and those behind it
 pub one_from : (level next : ℕ) (times : List ℕ) (i : ℕ) → next ≡ 1 - level → i < length times →
     changes_text (toggle_changes level (drop i times)) ≡ change_text (get_or times i 0, next) ++ changes_text (toggle_changes next (drop (i + 1) times))
-one_from level next times i is within =
-    ap (λ l. changes_text (toggle_changes level l)) (dropped times i (i + 1) refl within)
-    ∙ ap (λ l. change_text (get_or times i 0, l) ++ changes_text (toggle_changes l (drop (i + 1) times))) (sym is)
+one_from level next times i is within = grind (arith, dropped)
 
 -- behind the last place there is none
 pub none_from : (level : ℕ) (times : List ℕ) (i : ℕ) → length times ≤ i → changes_text (toggle_changes level (drop i times)) ≡ []
@@ -63,16 +55,14 @@ none_from level times i over = ap (λ l. changes_text (toggle_changes level l)) 
 -- from any level on the changes are those from 0 or 1 on
 pub from_low : (level low : ℕ) (times : List ℕ) → 1 - low ≡ 1 - level → toggle_changes low times ≡ toggle_changes level times
 from_low level low [] same = refl
-from_low level low (time ∷ times) same = ap (λ l. (time, l) ∷ toggle_changes l times) same
+from_low level low (time ∷ times) same = grind arith
 
 four_texts : (a b c d : List ℕ) → ((a ++ b) ++ c) ++ d ≡ a ++ (b ++ (c ++ (d ++ [])))
 four_texts a b c d = simp (append_assoc, append-nil)
 
 module _ (level one two three four : ℕ) (low : level ≤ 1) where
   by_turns : toggle_changes level (one ∷ two ∷ three ∷ four ∷ []) ≡ (one, 1 - level) ∷ (two, level) ∷ (three, 1 - level) ∷ (four, level) ∷ []
-  by_turns =
-      let second : 1 - (1 - level) ≡ level = omega arith in
-      rw (second, second) refl
+  by_turns = grind arith
 
   -- four changes, one behind the other
   pub four_placed : (a b c d e : List ℕ) (at i j k end : ℕ) → IsPlaced a b at (change_text (one, 1 - level)) i → IsPlaced b c i (change_text (two, level)) j
@@ -82,3 +72,5 @@ module _ (level one two three four : ℕ) (low : level ≤ 1) where
       let all = placed_both (placed_both (placed_both p q) r) s in
       let text = four_texts (change_text (one, 1 - level)) (change_text (two, level)) (change_text (three, 1 - level)) (change_text (four, level)) ∙ sym (ap changes_text by_turns) in
       subst (λ t. IsPlaced a e at t end) text all
+
+pub ruleset toggle_steps = (four_from, from_low, left_as, left_whole, puts_then)

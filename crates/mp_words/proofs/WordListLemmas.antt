@@ -1,33 +1,33 @@
 -- Facts about words that are read in turn.
-use Rattle.mp_words.proofs.Names.{◌≡◌, ℕ, ◌+◌, ◌<◌, ◌≤◌, List, [], ◌∷◌, ◌++◌, Bor, Result, Ok, Err, append_assoc, length, get_or, take, drop, Bool, not, cond, refl, sym, ap, ◌∙◌, at_drop_more, at_drop_all, append-nil, take-map, drop-map, before_first, after_first, position_or_len, LineError, with_front, ◌>>=◌, texts}
-use Rattle.mp_words.specs.WordLists.{each_word}
+use Rattle.std.specs.Prelude.{◌≡◌, ◌+◌, ◌<◌, ◌≤◌, ◌∷◌, ◌++◌}
+use Rattle.mp_words.proofs.Names.{All-get_or, ℕ, List, [], Bor, Result, Ok, Err, append_assoc, length, get_or, take, drop, Bool, not, cond, refl, sym, ap, ◌∙◌, at_drop_more, at_drop_all, append-nil, take-map, drop-map, before_first, after_first, position_or_len, map, LineError, with_front, ◌>>=◌, texts, each_word}
 
-module _ {A : Type 0} (read : List ℕ → Result A LineError) (ws : List (Bor (List ℕ))) (i : ℕ) (d : Bor (List ℕ)) (front : List A) where
+module _ {W X A : Type 0} (read : W → Result A LineError) (see : X → W) (ws : List X) (i : ℕ) (d : X) (front : List A) where
   abbrev Goes : Type 0
-  Goes = with_front front (each_word read (texts (drop i ws))) ≡ each_word read (texts ws)
+  Goes = with_front front (each_word read (map see (drop i ws))) ≡ each_word read (map see ws)
 
-  each_next : i < length ws → each_word read (texts (drop i ws)) ≡ each_word read ((get_or ws i d).now ∷ texts (drop (i + 1) ws))
-  each_next within = at_drop_more (λ xs. each_word read (texts xs)) ws i d within
+  each_next : i < length ws → each_word read (map see (drop i ws)) ≡ each_word read (see (get_or ws i d) ∷ map see (drop (i + 1) ws))
+  each_next within = at_drop_more (λ xs. each_word read (map see xs)) ws i d within
 
   -- a word that cannot be read fails them all
-  pub each_err : (e : LineError) → i < length ws → Goes → read (get_or ws i d).now ≡ Err e → each_word read (texts ws) ≡ Err e
+  pub each_err : (e : LineError) → i < length ws → Goes → read (see (get_or ws i d)) ≡ Err e → each_word read (map see ws) ≡ Err e
   unfolding each_word
   each_err e within goes failed = sym goes ∙ rw (each_next within, failed) refl
 
   -- what was read goes behind the front
-  pub each_ok : (item : A) → i < length ws → Goes → read (get_or ws i d).now ≡ Ok item
-      → with_front (front ++ item ∷ []) (each_word read (texts (drop (i + 1) ws))) ≡ each_word read (texts ws)
+  pub each_ok : (item : A) → i < length ws → Goes → read (see (get_or ws i d)) ≡ Ok item
+      → with_front (front ++ item ∷ []) (each_word read (map see (drop (i + 1) ws))) ≡ each_word read (map see ws)
   unfolding each_word
-  each_ok item within goes was = by (each_word read (texts (drop (i + 1) ws))) (sym goes ∙ rw (each_next within, was) refl)
+  each_ok item within goes was = by (each_word read (map see (drop (i + 1) ws))) (sym goes ∙ rw (each_next within, was) refl)
     where
-      by : (rest : Result (List A) LineError) → each_word read (texts ws) ≡ with_front front (rest >>= λ items. Ok (item ∷ items)) → with_front (front ++ item ∷ []) rest ≡ each_word read (texts ws)
+      by : (rest : Result (List A) LineError) → each_word read (map see ws) ≡ with_front front (rest >>= λ items. Ok (item ∷ items)) → with_front (front ++ item ∷ []) rest ≡ each_word read (map see ws)
       by (Ok items) e = ap Ok (append_assoc front (item ∷ []) items) ∙ sym e
       by (Err code) e = sym e
 
   -- no word is left
-  pub each_end : length ws ≤ i → Goes → each_word read (texts ws) ≡ Ok front
+  pub each_end : length ws ≤ i → Goes → each_word read (map see ws) ≡ Ok front
   unfolding each_word
-  each_end over goes = sym goes ∙ rw (at_drop_all (λ xs. each_word read (texts xs)) ws i over) (ap Ok (append-nil front))
+  each_end over goes = sym goes ∙ rw (at_drop_all (λ xs. each_word read (map see xs)) ws i over) (ap Ok (append-nil front))
 
 -- the first word that passes stands where its text does
 position_or_len-texts : (p : List ℕ → Bool) (ws : List (Bor (List ℕ))) → position_or_len p (texts ws) ≡ position_or_len (λ w. p w.now) ws
@@ -39,3 +39,5 @@ texts-before_first p ws = sym (ap (λ n. take n (texts ws)) (position_or_len-tex
 
 pub texts-after_first : (p : List ℕ → Bool) (ws : List (Bor (List ℕ))) → texts (after_first (λ w. p w.now) ws) ≡ after_first p (texts ws)
 texts-after_first p ws = sym (ap (λ n. drop (n + 1) (texts ws)) (position_or_len-texts p ws) ∙ drop-map (λ w. w.now) (position_or_len (λ w. p w.now) ws + 1) ws)
+
+pub ruleset each_steps = (All-get_or, each_err, each_ok, each_end)

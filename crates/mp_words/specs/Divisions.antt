@@ -1,8 +1,6 @@
 -- Inputs of several parts.
-use Rattle.std.specs.Prelude.{ℕ, Bool, false, List, [], ◌∷◌, map, codes}
-use Rattle.std.specs.Borrow.{Bor}
-use Rattle.std.specs.List.{before_first, after_first, list_any, slice_split}
-use Rattle.std.specs.Str.{bytes_eq}
+use Rattle.std.specs.Prelude.{◌∷◌}
+use Rattle.mp_words.specs.Names.{ℕ, Bool, false, List, [], map, codes, Bor, before_first, after_first, list_any, slice_split, bytes_eq}
 use Rattle.mp_words.specs.Lines.{lines_of}
 use Rattle.mp_words.specs.Words.{words_of}
 

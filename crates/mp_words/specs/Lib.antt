@@ -1,3 +1,4 @@
+pub mod Names
 pub mod Limits
 pub mod LineErrors
 pub mod Words
@@ -7,3 +8,4 @@ pub mod Reads
 pub mod WordLists
 pub mod WaveLines
 pub mod Divisions
+pub mod Clauses

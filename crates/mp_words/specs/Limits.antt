@@ -1,5 +1,5 @@
 -- The limits of words.
-use Rattle.std.specs.Prelude.{ℕ}
+use Rattle.mp_words.specs.Names.{ℕ}
 
 -- how many digits a number may have
 abbrev pub max_digits : ℕ

@@ -1,7 +1,5 @@
 -- The number and the name of each fault of a line.
-use Rattle.std.specs.Prelude.{ℕ, List, codes}
-use Rattle.mp_words.specs.declared.line_error.LineError.{LineError}
-use Rattle.mp_words.specs.declared.line_error.LineError.TheVariants.{NotAscii, UnknownStatement, WordCount, BadNumber, OutOfMemory}
+use Rattle.mp_words.specs.Names.{ℕ, List, codes, LineError, NotAscii, UnknownStatement, WordCount, BadNumber, OutOfMemory}
 
 abbrev pub line_number_of : LineError → ℕ
 line_number_of NotAscii = 1

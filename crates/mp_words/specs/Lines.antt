@@ -1,8 +1,6 @@
 -- The lines of a text.
-use Rattle.std.specs.Prelude.{Bool, ◌||◌, ◌&&◌, ◌==◌, List, [], ◌∷◌, ℕ, Result, Ok, Err, nat_le, if◌then◌else◌}
-use Rattle.std.specs.List.{onto_first, list_all}
-use Rattle.mp_words.specs.declared.line_error.LineError.{LineError}
-use Rattle.mp_words.specs.declared.line_error.LineError.TheVariants.{NotAscii}
+use Rattle.std.specs.Prelude.{◌||◌, ◌&&◌, ◌==◌, ◌∷◌, if◌then◌else◌}
+use Rattle.mp_words.specs.Names.{Bool, List, [], ℕ, Result, Ok, Err, nat_le, onto_first, list_all, LineError, NotAscii}
 use Rattle.mp_words.specs.Words.{words_of}
 
 abbrev pub is_line_feed : ℕ → Bool

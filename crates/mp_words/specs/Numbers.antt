@@ -1,8 +1,6 @@
 -- How numbers are spelled, alone and in pairs.
-use Rattle.std.specs.Prelude.{ℕ, ◌+◌, ◌-◌, ◌*◌, ◌^◌, Bool, ◌&&◌, ◌==◌, List, [], ◌∷◌, length, take, drop, position, Option, Some, None, nat_lt, nat_le, if◌then◌else◌, option_and_then, option_map}
-use Rattle.std.specs.Char.{is_ascii_digit}
-use Rattle.std.specs.List.{before_last, after_last}
-use Rattle.std.specs.Str.{byte}
+use Rattle.std.specs.Prelude.{◌+◌, ◌-◌, ◌*◌, ◌^◌, ◌&&◌, ◌==◌, ◌∷◌, if◌then◌else◌}
+use Rattle.mp_words.specs.Names.{ℕ, Bool, List, [], length, take, drop, position, Option, Some, None, nat_lt, nat_le, option_and_then, option_map, is_ascii_digit, before_last, after_last, byte}
 use Rattle.mp_words.specs.Limits.{max_digits}
 
 -- the number that the digits spell behind those of n, where it is below 2 ^ 64

@@ -1,12 +1,6 @@
 -- What words say, alone and in turn.
-use Rattle.std.specs.Prelude.{ℕ, List, [], ◌∷◌, Option, Some, None, Result, Ok, if◌then◌else◌, codes, option_map}
-use Rattle.std.specs.Option.{ok_or}
-use Rattle.std.specs.List.{list_any}
-use Rattle.std.specs.Str.{bytes_eq}
-use Rattle.mp_records.specs.declared.port_names.InputName.{InputName}
-use Rattle.mp_records.specs.declared.port_names.OutputName.{OutputName}
-use Rattle.mp_words.specs.declared.line_error.LineError.{LineError}
-use Rattle.mp_words.specs.declared.line_error.LineError.TheVariants.{BadNumber}
+use Rattle.std.specs.Prelude.{◌∷◌, if◌then◌else◌}
+use Rattle.mp_words.specs.Names.{ℕ, List, [], Option, Some, None, Result, Ok, codes, option_map, ok_or, list_any, bytes_eq, InputName, OutputName, LineError, BadNumber}
 use Rattle.mp_words.specs.Numbers.{spelled_number, time_and_value, is_slash, name_and_number}
 use Rattle.mp_words.specs.Reads.{◌>>=◌}
 
@@ -38,8 +32,8 @@ output_word word =
     if bytes_eq word (codes "-") then Ok (output_to (word, 1))
     else ok_or (option_map output_to (name_and_number word)) BadNumber
 
--- what each of the words says, or the code of the first that cannot be read
-unfoldable pub each_word : {A : Type 0} → (List ℕ → Result A LineError) → List (List ℕ) → Result (List A) LineError
+-- what each of the words says, or the code of the first that cannot be read; also of what words make together
+unfoldable pub each_word : {W A : Type 0} → (W → Result A LineError) → List W → Result (List A) LineError
 each_word read [] = Ok []
 each_word read (word ∷ words) = do
   item ← read word

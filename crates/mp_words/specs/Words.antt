@@ -1,8 +1,6 @@
 -- The words of a line.
-use Rattle.std.specs.Prelude.{ℕ, Bool, not, ◌||◌, ◌==◌, List, length, filter, map, All, IsAscii}
-use Rattle.std.specs.Borrow.{Bor}
-use Rattle.std.specs.Str.{byte}
-use Rattle.std.specs.List.{slice_split, before_first}
+use Rattle.std.specs.Prelude.{◌||◌, ◌==◌}
+use Rattle.mp_words.specs.Names.{ℕ, Bool, not, List, length, filter, map, All, IsAscii, Bor, byte, slice_split, before_first}
 
 -- a space, a tab or a carriage return
 abbrev pub is_gap : ℕ → Bool

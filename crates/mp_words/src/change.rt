@@ -1,8 +1,6 @@
 //! A change of a wave, which writes itself.
-ghost use Rattle.std.specs.Prelude.{◌≡◌, ◌+◌, ◌≤◌, length};
-ghost use Rattle.std.specs.Fmt.{decimal};
-ghost use Rattle.mp_streams.specs.Places.{IsPlaced};
-ghost use Rattle.mp_words.specs.WaveLines.{change_text};
+ghost use Rattle.std.specs.Prelude.{◌≡◌, ◌+◌, ◌≤◌};
+ghost use Rattle.mp_words.specs.Clauses.{length, decimal, IsPlaced, change_text};
 
 use itoa::write_digits;
 use mp_streams::Piece;
@@ -18,6 +16,7 @@ impl Piece for Change {
     ghost text = { λ change. change_text (change.time, change.value) };
 
     #[inline(always)]
+    #[tactic(auto, using(crate::proofs::DecimalLemmas::changepiece_write_steps))]
     fn write(&self, room: &mut [u8], at: usize) -> usize {
         room[at] = b' ';
         let sign = write_number(u64::from(self.time), room, at + 1);
@@ -65,6 +64,7 @@ fn write_counted(number: u64, digits: usize, room: &mut [u8], at: usize) -> usiz
 /// How many decimal digits the number has. Those of times and of most values are few, and as many as
 /// those of the number before.
 #[inline]
+#[tactic(auto, using(std::proofs::lemmas::Fmt::decimal_digit, crate::proofs::LengthLemmas::digits_of_power))]
 fn digit_count(number: u64) -> usize
     ensures value { result ≡ length (decimal number) }
     ensures short { result ≤ 20 }

@@ -1,8 +1,6 @@
 //! Inputs of several parts, which lines `---` divide.
-ghost use Rattle.std.specs.Prelude.{◌≡◌, ◌<◌, ◌≤◌, length, vec_len, nat_lt, IfOk};
-ghost use Rattle.mp_words.specs.Lines.{lines_of};
-ghost use Rattle.mp_words.specs.Words.{texts};
-ghost use Rattle.mp_words.specs.Divisions.{is_division, are_division, first_part, later_parts, are_divided, parts_of, lines_of_each};
+ghost use Rattle.std.specs.Prelude.{◌≡◌, ◌<◌, ◌≤◌};
+ghost use Rattle.mp_words.specs.Clauses.{length, vec_len, nat_lt, IfOk, lines_of, texts, is_division, are_division, first_part, later_parts, are_divided, parts_of, lines_of_each};
 
 use crate::line::first_line;
 use crate::word::words;
@@ -29,6 +27,7 @@ pub fn divided(alloc: Global, input: &[u8]) -> Result<(&[u8], &[u8]), AllocError
 }
 
 /// The parts of an input between the lines whose one word is `---`, of which there is one more than there are such lines.
+#[tactic(auto, using(crate::proofs::PartLemmas::part_steps))]
 pub fn parts(alloc: Global, input: &[u8]) -> Result<Vec<&[u8]>, AllocError>
     ensures some { IfOk result (λ parts. 0 < vec_len parts) }
     ensures parts { IfOk result (λ parts. lines_of_each parts.items ≡ parts_of (lines_of input.now)) }

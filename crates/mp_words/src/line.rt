@@ -1,16 +1,13 @@
 //! The lines of a text.
-ghost use Rattle.std.specs.Prelude.{◌≡◌, ◌∷◌, ◌<◌, length, IfOk, IsAscii, IsTrue};
-ghost use Rattle.std.specs.List.{before_first, after_first, list_all};
-ghost use Rattle.mp_words.specs.declared.line_error.LineError.TheVariants.{OutOfMemory};
-ghost use Rattle.mp_words.specs.Lines.{is_line_feed, lines_of, is_allowed, line_words};
-ghost use Rattle.mp_words.specs.Reads.{Gives};
-ghost use Rattle.mp_words.specs.Words.{texts, AreAscii};
+ghost use Rattle.std.specs.Prelude.{◌≡◌, ◌∷◌, ◌<◌};
+ghost use Rattle.mp_words.specs.Clauses.{length, IfOk, IsAscii, IsTrue, before_first, after_first, list_all, OutOfMemory, is_line_feed, lines_of, is_allowed, line_words, Gives, texts, AreAscii};
 
 use crate::line_error::LineError;
 use crate::word::{place_of, words};
 use std::alloc::Global;
 
 /// The first line of the text, and what is behind its line feed.
+#[tactic(auto, using(crate::proofs::LineLemmas::line_steps))]
 pub fn first_line(text: &[u8]) -> (&[u8], &[u8])
     ensures line { result.0.now ≡ before_first is_line_feed text.now }
     ensures rest { result.1.now ≡ after_first is_line_feed text.now }

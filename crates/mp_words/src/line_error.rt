@@ -1,6 +1,6 @@
 //! What is wrong with a line by itself.
 ghost use Rattle.std.specs.Prelude.{◌≡◌};
-ghost use Rattle.mp_words.specs.declared.line_error.LineError.TheVariants.{OutOfMemory};
+ghost use Rattle.mp_words.specs.Clauses.{OutOfMemory};
 
 use std::alloc::{AllocError, AllocFailed};
 use thiserror::Error;

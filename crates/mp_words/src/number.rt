@@ -1,7 +1,8 @@
 //! Decimal numbers, and pairs that hold them.
-ghost use Rattle.std.specs.Prelude.{◌≡◌, ◌+◌, not, length, option_map, IfSome, IsAscii};
-ghost use Rattle.std.specs.List.{suffix_len};
-ghost use Rattle.mp_words.specs.Numbers.{number_from, spelled_number, parts_at_equals, time_and_value, is_slash, parts_at_slash, name_and_number};
+#![tactic(auto, unfolding(crate::specs::Numbers::spelled_number, crate::specs::Numbers::time_and_value, crate::specs::Numbers::parts_at_equals, crate::specs::Numbers::name_and_number, crate::specs::Numbers::parts_at_slash))]
+
+ghost use Rattle.std.specs.Prelude.{◌≡◌, ◌+◌};
+ghost use Rattle.mp_words.specs.Clauses.{not, length, option_map, IfSome, IsAscii, suffix_len, number_from, spelled_number, parts_at_equals, time_and_value, is_slash, parts_at_slash, name_and_number};
 
 use crate::word::place_of;
 
@@ -9,7 +10,6 @@ use crate::word::place_of;
 const MAX_DIGITS: usize = 20;
 
 /// The number that 1 to 20 decimal digits spell, where it is below 2^64.
-#[tactic(auto, unfolding(crate::specs::Numbers::spelled_number))]
 pub fn number(word: &[u8]) -> Option<u64>
     ensures { result ≡ spelled_number word.now }
 {
@@ -19,6 +19,7 @@ pub fn number(word: &[u8]) -> Option<u64>
     digits(word)
 }
 
+#[tactic(auto, using(crate::proofs::DigitLemmas::digit_steps))]
 fn digits(word: &[u8]) -> Option<u64>
     ensures { result ≡ number_from 0 word.now }
 {
@@ -34,7 +35,6 @@ fn digits(word: &[u8]) -> Option<u64>
 }
 
 /// A time and a value, as in `5=1`.
-#[tactic(auto, unfolding(crate::specs::Numbers::time_and_value))]
 pub fn time_and_value(word: &[u8]) -> Option<(u64, u64)>
     ensures { result ≡ time_and_value word.now }
 {
@@ -45,7 +45,6 @@ pub fn time_and_value(word: &[u8]) -> Option<(u64, u64)>
 }
 
 /// What stands before and behind the first `=`.
-#[tactic(auto, unfolding(crate::specs::Numbers::parts_at_equals))]
 fn at_equals(word: &[u8]) -> Option<(&[u8], &[u8])>
     ensures { option_map (λ parts. (parts.0.now, parts.1.now)) result ≡ parts_at_equals word.now }
 {
@@ -54,7 +53,6 @@ fn at_equals(word: &[u8]) -> Option<(&[u8], &[u8])>
 }
 
 /// A name and a number, as in `y/3`.
-#[tactic(auto, unfolding(crate::specs::Numbers::name_and_number))]
 pub fn name_and_number(word: &[u8]) -> Option<(&[u8], u64)>
     ensures pair { option_map (λ pair. (pair.0.now, pair.1)) result ≡ name_and_number word.now }
     ensures ascii { IsAscii word.now → IfSome result (λ pair. IsAscii pair.0.now) }
@@ -65,7 +63,6 @@ pub fn name_and_number(word: &[u8]) -> Option<(&[u8], u64)>
 }
 
 /// What stands before and behind the last `/`, where there is something before it.
-#[tactic(auto, unfolding(crate::specs::Numbers::parts_at_slash))]
 fn at_slash(word: &[u8]) -> Option<(&[u8], &[u8])>
     ensures parts { option_map (λ parts. (parts.0.now, parts.1.now)) result ≡ parts_at_slash word.now }
     ensures ascii { IsAscii word.now → IfSome result (λ parts. IsAscii parts.0.now) }

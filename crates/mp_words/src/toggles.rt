@@ -1,10 +1,6 @@
 //! Changes of a level that toggles, which write themselves.
-ghost use Rattle.std.specs.Prelude.{◌≡◌, ◌+◌, ◌-◌, ◌≤◌, ◌∷◌, [], drop, length};
-ghost use Rattle.std.specs.Fmt.{decimal};
-ghost use Rattle.mp_streams.specs.Outgoing.{Writes};
-ghost use Rattle.mp_streams.specs.Places.{IsPlaced};
-ghost use Rattle.mp_wave.specs.ToggleWaves.{toggle_changes};
-ghost use Rattle.mp_words.specs.WaveLines.{change_text, changes_text};
+ghost use Rattle.std.specs.Prelude.{◌≡◌, ◌+◌, ◌-◌, ◌≤◌, ◌∷◌};
+ghost use Rattle.mp_words.specs.Clauses.{[], drop, length, decimal, Writes, IsPlaced, toggle_changes, change_text, changes_text};
 
 use crate::change::{Change, write_number};
 use mp_streams::{Failed, Out, Piece, Sink, Text};
@@ -19,6 +15,7 @@ pub struct Toggles<'a> {
 impl<'a> Text for Toggles<'a> {
     ghost text = { λ toggles. changes_text (toggle_changes toggles.level toggles.times.now) };
 
+    #[tactic(auto, using(crate::proofs::ToggleLemmas::toggle_steps))]
     fn put_to<S: Sink>(&self, out: &mut Out<S>) -> Result<(), Failed> {
         let level = self.level.min(1);
         let times = self.times;

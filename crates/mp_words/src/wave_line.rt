@@ -1,5 +1,5 @@
 //! Changes of waves.
-ghost use Rattle.mp_words.specs.WaveLines.{changes_text};
+ghost use Rattle.mp_words.specs.Clauses.{changes_text};
 
 use crate::change::Change;
 use mp_streams::{Failed, Out, Sink, Text};

@@ -1,43 +1,33 @@
 //! The words of a line.
-ghost use Rattle.std.specs.Prelude.{◌≡◌, ◌<◌, ◌==◌, length, position, IfOk, IfSome, IsAscii, slice_get};
-ghost use Rattle.std.specs.List.{find, slice_split};
-ghost use Rattle.std.specs.Option.{option_copied};
-ghost use Rattle.mp_words.specs.Words.{words_of, texts, is_gap, is_word, statement_part, AreAscii};
+#![tactic(auto, unfolding(crate::specs::Words::words_of))]
+
+ghost use Rattle.std.specs.Prelude.{◌≡◌, ◌<◌, ◌==◌};
+ghost use Rattle.mp_words.specs.Clauses.{length, position, IfOk, IfSome, IsAscii, slice_get, option_copied, words_of, texts, is_gap, statement_part, AreAscii};
 
 use memchr::memchr;
 use mp_records::Name;
 use std::alloc::{AllocError, Global};
 
 /// The words before a comment.
-#[tactic(auto, unfolding(crate::specs::Words::words_of))]
 pub fn words<'a>(alloc: Global, line: &'a [u8]) -> Result<Vec<&'a [u8]>, AllocError>
     ensures words { IfOk result (λ words. texts words.items ≡ words_of line.now) }
     ensures ascii { IsAscii line.now → IfOk result (λ words. AreAscii words.items) }
 {
-    before_comment(line)
+    let words = before_comment(line)
         .split(|byte| is_gap(*byte))
         .filter(|part| !part.is_empty())
-        .collect(alloc)
+        .collect(alloc)?;
+    Ok(words)
 }
 
 /// The first word before a comment, where there is one. It takes no memory.
-#[tactic(auto, using(crate::proofs::WordLemmas::first_word_of))]
 pub fn first_word(line: &[u8]) -> Option<&[u8]>
     ensures { option_copied result ≡ slice_get (words_of line.now) 0 }
 {
-    first_part(line)
-}
-
-fn first_part(line: &[u8]) -> Option<&[u8]>
-    ensures { option_copied result ≡ find is_word (slice_split is_gap (statement_part line.now)) }
-{
-    before_comment(line)
-        .split(|byte| is_gap(*byte))
-        .find(|part| !part.is_empty())
+    word_at(line, 0)
 }
 
 /// The word at a place, where there is one. It takes no memory.
-#[tactic(auto, unfolding(crate::specs::Words::words_of))]
 pub fn word_at(line: &[u8], place: usize) -> Option<&[u8]>
     ensures { option_copied result ≡ slice_get (words_of line.now) place }
 {
@@ -48,7 +38,6 @@ pub fn word_at(line: &[u8], place: usize) -> Option<&[u8]>
 }
 
 /// How many words stand before a comment. It takes no memory.
-#[tactic(auto, unfolding(crate::specs::Words::words_of))]
 pub fn word_count(line: &[u8]) -> usize
     ensures { result ≡ length (words_of line.now) }
 {

@@ -1,12 +1,8 @@
 //! What each of several words says.
-ghost use Rattle.std.specs.Prelude.{◌≡◌, ℕ, List, Result, All, IfOk, IsAscii};
-ghost use Rattle.mp_words.specs.declared.line_error.LineError.{LineError};
-ghost use Rattle.mp_words.specs.declared.line_error.LineError.TheVariants.{OutOfMemory};
-ghost use Rattle.mp_words.specs.Reads.{Gives};
-ghost use Rattle.mp_words.specs.Words.{texts};
-ghost use Rattle.std.specs.List.{list_any};
-ghost use Rattle.mp_words.specs.Numbers.{is_slash};
-ghost use Rattle.mp_words.specs.WordLists.{number_word, change_word, input_word, wire_or_none, output_word, each_word};
+#![tactic(auto, unfolding(crate::specs::WordLists::input_word, crate::specs::WordLists::output_word))]
+
+ghost use Rattle.std.specs.Prelude.{◌≡◌};
+ghost use Rattle.mp_words.specs.Clauses.{ℕ, List, Result, All, IfOk, IsAscii, LineError, OutOfMemory, Gives, texts, list_any, is_slash, number_word, change_word, input_word, wire_or_none, output_word, each_word};
 
 use crate::line_error::LineError;
 use crate::number::{name_and_number, number, time_and_value};
@@ -59,7 +55,6 @@ impl Worded for InputName {
 
     ghost read = { input_word };
 
-    #[tactic(auto, unfolding(crate::specs::WordLists::input_word))]
     fn from_word(alloc: Global, word: &[u8]) -> Result<Self, LineError> {
         if !has_slash(word) {
             return Ok(InputName {
@@ -100,7 +95,6 @@ impl Worded for OutputName {
 
     ghost read = { output_word };
 
-    #[tactic(auto, unfolding(crate::specs::WordLists::output_word))]
     fn from_word(alloc: Global, word: &[u8]) -> Result<Self, LineError> {
         if word == b"-".as_slice() {
             return Ok(OutputName {
@@ -119,6 +113,7 @@ impl Worded for OutputName {
 }
 
 /// What each of the words says, in order; or why the first that says nothing doesn't. `OutOfMemory` comes where memory is wanting.
+#[tactic(auto, using(crate::proofs::WordListLemmas::each_steps))]
 pub fn each_word<W: Worded>(alloc: Global, words: &[&[u8]]) -> Result<Vec<W>, LineError>
     requires { All (λ word. W.may_read word.now) words.now }
     ensures { Gives OutOfMemory (λ items. items.items) result (each_word W.read (texts words.now)) }

@@ -1,5 +1,4 @@
-use Rattle.mp_streams.proofs.LeftLemmas.{Left}
-use Rattle.mp_answers.specs.EditAnswers.{edits_from}
+use Rattle.mp_answers.proofs.Names.{Left, edits_from}
 use Rattle.mp_answers.proofs.edit_answers.put_edits.Given as goal
 
 -- the lines of the edits from this place on are left to write

@@ -1,8 +1,6 @@
-use Rattle.std.proofs.Common.{◌≡◌, ◌++◌, [], refl, ap, rules}
+use Rattle.std.specs.Prelude.{◌≡◌, ◌++◌}
+use Rattle.mp_answers.proofs.Names.{[], refl, ap, rules, left_whole, left_as, left_then, left_failed, left_none, puts_as, puts_unmade, entry_line, work_text}
 use Rattle.mp_streams.specs.declared.write_error.WriteError.TheVariants.{WriteFailed, OutOfMemory}
-use Rattle.mp_streams.proofs.LeftLemmas.{left_whole, left_as, left_then, left_failed, left_none}
-use Rattle.mp_streams.proofs.OutLemmas.{puts_as, puts_unmade}
-use Rattle.mp_answers.specs.WorkLines.{entry_line, work_text}
 use Rattle.mp_answers.proofs.work_lines.put_work_lines.Goals as goal
 
 pub returns-in_err-entries : goal.returns-in_err-entries

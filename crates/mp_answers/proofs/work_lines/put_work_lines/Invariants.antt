@@ -1,6 +1,4 @@
-use Rattle.std.proofs.Common.{length}
-use Rattle.mp_answers.specs.WorkLines.{work_text}
-use Rattle.mp_streams.proofs.LeftLemmas.{Left}
+use Rattle.mp_answers.proofs.Names.{length, work_text, Left}
 use Rattle.mp_answers.proofs.work_lines.put_work_lines.Given as goal
 
 -- the lines of the entries that are left are left to write

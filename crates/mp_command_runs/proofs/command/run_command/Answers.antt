@@ -1,6 +1,4 @@
-use Rattle.std.proofs.Common.{Ok, Err}
-use Rattle.std.proofs.lemmas.Result.{err_from_is_err_and}
-use Rattle.mp_command_runs.specs.declared.run_fault.RunFault.TheVariants.{WriteFailed, OutOfMemory}
+use Rattle.mp_command_runs.proofs.Names.{Ok, Err, err_from_is_err_and, WriteFailed, OutOfMemory}
 use Rattle.mp_command_runs.proofs.RunLemmas.{unread_source, from_input, ran_flushed, ran_unflushed, part_flushed, part_unflushed}
 use Rattle.mp_command_runs.proofs.command.run_command.Goals as goal
 

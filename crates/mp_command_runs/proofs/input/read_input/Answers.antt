@@ -1,6 +1,5 @@
-use Rattle.std.proofs.Common.{◌<◌, ◌≤◌, length, refl, rules}
-use Rattle.std.proofs.lemmas.Result.{err_from_is_err_and}
-use Rattle.mp_text.specs.Sizes.{text_limit}
+use Rattle.std.specs.Prelude.{◌<◌, ◌≤◌}
+use Rattle.mp_command_runs.proofs.Names.{refl, err_from_is_err_and, length, rules, text_limit}
 use Rattle.mp_command_runs.proofs.InputLemmas.{short_input, long_input, unread_as}
 use Rattle.mp_command_runs.proofs.input.read_input.Goals as goal
 

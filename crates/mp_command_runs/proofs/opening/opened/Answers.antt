@@ -1,9 +1,5 @@
-use Rattle.std.proofs.Common.{◌≡◌, is_some, true, false, Ok, ap, ◌∙◌, rules}
-use Rattle.std.proofs.lemmas.Result.{err_from_is_err_and}
-use Rattle.mp_text.specs.declared.text_state.TextState.TheVariants.{Fresh}
-use Rattle.mp_text.specs.Texts.{after_lines}
-use Rattle.mp_words.specs.Lines.{lines_of}
-use Rattle.mp_command_runs.specs.Openings.{counted_netlist}
+use Rattle.std.specs.Prelude.{◌≡◌}
+use Rattle.mp_command_runs.proofs.Names.{is_some, true, false, Ok, ap, ◌∙◌, rules, err_from_is_err_and, Fresh, after_lines, lines_of, counted_netlist}
 use Rattle.mp_command_runs.proofs.RunLemmas.{refused_text}
 use Rattle.mp_command_runs.proofs.opening.opened.Goals as goal
 

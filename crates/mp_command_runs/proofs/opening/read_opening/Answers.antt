@@ -1,5 +1,5 @@
 use Rattle.std.specs.Prelude.{is_some}
-use Rattle.std.proofs.lemmas.Result.{err_from_is_err_and}
+use Rattle.mp_command_runs.proofs.Names.{err_from_is_err_and}
 use Rattle.mp_command_runs.proofs.InputLemmas.{shut_unread}
 use Rattle.mp_command_runs.proofs.opening.read_opening.Goals as goal
 

@@ -1,4 +1,5 @@
-use Rattle.mp_commands.proofs.Names.{◌≡◌, true, false, [], sym, ap, ◌∙◌, arith, rules, lines_of, are_divided, parts_of, lines_of_each}
+use Rattle.std.specs.Prelude.{◌≡◌}
+use Rattle.mp_commands.proofs.Names.{true, false, [], sym, ap, ◌∙◌, arith, rules, lines_of, are_divided, parts_of, lines_of_each}
 use Rattle.std.proofs.lemmas.Bool.{lt-ltb, le-ltb}
 use Rattle.mp_commands.proofs.DeskLemmas.{blocks_of-none, blocks_of-some}
 use Rattle.mp_commands.proofs.desk.split.Goals as goal

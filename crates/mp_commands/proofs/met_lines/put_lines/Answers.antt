@@ -1,4 +1,5 @@
-use Rattle.mp_commands.proofs.Names.{◌≡◌, ◌+◌, [], drop, ap, arith, rules, drop_all, left_whole, left_none, lines_from}
+use Rattle.std.specs.Prelude.{◌≡◌, ◌+◌}
+use Rattle.mp_commands.proofs.Names.{[], drop, ap, arith, rules, drop_all, left_whole, left_none, lines_from}
 use Rattle.mp_commands.proofs.DeskLemmas.{line_put, line_failed}
 use Rattle.mp_commands.proofs.met_lines.put_lines.Goals as goal
 

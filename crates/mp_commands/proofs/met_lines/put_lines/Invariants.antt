@@ -1,4 +1,5 @@
-use Rattle.mp_commands.proofs.Names.{◌+◌, drop, Left, lines_from}
+use Rattle.std.specs.Prelude.{◌+◌}
+use Rattle.mp_commands.proofs.Names.{drop, Left, lines_from}
 use Rattle.mp_commands.proofs.met_lines.put_lines.Given as goal
 
 -- the lines from this place on are left to write

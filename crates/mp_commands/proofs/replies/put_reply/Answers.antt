@@ -1,4 +1,5 @@
-use Rattle.mp_commands.proofs.Names.{◌≡◌, false, refl, rules, WriteFailed, puts_as}
+use Rattle.std.specs.Prelude.{◌≡◌}
+use Rattle.mp_commands.proofs.Names.{false, refl, rules, WriteFailed, puts_as}
 use Rattle.mp_commands.proofs.ReplyLemmas.{unread_replied, memory_replied, is_memory}
 use Rattle.mp_commands.proofs.replies.put_reply.Goals as goal
 

@@ -1,4 +1,5 @@
-use Rattle.mp_report.proofs.Names.{◌≡◌, ◌-◌, ◌+◌, ◌++◌, ℕ, List, flat_map, ap, sym, ◌∙◌, arith, range_with_len, FindingCode, findings_of, bundle_set}
+use Rattle.std.specs.Prelude.{◌≡◌, ◌-◌, ◌+◌, ◌++◌}
+use Rattle.mp_report.proofs.Names.{ℕ, List, flat_map, ap, sym, ◌∙◌, arith, range_with_len, FindingCode, findings_of, bundle_set}
 use Rattle.mp_report.proofs.TimeLemmas.{told_more, told_quiet}
 use Rattle.mp_report.proofs.BundleLemmas.{quiet_set}
 use Rattle.mp_report.proofs.bundles.found_by.Goals as goal
@@ -22,12 +23,6 @@ loop-time-init c =
       ahead = next.still n b 1 c.requires low (omega (arith, last, same));
       found = c.none-found.ensures ∙ sym (ap (λ k. flat_map told (range_with_len 1 k)) (sym all) ∙ told_quiet told 1 0 (time - 1) (λ t from before. quiet_set n b t (next.quiet n b 1 t c.requires (omega (arith, from)) (omega (arith, before, low)) (omega (arith, before, low, last, same)))));
     }
-
-pub found_now-requires-clause-ahead : goal.found_now-requires-clause-ahead
-found_now-requires-clause-ahead c = c.loop-time.invariant.ahead
-
-pub found_now-requires-clause-within : goal.found_now-requires-clause-within
-found_now-requires-clause-within c = omega (arith, c.loop-time.invariant.same, c.loop-time-test.true)
 
 pub loop-time-smaller : goal.loop-time-smaller
 loop-time-smaller c =
@@ -70,12 +65,3 @@ loop-time-preserved c =
           (λ t from before. quiet_set n b t (next.quiet n b (now + 1) t after (omega (arith, from, from_one)) (omega (arith, before, from_one, later)) (omega (arith, before, from_one, later, last, same)))))
           ∙ ap (λ k. flat_map told (range_with_len 1 k)) all;
     }
-
-pub returns : goal.returns
-returns c =
-    let kept = c.loop-time.invariant in
-    let over = c.loop-time-test.false in
-    let same = kept.same in
-    let high = kept.high in
-    let end : c.loop-time.time - 1 ≡ c.args.netlist.now.horizon - 1 = omega (arith, over, same, high) in
-    kept.found ∙ ap (λ k. flat_map (λ t. findings_of t (bundle_set c.args.netlist.now c.args.bundle.now t)) (range_with_len 1 k)) end

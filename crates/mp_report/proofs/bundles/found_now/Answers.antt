@@ -1,4 +1,5 @@
-use Rattle.mp_report.proofs.Names.{◌≡◌, ◌==◌, ◌-◌, ℕ, not, ap, ◌∙◌, arith, level, is_busy, is_requested_soon, changes}
+use Rattle.std.specs.Prelude.{◌≡◌, ◌==◌, ◌-◌}
+use Rattle.mp_report.proofs.Names.{ℕ, not, ap, ◌∙◌, arith, level, is_busy, is_requested_soon, changes}
 use Rattle.mp_report.proofs.AheadLemmas.{level_before}
 use Rattle.mp_report.proofs.bundles.found_now.Goals as goal
 

@@ -1,7 +1,7 @@
-use Rattle.mp_report.proofs.Names.{◌≡◌, ◌⊎◌, ℕ, List, refl, ⊎_elim, Memory, no_findings}
+use Rattle.std.specs.Prelude.{◌≡◌, ◌⊎◌}
+use Rattle.mp_report.proofs.Names.{ℕ, List, refl, ⊎_elim, Memory, no_findings, any_part_of, found}
 use Rattle.mp_modules.specs.declared.kind.Kind.{Kind}
 use Rattle.mp_modules.specs.declared.kind.Kind.TheVariants as kinds
-use Rattle.mp_storage.specs.AnyModules.{any_part_of, found}
 use Rattle.mp_report.proofs.modules.finds_nothing.Goals as goal
 
 abbrev FindsNothing : Kind → Type 0

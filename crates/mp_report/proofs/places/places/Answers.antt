@@ -1,4 +1,5 @@
-use Rattle.mp_report.proofs.Names.{◌++◌, ◌∷◌, [], List, map, length, append_assoc, ap, sym, ◌∙◌, arith, range_with_len, Place, module_place, bundle_place}
+use Rattle.std.specs.Prelude.{◌++◌, ◌∷◌}
+use Rattle.mp_report.proofs.Names.{[], List, map, length, append_assoc, ap, sym, ◌∙◌, arith, range_with_len, Place, module_place, bundle_place}
 use Rattle.std.proofs.lemmas.List.FromFn.{map-range_with_len_more}
 use Rattle.mp_report.proofs.places.places.Goals as goal
 

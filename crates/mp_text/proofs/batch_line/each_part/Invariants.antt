@@ -1,4 +1,5 @@
-use Rattle.mp_text.proofs.Names.{◌≡◌, drop, with_front, each_part, part_texts}
+use Rattle.std.specs.Prelude.{◌≡◌}
+use Rattle.mp_text.proofs.Names.{drop, with_front, each_part, part_texts}
 use Rattle.mp_text.proofs.batch_line.each_part.Given as goal
 
 -- what was read so far, and what the parts that are left say

@@ -1,4 +1,4 @@
-use Rattle.mp_words.proofs.WordLemmas.{rest_ascii}
+use Rattle.mp_text.proofs.Names.{rest_ascii}
 use Rattle.mp_text.proofs.batch_line.part_edit.Goals as goal
 
 pub single_edit-requires : goal.single_edit-requires

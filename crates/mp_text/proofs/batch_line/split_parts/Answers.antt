@@ -1,4 +1,4 @@
-use Rattle.std.proofs.Common.{refl, rules, tests}
+use Rattle.mp_text.proofs.Names.{refl, rules, tests}
 use Rattle.std.proofs.lemmas.Iterator.Splits.{YieldsList-from_slice_split}
 use Rattle.std.proofs.lemmas.Iterator.Consumers.{map_from_collect}
 use Rattle.mp_text.proofs.PartLemmas.{divides}

@@ -1,4 +1,5 @@
-use Rattle.mp_text.proofs.Names.{ℕ, List, ◌∷◌, Bor, flat_map-map}
+use Rattle.std.specs.Prelude.{◌∷◌}
+use Rattle.mp_text.proofs.Names.{ℕ, List, Bor, flat_map-map}
 use Rattle.mp_text.proofs.spaced.put_line.Goals as goal
 
 pub returns : goal.returns

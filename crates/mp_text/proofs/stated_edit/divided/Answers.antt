@@ -1,5 +1,4 @@
-use Rattle.mp_text.proofs.Names.{IsAscii, ap, ◌∙◌, All-take, All-drop, texts, is_mark}
-use Rattle.mp_words.proofs.WordListLemmas.{texts-before_first, texts-after_first}
+use Rattle.mp_text.proofs.Names.{IsAscii, ap, ◌∙◌, All-take, All-drop, texts, is_mark, texts-before_first, texts-after_first}
 use Rattle.mp_text.proofs.stated_edit.divided.Goals as goal
 
 pub returns-clause-front : goal.returns-clause-front

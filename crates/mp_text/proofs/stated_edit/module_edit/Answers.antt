@@ -1,4 +1,4 @@
-use Rattle.mp_words.proofs.WordLemmas.{rest_ascii}
+use Rattle.mp_text.proofs.Names.{rest_ascii}
 use Rattle.mp_text.proofs.stated_edit.module_edit.Goals as goal
 
 pub divided-requires : goal.divided-requires

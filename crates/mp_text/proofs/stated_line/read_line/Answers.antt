@@ -1,4 +1,5 @@
-use Rattle.mp_text.proofs.Names.{◌-◌, drop, inr, sym, ap, subst, ◌∙◌, option_copied, OutOfMemory, Gives, texts, AreAscii, rest_ascii, texts_behind, takes, stated_line}
+use Rattle.std.specs.Prelude.{◌-◌}
+use Rattle.mp_text.proofs.Names.{drop, inr, sym, ap, subst, ◌∙◌, option_copied, OutOfMemory, Gives, texts, AreAscii, rest_ascii, texts_behind, takes, stated_line}
 use Rattle.mp_text.proofs.LineStartLemmas.{not_plain, without_words, with_unknown_word, with_wrong_count, as_stated, has_form, only_with_form}
 use Rattle.mp_text.proofs.stated_line.read_line.Goals as goal
 

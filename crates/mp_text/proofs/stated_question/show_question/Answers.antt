@@ -1,4 +1,4 @@
-use Rattle.mp_words.proofs.WordLemmas.{rest_ascii}
+use Rattle.mp_text.proofs.Names.{rest_ascii}
 use Rattle.mp_text.proofs.stated_question.show_question.Goals as goal
 
 pub wire_names-requires : goal.wire_names-requires

@@ -1,4 +1,5 @@
-use Rattle.mp_text.proofs.Names.{ℕ, ◌<◌, List, [], ◌∷◌, ◌++◌, length, take, get_or, Bor, sym, ap, ◌∙◌, arith, take_more, map-append, texts}
+use Rattle.std.specs.Prelude.{◌<◌, ◌∷◌, ◌++◌}
+use Rattle.mp_text.proofs.Names.{ℕ, List, [], length, take, get_or, Bor, sym, ap, ◌∙◌, arith, take_more, map-append, texts}
 use Rattle.mp_text.proofs.stated_question.wire_names.Goals as goal
 
 pub loop-word-preserved : goal.loop-word-preserved

@@ -1,4 +1,5 @@
-use Rattle.mp_text.proofs.Names.{◌≡◌, take, texts}
+use Rattle.std.specs.Prelude.{◌≡◌}
+use Rattle.mp_text.proofs.Names.{take, texts}
 use Rattle.mp_text.proofs.stated_question.wire_names.Given as goal
 
 -- the names so far

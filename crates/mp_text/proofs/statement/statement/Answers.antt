@@ -1,4 +1,4 @@
-use Rattle.mp_words.proofs.WordLemmas.{rest_ascii}
+use Rattle.mp_text.proofs.Names.{rest_ascii}
 use Rattle.mp_text.proofs.statement.statement.Goals as goal
 
 pub change-requires : goal.change-requires

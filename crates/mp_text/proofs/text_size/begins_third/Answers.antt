@@ -1,7 +1,5 @@
-use Rattle.std.proofs.Common.{◌≡◌, ◌≢◌, ◌<◌, length, sym, ap, ◌∙◌, rules}
-use Rattle.mp_words.specs.Lines.{lines_of}
-use Rattle.mp_words.specs.Words.{words_of}
-use Rattle.mp_text.specs.Sizes.{first_words, states_third}
+use Rattle.std.specs.Prelude.{◌≡◌, ◌≢◌, ◌<◌}
+use Rattle.mp_text.proofs.Names.{length, sym, ap, ◌∙◌, rules, lines_of, words_of, first_words, states_third}
 use Rattle.mp_text.proofs.SizeLemmas.{first_blank, first_worded, no_words}
 use Rattle.mp_text.proofs.text_size.begins_third.Goals as goal
 

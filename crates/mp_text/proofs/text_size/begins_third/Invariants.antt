@@ -1,6 +1,5 @@
-use Rattle.std.proofs.Common.{◌≡◌, length}
-use Rattle.mp_words.specs.Lines.{lines_of}
-use Rattle.mp_text.specs.Sizes.{first_words}
+use Rattle.std.specs.Prelude.{◌≡◌}
+use Rattle.mp_text.proofs.Names.{length, lines_of, first_words}
 use Rattle.mp_text.proofs.text_size.begins_third.Given as goal
 
 -- the lines that are left have the same first words

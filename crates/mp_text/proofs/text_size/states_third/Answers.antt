@@ -1,5 +1,4 @@
-use Rattle.std.proofs.Common.{◌∙◌}
-use Rattle.mp_words.specs.Words.{words_of}
+use Rattle.mp_text.proofs.Names.{◌∙◌, words_of}
 use Rattle.mp_text.proofs.SizeLemmas.{third_of}
 use Rattle.mp_text.proofs.text_size.states_third.Goals as goal
 

@@ -1,4 +1,5 @@
-use Rattle.mp_vcd.proofs.Names.{◌≡◌, ℕ, ◌+◌, ◌%◌, ◌<◌, ◌≤◌, List, [], ◌∷◌, ◌++◌, length, refl, ap, sym, subst, ◌∙◌, rules, arith, set, length-append, IsPlaced, placed_both, placed_byte, code}
+use Rattle.std.specs.Prelude.{◌≡◌, ◌+◌, ◌%◌, ◌<◌, ◌≤◌, ◌∷◌, ◌++◌}
+use Rattle.mp_vcd.proofs.Names.{ℕ, List, [], length, refl, ap, sym, subst, ◌∙◌, rules, arith, set, length-append, IsPlaced, placed_both, placed_byte, code}
 use Rattle.mp_vcd.proofs.CodeLemmas.{code-one, code_step, code_long, code_some}
 use Rattle.mp_vcd.proofs.code.write_code.Goals as goal
 
@@ -8,27 +9,16 @@ ends room new digits at end rest wire low placed same =
     omega (arith, placed.moved, code_long wire low, code_some rest, ap length same, length-append digits (code rest))
 
 pub loop-rest-init : goal.loop-rest-init
-loop-rest-init c = ([], record { front = search rules; moved = omega arith; within = omega arith }, refl)
-
-pub bounds-room-end : goal.bounds-room-end
-bounds-room-end c =
-    let h = c.loop-rest.invariant in
-    omega (arith, ends _ _ h.0 _ _ _ _ c.ranges.wire.fits h.1 h.2, c.loop-rest.auto.room)
+loop-rest-init c = ([], record { front = search rules; moved = omega arith; within = omega arith }, refl, omega arith)
 
 pub loop-rest-preserved : goal.loop-rest-preserved
 loop-rest-preserved c =
     let h = c.loop-rest.invariant in
-    let room = c.loop-rest.room in
-    let end = c.loop-rest.end in
     let rest = c.loop-rest.rest in
     let high : 94 ≤ rest = search rules in
-    let inside : end < length room = omega (arith, ends _ _ h.0 _ _ _ _ c.ranges.wire.fits h.1 h.2, c.loop-rest.auto.room) in
-    (h.0 ++ (33 + rest % 94) ∷ [], placed_both h.1 (placed_byte room end (33 + rest % 94) inside), code_step h.0 (code c.args.wire) rest high h.2)
-
-pub bounds-room-end-2 : goal.bounds-room-end-2
-bounds-room-end-2 c =
-    let h = c.loop-rest.invariant in
-    omega (arith, ends _ _ h.0 _ _ _ _ c.ranges.wire.fits h.1 h.2, c.loop-rest.auto.room)
+    let placed = placed_both h.1 (placed_byte c.loop-rest.room c.loop-rest.end (33 + rest % 94) (omega (arith, h.3, c.loop-rest.auto.room))) in
+    let same = code_step h.0 (code c.args.wire) rest high h.2 in
+    (h.0 ++ (33 + rest % 94) ∷ [], placed, same, ends _ _ _ _ _ _ _ c.ranges.wire.fits placed same)
 
 pub returns-clause-placed : goal.returns-clause-placed
 returns-clause-placed c =
@@ -37,11 +27,5 @@ returns-clause-placed c =
     let end = c.loop-rest.end in
     let rest = c.loop-rest.rest in
     let low : rest < 94 = search rules in
-    let inside : end < length room = omega (arith, ends _ _ h.0 _ _ _ _ c.ranges.wire.fits h.1 h.2, c.loop-rest.auto.room) in
     let last : h.0 ++ (33 + rest) ∷ [] ≡ code c.args.wire = ap (λ l. h.0 ++ l) (sym (code-one rest low)) ∙ h.2 in
-    subst (λ text. IsPlaced c.args.room.now (set room end (33 + rest)) c.args.at text (end + 1)) last (placed_both h.1 (placed_byte room end (33 + rest) inside))
-
-pub returns-clause-short : goal.returns-clause-short
-returns-clause-short c =
-    let h = c.loop-rest.invariant in
-    omega (arith, ends _ _ h.0 _ _ _ _ c.ranges.wire.fits h.1 h.2)
+    subst (λ text. IsPlaced c.args.room.now (set room end (33 + rest)) c.args.at text (end + 1)) last (placed_both h.1 (placed_byte room end (33 + rest) (omega (arith, h.3, c.loop-rest.auto.room))))

@@ -1,5 +1,4 @@
-use Rattle.mp_vcd.proofs.Names.{refl, puts_as, puts_ok, puts_then, puts_sooner, WriteFailed}
-use Rattle.mp_vcd.specs.Dumps.{dump}
+use Rattle.mp_vcd.proofs.Names.{refl, puts_as, puts_ok, puts_then, puts_sooner, WriteFailed, dump}
 use Rattle.mp_vcd.proofs.DumpReadLemmas.{says_levels}
 use Rattle.mp_vcd.proofs.dumping.put_dump.Goals as goal
 

@@ -1,5 +1,6 @@
-use Rattle.mp_vcd.proofs.Names.{◌≤◌, [], ap, refl, rules, arith, flat_map, puts_as, puts_unmade, WriteFailed, OutOfMemory, unit_text, left_as, left_then, left_failed, left_none}
-use Rattle.mp_vcd.proofs.StandingLemmas.{times_divide, times_end}
+use Rattle.std.specs.Prelude.{◌≤◌}
+use Rattle.mp_vcd.proofs.Names.{[], refl, rules, arith, puts_as, puts_unmade, WriteFailed, OutOfMemory, unit_text, left_as, left_then, left_failed}
+use Rattle.mp_vcd.proofs.StandingLemmas.{times_divide}
 use Rattle.mp_vcd.proofs.dumping.put_units.Goals as goal
 
 pub returns-in_err-widths : goal.returns-in_err-widths
@@ -34,9 +35,3 @@ loop-from-preserved g c =
       some = omega (arith, order, c.loop-from.invariant.some);
       left = left_then (left_as (times_divide (unit_text n) c.loop-from.from c.min-to.result n.horizon order end) c.loop-from.invariant.left) piece;
     }
-
-pub returns : goal.returns
-returns g c =
-    let n = c.args.netlist.now in
-    let over : n.horizon ≤ c.loop-from.from = search rules in
-    left_none (ap (flat_map (unit_text n)) (times_end c.loop-from.from n.horizon over)) c.loop-from.invariant.left

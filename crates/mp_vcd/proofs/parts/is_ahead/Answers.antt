@@ -1,4 +1,5 @@
-use Rattle.mp_vcd.proofs.Names.{◌≡◌, ℕ, ◌≤◌, slice_index_or, ap, arith, leb-true, get_or_default, changes_in}
+use Rattle.std.specs.Prelude.{◌≡◌, ◌≤◌}
+use Rattle.mp_vcd.proofs.Names.{ℕ, slice_index_or, ap, arith, leb-true, get_or_default, changes_in}
 use Rattle.mp_vcd.proofs.parts.is_ahead.Goals as goal
 
 pub returns-then-place-len-clause-ahead : goal.returns-then-place-len-clause-ahead

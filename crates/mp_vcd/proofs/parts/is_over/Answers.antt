@@ -1,4 +1,5 @@
-use Rattle.mp_vcd.proofs.Names.{◌≡◌, ℕ, ◌-◌, ◌<◌, ◌≤◌, length, slice_index_or, ap, arith, ltb-true, get_or_default, changes_in}
+use Rattle.std.specs.Prelude.{◌≡◌, ◌-◌, ◌<◌, ◌≤◌}
+use Rattle.mp_vcd.proofs.Names.{ℕ, length, slice_index_or, ap, arith, ltb-true, get_or_default, changes_in}
 use Rattle.mp_vcd.proofs.parts.is_over.Goals as goal
 
 pub returns : goal.returns

@@ -1,4 +1,5 @@
-use Rattle.mp_vcd.proofs.Names.{◌≡◌, ◌<◌, length, ap, rules, flat_map, writes_failed, part_line, left_whole, left_as, left_then, left_failed, left_none}
+use Rattle.std.specs.Prelude.{◌≡◌, ◌<◌}
+use Rattle.mp_vcd.proofs.Names.{length, ap, rules, flat_map, writes_failed, part_line, left_whole, left_as, left_then, left_failed, left_none}
 use Rattle.mp_vcd.proofs.StandingLemmas.{lines_step, standing_end}
 use Rattle.mp_vcd.proofs.preamble.put_wires.Goals as goal
 

@@ -1,4 +1,5 @@
-use Rattle.mp_vcd.proofs.Names.{◌<◌, ◌≤◌, ap, rules, flat_map, writes_failed, unit_text, left_whole, left_as, left_then, left_failed, left_none}
+use Rattle.std.specs.Prelude.{◌<◌, ◌≤◌}
+use Rattle.mp_vcd.proofs.Names.{ap, rules, flat_map, writes_failed, unit_text, left_whole, left_as, left_then, left_failed, left_none}
 use Rattle.mp_vcd.proofs.StandingLemmas.{times_step, times_end}
 use Rattle.mp_vcd.proofs.units.put_agenda.Goals as goal
 

@@ -1,6 +1,7 @@
-use Rattle.mp_vcd.proofs.Names.{◌≡◌, ◌≢◌, ℕ, ◌+◌, ◌-◌, ◌<◌, ◌≤◌, None, List, map, slice_index, sym, ap, subst, ◌∙◌, rules, arith, vec_len, get_or-map, writes_failed, Circuit, wire_at, width_of, value_line, changed, IsChain, Tells, told_from, told_at, left_whole, left_as, left_then, left_failed, left_none}
+use Rattle.std.specs.Prelude.{◌≡◌, ◌≢◌, ◌+◌, ◌-◌, ◌<◌, ◌≤◌}
+use Rattle.mp_vcd.proofs.Names.{ℕ, None, List, map, slice_index, sym, ap, subst, ◌∙◌, rules, arith, vec_len, get_or-map, writes_failed, Circuit, wire_at, width_of, value_line, changed, IsChain, Tells, told_from, told_at, left_whole, left_as, left_then, left_failed, left_none}
 use Rattle.mp_vcd.specs.declared.agenda.Agenda.{Agenda}
-use Rattle.mp_vcd.proofs.AgendaLemmas.{chain_within, chain_next, chain_over, marked_none, marked_some}
+use Rattle.mp_vcd.proofs.AgendaLemmas.{chain_next, marked_none, marked_some}
 use Rattle.mp_vcd.proofs.StandingLemmas.{narrow}
 use Rattle.mp_vcd.proofs.units.put_unit.Goals as goal
 
@@ -16,11 +17,7 @@ width_is : (n : Circuit) (widths : List ℕ) (w : ℕ) → widths ≡ map width_
 width_is n widths w are = ap (λ ws. slice_index ws w) are ∙ get_or-map width_of n.wires w None
 
 pub returns-then-place-eq0 : goal.returns-then-place-eq0
-returns-then-place-eq0 g c =
-    let n = c.args.netlist.now in
-    let t = c.args.time in
-    let chain = chain_at n c.args.agenda.now t _ c.requires.from c.requires.times c.requires.told c.first-place.ensures in
-    left_none (marked_none n t (changed n t) _ _ chain c.if-place-eq0.true) (left_whole _ _)
+returns-then-place-eq0 g c = grind (arith, chain_at, left_none, marked_none, left_whole)
 
 pub returns-in_err-put_time_mark : goal.returns-in_err-put_time_mark
 returns-in_err-put_time_mark g c =
@@ -32,17 +29,7 @@ returns-in_err-put_time_mark g c =
     left_failed _ (left_as (marked_some n t (changed n t) _ _ chain some) (left_whole _ _)) _ is (writes_failed _ is c.in_err-put_time_mark.ensures)
 
 pub loop-place-init : goal.loop-place-init
-loop-place-init g c =
-    let n = c.args.netlist.now in
-    let t = c.args.time in
-    let chain = chain_at n c.args.agenda.now t _ c.requires.from c.requires.times c.requires.told c.first-place.ensures in
-    let some : c.first-place.result ≢ 0 = search rules in
-    (told_at n t, chain, left_then (left_as (marked_some n t (changed n t) _ _ chain some) (left_whole _ _)) c.in_ok-put_time_mark.ensures)
-
-pub entry-change-requires-clause-within : goal.entry-change-requires-clause-within
-entry-change-requires-clause-within g c =
-    let left = c.loop-place.invariant in
-    omega (arith, chain_within c.args.agenda.now.entries.items c.loop-place.place left.0 left.1)
+loop-place-init g c = grind (arith, chain_at, left_then, left_as, marked_some, left_whole)
 
 pub line_of-requires : goal.line_of-requires
 line_of-requires g c =
@@ -77,9 +64,3 @@ loop-place-preserved g c =
     let next = chain_next n _ change _ left.0 (sym c.entry-change.ensures) left.1 some in
     let text = c.line_of.ensures ∙ ap (λ width. value_line width change.wire change.level) (width_is n c.args.widths.now change.wire c.requires.widths) in
     (next.later, next.chain, left_then (left_as next.lines left.2) (rw text at c.in_ok-put_piece.ensures))
-
-pub returns : goal.returns
-returns g c =
-    let left = c.loop-place.invariant in
-    let none : c.loop-place.place ≡ 0 = search rules in
-    left_none (chain_over c.args.netlist.now _ _ left.0 none left.1) left.2

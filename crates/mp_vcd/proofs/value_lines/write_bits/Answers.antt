@@ -1,17 +1,7 @@
-use Rattle.mp_vcd.proofs.Names.{◌≡◌, ◌+◌, ◌-◌, ◌<◌, ◌≤◌, ◌/◌, ◌++◌, drop, length, slice_set, refl, rules, sym, ap, ◌∙◌, arith, take-set-le, length-set, placed_between, bit, bits}
+use Rattle.std.specs.Prelude.{◌≡◌, ◌+◌, ◌-◌, ◌<◌, ◌≤◌, ◌/◌, ◌++◌}
+use Rattle.mp_vcd.proofs.Names.{drop, length, slice_set, rules, sym, ap, ◌∙◌, arith, take-set-le, length-set, placed_between, bit, bits}
 use Rattle.mp_vcd.proofs.CodeLemmas.{bits_step, bits-zero, bits_long}
 use Rattle.mp_vcd.proofs.value_lines.write_bits.Goals as goal
-
-pub loop-place-init : goal.loop-place-init
-loop-place-init c =
-    let whole : c.args.width ≡ c.args.at + c.args.width - c.args.at = omega arith in
-    record {
-      low = omega arith;
-      high = omega arith;
-      long = refl;
-      before = refl;
-      same = ap (λ k. bits k c.args.level ++ drop (c.args.at + c.args.width) c.args.room.now) whole;
-    }
 
 pub loop-place-preserved : goal.loop-place-preserved
 loop-place-preserved c =

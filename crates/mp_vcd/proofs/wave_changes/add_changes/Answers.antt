@@ -1,4 +1,5 @@
-use Rattle.mp_vcd.proofs.Names.{◌≡◌, ℕ, ◌+◌, ◌<◌, List, length, get_or, take, sym, ap, subst, ◌∙◌, arith, take_all, changes_in, Tells, told_from, onto, with_told}
+use Rattle.std.specs.Prelude.{◌+◌, ◌<◌}
+use Rattle.mp_vcd.proofs.Names.{ℕ, List, length, get_or, take, sym, subst, ◌∙◌, arith, changes_in, Tells, told_from, onto, with_told}
 use Rattle.mp_vcd.proofs.AgendaLemmas.{told_as, onto_next}
 use Rattle.mp_vcd.proofs.wave_changes.add_changes.Goals as goal
 
@@ -29,12 +30,3 @@ loop-place-preserved c =
           (λ k inside. sym (onto_next w changes i (from + k) (told (from + k)) within))
           more;
     }
-
-pub returns-clause-told : goal.returns-clause-told
-returns-clause-told c = λ told tells.
-    let from = c.args.agenda.now.from in
-    let changes = changes_in c.args.changes in
-    let over : c.loop-place.place ≡ length changes = omega (arith, c.loop-place.invariant.within, c.loop-place-test.false, c.len-place-end.ensures) in
-    let all : take c.loop-place.place changes ≡ changes = take_all c.loop-place.place changes (omega (arith, over)) in
-    told_as c.loop-place.agenda.firsts.items c.loop-place.agenda.entries.items _ (told_from from (λ t. onto c.args.wire changes t (told t)))
-    (λ k within. ap (λ xs. onto c.args.wire xs (from + k) (told (from + k))) all) (c.loop-place.invariant.told told tells)

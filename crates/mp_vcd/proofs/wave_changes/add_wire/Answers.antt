@@ -1,7 +1,8 @@
-use Rattle.mp_vcd.proofs.Names.{◌+◌, ◌-◌, ◌<◌, sym, ap, ◌∙◌, arith, wire_at, told_from, onto, onto_slot}
+use Rattle.std.specs.Prelude.{◌+◌, ◌-◌, ◌<◌}
+use Rattle.mp_vcd.proofs.Names.{sym, ap, ◌∙◌, arith, wire_at, told_from, onto, onto_slot}
 use Rattle.mp_wave.specs.WaveChanges.{changes_in as listed}
 use Rattle.mp_vcd.proofs.AgendaLemmas.{told_as, onto_wave, onto_between}
-use Rattle.mp_vcd.proofs.StandingLemmas.{changes_in, none_in}
+use Rattle.mp_vcd.proofs.StandingLemmas.{changes_in}
 use Rattle.mp_vcd.proofs.wave_changes.add_wire.Goals as goal
 
 pub returns-clause-told : goal.returns-clause-told
@@ -22,11 +23,3 @@ returns-clause-told c = λ told tells.
     ∙ ap (λ changes. onto w changes (from + k) (told (from + k))) in_slot.2
     ∙ onto_wave n w (from + k) in_slot.0 (told (from + k)) inside ∙ ap (λ slot. onto_slot n (from + k) w slot (told (from + k))) (sym in_slot.1))
     (c.in_ok-add_changes.ensures.told told tells)
-
-pub returns-in_default-clause-told : goal.returns-in_default-clause-told
-returns-in_default-clause-told c = λ told tells.
-    let n = c.args.netlist.now in
-    let w = c.args.id.0 in
-    let from = c.args.agenda.now.from in
-    told_as c.args.agenda.now.firsts.items c.args.agenda.now.entries.items (told_from from told) (told_from from (λ t. onto_slot n t w (wire_at n w) (told t)))
-    (λ k within. none_in n w (from + k) (wire_at n w) (told (from + k)) (c.in_default.ensures ∙ c.requires.waves w)) tells

@@ -1,4 +1,5 @@
-use Rattle.mp_vcd.proofs.Names.{◌<◌, None, [], ◌∷◌, ◌++◌, length, map, take, ap, sym, ◌∙◌, rules, map-append, take_more, width_of, wire_at}
+use Rattle.std.specs.Prelude.{◌<◌, ◌∷◌, ◌++◌}
+use Rattle.mp_vcd.proofs.Names.{None, [], length, map, take, ap, sym, ◌∙◌, rules, map-append, take_more, width_of, wire_at}
 use Rattle.mp_vcd.proofs.widths.widths_of.Goals as goal
 
 pub loop-number-preserved : goal.loop-number-preserved

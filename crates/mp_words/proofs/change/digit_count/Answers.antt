@@ -1,9 +1,6 @@
-use Rattle.mp_words.proofs.Names.{length, sym, ap, arith, decimal_digit}
+use Rattle.mp_words.proofs.Names.{sym, arith}
 use Rattle.mp_words.proofs.LengthLemmas.{digits_of_power}
 use Rattle.mp_words.proofs.change.digit_count.Goals as goal
-
-pub returns-in-0-to-9-clause-value : goal.returns-in-0-to-9-clause-value
-returns-in-0-to-9-clause-value c = sym (ap length (decimal_digit c.args.number (omega arith)))
 
 pub returns-in-10-to-99-clause-value : goal.returns-in-10-to-99-clause-value
 returns-in-10-to-99-clause-value c = sym (digits_of_power 1 c.args.number (omega arith) (omega arith) c.ranges.number.fits)
@@ -16,7 +13,3 @@ returns-in-1000-to-9999-clause-value c = sym (digits_of_power 3 c.args.number (o
 
 pub returns-in-10000-to-99999-clause-value : goal.returns-in-10000-to-99999-clause-value
 returns-in-10000-to-99999-clause-value c = sym (digits_of_power 4 c.args.number (omega arith) (omega arith) c.ranges.number.fits)
-
-pub returns-in_default-clause-value : goal.returns-in_default-clause-value
-returns-in_default-clause-value c =
-    sym (digits_of_power c.ilog10.result c.args.number c.ilog10.ensures.power_le c.ilog10.ensures.next_power_gt c.ranges.number.fits)

@@ -1,4 +1,4 @@
-use Rattle.std.proofs.Common.{sym, arith}
+use Rattle.mp_words.proofs.Names.{sym, arith}
 use Rattle.mp_words.proofs.LengthLemmas.{digits_of_power}
 use Rattle.mp_words.proofs.change.write_number.Goals as goal
 

@@ -1,4 +1,5 @@
-use Rattle.mp_words.proofs.Names.{◌≡◌, take, list_all, is_allowed}
+use Rattle.std.specs.Prelude.{◌≡◌}
+use Rattle.mp_words.proofs.Names.{take, list_all, is_allowed}
 use Rattle.mp_words.proofs.line.is_plain.Given as goal
 
 -- the bytes so far are told

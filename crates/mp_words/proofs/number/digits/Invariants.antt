@@ -1,4 +1,5 @@
-use Rattle.mp_words.proofs.Names.{◌≡◌, ◌<◌, ◌^◌, drop, number_from}
+use Rattle.std.specs.Prelude.{◌≡◌, ◌<◌, ◌^◌}
+use Rattle.mp_words.proofs.Names.{drop, number_from}
 use Rattle.mp_words.proofs.number.digits.Given as goal
 
 -- the digits that are left go on from the value

@@ -1,4 +1,4 @@
-use Rattle.std.proofs.Common.{◌==◌}
+use Rattle.std.specs.Prelude.{◌==◌}
 use Rattle.mp_words.proofs.PlaceOfLemmas.{first_place}
 use Rattle.mp_words.proofs.word.place_of.Goals as goal
 

@@ -1,7 +1,4 @@
-use Rattle.std.proofs.Common.{refl, ◌∙◌, rules, tests}
-use Rattle.std.proofs.lemmas.Iterator.Splits.{YieldsList-from_slice_split}
-use Rattle.std.proofs.lemmas.Iterator.Consumers.{nth_from_yields_List, YieldsList-from_filter}
-use Rattle.mp_words.specs.Words.{words_of, is_gap, is_word, statement_part}
+use Rattle.mp_words.proofs.Names.{refl, ◌∙◌, rules, tests, YieldsList-from_slice_split, nth_from_yields_List, YieldsList-from_filter, words_of, is_gap, is_word, statement_part}
 use Rattle.mp_words.proofs.word.word_at.Goals as goal
 
 pub returns : goal.returns

@@ -1,5 +1,4 @@
-use Rattle.mp_words.proofs.Names.{refl, ◌∙◌, rules, tests, YieldsList-from_slice_split, count_from_yields_List, YieldsList-from_filter}
-use Rattle.mp_words.specs.Words.{words_of, is_gap, is_word, statement_part}
+use Rattle.mp_words.proofs.Names.{refl, ◌∙◌, rules, tests, YieldsList-from_slice_split, count_from_yields_List, YieldsList-from_filter, words_of, is_gap, is_word, statement_part}
 use Rattle.mp_words.proofs.word.word_count.Goals as goal
 
 pub returns : goal.returns

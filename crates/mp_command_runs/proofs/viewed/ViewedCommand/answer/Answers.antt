@@ -1,7 +1,5 @@
-use Rattle.std.proofs.Common.{◌≡◌, ℕ, List, false, refl, sym, ◌∙◌}
-use Rattle.std.specs.Prelude.{IsSomeAnd}
-use Rattle.mp_netlist.specs.Circuit.{Circuit}
-use Rattle.mp_command_runs.specs.declared.run_fault.RunFault.TheVariants.{OutOfMemory}
+use Rattle.std.specs.Prelude.{◌≡◌}
+use Rattle.mp_command_runs.proofs.Names.{ℕ, List, false, refl, sym, ◌∙◌, IsSomeAnd, Circuit, OutOfMemory}
 use Rattle.mp_command_runs.proofs.RunLemmas.{refused, wrote, wrote_part}
 use Rattle.mp_command_runs.proofs.ViewLemmas.{viewed_refused, viewed_whole}
 use Rattle.mp_command_runs.proofs.viewed.ViewedCommand.answer.Goals as goal

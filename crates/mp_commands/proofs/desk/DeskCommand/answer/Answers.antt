@@ -1,4 +1,5 @@
-use Rattle.mp_commands.proofs.Names.{◌≡◌, true, length, Err, refl, rules, vec_len, puts_as, puts_ok, OutOfMemory, refused, refused_unseated, wrote, wrote_part, blocks_of, run_fault_of}
+use Rattle.std.specs.Prelude.{◌≡◌}
+use Rattle.mp_commands.proofs.Names.{true, length, Err, refl, rules, vec_len, puts_as, puts_ok, OutOfMemory, refused, refused_unseated, wrote, wrote_part, blocks_of, run_fault_of}
 use Rattle.mp_streams.specs.declared.write_error.WriteError.TheVariants as writes
 use Rattle.mp_commands.proofs.DeskLemmas.{blocks_count, is_text, refused_meeting}
 use Rattle.mp_commands.proofs.desk.DeskCommand.answer.Goals as goal

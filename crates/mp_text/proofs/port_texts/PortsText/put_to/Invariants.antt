@@ -1,4 +1,5 @@
-use Rattle.mp_text.proofs.Names.{◌∷◌, Ok, take, flat_map, Writes}
+use Rattle.std.specs.Prelude.{◌∷◌}
+use Rattle.mp_text.proofs.Names.{Ok, take, flat_map, Writes}
 use Rattle.mp_text.proofs.port_texts.PortsText.put_to.Given as goal
 
 -- the ports so far are written

@@ -1,7 +1,7 @@
-use Rattle.mp_text.proofs.Names.{Ok, Writes}
-use Rattle.mp_text.proofs.SectionLemmas.{lines_below}
+use Rattle.mp_text.proofs.Names.{section_text, Left}
+use Rattle.mp_text.proofs.SectionLemmas.{lines_from}
 use Rattle.mp_text.proofs.section.SectionLinesText.put_to.Given as goal
 
--- the lines of the slots so far are written
+-- the lines of the slots from the number on are left
 abbrev pub invariant-loop-number : goal.invariant-loop-number
-invariant-loop-number g l = Writes {T = Unit {0}} (Ok tt) l.fn.out l.out (lines_below l.self.netlist.now l.self.section l.number)
+invariant-loop-number g l = Left (section_text l.self.netlist.now l.self.section) l.fn.out l.out (lines_from l.self.netlist.now l.self.section l.number)

@@ -1,4 +1,5 @@
-use Rattle.mp_vcd.proofs.Names.{◌<◌, length, arith, placed_both, placed_byte}
+use Rattle.std.specs.Prelude.{◌<◌}
+use Rattle.mp_vcd.proofs.Names.{length, arith, placed_both, placed_byte}
 use Rattle.mp_vcd.proofs.value_lines.ValueLinePiece.write.Goals as goal
 
 pub returns : goal.returns

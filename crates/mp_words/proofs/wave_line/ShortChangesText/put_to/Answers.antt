@@ -1,5 +1,4 @@
-use Rattle.mp_streams.proofs.OutLemmas.{puts_next, puts_stopped, writes_failed}
-use Rattle.mp_words.specs.WaveLines.{change_text}
+use Rattle.mp_words.proofs.Names.{puts_next, puts_stopped, writes_failed, change_text}
 use Rattle.mp_words.proofs.wave_line.ShortChangesText.put_to.Goals as goal
 
 pub returns-in_err-put_piece : goal.returns-in_err-put_piece

@@ -1,6 +1,4 @@
-use Rattle.std.proofs.Common.{Ok, take}
-use Rattle.mp_streams.specs.Outgoing.{Writes}
-use Rattle.mp_words.specs.WaveLines.{changes_text}
+use Rattle.mp_words.proofs.Names.{Ok, take, Writes, changes_text}
 use Rattle.mp_words.proofs.wave_line.ShortChangesText.put_to.Given as goal
 
 -- the changes so far are written

@@ -1,0 +1,31 @@
+-- The names that many clauses and definitions here cite, passed on from one place. Declares nothing.
+pub use Rattle.std.specs.Fmt.{decimal}
+pub use Rattle.std.specs.List.{flat_map, slice_get}
+pub use Rattle.std.specs.Prelude.{Bool, List, None, Option, Some, [], codes, drop, if◌then◌else◌, length, nat_le, unwrap_or, ℕ, ◌&&◌, ◌++◌, ◌+◌, ◌-◌, ◌∷◌}
+pub use Rattle.mp_edit_lines.specs.EditLines.{edit_text}
+pub use Rattle.mp_model.specs.Waves.{wave}
+pub use Rattle.mp_netlist.specs.Circuit.{Circuit, module_at, wire_at, wire_named}
+pub use Rattle.mp_picture.specs.GraphSections.{graph}
+pub use Rattle.mp_picture.specs.declared.mark.Charset.TheVariants.{Unicode}
+pub use Rattle.mp_records.specs.declared.edit.Edit.{Edit}
+pub use Rattle.mp_records.specs.declared.edit_error.EditError.{EditError}
+pub use Rattle.mp_records.specs.declared.edit_error.EditError.TheVariants.{InBatch, NoSuchWire}
+pub use Rattle.mp_records.specs.declared.module_record.ModuleRecord.{ModuleRecord}
+pub use Rattle.mp_report.specs.Lines.{report_text}
+pub use Rattle.mp_streams.specs.Outgoing.{Writes}
+pub use Rattle.mp_text.specs.Written.{written}
+pub use Rattle.mp_text.specs.declared.question.Question.{Question}
+pub use Rattle.mp_text.specs.declared.question.Question.TheVariants.{Dump, Edits, Graph, Measure, Path, Report, Show, Text, Version, Waits, Wave, Waves, Why, Work}
+pub use Rattle.mp_timing.specs.Measures.{measure}
+pub use Rattle.mp_timing.specs.Waits.{waits}
+pub use Rattle.mp_vcd.specs.Dumps.{dump}
+pub use Rattle.mp_version.specs.Stories.{Story, present}
+pub use Rattle.mp_views.specs.AskedWires.{missing_at}
+pub use Rattle.mp_views.specs.Chains.{path_of, why_of}
+pub use Rattle.mp_views.specs.Limits.{usual_columns}
+pub use Rattle.mp_views.specs.Outputs.{slot_line, waves_text}
+pub use Rattle.mp_views.specs.Pictures.{picture_text}
+pub use Rattle.mp_words.specs.LineErrors.{line_name_of, line_number_of}
+pub use Rattle.mp_words.specs.declared.line_error.LineError.{LineError}
+pub use Rattle.mp_words.specs.declared.line_error.LineError.TheVariants.{BadNumber}
+pub use Rattle.mp_work.specs.declared.work_entry.WorkEntry.{WorkEntry}
