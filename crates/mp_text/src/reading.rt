@@ -48,11 +48,12 @@ pub fn read_lines(alloc: Global, text: &[u8]) -> Result<Netlist, TextError>
 {
     let mut state = TextState::Fresh;
     let mut number = 0;
+    let mut words = Vec::new(alloc);
     let mut rest = text;
     while !rest.is_empty() {
         let (front, others) = first_line(rest);
         number += 1;
-        match line(alloc, &mut state, front) {
+        match line(alloc, &mut state, &mut words, front) {
             Ok(()) => rest = others,
             Err(code) => return Err(TextError { line: number, code }),
         }

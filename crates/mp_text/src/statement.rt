@@ -10,15 +10,20 @@ use crate::text_code::TextCode;
 use crate::text_format::TextFormat;
 use crate::text_state::TextState;
 use mp_netlist::{Edit, EditError, Netlist, NewError, SingleEdit};
-use mp_words::{LineError, line_words, number_word};
+use mp_words::{LineError, number_word, read_line_words};
 use std::alloc::Global;
 
-/// Makes of the text so far what a line says. It is lent, since who owns it lets it go at each
-/// place where a fault is told.
-pub fn line(alloc: Global, state: &mut TextState, line: &[u8]) -> Result<(), TextCode>
+/// Makes of the text so far what a line says, whose words are read in place of those of the line
+/// before. The text so far is lent, since who owns it lets it go at each place where a fault is told.
+pub fn line<'a>(
+    alloc: Global,
+    state: &mut TextState,
+    words: &mut Vec<&'a [u8]>,
+    line: &'a [u8],
+) -> Result<(), TextCode>
     ensures { Gives (Line OutOfMemory) (λ _. state.new) result (after_line state.old line.now) }
 {
-    let words = line_words(alloc, line)?;
+    read_line_words(words, line)?;
     statement(alloc, state, words.as_slice())
 }
 

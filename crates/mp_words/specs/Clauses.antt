@@ -2,7 +2,7 @@
 pub use Rattle.std.specs.Fmt.{decimal}
 pub use Rattle.std.specs.List.{after_first, before_first, list_all, list_any, suffix_len}
 pub use Rattle.std.specs.Option.{option_copied}
-pub use Rattle.std.specs.Prelude.{All, IfOk, IfSome, IsAscii, IsTrue, List, Result, [], drop, length, nat_lt, not, option_map, position, slice_get, vec_len, ℕ, ◌+◌, ◌-◌, ◌<◌, ◌==◌, ◌∷◌, ◌≡◌, ◌≤◌}
+pub use Rattle.std.specs.Prelude.{All, IfOk, IfSome, IsAscii, IsTrue, List, OnOk, Result, [], drop, length, nat_lt, not, option_map, position, slice_get, vec_len, ℕ, ◌+◌, ◌-◌, ◌<◌, ◌==◌, ◌∷◌, ◌≡◌, ◌≤◌}
 pub use Rattle.mp_streams.specs.Outgoing.{Writes}
 pub use Rattle.mp_streams.specs.Places.{IsPlaced}
 pub use Rattle.mp_wave.specs.ToggleWaves.{toggle_changes}

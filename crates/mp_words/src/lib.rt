@@ -12,7 +12,7 @@ mod word;
 mod word_list;
 
 pub use division::{divided, parts};
-pub use line::{first_line, is_plain, line_words};
+pub use line::{first_line, is_plain, read_line_words};
 pub use line_error::LineError;
 pub use toggles::Toggles;
 pub use wave_line::{Changes, ShortChanges};

@@ -1,10 +1,9 @@
 //! The lines of a text.
 ghost use Rattle.std.specs.Prelude.{◌≡◌, ◌∷◌, ◌<◌};
-ghost use Rattle.mp_words.specs.Clauses.{length, IfOk, IsAscii, IsTrue, before_first, after_first, list_all, OutOfMemory, is_line_feed, lines_of, is_allowed, line_words, Gives, texts, AreAscii};
+ghost use Rattle.mp_words.specs.Clauses.{length, OnOk, IsAscii, IsTrue, before_first, after_first, list_all, OutOfMemory, is_line_feed, lines_of, is_allowed, line_words, Gives, texts, AreAscii};
 
 use crate::line_error::LineError;
-use crate::word::{place_of, words};
-use std::alloc::Global;
+use crate::word::{place_of, read_words};
 
 /// The first line of the text, and what is behind its line feed.
 #[tactic(auto, using(crate::proofs::LineLemmas::line_steps))]
@@ -20,18 +19,18 @@ pub fn first_line(text: &[u8]) -> (&[u8], &[u8])
     }
 }
 
-/// The words of a line before its comment, in order.
+/// Reads the words of a line before its comment, in order, in place of those that were read before.
 ///
 /// `NotAscii` comes where a byte of the line, in a comment too, is none that may stand in a line: a
 /// tab, a carriage return, or 32 to 126. `OutOfMemory` says that memory was wanting.
-pub fn line_words<'a>(alloc: Global, line: &'a [u8]) -> Result<Vec<&'a [u8]>, LineError>
-    ensures words { Gives OutOfMemory (λ words. texts words.items) result (line_words line.now) }
-    ensures ascii { IfOk result (λ words. AreAscii words.items) }
+pub fn read_line_words<'a>(words: &mut Vec<&'a [u8]>, line: &'a [u8]) -> Result<(), LineError>
+    ensures words { Gives OutOfMemory (λ _. texts words.new.items) result (line_words line.now) }
+    ensures ascii { OnOk result (AreAscii words.new.items) }
 {
     if !is_plain(line) {
         return Err(LineError::NotAscii);
     }
-    Ok(words(alloc, line)?)
+    Ok(read_words(words, line)?)
 }
 
 /// Whether each byte may stand in a line, in a comment too.

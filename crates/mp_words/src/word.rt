@@ -2,7 +2,7 @@
 #![tactic(auto, unfolding(crate::specs::Words::words_of))]
 
 ghost use Rattle.std.specs.Prelude.{◌≡◌, ◌<◌, ◌==◌};
-ghost use Rattle.mp_words.specs.Clauses.{length, position, IfOk, IfSome, IsAscii, slice_get, option_copied, words_of, texts, is_gap, statement_part, AreAscii};
+ghost use Rattle.mp_words.specs.Clauses.{length, position, IfOk, OnOk, IfSome, IsAscii, slice_get, option_copied, words_of, texts, is_gap, statement_part, AreAscii};
 
 use memchr::memchr;
 use mp_records::Name;
@@ -13,11 +13,22 @@ pub fn words<'a>(alloc: Global, line: &'a [u8]) -> Result<Vec<&'a [u8]>, AllocEr
     ensures words { IfOk result (λ words. texts words.items ≡ words_of line.now) }
     ensures ascii { IsAscii line.now → IfOk result (λ words. AreAscii words.items) }
 {
-    let words = before_comment(line)
-        .split(|byte| is_gap(*byte))
-        .filter(|part| !part.is_empty())
-        .collect(alloc)?;
+    let mut words = Vec::new(alloc);
+    read_words(&mut words, line)?;
     Ok(words)
+}
+
+/// Reads the words before a comment, in place of those that were read before.
+pub fn read_words<'a>(words: &mut Vec<&'a [u8]>, line: &'a [u8]) -> Result<(), AllocError>
+    ensures words { OnOk result (texts words.new.items ≡ words_of line.now) }
+    ensures ascii { IsAscii line.now → OnOk result (AreAscii words.new.items) }
+{
+    words.clear();
+    words.extend(
+        before_comment(line)
+            .split(|byte| is_gap(*byte))
+            .filter(|part| !part.is_empty()),
+    )
 }
 
 /// The first word before a comment, where there is one. It takes no memory.
