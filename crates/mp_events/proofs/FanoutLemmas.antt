@@ -1,8 +1,9 @@
--- Rows that lie one after the other in one list.
-use Rattle.std.proofs.Common.{◌≡◌, ℕ, ◌+◌, ◌-◌, ◌<◌, ◌≤◌, List, [], ◌∷◌, ◌++◌, take, drop, length, slice_index, slice_index_or, zero, suc, refl, ap, sym, subst, ◌∙◌, arith}
+-- Rows that lie one after the other in one list, and those that have one entry alone beside it.
+use Rattle.std.proofs.Common.{◌≡◌, ℕ, Bool, true, false, cond, ◌+◌, ◌-◌, ◌<◌, ◌≤◌, List, [], ◌∷◌, ◌++◌, take, drop, length, slice_index, slice_index_or, zero, suc, refl, ap, sym, subst, ◌∙◌, arith}
+use Rattle.std.specs.Prelude.{◌==◌}
 use Rattle.std.proofs.lemmas.List.{take_all, drop_at, take-append-le, drop-append-le, length-drop, length-append}
 use Rattle.mp_events.specs.declared.fanout_entry.FanoutEntry.{FanoutEntry}
-use Rattle.mp_events.specs.Fanouts.{rows_from, rows_of, Rises, ArePlaces}
+use Rattle.mp_events.specs.Fanouts.{rows_from, rows_of, Rises, ArePlaces, no_entry, head_of, listed_of, row_by, rows_by}
 
 pub rises_le : (s : ℕ) (ends : List ℕ) (size : ℕ) → Rises s ends size → s ≤ size
 rises_le s [] size rises = omega (arith, rises)
@@ -67,3 +68,43 @@ rises_push s (e ∷ ends) size more rises le = (rises.0, rises_push e ends size 
 pub places_push : (places : List ℕ) (size more : ℕ) → ArePlaces places size → size ≤ more → ArePlaces (places ++ more ∷ []) more
 places_push [] size more are le = absurd are
 places_push (s ∷ ends) size more are le = rises_push s ends size more are le
+
+-- rows by their heads
+pub length_by : (heads : List FanoutEntry) (rows : List (List FanoutEntry)) → length (rows_by heads rows) ≡ length heads
+length_by [] rows = refl
+length_by (head ∷ heads) [] = ap suc (length_by heads [])
+length_by (head ∷ heads) (row ∷ rows) = ap suc (length_by heads rows)
+
+pub row_by_at : (heads : List FanoutEntry) (rows : List (List FanoutEntry)) (w : ℕ) → w < length heads
+    → slice_index_or (rows_by heads rows) w [] ≡ row_by (slice_index_or heads w no_entry) (slice_index_or rows w [])
+row_by_at [] rows w within = absurd (omega arith)
+row_by_at (head ∷ heads) [] zero within = refl
+row_by_at (head ∷ heads) [] (suc w) within = row_by_at heads [] w (omega (arith, within))
+row_by_at (head ∷ heads) (row ∷ rows) zero within = refl
+row_by_at (head ∷ heads) (row ∷ rows) (suc w) within = row_by_at heads rows w (omega (arith, within))
+
+-- one row more
+by_push : (heads : List FanoutEntry) (rows : List (List FanoutEntry)) (head : FanoutEntry) (row : List FanoutEntry) → length heads ≡ length rows
+    → rows_by (heads ++ head ∷ []) (rows ++ row ∷ []) ≡ rows_by heads rows ++ row_by head row ∷ []
+by_push [] [] head row same = refl
+by_push [] (r ∷ rows) head row same = absurd (omega (arith, same))
+by_push (h ∷ heads) [] head row same = absurd (omega (arith, same))
+by_push (h ∷ heads) (r ∷ rows) head row same = ap (λ xs. row_by h r ∷ xs) (by_push heads rows head row (omega (arith, same)))
+
+-- a row is what its head and what is listed of it say
+whole : (row : List FanoutEntry) → row_by (head_of row) (listed_of row) ≡ row
+whole [] = refl
+whole (only ∷ []) = by (only.event == 0)
+  where
+    by : (none : Bool) → cond none (cond none (only ∷ []) []) (only ∷ []) ≡ only ∷ []
+    by true = refl
+    by false = refl
+whole (first ∷ second ∷ others) = refl
+
+pub headed_push : (heads : List FanoutEntry) (places : List ℕ) (list row : List FanoutEntry) → length heads + 1 ≡ length places → ArePlaces places (length list)
+    → rows_by (heads ++ head_of row ∷ []) (rows_of (places ++ length (list ++ listed_of row) ∷ []) (list ++ listed_of row)) ≡ rows_by heads (rows_of places list) ++ row ∷ []
+headed_push heads places list row same are =
+    let size = length_rows places list in
+    ap (rows_by (heads ++ head_of row ∷ [])) (rows_push places list (listed_of row) are)
+    ∙ by_push heads (rows_of places list) (head_of row) (listed_of row) (omega (arith, same, size))
+    ∙ ap (λ x. rows_by heads (rows_of places list) ++ x ∷ []) (whole row)

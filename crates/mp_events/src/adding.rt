@@ -46,6 +46,7 @@ pub(crate) fn add_events(
 }
 
 /// Adds events of the inputs that read these wires, or delayed copies of wires, each of which is listed once.
+#[inline(always)]
 pub fn add_fanout_events(
     rows: &Fanout,
     states: &mut Vec<AutomatonState>,

@@ -1,29 +1,32 @@
 //! Who reads each wire.
 ghost use Rattle.std.specs.Prelude.{◌≡◌, ◌-◌, ◌≤◌, take, drop, length};
+ghost use Rattle.mp_events.specs.Fanouts.{head_of, listed_of};
 
 use crate::fanout_entry::FanoutEntry;
 use crate::fanout_row::FanoutRow;
 use std::alloc::{AllocError, Global};
 use std::marker::Model;
 
-/// For each wire the inputs of modules of width 1 that read it. They stand in one list, one wire's after the other's; the places tell where
-/// each wire's begin, and where the last ones end.
+/// For each wire the inputs of modules of width 1 that read it. Most wires have one reader, which stands in `heads`. The others' readers stand
+/// in one list, one wire's after the other's: the places tell where each wire's begin, and where the last ones end. Such a wire's head has no
+/// event.
 #[derive(Drop)]
 pub struct Fanout {
+    heads: Vec<FanoutEntry>,
     places: Vec<usize>,
     list: Vec<FanoutEntry>,
 }
 
 impl Model for Fanout {
-    ghost use Rattle.std.specs.Prelude.{List, length};
+    ghost use Rattle.std.specs.Prelude.{◌≡◌, ◌+◌, List, length};
     ghost use Rattle.mp_events.specs.declared.fanout_entry.FanoutEntry.{FanoutEntry};
-    ghost use Rattle.mp_events.specs.Fanouts.{rows_of, ArePlaces};
+    ghost use Rattle.mp_events.specs.Fanouts.{rows_by, rows_of, ArePlaces};
 
     ghost Value = { List (List FanoutEntry) };
 
-    ghost view = { λ fanout. rows_of fanout.places.items fanout.list.items };
+    ghost view = { λ fanout. rows_by fanout.heads.items (rows_of fanout.places.items fanout.list.items) };
 
-    ghost invariant = { λ fanout. ArePlaces fanout.places.items (length fanout.list.items) };
+    ghost invariant = { λ fanout. (length fanout.heads.items + 1 ≡ length fanout.places.items) × ArePlaces fanout.places.items (length fanout.list.items) };
 }
 
 impl Fanout {
@@ -34,14 +37,20 @@ impl Fanout {
     pub fn from_rows(alloc: Global, rows: &[FanoutRow]) -> Result<Fanout, AllocError>
         ensures { IfOk result (λ fanout. fanout ≡ rows.now) }
     {
+        let mut heads = Vec::new(alloc);
         let mut places = Vec::new(alloc);
         let mut list = Vec::new(alloc);
         places.push(0)?;
         for row in rows {
-            list.extend_from_slice(row.as_slice())?;
+            heads.push(head_of(row.as_slice()))?;
+            list.extend_from_slice(listed_of(row.as_slice()))?;
             places.push(list.len())?;
         }
-        Ok(Fanout { places, list })
+        Ok(Fanout {
+            heads,
+            places,
+            list,
+        })
     }
 
     /// The inputs that read a wire.
@@ -51,6 +60,10 @@ impl Fanout {
         ensures { result.now ≡ row_at self.now wire }
     {
         let w = wire as usize;
+        let heads = self.heads.as_slice();
+        if heads[w].event != 0 {
+            return part(heads, w, w + 1);
+        }
         let places = self.places.as_slice();
         part(self.list.as_slice(), places[w], places[w + 1])
     }
@@ -63,4 +76,27 @@ fn part(list: &[FanoutEntry], from: usize, to: usize) -> &[FanoutEntry]
     ensures { result.now ≡ take (to - from) (drop from list.now) }
 {
     &list[from..to]
+}
+
+/// The only input of a row, and else one without an event.
+fn head_of(row: &[FanoutEntry]) -> FanoutEntry
+    ensures { result ≡ head_of row.now }
+{
+    match row {
+        [only] => *only,
+        _ => FanoutEntry {
+            module: 0,
+            event: 0,
+        },
+    }
+}
+
+/// What of a row has to be listed: nothing where its head tells of it.
+fn listed_of(row: &[FanoutEntry]) -> &[FanoutEntry]
+    ensures { result.now ≡ listed_of row.now }
+{
+    match row {
+        [only] if only.event != 0 => &[],
+        _ => row,
+    }
 }

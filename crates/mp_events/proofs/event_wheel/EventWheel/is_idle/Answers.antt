@@ -1,4 +1,4 @@
-use Rattle.std.proofs.Common.{rules, ◌≡◌, ◌∙◌, ℕ, List, true, sym, ap, subst}
+use Rattle.std.proofs.Common.{rules, ◌≡◌, ◌∙◌, ℕ, List, sym, ap, subst}
 use Rattle.std.specs.List.{list_all}
 use Rattle.mp_events.specs.EventWheels.{is_empty, AreEmpty}
 use Rattle.mp_events.proofs.EmptyLemmas.{empty_from, empty_whole, seen_empty, empty_seen}
