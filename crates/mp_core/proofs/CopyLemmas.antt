@@ -1,5 +1,5 @@
 -- Delayed copies toggle after what they stand after.
-use Rattle.std.proofs.Common.{◌≡◌, ◌≢◌, ℕ, suc, ◌+◌, ◌-◌, ◌*◌, ◌<◌, ◌≤◌, Bool, true, false, cond, List, [], ◌∷◌, ◌++◌, Option, Some, None, All, drop, length, nat_lt, refl, sym, ap, ◌∙◌, arith}
+use Rattle.std.proofs.Common.{◌≡◌, ◌≢◌, ℕ, suc, ◌+◌, ◌-◌, ◌*◌, ◌<◌, ◌≤◌, Bool, true, false, cond, List, [], ◌∷◌, ◌++◌, Option, Some, None, All, drop, length, nat_lt, refl, sym, ap, ◌∙◌, arith, subst}
 use Rattle.std.specs.Prelude.{◌==◌, ◌&&◌, slice_index_or}
 use Rattle.std.specs.List.{sum_by, count_by}
 use Rattle.std.proofs.lemmas.Bool.{eqb-true, eqb-false}
@@ -15,6 +15,7 @@ use Rattle.mp_events.proofs.EntryLemmas.{schedules_each}
 use Rattle.mp_events.proofs.FiringLemmas.{scheduled_append}
 use Rattle.mp_core.specs.Changes.{change_at, late_change}
 use Rattle.mp_core.specs.Simulators.{IsBelow}
+use Rattle.mp_core.specs.Simulations.{IsFrom}
 use Rattle.mp_core.specs.Copies.{AreListedBelow, AreChained, later_by, HaveCopies, HaveLaterCopies, AreOriginals}
 use Rattle.mp_core.proofs.ScheduleLemmas.{inside, none_some, none_there, counted_own, counted_flat, only_one, sum_of_none}
 use Rattle.mp_core.proofs.TurnLemmas.{turned_at}
@@ -201,3 +202,26 @@ scheduled_both next again once_more rest first then slot same_slot wires one two
     copied_both next rest first then slot wires
     (is ∙ ap (λ (ports : List OutputPort). scheduled rest (copied_from ports same_slot)) one ∙ ap (λ ws. scheduled rest (copied_from next ws)) three)
     (after ∙ ap (λ (ports : List OutputPort). scheduled first (copied_from ports wires)) two)
+
+-- where there are no numbers behind those of wires, nothing has a copy
+no_copies : (next : List OutputPort) (wires y x : ℕ) (low : Bool) → nat_lt y (length next) ≡ low → length next ≤ wires → All (IsBelow (length next)) next → All (IsFrom wires) next →
+    (copy_at next y).wire ≡ Some x → ⊥
+no_copies next wires y x true is few below behind wire =
+    let within : y < length next = grind (arith, nat_tests) in
+    let low = below y no_port within x wire in
+    let high = behind y no_port within x wire in
+    absurd (omega arith)
+no_copies next wires y x false is few below behind wire =
+    let beyond : length next ≤ y = grind (arith, nat_tests) in
+    none_some x (sym (ap (λ (port : OutputPort). port.wire) (get_or-eq_default next no_port beyond)) ∙ wire)
+
+pub copies_none : (n : Circuit) (source : ℕ → ℕ × ℕ) (before : ℕ → Option ℕ) (next : List OutputPort) (t wires : ℕ) (rest : List (List ℕ)) → length next ≤ wires →
+    All (IsBelow (length next)) next → All (IsFrom wires) next → AreChained source before next → All (HasSlot (length rest)) next → HaveLaterCopies n source before next t rest →
+    HaveCopies n source before next (t + 1) rest
+copies_none n source before next t wires rest few below behind chained within taken =
+    copies_next n source before next t rest [] chained within taken
+    (λ x y is. absurd (no_copies next wires y x (nat_lt y (length next)) refl few below behind (chained.first x y is))) rest refl refl
+
+pub behind_kept : (old new : List OutputPort) (wires more : ℕ) → All (IsFrom wires) old → new ≡ old → more ≡ wires → All (IsFrom more) new
+behind_kept old new wires more behind same as_many =
+    subst (λ (ports : List OutputPort). All (IsFrom more) ports) (sym same) (subst (λ k. All (IsFrom k) old) (sym as_many) behind)

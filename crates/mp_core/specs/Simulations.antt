@@ -1,5 +1,6 @@
 -- Simulators with the delayed copies that they read, in an evaluation that follows no other.
-use Rattle.std.specs.Prelude.{◌≡◌, ℕ, ◌+◌, ◌<◌, List, [], All, Option, length, slice_index_or}
+use Rattle.std.specs.Prelude.{◌≡◌, ℕ, ◌+◌, ◌<◌, ◌≤◌, List, [], All, Option, Some, length, slice_index_or}
+use Rattle.mp_events.specs.declared.output_port.OutputPort.{OutputPort}
 use Rattle.mp_netlist.specs.Circuit.{Circuit, IsCircuit}
 use Rattle.mp_events.specs.EventWheels.{AreEmpty}
 use Rattle.mp_events.specs.Firing.{HasSlot}
@@ -22,9 +23,14 @@ pub record AreSoundCopies (numbers : ℕ) (copies : DelayedCopies) : Type 0 wher
   pub below : All (IsBelow numbers) copies.next.items
   pub numbered : AreListedBelow numbers copies.wheel
 
+abbrev pub IsFrom : ℕ → OutputPort → Type 0
+IsFrom wires port = (x : ℕ) → port.wire ≡ Some x → wires ≤ x
+
+-- the numbers of copies are behind those of wires
 pub record IsSoundRun (s : Simulation) : Type 0 where
   pub simulator : IsSound s.simulator
   pub copies : AreSoundCopies (length s.simulator.fanout) s.copies
+  pub behind : All (IsFrom (length s.simulator.waves.items)) s.copies.next.items
 
 -- nothing changes in the next unit that isn't set from outside
 pub record IsQuiet (s : Simulation) : Type 0 where

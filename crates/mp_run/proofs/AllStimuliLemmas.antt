@@ -16,7 +16,6 @@ use Rattle.mp_model.specs.Levels.{initial_of, stimulus_level, driven_level}
 use Rattle.mp_model.specs.Waves.{level, state}
 use Rattle.mp_model.proofs.BehaviourLemmas.{satisfies}
 use Rattle.mp_automata.specs.Codes.{bit}
-use Rattle.mp_events.specs.Adding.{listed}
 use Rattle.mp_core.specs.Changes.{change_at}
 use Rattle.mp_core.specs.WholeRuns.{is_stimulus}
 use Rattle.mp_units.specs.DataLevels.{is_data}

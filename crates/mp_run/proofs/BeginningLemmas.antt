@@ -1,7 +1,7 @@
 -- The modules and wires of width 1 of a simulation at time 0.
 use Rattle.std.proofs.Common.{◌≡◌, ℕ, zero, suc, ◌+◌, ◌<◌, ◌≤◌, Bool, true, false, not, cond, List, [], Option, Some, None, is_some, length, map, nat_lt, refl, sym, ap, ◌∙◌, arith, subst, inl, inr}
 use Rattle.std.specs.Prelude.{◌&&◌, ◌==◌, slice_index_or}
-use Rattle.std.proofs.lemmas.Bool.{cases_lt, ltb-true, eqb-true, or_left, or_right, and_parts}
+use Rattle.std.proofs.lemmas.Bool.{cases_lt, eq-eqb, ltb-true, eqb-true, or_left, or_right, and_parts}
 use Rattle.std.proofs.lemmas.Bool.Decides.{nat_tests}
 use Rattle.std.proofs.lemmas.List.{get_or_past, get_or-map, length-map}
 use Rattle.std.proofs.lemmas.Option.{none-some, same_Some}
@@ -44,7 +44,7 @@ use Rattle.mp_core.specs.Beginnings.{is_first}
 use Rattle.mp_core.proofs.BeginningLemmas.{first_are_known, no_copies_at_first}
 use Rattle.mp_core.proofs.ScheduleLemmas.{few_ports, same_part}
 use Rattle.mp_core.proofs.WidthLemmas.{have_bits}
-use Rattle.mp_units.specs.declared.netlist_simulation.NetlistSimulation.{NetlistSimulation}
+use Rattle.mp_core.specs.declared.simulation.Simulation.{Simulation}
 use Rattle.mp_units.specs.DataLevels.{is_data, is_bit_wire}
 use Rattle.mp_units.proofs.LateLemmas.{late_bit}
 use Rattle.mp_run.specs.declared.delays.Delays.{Delays}
@@ -54,8 +54,11 @@ use Rattle.mp_run.specs.FirstLevels.{first_wave}
 use Rattle.mp_run.specs.Numbering.{is_bit}
 use Rattle.mp_run.specs.Wirings.{inputs_in, reading_below}
 use Rattle.mp_run.specs.Settling.{ports_of, no_unit, first_unit_in, first_unit, is_below, is_first_bit}
-use Rattle.mp_run.specs.Beginnings.{IsBegun}
-use Rattle.mp_run.proofs.BegunLemmas.{waves_long, wired, outputs_within}
+use Rattle.mp_run.specs.Narrow.{IsNarrow}
+use Rattle.mp_run.specs.Evaluations.{IsEvaluated}
+use Rattle.mp_run.specs.Beginnings.{AreBegunBits}
+use Rattle.mp_run.proofs.BegunLemmas.{waves_long, wired, outputs_within, sound_run}
+use Rattle.mp_run.proofs.NarrowLemmas.{one_bit_module, all_bits}
 use Rattle.mp_run.proofs.NumberingLemmas.{kept_before, kept_chained, old_before}
 use Rattle.mp_run.proofs.WidthLemmas.{bit_drives, bit_reads}
 
@@ -98,12 +101,12 @@ bit_is zero low = refl
 bit_is (suc zero) low = refl
 bit_is (suc (suc k)) low = absurd (omega arith)
 
-module _ (n : Circuit) (ok : IsCircuit n) (d : Delays) (wiring : Wiring) (ports : List (List (Option ℕ))) (s : NetlistSimulation) (are : IsBegun n d wiring ports s) where
+module _ (n : Circuit) (ok : IsCircuit n) (d : Delays) (wiring : Wiring) (ports : List (List (Option ℕ))) (s : Simulation) (are : AreBegunBits n d wiring ports s) where
   abbrev pub the_source : ℕ → ℕ × ℕ
   the_source = (wired n ok d wiring ports s are).source
 
   abbrev pub the_before : ℕ → Option ℕ
-  the_before = kept_before (is_bit n) wiring.wires.items wiring.next.items s.bits.copies.next.items are.bits.next (wired n ok d wiring ports s are).source (wired n ok d wiring ports s are).origins
+  the_before = kept_before (is_bit n) wiring.wires.items wiring.next.items s.copies.next.items are.bits.next (wired n ok d wiring ports s are).source (wired n ok d wiring ports s are).origins
       (wired n ok d wiring ports s are).before (wired n ok d wiring ports s are).numbers.chained
 
   abbrev pub scope : Scope
@@ -158,7 +161,7 @@ module _ (n : Circuit) (ok : IsCircuit n) (d : Delays) (wiring : Wiring) (ports 
       let test : nat_lt m (length n.modules) ≡ true = grind (arith, nat_tests) in
       ap (λ b. cond b (inputs_in (module_at n m)) []) test ∙ ap inputs_in at
 
-  drives_own : (m : ℕ) (r : ModuleRecord) → module_at n m ≡ Some r → ports_at s.bits.simulator.outputs.items m ≡ output_ports_of r
+  drives_own : (m : ℕ) (r : ModuleRecord) → module_at n m ≡ Some r → ports_at s.simulator.outputs.items m ≡ output_ports_of r
   drives_own m r at =
       ap (λ (xs : List OutputPorts). ports_at xs m) are.bits.outputs
       ∙ get_or-map ports_of n.modules m None (record { first = no_port; second = no_port; third = no_port }) (slot_within n.modules m r at)
@@ -167,7 +170,7 @@ module _ (n : Circuit) (ok : IsCircuit n) (d : Delays) (wiring : Wiring) (ports 
   pub sources_own : (m : ℕ) (r : ModuleRecord) → module_at n m ≡ Some r → map scope.source (scope.inputs m) ≡ map source_of r.inputs
   sources_own m r at = (wired n ok d wiring ports s are).reads m ∙ ap (map source_of) (reads_own m r at)
 
-  seat : (m : ℕ) (r : ModuleRecord) → module_at n m ≡ Some r → is_bit_module n r ≡ true → IsSeat n scope s.bits.simulator m m r
+  seat : (m : ℕ) (r : ModuleRecord) → module_at n m ≡ Some r → is_bit_module n r ≡ true → IsSeat n scope s.simulator m m r
   seat m r at one =
       let bits = have_bits n ok m r at (eqb-true (module_width n r) 1 one) in
       record {
@@ -184,12 +187,12 @@ module _ (n : Circuit) (ok : IsCircuit n) (d : Delays) (wiring : Wiring) (ports 
   seat_is : (m q : ℕ) (r : ModuleRecord) → module_at n m ≡ Some r → Stands m q → is_bit_module n r ≡ true
   seat_is m q r at place = subst (λ (x : ModuleRecord). is_bit_module n x ≡ true) (same_part n m place.part r place.stands at) place.bits
 
-  seats : (m q : ℕ) (r : ModuleRecord) → module_at n m ≡ Some r → scope.place m ≡ Some q → IsSeat n scope s.bits.simulator m q r
+  seats : (m q : ℕ) (r : ModuleRecord) → module_at n m ≡ Some r → scope.place m ≡ Some q → IsSeat n scope s.simulator m q r
   seats m q r at place =
       let here = placed m q place in
-      subst (λ x. IsSeat n scope s.bits.simulator m x r) here.same (seat m r at (seat_is m q r at here))
+      subst (λ x. IsSeat n scope s.simulator m x r) here.same (seat m r at (seat_is m q r at here))
 
-  layout : IsLaidOut n scope s.bits.simulator
+  layout : IsLaidOut n scope s.simulator
   layout = record {
     ports = λ q. subst (λ (rows : List (List FanoutEntry)). HasPorts rows q (are.wired.inputs q)) (sym are.bits.fanout) ((wired n ok d wiring ports s are).ports q);
     seats = seats;
@@ -204,10 +207,10 @@ module _ (n : Circuit) (ok : IsCircuit n) (d : Delays) (wiring : Wiring) (ports 
       let here = placed m q place in
       subst (λ x. first_unit n x ≡ rest_state_at n r m 0) here.same (ap (first_unit_in n m) at ∙ ap (λ b. cond b (rest_state_at n r m 0) no_unit) (seat_is m q r at here))
 
-  levels_first : (m q : ℕ) (r : ModuleRecord) → module_at n m ≡ Some r → scope.place m ≡ Some q → levels_at s.bits.simulator.levels.items q ≡ levels_code (state n m 0)
+  levels_first : (m q : ℕ) (r : ModuleRecord) → module_at n m ≡ Some r → scope.place m ≡ Some q → levels_at s.simulator.levels.items q ≡ levels_code (state n m 0)
   levels_first m q r at place =
       let here = placed m q place in
-      subst (λ x. levels_at s.bits.simulator.levels.items x ≡ levels_code (state n m 0)) here.same (are.bits.levels.each m r (slot_within n.modules m r at) at)
+      subst (λ x. levels_at s.simulator.levels.items x ≡ levels_code (state n m 0)) here.same (are.bits.levels.each m r (slot_within n.modules m r at) at)
 
   unit_asleep : (q : ℕ) (slot : Option ModuleRecord) → module_at n q ≡ slot → is_some (seat_of n q slot) ≡ false → (first_unit_in n q slot).automaton ≡ Sleep
   unit_asleep q None at none = refl
@@ -222,13 +225,13 @@ module _ (n : Circuit) (ok : IsCircuit n) (d : Delays) (wiring : Wiring) (ports 
       let no_data = false_when (is_data n w) (and_parts (nat_lt w (length n.wires)) (not (is_data n w)) is).1 in
       late_bit n ok (w, 1) 0 no_data
 
-  first_waves_are : (w : ℕ) → w < length s.bits.simulator.waves.items → is_bit_wire n w ≡ true → wave_at s.bits.simulator.waves.items w ≡ wave_upto (level n w) 0
+  first_waves_are : (w : ℕ) → w < length s.simulator.waves.items → is_bit_wire n w ≡ true → wave_at s.simulator.waves.items w ≡ wave_upto (level n w) 0
   first_waves_are w within is =
       ap (λ (xs : List Waveform). wave_at xs w) are.bits.waves
       ∙ get_or-map first_wave n.wires w None (record { initial = 0; changes = [] }) (let long = waves_long n ok d wiring ports s are in omega arith)
       ∙ ap (λ (k : ℕ). let v : Waveform = record { initial = k; changes = [] } in v) (bit_is (initial_of (wire_at n w)) (initial_bit w is) ∙ sym (first_level n ok w))
 
-  first_trace : (w : ℕ) → w < length s.bits.simulator.waves.items → is_bit_wire n w ≡ true → IsTrace (level n w) 0 (wave_at s.bits.simulator.waves.items w)
+  first_trace : (w : ℕ) → w < length s.simulator.waves.items → is_bit_wire n w ≡ true → IsTrace (level n w) 0 (wave_at s.simulator.waves.items w)
   first_trace w within is = record {
     times = ap (λ (v : Waveform). map time_of v.changes) (first_waves_are w within is);
     whole = λ low. first_waves_are w within is;
@@ -245,29 +248,29 @@ module _ (n : Circuit) (ok : IsCircuit n) (d : Delays) (wiring : Wiring) (ports 
       drop_true (nat_lt m.0 (length n.modules)) (is_first_bit n (Port m p) w (k + 1)) test
       ∙ both_bit (nat_lt w (length n.wires)) (is_first n (Port m p) w (k + 1)) (not (is_data n w)) (driven_is_wire m.0 p w drv)
 
-  have_first : (w k : ℕ) → k < length s.bits.simulator.wheel → listed w (slot_at s.bits.simulator k) ≡ bit (is_first n (driver n w) w (k + 1) && scope.owns w (k + 1))
+  have_first : (w k : ℕ) → k < length s.simulator.wheel → listed w (slot_at s.simulator k) ≡ bit (is_first n (driver n w) w (k + 1) && scope.owns w (k + 1))
   have_first w k within = are.bits.settled.slots w k within ∙ first_by w k (driver n w) refl
 
   -- of the ports that drive wires
-  slots_of : (w p : ℕ) (m : ModuleId) (r : ModuleRecord) → driver n w ≡ Port m p → module_at n m.0 ≡ Some r → HasSlot (length s.bits.simulator.wheel) (output_port_of (output_at r p))
+  slots_of : (w p : ℕ) (m : ModuleId) (r : ModuleRecord) → driver n w ≡ Port m p → module_at n m.0 ≡ Some r → HasSlot (length s.simulator.wheel) (output_port_of (output_at r p))
   slots_of w p m r drives at =
       let drv = finds_only_ports n w p m drives in
       let low = slot_within n.modules m.0 r at in
-      let long : m.0 < length s.bits.simulator.outputs.items = (let a = ap (length {A = OutputPorts}) are.bits.outputs ∙ length-map n.modules ports_of in omega arith) in
-      let slots : HaveSlots (length s.bits.simulator.wheel) (output_ports_of r) =
-      subst (HaveSlots (length s.bits.simulator.wheel)) (drives_own m.0 r at)
+      let long : m.0 < length s.simulator.outputs.items = (let a = ap (length {A = OutputPorts}) are.bits.outputs ∙ length-map n.modules ports_of in omega arith) in
+      let slots : HaveSlots (length s.simulator.wheel) (output_ports_of r) =
+      subst (HaveSlots (length s.simulator.wheel)) (drives_own m.0 r at)
       (outputs_within n ok d wiring ports s are m.0 (record { first = no_port; second = no_port; third = no_port }) long) in
       let output : (output_at r p).wire ≡ Some (record { 0 = w }) =
       subst (λ (x : ModuleRecord). (output_at x p).wire ≡ Some (record { 0 = w })) (same_part n m.0 drv.part r drv.stands at) drv.output in
-      one_slot (length s.bits.simulator.wheel) r p (few_ports n ok m.0 p w r at output) slots
+      one_slot (length s.simulator.wheel) r p (few_ports n ok m.0 p w r at output) slots
 
-  room_is : (w p : ℕ) (m : ModuleId) (r : ModuleRecord) → driver n w ≡ Port m p → module_at n m.0 ≡ Some r → 1 + delay_of r p ≤ 0 + 1 + length s.bits.simulator.wheel
+  room_is : (w p : ℕ) (m : ModuleId) (r : ModuleRecord) → driver n w ≡ Port m p → module_at n m.0 ≡ Some r → 1 + delay_of r p ≤ 0 + 1 + length s.simulator.wheel
   room_is w p m r drives at = let high = (slots_of w p m r drives at).room in omega arith
 
-  events_are : HaveEvents n scope 0 s.bits.simulator
-  events_are = first_are_known n ok scope s.bits.simulator (λ w p m drives. refl) have_first
+  events_are : HaveEvents n scope 0 s.simulator
+  events_are = first_are_known n ok scope s.simulator (λ w p m drives. refl) have_first
 
-  before_first : IsBefore n scope 0 s.bits.simulator
+  before_first : IsBefore n scope 0 s.simulator
   before_first = record {
     stands = record {
       layout = layout;
@@ -284,14 +287,14 @@ module _ (n : Circuit) (ok : IsCircuit n) (d : Delays) (wiring : Wiring) (ports 
     due = are.bits.due;
   }
 
-  pub running : IsRunning n scope the_before 0 s.bits
+  pub running : IsRunning n scope the_before 0 s
   running =
       let w = wired n ok d wiring ports s are in
-      let chained = kept_chained (is_bit n) wiring.wires.items wiring.next.items s.bits.copies.next.items are.bits.next w.source w.origins w.before w.numbers.chained in
+      let chained = kept_chained (is_bit n) wiring.wires.items wiring.next.items s.copies.next.items are.bits.next w.source w.origins w.before w.numbers.chained in
       record {
         simulator = before_first;
         chained = chained;
-        copies = no_copies_at_first n the_source the_before s.bits.copies.next.items s.bits.copies.wheel chained are.bits.empty;
+        copies = no_copies_at_first n the_source the_before s.copies.next.items s.copies.wheel chained are.bits.empty;
       }
 
   -- ---- whole
@@ -313,7 +316,7 @@ module _ (n : Circuit) (ok : IsCircuit n) (d : Delays) (wiring : Wiring) (ports 
   copy_is x y is = (no_wire, bit_number y linked bits)
     where
       old : (is_bit n (the_source x).0 ≡ true) × ((wired n ok d wiring ports s are).before x ≡ Some y)
-      old = old_before (is_bit n) wiring.wires.items wiring.next.items s.bits.copies.next.items are.bits.next (wired n ok d wiring ports s are).source (wired n ok d wiring ports s are).origins
+      old = old_before (is_bit n) wiring.wires.items wiring.next.items s.copies.next.items are.bits.next (wired n ok d wiring ports s are).source (wired n ok d wiring ports s are).origins
           (wired n ok d wiring ports s are).before (wired n ok d wiring ports s are).numbers.chained x y is
 
       no_wire : is_bit_wire n x ≡ false
@@ -353,4 +356,19 @@ module _ (n : Circuit) (ok : IsCircuit n) (d : Delays) (wiring : Wiring) (ports 
         let here = active_place q active in
         bit_number (slice_index_or (are.wired.inputs q) k e) ((wired n ok d wiring ports s are).low q k e within)
         (reads_bits (are.wired.inputs q) here.part.inputs (sources_own q here.part here.stands) (λ j f low. bit_reads n ok q j f here.part here.stands here.bits low) k e within);
+  }
+
+  -- ---- where each wire has width 1
+  pub evaluated : IsNarrow n → IsEvaluated n 0 s
+  evaluated narrow = record {
+    scope = scope;
+    before = the_before;
+    sound = sound_run n ok d wiring ports s are;
+    running = running;
+    whole = whole;
+    own = λ w u. refl;
+    placed = λ m r at.
+        ap (λ slot. is_some (seat_of n m slot)) at ∙ ap (λ b. is_some (cond b (Some m) None)) (eq-eqb (module_width n r) 1 (one_bit_module n ok narrow m r at));
+    traces = all_bits n narrow;
+    waves = waves_long n ok d wiring ports s are;
   }

@@ -8,6 +8,7 @@ use Rattle.std.proofs.lemmas.Option.{none-some}
 use Rattle.mp_events.specs.declared.output_port.OutputPort.{OutputPort}
 use Rattle.mp_events.specs.Firing.{HasSlot, no_port, copy_at}
 use Rattle.mp_core.specs.Simulators.{IsBelow}
+use Rattle.mp_core.specs.Simulations.{IsFrom}
 use Rattle.mp_core.specs.Copies.{AreChained}
 use Rattle.mp_run.specs.Numbers.{AreOrigins}
 use Rattle.mp_run.specs.Numbering.{AreCopiesOf}
@@ -64,6 +65,9 @@ module _ (is_kept : ℕ → Bool) (wires : List ℕ) (next copies : List OutputP
 
   pub kept_below : (bound : ℕ) → All (IsBelow bound) next → All (IsBelow bound) copies
   kept_below bound all = kept_each (IsBelow bound) (λ x is. absurd (none-some x is)) all
+
+  pub kept_from : (first : ℕ) → All (IsFrom first) next → All (IsFrom first) copies
+  kept_from first all = kept_each (IsFrom first) (λ x is. absurd (none-some x is)) all
 
   module _ (source : ℕ → ℕ × ℕ) (origins : AreOrigins source (length next) wires) where
     at_number : (y : ℕ) → y < length next → copy_at copies y ≡ cond (is_kept (source y).0) (copy_at next y) no_port

@@ -1,5 +1,5 @@
 -- Modules with data do what modules of their kinds do.
-use Rattle.std.proofs.Common.{◌≡◌, ℕ, true, false, cond, List, refl}
+use Rattle.std.proofs.Common.{◌≡◌, ℕ, false, cond, List, refl}
 use Rattle.std.specs.Prelude.{◌==◌}
 use Rattle.mp_modules.specs.declared.kind.Kind.{Kind}
 use Rattle.mp_modules.specs.declared.kind.Kind.TheVariants as kinds

@@ -12,7 +12,7 @@ use Rattle.mp_netlist.specs.declared.driver.Driver.TheVariants.{Nothing, Stimulu
 use Rattle.mp_netlist.specs.Circuit.{Circuit, IsCircuit, module_at}
 use Rattle.mp_netlist.specs.Drivers.{driver}
 use Rattle.mp_model.specs.Levels.{built}
-use Rattle.mp_model.specs.Waves.{level, state}
+use Rattle.mp_model.specs.Waves.{state}
 use Rattle.mp_automata.specs.Codes.{bit}
 use Rattle.mp_events.specs.declared.output_port.OutputPort.{OutputPort}
 use Rattle.mp_events.specs.declared.output_ports.OutputPorts.{OutputPorts}

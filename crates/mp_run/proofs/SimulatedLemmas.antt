@@ -1,7 +1,7 @@
 -- A simulation of a netlist of any widths at time 0.
 use Rattle.std.proofs.Common.{◌≡◌, ◌≢◌, ℕ, zero, suc, ◌+◌, ◌-◌, ◌<◌, ◌≤◌, Bool, true, false, not, cond, List, [], ◌∷◌, Option, Some, None, is_some, All, length, nat_lt, refl, sym, ap, ◌∙◌, arith, subst, inl, inr}
 use Rattle.std.specs.Prelude.{◌&&◌, ◌==◌, slice_index_or}
-use Rattle.std.proofs.lemmas.Bool.{cases_lt, eq-eqb, eqb-true, eqb-false}
+use Rattle.std.proofs.lemmas.Bool.{cases_lt, eqb-true, eqb-false}
 use Rattle.std.proofs.lemmas.Bool.Decides.{nat_tests}
 use Rattle.std.proofs.lemmas.List.{get_or_past, get_or-map, length-map}
 use Rattle.std.proofs.lemmas.List.Elements.{All-from_get_or}
@@ -15,7 +15,7 @@ use Rattle.mp_records.specs.declared.module_record.ModuleRecord.{ModuleRecord}
 use Rattle.mp_records.specs.Outputs.{output_at, delay_of}
 use Rattle.mp_netlist.specs.declared.driver.Driver.{Driver}
 use Rattle.mp_netlist.specs.declared.driver.Driver.TheVariants.{Nothing, Stimulus, Port}
-use Rattle.mp_netlist.specs.Circuit.{Circuit, IsCircuit, wire_at, module_at, module_width}
+use Rattle.mp_netlist.specs.Circuit.{Circuit, IsCircuit, wire_at, module_at}
 use Rattle.mp_netlist.specs.Drivers.{driver}
 use Rattle.mp_netlist.proofs.DriverLemmas.{finds_only_ports, leaves_no_driver}
 use Rattle.mp_model.specs.Evaluations.{delay_in}
@@ -43,17 +43,14 @@ use Rattle.mp_units.specs.NetlistSimulations.{AreSplit, IsSimulated}
 use Rattle.mp_units.proofs.LateLemmas.{own_level}
 use Rattle.mp_run.specs.declared.delays.Delays.{Delays}
 use Rattle.mp_run.specs.declared.wiring.Wiring.{Wiring}
-use Rattle.mp_run.specs.Narrow.{IsNarrow}
 use Rattle.mp_run.specs.Widths.{is_bit_module}
 use Rattle.mp_run.specs.FirstLevels.{first_building}
 use Rattle.mp_run.specs.Numbering.{level_of_wire, is_bit}
 use Rattle.mp_run.specs.Settling.{is_below}
 use Rattle.mp_run.specs.Seating.{IsSeatedAt}
 use Rattle.mp_run.specs.Beginnings.{IsBegun}
-use Rattle.mp_run.specs.Evaluations.{IsEvaluated}
 use Rattle.mp_run.proofs.PortLemmas.{level_slot, bit_slots}
 use Rattle.mp_run.proofs.SettlingLemmas.{delay_some}
-use Rattle.mp_run.proofs.NarrowLemmas.{one_bit_module, all_bits}
 use Rattle.mp_run.proofs.NumberingLemmas.{kept_before, kept_chained, kept_slots, kept_below, old_before}
 use Rattle.mp_run.proofs.WidthLemmas.{data_first}
 use Rattle.mp_run.proofs.PartLemmas.{data_part_is}
@@ -95,42 +92,42 @@ number_in (y ∷ xs) P all (suc p) x is = number_in xs P (λ k d within. all (su
 
 module _ (n : Circuit) (ok : IsCircuit n) (d : Delays) (wiring : Wiring) (ports : List (List (Option ℕ))) (s : NetlistSimulation) (are : IsBegun n d wiring ports s) where
   abbrev source : ℕ → ℕ × ℕ
-  source = (wired n ok d wiring ports s are).source
+  source = (wired n ok d wiring ports s.bits are.begun).source
 
   abbrev old : ℕ → Option ℕ
-  old = (wired n ok d wiring ports s are).before
+  old = (wired n ok d wiring ports s.bits are.begun).before
 
   abbrev data_before : ℕ → Option ℕ
-  data_before = kept_before (is_data n) wiring.wires.items wiring.next.items s.wires.next.items are.wires.next (wired n ok d wiring ports s are).source (wired n ok d wiring ports s are).origins
-      (wired n ok d wiring ports s are).before (wired n ok d wiring ports s are).numbers.chained
+  data_before = kept_before (is_data n) wiring.wires.items wiring.next.items s.wires.next.items are.wires.next (wired n ok d wiring ports s.bits are.begun).source (wired n ok d wiring ports s.bits are.begun).origins
+      (wired n ok d wiring ports s.bits are.begun).before (wired n ok d wiring ports s.bits are.begun).numbers.chained
 
   old_data : (x y : ℕ) → data_before x ≡ Some y → (is_data n (source x).0 ≡ true) × (old x ≡ Some y)
-  old_data = old_before (is_data n) wiring.wires.items wiring.next.items s.wires.next.items are.wires.next (wired n ok d wiring ports s are).source (wired n ok d wiring ports s are).origins
-      (wired n ok d wiring ports s are).before (wired n ok d wiring ports s are).numbers.chained
+  old_data = old_before (is_data n) wiring.wires.items wiring.next.items s.wires.next.items are.wires.next (wired n ok d wiring ports s.bits are.begun).source (wired n ok d wiring ports s.bits are.begun).origins
+      (wired n ok d wiring ports s.bits are.begun).before (wired n ok d wiring ports s.bits are.begun).numbers.chained
 
-  old_bits : (x y : ℕ) → the_before n ok d wiring ports s are x ≡ Some y → (is_bit n (source x).0 ≡ true) × (old x ≡ Some y)
-  old_bits = old_before (is_bit n) wiring.wires.items wiring.next.items s.bits.copies.next.items are.bits.next (wired n ok d wiring ports s are).source (wired n ok d wiring ports s are).origins
-      (wired n ok d wiring ports s are).before (wired n ok d wiring ports s are).numbers.chained
+  old_bits : (x y : ℕ) → the_before n ok d wiring ports s.bits are.begun x ≡ Some y → (is_bit n (source x).0 ≡ true) × (old x ≡ Some y)
+  old_bits = old_before (is_bit n) wiring.wires.items wiring.next.items s.bits.copies.next.items are.begun.bits.next (wired n ok d wiring ports s.bits are.begun).source (wired n ok d wiring ports s.bits are.begun).origins
+      (wired n ok d wiring ports s.bits are.begun).before (wired n ok d wiring ports s.bits are.begun).numbers.chained
 
   data_wire : (w : ℕ) (slot : Option WireRecord) → wire_at n w ≡ slot → has_data slot ≡ true → w < length n.wires
   data_wire w None at is = cc
   data_wire w (Some r) at is = slot_within n.wires w r at
 
   own_source : (w : ℕ) → w < length n.wires → source w ≡ (w, 0)
-  own_source w low = (wired n ok d wiring ports s are).numbers.own w low
+  own_source w low = (wired n ok d wiring ports s.bits are.begun).numbers.own w low
 
   none_before : (x : ℕ) → x < length n.wires → data_before x ≡ None
   none_before x low = by (is_data n (source x).0)
     where
       by : (b : Bool) → cond b (old x) None ≡ None
-      by true = (wired n ok d wiring ports s are).numbers.first x low
+      by true = (wired n ok d wiring ports s.bits are.begun).numbers.first x low
       by false = refl
 
   -- ---- numbers
-  split : AreSplit n (scope n ok d wiring ports s are) (the_before n ok d wiring ports s are) data_before (length s.bits.simulator.fanout)
+  split : AreSplit n (scope n ok d wiring ports s.bits are.begun) (the_before n ok d wiring ports s.bits are.begun) data_before (length s.bits.simulator.fanout)
   split = record {
-    bits = λ x low none. bit_number n ok d wiring ports s are x (let all = numbers n ok d wiring ports s are in omega arith) none;
-    with_data = λ x low is none. own_number x (let all = numbers n ok d wiring ports s are in omega arith) is none;
+    bits = λ x low none. bit_number n ok d wiring ports s.bits are.begun x (let all = numbers n ok d wiring ports s.bits are.begun in omega arith) none;
+    with_data = λ x low is none. own_number x (let all = numbers n ok d wiring ports s.bits are.begun in omega arith) is none;
     wires = λ w is. let low = data_wire w (wire_at n w) refl is in (own_source w low, none_before w low);
     data_copies = λ x y is. (old_data x y is).0;
     bit_copies = λ x y is. not_true (is_data n (source x).0) (old_bits x y is).0;
@@ -144,14 +141,14 @@ module _ (n : Circuit) (ok : IsCircuit n) (d : Delays) (wiring : Wiring) (ports 
       own_number x within is none = elim (cases_lt x (length n.wires)) as (λ _. source x ≡ (x, 0)) [
         | inl low ↦ own_source x low
         | inr past ↦
-            let tied = (wired n ok d wiring ports s are).numbers.tied x past within in
+            let tied = (wired n ok d wiring ports s.bits are.begun).numbers.tied x past within in
             let some : is_some (old x) ≡ false = ap is_some (sym (ap (λ b. cond b (old x) None) is) ∙ none) in
             absurd (cc (tied, some))
       ]
 
   -- ---- levels
   all_wires : length wiring.wires.items ≡ length wiring.next.items
-  all_wires = (wired n ok d wiring ports s are).origins.long
+  all_wires = (wired n ok d wiring ports s.bits are.begun).origins.long
 
   level_first : (x : ℕ) → x < length wiring.next.items → slice_index_or s.wires.levels.items x 0 ≡ late_level n (source x) 0
   level_first x within =
@@ -160,7 +157,7 @@ module _ (n : Circuit) (ok : IsCircuit n) (d : Delays) (wiring : Wiring) (ports 
       let late : late_level n (source x) 0 ≡ level n (source x).0 (0 - (source x).1) = input_is n ok (record { wire = record { 0 = (source x).0 }; delay = (source x).1 }) 0 in
       ap (λ (xs : List ℕ). slice_index_or xs x 0) are.wires.levels
       ∙ get_or-map (level_of_wire n) wiring.wires.items x 0 0 inside
-      ∙ ap (level_of_wire n) ((wired n ok d wiring ports s are).origins.each x within)
+      ∙ ap (level_of_wire n) ((wired n ok d wiring ports s.bits are.begun).origins.each x within)
       ∙ sym (first_level n ok (source x).0)
       ∙ ap (level n (source x).0) (sym past)
       ∙ sym late
@@ -238,8 +235,8 @@ module _ (n : Circuit) (ok : IsCircuit n) (d : Delays) (wiring : Wiring) (ports 
   early v k later c false is high = never (late_change n v (0 + 1 + k) && c)
 
   data_chained : AreChained source data_before s.wires.next.items
-  data_chained = kept_chained (is_data n) wiring.wires.items wiring.next.items s.wires.next.items are.wires.next (wired n ok d wiring ports s are).source (wired n ok d wiring ports s are).origins
-      (wired n ok d wiring ports s are).before (wired n ok d wiring ports s are).numbers.chained
+  data_chained = kept_chained (is_data n) wiring.wires.items wiring.next.items s.wires.next.items are.wires.next (wired n ok d wiring ports s.bits are.begun).source (wired n ok d wiring ports s.bits are.begun).origins
+      (wired n ok d wiring ports s.bits are.begun).before (wired n ok d wiring ports s.bits are.begun).numbers.chained
 
   copy_by : (x k : ℕ) → length n.wires ≤ x → x < length wiring.next.items → (o : Option ℕ) → data_before x ≡ o →
       0 ≡ bit ((late_change n (source x) (0 + 1 + k) && is_data n (source x).0) && nat_lt k (ahead_by n s.wires.next.items x o))
@@ -250,7 +247,7 @@ module _ (n : Circuit) (ok : IsCircuit n) (d : Delays) (wiring : Wiring) (ports 
     where
       by : (b : Bool) → is_data n (source x).0 ≡ b → 0 ≡ bit ((late_change n (source x) (0 + 1 + k) && is_data n (source x).0) && nat_lt k (ahead_by n s.wires.next.items x None))
       by true has =
-          let tied = (wired n ok d wiring ports s are).numbers.tied x past within in
+          let tied = (wired n ok d wiring ports s.bits are.begun).numbers.tied x past within in
           let some : is_some (old x) ≡ false = ap is_some (sym (ap (λ b. cond b (old x) None) has) ∙ is) in
           absurd (cc (tied, some))
       by false has = never_data (late_change n (source x) (0 + 1 + k)) (is_data n (source x).0) (nat_lt k (ahead_by n s.wires.next.items x None)) has
@@ -277,11 +274,11 @@ module _ (n : Circuit) (ok : IsCircuit n) (d : Delays) (wiring : Wiring) (ports 
       is.level ∙ ap (level n c.number) time ∙ sym (own_level n c.number (0 + 1 + k)) ∙ ap (λ (v : ℕ × ℕ). late_level n v (0 + 1 + k)) (sym (own_source c.number is.wire))
 
   some_units : 0 < length s.wires.wheel
-  some_units = let a = are.some_output in let b = are.outputs in omega arith
+  some_units = let a = are.begun.some_output in let b = are.outputs in omega arith
 
   wires_first : AreDataWires n source data_before (length wiring.next.items) 0 s.wires
   wires_first =
-      let link = links n ok d wiring ports s are (length s.wires.wheel) are.inputs in
+      let link = links n ok d wiring ports s.bits are.begun (length s.wires.wheel) are.inputs in
       record {
         places = ap (length {A = ℕ}) are.wires.levels ∙ length-map wiring.wires.items (level_of_wire n) ∙ all_wires;
         next = are.wires.next.long;
@@ -289,7 +286,7 @@ module _ (n : Circuit) (ok : IsCircuit n) (d : Delays) (wiring : Wiring) (ports 
         below = kept_below (is_data n) wiring.wires.items wiring.next.items s.wires.next.items are.wires.next (length wiring.next.items) link.below;
         within = kept_slots (is_data n) wiring.wires.items wiring.next.items s.wires.next.items are.wires.next (length s.wires.wheel) some_units link.slots;
         some = some_units;
-        numbered = λ k j e within. let low = (are.seated.levels k j e within).wire in let enough = (wired n ok d wiring ports s are).numbers.enough in omega arith;
+        numbered = λ k j e within. let low = (are.seated.levels k j e within).wire in let enough = (wired n ok d wiring ports s.bits are.begun).numbers.enough in omega arith;
         changes = record {
           each = λ x k within inside. each_first x k (let long = are.wires.next.long in omega arith) inside;
           levels = levels_first;
@@ -304,19 +301,19 @@ module _ (n : Circuit) (ok : IsCircuit n) (d : Delays) (wiring : Wiring) (ports 
   fires : (q : ℕ) (m : DataModule) → IsSeatedAt n q (slice_index_or ports q []) m → CanFire (length wiring.next.items) (length s.bits.simulator.wheel) (length s.wires.wheel) m
   fires q m is =
       let low = slot_within n.modules q is.part is.stands in
-      let delays = (are.within q is.part low is.stands).outputs in
+      let delays = (are.begun.within q is.part low is.stands).outputs in
       record {
         reads = λ p x reads.
-            number_in (are.wired.inputs q) (λ v. v < length wiring.next.items) ((wired n ok d wiring ports s are).low q) p x
-            (sym (are.wired.by_port q low p) ∙ ap (λ (m : DataModule). slice_index_or m.inputs p None) (sym is.is) ∙ reads);
+            number_in (are.begun.wired.inputs q) (λ v. v < length wiring.next.items) ((wired n ok d wiring ports s.bits are.begun).low q) p x
+            (sym (are.begun.wired.by_port q low p) ∙ ap (λ (m : DataModule). slice_index_or m.inputs p None) (sym is.is) ∙ reads);
         bits = subst (λ (m : DataModule). HaveSlots (length s.bits.simulator.wheel) m.ports.bits) (sym is.is)
-            (subst (λ k. HaveSlots k (bit_ports_of n is.part)) (sym are.bits.units) (bit_slots n ok d.outputs q is.part is.stands delays are.some_output));
+            (subst (λ k. HaveSlots k (bit_ports_of n is.part)) (sym are.begun.bits.units) (bit_slots n ok d.outputs q is.part is.stands delays are.begun.some_output));
         level = subst (λ (m : DataModule). HasSlot (length s.wires.wheel) m.ports.level) (sym is.is)
             (level_slot n ok (length s.wires.wheel) q is.part is.stands (λ k e within. let a = delays k e within in let b = are.outputs in omega arith) some_units);
       }
 
   seat_first : (q : ℕ) (m : DataModule) → IsSeatedAt n q (slice_index_or ports q []) m →
-      IsDataSeat n (scope n ok d wiring ports s are) (length wiring.next.items) (length s.bits.simulator.wheel) (length s.wires.wheel) 0 q m
+      IsDataSeat n (scope n ok d wiring ports s.bits are.begun) (length wiring.next.items) (length s.bits.simulator.wheel) (length s.wires.wheel) 0 q m
   seat_first q m is =
       let low = slot_within n.modules q is.part is.stands in
       record {
@@ -325,9 +322,9 @@ module _ (n : Circuit) (ok : IsCircuit n) (d : Delays) (wiring : Wiring) (ports 
         inactive = ap (seat_of n q) is.stands ∙ ap (λ b. cond b (Some q) None) is.wide;
         does = ap (λ (m : DataModule). any_part m.part) is.is ∙ data_part_is n is.part is.wide;
         outputs = ap (λ (m : DataModule). m.outputs) is.is;
-        sources = sources_own n ok d wiring ports s are q is.part is.stands;
-        reads = λ p. ap (λ (m : DataModule). slice_index_or m.inputs p None) is.is ∙ are.wired.by_port q low p;
-        low = (wired n ok d wiring ports s are).low q;
+        sources = sources_own n ok d wiring ports s.bits are.begun q is.part is.stands;
+        reads = λ p. ap (λ (m : DataModule). slice_index_or m.inputs p None) is.is ∙ are.begun.wired.by_port q low p;
+        low = (wired n ok d wiring ports s.bits are.begun).low q;
         bits = ap (λ (m : DataModule). m.ports.bits) is.is;
         level = ap (λ (m : DataModule). m.ports.level) is.is;
         first = λ w p drv has. data_first n ok q p w drv has;
@@ -341,9 +338,9 @@ module _ (n : Circuit) (ok : IsCircuit n) (d : Delays) (wiring : Wiring) (ports 
       by true bits e = absurd (none-some m (sym e))
       by false bits e = are.seated.whole m r (slot_within n.modules m r at) at bits
 
-  modules_first : AreDataModules n (scope n ok d wiring ports s are) (length wiring.next.items) (length s.bits.simulator.states.items) (length s.bits.simulator.wheel) (length s.wires.wheel) 0 s.modules
+  modules_first : AreDataModules n (scope n ok d wiring ports s.bits are.begun) (length wiring.next.items) (length s.bits.simulator.states.items) (length s.bits.simulator.wheel) (length s.wires.wheel) 0 s.modules
   modules_first = record {
-    long = are.seated.long ∙ sym are.bits.settled.places;
+    long = are.seated.long ∙ sym are.begun.bits.settled.places;
     placed = are.seated.placed;
     fit = All-from_get_or (CanFire (length wiring.next.items) (length s.bits.simulator.wheel) (length s.wires.wheel)) s.modules.modules.items no_module
         (λ k inside. let place = are.seated.each k inside in fires place.place (data_module_at s.modules.modules.items k) (are.seated.seats place.place k place.is));
@@ -353,35 +350,20 @@ module _ (n : Circuit) (ok : IsCircuit n) (d : Delays) (wiring : Wiring) (ports 
 
   pub simulated : IsSimulated n 0 s
   simulated = record {
-    scope = scope n ok d wiring ports s are;
-    before = the_before n ok d wiring ports s are;
+    scope = scope n ok d wiring ports s.bits are.begun;
+    before = the_before n ok d wiring ports s.bits are.begun;
     data_before = data_before;
-    sound = sound_run n ok d wiring ports s are;
-    running = running n ok d wiring ports s are;
-    whole = whole n ok d wiring ports s are;
+    sound = sound_run n ok d wiring ports s.bits are.begun;
+    running = running n ok d wiring ports s.bits are.begun;
+    whole = whole n ok d wiring ports s.bits are.begun;
     own = λ w u. refl;
     traces = λ w. refl;
     known = λ m r at. refl;
-    places = are.bits.settled.places;
+    places = are.begun.bits.settled.places;
     seats = λ m r at. ap (seat_of n m) at;
-    waves = waves_long n ok d wiring ports s are;
+    waves = waves_long n ok d wiring ports s.bits are.begun;
     split = split;
-    wires = subst (λ k. AreDataWires n source data_before k 0 s.wires) (sym (numbers n ok d wiring ports s are)) wires_first;
-    modules = subst (λ k. AreDataModules n (scope n ok d wiring ports s are) k (length s.bits.simulator.states.items) (length s.bits.simulator.wheel) (length s.wires.wheel) 0 s.modules)
-        (sym (numbers n ok d wiring ports s are)) modules_first;
-  }
-
-  -- ---- where each wire has width 1
-  pub evaluated : IsNarrow n → IsEvaluated n 0 s.bits
-  evaluated narrow = record {
-    scope = scope n ok d wiring ports s are;
-    before = the_before n ok d wiring ports s are;
-    sound = sound_run n ok d wiring ports s are;
-    running = running n ok d wiring ports s are;
-    whole = whole n ok d wiring ports s are;
-    own = λ w u. refl;
-    placed = λ m r at.
-        ap (λ slot. is_some (seat_of n m slot)) at ∙ ap (λ b. is_some (cond b (Some m) None)) (eq-eqb (module_width n r) 1 (one_bit_module n ok narrow m r at));
-    traces = all_bits n narrow;
-    waves = waves_long n ok d wiring ports s are;
+    wires = subst (λ k. AreDataWires n source data_before k 0 s.wires) (sym (numbers n ok d wiring ports s.bits are.begun)) wires_first;
+    modules = subst (λ k. AreDataModules n (scope n ok d wiring ports s.bits are.begun) k (length s.bits.simulator.states.items) (length s.bits.simulator.wheel) (length s.wires.wheel) 0 s.modules)
+        (sym (numbers n ok d wiring ports s.bits are.begun)) modules_first;
   }

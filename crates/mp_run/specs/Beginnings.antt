@@ -35,13 +35,17 @@ pub record AreFirstWires (n : Circuit) (wiring : Wiring) (slots : List (List Lev
   pub waves : s.waves.items ≡ map first_building n.wires
   pub wheel : s.wheel ≡ slots
 
--- all of it, with no delay longer than the wheels
-pub record IsBegun (n : Circuit) (d : Delays) (wiring : Wiring) (ports : List (List (Option ℕ))) (s : NetlistSimulation) : Type 0 where
+-- the same, with what was read of the netlist, and its delays
+pub record AreBegunBits (n : Circuit) (d : Delays) (wiring : Wiring) (ports : List (List (Option ℕ))) (s : Simulation) : Type 0 where
   pub within : AreWithin n (length n.modules) d
   pub some_output : 0 < d.outputs
   pub some_input : 0 < d.inputs
   pub wired : AreWiredInputs n (length n.modules) wiring ports
-  pub bits : AreFirstBits n wiring d s.bits
+  pub bits : AreFirstBits n wiring d s
+
+-- all of it, with no delay longer than the wheels
+pub record IsBegun (n : Circuit) (d : Delays) (wiring : Wiring) (ports : List (List (Option ℕ))) (s : NetlistSimulation) : Type 0 where
+  pub begun : AreBegunBits n d wiring ports s.bits
   pub wires : AreFirstWires n wiring s.wires.wheel s.wires
   pub seated : IsSeated n (length n.modules) ports (record { modules = s.modules; wheel = s.wires.wheel })
   pub outputs : d.outputs ≤ length s.wires.wheel

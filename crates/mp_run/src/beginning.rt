@@ -41,6 +41,18 @@ pub fn begin(alloc: Global, netlist: &Netlist) -> Result<NetlistSimulation, Allo
     })
 }
 
+/// The same of a netlist whose wires have width 1, so that no module and no wire has data.
+pub(crate) fn begin_bits(alloc: Global, netlist: &Netlist) -> Result<Simulation, AllocError>
+    requires form { IsCircuit netlist.now }
+    requires narrow { IsNarrow netlist.now }
+    ensures { IfOk result (λ bits. IsEvaluated netlist.now 0 bits) }
+{
+    let delays = Delays::of(netlist);
+    let WiredInputs { wiring, .. } = wiring_of(alloc, netlist)?;
+    let bits = first_bits(alloc, netlist, &wiring, delays)?;
+    Ok(bits)
+}
+
 /// The wires of any width at time 0, with the levels to come.
 fn first_data_wires(
     alloc: Global,

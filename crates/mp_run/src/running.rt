@@ -9,7 +9,7 @@ ghost use Rattle.mp_run.specs.Narrow.{IsNarrow};
 ghost use Rattle.mp_run.specs.Runs.{wave_in};
 ghost use Rattle.mp_run.specs.Stimuli.{rest_of, AreAhead};
 
-use crate::beginning::begin;
+use crate::beginning::{begin, begin_bits};
 use crate::finishing::{found_waves, toggled_wave};
 use crate::narrow::is_narrow;
 use crate::stimuli::Stimuli;
@@ -42,8 +42,7 @@ fn bit_waves(alloc: Global, netlist: &Netlist) -> Result<Vec<Option<Wave>>, Allo
     ensures { IfOk result (λ waves. AreWavesOf netlist.now waves.items) }
 {
     let _horizon = netlist.horizon();
-    let NetlistSimulation { bits, .. } = begin(alloc, netlist)?;
-    let mut simulation = bits;
+    let mut simulation = begin_bits(alloc, netlist)?;
     let mut stimuli = Stimuli::of(alloc, netlist)?;
     run(netlist, &mut simulation, &mut stimuli)?;
     finished(alloc, netlist, simulation)
@@ -119,14 +118,21 @@ fn finished(
     requires over { IsEvaluated netlist.now (netlist.now.horizon - 1) simulation }
     ensures { IfOk result (λ waves. AreWavesOf netlist.now waves.items) }
 {
-    let Simulation { simulator, .. } = simulation;
-    let Simulator { waves, .. } = simulator;
-    let mut rest = waves.into_iter();
+    let mut rest = waves_in(simulation).into_iter();
     let mut found = Vec::new(alloc);
     for w in 0..netlist.wire_slots() {
         found.push(wave_of(netlist, WireId(w), rest.next()))?;
     }
     Ok(found)
+}
+
+/// The waves of a simulation, of which nothing else is kept.
+fn waves_in(simulation: Simulation) -> Vec<ToggleWave>
+    ensures { result.items ≡ simulation.simulator.waves.items }
+{
+    let Simulation { simulator, .. } = simulation;
+    let Simulator { waves, .. } = simulator;
+    waves
 }
 
 /// The wave, where its wire stands.

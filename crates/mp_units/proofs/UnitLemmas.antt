@@ -18,7 +18,7 @@ use Rattle.mp_core.specs.Units.{IsBefore, IsDuring}
 use Rattle.mp_core.specs.Copies.{AreChained, HaveCopies, HaveLaterCopies, AreOriginals, AreListedBelow}
 use Rattle.mp_core.specs.Simulations.{copy_slot, IsSoundRun, IsRunning}
 use Rattle.mp_core.specs.WholeRuns.{IsWhole}
-use Rattle.mp_core.proofs.CopyLemmas.{copies_later, low_turned}
+use Rattle.mp_core.proofs.CopyLemmas.{copies_later, low_turned, behind_kept}
 use Rattle.mp_core.proofs.SimulationLemmas.{copies_sound}
 use Rattle.mp_data.specs.declared.level_change.LevelChange.{LevelChange}
 use Rattle.mp_data.specs.Levels.{toggled}
@@ -190,6 +190,8 @@ module _ (n : Circuit) (ok : IsCircuit n) (t : ℕ) (s : NetlistSimulation) (is 
         simulator = p.sound_new;
         copies = copies_sound s.bits.copies new.bits.copies (length s.bits.simulator.fanout) (length new.bits.simulator.fanout) c p.copies_next p.copies_units
             (p.copies_low (length s.bits.simulator.fanout) c.below (low_turned (length s.bits.simulator.fanout) s.bits.copies.wheel c.numbered)) same_count;
+        behind = behind_kept s.bits.copies.next.items new.bits.copies.next.items (length s.bits.simulator.waves.items) (length new.bits.simulator.waves.items) is.sound.behind p.copies_next
+            (ap (length {A = Waveform}) p.waves_new ∙ h.bit_waves);
       }
 
   split_next : AreSplit n (with_answers (with_data is.scope (t + 2)) (t + 2)) is.before is.data_before (length s.bits.simulator.fanout)

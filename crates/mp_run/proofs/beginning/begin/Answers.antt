@@ -4,7 +4,8 @@ use Rattle.mp_data.specs.declared.level_change.LevelChange.{LevelChange}
 use Rattle.mp_units.specs.declared.netlist_simulation.NetlistSimulation.{NetlistSimulation}
 use Rattle.mp_run.specs.Beginnings.{IsBegun}
 use Rattle.mp_run.specs.Seating.{IsSeated}
-use Rattle.mp_run.proofs.SimulatedLemmas.{simulated, evaluated}
+use Rattle.mp_run.proofs.BeginningLemmas.{evaluated}
+use Rattle.mp_run.proofs.SimulatedLemmas.{simulated}
 use Rattle.mp_run.proofs.beginning.begin.Goals as goal
 
 pub seat_all-requires-clause-within : goal.seat_all-requires-clause-within
@@ -27,14 +28,10 @@ returns c =
     let seats = subst (λ (xs : List (List (Option ℕ))). IsSeated n (length n.modules) xs seating) c.as_slice.ensures.value c.in_ok-modules.ensures.seated in
     let begun : IsBegun n c.of-delays.result wiring ports s =
     record {
-      within = delays.within;
-      some_output = delays.outputs;
-      some_input = delays.inputs;
-      wired = c.in_ok-wiring.ensures;
-      bits = c.in_ok-bits.ensures;
+      begun = record { within = delays.within; some_output = delays.outputs; some_input = delays.inputs; wired = c.in_ok-wiring.ensures; bits = c.in_ok-bits.ensures };
       wires = record { levels = made.levels; next = made.next; waves = made.waves; wheel = refl };
       seated = subst (λ (wheel : List (List LevelChange)). IsSeated n (length n.modules) ports (record { modules = seating.modules; wheel = wheel })) (sym made.wheel) seats;
       outputs = let high = c.longest-units.ensures.outputs in omega arith;
       inputs = let high = c.longest-units.ensures.inputs in omega arith;
     } in
-    record { simulated = simulated n c.requires c.of-delays.result wiring ports s begun; narrow = λ narrow. evaluated n c.requires c.of-delays.result wiring ports s begun narrow }
+    record { simulated = simulated n c.requires c.of-delays.result wiring ports s begun; narrow = λ narrow. evaluated n c.requires c.of-delays.result wiring ports s.bits begun.begun narrow }

@@ -1,4 +1,4 @@
-use Rattle.std.proofs.Common.{◌≡◌, ℕ, ◌+◌, ◌-◌, ◌<◌, List, sym, subst, ◌∙◌, arith}
+use Rattle.std.proofs.Common.{◌≡◌, ℕ, ◌+◌, ◌-◌, List, sym, subst, ◌∙◌, arith}
 use Rattle.mp_core.specs.Simulators.{CanApply}
 use Rattle.mp_core.specs.Simulations.{copy_slot}
 use Rattle.mp_core.specs.WholeRuns.{AreSet}

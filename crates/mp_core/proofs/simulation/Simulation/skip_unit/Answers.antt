@@ -14,6 +14,7 @@ returns-clause-sound c =
       simulator = quiet_sound s.simulator c.skip.new.self c.requires.sound.simulator c.requires.quiet.wires c.skip.ensures;
       copies = copies_sound s.copies _ numbers numbers c.requires.sound.copies refl (ap (length {A = List ℕ}) c.skip-2.ensures ∙ turned_length s.copies.wheel c.requires.sound.copies.some)
           (subst (λ (slots : List (List ℕ)). AreListedBelow numbers slots) (sym c.skip-2.ensures) (low_turned numbers s.copies.wheel c.requires.sound.copies.numbered)) refl;
+      behind = c.requires.sound.behind;
     }
 
 pub returns-clause-passed : goal.returns-clause-passed
