@@ -1,22 +1,11 @@
 -- Lemmas on a wire from a time on.
 use Rattle.std.specs.Prelude.{◌≡◌, ◌≢◌, ◌+◌, ◌-◌, ◌<◌, ◌≤◌, ◌==◌, ◌∷◌}
-use Rattle.mp_report.proofs.Names.{ℕ, true, false, List, [], zero, suc, refl, ap, sym, subst, ◌∙◌, arith, Some, None, slice_get, cases_eq, ne_eqb, nat_tests, changes_in, Waveform, AreChanges, level_from, last_time, wave_upto, changes_after, last_time-changes_after, AreChanges-changes_after, level_from-changes_after, has_event, IsAhead}
+use Rattle.mp_report.proofs.Names.{ℕ, true, false, List, [], refl, ap, sym, subst, ◌∙◌, arith, Some, None, slice_get, cases_eq, ne_eqb, nat_tests, changes_in, Waveform, AreChanges, level_from, last_time, wave_upto, last_time-changes_after, AreChanges-changes_after, level_from-changes_after, has_event, IsAhead, Ahead}
 use Rattle.mp_wave.proofs.WaveformLemmas.{level_from-before, level_from-first, le-last_time}
-use Rattle.mp_report.specs.declared.ahead.Ahead.{Ahead}
 
 -- a wave from time 1 on
 pub ahead_of_wave : (f : ℕ → ℕ) (end : ℕ) (a : Ahead) (wave : Waveform) → 0 < end → wave ≡ wave_upto f (end - 1) → a.level ≡ wave.initial → (changes_in a.changes) ≡ wave.changes → IsAhead f end 1 a
-ahead_of_wave f end a wave some is level changes =
-    let first : a.level ≡ f 0 = level ∙ ap (λ (w : Waveform). w.initial) is in
-    let rest : (changes_in a.changes) ≡ changes_after f 0 (end - 1) = changes ∙ ap (λ (w : Waveform). w.changes) is in
-    let last = last_time-changes_after f 0 (end - 1) in
-    record {
-      some = omega arith;
-      form = subst (λ (v : ℕ). AreChanges 0 v (changes_in a.changes)) (sym first) (subst (AreChanges 0 (f 0)) (sym rest) (AreChanges-changes_after f 0 (end - 1)));
-      within = subst (λ (cs : List (ℕ × ℕ)). last_time 0 cs < end) (sym rest) (omega (arith, last, some));
-      levels = λ t low high.
-          ap (λ (v : ℕ). level_from v (changes_in a.changes) t) first ∙ ap (λ (cs : List (ℕ × ℕ)). level_from (f 0) cs t) rest ∙ level_from-changes_after f 0 (end - 1) t (omega arith) (omega (arith, high, some));
-    }
+ahead_of_wave f end a wave some is level changes = grind (arith, nat_tests, last_time-changes_after, AreChanges-changes_after, level_from-changes_after)
 
 -- the level is the one before the time
 pub level_before : (f : ℕ → ℕ) (end time : ℕ) (a : Ahead) → IsAhead f end time a → time ≤ end → a.level ≡ f (time - 1)
@@ -24,12 +13,7 @@ level_before f end time a is le = grind (arith, nat_tests, level_from-before)
 
 -- an event is a difference
 pub event_of : (f : ℕ → ℕ) (t : ℕ) → 0 < t → f (t - 1) ≢ f t → has_event f t ≡ true
-event_of f zero some other = grind (arith, nat_tests)
-event_of f (suc t) some other = grind (arith, nat_tests, ne_eqb)
-
-pub no_event_of : (f : ℕ → ℕ) (t : ℕ) → 0 < t → f (t - 1) ≡ f t → has_event f t ≡ false
-no_event_of f zero some same = grind (arith, nat_tests)
-no_event_of f (suc t) some same = grind (arith, nat_tests)
+event_of f t some other = grind (arith, nat_tests, ne_eqb)
 
 -- where its changes begin with one
 module _ (f : ℕ → ℕ) (end time : ℕ) (a : Ahead) (change : ℕ × ℕ) (later : List (ℕ × ℕ)) (is : IsAhead f end time a) (head : (changes_in a.changes) ≡ change ∷ later) where
@@ -60,7 +44,7 @@ module _ (f : ℕ → ℕ) (end time : ℕ) (a : Ahead) (change : ℕ × ℕ) (l
 
   -- before it there is none
   pub none_sooner : (t : ℕ) → time ≤ t → t < change.0 → t < end → has_event f t ≡ false
-  none_sooner t low sooner high = grind (arith, nat_tests, no_event_of, held)
+  none_sooner t low sooner high = grind (arith, nat_tests, held)
 
   -- whether the first change is now
   pub changes_now : time < end → (change.0 == time) ≡ has_event f time
@@ -68,12 +52,7 @@ module _ (f : ℕ → ℕ) (end time : ℕ) (a : Ahead) (change : ℕ × ℕ) (l
 
   -- what comes before the first change passes
   pub still_before : (t : ℕ) → time ≤ t → t ≤ change.0 → IsAhead f end t a
-  still_before t low high = record {
-    some = omega (arith, is.some, low);
-    form = subst (AreChanges (t - 1) a.level) (sym head) (omega (arith, is.some, low, high), form.1, form.2);
-    within = subst (λ (cs : List (ℕ × ℕ)). last_time (t - 1) cs < end) (sym head) last;
-    levels = λ u from upto. is.levels u (omega (arith, low, from)) upto;
-  }
+  still_before t low high = grind (arith, nat_tests, form, last)
 
 -- a list that has a first element
 pub first_is : (xs : List (ℕ × ℕ)) (x : ℕ × ℕ) → slice_get xs 0 ≡ Some x → (rest : List (ℕ × ℕ)) × (xs ≡ x ∷ rest)
@@ -87,7 +66,7 @@ no_first (x ∷ xs) none = grind (arith, nat_tests)
 
 -- without changes there is no event
 pub none_at_all : (f : ℕ → ℕ) (end time t : ℕ) (a : Ahead) → IsAhead f end time a → (changes_in a.changes) ≡ [] → time ≤ t → t < end → has_event f t ≡ false
-none_at_all f end time t a is empty low high = grind (arith, nat_tests, no_event_of)
+none_at_all f end time t a is empty low high = grind (arith, nat_tests)
 
 -- and all passes where there is none
 pub still_none : (f : ℕ → ℕ) (end time t : ℕ) (a : Ahead) → IsAhead f end time a → (changes_in a.changes) ≡ [] → time ≤ t → t ≤ end → IsAhead f end t a

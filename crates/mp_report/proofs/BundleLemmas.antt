@@ -1,8 +1,7 @@
 -- Lemmas on what is found at bundles.
 use Rattle.std.specs.Prelude.{◌≡◌, ◌+◌, ◌-◌, ◌<◌, ◌≤◌, ◌&&◌}
-use Rattle.mp_report.proofs.Names.{ℕ, inl, inr, Bool, true, false, not, [], map, min, nat_le, Some, None, filter, flat_map, refl, ap, sym, ◌∙◌, true≢false, arith, list_any, range_with_len, cases_Bool, cases_lt, nat_tests, FindingCode, FindingSet, by_number, has_code, no_findings, with_code_if, has_event, Circuit, bundle_at, changes, is_busy, is_requested_soon, is_found_at_bundle, bundle_place, bundle_set, findings_of, found_over}
+use Rattle.mp_report.proofs.Names.{ℕ, inl, inr, Bool, true, false, not, [], map, min, nat_le, Some, None, filter, flat_map, refl, ap, sym, ◌∙◌, true≢false, arith, list_any, range_with_len, cases_Bool, cases_lt, nat_tests, FindingCode, FindingSet, by_number, no_findings, with_code_if, has_event, Circuit, bundle_at, changes, is_busy, is_requested_soon, is_found_at_bundle, bundle_place, bundle_set, findings_of, found_over, BundleRecord}
 use Rattle.mp_modules.specs.declared.finding_code.FindingCode.TheVariants as codes
-use Rattle.mp_records.specs.declared.bundle_record.BundleRecord.{BundleRecord}
 use Rattle.mp_model.proofs.MemberLemmas.{any_passes, passes_any, contains_range, range_contains}
 use Rattle.mp_report.proofs.TimeLemmas.{told_none, told_same}
 
@@ -46,27 +45,9 @@ test_of a b d e codes.RequestWhileBusy = d
 test_of a b d e codes.AckWhileIdle = e
 test_of a b d e code = false
 
-codes_of_set : (a b d e : Bool) → filter (has_code (set_of a b d e)) by_number ≡ filter (test_of a b d e) by_number
-codes_of_set true true true true = refl
-codes_of_set true true true false = refl
-codes_of_set true true false true = refl
-codes_of_set true true false false = refl
-codes_of_set true false true true = refl
-codes_of_set true false true false = refl
-codes_of_set true false false true = refl
-codes_of_set true false false false = refl
-codes_of_set false true true true = refl
-codes_of_set false true true false = refl
-codes_of_set false true false true = refl
-codes_of_set false true false false = refl
-codes_of_set false false true true = refl
-codes_of_set false false true false = refl
-codes_of_set false false false true = refl
-codes_of_set false false false false = refl
-
 found_is : (n : Circuit) (r : BundleRecord) (t : ℕ) → findings_of t (bundle_set n r t) ≡ map (λ code. (t, code)) (filter (is_found_at_bundle n (Some r) t) by_number)
 unfolding findings_of
-found_is n r t = grind (arith, nat_tests, codes_of_set)
+found_is n r t = grind (arith, nat_tests)
 
 -- nothing is found where nothing changes
 none_of : (t : ℕ) (x y z w : Bool) → findings_of t (set_of (false && x) (false && y) (false && z) (false && w)) ≡ []

@@ -1,6 +1,6 @@
 -- Findings by place, sorted by time, are the findings by time.
 use Rattle.std.specs.Prelude.{◌≡◌, ◌≢◌, ◌+◌, ◌-◌, ◌<◌, ◌≤◌, ◌==◌, ◌⊎◌, ◌&&◌, ◌∷◌, ◌++◌}
-use Rattle.mp_report.proofs.Names.{ℕ, inl, inr, Bool, true, false, not, cond, List, [], map, All, filter, flat_map, nat_cmp, is_lt, Less, Equal, Greater, zero, suc, refl, ap, sym, subst, ◌∙◌, append-nil, arith, range_with_len, cases_eq, cases_lt, nat_tests, FindingCode, MergeCollision, by_number, Circuit, Place, Finding, codes_at, found_over, finding_at, found_by_place}
+use Rattle.mp_report.proofs.Names.{ℕ, inl, inr, Bool, true, false, not, cond, List, [], map, All, filter, flat_map, nat_cmp, is_lt, zero, suc, refl, ap, sym, subst, ◌∙◌, append-nil, arith, range_with_len, cases_eq, cases_lt, nat_tests, FindingCode, MergeCollision, by_number, Circuit, Place, Finding, codes_at, found_over, finding_at, found_by_place}
 use Rattle.std.specs.List.Sorted.{IsNonDecreasingBy, IsStableByKey}
 use Rattle.std.proofs.lemmas.List.{map-append}
 use Rattle.std.proofs.lemmas.List.Elements.{filter-append, filter_agree}
@@ -43,10 +43,7 @@ module _ {X : Type 0} (key : X → ℕ) where
   not_below x y xs ys up same = grind (arith, nat_tests, none_at, yes_key, cases_lt)
 
   same_rest : (x y : X) (l m : List X) (b c : Bool) → b ≡ c → cond b (x ∷ l) l ≡ cond c (y ∷ m) m → l ≡ m
-  same_rest x y l m true true is same = grind (arith, nat_tests)
-  same_rest x y l m true false is same = grind (arith, nat_tests)
-  same_rest x y l m false true is same = grind (arith, nat_tests)
-  same_rest x y l m false false is same = grind (arith, nat_tests)
+  same_rest x y l m b c is same = grind (arith, nat_tests)
 
   pub same_lists : (a : ℕ) (xs ys : List X) → Rising a xs → Rising a ys → ((t : ℕ) → filter (at_key t) xs ≡ filter (at_key t) ys) → xs ≡ ys
   same_lists a [] [] up rises same = refl
@@ -111,11 +108,7 @@ module _ {P X : Type 0} (key : X → ℕ) (at : ℕ → P → List X) (are : (u 
       let none : (p : P) → of_place (a + 1) n p ≡ [] = (λ p. none_at key t (a + 1) (flat_map (λ u. at u p) (range_with_len (a + 1) n)) (omega (arith, same)) (rising_times key (λ u. at u p) (λ u. are u p) (a + 1) n)) in
       told_same (λ p. here a p ++ of_place (a + 1) n p) (here a) (λ p. ap (λ l. here a p ++ l) (none p) ∙ append-nil (here a p)) ps
       ∙ sym (ap (λ l. flat_map (here a) ps ++ l) (sym rest ∙ told_none (of_place (a + 1) n) none ps) ∙ append-nil (flat_map (here a) ps))
-  turn a n (inr other) rest =
-      let none : (p : P) → here a p ≡ [] = (λ p. none_other key t a (at a p) other (are a p)) in
-      told_same (λ p. here a p ++ of_place (a + 1) n p) (of_place (a + 1) n) (λ p. ap (λ l. l ++ of_place (a + 1) n p) (none p)) ps
-      ∙ rest
-      ∙ sym (ap (λ l. l ++ of_times (a + 1) n) (told_none (here a) none ps))
+  turn a n (inr other) rest = grind (arith, nat_tests, none_other, told_same, told_none)
 
   swapped : (a n : ℕ) → flat_map (of_place a n) ps ≡ of_times a n
   swapped a zero = told_none (of_place a 0) (λ p. refl) ps
@@ -156,13 +149,8 @@ over_times n place =
 
 -- ---- sorted by time
 
-less_is : (b c : Bool) → is_lt (cond b Less (cond c Equal Greater)) ≡ b
-less_is true c = refl
-less_is false true = refl
-less_is false false = refl
-
 tie_is : (t u : ℕ) → not (is_lt (nat_cmp t u)) && not (is_lt (nat_cmp u t)) ≡ (u == t)
-tie_is t u = grind (arith, is_lt, less_is, nat_tests)
+tie_is t u = grind (arith, is_lt, nat_tests)
 
 -- a stable sort by time leaves the findings of each time as they were
 same_at : (xs ys : List Finding) → IsStableByKey time_of nat_cmp xs ys → (t : ℕ) → filter (is_at t) ys ≡ filter (is_at t) xs

@@ -1,9 +1,9 @@
 -- Lemmas on what is found at modules.
 use Rattle.std.specs.Prelude.{◌≡◌, ◌-◌, ◌<◌, ◌≤◌, ◌++◌}
-use Rattle.mp_report.proofs.Names.{ℕ, List, [], Some, None, flat_map, zero, suc, refl, ap, subst, ◌∙◌, arith, range_with_len, nat_tests, FindingCode, Memory, no_findings, Circuit, IsCircuit, module_at, built, inputs_by, level, state, module_place, start, found, any_part_of, IsSpan, findings_of, found_at, codes_at, found_over}
+use Rattle.mp_report.proofs.Names.{ℕ, List, [], Some, None, flat_map, suc, refl, ap, subst, ◌∙◌, arith, range_with_len, nat_tests, FindingCode, Memory, no_findings, Circuit, IsCircuit, module_at, built, inputs_by, level, state, module_place, start, found, any_part_of, IsSpan, findings_of, found_at, codes_at, found_over, ModuleRecord}
 use Rattle.mp_storage.specs.declared.any_module.AnyModule.{AnyModule}
-use Rattle.mp_records.specs.declared.module_record.ModuleRecord.{ModuleRecord}
 use Rattle.mp_model.proofs.BehaviourLemmas.{satisfies}
+use Rattle.mp_model.proofs.BuiltLemmas.{width_of_module}
 use Rattle.mp_response.specs.Delays.{state_before}
 use Rattle.mp_response.specs.declared.piece.Piece.{Piece}
 use Rattle.mp_response.proofs.DelayLemmas.{finds_by_states}
@@ -14,8 +14,7 @@ use Rattle.mp_report.proofs.TimeLemmas.{told_none, told_same_from}
 later_found : (n : Circuit) (m t : ℕ) (r : ModuleRecord) → module_at n m ≡ Some r → 1 ≤ t
     → findings_of t (found_at (built n r) (state_before (built n r) (state n m) t) (inputs_by n (level n) r t) t) ≡ codes_at n (module_place m) t
 unfolding findings_of
-later_found n m zero r at some = grind (arith, nat_tests)
-later_found n m (suc u) r at some = grind (arith, nat_tests)
+later_found n m t r at some = grind (arith, nat_tests)
 
 first_found : (part : AnyModule) (s : Memory) (x : List ℕ) → findings_of 0 (found_at part s x 0) ≡ []
 unfolding findings_of
@@ -52,3 +51,5 @@ pub quiet_module_over : (n : Circuit) (m : ℕ) (r : ModuleRecord) → module_at
     → ((params : List ℕ) (width : ℕ) (s : Memory) (x : List ℕ) → found (any_part_of r.kind params width) s x ≡ no_findings) → [] ≡ found_over n (module_place m)
 unfolding found_over
 quiet_module_over n m r at quiet = grind (arith, nat_tests, told_none)
+
+pub ruleset found_at_module_steps = (width_of_module, no_module_over, quiet_module_over)

@@ -6,9 +6,8 @@ use Rattle.std.specs.declared.result.Result.{Result}
 -- where each answer is there, what holds of it holds of what it has
 all_there : {A B : Type 0} (E : Type 0) (P : A → B → Type 0) (xs : List A) (ys : List B) → AllZip (λ x (r : Result B E). IfOk r (P x)) xs (map Ok ys) → AllZip P xs ys
 all_there E P [] [] h = tt
-all_there E P [] (y ∷ ys) h = absurd h
-all_there E P (x ∷ xs) [] h = absurd h
 all_there E P (x ∷ xs) (y ∷ ys) h = (h.0, all_there E P xs ys h.1)
+all_there E P xs ys h = absurd h
 
 -- what holds of the answers holds of what is collected of them
 pub collected : {A B C E F : Type 0} (P : A → B → Type 0) (items : C → List B) (lost : F → Type 0) (xs : List A) (rs : List (Result B E)) (r : Result C F)
@@ -21,6 +20,5 @@ collected P items lost xs rs (Err e) each done = tt
 -- lists that are those of a function, side by side
 pub joined_lists : {A B C : Type 0} (f : A → List B) (items : C → List B) (xs : List A) (ys : List C) → AllZip (λ x y. items y ≡ f x) xs ys → flat_map items ys ≡ flat_map f xs
 joined_lists f items [] [] h = refl
-joined_lists f items [] (y ∷ ys) h = absurd h
-joined_lists f items (x ∷ xs) [] h = absurd h
 joined_lists f items (x ∷ xs) (y ∷ ys) h = ap (λ l. l ++ flat_map items ys) h.0 ∙ ap (λ l. f x ++ l) (joined_lists f items xs ys h.1)
+joined_lists f items xs ys h = absurd h

@@ -1,7 +1,7 @@
 -- The names that many clauses and definitions here cite, passed on from one place. Declares nothing.
 pub use Rattle.std.specs.Fmt.{decimal}
 pub use Rattle.std.specs.List.{AllZip, filter, flat_map, list_any, range_with_len}
-pub use Rattle.std.specs.Prelude.{List, None, Option, Some, [], codes, map, ℕ, ◌++◌, ◌+◌, ◌-◌, ◌<◌, ◌∷◌, ◌≡◌, ◌≤◌}
+pub use Rattle.std.specs.Prelude.{List, None, Option, Some, [], codes, map, ℕ}
 pub use Rattle.mp_model.specs.Findings.{bundle_place, changes, findings, is_busy, is_found, is_found_at_bundle, is_requested_soon, module_place, places}
 pub use Rattle.mp_model.specs.Levels.{built, input_by, inputs_by}
 pub use Rattle.mp_model.specs.Waves.{AreWavesOf, level, state, wave}

@@ -13,6 +13,7 @@ use std::alloc::{AllocError, Global};
 
 /// What is found at a bundle, by time and then by the codes' numbers; nothing where it doesn't stand. Units in which none of its wires
 /// changes are passed over.
+#[tactic(auto, using(crate::proofs::BundleLemmas::no_bundle_over))]
 pub(crate) fn found_at_bundle(
     alloc: Global,
     netlist: &Netlist,

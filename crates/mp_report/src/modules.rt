@@ -13,6 +13,7 @@ use std::alloc::{AllocError, Global};
 
 /// What is found at a module, by time and then by the codes' numbers; nothing where it doesn't stand. The module answers once, over the
 /// whole horizon, unless its kind finds nothing.
+#[tactic(auto, using(crate::proofs::ModuleLemmas::found_at_module_steps))]
 pub(crate) fn found_at_module(
     alloc: Global,
     netlist: &Netlist,
@@ -36,6 +37,7 @@ pub(crate) fn found_at_module(
 }
 
 /// Whether no module of the kind ever finds anything, so that none need be looked at.
+#[tactic(auto, unfolding(mp_storage::specs::AnyModules::any_part_of, mp_storage::specs::AnyModules::found))]
 fn finds_nothing(kind: Kind) -> bool
     ensures { result ≡ true → (params : List ℕ) (width : ℕ) (memory : Memory) (x : List ℕ) → found (any_part_of kind params width) memory x ≡ no_findings }
 {

@@ -1,19 +1,8 @@
 -- How a line begins decides what it says.
-use Rattle.std.specs.Prelude.{◌≡◌, ◌+◌, ◌-◌, ◌<◌, ◌==◌, ◌||◌, ◌∷◌}
-use Rattle.mp_text.proofs.Names.{ℕ, zero, suc, min, Bool, true, false, cond, List, [], length, drop, None, Some, Result, Ok, Err, IfErr, refl, ap, ◌∙◌, arith, true≢false, length-take, length-drop, nat_le, slice_get, byte, before_first, after_first, list_all, cases_eq, leb-false, nat_tests, LineError, WordCount, UnknownStatement, NotAscii, OutOfMemory, is_allowed, words_of, ◌>>=◌, statement_takes, single_takes, question_takes, takes, is_begun, HasForm, is_mark, module_edit, stated_edit, line_word, stated_line, line_of, line_at, each_word}
-use Rattle.mp_text.specs.declared.edit_word.EditWord.{EditWord}
-use Rattle.mp_text.specs.declared.edit_word.EditWord.TheVariants.{Wire, Module, Stimulus, Bundle}
-use Rattle.mp_text.specs.declared.single_word.SingleWord.{SingleWord}
-use Rattle.mp_text.specs.declared.single_word.SingleWord.TheVariants.{Stated, Remove, Input, Output, InputDelay, Delay, Clear}
-use Rattle.mp_text.specs.declared.line_word.LineWord.{LineWord}
-use Rattle.mp_text.specs.declared.line_word.LineWord.TheVariants.{Single, Batch, Question}
-use Rattle.mp_text.specs.declared.question_word.QuestionWord.{QuestionWord}
-use Rattle.mp_text.specs.declared.question_word.QuestionWord.TheVariants.{Wave, Waves, Text, Report, Dump, Work, Show, Why, Path, Waits, Measure, Graph, Version, Edits}
+use Rattle.std.specs.Prelude.{◌≡◌, ◌-◌, ◌<◌, ◌==◌, ◌||◌, ◌∷◌}
+use Rattle.mp_text.proofs.Names.{rest_ascii, texts_behind, ℕ, zero, suc, min, Bool, true, false, cond, List, [], length, drop, None, Some, Result, Ok, Err, IfErr, refl, ap, ◌∙◌, arith, true≢false, length-take, length-drop, nat_le, slice_get, byte, before_first, after_first, list_all, cases_eq, leb-false, nat_tests, LineError, WordCount, UnknownStatement, NotAscii, OutOfMemory, is_allowed, words_of, ◌>>=◌, statement_takes, single_takes, question_takes, takes, is_begun, HasForm, is_mark, module_edit, stated_edit, line_word, stated_line, line_of, line_at, each_word, EditWord, SingleWord, LineWord, Single, Batch, Question, QuestionWord, Empty}
 use Rattle.mp_text.specs.declared.script_line.Line.{Line}
-use Rattle.mp_text.specs.declared.script_line.Line.TheVariants.{Empty}
-use Rattle.mp_text.specs.declared.question.Question.TheVariants as questions
-use Rattle.mp_text.specs.SingleEdits.{single_edit}
-use Rattle.mp_text.specs.Questions.{stated_question, show_question, why_question}
+use Rattle.mp_text.specs.Questions.{stated_question, show_question}
 
 abbrev Words : Type 0
 Words = List (List ℕ)
@@ -32,10 +21,6 @@ not_so_many (suc n) read only (word ∷ words) wrong =
     let rest : (length words == n) ≡ false = grind (arith, nat_tests) in
     not_so_many n (λ words. read (word ∷ words)) (only.1 word) words rest
 
--- of at most three words behind a module's kind, none are inputs or none are outputs
-few_parts : (words ports ins outs k j : ℕ) → words < 4 → ports ≡ words - (k + 1) → ins ≡ min j ports → outs ≡ ports - (j + 1) → (ins == 0 || outs == 0) ≡ true
-few_parts words ports ins outs k j few ps is os = grind (arith, nat_tests, cases_eq)
-
 abbrev is_colon : List ℕ → Bool
 is_colon = is_mark (byte ":")
 
@@ -44,62 +29,21 @@ is_angle = is_mark (byte ">")
 
 few_ports : (words : Words) → length words < 4
     → (length (before_first is_angle (after_first is_colon words)) == 0 || length (after_first is_angle (after_first is_colon words)) == 0) ≡ true
-few_ports words few = grind (arith, nat_tests, few_parts, length-drop, length-take)
-
-few_for_module : (words : Words) → nat_le 6 (length words) ≡ false → module_edit words ≡ Err WordCount
-few_for_module [] few = refl
-few_for_module (name ∷ []) few = refl
-few_for_module (name ∷ kind ∷ words) few = grind (arith, nat_tests, few_ports)
+few_ports words few = grind (arith, nat_tests, cases_eq, length-drop, length-take)
 
 statement_refused : (first : EditWord) (words : Words) → statement_takes first (length words) ≡ false → stated_edit first words ≡ Err WordCount
-statement_refused Wire words wrong = grind (arith, nat_tests, not_so_many)
-statement_refused Module words wrong = grind (arith, nat_tests, few_for_module)
-statement_refused Stimulus [] wrong = refl
-statement_refused Stimulus (wire ∷ words) wrong = grind (arith, nat_tests, leb-false)
-statement_refused Bundle words wrong = grind (arith, nat_tests, not_so_many)
-
-single_refused : (first : SingleWord) (words : Words) → single_takes first (length words) ≡ false → single_edit first words ≡ Err WordCount
-single_refused (Stated word) words wrong = grind (arith, nat_tests, statement_refused)
-single_refused Remove words wrong = grind (arith, nat_tests, not_so_many)
-single_refused Input words wrong = grind (arith, nat_tests, not_so_many)
-single_refused Output words wrong = grind (arith, nat_tests, not_so_many)
-single_refused InputDelay words wrong = grind (arith, nat_tests, not_so_many)
-single_refused Delay words wrong = grind (arith, nat_tests, not_so_many)
-single_refused Clear words wrong = grind (arith, nat_tests, not_so_many)
-
--- `why` has two words behind it, or three
-not_chain : (words : Words) → (length words == 2 || length words == 3) ≡ false → why_question words ≡ Err WordCount
-not_chain [] wrong = refl
-not_chain (a ∷ []) wrong = refl
-not_chain (a ∷ b ∷ []) wrong = grind (arith, nat_tests)
-not_chain (a ∷ b ∷ c ∷ []) wrong = grind (arith, nat_tests)
-not_chain (a ∷ b ∷ c ∷ d ∷ words) wrong = refl
+statement_refused first words wrong = grind (arith, nat_tests, not_so_many, few_ports, leb-false)
 
 not_range : (words : Words) → nat_le 2 (length words) ≡ false → show_question words ≡ Err WordCount
-not_range [] few = refl
-not_range (a ∷ []) few = refl
-not_range (a ∷ b ∷ words) few = grind (arith, nat_tests, leb-false)
+not_range words few = grind (arith, nat_tests, leb-false)
 
 question_refused : (first : QuestionWord) (words : Words) → question_takes first (length words) ≡ false → stated_question first words ≡ Err WordCount
-question_refused Wave words wrong = grind (arith, nat_tests, not_so_many)
-question_refused Waves words wrong = grind (arith, nat_tests, not_so_many)
-question_refused Text words wrong = grind (arith, nat_tests, not_so_many)
-question_refused Report words wrong = grind (arith, nat_tests, not_so_many)
-question_refused Dump words wrong = grind (arith, nat_tests, not_so_many)
-question_refused Work words wrong = grind (arith, nat_tests, not_so_many)
-question_refused Show words wrong = grind (arith, nat_tests, not_range)
-question_refused Why words wrong = grind (arith, nat_tests, not_chain)
-question_refused Path words wrong = grind (arith, nat_tests, not_so_many)
-question_refused Waits words wrong = grind (arith, nat_tests, not_so_many)
-question_refused Measure words wrong = grind (arith, nat_tests, not_so_many)
-question_refused Graph words wrong = grind (arith, nat_tests, not_so_many)
-question_refused Version words wrong = grind (arith, nat_tests, not_so_many)
-question_refused Edits words wrong = grind (arith, nat_tests, not_so_many)
+question_refused first words wrong = grind (arith, nat_tests, not_so_many, not_range)
 
 -- a first word with another number of words behind it than it takes
 refused_by_count : (first : LineWord) (words : Words) → takes first (length words) ≡ false → stated_line first words ≡ Err WordCount
 unfolding each_word
-refused_by_count (Single word) words wrong = grind (arith, nat_tests, single_refused)
+refused_by_count (Single word) words wrong = grind (arith, nat_tests, statement_refused, not_so_many)
 refused_by_count Batch [] wrong = refl
 refused_by_count Batch (word ∷ words) wrong = grind (arith, nat_tests, leb-false)
 refused_by_count (Question word) words wrong = grind (arith, nat_tests, question_refused)
@@ -117,8 +61,7 @@ module _ (line : List ℕ) (plain : list_all is_allowed line ≡ true) where
 
   of_no_words : (ws : Words) → slice_get ws 0 ≡ None → line_of ws ≡ Ok Empty
   unfolding line_of
-  of_no_words [] none = refl
-  of_no_words (word ∷ ws) none = grind (arith, nat_tests)
+  of_no_words ws none = grind (arith, nat_tests)
 
   pub without_words : slice_get (words_of line) 0 ≡ None → line_at line ≡ Ok Empty
   without_words none = by_words ∙ of_no_words (words_of line) none
@@ -126,8 +69,7 @@ module _ (line : List ℕ) (plain : list_all is_allowed line ≡ true) where
   module _ (word : List ℕ) where
     of_unknown : (ws : Words) → slice_get ws 0 ≡ Some word → line_word word ≡ None → line_of ws ≡ Err UnknownStatement
     unfolding line_of
-    of_unknown [] is none = grind (arith, nat_tests)
-    of_unknown (first ∷ ws) is none = grind (arith, nat_tests)
+    of_unknown ws is none = grind (arith, nat_tests)
 
     pub with_unknown_word : slice_get (words_of line) 0 ≡ Some word → line_word word ≡ None → line_at line ≡ Err UnknownStatement
     with_unknown_word is none = by_words ∙ of_unknown (words_of line) is none
@@ -135,8 +77,7 @@ module _ (line : List ℕ) (plain : list_all is_allowed line ≡ true) where
     module _ (first : LineWord) (known : line_word word ≡ Some first) where
       of_stated : (ws : Words) → slice_get ws 0 ≡ Some word → line_of ws ≡ stated_line first (drop 1 ws)
       unfolding line_of
-      of_stated [] is = grind (arith, nat_tests)
-      of_stated (other ∷ ws) is = grind (arith, nat_tests)
+      of_stated ws is = grind (arith, nat_tests)
 
       pub as_stated : slice_get (words_of line) 0 ≡ Some word → line_at line ≡ stated_line first (drop 1 (words_of line))
       as_stated is = by_words ∙ of_stated (words_of line) is
@@ -145,13 +86,13 @@ module _ (line : List ℕ) (plain : list_all is_allowed line ≡ true) where
       with_wrong_count is wrong = as_stated is ∙ refused_by_count first (drop 1 (words_of line)) (ap (takes first) (length-drop 1 (words_of line)) ∙ wrong)
 
       of_begun : (ws : Words) → slice_get ws 0 ≡ Some word → takes first (length ws - 1) ≡ true → is_begun ws ≡ true
-      of_begun [] is right = grind (arith, nat_tests)
-      of_begun (other ∷ ws) is right = grind (arith, nat_tests)
+      of_begun ws is right = grind (arith, nat_tests)
 
       pub has_form : slice_get (words_of line) 0 ≡ Some word → takes first (length (words_of line) - 1) ≡ true → HasForm line
       has_form is right = (plain, of_begun (words_of line) is right)
 
 -- a call that wants memory only where the line has its form
 pub only_with_form : (result : Result Line LineError) (line : List ℕ) → HasForm line → IfErr result (λ error. error ≡ OutOfMemory → HasForm line)
-only_with_form (Ok read) line form = grind (arith, nat_tests)
-only_with_form (Err error) line form = grind (arith, nat_tests)
+only_with_form result line form = grind (arith, nat_tests)
+
+pub ruleset read_line_steps = (not_plain, without_words, with_unknown_word, with_wrong_count, only_with_form, has_form, as_stated, rest_ascii, texts_behind)

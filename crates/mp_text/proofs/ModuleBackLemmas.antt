@@ -1,7 +1,6 @@
 -- The lines of modules lead where the edits of the modules lead.
 use Rattle.std.specs.Prelude.{◌≡◌, ◌^◌, ◌<◌, ◌≤◌, ◌==◌, ◌∷◌, ◌++◌}
-use Rattle.mp_text.proofs.Names.{ℕ, Bool, true, false, cond, List, [], length, map, All, Option, Some, None, Ok, decimal, refl, arith, inl, inr, codes, nat_lt, IsTrue, IsSome, IfSome, option_map, list_all, cases_Bool, eqb-true, append-nil, All-cons, All-map, All-append, All-get_or, All-from_get_or, All-weaker, Kind, some_input, some_output, param_bound-low, WireId, WireRecord, ModuleRecord, Input, Output, added_module, is_name, input_at, output_at, max_delay, Circuit, IsCircuit, IsModule, IsDelay, HasWidth, wire_at, module_at, width_of, module_width, HasNames, input_word, output_word, module_line, wire_name, delay_text, input_text, output_name, output_text, module_edits, statement_of, Change, IsPlain, IsPlain-append, IsPlain-decimal, IsPlain-name, and_parts, input_back, late_input_back, no_wire_back, wire_back, All-passing, ltb-true}
-use Rattle.mp_modules.specs.declared.kind.Kind.TheVariants as kinds
+use Rattle.mp_text.proofs.Names.{ℕ, Bool, true, cond, List, [], length, map, All, Option, Some, None, Ok, decimal, refl, arith, inl, inr, codes, nat_lt, IsTrue, IsSome, IfSome, list_all, cases_Bool, eqb-true, append-nil, All-cons, All-map, All-append, All-get_or, All-from_get_or, All-weaker, Kind, some_input, some_output, param_bound-low, WireId, WireRecord, ModuleRecord, Input, Output, added_module, is_name, input_at, output_at, max_delay, Circuit, IsCircuit, IsModule, IsDelay, HasWidth, wire_at, module_at, width_of, module_width, HasNames, input_word, module_line, wire_name, delay_text, input_text, output_name, output_text, module_edits, statement_of, Change, IsPlain, IsPlain-append, IsPlain-decimal, IsPlain-name, and_parts, input_back, late_input_back, no_wire_back, wire_back, All-passing, ltb-true, nat_tests}
 use Rattle.mp_modules.specs.Kinds.{word_of, param_bound, param_count, are_params, has_width, output_width}
 use Rattle.mp_text.proofs.StatementBackLemmas.{name_no_greater, module_stated}
 use Rattle.mp_text.proofs.TextBackLemmas.{SlotLeads, leads_line}
@@ -9,8 +8,7 @@ use Rattle.mp_text.proofs.RecordBackLemmas.{wire_named}
 
 -- the word of a kind
 IsPlain-kind : (kind : Kind) → IsPlain (word_of kind)
-IsPlain-kind kinds.Buf = grind arith
-IsPlain-kind _ = grind arith
+IsPlain-kind kind = grind (arith, nat_tests)
 
 params_low : (kind : Kind) (width : ℕ) (params : List ℕ) → width ≤ 64 → IsTrue (are_params kind width params) → All (λ p. p < 2 ^ 64) params
 unfolding are_params
@@ -25,8 +23,7 @@ abbrev Stands : Circuit → Option WireId → Type 0
 Stands n wire = IfSome wire (λ w. IsSome (wire_at n w.0))
 
 wide : (n : Circuit) (r : ModuleRecord) (p : ℕ) (wire : Option WireId) → IfSome wire (λ w. HasWidth n w.0 (output_width r.kind (module_width n r) p)) → Stands n wire
-wide n r p None ok = grind arith
-wide n r p (Some w) ok = grind arith
+wide n r p wire ok = grind (arith, nat_tests)
 
 module _ (n : Circuit) (circuit : IsCircuit n) (named : HasNames n) where
   slot_narrow : (w : ℕ) (slot : Option WireRecord) → wire_at n w ≡ slot → width_of slot ≤ 64
@@ -34,13 +31,7 @@ module _ (n : Circuit) (circuit : IsCircuit n) (named : HasNames n) where
   slot_narrow w (Some r) at = (circuit.wires_ok w r at).narrow
 
   module_narrow : (b : Bool) (w : ℕ) → cond b (width_of (wire_at n w)) 1 ≤ 64
-  module_narrow true w = grind (arith, slot_narrow)
-  module_narrow false w = grind arith
-
-  output_back : (wire : Option WireId) (delay : ℕ) → delay ≤ max_delay → Stands n wire
-      → output_word (output_name n wire ++ (47 ∷ decimal delay)) ≡ Ok (record { wire = option_map (wire_name n) wire; delay = delay })
-  output_back None delay low stands = grind (arith, no_wire_back)
-  output_back (Some w) delay low stands = grind (arith, wire_named, wire_back, IsPlain-name)
+  module_narrow b w = grind (arith, nat_tests, slot_narrow)
 
   output_plain : (wire : Option WireId) (delay : ℕ) → delay ≤ max_delay → Stands n wire → IsPlain (output_name n wire ++ (47 ∷ decimal delay))
   output_plain wire delay low stands =
@@ -104,7 +95,7 @@ module _ (n : Circuit) (circuit : IsCircuit n) (named : HasNames n) where
         All-cons IsPlain r.name (word_of r.kind ∷ (params_words ++ (codes ":" ∷ behind_colon))) (IsPlain-name r.name (named.modules m r at)) (All-cons IsPlain (word_of r.kind) (params_words ++ (codes ":" ∷ behind_colon)) (IsPlain-kind r.kind) rest)
 
     module_again : statement_of (codes "module" ∷ r.name ∷ word_of r.kind ∷ (params_words ++ (codes ":" ∷ behind_colon))) ≡ Change (Ok (added_module n r))
-    module_again = grind (arith, All-weaker, output_back, outputs_ok, some_input, some_output, name_no_greater, inputs_ok, named_back, module_stated, params_ok)
+    module_again = grind (arith, nat_tests, All-weaker, no_wire_back, wire_named, wire_back, IsPlain-name, outputs_ok, some_input, some_output, name_no_greater, inputs_ok, named_back, module_stated, params_ok)
 
   pub module_leads : (m : ℕ) (r : ModuleRecord) → module_at n m ≡ Some r → SlotLeads (module_line n) (module_edits n) (Some r)
   module_leads m r at = record {

@@ -1,6 +1,6 @@
 -- The edits of a netlist's modules, once its wires are added, are not refused.
 use Rattle.std.specs.Prelude.{◌≡◌, ◌<◌, ◌≤◌, ◌==◌, ◌∷◌, ◌++◌}
-use Rattle.mp_text.proofs.Names.{added_module, ℕ, true, List, [], length, map, get_or, All, Option, Some, None, Ok, option_map, is_none, refl, sym, ap, subst, ◌∙◌, arith, length-append, nat_le, IsSome, IfSome, slice_index_or, flat_map, list_all, eq-eqb, lt-ltb, nat_tests, get_or_at, get_or_append_left, get_or-map, length-map, All-head, All-tail, All-map, All-weaker, All-from_get_or, input_count, output_count, input_width, output_width, are_params, WireId, ModuleRecord, Input, Output, InputName, OutputName, no_input, output_in, max_delay, Circuit, IsCircuit, IsModule, IsDelay, IsInputDelay, HasWidth, Drives, wire_at, module_at, width_of, module_width, HasNames, no_name, some_input, wire_name, module_by_name, module_edits, input_by_name, output_by_name, list_all-from_AllPass, and_from, refusal, edited, after_single, stands, wire_id, width_named, is_undriven, is_delay, is_input_delay, delays_fit, driven_names, are_distinct, first_width, new_width, inputs_stand, inputs_fit, output_fits, outputs_fit, module_checks, input_of, output_of, new_module, without_stimulus, module_limit}
+use Rattle.mp_text.proofs.Names.{added_module, ℕ, true, List, [], length, map, get_or, All, Option, Some, None, Ok, option_map, is_none, refl, sym, ap, subst, ◌∙◌, arith, length-append, nat_le, IsSome, IfSome, slice_index_or, flat_map, list_all, eq-eqb, lt-ltb, nat_tests, get_or_at, get_or_append_left, get_or-map, length-map, All-head, All-tail, All-map, All-weaker, All-from_get_or, input_count, output_count, input_width, output_width, are_params, WireId, ModuleRecord, Input, InputName, OutputName, no_input, output_in, max_delay, Circuit, IsCircuit, IsModule, IsDelay, IsInputDelay, HasWidth, Drives, wire_at, module_at, width_of, module_width, HasNames, no_name, some_input, wire_name, module_by_name, module_edits, input_by_name, output_by_name, list_all-from_AllPass, and_from, refusal, edited, after_single, stands, wire_id, width_named, is_undriven, is_delay, is_input_delay, delays_fit, driven_names, are_distinct, first_width, new_width, inputs_stand, inputs_fit, output_fits, outputs_fit, module_checks, input_of, output_of, new_module, without_stimulus, module_limit, rules}
 use Rattle.mp_text.proofs.SlotLemmas.{Unnamed, named_nowhere, front_unnamed}
 use Rattle.mp_text.proofs.StageLemmas.{none_failing, is_done, Reaches, Added, AddsOne, added_reached, unnamed_again}
 use Rattle.mp_text.proofs.OutputLemmas.{output_named, is_output, DrivesNone, undriven_by_name, drives_none, is_nothing_driven, driven_all, driven_distinct, counted_all}
@@ -86,14 +86,10 @@ module _ (n c : Circuit) (has : HasWires n c) (r : ModuleRecord) (is : IsModule 
           subst (λ wire. output_fits c wire (output_width r.kind (new_width c r.kind input_names) p) ≡ true) (sym (output_named n r.outputs p)) (output_wide p (output_in r.outputs p).wire refl)
 
   inputs_low : list_all (λ (i : InputName). is_input_delay i.delay) input_names ≡ true
-  inputs_low =
-      list_all-from_AllPass (λ (i : InputName). is_input_delay i.delay) input_names (All-map (λ (i : InputName). is_input_delay i.delay ≡ true) (input_by_name n) r.inputs
-      (All-weaker (λ (i : Input). IsInputDelay i.delay) (λ (i : Input). is_input_delay i.delay ≡ true) (λ i low. is_low_input_delay i.delay low) r.inputs is.input_delays))
+  inputs_low = search (rules, arith, nat_tests, list_all-from_AllPass, All-map, All-weaker, is_low_input_delay)
 
   outputs_low : list_all (λ (o : OutputName). is_delay o.delay) output_names ≡ true
-  outputs_low =
-      list_all-from_AllPass (λ (o : OutputName). is_delay o.delay) output_names (All-map (λ (o : OutputName). is_delay o.delay ≡ true) (output_by_name n) r.outputs
-      (All-weaker (λ (o : Output). IsDelay o.delay) (λ (o : Output). is_delay o.delay ≡ true) (λ o low. is_low_delay o.delay low) r.outputs is.delays))
+  outputs_low = search (rules, arith, nat_tests, list_all-from_AllPass, All-map, All-weaker, is_low_delay)
 
   pub delays_low : delays_fit input_names output_names ≡ true
   delays_low = and_from (list_all (λ (i : InputName). is_input_delay i.delay) input_names) (list_all (λ (o : OutputName). is_delay o.delay) output_names) inputs_low outputs_low

@@ -1,8 +1,7 @@
 -- The outputs of modules by name.
 use Rattle.std.specs.Prelude.{◌≡◌, ◌<◌, ◌∷◌, ◌⊎◌}
-use Rattle.mp_text.proofs.Names.{ℕ, suc, Bool, true, false, not, List, [], length, map, get_or, All, Option, Some, None, option_map, is_some, refl, sym, ap, subst, ◌∙◌, arith, inl, inr, flat_map, list_all, list_any, enumerate_from, bytes_eq, All-cons, All-nil, All-head, All-get_or, All-from_get_or, WireId, ModuleRecord, Output, OutputName, SingleEdit, AddModule, added_module, output_in, Circuit, Drives, wire_at, stimulus_at, driver, is_nothing, is_port, stimulus_driver, driven_names, are_distinct, slot_within, no_name, name_in, wire_name, output_by_name, module_edits, list_all-from_AllPass, and_from}
+use Rattle.mp_text.proofs.Names.{ℕ, suc, Bool, true, false, not, List, [], length, map, get_or, All, Option, Some, None, option_map, is_some, refl, sym, ap, subst, ◌∙◌, arith, inl, inr, flat_map, list_all, list_any, enumerate_from, bytes_eq, All-cons, All-nil, All-head, All-get_or, All-from_get_or, WireId, ModuleRecord, Output, OutputName, SingleEdit, AddModule, added_module, output_in, Circuit, Drives, wire_at, stimulus_at, driver, is_nothing, is_port, stimulus_driver, driven_names, are_distinct, slot_within, no_name, name_in, wire_name, output_by_name, module_edits, list_all-from_AllPass, and_from, list_any_none, nat_tests}
 use Rattle.std.proofs.Math.ListN.{get_or-map}
-use Rattle.std.proofs.lemmas.List.Folds.{list_any_none}
 use Rattle.std.proofs.lemmas.List.FromFn.{get_or-enumerate_from, length-enumerate_from}
 use Rattle.mp_netlist.proofs.DriverLemmas.{driven_by}
 use Rattle.mp_text.proofs.SlotLemmas.{All-flat_map, All-from_flat_map, unequal_name}
@@ -62,8 +61,7 @@ pub is_nothing_driven : (c : Circuit) (w : ℕ) → ((m p : ℕ) → Drives c m 
 is_nothing_driven c w none unset = ap is_nothing (no_port_driver c w none ∙ ap stimulus_driver unset)
 
 no_port_of : (stimulus : Option (List (ℕ × ℕ))) → is_port (stimulus_driver stimulus) ≡ false
-no_port_of None = refl
-no_port_of (Some changes) = refl
+no_port_of stimulus = grind (arith, nat_tests)
 
 pub is_no_port : (c : Circuit) (w : ℕ) → ((m p : ℕ) → Drives c m p w → ⊥) → is_port (driver c w) ≡ false
 is_no_port c w none = ap is_port (no_port_driver c w none) ∙ no_port_of (stimulus_at c w)

@@ -1,6 +1,6 @@
 -- Facts about the parts of a batch's words.
 use Rattle.std.specs.Prelude.{◌≡◌, ◌∷◌}
-use Rattle.mp_text.proofs.Names.{ℕ, Bool, true, false, cond, List, [], map, All, IsAscii, Bor, refl, sym, ap, subst, ◌∙◌, byte, slice_split, onto_first, texts, AreAscii, is_mark, All-slice_split, All-unmap, part_texts}
+use Rattle.mp_text.proofs.Names.{take_more, map-append, ℕ, Bool, List, [], map, All, IsAscii, Bor, refl, sym, ap, subst, ◌∙◌, byte, slice_split, onto_first, texts, AreAscii, is_mark, All-slice_split, All-unmap, part_texts, arith, nat_tests}
 use Rattle.std.proofs.lemmas.Simd.{map-map}
 
 -- a word that divides parts, where it lies in memory
@@ -14,20 +14,10 @@ Word = Bor (List ℕ)
 abbrev pub texts_each : List (List Word) → List (List (List ℕ))
 texts_each parts = map texts parts
 
-onto_texts : (word : Word) (parts : List (List Word)) → texts_each (onto_first word parts) ≡ onto_first word.now (texts_each parts)
-onto_texts word [] = refl
-onto_texts word (part ∷ parts) = refl
-
 -- the texts of the parts are the parts of the texts
 pub texts_of_parts : (words : List Word) → texts_each (slice_split divides words) ≡ slice_split (is_mark (byte ";")) (texts words)
 texts_of_parts [] = refl
-texts_of_parts (word ∷ words) = by (divides word) (texts_of_parts words)
-  where
-    by : (b : Bool) → texts_each (slice_split divides words) ≡ slice_split (is_mark (byte ";")) (texts words)
-        → texts_each (cond b ([] ∷ slice_split divides words) (onto_first word (slice_split divides words)))
-        ≡ cond b ([] ∷ slice_split (is_mark (byte ";")) (texts words)) (onto_first word.now (slice_split (is_mark (byte ";")) (texts words)))
-    by true same = ap (λ parts. [] ∷ parts) same
-    by false same = onto_texts word (slice_split divides words) ∙ ap (onto_first word.now) same
+texts_of_parts (word ∷ words) = grind (arith, nat_tests, (texts_of_parts words))
 
 -- the parts that words were split into, and what holds of them
 module _ (words : List Word) (parts : List (Bor (List Word))) (split : map (λ part. part.now) parts ≡ slice_split divides words) where
@@ -36,3 +26,5 @@ module _ (words : List Word) (parts : List (Bor (List Word))) (split : map (λ p
 
   pub parts_ascii : AreAscii words → All (λ part. AreAscii part.now) parts
   parts_ascii all = All-unmap AreAscii (λ part. part.now) parts (subst (All AreAscii) (sym split) (All-slice_split (λ word. IsAscii word.now) divides words all))
+
+pub ruleset wire_names_steps = (take_more, map-append)

@@ -1,8 +1,7 @@
 -- The lines of records lead where the edits of the records lead.
 use Rattle.std.specs.Prelude.{◌≡◌, ◌^◌, ◌<◌, ◌≤◌, ◌&&◌, ◌∷◌, ◌++◌}
-use Rattle.mp_text.proofs.Names.{ℕ, Bool, true, List, [], map, All, Option, Some, None, Ok, decimal, refl, arith, codes, nat_lt, IsTrue, IsSome, IfSome, nat_tests, All-cons, All-nil, All-map, All-weaker, WireId, WireRecord, BundleRecord, SingleEdit, AddWire, SetStimulus, is_name, max_horizon, Circuit, IsCircuit, wire_at, bundle_at, HasNames, change_word, pair_text, wire_line, stimulus_line, bundle_line, stimulus_words, name_in, wire_name, wire_edits, stimulus_edits, set_edits, bundle_by_name, added_bundle, bundle_edits, IsPlain, IsPlain-append, IsPlain-decimal, IsPlain-name, and_parts, change_back, is_stimulus, horizon_within}
+use Rattle.mp_text.proofs.Names.{ℕ, Bool, true, List, [], map, All, Option, Some, None, Ok, decimal, refl, arith, codes, nat_lt, IsTrue, IsSome, IfSome, nat_tests, All-cons, All-nil, All-map, All-weaker, WireId, WireRecord, BundleRecord, SingleEdit, AddWire, SetStimulus, is_name, max_horizon, Circuit, IsCircuit, wire_at, bundle_at, HasNames, change_word, pair_text, wire_line, stimulus_line, bundle_line, stimulus_words, name_in, wire_name, wire_edits, stimulus_edits, set_edits, bundle_by_name, added_bundle, bundle_edits, IsPlain, IsPlain-append, IsPlain-decimal, IsPlain-name, and_parts, change_back, is_stimulus, horizon_within, All-from_recursion}
 use Rattle.std.proofs.Math.Nat.{pow-le-pow_right}
-use Rattle.std.proofs.lemmas.List.Elements.{All-from_recursion}
 use Rattle.mp_modules.specs.Levels.{fits_width}
 use Rattle.mp_text.proofs.StatementBackLemmas.{wire_stated, stimulus_stated, bundle_stated}
 use Rattle.mp_text.proofs.TextBackLemmas.{Leads, SlotLeads, leads_line}
@@ -27,8 +26,7 @@ module _ (n : Circuit) (circuit : IsCircuit n) (named : HasNames n) where
 
   -- the name of a wire that stands
   stands_named : (w : ℕ) (slot : Option WireRecord) → wire_at n w ≡ slot → IsSome slot → is_name (name_in slot) ≡ true
-  stands_named w None at some = grind (arith, nat_tests)
-  stands_named w (Some r) at some = grind (arith, nat_tests)
+  stands_named w slot at some = grind (arith, nat_tests)
 
   pub wire_named : (w : WireId) → IsSome (wire_at n w.0) → is_name (wire_name n w) ≡ true
   wire_named w some = stands_named w.0 (wire_at n w.0) refl some

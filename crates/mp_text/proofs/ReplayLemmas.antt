@@ -1,10 +1,9 @@
 -- The netlist of a text is a replay.
-use Rattle.mp_text.proofs.Names.{ℕ, Bool, true, false, cond, List, [], map, Result, Ok, Err, length, refl, ap, ◌∙◌, nat_le, result_map_both, filter_map, list_all, SingleEdit, EditError, Circuit, empty_circuit, after_single, go_on, replay, replay_singles, NotAscii, BadNumber, Line, Refused, TextCode, First, TextState, Fresh, Formatted, Open, ◌>>=◌, TextError, lines_of, is_allowed, words_of, Statement, Blank, Unknown, Format, Start, Change, statement_of, in_text, text_at, after_lines, after_line, after_statement, formatted, next_line, sym, subst, Second, Standard, Large, BadFormat, Third, netlist_format, text_limit, TextFormat, format_of, max_horizon_of, eqb-true}
-use Rattle.std.specs.Prelude.{◌≡◌, ◌+◌, ◌∷◌, ◌&&◌, if◌then◌else◌, ◌==◌}
+use Rattle.mp_text.proofs.Names.{ℕ, Bool, true, false, cond, List, [], map, Result, Ok, Err, length, refl, ap, nat_le, filter_map, list_all, SingleEdit, EditError, Circuit, empty_circuit, after_single, go_on, replay, replay_singles, NotAscii, BadNumber, Line, TextCode, TextState, Fresh, Formatted, Open, ◌>>=◌, TextError, lines_of, is_allowed, words_of, Statement, Format, Start, statement_of, in_text, text_at, after_lines, after_line, after_statement, formatted, next_line, Standard, Large, netlist_format, text_limit, TextFormat, format_of, eqb-true, arith, nat_tests}
+use Rattle.std.specs.Prelude.{◌≡◌, ◌+◌, ◌∷◌, if◌then◌else◌, ◌==◌}
 use Rattle.mp_netlist.specs.declared.format.Format.{Format as NetlistFormat}
-use Rattle.mp_text.specs.Laws.{format_by}
 use Rattle.mp_records.specs.declared.edit.Edit.TheVariants.{Single}
-use Rattle.mp_text.specs.Laws.{horizon_of, edit_of, statements, IsReplayed, IsReplay}
+use Rattle.mp_text.specs.Laws.{format_by, horizon_of, edit_of, statements, IsReplayed, IsReplay}
 
 -- the lines state no horizon, and lead from one netlist to the other by their edits
 abbrev LeadsOn : List Statement → Circuit → Circuit → Type 0
@@ -12,20 +11,9 @@ LeadsOn ss n c = (filter_map horizon_of ss ≡ []) × (replay_singles n (filter_
 
 module _ (k : ℕ) (n c : Circuit) (ss : List Statement) (go : TextState → Result Circuit TextError)
     (next : (m : Circuit) → go (Open m) ≡ Ok c → LeadsOn ss m c) where
-  on_edit : (e : SingleEdit) (r : Result Circuit EditError) → after_single n e ≡ r → next_line k go (result_map_both Open Refused r) ≡ Ok c → LeadsOn (Change (Ok e) ∷ ss) n c
-  on_edit e (Ok m) same h =
-      let rest = next m h in
-      (rest.0, ap (go_on (λ n. replay_singles n (filter_map edit_of ss))) same ∙ rest.1)
-  on_edit e (Err error) same h = cc
-
   on_statement : (s : Statement) → next_line k go (after_statement (Open n) s) ≡ Ok c → LeadsOn (s ∷ ss) n c
   unfolding after_statement
-  on_statement Blank h = next n h
-  on_statement Unknown h = cc
-  on_statement (Format number) h = cc
-  on_statement (Start horizon) h = cc
-  on_statement (Change (Ok e)) h = on_edit e (after_single n e) refl h
-  on_statement (Change (Err code)) h = cc
+  on_statement s h = grind (arith, nat_tests)
 
 -- what holds of the statements of a line that is read holds of its words
 module _ (k : ℕ) (c : Circuit) (state : TextState) (go : TextState → Result Circuit TextError) (P : Statement → Type 0)
@@ -47,47 +35,23 @@ Opens f ss c = (h : ℕ) × ((filter_map horizon_of ss ≡ h ∷ []) × (replay_
 
 -- the format of a text of the form of a number
 pub format_numbered : (number : ℕ) (form : TextFormat) → format_of number ≡ Ok form → netlist_format form ≡ (if number == 3 then Large else Standard)
-format_numbered number form is = by (number == 1) refl (number == 2) refl (number == 3) refl is
-  where
-    -- a number that is another isn't 3
-    other : (k : ℕ) (three : Bool) → (number == k) ≡ true → (k == 3) ≡ false → (number == 3) ≡ three → three ≡ false
-    other k three same differs is_three = sym is_three ∙ ap (λ l. l == 3) (eqb-true number k same) ∙ differs
-
-    by : (one : Bool) → (number == 1) ≡ one → (two : Bool) → (number == 2) ≡ two → (three : Bool) → (number == 3) ≡ three
-        → cond one (Ok First) (cond two (Ok Second) (cond three (Ok Third) (Err BadFormat))) ≡ Ok form → netlist_format form ≡ cond three Large Standard
-    by true e two f three g is = let same : First ≡ form = cc in let no = other 1 three e refl g in rw (sym same, no) refl
-    by false e true f three g is = let same : Second ≡ form = cc in let no = other 2 three f refl g in rw (sym same, no) refl
-    by false e false f true g is = let same : Third ≡ form = cc in rw (sym same) refl
-    by false e false f false g is = cc
+format_numbered number form is = grind (arith, nat_tests, eqb-true)
 
 module _ (k : ℕ) (c : Circuit) (ss : List Statement) (go : TextState → Result Circuit TextError)
     (formed : (format : TextFormat) → go (Formatted format) ≡ Ok c → Opens (netlist_format format) ss c) (next : (m : Circuit) → go (Open m) ≡ Ok c → LeadsOn ss m c) where
   on_begun : (f : NetlistFormat) (h : ℕ) (allowed : Bool) → next_line k go (cond allowed (Ok (Open (empty_circuit f h))) (Err (Line BadNumber))) ≡ Ok c → Opens f (Start (Ok h) ∷ ss) c
-  on_begun f h true same = let rest = next (empty_circuit f h) same in (h, (ap (λ hs. h ∷ hs) rest.0, rest.1))
-  on_begun f h false same = cc
+  on_begun f h allowed same = grind (arith, nat_tests)
 
   on_format : (number : ℕ) (r : Result TextFormat TextCode) → format_of number ≡ r → next_line k go (formatted r) ≡ Ok c → Opens (if number == 3 then Large else Standard) (Format (Ok number) ∷ ss) c
-  on_format number (Ok format) is h = subst (λ f. Opens f (Format (Ok number) ∷ ss) c) (format_numbered number format is) (formed format h)
-  on_format number (Err code) is h = cc
+  on_format number r is h = grind (arith, nat_tests, format_numbered)
 
   opens_formatted : (format : TextFormat) (s : Statement) → next_line k go (after_statement (Formatted format) s) ≡ Ok c → Opens (netlist_format format) (s ∷ ss) c
   unfolding after_statement
-  opens_formatted format Blank h = formed format h
-  opens_formatted format Unknown h = cc
-  opens_formatted format (Format number) h = cc
-  opens_formatted format (Start (Ok horizon)) h = on_begun (netlist_format format) horizon (nat_le 1 horizon && nat_le horizon (max_horizon_of format)) h
-  opens_formatted format (Start (Err code)) h = cc
-  opens_formatted format (Change edit) h = cc
+  opens_formatted format s h = grind (arith, nat_tests, on_begun)
 
   opens_fresh : (go Fresh ≡ Ok c → Opens (format_by ss) ss c) → (s : Statement) → next_line k go (after_statement Fresh s) ≡ Ok c → Opens (format_by (s ∷ ss)) (s ∷ ss) c
   unfolding after_statement
-  opens_fresh later Blank h = later h
-  opens_fresh later Unknown h = cc
-  opens_fresh later (Format (Ok number)) h = on_format number (format_of number) refl h
-  opens_fresh later (Format (Err code)) h = cc
-  opens_fresh later (Start (Ok horizon)) h = on_begun Standard horizon (nat_le 1 horizon && nat_le horizon (max_horizon_of First)) h
-  opens_fresh later (Start (Err code)) h = cc
-  opens_fresh later (Change edit) h = cc
+  opens_fresh later h1 h = grind (arith, nat_tests, on_format, on_begun)
 
 opens_behind : (k : ℕ) (c : Circuit) (lines : List (List ℕ)) (format : TextFormat) → after_lines k (Formatted format) lines ≡ Ok c → Opens (netlist_format format) (statements lines) c
 unfolding after_lines after_line
@@ -104,8 +68,7 @@ opens k c (line ∷ lines) h =
     (opens_fresh k c (statements lines) (λ after. after_lines (k + 1) after lines) (opens_behind (k + 1) c lines) (λ m. leads_on (k + 1) m c lines) (opens (k + 1) c lines)) (list_all is_allowed line) (words_of line) h
 
 of_length : (b : Bool) (lines : Result Circuit TextError) (c : Circuit) (e : TextError) → cond b lines (Err e) ≡ Ok c → lines ≡ Ok c
-of_length true lines c e h = h
-of_length false lines c e h = cc
+of_length b lines c e h = grind (arith, nat_tests)
 
 -- a replay of edits of one thing
 singles_replayed : (n : Circuit) (edits : List SingleEdit) → replay n (map Single edits) ≡ replay_singles n edits
@@ -118,8 +81,7 @@ singles_replayed n (edit ∷ edits) = by (after_single n edit) (λ next. singles
     by (Err error) later = refl
 
 replayed : (lines : List (List ℕ)) (c : Circuit) → Opens (format_by (statements lines)) (statements lines) c → IsReplayed lines c
-replayed lines c opened =
-    (opened.0, (opened.1.0, singles_replayed (empty_circuit (format_by (statements lines)) opened.0) (filter_map edit_of (statements lines)) ∙ opened.1.1))
+replayed lines c opened = grind (arith, nat_tests, singles_replayed)
 
 pub text_is_replay : IsReplay
 unfolding text_at

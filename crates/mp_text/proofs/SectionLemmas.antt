@@ -1,7 +1,6 @@
 -- The lines of a section, slot by slot.
 use Rattle.std.specs.Prelude.{◌≡◌, ◌+◌, ◌<◌, ◌≤◌, ◌++◌}
-use Rattle.mp_text.proofs.Names.{left_none, left_as, left_then, left_whole, ℕ, List, [], drop, None, refl, flat_map, at_drop_more, at_drop_all, Circuit, Wires, Modules, Stimuli, Bundles, slot_count, slot_line, section_text, wire_line, module_line, stimulus_line, bundle_line}
-use Rattle.mp_text.specs.declared.section.Section.{Section}
+use Rattle.mp_text.proofs.Names.{left_none, left_as, left_then, left_whole, ℕ, List, [], drop, None, refl, flat_map, at_drop_more, at_drop_all, Circuit, Wires, Modules, Stimuli, Bundles, slot_count, slot_line, section_text, wire_line, module_line, stimulus_line, bundle_line, Section, arith, nat_tests}
 
 -- the lines of the slots with this number and those above
 unfoldable pub lines_from : Circuit → Section → ℕ → List ℕ
@@ -12,10 +11,7 @@ lines_from n Bundles k = flat_map (bundle_line n) (drop k n.bundles)
 
 pub lines_from-all : (n : Circuit) (s : Section) → lines_from n s 0 ≡ section_text n s
 unfolding lines_from
-lines_from-all n Wires = refl
-lines_from-all n Modules = refl
-lines_from-all n Stimuli = refl
-lines_from-all n Bundles = refl
+lines_from-all n s = grind (arith, nat_tests)
 
 -- the line of a slot, before those of the others
 pub lines_from-next : (n : Circuit) (s : Section) (k : ℕ) → k < slot_count n s → lines_from n s k ≡ slot_line n s k ++ lines_from n s (k + 1)

@@ -1,20 +1,16 @@
 -- How long a text may be is told by its front.
-use Rattle.mp_text.proofs.Names.{ℕ, Bool, true, false, cond, List, [], Some, take, length, zero, suc, refl, ap, arith, lines_of, max_text, max_short_text, number_word, first_words, is_three, states_third, text_limit, ne_eqb, words_of}
+use Rattle.mp_text.proofs.Names.{ℕ, Bool, cond, List, [], Some, take, length, zero, suc, refl, ap, arith, lines_of, max_text, max_short_text, number_word, first_words, is_three, states_third, text_limit, ne_eqb, words_of, min, take_min, nat_tests}
 use Rattle.std.specs.Prelude.{◌≡◌, ◌≢◌, ◌+◌, ◌<◌, ◌≤◌, ◌∷◌, ◌&&◌, codes, slice_get, ◌==◌}
 use Rattle.std.specs.Str.{bytes_eq}
 use Rattle.std.proofs.lemmas.Bool.{eq-eqb}
-use Rattle.std.proofs.Common.{min}
-use Rattle.std.proofs.lemmas.List.{take_min}
 
 take_twice : {A : Type 0} (j k : ℕ) (xs : List A) → j ≤ k → take j (take k xs) ≡ take j xs
-take_twice zero k xs short = refl
 take_twice (suc j) zero xs short = grind arith
-take_twice (suc j) (suc k) [] short = refl
 take_twice (suc j) (suc k) (x ∷ xs) short = grind (arith, (take_twice j k xs (omega (arith, short))))
+take_twice j k xs short = refl
 
 limits : (third : Bool) → (max_short_text ≤ cond third max_text max_short_text) × (cond third max_text max_short_text ≤ max_text)
-limits true = grind arith
-limits false = grind arith
+limits third = grind (arith, nat_tests)
 
 -- a text may always be as long as one of the first form
 pub limit_least : (text : List ℕ) → max_short_text ≤ text_limit text
@@ -46,7 +42,4 @@ no_words (b ∷ bs) none = grind arith
 -- two words are looked at
 pub third_of : (words : List (List ℕ)) (first second : Bool) → ((text : List ℕ) → slice_get words 0 ≡ Some text → first ≡ bytes_eq text (codes "format"))
     → ((text : List ℕ) → slice_get words 1 ≡ Some text → second ≡ is_three (number_word text)) → (length words == 2 && first && second) ≡ states_third words
-third_of [] first second is_first is_second = refl
-third_of (word ∷ []) first second is_first is_second = refl
-third_of (word ∷ number ∷ []) first second is_first is_second = grind arith
-third_of (word ∷ number ∷ another ∷ words) first second is_first is_second = grind (arith, ne_eqb)
+third_of words first second is_first is_second = grind (arith, nat_tests, ne_eqb)

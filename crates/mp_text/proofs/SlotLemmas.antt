@@ -1,6 +1,6 @@
 -- Slots without the empty ones, and where a name is found among them.
-use Rattle.std.specs.Prelude.{◌≡◌, ◌+◌, ◌<◌, ◌≤◌, ◌∷◌, ◌++◌}
-use Rattle.mp_text.proofs.Names.{ℕ, suc, false, List, [], length, get_or, take, drop, map, All, Option, Some, None, is_some, refl, sym, ap, subst, ◌∙◌, arith, flat_map, bytes_eq, append-nil, get_or_at, get_or_append_left, set-get_or, set_split, flat_map-append, All-cons, All-nil, All-head, All-tail, All-append, All-weaker, All-from_get_or, false_from_ne_true, same_name, equal_name, slot_within, slot_at, has_name, number_named, nat_lt, nat_tests, first_none, position-append}
+use Rattle.std.specs.Prelude.{◌≡◌, ◌<◌, ◌≤◌, ◌∷◌, ◌++◌}
+use Rattle.mp_text.proofs.Names.{ℕ, suc, false, List, [], length, get_or, take, drop, map, All, Option, Some, None, is_some, refl, sym, ap, subst, ◌∙◌, arith, flat_map, bytes_eq, append-nil, get_or_at, get_or_append_left, set-get_or, set_split, flat_map-append, All-cons, All-nil, All-head, All-tail, All-append, All-weaker, All-from_get_or, false_from_ne_true, same_name, equal_name, slot_within, slot_at, has_name, number_named, nat_lt, nat_tests, first_none, position-append, rules}
 use Rattle.std.proofs.lemmas.Iterator.Adapters.{position_from-zero}
 
 -- a thing that stands, changed, and nothing where none does
@@ -43,13 +43,11 @@ compact-none change front = flat_map-append (compact change) front (None ∷ [])
 
 pub length-compact : {R : Type 0} (f g : R → R) (slots : List (Option R)) → length (flat_map (compact f) slots) ≡ length (flat_map (compact g) slots)
 length-compact f g [] = refl
-length-compact f g (None ∷ slots) = grind (arith, nat_tests, (length-compact f g slots))
-length-compact f g (Some r ∷ slots) = grind (arith, nat_tests, (length-compact f g slots))
+length-compact f g (x ∷ slots) = grind (arith, nat_tests, (length-compact f g slots))
 
 pub compact_few : {R : Type 0} (f : R → R) (slots : List (Option R)) → length (flat_map (compact f) slots) ≤ length slots
 compact_few f [] = grind (arith, nat_tests)
-compact_few f (None ∷ slots) = grind (arith, nat_tests, (compact_few f slots))
-compact_few f (Some r ∷ slots) = grind (arith, nat_tests, (compact_few f slots))
+compact_few f (x ∷ slots) = grind (arith, nat_tests, (compact_few f slots))
 
 pub unequal_name : (a b : List ℕ) → (a ≡ b → ⊥) → bytes_eq a b ≡ false
 unequal_name a b other = false_from_ne_true (bytes_eq a b) (λ same. other (same_name a b same))
@@ -99,12 +97,10 @@ module _ {R : Type 0} (name_of : R → List ℕ) where
 
   module _ (change : R → R) (kept : (r : R) → name_of (change r) ≡ name_of r) where
     compact_unnamed_slot : (q : List ℕ) (slot : Option R) → Unnamed q slot → All (Unnamed q) (compact change slot)
-    compact_unnamed_slot q None none = grind (arith, nat_tests, All-nil)
-    compact_unnamed_slot q (Some r) none = grind (arith, nat_tests, All-cons, All-nil)
+    compact_unnamed_slot q slot none = grind (arith, nat_tests, All-nil, All-cons)
 
     pub compact_unnamed : (q : List ℕ) (slots : List (Option R)) → All (Unnamed q) slots → All (Unnamed q) (flat_map (compact change) slots)
-    compact_unnamed q slots all =
-        All-flat_map (Unnamed q) (compact change) slots (All-weaker (Unnamed q) (λ slot. All (Unnamed q) (compact change slot)) (compact_unnamed_slot q) slots all)
+    compact_unnamed q slots all = search (rules, arith, nat_tests, All-flat_map, All-weaker, compact_unnamed_slot)
 
     -- each name finds its thing, changed, among those that stand
     pub IsAt-compact : (slots : List (Option R)) → AreDistinct slots → (w : ℕ) (r : R) → slot_at slots w ≡ Some r → IsAt (flat_map (compact change) slots) (name_of r) (change r)

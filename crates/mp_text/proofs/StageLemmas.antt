@@ -1,6 +1,6 @@
 -- Edits, slot by slot, that no check refuses.
 use Rattle.std.specs.Prelude.{◌≡◌, ◌≤◌, ◌∷◌, ◌++◌}
-use Rattle.mp_text.proofs.Names.{ℕ, Bool, true, false, List, [], append_assoc, All, Option, None, Some, Ok, length, refl, sym, ap, subst, ◌∙◌, arith, flat_map, flat_map-append, append-nil, length_push, bytes_eq, All-cons, All-nil, All-head, All-weaker, SingleEdit, AddModule, AddBundle, EditError, Circuit, go_on, after_single, unless, refusal, edited, first_failing, replay_singles, edit_for}
+use Rattle.mp_text.proofs.Names.{ℕ, Bool, true, false, List, [], append_assoc, All, Option, None, Some, Ok, length, refl, sym, ap, subst, ◌∙◌, arith, flat_map, flat_map-append, append-nil, length_push, bytes_eq, All-cons, All-nil, All-head, All-weaker, SingleEdit, AddModule, AddBundle, EditError, Circuit, go_on, after_single, unless, refusal, edited, first_failing, replay_singles, edit_for, nat_tests}
 use Rattle.mp_text.proofs.SlotLemmas.{All-flat_map, All-from_flat_map, Unnamed}
 
 -- each check passes
@@ -29,13 +29,6 @@ Reaches-none P c holds = record { goal = c; holds = holds; leads = λ rest. refl
 pub Reaches-one : (P : Circuit → Type 0) (c d : Circuit) (edit : SingleEdit) → after_single c edit ≡ Ok d → P d → Reaches P c (edit ∷ [])
 Reaches-one P c d edit done holds = record { goal = d; holds = holds; leads = λ rest. ap (go_on (λ next. replay_singles next rest)) done }
 
-pub Reaches-append : (P Q : Circuit → Type 0) (c : Circuit) (edits more : List SingleEdit) → (first : Reaches P c edits) → Reaches Q first.goal more → Reaches Q c (edits ++ more)
-Reaches-append P Q c edits more first second = record {
-  goal = second.goal;
-  holds = second.holds;
-  leads = λ rest. ap (replay_singles c) (append_assoc edits more rest) ∙ first.leads (more ++ rest) ∙ second.leads rest;
-}
-
 -- from each netlist for what is in front the edits of a slot lead to one for what is in front with it
 abbrev pub Steps : {R : Type 0} → List (Option R) → (Option R → List SingleEdit) → (List (Option R) → List (Option R) → Circuit → Type 0) → Type 0
 Steps {R} slots edits At =
@@ -44,7 +37,7 @@ Steps {R} slots edits At =
 pub stage : {R : Type 0} (slots : List (Option R)) (edits : Option R → List SingleEdit) (At : List (Option R) → List (Option R) → Circuit → Type 0) → Steps slots edits At
     → (back front : List (Option R)) → slots ≡ front ++ back → (c : Circuit) → At front back c → Reaches (At slots []) c (flat_map edits back)
 stage slots edits At step [] front same c holds = grind (arith, Reaches-none, append-nil)
-stage slots edits At step (slot ∷ back) front same c holds = grind (arith, append_assoc, Reaches-append, (stage slots edits At step back (front ++ slot ∷ [])))
+stage slots edits At step (slot ∷ back) front same c holds = grind (arith, nat_tests, append_assoc, (stage slots edits At step back (front ++ slot ∷ [])))
 
 -- ---- things that edits add by name
 
@@ -74,13 +67,7 @@ module _ {R : Type 0} (slots : List (Option R)) (add again : R → SingleEdit) (
       → (things : List (Option R)) → flat_map (edit_for again) things ≡ flat_map (edit_for add) front → length things ≤ length front → AddsOne r things
 
   add_step : AddsEach → Steps slots (edit_for add) Added
-  add_step adds front back None split c at =
-      Reaches-none (Added (front ++ None ∷ []) back) c (record {
-        things = at.things;
-        is = at.is;
-        same = at.same ∙ sym (flat_map-append (edit_for add) front (None ∷ []) ∙ append-nil (flat_map (edit_for add) front));
-        few = (let none : Option R = None in omega (arith, at.few, length_push front none));
-      })
+  add_step adds front back None split c at = grind (arith, nat_tests, Reaches-none, flat_map-append, append-nil, length_push)
   add_step adds front back (Some r) split c at =
       let one = adds front back r split at.things at.same at.few in
       let things = at.things ++ Some one.new ∷ [] in
@@ -97,12 +84,10 @@ module _ {R : Type 0} (slots : List (Option R)) (add again : R → SingleEdit) (
   -- things that the edits add again have no name that those in front don't have
   module _ (name_of : R → List ℕ) (q : List ℕ) (adds : (r : R) → bytes_eq q (name_of r) ≡ false → AddsNone q (add r)) (named : (r : R) → AddsNone q (again r) → bytes_eq q (name_of r) ≡ false) where
     front_adds : (slot : Option R) → Unnamed name_of q slot → All (AddsNone q) (edit_for add slot)
-    front_adds None none = grind (arith, All-nil)
-    front_adds (Some r) none = grind (arith, All-cons, All-nil)
+    front_adds slot none = grind (arith, nat_tests, All-nil, All-cons)
 
     slot_adds : (slot : Option R) → All (AddsNone q) (edit_for again slot) → Unnamed name_of q slot
-    slot_adds None none = refl
-    slot_adds (Some r) none = grind (arith, All-head)
+    slot_adds slot none = grind (arith, nat_tests, All-head)
 
     pub unnamed_again : (front things : List (Option R)) → flat_map (edit_for again) things ≡ flat_map (edit_for add) front → All (Unnamed name_of q) front → All (Unnamed name_of q) things
     unnamed_again front things same old =

@@ -1,10 +1,8 @@
 -- Statements that are written are read again.
 use Rattle.std.specs.Prelude.{◌≡◌, ◌^◌, ◌<◌, ◌==◌, ◌∷◌, ◌++◌}
-use Rattle.mp_text.proofs.Names.{ℕ, true, false, List, [], length, map, All, Ok, decimal, refl, ap, ◌∙◌, arith, codes, list_all, nat_tests, map-id, All-map, All-weaker, Kind, word_of, InputName, OutputName, AddWire, AddModule, AddBundle, SetStimulus, number_word, change_word, input_word, output_word, pair_text, and_parts, number_back, each_back, is_name, is_mark, Start, Change, statement_of, before_first-append, after_first-append}
-use Rattle.std.specs.Char.{is_ascii_digit, is_ascii_alphabetic}
+use Rattle.mp_text.proofs.Names.{ℕ, true, false, List, [], length, map, All, Ok, decimal, refl, ap, ◌∙◌, arith, codes, list_all, nat_tests, map-id, All-map, All-weaker, Kind, word_of, InputName, OutputName, AddWire, AddModule, AddBundle, SetStimulus, number_word, change_word, input_word, output_word, pair_text, and_parts, number_back, each_back, is_name, is_mark, Start, Change, statement_of, before_first-append, after_first-append, NewModule, NewBundle}
+use Rattle.std.specs.Char.{is_ascii_digit}
 use Rattle.mp_modules.proofs.WordLemmas.{by_word}
-use Rattle.mp_records.specs.declared.new_module.NewModule.{NewModule}
-use Rattle.mp_records.specs.declared.new_bundle.NewBundle.{NewBundle}
 use Rattle.mp_words.proofs.DecimalLemmas.{decimal_digits}
 
 pub horizon_stated : (h : ℕ) → h < 2 ^ 64 → statement_of (codes "horizon" ∷ decimal h ∷ []) ≡ Start (Ok h)
@@ -33,24 +31,17 @@ stimulus_stated name changes all =
 other_byte : (mark b : ℕ) (bs : List ℕ) → (b == mark) ≡ false → is_mark mark (b ∷ bs) ≡ false
 other_byte mark b bs other = rw other refl
 
-digit_no_colon : (b : ℕ) → is_ascii_digit b ≡ true → (b == 58) ≡ false
-digit_no_colon b digit = grind (arith, nat_tests)
-
 digits_no_colon : (ds : List ℕ) → list_all is_ascii_digit ds ≡ true → is_mark 58 ds ≡ false
 digits_no_colon [] all = refl
-digits_no_colon (b ∷ bs) all = grind (arith, nat_tests, other_byte, digit_no_colon, and_parts)
+digits_no_colon (b ∷ bs) all = grind (arith, nat_tests, other_byte, and_parts)
 
 pub number_no_colon : (n : ℕ) → n < 2 ^ 64 → is_mark 58 (decimal n) ≡ false
 number_no_colon n fits = digits_no_colon (decimal n) (decimal_digits n fits)
 
-letter_no_greater : (b : ℕ) → is_ascii_alphabetic b ≡ true → (b == 62) ≡ false
-letter_no_greater b letter = grind (arith, nat_tests)
-
 -- a word that begins with a name is not `>`
 pub name_no_greater : (name rest : List ℕ) → is_name name ≡ true → is_mark 62 (name ++ rest) ≡ false
 unfolding is_name
-name_no_greater [] rest valid = grind (arith, nat_tests)
-name_no_greater (b ∷ bs) rest valid = grind (arith, nat_tests, and_parts, other_byte, letter_no_greater)
+name_no_greater name rest valid = grind (arith, nat_tests, and_parts, other_byte)
 
 some_words : {A : Type 0} (write : A → List ℕ) (xs : List A) → 0 < length xs → (length (map write xs) == 0) ≡ false
 some_words write [] some = grind (arith, nat_tests)

@@ -1,6 +1,6 @@
 -- Lines that are written lead from netlist to netlist as their edits do.
-use Rattle.std.specs.Prelude.{◌≡◌, ◌+◌, ◌∷◌, ◌++◌}
-use Rattle.mp_text.proofs.Names.{ℕ, List, [], append_assoc, suc, All, Option, Some, None, Result, Ok, Err, refl, sym, ap, subst, ◌∙◌, flat_map, result_map_both, slot_at, SingleEdit, EditError, Circuit, go_on, after_single, replay_singles, Refused, TextState, Open, ◌>>=◌, Change, statement_of, spaced, written_line, IsPlain, lines_of, in_text, after_statement, after_line, after_lines, next_line}
+use Rattle.std.specs.Prelude.{◌≡◌, ◌∷◌, ◌++◌}
+use Rattle.mp_text.proofs.Names.{ℕ, List, [], append_assoc, suc, All, Option, Some, None, Ok, refl, sym, ap, subst, flat_map, slot_at, SingleEdit, Circuit, replay_singles, TextState, Open, Change, statement_of, spaced, written_line, IsPlain, lines_of, after_statement, after_line, after_lines, arith, nat_tests}
 use Rattle.mp_text.proofs.WrittenLineLemmas.{lines_of-written, line_words-spaced}
 
 -- the lines of the bytes lead where the edits lead
@@ -15,27 +15,13 @@ leads_nowhere = record { each = λ k c d same. let e : c ≡ d = cc same in ap O
 pub line_stated : (state : TextState) (first : List ℕ) (words : List (List ℕ)) → IsPlain first → All IsPlain words
     → after_line state (first ++ spaced words) ≡ after_statement state (statement_of (first ∷ words))
 unfolding after_line
-line_stated state first words plain all =
-    ap (λ read. in_text read >>= λ words. after_statement state (statement_of words)) (line_words-spaced first words plain all)
-
-module _ (edit : SingleEdit) (bytes : List ℕ) (edits : List SingleEdit) (rest : Leads bytes edits) (k : ℕ) (d : Circuit) where
-  on_edited : (r : Result Circuit EditError) → go_on (λ next. replay_singles next edits) r ≡ Ok d
-      → next_line k (λ after. after_lines (k + 1) after (lines_of bytes)) (result_map_both Open Refused r) ≡ Ok d
-  on_edited (Ok c) h = rest.each (k + 1) c d h
-  on_edited (Err error) h = cc
+line_stated state first words plain all = grind (arith, nat_tests, line_words-spaced)
 
 module _ (first : List ℕ) (words : List (List ℕ)) (edit : SingleEdit) (plain : IsPlain first) (all : All IsPlain words) (stated : statement_of (first ∷ words) ≡ Change (Ok edit)) where
   -- a written line in front of others
   pub leads_line : (bytes : List ℕ) (edits : List SingleEdit) → Leads bytes edits → Leads (written_line first words ++ bytes) (edit ∷ edits)
   unfolding after_lines after_statement
-  leads_line bytes edits rest = record { each = λ k c d h. by k c d h }
-    where
-      by : (k : ℕ) (c d : Circuit) → replay_singles c (edit ∷ edits) ≡ Ok d → after_lines k (Open c) (lines_of (written_line first words ++ bytes)) ≡ Ok d
-      by k c d h =
-          let line = line_stated (Open c) first words plain all ∙ ap (after_statement (Open c)) stated in
-          ap (after_lines k (Open c)) (lines_of-written first words bytes plain all)
-          ∙ ap (next_line k (λ after. after_lines (k + 1) after (lines_of bytes))) line
-          ∙ on_edited edit bytes edits rest k d (after_single c edit) h
+  leads_line bytes edits rest = grind (arith, nat_tests, line_stated, lines_of-written)
 
 -- the line of a slot leads where its edit leads
 pub record SlotLeads {R : Type 0} (line : Option R → List ℕ) (change : Option R → List SingleEdit) (slot : Option R) : Type 0 where

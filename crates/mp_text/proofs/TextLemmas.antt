@@ -30,15 +30,12 @@ end_behind n lines (Err error) = error.line
 
 end_next : (n : ℕ) (line : List ℕ) (lines : List (List ℕ)) → ((state : TextState) → n + 1 ≤ end_behind (n + 1) lines (after_lines (n + 1) state lines))
     → (read : Result (TextState) TextCode) → n + 1 ≤ end_behind n (line ∷ lines) (next_line n (λ after. after_lines (n + 1) after lines) read)
-end_next n line lines low (Ok state) = grind (arith, nat_tests)
-end_next n line lines low (Err code) = grind (arith, nat_tests)
+end_next n line lines low h4 = grind (arith, nat_tests)
 
 end_low : (n : ℕ) (lines : List (List ℕ)) (state : TextState) → n ≤ end_behind n lines (after_lines n state lines)
 unfolding after_lines
-end_low n [] Fresh = grind (arith, nat_tests)
-end_low n [] (Formatted format) = grind (arith, nat_tests)
-end_low n [] (Open net) = grind (arith, nat_tests)
 end_low n (line ∷ lines) state = grind (arith, nat_tests, end_next, (end_low (n + 1) lines))
+end_low n [] state = grind (arith, nat_tests)
 
 -- no line before the next is the last
 pub line_reached : (n : ℕ) (state : TextState) (rest text : List ℕ) → 0 < length rest → n + length (lines_of rest) ≡ length (lines_of text)
@@ -62,13 +59,10 @@ lines_counted rest text n some counted = let cons = ap length (lines_of-cons res
 
 -- what was read is given
 pub gives_same : {X : Type 0} (result read : Result X TextError) → read ≡ result → GivesText result read
-gives_same (Ok x) read same = grind (arith, nat_tests)
-gives_same (Err error) read same = grind (arith, nat_tests)
+gives_same result read same = grind (arith, nat_tests)
 
 -- the end of a text doesn't tell of memory
 pub finished_reached : (text : List ℕ) (read : Result Circuit TextError) (n : ℕ) (state : TextState) → IfErr (finished n state) (IsReachedIn text read)
-finished_reached text read n Fresh = grind (arith, nat_tests)
-finished_reached text read n (Formatted format) = grind (arith, nat_tests)
-finished_reached text read n (Open net) = grind (arith, nat_tests)
+finished_reached text read n state = grind (arith, nat_tests)
 
 pub ruleset reading_read_lines_steps = (rest_falls, lines_counted, lines_next, lines_end, gives_same, finished_reached)

@@ -1,6 +1,6 @@
 -- The edits of a netlist's wires, on an empty netlist, are not refused.
 use Rattle.std.specs.Prelude.{◌≡◌, ◌<◌, ◌∷◌, ◌++◌}
-use Rattle.mp_text.proofs.Names.{ℕ, zero, suc, true, List, [], length, get_or, Option, Some, None, is_none, is_some, unwrap_or, Ok, refl, sym, ap, subst, ◌∙◌, arith, length-append, nat_le, IsSome, flat_map, option_and_then, lt-ltb, nat_tests, get_or_at, flat_map-append, WireId, WireRecord, ModuleRecord, BundleRecord, AddWire, Circuit, IsCircuit, wire_at, width_of, stimulus_in, HasNames, name_in, wire_name, wire_edits, and_from, refusal, edited, after_single, stands, wire_id, width_named, wire_checks, without_stimulus, wire_limit}
+use Rattle.mp_text.proofs.Names.{ℕ, suc, true, List, [], length, get_or, Option, Some, None, is_none, is_some, unwrap_or, Ok, refl, sym, ap, subst, ◌∙◌, arith, length-append, nat_le, IsSome, flat_map, option_and_then, lt-ltb, nat_tests, get_or_at, flat_map-append, WireId, WireRecord, ModuleRecord, BundleRecord, AddWire, Circuit, IsCircuit, wire_at, width_of, stimulus_in, HasNames, name_in, wire_name, wire_edits, and_from, refusal, edited, after_single, stands, wire_id, width_named, wire_checks, without_stimulus, wire_limit}
 use Rattle.mp_text.proofs.SlotLemmas.{compact, compact-none, compact_few, IsAt, IsAt-compact, named_nowhere, front_unnamed, compact_unnamed}
 use Rattle.mp_text.proofs.StageLemmas.{none_failing, is_done, Reaches, Reaches-none, Reaches-one, Steps, stage}
 
@@ -52,10 +52,9 @@ same_wire n named w v first second same = grind (arith, nat_tests)
 
 -- nothing is set on bare wires
 pub bare_unset : (slots : List (Option WireRecord)) (v : ℕ) → stimulus_in (get_or (flat_map bare slots) v None) ≡ None
-bare_unset [] v = refl
 bare_unset (None ∷ slots) v = grind (arith, nat_tests, (bare_unset slots v))
-bare_unset (Some r ∷ slots) zero = refl
 bare_unset (Some r ∷ slots) (suc v) = grind (arith, nat_tests, (bare_unset slots v))
+bare_unset slots v = refl
 
 module _ (n : Circuit) (circuit : IsCircuit n) (named : HasNames n) where
   -- the netlist once the wires of the front are added
@@ -84,8 +83,7 @@ module _ (n : Circuit) (circuit : IsCircuit n) (named : HasNames n) where
   wire_step : Steps n.wires wire_edits AtWires
   wire_step front back None same c at =
       Reaches-none (λ d. d ≡ wired (front ++ None ∷ [])) c (at ∙ ap (λ wires. made n wires [] []) (sym (compact-none without_stimulus front)))
-  wire_step front back (Some r) same c at =
-      Reaches-one (λ d. d ≡ wired (front ++ Some r ∷ [])) c (wired (front ++ Some r ∷ [])) (AddWire r.name r.width r.initial) (ap (λ d. after_single d (AddWire r.name r.width r.initial)) at ∙ wire_done front back r same) refl
+  wire_step front back (Some r) same c at = grind (arith, nat_tests, Reaches-one, wire_done)
 
   -- the wires are added
   pub wires_reached : Reaches (λ c. c ≡ wired n.wires) (wired []) (flat_map wire_edits n.wires)

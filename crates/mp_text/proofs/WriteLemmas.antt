@@ -1,15 +1,13 @@
 -- The lines of a netlist's text in pieces.
 use Rattle.std.specs.Prelude.{◌≡◌, ◌∷◌, ◌++◌}
-use Rattle.mp_text.proofs.Names.{ℕ, List, [], Option, Some, append_assoc, ap, ◌∙◌, codes, flat_map, word_of, ModuleRecord, flat_map-map, pair_text, changes_text, Circuit, Wires, Modules, Stimuli, Bundles, section_text, stimulus_words, input_text, output_text, format_line, module_line, written}
+use Rattle.mp_text.proofs.Names.{ℕ, List, [], Option, Some, append_assoc, codes, flat_map, word_of, ModuleRecord, flat_map-map, changes_text, Circuit, Wires, Modules, Stimuli, Bundles, section_text, stimulus_words, input_text, output_text, format_line, module_line, written, arith, nat_tests}
 use Rattle.std.specs.Fmt.{decimal}
 use Rattle.std.proofs.lemmas.Grind.{flat_map-append}
 
 -- the pieces of a stimulus's line
 pub stimulus_pieces : (name : List ℕ) (stimulus : Option (List (ℕ × ℕ))) (changes : List (ℕ × ℕ)) → stimulus ≡ Some changes
     → stimulus_words name stimulus ≡ codes "stim" ++ ((32 ∷ name) ++ (changes_text changes ++ (10 ∷ [])))
-stimulus_pieces name stimulus changes some =
-    ap (stimulus_words name) some ∙ ap (λ l. codes "stim" ++ (((32 ∷ name) ++ l) ++ (10 ∷ []))) (flat_map-map (λ w. 32 ∷ w) pair_text changes)
-    ∙ ap (λ l. codes "stim" ++ l) (append_assoc (32 ∷ name) (changes_text changes) (10 ∷ []))
+stimulus_pieces name stimulus changes some = grind (arith, nat_tests, codes, flat_map-map, append_assoc)
 
 -- the pieces of a module's line
 pub module_pieces : (n : Circuit) (r : ModuleRecord) → module_line n (Some r)
@@ -24,3 +22,5 @@ pub written_pieces : (n : Circuit) → written n
     ++ (section_text n Wires ++ (section_text n Modules ++ (section_text n Stimuli ++ section_text n Bundles)))
 unfolding written
 written_pieces n = simp append_assoc
+
+pub ruleset put_line_steps = (flat_map-map)

@@ -18,8 +18,7 @@ part-append (b ∷ w) rest all =
     rw (here, one) (ap (λ l. b ∷ l) (part-append w rest (All-tail (λ b. (b == 35) ≡ false) b w all)))
 
 word_kept : (w : List ℕ) (parts : List (List ℕ)) → 0 < length w → filter is_word (w ∷ parts) ≡ w ∷ filter is_word parts
-word_kept [] parts some = grind (arith, nat_tests)
-word_kept (b ∷ w) parts some = grind (arith, nat_tests)
+word_kept w parts some = grind (arith, nat_tests)
 
 -- a word and a space in front of a line
 pub words_of-cons : (w line : List ℕ) → IsPlain w → words_of (w ++ 32 ∷ line) ≡ w ∷ words_of line

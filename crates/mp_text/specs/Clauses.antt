@@ -1,6 +1,6 @@
 -- The names that clauses here cite, passed on from one place. Declares nothing.
 pub use Rattle.std.specs.Io.KnownBytes.{Appends}
-pub use Rattle.std.specs.Prelude.{All, IfErr, IfOk, IfSome, IsAscii, List, OnOk, Some, codes, length, map, position, take, ℕ, ◌++◌, ◌+◌, ◌<◌, ◌∷◌, ◌≡◌, ◌≤◌}
+pub use Rattle.std.specs.Prelude.{All, IfErr, IfOk, IfSome, IsAscii, List, OnOk, Some, codes, length, map, position, take, ℕ}
 pub use Rattle.mp_text.specs.Batches.{batch_of, each_part, part_edit, part_texts}
 pub use Rattle.mp_text.specs.Formats.{format_of, max_horizon_of, netlist_format}
 pub use Rattle.mp_text.specs.Laws.{IsReplay}

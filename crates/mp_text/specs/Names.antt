@@ -3,7 +3,7 @@ pub use Rattle.std.specs.Borrow.{Bor}
 pub use Rattle.std.specs.Fmt.{decimal}
 pub use Rattle.std.specs.List.{after_first, before_first, enumerate_from, filter_map, flat_map, list_all, list_any, onto_first, position_or_len, slice_split}
 pub use Rattle.std.specs.Option.{ok_or, option_copied}
-pub use Rattle.std.specs.Prelude.{Bool, Err, IsTrue, List, None, Ok, Option, Result, Some, [], codes, false, if◌then◌else◌, length, map, nat_le, option_map, take, ℕ, ◌&&◌, ◌++◌, ◌+◌, ◌==◌, ◌||◌, ◌∷◌, ◌≡◌, ◌≤◌, ◌⊎◌}
+pub use Rattle.std.specs.Prelude.{Bool, Err, IsTrue, List, None, Ok, Option, Result, Some, [], codes, false, length, map, nat_le, option_map, take, ℕ}
 pub use Rattle.std.specs.Result.{result_map_both}
 pub use Rattle.std.specs.Str.{byte, bytes_eq}
 pub use Rattle.mp_modules.specs.Kinds.{are_params, has_width, input_count, input_width, kind_named, output_count, output_width, word_of}

@@ -19,6 +19,7 @@ pub fn batch(alloc: Global, words: &[&[u8]]) -> Result<Batch, LineError>
 }
 
 /// The parts of the words, between the words `;`.
+#[tactic(auto, using(crate::proofs::PartLemmas::parts_texts, crate::proofs::PartLemmas::parts_ascii))]
 fn parts<'a, 'b>(alloc: Global, words: &'a [&'b [u8]]) -> Result<Vec<&'a [&'b [u8]]>, AllocError>
     requires { AreAscii words.now }
     ensures parts { IfOk result (λ parts. part_texts parts.items ≡ slice_split (is_mark (byte ";")) (texts words.now)) }
@@ -52,6 +53,7 @@ fn each_part(alloc: Global, parts: &[&[&[u8]]]) -> Result<Batch, LineError>
 }
 
 /// The edit of one thing that a part's words say.
+#[tactic(auto, using(mp_words::proofs::WordLemmas::rest_ascii))]
 fn part_edit(alloc: Global, words: &[&[u8]]) -> Result<SingleEdit, LineError>
     requires { AreAscii words.now }
     ensures { Gives OutOfMemory (λ edit. edit) result (part_edit (texts words.now)) }

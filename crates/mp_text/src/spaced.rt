@@ -23,6 +23,7 @@ impl<'a, T: Text> Text for Spaced<'a, T> {
 
 /// Writes a line: its first word, the others, and a line feed. `Failed` is as that of
 /// `Out::put_bytes`.
+#[tactic(auto, using(crate::proofs::WriteLemmas::put_line_steps))]
 pub fn put_line<S: Sink>(out: &mut Out<S>, first: &[u8], words: &[&[u8]]) -> Result<(), Failed>
     ensures { Writes result out.old out.new (written_line first.now (texts words.now)) }
 {

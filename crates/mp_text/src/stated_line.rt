@@ -22,6 +22,7 @@ use std::alloc::Global;
 ///
 /// `OutOfMemory` says that memory was wanting. It comes only for a line whose bytes are allowed,
 /// whose first word is one that lines have, and with as many words behind it as may stand there.
+#[tactic(auto, using(crate::proofs::LineStartLemmas::read_line_steps))]
 pub fn read_line(alloc: Global, line: &[u8]) -> Result<Line, LineError>
     ensures read { Gives OutOfMemory (λ line. line) result (line_at line.now) }
     ensures wanting { IfErr result (λ error. error ≡ OutOfMemory → HasForm line.now) }

@@ -83,6 +83,7 @@ fn show_question(alloc: Global, words: &[&[u8]]) -> Result<Question, LineError>
 }
 
 /// The words as names of wires, in order. The error comes where memory is wanting.
+#[tactic(auto, using(crate::proofs::PartLemmas::wire_names_steps))]
 fn wire_names(alloc: Global, words: &[&[u8]]) -> Result<WireNames, AllocError>
     requires { AreAscii words.now }
     ensures { IfOk result (λ wires. wires ≡ texts words.now) }

@@ -12,6 +12,7 @@ use std::alloc::{AllocError, Global};
 /// by number and only those that stand, with single spaces, and a line feed after each line. Numbers
 /// have no leading zeros, and every output has its delay. Where the text is not longer than its format allows,
 /// it is read as a netlist with the same records, if perhaps under other numbers.
+#[tactic(auto, using(crate::proofs::RoundTripLemmas::written_is_read))]
 pub fn write_netlist(alloc: Global, netlist: &Netlist) -> Result<Vec<u8>, AllocError>
     ensures text { IfOk result (λ text. text.items ≡ written netlist.now) }
     ensures read { IfOk result (λ text. length text.items ≤ text_limit text.items → IsReadAs text.items netlist.now) }

@@ -47,6 +47,7 @@ pub fn put_module<S: Sink>(
 }
 
 /// Writes the line of a wire's stimulus, where it has one.
+#[tactic(auto, using(crate::proofs::WriteLemmas::stimulus_pieces))]
 pub fn put_stimulus<S: Sink>(out: &mut Out<S>, wire: &WireRecord) -> Result<(), Failed>
     ensures { Writes result out.old out.new (stimulus_line (Some wire.now)) }
 {

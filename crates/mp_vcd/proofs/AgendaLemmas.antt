@@ -7,12 +7,7 @@ use Rattle.mp_vcd.proofs.Names.{left_none, nat_lt-false, nat_lt-true, earlier_th
 -- one entry more at the end leaves a chain
 pub chain_more : (entries : List Entry) (added : Entry) (place : ℕ) (told : List (ℕ × ℕ)) → IsChain entries place told → IsChain (entries ++ added ∷ []) place told
 chain_more entries added place [] chain = chain
-chain_more entries added place (x ∷ told) chain =
-    let some : 0 < place = chain.0 in
-    let within : place ≤ length entries = chain.1 in
-    let same : entry_at (entries ++ added ∷ []) (place - 1) ≡ entry_at entries (place - 1) = get_or-append entries (added ∷ []) no_entry (place - 1) (omega arith) in
-    let more = length-append entries (added ∷ []) in
-    rw same (chain.0, omega (arith, within, more), chain.2, chain.3, chain.4, chain_more entries added (entry_at entries (place - 1)).next told chain.5)
+chain_more entries added place (x ∷ told) chain = grind (arith, nat_tests, get_or-append, length-append, (chain_more entries added (entry_at entries (place - 1)).next told chain.5))
 
 pub chain_within : (entries : List Entry) (place : ℕ) (told : List (ℕ × ℕ)) → IsChain entries place told → place ≤ length entries
 chain_within entries place [] chain = grind (arith, nat_tests)
@@ -62,13 +57,10 @@ module _ (levels : ℕ → ℕ) (w t : ℕ) where
   here : (m : ℕ) (test : Bool) → suc m ≡ t → (levels m == levels (suc m)) ≡ test → differs ≡ not test
   here m test same equal = grind (arith, nat_tests)
 
-  onto_change : (m : ℕ) (others : List (ℕ × ℕ)) → onto w (change_after levels m) t others ≡ cond (suc m == t) (where_differs others) others
-  onto_change m others = grind (arith, nat_tests, eqb-true)
-
   -- the changes of a level up to a time leave its change at a time not later
   pub onto_changes : (m : ℕ) (others : List (ℕ × ℕ)) → onto w (changes_after levels 0 m) t others ≡ cond (nat_le t m) (where_differs others) others
   onto_changes zero others = grind (arith, nat_tests, eq-eqb, le-leb, lt-leb)
-  onto_changes (suc m) others = grind (arith, onto-append, zero-add, onto_change, cases_lt, eqb-true, lt-leb, le-leb, nat_tests, ne_eqb, (onto_changes m others))
+  onto_changes (suc m) others = grind (arith, onto-append, zero-add, eqb-true, cases_lt, lt-leb, le-leb, nat_tests, ne_eqb, (onto_changes m others))
 
 -- changes that pass a test which each at a time passes
 onto-filter : (p : ℕ × ℕ → Bool) (w : ℕ) (changes : List (ℕ × ℕ)) (t : ℕ) (others : List (ℕ × ℕ)) → ((change : ℕ × ℕ) → change.0 ≡ t → p change ≡ true)
@@ -111,13 +103,11 @@ levels_lines n t ws = sym (flat_map-map (λ (change : ℕ × ℕ). value_line (w
 
 -- the text of a unit with changes
 pub marked_some : (n : Circuit) (t : ℕ) (ws : List ℕ) (entries : List Entry) (place : ℕ) → IsChain entries place (with_levels n t ws) → place ≢ 0 → marked n t ws ≡ time_mark t ++ told_lines n (with_levels n t ws)
-marked_some n t [] entries place chain some = grind (arith, nat_tests)
-marked_some n t (w ∷ ws) entries place chain some = grind (arith, nat_tests, levels_lines)
+marked_some n t ws entries place chain some = grind (arith, nat_tests, levels_lines)
 
 -- and of one without
 pub marked_none : (n : Circuit) (t : ℕ) (ws : List ℕ) (entries : List Entry) (place : ℕ) → IsChain entries place (with_levels n t ws) → place ≡ 0 → marked n t ws ≡ []
-marked_none n t [] entries place chain none = refl
-marked_none n t (w ∷ ws) entries place chain none = grind (arith, nat_tests)
+marked_none n t ws entries place chain none = grind (arith, nat_tests)
 
 pub ruleset parts_count_before_steps = (get_or_default, cases_lt, earlier_than-take, nat_lt-true, nat_lt-false)
 

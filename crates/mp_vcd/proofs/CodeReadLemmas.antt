@@ -89,9 +89,6 @@ code_not_end w few =
 pub decimal_read : (n : ℕ) → n < 2 ^ 64 → digits_value 10 (decimal n) ≡ n
 decimal_read n fits = (decimal_is_IsNumeral n fits).1
 
-bit_value : (level : ℕ) → digit_value (bit level) ≡ level % 2
-bit_value level = grind (arith, nat_tests)
-
 digits_value-append : (n : ℕ) (xs : List ℕ) (d : ℕ) → digits_value_after 2 n (xs ++ d ∷ []) ≡ digits_value_after 2 n xs * 2 + digit_value d
 digits_value-append n [] d = refl
 digits_value-append n (x ∷ xs) d = grind (arith, nat_tests, (digits_value-append (n * 2 + digit_value x) xs d))
@@ -103,7 +100,7 @@ half_of width level = sym (mod-pow-add level width 1) ∙ ap (λ k. level % 2 ^ 
 pub bits_read : (width level : ℕ) → digits_value 2 (bits width level) ≡ level % 2 ^ width
 unfolding bits
 bits_read zero level = grind (arith, nat_tests)
-bits_read (suc width) level = grind (arith, nat_tests, digits_value-append, bit_value, half_of, (bits_read width (level / 2)))
+bits_read (suc width) level = grind (arith, nat_tests, digits_value-append, half_of, (bits_read width (level / 2)))
 
 bits_all : (p : ℕ → Bool) → ((level : ℕ) → p (bit level) ≡ true) → (width level : ℕ) → list_all p (bits width level) ≡ true
 unfolding bits

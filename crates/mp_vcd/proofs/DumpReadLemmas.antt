@@ -1,6 +1,6 @@
 -- The whole of a dump, read.
 use Rattle.std.specs.Prelude.{◌≡◌, ◌+◌, ◌-◌, ◌<◌, ◌≤◌, ◌∷◌, ◌++◌}
-use Rattle.mp_vcd.proofs.Names.{ℕ, List, [], append_assoc, append-nil, length, map, Option, None, Some, suc, refl, sym, ap, subst, ◌∙◌, add-zero, zero-add, arith, codes, and_from, le-leb, flat_map, range_with_len, WireRecord, Circuit, IsCircuit, wire_at, width_of, slot_at, code, standing, standing_from, slot_declaration, declaration, value_at, unit_text, time_mark, line, opening_lines, block_start, preamble, dump, words, Variable, Given, Outside, Inside, Reading, nothing_read, takes, read_words, reading, Contains, Contains-get_or, slice_index_or, max_wires, any_passes, contains_map}
+use Rattle.mp_vcd.proofs.Names.{ℕ, List, [], append_assoc, append-nil, length, map, Option, None, Some, suc, refl, sym, ap, subst, ◌∙◌, add-zero, zero-add, arith, codes, and_from, le-leb, flat_map, range_with_len, WireRecord, Circuit, IsCircuit, wire_at, width_of, slot_at, code, standing, standing_from, slot_declaration, declaration, value_at, unit_text, time_mark, line, opening_lines, block_start, preamble, dump, words, Variable, Given, Outside, Inside, Reading, nothing_read, takes, read_words, reading, Contains, Contains-get_or, slice_index_or, max_wires, any_passes, contains_map, nat_tests}
 use Rattle.mp_netlist.proofs.LimitLemmas.{horizon_within, wires_within}
 use Rattle.std.proofs.Math.Nat.{mod-eq_of_lt}
 use Rattle.mp_vcd.specs.Laws.{name_of, variable, SaysLevels, IsReadBack}
@@ -89,13 +89,7 @@ module _ (n : Circuit) (circuit : IsCircuit n) where
       leads_both _ _ _ (preamble n) _ (leads_both _ _ _ opening_lines _ starts declared) changes
 
   says : SaysLevels n (valued Outside all_variables n.horizon all_units.given)
-  says = record {
-    whole = refl;
-    unit = refl;
-    variables = refl;
-    levels = λ w t wire stands below. all_units.knows.before w t (stands_in n w wire stands) (omega (arith, below)) ∙ ap Some (mod-eq_of_lt (level_fits n circuit w t));
-    horizon = refl;
-  }
+  says = grind (arith, nat_tests, all_units, stands_in, mod-eq_of_lt, level_fits)
 
   pub says_levels : SaysLevels n (reading (dump n))
   says_levels = subst (SaysLevels n) (sym (leads_all (dump n) _ leads_dump)) says

@@ -1,6 +1,6 @@
 -- The levels that a reader of a dump knows, unit by unit.
-use Rattle.std.specs.Prelude.{◌≡◌, ◌+◌, ◌-◌, ◌%◌, ◌^◌, ◌<◌, ◌≤◌, ◌⊎◌, ◌∷◌}
-use Rattle.mp_vcd.proofs.Names.{ℕ, inl, inr, Bool, true, false, List, [], Option, None, Some, zero, suc, refl, sym, ap, subst, ◌∙◌, add-zero, zero-add, arith, flat_map, range_with_len, cases_lt, eqb-true, le-leb, lt-leb, not-false, bytes_eq-Decides, WireRecord, Circuit, wire_at, width_of, slot_at, level, code, standing, standing_from, if_stands, value_at, is_changed, changed, marked, unit_text, time_mark, Variable, Given, Side, Outside, Reading, value_of, All, Contains, All-head, All-tail, All-filter, contains_here, contains_there, contains_cases, contains_filter}
+use Rattle.std.specs.Prelude.{◌≡◌, ◌+◌, ◌%◌, ◌^◌, ◌<◌, ◌≤◌, ◌⊎◌, ◌∷◌}
+use Rattle.mp_vcd.proofs.Names.{ℕ, inl, inr, false, List, [], Option, None, Some, zero, suc, refl, sym, ap, subst, ◌∙◌, add-zero, zero-add, arith, flat_map, range_with_len, cases_lt, eqb-true, le-leb, lt-leb, not-false, bytes_eq-Decides, WireRecord, Circuit, wire_at, width_of, slot_at, level, code, standing, standing_from, if_stands, value_at, is_changed, changed, marked, unit_text, time_mark, Variable, Given, Side, Outside, Reading, value_of, All, Contains, All-head, All-tail, All-filter, contains_here, contains_there, contains_cases, contains_filter, nat_tests}
 use Rattle.mp_vcd.proofs.CodeReadLemmas.{own_codes, same_bytes}
 use Rattle.mp_vcd.proofs.ReadingLemmas.{Leads, leads_none, leads_both, leads_time, leads_value, valued, giving, HasVariable}
 
@@ -71,8 +71,7 @@ marked_time before t [] = before
 marked_time before t (w ∷ ws) = t
 
 marked_upto : (before t : ℕ) (ws : List ℕ) → before ≤ t → marked_time before t ws ≤ t
-marked_upto before t [] early = grind arith
-marked_upto before t (w ∷ ws) early = grind arith
+marked_upto before t ws early = grind (arith, nat_tests)
 
 leads_marked : (n : Circuit) (vs : List Variable) (before t : ℕ) (ws : List ℕ) (given : List Given) → before < t → t < 2 ^ 64 → AreReadable n vs ws
     → Leads (valued Outside vs before given) (marked n t ws) (valued Outside vs (marked_time before t ws) (given_at n t ws given))
@@ -107,39 +106,15 @@ pub record Knows (n : Circuit) (t : ℕ) (given : List Given) : Type 0 where
   pub after : (w s : ℕ) → Contains (standing n) w → t ≤ s → value_of (code w) s given ≡ Some (level_bits n w t)
 
 pub knows_first : (n : Circuit) → Knows n 0 (given_at n 0 (standing n) [])
-knows_first n = record {
-  before = λ w s within first.
-      let zero_time : s ≡ 0 = omega (arith, first) in
-      value_given n 0 s w (standing n) [] (omega arith) within ∙ ap (λ k. Some (level_bits n w k)) (sym zero_time);
-  after = λ w s within later. value_given n 0 s w (standing n) [] later within;
-}
+knows_first n = grind (arith, nat_tests, value_given)
 
 module _ (n : Circuit) (t : ℕ) (given : List Given) (known : Knows n t given) where
   -- the level of a wire that does not change stays
   stays : (w : ℕ) → is_changed n (t + 1) w ≡ false → level_bits n w t ≡ level_bits n w (t + 1)
   stays w test = grind (arith, not-false, eqb-true)
 
-  later_value : (w s : ℕ) → Contains (standing n) w → t + 1 ≤ s → value_of (code w) s (given_at n (t + 1) (changed n (t + 1)) given) ≡ Some (level_bits n w (t + 1))
-  later_value w s within later = by (is_changed n (t + 1) w) refl
-    where
-      by : (test : Bool) → is_changed n (t + 1) w ≡ test → value_of (code w) s (given_at n (t + 1) (changed n (t + 1)) given) ≡ Some (level_bits n w (t + 1))
-      by true test = value_given n (t + 1) s w (changed n (t + 1)) given later (contains_filter (is_changed n (t + 1)) w (standing n) within test)
-      by false test =
-          value_kept n (t + 1) s w (changed n (t + 1)) given later
-          (known.after w s within (omega (arith, later)) ∙ ap Some (stays w test))
-
   pub knows_next : Knows n (t + 1) (given_at n (t + 1) (changed n (t + 1)) given)
-  knows_next = record {
-    before = λ w s within upto. by w s within upto (cases_lt s (t + 1));
-    after = later_value;
-  }
-    where
-      by : (w s : ℕ) → Contains (standing n) w → s ≤ t + 1 → (s < t + 1) ⊎ (t + 1 ≤ s) → value_of (code w) s (given_at n (t + 1) (changed n (t + 1)) given) ≡ Some (level_bits n w s)
-      by w s within upto (inl sooner) =
-          value_before n (t + 1) s (code w) (changed n (t + 1)) given sooner ∙ known.before w s within (omega (arith, sooner))
-      by w s within upto (inr late) =
-          let same : t + 1 ≡ s = omega (arith, upto, late) in
-          later_value w s within late ∙ ap (λ k. Some (level_bits n w k)) same
+  knows_next = grind (arith, nat_tests, cases_lt, value_given, contains_filter, value_kept, stays, value_before)
 
 -- ---- all units
 

@@ -1,5 +1,5 @@
 -- The names that many proofs here cite, passed on from one place. Declares nothing.
-pub use Rattle.std.proofs.Common.{All, Bool, Contains, List, None, Option, Some, [], add-one, add-zero, ap, append-nil, append_assoc, arith, bytes_eq, codes, cond, decimal, drop, drop-cons, eq-eqb, eqb-true, false, filter, flat_map, get_or, get_or-set_other, get_or-set_same, inl, inr, le-leb, leb-true, length, length-append, length-set, lt-ltb, ltb-false, ltb-true, map, nat_le, nat_lt, ne_eqb, not, refl, rules, set, slice_index, slice_index_or, slice_set, subst, suc, sym, take, take-suc, take_all, true, vec_len, zero, zero-add, ℕ, ⊎_elim, ◌%◌, ◌*◌, ◌++◌, ◌+◌, ◌-◌, ◌/◌, ◌<◌, ◌==◌, ◌^◌, ◌∙◌, ◌∷◌, ◌≡◌, ◌≢◌, ◌≤◌, ◌⊎◌}
+pub use Rattle.std.proofs.Common.{All, Bool, Contains, List, None, Option, Some, [], add-one, add-zero, ap, append-nil, append_assoc, arith, bytes_eq, codes, cond, decimal, drop, drop-cons, eq-eqb, eqb-true, false, filter, flat_map, get_or, get_or-set_other, get_or-set_same, inl, inr, le-leb, leb-true, length, length-append, length-set, lt-ltb, ltb-false, ltb-true, map, nat_le, nat_lt, ne_eqb, not, refl, rules, set, slice_index, slice_index_or, slice_set, subst, suc, sym, take, take-suc, true, vec_len, zero, zero-add, ℕ, ◌∙◌}
 pub use Rattle.std.proofs.Math.ListN.{get_or-append, get_or-map}
 pub use Rattle.std.proofs.Math.Seq.{drop-length, get_or-append_seam}
 pub use Rattle.std.proofs.lemmas.Bool.{and_from, and_parts, cases_lt, false_from_ne_true, lt-leb, not-false}
@@ -22,12 +22,11 @@ pub use Rattle.mp_vcd.specs.Codes.{digits_of}
 unfoldable pub use Rattle.mp_vcd.specs.Codes.{code}
 pub use Rattle.mp_vcd.specs.Dumps.{block_start, changed, declaration, if_stands, is_changed, line, marked, opening_lines, preamble, slot_declaration, standing, standing_from, time_mark, unit_text, value_at}
 unfoldable pub use Rattle.mp_vcd.specs.Dumps.{dump}
-pub use Rattle.mp_vcd.specs.Names.{AllDigits, AllWithin, Circuit, IsCircuit, Waveform, WireRecord, between, change_after, changes_after, changes_in, digit_value, digits_value, digits_value_after, earlier_than, is_ascii_digit, is_ascii_whitespace, later_than, level, list_all, list_any, range_with_len, slot_wave, wave, width_of, wire_at}
+pub use Rattle.mp_vcd.specs.Names.{AllDigits, AllWithin, Circuit, Entry, IsCircuit, Waveform, WireRecord, between, change_after, changes_after, changes_in, digit_value, digits_value, digits_value_after, is_ascii_digit, is_ascii_whitespace, level, list_all, list_any, range_with_len, slot_wave, wave, width_of, wire_at}
 pub use Rattle.mp_vcd.specs.Parts.{part_line, slot_text}
 pub use Rattle.mp_vcd.specs.Readings.{AmongValues, BehindDigits, BetweenDeclarations, Given, InDeclaration, Inside, Outside, Reading, Side, Variable, at_place, is_binary, is_made_of, is_printed, nothing_read, read_words, takes, value_of, with_time, with_value, word_first, word_in, words, words_from}
 unfoldable pub use Rattle.mp_vcd.specs.Readings.{reading}
 pub use Rattle.mp_vcd.specs.Values.{bit, value_line}
 unfoldable pub use Rattle.mp_vcd.specs.Values.{bits}
-pub use Rattle.mp_vcd.specs.declared.agenda.Entry.{Entry}
 pub use Rattle.mp_wave.proofs.PrefixLemmas.{earlier_than-take, later_than-drop, nat_lt-false, nat_lt-true}
 pub use Rattle.mp_words.proofs.PlainLemmas.{IsPlain, IsPlain-decimal, IsPlain-name, is_plain_byte, list_all-passing}

@@ -6,19 +6,12 @@ use Rattle.mp_vcd.proofs.CodeReadLemmas.{IsSolid, IsSolid-decimal, IsSolid-name,
 
 -- ---- words
 
-high_not_white : (b : ℕ) → nat_lt 32 b ≡ true → is_ascii_whitespace b ≡ false
-high_not_white b high = grind (arith, nat_tests)
-
 words_solid : (begun word rest : List ℕ) → list_all (nat_lt 32) word ≡ true → words_from begun (word ++ rest) ≡ words_from (begun ++ word) rest
 words_solid begun [] rest solid = grind (arith, nat_tests, append-nil)
-words_solid begun (b ∷ bs) rest solid = grind (arith, nat_tests, and_parts, high_not_white, append_assoc, (words_solid (begun ++ b ∷ []) bs rest))
+words_solid begun (b ∷ bs) rest solid = grind (arith, nat_tests, and_parts, append_assoc, (words_solid (begun ++ b ∷ []) bs rest))
 
 first_word : (word : List ℕ) (others : List (List ℕ)) → 0 < length word → word_first word others ≡ word ∷ others
-first_word [] others some = grind (arith, nat_tests)
-first_word (b ∷ bs) others some = refl
-
-word_then : (word : List ℕ) (space : ℕ) (rest : List ℕ) → IsSolid word → is_ascii_whitespace space ≡ true → words (word ++ space ∷ rest) ≡ word ∷ words rest
-word_then word space rest solid white = grind (arith, nat_tests, words_solid, first_word)
+first_word word others some = grind (arith, nat_tests)
 
 -- ---- texts that lead a reader on
 
@@ -33,10 +26,7 @@ pub leads_both : (r s t : Reading) (xs ys : List ℕ) → Leads r xs s → Leads
 leads_both r s t xs ys first second = record { each = λ rest. ap (λ l. read_words (words l) r) (append_assoc xs ys rest) ∙ first.each (ys ++ rest) ∙ second.each rest }
 
 pub leads_word : (r t : Reading) (word : List ℕ) (space : ℕ) (more : List ℕ) → IsSolid word → is_ascii_whitespace space ≡ true → Leads (word_in r.place word r) more t → Leads r (word ++ space ∷ more) t
-leads_word r t word space more solid white later = record {
-  each = λ rest.
-      ap (λ l. read_words (words l) r) (append_assoc word (space ∷ more) rest) ∙ ap (λ ws. read_words ws r) (word_then word space (more ++ rest) solid white) ∙ later.each rest;
-}
+leads_word r t word space more solid white later = grind (arith, nat_tests, append_assoc, words_solid, first_word)
 
 pub leads_as : (r s t : Reading) (xs ys : List ℕ) → xs ≡ ys → s ≡ t → Leads r xs s → Leads r ys t
 leads_as r s t xs ys same there leads = record { each = λ rest. ap (λ l. read_words (words (l ++ rest)) r) (sym same) ∙ leads.each rest ∙ ap (read_words (words rest)) there }

@@ -1,32 +1,27 @@
 -- The wires that stand, one after the other.
 use Rattle.std.specs.Prelude.{◌≡◌, ◌+◌, ◌-◌, ◌<◌, ◌≤◌, ◌∷◌, ◌++◌}
-use Rattle.mp_vcd.proofs.Names.{ℕ, List, [], append_assoc, length, drop, Option, None, Some, zero, suc, refl, sym, ap, ◌∙◌, add-one, add-zero, arith, filter, flat_map, range_with_len, drop-cons, drop-length, Waveform, WireRecord, Circuit, IsCircuit, wire_at, width_of, slot_at, wave, slot_wave, if_stands, standing_from, is_changed, slot_text, with_levels, onto_slot}
-
-pub standing_step : (slots : List (Option WireRecord)) (w : ℕ) → w < length slots → standing_from w (drop w slots) ≡ if_stands w (slot_at slots w) (standing_from (w + 1) (drop (w + 1) slots))
-standing_step slots w within = grind (arith, drop-cons, add-one)
+use Rattle.mp_vcd.proofs.Names.{take_more, map-append, left_whole, left_then, left_as, left_none, ℕ, List, [], append_assoc, length, drop, Option, None, Some, zero, suc, refl, sym, ap, ◌∙◌, add-one, add-zero, arith, filter, flat_map, range_with_len, drop-cons, drop-length, Waveform, WireRecord, Circuit, IsCircuit, wire_at, width_of, slot_at, wave, slot_wave, if_stands, standing_from, is_changed, slot_text, with_levels, onto_slot, nat_tests}
 
 pub standing_end : (slots : List (Option WireRecord)) (w : ℕ) → w ≡ length slots → standing_from w (drop w slots) ≡ []
 standing_end slots w over = ap (λ k. standing_from w (drop k slots)) over ∙ ap (standing_from w) (drop-length slots)
 
 -- the line of a wire, where it stands, before those of others
 flat_map_stands : (told : ℕ → List ℕ) (w : ℕ) (slot : Option WireRecord) (others : List ℕ) → flat_map told (if_stands w slot others) ≡ slot_text told w slot ++ flat_map told others
-flat_map_stands told w None others = refl
-flat_map_stands told w (Some r) others = refl
+flat_map_stands told w slot others = grind (arith, nat_tests)
 
 pub lines_step : (told : ℕ → List ℕ) (slots : List (Option WireRecord)) (w : ℕ) → w < length slots
     → flat_map told (standing_from w (drop w slots)) ≡ slot_text told w (slot_at slots w) ++ flat_map told (standing_from (w + 1) (drop (w + 1) slots))
-lines_step told slots w within = grind (arith, standing_step, flat_map_stands)
+lines_step told slots w within = grind (arith, nat_tests, drop-cons, add-one, flat_map_stands)
 
 -- a wire's change at a time, where there is one, before those of others
 told_stands : (n : Circuit) (t w : ℕ) (slot : Option WireRecord) (others : List ℕ)
     → with_levels n t (filter (is_changed n t) (if_stands w slot others)) ≡ onto_slot n t w slot (with_levels n t (filter (is_changed n t) others))
-told_stands n t w None others = refl
-told_stands n t w (Some r) others = grind arith
+told_stands n t w slot others = grind (arith, nat_tests)
 
 pub told_step : (n : Circuit) (t w : ℕ) → w < length n.wires
     → with_levels n t (filter (is_changed n t) (standing_from w (drop w n.wires)))
     ≡ onto_slot n t w (wire_at n w) (with_levels n t (filter (is_changed n t) (standing_from (w + 1) (drop (w + 1) n.wires))))
-told_step n t w within = grind (arith, standing_step, told_stands)
+told_step n t w within = grind (arith, nat_tests, drop-cons, add-one, told_stands)
 
 -- ---- times
 
@@ -57,12 +52,10 @@ times_divide f from to upto first second =
 -- ---- what the wave of a wire tells
 
 pub changes_in : (n : Circuit) (w : ℕ) (slot : Option WireRecord) (v : Waveform) → Some v ≡ slot_wave n w slot → (r : WireRecord) × (slot ≡ Some r) × (v.changes ≡ (wave n w).changes)
-changes_in n w None v same = cc
-changes_in n w (Some r) v same = let is : v ≡ wave n w = cc in (r, refl, ap (λ (x : Waveform). x.changes) is)
+changes_in n w slot v same = grind (arith, nat_tests)
 
 pub none_in : (n : Circuit) (w t : ℕ) (slot : Option WireRecord) (others : List (ℕ × ℕ)) → None ≡ slot_wave n w slot → others ≡ onto_slot n t w slot others
-none_in n w t None others same = refl
-none_in n w t (Some r) others same = grind arith
+none_in n w t slot others same = grind (arith, nat_tests)
 
 -- ---- the widths of wires
 
@@ -72,3 +65,9 @@ narrow n circuit w = by (wire_at n w) refl
     by : (slot : Option WireRecord) → wire_at n w ≡ slot → width_of slot ≤ 64
     by None stands = omega arith
     by (Some r) stands = let wire = circuit.wires_ok w r stands in wire.narrow
+
+pub ruleset put_wires_steps = (left_whole, left_then, left_as, left_none, lines_step, standing_end)
+
+pub ruleset put_agenda_steps = (left_whole, left_then, left_as, left_none, times_step, times_end)
+
+pub ruleset widths_of_steps = (take_more, map-append)

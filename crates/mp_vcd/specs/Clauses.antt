@@ -1,6 +1,6 @@
 -- The names that clauses here cite, passed on from one place. Declares nothing.
 pub use Rattle.std.specs.List.Sorted.{IsNonDecreasingBy}
-pub use Rattle.std.specs.Prelude.{IfOk, List, OnOk, Some, [], false, length, map, slice_index, slice_index_or, take, true, vec_len, ℕ, ◌+◌, ◌-◌, ◌<◌, ◌^◌, ◌≡◌, ◌≤◌}
+pub use Rattle.std.specs.Prelude.{IfOk, List, OnOk, Some, [], false, length, map, slice_index, slice_index_or, take, true, vec_len, ℕ}
 pub use Rattle.mp_streams.specs.Places.{IsPlaced}
 pub use Rattle.mp_vcd.specs.Agendas.{Tells, entry_at, onto, onto_slot, told_at, told_from, with_told}
 pub use Rattle.mp_vcd.specs.Codes.{code}

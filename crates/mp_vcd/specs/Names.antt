@@ -2,7 +2,7 @@
 pub use Rattle.std.specs.Char.{digit_value, is_ascii_digit, is_ascii_whitespace}
 pub use Rattle.std.specs.Fmt.{decimal}
 pub use Rattle.std.specs.List.{AllWithin, filter, flat_map, list_all, list_any, range_with_len}
-pub use Rattle.std.specs.Prelude.{Bool, List, None, Option, Some, [], codes, if◌then◌else◌, length, map, nat_le, nat_lt, not, slice_index, slice_index_or, suc, true, zero, ℕ, ◌%◌, ◌&&◌, ◌++◌, ◌+◌, ◌-◌, ◌/◌, ◌<◌, ◌==◌, ◌||◌, ◌∷◌, ◌≡◌, ◌≤◌}
+pub use Rattle.std.specs.Prelude.{Bool, List, None, Option, Some, [], codes, length, map, nat_le, nat_lt, not, slice_index, slice_index_or, suc, true, zero, ℕ}
 pub use Rattle.std.specs.Str.{byte, bytes_eq}
 pub use Rattle.std.specs.Str.Parse.{AllDigits, digits_value, digits_value_after}
 pub use Rattle.mp_model.specs.Waves.{AreWavesOf, level, slot_wave, wave}

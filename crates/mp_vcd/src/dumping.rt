@@ -20,6 +20,7 @@ use std::alloc::Global;
 /// is held. `OutOfMemory` comes where memory is wanting: then a part of the dump, from its front, is written. It takes time in proportion
 /// to the wires, the units and the changes; and of memory 12 bytes for each wire, and 16 for each change and 4 for each unit of a portion,
 /// which has as many changes as stay near the processor.
+#[tactic(auto, using(crate::proofs::DumpReadLemmas::says_levels))]
 pub fn put_dump<S: Sink>(
     alloc: Global,
     out: &mut Out<S>,

@@ -37,6 +37,7 @@ pub fn put_preamble<S: Sink>(
 }
 
 /// Writes the lines of a part for each wire that stands, by number.
+#[tactic(auto, using(crate::proofs::StandingLemmas::put_wires_steps))]
 fn put_wires<S: Sink>(
     out: &mut Out<S>,
     netlist: &Netlist,

@@ -9,6 +9,7 @@ use mp_netlist::Netlist;
 use mp_streams::{Failed, Out, Sink};
 
 /// Writes the changes of each time of an agenda, the last of which is before another.
+#[tactic(auto, using(crate::proofs::StandingLemmas::put_agenda_steps))]
 pub fn put_agenda<S: Sink>(
     out: &mut Out<S>,
     netlist: &Netlist,

@@ -6,6 +6,7 @@ use mp_netlist::{Netlist, WireId};
 use std::alloc::{AllocError, Global};
 
 /// The width of each wire by number, 0 where none stands: so that no record is looked at for a change.
+#[tactic(auto, using(crate::proofs::StandingLemmas::widths_of_steps))]
 pub fn widths_of(alloc: Global, netlist: &Netlist) -> Result<Vec<u32>, AllocError>
     ensures { IfOk result (λ widths. widths.items ≡ map width_of netlist.now.wires) }
 {

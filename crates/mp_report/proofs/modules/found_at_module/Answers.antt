@@ -1,16 +1,6 @@
 use Rattle.mp_report.proofs.Names.{ℕ, List, map, sym, ◌∙◌, ap, subst, Input, input_by, level, levels_at, IsSpan, InPiece}
-use Rattle.mp_model.proofs.BuiltLemmas.{width_of_module}
-use Rattle.mp_report.proofs.ModuleLemmas.{answer_over, no_module_over, quiet_module_over}
+use Rattle.mp_report.proofs.ModuleLemmas.{answer_over}
 use Rattle.mp_report.proofs.modules.found_at_module.Goals as goal
-
-pub built-part-requires-clause-width : goal.built-part-requires-clause-width
-built-part-requires-clause-width c = width_of_module c.args.netlist.now c.horizon-end.ensures.form c.in-Some.record.now c.in-Some.ensures.form
-
-pub returns-in_default : goal.returns-in_default
-returns-in_default c = c.none.ensures ∙ no_module_over c.args.netlist.now c.args.id.0 (sym c.in_default.ensures.value)
-
-pub returns-then-finds_nothing : goal.returns-then-finds_nothing
-returns-then-finds_nothing c = c.none-then-finds_nothing.ensures ∙ quiet_module_over c.args.netlist.now c.args.id.0 c.in-Some.record.now (sym c.in-Some.ensures.value) (c.finds_nothing.ensures c.if-finds_nothing.true)
 
 pub returns : goal.returns
 returns c =

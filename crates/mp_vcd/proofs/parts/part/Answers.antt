@@ -1,4 +1,3 @@
-use Rattle.std.specs.Prelude.{◌-◌}
 use Rattle.mp_vcd.proofs.Names.{ℕ, sym, subst, arith, changes_in, later_than-drop}
 use Rattle.std.specs.List.Sorted.{IsNonDecreasingBy}
 use Rattle.std.proofs.lemmas.List.Sorted.{IsNonDecreasingBy-drop}

@@ -1,10 +1,8 @@
-use Rattle.mp_report.proofs.Names.{arith, level}
+use Rattle.mp_report.proofs.Names.{arith, level, rules}
 use Rattle.mp_report.proofs.watch.Watch.next.Goals as goal
 
 pub returns-clause-later : goal.returns-clause-later
-returns-clause-later c n b time ahead le =
-    c.next.ensures.later (level n b.payload.0) n.horizon time ahead.payload
-    (c.next-end-2.ensures.later (level n b.acknowledge.0) n.horizon time ahead.acknowledge (c.next-end.ensures.later (level n b.request.0) n.horizon time ahead.request le))
+returns-clause-later c n b time ahead le = search (rules, c.next.ensures.later, c.next-end-2.ensures.later, c.next-end.ensures.later)
 
 pub returns-clause-still : goal.returns-clause-still
 returns-clause-still c n b time ahead low high =
