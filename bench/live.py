@@ -204,12 +204,22 @@ class Meeting:
         """Ends the desk, and checks all that was said. So many lines of designers that aren't in the logs were not read."""
         edits = edits_of(self.desk.ask_all("edits 1"))
         self.desk.close_input()
+        return self.check_end(edits, refused)
+
+    def check_end(self, edits, refused=0):
+        """Checks all that was said, where the desk's own input has ended, all seats are left, and these edits were accepted."""
         written, fault, status = self.desk.end()
         expect("what the desk tells of its end", ("", 0), (fault, status))
         logs = {name: [line for log in parts for line in log] for name, parts in self.logs.items()}
         check_all(Played(self.program, self.netlist, edits), logs, written, refused)
         self.folder.cleanup()
         return written
+
+    def end_input(self, last):
+        """Ends the desk's own input, and waits until the desk has told the seats of it. The last seat is free."""
+        self.desk.close_input()
+        # (nobody else reads what the seat is answered)
+        os.close(opened_to_write(os.path.join(self.folder.name, f"{last}.out"), SECONDS))
 
     def __enter__(self):
         return self

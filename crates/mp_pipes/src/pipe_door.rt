@@ -63,7 +63,7 @@ impl Door for PipeDoor<'_> {
     }
 
     fn leave(&mut self, _ended: Ended, output: Self::Output) {
-        // the output is closed before the seat is free: whoever ends the desk opens the pipes of free seats for both ends, and nobody would see the end
+        // the output is closed before the seat is free: a seat that is told to be free was left by the desk too
         drop(output);
         self.seat.set_taken(false);
     }

@@ -51,7 +51,7 @@ impl<'a> Pipes<'a> {
     }
 
     /// Serves those who come to the pipes on a session, and answers the lines of whoever runs the desk meanwhile, as `host` does. The scribe
-    /// writes all replies.
+    /// writes all replies. Whoever comes once these lines have ended is answered nothing, and sees the end when the desk ends.
     pub fn host<
         S: EditSession + Send,
         R: Threads + Wait + Sync,
@@ -74,7 +74,9 @@ impl<'a> Pipes<'a> {
         ensures flushed { out.new.held ≡ [] }
     {
         let hall = self.hall(scribe)?;
-        host(rt, self.files.alloc(), session, hall, lines, out)
+        let met = host(rt, self.files.alloc(), session, hall, lines, out);
+        PipeExit { pipes: self }.let_go();
+        met
     }
 
     /// The pipes as doors, and how replies are written.
