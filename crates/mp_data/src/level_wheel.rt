@@ -63,6 +63,17 @@ impl LevelWheel {
         are_empty(self.slots.as_slice())
     }
 
+    /// The changes that come so many units after the next one, so far as this is known.
+    pub fn slot(&self, units: usize) -> &[LevelChange]
+        ensures { result.now ≡ slice_index_or self.now units [] }
+    {
+        if units >= self.slots.len() {
+            return &[];
+        }
+        let place = place_after(self.next, units, self.slots.len());
+        self.slots[place].as_slice()
+    }
+
     /// The next unit begins: its slot becomes the present one, and the one that was present before is emptied and becomes that of the last unit.
     #[inline(always)]
     pub fn turn(&mut self, present: &mut LevelSlot)

@@ -1,63 +1,51 @@
--- What parts are told of wires that they hear.
-use Rattle.std.specs.Prelude.{◌≡◌, ◌≢◌, ◌⊎◌, ℕ, ◌+◌, ◌<◌, Bool, true, ◌&&◌, List, [], length, slice_index_or, ◌==◌}
-use Rattle.std.specs.List.{Contains, list_any}
-use Rattle.mp_netlist.specs.Circuit.{Circuit}
-use Rattle.mp_model.specs.Waves.{level}
-use Rattle.mp_engine.specs.declared.entry.Entry.{Entry}
-use Rattle.mp_engine.specs.declared.letters.Letter.{Letter}
-use Rattle.mp_engine.specs.Calendars.{IsExact, entry_of}
+-- What parts of a netlist tell each other.
+use Rattle.std.specs.Prelude.{◌≡◌, ℕ, ◌+◌, ◌-◌, ◌≤◌, ◌<◌, Bool, true, false, List, [], ◌∷◌, ◌++◌, All, ◌&&◌, if◌then◌else◌}
+use Rattle.std.specs.List.{count_by}
+use Rattle.mp_netlist.specs.Circuit.{Circuit, IsCircuit, Drives}
+use Rattle.mp_netlist.specs.Delays.{least_delay}
+use Rattle.mp_events.specs.Adding.{listed}
+use Rattle.mp_core.specs.Changes.{change_at}
+use Rattle.mp_data.specs.declared.level_change.LevelChange.{LevelChange}
+use Rattle.mp_units.specs.declared.netlist_simulation.NetlistSimulation.{NetlistSimulation}
+use Rattle.mp_units.specs.NetlistSimulations.{IsSimulated}
+use Rattle.mp_run.specs.declared.stimuli.StimulusChange.{StimulusChange}
+use Rattle.mp_run.specs.Stimuli.{is_change, IsSetting}
 use Rattle.mp_evaluation.specs.Marks.{is_marked}
-use Rattle.mp_engine.specs.Regions.{home_of}
+use Rattle.mp_regions.specs.Regions.{home_of, region}
+use Rattle.mp_regions.specs.Divisions.{heard_by, IsDivision}
+use Rattle.mp_engine.specs.declared.letter.Window.{Window}
 
-abbrev pub letter_of : ℕ → Entry → Letter
-letter_of ahead entry = record { ahead = ahead; entry = entry }
+-- they are the changes, from a time to before another, of the wires that are heard and that are at home in one of these parts, each once
+pub record AreTold (n : Circuit) (wires : List ℕ) (heard : List Bool) (bys : List ℕ) (window : Window) (ss : List StimulusChange) : Type 0 where
+  pub later : All (λ (s : StimulusChange). window.from ≤ s.time) ss
+  pub before : All (λ (s : StimulusChange). s.time < window.until) ss
+  pub heard_alone : All (λ (s : StimulusChange). is_marked heard s.wire ≡ true) ss
+  pub each : (w u : ℕ) → window.from ≤ u → u < window.until → count_by (is_change w u) ss ≡ (if change_at n w u && is_marked heard w then listed (home_of wires w) bys else 0)
+  pub set : All (IsSetting n) ss
 
--- the wire is at home in the part, and some part hears it
-abbrev pub is_sent : List ℕ → List (List Bool) → ℕ → ℕ → Bool
-is_sent wires heards part w = home_of wires w == part && list_any (λ heard. is_marked heard w) heards
+-- the simulation of a part has come to the time before, and knows all that the part's modules do in units of a window
+pub record KnowsAhead (n : Circuit) (wires : List ℕ) (heards : List (List Bool)) (by : ℕ) (window : Window) (s : NetlistSimulation) : Type 0 where
+  pub homes : List ℕ
+  pub parts : ℕ
+  pub form : IsCircuit n
+  pub division : IsDivision n homes wires heards parts
+  pub before : ℕ
+  pub from : window.from ≡ before + 1
+  pub some : window.from ≤ window.until
+  pub short : window.until ≤ window.from + least_delay n
+  pub within : window.until ≤ n.horizon
+  pub simulated : IsSimulated (region n homes by (heard_by heards by)) before s
 
--- it tells an entry of this list, for the unit that comes so many after the next
-pub record IsOfList (wires : List ℕ) (heards : List (List Bool)) (part ahead : ℕ) (list : List Entry) (l : Letter) : Type 0 where
-  pub time : l.ahead ≡ ahead
-  pub listed : Contains list l.entry
-  pub sent : is_sent wires heards part l.entry.wire.0 ≡ true
+-- of each wire that is heard and that a port drives, just one line tells
+abbrev pub IsToldOnce : Circuit → List ℕ → List Bool → List ℕ → Type 0
+IsToldOnce n wires heard bys = (m p w : ℕ) → Drives n m p w → is_marked heard w ≡ true → listed (home_of wires w) bys ≡ 1
 
--- it tells an entry of one of the first lists of a calendar
-pub record IsOfCalendar (wires : List ℕ) (heards : List (List Bool)) (part span : ℕ) (lists : List (List Entry)) (l : Letter) : Type 0 where
-  pub near : l.ahead < span
-  pub listed : Contains (slice_index_or lists l.ahead []) l.entry
-  pub sent : is_sent wires heards part l.entry.wire.0 ≡ true
+-- what is told of wires of width 1 that toggle at a time: of those that are marked
+abbrev pub toggles_told : List Bool → ℕ → List ℕ → List StimulusChange
+toggles_told heard time [] = []
+toggles_told heard time (w ∷ ws) = (if is_marked heard w then record { time = time; wire = w; has_data = false; level = 0 } ∷ [] else []) ++ toggles_told heard time ws
 
--- it tells such an entry of the calendar of one of the first parts
-pub record IsOfParts (wires : List ℕ) (heards : List (List Bool)) (span : ℕ) (calendars : List (List (List Entry))) (count : ℕ) (l : Letter) : Type 0 where
-  pub part : ℕ
-  pub low : part < count
-  pub told : IsOfCalendar wires heards part span (slice_index_or calendars part []) l
-
--- just these letters tell of the first lists of a part's calendar; others may be for later units
-pub record IsTelling (wires : List ℕ) (heards : List (List Bool)) (part span : ℕ) (lists : List (List Entry)) (letters : List Letter) : Type 0 where
-  pub told : (l : Letter) → IsOfCalendar wires heards part span lists l → Contains letters l
-  pub others : (l : Letter) → Contains letters l → l.ahead < span → IsOfCalendar wires heards part span lists l
-
--- it is among these letters, for one of the first units
-abbrev pub IsNear : ℕ → List Letter → Letter → Type 0
-IsNear span letters l = Contains letters l × l.ahead < span
-
--- just such letters are added
-pub record AreLetters (Kind : Letter → Type 0) (letters new : List Letter) : Type 0 where
-  pub kept : (l : Letter) → Contains letters l → Contains new l
-  pub told : (l : Letter) → Kind l → Contains new l
-  pub others : (l : Letter) → Contains new l → Contains letters l ⊎ Kind l
-
--- the letters that are heard are entered, and nothing else
-pub record AreEntered (heard : List Bool) (letters : List Letter) (lists new : List (List Entry)) : Type 0 where
-  pub places : length new ≡ length lists
-  pub kept : (k : ℕ) (e : Entry) → Contains (slice_index_or lists k []) e → Contains (slice_index_or new k []) e
-  pub told : (l : Letter) → Contains letters l → is_marked heard l.entry.wire.0 ≡ true → Contains (slice_index_or new l.ahead []) l.entry
-  pub others : (k : ℕ) (e : Entry) → Contains (slice_index_or new k []) e → Contains (slice_index_or lists k []) e ⊎ (Contains letters (letter_of k e) × (is_marked heard e.wire.0 ≡ true))
-
--- they tell a part after the unit t all changes of wires that it hears before a time, and nothing that isn't true
-pub record AreTidings (n : Circuit) (heard : List Bool) (t until room : ℕ) (letters : List Letter) : Type 0 where
-  pub exact : (l : Letter) → Contains letters l → is_marked heard l.entry.wire.0 ≡ true → IsExact n (t + l.ahead) l.entry
-  pub near : (l : Letter) → Contains letters l → l.ahead < room
-  pub told : (w k : ℕ) → is_marked heard w ≡ true → t + k + 1 < until → level n w (t + k + 1) ≢ level n w (t + k) → Contains letters (letter_of k (entry_of w (level n w (t + k + 1))))
+-- and of wires with data
+abbrev pub levels_told : List Bool → ℕ → List LevelChange → List StimulusChange
+levels_told heard time [] = []
+levels_told heard time (c ∷ cs) = (if is_marked heard c.number then record { time = time; wire = c.number; has_data = true; level = c.level } ∷ [] else []) ++ levels_told heard time cs

@@ -5,17 +5,8 @@ use mp_netlist::ModuleId;
 use mp_phase::Gate;
 use std::sync::Wait;
 
-/// These modules pass the gate, each for the unit at a time.
-pub(crate) fn pass_gate<G: Gate, R: Wait>(rt: &R, gate: &G, due: &[ModuleId], time: u32)
-    requires { time + 1 < 2 ^ 32 }
-{
-    for id in due {
-        gate.enter(rt, *id, time, time + 1);
-    }
-}
-
 /// The modules of these numbers pass the gate, each for the unit at a time.
-pub(crate) fn pass_gate_at<G: Gate, R: Wait>(rt: &R, gate: &G, modules: &[u32], time: u32)
+pub(crate) fn pass_gate<G: Gate, R: Wait>(rt: &R, gate: &G, modules: &[u32], time: u32)
     requires { time + 1 < 2 ^ 32 }
 {
     for number in modules {

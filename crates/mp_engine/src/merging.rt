@@ -4,18 +4,19 @@ ghost use Rattle.std.specs.Arc.{arc_value};
 ghost use Rattle.mp_netlist.specs.Slots.{slot_at};
 ghost use Rattle.mp_netlist.specs.Circuit.{IsCircuit, wire_at};
 ghost use Rattle.mp_model.specs.Waves.{slot_wave};
-ghost use Rattle.mp_engine.specs.Divisions.{AreRuns, IsDivision};
+ghost use Rattle.mp_engine.specs.Divisions.{AreRuns};
+ghost use Rattle.mp_regions.specs.Divisions.{IsDivision};
 ghost use Rattle.mp_evaluation.specs.Outcomes.{AreSlots};
-ghost use Rattle.mp_engine.specs.PartRuns.{waves_in, kept_in, IsPartRun};
+ghost use Rattle.mp_engine.specs.PartRuns.{kept_in, IsPartRun};
 ghost use Rattle.mp_evaluation.specs.Runs.{AreCheckpoints, end_memory};
-ghost use Rattle.mp_engine.specs.Regions.{home_of};
+ghost use Rattle.mp_regions.specs.Regions.{home_of};
 
-use crate::division::Division;
-use crate::home::home_of;
 use crate::part_run::PartRun;
 use mp_evaluation::Checkpoints;
+use mp_model::Waves;
 use mp_modules::Memory;
 use mp_netlist::{ModuleId, Netlist, WireId};
+use mp_regions::{Division, home_of};
 use mp_wave::Wave;
 use std::alloc::{AllocError, Global};
 use std::sync::Arc;
@@ -35,7 +36,11 @@ pub(crate) fn merged(
     let waves = merged_waves(alloc, netlist, division, runs)?;
     let ends = merged_ends(alloc, netlist, division, runs)?;
     let kept = merged_checkpoints(alloc, netlist, division, runs)?;
-    Ok(PartRun { waves, ends, kept })
+    Ok(PartRun {
+        waves: Waves::new(waves),
+        ends,
+        kept,
+    })
 }
 
 fn merged_waves(
@@ -83,12 +88,9 @@ fn part_of_wire(division: &Division, wire: WireId) -> u32
 }
 
 fn shared_wave(run: &PartRun, wire: WireId) -> Result<Option<Arc<Wave, Global>>, AllocError>
-    ensures { IfOk result (λ wave. option_map arc_value wave ≡ slot_at (waves_in run.now) wire.0) }
+    ensures { IfOk result (λ wave. option_map arc_value wave ≡ slot_at run.now.waves wire.0) }
 {
-    match run.waves.get(wire.0 as usize) {
-        Some(Some(wave)) => Ok(Some(Arc::try_clone(wave)?)),
-        _ => Ok(None),
-    }
+    run.waves.shared(wire)
 }
 
 fn merged_ends(

@@ -1,13 +1,13 @@
 //! A part of a netlist as a task.
 
 ghost use Rattle.std.specs.Prelude.{[]};
-ghost use Rattle.mp_engine.specs.Regions.{HasStimuli};
+ghost use Rattle.mp_regions.specs.Regions.{HasStimuli};
 
 use crate::evaluation::run_region;
 use crate::part_run::PartRun;
-use crate::region::Region;
 use mp_netlist::Netlist;
 use mp_phase::{Gate, Work};
+use mp_regions::Region;
 use std::alloc::{AllocError, Global};
 use std::sync::Wait;
 
@@ -37,6 +37,7 @@ impl<'a> Work for Part<'a> {
         alloc: Global,
         gate: &G,
     ) -> Result<PartRun, AllocError> {
+        let _horizon = self.netlist.horizon();
         run_region(rt, alloc, self.netlist, &self.region, gate)
     }
 }

@@ -2,10 +2,12 @@
 ghost use Rattle.std.specs.Prelude.{IfOk, IfSome};
 ghost use Rattle.mp_evaluation.specs.Runs.{IsRun};
 
-use crate::whole_run::WholeRun;
+use crate::evaluation::run_of;
+use crate::region_run::RegionRun;
 use mp_evaluation::Run;
 use mp_netlist::Netlist;
 use mp_phase::Gate;
+use mp_regions::Region;
 use std::alloc::{AllocError, Global};
 use std::sync::Wait;
 
@@ -27,19 +29,21 @@ pub(crate) fn run_quiet<R: Wait, G: Gate>(
     ensures { IfOk result (λ found. IfSome found (IsRun netlist.now)) }
 {
     let horizon = netlist.horizon();
-    let mut run = WholeRun::begin(rt, alloc, netlist, gate)?;
+    let region = Region::whole(netlist);
+    let mut run = RegionRun::begin(rt, alloc, netlist, &region, gate)?;
     let mut from = 1;
     let mut to = 1 + (horizon - 1) / FIRST_LOOK;
     for _look in 0..LOOKS {
-        let fired = run.run_units(rt, netlist, gate, from, to)?;
+        let fired = run.run_units(rt, &region, gate, from, to)?;
         if is_busy(fired, to - from, netlist.least_delay(), least) {
             return Ok(None);
         }
         from = to;
         to = to.saturating_mul(2).min(horizon);
     }
-    run.run_units(rt, netlist, gate, from, horizon)?;
-    Ok(Some(run.finish(alloc, netlist)?))
+    run.run_units(rt, &region, gate, from, horizon)?;
+    let run = run.finish(alloc, &region)?;
+    Ok(Some(run_of(horizon, run)))
 }
 
 /// Whether so often modules fired in some units that it is at least so often a window on average, where a window has as many units as the least

@@ -1,16 +1,15 @@
 //! The states that a run of a whole netlist keeps on its way.
-ghost use Rattle.std.specs.Prelude.{◌≡◌, ℕ, ◌-◌, ◌<◌, false, IfOk, OnOk, length, slice_set};
+ghost use Rattle.std.specs.Prelude.{◌≡◌, ℕ, ◌-◌, ◌<◌, ◌∷◌, [], false, IfOk, OnOk, length, slice_set};
 ghost use Rattle.mp_netlist.specs.Circuit.{IsCircuit, module_at};
 ghost use Rattle.mp_units.specs.NetlistSimulations.{IsSimulated};
-ghost use Rattle.mp_evaluation.specs.Marks.{is_marked, AreListed};
-ghost use Rattle.mp_engine.specs.StateHistories.{first_kept, AreFirst, AreKept};
+ghost use Rattle.mp_evaluation.specs.Marks.{is_marked, AreListed, AreAdded};
+ghost use Rattle.mp_engine.specs.StateHistories.{ids_of, first_kept, AreFirst, AreKept};
 
-use crate::answers::is_marked;
-use crate::turns::{mark, mark_numbers};
+use crate::marks::no_marks;
 use mp_evaluation::{Checkpoint, Checkpoints};
-use mp_model::built;
 use mp_modules::EventModule;
-use mp_netlist::{ModuleId, Netlist, checkpoint_units};
+use mp_netlist::{ModuleId, checkpoint_units};
+use mp_regions::Region;
 use mp_units::NetlistSimulation;
 use std::alloc::{AllocError, Global};
 
@@ -30,11 +29,11 @@ impl StateHistory {
     ghost use Rattle.mp_engine.specs.StateHistories.{ids_of, IsStateHistory};
 
     /// The state of each module before time 0 is kept, and each is marked, since it is settled at time 0.
-    pub(crate) fn new(alloc: Global, netlist: &Netlist) -> Result<StateHistory, AllocError>
+    pub(crate) fn new(alloc: Global, netlist: &Region<'_>) -> Result<StateHistory, AllocError>
         requires { IsCircuit netlist.now }
         ensures { IfOk result (λ history. IsStateHistory netlist.now 1 0 history) }
     {
-        let mut marks = no_marks(alloc, netlist)?;
+        let mut marks = no_marks(alloc, netlist.module_slots())?;
         let mut list = Vec::new(alloc);
         for m in 0..netlist.module_slots() {
             mark(&mut marks, &mut list, ModuleId(m))?;
@@ -47,7 +46,7 @@ impl StateHistory {
     /// the last checkpoint, where it is time.
     pub(crate) fn pass(
         &mut self,
-        netlist: &Netlist,
+        netlist: &Region<'_>,
         simulation: &NetlistSimulation,
         time: u32,
     ) -> Result<(), AllocError>
@@ -83,7 +82,7 @@ impl StateHistory {
 
 /// Keeps the state of a module, if it is marked, and takes the mark away.
 fn keep_state(
-    netlist: &Netlist,
+    netlist: &Region<'_>,
     simulation: &NetlistSimulation,
     marks: &mut Vec<bool>,
     kept: &mut Vec<Checkpoints>,
@@ -108,7 +107,7 @@ fn keep_state(
 
 /// Keeps the states of all marked modules, which are listed.
 fn keep_states(
-    netlist: &Netlist,
+    netlist: &Region<'_>,
     simulation: &NetlistSimulation,
     marks: &mut Vec<bool>,
     kept: &mut Vec<Checkpoints>,
@@ -129,20 +128,8 @@ fn keep_states(
     Ok(())
 }
 
-/// No module is marked.
-fn no_marks(alloc: Global, netlist: &Netlist) -> Result<Vec<bool>, AllocError>
-    ensures places { IfOk result (λ marks. length marks.items ≡ length netlist.now.modules) }
-    ensures none { IfOk result (λ marks. (m : ℕ) → is_marked marks.items m ≡ false) }
-{
-    let mut marks = Vec::new(alloc);
-    for _m in 0..netlist.module_slots() {
-        marks.push(false)?;
-    }
-    Ok(marks)
-}
-
 /// The states before time 0, by module.
-fn first_states(alloc: Global, netlist: &Netlist) -> Result<Vec<Checkpoints>, AllocError>
+fn first_states(alloc: Global, netlist: &Region<'_>) -> Result<Vec<Checkpoints>, AllocError>
     requires { IsCircuit netlist.now }
     ensures { IfOk result (λ kept. AreFirst netlist.now (length netlist.now.modules) kept.items) }
 {
@@ -154,14 +141,48 @@ fn first_states(alloc: Global, netlist: &Netlist) -> Result<Vec<Checkpoints>, Al
 }
 
 /// The state before time 0 of a module, if one stands.
-fn first_state(alloc: Global, netlist: &Netlist, id: ModuleId) -> Result<Checkpoints, AllocError>
+fn first_state(alloc: Global, netlist: &Region<'_>, id: ModuleId) -> Result<Checkpoints, AllocError>
     requires { IsCircuit netlist.now }
     ensures { IfOk result (λ kept. kept ≡ first_kept netlist.now (module_at netlist.now id.0)) }
 {
     let mut kept = Checkpoints::new(alloc);
     if let Some(found) = netlist.module(id) {
-        let memory = built(netlist, found).start();
+        let memory = netlist.built(found).start();
         kept.push(Checkpoint { time: 0, memory })?;
     }
     Ok(kept)
+}
+
+fn is_marked(marks: &[bool], id: ModuleId) -> bool
+    ensures { result ≡ is_marked marks.now id.0 }
+{
+    match marks.get(id.0 as usize) {
+        Some(mark) => *mark,
+        None => false,
+    }
+}
+
+/// Marks modules and lists those that weren't marked.
+fn mark_numbers(
+    marks: &mut Vec<bool>,
+    due: &mut Vec<ModuleId>,
+    numbers: &[u32],
+) -> Result<(), AllocError>
+    ensures { OnOk result (AreAdded (ids_of numbers.now) marks.old.items marks.new.items due.old.items due.new.items) }
+{
+    for number in numbers {
+        mark(marks, due, ModuleId(*number))?;
+    }
+    Ok(())
+}
+
+fn mark(marks: &mut Vec<bool>, due: &mut Vec<ModuleId>, id: ModuleId) -> Result<(), AllocError>
+    ensures { OnOk result (AreAdded (id ∷ []) marks.old.items marks.new.items due.old.items due.new.items) }
+{
+    let m = id.0 as usize;
+    if m < marks.len() && !marks[m] {
+        marks[m] = true;
+        due.push(id)?;
+    }
+    Ok(())
 }

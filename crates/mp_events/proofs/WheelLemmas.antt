@@ -45,16 +45,16 @@ module _ (slots : List (List ℕ)) (next : ℕ) (within : next < length slots) w
       ∙ ap (λ (ys : List (List ℕ)). drop next slots ++ ys) (take_set next place slots x)
       ∙ sym (set-append_right (drop next slots) (take next slots) (length slots - next) later x long beyond)
 
-  get_when : (later : ℕ) (low : Bool) → nat_lt later (length slots - next) ≡ low → later < length slots →
+  slot_when : (later : ℕ) (low : Bool) → nat_lt later (length slots - next) ≡ low → later < length slots →
       slice_index_or slots (place_after next later (length slots)) [] ≡ slice_index_or (turned_by next slots) later []
-  get_when later true is fits =
+  slot_when later true is fits =
       let long = front_length in
       let inside : later < length slots - next = grind (arith, nat_tests) in
       let front : later < length (drop next slots) = omega arith in
       ap (λ b. slice_index_or slots (cond b (next + later) (later - (length slots - next))) []) is
       ∙ sym (get_or-drop next slots later [])
       ∙ sym (get_or_append_left (drop next slots) (take next slots) [] later front)
-  get_when later false is fits =
+  slot_when later false is fits =
       let long = front_length in
       let beyond : length slots - next ≤ later = grind (arith, nat_tests) in
       let early : later - (length slots - next) < next = omega arith in
@@ -62,13 +62,17 @@ module _ (slots : List (List ℕ)) (next : ℕ) (within : next < length slots) w
       ∙ sym (get_or-take next slots (later - (length slots - next)) [] early)
       ∙ sym (get_or-append_right (drop next slots) (take next slots) (length slots - next) later [] long beyond)
 
+  -- what a slot has
+  pub turned_slot : (later : ℕ) → later < length slots → slice_index_or slots (place_after next later (length slots)) [] ≡ slice_index_or (turned_by next slots) later []
+  turned_slot later fits = slot_when later (nat_lt later (length slots - next)) refl fits
+
   -- one more entry in a slot
   pub turned_entry : (later place wire : ℕ) → place ≡ place_after next later (length slots) → later < length slots →
       turned_by next (with_entry slots place wire) ≡ with_entry (turned_by next slots) later wire
   turned_entry later place wire is fits =
       ap (λ k. turned_by next (slice_set slots k (slice_index_or slots k [] ++ wire ∷ []))) is
       ∙ set_when later (slice_index_or slots (place_after next later (length slots)) [] ++ wire ∷ []) (nat_lt later (length slots - next)) refl fits
-      ∙ ap (λ (slot : List ℕ). slice_set (turned_by next slots) later (slot ++ wire ∷ [])) (get_when later (nat_lt later (length slots - next)) refl fits)
+      ∙ ap (λ (slot : List ℕ). slice_set (turned_by next slots) later (slot ++ wire ∷ [])) (slot_when later (nat_lt later (length slots - next)) refl fits)
 
   rest_is : drop 1 (turned_by next slots) ≡ drop (next + 1) slots ++ take next slots
   rest_is =

@@ -77,7 +77,7 @@ below_next n ok w ss are = record {
   later = all_both (λ (s : StimulusChange). 0 < s.time) ss (map (change_of w (is_data n w)) (times_of n w)) are.later
       (mapped_later w (is_data n w) (λ (c : ℕ × ℕ). (0 < c.0) × (level n w c.0 ≡ c.1)) (times_of n w) (all_set n ok w) (λ (s : StimulusChange). 0 < s.time) (λ c is. is.0));
   set = all_both (IsSetting n) ss (map (change_of w (is_data n w)) (times_of n w)) are.set
-      (mapped_later w (is_data n w) (λ (c : ℕ × ℕ). (0 < c.0) × (level n w c.0 ≡ c.1)) (times_of n w) (all_set n ok w) (IsSetting n) (λ c is. record { sort = refl; level = sym is.1 }));
+      (mapped_later w (is_data n w) (λ (c : ℕ × ℕ). (0 < c.0) × (level n w c.0 ≡ c.1)) (times_of n w) (all_set n ok w) (IsSetting n) (λ c is. record { sort = refl; level = λ has. sym is.1 }));
   each = λ v u some.
       sum_by-append (λ (s : StimulusChange). cond (is_change v u s) 1 0) ss (map (change_of w (is_data n w)) (times_of n w))
       ∙ ap (λ k. k + count_by (is_change v u) (map (change_of w (is_data n w)) (times_of n w))) (are.each v u some)
@@ -105,7 +105,7 @@ below_next n ok w ss are = record {
 
 -- ---- by time
 
-in_order : (u : ℕ) (ss : List StimulusChange) → All (λ (s : StimulusChange). u ≤ s.time) ss → IsNonDecreasingBy (λ (s : StimulusChange). s.time) ss → AreFrom u ss
+pub in_order : (u : ℕ) (ss : List StimulusChange) → All (λ (s : StimulusChange). u ≤ s.time) ss → IsNonDecreasingBy (λ (s : StimulusChange). s.time) ss → AreFrom u ss
 in_order u [] later sorted = tt
 in_order u (s ∷ ss) later sorted = (
   later 0 s (omega arith),

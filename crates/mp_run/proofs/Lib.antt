@@ -1,7 +1,7 @@
 mod NarrowLemmas
-mod StimulusLemmas
-mod AllStimuliLemmas
-mod PresentLemmas
+pub mod StimulusLemmas
+pub mod AllStimuliLemmas
+pub mod PresentLemmas
 mod NumberLemmas
 mod InputLemmas
 mod MoreInputsLemmas

@@ -144,18 +144,18 @@ module _ (n : Circuit) (w u : ℕ) where
   ]
 
 -- with their levels
-one_set : (n : Circuit) (u : ℕ) (s : StimulusChange) → IsSetting n s → s.time ≡ u → (has : Bool) →
+one_set : (n : Circuit) (u : ℕ) (s : StimulusChange) (has : Bool) → (has ≡ true → s.level ≡ level n s.wire s.time) → s.time ≡ u →
     All (λ (c : LevelChange). c.level ≡ level n c.number u) (cond has (record { number = s.wire; level = s.level } ∷ []) [])
-one_set n u s is now true zero d within = is.level ∙ ap (level n s.wire) now
-one_set n u s is now true (suc k) d within = absurd (omega arith)
-one_set n u s is now false k d within = absurd (omega arith)
+one_set n u s true is now zero d within = is refl ∙ ap (level n s.wire) now
+one_set n u s true is now (suc k) d within = absurd (omega arith)
+one_set n u s false is now k d within = absurd (omega arith)
 
 set_when : (n : Circuit) (u : ℕ) (s : StimulusChange) (rest : List LevelChange) → IsSetting n s → (b : Bool) → (s.time == u) ≡ b → All (λ (c : LevelChange). c.level ≡ level n c.number u) rest →
     All (λ (c : LevelChange). c.level ≡ level n c.number u) (cond b (levels_of s ++ rest) [])
-set_when n u s rest set true is all = All-append (λ (c : LevelChange). c.level ≡ level n c.number u) (levels_of s) rest (one_set n u s set (eqb-true s.time u is) s.has_data) all
+set_when n u s rest set true is all = All-append (λ (c : LevelChange). c.level ≡ level n c.number u) (levels_of s) rest (one_set n u s s.has_data set.level (eqb-true s.time u is)) all
 set_when n u s rest set false is all = λ k d within. absurd (omega arith)
 
-set_at : (n : Circuit) (u : ℕ) (ss : List StimulusChange) → All (IsSetting n) ss → All (λ (c : LevelChange). c.level ≡ level n c.number u) (levels_at u ss)
+pub set_at : (n : Circuit) (u : ℕ) (ss : List StimulusChange) → All (IsSetting n) ss → All (λ (c : LevelChange). c.level ≡ level n c.number u) (levels_at u ss)
 set_at n u [] set = λ k d within. absurd (omega arith)
 set_at n u (s ∷ ss) set =
     set_when n u s (levels_at u ss) (All-head (IsSetting n) s ss set) (s.time == u) refl (set_at n u ss (All-tail (IsSetting n) s ss set))
@@ -182,7 +182,7 @@ all_when : (P : StimulusChange → Type 0) (b : Bool) (xs ys : List StimulusChan
 all_when P true xs ys one other = one
 all_when P false xs ys one other = other
 
-settings_after : (n : Circuit) (u : ℕ) (ss : List StimulusChange) → All (IsSetting n) ss → All (IsSetting n) (changes_after u ss)
+pub settings_after : (n : Circuit) (u : ℕ) (ss : List StimulusChange) → All (IsSetting n) ss → All (IsSetting n) (changes_after u ss)
 settings_after n u [] set = set
 settings_after n u (s ∷ ss) set = all_when (IsSetting n) (s.time == u) (changes_after u ss) (s ∷ ss) (settings_after n u ss (All-tail (IsSetting n) s ss set)) set
 
@@ -212,24 +212,31 @@ within_wires n ok w u = elim (cases_lt w (length n.wires)) as (λ _. bit ((chang
     and_false true = refl
     and_false false = refl
 
+-- wires and levels that are listed as often as stimuli change them are what stimuli change
+pub stimuli_counted : (n : Circuit) → IsCircuit n → (u : ℕ) (set : List ℕ) (changes : List LevelChange) →
+    ((w : ℕ) → listed w set ≡ cond (is_data n w) 0 (bit (change_at n w u && is_stimulus (driver n w)))) →
+    ((w : ℕ) → changes_of w changes ≡ cond (is_data n w) (bit (change_at n w u && is_stimulus (driver n w))) 0) →
+    All (λ (c : LevelChange). c.level ≡ level n c.number u) changes → AreStimuli n set changes u
+stimuli_counted n ok u set changes bits levels right = record {
+  bits = λ scope traces w.
+      bits w
+      ∙ bit_sort (change_at n w u && is_stimulus (driver n w)) (is_data n w)
+      ∙ within_wires n ok w u
+      ∙ ap (λ b. bit ((change_at n w u && is_stimulus (driver n w)) && b)) (sym (traces w));
+  levels = record {
+    each = λ w. levels w ∙ level_sort (change_at n w u && is_stimulus (driver n w)) (is_data n w);
+    levels = right;
+  };
+}
+
 -- the changes that come first are those of the next unit
 pub stimuli_now : (n : Circuit) → IsCircuit n → (t : ℕ) (rest : List StimulusChange) (set : List ℕ) (changes : List LevelChange) → set ≡ bits_at (t + 1) rest →
     changes ≡ levels_at (t + 1) rest → AreAhead n t rest → AreStimuli n set changes (t + 1)
-stimuli_now n ok t rest set changes bits levels are = record {
-  bits = λ scope traces w.
-      ap (listed w) bits ∙ bits_now n w (t + 1) rest are.set are.listed
-      ∙ ap (λ k. cond (is_data n w) 0 k) (are.each w (t + 1) (omega arith))
-      ∙ bit_sort (change_at n w (t + 1) && is_stimulus (driver n w)) (is_data n w)
-      ∙ within_wires n ok w (t + 1)
-      ∙ ap (λ b. bit ((change_at n w (t + 1) && is_stimulus (driver n w)) && b)) (sym (traces w));
-  levels = record {
-    each = λ w.
-        ap (changes_of w) levels ∙ levels_now n w (t + 1) rest are.set are.listed
-        ∙ ap (λ k. cond (is_data n w) k 0) (are.each w (t + 1) (omega arith))
-        ∙ level_sort (change_at n w (t + 1) && is_stimulus (driver n w)) (is_data n w);
-    levels = subst (λ (cs : List LevelChange). All (λ (c : LevelChange). c.level ≡ level n c.number (t + 1)) cs) (sym levels) (set_at n (t + 1) rest are.set);
-  };
-}
+stimuli_now n ok t rest set changes bits levels are =
+    stimuli_counted n ok (t + 1) set changes
+    (λ w. ap (listed w) bits ∙ bits_now n w (t + 1) rest are.set are.listed ∙ ap (λ k. cond (is_data n w) 0 k) (are.each w (t + 1) (omega arith)))
+    (λ w. ap (changes_of w) levels ∙ levels_now n w (t + 1) rest are.set are.listed ∙ ap (λ k. cond (is_data n w) k 0) (are.each w (t + 1) (omega arith)))
+    (subst (λ (cs : List LevelChange). All (λ (c : LevelChange). c.level ≡ level n c.number (t + 1)) cs) (sym levels) (set_at n (t + 1) rest are.set))
 
 pub unit_begins : (n : Circuit) → IsCircuit n → (t : ℕ) (old new : Stimuli) → new.bits.items ≡ bits_at (t + 1) (rest_of old) → new.levels.items ≡ levels_at (t + 1) (rest_of old) →
     rest_of new ≡ changes_after (t + 1) (rest_of old) → AreAhead n t (rest_of old) → Advances n t new

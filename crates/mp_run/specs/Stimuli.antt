@@ -1,6 +1,7 @@
 -- What stimuli set, by time.
-use Rattle.std.specs.Prelude.{◌≡◌, ℕ, ◌+◌, ◌<◌, ◌≤◌, Bool, List, [], ◌∷◌, ◌++◌, All, drop, ◌==◌, ◌&&◌, if◌then◌else◌}
+use Rattle.std.specs.Prelude.{◌≡◌, ℕ, ◌+◌, ◌<◌, ◌≤◌, Bool, true, List, [], ◌∷◌, ◌++◌, All, drop, ◌==◌, ◌&&◌, if◌then◌else◌}
 use Rattle.std.specs.List.{count_by}
+use Rattle.std.specs.List.Sorted.{IsNonDecreasingBy}
 use Rattle.mp_netlist.specs.Circuit.{Circuit}
 use Rattle.mp_netlist.specs.Drivers.{driver}
 use Rattle.mp_model.specs.Waves.{level}
@@ -12,6 +13,7 @@ use Rattle.mp_units.specs.DataLevels.{is_data}
 use Rattle.mp_units.specs.NetlistSimulations.{AreStimuli}
 use Rattle.mp_run.specs.declared.stimuli.StimulusChange.{StimulusChange}
 use Rattle.mp_run.specs.declared.stimuli.Stimuli.{Stimuli}
+use Rattle.mp_run.specs.declared.stimuli.HeardChanges.{HeardChanges}
 
 abbrev pub change_of : ℕ → Bool → ℕ × ℕ → StimulusChange
 change_of w has_data change = record { time = change.0; wire = w; has_data = has_data; level = change.1 }
@@ -24,6 +26,9 @@ set_changes level (change ∷ changes) = if level == change.1 then set_changes c
 -- those that are to come
 abbrev pub rest_of : Stimuli → List StimulusChange
 rest_of stimuli = drop stimuli.place stimuli.list.items
+
+abbrev pub left_of : HeardChanges → List StimulusChange
+left_of heard = drop heard.place heard.list.items
 
 -- the wire of a change, if it has width 1
 abbrev pub bits_of : StimulusChange → List ℕ
@@ -52,13 +57,16 @@ abbrev pub AreFrom : ℕ → List StimulusChange → Type 0
 AreFrom time [] = Unit {0}
 AreFrom time (s ∷ ss) = (time ≤ s.time) × AreFrom s.time ss
 
+abbrev pub AreInOrder : List StimulusChange → Type 0
+AreInOrder ss = IsNonDecreasingBy (λ (s : StimulusChange). s.time) ss
+
 abbrev pub is_change : ℕ → ℕ → StimulusChange → Bool
 is_change w time s = s.wire == w && s.time == time
 
--- the wire has the level then, and is told by whether it has data
+-- the change is told by whether its wire has data, and where it has, the wire has the level then
 pub record IsSetting (n : Circuit) (s : StimulusChange) : Type 0 where
   pub sort : s.has_data ≡ is_data n s.wire
-  pub level : s.level ≡ level n s.wire s.time
+  pub level : s.has_data ≡ true → s.level ≡ level n s.wire s.time
 
 -- they are the changes after t of all wires with a stimulus, each once
 pub record AreAhead (n : Circuit) (t : ℕ) (ss : List StimulusChange) : Type 0 where

@@ -17,13 +17,13 @@ use mp_automata::TransitionTable;
 use mp_core::{DelayedCopies, Simulation, Simulator};
 use mp_data::{LevelSlot, LevelWheel};
 use mp_events::{EventSlot, EventWheel, Fanout};
-use mp_netlist::Netlist;
+use mp_regions::Region;
 use mp_units::{DataWires, NetlistSimulation};
 use std::alloc::{AllocError, Global};
 
 /// A simulation of a netlist at time 0: all wires have their initial levels, and each module is settled. An output whose level isn't the initial
 /// one of its wire changes that after its delay.
-pub fn begin(alloc: Global, netlist: &Netlist) -> Result<NetlistSimulation, AllocError>
+pub fn begin(alloc: Global, netlist: &Region<'_>) -> Result<NetlistSimulation, AllocError>
     requires { IsCircuit netlist.now }
     ensures simulated { IfOk result (λ simulation. IsSimulated netlist.now 0 simulation) }
     ensures narrow { IfOk result (λ simulation. IsNarrow netlist.now → IsEvaluated netlist.now 0 simulation.bits) }
@@ -42,7 +42,7 @@ pub fn begin(alloc: Global, netlist: &Netlist) -> Result<NetlistSimulation, Allo
 }
 
 /// The same of a netlist whose wires have width 1, so that no module and no wire has data.
-pub(crate) fn begin_bits(alloc: Global, netlist: &Netlist) -> Result<Simulation, AllocError>
+pub(crate) fn begin_bits(alloc: Global, netlist: &Region<'_>) -> Result<Simulation, AllocError>
     requires form { IsCircuit netlist.now }
     requires narrow { IsNarrow netlist.now }
     ensures { IfOk result (λ bits. IsEvaluated netlist.now 0 bits) }
@@ -56,7 +56,7 @@ pub(crate) fn begin_bits(alloc: Global, netlist: &Netlist) -> Result<Simulation,
 /// The wires of any width at time 0, with the levels to come.
 fn first_data_wires(
     alloc: Global,
-    netlist: &Netlist,
+    netlist: &Region<'_>,
     wiring: &Wiring,
     wheel: LevelWheel,
 ) -> Result<DataWires, AllocError>
@@ -77,7 +77,7 @@ fn first_data_wires(
 /// The modules and wires of width 1 at time 0.
 fn first_bits(
     alloc: Global,
-    netlist: &Netlist,
+    netlist: &Region<'_>,
     wiring: &Wiring,
     delays: Delays,
 ) -> Result<Simulation, AllocError>

@@ -3,7 +3,8 @@ ghost use Rattle.std.specs.Prelude.{◌≤◌, All};
 ghost use Rattle.mp_records.specs.declared.ports.Input.{Input as Entry};
 ghost use Rattle.mp_records.specs.declared.ports.Output.{Output as Exit};
 
-use mp_netlist::{Input, ModuleId, Netlist, Output};
+use mp_netlist::{Input, ModuleId, Output};
+use mp_regions::Region;
 
 /// The longest delays of outputs and of inputs, each at least 1.
 #[derive(Clone, Copy)]
@@ -19,7 +20,7 @@ impl Delays {
     ghost use Rattle.mp_run.specs.Delays.{AreWithin, IsWithin, AreNotBelow};
 
     /// The longest delays of all modules.
-    pub(crate) fn of(netlist: &Netlist) -> Delays
+    pub(crate) fn of(netlist: &Region<'_>) -> Delays
         ensures within { AreWithin netlist.now (length netlist.now.modules) result }
         ensures outputs { 0 < result.outputs }
         ensures inputs { 0 < result.inputs }
@@ -48,7 +49,7 @@ impl Delays {
     }
 
     /// The longest of these and those of a module.
-    fn with_module(self, netlist: &Netlist, id: ModuleId) -> Delays
+    fn with_module(self, netlist: &Region<'_>, id: ModuleId) -> Delays
         ensures longer { AreNotBelow self result }
         ensures within { (r : Part) → module_at netlist.now id.0 ≡ Some r → IsWithin result r }
     {

@@ -6,7 +6,8 @@ ghost use Rattle.mp_units.specs.NetlistSimulations.{IsSimulated};
 ghost use Rattle.mp_run.specs.Runs.{wave_built, wave_for};
 
 use mp_core::{Simulation, Simulator};
-use mp_netlist::{Netlist, WireId};
+use mp_netlist::WireId;
+use mp_regions::Region;
 use mp_units::{DataWires, NetlistSimulation};
 use mp_wave::{ToggleWave, Wave, WaveBuilder};
 use std::alloc::{AllocError, Global};
@@ -14,7 +15,7 @@ use std::alloc::{AllocError, Global};
 /// The wave of each wire of a netlist, of which all units are over: one place per wire number, and none where no wire stands.
 pub fn found_waves(
     alloc: Global,
-    netlist: &Netlist,
+    netlist: &Region<'_>,
     simulation: NetlistSimulation,
 ) -> Result<Vec<Option<Wave>>, AllocError>
     requires form { IsCircuit netlist.now }
@@ -38,16 +39,16 @@ pub fn found_waves(
 
 /// The wave of a wire: by its toggles, if it has width 1, and else the one that was built.
 fn wave_of(
-    netlist: &Netlist,
+    netlist: &Region<'_>,
     wire: WireId,
     toggles: Option<ToggleWave>,
     built: Option<WaveBuilder>,
 ) -> Option<Wave>
     ensures { result ≡ wave_for (wire_at netlist.now wire.0) toggles built }
 {
-    match netlist.wire(wire) {
-        Some(found) => {
-            if found.width == 1 {
+    match netlist.wire_width(wire) {
+        Some(width) => {
+            if width == 1 {
                 toggled_wave(toggles)
             } else {
                 built_wave(built)

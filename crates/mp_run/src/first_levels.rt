@@ -4,19 +4,10 @@ ghost use Rattle.mp_netlist.specs.Circuit.{wire_at};
 ghost use Rattle.mp_model.specs.Levels.{initial_of};
 ghost use Rattle.mp_run.specs.FirstLevels.{first_wave, first_building};
 
-use mp_netlist::{Netlist, WireId};
+use mp_netlist::WireId;
+use mp_regions::Region;
 use mp_wave::{ToggleWave, WaveBuilder};
 use std::alloc::{AllocError, Global};
-
-/// The initial level of a wire, 0 where none stands.
-pub(crate) fn initial_level(netlist: &Netlist, wire: WireId) -> u64
-    ensures { result ≡ initial_of (wire_at netlist.now wire.0) }
-{
-    match netlist.wire(wire) {
-        Some(found) => found.initial,
-        None => 0,
-    }
-}
 
 /// 1 where a level is 1, and else 0.
 fn bit_of(level: u64) -> u64
@@ -27,12 +18,15 @@ fn bit_of(level: u64) -> u64
 }
 
 /// For each number of a wire the wave with its initial level, of which no change is known. Where the wire has data, it is a wave that nobody reads.
-pub(crate) fn first_waves(alloc: Global, netlist: &Netlist) -> Result<Vec<ToggleWave>, AllocError>
+pub(crate) fn first_waves(
+    alloc: Global,
+    netlist: &Region<'_>,
+) -> Result<Vec<ToggleWave>, AllocError>
     ensures { IfOk result (λ waves. waves.items ≡ map first_wave netlist.now.wires) }
 {
     let mut waves = Vec::new(alloc);
     for w in 0..netlist.wire_slots() {
-        let level = bit_of(initial_level(netlist, WireId(w)));
+        let level = bit_of(netlist.initial_level(WireId(w)));
         waves.push(ToggleWave::constant(alloc, level))?;
     }
     Ok(waves)
@@ -41,13 +35,13 @@ pub(crate) fn first_waves(alloc: Global, netlist: &Netlist) -> Result<Vec<Toggle
 /// For each number of a wire the wave of any width that is built from its initial level.
 pub(crate) fn first_buildings(
     alloc: Global,
-    netlist: &Netlist,
+    netlist: &Region<'_>,
 ) -> Result<Vec<WaveBuilder>, AllocError>
     ensures { IfOk result (λ waves. waves.items ≡ map first_building netlist.now.wires) }
 {
     let mut waves = Vec::new(alloc);
     for w in 0..netlist.wire_slots() {
-        let level = initial_level(netlist, WireId(w));
+        let level = netlist.initial_level(WireId(w));
         waves.push(WaveBuilder::new(alloc, level))?;
     }
     Ok(waves)

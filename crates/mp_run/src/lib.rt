@@ -18,4 +18,4 @@ pub use beginning::begin;
 pub use finishing::found_waves;
 pub use narrow::is_narrow;
 pub use running::run_waves;
-pub use stimuli::{Stimuli, StimulusChange};
+pub use stimuli::{HeardChanges, Stimuli, StimulusChange};

@@ -6,17 +6,17 @@ ghost use Rattle.mp_events.specs.Firing.{no_port};
 ghost use Rattle.mp_units.specs.DataLevels.{is_data};
 ghost use Rattle.mp_run.specs.Numbering.{AreCopiesOf, level_of_wire, is_bit};
 
-use crate::first_levels::initial_level;
 use crate::seating::no_port;
 use crate::widths::has_data;
 use mp_events::OutputPort;
-use mp_netlist::{Netlist, WireId};
+use mp_netlist::WireId;
+use mp_regions::Region;
 use std::alloc::{AllocError, Global};
 
 /// What is next after each number that is of a wire of width 1. The wires of the numbers are listed.
 pub(crate) fn bit_copies(
     alloc: Global,
-    netlist: &Netlist,
+    netlist: &Region<'_>,
     wires: &[u32],
     next: &[OutputPort],
 ) -> Result<Vec<OutputPort>, AllocError>
@@ -34,7 +34,7 @@ pub(crate) fn bit_copies(
 /// What is next after each number that is of a wire with data. The wires of the numbers are listed.
 pub(crate) fn data_copies(
     alloc: Global,
-    netlist: &Netlist,
+    netlist: &Region<'_>,
     wires: &[u32],
     next: &[OutputPort],
 ) -> Result<Vec<OutputPort>, AllocError>
@@ -59,14 +59,14 @@ fn kept_if(is_kept: bool, port: OutputPort) -> OutputPort
 /// The initial levels of these wires.
 pub(crate) fn levels_of(
     alloc: Global,
-    netlist: &Netlist,
+    netlist: &Region<'_>,
     wires: &[u32],
 ) -> Result<Vec<u64>, AllocError>
     ensures { IfOk result (λ levels. levels.items ≡ map (level_of_wire netlist.now) wires.now) }
 {
     let mut levels = Vec::new(alloc);
     for wire in wires {
-        levels.push(initial_level(netlist, WireId(*wire)))?;
+        levels.push(netlist.initial_level(WireId(*wire)))?;
     }
     Ok(levels)
 }

@@ -15,6 +15,7 @@ use crate::narrow::is_narrow;
 use crate::stimuli::Stimuli;
 use mp_core::{Simulation, Simulator};
 use mp_netlist::{Netlist, WireId};
+use mp_regions::Region;
 use mp_units::NetlistSimulation;
 use mp_wave::{ToggleWave, Wave};
 use std::alloc::{AllocError, Global};
@@ -30,10 +31,11 @@ pub fn run_waves(alloc: Global, netlist: &Netlist) -> Result<Vec<Option<Wave>>, 
     if is_narrow(netlist) {
         return bit_waves(alloc, netlist);
     }
-    let mut simulation = begin(alloc, netlist)?;
+    let region = Region::whole(netlist);
+    let mut simulation = begin(alloc, &region)?;
     let mut stimuli = Stimuli::of(alloc, netlist)?;
     pass_all(netlist, &mut simulation, &mut stimuli)?;
-    found_waves(alloc, netlist, simulation)
+    found_waves(alloc, &region, simulation)
 }
 
 /// The same of a netlist whose wires have width 1, which takes less.
@@ -42,7 +44,7 @@ fn bit_waves(alloc: Global, netlist: &Netlist) -> Result<Vec<Option<Wave>>, Allo
     ensures { IfOk result (λ waves. AreWavesOf netlist.now waves.items) }
 {
     let _horizon = netlist.horizon();
-    let mut simulation = begin_bits(alloc, netlist)?;
+    let mut simulation = begin_bits(alloc, &Region::whole(netlist))?;
     let mut stimuli = Stimuli::of(alloc, netlist)?;
     run(netlist, &mut simulation, &mut stimuli)?;
     finished(alloc, netlist, simulation)

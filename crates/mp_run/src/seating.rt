@@ -7,14 +7,13 @@ ghost use Rattle.mp_units.specs.DataSeats.{bit_port_of};
 ghost use Rattle.mp_run.specs.Settling.{IsShort};
 ghost use Rattle.mp_run.specs.Seating.{has_data_at, level_departs, level_output_of, AreOutputsWithin, IsSeated};
 
-use crate::first_levels::initial_level;
 use crate::settling::{output_port, settled};
 use crate::widths::{has_data, is_bit_module};
 use mp_data::{DataModule, DataPart, DataPorts, LevelWheel, OutputLevels, schedule_level_if};
 use mp_events::{OutputPort, OutputPorts};
-use mp_model::built;
 use mp_modules::{EventModule, MOST_INPUTS};
-use mp_netlist::{ModuleId, ModuleRecord, Netlist, Output, WireId};
+use mp_netlist::{ModuleId, ModuleRecord, Output, WireId};
+use mp_regions::Region;
 use mp_units::DataModules;
 use std::alloc::{AllocError, Global};
 
@@ -29,7 +28,7 @@ pub(crate) struct Seating {
 /// that after its delay. The wheel has so many units.
 pub(crate) fn seat_all(
     alloc: Global,
-    netlist: &Netlist,
+    netlist: &Region<'_>,
     inputs: &[[Option<u32>; MOST_INPUTS]],
     units: usize,
 ) -> Result<Seating, AllocError>
@@ -65,7 +64,7 @@ impl Seating {
     /// Adds the place of the module of a number, with the module, if it has data.
     fn add(
         &mut self,
-        netlist: &Netlist,
+        netlist: &Region<'_>,
         id: ModuleId,
         inputs: [Option<u32>; MOST_INPUTS],
     ) -> Result<(), AllocError>
@@ -88,7 +87,7 @@ impl Seating {
     /// Adds the place of a module with data, and the module.
     fn seat(
         &mut self,
-        netlist: &Netlist,
+        netlist: &Region<'_>,
         found: &ModuleRecord,
         inputs: [Option<u32>; MOST_INPUTS],
     ) -> Result<(), AllocError>
@@ -99,7 +98,7 @@ impl Seating {
         requires within { HasSlot (length self.old.wheel) (level_port_of netlist.now found.now) }
         ensures { OnOk result ((m : ℕ) → module_at netlist.now m ≡ Some found.now → Seats netlist.now m inputs self.old self.new) }
     {
-        let part = built(netlist, found);
+        let part = netlist.built(found);
         let memory = settled(netlist, found, &part);
         let ports = data_ports(netlist, found.outputs.as_slice());
         let level = memory.output(0);
@@ -118,7 +117,7 @@ impl Seating {
 }
 
 /// The outputs of a module with data, told apart by whether their wires have data.
-fn data_ports(netlist: &Netlist, outputs: &[Output]) -> DataPorts
+fn data_ports(netlist: &Region<'_>, outputs: &[Output]) -> DataPorts
     requires { All IsShort outputs.now }
     ensures level { result.level ≡ level_output_of netlist.now (output_in outputs.now 0) }
     ensures first { result.bits.first ≡ bit_port_of netlist.now (output_in outputs.now 0) }
@@ -136,7 +135,7 @@ fn data_ports(netlist: &Netlist, outputs: &[Output]) -> DataPorts
 }
 
 /// The first output, if its wire has data.
-fn level_port(netlist: &Netlist, outputs: &[Output]) -> OutputPort
+fn level_port(netlist: &Region<'_>, outputs: &[Output]) -> OutputPort
     requires { All IsShort outputs.now }
     ensures { result ≡ level_output_of netlist.now (output_in outputs.now 0) }
 {
@@ -149,7 +148,7 @@ fn level_port(netlist: &Netlist, outputs: &[Output]) -> OutputPort
 }
 
 /// An output, if its wire has width 1.
-fn bit_port(netlist: &Netlist, outputs: &[Output], port: usize) -> OutputPort
+fn bit_port(netlist: &Region<'_>, outputs: &[Output], port: usize) -> OutputPort
     requires { All IsShort outputs.now }
     ensures { result ≡ bit_port_of netlist.now (output_in outputs.now port) }
 {
@@ -172,7 +171,7 @@ pub(crate) fn no_port() -> OutputPort
 }
 
 /// Whether the wire that an output drives has data.
-fn drives_data(netlist: &Netlist, port: OutputPort) -> bool
+fn drives_data(netlist: &Region<'_>, port: OutputPort) -> bool
     ensures { result ≡ has_data_at netlist.now port.wire }
 {
     match port.wire {
@@ -182,11 +181,11 @@ fn drives_data(netlist: &Netlist, port: OutputPort) -> bool
 }
 
 /// Whether a level isn't the initial one of the wire that an output drives.
-fn level_departs(netlist: &Netlist, port: OutputPort, level: u64) -> bool
+fn level_departs(netlist: &Region<'_>, port: OutputPort, level: u64) -> bool
     ensures { result ≡ level_departs netlist.now port level }
 {
     match port.wire {
-        Some(wire) => initial_level(netlist, WireId(wire)) != level,
+        Some(wire) => netlist.initial_level(WireId(wire)) != level,
         None => false,
     }
 }

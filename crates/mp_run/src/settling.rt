@@ -12,18 +12,20 @@ ghost use Rattle.mp_core.specs.Schedules.{output_port_of};
 ghost use Rattle.mp_units.specs.DataLevels.{is_data};
 ghost use Rattle.mp_run.specs.Settling.{IsShort, ports_of, departs, departing, no_unit, first_unit_of, first_unit, first_entries, IsSettled, AreFirstLevels};
 
-use crate::first_levels::initial_level;
 use crate::widths::{has_data, is_bit_module};
 use mp_automata::{Automaton, AutomatonState, Phase, PortLevels};
 use mp_events::{EventWheel, OutputPort, OutputPorts, schedule_if};
-use mp_model::built;
 use mp_modules::{EventModule, MOST_INPUTS, Memory};
-use mp_netlist::{Input, ModuleId, ModuleRecord, Netlist, Output, WireId};
+use mp_netlist::{Input, ModuleId, ModuleRecord, Output, WireId};
+use mp_regions::Region;
 use mp_storage::AnyModule;
 use std::alloc::{AllocError, Global};
 
 /// The outputs of each module, by its number: ports that drive no wire where none stands.
-pub(crate) fn all_outputs(alloc: Global, netlist: &Netlist) -> Result<Vec<OutputPorts>, AllocError>
+pub(crate) fn all_outputs(
+    alloc: Global,
+    netlist: &Region<'_>,
+) -> Result<Vec<OutputPorts>, AllocError>
     requires { IsCircuit netlist.now }
     ensures { IfOk result (λ ports. ports.items ≡ map ports_of netlist.now.modules) }
 {
@@ -34,7 +36,7 @@ pub(crate) fn all_outputs(alloc: Global, netlist: &Netlist) -> Result<Vec<Output
     Ok(ports)
 }
 
-fn outputs_of(netlist: &Netlist, id: ModuleId) -> OutputPorts
+fn outputs_of(netlist: &Region<'_>, id: ModuleId) -> OutputPorts
     requires { IsCircuit netlist.now }
     ensures { result ≡ ports_of (module_at netlist.now id.0) }
 {
@@ -92,7 +94,7 @@ pub(crate) struct SettledModule {
 /// sleep. The wheel has so many units.
 pub(crate) fn settle_all(
     alloc: Global,
-    netlist: &Netlist,
+    netlist: &Region<'_>,
     outputs: &[OutputPorts],
     units: usize,
 ) -> Result<Settling, AllocError>
@@ -121,7 +123,7 @@ pub(crate) fn settle_all(
 
 /// Settles a module. Where none stands, the place sleeps.
 fn settle_module(
-    netlist: &Netlist,
+    netlist: &Region<'_>,
     id: ModuleId,
     ports: OutputPorts,
     wheel: &mut EventWheel,
@@ -140,7 +142,7 @@ fn settle_module(
             levels: PortLevels(0),
         });
     };
-    let part = built(netlist, found);
+    let part = netlist.built(found);
     let memory = settled(netlist, found, &part);
     schedule_departing(netlist, ports, &memory, wheel)?;
     Ok(SettledModule {
@@ -158,7 +160,7 @@ fn asleep() -> AutomatonState
 
 /// The automaton of a module in its state at time 0, if all its ports have width 1. The place of one with data sleeps.
 fn first_state(
-    netlist: &Netlist,
+    netlist: &Region<'_>,
     found: &ModuleRecord,
     part: &AnyModule,
     memory: &Memory,
@@ -173,7 +175,7 @@ fn first_state(
 }
 
 /// The state of a module at time 0.
-pub(crate) fn settled(netlist: &Netlist, found: &ModuleRecord, part: &AnyModule) -> Memory
+pub(crate) fn settled(netlist: &Region<'_>, found: &ModuleRecord, part: &AnyModule) -> Memory
     requires form { IsCircuit netlist.now }
     requires few { length found.now.inputs ≤ MOST_INPUTS }
     requires part { part.now ≡ built netlist.now found.now }
@@ -186,18 +188,18 @@ pub(crate) fn settled(netlist: &Netlist, found: &ModuleRecord, part: &AnyModule)
 }
 
 /// Reads the initial levels of the wires at inputs, by port, into their places.
-fn read_initial_levels(netlist: &Netlist, inputs: &[Input], levels: &mut [u64; MOST_INPUTS])
+fn read_initial_levels(netlist: &Region<'_>, inputs: &[Input], levels: &mut [u64; MOST_INPUTS])
     requires { length inputs.now ≤ MOST_INPUTS }
     ensures { take (length inputs.now) levels.new ≡ map (λ (i : Entry). initial_of (wire_at netlist.now i.wire.0)) inputs.now }
 {
     for (p, input) in inputs.iter().enumerate() {
-        levels[p] = initial_level(netlist, input.wire);
+        levels[p] = netlist.initial_level(input.wire);
     }
 }
 
 /// The wires of width 1 of outputs whose levels aren't the initial ones toggle after the delays.
 fn schedule_departing(
-    netlist: &Netlist,
+    netlist: &Region<'_>,
     ports: OutputPorts,
     memory: &Memory,
     wheel: &mut EventWheel,
@@ -215,7 +217,7 @@ fn schedule_departing(
 }
 
 /// Whether a level isn't the initial one of the wire of width 1 that an output drives.
-fn departs(netlist: &Netlist, port: OutputPort, level: u64) -> bool
+fn departs(netlist: &Region<'_>, port: OutputPort, level: u64) -> bool
     ensures { result ≡ departs netlist.now port level }
 {
     match port.wire {
@@ -225,8 +227,8 @@ fn departs(netlist: &Netlist, port: OutputPort, level: u64) -> bool
 }
 
 /// Whether a level isn't the initial one of a wire of width 1.
-fn is_departure(netlist: &Netlist, wire: WireId, level: u64) -> bool
+fn is_departure(netlist: &Region<'_>, wire: WireId, level: u64) -> bool
     ensures { result ≡ not (is_data netlist.now wire.0) && not (initial_of (wire_at netlist.now wire.0) == level) }
 {
-    !has_data(netlist, wire) && initial_level(netlist, wire) != level
+    !has_data(netlist, wire) && netlist.initial_level(wire) != level
 }

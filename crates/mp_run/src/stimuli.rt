@@ -28,10 +28,33 @@ pub struct Stimuli {
     pub levels: Vec<LevelChange>,
 }
 
+/// Changes of wires that are driven elsewhere, by time. Those before the place are past or present.
+#[derive(Drop)]
+pub struct HeardChanges {
+    pub list: Vec<StimulusChange>,
+    pub place: usize,
+}
+
+impl HeardChanges {
+    ghost use Rattle.std.specs.Prelude.{◌≡◌};
+    ghost use Rattle.std.specs.List.Sorted.{IsPermutation};
+    ghost use Rattle.mp_run.specs.Stimuli.{left_of, AreInOrder};
+
+    /// These changes, of which all are to come.
+    pub fn of(list: Vec<StimulusChange>) -> HeardChanges
+        ensures all { IsPermutation list.items (left_of result) }
+        ensures order { AreInOrder (left_of result) }
+    {
+        let mut list = list;
+        list.sort_unstable_by_key(|change| change.time);
+        HeardChanges { list, place: 0 }
+    }
+}
+
 impl Stimuli {
-    ghost use Rattle.std.specs.Prelude.{◌≡◌, ℕ, ◌+◌, ◌<◌, ◌≤◌, IsTrue, IfOk, OnOk};
+    ghost use Rattle.std.specs.Prelude.{◌≡◌, ℕ, ◌+◌, ◌<◌, ◌≤◌, ◌++◌, IsTrue, IfOk, OnOk};
     ghost use Rattle.mp_netlist.specs.Circuit.{Circuit, IsCircuit};
-    ghost use Rattle.mp_run.specs.Stimuli.{rest_of, AreFrom, AreAhead, Advances};
+    ghost use Rattle.mp_run.specs.Stimuli.{rest_of, left_of, bits_at, levels_at, changes_after, AreFrom, AreAhead, Advances};
 
     /// What all stimuli change, where all is to come.
     pub fn of(alloc: Global, netlist: &Netlist) -> Result<Stimuli, AllocError>
@@ -89,13 +112,34 @@ impl Stimuli {
     /// A unit begins, which is the next after those before.
     #[inline(always)]
     pub fn advance(&mut self, time: u32) -> Result<(), AllocError>
-        ensures { OnOk result ((n : Circuit) (t : ℕ) → IsCircuit n → time ≡ t + 1 → AreAhead n t (rest_of self.old) → Advances n t self.new) }
+        ensures bits { OnOk result (self.new.bits.items ≡ bits_at time (rest_of self.old)) }
+        ensures levels { OnOk result (self.new.levels.items ≡ levels_at time (rest_of self.old)) }
+        ensures left { OnOk result (rest_of self.new ≡ changes_after time (rest_of self.old)) }
+        ensures ahead { OnOk result ((n : Circuit) (t : ℕ) → IsCircuit n → time ≡ t + 1 → AreAhead n t (rest_of self.old) → Advances n t self.new) }
     {
         self.bits.clear();
         self.levels.clear();
         self.place = put_present(
             self.list.as_slice(),
             self.place,
+            time,
+            &mut self.bits,
+            &mut self.levels,
+        )?;
+        Ok(())
+    }
+
+    /// What is heard at a time changes in the present unit too.
+    #[inline(always)]
+    pub fn hear(&mut self, heard: &mut HeardChanges, time: u32) -> Result<(), AllocError>
+        ensures bits { OnOk result (self.new.bits.items ≡ self.old.bits.items ++ bits_at time (left_of heard.old)) }
+        ensures levels { OnOk result (self.new.levels.items ≡ self.old.levels.items ++ levels_at time (left_of heard.old)) }
+        ensures left { OnOk result (left_of heard.new ≡ changes_after time (left_of heard.old)) }
+        ensures same { OnOk result (rest_of self.new ≡ rest_of self.old) }
+    {
+        heard.place = put_present(
+            heard.list.as_slice(),
+            heard.place,
             time,
             &mut self.bits,
             &mut self.levels,

@@ -8,7 +8,8 @@ ghost use Rattle.mp_run.specs.Wirings.{HaveRows, IsWiring, AreUnread, HasRead, i
 use mp_automata::event_bit;
 use mp_events::{FanoutEntry, FanoutRow, OutputPort};
 use mp_modules::MOST_INPUTS;
-use mp_netlist::{Input, ModuleId, Netlist};
+use mp_netlist::{Input, ModuleId};
+use mp_regions::Region;
 use std::alloc::{AllocError, Global};
 
 /// Each number, of a wire or of a delayed copy of one, has the inputs that read it, the copy that is next later, if any, and its wire.
@@ -34,7 +35,7 @@ struct CopyPlace {
 }
 
 /// The wires and all that their readers need, with what each module reads.
-pub(crate) fn wiring_of(alloc: Global, netlist: &Netlist) -> Result<WiredInputs, AllocError>
+pub(crate) fn wiring_of(alloc: Global, netlist: &Region<'_>) -> Result<WiredInputs, AllocError>
     requires { IsCircuit netlist.now }
     ensures { IfOk result (λ wired. AreWiredInputs netlist.now (length netlist.now.modules) wired.wiring wired.inputs.items) }
 {
@@ -48,7 +49,7 @@ pub(crate) fn wiring_of(alloc: Global, netlist: &Netlist) -> Result<WiredInputs,
 
 /// Adds the inputs of the module of a number, if one stands, and gives the numbers that they read.
 fn add_slot(
-    netlist: &Netlist,
+    netlist: &Region<'_>,
     id: ModuleId,
     wiring: &mut Wiring,
 ) -> Result<[Option<u32>; MOST_INPUTS], AllocError>

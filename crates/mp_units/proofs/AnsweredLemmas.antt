@@ -47,6 +47,7 @@ use Rattle.mp_units.proofs.FiredLemmas.{both}
 use Rattle.mp_units.proofs.FiringLemmas.{some_is, events_none, events_data, events_driven, changes_none, changes_driven, changes_hold, changed_levels, stepped_next}
 use Rattle.mp_units.proofs.DuringLemmas.{with_data, with_wheel, wire_low, still_during}
 use Rattle.mp_units.proofs.PresentLemmas.{data_wire}
+use Rattle.mp_units.proofs.SeatLemmas.{seat_of, owns, placeless, far_driver}
 use Rattle.mp_units.proofs.EnteredLemmas.{entered}
 use Rattle.mp_units.proofs.LevelsNextLemmas.{levels_now}
 use Rattle.mp_units.proofs.HeardLemmas.{delays, enough, data_own, each, right, below, bits_heard, data_quiet, heard_each, due}
@@ -66,19 +67,11 @@ pub record IsAnswered (s : NetlistSimulation) (set : List ℕ) (changes : List L
   pub events_are : events ≡ events_scheduled mid.wheel (fired_by levels s.modules.places.items s.modules.modules.items mid.due.items)
   pub events_units : length events ≡ length mid.wheel
 
-and_false : (b : Bool) → (b && not true) ≡ false
-and_false true = refl
-and_false false = refl
-
 number_when : (next : List OutputPort) (y x : ℕ) (low : Bool) → nat_lt y (length next) ≡ low → (copy_at next y).wire ≡ Some x → y < length next
 number_when next y x true is wire = grind (arith, nat_tests)
 number_when next y x false is wire =
     let beyond : length next ≤ y = grind (arith, nat_tests) in
     absurd (none_some x (sym (ap (λ (port : OutputPort). port.wire) (get_or-eq_default next no_port beyond)) ∙ wire))
-
-none_when : (o : Option ℕ) → ((q : ℕ) → o ≡ Some q → ⊥) → o ≡ None
-none_when None never = refl
-none_when (Some q) never = absurd (never q refl)
 
 -- the wheel of a simulator is another, in which no wire without a wave is
 pub sound_with : (s : Simulator) (wheel : List (List ℕ)) → IsSound s → length wheel ≡ length s.wheel →
@@ -130,24 +123,8 @@ module _ (n : Circuit) (ok : IsCircuit n) (t : ℕ) (s : NetlistSimulation) (is 
   abbrev heard : List ℕ
   heard = (next_slot s.bits.simulator ++ set) ++ (copy_slot s.bits.copies 0 ++ map number_of_change (data_slot s.wires.wheel 0 ++ levels))
 
-  seat_of : (m : ℕ) (r : ModuleRecord) → module_at n m ≡ Some r → is.scope.place m ≡ None → (j : ℕ) × (place_at s.modules.places.items m ≡ Some j)
-  seat_of m r at none = some_is (place_at s.modules.places.items m) (is.modules.whole m r at none)
-
   pub positive : (m : ℕ) (r : ModuleRecord) (q : ℕ) → module_at n m ≡ Some r → 0 < delay_of r q
   positive m r q at = subst (λ o. 0 < delay_in o q) at (delay_positive n ok m q)
-
-  owns : (w u : ℕ) → is.scope.owns w u ≡ is_bit_wire n w
-  owns w u = is.own w u ∙ is.traces w
-
-  -- a wire with data is driven by a module with data
-  placeless : (w q : ℕ) (m : ModuleId) → driver n w ≡ Port m q → is_data n w ≡ true → is.scope.place m.0 ≡ None
-  placeless w q m drives wide =
-      let drv = finds_only_ports n w q m drives in
-      none_when (is.scope.place m.0)
-      (λ place at.
-      let seat = is.running.simulator.stands.layout.seats m.0 place drv.part drv.stands at in
-      let own = seat.owned w q (is.scope.known m.0 + 1) drv (omega arith) in
-      both (is.scope.owns w (is.scope.known m.0 + 1)) own (owns w (is.scope.known m.0 + 1) ∙ ap (λ b. nat_lt w (length n.wires) && not b) wide ∙ and_false (nat_lt w (length n.wires))))
 
   -- ---- modules of width 1
 
@@ -180,41 +157,19 @@ module _ (n : Circuit) (ok : IsCircuit n) (t : ℕ) (s : NetlistSimulation) (is 
 
   pub answered : IsDuring n (with_data is.scope (t + 2)) t (with_wheel mid events)
   answered =
-      still_during n ok is.scope t mid during owns is.known room (fired_by lv s.modules.places.items s.modules.modules.items mid.due.items)
+      still_during n ok is.scope t mid during (owns n ok t s is) is.known room (fired_by lv s.modules.places.items s.modules.modules.items mid.due.items)
       (λ k w never. events_none n ok is.scope count (length s.bits.simulator.states.items) (length s.bits.simulator.wheel) (length s.wires.wheel) t s.modules is.modules lv level_is
       s.bits.simulator.fanout ports heard mid.due.items (heard_each n ok t s is set levels sets) only (due_once mid h.sound) k w
       (λ q j i at drv. never q i (is.modules.seats q j at).inactive drv))
       (λ k w wide. events_data n ok is.scope count (length s.bits.simulator.states.items) (length s.bits.simulator.wheel) (length s.wires.wheel) t s.modules is.modules lv level_is
       s.bits.simulator.fanout ports heard mid.due.items (heard_each n ok t s is set levels sets) only (due_once mid h.sound) k w wide)
       (λ k w q m r drives at place narrow some.
-      let j = seat_of m.0 r at place in
+      let j = seat_of n ok t s is m.0 r at place in
       events_driven n ok is.scope count (length s.bits.simulator.states.items) (length s.bits.simulator.wheel) (length s.wires.wheel) t s.modules is.modules lv level_is
       s.bits.simulator.fanout ports heard mid.due.items (heard_each n ok t s is set levels sets) only (due_once mid h.sound) k w q j.0 m r drives at j.1 narrow some)
       events h.events_are h.events_units
 
   -- ---- the level wheel
-
-  slot_of : (w q : ℕ) (m : ModuleId) → driver n w ≡ Port m q → is_data n w ≡ true → driver_delay n (Port m q) ≤ length s.wires.wheel
-  slot_of w q m drives wide =
-      let drv = finds_only_ports n w q m drives in
-      let j = seat_of m.0 drv.part drv.stands (placeless w q m drives wide) in
-      let seat = is.modules.seats m.0 j.0 j.1 in
-      let first : q ≡ 0 = seat.first w q drv wide in
-      let same : drv.part ≡ seat.record_of = same_part n m.0 drv.part seat.record_of drv.stands seat.stands in
-      let wire : (output_at seat.record_of 0).wire ≡ Some (record { 0 = w }) =
-      subst (λ i. (output_at seat.record_of i).wire ≡ Some (record { 0 = w })) first (subst (λ (r : ModuleRecord). (output_at r q).wire ≡ Some (record { 0 = w })) same drv.output) in
-      let is_wide : drives_data n (output_at seat.record_of 0).wire ≡ true = ap (drives_data n) wire ∙ wide in
-      let port : (data_module_at s.modules.modules.items j.0).ports.level ≡ output_port_of (output_at seat.record_of 0) =
-      seat.level ∙ ap (λ b. cond b (output_port_of (output_at seat.record_of 0)) no_port) is_wide in
-      let slot : HasSlot (length s.wires.wheel) (output_port_of (output_at seat.record_of 0)) = subst (λ (o : OutputPort). HasSlot (length s.wires.wheel) o) port seat.fit.level in
-      let low : delay_of seat.record_of 0 ≤ length s.wires.wheel = slot.room in
-      let is_delay : driver_delay n (Port m q) ≡ delay_of seat.record_of 0 = ap (λ o. delay_in o q) seat.stands ∙ ap (delay_of seat.record_of) first in
-      omega arith
-
-  far_driver : (x : ℕ) (d : Driver) → driver n x ≡ d → is_data n x ≡ true → driver_delay n d ≤ length s.wires.wheel
-  far_driver x Nothing drives wide = omega arith
-  far_driver x Stimulus drives wide = omega arith
-  far_driver x (Port m q) drives wide = slot_of x q m drives wide
 
   far_when : (x : ℕ) (o : Option ℕ) → is.data_before x ≡ o → x < length s.wires.next.items → is_data n (is.scope.source x).0 ≡ true → ahead_by n s.wires.next.items x o ≤ length s.wires.wheel
   far_when x (Some y) after within wide =
@@ -222,7 +177,7 @@ module _ (n : Circuit) (ok : IsCircuit n) (t : ℕ) (s : NetlistSimulation) (is 
       (is.wires.within y no_port low).room
   far_when x None first within wide =
       let own = data_own n ok t s is set levels sets x within wide first in
-      far_driver x (driver n x) refl (sym (ap (λ (r : ℕ × ℕ). is_data n r.0) own) ∙ wide)
+      far_driver n ok t s is x (driver n x) refl (sym (ap (λ (r : ℕ × ℕ). is_data n r.0) own) ∙ wide)
 
   pub far : (x : ℕ) → x < length s.wires.next.items → is_data n (is.scope.source x).0 ≡ true → ahead n is.data_before s.wires.next.items x ≤ length s.wires.wheel
   far x within wide = far_when x (is.data_before x) refl within wide
@@ -238,7 +193,7 @@ module _ (n : Circuit) (ok : IsCircuit n) (t : ℕ) (s : NetlistSimulation) (is 
       (changed_by lv s.modules.places.items s.modules.modules.items mid.due.items)
       (λ k x q m drives wide.
       let drv = finds_only_ports n x q m drives in
-      let j = seat_of m.0 drv.part drv.stands (placeless x q m drives wide) in
+      let j = seat_of n ok t s is m.0 drv.part drv.stands (placeless n ok t s is x q m drives wide) in
       changes_driven n ok is.scope count (length s.bits.simulator.states.items) (length s.bits.simulator.wheel) (length s.wires.wheel) t s.modules is.modules lv level_is
       s.bits.simulator.fanout ports heard mid.due.items (heard_each n ok t s is set levels sets) only (due_once mid h.sound) k x q j.0 m drv.part drives drv.stands j.1 wide (positive m.0 drv.part q drv.stands)
       ∙ sym (ap (λ o. bit (change_at n x (t + 1 + delay_in o q) && (delay_in o q - 1 == k))) drv.stands))

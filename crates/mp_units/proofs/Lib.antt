@@ -12,6 +12,8 @@ pub mod EnteredLemmas
 pub mod LevelsNextLemmas
 pub mod WaveLemmas
 pub mod HeardLemmas
+pub mod SeatLemmas
+pub mod KnownLemmas
 pub mod AnsweredLemmas
 pub mod UnitLemmas
 pub mod PassLemmas

@@ -4,3 +4,4 @@ pub mod DataWheels
 pub mod DataSeats
 pub mod NetlistSimulations
 pub mod Units
+pub mod Ahead

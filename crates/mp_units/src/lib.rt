@@ -3,6 +3,7 @@
 
 mod data_modules;
 mod data_wires;
+pub mod laws;
 mod netlist_simulation;
 
 pub use data_modules::DataModules;

@@ -22,8 +22,10 @@ impl NetlistSimulation {
     ghost use Rattle.mp_netlist.specs.Circuit.{Circuit, IsCircuit, module_at};
     ghost use Rattle.mp_model.specs.Waves.{state};
     ghost use Rattle.mp_events.specs.Adding.{listed};
+    ghost use Rattle.mp_core.specs.Simulators.{slot_at};
     ghost use Rattle.mp_core.specs.Simulations.{IsSoundRun};
     ghost use Rattle.mp_units.specs.NetlistSimulations.{IsSimulated, AreStimuli, CanPass, CanTell, IsStill, IsAtRest};
+    ghost use Rattle.mp_units.specs.DataWheels.{data_slot};
     ghost use Rattle.mp_units.specs.Units.{IsApplied, CanFire};
 
     /// Goes through one unit, in which these wires of width 1 toggle and these with data change from outside.
@@ -101,6 +103,20 @@ impl NetlistSimulation {
         )?;
         self.bits.simulator.fire()?;
         Ok(())
+    }
+
+    /// The wires of width 1 that toggle so many units after the next one, so far as this is known.
+    pub fn toggles_ahead(&self, units: usize) -> &[u32]
+        ensures { result.now ≡ slot_at self.now.bits.simulator units }
+    {
+        self.bits.simulator.wheel.slot(units)
+    }
+
+    /// What changes so many units after the next one of wires with data, so far as this is known.
+    pub fn levels_ahead(&self, units: usize) -> &[LevelChange]
+        ensures { result.now ≡ data_slot self.now.wires.wheel units }
+    {
+        self.wires.wheel.slot(units)
     }
 
     /// The state of the module of a number.

@@ -1,8 +1,23 @@
-use Rattle.std.proofs.Common.{◌≡◌, ◌-◌, subst, arith}
-use Rattle.mp_engine.specs.Engines.{IsAfter}
+use Rattle.std.proofs.Common.{◌-◌, [], subst, arith}
+use Rattle.mp_evaluation.specs.Marks.{is_marked}
+use Rattle.mp_engine.specs.RegionRuns.{IsUnderWay}
+use Rattle.mp_engine.proofs.RegionRunLemmas.{none_marked}
 use Rattle.mp_engine.proofs.evaluation.run_region.Goals as goal
 
-pub finished-requires-clause-over : goal.finished-requires-clause-over
-finished-requires-clause-over g c = λ last next.
-    let same : c.horizon-horizon.result - 1 ≡ last = (let high = c.horizon-horizon.ensures.value in omega (arith, high, next)) in
-    subst (λ k. IsAfter c.args.region.now k c.run_units.new.engine) same c.in_ok-run_units.ensures.after
+pub run_units-requires-clause-before : goal.run_units-requires-clause-before
+run_units-requires-clause-before g c = record {
+  is_heard = is_marked [];
+  is = c.in_ok-run.ensures [] c.horizon-horizon.result c.requires.stimuli (λ w is. absurd (none_marked w is)) (λ w is. absurd (none_marked w is));
+}
+
+pub finish-requires-clause-simulated : goal.finish-requires-clause-simulated
+finish-requires-clause-simulated g c =
+    let begun = c.in_ok-run.ensures [] c.horizon-horizon.result c.requires.stimuli (λ w is. absurd (none_marked w is)) (λ w is. absurd (none_marked w is)) in
+    let over : IsUnderWay c.args.region.now (is_marked []) (c.horizon-horizon.result - 1) c.horizon-horizon.result c.run_units.new.self = c.in_ok-run_units.ensures (is_marked []) c.horizon-horizon.result (omega arith) begun in
+    (subst (λ k. IsUnderWay c.args.region.now (is_marked []) (k - 1) c.horizon-horizon.result c.run_units.new.self) c.horizon-horizon.ensures.value over).simulated
+
+pub finish-requires-clause-kept : goal.finish-requires-clause-kept
+finish-requires-clause-kept g c =
+    let begun = c.in_ok-run.ensures [] c.horizon-horizon.result c.requires.stimuli (λ w is. absurd (none_marked w is)) (λ w is. absurd (none_marked w is)) in
+    let over : IsUnderWay c.args.region.now (is_marked []) (c.horizon-horizon.result - 1) c.horizon-horizon.result c.run_units.new.self = c.in_ok-run_units.ensures (is_marked []) c.horizon-horizon.result (omega arith) begun in
+    (subst (λ k. IsUnderWay c.args.region.now (is_marked []) (k - 1) c.horizon-horizon.result c.run_units.new.self) c.horizon-horizon.ensures.value over).kept

@@ -1,7 +1,7 @@
 use Rattle.std.proofs.Common.{◌≡◌, List, ℕ, slice_index_or, ap, ◌∙◌}
 use Rattle.mp_netlist.specs.Slots.{slot_at}
 use Rattle.mp_engine.specs.declared.part_run.PartRun.{PartRun}
-use Rattle.mp_engine.specs.Regions.{home_of}
+use Rattle.mp_regions.specs.Regions.{home_of}
 use Rattle.mp_engine.proofs.MergeLemmas.{divided_end}
 use Rattle.mp_engine.proofs.merging.end_of.Goals as goal
 

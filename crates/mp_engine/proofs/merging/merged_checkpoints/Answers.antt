@@ -6,7 +6,7 @@ use Rattle.mp_evaluation.specs.declared.checkpoints.Checkpoint.{Checkpoint}
 use Rattle.mp_engine.specs.declared.part_run.PartRun.{PartRun}
 use Rattle.mp_evaluation.specs.Outcomes.{AreSlots}
 use Rattle.mp_engine.specs.PartRuns.{kept_in}
-use Rattle.mp_engine.specs.Regions.{home_of}
+use Rattle.mp_regions.specs.Regions.{home_of}
 use Rattle.mp_evaluation.proofs.OutcomeLemmas.{slots_push}
 use Rattle.mp_engine.proofs.MergeLemmas.{divided_checkpoints}
 use Rattle.mp_engine.proofs.merging.merged_checkpoints.Goals as goal

@@ -3,7 +3,7 @@ use Rattle.std.specs.Arc.{arc_value}
 use Rattle.mp_netlist.specs.Slots.{slot_at}
 use Rattle.mp_evaluation.specs.Outcomes.{AreSlots}
 use Rattle.mp_engine.specs.PartRuns.{kept_in}
-use Rattle.mp_engine.specs.Regions.{home_of}
+use Rattle.mp_regions.specs.Regions.{home_of}
 use Rattle.mp_engine.proofs.merging.merged_checkpoints.Given as goal
 
 -- those so far

@@ -1,7 +1,6 @@
 use Rattle.std.proofs.Common.{Result, Ok, Err, IfOk, ap, ◌∙◌}
 use Rattle.mp_netlist.specs.Slots.{slot_at}
 use Rattle.mp_engine.specs.declared.part_run.PartRun.{PartRun}
-use Rattle.mp_engine.specs.PartRuns.{waves_in}
 use Rattle.mp_engine.proofs.MergeLemmas.{divided_wave}
 use Rattle.mp_engine.proofs.merging.wave_of.Goals as goal
 
@@ -16,6 +15,6 @@ returns c =
     let runs = c.args.runs.now in
     let division = c.args.division.now in
     let run = c.index-runs-part.result in
-    on_ok c.shared_wave.result _ _ (λ wave is. is ∙ ap (λ (x : PartRun). slot_at (waves_in x) w) c.index-runs-part.is
+    on_ok c.shared_wave.result _ _ (λ wave is. is ∙ ap (λ (x : PartRun). slot_at x.waves w) c.index-runs-part.is
     ∙ divided_wave n c.requires.form division.homes.items division.wires.items division.heard.items division.parts w c.part_of_wire-part.result runs run c.requires.division c.requires.runs c.requires.low
     c.part_of_wire-part.ensures.low c.part_of_wire-part.ensures.home) c.shared_wave.ensures

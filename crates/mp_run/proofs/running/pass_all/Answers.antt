@@ -12,7 +12,7 @@ pass_unit-requires-clause-fit c =
     let ok = c.horizon-horizon.ensures.form in
     let some = c.loop-time.invariant.some in
     let now : c.loop-time.time ≡ c.loop-time.time - 1 + 1 = omega arith in
-    let begun = c.in_ok-advance.ensures n t ok now c.loop-time.invariant.ahead in
+    let begun = c.in_ok-advance.ensures.ahead n t ok now c.loop-time.invariant.ahead in
     let set = subst (λ (xs : List ℕ). AreStimuli n xs c.levels.result.now (t + 1)) (sym c.bits.ensures)
     (subst (λ (xs : List LevelChange). AreStimuli n c.advance.new.self.bits.items xs (t + 1)) (sym c.levels.ensures) begun.present) in
     record {
@@ -30,7 +30,7 @@ unit_after-time-requires-clause-ahead c =
     let t = c.loop-time.time - 1 in
     let some = c.loop-time.invariant.some in
     let now : c.loop-time.time ≡ c.loop-time.time - 1 + 1 = omega arith in
-    let begun = c.in_ok-advance.ensures n t c.horizon-horizon.ensures.form now c.loop-time.invariant.ahead in
+    let begun = c.in_ok-advance.ensures.ahead n t c.horizon-horizon.ensures.form now c.loop-time.invariant.ahead in
     subst (λ k. AreFrom (k + 1) (rest_of c.advance.new.self)) (sym now) begun.ahead.listed
 
 pub loop-time-preserved : goal.loop-time-preserved
@@ -40,7 +40,7 @@ loop-time-preserved c =
     let ok = c.horizon-horizon.ensures.form in
     let some = c.loop-time.invariant.some in
     let now : c.loop-time.time ≡ c.loop-time.time - 1 + 1 = omega arith in
-    let begun = c.in_ok-advance.ensures n t ok now c.loop-time.invariant.ahead in
+    let begun = c.in_ok-advance.ensures.ahead n t ok now c.loop-time.invariant.ahead in
     let set = subst (λ (xs : List ℕ). AreStimuli n xs c.levels.result.now (t + 1)) (sym c.bits.ensures)
     (subst (λ (xs : List LevelChange). AreStimuli n c.advance.new.self.bits.items xs (t + 1)) (sym c.levels.ensures) begun.present) in
     let over = c.in_ok-pass_unit.ensures n t ok now c.loop-time.invariant.simulated (subst (λ k. AreStimuli n c.bits.result.now c.levels.result.now k) (sym now) set) in

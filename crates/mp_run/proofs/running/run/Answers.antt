@@ -18,7 +18,7 @@ pass_unit-requires-clause-fit c =
     let some = c.loop-time.invariant.some in
     let now : c.loop-time.time ≡ c.loop-time.time - 1 + 1 = omega arith in
     let is = c.loop-time.invariant.evaluated in
-    let begun = c.in_ok-advance.ensures n t ok now c.loop-time.invariant.ahead in
+    let begun = c.in_ok-advance.ensures.ahead n t ok now c.loop-time.invariant.ahead in
     let sets = subst (λ (xs : List ℕ). AreSet n is.scope xs (t + 1)) (sym c.bits.ensures) (begun.present.bits is.scope (λ w. is.traces w ∙ sym (all_bits n c.requires.narrow w))) in
     subst (λ k. CanApply s.simulator c.bits.result.now (copy_slot s.copies 0) k) (sym now) (fit n ok t s c.bits.result.now is sets)
 
@@ -28,7 +28,7 @@ unit_after-time-requires-clause-ahead c =
     let t = c.loop-time.time - 1 in
     let some = c.loop-time.invariant.some in
     let now : c.loop-time.time ≡ c.loop-time.time - 1 + 1 = omega arith in
-    let begun = c.in_ok-advance.ensures n t c.horizon-horizon.ensures.form now c.loop-time.invariant.ahead in
+    let begun = c.in_ok-advance.ensures.ahead n t c.horizon-horizon.ensures.form now c.loop-time.invariant.ahead in
     subst (λ k. AreFrom (k + 1) (rest_of c.advance.new.self)) (sym now) begun.ahead.listed
 
 pub loop-time-preserved : goal.loop-time-preserved
@@ -40,7 +40,7 @@ loop-time-preserved c =
     let some = c.loop-time.invariant.some in
     let now : c.loop-time.time ≡ c.loop-time.time - 1 + 1 = omega arith in
     let is = c.loop-time.invariant.evaluated in
-    let begun = c.in_ok-advance.ensures n t ok now c.loop-time.invariant.ahead in
+    let begun = c.in_ok-advance.ensures.ahead n t ok now c.loop-time.invariant.ahead in
     let sets = subst (λ (xs : List ℕ). AreSet n is.scope xs (t + 1)) (sym c.bits.ensures) (begun.present.bits is.scope (λ w. is.traces w ∙ sym (all_bits n c.requires.narrow w))) in
     let over = passed n ok t s c.bits.result.now is sets c.pass_unit.new.self c.in_ok-pass_unit.ensures.sound c.in_ok-pass_unit.ensures.waves
     (λ scope before whole are_set running. c.in_ok-pass_unit.ensures.passed n scope before t ok now whole are_set running) in

@@ -4,7 +4,7 @@ use Rattle.mp_engine.proofs.state_history.StateHistory.new.Goals as goal
 
 pub loop-m-init : goal.loop-m-init
 loop-m-init c = record {
-  places = c.in_ok-marks.ensures.places;
+  places = c.in_ok-marks.ensures.places ∙ c.module_slots.ensures.value;
   marked = λ k low. absurd (omega arith);
   listed = none_listed c.in_ok-marks.marks.items _ c.in_ok-marks.ensures.none;
 }

@@ -1,22 +1,35 @@
-use Rattle.std.proofs.Common.{ℕ, ◌++◌, List, drop, ap, sym, ◌∙◌}
+use Rattle.std.proofs.Common.{◌≡◌, ℕ, ◌++◌, List, drop, ap, sym, ◌∙◌}
 use Rattle.mp_run.specs.declared.stimuli.StimulusChange.{StimulusChange}
 use Rattle.mp_data.specs.declared.level_change.LevelChange.{LevelChange}
 use Rattle.mp_run.specs.Stimuli.{rest_of, bits_at, levels_at, changes_after}
 use Rattle.mp_run.proofs.PresentLemmas.{unit_begins}
 use Rattle.mp_run.proofs.stimuli.Stimuli.advance.Goals as goal
 
-pub returns : goal.returns
-returns c n t ok now are =
+pub returns-clause-bits : goal.returns-clause-bits
+returns-clause-bits c =
     let s = c.args.self.now in
-    let now_is = c.in_ok-self.ensures in
-    let list = c.as_slice.ensures.value in
-    unit_begins n ok t s _
-    (now_is.bits
+    c.in_ok-self.ensures.bits
     ∙ ap (λ (xs : List ℕ). xs ++ bits_at c.args.time (drop s.place c.as_slice.result.now)) c.clear.ensures.items
-    ∙ ap (λ (xs : List StimulusChange). bits_at c.args.time (drop s.place xs)) list
-    ∙ ap (λ k. bits_at k (rest_of s)) now)
-    (now_is.levels
+    ∙ ap (λ (xs : List StimulusChange). bits_at c.args.time (drop s.place xs)) c.as_slice.ensures.value
+
+pub returns-clause-levels : goal.returns-clause-levels
+returns-clause-levels c =
+    let s = c.args.self.now in
+    c.in_ok-self.ensures.levels
     ∙ ap (λ (xs : List LevelChange). xs ++ levels_at c.args.time (drop s.place c.as_slice.result.now)) c.clear-2.ensures.items
-    ∙ ap (λ (xs : List StimulusChange). levels_at c.args.time (drop s.place xs)) list
-    ∙ ap (λ k. levels_at k (rest_of s)) now)
-    (ap (λ (xs : List StimulusChange). drop c.in_ok-self.field-0 xs) (sym list) ∙ now_is.left ∙ ap (λ (xs : List StimulusChange). changes_after c.args.time (drop s.place xs)) list ∙ ap (λ k. changes_after k (rest_of s)) now) are
+    ∙ ap (λ (xs : List StimulusChange). levels_at c.args.time (drop s.place xs)) c.as_slice.ensures.value
+
+pub returns-clause-left : goal.returns-clause-left
+returns-clause-left c =
+    let s = c.args.self.now in
+    let list = c.as_slice.ensures.value in
+    ap (λ (xs : List StimulusChange). drop c.in_ok-self.field-0 xs) (sym list) ∙ c.in_ok-self.ensures.left
+    ∙ ap (λ (xs : List StimulusChange). changes_after c.args.time (drop s.place xs)) list
+
+pub returns-clause-ahead : goal.returns-clause-ahead
+returns-clause-ahead c n t ok now are =
+    let s = c.args.self.now in
+    unit_begins n ok t s _
+    (returns-clause-bits c ∙ ap (λ k. bits_at k (rest_of s)) now)
+    (returns-clause-levels c ∙ ap (λ k. levels_at k (rest_of s)) now)
+    (returns-clause-left c ∙ ap (λ k. changes_after k (rest_of s)) now) are

@@ -1,0 +1,10 @@
+use Rattle.std.proofs.Common.{[], sym, subst}
+use Rattle.mp_netlist.specs.Circuit.{Circuit}
+use Rattle.mp_regions.specs.Regions.{HasStimuli}
+use Rattle.mp_regions.proofs.RegionLemmas.{has_stimuli, whole_is}
+use Rattle.mp_engine.proofs.evaluation.evaluate_here.Goals as goal
+
+pub run_region-requires-clause-stimuli : goal.run_region-requires-clause-stimuli
+run_region-requires-clause-stimuli g c =
+    let n = c.args.netlist.now in
+    subst (λ (r : Circuit). HasStimuli n r []) (sym c.whole-region.ensures) (subst (λ (r : Circuit). HasStimuli n r []) (whole_is n) (has_stimuli n [] 0 []))

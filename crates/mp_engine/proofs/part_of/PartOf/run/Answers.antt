@@ -1,0 +1,199 @@
+use Rattle.std.proofs.Common.{◌≡◌, ℕ, ◌+◌, ◌-◌, Bool, List, sym, ap, ◌∙◌, subst, arith}
+use Rattle.std.specs.Prelude.{IfOk}
+use Rattle.mp_netlist.specs.Circuit.{Circuit}
+use Rattle.mp_units.specs.NetlistSimulations.{IsSimulated}
+use Rattle.mp_evaluation.specs.Marks.{is_marked}
+use Rattle.mp_netlist.proofs.DelayLemmas.{delays_are_least}
+use Rattle.mp_regions.specs.Regions.{home_of, region, HasStimuli}
+use Rattle.mp_regions.specs.Divisions.{heard_by}
+use Rattle.mp_regions.proofs.DivisionLemmas.{divided_apart}
+use Rattle.mp_regions.proofs.RegionLemmas.{has_stimuli}
+use Rattle.mp_engine.specs.PartRuns.{IsPartRun}
+use Rattle.mp_engine.specs.StateHistories.{IsStateHistory}
+use Rattle.mp_engine.specs.RegionRuns.{AreTidings, IsUnderWay}
+use Rattle.mp_engine.specs.Letters.{AreTold, IsToldOnce, KnowsAhead}
+use Rattle.mp_engine.specs.Lines.{parts_of}
+use Rattle.mp_engine.proofs.HearingLemmas.{renamed, tidings_are}
+use Rattle.mp_engine.proofs.part_of.PartOf.run.Goals as goal
+
+pub new-region-requires : goal.new-region-requires
+new-region-requires g c m p w drives home =
+    let division = c.args.self.division.now in
+    let part = c.args.self.part in
+    ap (λ (marks : List Bool). is_marked marks w) (c.heard_by-heard.ensures ∙ ap (λ (hs : List (List Bool)). heard_by hs part) c.as_slice.ensures.value)
+    ∙ divided_apart c.args.self.netlist.now division.homes.items division.wires.items division.heard.items division.parts part c.requires.0.division m p w drives
+    (ap (λ (hs : List ℕ). home_of hs m) (sym c.as_slice-2.ensures.value) ∙ home)
+
+pub loop-from-init : goal.loop-from-init
+loop-from-init g c =
+    let n = c.args.self.netlist.now in
+    let part = c.args.self.part in
+    let homes = c.args.self.division.now.homes.items in
+    let heard = heard_by c.args.self.division.now.heard.items part in
+    let here : c.new-region.result ≡ region n homes part heard =
+    c.new-region.ensures ∙ ap (λ (hs : List ℕ). region n hs part c.heard_by-heard.result.now) c.as_slice-2.ensures.value
+    ∙ ap (λ (marks : List Bool). region n homes part marks) (c.heard_by-heard.ensures ∙ ap (λ (hs : List (List Bool)). heard_by hs part) c.as_slice.ensures.value)
+    in
+    let low = c.horizon-horizon.ensures.low in
+    record {
+      later = omega arith;
+      within = low;
+      horizon = c.horizon-horizon.ensures.value;
+      span = c.least_delay-span.ensures;
+      under_way = c.in_ok-run.ensures heard 1 (subst (λ (r : Circuit). HasStimuli n r heard) (sym here) (has_stimuli n homes part heard)) (λ w marked. (c.requires.0.division.heard part w marked).unset) (λ w marked. omega arith);
+    }
+
+pub tell-requires-clause-knows : goal.tell-requires-clause-knows
+tell-requires-clause-knows g c =
+    let n = c.args.self.netlist.now in
+    let part = c.args.self.part in
+    let homes = c.args.self.division.now.homes.items in
+    let heard = heard_by c.args.self.division.now.heard.items part in
+    let here : c.new-region.result ≡ region n homes part heard =
+    c.new-region.ensures ∙ ap (λ (hs : List ℕ). region n hs part c.heard_by-heard.result.now) c.as_slice-2.ensures.value
+    ∙ ap (λ (marks : List Bool). region n homes part marks) (c.heard_by-heard.ensures ∙ ap (λ (hs : List (List Bool)). heard_by hs part) c.as_slice.ensures.value)
+    in
+    let before = c.loop-from.invariant in
+    let later = before.later in
+    let horizon = before.horizon in
+    let span = before.span in
+    let low = c.loop-from-test.true in
+    let last = c.min-until.ensures in
+    let sum = c.saturating_add.ensures in
+    let high = c.horizon-horizon.type_inv in
+    let about = c.requires.0 in
+    renamed about.netlist about.wires_are about.heards_are (sym c.requires.1) (λ m ws hs p. KnowsAhead m ws hs p (record { from = c.loop-from.from; until = c.min-until.result }) c.loop-from.run.simulation) (record {
+      homes = homes;
+      parts = c.args.self.division.now.parts;
+      form = c.horizon-horizon.ensures.form;
+      division = about.division;
+      before = c.loop-from.from - 1;
+      from = omega (arith, later);
+      some = omega (arith, low, last, sum, high);
+      short = omega (arith, last, sum, span);
+      within = omega (arith, last, horizon);
+      simulated = subst (λ (r : Circuit). IsSimulated r (c.loop-from.from - 1) c.loop-from.run.simulation) here before.under_way.simulated;
+    })
+
+pub run_units-requires-clause-before : goal.run_units-requires-clause-before
+run_units-requires-clause-before g c =
+    let n = c.args.self.netlist.now in
+    let part = c.args.self.part in
+    let homes = c.args.self.division.now.homes.items in
+    let heard = heard_by c.args.self.division.now.heard.items part in
+    let here : c.new-region.result ≡ region n homes part heard =
+    c.new-region.ensures ∙ ap (λ (hs : List ℕ). region n hs part c.heard_by-heard.result.now) c.as_slice-2.ensures.value
+    ∙ ap (λ (marks : List Bool). region n homes part marks) (c.heard_by-heard.ensures ∙ ap (λ (hs : List (List Bool)). heard_by hs part) c.as_slice.ensures.value)
+    in
+    let wires = c.args.self.division.now.wires.items in
+    let heards = c.args.self.division.now.heard.items in
+    let before = c.loop-from.invariant in
+    let from = c.loop-from.from in
+    let until = c.min-until.result in
+    let changes = c.in_ok-hear.field-0.items in
+    let bys = parts_of c.args.mail.from.items in
+    let later = before.later in
+    let horizon = before.horizon in
+    let next : c.loop-from.from ≡ c.loop-from.from - 1 + 1 = omega (arith, later) in
+    let about = c.requires.0 in
+    let once = renamed (sym about.netlist) (sym about.wires_are) (sym about.heards_are) c.requires.1 (λ m ws hs p. IsToldOnce m ws (heard_by hs p) bys) c.args.mail.once in
+    let told = renamed (sym about.netlist) (sym about.wires_are) (sym about.heards_are) c.requires.1 (λ m ws hs p. AreTold m ws (heard_by hs p) bys (record { from = from; until = until }) changes) c.in_ok-hear.ensures in
+    let told_next = subst (λ k. AreTold n wires (heard_by heards part) bys (record { from = k; until = until }) changes) next told in
+    let low = c.min-until.ensures in
+    let tidings = tidings_are n c.horizon-horizon.ensures.form homes wires heards c.args.self.division.now.parts about.division part bys (from - 1) until changes (omega (arith, low, horizon)) once told_next in
+    let over = c.hear-in-loop-from.ensures c.new-region.result (is_marked heard) (from - 1) until (subst (λ k. IsUnderWay c.new-region.result (is_marked heard) (from - 1) k c.loop-from.run) next before.under_way)
+    (subst (λ (r : Circuit). AreTidings r (is_marked heard) (from - 1) until changes) (sym here) tidings) in
+    record { is_heard = is_marked heard; is = over }
+
+pub loop-from-preserved : goal.loop-from-preserved
+loop-from-preserved g c =
+    let n = c.args.self.netlist.now in
+    let part = c.args.self.part in
+    let homes = c.args.self.division.now.homes.items in
+    let heard = heard_by c.args.self.division.now.heard.items part in
+    let here : c.new-region.result ≡ region n homes part heard =
+    c.new-region.ensures ∙ ap (λ (hs : List ℕ). region n hs part c.heard_by-heard.result.now) c.as_slice-2.ensures.value
+    ∙ ap (λ (marks : List Bool). region n homes part marks) (c.heard_by-heard.ensures ∙ ap (λ (hs : List (List Bool)). heard_by hs part) c.as_slice.ensures.value)
+    in
+    let wires = c.args.self.division.now.wires.items in
+    let heards = c.args.self.division.now.heard.items in
+    let before = c.loop-from.invariant in
+    let from = c.loop-from.from in
+    let until = c.min-until.result in
+    let changes = c.in_ok-hear.field-0.items in
+    let bys = parts_of c.args.mail.from.items in
+    let later = before.later in
+    let horizon = before.horizon in
+    let next : c.loop-from.from ≡ c.loop-from.from - 1 + 1 = omega (arith, later) in
+    let about = c.requires.0 in
+    let once = renamed (sym about.netlist) (sym about.wires_are) (sym about.heards_are) c.requires.1 (λ m ws hs p. IsToldOnce m ws (heard_by hs p) bys) c.args.mail.once in
+    let told = renamed (sym about.netlist) (sym about.wires_are) (sym about.heards_are) c.requires.1 (λ m ws hs p. AreTold m ws (heard_by hs p) bys (record { from = from; until = until }) changes) c.in_ok-hear.ensures in
+    let told_next = subst (λ k. AreTold n wires (heard_by heards part) bys (record { from = k; until = until }) changes) next told in
+    let low = c.min-until.ensures in
+    let tidings = tidings_are n c.horizon-horizon.ensures.form homes wires heards c.args.self.division.now.parts about.division part bys (from - 1) until changes (omega (arith, low, horizon)) once told_next in
+    let over = c.hear-in-loop-from.ensures c.new-region.result (is_marked heard) (from - 1) until (subst (λ k. IsUnderWay c.new-region.result (is_marked heard) (from - 1) k c.loop-from.run) next before.under_way)
+    (subst (λ (r : Circuit). AreTidings r (is_marked heard) (from - 1) until changes) (sym here) tidings) in
+    let sum = c.saturating_add.ensures in
+    let some = c.loop-from-test.true in
+    record {
+      later = omega (arith, later, low, sum, some);
+      within = omega (arith, low);
+      horizon = before.horizon;
+      span = before.span;
+      under_way = c.in_ok-run_units.ensures (is_marked heard) until (omega arith) over;
+    }
+
+pub loop-from-smaller : goal.loop-from-smaller
+loop-from-smaller g c =
+    let before = c.loop-from.invariant in
+    let span = before.span in
+    let some = c.loop-from-test.true in
+    let low = c.min-until.ensures in
+    let sum = c.saturating_add.ensures in
+    let high = c.horizon-horizon.type_inv in
+    let delay = (delays_are_least c.args.self.netlist.now c.horizon-horizon.ensures.form).positive in
+    omega (arith, span, some, low, sum, high, delay)
+
+pub finish-requires-clause-simulated : goal.finish-requires-clause-simulated
+finish-requires-clause-simulated g c =
+    let n = c.args.self.netlist.now in
+    let part = c.args.self.part in
+    let homes = c.args.self.division.now.homes.items in
+    let heard = heard_by c.args.self.division.now.heard.items part in
+    let here : c.new-region.result ≡ region n homes part heard =
+    c.new-region.ensures ∙ ap (λ (hs : List ℕ). region n hs part c.heard_by-heard.result.now) c.as_slice-2.ensures.value
+    ∙ ap (λ (marks : List Bool). region n homes part marks) (c.heard_by-heard.ensures ∙ ap (λ (hs : List (List Bool)). heard_by hs part) c.as_slice.ensures.value)
+    in
+    let before = c.loop-from.invariant in
+    let within = before.within in
+    let past = c.loop-from-test.false in
+    let now : c.loop-from.from ≡ c.new-region.result.horizon = (let last : c.loop-from.from ≡ c.horizon-horizon.result = omega (arith, within, past) in last ∙ before.horizon ∙ sym (ap (λ (r : Circuit). r.horizon) here)) in
+    subst (λ k. IsSimulated c.new-region.result (k - 1) c.loop-from.run.simulation) now before.under_way.simulated
+
+pub finish-requires-clause-kept : goal.finish-requires-clause-kept
+finish-requires-clause-kept g c =
+    let n = c.args.self.netlist.now in
+    let part = c.args.self.part in
+    let homes = c.args.self.division.now.homes.items in
+    let heard = heard_by c.args.self.division.now.heard.items part in
+    let here : c.new-region.result ≡ region n homes part heard =
+    c.new-region.ensures ∙ ap (λ (hs : List ℕ). region n hs part c.heard_by-heard.result.now) c.as_slice-2.ensures.value
+    ∙ ap (λ (marks : List Bool). region n homes part marks) (c.heard_by-heard.ensures ∙ ap (λ (hs : List (List Bool)). heard_by hs part) c.as_slice.ensures.value)
+    in
+    let before = c.loop-from.invariant in
+    let within = before.within in
+    let past = c.loop-from-test.false in
+    let now : c.loop-from.from ≡ c.new-region.result.horizon = (let last : c.loop-from.from ≡ c.horizon-horizon.result = omega (arith, within, past) in last ∙ before.horizon ∙ sym (ap (λ (r : Circuit). r.horizon) here)) in
+    subst (λ k. IsStateHistory c.new-region.result (k - 1 + 1) (k - 1) c.loop-from.run.history) now before.under_way.kept
+
+pub returns : goal.returns
+returns g c =
+    let n = c.args.self.netlist.now in
+    let part = c.args.self.part in
+    let homes = c.args.self.division.now.homes.items in
+    let heard = heard_by c.args.self.division.now.heard.items part in
+    let here : c.new-region.result ≡ region n homes part heard =
+    c.new-region.ensures ∙ ap (λ (hs : List ℕ). region n hs part c.heard_by-heard.result.now) c.as_slice-2.ensures.value
+    ∙ ap (λ (marks : List Bool). region n homes part marks) (c.heard_by-heard.ensures ∙ ap (λ (hs : List (List Bool)). heard_by hs part) c.as_slice.ensures.value)
+    in
+    subst (λ (r : Circuit). IfOk c.finish.result (IsPartRun r)) here c.finish.ensures

@@ -1,0 +1,19 @@
+use Rattle.std.proofs.Common.{◌≡◌, ◌-◌, ◌<◌, ◌≤◌}
+use Rattle.mp_netlist.specs.Delays.{least_delay}
+use Rattle.mp_evaluation.specs.Marks.{is_marked}
+use Rattle.mp_engine.specs.RegionRuns.{IsUnderWay}
+use Rattle.mp_regions.specs.Divisions.{heard_by}
+use Rattle.mp_engine.proofs.part_of.PartOf.run.Given as goal
+
+-- the windows before are over
+abbrev pub invariant-loop-from : goal.invariant-loop-from
+invariant-loop-from g l = record {
+  later : 0 < l.from;
+  within : l.from ≤ l.horizon;
+  horizon : l.horizon ≡ l.self.netlist.now.horizon;
+  span : l.span ≡ least_delay l.self.netlist.now;
+  under_way : IsUnderWay l.region (is_marked (heard_by l.division.heard.items l.part)) (l.from - 1) l.from l.run;
+}
+
+abbrev pub decreases-loop-from : goal.decreases-loop-from
+decreases-loop-from g l = l.horizon - l.from

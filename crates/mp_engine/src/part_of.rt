@@ -1,0 +1,65 @@
+//! A part of a netlist as a thread of its own runs it.
+
+use crate::letter::{Subject, Window};
+use crate::mail::Mail;
+use crate::part_run::PartRun;
+use crate::region_run::RegionRun;
+use mp_netlist::Netlist;
+use mp_phase::Gate;
+use mp_regions::{Division, Region, heard_by};
+use std::alloc::{AllocError, Global};
+use std::sync::Wait;
+use std::thread::Promise;
+
+/// A part of a netlist that is divided.
+#[derive(Clone, Copy)]
+pub(crate) struct PartOf<'a> {
+    pub netlist: &'a Netlist,
+    pub division: &'a Division,
+    pub part: u32,
+}
+
+impl<'a> Promise<Result<PartRun, AllocError>> for PartOf<'a> {
+    ghost use Rattle.std.specs.Prelude.{IfOk};
+    ghost use Rattle.mp_engine.specs.Mails.{IsRunOf};
+
+    ghost kept_by = { λ it result. IfOk result (IsRunOf it) };
+}
+
+impl<'a> PartOf<'a> {
+    ghost use Rattle.std.specs.Prelude.{IfOk};
+    ghost use Rattle.mp_engine.specs.Mails.{IsMailOf, IsRunOf};
+
+    /// Its run up to the horizon, window by window. What it hears of others comes by its lines.
+    pub(crate) fn run<J: Subject, R: Wait, G: Gate>(
+        self,
+        rt: &R,
+        alloc: Global,
+        gate: &G,
+        mail: Mail<J>,
+    ) -> Result<PartRun, AllocError>
+        requires { IsMailOf J.netlist J.wires J.heards self mail }
+        ensures { IfOk result (IsRunOf self.entry) }
+    {
+        let PartOf {
+            netlist,
+            division,
+            part,
+        } = self;
+        let horizon = netlist.horizon();
+        let span = netlist.least_delay();
+        let heard = heard_by(division.heard.as_slice(), part);
+        let region = Region::new(netlist, division.homes.as_slice(), part, heard);
+        let mut run = RegionRun::begin(rt, alloc, netlist, &region, gate)?;
+        let mut from = 1;
+        while from < horizon {
+            let until = from.saturating_add(span).min(horizon);
+            let window = Window { from, until };
+            mail.tell(rt, alloc, division, &run.simulation, window)?;
+            run.hear(mail.hear(rt, alloc, window)?);
+            run.run_units(rt, &region, gate, from, until)?;
+            from = until;
+        }
+        run.finish(alloc, &region)
+    }
+}

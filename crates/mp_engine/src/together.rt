@@ -1,0 +1,134 @@
+//! Parts of a netlist that hear of each other, each on a thread of its own.
+ghost use Rattle.std.specs.Prelude.{◌≡◌, ◌+◌, IfOk, IfSome, length, map};
+ghost use Rattle.mp_regions.specs.Divisions.{IsDivision};
+ghost use Rattle.mp_engine.specs.Divisions.{AreRuns};
+ghost use Rattle.mp_engine.specs.Mails.{AreOthers, ArePartRuns, GiveRuns, IsFirst, IsMailOf, IsRunOf};
+
+use crate::letter::Subject;
+use crate::lines::Lines;
+use crate::part_of::PartOf;
+use crate::part_run::PartRun;
+use mp_netlist::Netlist;
+use mp_phase::Gate;
+use mp_regions::Division;
+use std::alloc::{AllocError, Global};
+use std::marker::Brand;
+use std::sync::Wait;
+use std::thread;
+use std::thread::{PromisedHandle, Scope, Threads};
+
+/// What the parts give, each run on a thread of its own. Nothing, where a thread can't be started.
+pub(crate) fn run_together<R: Threads + Wait + Sync, G: Gate + Sync>(
+    rt: &R,
+    alloc: Global,
+    netlist: &Netlist,
+    gate: &G,
+    division: &Division,
+) -> Result<Option<Vec<PartRun>>, AllocError>
+    requires { IsDivision netlist.now division.now.homes.items division.now.wires.items division.now.heard.items division.now.parts }
+    ensures { IfOk result (λ found. IfSome found (λ runs. AreRuns netlist.now division.now.homes.items division.now.heard.items division.now.parts runs.items)) }
+{
+    run_apart::<Brand, R, G>(rt, alloc, netlist, gate, division)
+}
+
+/// The same, where letters are about the netlist as it is divided.
+fn run_apart<J: Subject + Send + Sync, R: Threads + Wait + Sync, G: Gate + Sync>(
+    rt: &R,
+    alloc: Global,
+    netlist: &Netlist,
+    gate: &G,
+    division: &Division,
+) -> Result<Option<Vec<PartRun>>, AllocError>
+    requires division { IsDivision netlist.now division.now.homes.items division.now.wires.items division.now.heard.items division.now.parts }
+    requires netlist { netlist.now ≡ J.netlist }
+    requires wires { division.now.wires.items ≡ J.wires }
+    requires heards { division.now.heard.items ≡ J.heards }
+    ensures { IfOk result (λ found. IfSome found (λ runs. AreRuns netlist.now division.now.homes.items division.now.heard.items division.now.parts runs.items)) }
+{
+    let mut lines = Lines::<J>::between(alloc, netlist, division)?;
+    let first = PartOf {
+        netlist,
+        division,
+        part: 0,
+    };
+    thread::scope(
+        thread::scope_env(),
+        rt,
+        move |scope| -> Result<Option<Vec<PartRun>>, AllocError>
+            requires lines { lines ≡ first.division.now.parts }
+            requires first { IsFirst J.netlist J.wires J.heards first }
+            ensures { IfOk result (λ found. IfSome found (λ runs. ArePartRuns first.entry runs.items)) }
+        {
+            let Some(others) = start_others(rt, alloc, scope, gate, first, &mut lines)? else {
+                return Ok(None);
+            };
+            let Some(mail) = lines.take_last(alloc) else {
+                return Ok(None);
+            };
+            let run = first.run(rt, alloc, gate, mail)?;
+            Ok(Some(join_others(rt, alloc, run, others)?))
+        },
+    )
+}
+
+/// The thread of a part.
+type Other<'a> = PromisedHandle<Result<PartRun, AllocError>, PartOf<'a>>;
+
+/// Starts the threads of all parts but the first, from the last down. Nothing, where one can't be started.
+fn start_others<
+    's,
+    E: 's,
+    J: Subject + Send + Sync + 's,
+    R: Threads + Wait + Sync + 's,
+    G: Gate + Sync + 's,
+>(
+    rt: &'s R,
+    alloc: Global,
+    scope: &'s Scope<'s, E>,
+    gate: &'s G,
+    first: PartOf<'s>,
+    lines: &mut Lines<J>,
+) -> Result<Option<Vec<Other<'s>>>, AllocError>
+    requires lines { lines.old ≡ first.division.now.parts }
+    requires first { IsFirst J.netlist J.wires J.heards first }
+    ensures lines { IfOk result (λ found. IfSome found (λ others. lines.new ≡ 1)) }
+    ensures others { IfOk result (λ found. IfSome found (λ others. AreOthers first.entry.netlist.now first.entry.division.now (map (λ other. other.promise) others.items))) }
+    ensures count { IfOk result (λ found. IfSome found (λ others. length others.items + 1 ≡ first.entry.division.now.parts)) }
+{
+    let mut others = Vec::new(alloc);
+    let mut part = first.division.parts;
+    while part > 1 {
+        part -= 1;
+        let Some(mail) = lines.take_last(alloc) else {
+            return Ok(None);
+        };
+        let it = PartOf { part, ..first };
+        let run = move || -> Result<PartRun, AllocError>
+            requires { IsMailOf J.netlist J.wires J.heards it mail }
+            ensures { IfOk result (IsRunOf it.entry) }
+        { it.run(rt, alloc, gate, mail) };
+        match scope.spawn_with(it, run) {
+            Ok(handle) => others.push(handle)?,
+            Err(_) => return Ok(None),
+        }
+    }
+    Ok(Some(others))
+}
+
+/// The first part's run with those of the others, whose threads stand from the last part down.
+fn join_others<R: Threads>(
+    rt: &R,
+    alloc: Global,
+    first: PartRun,
+    others: Vec<Other<'_>>,
+) -> Result<Vec<PartRun>, AllocError>
+    ensures { IfOk result (λ runs. GiveRuns first (map (λ other. other.promise) others.entry.items) runs.items) }
+{
+    let mut others = others;
+    let mut runs = Vec::new(alloc);
+    runs.push(first)?;
+    while let Some(other) = others.pop() {
+        runs.push(other.join(rt)?)?;
+    }
+    Ok(runs)
+}

@@ -1,0 +1,3 @@
+pub mod RegionLemmas
+pub mod PartLemmas
+pub mod DivisionLemmas

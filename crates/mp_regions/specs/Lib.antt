@@ -1,0 +1,3 @@
+pub mod Readers
+pub mod Regions
+pub mod Divisions
