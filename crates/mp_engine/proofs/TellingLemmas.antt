@@ -13,9 +13,7 @@ use Rattle.mp_netlist.specs.declared.driver.Driver.{Driver}
 use Rattle.mp_netlist.specs.declared.driver.Driver.TheVariants.{Nothing, Stimulus, Port}
 use Rattle.mp_netlist.specs.Circuit.{Circuit, IsCircuit, Drives, wire_at, module_at, stimulus_at}
 use Rattle.mp_netlist.specs.Drivers.{driver, stimulus_driver}
-use Rattle.mp_netlist.specs.Delays.{least_delay}
 use Rattle.mp_netlist.proofs.DriverLemmas.{finds_ports, finds_only_ports, driven_by}
-use Rattle.mp_netlist.proofs.DelayLemmas.{delays_are_least}
 use Rattle.mp_model.specs.Evaluations.{delay_in}
 use Rattle.mp_model.specs.Levels.{driven_level}
 use Rattle.mp_model.specs.Waves.{level, state}
@@ -34,7 +32,7 @@ use Rattle.mp_run.specs.declared.stimuli.StimulusChange.{StimulusChange}
 use Rattle.mp_run.specs.Stimuli.{is_change, IsSetting}
 use Rattle.mp_evaluation.specs.Marks.{is_marked}
 use Rattle.mp_regions.specs.Regions.{home_of, region, slots_heard}
-use Rattle.mp_regions.specs.Divisions.{heard_by, IsDivision}
+use Rattle.mp_regions.specs.Divisions.{heard_by, IsCrossing, IsDivision}
 use Rattle.mp_regions.proofs.DivisionLemmas.{divided_apart, divided_closed}
 use Rattle.mp_regions.proofs.PartLemmas.{IsSeen, region_level}
 use Rattle.mp_regions.proofs.RegionLemmas.{length_heard, module_here, drives_here, drives_there, drives_home, region_is, has_stimuli}
@@ -81,7 +79,7 @@ no_delay n Stimulus never = refl
 no_delay n (Port m p) never = absurd (never m.0 p refl)
 
 module _ (n : Circuit) (ok : IsCircuit n) (homes wires : List ℕ) (heards : List (List Bool)) (parts : ℕ) (is : IsDivision n homes wires heards parts) (by to t span : ℕ) (s : NetlistSimulation)
-    (at : IsSimulated (region n homes by (heard_by heards by)) t s) (short : span ≤ least_delay n) (within_horizon : t + 1 + span ≤ n.horizon) where
+    (at : IsSimulated (region n homes by (heard_by heards by)) t s) (delay : ℕ) (crossing : IsCrossing n heards delay) (short : span ≤ delay) (within_horizon : t + 1 + span ≤ n.horizon) where
   abbrev r : Circuit
   r = region n homes by (heard_by heards by)
 
@@ -103,16 +101,16 @@ module _ (n : Circuit) (ok : IsCircuit n) (homes wires : List ℕ) (heards : Lis
       let other = changes r form t s at w k stands ∙ ap (λ b. bit ((change_at r w (t + 1 + k) && is_data r w) && b)) late ∙ none_last (change_at r w (t + 1 + k) && is_data r w) in
       omega (arith, one, other)
 
-  all_known : (w k m p : ℕ) → k < span → w < length (region n homes by (heard_by heards by)).wires → home_of wires w ≡ by → Drives n m p w
+  all_known : (w k m p : ℕ) → k < span → w < length (region n homes by (heard_by heards by)).wires → home_of wires w ≡ by → is_marked (heard_by heards to) w ≡ true → Drives n m p w
       → listed w (slot_at s.bits.simulator k) + changes_of w (data_slot s.wires.wheel k) ≡ bit (change_at n w (t + 1 + k))
-  all_known w k m p near stands home drives =
+  all_known w k m p near stands home marked drives =
       let home_m : home_of homes m ≡ by = sym ((is.at_home m).driven p w drives) ∙ home in
       let here : Drives (region n homes by (heard_by heards by)) m p w = drives_here n homes by (heard_by heards by) m p w home_m drives in
       let driven : driver r w ≡ Port (record { 0 = m }) p = finds_ports r form m p w here in
-      let least : least_delay n ≤ delay_of drives.part p = (delays_are_least n ok).least m p w drives in
+      let least : delay ≤ delay_of drives.part p = crossing.least to m p w drives marked in
       let slot : delay_in (module_at r m) p ≡ delay_of drives.part p = ap (λ o. delay_in o p) (module_here n homes by (heard_by heards by) m home_m ∙ drives.stands) in
-      let delay : driver_delay r (driver r w) ≡ delay_of drives.part p = ap (driver_delay r) driven ∙ slot in
-      let soon : nat_lt k (driver_delay r (driver r w)) ≡ true = grind (arith, nat_tests, delay, least, short, near) in
+      let slow : driver_delay r (driver r w) ≡ delay_of drives.part p = ap (driver_delay r) driven ∙ slot in
+      let soon : nat_lt k (driver_delay r (driver r w)) ≡ true = grind (arith, nat_tests, slow, least, short, near) in
       let low : nat_lt w (length r.wires) ≡ true = grind (arith, nat_tests) in
       let seen : IsSeen n homes by w = λ q x other. ap (home_of homes) (ok.one_port q x m p w other drives).0 ∙ home_m in
       ap (λ c. c + changes_of w (data_slot s.wires.wheel k)) (toggles r form t s at w k)
@@ -165,7 +163,7 @@ module _ (n : Circuit) (ok : IsCircuit n) (homes wires : List ℕ) (heards : Lis
           driven (driven_by n w) ∙ one_of (change_at n w (t + 1 + k)) ∙ sym (ap (λ l. cond (change_at n w (t + 1 + k)) l 0) (listed_here w true here))
         where
           driven : ((m p : ℕ) × Drives n m p w) ⊎ (driver n w ≡ stimulus_driver (stimulus_at n w)) → listed w (slot_at s.bits.simulator k) + changes_of w (data_slot s.wires.wheel k) ≡ bit (change_at n w (t + 1 + k))
-          driven (inl found) = all_known w k found.0 found.1 near (stands_here w marked) (sym (eqb-true by (home_of wires w) here)) found.2
+          driven (inl found) = all_known w k found.0 found.1 near (stands_here w marked) (sym (eqb-true by (home_of wires w) here)) marked found.2
           driven (inr none) =
               let nothing : driver n w ≡ Nothing = none ∙ ap stimulus_driver (is.heard to w marked).unset in
               let still : change_at n w (t + 1 + k) ≡ false = undriven n ok w (t + 1 + k) nothing in

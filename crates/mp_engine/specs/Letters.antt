@@ -2,7 +2,6 @@
 use Rattle.std.specs.Prelude.{◌≡◌, ℕ, ◌+◌, ◌-◌, ◌≤◌, ◌<◌, Bool, true, false, List, [], ◌∷◌, ◌++◌, All, ◌&&◌, if◌then◌else◌}
 use Rattle.std.specs.List.{count_by}
 use Rattle.mp_netlist.specs.Circuit.{Circuit, IsCircuit, Drives}
-use Rattle.mp_netlist.specs.Delays.{least_delay}
 use Rattle.mp_events.specs.Adding.{listed}
 use Rattle.mp_core.specs.Changes.{change_at}
 use Rattle.mp_data.specs.declared.level_change.LevelChange.{LevelChange}
@@ -12,7 +11,7 @@ use Rattle.mp_run.specs.declared.stimuli.StimulusChange.{StimulusChange}
 use Rattle.mp_run.specs.Stimuli.{is_change, IsSetting}
 use Rattle.mp_evaluation.specs.Marks.{is_marked}
 use Rattle.mp_regions.specs.Regions.{home_of, region}
-use Rattle.mp_regions.specs.Divisions.{heard_by, IsDivision}
+use Rattle.mp_regions.specs.Divisions.{heard_by, IsCrossing, IsDivision}
 use Rattle.mp_engine.specs.declared.letter.Window.{Window}
 
 -- they are the changes, from a time to before another, of the wires that are heard and that are at home in one of these parts, each once
@@ -32,7 +31,9 @@ pub record KnowsAhead (n : Circuit) (wires : List ℕ) (heards : List (List Bool
   pub before : ℕ
   pub from : window.from ≡ before + 1
   pub some : window.from ≤ window.until
-  pub short : window.until ≤ window.from + least_delay n
+  pub delay : ℕ
+  pub crossing : IsCrossing n heards delay
+  pub short : window.until ≤ window.from + delay
   pub within : window.until ≤ n.horizon
   pub simulated : IsSimulated (region n homes by (heard_by heards by)) before s
 

@@ -3,7 +3,7 @@ use Rattle.std.specs.Prelude.{◌≡◌, ℕ, ◌+◌, ◌<◌, Bool, List, leng
 use Rattle.mp_netlist.specs.Circuit.{Circuit}
 use Rattle.mp_regions.specs.declared.division.Division.{Division}
 use Rattle.mp_regions.specs.Regions.{region}
-use Rattle.mp_regions.specs.Divisions.{heard_by, IsDivision}
+use Rattle.mp_regions.specs.Divisions.{heard_by, IsCrossing, IsDivision}
 use Rattle.mp_engine.specs.declared.letter.Subject.{Ghosts}
 use Rattle.mp_engine.specs.declared.mail.Mail.{Mail}
 use Rattle.mp_engine.specs.declared.part_run.PartRun.{PartRun}
@@ -14,6 +14,7 @@ use Rattle.mp_engine.specs.Divisions.{AreRuns}
 -- the part is one of a netlist that is so divided, about which letters are
 pub record IsPartOf (n : Circuit) (wires : List ℕ) (heards : List (List Bool)) (it : PartOf) : Type 0 where
   pub division : IsDivision it.netlist.now it.division.now.homes.items it.division.now.wires.items it.division.now.heard.items it.division.now.parts
+  pub crossing : IsCrossing it.netlist.now it.division.now.heard.items it.division.now.delay
   pub netlist : it.netlist.now ≡ n
   pub wires_are : it.division.now.wires.items ≡ wires
   pub heards_are : it.division.now.heard.items ≡ heards

@@ -42,9 +42,6 @@ pub(crate) struct Mail<J: Subject> {
 impl<J: Subject> Mail<J> {
     ghost use Rattle.std.specs.Prelude.{◌≡◌, IfOk};
     ghost use Rattle.mp_regions.specs.Divisions.{heard_by};
-    ghost use Rattle.mp_engine.specs.Letters.{IsToldOnce};
-    ghost use Rattle.mp_engine.specs.Lines.{parts_of};
-    ghost use Rattle.mp_regions.specs.Divisions.{heard_by};
     ghost use Rattle.mp_engine.specs.Letters.{AreTold, KnowsAhead};
     ghost use Rattle.mp_engine.specs.Lines.{parts_of};
 

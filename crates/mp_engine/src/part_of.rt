@@ -47,7 +47,7 @@ impl<'a> PartOf<'a> {
             part,
         } = self;
         let horizon = netlist.horizon();
-        let span = netlist.least_delay();
+        let span = division.delay;
         let heard = heard_by(division.heard.as_slice(), part);
         let region = Region::new(netlist, division.homes.as_slice(), part, heard);
         let mut run = RegionRun::begin(rt, alloc, netlist, &region, gate)?;

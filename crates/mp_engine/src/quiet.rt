@@ -24,6 +24,7 @@ pub(crate) fn run_quiet<R: Wait, G: Gate>(
     alloc: Global,
     netlist: &Netlist,
     gate: &G,
+    delay: u32,
     least: u32,
 ) -> Result<Option<Run>, AllocError>
     ensures { IfOk result (λ found. IfSome found (IsRun netlist.now)) }
@@ -35,7 +36,7 @@ pub(crate) fn run_quiet<R: Wait, G: Gate>(
     let mut to = 1 + (horizon - 1) / FIRST_LOOK;
     for _look in 0..LOOKS {
         let fired = run.run_units(rt, &region, gate, from, to)?;
-        if is_busy(fired, to - from, netlist.least_delay(), least) {
+        if is_busy(fired, to - from, delay, least) {
             return Ok(None);
         }
         from = to;
@@ -46,7 +47,7 @@ pub(crate) fn run_quiet<R: Wait, G: Gate>(
     Ok(Some(run_of(horizon, run)))
 }
 
-/// Whether so often modules fired in some units that it is at least so often a window on average, where a window has as many units as the least
+/// Whether so often modules fired in some units that it is at least so often a window on average, where a window has as many units as this
 /// delay.
 fn is_busy(fired: usize, units: u32, delay: u32, least: u32) -> bool {
     let wanted = (units as usize).saturating_mul(least as usize);

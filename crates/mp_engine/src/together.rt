@@ -1,6 +1,6 @@
 //! Parts of a netlist that hear of each other, each on a thread of its own.
 ghost use Rattle.std.specs.Prelude.{◌≡◌, ◌+◌, IfOk, IfSome, length, map};
-ghost use Rattle.mp_regions.specs.Divisions.{IsDivision};
+ghost use Rattle.mp_regions.specs.Divisions.{IsCrossing, IsDivision};
 ghost use Rattle.mp_engine.specs.Divisions.{AreRuns};
 ghost use Rattle.mp_engine.specs.Mails.{AreOthers, ArePartRuns, GiveRuns, IsFirst, IsMailOf, IsRunOf};
 
@@ -25,7 +25,8 @@ pub(crate) fn run_together<R: Threads + Wait + Sync, G: Gate + Sync>(
     gate: &G,
     division: &Division,
 ) -> Result<Option<Vec<PartRun>>, AllocError>
-    requires { IsDivision netlist.now division.now.homes.items division.now.wires.items division.now.heard.items division.now.parts }
+    requires division { IsDivision netlist.now division.now.homes.items division.now.wires.items division.now.heard.items division.now.parts }
+    requires crossing { IsCrossing netlist.now division.now.heard.items division.now.delay }
     ensures { IfOk result (λ found. IfSome found (λ runs. AreRuns netlist.now division.now.homes.items division.now.heard.items division.now.parts runs.items)) }
 {
     run_apart::<Brand, R, G>(rt, alloc, netlist, gate, division)
@@ -40,6 +41,7 @@ fn run_apart<J: Subject + Send + Sync, R: Threads + Wait + Sync, G: Gate + Sync>
     division: &Division,
 ) -> Result<Option<Vec<PartRun>>, AllocError>
     requires division { IsDivision netlist.now division.now.homes.items division.now.wires.items division.now.heard.items division.now.parts }
+    requires crossing { IsCrossing netlist.now division.now.heard.items division.now.delay }
     requires netlist { netlist.now ≡ J.netlist }
     requires wires { division.now.wires.items ≡ J.wires }
     requires heards { division.now.heard.items ≡ J.heards }

@@ -1,3 +1,4 @@
 pub mod RegionLemmas
 pub mod PartLemmas
 pub mod DivisionLemmas
+pub mod CrossingLemmas

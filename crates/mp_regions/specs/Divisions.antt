@@ -1,11 +1,12 @@
 -- Netlists in parts, which read nothing from each other but on wires that they hear.
-use Rattle.std.specs.Prelude.{◌≡◌, ℕ, ◌<◌, ◌≤◌, ◌⊎◌, Bool, true, List, [], Some, None, length, slice_index_or, is_some}
+use Rattle.std.specs.Prelude.{◌≡◌, ℕ, ◌<◌, ◌≤◌, ◌⊎◌, Bool, true, List, [], Some, None, slice_index_or, is_some}
 use Rattle.mp_records.specs.declared.ports.Input.{Input}
 use Rattle.mp_records.specs.declared.ports.Output.{Output}
+use Rattle.mp_records.specs.Outputs.{delay_of}
 use Rattle.mp_netlist.specs.Circuit.{Circuit, Drives, wire_at, stimulus_at}
 use Rattle.mp_regions.specs.Readers.{Reads}
 use Rattle.mp_evaluation.specs.Marks.{is_marked}
-use Rattle.mp_regions.specs.Regions.{home_of, region}
+use Rattle.mp_regions.specs.Regions.{home_of}
 
 -- the wires that a part hears: none, where no list is there
 abbrev pub heard_by : List (List Bool) → ℕ → List Bool
@@ -41,3 +42,12 @@ pub record IsDivision (n : Circuit) (homes wires : List ℕ) (heards : List (Lis
   pub at_home : (m : ℕ) → IsAtHome n homes wires heards parts m
   pub few : (m : ℕ) → home_of homes m < parts
   pub heard : (k w : ℕ) → is_marked (heard_by heards k) w ≡ true → IsHeardThere n wires k w
+
+-- where a part hears the wire of an output, its delay isn't shorter
+abbrev pub IsLateFor : List (List Bool) → Output → ℕ → Type 0
+IsLateFor heards output delay = (k w : ℕ) → output.wire ≡ Some (record { 0 = w }) → is_marked (heard_by heards k) w ≡ true → delay ≤ output.delay
+
+-- no port that drives a wire which a part hears has a shorter delay
+pub record IsCrossing (n : Circuit) (heards : List (List Bool)) (delay : ℕ) : Type 0 where
+  pub some : 1 ≤ delay
+  pub least : (k m p w : ℕ) (drives : Drives n m p w) → is_marked (heard_by heards k) w ≡ true → delay ≤ delay_of drives.part p

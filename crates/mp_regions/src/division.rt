@@ -2,9 +2,10 @@
 ghost use Rattle.std.specs.Prelude.{◌≡◌, ◌<◌, ◌≤◌, ◌⊎◌, ℕ, true, All, Some, IfOk, IfSome};
 ghost use Rattle.mp_records.specs.declared.ports.Input.{Input as Entry};
 ghost use Rattle.mp_records.specs.declared.ports.Output.{Output as Port};
-ghost use Rattle.mp_regions.specs.Divisions.{IsAtHome, IsDivision, IsDrivenAt, IsHeardThere, IsReadAt, heard_by};
+ghost use Rattle.mp_regions.specs.Divisions.{IsAtHome, IsCrossing, IsDivision, IsDrivenAt, IsHeardThere, IsReadAt, heard_by};
 ghost use Rattle.mp_evaluation.specs.Marks.{is_marked};
 
+use crate::crossing::crossing_delay;
 use crate::groups::homes_of;
 use crate::heard::{Heard, heard_by, is_heard};
 use crate::home::{NOWHERE, home_of};
@@ -12,43 +13,43 @@ use mp_netlist::{Input, ModuleId, Netlist, Output, WireId};
 use std::alloc::{AllocError, Global};
 
 /// In which part each module is at home, and each wire that a port drives; what each part hears, with no lists where none hears of
-/// anything; and how many parts there are.
+/// anything; a delay that no port has less of which drives a wire that is heard; and how many parts there are.
 #[derive(Drop)]
 pub struct Division {
     pub homes: Vec<u32>,
     pub wires: Vec<u32>,
     pub heard: Vec<Heard>,
+    pub delay: u32,
     pub parts: u32,
 }
 
-/// Connected modules are cut only where no delay is shorter, so that windows have at least as many units.
-const LEAST_CUT: u32 = 2;
-
-/// Divides a netlist among so many workers. There is nothing to divide where one is to do all, and where all modules are connected and aren't
-/// cut. Less than so many modules, or units, don't regain what it costs.
+/// Divides a netlist among so many workers. There is nothing to divide where one is to do all, and where all modules are connected and don't
+/// fall apart at long delays. Less than so many modules, or units, don't regain what it costs.
 pub fn divide(
     alloc: Global,
     netlist: &Netlist,
     workers: u32,
     least: u32,
 ) -> Result<Option<Division>, AllocError>
-    ensures { IfOk result (λ found. IfSome found (λ division. IsDivision netlist.now division.homes.items division.wires.items division.heard.items division.parts)) }
+    ensures division { IfOk result (λ found. IfSome found (λ division. IsDivision netlist.now division.homes.items division.wires.items division.heard.items division.parts)) }
+    ensures crossing { IfOk result (λ found. IfSome found (λ division. IsCrossing netlist.now division.heard.items division.delay)) }
 {
     if workers == 1 || netlist.module_slots().min(netlist.horizon()) < least {
         return Ok(None);
     }
-    let cut = netlist.least_delay() >= LEAST_CUT;
-    let homes = homes_of(alloc, netlist, workers, cut)?;
+    let homes = homes_of(alloc, netlist, workers)?;
     let parts = count_of(homes.as_slice());
     if parts == 1 {
         return Ok(None);
     }
     let wires = wire_homes(alloc, netlist, homes.as_slice())?;
     let heard = heard_wires(alloc, netlist, homes.as_slice(), wires.as_slice(), parts)?;
+    let delay = crossing_delay(netlist, heard.as_slice());
     let division = Division {
         homes,
         wires,
         heard,
+        delay,
         parts,
     };
     if is_division(netlist, &division) {

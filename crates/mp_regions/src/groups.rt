@@ -1,138 +1,117 @@
-//! Modules in groups that are connected by wires, and where each group is put.
+//! Modules in groups that are connected by wires, and in which part each group is.
 use crate::division::note_outputs;
 use crate::home::{NOWHERE, home_of};
-use mp_netlist::{Input, ModuleId, Netlist};
+use mp_netlist::{Input, ModuleId, Netlist, Output};
 use std::alloc::{AllocError, Global};
 
-/// For each module its part: at most so many parts, with about as many modules in each. Connected modules are together, but for groups
-/// that are larger than a part is to be, where such may be cut.
-pub fn homes_of(
-    alloc: Global,
-    netlist: &Netlist,
-    count: u32,
-    cut: bool,
-) -> Result<Vec<u32>, AllocError> {
-    let heads = heads_of(alloc, netlist)?;
-    let heads = heads.as_slice();
-    let share = heads.len().div_ceil(count.max(1) as usize);
-    let places = places_of(alloc, heads, count, share, cut)?;
-    let mut passed = zeros(alloc, heads.len())?;
-    let mut homes = Vec::new(alloc);
-    for head in heads {
-        let rank = home_of(passed.as_slice(), *head);
-        put(&mut passed, *head, rank.saturating_add(1));
-        let place = place_at(places.as_slice(), *head);
-        homes.push(place.home(rank as usize, share, count))?;
+/// A group that is too large is cut at wires of at least so long a delay, the first of these at which it falls into pieces that fit.
+const CUTS: [u32; 4] = [16, 8, 4, 2];
+
+/// For each module its part: at most so many parts, with about as many modules in each. Connected modules are together, but for groups that are
+/// larger than a part is to be.
+pub fn homes_of(alloc: Global, netlist: &Netlist, count: u32) -> Result<Vec<u32>, AllocError> {
+    let drivers = Drivers::of(alloc, netlist)?;
+    let modules = netlist.module_slots() as usize;
+    let share = modules.div_ceil(count.max(1) as usize);
+    let whole = drivers.groups(alloc, netlist, &[], u32::MAX)?;
+    let sizes = sizes_of(alloc, whole.as_slice())?;
+    if largest(sizes.as_slice()) <= share {
+        return homes_in(alloc, whole.as_slice(), count, share);
     }
-    Ok(homes)
+    let together = groups_that_fit(alloc, whole.as_slice(), sizes.as_slice(), share)?;
+    for cut in CUTS {
+        let pieces = drivers.groups(alloc, netlist, together.as_slice(), cut)?;
+        let sizes = sizes_of(alloc, pieces.as_slice())?;
+        if largest(sizes.as_slice()) <= share.div_ceil(4) {
+            return homes_in(alloc, pieces.as_slice(), count, share);
+        }
+    }
+    homes_in(alloc, whole.as_slice(), count, share)
 }
 
-/// Where a group is put: the part of its first module, how many modules are there before, and whether it goes on in the next part
-/// where one is full.
-#[derive(Clone, Copy)]
-struct Place {
-    part: u32,
-    before: usize,
-    cut: bool,
+/// For each wire the module that drives it, and the delay of its port.
+#[derive(Drop)]
+struct Drivers {
+    modules: Vec<u32>,
+    delays: Vec<u32>,
 }
 
-impl Place {
-    /// The part of one of the group's modules, of which so many come before it.
-    fn home(&self, rank: usize, share: usize, count: u32) -> u32 {
-        if !self.cut {
-            return self.part;
-        }
-        let further = self.before.saturating_add(rank) / share.max(1);
-        let part = (self.part as usize).saturating_add(further);
-        part.min(count.saturating_sub(1) as usize) as u32
-    }
-
-    /// The place behind a group of this size.
-    fn behind(&self, size: usize, share: usize, count: u32, cut: bool) -> Place {
-        let before = self.before.saturating_add(size);
-        if !cut {
-            return Place {
-                part: self.part,
-                before,
-                cut,
-            };
-        }
-        let whole = Place {
-            part: self.part,
-            before: self.before,
-            cut,
+impl Drivers {
+    fn of(alloc: Global, netlist: &Netlist) -> Result<Drivers, AllocError> {
+        let mut drivers = Drivers {
+            modules: filled(alloc, netlist.wire_slots(), NOWHERE)?,
+            delays: filled(alloc, netlist.wire_slots(), 0)?,
         };
-        Place {
-            part: whole.home(size, share, count),
-            before: before % share.max(1),
-            cut,
+        for m in 0..netlist.module_slots() {
+            if let Some(found) = netlist.module(ModuleId(m)) {
+                note_outputs(&mut drivers.modules, found.outputs.as_slice(), m);
+                note_delays(&mut drivers.delays, found.outputs.as_slice());
+            }
+        }
+        Ok(drivers)
+    }
+
+    /// For each module the first module of its group. Modules are in one group where a wire of a shorter delay than this connects them, and where one
+    /// that is given is that of both.
+    fn groups(
+        &self,
+        alloc: Global,
+        netlist: &Netlist,
+        together: &[u32],
+        cut: u32,
+    ) -> Result<Vec<u32>, AllocError> {
+        let mut heads = Vec::new(alloc);
+        for m in 0..netlist.module_slots() {
+            heads.push(m)?;
+        }
+        for m in 0..netlist.module_slots() {
+            if let Some(first) = together.get(m as usize) {
+                join(&mut heads, m, *first);
+            }
+            if let Some(found) = netlist.module(ModuleId(m)) {
+                self.join_inputs(&mut heads, m, found.inputs.as_slice(), cut);
+            }
+        }
+        for m in 0..netlist.module_slots() {
+            let head = head_of(&mut heads, m);
+            put(&mut heads, m, head);
+        }
+        Ok(heads)
+    }
+
+    /// Joins a module's group with those of the modules that drive its inputs by shorter delays.
+    fn join_inputs(&self, heads: &mut Vec<u32>, m: u32, inputs: &[Input], cut: u32) {
+        for input in inputs {
+            let driver = home_of(self.modules.as_slice(), input.wire.0);
+            let delay = home_of(self.delays.as_slice(), input.wire.0);
+            if delay < cut {
+                join(heads, m, driver);
+            }
         }
     }
 }
 
-fn place_at(places: &[Place], number: u32) -> Place {
-    match places.get(number as usize) {
-        Some(place) => *place,
-        None => Place {
-            part: 0,
-            before: 0,
-            cut: false,
-        },
+fn note_delays(delays: &mut Vec<u32>, outputs: &[Output]) {
+    for output in outputs {
+        if let Some(wire) = output.wire {
+            put(delays, wire.0, output.delay);
+        }
     }
 }
 
-fn zeros(alloc: Global, count: usize) -> Result<Vec<u32>, AllocError> {
+fn filled(alloc: Global, count: u32, number: u32) -> Result<Vec<u32>, AllocError> {
     let mut list = Vec::new(alloc);
     for _ in 0..count {
-        list.push(0)?;
+        list.push(number)?;
     }
     Ok(list)
 }
 
-/// For each module the first module of its group.
-fn heads_of(alloc: Global, netlist: &Netlist) -> Result<Vec<u32>, AllocError> {
-    let drivers = drivers_of(alloc, netlist)?;
-    let mut heads = Vec::new(alloc);
-    for m in 0..netlist.module_slots() {
-        heads.push(m)?;
-    }
-    for m in 0..netlist.module_slots() {
-        if let Some(found) = netlist.module(ModuleId(m)) {
-            join_inputs(&mut heads, drivers.as_slice(), m, found.inputs.as_slice());
-        }
-    }
-    for m in 0..netlist.module_slots() {
-        let head = head_of(&mut heads, m);
-        put(&mut heads, m, head);
-    }
-    Ok(heads)
-}
-
-/// For each wire the module that drives it.
-fn drivers_of(alloc: Global, netlist: &Netlist) -> Result<Vec<u32>, AllocError> {
-    let mut drivers = Vec::new(alloc);
-    for _w in 0..netlist.wire_slots() {
-        drivers.push(NOWHERE)?;
-    }
-    for m in 0..netlist.module_slots() {
-        if let Some(found) = netlist.module(ModuleId(m)) {
-            note_outputs(&mut drivers, found.outputs.as_slice(), m);
-        }
-    }
-    Ok(drivers)
-}
-
-/// Joins a module's group with those of the modules that drive its inputs.
-fn join_inputs(heads: &mut Vec<u32>, drivers: &[u32], m: u32, inputs: &[Input]) {
-    for input in inputs {
-        let driver = home_of(drivers, input.wire.0);
-        if driver != NOWHERE {
-            join(heads, m, driver);
-        }
-    }
-}
-
+/// Joins the groups of two modules, where both are there.
 fn join(heads: &mut Vec<u32>, one: u32, other: u32) {
+    if other == NOWHERE {
+        return;
+    }
     let one = head_of(heads, one);
     let other = head_of(heads, other);
     if one < other {
@@ -163,45 +142,71 @@ fn put(list: &mut Vec<u32>, place: u32, number: u32) {
     }
 }
 
-/// For the first module of each group where the group is put. The next part is begun where more than half of a group is too much.
-fn places_of(
-    alloc: Global,
-    heads: &[u32],
-    count: u32,
-    share: usize,
-    cut: bool,
-) -> Result<Vec<Place>, AllocError> {
-    let sizes = sizes_of(alloc, heads)?;
-    let mut places = Vec::new(alloc);
-    let mut next = Place {
-        part: 0,
-        before: 0,
-        cut: false,
-    };
-    for size in sizes.as_slice() {
-        let size = *size as usize;
-        let cut = cut && size > share;
-        if !cut && is_too_much(next.before, size, share) && next.part.saturating_add(1) < count {
-            next.part = next.part.saturating_add(1);
-            next.before = 0;
-        }
-        places.push(Place { cut, ..next })?;
-        next = next.behind(size, share, count, cut);
-    }
-    Ok(places)
-}
-
-/// Whether more than half of a group goes beyond the share of a part with this load.
-fn is_too_much(load: usize, size: usize, share: usize) -> bool {
-    load > 0 && load.saturating_mul(2).saturating_add(size) > share.saturating_mul(2)
-}
-
 /// For each module how many its group has, if it is the first of them.
 fn sizes_of(alloc: Global, heads: &[u32]) -> Result<Vec<u32>, AllocError> {
-    let mut sizes = zeros(alloc, heads.len())?;
+    let mut sizes = Vec::new(alloc);
+    for _head in heads {
+        sizes.push(0)?;
+    }
     for head in heads {
         let size = home_of(sizes.as_slice(), *head);
         put(&mut sizes, *head, size.saturating_add(1));
     }
     Ok(sizes)
+}
+
+fn largest(sizes: &[u32]) -> usize {
+    let mut largest = 0u32;
+    for size in sizes {
+        largest = largest.max(*size);
+    }
+    largest as usize
+}
+
+/// For each module the first of its group, where the group fits into a part, and else none.
+fn groups_that_fit(
+    alloc: Global,
+    heads: &[u32],
+    sizes: &[u32],
+    share: usize,
+) -> Result<Vec<u32>, AllocError> {
+    let mut together = Vec::new(alloc);
+    for head in heads {
+        let size = home_of(sizes, *head) as usize;
+        together.push(if size <= share { *head } else { NOWHERE })?;
+    }
+    Ok(together)
+}
+
+/// The parts of modules, group by group in the order of their first modules. The next part is begun where more than half of a group is too
+/// much.
+fn homes_in(
+    alloc: Global,
+    heads: &[u32],
+    count: u32,
+    share: usize,
+) -> Result<Vec<u32>, AllocError> {
+    let sizes = sizes_of(alloc, heads)?;
+    let mut parts = Vec::new(alloc);
+    let mut part = 0u32;
+    let mut load = 0usize;
+    for size in sizes.as_slice() {
+        let size = *size as usize;
+        if is_too_much(load, size, share) && part.saturating_add(1) < count {
+            part = part.saturating_add(1);
+            load = 0;
+        }
+        parts.push(part)?;
+        load = load.saturating_add(size);
+    }
+    let mut homes = Vec::new(alloc);
+    for head in heads {
+        homes.push(home_of(parts.as_slice(), *head))?;
+    }
+    Ok(homes)
+}
+
+/// Whether more than half of a group goes beyond the share of a part with this load.
+fn is_too_much(load: usize, size: usize, share: usize) -> bool {
+    load > 0 && load.saturating_mul(2).saturating_add(size) > share.saturating_mul(2)
 }

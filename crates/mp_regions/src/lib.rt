@@ -1,6 +1,7 @@
 //! Parts of a netlist, which read nothing from each other but on wires that they hear.
 #![tactic(auto)]
 
+mod crossing;
 mod division;
 mod groups;
 mod heard;

@@ -36,7 +36,7 @@ loop-time-preserved g c =
     let low = c.loop-time-test.true in
     let now : c.loop-time.time ≡ knows.before + 1 + (c.loop-time.time - c.args.heading.window.from) = omega (arith, first, later) in
     let near : c.loop-time.time - c.args.heading.window.from < c.args.heading.window.until - c.args.heading.window.from = omega (arith, later, low) in
-    let told = told_then n knows.form knows.homes wires heards knows.parts knows.division heading.by heading.to knows.before span s knows.simulated (omega (arith, first_some, first_short)) (omega (arith, first, first_some, first_within)) k time now near in
+    let told = told_then n knows.form knows.homes wires heards knows.parts knows.division heading.by heading.to knows.before span s knows.simulated knows.delay knows.crossing (omega (arith, first_some, first_short)) (omega (arith, first, first_some, first_within)) k time now near in
     let items : c.add_levels.new.changes.items ≡ c.loop-time.changes.items ++ (toggles_told (heard_by heards heading.to) time (slot_at s.bits.simulator k) ++ levels_told (heard_by heards heading.to) time (data_slot s.wires.wheel k)) =
     c.in_ok-add_levels.ensures
     ∙ ap (λ (xs : List StimulusChange). xs ++ levels_told c.args.heard.now time c.levels_ahead.result.now) c.in_ok-add_toggles.ensures

@@ -1,9 +1,8 @@
-use Rattle.std.proofs.Common.{◌≡◌, ℕ, ◌+◌, ◌-◌, Bool, List, sym, ap, ◌∙◌, subst, arith}
+use Rattle.std.proofs.Common.{◌≡◌, ℕ, ◌+◌, ◌-◌, Bool, List, refl, sym, ap, ◌∙◌, subst, arith}
 use Rattle.std.specs.Prelude.{IfOk}
 use Rattle.mp_netlist.specs.Circuit.{Circuit}
 use Rattle.mp_units.specs.NetlistSimulations.{IsSimulated}
 use Rattle.mp_evaluation.specs.Marks.{is_marked}
-use Rattle.mp_netlist.proofs.DelayLemmas.{delays_are_least}
 use Rattle.mp_regions.specs.Regions.{home_of, region, HasStimuli}
 use Rattle.mp_regions.specs.Divisions.{heard_by}
 use Rattle.mp_regions.proofs.DivisionLemmas.{divided_apart}
@@ -39,7 +38,7 @@ loop-from-init g c =
       later = omega arith;
       within = low;
       horizon = c.horizon-horizon.ensures.value;
-      span = c.least_delay-span.ensures;
+      span = refl;
       under_way = c.in_ok-run.ensures heard 1 (subst (λ (r : Circuit). HasStimuli n r heard) (sym here) (has_stimuli n homes part heard)) (λ w marked. (c.requires.0.division.heard part w marked).unset) (λ w marked. omega arith);
     }
 
@@ -69,6 +68,8 @@ tell-requires-clause-knows g c =
       division = about.division;
       before = c.loop-from.from - 1;
       from = omega (arith, later);
+      delay = c.args.self.division.now.delay;
+      crossing = about.crossing;
       some = omega (arith, low, last, sum, high);
       short = omega (arith, last, sum, span);
       within = omega (arith, last, horizon);
@@ -151,7 +152,7 @@ loop-from-smaller g c =
     let low = c.min-until.ensures in
     let sum = c.saturating_add.ensures in
     let high = c.horizon-horizon.type_inv in
-    let delay = (delays_are_least c.args.self.netlist.now c.horizon-horizon.ensures.form).positive in
+    let delay = c.requires.0.crossing.some in
     omega (arith, span, some, low, sum, high, delay)
 
 pub finish-requires-clause-simulated : goal.finish-requires-clause-simulated

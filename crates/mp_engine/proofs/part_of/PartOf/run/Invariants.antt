@@ -1,5 +1,4 @@
 use Rattle.std.proofs.Common.{◌≡◌, ◌-◌, ◌<◌, ◌≤◌}
-use Rattle.mp_netlist.specs.Delays.{least_delay}
 use Rattle.mp_evaluation.specs.Marks.{is_marked}
 use Rattle.mp_engine.specs.RegionRuns.{IsUnderWay}
 use Rattle.mp_regions.specs.Divisions.{heard_by}
@@ -11,7 +10,7 @@ invariant-loop-from g l = record {
   later : 0 < l.from;
   within : l.from ≤ l.horizon;
   horizon : l.horizon ≡ l.self.netlist.now.horizon;
-  span : l.span ≡ least_delay l.self.netlist.now;
+  span : l.span ≡ l.division.delay;
   under_way : IsUnderWay l.region (is_marked (heard_by l.division.heard.items l.part)) (l.from - 1) l.from l.run;
 }
 
