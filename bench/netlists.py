@@ -1,4 +1,5 @@
 """Netlist texts to measure the program on."""
+import random
 
 
 def control_pipeline(stages, horizon):
@@ -16,6 +17,13 @@ def slow_pipeline(stages, delay, horizon):
     """A control pipeline with a source and a sink of its own, in which all delays are the same."""
     lines = control_pipeline(stages, horizon).splitlines()
     return "\n".join(line.rpartition("/")[0] + f"/{delay}" if "/" in line else line for line in lines) + "\n"
+
+
+def mixed_pipeline(stages, horizon):
+    """The same with delays from 1 to 9, in no order."""
+    lines = control_pipeline(stages, horizon).splitlines()
+    numbers = random.Random(1)
+    return "\n".join(line.rpartition("/")[0] + f"/{numbers.randint(1, 9)}" if "/" in line else line for line in lines) + "\n"
 
 
 def ring(modules, delay, horizon):
