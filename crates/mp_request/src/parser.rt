@@ -153,7 +153,7 @@ fn workers<'a>(alloc: Global) -> Arg<'a> {
 
 fn least<'a>(alloc: Global) -> Arg<'a> {
     let help = "With fewer modules than these the workers are not called on, 1 to 4096";
-    number(alloc, "least", "128", help)
+    number(alloc, "least", "256", help)
 }
 
 /// The option that names the folder of a live desk's pipes.

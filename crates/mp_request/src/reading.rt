@@ -114,7 +114,7 @@ fn request<'a>(command: Command<'a>, found: &ArgMatches<'a>) -> Request<'a>
         command,
         file: path_in(found.get_str("file")),
         workers: found.get_one::<u32>("workers").unwrap_or(2),
-        least: found.get_one::<u32>("least").unwrap_or(128),
+        least: found.get_one::<u32>("least").unwrap_or(256),
         viewers: found.get_one::<u32>("viewers").unwrap_or(2),
     }
 }

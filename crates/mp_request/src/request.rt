@@ -56,7 +56,7 @@ pub struct Request<'a> {
     pub file: Option<&'a str>,
     /// How many workers there are, 2 where none is given.
     pub workers: u32,
-    /// With fewer modules than these the workers are not called on, 128 where none is given.
+    /// With fewer modules than these the workers are not called on, 256 where none is given.
     pub least: u32,
     /// How many viewers a desk has, 2 where none is given.
     pub viewers: u32,
