@@ -1,5 +1,5 @@
 -- What parts of a netlist tell each other is what the simulation of each knows ahead.
-use Rattle.std.proofs.Common.{◌≡◌, ◌≢◌, ◌⊎◌, ℕ, zero, suc, ◌+◌, ◌<◌, ◌≤◌, Bool, true, false, cond, List, [], ◌∷◌, ◌++◌, All, length, slice_index_or, refl, sym, ap, ◌∙◌, arith, subst, inl, inr}
+use Rattle.std.proofs.Common.{◌≡◌, ◌≢◌, ◌⊎◌, ℕ, zero, ◌+◌, ◌<◌, ◌≤◌, Bool, true, false, cond, List, [], ◌∷◌, ◌++◌, All, slice_index_or, refl, sym, ap, ◌∙◌, arith, subst, inl, inr}
 use Rattle.std.specs.Prelude.{◌==◌, ◌&&◌}
 use Rattle.std.specs.List.{count_by}
 use Rattle.std.proofs.lemmas.Bool.{cases_eq, eq-eqb, eqb-true, ne_eqb}
@@ -17,6 +17,7 @@ use Rattle.mp_evaluation.specs.Marks.{is_marked}
 use Rattle.mp_regions.specs.Regions.{home_of}
 use Rattle.mp_engine.specs.declared.letter.Window.{Window}
 use Rattle.mp_engine.specs.Letters.{AreTold, toggles_told, levels_told}
+use Rattle.mp_engine.proofs.CountLemmas.{all_where, all_rest, none_counted}
 
 -- ---- how often a wire is told
 
@@ -75,17 +76,6 @@ levels_counted heard w time (c ∷ cs) =
 
 -- ---- what holds of all that is told
 
-pub all_one : {A : Type 0} (P : A → Type 0) (x : A) → P x → All P (x ∷ [])
-all_one P x p zero d within = p
-all_one P x p (suc k) d within = absurd (omega arith)
-
-all_where : {A : Type 0} (P : A → Type 0) (x : A) (is : Bool) → (is ≡ true → P x) → All P (cond is (x ∷ []) [])
-all_where P x true p = all_one P x (p refl)
-all_where P x false p = λ k d within. absurd (omega arith)
-
-all_rest : {A : Type 0} (P : A → Type 0) (x : A) (xs : List A) → All P (x ∷ xs) → All P xs
-all_rest P x xs all k d within = all (suc k) d (omega arith)
-
 pub toggles_all : (P : StimulusChange → Type 0) (heard : List Bool) (time : ℕ) (ws : List ℕ)
     → All (λ (w : ℕ). is_marked heard w ≡ true → P (record { time = time; wire = w; has_data = false; level = 0 })) ws → All P (toggles_told heard time ws)
 toggles_all P heard time [] each = λ k d within. absurd (omega arith)
@@ -101,26 +91,6 @@ levels_all P heard time (x ∷ xs) each =
     All-append P (cond (is_marked heard x.number) (record { time = time; wire = x.number; has_data = true; level = x.level } ∷ []) []) (levels_told heard time xs)
     (all_where P (record { time = time; wire = x.number; has_data = true; level = x.level }) (is_marked heard x.number) (each zero x (omega arith)))
     (levels_all P heard time xs (all_rest (λ (c : LevelChange). is_marked heard c.number ≡ true → P (record { time = time; wire = c.number; has_data = true; level = c.level })) x xs each))
-
--- what is in a list is counted there
-pub counted : {A : Type 0} (is_it : A → Bool) (xs : List A) (k : ℕ) (d : A) → k < length xs → is_it (slice_index_or xs k d) ≡ true → 0 < count_by is_it xs
-counted is_it [] k d within is = absurd (omega arith)
-counted is_it (x ∷ xs) zero d within is =
-    let more : count_by is_it (x ∷ xs) ≡ cond (is_it x) 1 0 + count_by is_it xs = sum_by-cons (λ y. cond (is_it y) 1 0) x xs in
-    let one : cond {A = ℕ} (is_it x) 1 0 ≡ 1 = ap (λ b. cond b 1 0) is in
-    omega (arith, more, one)
-counted is_it (x ∷ xs) (suc k) d within is =
-    let more : count_by is_it (x ∷ xs) ≡ cond (is_it x) 1 0 + count_by is_it xs = sum_by-cons (λ y. cond (is_it y) 1 0) x xs in
-    let rest = counted is_it xs k d (omega arith) is in
-    omega (arith, more, rest)
-
-pub none_counted : {A : Type 0} (is_it : A → Bool) (xs : List A) → All (λ (x : A). is_it x ≡ false) xs → count_by is_it xs ≡ 0
-none_counted is_it [] none = refl
-none_counted is_it (x ∷ xs) none =
-    let more : count_by is_it (x ∷ xs) ≡ cond (is_it x) 1 0 + count_by is_it xs = sum_by-cons (λ y. cond (is_it y) 1 0) x xs in
-    let first : cond {A = ℕ} (is_it x) 1 0 ≡ 0 = ap (λ b. cond b 1 0) (none zero x (omega arith)) in
-    let rest = none_counted is_it xs (all_rest (λ y. is_it y ≡ false) x xs none) in
-    omega (arith, more, first, rest)
 
 another_time : (w u : ℕ) (s : StimulusChange) → (s.time ≡ u → ⊥) → is_change w u s ≡ false
 another_time w u s apart = rw (ne_eqb s.time u apart) (last_false (s.wire == w))

@@ -1,9 +1,7 @@
 -- What stimuli set in a part of a netlist.
-use Rattle.std.proofs.Common.{◌≡◌, ℕ, zero, suc, ◌+◌, ◌-◌, ◌<◌, ◌≤◌, Bool, true, false, not, cond, List, [], ◌∷◌, Option, Some, None, is_some, All, length, slice_index_or, refl, sym, ap, ◌∙◌, arith, subst}
+use Rattle.std.proofs.Common.{◌≡◌, ℕ, zero, suc, ◌-◌, ◌<◌, ◌≤◌, Bool, true, false, not, List, [], ◌∷◌, Option, Some, None, is_some, All, slice_index_or, refl, sym, ap, ◌∙◌, arith, subst}
 use Rattle.std.specs.Prelude.{◌&&◌, ◌==◌}
-use Rattle.std.specs.List.{count_by}
 use Rattle.std.proofs.lemmas.Bool.{and_parts, eq-eqb}
-use Rattle.std.proofs.lemmas.List.Sums.{sum_by-cons}
 use Rattle.mp_records.specs.declared.wire_record.WireRecord.{WireRecord}
 use Rattle.mp_netlist.specs.Circuit.{Circuit, IsCircuit, wire_at, stimulus_at}
 use Rattle.mp_netlist.specs.Drivers.{driver}
@@ -20,6 +18,7 @@ use Rattle.mp_run.specs.Stimuli.{is_change, AreFrom, AreAhead}
 use Rattle.mp_run.proofs.StimulusLemmas.{no_stimulus}
 use Rattle.mp_regions.specs.Regions.{width_in, HasStimuli}
 use Rattle.mp_evaluation.specs.Marks.{is_marked}
+use Rattle.mp_engine.proofs.CountLemmas.{counted, some_bit}
 use Rattle.mp_engine.specs.RegionRuns.{is_set, AreComing, AreUnset}
 
 -- a wire with a stimulus has the levels that this sets
@@ -77,18 +76,6 @@ module _ (n : Circuit) (ok : IsCircuit n) (r : Circuit) (form : IsCircuit r) (he
       last_true true b one = sym one
       last_true false b one = refl
 
-  -- a change of a list is counted there
-  counted : (is_it : StimulusChange → Bool) (ss : List StimulusChange) (k : ℕ) (d : StimulusChange) → k < length ss → is_it (slice_index_or ss k d) ≡ true → 0 < count_by is_it ss
-  counted is_it [] k d within is = absurd (omega arith)
-  counted is_it (s ∷ ss) zero d within is =
-      let more : count_by is_it (s ∷ ss) ≡ cond (is_it s) 1 0 + count_by is_it ss = sum_by-cons (λ (x : StimulusChange). cond (is_it x) 1 0) s ss in
-      let one : cond {A = ℕ} (is_it s) 1 0 ≡ 1 = ap (λ b. cond b 1 0) is in
-      omega (arith, more, one)
-  counted is_it (s ∷ ss) (suc k) d within is =
-      let more : count_by is_it (s ∷ ss) ≡ cond (is_it s) 1 0 + count_by is_it ss = sum_by-cons (λ (x : StimulusChange). cond (is_it x) 1 0) s ss in
-      let rest = counted is_it ss k d (omega arith) is in
-      omega (arith, more, rest)
-
   all_from : (u : ℕ) (ss : List StimulusChange) → AreFrom u ss → All (λ (s : StimulusChange). u ≤ s.time) ss
   all_from u [] from k d within = absurd (omega arith)
   all_from u (s ∷ ss) from zero d within = from.0
@@ -96,10 +83,6 @@ module _ (n : Circuit) (ok : IsCircuit n) (r : Circuit) (form : IsCircuit r) (he
       let rest = all_from s.time ss from.1 k d (omega arith) in
       let first = from.0 in
       omega arith
-
-  some_bit : (b : Bool) → 0 < bit b → b ≡ true
-  some_bit true some = refl
-  some_bit false some = absurd (omega arith)
 
   right_level : (s : StimulusChange) (o : Option (List (ℕ × ℕ))) → stimulus_at n s.wire ≡ o → is_stimulus (driver n s.wire) ≡ true → level n s.wire s.time ≡ level r s.wire s.time
   right_level s None none drives = absurd (let no : ⊥ = (let never = no_stimulus n ok s.wire none in cc) in no)

@@ -37,7 +37,8 @@ use Rattle.mp_regions.proofs.DivisionLemmas.{divided_apart, divided_closed}
 use Rattle.mp_regions.proofs.PartLemmas.{IsSeen, region_level}
 use Rattle.mp_regions.proofs.RegionLemmas.{length_heard, module_here, drives_here, drives_there, drives_home, region_is, has_stimuli}
 use Rattle.mp_engine.specs.Letters.{toggles_told, levels_told}
-use Rattle.mp_engine.proofs.LetterLemmas.{AreToldAt, toggles_all, levels_all, toggles_counted, levels_counted, counted}
+use Rattle.mp_engine.proofs.LetterLemmas.{AreToldAt, toggles_all, levels_all, toggles_counted, levels_counted}
+use Rattle.mp_engine.proofs.CountLemmas.{counted, some_bit}
 use Rattle.mp_engine.proofs.OwnStimuliLemmas.{by_width}
 
 last_true : (a : Bool) → a ≡ (a && true)
@@ -47,10 +48,6 @@ last_true false = refl
 last_false : (a : Bool) → false ≡ (a && false)
 last_false true = refl
 last_false false = refl
-
-some_bit : (b : Bool) → 0 < bit b → b ≡ true
-some_bit true some = refl
-some_bit false some = absurd (omega arith)
 
 none_last : (a : Bool) → bit (a && false) ≡ 0
 none_last true = refl

@@ -12,6 +12,7 @@ use crate::mail::{LineFrom, LineTo, Mail};
 use crate::marks::no_marks;
 use crossbeam_channel::bounded;
 use mp_netlist::{Netlist, WireId};
+use mp_phase::LOOKS;
 use mp_regions::{Division, heard_by, home_of, is_heard};
 use std::alloc::{AllocError, Global};
 use std::marker::Model;
@@ -38,11 +39,12 @@ impl<J: Subject> Lines<J> {
     ghost use Rattle.std.specs.Prelude.{◌≡◌, ℕ, ◌+◌, IfOk, IfSome, IfNone};
     ghost use Rattle.mp_regions.specs.Divisions.{IsDivision};
 
-    /// A line between any two parts of which one hears of the other.
+    /// A line between any two parts of which one hears of the other. So many parts look for letters before they sleep.
     pub(crate) fn between(
         alloc: Global,
         netlist: &Netlist,
         division: &Division,
+        lookers: usize,
     ) -> Result<Self, AllocError>
         requires netlist { netlist.now ≡ J.netlist }
         requires division { IsDivision J.netlist division.now.homes.items J.wires J.heards division.now.parts }
@@ -59,6 +61,7 @@ impl<J: Subject> Lines<J> {
             let marks = told_by(alloc, netlist, division, part)?;
             mails.push(Mail {
                 part,
+                looks: if (part as usize) < lookers { LOOKS } else { 0 },
                 to: Vec::new(alloc),
                 from: lines_from(alloc, part, marks.as_slice(), &mut to)?,
             })?;
@@ -71,9 +74,19 @@ impl<J: Subject> Lines<J> {
         ensures some { IfSome result (λ mail. (self.old ≡ mail.part + 1) × (self.new ≡ mail.part)) }
         ensures none { IfNone result (self.old ≡ 0) }
     {
-        let Mail { part, from, .. } = self.mails.pop()?;
+        let Mail {
+            part,
+            looks,
+            from,
+            ..
+        } = self.mails.pop()?;
         let to = take_lines(alloc, &mut self.to, part);
-        Some(Mail { part, to, from })
+        Some(Mail {
+            part,
+            looks,
+            to,
+            from,
+        })
     }
 }
 

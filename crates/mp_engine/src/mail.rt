@@ -13,9 +13,6 @@ use std::alloc::{AllocError, Global};
 use std::sync::Wait;
 use std::thread;
 
-/// How often a part looks for a letter before it sleeps. At each look others go first.
-const LOOKS: u32 = 500;
-
 /// A line to another part.
 #[derive(Drop)]
 pub(crate) struct LineTo<J: Subject> {
@@ -30,10 +27,12 @@ pub(crate) struct LineFrom<J: Subject> {
     pub letters: Receiver<Letter<J>>,
 }
 
-/// The lines of a part: to each other that hears of it, and from each of which it hears.
+/// The lines of a part: to each other that hears of it, and from each of which it hears; and how often it looks for a letter before it sleeps. At
+/// each look others go first.
 #[derive(Drop)]
 pub(crate) struct Mail<J: Subject> {
     pub part: u32,
+    pub looks: u32,
     pub to: Vec<LineTo<J>>,
     pub from: Vec<LineFrom<J>>,
     pub ghost once: { IsToldOnce J.netlist J.wires (heard_by J.heards part) (parts_of from.items) },
@@ -88,7 +87,7 @@ impl<J: Subject> Mail<J> {
                 to: self.part,
                 window,
             };
-            let letter = letter_for(rt, &line.letters, heading)?;
+            let letter = letter_for(rt, &line.letters, self.looks, heading)?;
             changes.extend_from_slice(letter.changes.as_slice())?;
         }
         Ok(changes)
@@ -99,12 +98,13 @@ impl<J: Subject> Mail<J> {
 fn letter_for<J: Subject, R: Wait>(
     rt: &R,
     line: &Receiver<Letter<J>>,
+    looks: u32,
     heading: Heading,
 ) -> Result<Letter<J>, AllocError>
     ensures { IfOk result (λ letter. letter.heading ≡ heading) }
 {
     for _ in rt.forever() {
-        let letter = next(rt, line)?;
+        let letter = next(rt, line, looks)?;
         if letter.heading == heading {
             return Ok(letter);
         }
@@ -112,9 +112,13 @@ fn letter_for<J: Subject, R: Wait>(
     unreachable!()
 }
 
-/// The next letter. It is looked for some time before the thread sleeps. Where none comes any more, memory was refused elsewhere.
-fn next<J: Subject, R: Wait>(rt: &R, line: &Receiver<Letter<J>>) -> Result<Letter<J>, AllocError> {
-    for _ in 0..LOOKS {
+/// The next letter. It is looked for so often before the thread sleeps. Where none comes any more, memory was refused elsewhere.
+fn next<J: Subject, R: Wait>(
+    rt: &R,
+    line: &Receiver<Letter<J>>,
+    looks: u32,
+) -> Result<Letter<J>, AllocError> {
+    for _ in 0..looks {
         match line.try_recv(rt) {
             Ok(letter) => return Ok(letter),
             Err(TryRecvError::Disconnected) => return Err(AllocError),

@@ -9,7 +9,7 @@ use crate::lines::Lines;
 use crate::part_of::PartOf;
 use crate::part_run::PartRun;
 use mp_netlist::Netlist;
-use mp_phase::Gate;
+use mp_phase::{Gate, lookers};
 use mp_regions::Division;
 use std::alloc::{AllocError, Global};
 use std::marker::Brand;
@@ -47,7 +47,7 @@ fn run_apart<J: Subject + Send + Sync, R: Threads + Wait + Sync, G: Gate + Sync>
     requires heards { division.now.heard.items ≡ J.heards }
     ensures { IfOk result (λ found. IfSome found (λ runs. AreRuns netlist.now division.now.homes.items division.now.heard.items division.now.parts runs.items)) }
 {
-    let mut lines = Lines::<J>::between(alloc, netlist, division)?;
+    let mut lines = Lines::<J>::between(alloc, netlist, division, lookers(rt))?;
     let first = PartOf {
         netlist,
         division,

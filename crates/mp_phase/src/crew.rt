@@ -106,7 +106,7 @@ impl Crew {
 }
 
 /// How many threads may look for what comes before they sleep: one for each processor.
-fn lookers<R: Threads>(rt: &R) -> usize {
+pub fn lookers<R: Threads>(rt: &R) -> usize {
     match thread::available_parallelism(rt) {
         Ok(processors) => processors.get(),
         Err(_) => 1,

@@ -22,7 +22,7 @@ mod work;
 mod worker;
 
 pub use bad_count::BadCount;
-pub use crew::Crew;
+pub use crew::{Crew, lookers};
 pub use done::Done;
 pub use gate::Gate;
 pub use hands::Hands;
@@ -31,3 +31,4 @@ pub use plan::Plan;
 pub use share::run_here;
 pub use task::Task;
 pub use work::Work;
+pub use worker::LOOKS;
