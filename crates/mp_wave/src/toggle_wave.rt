@@ -1,8 +1,14 @@
 //! The waves of wires of width 1.
-ghost use Rattle.std.specs.Prelude.{◌≡◌, ◌<◌, ◌≤◌, OnOk, OnErr};
+ghost use Rattle.std.specs.Prelude.{◌≡◌, ◌<◌, ◌≤◌, ◌++◌, ◌∷◌, [], OnOk, OnErr};
 
 use std::alloc::{AllocError, Global};
 use std::marker::Model;
+
+/// For how many times room is made at first: as many as fit into the least block that the allocator gives.
+const FIRST_TIMES: usize = 6;
+
+/// For how many times there is room when it is made once more. From then on it doubles.
+const NEXT_TIMES: usize = 16;
 
 /// The wave of a wire of width 1: its level at time 0, and the times at which it toggles, by rising time from 1. Contracts see the wave.
 #[derive(Debug, Drop)]
@@ -72,7 +78,32 @@ impl ToggleWave {
         ensures ok { OnOk result (self.new ≡ toggled_at self.old time) }
         ensures err { OnErr result (self.new ≡ self.old) }
     {
-        self.times.push(time)?;
+        push_time(&mut self.times, time)?;
         Ok(())
     }
+}
+
+/// One time more.
+#[inline(always)]
+fn push_time(times: &mut Vec<u32>, time: u32) -> Result<(), AllocError>
+    ensures ok { OnOk result (times.new.items ≡ times.old.items ++ time ∷ []) }
+    ensures err { OnErr result (times.new.items ≡ times.old.items) }
+{
+    if times.len() == times.capacity() {
+        grow(times)?;
+    }
+    times.push(time)?;
+    Ok(())
+}
+
+/// Makes room for more times.
+#[cold]
+#[inline(never)]
+fn grow(times: &mut Vec<u32>) -> Result<(), AllocError>
+    ensures { times.new.items ≡ times.old.items }
+{
+    if times.is_empty() {
+        return times.reserve(FIRST_TIMES);
+    }
+    times.reserve(NEXT_TIMES - FIRST_TIMES)
 }
