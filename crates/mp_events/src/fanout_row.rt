@@ -1,13 +1,17 @@
 //! The inputs that read one wire.
 
 use crate::fanout_entry::FanoutEntry;
+use smallvec::SmallVec;
 use std::alloc::{AllocError, Global};
 use std::marker::Model;
+
+/// How many inputs stand in place. Most wires have no more readers.
+const IN_PLACE: usize = 2;
 
 /// The inputs of modules of width 1 that read one wire.
 #[derive(Drop)]
 pub struct FanoutRow {
-    entries: Vec<FanoutEntry>,
+    entries: SmallVec<FanoutEntry, IN_PLACE>,
 }
 
 impl Model for FanoutRow {
@@ -27,7 +31,7 @@ impl FanoutRow {
         ensures { result ≡ [] }
     {
         FanoutRow {
-            entries: Vec::new(alloc),
+            entries: SmallVec::new(alloc),
         }
     }
 
