@@ -61,6 +61,9 @@ impl LevelSlot {
     pub fn extend_from_slice(&mut self, changes: &[LevelChange]) -> Result<(), AllocError>
         ensures { OnOk result (self.new ≡ self.old ++ changes.now) }
     {
+        if changes.is_empty() {
+            return Ok(());
+        }
         self.changes.extend_from_slice(changes)?;
         Ok(())
     }

@@ -59,6 +59,9 @@ impl EventSlot {
     pub fn extend_from_slice(&mut self, wires: &[u32]) -> Result<(), AllocError>
         ensures { OnOk result (self.new ≡ self.old ++ wires.now) }
     {
+        if wires.is_empty() {
+            return Ok(());
+        }
         self.wires.extend_from_slice(wires)?;
         Ok(())
     }
