@@ -11,6 +11,7 @@ use mp_simulate::find_waves;
 use mp_streams::{Out, Sink};
 use mp_views::{Evaluated, View};
 use std::alloc::Global;
+use std::mem::forget;
 use std::sync::Wait;
 use std::thread::Threads;
 
@@ -60,11 +61,17 @@ impl<V: View> Command for Viewed<V> {
             return Err(RunFault::NoSuchWire(place));
         }
         let waves = find_waves(alloc, &netlist)?;
-        let of = Evaluated {
-            netlist: &netlist,
-            waves: &waves,
-            crew,
+        let put = {
+            let of = Evaluated {
+                netlist: &netlist,
+                waves: &waves,
+                crew,
+            };
+            view.put(rt, alloc, out, &of)
         };
-        Ok(view.put(rt, alloc, out, &of)?)
+        // the run is over: all memory goes back to the system at once
+        forget(waves);
+        forget(netlist);
+        Ok(put?)
     }
 }
