@@ -99,7 +99,7 @@ impl<S: Sink> Out<S> {
     }
 
     /// Writes the text of the piece, where it stands in the buffer. `Failed` is as that of `put_bytes`.
-    #[inline]
+    #[inline(always)]
     pub fn put_piece<P: Piece>(&mut self, piece: &P) -> Result<(), Failed>
         ensures { Writes result self.old self.new (P.text piece.now) }
     {
