@@ -30,9 +30,10 @@ fn fire_data_module(
     let before = state.outputs;
     state.step(levels);
     let level = state.outputs.first;
-    let turns = before.first != level;
-    schedule_level_if(turns, state.ports.level, level, changes)?;
-    schedule_if(turns, state.ports.bits.first, events)?;
+    if before.first != level {
+        schedule_level_if(true, state.ports.level, level, changes)?;
+        schedule_if(true, state.ports.bits.first, events)?;
+    }
     schedule_if(
         before.second != state.outputs.second,
         state.ports.bits.second,
