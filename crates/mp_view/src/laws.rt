@@ -1,0 +1,22 @@
+//! What the view of a netlist has of it.
+
+ghost use Rattle.mp_view.specs.Views.{ViewsAreCircuits, ViewsHaveLevels, ViewsHaveStates, OffWiresRest, ViewsHaveDecided, ViewsHaveDrivers};
+
+/// Where all ports of active modules are at wires that are on, the view is a netlist.
+pub fn views_are_circuits()
+    ensures { ViewsAreCircuits }
+{}
+
+/// Below the horizon the levels of wires that are on, and the states of active modules, are those of the netlist; and levels that rest on
+/// such states are, at whatever time. A wire that is off stays at its initial level.
+pub fn views_show()
+    ensures levels { ViewsHaveLevels }
+    ensures states { ViewsHaveStates }
+    ensures decided { ViewsHaveDecided }
+    ensures off { OffWiresRest }
+{}
+
+/// An active port drives its wire; any other wire that is on and that a port drives has a stimulus; nothing drives a wire that is off.
+pub fn views_have_drivers()
+    ensures { ViewsHaveDrivers }
+{}
