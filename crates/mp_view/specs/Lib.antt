@@ -1,1 +1,4 @@
 pub mod Views
+pub mod Numberings
+pub mod Levels
+pub mod Showing

@@ -1,6 +1,7 @@
-//! What the view of a netlist has of it.
+//! What the view of a netlist has of it, and how a simulation goes from one view to another.
 
 ghost use Rattle.mp_view.specs.Views.{ViewsAreCircuits, ViewsHaveLevels, ViewsHaveStates, OffWiresRest, ViewsHaveDecided, ViewsHaveDrivers};
+ghost use Rattle.mp_view.specs.Showing.{ShowingSimulates, SimulationsShow};
 
 /// Where all ports of active modules are at wires that are on, the view is a netlist.
 pub fn views_are_circuits()
@@ -19,4 +20,10 @@ pub fn views_show()
 /// An active port drives its wire; any other wire that is on and that a port drives has a stimulus; nothing drives a wire that is off.
 pub fn views_have_drivers()
     ensures { ViewsHaveDrivers }
+{}
+
+/// Below the horizon a simulation of a view is one that has, in a numbering, the active modules of the netlist and its wires that are on.
+pub fn views_are_simulated()
+    ensures simulates { ShowingSimulates }
+    ensures shows { SimulationsShow }
 {}
