@@ -6,3 +6,4 @@ pub mod PlaceLemmas
 pub mod StateLemmas
 pub mod ShownLemmas
 pub mod SimulatedLemmas
+pub mod StartingLemmas

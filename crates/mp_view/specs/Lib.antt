@@ -2,3 +2,4 @@ pub mod Views
 pub mod Numberings
 pub mod Levels
 pub mod Showing
+pub mod Starting

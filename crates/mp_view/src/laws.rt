@@ -2,6 +2,7 @@
 
 ghost use Rattle.mp_view.specs.Views.{ViewsAreCircuits, ViewsHaveLevels, ViewsHaveStates, OffWiresRest, ViewsHaveDecided, ViewsHaveDrivers};
 ghost use Rattle.mp_view.specs.Showing.{ShowingSimulates, SimulationsShow};
+ghost use Rattle.mp_view.specs.Starting.{StartsShow, StartsAreSimulated, RegionsAreViews};
 
 /// Where all ports of active modules are at wires that are on, the view is a netlist.
 pub fn views_are_circuits()
@@ -26,4 +27,12 @@ pub fn views_have_drivers()
 pub fn views_are_simulated()
     ensures simulates { ShowingSimulates }
     ensures shows { SimulationsShow }
+{}
+
+/// At time 0 it doesn't matter which wires are on. A part of a netlist that hears each wire that a module elsewhere drives is the view of
+/// its modules in which all wires are on.
+pub fn starts()
+    ensures show { StartsShow }
+    ensures simulated { StartsAreSimulated }
+    ensures regions { RegionsAreViews }
 {}
