@@ -7,3 +7,4 @@ pub mod StateLemmas
 pub mod ShownLemmas
 pub mod SimulatedLemmas
 pub mod StartingLemmas
+pub mod SettingLemmas

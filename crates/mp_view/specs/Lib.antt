@@ -3,3 +3,4 @@ pub mod Numberings
 pub mod Levels
 pub mod Showing
 pub mod Starting
+pub mod Setting

@@ -3,6 +3,7 @@
 ghost use Rattle.mp_view.specs.Views.{ViewsAreCircuits, ViewsHaveLevels, ViewsHaveStates, OffWiresRest, ViewsHaveDecided, ViewsHaveDrivers};
 ghost use Rattle.mp_view.specs.Showing.{ShowingSimulates, SimulationsShow};
 ghost use Rattle.mp_view.specs.Starting.{StartsShow, StartsAreSimulated, RegionsAreViews};
+ghost use Rattle.mp_view.specs.Setting.{SetsAreStimuli};
 
 /// Where all ports of active modules are at wires that are on, the view is a netlist.
 pub fn views_are_circuits()
@@ -35,4 +36,9 @@ pub fn starts()
     ensures show { StartsShow }
     ensures simulated { StartsAreSimulated }
     ensures regions { RegionsAreViews }
+{}
+
+/// The changes of the wires that are on and that no active module drives are what stimuli change in the view.
+pub fn sets_are_stimuli()
+    ensures { SetsAreStimuli }
 {}
