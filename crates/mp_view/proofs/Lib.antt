@@ -8,3 +8,5 @@ pub mod ShownLemmas
 pub mod SimulatedLemmas
 pub mod StartingLemmas
 pub mod SettingLemmas
+pub mod KeptLemmas
+pub mod LeavingLemmas

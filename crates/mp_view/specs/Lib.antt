@@ -4,3 +4,4 @@ pub mod Levels
 pub mod Showing
 pub mod Starting
 pub mod Setting
+pub mod Leaving

@@ -4,6 +4,7 @@ ghost use Rattle.mp_view.specs.Views.{ViewsAreCircuits, ViewsHaveLevels, ViewsHa
 ghost use Rattle.mp_view.specs.Showing.{ShowingSimulates, SimulationsShow};
 ghost use Rattle.mp_view.specs.Starting.{StartsShow, StartsAreSimulated, RegionsAreViews};
 ghost use Rattle.mp_view.specs.Setting.{SetsAreStimuli};
+ghost use Rattle.mp_view.specs.Leaving.{LeavingShows};
 
 /// Where all ports of active modules are at wires that are on, the view is a netlist.
 pub fn views_are_circuits()
@@ -41,4 +42,9 @@ pub fn starts()
 /// The changes of the wires that are on and that no active module drives are what stimuli change in the view.
 pub fn sets_are_stimuli()
     ensures { SetsAreStimuli }
+{}
+
+/// A module is put to sleep between two units: the wheels keep nothing of its wires.
+pub fn leaving()
+    ensures { LeavingShows }
 {}

@@ -1,0 +1,281 @@
+-- What a simulation has when a module is put to sleep.
+use Rattle.std.proofs.Common.{◌≡◌, ℕ, ◌+◌, ◌<◌, ◌≤◌, Bool, true, false, not, cond, nat_lt, List, [], Option, Some, None, is_some, All, length, slice_index_or, refl, ap, sym, subst, ◌∙◌, arith, inl, inr}
+use Rattle.std.specs.Prelude.{◌&&◌, ◌==◌}
+use Rattle.std.proofs.lemmas.Bool.{cases_Bool, cases_lt, and_parts, eqb-true, le-ltb}
+use Rattle.std.proofs.lemmas.List.{get_or_past}
+use Rattle.std.proofs.lemmas.Option.{none-some}
+use Rattle.mp_records.specs.declared.module_record.ModuleRecord.{ModuleRecord}
+use Rattle.mp_netlist.specs.declared.driver.Driver.{Driver}
+use Rattle.mp_netlist.specs.declared.driver.Driver.TheVariants.{Nothing, Stimulus, Port}
+use Rattle.mp_netlist.specs.Circuit.{Circuit, IsCircuit, module_at}
+use Rattle.mp_netlist.specs.Drivers.{driver}
+use Rattle.mp_model.specs.Evaluations.{delay_in}
+use Rattle.mp_automata.specs.Codes.{bit}
+use Rattle.mp_events.specs.declared.fanout_entry.FanoutEntry.{FanoutEntry}
+use Rattle.mp_events.specs.Adding.{listed, state_at}
+use Rattle.mp_events.specs.Firing.{HasSlot, HaveSlots}
+use Rattle.mp_events.specs.Toggling.{wave_at}
+use Rattle.mp_core.specs.declared.simulator.Simulator.{Simulator}
+use Rattle.mp_core.specs.declared.delayed_copies.DelayedCopies.{DelayedCopies}
+use Rattle.mp_core.specs.Changes.{change_at}
+use Rattle.mp_core.specs.Simulators.{slot_at, IsSound}
+use Rattle.mp_core.specs.Traces.{IsTrace}
+use Rattle.mp_core.specs.Simulations.{AreSoundCopies, IsFrom, IsSoundRun}
+use Rattle.mp_data.specs.DataFiring.{place_at, ArePlaced}
+use Rattle.mp_units.specs.declared.data_modules.DataModules.{DataModules}
+use Rattle.mp_units.specs.declared.data_wires.DataWires.{DataWires}
+use Rattle.mp_units.specs.declared.netlist_simulation.NetlistSimulation.{NetlistSimulation}
+use Rattle.mp_units.specs.DataLevels.{is_data, is_bit_wire, changes_of}
+use Rattle.mp_units.specs.DataWheels.{data_slot}
+use Rattle.mp_view.specs.Numberings.{Numbering, place_in, place_of}
+use Rattle.mp_view.specs.Levels.{shown_level, shown_change, shown_delay, shown_ahead, IsEventShown, IsCopyShown, IsChangeShown}
+use Rattle.mp_view.specs.Showing.{IsSeatShown, IsAsleep, AreBitsShown, AreWiresShown, IsDataSeatShown, AreModulesShown, Shows}
+use Rattle.mp_view.specs.Leaving.{without_module, is_port_of, HasLeft, LeavingShows}
+use Rattle.mp_view.proofs.PlaceLemmas.{placed}
+use Rattle.mp_view.proofs.KeptLemmas.{numbers_kept, copies_undriven}
+use Rattle.mp_view.proofs.StateLemmas.{asleep_rests, adding_new, units_new, numbered_new}
+
+none_here : (a : Bool) → (a && false) ≡ false
+none_here true = refl
+none_here false = refl
+
+all_here : (a : Bool) → (a && true) ≡ a
+all_here true = refl
+all_here false = refl
+
+not_true : (b : Bool) → not b ≡ true → b ≡ false
+not_true true is = sym is
+not_true false is = refl
+
+module _ (n : Circuit) (ok : IsCircuit n) (active on : ℕ → Bool) (numbering : Numbering) (m t : ℕ) (s new : NetlistSimulation)
+    (shown : Shows n active on numbering t s) (left : HasLeft n numbering m t s new) where
+  abbrev numbers : ℕ
+  numbers = length s.bits.simulator.fanout
+
+  abbrev mid : Simulator
+  mid = record (s.bits.simulator) { states = new.bits.simulator.states; wheel = new.bits.simulator.wheel }
+
+  abbrev mid_wires : DataWires
+  mid_wires = record (s.wires) { wheel = new.wires.wheel }
+
+  abbrev mid_modules : DataModules
+  mid_modules = record (s.modules) { places = new.modules.places }
+
+  -- ---- who is active
+  record IsOther (k : ℕ) : Type 0 where
+    pub awake : active k ≡ true
+    pub other : (k == m) ≡ false
+
+  other_is : (k : ℕ) → without_module active m k ≡ true → IsOther k
+  other_is k is = let parts = and_parts (active k) (not (k == m)) is in record { awake = parts.0; other = not_true (k == m) parts.1 }
+
+  same_else : (k : ℕ) → (k == m) ≡ false → without_module active m k ≡ active k
+  same_else k other = ap (λ b. active k && not b) other ∙ all_here (active k)
+
+  gone : (k : ℕ) → (k == m) ≡ true → without_module active m k ≡ false
+  gone k here = ap (λ b. active k && not b) here ∙ none_here (active k)
+
+  place_else : (k : ℕ) → (k == m) ≡ false → place_of n (without_module active m) k ≡ place_of n active k
+  place_else k other = ap (λ b. place_in n b k (module_at n k)) (same_else k other)
+
+  -- ---- soundness
+  same_fanout : new.bits.simulator.fanout ≡ s.bits.simulator.fanout
+  same_fanout = ap (λ (x : Simulator). x.fanout) left.simulator
+
+  none_waved : (w k : ℕ) → length s.bits.simulator.waves.items ≤ w → listed w (slice_index_or new.bits.simulator.wheel k []) ≡ 0
+  none_waved w k past = elim (cases_lt k (length s.bits.simulator.wheel)) as (λ _. listed w (slice_index_or new.bits.simulator.wheel k []) ≡ 0) [
+    | inl within ↦ left.events w k within ∙ by (is_port_of m (driver n w))
+    | inr beyond ↦ ap (listed w) (get_or_past new.bits.simulator.wheel k [] (let same = left.units in omega (arith, beyond, same)))
+  ]
+    where
+      by : (b : Bool) → cond b 0 (listed w (slot_at s.bits.simulator k)) ≡ 0
+      by true = refl
+      by false = shown.bits.sound.simulator.waved w k past
+
+  sound_mid : IsSound mid
+  sound_mid =
+      let old = shown.bits.sound.simulator in
+      let rest = asleep_rests (state_at new.bits.simulator.states.items m) left.sleeps in
+      record {
+        units = units_new s.bits.simulator.states.items new.bits.simulator.states.items s.bits.simulator.due.items m old.events shown.bits.idle rest left.other_states old.units;
+        numbered = numbered_new s.bits.simulator.states.items new.bits.simulator.states.items s.bits.simulator.due.items m old.events shown.bits.idle rest left.other_states old.units left.states old.numbered;
+        events = adding_new s.bits.simulator.states.items new.bits.simulator.states.items s.bits.simulator.due.items m old.events shown.bits.idle rest left.other_states;
+        levels = old.levels ∙ sym left.states;
+        outputs = old.outputs ∙ sym left.states;
+        rows = old.rows;
+        placed = λ x k d within. let low = old.placed x k d within in let same = left.states in omega (arith, low, same);
+        eventful = old.eventful;
+        some = let some = old.some in let same = left.units in omega (arith, some, same);
+        within = subst (λ k. All (HaveSlots k) s.bits.simulator.outputs.items) (sym left.units) old.within;
+        driven = old.driven;
+        waved = none_waved;
+      }
+
+  sound_run : IsSoundRun new.bits
+  sound_run = record {
+    simulator = subst IsSound (sym left.simulator) sound_mid;
+    copies = subst (λ (rows : List (List FanoutEntry)). AreSoundCopies (length rows) new.bits.copies) (sym same_fanout)
+        (subst (λ (c : DelayedCopies). AreSoundCopies numbers c) (sym left.copies) shown.bits.sound.copies);
+    behind = subst (λ (x : Simulator). All (IsFrom (length x.waves.items)) new.bits.copies.next.items) (sym left.simulator)
+        (subst (λ (c : DelayedCopies). All (IsFrom (length s.bits.simulator.waves.items)) c.next.items) (sym left.copies) shown.bits.sound.behind);
+  }
+
+  -- ---- modules and wires of width 1
+  seat_kept : (k : ℕ) (r : ModuleRecord) → module_at n k ≡ Some r → place_of n (without_module active m) k ≡ Some k → IsSeatShown n numbering t k r new.bits.simulator
+  seat_kept k r at place =
+      let here = other_is k (placed n (without_module active m) k k r at place).awake in
+      let seat = shown.bits.seats k r at (sym (place_else k here.other) ∙ place) in
+      subst (λ (x : Simulator). IsSeatShown n numbering t k r x) (sym left.simulator)
+      (record { reads = seat.reads; numbers = seat.numbers; drives = seat.drives; word = left.other_states k here.other ∙ seat.word; levels = seat.levels })
+
+  asleep_left : (q : ℕ) → q < length n.modules → place_of n (without_module active m) q ≡ None → IsAsleep (state_at new.bits.simulator.states.items q)
+  asleep_left q within none = elim (cases_Bool (q == m)) as (λ _. IsAsleep (state_at new.bits.simulator.states.items q)) [
+    | inl here ↦ subst (λ k. IsAsleep (state_at new.bits.simulator.states.items k)) (sym (eqb-true q m here)) left.sleeps
+    | inr other ↦ subst IsAsleep (sym (left.other_states q other)) (shown.bits.asleep q within (sym (place_else q other) ∙ none))
+  ]
+
+  -- how far the changes of a wire are known
+  delay_left : (d : Driver) (k : ℕ) (b : Bool) → is_port_of m d ≡ b → cond b 0 (shown_delay n active d) ≡ shown_delay n (without_module active m) d
+  delay_left Nothing k true is = refl
+  delay_left Nothing k false is = refl
+  delay_left Stimulus k true is = refl
+  delay_left Stimulus k false is = refl
+  delay_left (Port j p) k true is = sym (ap (λ b. cond b (delay_in (module_at n j.0) p) 0) (gone j.0 is))
+  delay_left (Port j p) k false is = sym (ap (λ b. cond b (delay_in (module_at n j.0) p) 0) (same_else j.0 is))
+
+  -- where a port of the module drives, nothing is left
+  left_by : (known : Bool) (k : ℕ) (d : Driver) (count : ℕ) (b : Bool) → is_port_of m d ≡ b → count ≡ bit (known && nat_lt k (shown_delay n active d)) →
+      cond b 0 count ≡ bit (known && nat_lt k (shown_delay n (without_module active m) d))
+  left_by known k d count true is same =
+      sym (ap bit (none_here known)) ∙ ap (λ b. bit (known && b)) (sym (le-ltb k 0 (omega arith))) ∙ ap (λ x. bit (known && nat_lt k x)) (delay_left d k true is)
+  left_by known k d count false is same = same ∙ ap (λ x. bit (known && nat_lt k x)) (delay_left d k false is)
+
+  event_left : (w k : ℕ) → k < length new.bits.simulator.wheel → IsEventShown n (without_module active m) t new.bits.simulator w k
+  event_left w k within =
+      let inside : k < length s.bits.simulator.wheel = let same = left.units in omega (arith, within, same) in
+      left.events w k inside
+      ∙ left_by (change_at n w (t + 1 + k) && is_bit_wire n w) k (driver n w) (listed w (slot_at s.bits.simulator k)) (is_port_of m (driver n w)) refl (shown.bits.events w k inside)
+
+  copy_kept : (x k : ℕ) → k < length new.bits.copies.wheel → IsCopyShown n on numbering t new.bits.copies x k
+  copy_kept x k within =
+      let same = ap (λ (c : DelayedCopies). length c.wheel) left.copies in
+      subst (λ (c : DelayedCopies). IsCopyShown n on numbering t c x k) (sym left.copies) (shown.bits.copies x k (omega (arith, within, same)))
+
+  bits_left : AreBitsShown n (without_module active m) on numbering t new
+  bits_left = record {
+    sound = sound_run;
+    places = left.states ∙ shown.bits.places;
+    wires = ap (λ (x : Simulator). length x.waves.items) left.simulator ∙ shown.bits.wires;
+    idle = ap (λ (x : Simulator). x.due.items) left.simulator ∙ shown.bits.idle;
+    seats = seat_kept;
+    asleep = asleep_left;
+    traces = λ w narrow. subst (λ (x : Simulator). IsTrace (shown_level n on w) t (wave_at x.waves.items w)) (sym left.simulator) (shown.bits.traces w narrow);
+    room = λ w p k r drives awake at.
+        let same = left.units in let enough = shown.bits.room w p k r drives (other_is k.0 awake).awake at in omega (arith, same, enough);
+    events = event_left;
+    copies = copy_kept;
+  }
+
+  -- ---- wires with data
+  change_by : (x k : ℕ) (o : Option ℕ) → x < numbers → k < length s.wires.wheel → numbering.data_before x ≡ o →
+      cond (is_port_of m (driver n x)) 0 (changes_of x (data_slot s.wires.wheel k))
+      ≡ bit ((shown_change n on (numbering.source x) (t + 1 + k) && is_data n (numbering.source x).0) && nat_lt k (shown_ahead n (without_module active m) s.wires.next.items x o))
+  change_by x k None low within none =
+      left_by (shown_change n on (numbering.source x) (t + 1 + k) && is_data n (numbering.source x).0) k (driver n x) (changes_of x (data_slot s.wires.wheel k)) (is_port_of m (driver n x)) refl
+      (shown.wires.changes x k low within
+      ∙ ap (λ (o : Option ℕ). bit ((shown_change n on (numbering.source x) (t + 1 + k) && is_data n (numbering.source x).0) && nat_lt k (shown_ahead n active s.wires.next.items x o))) none)
+  change_by x k (Some y) low within after =
+      ap (λ b. cond b 0 (changes_of x (data_slot s.wires.wheel k))) (copies_undriven n ok numbering s shown.numbers m x y after)
+      ∙ shown.wires.changes x k low within
+      ∙ ap (λ (o : Option ℕ). bit ((shown_change n on (numbering.source x) (t + 1 + k) && is_data n (numbering.source x).0) && nat_lt k (shown_ahead n active s.wires.next.items x o))) after
+
+  change_left : (x k : ℕ) → x < numbers → k < length new.wires.wheel → IsChangeShown n (without_module active m) on numbering s.wires.next.items t new.wires.wheel x k
+  change_left x k low within =
+      let inside : k < length s.wires.wheel = let same = left.change_units in omega (arith, within, same) in
+      left.changes x k low inside ∙ change_by x k (numbering.data_before x) low inside refl
+
+  wires_mid : AreWiresShown n (without_module active m) on numbering numbers t mid_wires
+  wires_mid =
+      let old = shown.wires in
+      record {
+        places = old.places;
+        next = old.next;
+        chained = old.chained;
+        below = old.below;
+        within = subst (λ k. All (HasSlot k) s.wires.next.items) (sym left.change_units) old.within;
+        some = let some = old.some in let same = left.change_units in omega (arith, some, same);
+        numbered = left.numbered;
+        changes = change_left;
+        change_levels = left.change_levels;
+        levels = old.levels;
+        wires = old.wires;
+        waves = old.waves;
+        over = old.over;
+      }
+
+  -- ---- modules with data
+  kept_place : (q k : ℕ) → place_at new.modules.places.items q ≡ Some k → ((q == m) ≡ false) × (place_at s.modules.places.items q ≡ Some k)
+  kept_place q k at = elim (cases_Bool (q == m)) as (λ _. ((q == m) ≡ false) × (place_at s.modules.places.items q ≡ Some k)) [
+    | inl here ↦ absurd (none-some k (sym (subst (λ j. place_at new.modules.places.items j ≡ None) (sym (eqb-true q m here)) left.no_place) ∙ at))
+    | inr other ↦ (other, sym (left.other_places q other) ∙ at)
+  ]
+
+  placed_mid : ArePlaced new.modules.places.items (length s.modules.modules.items)
+  placed_mid = record {
+    below = λ q k at. shown.modules.placed.below q k (kept_place q k at).1;
+    own = λ q p k at too. shown.modules.placed.own q p k (kept_place q k at).1 (kept_place p k too).1;
+  }
+
+  data_seat_kept : (q k : ℕ) → place_at new.modules.places.items q ≡ Some k →
+      IsDataSeatShown n (without_module active m) numbering numbers (length s.bits.simulator.wheel) (length s.wires.wheel) t q k mid_modules
+  data_seat_kept q k at =
+      let kept = kept_place q k at in
+      let is = shown.modules.seats q k kept.1 in
+      let seat = is.seat in
+      record {
+        awake = same_else q kept.0 ∙ is.awake;
+        seat = record {
+          record_of = seat.record_of;
+          stands = seat.stands;
+          inactive = place_else q kept.0 ∙ seat.inactive;
+          does = seat.does;
+          outputs = seat.outputs;
+          sources = seat.sources;
+          reads = seat.reads;
+          low = seat.low;
+          bits = seat.bits;
+          level = seat.level;
+          first = seat.first;
+          fit = seat.fit;
+        };
+      }
+
+  modules_mid : AreModulesShown n (without_module active m) numbering numbers (length s.bits.simulator.wheel) (length s.wires.wheel) t mid_modules
+  modules_mid = record {
+    long = left.places ∙ shown.modules.long;
+    placed = placed_mid;
+    fit = shown.modules.fit;
+    seats = data_seat_kept;
+    whole = λ k r at awake none.
+        let here = other_is k awake in
+        ap (is_some {T = ℕ}) (left.other_places k here.other) ∙ shown.modules.whole k r at here.awake (sym (place_else k here.other) ∙ none);
+  }
+
+  leaving : Shows n (without_module active m) on numbering t new
+  leaving =
+      let kept : AreModulesShown n (without_module active m) numbering numbers (length new.bits.simulator.wheel) (length new.wires.wheel) t new.modules =
+      subst (λ (x : DataModules). AreModulesShown n (without_module active m) numbering numbers (length new.bits.simulator.wheel) (length new.wires.wheel) t x) (sym left.modules)
+      (subst (λ k. AreModulesShown n (without_module active m) numbering numbers k (length new.wires.wheel) t mid_modules) (sym left.units)
+      (subst (λ k. AreModulesShown n (without_module active m) numbering numbers (length s.bits.simulator.wheel) k t mid_modules) (sym left.change_units) modules_mid)) in
+      let wires : AreWiresShown n (without_module active m) on numbering numbers t new.wires =
+      subst (λ (x : DataWires). AreWiresShown n (without_module active m) on numbering numbers t x) (sym left.wires) wires_mid in
+      record {
+        numbers = numbers_kept n numbering s new same_fanout (ap (λ (c : DelayedCopies). c.next.items) left.copies) shown.numbers;
+        bits = bits_left;
+        wires = subst (λ (rows : List (List FanoutEntry)). AreWiresShown n (without_module active m) on numbering (length rows) t new.wires) (sym same_fanout) wires;
+        modules = subst (λ (rows : List (List FanoutEntry)). AreModulesShown n (without_module active m) numbering (length rows) (length new.bits.simulator.wheel) (length new.wires.wheel) t new.modules)
+            (sym same_fanout) kept;
+      }
+
+pub leaving_shows : LeavingShows
+leaving_shows = leaving
