@@ -10,3 +10,4 @@ pub mod StartingLemmas
 pub mod SettingLemmas
 pub mod KeptLemmas
 pub mod LeavingLemmas
+pub mod TurningLemmas

@@ -5,3 +5,4 @@ pub mod Showing
 pub mod Starting
 pub mod Setting
 pub mod Leaving
+pub mod Turning

@@ -4,6 +4,7 @@ ghost use Rattle.mp_view.specs.Views.{ViewsAreCircuits, ViewsHaveLevels, ViewsHa
 ghost use Rattle.mp_view.specs.Showing.{ShowingSimulates, SimulationsShow};
 ghost use Rattle.mp_view.specs.Starting.{StartsShow, StartsAreSimulated, RegionsAreViews};
 ghost use Rattle.mp_view.specs.Setting.{SetsAreStimuli};
+ghost use Rattle.mp_view.specs.Turning.{TurningShows};
 ghost use Rattle.mp_view.specs.Leaving.{LeavingShows};
 
 /// Where all ports of active modules are at wires that are on, the view is a netlist.
@@ -42,6 +43,11 @@ pub fn starts()
 /// The changes of the wires that are on and that no active module drives are what stimuli change in the view.
 pub fn sets_are_stimuli()
     ensures { SetsAreStimuli }
+{}
+
+/// A wire that is off is turned on between two units: it and its delayed copies get their levels, what is in flight, and the wire its wave.
+pub fn turning()
+    ensures { TurningShows }
 {}
 
 /// A module is put to sleep between two units: the wheels keep nothing of its wires.
