@@ -11,3 +11,4 @@ pub mod SettingLemmas
 pub mod KeptLemmas
 pub mod LeavingLemmas
 pub mod TurningLemmas
+pub mod ActivatingLemmas

@@ -6,3 +6,4 @@ pub mod Starting
 pub mod Setting
 pub mod Leaving
 pub mod Turning
+pub mod Activating

@@ -6,6 +6,7 @@ ghost use Rattle.mp_view.specs.Starting.{StartsShow, StartsAreSimulated, Regions
 ghost use Rattle.mp_view.specs.Setting.{SetsAreStimuli};
 ghost use Rattle.mp_view.specs.Turning.{TurningShows};
 ghost use Rattle.mp_view.specs.Leaving.{LeavingShows};
+ghost use Rattle.mp_view.specs.Activating.{ActivatingShows};
 
 /// Where all ports of active modules are at wires that are on, the view is a netlist.
 pub fn views_are_circuits()
@@ -48,6 +49,11 @@ pub fn sets_are_stimuli()
 /// A wire that is off is turned on between two units: it and its delayed copies get their levels, what is in flight, and the wire its wave.
 pub fn turning()
     ensures { TurningShows }
+{}
+
+/// A module becomes active between two units: it gets its state, and the wheels get the changes of its wires that rest on states up to then.
+pub fn activating()
+    ensures { ActivatingShows }
 {}
 
 /// A module is put to sleep between two units: the wheels keep nothing of its wires.
