@@ -12,3 +12,4 @@ pub mod KeptLemmas
 pub mod LeavingLemmas
 pub mod TurningLemmas
 pub mod ActivatingLemmas
+pub mod RenumberingLemmas

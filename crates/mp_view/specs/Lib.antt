@@ -7,3 +7,4 @@ pub mod Setting
 pub mod Leaving
 pub mod Turning
 pub mod Activating
+pub mod Renumbering

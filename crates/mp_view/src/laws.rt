@@ -7,6 +7,7 @@ ghost use Rattle.mp_view.specs.Setting.{SetsAreStimuli};
 ghost use Rattle.mp_view.specs.Turning.{TurningShows};
 ghost use Rattle.mp_view.specs.Leaving.{LeavingShows};
 ghost use Rattle.mp_view.specs.Activating.{ActivatingShows};
+ghost use Rattle.mp_view.specs.Renumbering.{NumbersStay, UnitsShow};
 
 /// Where all ports of active modules are at wires that are on, the view is a netlist.
 pub fn views_are_circuits()
@@ -31,6 +32,12 @@ pub fn views_have_drivers()
 pub fn views_are_simulated()
     ensures simulates { ShowingSimulates }
     ensures shows { SimulationsShow }
+{}
+
+/// A simulation keeps its numbering where it keeps its rows and what stands next after each number, as it does in a unit.
+pub fn numbers_stay()
+    ensures stay { NumbersStay }
+    ensures units { UnitsShow }
 {}
 
 /// At time 0 it doesn't matter which wires are on. A part of a netlist that hears each wire that a module elsewhere drives is the view of
