@@ -25,35 +25,10 @@ use Rattle.mp_units.proofs.LateLemmas.{late_bit, own_level}
 use Rattle.mp_units.proofs.PresentLemmas.{at_once}
 use Rattle.mp_view.specs.Views.{unset_slot, view, ArePortsOn, driver_on}
 use Rattle.mp_view.specs.Levels.{shown_level, shown_late, shown_change, shown_delay, shown_ahead}
+use Rattle.mp_view.proofs.TestLemmas.{either, same_tests, no_tests, cond_same, cond_false}
+use Rattle.mp_view.proofs.CopyLemmas.{later_far}
 use Rattle.mp_view.proofs.ViewLemmas.{length_on, same_by, module_active, initial_there}
 use Rattle.mp_view.proofs.LevelLemmas.{view_driver, view_off, view_level, view_decided}
-
--- ---- tests
-
-none_with : (a : Bool) → (a && false) ≡ false
-none_with true = refl
-none_with false = refl
-
--- where the second fails, the first doesn't matter
-pub either : (a b c : Bool) → c ≡ false → (a && c) ≡ (b && c)
-either a b c none = ap (λ x. a && x) none ∙ none_with a ∙ sym (none_with b) ∙ ap (λ x. b && x) (sym none)
-
-pub swapped : (a b c : Bool) → ((a && b) && c) ≡ ((a && c) && b)
-swapped true true true = refl
-swapped true true false = refl
-swapped true false true = refl
-swapped true false false = refl
-swapped false b c = refl
-
--- three tests, of which two are the same as two others
-pub same_tests : (a b c d e f : Bool) → b ≡ e → (a && c) ≡ (d && f) → ((a && b) && c) ≡ ((d && e) && f)
-same_tests a b c d e f same both =
-    swapped a b c ∙ ap (λ x. x && b) both ∙ ap (λ x. (d && f) && x) same ∙ sym (swapped d e f)
-
--- where the middle one fails, the others don't matter
-pub no_tests : (a b c d e f : Bool) → b ≡ false → e ≡ false → ((a && b) && c) ≡ ((d && e) && f)
-no_tests a b c d e f none other =
-    ap (λ x. (a && x) && c) none ∙ ap (λ x. x && c) (none_with a) ∙ sym (ap (λ x. x && f) (none_with d)) ∙ ap (λ x. (d && x) && f) (sym other)
 
 shifted : (t k d : ℕ) → nat_lt (t + 1 + k) (t + 1 + d) ≡ nat_lt k d
 shifted t k d = elim (cases_lt k d) as (λ _. nat_lt (t + 1 + k) (t + 1 + d) ≡ nat_lt k d) [
@@ -70,14 +45,6 @@ decided_by n known (Port m p) t k at =
 
 rests : (v : ℕ) → not (v == v) ≡ false
 rests v = ap not (eq-eqb v v refl)
-
-cond_same : {A : Type 0} (b : Bool) (x : A) → cond b x x ≡ x
-cond_same true x = refl
-cond_same false x = refl
-
-cond_false : (b : Bool) → cond b false false ≡ false
-cond_false true = refl
-cond_false false = refl
 
 -- a wire of width 1 has levels of one bit
 pub shown_bit : (n : Circuit) → IsCircuit n → (on : ℕ → Bool) (w u : ℕ) → is_data n w ≡ false → shown_level n on w u ≤ 1
@@ -245,11 +212,6 @@ module _ (n : Circuit) (ok : IsCircuit n) (active on : ℕ → Bool) (ports : Ar
               no_tests (late_change (view n active on) s (t + 1 + k)) (is_data (view n active on) s.0) (nat_lt k (driver_delay (view n active on) (driver (view n active on) x)))
               (shown_change n on s (t + 1 + k)) (is_data n s.0) (nat_lt k (shown_delay n active (driver n x))) (data_there s.0 ∙ narrow) narrow
         ]
-
-    -- by how much a copy is later than what it stands after it is later than its wire
-    later_far : (source : ℕ → ℕ × ℕ) (before : ℕ → Option ℕ) (next : List OutputPort) → AreChained source before next → (x : ℕ) (o : Option ℕ) → before x ≡ o → later_by next o ≤ (source x).1
-    later_far source before next chained x None is = omega arith
-    later_far source before next chained x (Some y) is = let far = chained.delay x y is in omega (arith, far)
 
     pub copy_number : (source : ℕ → ℕ × ℕ) (before : ℕ → Option ℕ) (next : List OutputPort) → AreChained source before next → (x k : ℕ) →
         (late_change (view n active on) (source x) (t + 1 + k) && nat_lt k (later_by next (before x))) ≡ (shown_change n on (source x) (t + 1 + k) && nat_lt k (later_by next (before x)))

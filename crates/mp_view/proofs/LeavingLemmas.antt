@@ -1,15 +1,13 @@
 -- What a simulation has when a module is put to sleep.
-use Rattle.std.proofs.Common.{◌≡◌, ℕ, ◌+◌, ◌<◌, ◌≤◌, Bool, true, false, not, cond, nat_lt, List, [], Option, Some, None, is_some, All, length, slice_index_or, refl, ap, sym, subst, ◌∙◌, arith, inl, inr}
+use Rattle.std.proofs.Common.{◌≡◌, ℕ, ◌+◌, ◌<◌, ◌≤◌, Bool, true, false, cond, nat_lt, List, [], Option, Some, None, is_some, All, length, slice_index_or, refl, ap, sym, subst, ◌∙◌, arith, inl, inr}
 use Rattle.std.specs.Prelude.{◌&&◌, ◌==◌}
-use Rattle.std.proofs.lemmas.Bool.{cases_Bool, cases_lt, and_parts, eqb-true, le-ltb}
+use Rattle.std.proofs.lemmas.Bool.{cases_Bool, cases_lt, eqb-true, le-ltb, and_right}
 use Rattle.std.proofs.lemmas.List.{get_or_past}
 use Rattle.std.proofs.lemmas.Option.{none-some}
 use Rattle.mp_records.specs.declared.module_record.ModuleRecord.{ModuleRecord}
 use Rattle.mp_netlist.specs.declared.driver.Driver.{Driver}
-use Rattle.mp_netlist.specs.declared.driver.Driver.TheVariants.{Nothing, Stimulus, Port}
 use Rattle.mp_netlist.specs.Circuit.{Circuit, IsCircuit, module_at}
 use Rattle.mp_netlist.specs.Drivers.{driver}
-use Rattle.mp_model.specs.Evaluations.{delay_in}
 use Rattle.mp_automata.specs.Codes.{bit}
 use Rattle.mp_events.specs.declared.fanout_entry.FanoutEntry.{FanoutEntry}
 use Rattle.mp_events.specs.Adding.{listed, state_at}
@@ -27,25 +25,14 @@ use Rattle.mp_units.specs.declared.data_wires.DataWires.{DataWires}
 use Rattle.mp_units.specs.declared.netlist_simulation.NetlistSimulation.{NetlistSimulation}
 use Rattle.mp_units.specs.DataLevels.{is_data, is_bit_wire, changes_of}
 use Rattle.mp_units.specs.DataWheels.{data_slot}
-use Rattle.mp_view.specs.Numberings.{Numbering, place_in, place_of}
+use Rattle.mp_view.specs.Numberings.{Numbering, place_of}
 use Rattle.mp_view.specs.Levels.{shown_level, shown_change, shown_delay, shown_ahead, IsEventShown, IsCopyShown, IsChangeShown}
 use Rattle.mp_view.specs.Showing.{IsSeatShown, IsAsleep, AreBitsShown, AreWiresShown, IsDataSeatShown, AreModulesShown, Shows}
 use Rattle.mp_view.specs.Leaving.{without_module, is_port_of, HasLeft, LeavingShows}
 use Rattle.mp_view.proofs.PlaceLemmas.{placed}
 use Rattle.mp_view.proofs.KeptLemmas.{numbers_kept, copies_undriven}
+use Rattle.mp_view.proofs.ActiveLemmas.{other_is, same_without, place_without, delay_without}
 use Rattle.mp_view.proofs.StateLemmas.{asleep_rests, adding_new, units_new, numbered_new}
-
-none_here : (a : Bool) → (a && false) ≡ false
-none_here true = refl
-none_here false = refl
-
-all_here : (a : Bool) → (a && true) ≡ a
-all_here true = refl
-all_here false = refl
-
-not_true : (b : Bool) → not b ≡ true → b ≡ false
-not_true true is = sym is
-not_true false is = refl
 
 module _ (n : Circuit) (ok : IsCircuit n) (active on : ℕ → Bool) (numbering : Numbering) (m t : ℕ) (s new : NetlistSimulation)
     (shown : Shows n active on numbering t s) (left : HasLeft n numbering m t s new) where
@@ -60,23 +47,6 @@ module _ (n : Circuit) (ok : IsCircuit n) (active on : ℕ → Bool) (numbering 
 
   abbrev mid_modules : DataModules
   mid_modules = record (s.modules) { places = new.modules.places }
-
-  -- ---- who is active
-  record IsOther (k : ℕ) : Type 0 where
-    pub awake : active k ≡ true
-    pub other : (k == m) ≡ false
-
-  other_is : (k : ℕ) → without_module active m k ≡ true → IsOther k
-  other_is k is = let parts = and_parts (active k) (not (k == m)) is in record { awake = parts.0; other = not_true (k == m) parts.1 }
-
-  same_else : (k : ℕ) → (k == m) ≡ false → without_module active m k ≡ active k
-  same_else k other = ap (λ b. active k && not b) other ∙ all_here (active k)
-
-  gone : (k : ℕ) → (k == m) ≡ true → without_module active m k ≡ false
-  gone k here = ap (λ b. active k && not b) here ∙ none_here (active k)
-
-  place_else : (k : ℕ) → (k == m) ≡ false → place_of n (without_module active m) k ≡ place_of n active k
-  place_else k other = ap (λ b. place_in n b k (module_at n k)) (same_else k other)
 
   -- ---- soundness
   same_fanout : new.bits.simulator.fanout ≡ s.bits.simulator.fanout
@@ -123,32 +93,23 @@ module _ (n : Circuit) (ok : IsCircuit n) (active on : ℕ → Bool) (numbering 
   -- ---- modules and wires of width 1
   seat_kept : (k : ℕ) (r : ModuleRecord) → module_at n k ≡ Some r → place_of n (without_module active m) k ≡ Some k → IsSeatShown n numbering t k r new.bits.simulator
   seat_kept k r at place =
-      let here = other_is k (placed n (without_module active m) k k r at place).awake in
-      let seat = shown.bits.seats k r at (sym (place_else k here.other) ∙ place) in
+      let here = other_is n active m k (placed n (without_module active m) k k r at place).awake in
+      let seat = shown.bits.seats k r at (sym (place_without n active m k here.other) ∙ place) in
       subst (λ (x : Simulator). IsSeatShown n numbering t k r x) (sym left.simulator)
       (record { reads = seat.reads; numbers = seat.numbers; drives = seat.drives; word = left.other_states k here.other ∙ seat.word; levels = seat.levels })
 
   asleep_left : (q : ℕ) → q < length n.modules → place_of n (without_module active m) q ≡ None → IsAsleep (state_at new.bits.simulator.states.items q)
   asleep_left q within none = elim (cases_Bool (q == m)) as (λ _. IsAsleep (state_at new.bits.simulator.states.items q)) [
     | inl here ↦ subst (λ k. IsAsleep (state_at new.bits.simulator.states.items k)) (sym (eqb-true q m here)) left.sleeps
-    | inr other ↦ subst IsAsleep (sym (left.other_states q other)) (shown.bits.asleep q within (sym (place_else q other) ∙ none))
+    | inr other ↦ subst IsAsleep (sym (left.other_states q other)) (shown.bits.asleep q within (sym (place_without n active m q other) ∙ none))
   ]
-
-  -- how far the changes of a wire are known
-  delay_left : (d : Driver) (k : ℕ) (b : Bool) → is_port_of m d ≡ b → cond b 0 (shown_delay n active d) ≡ shown_delay n (without_module active m) d
-  delay_left Nothing k true is = refl
-  delay_left Nothing k false is = refl
-  delay_left Stimulus k true is = refl
-  delay_left Stimulus k false is = refl
-  delay_left (Port j p) k true is = sym (ap (λ b. cond b (delay_in (module_at n j.0) p) 0) (gone j.0 is))
-  delay_left (Port j p) k false is = sym (ap (λ b. cond b (delay_in (module_at n j.0) p) 0) (same_else j.0 is))
 
   -- where a port of the module drives, nothing is left
   left_by : (known : Bool) (k : ℕ) (d : Driver) (count : ℕ) (b : Bool) → is_port_of m d ≡ b → count ≡ bit (known && nat_lt k (shown_delay n active d)) →
       cond b 0 count ≡ bit (known && nat_lt k (shown_delay n (without_module active m) d))
   left_by known k d count true is same =
-      sym (ap bit (none_here known)) ∙ ap (λ b. bit (known && b)) (sym (le-ltb k 0 (omega arith))) ∙ ap (λ x. bit (known && nat_lt k x)) (delay_left d k true is)
-  left_by known k d count false is same = same ∙ ap (λ x. bit (known && nat_lt k x)) (delay_left d k false is)
+      sym (ap bit (and_right known false refl)) ∙ ap (λ b. bit (known && b)) (sym (le-ltb k 0 (omega arith))) ∙ ap (λ x. bit (known && nat_lt k x)) (delay_without n active m d k true is)
+  left_by known k d count false is same = same ∙ ap (λ x. bit (known && nat_lt k x)) (delay_without n active m d k false is)
 
   event_left : (w k : ℕ) → k < length new.bits.simulator.wheel → IsEventShown n (without_module active m) t new.bits.simulator w k
   event_left w k within =
@@ -171,7 +132,7 @@ module _ (n : Circuit) (ok : IsCircuit n) (active on : ℕ → Bool) (numbering 
     asleep = asleep_left;
     traces = λ w narrow. subst (λ (x : Simulator). IsTrace (shown_level n on w) t (wave_at x.waves.items w)) (sym left.simulator) (shown.bits.traces w narrow);
     room = λ w p k r drives awake at.
-        let same = left.units in let enough = shown.bits.room w p k r drives (other_is k.0 awake).awake at in omega (arith, same, enough);
+        let same = left.units in let enough = shown.bits.room w p k r drives (other_is n active m k.0 awake).awake at in omega (arith, same, enough);
     events = event_left;
     copies = copy_kept;
   }
@@ -233,11 +194,11 @@ module _ (n : Circuit) (ok : IsCircuit n) (active on : ℕ → Bool) (numbering 
       let is = shown.modules.seats q k kept.1 in
       let seat = is.seat in
       record {
-        awake = same_else q kept.0 ∙ is.awake;
+        awake = same_without n active m q kept.0 ∙ is.awake;
         seat = record {
           record_of = seat.record_of;
           stands = seat.stands;
-          inactive = place_else q kept.0 ∙ seat.inactive;
+          inactive = place_without n active m q kept.0 ∙ seat.inactive;
           does = seat.does;
           outputs = seat.outputs;
           sources = seat.sources;
@@ -257,8 +218,8 @@ module _ (n : Circuit) (ok : IsCircuit n) (active on : ℕ → Bool) (numbering 
     fit = shown.modules.fit;
     seats = data_seat_kept;
     whole = λ k r at awake none.
-        let here = other_is k awake in
-        ap (is_some {T = ℕ}) (left.other_places k here.other) ∙ shown.modules.whole k r at here.awake (sym (place_else k here.other) ∙ none);
+        let here = other_is n active m k awake in
+        ap (is_some {T = ℕ}) (left.other_places k here.other) ∙ shown.modules.whole k r at here.awake (sym (place_without n active m k here.other) ∙ none);
   }
 
   leaving : Shows n (without_module active m) on numbering t new

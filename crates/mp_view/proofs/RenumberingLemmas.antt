@@ -1,8 +1,7 @@
 -- Two numberings of one simulation are the same.
 use Rattle.std.proofs.Common.{◌≡◌, ℕ, zero, suc, ◌+◌, ◌*◌, ◌<◌, ◌≤◌, Bool, true, false, cond, nat_lt, List, [], ◌∷◌, Option, Some, None, is_some, All, length, map, slice_index_or, refl, ap, sym, subst, ◌∙◌, arith, inl, inr}
 use Rattle.std.specs.Prelude.{◌&&◌, ◌||◌, ◌==◌}
-use Rattle.std.proofs.lemmas.Bool.{cases_Bool, cases_lt, eqb-true, eq-eqb, le-ltb}
-use Rattle.std.proofs.lemmas.List.{get_or_past}
+use Rattle.std.proofs.lemmas.Bool.{cases_Bool, cases_lt, eqb-true, eq-eqb, le-ltb, and_right}
 use Rattle.std.proofs.lemmas.Option.{none-some}
 use Rattle.mp_netlist.specs.Circuit.{Circuit, module_at}
 use Rattle.mp_records.specs.declared.module_record.ModuleRecord.{ModuleRecord}
@@ -10,7 +9,7 @@ use Rattle.mp_automata.specs.Codes.{bit}
 use Rattle.mp_events.specs.declared.output_port.OutputPort.{OutputPort}
 use Rattle.mp_events.specs.declared.fanout_entry.FanoutEntry.{FanoutEntry}
 use Rattle.mp_events.specs.Ports.{weight, HasPorts}
-use Rattle.mp_events.specs.Firing.{no_port, copy_at}
+use Rattle.mp_events.specs.Firing.{copy_at}
 use Rattle.mp_core.specs.Copies.{AreChained, later_by}
 use Rattle.mp_data.specs.declared.level_change.LevelChange.{LevelChange}
 use Rattle.mp_data.specs.DataFiring.{place_at}
@@ -23,7 +22,7 @@ use Rattle.mp_view.specs.Levels.{shown_late, shown_change, shown_ahead, IsCopySh
 use Rattle.mp_view.specs.Showing.{IsSeatShown, IsDataSeatShown, Shows}
 use Rattle.mp_view.specs.Renumbering.{NumbersStay, UnitsShow}
 use Rattle.mp_view.proofs.KeptLemmas.{numbers_kept, bit_wire_below}
-use Rattle.mp_view.proofs.TurningLemmas.{next_below, none_before}
+use Rattle.mp_view.proofs.CopyLemmas.{next_inside, next_below, none_before}
 use Rattle.mp_view.proofs.ShownLemmas.{simulations_show}
 
 -- ---- inputs are told by the bits of events
@@ -73,12 +72,6 @@ before_by a b sa sb next one other x (Some y) p is too = is ∙ sym (other.last 
 
 before_same : (a b : ℕ → Option ℕ) (sa sb : ℕ → ℕ × ℕ) (next : List OutputPort) → AreChained sa a next → AreChained sb b next → (x : ℕ) → a x ≡ b x
 before_same a b sa sb next one other x = before_by a b sa sb next one other x (a x) (b x) refl refl
-
-next_inside : (next : List OutputPort) (y x : ℕ) → (copy_at next y).wire ≡ Some x → y < length next
-next_inside next y x is = elim (cases_lt y (length next)) as (λ _. y < length next) [
-  | inl low ↦ low
-  | inr past ↦ absurd (none-some x (sym (ap (λ (port : OutputPort). port.wire) (get_or_past next y no_port past)) ∙ is))
-]
 
 pair_same : (p q : ℕ × ℕ) → p.0 ≡ q.0 → p.1 ≡ q.1 → p ≡ q
 pair_same p q first second = ap (λ k. let v : ℕ × ℕ = (k, p.1) in v) first ∙ ap (λ k. let v : ℕ × ℕ = (q.0, k) in v) second
@@ -186,10 +179,6 @@ module _ (n : Circuit) (a b : Numbering) (s : NetlistSimulation) (one : HasNumbe
           levels = seat.levels;
         }
 
-    none_here : (c : Bool) → (c && false) ≡ false
-    none_here true = refl
-    none_here false = refl
-
     copy_same : (x k : ℕ) → k < length s.bits.copies.wheel → IsCopyShown n on a t s.bits.copies x k
     copy_same x k within = elim (cases_lt x numbers) as (λ _. IsCopyShown n on a t s.bits.copies x k) [
       | inl low ↦
@@ -203,7 +192,7 @@ module _ (n : Circuit) (a b : Numbering) (s : NetlistSimulation) (one : HasNumbe
           let nor : nat_lt k (later_by s.bits.copies.next.items (b.before x)) ≡ false = ap (λ (o : Option ℕ). nat_lt k (later_by s.bits.copies.next.items o)) (sym (bit_before x)) ∙ never in
           shown.bits.copies x k within
           ∙ ap (λ c. bit (shown_change n on (b.source x) (t + 1 + k) && c)) nor
-          ∙ ap bit (none_here (shown_change n on (b.source x) (t + 1 + k)) ∙ sym (none_here (shown_change n on (a.source x) (t + 1 + k))))
+          ∙ ap bit (and_right (shown_change n on (b.source x) (t + 1 + k)) false refl ∙ sym (and_right (shown_change n on (a.source x) (t + 1 + k)) false refl))
           ∙ ap (λ c. bit (shown_change n on (a.source x) (t + 1 + k) && c)) (sym never)
     ]
 

@@ -1,7 +1,7 @@
 -- What stimuli change in a view.
 use Rattle.std.proofs.Common.{◌≡◌, ℕ, ◌<◌, Bool, true, false, not, cond, List, All, slice_index_or, refl, ap, sym, subst, ◌∙◌, arith, inl, inr}
 use Rattle.std.specs.Prelude.{◌&&◌}
-use Rattle.std.proofs.lemmas.Bool.{cases_Bool, and_parts}
+use Rattle.std.proofs.lemmas.Bool.{cases_Bool, and_parts, and_right}
 use Rattle.mp_netlist.specs.declared.driver.Driver.{Driver}
 use Rattle.mp_netlist.specs.declared.driver.Driver.TheVariants.{Nothing, Stimulus, Port}
 use Rattle.mp_netlist.specs.Circuit.{Circuit, IsCircuit}
@@ -17,8 +17,8 @@ use Rattle.mp_units.proofs.PresentLemmas.{change_here}
 use Rattle.mp_view.specs.Views.{view, ArePortsOn, driver_on}
 use Rattle.mp_view.specs.Setting.{is_outside, AreSetOutside, SetsAreStimuli}
 use Rattle.mp_view.proofs.LevelLemmas.{view_driver, view_level}
-use Rattle.mp_view.proofs.ChangeLemmas.{swapped, data_there, bit_there, change_on}
-use Rattle.mp_view.proofs.ShownLemmas.{bit_true}
+use Rattle.mp_view.proofs.ChangeLemmas.{data_there, bit_there, change_on}
+use Rattle.mp_view.proofs.TestLemmas.{swapped, bit_true}
 
 outside_by : (active : ℕ → Bool) (b : Bool) (d : Driver) → is_stimulus (cond b (driver_on active d) Nothing) ≡ (b && is_outside active d)
 outside_by active false d = refl
@@ -29,10 +29,6 @@ outside_by active true (Port m p) = by (active m.0)
     by : (b : Bool) → is_stimulus (cond b (Port m p) Stimulus) ≡ not b
     by true = refl
     by false = refl
-
-no_last : (a b : Bool) → b ≡ false → (a && b) ≡ false
-no_last true b is = is
-no_last false b is = refl
 
 module _ (n : Circuit) (ok : IsCircuit n) (active on : ℕ → Bool) (ports : ArePortsOn n active on) (set : List ℕ) (changes : List LevelChange) (time : ℕ) (low : time < n.horizon)
     (are : AreSetOutside n active on set changes time) where
@@ -47,7 +43,7 @@ module _ (n : Circuit) (ok : IsCircuit n) (active on : ℕ → Bool) (ports : Ar
         | inl is ↦ ap (λ b. b && (on w && is_outside active (driver n w))) (change_on n ok active on ports time low w time is (omega arith))
         | inr off ↦
             let none : (on w && is_outside active (driver n w)) ≡ false = ap (λ b. b && is_outside active (driver n w)) off in
-            no_last (change_at (view n active on) w time) (on w && is_outside active (driver n w)) none ∙ sym (no_last (change_at n w time) (on w && is_outside active (driver n w)) none)
+            and_right (change_at (view n active on) w time) (on w && is_outside active (driver n w)) none ∙ sym (and_right (change_at n w time) (on w && is_outside active (driver n w)) none)
       ]
 
   set_there : (scope : Scope) → ((w : ℕ) → scope.traces w ≡ is_bit_wire (view n active on) w) → AreSet (view n active on) scope set time

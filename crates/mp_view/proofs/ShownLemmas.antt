@@ -1,5 +1,5 @@
 -- A simulation of a view has the netlist's active modules and its wires that are on.
-use Rattle.std.proofs.Common.{◌≡◌, ℕ, ◌+◌, ◌%◌, ◌<◌, ◌≤◌, Bool, true, false, cond, nat_lt, List, [], Some, None, is_some, All, length, slice_index_or, refl, ap, sym, subst, ◌∙◌, arith, inl, inr}
+use Rattle.std.proofs.Common.{◌≡◌, ℕ, ◌+◌, ◌%◌, ◌<◌, ◌≤◌, Bool, true, false, cond, nat_lt, List, [], Some, None, is_some, All, length, slice_index_or, ap, sym, subst, ◌∙◌, arith, inl, inr}
 use Rattle.std.specs.Prelude.{◌&&◌, ◌||◌, ◌==◌}
 use Rattle.std.proofs.lemmas.Bool.{and_parts, cases_lt, ltb-true, false_from_ne_true}
 use Rattle.std.proofs.lemmas.List.{get_or_past}
@@ -38,16 +38,13 @@ use Rattle.mp_view.specs.Levels.{shown_level, shown_change, shown_delay, shown_a
 use Rattle.mp_view.specs.Showing.{IsSeatShown, IsAsleep, AreBitsShown, AreWiresShown, IsDataSeatShown, AreModulesShown, Shows, SimulationsShow}
 use Rattle.mp_view.proofs.ViewLemmas.{view_ok, length_active, length_on, module_active, is_here, drives_here, module_width_there, built_there}
 use Rattle.mp_view.proofs.LevelLemmas.{view_state}
+use Rattle.mp_view.proofs.TestLemmas.{swapped, bit_true}
 use Rattle.mp_view.proofs.TraceLemmas.{same_wave, same_trace}
-use Rattle.mp_view.proofs.ChangeLemmas.{swapped, decided_by, data_there, bit_there, level_there, late_there, event_there, copy_number, data_number, data_level}
+use Rattle.mp_view.proofs.ChangeLemmas.{decided_by, data_there, bit_there, level_there, late_there, event_there, copy_number, data_number, data_level}
 use Rattle.mp_view.proofs.StateLemmas.{no_remainder}
 use Rattle.mp_view.proofs.PlaceLemmas.{seated, placed, placeless, wide_when, no_seat, seat_test, bit_parts, rest_there, bit_ports_there, level_port_there}
 
 -- ---- what is in a slot is known
-
-pub bit_true : (b : Bool) → 0 < bit b → b ≡ true
-bit_true true some = refl
-bit_true false some = let no : ⊥ = omega (arith, some) in absurd no
 
 -- a number with data that is in a slot is one of a wire that is on, and its change is known
 pub record IsEntry (n : Circuit) (active on : ℕ → Bool) (numbering : Numbering) (next : List OutputPort) (x k : ℕ) : Type 0 where

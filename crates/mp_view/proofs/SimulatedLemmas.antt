@@ -1,9 +1,7 @@
 -- What has the netlist's active modules and its wires that are on is a simulation of the view.
-use Rattle.std.proofs.Common.{◌≡◌, ℕ, ◌+◌, ◌<◌, ◌≤◌, ◌⊎◌, Bool, true, false, cond, nat_lt, Option, Some, None, is_some, All, length, slice_index_or, refl, ap, sym, subst, ◌∙◌, arith, inl, inr}
+use Rattle.std.proofs.Common.{◌≡◌, ℕ, ◌+◌, ◌<◌, Bool, true, cond, nat_lt, Some, None, is_some, All, length, slice_index_or, refl, ap, sym, subst, ◌∙◌, arith}
 use Rattle.std.specs.Prelude.{◌&&◌, ◌==◌}
-use Rattle.std.proofs.lemmas.Bool.{cases_lt, eqb-true}
-use Rattle.std.proofs.lemmas.Option.{none-some}
-use Rattle.mp_modules.specs.declared.memory.Client.TheVariants.{Nobody}
+use Rattle.std.proofs.lemmas.Bool.{eqb-true}
 use Rattle.mp_records.specs.declared.ids.ModuleId.{ModuleId}
 use Rattle.mp_records.specs.declared.module_record.ModuleRecord.{ModuleRecord}
 use Rattle.mp_records.specs.Outputs.{delay_of}
@@ -15,11 +13,9 @@ use Rattle.mp_model.specs.Evaluations.{delay_in}
 use Rattle.mp_model.specs.Waves.{level, state}
 use Rattle.mp_model.proofs.EvaluationLemmas.{delay_positive}
 use Rattle.mp_model.proofs.SlotLemmas.{slot_within}
-use Rattle.mp_automata.specs.declared.automaton.Automaton.TheVariants.{Sleep}
 use Rattle.mp_automata.specs.PortLevels.{levels_code}
-use Rattle.mp_automata.specs.Codes.{bit, no_events}
-use Rattle.mp_events.specs.Adding.{state_at}
-use Rattle.mp_events.specs.Firing.{UnitState, number_of}
+use Rattle.mp_automata.specs.Codes.{bit}
+use Rattle.mp_events.specs.Firing.{UnitState}
 use Rattle.mp_events.specs.LevelFlips.{levels_at}
 use Rattle.mp_events.specs.Toggling.{wave_at}
 use Rattle.mp_core.specs.Changes.{change_at}
@@ -43,14 +39,12 @@ use Rattle.mp_view.specs.Levels.{shown_level, shown_delay}
 use Rattle.mp_view.specs.Showing.{Shows, ShowingSimulates}
 use Rattle.mp_view.proofs.ViewLemmas.{view_ok, length_active, length_on, module_active, is_here, drives_there, module_width_there, built_there}
 use Rattle.mp_view.proofs.LevelLemmas.{view_state}
+use Rattle.mp_view.proofs.TestLemmas.{swapped}
 use Rattle.mp_view.proofs.TraceLemmas.{same_wave, same_trace}
-use Rattle.mp_view.proofs.ChangeLemmas.{swapped, shown_bit, decided_by, data_there, bit_there, level_there, late_there, event_there, copy_number, data_number, data_level}
+use Rattle.mp_view.proofs.ChangeLemmas.{shown_bit, decided_by, data_there, bit_there, level_there, late_there, event_there, copy_number, data_number, data_level}
 use Rattle.mp_view.proofs.PlaceLemmas.{placed, taken, bit_driven, bit_parts, rest_there, bit_ports_there, level_port_there}
+use Rattle.mp_view.proofs.UnitLemmas.{units_of, sleeps_by, numbered_by, unit_some}
 use Rattle.mp_view.proofs.ShownLemmas.{entry_is, slot_inside}
-
--- nothing is ever done in it
-abbrev no_unit : UnitState
-no_unit = record { automaton = Sleep; phase = record { served = Nobody; waiting = record { first = false; second = false } }; events = no_events }
 
 module _ (n : Circuit) (ok : IsCircuit n) (active on : ℕ → Bool) (ports : ArePortsOn n active on) (numbering : Numbering) (t : ℕ) (low : t < n.horizon) (s : NetlistSimulation)
     (shown : Shows n active on numbering t s) where
@@ -63,46 +57,8 @@ module _ (n : Circuit) (ok : IsCircuit n) (active on : ℕ → Bool) (ports : Ar
   wide_there : (w : ℕ) → is_data (view n active on) w ≡ is_data n w
   wide_there w = data_there n ok active on ports w
 
-  -- ---- the state at each place
-  abbrev unit_in : ℕ → Option ModuleRecord → UnitState
-  unit_in q None = no_unit
-  unit_in q (Some r) = rest_state_at n r q t
-
-  abbrev sleeping : (q : ℕ) → place_of n active q ≡ None → (q < length n.modules) ⊎ (length n.modules ≤ q) → UnitState
-  sleeping q none (inl within) = (shown.bits.asleep q within none).unit
-  sleeping q none (inr past) = no_unit
-
-  abbrev unit_by : (q : ℕ) (o : Option ℕ) → place_of n active q ≡ o → UnitState
-  unit_by q None none = sleeping q none (cases_lt q (length n.modules))
-  unit_by q (Some k) is = unit_in q (module_at n q)
-
   abbrev units : ℕ → UnitState
-  units q = unit_by q (place_of n active q) refl
-
-  sleeps : (q : ℕ) (none : place_of n active q ≡ None) (c : (q < length n.modules) ⊎ (length n.modules ≤ q)) → (sleeping q none c).automaton ≡ Sleep
-  sleeps q none (inl within) = (shown.bits.asleep q within none).sleeps
-  sleeps q none (inr past) = refl
-
-  sleeps_by : (q : ℕ) (o : Option ℕ) (is : place_of n active q ≡ o) → is_some o ≡ false → (unit_by q o is).automaton ≡ Sleep
-  sleeps_by q None is idle = sleeps q is (cases_lt q (length n.modules))
-  sleeps_by q (Some k) is idle = let never : ⊥ = cc in absurd never
-
-  sleeping_number : (q : ℕ) (none : place_of n active q ≡ None) (c : (q < length n.modules) ⊎ (length n.modules ≤ q)) → q < length n.modules →
-      state_at s.bits.simulator.states.items q ≡ number_of (sleeping q none c)
-  sleeping_number q none (inl within) low = (shown.bits.asleep q within none).is
-  sleeping_number q none (inr past) low = let no : ⊥ = omega (arith, past, low) in absurd no
-
-  active_number : (q k : ℕ) (slot : Option ModuleRecord) → module_at n q ≡ slot → place_of n active q ≡ Some k → state_at s.bits.simulator.states.items q ≡ number_of (unit_in q slot)
-  active_number q k None at is = absurd (none-some k (sym (ap (place_in n (active q) q) at) ∙ is))
-  active_number q k (Some r) at is = (shown.bits.seats q r at (placed n active q k r at is).place).word
-
-  numbered_by : (q : ℕ) (o : Option ℕ) (is : place_of n active q ≡ o) → q < length n.modules → state_at s.bits.simulator.states.items q ≡ number_of (unit_by q o is)
-  numbered_by q None is low = sleeping_number q is (cases_lt q (length n.modules)) low
-  numbered_by q (Some k) is low = active_number q k (module_at n q) refl is
-
-  unit_some : (q k : ℕ) (o : Option ℕ) (is : place_of n active q ≡ o) (r : ModuleRecord) → module_at n q ≡ Some r → o ≡ Some k → unit_by q o is ≡ rest_state_at n r q t
-  unit_some q k None is r at some = absurd (none-some k some)
-  unit_some q k (Some j) is r at some = ap (unit_in q) at
+  units = units_of n active on numbering t s shown
 
   -- ---- modules of width 1
   -- a module of the view at its place
@@ -145,7 +101,7 @@ module _ (n : Circuit) (ok : IsCircuit n) (active on : ℕ → Bool) (ports : Ar
   unit_at m q r at place =
       let here = at_place m q r at place in
       subst (λ k. units k ≡ rest_state_at (view n active on) r m t) here.same
-      (unit_some m m (place_of n active m) refl r here.stands here.place ∙ sym (rest_there n ok active on ports m t r here.awake here.stands low))
+      (unit_some n active on numbering t s shown m m (place_of n active m) refl r here.stands here.place ∙ sym (rest_there n ok active on ports m t r here.awake here.stands low))
 
   have_levels : HaveLevels (view n active on) (scope_of n active numbering t) t s.bits.simulator
   have_levels m q r at place =
@@ -180,8 +136,8 @@ module _ (n : Circuit) (ok : IsCircuit n) (active on : ℕ → Bool) (ports : Ar
     stands = record {
       layout = record { ports = shown.numbers.ports; seats = seat; placed = has_place };
       units = units;
-      numbered = λ q within. numbered_by q (place_of n active q) refl (let same = shown.bits.places in omega (arith, within, same));
-      asleep = λ q idle. sleeps_by q (place_of n active q) refl idle;
+      numbered = λ q within. numbered_by n active on numbering t s shown q (place_of n active q) refl (let same = shown.bits.places in omega (arith, within, same));
+      asleep = λ q idle. sleeps_by n active on numbering t s shown q (place_of n active q) refl idle;
       active = unit_at;
       levels = have_levels;
       answered = λ m q place. refl;

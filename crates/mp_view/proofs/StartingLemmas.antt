@@ -1,7 +1,7 @@
 -- A simulation before the first unit.
 use Rattle.std.proofs.Common.{◌≡◌, ℕ, ◌+◌, ◌-◌, ◌<◌, ◌≤◌, ◌⊎◌, Bool, true, false, cond, nat_lt, List, [], ◌∷◌, Option, Some, None, length, refl, ap, sym, subst, ◌∙◌, arith, inl, inr}
 use Rattle.std.specs.Prelude.{◌&&◌, ◌==◌}
-use Rattle.std.proofs.lemmas.Bool.{cases_Bool, cases_lt, le-ltb}
+use Rattle.std.proofs.lemmas.Bool.{cases_Bool, cases_lt, le-ltb, and_right}
 use Rattle.mp_records.specs.declared.wire_record.WireRecord.{WireRecord}
 use Rattle.mp_records.specs.declared.module_record.ModuleRecord.{ModuleRecord}
 use Rattle.mp_netlist.specs.Circuit.{Circuit, IsCircuit, wire_at}
@@ -10,11 +10,10 @@ use Rattle.mp_model.specs.Levels.{initial_of}
 use Rattle.mp_model.specs.Waves.{level}
 use Rattle.mp_model.proofs.EndsLemmas.{first_level}
 use Rattle.mp_automata.specs.Codes.{bit}
-use Rattle.mp_events.specs.declared.output_port.OutputPort.{OutputPort}
 use Rattle.mp_events.specs.Firing.{copy_at}
 use Rattle.mp_events.specs.Toggling.{wave_at}
 use Rattle.mp_core.specs.Changes.{change_at, late_change}
-use Rattle.mp_core.specs.Copies.{AreChained, later_by}
+use Rattle.mp_core.specs.Copies.{later_by}
 use Rattle.mp_core.specs.Traces.{IsTrace}
 use Rattle.mp_evaluation.specs.Marks.{is_marked}
 use Rattle.mp_regions.specs.Regions.{home_of, slots_at_home, set_on_slot, slots_heard}
@@ -26,18 +25,12 @@ use Rattle.mp_view.specs.Levels.{shown_level, shown_late, shown_change, shown_de
 use Rattle.mp_view.specs.Showing.{Shows}
 use Rattle.mp_view.specs.Starting.{StartsShow, StartsAreSimulated, RegionsAreViews}
 use Rattle.mp_view.proofs.TraceLemmas.{same_wave, same_trace}
-use Rattle.mp_view.proofs.ChangeLemmas.{either, no_tests, swapped, shown_bit, known_ahead}
+use Rattle.mp_view.proofs.TestLemmas.{either, no_tests, swapped, cond_same}
+use Rattle.mp_view.proofs.CopyLemmas.{later_far}
+use Rattle.mp_view.proofs.ChangeLemmas.{shown_bit, known_ahead}
 use Rattle.mp_view.proofs.PlaceLemmas.{bit_parts}
 use Rattle.mp_view.proofs.ShownLemmas.{simulations_show}
 use Rattle.mp_view.proofs.SimulatedLemmas.{showing_simulates}
-
-none_here : (a : Bool) → (a && false) ≡ false
-none_here true = refl
-none_here false = refl
-
-cond_same : {A : Type 0} (b : Bool) (x : A) → cond b x x ≡ x
-cond_same true x = refl
-cond_same false x = refl
 
 module _ (n : Circuit) (ok : IsCircuit n) where
   first_shown : (on : ℕ → Bool) (w : ℕ) → shown_level n on w 0 ≡ initial_of (wire_at n w)
@@ -58,13 +51,9 @@ module _ (n : Circuit) (ok : IsCircuit n) where
   early c s k d far = elim (cases_lt k d) as (λ _. ((c && late_change n s (0 + 1 + k)) && nat_lt k d) ≡ false) [
     | inl known ↦
         let never : late_change n s (0 + 1 + k) ≡ false = ap (λ b. cond b (change_at n s.0 (0 + 1 + k - s.1)) false) (le-ltb s.1 (0 + 1 + k) (omega (arith, known, far))) in
-        ap (λ b. (c && b) && nat_lt k d) never ∙ ap (λ b. b && nat_lt k d) (none_here c)
-    | inr past ↦ ap (λ b. (c && late_change n s (0 + 1 + k)) && b) (le-ltb k d past) ∙ none_here (c && late_change n s (0 + 1 + k))
+        ap (λ b. (c && b) && nat_lt k d) never ∙ ap (λ b. b && nat_lt k d) (and_right c false refl)
+    | inr past ↦ ap (λ b. (c && late_change n s (0 + 1 + k)) && b) (le-ltb k d past) ∙ and_right (c && late_change n s (0 + 1 + k)) false refl
   ]
-
-  later_far : (source : ℕ → ℕ × ℕ) (before : ℕ → Option ℕ) (next : List OutputPort) → AreChained source before next → (x : ℕ) (o : Option ℕ) → before x ≡ o → later_by next o ≤ (source x).1
-  later_far source before next chained x None is = omega arith
-  later_far source before next chained x (Some y) is = let far = chained.delay x y is in omega (arith, far)
 
   module _ (active on other : ℕ → Bool) (ports : ArePortsOn n active on) (too : ArePortsOn n active other) (numbering : Numbering) (s : NetlistSimulation) (shown : Shows n active on numbering 0 s) where
     abbrev numbers : ℕ

@@ -1,9 +1,8 @@
 -- What a simulation has when a wire is turned on.
-use Rattle.std.proofs.Common.{◌≡◌, ℕ, ◌+◌, ◌<◌, ◌≤◌, Bool, true, false, cond, nat_lt, List, [], Option, Some, None, All, length, slice_index, slice_index_or, refl, ap, sym, subst, ◌∙◌, arith, inl, inr}
+use Rattle.std.proofs.Common.{◌≡◌, ℕ, ◌+◌, ◌<◌, Bool, true, false, cond, nat_lt, List, [], Option, Some, None, All, length, slice_index, slice_index_or, refl, ap, sym, subst, ◌∙◌, arith, inl, inr}
 use Rattle.std.specs.Prelude.{◌&&◌, ◌||◌, ◌==◌}
-use Rattle.std.proofs.lemmas.Bool.{cases_Bool, cases_lt, eqb-true, or_right, le-ltb}
+use Rattle.std.proofs.lemmas.Bool.{cases_Bool, cases_lt, eqb-true, or_right, le-ltb, and_right}
 use Rattle.std.proofs.lemmas.List.{get_or_past}
-use Rattle.std.proofs.lemmas.Option.{none-some}
 use Rattle.mp_wave.specs.Waveform.{Waveform, wave_upto}
 use Rattle.mp_wave.specs.Building.{Building}
 use Rattle.mp_records.specs.declared.module_record.ModuleRecord.{ModuleRecord}
@@ -20,7 +19,7 @@ use Rattle.mp_events.specs.declared.output_port.OutputPort.{OutputPort}
 use Rattle.mp_events.specs.declared.fanout_entry.FanoutEntry.{FanoutEntry}
 use Rattle.mp_events.specs.Adding.{listed, state_at}
 use Rattle.mp_events.specs.Toggling.{wave_at}
-use Rattle.mp_events.specs.Firing.{HasSlot, no_port, copy_at}
+use Rattle.mp_events.specs.Firing.{HasSlot}
 use Rattle.mp_core.specs.declared.simulator.Simulator.{Simulator}
 use Rattle.mp_core.specs.Changes.{late_change}
 use Rattle.mp_core.specs.Copies.{AreChained, AreListedBelow, later_by}
@@ -38,31 +37,9 @@ use Rattle.mp_view.specs.Levels.{shown_level, shown_late, shown_change, shown_de
 use Rattle.mp_view.specs.Showing.{IsSeatShown, IsAsleep, AreBitsShown, AreWiresShown, AreModulesShown, Shows}
 use Rattle.mp_view.specs.Turning.{with_wire, IsTurnedOn, TurningShows}
 use Rattle.mp_view.proofs.TraceLemmas.{same_wave, trace_as}
-use Rattle.mp_view.proofs.ChangeLemmas.{no_tests}
+use Rattle.mp_view.proofs.TestLemmas.{or_false, no_tests}
+use Rattle.mp_view.proofs.CopyLemmas.{none_before}
 use Rattle.mp_view.proofs.KeptLemmas.{numbers_kept}
-
-or_false : (b : Bool) → (b || false) ≡ b
-or_false true = refl
-or_false false = refl
-
-none_here : (a : Bool) → (a && false) ≡ false
-none_here true = refl
-none_here false = refl
-
--- what stands next after a number has a number
-pub next_below : (next : List OutputPort) (bound y x : ℕ) → All (IsBelow bound) next → (copy_at next y).wire ≡ Some x → x < bound
-next_below next bound y x below is = elim (cases_lt y (length next)) as (λ _. x < bound) [
-  | inl low ↦ below y no_port low x is
-  | inr past ↦ absurd (none-some x (sym (ap (λ (port : OutputPort). port.wire) (get_or_past next y no_port past)) ∙ is))
-]
-
--- a number beyond all stands after none
-pub none_before : (source : ℕ → ℕ × ℕ) (before : ℕ → Option ℕ) (next : List OutputPort) (bound x : ℕ) (o : Option ℕ) → AreChained source before next → All (IsBelow bound) next → bound ≤ x → before x ≡ o
-    → later_by next o ≡ 0
-none_before source before next bound x None chained below past is = refl
-none_before source before next bound x (Some y) chained below past is =
-    let low = next_below next bound y x below (chained.first x y is) in
-    let no : ⊥ = omega (arith, low, past) in absurd no
 
 module _ (n : Circuit) (ok : IsCircuit n) (active on : ℕ → Bool) (ports : ArePortsOn n active on) (numbering : Numbering) (w t : ℕ) (s new : NetlistSimulation)
     (shown : Shows n active on numbering t s) (off : on w ≡ false) (turned : IsTurnedOn n numbering w t s new) where
@@ -132,7 +109,7 @@ module _ (n : Circuit) (ok : IsCircuit n) (active on : ℕ → Bool) (ports : Ar
 
       by : k < length s.bits.copies.wheel → (b : Bool)
           → cond b (bit (late_change n (numbering.source x) (t + 1 + k) && nat_lt k (later_by s.bits.copies.next.items (numbering.before x)))) (listed x (copy_slot s.bits.copies k)) ≡ 0
-      by within true = ap (λ c. bit (late_change n (numbering.source x) (t + 1 + k) && c)) none ∙ ap bit (none_here (late_change n (numbering.source x) (t + 1 + k)))
+      by within true = ap (λ c. bit (late_change n (numbering.source x) (t + 1 + k) && c)) none ∙ ap bit (and_right (late_change n (numbering.source x) (t + 1 + k)) false refl)
       by within false = shown.bits.sound.copies.numbered x k past
 
   sound_copies : AreSoundCopies numbers new.bits.copies
