@@ -2,18 +2,12 @@
 use Rattle.std.specs.Prelude.{◌≡◌, ℕ, ◌<◌, Bool}
 use Rattle.mp_netlist.specs.Circuit.{Circuit, IsCircuit}
 use Rattle.mp_units.specs.declared.netlist_simulation.NetlistSimulation.{NetlistSimulation}
-use Rattle.mp_units.specs.NetlistSimulations.{IsSimulated}
+use Rattle.mp_units.specs.NetlistSimulations.{IsSimulated, HasKeptNumbers}
 use Rattle.mp_view.specs.Views.{view, ArePortsOn}
 use Rattle.mp_view.specs.Numberings.{Numbering}
 use Rattle.mp_view.specs.Showing.{Shows}
 
--- a simulation keeps its rows, and what stands next after each number
-pub record HasKeptNumbers (s new : NetlistSimulation) : Type 0 where
-  pub rows : new.bits.simulator.fanout ≡ s.bits.simulator.fanout
-  pub next : new.bits.copies.next.items ≡ s.bits.copies.next.items
-  pub data_next : new.wires.next.items ≡ s.wires.next.items
-
--- then it has the netlist in the same numbering as before
+-- a simulation that keeps its numbers has the netlist in the same numbering as before
 abbrev pub NumbersStay : Type 0
 NumbersStay = (n : Circuit) → IsCircuit n → (active on : ℕ → Bool) (numbering other : Numbering) (t u : ℕ) (s new : NetlistSimulation) →
     Shows n active on numbering t s → Shows n active on other u new → HasKeptNumbers s new → Shows n active on numbering u new
