@@ -1,0 +1,3 @@
+pub mod Sleeping
+pub mod Seating
+pub mod Putting

@@ -1,0 +1,10 @@
+//! The steps between two units by which a simulation goes from one view of a netlist to another.
+#![tactic(auto)]
+
+mod seating;
+mod sleeping;
+mod wheel_entries;
+
+pub use seating::{seat_bits, seat_data};
+pub use sleeping::put_to_sleep;
+pub use wheel_entries::{OldWire, put_change, put_old_changes};

@@ -1,0 +1,69 @@
+//! What the simulation knows ahead of wires that modules drive is put into its wheels.
+ghost use Rattle.std.specs.Prelude.{◌≡◌, ◌<◌, ◌≤◌, ◌-◌, ◌+◌, ◌∷◌, [], length, OnOk};
+ghost use Rattle.mp_wave.specs.Waveform.{between};
+ghost use Rattle.mp_run.specs.Stimuli.{change_of};
+ghost use Rattle.mp_steps.specs.Putting.{HasPut, entries_of};
+
+use mp_data::LevelChange;
+use mp_run::StimulusChange;
+use mp_units::NetlistSimulation;
+use mp_wave::Wave;
+use std::alloc::AllocError;
+
+/// A wire with the wave that it had in the old run.
+#[derive(Clone, Copy)]
+pub struct OldWire<'a> {
+    pub number: u32,
+    pub has_data: bool,
+    pub wave: &'a Wave,
+}
+
+/// After the unit of a time, a wire is to have the changes that it had in the old run later than one time and earlier than another.
+pub fn put_old_changes(
+    simulation: &mut NetlistSimulation,
+    wire: OldWire<'_>,
+    from: u32,
+    to: u32,
+    now: u32,
+) -> Result<(), AllocError>
+    requires later { now ≤ from }
+    requires within { to - now ≤ length simulation.old.bits.simulator.wheel + 1 }
+    requires data_within { to - now ≤ length simulation.old.wires.wheel + 1 }
+    ensures { OnOk result (HasPut wire.entry.has_data (entries_of wire.entry.number now (between from to wire.entry.wave.now.changes)) simulation.old simulation.new) }
+{
+    for (time, level) in wire.wave.changes_between(from, to) {
+        put_change(
+            simulation,
+            StimulusChange {
+                time,
+                wire: wire.number,
+                has_data: wire.has_data,
+                level,
+            },
+            now,
+        )?;
+    }
+    Ok(())
+}
+
+/// After the unit of a time, a wire is to have this change.
+pub fn put_change(
+    simulation: &mut NetlistSimulation,
+    change: StimulusChange,
+    now: u32,
+) -> Result<(), AllocError>
+    requires later { now < change.time }
+    requires within { change.time - now ≤ length simulation.old.bits.simulator.wheel }
+    requires data_within { change.time - now ≤ length simulation.old.wires.wheel }
+    ensures { OnOk result (HasPut change.entry.has_data (entries_of change.entry.wire now ((change.entry.time, change.entry.level) ∷ [])) simulation.old simulation.new) }
+{
+    let units = (change.time - now) as usize;
+    if change.has_data {
+        let level = LevelChange {
+            number: change.wire,
+            level: change.level,
+        };
+        return simulation.wires.wheel.schedule(units, level);
+    }
+    simulation.bits.simulator.wheel.schedule(units, change.wire)
+}
