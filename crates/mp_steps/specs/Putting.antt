@@ -1,5 +1,5 @@
 -- Changes to come are put into the wheels.
-use Rattle.std.specs.Prelude.{◌≡◌, ℕ, ◌-◌, Bool, List, map, if◌then◌else◌}
+use Rattle.std.specs.Prelude.{◌≡◌, ℕ, ◌-◌, ◌<◌, ◌≤◌, Bool, List, map, if◌then◌else◌}
 use Rattle.mp_events.specs.Firing.{scheduled}
 use Rattle.mp_data.specs.declared.level_change.LevelChange.{LevelChange}
 use Rattle.mp_data.specs.LevelWheels.{scheduled as levels_scheduled}
@@ -18,6 +18,11 @@ toggle_of entry = (entry.0, entry.1.number)
 
 abbrev pub toggles_of : List (ℕ × LevelChange) → List (ℕ × ℕ)
 toggles_of entries = map toggle_of entries
+
+-- the change comes after the unit of a time, within so many units
+pub record IsAhead (now units : ℕ) (change : ℕ × ℕ) : Type 0 where
+  pub later : now < change.0
+  pub within : change.0 - now ≤ units
 
 -- the wheel of wires with data has these changes more, or that of wires of width 1; all else is as it was
 pub record HasPut (with_data : Bool) (entries : List (ℕ × LevelChange)) (s new : NetlistSimulation) : Type 0 where

@@ -36,7 +36,7 @@ pub fn seat_data(
     requires place { number < length simulation.old.modules.places.items }
     requires seat { IfSome seat (λ k. k < length simulation.old.modules.modules.items) }
     requires few { length simulation.old.modules.modules.items < 2 ^ 32 - 1 }
-    ensures { IfOk result (λ place. IsDataSeated number seat.entry state.entry place simulation.old simulation.new) }
+    ensures { IfOk result (λ place. IsDataSeated number seat state place simulation.old simulation.new) }
 {
     let modules = &mut simulation.modules.modules;
     let place = match seat {

@@ -1,13 +1,13 @@
 //! What the simulation knows ahead of wires that modules drive is put into its wheels.
-ghost use Rattle.std.specs.Prelude.{◌≡◌, ◌<◌, ◌≤◌, ◌-◌, ◌+◌, ◌∷◌, [], length, OnOk};
+ghost use Rattle.std.specs.Prelude.{◌<◌, ◌≤◌, ◌-◌, ◌+◌, ◌∷◌, [], All, length, OnOk};
 ghost use Rattle.mp_wave.specs.Waveform.{between};
-ghost use Rattle.mp_run.specs.Stimuli.{change_of};
-ghost use Rattle.mp_steps.specs.Putting.{HasPut, entries_of};
+ghost use Rattle.mp_wave.specs.WaveChanges.{changes_in};
+ghost use Rattle.mp_steps.specs.Putting.{HasPut, IsAhead, entries_of};
 
 use mp_data::LevelChange;
 use mp_run::StimulusChange;
 use mp_units::NetlistSimulation;
-use mp_wave::Wave;
+use mp_wave::{Wave, WaveChanges};
 use std::alloc::AllocError;
 
 /// A wire with the wave that it had in the old run.
@@ -29,19 +29,37 @@ pub fn put_old_changes(
     requires later { now ≤ from }
     requires within { to - now ≤ length simulation.old.bits.simulator.wheel + 1 }
     requires data_within { to - now ≤ length simulation.old.wires.wheel + 1 }
-    ensures { OnOk result (HasPut wire.entry.has_data (entries_of wire.entry.number now (between from to wire.entry.wave.now.changes)) simulation.old simulation.new) }
+    ensures { OnOk result (HasPut wire.has_data (entries_of wire.number now (between from to wire.wave.now.changes)) simulation.old simulation.new) }
 {
-    for (time, level) in wire.wave.changes_between(from, to) {
-        put_change(
-            simulation,
-            StimulusChange {
-                time,
-                wire: wire.number,
-                has_data: wire.has_data,
-                level,
-            },
-            now,
-        )?;
+    put_changes(
+        simulation,
+        wire,
+        wire.wave.changes_between(from, to),
+        now,
+    )
+}
+
+/// After the unit of a time, a wire is to have these changes.
+fn put_changes(
+    simulation: &mut NetlistSimulation,
+    wire: OldWire<'_>,
+    changes: WaveChanges<'_>,
+    now: u32,
+) -> Result<(), AllocError>
+    requires within { All (IsAhead now (length simulation.old.bits.simulator.wheel)) (changes_in changes) }
+    requires data_within { All (IsAhead now (length simulation.old.wires.wheel)) (changes_in changes) }
+    ensures { OnOk result (HasPut wire.has_data (entries_of wire.number now (changes_in changes.entry)) simulation.old simulation.new) }
+{
+    let mut rest = changes;
+    while let Some((change, later)) = rest.split_first() {
+        let put = StimulusChange {
+            time: change.0,
+            wire: wire.number,
+            has_data: wire.has_data,
+            level: change.1,
+        };
+        put_change(simulation, put, now)?;
+        rest = later;
     }
     Ok(())
 }
@@ -55,7 +73,7 @@ pub fn put_change(
     requires later { now < change.time }
     requires within { change.time - now ≤ length simulation.old.bits.simulator.wheel }
     requires data_within { change.time - now ≤ length simulation.old.wires.wheel }
-    ensures { OnOk result (HasPut change.entry.has_data (entries_of change.entry.wire now ((change.entry.time, change.entry.level) ∷ [])) simulation.old simulation.new) }
+    ensures { OnOk result (HasPut change.has_data (entries_of change.wire now ((change.time, change.level) ∷ [])) simulation.old simulation.new) }
 {
     let units = (change.time - now) as usize;
     if change.has_data {
