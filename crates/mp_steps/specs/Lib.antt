@@ -1,3 +1,4 @@
 pub mod Sleeping
 pub mod Seating
 pub mod Putting
+pub mod Ahead

@@ -29,7 +29,7 @@ pub fn put_old_changes(
     requires later { now ≤ from }
     requires within { to - now ≤ length simulation.old.bits.simulator.wheel + 1 }
     requires data_within { to - now ≤ length simulation.old.wires.wheel + 1 }
-    ensures { OnOk result (HasPut wire.has_data (entries_of wire.number now (between from to wire.wave.now.changes)) simulation.old simulation.new) }
+    ensures { OnOk result (HasPut wire.entry.has_data (entries_of wire.entry.number now (between from to wire.entry.wave.now.changes)) simulation.old simulation.new) }
 {
     put_changes(
         simulation,
@@ -48,7 +48,7 @@ fn put_changes(
 ) -> Result<(), AllocError>
     requires within { All (IsAhead now (length simulation.old.bits.simulator.wheel)) (changes_in changes) }
     requires data_within { All (IsAhead now (length simulation.old.wires.wheel)) (changes_in changes) }
-    ensures { OnOk result (HasPut wire.has_data (entries_of wire.number now (changes_in changes.entry)) simulation.old simulation.new) }
+    ensures { OnOk result (HasPut wire.entry.has_data (entries_of wire.entry.number now (changes_in changes.entry)) simulation.old simulation.new) }
 {
     let mut rest = changes;
     while let Some((change, later)) = rest.split_first() {
