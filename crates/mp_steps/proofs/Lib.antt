@@ -1,2 +1,4 @@
 pub mod PutLemmas
 pub mod OldChangeLemmas
+pub mod AheadLemmas
+pub mod BitActivatedLemmas

@@ -2,3 +2,4 @@ pub mod Sleeping
 pub mod Seating
 pub mod Putting
 pub mod Ahead
+pub mod Activated

@@ -1,8 +1,19 @@
 //! What is put into the wheels is what they have to have.
 
-ghost use Rattle.mp_steps.specs.Ahead.{OldChangesAreAhead};
+ghost use Rattle.mp_steps.specs.Ahead.{OldChangesAreAhead, PutsAhead};
+ghost use Rattle.mp_steps.specs.Activated.{BitModulesActivate};
 
 /// The changes of a wave between two times, while a wire has its levels, are those of the wire.
 pub fn old_changes_are_ahead()
     ensures { OldChangesAreAhead }
+{}
+
+/// What is known of a wire is put into the wheels, which have nothing of it before.
+pub fn puts_ahead()
+    ensures { PutsAhead }
+{}
+
+/// A module of width 1 that has taken its place is active once its wires are ahead.
+pub fn bit_modules_activate()
+    ensures { BitModulesActivate }
 {}

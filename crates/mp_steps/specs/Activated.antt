@@ -1,0 +1,30 @@
+-- A module that has taken its place, and whose wires are ahead, is active.
+use Rattle.std.specs.Prelude.{◌≡◌, ℕ, ◌+◌, ◌≤◌, Bool, true, false, All, Some, length, ◌==◌}
+use Rattle.mp_records.specs.declared.module_record.ModuleRecord.{ModuleRecord}
+use Rattle.mp_records.specs.Outputs.{delay_of}
+use Rattle.mp_netlist.specs.Circuit.{Circuit, IsCircuit, Drives, module_at, module_width}
+use Rattle.mp_netlist.specs.Drivers.{driver}
+use Rattle.mp_model.specs.Levels.{built}
+use Rattle.mp_model.specs.Waves.{state}
+use Rattle.mp_events.specs.Firing.{ports_at}
+use Rattle.mp_core.specs.Schedules.{output_ports_of}
+use Rattle.mp_units.specs.declared.netlist_simulation.NetlistSimulation.{NetlistSimulation}
+use Rattle.mp_view.specs.Numberings.{Numbering, ReadsNumbers, is_bit_number}
+use Rattle.mp_view.specs.Showing.{Shows}
+use Rattle.mp_view.specs.Leaving.{is_port_of}
+use Rattle.mp_view.specs.Activating.{IsActivated}
+use Rattle.mp_steps.specs.Seating.{IsBitSeated}
+use Rattle.mp_steps.specs.Ahead.{AreAhead}
+
+-- a module of width 1 has its inputs and outputs in the simulation, though it may sleep there
+pub record IsWired (n : Circuit) (numbering : Numbering) (m : ℕ) (r : ModuleRecord) (s : NetlistSimulation) : Type 0 where
+  pub reads : ReadsNumbers numbering m r
+  pub numbers : All (λ x. is_bit_number n numbering x ≡ true) (numbering.inputs m)
+  pub drives : ports_at s.bits.simulator.outputs.items m ≡ output_ports_of r
+  pub room : (w p : ℕ) → Drives n m p w → delay_of r p ≤ length s.bits.simulator.wheel
+
+-- a module of width 1
+abbrev pub BitModulesActivate : Type 0
+BitModulesActivate = (n : Circuit) → IsCircuit n → (active on : ℕ → Bool) (numbering : Numbering) (m t : ℕ) (r : ModuleRecord) (wires : ℕ → Bool) (s mid new : NetlistSimulation) →
+    module_at n m ≡ Some r → active m ≡ false → (module_width n r == 1) ≡ true → ((w : ℕ) → wires w ≡ is_port_of m (driver n w)) → Shows n active on numbering t s → IsWired n numbering m r s →
+    IsBitSeated m (built n r) (state n m t) s mid → AreAhead n numbering t wires mid new → IsActivated n active numbering m t r s new
