@@ -2,3 +2,5 @@ pub mod PutLemmas
 pub mod OldChangeLemmas
 pub mod AheadLemmas
 pub mod BitActivatedLemmas
+pub mod DataActivatedLemmas
+pub mod SleptLemmas

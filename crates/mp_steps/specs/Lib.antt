@@ -3,3 +3,4 @@ pub mod Seating
 pub mod Putting
 pub mod Ahead
 pub mod Activated
+pub mod Taking

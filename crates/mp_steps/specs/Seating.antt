@@ -28,7 +28,7 @@ seat_in modules None = length modules
 seat_in modules (Some k) = k
 
 -- a module with data has a place; all else is as it was
-pub record IsDataSeated (m : ℕ) (seat : Option ℕ) (state : DataModule) (given : ℕ) (s new : NetlistSimulation) : Type 0 where
+pub record HasTakenSeat (m : ℕ) (seat : Option ℕ) (state : DataModule) (given : ℕ) (s new : NetlistSimulation) : Type 0 where
   pub bits : new.bits ≡ s.bits
   pub wires : new.wires ≡ s.wires
   pub place : given ≡ seat_in s.modules.modules.items seat

@@ -1,7 +1,8 @@
 //! What is put into the wheels is what they have to have.
 
 ghost use Rattle.mp_steps.specs.Ahead.{OldChangesAreAhead, PutsAhead};
-ghost use Rattle.mp_steps.specs.Activated.{BitModulesActivate};
+ghost use Rattle.mp_steps.specs.Activated.{BitModulesActivate, DataModulesActivate};
+ghost use Rattle.mp_steps.specs.Taking.{SleepingLeaves};
 
 /// The changes of a wave between two times, while a wire has its levels, are those of the wire.
 pub fn old_changes_are_ahead()
@@ -16,4 +17,14 @@ pub fn puts_ahead()
 /// A module of width 1 that has taken its place is active once its wires are ahead.
 pub fn bit_modules_activate()
     ensures { BitModulesActivate }
+{}
+
+/// So is a module with data that has taken a seat.
+pub fn data_modules_activate()
+    ensures { DataModulesActivate }
+{}
+
+/// A module that is put to sleep has left once its wires are taken out of the wheels.
+pub fn sleeping_leaves()
+    ensures { SleepingLeaves }
 {}

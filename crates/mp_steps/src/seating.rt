@@ -1,6 +1,6 @@
 //! A module takes its place in the simulation.
 ghost use Rattle.std.specs.Prelude.{◌<◌, ◌-◌, ◌^◌, length, IfSome, IfOk};
-ghost use Rattle.mp_steps.specs.Seating.{IsBitSeated, IsDataSeated};
+ghost use Rattle.mp_steps.specs.Seating.{IsBitSeated, HasTakenSeat};
 
 use mp_automata::{Automaton, AutomatonState, Phase, PortLevels};
 use mp_data::DataModule;
@@ -36,7 +36,7 @@ pub fn seat_data(
     requires place { number < length simulation.old.modules.places.items }
     requires seat { IfSome seat (λ k. k < length simulation.old.modules.modules.items) }
     requires few { length simulation.old.modules.modules.items < 2 ^ 32 - 1 }
-    ensures { IfOk result (λ place. IsDataSeated number seat state place simulation.old simulation.new) }
+    ensures { IfOk result (λ place. HasTakenSeat number seat state place simulation.old simulation.new) }
 {
     let modules = &mut simulation.modules.modules;
     let place = match seat {
