@@ -4,3 +4,4 @@ pub mod AheadLemmas
 pub mod BitActivatedLemmas
 pub mod DataActivatedLemmas
 pub mod SleptLemmas
+pub mod CopyPutLemmas

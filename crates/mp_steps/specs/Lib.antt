@@ -4,3 +4,4 @@ pub mod Putting
 pub mod Ahead
 pub mod Activated
 pub mod Taking
+pub mod Copying

@@ -1,6 +1,7 @@
 //! The steps between two units by which a simulation goes from one view of a netlist to another.
 #![tactic(auto)]
 
+mod copying;
 pub mod laws;
 mod seating;
 mod sleeping;
