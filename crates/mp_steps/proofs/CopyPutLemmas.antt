@@ -10,7 +10,7 @@ use Rattle.mp_data.specs.LevelWheels.{scheduled as levels_scheduled}
 use Rattle.mp_units.specs.declared.data_wires.DataWires.{DataWires}
 use Rattle.mp_units.specs.declared.netlist_simulation.NetlistSimulation.{NetlistSimulation}
 use Rattle.mp_steps.specs.Putting.{IsAhead, toggles_of}
-use Rattle.mp_steps.specs.Copying.{HasPutCopy, delayed}
+use Rattle.mp_steps.specs.Copying.{HasPutCopy, copy_room, delayed}
 use Rattle.mp_steps.proofs.PutLemmas.{scheduled_length, levels_length, all_between}
 
 -- of all entries these are left to be put
@@ -22,6 +22,7 @@ pub record PutCopiesSoFar (with_data : Bool) (all left : List (ℕ × LevelChang
   pub changes : cond with_data (levels_scheduled now.wires.wheel left) now.wires.wheel ≡ cond with_data (levels_scheduled s.wires.wheel all) s.wires.wheel
   pub change_units : length now.wires.wheel ≡ length s.wires.wheel
   pub modules : now.modules ≡ s.modules
+  pub room : copy_room with_data now ≡ copy_room with_data s
 
 -- the wheels keep their units
 pub copy_units : (with_data : Bool) (entries : List (ℕ × LevelChange)) (s new : NetlistSimulation) → HasPutCopy with_data entries s new → length new.bits.copies.wheel ≡ length s.bits.copies.wheel
@@ -33,7 +34,7 @@ copy_change_units true entries s new put = ap (length {A = List LevelChange}) pu
 copy_change_units false entries s new put = ap (length {A = List LevelChange}) put.changes
 
 pub no_copy_put : (with_data : Bool) (all : List (ℕ × LevelChange)) (s : NetlistSimulation) → PutCopiesSoFar with_data all all s s
-no_copy_put with_data all s = record { bits = refl; events = refl; units = refl; wires = refl; changes = refl; change_units = refl; modules = refl }
+no_copy_put with_data all s = record { bits = refl; events = refl; units = refl; wires = refl; changes = refl; change_units = refl; modules = refl; room = refl }
 
 pub copy_more : (with_data : Bool) (all left : List (ℕ × LevelChange)) (entry : ℕ × LevelChange) (s mid new : NetlistSimulation) →
     PutCopiesSoFar with_data all (entry ∷ left) s mid → HasPutCopy with_data (entry ∷ []) mid new → PutCopiesSoFar with_data all left s new
@@ -45,8 +46,12 @@ copy_more with_data all left entry s mid new so put = record {
   changes = changes with_data all put.changes so.changes;
   change_units = copy_change_units with_data (entry ∷ []) mid new put ∙ so.change_units;
   modules = put.modules ∙ so.modules;
+  room = rooms with_data (copy_units with_data (entry ∷ []) mid new put) (copy_change_units with_data (entry ∷ []) mid new put) ∙ so.room;
 }
   where
+    rooms : (with_data : Bool) → length new.bits.copies.wheel ≡ length mid.bits.copies.wheel → length new.wires.wheel ≡ length mid.wires.wheel → copy_room with_data new ≡ copy_room with_data mid
+    rooms true bits wires = wires
+    rooms false bits wires = bits
     events : (with_data : Bool) (all : List (ℕ × LevelChange)) →
         new.bits.copies.wheel ≡ cond with_data mid.bits.copies.wheel (scheduled mid.bits.copies.wheel (toggles_of (entry ∷ []))) →
         cond with_data mid.bits.copies.wheel (scheduled mid.bits.copies.wheel (toggles_of (entry ∷ left))) ≡ cond with_data s.bits.copies.wheel (scheduled s.bits.copies.wheel (toggles_of all)) →

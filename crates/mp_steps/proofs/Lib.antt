@@ -5,3 +5,4 @@ pub mod BitActivatedLemmas
 pub mod DataActivatedLemmas
 pub mod SleptLemmas
 pub mod CopyPutLemmas
+pub mod ChainLemmas

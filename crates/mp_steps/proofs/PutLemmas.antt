@@ -12,7 +12,7 @@ use Rattle.mp_data.specs.declared.level_change.LevelChange.{LevelChange}
 use Rattle.mp_data.specs.LevelWheels.{scheduled as levels_scheduled}
 use Rattle.mp_units.specs.declared.data_wires.DataWires.{DataWires}
 use Rattle.mp_units.specs.declared.netlist_simulation.NetlistSimulation.{NetlistSimulation}
-use Rattle.mp_steps.specs.Putting.{HasPut, IsAhead, toggles_of}
+use Rattle.mp_steps.specs.Putting.{HasPut, IsAhead, toggles_of, room}
 
 -- of all entries these are left to be put
 pub record PutSoFar (with_data : Bool) (all left : List (ℕ × LevelChange)) (s now : NetlistSimulation) : Type 0 where
@@ -23,6 +23,7 @@ pub record PutSoFar (with_data : Bool) (all left : List (ℕ × LevelChange)) (s
   pub changes : cond with_data (levels_scheduled now.wires.wheel left) now.wires.wheel ≡ cond with_data (levels_scheduled s.wires.wheel all) s.wires.wheel
   pub change_units : length now.wires.wheel ≡ length s.wires.wheel
   pub modules : now.modules ≡ s.modules
+  pub room : room with_data now ≡ room with_data s
 
 pub scheduled_length : (slots : List (List ℕ)) (entries : List (ℕ × ℕ)) → length (scheduled slots entries) ≡ length slots
 scheduled_length slots [] = refl
@@ -44,7 +45,7 @@ put_change_units true entries s new put = ap (length {A = List LevelChange}) put
 put_change_units false entries s new put = ap (length {A = List LevelChange}) put.changes
 
 pub none_put : (with_data : Bool) (all : List (ℕ × LevelChange)) (s : NetlistSimulation) → PutSoFar with_data all all s s
-none_put with_data all s = record { bits = refl; events = refl; units = refl; wires = refl; changes = refl; change_units = refl; modules = refl }
+none_put with_data all s = record { bits = refl; events = refl; units = refl; wires = refl; changes = refl; change_units = refl; modules = refl; room = refl }
 
 pub put_more : (with_data : Bool) (all left : List (ℕ × LevelChange)) (entry : ℕ × LevelChange) (s mid new : NetlistSimulation) →
     PutSoFar with_data all (entry ∷ left) s mid → HasPut with_data (entry ∷ []) mid new → PutSoFar with_data all left s new
@@ -56,8 +57,12 @@ put_more with_data all left entry s mid new so put = record {
   changes = changes with_data all put.changes so.changes;
   change_units = put_change_units with_data (entry ∷ []) mid new put ∙ so.change_units;
   modules = put.modules ∙ so.modules;
+  room = rooms with_data (put_units with_data (entry ∷ []) mid new put) (put_change_units with_data (entry ∷ []) mid new put) ∙ so.room;
 }
   where
+    rooms : (with_data : Bool) → length new.bits.simulator.wheel ≡ length mid.bits.simulator.wheel → length new.wires.wheel ≡ length mid.wires.wheel → room with_data new ≡ room with_data mid
+    rooms true bits wires = wires
+    rooms false bits wires = bits
     events : (with_data : Bool) (all : List (ℕ × LevelChange)) →
         new.bits.simulator.wheel ≡ cond with_data mid.bits.simulator.wheel (scheduled mid.bits.simulator.wheel (toggles_of (entry ∷ []))) →
         cond with_data mid.bits.simulator.wheel (scheduled mid.bits.simulator.wheel (toggles_of (entry ∷ left))) ≡ cond with_data s.bits.simulator.wheel (scheduled s.bits.simulator.wheel (toggles_of all)) →

@@ -8,6 +8,10 @@ use Rattle.mp_units.specs.declared.netlist_simulation.NetlistSimulation.{Netlist
 use Rattle.mp_steps.specs.declared.copying.Copied.{Copied}
 use Rattle.mp_steps.specs.Putting.{entries_of, toggles_of}
 
+-- how many units the wheel has of copies of wires of this kind
+abbrev pub copy_room : Bool → NetlistSimulation → ℕ
+copy_room with_data s = if with_data then length s.wires.wheel else length s.bits.copies.wheel
+
 -- changes so much later
 abbrev pub delayed : ℕ → List (ℕ × ℕ) → List (ℕ × ℕ)
 delayed delay changes = map (λ (c : ℕ × ℕ). (c.0 + delay, c.1)) changes
@@ -20,13 +24,12 @@ pub record HasPutCopy (with_data : Bool) (entries : List (ℕ × LevelChange)) (
   pub changes : new.wires.wheel ≡ (if with_data then levels_scheduled s.wires.wheel entries else s.wires.wheel)
   pub modules : new.modules ≡ s.modules
 
--- the number before a copy has had its changes up to the time, and the wheels have room for what is between that and the copy
-pub record IsLate (copy : Copied) (now : ℕ) (s : NetlistSimulation) : Type 0 where
+-- the number before a copy has had its changes up to the time, and the wheel has room for what is between that and the copy
+pub record IsLate (with_data : Bool) (copy : Copied) (now : ℕ) (s : NetlistSimulation) : Type 0 where
   pub had : copy.sooner ≤ now
   pub low : now + copy.delay < 2 ^ 32
   pub later : copy.sooner < copy.delay
-  pub within : copy.delay - copy.sooner ≤ length s.bits.copies.wheel
-  pub data_within : copy.delay - copy.sooner ≤ length s.wires.wheel
+  pub within : copy.delay - copy.sooner ≤ copy_room with_data s
 
 -- what a copy is to have of a wave after the unit of a time
 abbrev pub in_flight : Waveform → Copied → ℕ → List (ℕ × LevelChange)

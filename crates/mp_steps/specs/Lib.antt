@@ -5,3 +5,4 @@ pub mod Ahead
 pub mod Activated
 pub mod Taking
 pub mod Copying
+pub mod Chains

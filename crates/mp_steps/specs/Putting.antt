@@ -1,5 +1,5 @@
 -- Changes to come are put into the wheels.
-use Rattle.std.specs.Prelude.{◌≡◌, ℕ, ◌-◌, ◌<◌, ◌≤◌, Bool, List, map, if◌then◌else◌}
+use Rattle.std.specs.Prelude.{◌≡◌, ℕ, ◌-◌, ◌<◌, ◌≤◌, Bool, List, length, map, if◌then◌else◌}
 use Rattle.mp_events.specs.Firing.{scheduled}
 use Rattle.mp_data.specs.declared.level_change.LevelChange.{LevelChange}
 use Rattle.mp_data.specs.LevelWheels.{scheduled as levels_scheduled}
@@ -18,6 +18,10 @@ toggle_of entry = (entry.0, entry.1.number)
 
 abbrev pub toggles_of : List (ℕ × LevelChange) → List (ℕ × ℕ)
 toggles_of entries = map toggle_of entries
+
+-- how many units the wheel has of wires of this kind
+abbrev pub room : Bool → NetlistSimulation → ℕ
+room with_data s = if with_data then length s.wires.wheel else length s.bits.simulator.wheel
 
 -- the change comes after the unit of a time, within so many units
 pub record IsAhead (now units : ℕ) (change : ℕ × ℕ) : Type 0 where

@@ -3,7 +3,7 @@ ghost use Rattle.std.specs.Prelude.{◌≡◌, ◌<◌, ◌≤◌, ◌-◌, ◌+
 ghost use Rattle.mp_wave.specs.Waveform.{level_of};
 ghost use Rattle.mp_wave.specs.WaveChanges.{changes_in};
 ghost use Rattle.mp_steps.specs.Putting.{IsAhead, entries_of};
-ghost use Rattle.mp_steps.specs.Copying.{HasPutCopy, HasTurnedCopy, IsLate, delayed};
+ghost use Rattle.mp_steps.specs.Copying.{HasPutCopy, HasTurnedCopy, IsLate, copy_room, delayed};
 
 use crate::wheel_entries::OldWire;
 use mp_data::LevelChange;
@@ -26,7 +26,7 @@ pub(crate) fn turn_copy_on(
     copy: Copied,
     now: u32,
 ) -> Result<(), AllocError>
-    requires late { IsLate copy now simulation.old }
+    requires late { IsLate wire.has_data copy now simulation.old }
     requires place { copy.number < length simulation.old.wires.levels.items }
     ensures { OnOk result (HasTurnedCopy wire.entry.has_data wire.entry.wave.now copy now simulation.old simulation.new) }
 {
@@ -66,8 +66,7 @@ fn put_copies(
 ) -> Result<(), AllocError>
     requires low { now + copy.delay < 2 ^ 32 }
     requires early { All (λ c. c.0 ≤ now) (changes_in changes) }
-    requires within { All (IsAhead now (length simulation.old.bits.copies.wheel)) (delayed copy.delay (changes_in changes)) }
-    requires data_within { All (IsAhead now (length simulation.old.wires.wheel)) (delayed copy.delay (changes_in changes)) }
+    requires within { All (IsAhead now (copy_room has_data simulation.old)) (delayed copy.delay (changes_in changes)) }
     ensures { OnOk result (HasPutCopy has_data (entries_of copy.number now (delayed copy.delay (changes_in changes.entry))) simulation.old simulation.new) }
 {
     let mut rest = changes;
@@ -88,8 +87,7 @@ fn put_copy(
     level: u64,
 ) -> Result<(), AllocError>
     requires some { 0 < units }
-    requires within { units ≤ length simulation.old.bits.copies.wheel }
-    requires data_within { units ≤ length simulation.old.wires.wheel }
+    requires within { units ≤ copy_room has_data simulation.old }
     ensures { OnOk result (HasPutCopy has_data ((units - 1, record { number = number; level = level }) ∷ []) simulation.old simulation.new) }
 {
     if has_data {

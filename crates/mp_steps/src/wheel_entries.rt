@@ -1,8 +1,8 @@
 //! What the simulation knows ahead of wires that modules drive is put into its wheels.
-ghost use Rattle.std.specs.Prelude.{◌<◌, ◌≤◌, ◌-◌, ◌+◌, ◌∷◌, [], All, length, OnOk};
+ghost use Rattle.std.specs.Prelude.{◌<◌, ◌≤◌, ◌-◌, ◌+◌, ◌∷◌, [], All, OnOk};
 ghost use Rattle.mp_wave.specs.Waveform.{between};
 ghost use Rattle.mp_wave.specs.WaveChanges.{changes_in};
-ghost use Rattle.mp_steps.specs.Putting.{HasPut, IsAhead, entries_of};
+ghost use Rattle.mp_steps.specs.Putting.{HasPut, IsAhead, entries_of, room};
 
 use mp_data::LevelChange;
 use mp_run::StimulusChange;
@@ -27,8 +27,7 @@ pub fn put_old_changes(
     now: u32,
 ) -> Result<(), AllocError>
     requires later { now ≤ from }
-    requires within { to - now ≤ length simulation.old.bits.simulator.wheel + 1 }
-    requires data_within { to - now ≤ length simulation.old.wires.wheel + 1 }
+    requires within { to - now ≤ room wire.has_data simulation.old + 1 }
     ensures { OnOk result (HasPut wire.entry.has_data (entries_of wire.entry.number now (between from to wire.entry.wave.now.changes)) simulation.old simulation.new) }
 {
     put_changes(
@@ -46,8 +45,7 @@ fn put_changes(
     changes: WaveChanges<'_>,
     now: u32,
 ) -> Result<(), AllocError>
-    requires within { All (IsAhead now (length simulation.old.bits.simulator.wheel)) (changes_in changes) }
-    requires data_within { All (IsAhead now (length simulation.old.wires.wheel)) (changes_in changes) }
+    requires { All (IsAhead now (room wire.has_data simulation.old)) (changes_in changes) }
     ensures { OnOk result (HasPut wire.entry.has_data (entries_of wire.entry.number now (changes_in changes.entry)) simulation.old simulation.new) }
 {
     let mut rest = changes;
@@ -71,8 +69,7 @@ pub fn put_change(
     now: u32,
 ) -> Result<(), AllocError>
     requires later { now < change.time }
-    requires within { change.time - now ≤ length simulation.old.bits.simulator.wheel }
-    requires data_within { change.time - now ≤ length simulation.old.wires.wheel }
+    requires within { change.time - now ≤ room change.has_data simulation.old }
     ensures { OnOk result (HasPut change.has_data (entries_of change.wire now ((change.time, change.level) ∷ [])) simulation.old simulation.new) }
 {
     let units = (change.time - now) as usize;

@@ -2,7 +2,7 @@ use Rattle.std.proofs.Common.{◌≡◌, ◌≤◌, ◌+◌, ℕ, ◌∷◌, Lis
 use Rattle.std.proofs.lemmas.List.Elements.{All-head, All-tail}
 use Rattle.mp_wave.specs.WaveChanges.{changes_in}
 use Rattle.mp_steps.specs.Putting.{IsAhead, entry_of, entries_of}
-use Rattle.mp_steps.specs.Copying.{delayed}
+use Rattle.mp_steps.specs.Copying.{copy_room, delayed}
 use Rattle.mp_steps.proofs.CopyPutLemmas.{PutCopiesSoFar, copy_more}
 use Rattle.mp_steps.proofs.copying.put_copies.Goals as goal
 
@@ -21,5 +21,4 @@ loop-change-preserved c =
       (subst (λ cs. PutCopiesSoFar c.args.has_data (entries_of x now (delayed d (changes_in c.args.changes))) (entries_of x now (delayed d cs)) s c.loop-change.simulation) is so)
       c.in_ok-put_copy.ensures,
     All-tail (λ (c : ℕ × ℕ). c.0 ≤ now) change later (subst (λ cs. All (λ (c : ℕ × ℕ). c.0 ≤ now) cs) is c.loop-change.invariant.1),
-    All-tail (IsAhead now (length s.bits.copies.wheel)) late (delayed d later) (subst (λ cs. All (IsAhead now (length s.bits.copies.wheel)) (delayed d cs)) is c.loop-change.invariant.2),
-    All-tail (IsAhead now (length s.wires.wheel)) late (delayed d later) (subst (λ cs. All (IsAhead now (length s.wires.wheel)) (delayed d cs)) is c.loop-change.invariant.3))
+    All-tail (IsAhead now (copy_room c.args.has_data s)) late (delayed d later) (subst (λ cs. All (IsAhead now (copy_room c.args.has_data s)) (delayed d cs)) is c.loop-change.invariant.2))

@@ -1,7 +1,7 @@
 use Rattle.std.proofs.Common.{◌≡◌, ℕ, ◌∷◌, List, All, length, subst, sym}
 use Rattle.std.proofs.lemmas.List.Elements.{All-head, All-tail}
 use Rattle.mp_wave.specs.WaveChanges.{changes_in}
-use Rattle.mp_steps.specs.Putting.{IsAhead, entry_of, entries_of}
+use Rattle.mp_steps.specs.Putting.{IsAhead, entry_of, entries_of, room}
 use Rattle.mp_steps.proofs.PutLemmas.{PutSoFar, put_more}
 use Rattle.mp_steps.proofs.wheel_entries.put_changes.Goals as goal
 
@@ -17,5 +17,4 @@ loop-change-preserved c =
     (put_more c.args.wire.has_data (entries_of w now (changes_in c.args.changes)) (entries_of w now later) (entry_of w now change) s c.loop-change.simulation c.put_change.new.simulation
       (subst (λ cs. PutSoFar c.args.wire.has_data (entries_of w now (changes_in c.args.changes)) (entries_of w now cs) s c.loop-change.simulation) is so)
       c.in_ok-put_change.ensures,
-    All-tail (IsAhead now (length s.bits.simulator.wheel)) change later (subst (λ cs. All (IsAhead now (length s.bits.simulator.wheel)) cs) is c.loop-change.invariant.1),
-    All-tail (IsAhead now (length s.wires.wheel)) change later (subst (λ cs. All (IsAhead now (length s.wires.wheel)) cs) is c.loop-change.invariant.2))
+    All-tail (IsAhead now (room c.args.wire.has_data s)) change later (subst (λ cs. All (IsAhead now (room c.args.wire.has_data s)) cs) is c.loop-change.invariant.1))
