@@ -1,11 +1,12 @@
 -- The delayed copies of a wire, one after the other.
-use Rattle.std.proofs.Common.{◌≡◌, ℕ, Bool, true, false, List, [], ◌∷◌, cond, length, nat_lt, refl, ap, sym, ◌∙◌}
+use Rattle.std.proofs.Common.{◌≡◌, ℕ, ◌<◌, Bool, true, false, List, [], ◌∷◌, All, Some, cond, length, nat_lt, refl, ap, sym, ◌∙◌}
 use Rattle.std.specs.Prelude.{slice_set}
 use Rattle.std.proofs.lemmas.List.{length-set}
 use Rattle.mp_wave.specs.Waveform.{Waveform}
 use Rattle.mp_core.specs.declared.simulation.Simulation.{Simulation}
 use Rattle.mp_events.specs.declared.output_port.OutputPort.{OutputPort}
-use Rattle.mp_events.specs.Firing.{scheduled}
+use Rattle.mp_events.specs.Firing.{scheduled, copy_at, no_port}
+use Rattle.mp_core.specs.Simulators.{IsBelow}
 use Rattle.mp_data.specs.declared.level_change.LevelChange.{LevelChange}
 use Rattle.mp_data.specs.LevelWheels.{scheduled as levels_scheduled}
 use Rattle.mp_units.specs.declared.data_wires.DataWires.{DataWires}
@@ -51,3 +52,7 @@ LeadsOn with_data wave w now s number late mid =
 
 pub leads_first : (with_data : Bool) (wave : Waveform) (w now : ℕ) (s : NetlistSimulation) → LeadsOn with_data wave w now s w 0 s
 leads_first with_data wave w now s copies new behind turned = record { copies = copies; behind = behind; turned = turned }
+
+-- the copy next after a number is one of the numbers
+pub below_at : (next : List OutputPort) (numbers y x : ℕ) → y < length next → All (IsBelow numbers) next → (copy_at next y).wire ≡ Some x → x < numbers
+below_at next numbers y x low each is = each y no_port low x is
