@@ -1,9 +1,8 @@
 -- What is known of wires is put into the wheels, one wire after the other.
-use Rattle.std.proofs.Common.{◌≡◌, ℕ, ◌+◌, ◌-◌, ◌<◌, ◌≤◌, Bool, true, false, not, List, [], ◌∷◌, All, cond, map, length, nat_lt, refl, ap, sym, subst, ◌∙◌, arith, inl, inr}
+use Rattle.std.proofs.Common.{◌≡◌, ℕ, ◌+◌, ◌-◌, ◌<◌, ◌≤◌, Bool, true, false, not, List, [], ◌∷◌, All, cond, length, nat_lt, refl, ap, sym, subst, ◌∙◌, arith, inl, inr}
 use Rattle.std.specs.Prelude.{◌==◌, ◌&&◌, ◌||◌, slice_index_or}
 use Rattle.std.specs.List.{count_by}
-use Rattle.std.proofs.lemmas.Bool.{cases_lt, cases_Bool, eqb-true, eqb-false, eq-eqb, ne_eqb, lt-ltb, le-ltb, and_right}
-use Rattle.std.proofs.lemmas.List.Elements.{All-head, All-tail}
+use Rattle.std.proofs.lemmas.Bool.{cases_lt, eqb-true, eqb-false, eq-eqb, ne_eqb, lt-ltb, le-ltb, and_right}
 use Rattle.std.proofs.lemmas.List.Sums.{sum_by-cons}
 use Rattle.mp_netlist.specs.Circuit.{Circuit, wire_at}
 use Rattle.mp_netlist.specs.Drivers.{driver}
@@ -11,7 +10,6 @@ use Rattle.mp_model.specs.Levels.{initial_of}
 use Rattle.mp_model.specs.Waves.{level}
 use Rattle.mp_automata.specs.Codes.{bit}
 use Rattle.mp_core.specs.declared.simulation.Simulation.{Simulation}
-use Rattle.mp_core.specs.declared.simulator.Simulator.{Simulator}
 use Rattle.mp_core.specs.Changes.{change_at}
 use Rattle.mp_core.specs.Simulators.{slot_at}
 use Rattle.mp_events.specs.Adding.{listed}
@@ -22,13 +20,12 @@ use Rattle.mp_data.specs.LevelWheels.{scheduled as levels_scheduled}
 use Rattle.mp_units.specs.declared.data_wires.DataWires.{DataWires}
 use Rattle.mp_units.specs.declared.netlist_simulation.NetlistSimulation.{NetlistSimulation}
 use Rattle.mp_units.specs.DataLevels.{is_data, is_bit_wire, changes_of, IsLevelAt, late_level}
-use Rattle.mp_units.specs.DataWheels.{data_slot, driver_delay, AreChangesBelow}
+use Rattle.mp_units.specs.DataWheels.{data_slot, driver_delay}
 use Rattle.mp_units.proofs.LevelWheelLemmas.{changes_each, holds_scheduled, HoldsIn, HoldsOf}
 use Rattle.mp_view.specs.Numberings.{Numbering}
-use Rattle.mp_view.specs.Levels.{AreLevelsShown}
 use Rattle.mp_view.proofs.KeptLemmas.{bit_is}
 use Rattle.mp_steps.specs.Putting.{HasPut, toggle_of, toggles_of}
-use Rattle.mp_steps.specs.Ahead.{is_entry_of, is_known, IsEntryOf, AreChangesOf, AreAhead, HasNothingAhead, PutsAhead}
+use Rattle.mp_steps.specs.Ahead.{is_entry_of, is_known, AreChangesOf, AreAhead, HasNothingAhead, PutsAhead}
 use Rattle.mp_steps.proofs.PutLemmas.{put_units, put_change_units}
 
 counted_toggles : (k x : ℕ) (entries : List (ℕ × LevelChange)) → count_by (is_entry k x) (toggles_of entries) ≡ count_by (is_entry_of k x) entries
@@ -63,7 +60,6 @@ level_now n w u = ap (λ b. cond b (initial_of (wire_at n w)) (level n w (u - 0)
 module _ (n : Circuit) (numbering : Numbering) (t w : ℕ) (wires : ℕ → Bool) (s mid new : NetlistSimulation) (entries : List (ℕ × LevelChange))
     (fresh : wires w ≡ false) (nothing : HasNothingAhead n numbering w s) (ahead : AreAhead n numbering t wires s mid)
     (known : AreChangesOf n w t t (t + 1 + driver_delay n (driver n w)) entries) (put : HasPut (is_data n w) entries mid new) where
-
   count_here : (v k : ℕ) → v ≡ w → count_by (is_entry_of k v) entries ≡ bit (is_known n t v k)
   count_here v k same =
       known.each k v
@@ -166,8 +162,8 @@ module _ (n : Circuit) (numbering : Numbering) (t w : ℕ) (wires : ℕ → Bool
     levels = λ before.
         holds_put (λ k c. IsLevelAt n numbering.source (t + 1 + k) c) (is_data n w) put.changes (ahead.levels before)
         (λ k d low.
-          let e = known.own k d low in
-          e.level ∙ sym (level_now n w (t + 1 + (slice_index_or entries k d).0)) ∙ sym (ap (λ (v : ℕ × ℕ). late_level n v (t + 1 + (slice_index_or entries k d).0)) (ap numbering.source e.wire ∙ nothing.own)));
+        let e = known.own k d low in
+        e.level ∙ sym (level_now n w (t + 1 + (slice_index_or entries k d).0)) ∙ sym (ap (λ (v : ℕ × ℕ). late_level n v (t + 1 + (slice_index_or entries k d).0)) (ap numbering.source e.wire ∙ nothing.own)));
     modules = put.modules ∙ ahead.modules;
   }
 

@@ -1,5 +1,5 @@
 -- A module of width 1 that has taken its place, and whose wires are ahead, is active.
-use Rattle.std.proofs.Common.{◌≡◌, ◌≢◌, ℕ, ◌+◌, ◌<◌, ◌≤◌, Bool, true, false, List, [], All, Option, Some, None, cond, length, nat_lt, refl, ap, sym, subst, ◌∙◌, arith, inl, inr, get_or-set_same, get_or-set_other}
+use Rattle.std.proofs.Common.{◌≡◌, ◌≢◌, ℕ, ◌+◌, ◌<◌, ◌≤◌, Bool, true, false, List, [], All, Option, Some, None, cond, length, nat_lt, refl, ap, sym, subst, ◌∙◌, arith, get_or-set_same, get_or-set_other}
 use Rattle.std.specs.Prelude.{◌==◌, ◌&&◌, slice_index_or, slice_set}
 use Rattle.std.proofs.lemmas.Bool.{eqb-false}
 use Rattle.std.proofs.lemmas.List.{length-set}
@@ -66,7 +66,6 @@ no_seat n active on numbering m t s resting shown = by (place_at s.modules.place
 module _ (n : Circuit) (ok : IsCircuit n) (active on : ℕ → Bool) (numbering : Numbering) (m t : ℕ) (r : ModuleRecord) (wires : ℕ → Bool) (s mid new : NetlistSimulation)
     (at : module_at n m ≡ Some r) (resting : active m ≡ false) (narrow : (module_width n r == 1) ≡ true) (driven : (w : ℕ) → wires w ≡ is_port_of m (driver n w))
     (shown : Shows n active on numbering t s) (wired : IsWired n numbering m r s) (seat : IsBitSeated m (built n r) (state n m t) s mid) (ahead : AreAhead n numbering t wires mid new) where
-
   low : m < length s.bits.simulator.states.items
   low = let same = shown.bits.places in let here = slot_within n.modules m r at in omega (arith, same, here)
 

@@ -1,5 +1,5 @@
 -- The delayed copies of a wire, one after the other.
-use Rattle.std.proofs.Common.{◌≡◌, ℕ, ◌<◌, Bool, true, false, List, [], ◌∷◌, All, Some, cond, length, nat_lt, refl, ap, sym, ◌∙◌}
+use Rattle.std.proofs.Common.{◌≡◌, ℕ, ◌<◌, Bool, true, false, List, ◌∷◌, All, Some, cond, length, nat_lt, refl, ap, ◌∙◌}
 use Rattle.std.specs.Prelude.{slice_set}
 use Rattle.std.proofs.lemmas.List.{length-set}
 use Rattle.mp_wave.specs.Waveform.{Waveform}
@@ -8,7 +8,6 @@ use Rattle.mp_events.specs.declared.output_port.OutputPort.{OutputPort}
 use Rattle.mp_events.specs.Firing.{scheduled, copy_at, no_port}
 use Rattle.mp_core.specs.Simulators.{IsBelow}
 use Rattle.mp_data.specs.declared.level_change.LevelChange.{LevelChange}
-use Rattle.mp_data.specs.LevelWheels.{scheduled as levels_scheduled}
 use Rattle.mp_units.specs.declared.data_wires.DataWires.{DataWires}
 use Rattle.mp_units.specs.declared.netlist_simulation.NetlistSimulation.{NetlistSimulation}
 use Rattle.mp_steps.specs.declared.copying.Copied.{Copied}

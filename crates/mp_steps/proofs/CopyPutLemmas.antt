@@ -2,7 +2,6 @@
 use Rattle.std.proofs.Common.{◌≡◌, ℕ, ◌+◌, ◌-◌, ◌<◌, ◌≤◌, All, arith, Bool, true, false, List, [], ◌∷◌, cond, length, refl, ap, ◌∙◌}
 use Rattle.std.proofs.lemmas.List.Elements.{All-map}
 use Rattle.mp_wave.specs.Waveform.{between}
-use Rattle.mp_core.specs.declared.delayed_copies.DelayedCopies.{DelayedCopies}
 use Rattle.mp_core.specs.declared.simulation.Simulation.{Simulation}
 use Rattle.mp_events.specs.Firing.{scheduled}
 use Rattle.mp_data.specs.declared.level_change.LevelChange.{LevelChange}
@@ -52,12 +51,14 @@ copy_more with_data all left entry s mid new so put = record {
     rooms : (with_data : Bool) → length new.bits.copies.wheel ≡ length mid.bits.copies.wheel → length new.wires.wheel ≡ length mid.wires.wheel → copy_room with_data new ≡ copy_room with_data mid
     rooms true bits wires = wires
     rooms false bits wires = bits
+
     events : (with_data : Bool) (all : List (ℕ × LevelChange)) →
         new.bits.copies.wheel ≡ cond with_data mid.bits.copies.wheel (scheduled mid.bits.copies.wheel (toggles_of (entry ∷ []))) →
         cond with_data mid.bits.copies.wheel (scheduled mid.bits.copies.wheel (toggles_of (entry ∷ left))) ≡ cond with_data s.bits.copies.wheel (scheduled s.bits.copies.wheel (toggles_of all)) →
         cond with_data new.bits.copies.wheel (scheduled new.bits.copies.wheel (toggles_of left)) ≡ cond with_data s.bits.copies.wheel (scheduled s.bits.copies.wheel (toggles_of all))
     events true all put so = put ∙ so
     events false all put so = ap (λ (wheel : List (List ℕ)). scheduled wheel (toggles_of left)) put ∙ so
+
     changes : (with_data : Bool) (all : List (ℕ × LevelChange)) →
         new.wires.wheel ≡ cond with_data (levels_scheduled mid.wires.wheel (entry ∷ [])) mid.wires.wheel →
         cond with_data (levels_scheduled mid.wires.wheel (entry ∷ left)) mid.wires.wheel ≡ cond with_data (levels_scheduled s.wires.wheel all) s.wires.wheel →
@@ -73,22 +74,22 @@ all_copies_put with_data all s new so = record { bits = so.bits; events = events
         new.bits.copies.wheel ≡ cond with_data s.bits.copies.wheel (scheduled s.bits.copies.wheel (toggles_of all))
     events true so = so
     events false so = so
+
     changes : (with_data : Bool) →
         cond with_data new.wires.wheel new.wires.wheel ≡ cond with_data (levels_scheduled s.wires.wheel all) s.wires.wheel →
         new.wires.wheel ≡ cond with_data (levels_scheduled s.wires.wheel all) s.wires.wheel
     changes true so = so
     changes false so = so
 
-
 -- what the number before a copy has had, and the copy not yet
 pub delayed_ahead : (sooner delay now units : ℕ) (changes : List (ℕ × ℕ)) → sooner ≤ now → sooner < delay → delay - sooner ≤ units →
     All (IsAhead now units) (delayed delay (between (now - delay) (now - sooner + 1) changes))
 delayed_ahead sooner delay now units changes had later within =
     All-map (IsAhead now units) (λ (c : ℕ × ℕ). (c.0 + delay, c.1)) (between (now - delay) (now - sooner + 1) changes) (λ k d low.
-      let is = all_between (now - delay) (now - sooner + 1) changes k d low in
-      let one = is.0 in
-      let other = is.1 in
-      record { later = omega (arith, one, later); within = omega (arith, had, later, within, one, other) })
+    let is = all_between (now - delay) (now - sooner + 1) changes k d low in
+    let one = is.0 in
+    let other = is.1 in
+    record { later = omega (arith, one, later); within = omega (arith, had, later, within, one, other) })
 
 pub all_early : (sooner delay now : ℕ) (changes : List (ℕ × ℕ)) → sooner ≤ now → All (λ (c : ℕ × ℕ). c.0 ≤ now) (between (now - delay) (now - sooner + 1) changes)
 all_early sooner delay now changes had = λ k d low. let is = all_between (now - delay) (now - sooner + 1) changes k d low in let other = is.1 in omega (arith, other)

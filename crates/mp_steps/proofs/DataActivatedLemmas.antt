@@ -1,25 +1,17 @@
 -- A module with data that has taken its place, and whose wires are ahead, is active.
-use Rattle.std.proofs.Common.{◌≡◌, ◌≢◌, ℕ, ◌+◌, ◌<◌, ◌≤◌, Bool, true, false, List, [], ◌∷◌, ◌++◌, All, Option, Some, None, cond, length, nat_lt, refl, ap, sym, subst, ◌∙◌, arith, inl, inr, get_or-set_same, get_or-set_other}
+use Rattle.std.proofs.Common.{◌≡◌, ◌≢◌, ℕ, ◌+◌, ◌<◌, ◌≤◌, Bool, true, false, List, [], ◌∷◌, ◌++◌, All, Option, Some, None, length, refl, ap, sym, subst, ◌∙◌, arith, inl, inr, get_or-set_same, get_or-set_other}
 use Rattle.std.specs.Prelude.{◌==◌, ◌&&◌, slice_index_or, slice_set}
 use Rattle.std.proofs.lemmas.Bool.{cases_Bool, eqb-true, eqb-false}
 use Rattle.std.proofs.lemmas.List.{length-set, length-append, get_or_append_left, get_or_push}
 use Rattle.std.proofs.lemmas.List.Elements.{All-push, All-set}
-use Rattle.std.proofs.lemmas.Option.{same_Some, none-some}
+use Rattle.std.proofs.lemmas.Option.{same_Some}
 use Rattle.mp_records.specs.declared.module_record.ModuleRecord.{ModuleRecord}
 use Rattle.mp_netlist.specs.Circuit.{Circuit, IsCircuit, module_at, module_width}
 use Rattle.mp_netlist.specs.Drivers.{driver}
-use Rattle.mp_model.specs.Levels.{built}
-use Rattle.mp_model.specs.Waves.{state}
 use Rattle.mp_model.proofs.SlotLemmas.{slot_within}
-use Rattle.mp_automata.specs.declared.automaton_state.AutomatonState.{AutomatonState}
 use Rattle.mp_automata.specs.declared.port_levels.PortLevels.{PortLevels}
-use Rattle.mp_automata.specs.Automata.{automaton_of}
-use Rattle.mp_automata.specs.Phases.{phase_of}
-use Rattle.mp_automata.specs.Codes.{bit, state_code, no_events}
-use Rattle.mp_automata.specs.PortLevels.{levels_code}
 use Rattle.mp_core.specs.declared.simulation.Simulation.{Simulation}
 use Rattle.mp_core.specs.declared.simulator.Simulator.{Simulator}
-use Rattle.mp_core.specs.Changes.{change_at}
 use Rattle.mp_core.specs.Simulators.{slot_at, AreBelow}
 use Rattle.mp_events.specs.declared.output_ports.OutputPorts.{OutputPorts}
 use Rattle.mp_events.specs.Adding.{state_at, listed}
@@ -34,14 +26,14 @@ use Rattle.mp_units.specs.declared.data_wires.DataWires.{DataWires}
 use Rattle.mp_units.specs.declared.netlist_simulation.NetlistSimulation.{NetlistSimulation}
 use Rattle.mp_units.specs.DataSeats.{IsDataSeat}
 use Rattle.mp_units.specs.DataLevels.{is_data, is_bit_wire, changes_of}
-use Rattle.mp_units.specs.DataWheels.{data_slot, driver_delay, AreChangesBelow}
+use Rattle.mp_units.specs.DataWheels.{data_slot, AreChangesBelow}
 use Rattle.mp_view.specs.Numberings.{Numbering, place_of, place_in, scope_of}
 use Rattle.mp_view.specs.Levels.{AreLevelsShown}
 use Rattle.mp_view.specs.Showing.{IsAsleep, Shows}
 use Rattle.mp_view.specs.Leaving.{is_port_of}
 use Rattle.mp_view.specs.Activating.{with_module, IsDataSeated, IsBitModuleActivated, IsActivated}
 use Rattle.mp_steps.specs.Seating.{seated, seat_in, HasTakenSeat}
-use Rattle.mp_steps.specs.Ahead.{is_known, AreAhead}
+use Rattle.mp_steps.specs.Ahead.{AreAhead}
 use Rattle.mp_steps.specs.Activated.{CanTakeSeat, DataModulesActivate}
 use Rattle.mp_steps.proofs.BitActivatedLemmas.{told}
 
@@ -74,7 +66,6 @@ all_seated P xs (Some k) part all own = All-set P xs k part own all
 module _ (n : Circuit) (ok : IsCircuit n) (active on : ℕ → Bool) (numbering : Numbering) (m t : ℕ) (r : ModuleRecord) (seat : Option ℕ) (part : DataModule) (place : ℕ) (wires : ℕ → Bool)
     (s mid new : NetlistSimulation) (at : module_at n m ≡ Some r) (resting : active m ≡ false) (wide : (module_width n r == 1) ≡ false) (driven : (w : ℕ) → wires w ≡ is_port_of m (driver n w))
     (shown : Shows n active on numbering t s) (can : CanTakeSeat n active numbering m t r seat part s) (taken : HasTakenSeat m seat part place s mid) (ahead : AreAhead n numbering t wires mid new) where
-
   abbrev old_places : List (Option ℕ)
   old_places = s.modules.places.items
 

@@ -1,11 +1,11 @@
 -- The changes of a wave between two times, and what is put of them.
-use Rattle.std.proofs.Common.{◌≡◌, ℕ, ◌+◌, ◌-◌, ◌<◌, ◌≤◌, Bool, true, false, not, List, [], ◌∷◌, ◌++◌, All, cond, map, length, nat_lt, refl, ap, sym, subst, ◌∙◌, arith, inl, inr}
+use Rattle.std.proofs.Common.{◌≡◌, ℕ, ◌+◌, ◌-◌, ◌<◌, ◌≤◌, Bool, true, false, not, List, [], ◌∷◌, ◌++◌, All, cond, nat_lt, refl, ap, sym, subst, ◌∙◌, arith, inl, inr}
 use Rattle.std.specs.Prelude.{◌==◌, ◌&&◌, slice_index_or}
 use Rattle.std.specs.List.{count_by, filter}
-use Rattle.std.proofs.lemmas.Bool.{cases_eq, cases_Bool, eqb-true, eq-eqb, ne_eqb, ltb-true, and_right}
-use Rattle.std.proofs.lemmas.List.Elements.{All-nil, All-cons, All-head, All-tail, All-append}
-use Rattle.std.proofs.lemmas.List.Sums.{sum_by-cons, sum_by-append}
-use Rattle.mp_wave.specs.Waveform.{Waveform, IsWaveform, AreChanges, level_of, level_from, between, later_than, earlier_than}
+use Rattle.std.proofs.lemmas.Bool.{cases_eq, eqb-true, eq-eqb, ne_eqb, ltb-true, and_right}
+use Rattle.std.proofs.lemmas.List.Elements.{All-nil, All-cons, All-head, All-tail}
+use Rattle.std.proofs.lemmas.List.Sums.{sum_by-cons}
+use Rattle.mp_wave.specs.Waveform.{Waveform, IsWaveform, AreChanges, level_of, level_from, between, later_than}
 use Rattle.mp_netlist.specs.Circuit.{Circuit}
 use Rattle.mp_model.specs.Evaluations.{AreRising}
 use Rattle.mp_model.specs.Waves.{level}
@@ -15,7 +15,7 @@ use Rattle.mp_data.specs.declared.level_change.LevelChange.{LevelChange}
 use Rattle.mp_run.specs.Stimuli.{set_changes}
 use Rattle.mp_run.proofs.StimulusLemmas.{timed, timed_cons, plus_none, toggles_change, set_levels}
 use Rattle.mp_steps.specs.Putting.{entry_of, entries_of}
-use Rattle.mp_steps.specs.Ahead.{is_entry_of, IsEntryOf, AreChangesOf, OldChangesAreAhead, SpansJoin}
+use Rattle.mp_steps.specs.Ahead.{is_entry_of, IsEntryOf, AreChangesOf, OldChangesAreAhead}
 use Rattle.mp_steps.proofs.PutLemmas.{all_between}
 
 -- ---- the changes of a wave are all set, each to another level
@@ -35,7 +35,7 @@ timed_wave wave form k =
 levels_in : (wave : Waveform) → IsWaveform wave → All (λ (c : ℕ × ℕ). level_of wave c.0 ≡ c.1) wave.changes
 levels_in wave form = λ k d low.
     let is = subst (λ (cs : List (ℕ × ℕ)). All (λ (c : ℕ × ℕ). (0 < c.0) × (level_from wave.initial wave.changes c.0 ≡ c.1)) cs) (set_of 0 wave.initial wave.changes form)
-        (set_levels wave.initial 0 wave.changes (rising_of 0 wave.initial wave.changes form)) k d low in
+    (set_levels wave.initial 0 wave.changes (rising_of 0 wave.initial wave.changes form)) k d low in
     is.1
 
 -- ---- those that are kept by their times
@@ -145,7 +145,7 @@ module _ (n : Circuit) (w t from to : ℕ) (wave : Waveform) (form : IsWaveform 
         let first = is.0 in
         let last = is.1 in
         let has = all_kept (λ (c : ℕ × ℕ). level_of wave c.0 ≡ c.1) (λ v. nat_lt v to) (later_than from wave.changes)
-            (all_kept (λ (c : ℕ × ℕ). level_of wave c.0 ≡ c.1) (λ v. nat_lt from v) wave.changes (levels_in wave form)) k d low in
+        (all_kept (λ (c : ℕ × ℕ). level_of wave c.0 ≡ c.1) (λ v. nat_lt from v) wave.changes (levels_in wave form)) k d low in
         (omega (arith, later, first), sym has ∙ agree (slice_index_or (between from to wave.changes) k d).0 (omega (arith, first)) last));
   }
 

@@ -1,12 +1,11 @@
 -- Changes to come are put into the wheels, one after the other.
-use Rattle.std.proofs.Common.{◌≡◌, ℕ, ◌+◌, ◌-◌, ◌<◌, ◌≤◌, Bool, true, false, List, [], ◌∷◌, ◌++◌, All, cond, length, nat_lt, refl, ap, sym, subst, ◌∙◌, arith, inl, inr}
+use Rattle.std.proofs.Common.{◌≡◌, ℕ, ◌+◌, ◌-◌, ◌<◌, ◌≤◌, Bool, true, false, List, [], ◌∷◌, ◌++◌, All, cond, length, nat_lt, refl, ap, ◌∙◌, arith}
 use Rattle.std.specs.Prelude.{slice_set, slice_index_or}
 use Rattle.std.proofs.lemmas.Bool.{ltb-true}
 use Rattle.std.proofs.lemmas.List.{length-set}
 use Rattle.std.proofs.lemmas.List.Elements.{All-nil, All-cons, All-head, All-tail}
 use Rattle.mp_wave.specs.Waveform.{between, later_than, earlier_than}
 use Rattle.mp_core.specs.declared.simulation.Simulation.{Simulation}
-use Rattle.mp_core.specs.declared.simulator.Simulator.{Simulator}
 use Rattle.mp_events.specs.Firing.{scheduled}
 use Rattle.mp_data.specs.declared.level_change.LevelChange.{LevelChange}
 use Rattle.mp_data.specs.LevelWheels.{scheduled as levels_scheduled}
@@ -63,12 +62,14 @@ put_more with_data all left entry s mid new so put = record {
     rooms : (with_data : Bool) → length new.bits.simulator.wheel ≡ length mid.bits.simulator.wheel → length new.wires.wheel ≡ length mid.wires.wheel → room with_data new ≡ room with_data mid
     rooms true bits wires = wires
     rooms false bits wires = bits
+
     events : (with_data : Bool) (all : List (ℕ × LevelChange)) →
         new.bits.simulator.wheel ≡ cond with_data mid.bits.simulator.wheel (scheduled mid.bits.simulator.wheel (toggles_of (entry ∷ []))) →
         cond with_data mid.bits.simulator.wheel (scheduled mid.bits.simulator.wheel (toggles_of (entry ∷ left))) ≡ cond with_data s.bits.simulator.wheel (scheduled s.bits.simulator.wheel (toggles_of all)) →
         cond with_data new.bits.simulator.wheel (scheduled new.bits.simulator.wheel (toggles_of left)) ≡ cond with_data s.bits.simulator.wheel (scheduled s.bits.simulator.wheel (toggles_of all))
     events true all put so = put ∙ so
     events false all put so = ap (λ (wheel : List (List ℕ)). scheduled wheel (toggles_of left)) put ∙ so
+
     changes : (with_data : Bool) (all : List (ℕ × LevelChange)) →
         new.wires.wheel ≡ cond with_data (levels_scheduled mid.wires.wheel (entry ∷ [])) mid.wires.wheel →
         cond with_data (levels_scheduled mid.wires.wheel (entry ∷ left)) mid.wires.wheel ≡ cond with_data (levels_scheduled s.wires.wheel all) s.wires.wheel →
@@ -84,6 +85,7 @@ all_put with_data all s new so = record { bits = so.bits; events = events with_d
         new.bits.simulator.wheel ≡ cond with_data s.bits.simulator.wheel (scheduled s.bits.simulator.wheel (toggles_of all))
     events true so = so
     events false so = so
+
     changes : (with_data : Bool) →
         cond with_data new.wires.wheel new.wires.wheel ≡ cond with_data (levels_scheduled s.wires.wheel all) s.wires.wheel →
         new.wires.wheel ≡ cond with_data (levels_scheduled s.wires.wheel all) s.wires.wheel

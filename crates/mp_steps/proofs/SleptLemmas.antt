@@ -2,7 +2,7 @@
 use Rattle.std.proofs.Common.{◌≡◌, ◌≢◌, ℕ, ◌+◌, ◌<◌, ◌≤◌, Bool, true, false, not, List, [], ◌∷◌, All, Option, Some, None, cond, length, nat_lt, refl, ap, sym, subst, ◌∙◌, arith, inl, inr, get_or-set_same, get_or-set_other}
 use Rattle.std.specs.Prelude.{◌==◌, ◌&&◌, slice_index_or, slice_set}
 use Rattle.std.specs.List.{count_by, filter}
-use Rattle.std.proofs.lemmas.Bool.{cases_lt, cases_Bool, eqb-true, eqb-false, le-ltb, and_right}
+use Rattle.std.proofs.lemmas.Bool.{cases_lt, eqb-true, eqb-false, le-ltb, and_right}
 use Rattle.std.proofs.lemmas.List.{length-set}
 use Rattle.std.proofs.lemmas.List.Elements.{All-nil, All-cons, All-head, All-tail}
 use Rattle.std.proofs.lemmas.List.Sums.{sum_by-cons}
@@ -26,14 +26,14 @@ use Rattle.mp_units.specs.declared.data_modules.DataModules.{DataModules}
 use Rattle.mp_units.specs.declared.data_wires.DataWires.{DataWires}
 use Rattle.mp_units.specs.declared.netlist_simulation.NetlistSimulation.{NetlistSimulation}
 use Rattle.mp_units.specs.DataLevels.{is_data, is_bit_wire, changes_of, IsLevelAt}
-use Rattle.mp_units.specs.DataWheels.{data_slot, driver_delay, AreChangesBelow}
+use Rattle.mp_units.specs.DataWheels.{data_slot, driver_delay}
 use Rattle.mp_view.specs.Numberings.{Numbering}
-use Rattle.mp_view.specs.Levels.{shown_change, shown_delay, shown_ahead, AreLevelsShown}
-use Rattle.mp_view.specs.Showing.{IsAsleep, Shows}
+use Rattle.mp_view.specs.Levels.{shown_change, shown_delay, shown_ahead}
+use Rattle.mp_view.specs.Showing.{Shows}
 use Rattle.mp_view.specs.Leaving.{is_port_of, HasLeft}
 use Rattle.mp_view.proofs.KeptLemmas.{copies_undriven}
 use Rattle.mp_steps.specs.Sleeping.{asleep_state, IsPutToSleep}
-use Rattle.mp_steps.specs.Taking.{staying, staying_changes, HasTaken, SleepingLeaves}
+use Rattle.mp_steps.specs.Taking.{HasTaken, SleepingLeaves}
 
 -- ---- what is kept by a key
 turned : (b : Bool) (count : ℕ) → cond (not b) count 0 ≡ cond b 0 count
@@ -92,7 +92,6 @@ shown_low n active (Port k p) = by (active k.0)
 module _ (n : Circuit) (ok : IsCircuit n) (active on : ℕ → Bool) (numbering : Numbering) (m t units : ℕ) (gone : ℕ → Bool) (s mid new : NetlistSimulation) (stands : m < length n.modules)
     (driven : (w : ℕ) → gone w ≡ is_port_of m (driver n w)) (decided : (w : ℕ) → is_port_of m (driver n w) ≡ true → driver_delay n (driver n w) ≤ units) (shown : Shows n active on numbering t s)
     (slept : IsPutToSleep m s mid) (taken : HasTaken gone units mid new) where
-
   mid_wheel : mid.bits.simulator.wheel ≡ s.bits.simulator.wheel
   mid_wheel = ap (λ (b : Simulation). b.simulator.wheel) slept.bits
 

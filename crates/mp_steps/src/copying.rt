@@ -37,12 +37,7 @@ pub(crate) fn turn_copy_on(
 }
 
 /// After the unit of a time a copy has the level that its wire had before its delay. If that was before time 0, the level stays.
-fn set_copy_level(
-    simulation: &mut NetlistSimulation,
-    wire: OldWire<'_>,
-    copy: Copied,
-    now: u32,
-)
+fn set_copy_level(simulation: &mut NetlistSimulation, wire: OldWire<'_>, copy: Copied, now: u32)
     requires place { copy.number < length simulation.old.wires.levels.items }
     ensures bits { simulation.new.bits ≡ simulation.old.bits }
     ensures modules { simulation.new.modules ≡ simulation.old.modules }

@@ -10,12 +10,7 @@ use mp_units::NetlistSimulation;
 use std::alloc::AllocError;
 
 /// A module of width 1 is in a state, and has had no event.
-pub fn seat_bits(
-    simulation: &mut NetlistSimulation,
-    number: u32,
-    part: &AnyModule,
-    memory: &Memory,
-)
+pub fn seat_bits(simulation: &mut NetlistSimulation, number: u32, part: &AnyModule, memory: &Memory)
     requires place { number < length simulation.old.bits.simulator.states.items }
     requires levels { number < length simulation.old.bits.simulator.levels.items }
     ensures { IsBitSeated number part.now memory.now simulation.old simulation.new }

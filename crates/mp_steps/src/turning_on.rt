@@ -1,5 +1,6 @@
 //! A wire is turned on: the simulation has its levels from now on.
-ghost use Rattle.std.specs.Prelude.{◌≡◌, ◌<◌, length, OnOk};
+ghost use Rattle.std.specs.Prelude.{◌≡◌, ◌<◌, length, slice_set, OnOk};
+ghost use Rattle.mp_wave.specs.Waveform.{kept_before};
 ghost use Rattle.mp_events.specs.Firing.{copy_at};
 ghost use Rattle.mp_steps.specs.Chains.{next_in, CanTurnCopies, AreCopiesTurned};
 
@@ -7,6 +8,7 @@ use crate::copying::{Copied, turn_copy_on};
 use crate::wheel_entries::OldWire;
 use mp_events::OutputPort;
 use mp_units::NetlistSimulation;
+use mp_wave::WaveBuilder;
 use std::alloc::AllocError;
 
 /// After the unit of a time, the delayed copies of a wire have their levels and what is in flight.
@@ -48,4 +50,24 @@ fn next_copy(simulation: &NetlistSimulation, has_data: bool, number: u32) -> Out
     } else {
         simulation.bits.copies.next[number as usize]
     }
+}
+
+/// The wave of a wire with data is that of the old run before a time.
+fn set_built_wave(
+    simulation: &mut NetlistSimulation,
+    wire: OldWire<'_>,
+    upto: u32,
+) -> Result<(), AllocError>
+    requires some { 0 < upto }
+    requires place { wire.number < length simulation.old.wires.waves.items }
+    ensures bits { OnOk result (simulation.new.bits ≡ simulation.old.bits) }
+    ensures modules { OnOk result (simulation.new.modules ≡ simulation.old.modules) }
+    ensures wires { OnOk result (simulation.new.wires ≡ record (simulation.old.wires) { waves = simulation.new.wires.waves }) }
+    ensures waves { OnOk result (simulation.new.wires.waves.items ≡
+        slice_set simulation.old.wires.waves.items wire.entry.number (record { wave = kept_before upto wire.entry.wave.now; next = upto })) }
+{
+    let alloc = *simulation.wires.waves.allocator();
+    let built = WaveBuilder::from_prefix(alloc, wire.wave, upto)?;
+    simulation.wires.waves[wire.number as usize] = built;
+    Ok(())
 }

@@ -30,12 +30,7 @@ pub fn put_old_changes(
     requires within { to - now ≤ room wire.has_data simulation.old + 1 }
     ensures { OnOk result (HasPut wire.entry.has_data (entries_of wire.entry.number now (between from to wire.entry.wave.now.changes)) simulation.old simulation.new) }
 {
-    put_changes(
-        simulation,
-        wire,
-        wire.wave.changes_between(from, to),
-        now,
-    )
+    put_changes(simulation, wire, wire.wave.changes_between(from, to), now)
 }
 
 /// After the unit of a time, a wire is to have these changes.

@@ -1,12 +1,10 @@
-use Rattle.std.proofs.Common.{◌≡◌, ◌+◌, ◌<◌, ◌≤◌, ℕ, List, [], ◌∷◌, Option, Some, None, length, refl, ap, sym, ◌∙◌, arith, subst}
+use Rattle.std.proofs.Common.{◌≡◌, ◌+◌, ◌<◌, ◌≤◌, ℕ, List, [], ◌∷◌, Option, Some, None, length, refl, ap, sym, ◌∙◌, arith}
 use Rattle.mp_events.specs.declared.output_port.OutputPort.{OutputPort}
 use Rattle.mp_events.specs.Firing.{copy_at}
-use Rattle.mp_core.specs.Simulators.{IsBelow}
-use Rattle.mp_units.specs.declared.netlist_simulation.NetlistSimulation.{NetlistSimulation}
 use Rattle.mp_steps.specs.declared.copying.Copied.{Copied}
 use Rattle.mp_steps.specs.Copying.{HasTurnedCopy}
-use Rattle.mp_steps.specs.Chains.{next_in, AreBehind, AreTurned, AreCopiesTurned}
-use Rattle.mp_steps.proofs.ChainLemmas.{HasSameRoom, room_more, below_at}
+use Rattle.mp_steps.specs.Chains.{next_in}
+use Rattle.mp_steps.proofs.ChainLemmas.{room_more, below_at}
 use Rattle.mp_steps.proofs.turning_on.turn_copies_on.Goals as goal
 
 none_of : (o : Option ℕ) → ((x : ℕ) → o ≡ Some x → ⊥) → o ≡ None
@@ -30,10 +28,11 @@ loop-sooner-preserved c =
     let port : c.next_copy-port.result ≡ copy_at (next_in wide s) l.before = c.next_copy-port.ensures ∙ ap (λ (next : List OutputPort). copy_at next l.before) l.invariant.0.next in
     let is : (copy_at (next_in wide s) l.before).wire ≡ Some c.in-Some.number = sym (ap (λ (p : OutputPort). p.wire) port) ∙ c.in-Some.is in
     let late : l.sooner + c.from.result ≡ l.sooner + (copy_at (next_in wide s) l.before).delay = ap (λ d. l.sooner + d) (c.from.ensures ∙ ap (λ (p : OutputPort). p.delay) port) in
-    let turned : HasTurnedCopy wide wave copy now l.simulation c.turn_copy_on.new.simulation = c.in_ok-turn_copy_on.ensures in
-    (room_more wide wave copy now s l.simulation c.turn_copy_on.new.simulation l.invariant.0 turned,
-    below_at (next_in wide s) (length (next_in wide s)) l.before c.in-Some.number l.invariant.1 c.requires.below is,
-    λ copies new behind more. l.invariant.2 (copy ∷ copies) new (c.loop-sooner-test.true, is, refl, late, behind) (c.turn_copy_on.new.simulation, turned, more))
+    let turned : HasTurnedCopy wide wave copy now l.simulation c.turn_copy_on.new.simulation = c.in_ok-turn_copy_on.ensures in (
+      room_more wide wave copy now s l.simulation c.turn_copy_on.new.simulation l.invariant.0 turned,
+      below_at (next_in wide s) (length (next_in wide s)) l.before c.in-Some.number l.invariant.1 c.requires.below is,
+      λ copies new behind more. l.invariant.2 (copy ∷ copies) new (c.loop-sooner-test.true, is, refl, late, behind) (c.turn_copy_on.new.simulation, turned, more),
+    )
 
 pub returns : goal.returns
 returns c =
