@@ -2,9 +2,9 @@
 use Rattle.std.proofs.Common.{◌≡◌, ℕ, ◌+◌, ◌-◌, ◌<◌, ◌≤◌, Bool, true, false, not, List, [], ◌∷◌, ◌++◌, All, cond, nat_lt, refl, ap, sym, subst, ◌∙◌, arith, inl, inr}
 use Rattle.std.specs.Prelude.{◌==◌, ◌&&◌, slice_index_or}
 use Rattle.std.specs.List.{count_by, filter}
-use Rattle.std.proofs.lemmas.Bool.{cases_eq, eqb-true, eq-eqb, ne_eqb, ltb-true, and_right}
-use Rattle.std.proofs.lemmas.List.Elements.{All-nil, All-cons, All-head, All-tail}
-use Rattle.std.proofs.lemmas.List.Sums.{sum_by-cons}
+use Rattle.std.proofs.lemmas.Bool.{cases_lt, lt-ltb, le-ltb, cases_eq, eqb-true, eq-eqb, ne_eqb, ltb-true, and_right}
+use Rattle.std.proofs.lemmas.List.Elements.{All-nil, All-cons, All-head, All-tail, All-append}
+use Rattle.std.proofs.lemmas.List.Sums.{sum_by-cons, sum_by-append}
 use Rattle.mp_wave.specs.Waveform.{Waveform, IsWaveform, AreChanges, level_of, level_from, between, later_than}
 use Rattle.mp_netlist.specs.Circuit.{Circuit}
 use Rattle.mp_model.specs.Evaluations.{AreRising}
@@ -15,7 +15,7 @@ use Rattle.mp_data.specs.declared.level_change.LevelChange.{LevelChange}
 use Rattle.mp_run.specs.Stimuli.{set_changes}
 use Rattle.mp_run.proofs.StimulusLemmas.{timed, timed_cons, plus_none, toggles_change, set_levels}
 use Rattle.mp_steps.specs.Putting.{entry_of, entries_of}
-use Rattle.mp_steps.specs.Ahead.{is_entry_of, IsEntryOf, AreChangesOf, OldChangesAreAhead}
+use Rattle.mp_steps.specs.Ahead.{is_entry_of, IsEntryOf, AreChangesOf, OldChangesAreAhead, SpansJoin}
 use Rattle.mp_steps.proofs.PutLemmas.{all_between}
 
 -- ---- the changes of a wave are all set, each to another level
@@ -151,3 +151,35 @@ module _ (n : Circuit) (w t from to : ℕ) (wave : Waveform) (form : IsWaveform 
 
 pub old_changes_are_ahead : OldChangesAreAhead
 old_changes_are_ahead = old_ahead
+
+-- ---- two spans that meet
+join_tests : (own c a m p b : Bool) → (m ≡ true → (p ≡ false) × (b ≡ true)) → (m ≡ false → (p ≡ true) × (a ≡ true)) →
+    bit (own && (c && (a && m))) + bit (own && (c && (p && b))) ≡ bit (own && (c && (a && b)))
+join_tests false c a m p b early late = refl
+join_tests true false a m p b early late = refl
+join_tests true true true true false true early late = refl
+join_tests true true false true false true early late = refl
+join_tests true true a true true b early late = let no : ⊥ = (let is = (early refl).0 in cc) in absurd no
+join_tests true true a true false false early late = let no : ⊥ = (let is = (early refl).1 in cc) in absurd no
+join_tests true true true false true true early late = refl
+join_tests true true true false true false early late = refl
+join_tests true true a false false b early late = let no : ⊥ = (let is = (late refl).0 in cc) in absurd no
+join_tests true true false false true b early late = let no : ⊥ = (let is = (late refl).1 in cc) in absurd no
+
+pub spans_join : SpansJoin
+spans_join n w t from middle to one other some short first second = record {
+  each = λ k x.
+      sum_by-append (λ (e : ℕ × LevelChange). cond (is_entry_of k x e) 1 0) one other
+      ∙ ap (λ j. j + count_by (is_entry_of k x) other) (first.each k x)
+      ∙ ap (λ j. bit ((w == x) && (change_at n w (t + 1 + k) && (nat_lt from (t + 1 + k) && nat_lt (t + 1 + k) middle))) + j) (second.each k x)
+      ∙ join_tests (w == x) (change_at n w (t + 1 + k)) (nat_lt from (t + 1 + k)) (nat_lt (t + 1 + k) middle) (nat_lt (middle - 1) (t + 1 + k)) (nat_lt (t + 1 + k) to)
+      (λ is. let low = ltb-true (t + 1 + k) middle is in (le-ltb (middle - 1) (t + 1 + k) (omega (arith, low, some)), lt-ltb (t + 1 + k) to (omega (arith, low, short))))
+      (λ is. let high = past (t + 1 + k) middle is in (lt-ltb (middle - 1) (t + 1 + k) (omega (arith, high, some)), lt-ltb from (t + 1 + k) (omega (arith, high, some))));
+  own = All-append (IsEntryOf n w t) one other first.own second.own;
+}
+  where
+    past : (u middle : ℕ) → nat_lt u middle ≡ false → middle ≤ u
+    past u middle is = elim (cases_lt u middle) as (λ _. middle ≤ u) [
+      | inl low ↦ let no : ⊥ = (let never = sym (lt-ltb u middle low) ∙ is in cc) in absurd no
+      | inr high ↦ high
+    ]

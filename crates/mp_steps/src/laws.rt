@@ -1,12 +1,17 @@
 //! What is put into the wheels is what they have to have.
 
-ghost use Rattle.mp_steps.specs.Ahead.{OldChangesAreAhead, PutsAhead};
+ghost use Rattle.mp_steps.specs.Ahead.{OldChangesAreAhead, SpansJoin, PutsAhead};
 ghost use Rattle.mp_steps.specs.Activated.{BitModulesActivate, DataModulesActivate};
 ghost use Rattle.mp_steps.specs.Taking.{SleepingLeaves};
 
 /// The changes of a wave between two times, while a wire has its levels, are those of the wire.
 pub fn old_changes_are_ahead()
     ensures { OldChangesAreAhead }
+{}
+
+/// The changes of two spans that meet are those of one span: so those of a tail and those of the old run that follow.
+pub fn spans_join()
+    ensures { SpansJoin }
 {}
 
 /// What is known of a wire is put into the wheels, which have nothing of it before.
