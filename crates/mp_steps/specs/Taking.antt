@@ -1,5 +1,5 @@
 -- What the wheels have of wires is taken out of them.
-use Rattle.std.specs.Prelude.{◌≡◌, ℕ, ◌<◌, ◌≤◌, Bool, true, not, List, length}
+use Rattle.std.specs.Prelude.{◌≡◌, ℕ, ◌<◌, ◌≤◌, Bool, true, false, not, List, length, nat_lt, slice_index_or, ◌&&◌, ◌==◌}
 use Rattle.std.specs.List.{filter}
 use Rattle.mp_netlist.specs.Circuit.{Circuit, IsCircuit}
 use Rattle.mp_netlist.specs.Drivers.{driver}
@@ -7,10 +7,24 @@ use Rattle.mp_core.specs.Simulators.{slot_at}
 use Rattle.mp_data.specs.declared.level_change.LevelChange.{LevelChange}
 use Rattle.mp_units.specs.declared.netlist_simulation.NetlistSimulation.{NetlistSimulation}
 use Rattle.mp_units.specs.DataWheels.{data_slot, driver_delay}
+use Rattle.mp_run.specs.declared.stimuli.StimulusChange.{StimulusChange}
 use Rattle.mp_view.specs.Numberings.{Numbering}
 use Rattle.mp_view.specs.Showing.{Shows}
 use Rattle.mp_view.specs.Leaving.{is_port_of, HasLeft}
+use Rattle.mp_steps.specs.declared.wire_source.WireSource.{WireSource}
 use Rattle.mp_steps.specs.Sleeping.{IsPutToSleep}
+
+-- the number is of a wire that no active module drives
+abbrev pub is_gone : List WireSource → ℕ → Bool
+is_gone sources w = nat_lt w (length sources) && not ((slice_index_or sources w (record { until = 0; is_on = false; is_new = false })).until == 4294967295)
+
+-- a wire as it is put into a slot
+abbrev pub in_slot : ℕ → ℕ → ℕ × ℕ
+in_slot units w = (units, w)
+
+-- a wire of width 1 as it is listed
+abbrev pub taken_toggle : ℕ → ℕ → StimulusChange
+taken_toggle time w = record { time = time; wire = w; has_data = false; level = 0 }
 
 -- those of the numbers that don't go
 abbrev pub staying : (ℕ → Bool) → List ℕ → List ℕ

@@ -5,10 +5,13 @@ mod copying;
 pub mod laws;
 mod seating;
 mod sleeping;
+mod taking;
 mod turning_on;
 mod wheel_entries;
+mod wire_source;
 
 pub use seating::{seat_bits, seat_data};
 pub use sleeping::put_to_sleep;
 pub use turning_on::turn_copies_on;
+pub use wire_source::{NEVER, WireSource};
 pub use wheel_entries::{OldWire, put_change, put_old_changes};
