@@ -6,3 +6,4 @@ pub mod DataActivatedLemmas
 pub mod SleptLemmas
 pub mod CopyPutLemmas
 pub mod ChainLemmas
+pub mod BackLemmas

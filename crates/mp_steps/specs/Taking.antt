@@ -1,9 +1,11 @@
 -- What the wheels have of wires is taken out of them.
-use Rattle.std.specs.Prelude.{◌≡◌, ℕ, ◌<◌, ◌≤◌, Bool, true, false, not, List, length, nat_lt, slice_index_or, ◌&&◌, ◌==◌}
+use Rattle.std.specs.Prelude.{◌≡◌, ℕ, ◌<◌, ◌≤◌, Bool, true, false, not, List, [], length, map, nat_lt, slice_set, if◌then◌else◌, slice_index_or, ◌&&◌, ◌==◌}
 use Rattle.std.specs.List.{filter}
 use Rattle.mp_netlist.specs.Circuit.{Circuit, IsCircuit}
 use Rattle.mp_netlist.specs.Drivers.{driver}
 use Rattle.mp_core.specs.Simulators.{slot_at}
+use Rattle.mp_events.specs.Firing.{scheduled}
+use Rattle.mp_data.specs.LevelWheels.{scheduled as levels_scheduled}
 use Rattle.mp_data.specs.declared.level_change.LevelChange.{LevelChange}
 use Rattle.mp_units.specs.declared.netlist_simulation.NetlistSimulation.{NetlistSimulation}
 use Rattle.mp_units.specs.DataWheels.{data_slot, driver_delay}
@@ -34,6 +36,17 @@ staying gone slot = filter (λ w. not (gone w)) slot
 abbrev pub staying_changes : (ℕ → Bool) → List LevelChange → List LevelChange
 staying_changes gone slot = filter (λ (c : LevelChange). not (gone c.number)) slot
 
+-- those of the changes that go
+abbrev pub gone_changes : (ℕ → Bool) → List LevelChange → List LevelChange
+gone_changes gone slot = filter (λ (c : LevelChange). gone c.number) slot
+
+-- a change as it is put into a slot, and as it is listed
+abbrev pub in_level_slot : ℕ → LevelChange → ℕ × LevelChange
+in_level_slot units c = (units, c)
+
+abbrev pub taken_change : ℕ → LevelChange → StimulusChange
+taken_change time c = record { time = time; wire = c.number; has_data = true; level = c.level }
+
 -- the slots of so many units have nothing of these wires; all else is as it was
 pub record HasTaken (gone : ℕ → Bool) (units : ℕ) (s new : NetlistSimulation) : Type 0 where
   pub bits : new.bits ≡ record (s.bits) { simulator = record (s.bits.simulator) { wheel = new.bits.simulator.wheel } }
@@ -51,3 +64,12 @@ abbrev pub SleepingLeaves : Type 0
 SleepingLeaves = (n : Circuit) → IsCircuit n → (active on : ℕ → Bool) (numbering : Numbering) (m t units : ℕ) (gone : ℕ → Bool) (s mid new : NetlistSimulation) → m < length n.modules →
     ((w : ℕ) → gone w ≡ is_port_of m (driver n w)) → ((w : ℕ) → is_port_of m (driver n w) ≡ true → driver_delay n (driver n w) ≤ units) → Shows n active on numbering t s →
     IsPutToSleep m s mid → HasTaken gone units mid new → HasLeft n numbering m t s new
+
+-- where a slot is empty, it then has what is put back, and the other slots stay
+abbrev pub PutsBack : Type 0
+PutsBack = (slots : List (List ℕ)) (units k : ℕ) (wires : List ℕ) → units < length slots →
+    slice_index_or (scheduled (slice_set slots units []) (map (in_slot units) wires)) k [] ≡ (if k == units then wires else slice_index_or slots k [])
+
+abbrev pub PutsLevelsBack : Type 0
+PutsLevelsBack = (slots : List (List LevelChange)) (units k : ℕ) (changes : List LevelChange) → units < length slots →
+    data_slot (levels_scheduled (slice_set slots units []) (map (in_level_slot units) changes)) k ≡ (if k == units then changes else data_slot slots k)

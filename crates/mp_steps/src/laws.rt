@@ -2,7 +2,7 @@
 
 ghost use Rattle.mp_steps.specs.Ahead.{OldChangesAreAhead, SpansJoin, PutsAhead};
 ghost use Rattle.mp_steps.specs.Activated.{BitModulesActivate, DataModulesActivate};
-ghost use Rattle.mp_steps.specs.Taking.{SleepingLeaves};
+ghost use Rattle.mp_steps.specs.Taking.{SleepingLeaves, PutsBack, PutsLevelsBack};
 
 /// The changes of a wave between two times, while a wire has its levels, are those of the wire.
 pub fn old_changes_are_ahead()
@@ -32,4 +32,10 @@ pub fn data_modules_activate()
 /// A module that is put to sleep has left once its wires are taken out of the wheels.
 pub fn sleeping_leaves()
     ensures { SleepingLeaves }
+{}
+
+/// What is put back into a slot that was emptied is what it has then.
+pub fn puts_back()
+    ensures toggles { PutsBack }
+    ensures levels { PutsLevelsBack }
 {}

@@ -2,9 +2,11 @@
 ghost use Rattle.std.specs.Prelude.{◌≡◌, ◌<◌, ◌+◌, ◌^◌, ◌++◌, length, map, OnOk};
 ghost use Rattle.std.specs.List.{filter};
 ghost use Rattle.mp_events.specs.Firing.{scheduled};
-ghost use Rattle.mp_steps.specs.Taking.{is_gone, staying, in_slot, taken_toggle};
+ghost use Rattle.mp_data.specs.LevelWheels.{scheduled as levels_scheduled};
+ghost use Rattle.mp_steps.specs.Taking.{is_gone, staying, staying_changes, gone_changes, in_slot, in_level_slot, taken_toggle, taken_change};
 
 use crate::wire_source::{NEVER, WireSource};
+use mp_data::{LevelChange, LevelWheel};
 use mp_events::EventWheel;
 use mp_run::StimulusChange;
 use std::alloc::AllocError;
@@ -33,6 +35,35 @@ fn put_back_toggles(
             })?;
         } else {
             wheel.schedule(units as usize + 1, *wire)?;
+        }
+    }
+    Ok(())
+}
+
+/// Of the changes of a slot, those that stay are put back, and the others listed.
+fn put_back_levels(
+    wheel: &mut LevelWheel,
+    sources: &[WireSource],
+    slot: &[LevelChange],
+    units: u32,
+    time: u32,
+    taken: &mut Vec<StimulusChange>,
+) -> Result<(), AllocError>
+    requires within { units < length wheel.old }
+    requires low { time + units < 2 ^ 32 }
+    ensures wheel { OnOk result (wheel.new ≡ levels_scheduled wheel.old (map (in_level_slot units) (staying_changes (is_gone sources.now) slot.now))) }
+    ensures taken { OnOk result (taken.new.items ≡ taken.old.items ++ map (taken_change (time + units)) (gone_changes (is_gone sources.now) slot.now)) }
+{
+    for change in slot {
+        if is_gone(sources, change.number) {
+            taken.push(StimulusChange {
+                time: time + units,
+                wire: change.number,
+                has_data: true,
+                level: change.level,
+            })?;
+        } else {
+            wheel.schedule(units as usize + 1, *change)?;
         }
     }
     Ok(())
