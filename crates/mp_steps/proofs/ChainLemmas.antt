@@ -5,7 +5,7 @@ use Rattle.std.proofs.lemmas.List.{length-set}
 use Rattle.mp_wave.specs.Waveform.{Waveform}
 use Rattle.mp_core.specs.declared.simulation.Simulation.{Simulation}
 use Rattle.mp_events.specs.declared.output_port.OutputPort.{OutputPort}
-use Rattle.mp_events.specs.Firing.{scheduled, copy_at, no_port}
+use Rattle.mp_events.specs.Firing.{copy_at, no_port}
 use Rattle.mp_core.specs.Simulators.{IsBelow}
 use Rattle.mp_data.specs.declared.level_change.LevelChange.{LevelChange}
 use Rattle.mp_units.specs.declared.data_wires.DataWires.{DataWires}

@@ -9,7 +9,6 @@ use Rattle.mp_records.specs.declared.module_record.ModuleRecord.{ModuleRecord}
 use Rattle.mp_netlist.specs.Circuit.{Circuit, IsCircuit, module_at, module_width}
 use Rattle.mp_netlist.specs.Drivers.{driver}
 use Rattle.mp_model.proofs.SlotLemmas.{slot_within}
-use Rattle.mp_automata.specs.declared.port_levels.PortLevels.{PortLevels}
 use Rattle.mp_core.specs.declared.simulation.Simulation.{Simulation}
 use Rattle.mp_core.specs.declared.simulator.Simulator.{Simulator}
 use Rattle.mp_core.specs.Simulators.{slot_at, AreBelow}

@@ -13,5 +13,5 @@ mod wire_source;
 pub use seating::{seat_bits, seat_data};
 pub use sleeping::put_to_sleep;
 pub use turning_on::turn_copies_on;
-pub use wire_source::{NEVER, WireSource};
 pub use wheel_entries::{OldWire, put_change, put_old_changes};
+pub use wire_source::{NEVER, WireSource};

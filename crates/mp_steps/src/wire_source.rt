@@ -1,5 +1,4 @@
 //! Where the levels of a wire come from.
-ghost use Rattle.std.specs.Prelude.{◌≡◌, ◌-◌, ◌^◌};
 
 /// A time that never comes.
 pub const NEVER: u32 = u32::MAX;

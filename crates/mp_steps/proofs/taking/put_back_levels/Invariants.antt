@@ -1,4 +1,4 @@
-use Rattle.std.proofs.Common.{◌≡◌, ◌+◌, ◌++◌, List, ℕ, map, drop, length}
+use Rattle.std.proofs.Common.{◌≡◌, ◌+◌, ◌++◌, map, drop, length}
 use Rattle.mp_data.specs.LevelWheels.{scheduled as levels_scheduled}
 use Rattle.mp_steps.specs.Taking.{is_gone, staying_changes, gone_changes, in_level_slot, taken_change}
 use Rattle.mp_steps.proofs.taking.put_back_levels.Given as goal

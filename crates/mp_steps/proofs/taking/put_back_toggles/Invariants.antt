@@ -1,4 +1,4 @@
-use Rattle.std.proofs.Common.{◌≡◌, ◌+◌, ◌++◌, List, ℕ, map, drop, length}
+use Rattle.std.proofs.Common.{◌≡◌, ◌+◌, ◌++◌, List, map, drop, length}
 use Rattle.std.specs.List.{filter}
 use Rattle.mp_events.specs.Firing.{scheduled}
 use Rattle.mp_steps.specs.Taking.{is_gone, staying, in_slot, taken_toggle}

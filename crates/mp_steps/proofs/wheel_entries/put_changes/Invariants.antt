@@ -1,6 +1,5 @@
 use Rattle.std.proofs.Common.{◌≡◌, All, length}
 use Rattle.mp_wave.specs.WaveChanges.{changes_in}
-use Rattle.mp_events.specs.Firing.{scheduled}
 use Rattle.mp_steps.specs.Putting.{IsAhead, entries_of, room}
 use Rattle.mp_steps.proofs.PutLemmas.{PutSoFar}
 use Rattle.mp_steps.proofs.wheel_entries.put_changes.Given as goal
