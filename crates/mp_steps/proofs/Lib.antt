@@ -7,3 +7,4 @@ pub mod SleptLemmas
 pub mod CopyPutLemmas
 pub mod ChainLemmas
 pub mod BackLemmas
+pub mod RestingLemmas

@@ -2,7 +2,9 @@
 use Rattle.std.specs.Prelude.{◌≡◌, ℕ, ◌+◌, ◌-◌, ◌<◌, ◌≤◌, Bool, false, List, All, length, nat_lt, ◌&&◌, ◌||◌, ◌==◌, ◌++◌, if◌then◌else◌}
 use Rattle.std.specs.List.{count_by}
 use Rattle.mp_wave.specs.Waveform.{Waveform, IsWaveform, level_of, between}
-use Rattle.mp_netlist.specs.Circuit.{Circuit}
+use Rattle.mp_records.specs.declared.ids.ModuleId.{ModuleId}
+use Rattle.mp_netlist.specs.declared.driver.Driver.TheVariants.{Port}
+use Rattle.mp_netlist.specs.Circuit.{Circuit, IsCircuit}
 use Rattle.mp_netlist.specs.Drivers.{driver}
 use Rattle.mp_model.specs.Waves.{level}
 use Rattle.mp_automata.specs.Codes.{bit}
@@ -15,6 +17,7 @@ use Rattle.mp_units.specs.DataLevels.{is_data, is_bit_wire, changes_of}
 use Rattle.mp_units.specs.DataWheels.{data_slot, driver_delay, AreChangesBelow}
 use Rattle.mp_view.specs.Numberings.{Numbering}
 use Rattle.mp_view.specs.Levels.{AreLevelsShown}
+use Rattle.mp_view.specs.Showing.{Shows}
 use Rattle.mp_steps.specs.Putting.{HasPut, entries_of}
 
 -- the entry is of this number, so many units after the next
@@ -71,3 +74,12 @@ abbrev pub PutsAhead : Type 0
 PutsAhead = (n : Circuit) (numbering : Numbering) (t w : ℕ) (wires : ℕ → Bool) (s mid new : NetlistSimulation) (entries : List (ℕ × LevelChange)) →
     wires w ≡ false → HasNothingAhead n numbering w s → AreAhead n numbering t wires s mid → AreChangesOf n w t t (t + 1 + driver_delay n (driver n w)) entries →
     HasPut (is_data n w) entries mid new → AreAhead n numbering t (λ v. wires v || (v == w)) s new
+
+-- before the first is put, the wheels have what they had
+abbrev pub NoneAhead : Type 0
+NoneAhead = (n : Circuit) (numbering : Numbering) (t : ℕ) (s : NetlistSimulation) → AreAhead n numbering t (λ w. false) s s
+
+-- a simulation has nothing ahead of a wire that a module drives which isn't active
+abbrev pub RestingHaveNothing : Type 0
+RestingHaveNothing = (n : Circuit) → IsCircuit n → (active on : ℕ → Bool) (numbering : Numbering) (t w p : ℕ) (m : ModuleId) (s : NetlistSimulation) → Shows n active on numbering t s →
+    driver n w ≡ Port m p → active m.0 ≡ false → HasNothingAhead n numbering w s

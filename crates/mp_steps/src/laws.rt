@@ -1,6 +1,6 @@
 //! What is put into the wheels is what they have to have.
 
-ghost use Rattle.mp_steps.specs.Ahead.{OldChangesAreAhead, SpansJoin, PutsAhead};
+ghost use Rattle.mp_steps.specs.Ahead.{OldChangesAreAhead, SpansJoin, PutsAhead, NoneAhead, RestingHaveNothing};
 ghost use Rattle.mp_steps.specs.Activated.{BitModulesActivate, DataModulesActivate};
 ghost use Rattle.mp_steps.specs.Taking.{SleepingLeaves, PutsBack, PutsLevelsBack};
 
@@ -14,9 +14,11 @@ pub fn spans_join()
     ensures { SpansJoin }
 {}
 
-/// What is known of a wire is put into the wheels, which have nothing of it before.
+/// What is known of a wire is put into the wheels, which have nothing of it before: so it is where its module isn't active.
 pub fn puts_ahead()
-    ensures { PutsAhead }
+    ensures puts { PutsAhead }
+    ensures none { NoneAhead }
+    ensures resting { RestingHaveNothing }
 {}
 
 /// A module of width 1 that has taken its place is active once its wires are ahead.
