@@ -1,0 +1,14 @@
+//! A netlist that is evaluated again is compared with its old run, number by number.
+#![tactic(auto)]
+
+mod comparison;
+mod departing;
+mod new_changes;
+mod numbers;
+mod old_run;
+mod wire_source;
+
+pub use comparison::Comparison;
+pub use new_changes::NewChanges;
+pub use numbers::Numbers;
+pub use wire_source::WireSource;
