@@ -1,1 +1,5 @@
 mod MeetingLemmas
+mod WaveLemmas
+mod CursorLemmas
+mod FindingLemmas
+mod Telling

@@ -1,15 +1,20 @@
 -- Changes that are met one after the other.
-use Rattle.std.proofs.Common.{◌≡◌, ◌≢◌, ℕ, zero, suc, ◌+◌, ◌-◌, ◌<◌, ◌≤◌, Bool, true, false, not, cond, ◌&&◌, ◌||◌, List, [], ◌∷◌, ◌++◌, length, get_or, take, refl, sym, ap, ◌∙◌, arith, get_or-set_same, get_or-set_other, subst}
+use Rattle.std.proofs.Common.{◌≡◌, ◌≢◌, ℕ, zero, suc, ◌+◌, ◌-◌, ◌<◌, ◌≤◌, Bool, true, false, not, cond, ◌&&◌, ◌||◌, List, [], ◌∷◌, ◌++◌, All, length, get_or, take, refl, sym, ap, ◌∙◌, arith, add-one, get_or-set_same, get_or-set_other, subst}
 use Rattle.std.specs.Prelude.{◌==◌, nat_lt, slice_set}
 use Rattle.std.specs.List.{sum_by, count_by}
 use Rattle.std.proofs.lemmas.Bool.{eq-eqb, eqb-true, eqb-false, lt-ltb}
+use Rattle.std.proofs.Math.Seq.{take-suc}
+use Rattle.std.proofs.lemmas.List.{take_more}
+use Rattle.std.proofs.lemmas.List.Elements.{All-get_or}
 use Rattle.std.proofs.lemmas.List.Sums.{sum_by-cons, sum_by-append}
+use Rattle.mp_automata.specs.Codes.{bit}
 use Rattle.mp_events.specs.Adding.{listed}
 use Rattle.mp_calendar.specs.Calendars.{time_of, coming}
 use Rattle.mp_data.specs.declared.level_change.LevelChange.{LevelChange}
 use Rattle.mp_evaluation.specs.Outcomes.{Outcome}
+use Rattle.mp_compare.specs.declared.numbers.Numbers.{Numbers}
 use Rattle.mp_compare.specs.declared.comparison.Comparison.{Comparison}
-use Rattle.mp_compare.specs.Comparing.{seen_at, is_tracked, changes_of}
+use Rattle.mp_compare.specs.Comparing.{seen_at, is_tracked, changes_of, IsShaped, ArePlaced}
 use Rattle.mp_compare.specs.Meeting.{old_level, is_due, others_of, departures, is_old_alone, HasMet, HasMetOld}
 
 none_more : (a b : Bool) → a ≡ (a || (b && false))
@@ -17,10 +22,10 @@ none_more true b = refl
 none_more false true = refl
 none_more false false = refl
 
-no_number : (a b : Bool) → cond a (cond b 0 0) 0 ≡ 0
-no_number true true = refl
-no_number true false = refl
-no_number false b = refl
+no_number : (a b : Bool) (n : ℕ) → cond a (cond b n n) n ≡ n
+no_number true true n = refl
+no_number true false n = refl
+no_number false b n = refl
 
 -- nothing is met
 pub met_none : (run : Outcome) (time : ℕ) (was : Comparison) → HasMet run time [] [] was was
@@ -28,12 +33,12 @@ met_none run time was = record {
   kept = refl;
   places = refl;
   seen = λ x. none_more (seen_at was x == time) (is_tracked was x time);
-  departing = λ x. let none = no_number (is_tracked was x time) (is_due was x time) in omega arith;
+  departing = λ x. let none = no_number (is_tracked was x time) (is_due was x time) 0 in omega arith;
 }
 
 or_more : (t : Bool) (m n : ℕ) → ((t && nat_lt 0 m) || (t && nat_lt 0 n)) ≡ (t && nat_lt 0 (m + n))
-or_more true zero n = refl
-or_more true (suc m) n = sym (lt-ltb 0 (suc m + n) (omega arith))
+or_more true zero n = let same : n ≡ 0 + n = omega arith in ap (λ k. nat_lt 0 k) same
+or_more true (suc m) n = ap (λ b. b || nat_lt 0 n) (lt-ltb 0 (suc m) (omega arith)) ∙ sym (lt-ltb 0 (suc m + n) (omega arith))
 or_more false m n = refl
 
 or_assoc : (p q r : Bool) → ((p || q) || r) ≡ (p || (q || r))
@@ -55,11 +60,11 @@ departures_join : (run : Outcome) (c : Comparison) (time : ℕ) (bits more : Lis
 departures_join run c time bits more levels others x =
     both_departures (is_tracked c x time) (is_due c x time) (others_of run c x levels) (listed x bits) (changes_of x levels) (others_of run c x others) (listed x more) (changes_of x others)
     ∙ ap (λ n. cond (is_tracked c x time) (cond (is_due c x time) n ((listed x bits + listed x more) + (changes_of x levels + changes_of x others))) 0)
-        (sym (sum_by-append (λ (change : LevelChange). cond ((change.number == x) && not (change.level == old_level run c x)) 1 0) levels others))
+    (sym (sum_by-append (λ (change : LevelChange). cond ((change.number == x) && not (change.level == old_level run c x)) 1 0) levels others))
     ∙ ap (λ n. cond (is_tracked c x time) (cond (is_due c x time) (others_of run c x (levels ++ others)) (n + (changes_of x levels + changes_of x others))) 0)
-        (sym (sum_by-append (λ d. cond (d == x) 1 0) bits more))
+    (sym (sum_by-append (λ d. cond (d == x) 1 0) bits more))
     ∙ ap (λ n. cond (is_tracked c x time) (cond (is_due c x time) (others_of run c x (levels ++ others)) (listed x (bits ++ more) + n)) 0)
-        (sym (sum_by-append (λ (change : LevelChange). cond (change.number == x) 1 0) levels others))
+    (sym (sum_by-append (λ (change : LevelChange). cond (change.number == x) 1 0) levels others))
 
 -- some are met, and then more
 pub met_join : (run : Outcome) (time : ℕ) (bits more : List ℕ) (levels others : List LevelChange) (was then is : Comparison) →
@@ -149,9 +154,9 @@ met_tracked run time number often bits levels was is alone tracked kept within s
 -- a number of width 1
 pub alone_bit : (run : Outcome) (time number : ℕ) (was : Comparison) → IsAlone run time number (number ∷ []) [] was
 alone_bit run time number was = record {
-  here = let own = ap (λ b. cond b 1 0) (eq-eqb number number refl) in omega arith;
-  none = λ x other. let it = ap (λ b. cond b 1 0) other in omega arith;
-  no_departures = λ x other. none_of x (is_tracked was x time) (is_due was x time) (cond (number == x) 1 0) (ap (λ b. cond b 1 0) other);
+  here = let own = ap bit (eq-eqb number number refl) in omega arith;
+  none = λ x other. let it = ap bit other in omega arith;
+  no_departures = λ x other. none_of x (is_tracked was x time) (is_due was x time) (bit (number == x)) (ap bit other);
 }
   where
     none_of : (x : ℕ) (t d : Bool) (n : ℕ) → n ≡ 0 → cond t (cond d 0 (0 + n + 0)) 0 ≡ 0
@@ -162,12 +167,130 @@ alone_bit run time number was = record {
 -- a number with data
 pub alone_level : (run : Outcome) (time : ℕ) (change : LevelChange) (was : Comparison) → IsAlone run time change.number [] (change ∷ []) was
 alone_level run time change was = record {
-  here = let own = ap (λ b. cond b 1 0) (eq-eqb change.number change.number refl) in omega arith;
-  none = λ x other. let it = ap (λ b. cond b 1 0) other in omega arith;
+  here = let own = ap bit (eq-eqb change.number change.number refl) in omega arith;
+  none = λ x other. let it = ap bit other in omega arith;
   no_departures = λ x other. none_of x (is_tracked was x time) (is_due was x time) (not (change.level == old_level run was x)) (change.number == x) other;
 }
   where
     none_of : (x : ℕ) (t d other same : Bool) → same ≡ false → cond t (cond d (0 + cond (same && other) 1 0) (0 + (0 + cond same 1 0))) 0 ≡ 0
-    none_of x true true other same e = ap (λ b. 0 + cond (b && other) 1 0) e
-    none_of x true false other same e = ap (λ b. 0 + (0 + cond b 1 0)) e
+    none_of x true true other same e = ap (λ b. 0 + bit (b && other)) e
+    none_of x true false other same e = ap (λ b. 0 + (0 + bit b)) e
     none_of x false d other same e = refl
+
+-- what stands in each list of numbers stays there
+pub shape_kept : (run : Outcome) (time : ℕ) (bits : List ℕ) (levels : List LevelChange) (was is : Comparison) → HasMet run time bits levels was is → IsShaped was → IsShaped is
+shape_kept run time bits levels was is met shape = subst IsShaped (sym met.kept) (record {
+  delays = shape.delays;
+  next = shape.next;
+  have_data = shape.have_data;
+  asleep = shape.asleep;
+  times = shape.times;
+  places = shape.places;
+  seen = met.places ∙ shape.seen;
+  few = shape.few;
+  wires = shape.wires;
+  own = shape.own;
+})
+
+pub numbers_kept : (run : Outcome) (time : ℕ) (bits : List ℕ) (levels : List LevelChange) (was is : Comparison) → HasMet run time bits levels was is → is.numbers ≡ was.numbers
+numbers_kept run time bits levels was is met = ap (λ (c : Comparison). c.numbers) met.kept
+
+pub nobody : Outcome
+nobody = record { horizon = 0; waves = []; ends = []; kept = [] }
+
+-- a toggle more is met
+pub toggle_more : (run : Outcome) (time : ℕ) (xs : List ℕ) (i : ℕ) (was then is : Comparison) → i < length xs →
+    HasMet run time (take i xs) [] was then → HasMet run time (get_or xs i 0 ∷ []) [] then is → HasMet run time (take (i + 1) xs) [] was is
+toggle_more run time xs i was then is low first second =
+    subst (λ (ys : List ℕ). HasMet run time ys [] was is) (sym (take-suc xs i 0 low) ∙ ap (λ j. take j xs) (sym (add-one i)))
+    (met_join run time (take i xs) (get_or xs i 0 ∷ []) [] [] was then is first second)
+
+pub level_more : (run : Outcome) (time : ℕ) (xs : List LevelChange) (i : ℕ) (d : LevelChange) (was then is : Comparison) → i < length xs →
+    HasMet run time [] (take i xs) was then → HasMet run time [] (get_or xs i d ∷ []) then is → HasMet run time [] (take (i + 1) xs) was is
+level_more run time xs i d was then is low first second =
+    subst (λ (ys : List LevelChange). HasMet run time [] ys was is) (sym (take-suc xs i d low) ∙ ap (λ j. take j xs) (sym (add-one i)))
+    (met_join run time [] [] (take i xs) (get_or xs i d ∷ []) was then is first second)
+
+pub placed_kept : (run other : Outcome) (time at : ℕ) (bits : List ℕ) (levels : List LevelChange) (was is : Comparison) → HasMet other time bits levels was is → ArePlaced run at was → ArePlaced run at is
+placed_kept run other time at bits levels was is met placed = subst (ArePlaced run at) (sym met.kept) placed
+
+-- before more is met, all that is met is a number
+pub toggle_within : (run : Outcome) (time : ℕ) (bits xs : List ℕ) (levels : List LevelChange) (i : ℕ) (was is : Comparison) → HasMet run time bits levels was is → i < length xs →
+    All (λ x. x < length was.numbers.wires.items) xs → get_or xs i 0 < length is.numbers.wires.items
+toggle_within run time bits xs levels i was is met low all =
+    subst (λ (numbers : Numbers). get_or xs i 0 < length numbers.wires.items) (sym (numbers_kept run time bits levels was is met)) (All-get_or (λ x. x < length was.numbers.wires.items) xs i 0 low all)
+
+pub level_within : (run : Outcome) (time : ℕ) (bits : List ℕ) (levels xs : List LevelChange) (i : ℕ) (d : LevelChange) (was is : Comparison) → HasMet run time bits levels was is → i < length xs →
+    All (λ (change : LevelChange). change.number < length was.numbers.wires.items) xs → (get_or xs i d).number < length is.numbers.wires.items
+level_within run time bits levels xs i d was is met low all =
+    subst (λ (numbers : Numbers). (get_or xs i d).number < length numbers.wires.items) (sym (numbers_kept run time bits levels was is met)) (All-get_or (λ (change : LevelChange). change.number < length was.numbers.wires.items) xs i d low all)
+
+-- some of the numbers that come up are met
+pub record HasMetSome (time : ℕ) (some : List ℕ) (was is : Comparison) : Type 0 where
+  pub kept : is ≡ record was { departing = is.departing }
+  pub departing : (x : ℕ) → listed x is.departing.items ≡ listed x was.departing.items + cond (is_old_alone was time x) (listed x some) 0
+
+pub some_none : (time : ℕ) (was : Comparison) → HasMetSome time [] was was
+some_none time was = record {
+  kept = refl;
+  departing = λ x. let none = zero_of (is_old_alone was time x) 0 in omega arith;
+}
+  where
+    zero_of : (b : Bool) (n : ℕ) → cond b n n ≡ n
+    zero_of true n = refl
+    zero_of false n = refl
+
+-- one more: it is gathered, or isn't
+pub some_more : (time : ℕ) (xs : List ℕ) (i : ℕ) (was then is : Comparison) → i < length xs → HasMetSome time (take i xs) was then → is ≡ record then { departing = is.departing } →
+    is.departing.items ≡ cond (is_old_alone then time (get_or xs i 0)) (then.departing.items ++ get_or xs i 0 ∷ []) then.departing.items → HasMetSome time (take (i + 1) xs) was is
+some_more time xs i was then is low some kept pushed = record {
+  kept = kept ∙ ap (λ (c : Comparison). record c { departing = is.departing }) some.kept;
+  departing = λ x.
+      let before = some.departing x in
+      let alone = ap (λ (c : Comparison). is_old_alone c time number) some.kept in
+      let now = ap (listed x) (pushed ∙ ap (λ b. cond b (then.departing.items ++ number ∷ []) then.departing.items) alone) in
+      let more = ap (listed x) (take_more xs i 0 low) ∙ sum_by-append (λ d. cond (d == x) 1 0) (take i xs) (number ∷ []) in
+      let counted : listed x (take (i + 1) xs) ≡ listed x (take i xs) + bit (number == x) = omega arith in
+      let both = ap (λ n. cond (is_old_alone was time x) n 0) counted ∙ split (is_old_alone was time x) (listed x (take i xs)) (bit (number == x)) in
+      let it = by x (number == x) refl (is_old_alone was time number) refl in
+      omega arith;
+}
+  where
+    number : ℕ
+    number = get_or xs i 0
+
+    split : (b : Bool) (m n : ℕ) → cond b (m + n) 0 ≡ cond b m 0 + cond b n 0
+    split true m n = refl
+    split false m n = refl
+
+    by : (x : ℕ) (same : Bool) → (number == x) ≡ same → (alone : Bool) → is_old_alone was time number ≡ alone →
+        listed x (cond (is_old_alone was time number) (then.departing.items ++ number ∷ []) then.departing.items)
+        ≡ listed x then.departing.items + cond (is_old_alone was time x) (bit (number == x)) 0
+    by x true is true a =
+        subst (λ y. listed y (cond (is_old_alone was time number) (then.departing.items ++ number ∷ []) then.departing.items) ≡ listed y then.departing.items + cond (is_old_alone was time y) (bit (number == y)) 0) (eqb-true number x is)
+        (ap (λ b. listed number (cond b (then.departing.items ++ number ∷ []) then.departing.items)) a ∙ sum_by-append (λ d. cond (d == number) 1 0) then.departing.items (number ∷ [])
+        ∙ (let zero_more : 0 + bit (number == number) ≡ bit (number == number) = omega arith in ap (λ n. listed number then.departing.items + n) zero_more)
+        ∙ ap (λ b. listed number then.departing.items + cond b (bit (number == number)) 0) (sym a))
+    by x true is false a =
+        subst (λ y. listed y (cond (is_old_alone was time number) (then.departing.items ++ number ∷ []) then.departing.items) ≡ listed y then.departing.items + cond (is_old_alone was time y) (bit (number == y)) 0) (eqb-true number x is)
+        (let l = ap (λ b. listed number (cond b (then.departing.items ++ number ∷ []) then.departing.items)) a in
+        let r = ap (λ b. listed number then.departing.items + cond b (bit (number == number)) 0) a in
+        omega arith)
+    by x false is true a =
+        let l = ap (λ b. listed x (cond b (then.departing.items ++ number ∷ []) then.departing.items)) a ∙ sum_by-append (λ d. cond (d == x) 1 0) then.departing.items (number ∷ []) in
+        let none = ap bit is in
+        let r = zero_of (is_old_alone was time x) (bit (number == x)) none in
+        omega arith
+      where
+        zero_of : (b : Bool) (n : ℕ) → n ≡ 0 → cond b n 0 ≡ 0
+        zero_of true n e = e
+        zero_of false n e = refl
+    by x false is false a =
+        let l = ap (λ b. listed x (cond b (then.departing.items ++ number ∷ []) then.departing.items)) a in
+        let none = ap bit is in
+        let r = zero_of (is_old_alone was time x) (bit (number == x)) none in
+        omega arith
+      where
+        zero_of : (b : Bool) (n : ℕ) → n ≡ 0 → cond b n 0 ≡ 0
+        zero_of true n e = e
+        zero_of false n e = refl

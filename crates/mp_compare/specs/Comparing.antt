@@ -101,13 +101,17 @@ changes_at run c x = old_changes run (wire_of c.numbers x)
 abbrev pub change_time : Outcome → Comparison → ℕ → ℕ → ℕ
 change_time run c x k = (pair_at (changes_at run c x) k).0 + delay_of c.numbers x
 
+-- the numbers that are listed for a time have an old change then
+abbrev pub ArePlaced : Outcome → ℕ → Comparison → Type 0
+ArePlaced run time c = (x : ℕ) → time_of c.calendar x ≡ time → place_at c x < length (changes_at run c x)
+
 -- the levels before a change are those of the run, up to a time
 pub record IsOldRun (before : ℕ → ℕ → ℕ) (run : Outcome) (last : ℕ) : Type 0 where
   pub form : (w : ℕ) → IsWaveform (old_wave run w)
   pub levels : (w u : ℕ) → u ≤ last → before w u ≡ level_of (old_wave run w) u
 
 -- after the unit t, when these numbers are taken out of the calendar: a number that is listed is listed for its first old change after t, and a
--- number that is taken out for one at t or later. No change was seen after t
+-- number that is taken out for one at t or later
 pub record HasCursors (run : Outcome) (t : ℕ) (taken : List ℕ) (c : Comparison) : Type 0 where
   pub shape : IsShaped c
   pub calendar : IsCalendar t taken c.calendar
@@ -116,7 +120,10 @@ pub record HasCursors (run : Outcome) (t : ℕ) (taken : List ℕ) (c : Comparis
   pub time : (x : ℕ) → time_of c.calendar x ≢ never → time_of c.calendar x ≡ change_time run c x (place_at c x)
   pub over : (x k : ℕ) → time_of c.calendar x ≢ never → k < place_at c x → change_time run c x k ≤ t
   pub later : (x : ℕ) → time_of c.calendar x ≢ never → t < time_of c.calendar x + listed x taken
-  pub seen : (x : ℕ) → seen_at c x ≤ t
+
+-- no change in the new run was seen at a time or later
+abbrev pub AreUnseen : ℕ → Comparison → Type 0
+AreUnseen time c = (x : ℕ) → seen_at c x < time
 
 -- the number is listed, or has no old change after t
 abbrev pub IsListed : Outcome → ℕ → Comparison → ℕ → Type 0

@@ -4,19 +4,20 @@ ghost use Rattle.std.specs.Prelude.{◌≡◌};
 use crate::comparison::Comparison;
 use crate::new_changes::NewChanges;
 use crate::old_run::old_changes;
+use mp_calendar::laws::comes_up;
 use mp_data::LevelChange;
 use mp_evaluation::Run;
 use std::alloc::AllocError;
 
 impl Comparison {
-    ghost use Rattle.std.specs.Prelude.{◌≡◌, ℕ, ◌+◌, ◌-◌, ◌<◌, ◌^◌, ◌∷◌, [], All, OnOk, length, nat_lt, ◌&&◌};
+    ghost use Rattle.std.specs.Prelude.{◌≡◌, ℕ, ◌+◌, ◌-◌, ◌<◌, ◌^◌, ◌∷◌, ◌++◌, [], All, OnOk, length, nat_lt, ◌&&◌, if◌then◌else◌};
     ghost use Rattle.mp_automata.specs.Codes.{bit};
     ghost use Rattle.mp_calendar.specs.Calendars.{coming};
     ghost use Rattle.mp_events.specs.Adding.{listed};
     ghost use Rattle.mp_evaluation.specs.Outcomes.{Outcome};
     ghost use Rattle.mp_data.specs.declared.level_change.LevelChange.{LevelChange};
-    ghost use Rattle.mp_compare.specs.Comparing.{IsShaped, HasCursors, AreWithin, departs, asleep_at, changes_at, place_at, IsOldRun, IsComplete, AgreeFrom, AgreeAsleep, AreNewChanges, HaveLowBits};
-    ghost use Rattle.mp_compare.specs.Meeting.{old_level, HasMet, HasMetOld};
+    ghost use Rattle.mp_compare.specs.Comparing.{IsShaped, ArePlaced, HasCursors, AreUnseen, AreWithin, departs, asleep_at, changes_at, place_at, IsOldRun, IsComplete, AgreeFrom, AgreeAsleep, AreNewChanges, HaveLowBits};
+    ghost use Rattle.mp_compare.specs.Meeting.{old_level, is_old_alone, HasMet, HasMetOld};
 
     /// Gathers the numbers that modules read that sleep, and that depart at a time, before which they have the levels of the old run: each number
     /// whose level at that time is another in the new run than in the old one is there once. What changes in the new run is given.
@@ -29,13 +30,16 @@ impl Comparison {
         requires some { 0 < time }
         requires time { time < 2 ^ 32 - 1 }
         requires cursors { HasCursors run.now (time - 1) [] self.old }
+        requires unseen { AreUnseen time self.old }
         requires within { AreWithin self.old.numbers coming.now }
         ensures kept { OnOk result (self.new ≡ record self.old { seen = self.new.seen; departing = self.new.departing }) }
-        ensures cursors { OnOk result (HasCursors run.now time [] self.old → HasCursors run.now time [] self.new) }
+        ensures cursors { OnOk result (HasCursors run.now (time - 1) [] self.new) }
+        ensures seen { OnOk result (AreUnseen (time + 1) self.new) }
         ensures departing { OnOk result ((before after : ℕ → ℕ → ℕ) → IsOldRun before run.now time → IsComplete run.now (time - 1) self.old → AgreeFrom before after time self.old → AgreeAsleep before after (time - 1) self.old →
             AreNewChanges after time self.old coming.now → HaveLowBits before after self.old coming.now →
             (x : ℕ) → listed x self.new.departing.items ≡ bit (nat_lt 0 (asleep_at self.old x) && departs before after self.old.numbers x time)) }
     {
+        comes_up();
         self.departing.clear();
         self.meet_toggles(coming.wires, time)?;
         self.meet_toggles(coming.copies, time)?;
@@ -86,9 +90,9 @@ impl Comparison {
         levels: &[LevelChange],
         time: u32,
     ) -> Result<(), AllocError>
-        requires some { 0 < time }
+        requires shape { IsShaped self.old }
         requires time { time < 2 ^ 32 - 1 }
-        requires cursors { HasCursors run.now (time - 1) [] self.old }
+        requires places { ArePlaced run.now time self.old }
         requires within { All (λ (c : LevelChange). c.number < length self.old.numbers.wires.items) levels.now }
         ensures { OnOk result (HasMet run.now time [] levels.now self.old self.new) }
     {
@@ -99,9 +103,9 @@ impl Comparison {
     }
 
     fn meet_level(&mut self, run: &Run, level: LevelChange, time: u32) -> Result<(), AllocError>
-        requires some { 0 < time }
+        requires shape { IsShaped self.old }
         requires time { time < 2 ^ 32 - 1 }
-        requires cursors { HasCursors run.now (time - 1) [] self.old }
+        requires places { ArePlaced run.now time self.old }
         requires within { level.number < length self.old.numbers.wires.items }
         ensures { OnOk result (HasMet run.now time [] (level ∷ []) self.old self.new) }
     {
@@ -138,12 +142,24 @@ impl Comparison {
     {
         for place in 0..self.calendar.coming().len() {
             let number = self.calendar.coming()[place];
-            if self.calendar.time_of(number) == time
-                && self.seen[number as usize] != time
-                && self.is_tracked(number, time)
-            {
-                self.departing.push(number)?;
-            }
+            self.meet_coming(number, time)?;
+        }
+        Ok(())
+    }
+
+    #[inline(always)]
+    fn meet_coming(&mut self, number: u32, time: u32) -> Result<(), AllocError>
+        requires shape { IsShaped self.old }
+        requires time { time < 2 ^ 32 - 1 }
+        requires within { number < length self.old.numbers.wires.items }
+        ensures kept { OnOk result (self.new ≡ record self.old { departing = self.new.departing }) }
+        ensures departing { OnOk result (self.new.departing.items ≡ (if is_old_alone self.old time number then self.old.departing.items ++ number ∷ [] else self.old.departing.items)) }
+    {
+        if self.calendar.time_of(number) == time
+            && self.seen[number as usize] != time
+            && self.is_tracked(number, time)
+        {
+            self.departing.push(number)?;
         }
         Ok(())
     }
