@@ -13,17 +13,17 @@ use Rattle.mp_compare.specs.Meeting.{old_level}
 use Rattle.mp_compare.proofs.WaveLemmas.{level_stays, level_comes, level_leaves, in_order, same_changes}
 
 -- the changes of a number are those of a wave
-changes_form : (before : ℕ → ℕ → ℕ) (run : Outcome) (last : ℕ) (c : Comparison) (x : ℕ) → IsOldRun before run last → AreChanges 0 (old_wave run (wire_of c.numbers x)).initial (changes_at run c x)
-changes_form before run last c x is =
+changes_form : (run : Outcome) (t : ℕ) (taken : List ℕ) (c : Comparison) (x : ℕ) → HasCursors run t taken c → AreChanges 0 (old_wave run (wire_of c.numbers x)).initial (changes_at run c x)
+changes_form run t taken c x has =
     let w = wire_of c.numbers x in
-    subst (λ (cs : List (ℕ × ℕ)). AreChanges 0 (old_wave run w).initial cs) (same_changes (wave_of run w)) (is.form w)
+    subst (λ (cs : List (ℕ × ℕ)). AreChanges 0 (old_wave run w).initial cs) (same_changes (wave_of run w)) (has.form w)
 
 late_level : (before : ℕ → ℕ → ℕ) (run : Outcome) (last : ℕ) (c : Comparison) (x u : ℕ) → IsOldRun before run last → u ≤ last →
     late before c.numbers x u ≡ level_from (old_wave run (wire_of c.numbers x)).initial (changes_at run c x) (u - delay_of c.numbers x)
 late_level before run last c x u is early =
     let w = wire_of c.numbers x in
     let d = delay_of c.numbers x in
-    is.levels w (u - d) (omega arith) ∙ ap (λ (cs : List (ℕ × ℕ)). level_from (old_wave run w).initial cs (u - d)) (same_changes (wave_of run w))
+    is w (u - d) (omega arith) ∙ ap (λ (cs : List (ℕ × ℕ)). level_from (old_wave run w).initial cs (u - d)) (same_changes (wave_of run w))
 
 -- a number that is due comes to its next old level, and had another one
 pub due_comes : (before : ℕ → ℕ → ℕ) (run : Outcome) (t u : ℕ) (c : Comparison) (x : ℕ) → t + 1 ≡ u → u < never → IsOldRun before run u → HasCursors run t [] c →
@@ -32,22 +32,28 @@ due_comes before run t u c x next low old has due =
     let listed : time_of c.calendar x ≢ never = λ e. absurd (omega arith) in
     let at = has.time x listed in
     late_level before run u c x u old (omega arith)
-    ∙ level_comes (old_wave run (wire_of c.numbers x)).initial (changes_at run c x) (delay_of c.numbers x) u (place_at c x) (changes_form before run u c x old) (has.place x listed) (omega arith)
+    ∙ level_comes (old_wave run (wire_of c.numbers x)).initial (changes_at run c x) (delay_of c.numbers x) u (place_at c x) (changes_form run t [] c x has) (has.place x listed) (omega arith)
 
 pub due_leaves : (before : ℕ → ℕ → ℕ) (run : Outcome) (t u : ℕ) (c : Comparison) (x : ℕ) → t + 1 ≡ u → u < never → IsOldRun before run u → HasCursors run t [] c →
     time_of c.calendar x ≡ u → late before c.numbers x t ≢ old_level run c x
 due_leaves before run t u c x next low old has due e =
     let listed : time_of c.calendar x ≢ never = λ e. absurd (omega arith) in
     let at = has.time x listed in
-    level_leaves (old_wave run (wire_of c.numbers x)).initial (changes_at run c x) (delay_of c.numbers x) t u (place_at c x) next (changes_form before run u c x old) (has.place x listed) (omega arith)
+    level_leaves (old_wave run (wire_of c.numbers x)).initial (changes_at run c x) (delay_of c.numbers x) t u (place_at c x) next (changes_form run t [] c x has) (has.place x listed) (omega arith)
     (λ k less. has.over x k listed less) (sym (late_level before run u c x t old (omega arith)) ∙ e)
+
+different : (a b : ℕ) → a ≢ b → (a < b) ⊎ (b < a)
+different a b ne = elim (cases_lt a b) as (λ _. (a < b) ⊎ (b < a)) [
+  | inl less ↦ inl less
+  | inr more ↦ inr (omega arith)
+]
 
 -- one that is listed, or has no old change to come, and isn't due keeps its level
 pub rests : (before : ℕ → ℕ → ℕ) (run : Outcome) (t u : ℕ) (c : Comparison) (x : ℕ) → t + 1 ≡ u → IsOldRun before run u → HasCursors run t [] c → IsListed run t c x →
     time_of c.calendar x ≢ u → late before c.numbers x u ≡ late before c.numbers x t
 rests before run t u c x next old has listed other =
     late_level before run u c x u old (omega arith)
-    ∙ level_stays (old_wave run (wire_of c.numbers x)).initial (changes_at run c x) (delay_of c.numbers x) t u next (changes_form before run u c x old) each
+    ∙ level_stays (old_wave run (wire_of c.numbers x)).initial (changes_at run c x) (delay_of c.numbers x) t u next (changes_form run t [] c x has) each
     ∙ sym (late_level before run u c x t old (omega arith))
   where
     each : (k : ℕ) → k < length (changes_at run c x) → (change_time run c x k ≤ t) ⊎ (u < change_time run c x k)
@@ -59,14 +65,11 @@ rests before run t u c x next old has listed other =
         by : time_of c.calendar x ≢ never → (k < place_at c x) ⊎ (place_at c x ≤ k) → (change_time run c x k ≤ t) ⊎ (u < change_time run c x k)
         by some (inl less) = inl (has.over x k some less)
         by some (inr more) =
-            let ordered = in_order 0 (old_wave run (wire_of c.numbers x)).initial (changes_at run c x) (place_at c x) k (changes_form before run u c x old) more low in
+            let ordered = in_order 0 (old_wave run (wire_of c.numbers x)).initial (changes_at run c x) (place_at c x) k (changes_form run t [] c x has) more low in
             let at = has.time x some in
             let later = has.later x some in
             let apart = different (time_of c.calendar x) u other in
             inr (omega arith)
-
-        different : (a b : ℕ) → a ≢ b → (a < b) ⊎ (b < a)
-        different a b ne = elim (cases_lt a b) as (λ _. (a < b) ⊎ (b < a)) [ inl l ↦ inl l | inr g ↦ inr (omega arith) ]
 
 -- a number that a module reads is one
 pub is_number : (run : Outcome) (t : ℕ) (taken : List ℕ) (c : Comparison) (x : ℕ) → HasCursors run t taken c → 0 < asleep_at c x → x < length c.numbers.wires.items

@@ -26,31 +26,26 @@ others_are x at level may [] tracked all = none (level x == at) 0
     none false n = refl
 others_are x at level may (change ∷ changes) tracked all =
     sum_by-cons (λ (change : LevelChange). cond ((change.number == x) && not (change.level == at)) 1 0) change changes
-    ∙ by (change.number == x) refl
+    ∙ by (others_are x at level may changes tracked all.1) (change.number == x) refl
     ∙ ap (λ n. cond (level x == at) 0 n) (sym (sum_by-cons (λ (change : LevelChange). cond (change.number == x) 1 0) change changes))
   where
-    rest : count_by (λ (change : LevelChange). (change.number == x) && not (change.level == at)) changes ≡ cond (level x == at) 0 (changes_of x changes)
-    rest = others_are x at level may changes tracked all.1
-
     split : (b : Bool) (n : ℕ) → cond (not b) 1 0 + cond b 0 n ≡ cond b 0 (1 + n)
     split true n = refl
     split false n = omega arith
 
-    by : (same : Bool) → (change.number == x) ≡ same →
+    by : count_by (λ (change : LevelChange). (change.number == x) && not (change.level == at)) changes ≡ cond (level x == at) 0 (changes_of x changes) → (same : Bool) → (change.number == x) ≡ same →
         cond ((change.number == x) && not (change.level == at)) 1 0 + count_by (λ (change : LevelChange). (change.number == x) && not (change.level == at)) changes
         ≡ cond (level x == at) 0 (cond (change.number == x) 1 0 + changes_of x changes)
-    by true is =
+    by rest true is =
         let same = eqb-true change.number x is in
         let right : change.level ≡ level x = all.0 (ap may same ∙ tracked) ∙ ap level same in
         let here = ap (λ b. bit (b && not (change.level == at))) is ∙ ap (λ n. bit (not (n == at))) right in
         let there = ap (λ b. cond (level x == at) 0 (bit b + changes_of x changes)) is in
         let both = split (level x == at) (changes_of x changes) in
-        let now = rest in
         omega arith
-    by false is =
+    by rest false is =
         let here = ap (λ b. bit (b && not (change.level == at))) is in
         let there = ap (λ b. cond (level x == at) 0 (bit b + changes_of x changes)) is in
-        let now = rest in
         omega arith
 
 is_past : (a b : ℕ) → a < b → (a == b) ≡ false
@@ -92,11 +87,11 @@ finds before after run t u c met is new next low up has unseen none old complete
           (complete x (reads (and_parts (nat_lt 0 (asleep_at c x)) may tracked).0) (or_right (is_following c x) (is_tracked c x u) tracked))
           (eqb-false (time_of c.calendar x) u other);
       once = λ tracked. once x tracked;
-      others = λ tracked. others_are x (old_level run c x) (λ y. late after c.numbers y u) (λ y. is_tracked c y u) (levels_of new) tracked levels;
+      other_levels = λ tracked. others_are x (old_level run c x) (λ y. late after c.numbers y u) (λ y. is_tracked c y u) (levels_of new) tracked levels;
       low_was = λ some. (bits x t some).0;
       low_before = λ some. (bits x u some).0;
       low_after = λ some. (bits x u some).1;
-      seen = first.seen x ∙ ap (λ b. b || (is_tracked c x u && nat_lt 0 (listed x (bits_of new) + changes_of x (levels_of new)))) (is_past (seen_at c x) u (unseen x));
+      was_seen = first.seen x ∙ ap (λ b. b || (is_tracked c x u && nat_lt 0 (listed x (bits_of new) + changes_of x (levels_of new)))) (is_past (seen_at c x) u (unseen x));
       up = λ due. up t c.calendar has.calendar x (eqb-true (time_of c.calendar x) u due ∙ sym next) (omega arith);
     }
       where

@@ -1,20 +1,21 @@
 -- Changes that are met one after the other.
-use Rattle.std.proofs.Common.{◌≡◌, ◌≢◌, ℕ, zero, suc, ◌+◌, ◌-◌, ◌<◌, ◌≤◌, Bool, true, false, not, cond, ◌&&◌, ◌||◌, List, [], ◌∷◌, ◌++◌, All, length, get_or, take, refl, sym, ap, ◌∙◌, arith, add-one, get_or-set_same, get_or-set_other, subst}
+use Rattle.std.proofs.Common.{◌≡◌, ◌≢◌, ℕ, zero, suc, ◌+◌, ◌-◌, ◌<◌, ◌≤◌, Bool, true, false, not, cond, ◌&&◌, ◌||◌, List, [], ◌∷◌, ◌++◌, All, length, get_or, take, refl, sym, ap, ◌∙◌, arith, add-one, get_or-set_same, get_or-set_other, subst, inl, inr}
 use Rattle.std.specs.Prelude.{◌==◌, nat_lt, slice_set}
 use Rattle.std.specs.List.{sum_by, count_by}
-use Rattle.std.proofs.lemmas.Bool.{eq-eqb, eqb-true, eqb-false, lt-ltb}
+use Rattle.std.proofs.lemmas.Bool.{cases_lt, eq-eqb, eqb-true, eqb-false, lt-ltb}
 use Rattle.std.proofs.Math.Seq.{take-suc}
-use Rattle.std.proofs.lemmas.List.{take_more}
-use Rattle.std.proofs.lemmas.List.Elements.{All-get_or}
-use Rattle.std.proofs.lemmas.List.Sums.{sum_by-cons, sum_by-append}
+use Rattle.std.proofs.lemmas.List.{take_more, take_all, append-nil, get_or_past}
+use Rattle.std.proofs.lemmas.List.Elements.{All-get_or, All-from_get_or}
+use Rattle.std.proofs.lemmas.List.Sums.{sum_by-append, get_or-le-sum_by}
 use Rattle.mp_automata.specs.Codes.{bit}
 use Rattle.mp_events.specs.Adding.{listed}
-use Rattle.mp_calendar.specs.Calendars.{time_of, coming}
+use Rattle.mp_calendar.specs.Calendars.{never, time_of, coming}
 use Rattle.mp_data.specs.declared.level_change.LevelChange.{LevelChange}
 use Rattle.mp_evaluation.specs.Outcomes.{Outcome}
 use Rattle.mp_compare.specs.declared.numbers.Numbers.{Numbers}
+use Rattle.mp_compare.specs.declared.new_changes.NewChanges.{NewChanges}
 use Rattle.mp_compare.specs.declared.comparison.Comparison.{Comparison}
-use Rattle.mp_compare.specs.Comparing.{seen_at, is_tracked, changes_of, IsShaped, ArePlaced}
+use Rattle.mp_compare.specs.Comparing.{seen_at, is_tracked, changes_of, IsShaped, ArePlaced, HasCursors, AreUnseen, AreNumbers, AreWithin}
 use Rattle.mp_compare.specs.Meeting.{old_level, is_due, others_of, departures, is_old_alone, HasMet, HasMetOld}
 
 none_more : (a b : Bool) → a ≡ (a || (b && false))
@@ -32,6 +33,7 @@ pub met_none : (run : Outcome) (time : ℕ) (was : Comparison) → HasMet run ti
 met_none run time was = record {
   kept = refl;
   places = refl;
+  over = λ unseen. unseen;
   seen = λ x. none_more (seen_at was x == time) (is_tracked was x time);
   departing = λ x. let none = no_number (is_tracked was x time) (is_due was x time) 0 in omega arith;
 }
@@ -72,6 +74,7 @@ pub met_join : (run : Outcome) (time : ℕ) (bits more : List ℕ) (levels other
 met_join run time bits more levels others was then is first second = record {
   kept = second.kept ∙ ap (λ (c : Comparison). record c { seen = is.seen; departing = is.departing }) first.kept;
   places = second.places ∙ first.places;
+  over = λ unseen. second.over (first.over unseen);
   seen = λ x. both_seen (seen_at was x == time) (seen_at then x == time) (seen_at is x == time) (is_tracked was x time) (is_tracked then x time)
       (listed x bits + changes_of x levels) (listed x more + changes_of x others) (listed x (bits ++ more) + changes_of x (levels ++ others))
       (first.seen x) (second.seen x) (ap (λ (c : Comparison). is_tracked c x time) first.kept)
@@ -98,6 +101,7 @@ pub met_untracked : (run : Outcome) (time number : ℕ) (bits : List ℕ) (level
 met_untracked run time number bits levels was alone free = record {
   kept = refl;
   places = refl;
+  over = λ unseen. unseen;
   seen = λ x. seen_by x (number == x) refl;
   departing = λ x. departing_by x (number == x) refl;
 }
@@ -127,10 +131,20 @@ pub met_tracked : (run : Outcome) (time number often : ℕ) (bits : List ℕ) (l
 met_tracked run time number often bits levels was is alone tracked kept within seen_now right departing places = record {
   kept = kept;
   places = places;
+  over = λ unseen x. over_by unseen x (number == x) refl;
   seen = λ x. seen_by x (number == x) refl;
   departing = λ x. departing_by x (number == x) refl;
 }
   where
+    over_by : AreUnseen (time + 1) was → (x : ℕ) (same : Bool) → (number == x) ≡ same → seen_at is x < time + 1
+    over_by unseen x true is_x =
+        subst (λ y. seen_at is y < time + 1) (eqb-true number x is_x)
+        (let now = ap (λ (xs : List ℕ). get_or xs number 0) seen_now ∙ get_or-set_same was.seen.items number time 0 within in omega arith)
+    over_by unseen x false is_x =
+        let same = ap (λ (xs : List ℕ). get_or xs x 0) seen_now ∙ get_or-set_other was.seen.items number x time 0 (λ e. eqb-false number x is_x (sym e)) in
+        let before = unseen x in
+        omega arith
+
     or_true : (a : Bool) → true ≡ (a || true)
     or_true true = refl
     or_true false = refl
@@ -294,3 +308,130 @@ some_more time xs i was then is low some kept pushed = record {
         zero_of : (b : Bool) (n : ℕ) → n ≡ 0 → cond b n 0 ≡ 0
         zero_of true n e = e
         zero_of false n e = refl
+
+pub some_shape : (time : ℕ) (some : List ℕ) (was is : Comparison) → HasMetSome time some was is → IsShaped was → IsShaped is
+some_shape time some was is met shape = subst IsShaped (sym met.kept) (record {
+  delays = shape.delays;
+  next = shape.next;
+  have_data = shape.have_data;
+  asleep = shape.asleep;
+  times = shape.times;
+  places = shape.places;
+  seen = shape.seen;
+  few = shape.few;
+  wires = shape.wires;
+  own = shape.own;
+})
+
+-- the numbers that come up stay
+some_coming : (time : ℕ) (some xs : List ℕ) (was is : Comparison) → HasMetSome time some was is → xs ≡ coming is.calendar → xs ≡ coming was.calendar
+some_coming time some xs was is met now = now ∙ ap (λ (c : Comparison). coming c.calendar) met.kept
+
+pub some_within : (time : ℕ) (some xs : List ℕ) (i : ℕ) (was is : Comparison) → HasMetSome time some was is → xs ≡ coming is.calendar → i < length (coming was.calendar) →
+    All (λ x. x < length was.numbers.wires.items) (coming was.calendar) → get_or xs i 0 < length is.numbers.wires.items
+some_within time some xs i was is met now low all =
+    subst (λ (ys : List ℕ). get_or ys i 0 < length is.numbers.wires.items) (sym (some_coming time some xs was is met now))
+    (subst (λ (numbers : Numbers). get_or (coming was.calendar) i 0 < length numbers.wires.items) (sym (ap (λ (c : Comparison). c.numbers) met.kept))
+    (All-get_or (λ x. x < length was.numbers.wires.items) (coming was.calendar) i 0 low all))
+
+pub get_same : (time : ℕ) (some xs : List ℕ) (i : ℕ) (was then : Comparison) (pushed : List ℕ) → HasMetSome time some was then → xs ≡ coming then.calendar →
+    pushed ≡ cond (is_old_alone then time (get_or xs i 0)) (then.departing.items ++ get_or xs i 0 ∷ []) then.departing.items →
+    pushed ≡ cond (is_old_alone then time (get_or (coming was.calendar) i 0)) (then.departing.items ++ get_or (coming was.calendar) i 0 ∷ []) then.departing.items
+get_same time some xs i was then pushed met now is =
+    subst (λ (ys : List ℕ). pushed ≡ cond (is_old_alone then time (get_or ys i 0)) (then.departing.items ++ get_or ys i 0 ∷ []) then.departing.items) (some_coming time some xs was then met now) is
+
+-- all have been met
+pub some_all : (time n : ℕ) (was is : Comparison) → length (coming was.calendar) ≤ n → HasMetSome time (take n (coming was.calendar)) was is → HasMetOld time was is
+some_all time n was is long met = record {
+  kept = met.kept;
+  departing = λ x. met.departing x ∙ ap (λ (xs : List ℕ). listed x was.departing.items + cond (is_old_alone was time x) (listed x xs) 0) (take_all n (coming was.calendar) long);
+}
+
+-- four lists of toggles, or three of changes, are met
+pub four_met : (run : Outcome) (time : ℕ) (ps qs rs ss : List ℕ) (one two three four five : Comparison) → HasMet run time ps [] one two → HasMet run time qs [] two three →
+    HasMet run time rs [] three four → HasMet run time ss [] four five → HasMet run time (ps ++ qs ++ rs ++ ss) [] one five
+four_met run time ps qs rs ss one two three four five a b c d =
+    met_join run time (ps ++ qs ++ rs) ss [] [] one four five
+    (met_join run time (ps ++ qs) rs [] [] one three four (met_join run time ps qs [] [] one two three a b) c) d
+
+pub three_met : (run : Outcome) (time : ℕ) (ps qs rs : List LevelChange) (one two three four : Comparison) → HasMet run time [] ps one two → HasMet run time [] qs two three →
+    HasMet run time [] rs three four → HasMet run time [] (ps ++ qs ++ rs) one four
+three_met run time ps qs rs one two three four a b c =
+    met_join run time [] [] (ps ++ qs) rs one three four (met_join run time [] [] ps qs one two three a b) c
+
+-- toggles and changes are met
+pub both_met : (run : Outcome) (time : ℕ) (bits : List ℕ) (levels : List LevelChange) (one two three : Comparison) → HasMet run time bits [] one two → HasMet run time [] levels two three →
+    HasMet run time bits levels one three
+both_met run time bits levels one two three a b =
+    subst (λ (xs : List ℕ). HasMet run time xs levels one three) (append-nil bits) (met_join run time bits [] [] levels one two three a b)
+
+pub bits_kept : (run : Outcome) (time : ℕ) (bits : List ℕ) (levels : List LevelChange) (was is : Comparison) (xs : List ℕ) → HasMet run time bits levels was is →
+    All (λ x. x < length was.numbers.wires.items) xs → All (λ x. x < length is.numbers.wires.items) xs
+bits_kept run time bits levels was is xs met all = subst (λ (numbers : Numbers). All (λ x. x < length numbers.wires.items) xs) (sym (numbers_kept run time bits levels was is met)) all
+
+pub levels_kept : (run : Outcome) (time : ℕ) (bits : List ℕ) (levels : List LevelChange) (was is : Comparison) (xs : List LevelChange) → HasMet run time bits levels was is →
+    All (λ (change : LevelChange). change.number < length was.numbers.wires.items) xs → All (λ (change : LevelChange). change.number < length is.numbers.wires.items) xs
+levels_kept run time bits levels was is xs met all =
+    subst (λ (numbers : Numbers). All (λ (change : LevelChange). change.number < length numbers.wires.items) xs) (sym (numbers_kept run time bits levels was is met)) all
+
+-- what is seen and gathered is no part of what is known of the old run
+pub cursors_kept : (run : Outcome) (t : ℕ) (taken : List ℕ) (was is : Comparison) → is ≡ record was { seen = is.seen; departing = is.departing } → length is.seen.items ≡ length was.seen.items →
+    HasCursors run t taken was → HasCursors run t taken is
+cursors_kept run t taken was is kept long has = subst (HasCursors run t taken) (sym kept) (record {
+  shape = record {
+    delays = has.shape.delays;
+    next = has.shape.next;
+    have_data = has.shape.have_data;
+    asleep = has.shape.asleep;
+    times = has.shape.times;
+    places = has.shape.places;
+    seen = long ∙ has.shape.seen;
+    few = has.shape.few;
+    wires = has.shape.wires;
+    own = has.shape.own;
+  };
+  form = has.form;
+  calendar = has.calendar;
+  room = has.room;
+  place = has.place;
+  time = has.time;
+  over = has.over;
+  later = has.later;
+})
+
+pub is_placed : (run : Outcome) (t u : ℕ) (taken : List ℕ) (c : Comparison) → u < never → HasCursors run t taken c → ArePlaced run u c
+is_placed run t u taken c low has x due = has.place x (λ e. absurd (omega arith))
+
+pub within_kept : (run : Outcome) (time : ℕ) (bits : List ℕ) (levels : List LevelChange) (was is : Comparison) (new : NewChanges) → HasMet run time bits levels was is →
+    AreWithin was.numbers new → AreWithin is.numbers new
+within_kept run time bits levels was is new met within = subst (λ (numbers : Numbers). AreWithin numbers new) (sym (numbers_kept run time bits levels was is met)) within
+
+-- what comes up is a number
+pub coming_numbers : (run : Outcome) (t : ℕ) (c : Comparison) → HasCursors run t [] c → AreNumbers c.numbers (coming c.calendar)
+coming_numbers run t c has = All-from_get_or (λ x. x < length c.numbers.wires.items) (coming c.calendar) 0 each
+  where
+    each : (i : ℕ) → i < length (coming c.calendar) → get_or (coming c.calendar) i 0 < length c.numbers.wires.items
+    each i low = elim (cases_lt x (length c.numbers.wires.items)) as (λ _. x < length c.numbers.wires.items) [
+      | inl within ↦ within
+      | inr past ↦
+        let none = get_or_past c.calendar.times.items x never (let long = has.shape.times in omega arith) in
+        let off = ap (λ b. bit (not b)) (eq-eqb (time_of c.calendar x) never none) in
+        let once = has.calendar.once x in
+        let in_wheel = get_or-le-sum_by (listed x) c.calendar.wheel 0 [] has.calendar.some in
+        let here = get_or-le-sum_by (λ d. cond (d == x) 1 0) (coming c.calendar) i 0 low in
+        let own = ap bit (eq-eqb x x refl) in
+        absurd (omega arith)
+    ]
+      where
+        x : ℕ
+        x = get_or (coming c.calendar) i 0
+
+pub coming_kept : (run : Outcome) (time : ℕ) (bits : List ℕ) (levels : List LevelChange) (was is : Comparison) → HasMet run time bits levels was is →
+    AreNumbers was.numbers (coming was.calendar) → AreNumbers is.numbers (coming is.calendar)
+coming_kept run time bits levels was is met all = subst (λ (c : Comparison). AreNumbers c.numbers (coming c.calendar)) (sym met.kept) all
+
+pub kept_through : (was then is : Comparison) → then ≡ record was { seen = then.seen; departing = then.departing } → is ≡ record then { departing = is.departing } →
+    is ≡ record was { seen = is.seen; departing = is.departing }
+kept_through was then is first second =
+    second ∙ ap (λ (c : Comparison). record c { departing = is.departing }) first
+    ∙ ap (λ (c : Comparison). record was { seen = c.seen; departing = is.departing }) (sym second)

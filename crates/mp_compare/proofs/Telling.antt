@@ -18,11 +18,11 @@ pub record IsTold (asleep may due seen : Bool) (was_before was_after is_before i
   pub leaves : due ≡ true → was_before ≢ level
   pub rests : (asleep && may) ≡ true → due ≡ false → is_before ≡ was_before
   pub once : (asleep && may) ≡ true → bits + changes ≡ bit (not (was_after == is_after))
-  pub others : (asleep && may) ≡ true → others ≡ cond (is_after == level) 0 changes
+  pub other_levels : (asleep && may) ≡ true → others ≡ cond (is_after == level) 0 changes
   pub low_was : 0 < bits → was_before ≤ 1
   pub low_before : 0 < bits → is_before ≤ 1
   pub low_after : 0 < bits → is_after ≤ 1
-  pub seen : seen ≡ ((asleep && may) && nat_lt 0 (bits + changes))
+  pub was_seen : seen ≡ ((asleep && may) && nat_lt 0 (bits + changes))
   pub up : due ≡ true → coming ≡ 1
 
 pub told : (asleep may due seen : Bool) (wb wa ib ia level bits changes others coming : ℕ) → IsTold asleep may due seen wb wa ib ia level bits changes others coming →
@@ -45,9 +45,9 @@ told true true true seen wb wa ib ia level bits changes others coming is =
     at_rest : wa ≡ ia → others + cond (not seen && true) coming 0 ≡ bit (not (ib == ia))
     at_rest same =
         let none = is.once refl ∙ ap (λ b. bit (not b)) (eq-eqb wa ia same) in
-        let rest = is.others refl in
+        let rest = is.other_levels refl in
         let no_others = few (ia == level) in
-        let unseen = is.seen ∙ ap (λ n. nat_lt 0 n) none in
+        let unseen = is.was_seen ∙ ap (λ n. nat_lt 0 n) none in
         let all = ap (λ b. cond (not b && true) coming 0) unseen in
         let up = is.up refl in
         let apart = ap (λ b. bit (not b)) (ne_eqb ib ia (λ e. is.leaves refl (is.agreed refl ∙ same ∙ sym e ∙ is.comes refl))) in
@@ -60,13 +60,13 @@ told true true true seen wb wa ib ia level bits changes others coming is =
     moving : wa ≢ ia → others + cond (not seen && true) coming 0 ≡ bit (not (ib == ia))
     moving other =
         let some = is.once refl ∙ ap (λ b. bit (not b)) (ne_eqb wa ia other) in
-        let was_seen = is.seen ∙ ap (λ n. nat_lt 0 n) some in
+        let was_seen = is.was_seen ∙ ap (λ n. nat_lt 0 n) some in
         let none = ap (λ b. cond (not b && true) coming 0) was_seen in
         by bits refl some none
       where
         by : (n : ℕ) → bits ≡ n → bits + changes ≡ 1 → cond (not seen && true) coming 0 ≡ 0 → others + cond (not seen && true) coming 0 ≡ bit (not (ib == ia))
         by zero is_bits some none =
-            let rest = is.others refl in
+            let rest = is.other_levels refl in
             let level_too = ap (λ n. cond (ia == n) 0 changes) (sym (is.comes refl)) in
             let turned = swapped (ib == ia) refl in
             omega arith
@@ -75,7 +75,7 @@ told true true true seen wb wa ib ia level bits changes others coming is =
             swapped true e = ap (λ b. cond b 0 changes) (eq-eqb ia ib (sym (eqb-true ib ia e))) ∙ sym (ap (λ b. bit (not b)) e)
             swapped false e = ap (λ b. cond b 0 changes) (ne_eqb ia ib (λ s. absurd (let t = eq-eqb ib ia (sym s) in cc))) ∙ (let one : changes ≡ 1 = omega arith in one) ∙ sym (ap (λ b. bit (not b)) e)
         by (suc n) is_bits some none =
-            let rest = is.others refl in
+            let rest = is.other_levels refl in
             let no_others = few (ia == level) in
             let comes = is.comes refl in
             let agreed = is.agreed refl in

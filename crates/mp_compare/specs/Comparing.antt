@@ -106,14 +106,14 @@ abbrev pub ArePlaced : Outcome → ℕ → Comparison → Type 0
 ArePlaced run time c = (x : ℕ) → time_of c.calendar x ≡ time → place_at c x < length (changes_at run c x)
 
 -- the levels before a change are those of the run, up to a time
-pub record IsOldRun (before : ℕ → ℕ → ℕ) (run : Outcome) (last : ℕ) : Type 0 where
-  pub form : (w : ℕ) → IsWaveform (old_wave run w)
-  pub levels : (w u : ℕ) → u ≤ last → before w u ≡ level_of (old_wave run w) u
+abbrev pub IsOldRun : (ℕ → ℕ → ℕ) → Outcome → ℕ → Type 0
+IsOldRun before run last = (w u : ℕ) → u ≤ last → before w u ≡ level_of (old_wave run w) u
 
 -- after the unit t, when these numbers are taken out of the calendar: a number that is listed is listed for its first old change after t, and a
 -- number that is taken out for one at t or later
 pub record HasCursors (run : Outcome) (t : ℕ) (taken : List ℕ) (c : Comparison) : Type 0 where
   pub shape : IsShaped c
+  pub form : (w : ℕ) → IsWaveform (old_wave run w)
   pub calendar : IsCalendar t taken c.calendar
   pub room : (x k : ℕ) → x < length c.numbers.wires.items → k < length (changes_at run c x) → change_time run c x k < never
   pub place : (x : ℕ) → time_of c.calendar x ≢ never → place_at c x < length (changes_at run c x)
@@ -152,9 +152,20 @@ abbrev pub levels_of : NewChanges → List LevelChange
 levels_of coming = coming.levels.now ++ coming.set_levels.now ++ coming.tail_levels.now
 
 -- each of them is a number
+abbrev pub AreNumbers : Numbers → List ℕ → Type 0
+AreNumbers numbers xs = All (λ x. x < length numbers.wires.items) xs
+
+abbrev pub AreOfNumbers : Numbers → List LevelChange → Type 0
+AreOfNumbers numbers changes = All (λ (change : LevelChange). change.number < length numbers.wires.items) changes
+
 pub record AreWithin (numbers : Numbers) (coming : NewChanges) : Type 0 where
-  pub bits : All (λ x. x < length numbers.wires.items) (bits_of coming)
-  pub levels : All (λ (change : LevelChange). change.number < length numbers.wires.items) (levels_of coming)
+  pub wires : AreNumbers numbers coming.wires.now
+  pub copies : AreNumbers numbers coming.copies.now
+  pub set : AreNumbers numbers coming.set.now
+  pub tails : AreNumbers numbers coming.tails.now
+  pub levels : AreOfNumbers numbers coming.levels.now
+  pub set_levels : AreOfNumbers numbers coming.set_levels.now
+  pub tail_levels : AreOfNumbers numbers coming.tail_levels.now
 
 -- of the numbers that are tracked they are just those that change at a time, each once, with their levels then
 pub record AreNewChanges (after : ℕ → ℕ → ℕ) (time : ℕ) (c : Comparison) (coming : NewChanges) : Type 0 where

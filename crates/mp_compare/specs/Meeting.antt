@@ -6,7 +6,7 @@ use Rattle.mp_events.specs.Adding.{listed}
 use Rattle.mp_calendar.specs.Calendars.{time_of, coming}
 use Rattle.mp_data.specs.declared.level_change.LevelChange.{LevelChange}
 use Rattle.mp_evaluation.specs.Outcomes.{Outcome}
-use Rattle.mp_compare.specs.Comparing.{changes_at, place_at, seen_at, is_tracked, changes_of}
+use Rattle.mp_compare.specs.Comparing.{changes_at, place_at, seen_at, is_tracked, changes_of, AreUnseen}
 use Rattle.mp_compare.specs.declared.comparison.Comparison.{Comparison}
 
 -- the level of a number from its next old change on
@@ -31,6 +31,7 @@ pub record HasMet (run : Outcome) (time : ℕ) (bits : List ℕ) (levels : List 
   pub kept : is ≡ record was { seen = is.seen; departing = is.departing }
   pub places : length is.seen.items ≡ length was.seen.items
   pub seen : (x : ℕ) → (seen_at is x == time) ≡ ((seen_at was x == time) || (is_tracked was x time && nat_lt 0 (listed x bits + changes_of x levels)))
+  pub over : AreUnseen (time + 1) was → AreUnseen (time + 1) is
   pub departing : (x : ℕ) → listed x is.departing.items ≡ listed x was.departing.items + departures run was time bits levels x
 
 -- a number is one of those that change in the old run alone

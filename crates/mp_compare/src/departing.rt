@@ -10,13 +10,12 @@ use mp_evaluation::Run;
 use std::alloc::AllocError;
 
 impl Comparison {
-    ghost use Rattle.std.specs.Prelude.{◌≡◌, ℕ, ◌+◌, ◌-◌, ◌<◌, ◌^◌, ◌∷◌, ◌++◌, [], All, OnOk, length, nat_lt, ◌&&◌, if◌then◌else◌};
+    ghost use Rattle.std.specs.Prelude.{◌≡◌, ℕ, ◌+◌, ◌-◌, ◌<◌, ◌^◌, ◌∷◌, ◌++◌, [], OnOk, length, nat_lt, ◌&&◌, if◌then◌else◌};
     ghost use Rattle.mp_automata.specs.Codes.{bit};
     ghost use Rattle.mp_calendar.specs.Calendars.{coming};
     ghost use Rattle.mp_events.specs.Adding.{listed};
     ghost use Rattle.mp_evaluation.specs.Outcomes.{Outcome};
-    ghost use Rattle.mp_data.specs.declared.level_change.LevelChange.{LevelChange};
-    ghost use Rattle.mp_compare.specs.Comparing.{IsShaped, ArePlaced, HasCursors, AreUnseen, AreWithin, departs, asleep_at, changes_at, place_at, IsOldRun, IsComplete, AgreeFrom, AgreeAsleep, AreNewChanges, HaveLowBits};
+    ghost use Rattle.mp_compare.specs.Comparing.{IsShaped, ArePlaced, HasCursors, AreUnseen, AreNumbers, AreOfNumbers, AreWithin, bits_of, levels_of, departs, asleep_at, changes_at, place_at, IsOldRun, IsComplete, AgreeFrom, AgreeAsleep, AreNewChanges, HaveLowBits};
     ghost use Rattle.mp_compare.specs.Meeting.{old_level, is_old_alone, HasMet, HasMetOld};
 
     /// Gathers the numbers that modules read that sleep, and that depart at a time, before which they have the levels of the old run: each number
@@ -41,14 +40,41 @@ impl Comparison {
     {
         comes_up();
         self.departing.clear();
+        self.meet_all_toggles(coming, time)?;
+        self.meet_all_levels(run, coming, time)?;
+        self.meet_old(time)?;
+        Ok(())
+    }
+
+    fn meet_all_toggles(&mut self, coming: &NewChanges<'_>, time: u32) -> Result<(), AllocError>
+        requires shape { IsShaped self.old }
+        requires time { time < 2 ^ 32 - 1 }
+        requires within { AreWithin self.old.numbers coming.now }
+        ensures { OnOk result ((run : Outcome) → HasMet run time (bits_of coming.now) [] self.old self.new) }
+    {
         self.meet_toggles(coming.wires, time)?;
         self.meet_toggles(coming.copies, time)?;
         self.meet_toggles(coming.set, time)?;
         self.meet_toggles(coming.tails, time)?;
+        Ok(())
+    }
+
+    fn meet_all_levels(
+        &mut self,
+        run: &Run,
+        coming: &NewChanges<'_>,
+        time: u32,
+    ) -> Result<(), AllocError>
+        requires shape { IsShaped self.old }
+        requires time { time < 2 ^ 32 - 1 }
+        requires places { ArePlaced run.now time self.old }
+        requires within { AreWithin self.old.numbers coming.now }
+        ensures { OnOk result (HasMet run.now time [] (levels_of coming.now) self.old self.new) }
+    {
         self.meet_levels(run, coming.levels, time)?;
         self.meet_levels(run, coming.set_levels, time)?;
         self.meet_levels(run, coming.tail_levels, time)?;
-        self.meet_old(time)
+        Ok(())
     }
 
     /// Numbers of width 1 toggle in the new run.
@@ -56,7 +82,7 @@ impl Comparison {
     fn meet_toggles(&mut self, numbers: &[u32], time: u32) -> Result<(), AllocError>
         requires shape { IsShaped self.old }
         requires time { time < 2 ^ 32 - 1 }
-        requires within { All (λ x. x < length self.old.numbers.wires.items) numbers.now }
+        requires within { AreNumbers self.old.numbers numbers.now }
         ensures { OnOk result ((run : Outcome) → HasMet run time numbers.now [] self.old self.new) }
     {
         for number in numbers {
@@ -93,7 +119,7 @@ impl Comparison {
         requires shape { IsShaped self.old }
         requires time { time < 2 ^ 32 - 1 }
         requires places { ArePlaced run.now time self.old }
-        requires within { All (λ (c : LevelChange). c.number < length self.old.numbers.wires.items) levels.now }
+        requires within { AreOfNumbers self.old.numbers levels.now }
         ensures { OnOk result (HasMet run.now time [] levels.now self.old self.new) }
     {
         for level in levels {
@@ -137,7 +163,7 @@ impl Comparison {
     fn meet_old(&mut self, time: u32) -> Result<(), AllocError>
         requires shape { IsShaped self.old }
         requires time { time < 2 ^ 32 - 1 }
-        requires within { All (λ x. x < length self.old.numbers.wires.items) (coming self.old.calendar) }
+        requires within { AreNumbers self.old.numbers (coming self.old.calendar) }
         ensures { OnOk result (HasMetOld time self.old self.new) }
     {
         for place in 0..self.calendar.coming().len() {
