@@ -10,7 +10,7 @@ use Rattle.mp_evaluation.specs.Outcomes.{Outcome, wave_of}
 use Rattle.mp_compare.specs.declared.comparison.Comparison.{Comparison}
 use Rattle.mp_compare.specs.Comparing.{wire_of, delay_of, late, source_at, asleep_at, place_at, is_tracked, is_following, may_differ, old_wave, changes_at, change_time, IsOldRun, HasCursors, IsListed, IsComplete, AgreeFrom}
 use Rattle.mp_compare.specs.Meeting.{old_level}
-use Rattle.mp_compare.proofs.WaveLemmas.{level_stays, level_comes, level_leaves, in_order, same_changes}
+use Rattle.mp_compare.proofs.WaveLemmas.{level_stays, level_comes, level_leaves, in_order, rising, places_few, same_changes}
 
 -- the changes of a number are those of a wave
 changes_form : (run : Outcome) (t : ℕ) (taken : List ℕ) (c : Comparison) (x : ℕ) → HasCursors run t taken c → AreChanges 0 (old_wave run (wire_of c.numbers x)).initial (changes_at run c x)
@@ -90,3 +90,14 @@ cannot_differ before after u c x low agree never_more =
     by : (nat_lt u (until + delay_of c.numbers x) ≡ false) ⊎ (nat_lt 0 until ≡ false) → until ≤ u - delay_of c.numbers x
     by (inl over) = let e = ltb-false u (until + delay_of c.numbers x) over in omega arith
     by (inr none) = let e = ltb-false 0 until none in omega arith
+
+pub next_later : (run : Outcome) (t : ℕ) (taken : List ℕ) (c : Comparison) (x p k : ℕ) → HasCursors run t taken c → p < k → k < length (changes_at run c x) → change_time run c x p < change_time run c x k
+next_later run t taken c x p k has less low =
+    let later = rising 0 (old_wave run (wire_of c.numbers x)).initial (changes_at run c x) p k (changes_form run t taken c x has) less low in
+    omega arith
+
+pub place_fits : (run : Outcome) (t : ℕ) (taken : List ℕ) (c : Comparison) (x k : ℕ) → HasCursors run t taken c → x < length c.numbers.wires.items → k < length (changes_at run c x) → k < never
+place_fits run t taken c x k has within low =
+    let few = places_few 0 (old_wave run (wire_of c.numbers x)).initial (changes_at run c x) k (changes_form run t taken c x has) low in
+    let room = has.room x k within low in
+    omega arith

@@ -26,7 +26,7 @@ others_are x at level may [] tracked all = none (level x == at) 0
     none false n = refl
 others_are x at level may (change ∷ changes) tracked all =
     sum_by-cons (λ (change : LevelChange). cond ((change.number == x) && not (change.level == at)) 1 0) change changes
-    ∙ by (others_are x at level may changes tracked all.1) (change.number == x) refl
+    ∙ by (others_are x at level may changes tracked (λ k d low. all (suc k) d (omega arith))) (change.number == x) refl
     ∙ ap (λ n. cond (level x == at) 0 n) (sym (sum_by-cons (λ (change : LevelChange). cond (change.number == x) 1 0) change changes))
   where
     split : (b : Bool) (n : ℕ) → cond (not b) 1 0 + cond b 0 n ≡ cond b 0 (1 + n)
@@ -38,7 +38,7 @@ others_are x at level may (change ∷ changes) tracked all =
         ≡ cond (level x == at) 0 (cond (change.number == x) 1 0 + changes_of x changes)
     by rest true is =
         let same = eqb-true change.number x is in
-        let right : change.level ≡ level x = all.0 (ap may same ∙ tracked) ∙ ap level same in
+        let right : change.level ≡ level x = all 0 change (omega arith) (ap may same ∙ tracked) ∙ ap level same in
         let here = ap (λ b. bit (b && not (change.level == at))) is ∙ ap (λ n. bit (not (n == at))) right in
         let there = ap (λ b. cond (level x == at) 0 (bit b + changes_of x changes)) is in
         let both = split (level x == at) (changes_of x changes) in
@@ -46,6 +46,8 @@ others_are x at level may (change ∷ changes) tracked all =
     by rest false is =
         let here = ap (λ b. bit (b && not (change.level == at))) is in
         let there = ap (λ b. cond (level x == at) 0 (bit b + changes_of x changes)) is in
+        let sum : bit false + changes_of x changes ≡ changes_of x changes = omega arith in
+        let same = ap (λ n. cond (level x == at) 0 n) sum in
         omega arith
 
 is_past : (a b : ℕ) → a < b → (a == b) ≡ false
@@ -61,7 +63,7 @@ finds before after run t u c met is new next low up has unseen none old complete
     let a = first.departing x in
     let b = second.departing x in
     let empty = nothing c.departing.items none in
-    let kept = ap (λ (v : Comparison). cond (is_due v u x && (not (seen_at met x == u) && is_tracked v x u)) (listed x (coming v.calendar)) 0) first.kept in
+    let kept = ap (λ (v : Comparison). cond (is_due v x u && (not (seen_at met x == u) && is_tracked v x u)) (listed x (coming v.calendar)) 0) first.kept in
     let all = told (nat_lt 0 (asleep_at c x)) may (is_due c x u) (seen_at met x == u) (late before c.numbers x t) (late after c.numbers x t) (late before c.numbers x u) (late after c.numbers x u)
     (old_level run c x) (listed x (bits_of new)) (changes_of x (levels_of new)) (others_of run c x (levels_of new)) (listed x (coming c.calendar)) tells in
     omega arith

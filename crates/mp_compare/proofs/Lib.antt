@@ -3,3 +3,4 @@ mod WaveLemmas
 mod CursorLemmas
 mod FindingLemmas
 mod Telling
+mod PassingLemmas

@@ -414,13 +414,13 @@ coming_numbers run t c has = All-from_get_or (λ x. x < length c.numbers.wires.i
     each i low = elim (cases_lt x (length c.numbers.wires.items)) as (λ _. x < length c.numbers.wires.items) [
       | inl within ↦ within
       | inr past ↦
-        let none = get_or_past c.calendar.times.items x never (let long = has.shape.times in omega arith) in
-        let off = ap (λ b. bit (not b)) (eq-eqb (time_of c.calendar x) never none) in
-        let once = has.calendar.once x in
-        let in_wheel = get_or-le-sum_by (listed x) c.calendar.wheel 0 [] has.calendar.some in
-        let here = get_or-le-sum_by (λ d. cond (d == x) 1 0) (coming c.calendar) i 0 low in
-        let own = ap bit (eq-eqb x x refl) in
-        absurd (omega arith)
+          let none = get_or_past c.calendar.times.items x never (let long = has.shape.times in omega arith) in
+          let off = ap (λ b. bit (not b)) (eq-eqb (time_of c.calendar x) never none) in
+          let once = has.calendar.once x in
+          let in_wheel = get_or-le-sum_by (listed x) c.calendar.wheel 0 [] has.calendar.some in
+          let here = get_or-le-sum_by (λ d. cond (d == x) 1 0) (coming c.calendar) i 0 low in
+          let own = ap bit (eq-eqb x x refl) in
+          absurd (omega arith)
     ]
       where
         x : ℕ

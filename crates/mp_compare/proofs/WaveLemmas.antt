@@ -74,6 +74,21 @@ in_order time level (change ∷ changes) zero (suc k) is least low = let later =
 in_order time level (change ∷ changes) (suc p) zero is least low = absurd (omega arith)
 in_order time level (change ∷ changes) (suc p) (suc k) is least low = in_order change.0 change.1 changes p k is.2 (omega arith) (omega arith)
 
+pub rising : (time level : ℕ) (changes : List (ℕ × ℕ)) (p k : ℕ) → AreChanges time level changes → p < k → k < length changes → (pair_at changes p).0 < (pair_at changes k).0
+rising time level [] p k is less low = absurd (omega arith)
+rising time level (change ∷ changes) p zero is less low = absurd (omega arith)
+rising time level (change ∷ changes) zero (suc k) is less low = rises change.0 change.1 changes k is.2 (omega arith)
+rising time level (change ∷ changes) (suc p) (suc k) is less low = rising change.0 change.1 changes p k is.2 (omega arith) (omega arith)
+
+-- there are no more changes than times
+pub places_few : (time level : ℕ) (changes : List (ℕ × ℕ)) (k : ℕ) → AreChanges time level changes → k < length changes → time + k < (pair_at changes k).0
+places_few time level [] k is low = absurd (omega arith)
+places_few time level (change ∷ changes) zero is low = let first = is.0 in omega arith
+places_few time level (change ∷ changes) (suc k) is low =
+    let later = places_few change.0 change.1 changes k is.2 (omega arith) in
+    let first = is.0 in
+    omega arith
+
 -- the changes of a wave, or of none
 pub same_changes : (wave : Option Waveform) → (wave_or_none wave).changes ≡ changes_of_wave wave
 same_changes None = refl

@@ -1,2 +1,3 @@
 pub mod Comparing
 pub mod Meeting
+pub mod Passing

@@ -148,7 +148,7 @@ impl Comparison {
 
     /// The level of a number that is listed, from its next old change on.
     #[inline(always)]
-    fn old_level(&self, run: &Run, number: usize) -> u64
+    pub(crate) fn old_level(&self, run: &Run, number: usize) -> u64
         requires within { number < length self.now.numbers.wires.items }
         requires shape { IsShaped self.now }
         requires place { place_at self.now number < length (changes_at run.now self.now number) }

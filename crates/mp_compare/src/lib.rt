@@ -6,9 +6,12 @@ mod departing;
 mod new_changes;
 mod numbers;
 mod old_run;
+mod passing;
+mod set_wires;
 mod wire_source;
 
 pub use comparison::Comparison;
 pub use new_changes::NewChanges;
 pub use numbers::Numbers;
+pub use set_wires::SetWires;
 pub use wire_source::WireSource;
