@@ -4,3 +4,5 @@ mod CursorLemmas
 mod FindingLemmas
 mod Telling
 mod PassingLemmas
+mod UnitLemmas
+mod SetLemmas

@@ -16,7 +16,7 @@ use Rattle.mp_wave.specs.Faults.{pair_at}
 use Rattle.mp_compare.proofs.CursorLemmas.{next_later}
 
 -- how often a number is listed among one and others
-one_of : (x number : ℕ) (rest : List ℕ) → listed x (number ∷ rest) ≡ bit (number == x) + listed x rest
+pub one_of : (x number : ℕ) (rest : List ℕ) → listed x (number ∷ rest) ≡ bit (number == x) + listed x rest
 one_of x number rest = sum_by-cons (λ d. cond (d == x) 1 0) number rest ∙ ap (λ n. n + listed x rest) (plain (number == x))
   where
     plain : (b : Bool) → cond b 1 0 ≡ bit b
@@ -191,3 +191,28 @@ passed run t number was is it listed = record {
   places = it.places;
   listed = listed;
 }
+
+-- it is put off
+pub put_back : (run : Outcome) (t number : ℕ) (rest : List ℕ) (was is : Comparison) → HasCursors run t (number ∷ rest) was → t < time_of was.calendar number → is ≡ record was { calendar = is.calendar; places = is.places } →
+    is.places.items ≡ was.places.items → is.calendar.times.items ≡ was.calendar.times.items → ((rest : List ℕ) → IsCalendar t (number ∷ rest) was.calendar → IsCalendar t rest is.calendar) → IsAgain run t number was is
+put_back run t number rest was is has later kept places times calendar = record {
+  kept = kept;
+  times = ap (length {A = ℕ}) times;
+  lengths = ap (length {A = ℕ}) places;
+  others = λ x other. same x;
+  places = λ x other. placed x;
+  calendar = calendar;
+  place = λ some. let before = has.place number (λ e. some (same number ∙ e)) in let e = placed number in omega arith;
+  time = λ some. same number ∙ has.time number (λ e. some (same number ∙ e)) ∙ ap (λ p. change_time run was number p) (sym (placed number));
+  over = λ k some less. has.over number k (λ e. some (same number ∙ e)) (let e = placed number in omega arith);
+  later = λ some. let e = same number in omega arith;
+}
+  where
+    same : (x : ℕ) → time_of is.calendar x ≡ time_of was.calendar x
+    same x = ap (λ (ts : List ℕ). time_in ts x) times
+
+    placed : (x : ℕ) → place_at is x ≡ place_at was x
+    placed x = ap (λ (ps : List ℕ). get_or ps x 0) places
+
+pub next_time : (run : Outcome) (t number time : ℕ) (was is : Comparison) → number < length was.calendar.times.items → is.calendar.times.items ≡ slice_set was.calendar.times.items number time → time_of is.calendar number ≡ time
+next_time run t number time was is within times = ap (λ (ts : List ℕ). time_in ts number) times ∙ get_or-set_same was.calendar.times.items number time never within

@@ -13,7 +13,7 @@ impl Comparison {
     ghost use Rattle.std.specs.Prelude.{◌≡◌, ◌==◌, ℕ, ◌+◌, ◌-◌, ◌<◌, ◌^◌, ◌∷◌, [], List, OnOk, length, true, ◌||◌};
     ghost use Rattle.mp_calendar.specs.Calendars.{coming, IsCalendar};
     ghost use Rattle.mp_evaluation.specs.Outcomes.{Outcome};
-    ghost use Rattle.mp_compare.specs.Comparing.{IsShaped, HasCursors, IsOldRun, IsComplete, ArePlaced, is_following, is_tracked};
+    ghost use Rattle.mp_compare.specs.Comparing.{IsShaped, HasCursors, IsOldRun, IsComplete, ArePlaced, is_following, is_tracked, place_at};
     ghost use Rattle.mp_compare.specs.Meeting.{is_due};
     ghost use Rattle.mp_compare.specs.Passing.{AreSet, HasSet, HasPassed};
 
@@ -53,11 +53,13 @@ impl Comparison {
         ensures set { OnOk result (HasSet run.now time number self.old set.old set.new) }
     {
         if self.calendar.time_of(number) > time {
-            return self.calendar.put_off(number, time);
+            self.calendar.put_off(number, time)?;
+            return Ok(());
         }
         self.set_wire(run, number, time, set)?;
         if self.is_needed(number, time) {
-            return self.list_next(run, number, time);
+            self.list_next(run, number, time)?;
+            return Ok(());
         }
         self.calendar.leave_out(number);
         Ok(())
@@ -114,19 +116,27 @@ impl Comparison {
         ensures kept { OnOk result (self.new ≡ record self.old { calendar = self.new.calendar; places = self.new.places }) }
         ensures passed { OnOk result (HasPassed run.now time number self.old self.new) }
     {
-        let x = number as usize;
-        let changes = old_changes(run, self.numbers.wires[x]);
-        let place = self.places[x] as usize + 1;
+        let changes = old_changes(run, self.numbers.wire_of(number));
+        let delay = self.numbers.delay_of(number);
+        let place = self.place_of(number) + 1;
         if place >= changes.len() {
             self.calendar.leave_out(number);
             return Ok(());
         }
-        self.places[x] = place as u32;
-        self.calendar.list(
-            number,
-            changes.time_at(place) + self.numbers.delays[x],
-            time,
-        )
+        self.places[number as usize] = place as u32;
+        self.calendar
+            .list(number, changes.time_at(place) + delay, time)?;
+        Ok(())
+    }
+
+    /// The place of the next old change of a number that is listed.
+    #[inline(always)]
+    fn place_of(&self, number: u32) -> usize
+        requires { number < length self.now.places.items }
+        ensures within { result < 2 ^ 32 }
+        ensures value { result ≡ place_at self.now number }
+    {
+        self.places[number as usize] as usize
     }
 
     /// The numbers are taken out of the calendar that come up in the next unit.
