@@ -6,3 +6,4 @@ mod Telling
 mod PassingLemmas
 mod UnitLemmas
 mod SetLemmas
+mod ListingLemmas

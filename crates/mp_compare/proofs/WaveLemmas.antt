@@ -14,7 +14,7 @@ same_level level (change ∷ changes) a b same =
     ap (λ t. cond t (level_from change.1 changes a) level) (same 0 (omega arith))
     ∙ ap (λ n. cond (nat_le change.0 b) n level) (same_level change.1 changes a b (λ k low. same (suc k) (omega arith)))
 
-rises : (time level : ℕ) (changes : List (ℕ × ℕ)) (p : ℕ) → AreChanges time level changes → p < length changes → time < (pair_at changes p).0
+pub rises : (time level : ℕ) (changes : List (ℕ × ℕ)) (p : ℕ) → AreChanges time level changes → p < length changes → time < (pair_at changes p).0
 rises time level [] p is low = absurd (omega arith)
 rises time level (change ∷ changes) zero is low = is.0
 rises time level (change ∷ changes) (suc p) is low =

@@ -1,3 +1,4 @@
 pub mod Comparing
 pub mod Meeting
 pub mod Passing
+pub mod Listing

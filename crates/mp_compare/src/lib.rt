@@ -3,6 +3,7 @@
 
 mod comparison;
 mod departing;
+mod listing;
 mod new_changes;
 mod numbers;
 mod old_run;
