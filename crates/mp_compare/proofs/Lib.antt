@@ -7,3 +7,4 @@ mod PassingLemmas
 mod UnitLemmas
 mod SetLemmas
 mod ListingLemmas
+mod TrackLemmas
