@@ -49,6 +49,12 @@ impl TransitionTable {
         Ok(TransitionTable { list })
     }
 
+    /// The same table once more.
+    pub fn copy(&self) -> Result<TransitionTable, AllocError> {
+        let list = Vec::from_slice(*self.list.allocator(), self.list.as_slice())?;
+        Ok(TransitionTable { list })
+    }
+
     /// What comes of a state.
     #[inline(always)]
     pub fn of(&self, state: AutomatonState) -> Transition
@@ -62,7 +68,7 @@ impl TransitionTable {
 fn all_transitions(alloc: Global) -> Result<Vec<Transition>, AllocError>
     ensures { IfOk result (λ list. IsTable list.items) }
 {
-    let mut list = Vec::new(alloc);
+    let mut list = Vec::with_capacity(alloc, STATES as usize)?;
     for place in 0..STATES {
         list.push(transition_at(place))?;
     }

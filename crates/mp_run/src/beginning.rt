@@ -28,16 +28,38 @@ pub fn begin(alloc: Global, netlist: &Region<'_>) -> Result<NetlistSimulation, A
     ensures simulated { IfOk result (λ simulation. IsSimulated netlist.now 0 simulation) }
     ensures narrow { IfOk result (λ simulation. IsNarrow netlist.now → IsEvaluated netlist.now 0 simulation.bits) }
 {
+    let table = TransitionTable::new(alloc)?;
+    let Beginning { simulation, .. } = begin_with(alloc, netlist, netlist, table)?;
+    Ok(simulation)
+}
+
+/// A simulation at time 0, and the numbers that its modules read.
+#[derive(Drop)]
+pub struct Beginning {
+    pub simulation: NetlistSimulation,
+    pub wired: WiredInputs,
+}
+
+/// A simulation of a netlist at time 0 in which some modules are active. The places of the others sleep.
+pub fn begin_with(
+    alloc: Global,
+    netlist: &Region<'_>,
+    active: &Region<'_>,
+    table: TransitionTable,
+) -> Result<Beginning, AllocError> {
     let delays = Delays::of(netlist);
-    let WiredInputs { wiring, inputs } = wiring_of(alloc, netlist)?;
+    let wired = wiring_of(alloc, netlist)?;
     let units = delays.longest() as usize;
-    let Seating { modules, wheel } = seat_all(alloc, netlist, inputs.as_slice(), units)?;
-    let wires = first_data_wires(alloc, netlist, &wiring, wheel)?;
-    let bits = first_bits(alloc, netlist, &wiring, delays)?;
-    Ok(NetlistSimulation {
-        bits,
-        wires,
-        modules,
+    let Seating { modules, wheel } = seat_all(alloc, active, wired.inputs.as_slice(), units)?;
+    let wires = first_data_wires(alloc, netlist, &wired.wiring, wheel)?;
+    let bits = first_bits(alloc, netlist, active, &wired.wiring, delays, table)?;
+    Ok(Beginning {
+        simulation: NetlistSimulation {
+            bits,
+            wires,
+            modules,
+        },
+        wired,
     })
 }
 
@@ -49,7 +71,14 @@ pub(crate) fn begin_bits(alloc: Global, netlist: &Region<'_>) -> Result<Simulati
 {
     let delays = Delays::of(netlist);
     let WiredInputs { wiring, .. } = wiring_of(alloc, netlist)?;
-    let bits = first_bits(alloc, netlist, &wiring, delays)?;
+    let bits = first_bits(
+        alloc,
+        netlist,
+        netlist,
+        &wiring,
+        delays,
+        TransitionTable::new(alloc)?,
+    )?;
     Ok(bits)
 }
 
@@ -78,8 +107,10 @@ fn first_data_wires(
 fn first_bits(
     alloc: Global,
     netlist: &Region<'_>,
+    active: &Region<'_>,
     wiring: &Wiring,
     delays: Delays,
+    table: TransitionTable,
 ) -> Result<Simulation, AllocError>
     requires form { IsCircuit netlist.now }
     requires origins { length wiring.now.wires.items ≡ length wiring.now.next.items }
@@ -93,7 +124,7 @@ fn first_bits(
         states,
         levels,
         wheel,
-    } = settle_all(alloc, netlist, outputs.as_slice(), units)?;
+    } = settle_all(alloc, active, outputs.as_slice(), units)?;
     let next = bit_copies(
         alloc,
         netlist,
@@ -101,8 +132,8 @@ fn first_bits(
         wiring.next.as_slice(),
     )?;
     let simulator = Simulator {
-        table: TransitionTable::new(alloc)?,
-        fanout: Fanout::from_rows(alloc, wiring.rows.as_slice())?,
+        table,
+        fanout: Fanout::from_readings(alloc, wiring.next.len(), wiring.readings.as_slice())?,
         outputs,
         states,
         levels,

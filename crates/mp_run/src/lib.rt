@@ -14,8 +14,10 @@ mod stimuli;
 mod widths;
 mod wiring;
 
-pub use beginning::begin;
+pub use beginning::{Beginning, begin, begin_with};
 pub use finishing::found_waves;
 pub use narrow::is_narrow;
 pub use running::run_waves;
+pub use seating::data_ports;
 pub use stimuli::{HeardChanges, Stimuli, StimulusChange};
+pub use wiring::{WiredInputs, Wiring};

@@ -41,7 +41,7 @@ pub(crate) fn seat_all(
 {
     let mut seating = Seating {
         modules: DataModules {
-            places: Vec::new(alloc),
+            places: Vec::with_capacity(alloc, netlist.module_slots() as usize)?,
             modules: Vec::new(alloc),
         },
         wheel: LevelWheel::new(alloc, units)?,
@@ -117,7 +117,7 @@ impl Seating {
 }
 
 /// The outputs of a module with data, told apart by whether their wires have data.
-fn data_ports(netlist: &Region<'_>, outputs: &[Output]) -> DataPorts
+pub fn data_ports(netlist: &Region<'_>, outputs: &[Output]) -> DataPorts
     requires { All IsShort outputs.now }
     ensures level { result.level ≡ level_output_of netlist.now (output_in outputs.now 0) }
     ensures first { result.bits.first ≡ bit_port_of netlist.now (output_in outputs.now 0) }

@@ -2,11 +2,12 @@
 ghost use Rattle.std.specs.Prelude.{◌≡◌, IfOk};
 
 use crate::prepared::Prepared;
+use mp_automata::TransitionTable;
 use mp_engine::evaluate;
 use mp_evaluation::Run;
 use mp_netlist::{Edit, EditError, Netlist};
 use mp_phase::{Crew, Gate};
-use mp_redo::redo;
+use mp_rerun::{Evaluated, redo};
 use mp_version::{MAX_EDITS, Version};
 use mp_work::Work;
 use mp_work::laws::edits_revise;
@@ -26,6 +27,7 @@ pub struct Session<G: Gate> {
     version: Arc<Version, Global>,
     run: Run,
     last_work: Work,
+    table: TransitionTable,
 }
 
 impl<G: Gate> Model for Session<G> {
@@ -75,6 +77,7 @@ impl<G: Gate> Session<G> {
             version,
             run,
             last_work: Work::none(alloc),
+            table: TransitionTable::new(alloc)?,
         })
     }
 
@@ -227,9 +230,12 @@ impl<G: Gate> Session<G> {
     {
         edits_revise();
         let now = self.version.now();
-        let (run, work) = redo(
-            rt, self.alloc, now, &self.run, &next, &self.crew, &self.gate,
-        )?;
+        let old = Evaluated {
+            netlist: now,
+            run: &self.run,
+            table: &self.table,
+        };
+        let (run, work) = redo(rt, self.alloc, &old, &next, &self.crew, &self.gate)?;
         self.evaluated(edit, next, run, work)
     }
 

@@ -134,7 +134,7 @@ impl NetlistSimulation {
 
     /// Whether nothing changes in the next unit that isn't set from outside.
     #[inline(always)]
-    fn is_still(&self) -> bool
+    pub fn is_still(&self) -> bool
         requires bits { IsSoundRun self.now.bits }
         requires wheel { 0 < length self.now.wires.wheel }
         ensures { IsTrue result ↔ IsStill self.now }
@@ -153,7 +153,7 @@ impl NetlistSimulation {
 
     /// Goes through one unit in which nothing changes.
     #[inline(always)]
-    fn skip_unit(&mut self)
+    pub fn skip_unit(&mut self)
         requires bits { IsSoundRun self.old.bits }
         requires wheel { 0 < length self.old.wires.wheel }
         requires still { IsStill self.old }

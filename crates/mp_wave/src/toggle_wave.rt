@@ -1,6 +1,7 @@
 //! The waves of wires of width 1.
 ghost use Rattle.std.specs.Prelude.{◌≡◌, ◌<◌, ◌≤◌, ◌++◌, ◌∷◌, [], OnOk, OnErr};
 
+use crate::WaveChanges;
 use std::alloc::{AllocError, Global};
 use std::marker::Model;
 
@@ -69,6 +70,18 @@ impl ToggleWave {
     {
         let ToggleWave { initial, times } = self;
         (initial, times)
+    }
+
+    /// The wire toggles where another wave changes, later than before.
+    pub fn extend(&mut self, changes: WaveChanges<'_>) -> Result<(), AllocError> {
+        if let WaveChanges::Toggles { times, .. } = changes {
+            self.times.extend_from_slice(times)?;
+            return Ok(());
+        }
+        for change in changes {
+            self.times.push(change.0)?;
+        }
+        Ok(())
     }
 
     /// The wire toggles at a time later than before. Where memory runs out, the wave stays as it was.
