@@ -68,7 +68,7 @@ impl TransitionTable {
 fn all_transitions(alloc: Global) -> Result<Vec<Transition>, AllocError>
     ensures { IfOk result (λ list. IsTable list.items) }
 {
-    let mut list = Vec::with_capacity(alloc, STATES as usize)?;
+    let mut list = Vec::new(alloc);
     for place in 0..STATES {
         list.push(transition_at(place))?;
     }

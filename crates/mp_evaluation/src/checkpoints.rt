@@ -84,44 +84,15 @@ impl Checkpoints {
     pub fn kept_at(&self, time: u32) -> Memory
         ensures { result ≡ kept_at self.now time blank }
     {
+        let mut kept = Memory::with_one_output(&[], 0);
         let list = self.list.as_slice();
-        let count = list.partition_point(|checkpoint| checkpoint.time <= time);
-        if count == 0 {
-            return Memory::with_one_output(&[], 0);
+        for checkpoint in list {
+            if checkpoint.time > time {
+                return kept;
+            }
+            kept = checkpoint.memory;
         }
-        list[count - 1].memory
-    }
-
-    /// Those of another list from a place to before another follow, where none here is as late.
-    pub fn append(
-        &mut self,
-        other: &Checkpoints,
-        from: usize,
-        to: usize,
-    ) -> Result<(), AllocError> {
-        if from < to {
-            self.list
-                .extend_from_slice(&other.list.as_slice()[from..to])?;
-        }
-        Ok(())
-    }
-
-    /// The place behind the last that is kept for a time not after this one, where it isn't before another place.
-    pub fn place_from(&self, first: usize, time: u32) -> usize {
-        let list = self.list.as_slice();
-        let mut place = first;
-        while place < list.len() && list[place].time <= time {
-            place += 1;
-        }
-        place
-    }
-
-    /// The state that is kept at a place, if there is one.
-    pub fn get(&self, place: usize) -> Option<Memory> {
-        match self.list.get(place) {
-            Some(checkpoint) => Some(checkpoint.memory),
-            None => None,
-        }
+        kept
     }
 }
 

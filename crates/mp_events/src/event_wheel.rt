@@ -71,6 +71,14 @@ impl EventWheel {
         self.slots[place].as_slice()
     }
 
+    /// The slot of so many units after the next one, and another, change places. Where the wheel has no such slot, both stay.
+    pub fn swap_slot(&mut self, units: usize, other: &mut EventSlot) {
+        if units < self.slots.len() {
+            let place = place_after(self.next, units, self.slots.len());
+            swap(&mut self.slots[place], other);
+        }
+    }
+
     /// The next unit begins: its slot becomes the present one, and the one that was present before is emptied and becomes that of the last unit.
     #[inline(always)]
     pub fn turn(&mut self, present: &mut EventSlot)

@@ -2,7 +2,7 @@
 ghost use Rattle.std.specs.Prelude.{◌≡◌, ◌-◌, ◌≤◌, take, drop, length};
 ghost use Rattle.mp_events.specs.Fanouts.{head_of, listed_of};
 
-use crate::fanout_entry::{FanoutEntry, Reading};
+use crate::fanout_entry::FanoutEntry;
 use crate::fanout_row::FanoutRow;
 use std::alloc::{AllocError, Global};
 use std::marker::Model;
@@ -53,40 +53,6 @@ impl Fanout {
         })
     }
 
-    /// The fanout in which each number below a count has the inputs that read it, in the order of these readings.
-    pub fn from_readings(
-        alloc: Global,
-        count: usize,
-        readings: &[Reading],
-    ) -> Result<Fanout, AllocError> {
-        let none = FanoutEntry {
-            module: 0,
-            event: 0,
-        };
-        let mut sizes = vec![in alloc; 0usize; count]?;
-        for reading in readings {
-            sizes[reading.number as usize] += 1;
-        }
-        let places = places_of(alloc, sizes.as_slice())?;
-        let mut heads = vec![in alloc; none; count]?;
-        let mut list = vec![in alloc; none; places[count]]?;
-        let mut next = Vec::from_slice(alloc, places.as_slice())?;
-        for reading in readings {
-            let n = reading.number as usize;
-            if sizes[n] == 1 {
-                heads[n] = reading.entry;
-            } else {
-                list[next[n]] = reading.entry;
-                next[n] += 1;
-            }
-        }
-        Ok(Fanout {
-            heads,
-            places,
-            list,
-        })
-    }
-
     /// The inputs that read a wire.
     #[inline(always)]
     pub fn of(&self, wire: u32) -> &[FanoutEntry]
@@ -101,20 +67,6 @@ impl Fanout {
         let places = self.places.as_slice();
         part(self.list.as_slice(), places[w], places[w + 1])
     }
-}
-
-/// Where the lists of numbers with so many readers begin, and where the last one ends. One reader alone isn't listed.
-fn places_of(alloc: Global, sizes: &[usize]) -> Result<Vec<usize>, AllocError> {
-    let mut places = Vec::with_capacity(alloc, sizes.len() + 1)?;
-    let mut place = 0usize;
-    for size in sizes {
-        places.push(place)?;
-        if *size != 1 {
-            place += *size;
-        }
-    }
-    places.push(place)?;
-    Ok(places)
 }
 
 #[inline(always)]

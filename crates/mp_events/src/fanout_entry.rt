@@ -6,10 +6,3 @@ pub struct FanoutEntry {
     pub module: u32,
     pub event: u16,
 }
-
-/// An input with the number that it reads.
-#[derive(Clone, Copy, Debug)]
-pub struct Reading {
-    pub number: u32,
-    pub entry: FanoutEntry,
-}

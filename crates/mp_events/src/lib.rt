@@ -17,7 +17,7 @@ pub use adding::{add_event, add_fanout_events};
 pub use event_slot::EventSlot;
 pub use event_wheel::EventWheel;
 pub use fanout::Fanout;
-pub use fanout_entry::{FanoutEntry, Reading};
+pub use fanout_entry::FanoutEntry;
 pub use fanout_row::FanoutRow;
 pub use firing::{fire_modules, schedule_copies, schedule_if};
 pub use output_port::OutputPort;

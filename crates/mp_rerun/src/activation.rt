@@ -1,32 +1,44 @@
 //! Modules become active.
 
 use crate::change::Change;
+use crate::old_state::old_state;
 use crate::rerun::Rerun;
-use crate::sources::NEVER;
-use mp_data::LevelChange;
+use crate::seating::{seat_bits, seat_data};
+use crate::turning_on::{OldWire, turn_on};
+use crate::wheel_entries::{put_change, put_old_changes};
+use crate::wire_source::NEVER;
+use mp_model::built;
+use mp_modules::Memory;
 use mp_netlist::{ModuleId, ModuleRecord, Output};
-use mp_wave::{ToggleWave, WaveBuilder};
+use mp_regions::Region;
+use mp_run::data_module;
+use mp_storage::AnyModule;
 use mp_work::{Stretch, block_of, window_end};
 use std::alloc::{AllocError, Global};
 
 impl Rerun {
-    /// The modules that are listed become active in the unit of a time, whose changes are applied.
+    /// The modules that are listed become active before the unit of a time. Before it they were in the states that they had in the old run.
     pub(crate) fn activate_all(
         &mut self,
         alloc: Global,
         change: &Change<'_>,
         time: u32,
     ) -> Result<(), AllocError> {
-        for place in 0..self.joining.len() {
-            let module = self.joining[place];
-            if let Some(found) = change.new.module(ModuleId(module)) {
-                self.activate(alloc, change, ModuleId(module), found, time)?;
+        let mut has_tails = false;
+        for place in 0..self.activity.joining.len() {
+            let id = ModuleId(self.activity.joining[place]);
+            if let Some(found) = change.new.module(id) {
+                has_tails |= self.activate(alloc, change, id, found, time)?;
             }
+        }
+        self.activity.joining.clear();
+        if has_tails {
+            self.take_tails_back(time)?;
         }
         Ok(())
     }
 
-    /// A module becomes active in the unit of a time. Before that it was in the state that it had in the old run.
+    /// A module becomes active. Whether one of its wires has a tail.
     fn activate(
         &mut self,
         alloc: Global,
@@ -34,204 +46,153 @@ impl Rerun {
         id: ModuleId,
         found: &ModuleRecord,
         time: u32,
-    ) -> Result<(), AllocError> {
+    ) -> Result<bool, AllocError> {
         let horizon = change.new.horizon();
-        let least = change.least;
         let block = block_of(horizon, time);
-        let into = (time - block) % least;
-        let first_end = window_end(least, horizon, time - into);
-        let stretch = Stretch {
-            module: id,
-            from: block,
-            first_end,
-            last_end: horizon,
-        };
-        let with_window = time - into == block;
-        self.activity.activate(stretch, with_window)?;
-        self.history.resume(alloc, change.run, id.0, block)?;
-        self.read_inputs(change, id.0, time)?;
+        self.begin_stretch(change, id, block, time)?;
+        self.overlays[id.0 as usize].take_over(alloc, change.run, id, block + 1, horizon)?;
+        let part = built(change.new, found);
+        let memory = old_state(alloc, change, id, found, &part, time)?;
+        self.seat(change, id, found, &part, &memory)?;
+        self.read_inputs(change, id.0, time - 1)?;
+        let mut has_tails = false;
         for output in found.outputs.as_slice() {
-            self.own_output(alloc, change, *output, time)?;
+            has_tails |= self.drive_output(change, *output, time)?;
         }
-        self.seat(alloc, change, id, found, time)
+        Ok(has_tails)
     }
 
-    /// The wires that a module reads are told of their changes from now on.
+    /// A module works from its block's begin on, first up to the end of the window of a time.
+    fn begin_stretch(
+        &mut self,
+        change: &Change<'_>,
+        id: ModuleId,
+        block: u32,
+        time: u32,
+    ) -> Result<(), AllocError> {
+        let horizon = change.new.horizon();
+        let least = change.new.least_delay();
+        let window = time - (time - block) % least;
+        self.activity.begin_stretch(Stretch {
+            module: id,
+            from: block,
+            first_end: window_end(least, horizon, window),
+            last_end: horizon,
+        })
+    }
+
+    /// A module takes its place in a state.
+    fn seat(
+        &mut self,
+        change: &Change<'_>,
+        id: ModuleId,
+        found: &ModuleRecord,
+        part: &AnyModule,
+        memory: &Memory,
+    ) -> Result<(), AllocError> {
+        if change.new.module_width(found) == 1 {
+            seat_bits(&mut self.simulation, id.0, part, memory);
+            return Ok(());
+        }
+        let m = id.0 as usize;
+        let whole = Region::whole(change.new);
+        let inputs = self.comparison.numbers.inputs[m];
+        let state = data_module(&whole, found, part, memory, inputs);
+        let seat = self.activity.seats[m];
+        self.activity.seats[m] = Some(seat_data(&mut self.simulation, id.0, seat, state)?);
+        Ok(())
+    }
+
+    /// The wires that a module reads are on after the unit of a time. Those that no active module drives follow their old waves.
     fn read_inputs(
         &mut self,
         change: &Change<'_>,
         module: u32,
         now: u32,
     ) -> Result<(), AllocError> {
-        for port in self.numbers.inputs[module as usize] {
+        for port in self.comparison.numbers.inputs[module as usize] {
             if let Some(number) = port {
-                let wire = self.numbers.wires[number as usize];
-                self.tell(change, wire, now)?;
-                self.sources[wire as usize].readers += 1;
-                self.asleep[number as usize] -= 1;
-                if self.sources[wire as usize].until != NEVER {
-                    self.old.list(change, &self.numbers, wire, now)?;
+                let wire = self.comparison.numbers.wires[number as usize];
+                self.comparison.asleep[number as usize] -= 1;
+                self.turn_wire_on(change, wire, now)?;
+                if self.comparison.sources[wire as usize].is_to_follow() {
+                    self.comparison.list(change, wire, now)?;
                 }
             }
         }
         Ok(())
     }
 
-    /// What the old run tells of a wire up to a time is told, where it isn't yet.
-    pub(crate) fn tell(
-        &mut self,
-        change: &Change<'_>,
-        wire: u32,
-        now: u32,
-    ) -> Result<(), AllocError> {
-        let source = self.sources[wire as usize];
-        if source.is_told(now) {
+    /// A wire is on after the unit of a time.
+    fn turn_wire_on(&mut self, change: &Change<'_>, wire: u32, now: u32) -> Result<(), AllocError> {
+        let source = &mut self.comparison.sources[wire as usize];
+        if source.is_on {
             return Ok(());
         }
-        let since = source.told_until();
-        if source.has_wave {
-            self.extend_wave(change, wire, since, now + 1)?;
+        source.is_on = true;
+        match self.old_wire(change, wire) {
+            Some(old) => {
+                let next = self.comparison.numbers.next.as_slice();
+                turn_on(&mut self.simulation, next, old, now)
+            }
+            None => Ok(()),
         }
-        self.simulation.wires.levels[wire as usize] = self
-            .old
-            .old_level(change, wire, wire, now, 0);
-        let mut before = wire;
-        while let Some(copy) = self.numbers.after(before) {
-            self.tell_copy(change, copy, before, since, now)?;
-            before = copy;
-        }
-        Ok(())
     }
 
-    /// A copy of a wire has its level, and the changes to come of it that are known and were not told.
-    fn tell_copy(
+    /// A wire with its wave in the old run.
+    fn old_wire<'a>(&self, change: &Change<'a>, wire: u32) -> Option<OldWire<'a>> {
+        let wave = change.old_wave(wire)?;
+        Some(OldWire {
+            number: wire,
+            has_data: self.comparison.numbers.have_data[wire as usize],
+            wave,
+        })
+    }
+
+    /// The wire of an output has its levels from the new run before the unit of a time. What the module has decided up to that comes in the old
+    /// run, too, but for the wire's tail: whether it has one.
+    fn drive_output(
         &mut self,
-        change: &Change<'_>,
-        copy: u32,
-        before: u32,
-        since: u32,
-        now: u32,
-    ) -> Result<(), AllocError> {
-        let wire = self.numbers.wires[copy as usize];
-        let delay = self.numbers.delays[copy as usize];
-        let sooner = self.numbers.delays[before as usize];
-        if now >= since + delay {
-            self.simulation.wires.levels[copy as usize] = change.old_level(wire, now, delay);
-        }
-        if now < sooner {
-            return Ok(());
-        }
-        let from = since.max((now + 1).saturating_sub(delay));
-        for (time, level) in change.old_between(wire, from, now - sooner + 1) {
-            self.schedule_copy(copy, (time + delay - now) as usize, level)?;
-        }
-        Ok(())
-    }
-
-    fn schedule_copy(&mut self, copy: u32, units: usize, level: u64) -> Result<(), AllocError> {
-        let wire = self.numbers.wires[copy as usize];
-        if self.numbers.have_data[wire as usize] {
-            let change = LevelChange {
-                number: copy,
-                level,
-            };
-            return self.simulation.wires.wheel.schedule(units, change);
-        }
-        self.simulation.bits.copies.wheel.schedule(units, copy)
-    }
-
-    /// The wire of an output is the new run's from now on. What the module decided before comes to it by its old wave.
-    fn own_output(
-        &mut self,
-        alloc: Global,
         change: &Change<'_>,
         output: Output,
-        now: u32,
-    ) -> Result<(), AllocError> {
-        let Some(id) = output.wire else {
-            return Ok(());
-        };
-        let w = id.0 as usize;
-        self.tell(change, id.0, now)?;
-        if !self.sources[w].has_wave {
-            self.begin_wave(alloc, change, id.0, now + 1)?;
-        }
-        let from = self.sources[w].until.max(now + 1);
-        for (time, level) in self.old.old_between(change, id.0, from, now + output.delay) {
-            self.schedule_wire(id.0, (time - now) as usize, level)?;
-        }
-        self.sources[w].until = NEVER;
-        self.told.push(id.0)?;
-        self.track_all(change, id.0, now)
-    }
-
-    fn schedule_wire(&mut self, wire: u32, units: usize, level: u64) -> Result<(), AllocError> {
-        if self.numbers.have_data[wire as usize] {
-            let change = LevelChange {
-                number: wire,
-                level,
-            };
-            return self.simulation.wires.wheel.schedule(units, change);
-        }
-        self.simulation.bits.simulator.wheel.schedule(units, wire)
-    }
-
-    /// Of a wire that may differ from the old run, the numbers that are read by modules that sleep are tracked.
-    pub(crate) fn track_all(
-        &mut self,
-        change: &Change<'_>,
-        wire: u32,
-        now: u32,
-    ) -> Result<(), AllocError> {
-        let mut number = Some(wire);
-        while let Some(x) = number {
-            if self.asleep[x as usize] > 0 {
-                self.old.track(change, &self.numbers, x, now)?;
-            }
-            number = self.numbers.after(x);
-        }
-        Ok(())
-    }
-
-    /// A wire has a wave of its own: the old one before a time.
-    fn begin_wave(
-        &mut self,
-        alloc: Global,
-        change: &Change<'_>,
-        wire: u32,
         time: u32,
-    ) -> Result<(), AllocError> {
-        let w = wire as usize;
-        self.sources[w].has_wave = true;
-        let Some(old) = change.old_wave(wire) else {
-            return Ok(());
+    ) -> Result<bool, AllocError> {
+        let Some(id) = output.wire else {
+            return Ok(false);
         };
-        if self.numbers.have_data[w] {
-            self.simulation.wires.waves[w] = WaveBuilder::from_prefix(alloc, old, time)?;
-            return Ok(());
+        let now = time - 1;
+        self.turn_wire_on(change, id.0, now)?;
+        let source = &mut self.comparison.sources[id.0 as usize];
+        let until = source.until.max(time);
+        let has_tail = time < source.until;
+        source.renew();
+        if let Some(old) = self.old_wire(change, id.0) {
+            put_old_changes(
+                &mut self.simulation,
+                old,
+                until - 1,
+                time + output.delay,
+                now,
+            )?;
         }
-        let mut wave = ToggleWave::constant(alloc, old.initial());
-        wave.extend(old.changes_between(0, time))?;
-        self.simulation.bits.simulator.waves[w] = wave;
-        Ok(())
+        self.comparison.track(change, id.0, now)?;
+        Ok(has_tail)
     }
 
-    /// The wave of a wire goes on with the old changes from a time to before another.
-    pub(crate) fn extend_wave(
-        &mut self,
-        change: &Change<'_>,
-        wire: u32,
-        from: u32,
-        to: u32,
-    ) -> Result<(), AllocError> {
-        let w = wire as usize;
-        let changes = self.old.old_between(change, wire, from, to);
-        if !self.numbers.have_data[w] {
-            return self.simulation.bits.simulator.waves[w].extend(changes);
+    /// Before the unit of a time, the tails of wires that active modules drive go back into the wheels.
+    fn take_tails_back(&mut self, time: u32) -> Result<(), AllocError> {
+        let mut kept = 0;
+        for place in self.tails.place..self.tails.list.len() {
+            let tail = self.tails.list[place];
+            if self.comparison.sources[tail.wire as usize].until == NEVER {
+                put_change(&mut self.simulation, tail, time - 1)?;
+            } else {
+                self.tails.list[kept] = tail;
+                kept += 1;
+            }
         }
-        for (time, level) in changes {
-            self.simulation.wires.waves[w].push_level(time, level)?;
-        }
+        self.tails.list.truncate(kept);
+        self.tails.place = 0;
         Ok(())
     }
 }

@@ -1,5 +1,6 @@
 //! Which modules are active, and in which stretches of time.
 
+use mp_netlist::ModuleId;
 use mp_work::Stretch;
 use std::alloc::{AllocError, Global};
 
@@ -11,42 +12,33 @@ pub(crate) enum Mode {
     Marked,
 }
 
-/// What is known of a module: whether it stands, and is touched; its place among the active ones, its last stretch of work, and its
-/// place among the modules with data.
-#[derive(Clone, Copy)]
-pub(crate) struct Standing {
-    pub stands: bool,
-    pub touched: bool,
-    pub place: u32,
-    pub stretch: Option<u32>,
-    pub seat: Option<u32>,
-}
-
-/// All modules and their modes, those that are active, how many stand that aren't, and the stretches of work so far.
+/// Of each module its mode, whether it is touched, its last stretch of work, and its place among the modules with data, where it has had one.
+/// The modules that are active are listed, and so are those that become active in the present unit.
 #[derive(Drop)]
 pub(crate) struct Activity {
-    pub modules: Vec<Standing>,
     pub modes: Vec<Mode>,
+    pub touched: Vec<bool>,
+    pub stretch_of: Vec<u32>,
+    pub seats: Vec<Option<u32>>,
     pub active: Vec<u32>,
-    pub asleep: usize,
+    pub joining: Vec<u32>,
     pub stretches: Vec<Stretch>,
 }
 
 impl Activity {
-    /// None is active, and none stands.
-    pub(crate) fn none(alloc: Global, count: usize) -> Result<Activity, AllocError> {
-        let absent = Standing {
-            stands: false,
-            touched: false,
-            place: 0,
-            stretch: None,
-            seat: None,
-        };
+    /// So many modules, of which none is active.
+    pub(crate) fn none(
+        alloc: Global,
+        count: usize,
+        touched: Vec<bool>,
+    ) -> Result<Activity, AllocError> {
         Ok(Activity {
-            modules: vec![in alloc; absent; count]?,
             modes: vec![in alloc; Mode::Asleep; count]?,
+            touched,
+            stretch_of: vec![in alloc; 0u32; count]?,
+            seats: vec![in alloc; None; count]?,
             active: Vec::new(alloc),
-            asleep: 0,
+            joining: Vec::new(alloc),
             stretches: Vec::new(alloc),
         })
     }
@@ -56,49 +48,39 @@ impl Activity {
         self.modes[module as usize] != Mode::Asleep
     }
 
-    /// An active module may have another state than before.
+    /// Where a module is active, it may have another state than before. Whether it is.
     #[inline(always)]
-    pub(crate) fn mark(&mut self, module: u32) {
-        self.modes[module as usize] = Mode::Marked;
+    pub(crate) fn mark(&mut self, module: u32) -> bool {
+        let mode = &mut self.modes[module as usize];
+        if *mode == Mode::Asleep {
+            return false;
+        }
+        *mode = Mode::Marked;
+        true
     }
 
-    /// A module becomes active, and works in this stretch. Where that begins with a window, it may go on a stretch that ended there.
-    pub(crate) fn activate(
-        &mut self,
-        stretch: Stretch,
-        with_window: bool,
-    ) -> Result<(), AllocError> {
-        let module = stretch.module.0;
-        let m = module as usize;
-        self.mark(module);
-        self.modules[m].place = self.active.len() as u32;
-        self.active.push(module)?;
-        if let Some(place) = self.modules[m].stretch {
-            let last = &mut self.stretches[place as usize];
-            if with_window && last.last_end == stretch.from {
-                last.last_end = stretch.last_end;
-                return Ok(());
-            }
+    /// A module that sleeps becomes active in the present unit.
+    pub(crate) fn join(&mut self, module: u32) -> Result<(), AllocError> {
+        if !self.is_active(module) {
+            self.modes[module as usize] = Mode::Marked;
+            self.joining.push(module)?;
         }
-        self.modules[m].stretch = Some(self.stretches.len() as u32);
-        self.stretches.push(stretch)?;
         Ok(())
     }
 
-    /// A module isn't active from a time on.
+    /// An active module works in a stretch.
+    pub(crate) fn begin_stretch(&mut self, stretch: Stretch) -> Result<(), AllocError> {
+        let ModuleId(module) = stretch.module;
+        self.stretch_of[module as usize] = self.stretches.len() as u32;
+        self.stretches.push(stretch)?;
+        self.active.push(module)?;
+        Ok(())
+    }
+
+    /// A module sleeps from a time on.
     pub(crate) fn deactivate(&mut self, module: u32, time: u32) {
         let m = module as usize;
         self.modes[m] = Mode::Asleep;
-        self.asleep += 1;
-        let place = self.modules[m].place;
-        if let Some(last) = self.active.pop() {
-            if last != module {
-                self.active[place as usize] = last;
-                self.modules[last as usize].place = place;
-            }
-        }
-        if let Some(place) = self.modules[m].stretch {
-            self.stretches[place as usize].last_end = time;
-        }
+        self.stretches[self.stretch_of[m] as usize].last_end = time;
     }
 }

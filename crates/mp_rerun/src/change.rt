@@ -1,4 +1,4 @@
-//! A netlist, its run, and what was made of it.
+//! A netlist that was evaluated, and a revision of it.
 
 use mp_automata::TransitionTable;
 use mp_evaluation::Run;
@@ -13,22 +13,22 @@ pub struct Evaluated<'a> {
     pub table: &'a TransitionTable,
 }
 
-/// A netlist with its run, and a revision of it, whose least delay is given.
+/// A netlist with its run, and a revision of it.
 #[derive(Clone, Copy)]
 pub(crate) struct Change<'a> {
     pub old: &'a Netlist,
     pub run: &'a Run,
     pub new: &'a Netlist,
-    pub least: u32,
 }
 
 impl<'a> Change<'a> {
-    /// The wave that a wire had.
+    /// The wave that a wire had in the old run.
+    #[inline(always)]
     pub(crate) fn old_wave(&self, wire: u32) -> Option<&'a Wave> {
         self.run.wave(WireId(wire))
     }
 
-    /// All changes that a wire had.
+    /// All changes that a wire had in the old run.
     #[inline(always)]
     pub(crate) fn old_changes(&self, wire: u32) -> WaveChanges<'a> {
         match self.old_wave(wire) {
@@ -37,28 +37,15 @@ impl<'a> Change<'a> {
         }
     }
 
-    /// The changes that a wire had from a time to before another.
-    pub(crate) fn old_between(&self, wire: u32, from: u32, to: u32) -> WaveChanges<'a> {
-        match self.old_wave(wire) {
-            Some(wave) if from > 0 => wave.changes_between(from - 1, to),
-            Some(wave) => wave.changes_between(0, to),
-            None => WaveChanges::none(),
+    /// How many changes a wire had in the old run up to a delay before a time.
+    pub(crate) fn old_count(&self, wire: u32, delay: u32, time: u32) -> usize {
+        if time < delay {
+            return 0;
         }
-    }
-
-    /// The level that a wire had a delay before a time, and the initial one where that is before time 0.
-    pub(crate) fn old_level(&self, wire: u32, time: u32, delay: u32) -> u64 {
         match self.old_wave(wire) {
-            Some(wave) if delay <= time => wave.level_at(time - delay),
-            Some(wave) => wave.initial(),
-            None => self.initial_level(wire),
-        }
-    }
-
-    /// The level of a wire at time 0, 0 where none stands.
-    pub(crate) fn initial_level(&self, wire: u32) -> u64 {
-        match self.new.wire(WireId(wire)) {
-            Some(found) => found.initial,
+            Some(wave) => {
+                wave.changes().len() - wave.changes_between(time - delay, u32::MAX).len()
+            }
             None => 0,
         }
     }

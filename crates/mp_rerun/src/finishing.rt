@@ -2,138 +2,97 @@
 
 use crate::activity::Activity;
 use crate::change::Change;
+use crate::checkpoint_overlay::CheckpointOverlay;
+use crate::comparison::Comparison;
 use crate::rerun::Rerun;
+use crate::wire_source::WireSource;
 use mp_core::{Simulation, Simulator};
 use mp_evaluation::{Checkpoints, Run};
 use mp_model::Waves;
 use mp_modules::Memory;
 use mp_netlist::{ModuleId, WireId};
 use mp_units::{DataWires, NetlistSimulation};
-use mp_wave::Wave;
-use mp_work::{Stretch, Work};
+use mp_wave::{ToggleWave, Wave, WaveBuilder};
+use mp_work::Work;
 use std::alloc::{AllocError, Global};
 use std::sync::Arc;
 
-type Kept = Option<Arc<Checkpoints, Global>>;
-
-/// What a re-evaluation gives of a part of a netlist: the wave of each wire, the last state of each of its modules and those at checkpoints,
-/// and the stretches of work.
-#[derive(Drop)]
-pub(crate) struct Outcome {
-    pub waves: Vec<Option<Arc<Wave, Global>>>,
-    pub ends: Vec<Option<Memory>>,
-    pub kept: Vec<Kept>,
-    pub stretches: Vec<Stretch>,
-}
-
-/// The run and the work of a whole netlist.
-pub(crate) fn whole(change: &Change<'_>, outcome: Outcome) -> (Run, Work) {
-    let Outcome {
-        waves,
-        ends,
-        kept,
-        stretches,
-    } = outcome;
-    let run = Run::new(change.new.horizon(), Waves::new(waves), ends, kept);
-    (run, Work::of_change(change.old, change.new, stretches))
-}
-
 impl Rerun {
-    /// What is known of a part of a netlist where all units are over. What is the old run's is shared.
-    pub(crate) fn finish(self, alloc: Global, change: &Change<'_>) -> Result<Outcome, AllocError> {
-        let mut rerun = self;
-        rerun.finish_wires(change)?;
-        let ends = rerun.ends(alloc, change)?;
-        let kept = rerun.finish_history(alloc, change)?;
+    /// The run and the work, where all units are over. What is the old run's is shared.
+    pub(crate) fn finish(
+        self,
+        alloc: Global,
+        change: &Change<'_>,
+    ) -> Result<(Run, Work), AllocError> {
+        let ends = self.ends(alloc, change)?;
         let Rerun {
             simulation,
+            comparison,
             activity,
-            sources,
+            overlays,
             ..
-        } = rerun;
-        let mut has_wave = Vec::with_capacity(alloc, sources.len())?;
-        for source in sources.as_slice() {
-            has_wave.push(source.has_wave)?;
-        }
-        let waves = waves_of(alloc, change, simulation, has_wave.as_slice())?;
+        } = self;
+        let Comparison { sources, .. } = comparison;
         let Activity { stretches, .. } = activity;
-        Ok(Outcome {
-            waves,
-            ends,
-            kept,
-            stretches,
-        })
+        let waves = all_waves(alloc, change, simulation, sources.as_slice())?;
+        let kept = all_kept(alloc, change, overlays)?;
+        let run = Run::new(change.new.horizon(), Waves::new(waves), ends, kept);
+        Ok((run, Work::of_change(change.old, change.new, stretches)))
     }
 
-    /// Waves that are no longer told go on with the old changes.
-    fn finish_wires(&mut self, change: &Change<'_>) -> Result<(), AllocError> {
-        let horizon = change.new.horizon();
-        for wire in 0..change.new.wire_slots() {
-            let source = self.sources[wire as usize];
-            if source.has_wave && !source.is_told(horizon - 1) {
-                self.extend_wave(change, wire, source.told_until(), horizon)?;
-            }
-        }
-        Ok(())
-    }
-
+    /// The last state of each module that stands.
     fn ends(&self, alloc: Global, change: &Change<'_>) -> Result<Vec<Option<Memory>>, AllocError> {
         let mut ends = Vec::with_capacity(alloc, change.new.module_slots() as usize)?;
         for m in 0..change.new.module_slots() {
-            ends.push(self.end_of(change, m))?;
+            ends.push(self.end_of(change, ModuleId(m)))?;
         }
         Ok(ends)
     }
 
-    fn end_of(&self, change: &Change<'_>, module: u32) -> Option<Memory> {
-        let standing = self.activity.modules[module as usize];
-        if self.activity.is_active(module) {
-            return Some(self.simulation.memory(module));
+    fn end_of(&self, change: &Change<'_>, id: ModuleId) -> Option<Memory> {
+        change.new.module(id)?;
+        if self.activity.is_active(id.0) {
+            return Some(self.simulation.memory(id.0));
         }
-        if standing.stands {
-            return change.run.end_memory(ModuleId(module));
-        }
-        None
-    }
-
-    fn finish_history(
-        &mut self,
-        alloc: Global,
-        change: &Change<'_>,
-    ) -> Result<Vec<Kept>, AllocError> {
-        let mut all = Vec::with_capacity(alloc, self.history.kept.len())?;
-        for m in 0..change.new.module_slots() {
-            all.push(self.kept_of(alloc, change, m)?)?;
-        }
-        Ok(all)
-    }
-
-    fn kept_of(
-        &mut self,
-        alloc: Global,
-        change: &Change<'_>,
-        module: u32,
-    ) -> Result<Kept, AllocError> {
-        let standing = self.activity.modules[module as usize];
-        if !standing.stands {
-            return Ok(None);
-        }
-        if !self.activity.is_active(module) {
-            self.history.follow(change.run, module, u32::MAX)?;
-        }
-        match std::mem::replace(&mut self.history.kept[module as usize], None) {
-            Some(kept) => Ok(Some(Arc::new(alloc, kept)?)),
-            None => change.run.shared_checkpoints(ModuleId(module)),
-        }
+        change.run.end_memory(id)
     }
 }
 
-/// The wave of each wire that stands: its own, or the old run's.
-fn waves_of(
+/// The states that are kept of each module that stands.
+fn all_kept(
+    alloc: Global,
+    change: &Change<'_>,
+    overlays: Vec<CheckpointOverlay>,
+) -> Result<Vec<Option<Arc<Checkpoints, Global>>>, AllocError> {
+    let mut all = Vec::with_capacity(alloc, overlays.len())?;
+    let mut left = overlays.into_iter();
+    for m in 0..change.new.module_slots() {
+        all.push(kept_of(alloc, change, ModuleId(m), left.next())?)?;
+    }
+    Ok(all)
+}
+
+fn kept_of(
+    alloc: Global,
+    change: &Change<'_>,
+    id: ModuleId,
+    overlay: Option<CheckpointOverlay>,
+) -> Result<Option<Arc<Checkpoints, Global>>, AllocError> {
+    match (change.new.module(id), overlay) {
+        (Some(_), Some(overlay)) => {
+            let horizon = change.new.horizon();
+            Ok(Some(overlay.into_shared(alloc, change.run, id, horizon)?))
+        }
+        _ => Ok(None),
+    }
+}
+
+/// The wave of each wire that stands.
+fn all_waves(
     alloc: Global,
     change: &Change<'_>,
     simulation: NetlistSimulation,
-    has_wave: &[bool],
+    sources: &[WireSource],
 ) -> Result<Vec<Option<Arc<Wave, Global>>>, AllocError> {
     let NetlistSimulation { bits, wires, .. } = simulation;
     let Simulation { simulator, .. } = bits;
@@ -141,24 +100,43 @@ fn waves_of(
     let DataWires { waves: built, .. } = wires;
     let mut toggles = waves.into_iter();
     let mut levels = built.into_iter();
-    let mut found = Vec::with_capacity(alloc, has_wave.len())?;
+    let mut all = Vec::with_capacity(alloc, sources.len())?;
     for w in 0..change.new.wire_slots() {
         let toggled = toggles.next();
         let level = levels.next();
-        let Some(wire) = change.new.wire(WireId(w)) else {
-            found.push(None)?;
-            continue;
+        let wave = if sources[w as usize].is_new {
+            new_wave(alloc, change, WireId(w), toggled, level)?
+        } else {
+            old_wave(change, WireId(w))?
         };
-        if !has_wave[w as usize] {
-            found.push(change.run.waves().shared(WireId(w))?)?;
-            continue;
-        }
-        let wave = match (wire.width == 1, toggled, level) {
-            (true, Some(toggled), _) => Wave::from(toggled),
-            (_, _, Some(level)) => level.finish(),
-            _ => Wave::constant(alloc, wire.initial),
-        };
-        found.push(Some(Arc::new(alloc, wave)?))?;
+        all.push(wave)?;
     }
-    Ok(found)
+    Ok(all)
+}
+
+/// The wave that the simulation has of a wire that stands.
+fn new_wave(
+    alloc: Global,
+    change: &Change<'_>,
+    wire: WireId,
+    toggles: Option<ToggleWave>,
+    built: Option<WaveBuilder>,
+) -> Result<Option<Arc<Wave, Global>>, AllocError> {
+    let Some(found) = change.new.wire(wire) else {
+        return Ok(None);
+    };
+    let wave = match (found.width == 1, toggles, built) {
+        (true, Some(toggles), _) => Wave::from(toggles),
+        (false, _, Some(built)) => built.finish(),
+        _ => Wave::constant(alloc, found.initial),
+    };
+    Ok(Some(Arc::new(alloc, wave)?))
+}
+
+/// The wave that a wire that stands had in the old run.
+fn old_wave(change: &Change<'_>, wire: WireId) -> Result<Option<Arc<Wave, Global>>, AllocError> {
+    match change.new.wire(wire) {
+        Some(_) => change.run.waves().shared(wire),
+        None => Ok(None),
+    }
 }

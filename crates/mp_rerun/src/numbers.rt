@@ -3,11 +3,10 @@
 use mp_events::OutputPort;
 use mp_modules::MOST_INPUTS;
 use mp_netlist::{Netlist, WireId};
-use mp_run::{WiredInputs, Wiring};
 use std::alloc::{AllocError, Global};
 
 /// Of each number its wire, how much later than that it is, and the copy that is next later. Of each module the numbers that its inputs read,
-/// and of each wire whether it has data.
+/// by port, and of each wire whether it has data.
 #[derive(Drop)]
 pub(crate) struct Numbers {
     pub wires: Vec<u32>,
@@ -18,13 +17,14 @@ pub(crate) struct Numbers {
 }
 
 impl Numbers {
+    /// The numbers of a netlist, of which all is known but their delays.
     pub(crate) fn of(
         alloc: Global,
         netlist: &Netlist,
-        wired: WiredInputs,
+        wires: Vec<u32>,
+        next: Vec<OutputPort>,
+        inputs: Vec<[Option<u32>; MOST_INPUTS]>,
     ) -> Result<Numbers, AllocError> {
-        let WiredInputs { wiring, inputs } = wired;
-        let Wiring { next, wires, .. } = wiring;
         let slots = netlist.wire_slots();
         let mut have_data = Vec::with_capacity(alloc, slots as usize)?;
         let mut delays = vec![in alloc; 0u32; wires.len()]?;

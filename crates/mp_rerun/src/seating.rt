@@ -1,95 +1,43 @@
-//! Modules take their places in the simulation.
+//! A module takes its place in the simulation.
 
-use crate::change::Change;
-use crate::replay::{old_bit_state, old_state};
-use crate::rerun::Rerun;
-use mp_automata::{Automaton, AutomatonState, Phase, event_bit};
-use mp_data::{DataModule, DataPart, OutputLevels};
-use mp_model::built;
-use mp_netlist::{ModuleId, ModuleRecord};
-use mp_regions::Region;
-use mp_work::block_of;
-use std::alloc::{AllocError, Global};
+use mp_automata::{Automaton, AutomatonState, Phase, PortLevels};
+use mp_data::DataModule;
+use mp_modules::Memory;
+use mp_storage::AnyModule;
+use mp_units::NetlistSimulation;
+use std::alloc::AllocError;
 
-/// The state of a place that sleeps.
-pub(crate) fn asleep() -> AutomatonState {
-    AutomatonState::quiet(Automaton::Sleep, Phase::unserved(false, false))
+/// A module of width 1 is in a state, and has had no event.
+pub(crate) fn seat_bits(
+    simulation: &mut NetlistSimulation,
+    module: u32,
+    part: &AnyModule,
+    memory: &Memory,
+) {
+    let m = module as usize;
+    let state = AutomatonState::quiet(Automaton::of(part), Phase::of(part, memory));
+    simulation.bits.simulator.states[m] = state;
+    simulation.bits.simulator.levels[m] = PortLevels::of(memory);
 }
 
-impl Rerun {
-    /// A module is in the state that it had before a time, at which it has the events by which its inputs differ from that.
-    pub(crate) fn seat(
-        &mut self,
-        alloc: Global,
-        change: &Change<'_>,
-        id: ModuleId,
-        found: &ModuleRecord,
-        time: u32,
-    ) -> Result<(), AllocError> {
-        if self.simulation.bits.simulator.states[id.0 as usize].0 % 16 == 0 {
-            self.simulation.bits.simulator.due.push(id.0)?;
+/// A module with data takes a seat among those with data: the one that it has had before, if any, and else a new one, which is given.
+pub(crate) fn seat_data(
+    simulation: &mut NetlistSimulation,
+    module: u32,
+    seat: Option<u32>,
+    state: DataModule,
+) -> Result<u32, AllocError> {
+    let modules = &mut simulation.modules.modules;
+    let place = match seat {
+        Some(place) => {
+            modules[place as usize] = state;
+            place
         }
-        if change.new.module_width(found) == 1 {
-            self.seat_bits(change, id, found, time);
-            return Ok(());
+        None => {
+            modules.push(state)?;
+            modules.len() as u32 - 1
         }
-        self.seat_data(alloc, change, id, found, time)
-    }
-
-    fn seat_bits(&mut self, change: &Change<'_>, id: ModuleId, found: &ModuleRecord, time: u32) {
-        let m = id.0 as usize;
-        let block = block_of(change.new.horizon(), time);
-        let part = built(change.new, found);
-        let table = &self.simulation.bits.simulator.table;
-        let (mut state, levels) = old_bit_state(
-            change, &self.old, table, found, &part, id, block, time,
-        );
-        for port in 0..found.inputs.as_slice().len() {
-            if let Some(number) = self.numbers.inputs[m][port] {
-                let was = u64::from(levels.0) >> port & 1;
-                if self.simulation.wires.levels[number as usize] != was {
-                    state.add_event(event_bit(port));
-                }
-            }
-        }
-        self.simulation.bits.simulator.states[m] = state;
-        self.simulation.bits.simulator.levels[m] = levels;
-    }
-
-    fn seat_data(
-        &mut self,
-        alloc: Global,
-        change: &Change<'_>,
-        id: ModuleId,
-        found: &ModuleRecord,
-        time: u32,
-    ) -> Result<(), AllocError> {
-        let m = id.0 as usize;
-        let block = block_of(change.new.horizon(), time);
-        let part = built(change.new, found);
-        let memory = old_state(change, &self.old, found, &part, id, block, time);
-        let outputs = OutputLevels::of(&memory);
-        let place = match self.activity.modules[m].seat {
-            Some(place) => {
-                self.simulation.modules.modules[place as usize].outputs = outputs;
-                place
-            }
-            None => {
-                let region = Region::whole(change.new);
-                let ports = mp_run::data_ports(&region, found.outputs.as_slice());
-                let place = self.simulation.modules.modules.len() as u32;
-                self.simulation.modules.modules.push(DataModule {
-                    part: DataPart::of(&part),
-                    outputs,
-                    inputs: self.numbers.inputs[m],
-                    ports,
-                })?;
-                place
-            }
-        };
-        let _ = alloc;
-        self.activity.modules[m].seat = Some(place);
-        self.simulation.modules.places[m] = Some(place);
-        Ok(())
-    }
+    };
+    simulation.modules.places[module as usize] = Some(place);
+    Ok(place)
 }

@@ -16,7 +16,9 @@ use crate::wiring::{WiredInputs, Wiring, wiring_of};
 use mp_automata::TransitionTable;
 use mp_core::{DelayedCopies, Simulation, Simulator};
 use mp_data::{LevelSlot, LevelWheel};
-use mp_events::{EventSlot, EventWheel, Fanout};
+use mp_events::{EventSlot, EventWheel, Fanout, OutputPort, OutputPorts};
+use mp_modules::MOST_INPUTS;
+use mp_netlist::Netlist;
 use mp_regions::Region;
 use mp_units::{DataWires, NetlistSimulation};
 use std::alloc::{AllocError, Global};
@@ -28,38 +30,67 @@ pub fn begin(alloc: Global, netlist: &Region<'_>) -> Result<NetlistSimulation, A
     ensures simulated { IfOk result (λ simulation. IsSimulated netlist.now 0 simulation) }
     ensures narrow { IfOk result (λ simulation. IsNarrow netlist.now → IsEvaluated netlist.now 0 simulation.bits) }
 {
+    let delays = Delays::of(netlist);
+    let WiredInputs { wiring, inputs } = wiring_of(alloc, netlist)?;
+    let units = delays.longest() as usize;
+    let Seating { modules, wheel } = seat_all(alloc, netlist, inputs.as_slice(), units)?;
+    let wires = first_data_wires(alloc, netlist, &wiring, wheel)?;
+    let outputs = all_outputs(alloc, netlist)?;
+    let settling = settle_all(alloc, netlist, outputs.as_slice(), delays.outputs as usize)?;
     let table = TransitionTable::new(alloc)?;
-    let Beginning { simulation, .. } = begin_with(alloc, netlist, netlist, table)?;
-    Ok(simulation)
+    let simulator = first_simulator(alloc, netlist, &wiring, outputs, settling, table)?;
+    let copies = first_copies(alloc, netlist, &wiring, delays)?;
+    Ok(NetlistSimulation {
+        bits: Simulation { simulator, copies },
+        wires,
+        modules,
+    })
 }
 
-/// A simulation at time 0, and the numbers that its modules read.
+/// A simulation at time 0; of each of its numbers the wire and the copy that is next later, and of each module the numbers that its inputs
+/// read, by port.
 #[derive(Drop)]
 pub struct Beginning {
     pub simulation: NetlistSimulation,
-    pub wired: WiredInputs,
+    pub wires: Vec<u32>,
+    pub next: Vec<OutputPort>,
+    pub inputs: Vec<[Option<u32>; MOST_INPUTS]>,
 }
 
-/// A simulation of a netlist at time 0 in which some modules are active. The places of the others sleep.
-pub fn begin_with(
+/// A simulation at time 0 of those modules of a netlist that have the home 0. It has places for the others too, which sleep, and numbers for
+/// all that they read. It answers by this table.
+pub fn begin_some(
     alloc: Global,
-    netlist: &Region<'_>,
-    active: &Region<'_>,
+    netlist: &Netlist,
+    homes: &[u32],
     table: TransitionTable,
 ) -> Result<Beginning, AllocError> {
-    let delays = Delays::of(netlist);
-    let wired = wiring_of(alloc, netlist)?;
+    let whole = Region::whole(netlist);
+    let active = Region::new(netlist, homes, 0, &[]);
+    let delays = Delays::of(&whole);
+    let WiredInputs { wiring, inputs } = wiring_of(alloc, &whole)?;
     let units = delays.longest() as usize;
-    let Seating { modules, wheel } = seat_all(alloc, active, wired.inputs.as_slice(), units)?;
-    let wires = first_data_wires(alloc, netlist, &wired.wiring, wheel)?;
-    let bits = first_bits(alloc, netlist, active, &wired.wiring, delays, table)?;
+    let Seating { modules, wheel } = seat_all(alloc, &active, inputs.as_slice(), units)?;
+    let wires = first_data_wires(alloc, &whole, &wiring, wheel)?;
+    let outputs = all_outputs(alloc, &whole)?;
+    let settling = settle_all(alloc, &active, outputs.as_slice(), delays.outputs as usize)?;
+    let simulator = first_simulator(alloc, &whole, &wiring, outputs, settling, table)?;
+    let copies = first_copies(alloc, &whole, &wiring, delays)?;
+    let simulation = NetlistSimulation {
+        bits: Simulation { simulator, copies },
+        wires,
+        modules,
+    };
+    let Wiring {
+        next,
+        wires: numbers,
+        ..
+    } = wiring;
     Ok(Beginning {
-        simulation: NetlistSimulation {
-            bits,
-            wires,
-            modules,
-        },
-        wired,
+        simulation,
+        wires: numbers,
+        next,
+        inputs,
     })
 }
 
@@ -71,15 +102,12 @@ pub(crate) fn begin_bits(alloc: Global, netlist: &Region<'_>) -> Result<Simulati
 {
     let delays = Delays::of(netlist);
     let WiredInputs { wiring, .. } = wiring_of(alloc, netlist)?;
-    let bits = first_bits(
-        alloc,
-        netlist,
-        netlist,
-        &wiring,
-        delays,
-        TransitionTable::new(alloc)?,
-    )?;
-    Ok(bits)
+    let outputs = all_outputs(alloc, netlist)?;
+    let settling = settle_all(alloc, netlist, outputs.as_slice(), delays.outputs as usize)?;
+    let table = TransitionTable::new(alloc)?;
+    let simulator = first_simulator(alloc, netlist, &wiring, outputs, settling, table)?;
+    let copies = first_copies(alloc, netlist, &wiring, delays)?;
+    Ok(Simulation { simulator, copies })
 }
 
 /// The wires of any width at time 0, with the levels to come.
@@ -103,37 +131,23 @@ fn first_data_wires(
     })
 }
 
-/// The modules and wires of width 1 at time 0.
-fn first_bits(
+/// The modules and wires of width 1 at time 0, where the modules have settled so.
+fn first_simulator(
     alloc: Global,
     netlist: &Region<'_>,
-    active: &Region<'_>,
     wiring: &Wiring,
-    delays: Delays,
+    outputs: Vec<OutputPorts>,
+    settling: Settling,
     table: TransitionTable,
-) -> Result<Simulation, AllocError>
-    requires form { IsCircuit netlist.now }
-    requires origins { length wiring.now.wires.items ≡ length wiring.now.next.items }
-    requires within { AreWithin netlist.now (length netlist.now.modules) delays }
-    requires some { 0 < delays.outputs }
-    ensures { IfOk result (λ bits. AreFirstBits netlist.now wiring.now delays bits) }
-{
-    let outputs = all_outputs(alloc, netlist)?;
-    let units = delays.outputs as usize;
+) -> Result<Simulator, AllocError> {
     let Settling {
         states,
         levels,
         wheel,
-    } = settle_all(alloc, active, outputs.as_slice(), units)?;
-    let next = bit_copies(
-        alloc,
-        netlist,
-        wiring.wires.as_slice(),
-        wiring.next.as_slice(),
-    )?;
-    let simulator = Simulator {
+    } = settling;
+    Ok(Simulator {
         table,
-        fanout: Fanout::from_readings(alloc, wiring.next.len(), wiring.readings.as_slice())?,
+        fanout: Fanout::from_rows(alloc, wiring.rows.as_slice())?,
         outputs,
         states,
         levels,
@@ -141,11 +155,20 @@ fn first_bits(
         waves: first_waves(alloc, netlist)?,
         wheel,
         present: EventSlot::new(alloc),
-    };
-    let copies = DelayedCopies {
-        next,
+    })
+}
+
+/// The delayed copies of wires of width 1 at time 0, none of which has a change to come.
+fn first_copies(
+    alloc: Global,
+    netlist: &Region<'_>,
+    wiring: &Wiring,
+    delays: Delays,
+) -> Result<DelayedCopies, AllocError> {
+    let numbers = wiring.wires.as_slice();
+    Ok(DelayedCopies {
+        next: bit_copies(alloc, netlist, numbers, wiring.next.as_slice())?,
         wheel: EventWheel::new(alloc, delays.inputs as usize)?,
         present: EventSlot::new(alloc),
-    };
-    Ok(Simulation { simulator, copies })
+    })
 }

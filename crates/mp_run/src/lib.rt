@@ -14,10 +14,9 @@ mod stimuli;
 mod widths;
 mod wiring;
 
-pub use beginning::{Beginning, begin, begin_with};
+pub use beginning::{Beginning, begin, begin_some};
 pub use finishing::found_waves;
 pub use narrow::is_narrow;
 pub use running::run_waves;
-pub use seating::data_ports;
+pub use seating::data_module;
 pub use stimuli::{HeardChanges, Stimuli, StimulusChange};
-pub use wiring::{WiredInputs, Wiring};

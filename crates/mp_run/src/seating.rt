@@ -11,9 +11,10 @@ use crate::settling::{output_port, settled};
 use crate::widths::{has_data, is_bit_module};
 use mp_data::{DataModule, DataPart, DataPorts, LevelWheel, OutputLevels, schedule_level_if};
 use mp_events::{OutputPort, OutputPorts};
-use mp_modules::{EventModule, MOST_INPUTS};
+use mp_modules::{EventModule, MOST_INPUTS, Memory};
 use mp_netlist::{ModuleId, ModuleRecord, Output, WireId};
 use mp_regions::Region;
+use mp_storage::AnyModule;
 use mp_units::DataModules;
 use std::alloc::{AllocError, Global};
 
@@ -41,7 +42,7 @@ pub(crate) fn seat_all(
 {
     let mut seating = Seating {
         modules: DataModules {
-            places: Vec::with_capacity(alloc, netlist.module_slots() as usize)?,
+            places: Vec::new(alloc),
             modules: Vec::new(alloc),
         },
         wheel: LevelWheel::new(alloc, units)?,
@@ -100,24 +101,35 @@ impl Seating {
     {
         let part = netlist.built(found);
         let memory = settled(netlist, found, &part);
-        let ports = data_ports(netlist, found.outputs.as_slice());
+        let module = data_module(netlist, found, &part, &memory, inputs);
         let level = memory.output(0);
-        let departs = level_departs(netlist, ports.level, level);
-        schedule_level_if(departs, ports.level, level, &mut self.wheel)?;
+        let departs = level_departs(netlist, module.ports.level, level);
+        schedule_level_if(departs, module.ports.level, level, &mut self.wheel)?;
         let number = self.modules.modules.len() as u32;
         self.modules.places.push(Some(number))?;
-        self.modules.modules.push(DataModule {
-            part: DataPart::of(&part),
-            outputs: OutputLevels::of(&memory),
-            inputs,
-            ports,
-        })?;
+        self.modules.modules.push(module)?;
         Ok(())
     }
 }
 
+/// A module with data in a state, whose inputs read these numbers.
+pub fn data_module(
+    netlist: &Region<'_>,
+    found: &ModuleRecord,
+    part: &AnyModule,
+    memory: &Memory,
+    inputs: [Option<u32>; MOST_INPUTS],
+) -> DataModule {
+    DataModule {
+        part: DataPart::of(part),
+        outputs: OutputLevels::of(memory),
+        inputs,
+        ports: data_ports(netlist, found.outputs.as_slice()),
+    }
+}
+
 /// The outputs of a module with data, told apart by whether their wires have data.
-pub fn data_ports(netlist: &Region<'_>, outputs: &[Output]) -> DataPorts
+fn data_ports(netlist: &Region<'_>, outputs: &[Output]) -> DataPorts
     requires { All IsShort outputs.now }
     ensures level { result.level ≡ level_output_of netlist.now (output_in outputs.now 0) }
     ensures first { result.bits.first ≡ bit_port_of netlist.now (output_in outputs.now 0) }

@@ -6,7 +6,7 @@ ghost use Rattle.mp_run.specs.Numbers.{AreLinks, copy_within, behind, IsPlace, n
 ghost use Rattle.mp_run.specs.Wirings.{HaveRows, IsWiring, AreUnread, HasRead, inputs_in, AreWiredInputs};
 
 use mp_automata::event_bit;
-use mp_events::{FanoutEntry, OutputPort, Reading};
+use mp_events::{FanoutEntry, FanoutRow, OutputPort};
 use mp_modules::MOST_INPUTS;
 use mp_netlist::{Input, ModuleId};
 use mp_regions::Region;
@@ -15,7 +15,7 @@ use std::alloc::{AllocError, Global};
 /// Each number, of a wire or of a delayed copy of one, has the inputs that read it, the copy that is next later, if any, and its wire.
 #[derive(Drop)]
 pub struct Wiring {
-    pub readings: Vec<Reading>,
+    pub rows: Vec<FanoutRow>,
     pub next: Vec<OutputPort>,
     pub wires: Vec<u32>,
 }
@@ -40,7 +40,7 @@ pub(crate) fn wiring_of(alloc: Global, netlist: &Region<'_>) -> Result<WiredInpu
     ensures { IfOk result (λ wired. AreWiredInputs netlist.now (length netlist.now.modules) wired.wiring wired.inputs.items) }
 {
     let mut wiring = unread_wires(alloc, netlist.wire_slots())?;
-    let mut inputs = Vec::with_capacity(alloc, netlist.module_slots() as usize)?;
+    let mut inputs = Vec::new(alloc);
     for m in 0..netlist.module_slots() {
         inputs.push(add_slot(netlist, ModuleId(m), &mut wiring)?)?;
     }
@@ -71,9 +71,9 @@ fn unread_wires(alloc: Global, wires: u32) -> Result<Wiring, AllocError>
     ensures { IfOk result (λ wiring. AreUnread wires wiring) }
 {
     let mut wiring = Wiring {
-        readings: Vec::with_capacity(alloc, wires as usize)?,
-        next: Vec::with_capacity(alloc, wires as usize)?,
-        wires: Vec::with_capacity(alloc, wires as usize)?,
+        rows: Vec::new(alloc),
+        next: Vec::new(alloc),
+        wires: Vec::new(alloc),
     };
     for wire in 0..wires {
         wiring.add_number(OutputPort {
@@ -127,7 +127,7 @@ impl Wiring {
     {
         let number = self.number_of(input)?;
         note_wire(number, input.wire.0, &mut self.wires)?;
-        self.readings.push(Reading { number, entry })?;
+        self.rows[number as usize].push(entry)?;
         Ok(number)
     }
 
@@ -172,6 +172,7 @@ impl Wiring {
         ensures rows { OnOk result (self.new.rows.items ≡ self.old.rows.items ++ [] ∷ []) }
         ensures wires { OnOk result (self.new.wires.items ≡ self.old.wires.items) }
     {
+        self.rows.push(FanoutRow::new(*self.rows.allocator()))?;
         self.next.push(port)?;
         Ok(())
     }

@@ -4,6 +4,7 @@ use crate::data_modules::DataModules;
 use crate::data_wires::DataWires;
 use mp_core::Simulation;
 use mp_data::{LevelChange, fire_data_modules};
+use mp_events::FanoutEntry;
 use mp_modules::Memory;
 use std::alloc::AllocError;
 
@@ -110,6 +111,16 @@ impl NetlistSimulation {
         ensures { result.now ≡ slot_at self.now.bits.simulator units }
     {
         self.bits.simulator.wheel.slot(units)
+    }
+
+    /// The copies of wires of width 1 that toggle so many units after the next one, so far as this is known.
+    pub fn copies_ahead(&self, units: usize) -> &[u32] {
+        self.bits.copies.wheel.slot(units)
+    }
+
+    /// The inputs that read a number.
+    pub fn readers(&self, number: u32) -> &[FanoutEntry] {
+        self.bits.simulator.fanout.of(number)
     }
 
     /// What changes so many units after the next one of wires with data, so far as this is known.

@@ -1,7 +1,7 @@
 //! The waves of wires of width 1.
 ghost use Rattle.std.specs.Prelude.{◌≡◌, ◌<◌, ◌≤◌, ◌++◌, ◌∷◌, [], OnOk, OnErr};
 
-use crate::WaveChanges;
+use crate::{Wave, WaveChanges};
 use std::alloc::{AllocError, Global};
 use std::marker::Model;
 
@@ -46,6 +46,21 @@ impl ToggleWave {
         }
     }
 
+    /// The wave that has the levels of another before a time, the last of them held from then on. The other has no levels but 0 and 1. It has
+    /// room for as many toggles as the other has changes.
+    pub fn from_prefix(alloc: Global, wave: &Wave, upto: u32) -> Result<ToggleWave, AllocError> {
+        let all = wave.changes();
+        let mut times = Vec::with_capacity(alloc, all.len())?;
+        match wave.changes_between(0, upto) {
+            WaveChanges::Toggles { times: first, .. } => times.extend_from_slice(first)?,
+            first => push_times(&mut times, first)?,
+        }
+        Ok(ToggleWave {
+            initial: wave.initial(),
+            times,
+        })
+    }
+
     /// The level at time 0.
     pub fn initial(&self) -> u64
         ensures value { result ≡ self.now.initial }
@@ -72,18 +87,6 @@ impl ToggleWave {
         (initial, times)
     }
 
-    /// The wire toggles where another wave changes, later than before.
-    pub fn extend(&mut self, changes: WaveChanges<'_>) -> Result<(), AllocError> {
-        if let WaveChanges::Toggles { times, .. } = changes {
-            self.times.extend_from_slice(times)?;
-            return Ok(());
-        }
-        for change in changes {
-            self.times.push(change.0)?;
-        }
-        Ok(())
-    }
-
     /// The wire toggles at a time later than before. Where memory runs out, the wave stays as it was.
     #[inline(always)]
     pub fn toggle(&mut self, time: u32) -> Result<(), AllocError>
@@ -94,6 +97,14 @@ impl ToggleWave {
         push_time(&mut self.times, time)?;
         Ok(())
     }
+}
+
+/// The times of these changes too.
+fn push_times(times: &mut Vec<u32>, changes: WaveChanges<'_>) -> Result<(), AllocError> {
+    for change in changes {
+        times.push(change.0)?;
+    }
+    Ok(())
 }
 
 /// One time more.
