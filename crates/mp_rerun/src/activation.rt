@@ -71,12 +71,11 @@ impl Rerun {
         time: u32,
     ) -> Result<(), AllocError> {
         let horizon = change.new.horizon();
-        let least = change.new.least_delay();
-        let window = time - (time - block) % least;
+        let window = time - (time - block) % change.least;
         self.activity.begin_stretch(Stretch {
             module: id,
             from: block,
-            first_end: window_end(least, horizon, window),
+            first_end: window_end(change.least, horizon, window),
             last_end: horizon,
         })
     }

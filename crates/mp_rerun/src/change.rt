@@ -13,12 +13,13 @@ pub struct Evaluated<'a> {
     pub table: &'a TransitionTable,
 }
 
-/// A netlist with its run, and a revision of it.
+/// A netlist with its run, and a revision of it, whose least delay is given.
 #[derive(Clone, Copy)]
 pub(crate) struct Change<'a> {
     pub old: &'a Netlist,
     pub run: &'a Run,
     pub new: &'a Netlist,
+    pub least: u32,
 }
 
 impl<'a> Change<'a> {

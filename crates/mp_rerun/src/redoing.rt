@@ -25,6 +25,7 @@ pub fn redo<R: Threads + Wait + Sync, G: Gate + Sync>(
         old: old.netlist,
         run: old.run,
         new,
+        least: new.least_delay(),
     };
     let mut rerun = Rerun::begin(alloc, &change, old.table.copy()?)?;
     for module in rerun.activity.active.as_slice() {

@@ -1,6 +1,6 @@
 //! A change at time 0: the touched modules are active.
 
-use crate::activity::Activity;
+use crate::activity::{Activity, Mode};
 use crate::change::Change;
 use crate::checkpoint_overlay::CheckpointOverlay;
 use crate::comparison::Comparison;
@@ -78,11 +78,11 @@ impl Rerun {
         let horizon = change.new.horizon();
         let m = id.0 as usize;
         self.activity.seats[m] = self.simulation.modules.places[m];
-        self.activity.join(id.0)?;
+        self.activity.modes[m] = Mode::Marked;
         self.activity.begin_stretch(Stretch {
             module: id,
             from: 0,
-            first_end: window_end(change.new.least_delay(), horizon, 0),
+            first_end: window_end(change.least, horizon, 0),
             last_end: horizon,
         })?;
         let mut kept = Checkpoints::new(alloc);

@@ -79,7 +79,7 @@ impl Rerun {
     fn pass_gate_first<R: Wait, G: Gate>(&self, rt: &R, gate: &G, change: &Change<'_>, time: u32) {
         let block = block_of(change.new.horizon(), time);
         for module in self.activity.joining.as_slice() {
-            gate.enter(rt, ModuleId(*module), block, time);
+            gate.enter(rt, ModuleId(*module), block, time + 1);
         }
     }
 
