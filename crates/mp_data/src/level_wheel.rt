@@ -40,7 +40,7 @@ impl LevelWheel {
         ensures places { IfOk result (λ wheel. length wheel ≡ units) }
         ensures empty { IfOk result (λ wheel. (k : ℕ) → slice_index_or wheel k [] ≡ []) }
     {
-        let mut slots = Vec::new(alloc);
+        let mut slots = Vec::with_capacity(alloc, units)?;
         for _unit in 0..units {
             slots.push(LevelSlot::new(alloc))?;
         }

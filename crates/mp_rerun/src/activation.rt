@@ -13,7 +13,7 @@ use mp_netlist::{ModuleId, ModuleRecord, Output};
 use mp_regions::Region;
 use mp_run::data_module;
 use mp_storage::AnyModule;
-use mp_work::{Stretch, block_of, window_end};
+use mp_work::{Stretch, block_of};
 use std::alloc::{AllocError, Global};
 
 impl Rerun {
@@ -49,7 +49,12 @@ impl Rerun {
     ) -> Result<bool, AllocError> {
         let horizon = change.new.horizon();
         let block = block_of(horizon, time);
-        self.begin_stretch(change, id, block, time)?;
+        self.activity.begin_stretch(Stretch {
+            module: id,
+            from: block,
+            first_end: self.window_end,
+            last_end: horizon,
+        })?;
         self.overlays[id.0 as usize].take_over(alloc, change.run, id, block + 1, horizon)?;
         let part = built(change.new, found);
         let memory = old_state(alloc, change, id, found, &part, time)?;
@@ -60,24 +65,6 @@ impl Rerun {
             has_tails |= self.drive_output(change, *output, time)?;
         }
         Ok(has_tails)
-    }
-
-    /// A module works from its block's begin on, first up to the end of the window of a time.
-    fn begin_stretch(
-        &mut self,
-        change: &Change<'_>,
-        id: ModuleId,
-        block: u32,
-        time: u32,
-    ) -> Result<(), AllocError> {
-        let horizon = change.new.horizon();
-        let window = time - (time - block) % change.least;
-        self.activity.begin_stretch(Stretch {
-            module: id,
-            from: block,
-            first_end: window_end(change.least, horizon, window),
-            last_end: horizon,
-        })
     }
 
     /// A module takes its place in a state.

@@ -48,15 +48,15 @@ impl Activity {
         self.modes[module as usize] != Mode::Asleep
     }
 
-    /// Where a module is active, it may have another state than before. Whether it is.
+    /// Of these modules those that are active may have other states than before.
     #[inline(always)]
-    pub(crate) fn mark(&mut self, module: u32) -> bool {
-        let mode = &mut self.modes[module as usize];
-        if *mode == Mode::Asleep {
-            return false;
+    pub(crate) fn mark_all(&mut self, modules: &[u32]) {
+        for module in modules {
+            let mode = &mut self.modes[*module as usize];
+            if *mode == Mode::Active {
+                *mode = Mode::Marked;
+            }
         }
-        *mode = Mode::Marked;
-        true
     }
 
     /// A module that sleeps becomes active in the present unit.

@@ -16,7 +16,7 @@ pub(crate) fn drivers_of(alloc: Global, netlist: &Netlist) -> Result<Vec<Driver>
 
 /// What drives each wire if no port does.
 fn portless_drivers(alloc: Global, netlist: &Netlist) -> Result<Vec<Driver>, AllocError> {
-    let mut drivers = Vec::new(alloc);
+    let mut drivers = Vec::with_capacity(alloc, netlist.wire_slots() as usize)?;
     for w in 0..netlist.wire_slots() {
         drivers.push(portless_driver(netlist, WireId(w)))?;
     }

@@ -12,7 +12,8 @@ use std::thread::Threads;
 
 /// The run of a netlist that was made of another, by the run of that one; and what of it was evaluated. Touched modules are active from
 /// time 0 on. Any other becomes active in the unit in which it first hears anything else than in the old run, and sleeps again from a border
-/// on before which it is in the state of the old run. A module passes the gate before it answers. All is done on the calling thread.
+/// on before which it is in the state of the old run. A module passes the gate for each entry of the work. All is done on the calling
+/// thread.
 pub fn redo<R: Threads + Wait + Sync, G: Gate + Sync>(
     rt: &R,
     alloc: Global,
@@ -29,13 +30,13 @@ pub fn redo<R: Threads + Wait + Sync, G: Gate + Sync>(
     };
     let mut rerun = Rerun::begin(alloc, &change, old.table.copy()?)?;
     for module in rerun.activity.active.as_slice() {
-        gate.enter(rt, ModuleId(*module), 0, 1);
+        gate.enter(rt, ModuleId(*module), 0, rerun.window_end);
     }
     let horizon = new.horizon();
     let mut time = 1;
     while time < horizon {
         rerun.run_unit(rt, alloc, gate, &change, time)?;
-        time = rerun.unit_after(time, horizon);
+        time = rerun.unit_after(rt, gate, &change, time);
     }
     rerun.finish(alloc, &change)
 }

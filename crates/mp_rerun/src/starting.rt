@@ -48,6 +48,7 @@ impl Rerun {
             comparison,
             activity: Activity::none(alloc, count, touches)?,
             overlays: old_overlays(alloc, count)?,
+            window_end: window_end(change.least, change.new.horizon(), 0),
         };
         rerun.begin_touched(alloc, change, ids.as_slice())?;
         Ok(rerun)
@@ -77,12 +78,13 @@ impl Rerun {
     ) -> Result<(), AllocError> {
         let horizon = change.new.horizon();
         let m = id.0 as usize;
+        let first_end = self.window_end;
         self.activity.seats[m] = self.simulation.modules.places[m];
         self.activity.modes[m] = Mode::Marked;
         self.activity.begin_stretch(Stretch {
             module: id,
             from: 0,
-            first_end: window_end(change.least, horizon, 0),
+            first_end,
             last_end: horizon,
         })?;
         let mut kept = Checkpoints::new(alloc);

@@ -5,7 +5,7 @@ use crate::rerun::Rerun;
 use mp_netlist::{ModuleId, checkpoint_units};
 use mp_phase::Gate;
 use mp_run::StimulusChange;
-use mp_work::block_of;
+use mp_work::{block_of, window_end};
 use std::alloc::{AllocError, Global};
 use std::sync::Wait;
 
@@ -20,16 +20,40 @@ impl Rerun {
         change: &Change<'_>,
         time: u32,
     ) -> Result<(), AllocError> {
-        let is_border = time.is_multiple_of(checkpoint_units(change.new.horizon()));
-        if !is_border && self.is_quiet(time) {
+        if time == self.window_end {
+            self.begin_window(rt, alloc, gate, change, time)?;
+        }
+        if self.is_quiet(time) {
             self.comparison.old.skip();
             self.simulation.skip_unit();
             return Ok(());
         }
-        if is_border {
+        self.pass_unit(rt, alloc, gate, change, time)
+    }
+
+    /// A window begins, and a block where that does: the modules that go on being active pass the gate.
+    fn begin_window<R: Wait, G: Gate>(
+        &mut self,
+        rt: &R,
+        alloc: Global,
+        gate: &G,
+        change: &Change<'_>,
+        time: u32,
+    ) -> Result<(), AllocError> {
+        if time.is_multiple_of(checkpoint_units(change.new.horizon())) {
             self.at_checkpoint(alloc, change, time)?;
         }
-        self.pass_unit(rt, alloc, gate, change, time)
+        self.enter_window(rt, gate, change);
+        Ok(())
+    }
+
+    /// Active modules pass the gate for the window that begins where the present one ends.
+    pub(crate) fn enter_window<R: Wait, G: Gate>(&mut self, rt: &R, gate: &G, change: &Change<'_>) {
+        let from = self.window_end;
+        self.window_end = window_end(change.least, change.new.horizon(), from);
+        for module in self.activity.active.as_slice() {
+            gate.enter(rt, ModuleId(*module), from, self.window_end);
+        }
     }
 
     /// Whether nothing happens in the unit of a time.
@@ -54,14 +78,14 @@ impl Rerun {
             .find_departing(change, &self.simulation, &self.stimuli, &self.tails, time)?;
         if !self.comparison.departing.is_empty() {
             self.find_joining()?;
-            self.pass_gate_first(rt, gate, change, time);
+            self.enter_joining(rt, gate, change, time);
             self.activate_all(alloc, change, time)?;
         }
         self.stimuli.hear(&mut self.tails, time)?;
         self.comparison.pass_unit(change, time, &mut self.stimuli)?;
         self.simulation
             .apply(self.stimuli.bits(), self.stimuli.levels(), time)?;
-        self.pass_gate(rt, gate, time);
+        self.activity.mark_all(self.simulation.due());
         self.simulation.fire()
     }
 
@@ -75,21 +99,11 @@ impl Rerun {
         Ok(())
     }
 
-    /// Modules that become active pass the gate for what they did from the block's begin on.
-    fn pass_gate_first<R: Wait, G: Gate>(&self, rt: &R, gate: &G, change: &Change<'_>, time: u32) {
+    /// Modules that become active in the unit of a time pass the gate for all from its block's begin to the end of its window.
+    fn enter_joining<R: Wait, G: Gate>(&self, rt: &R, gate: &G, change: &Change<'_>, time: u32) {
         let block = block_of(change.new.horizon(), time);
         for module in self.activity.joining.as_slice() {
-            gate.enter(rt, ModuleId(*module), block, time + 1);
-        }
-    }
-
-    /// The active modules that are due pass the gate, and may have other states after this unit.
-    #[inline(always)]
-    fn pass_gate<R: Wait, G: Gate>(&mut self, rt: &R, gate: &G, time: u32) {
-        for module in self.simulation.due() {
-            if self.activity.mark(*module) {
-                gate.enter(rt, ModuleId(*module), time, time + 1);
-            }
+            gate.enter(rt, ModuleId(*module), block, self.window_end);
         }
     }
 }

@@ -24,7 +24,7 @@ pub(crate) fn first_waves(
 ) -> Result<Vec<ToggleWave>, AllocError>
     ensures { IfOk result (λ waves. waves.items ≡ map first_wave netlist.now.wires) }
 {
-    let mut waves = Vec::new(alloc);
+    let mut waves = Vec::with_capacity(alloc, netlist.wire_slots() as usize)?;
     for w in 0..netlist.wire_slots() {
         let level = bit_of(netlist.initial_level(WireId(w)));
         waves.push(ToggleWave::constant(alloc, level))?;
@@ -39,7 +39,7 @@ pub(crate) fn first_buildings(
 ) -> Result<Vec<WaveBuilder>, AllocError>
     ensures { IfOk result (λ waves. waves.items ≡ map first_building netlist.now.wires) }
 {
-    let mut waves = Vec::new(alloc);
+    let mut waves = Vec::with_capacity(alloc, netlist.wire_slots() as usize)?;
     for w in 0..netlist.wire_slots() {
         let level = netlist.initial_level(WireId(w));
         waves.push(WaveBuilder::new(alloc, level))?;

@@ -23,7 +23,7 @@ pub(crate) fn bit_copies(
     requires { length wires.now ≡ length next.now }
     ensures { IfOk result (λ copies. AreCopiesOf (is_bit netlist.now) wires.now next.now copies.items) }
 {
-    let mut copies = Vec::new(alloc);
+    let mut copies = Vec::with_capacity(alloc, next.len())?;
     for x in 0..next.len() {
         let is_bit = !has_data(netlist, WireId(wires[x]));
         copies.push(kept_if(is_bit, next[x]))?;
@@ -41,7 +41,7 @@ pub(crate) fn data_copies(
     requires { length wires.now ≡ length next.now }
     ensures { IfOk result (λ copies. AreCopiesOf (is_data netlist.now) wires.now next.now copies.items) }
 {
-    let mut copies = Vec::new(alloc);
+    let mut copies = Vec::with_capacity(alloc, next.len())?;
     for x in 0..next.len() {
         let is_data = has_data(netlist, WireId(wires[x]));
         copies.push(kept_if(is_data, next[x]))?;
@@ -64,7 +64,7 @@ pub(crate) fn levels_of(
 ) -> Result<Vec<u64>, AllocError>
     ensures { IfOk result (λ levels. levels.items ≡ map (level_of_wire netlist.now) wires.now) }
 {
-    let mut levels = Vec::new(alloc);
+    let mut levels = Vec::with_capacity(alloc, wires.len())?;
     for wire in wires {
         levels.push(netlist.initial_level(WireId(*wire)))?;
     }

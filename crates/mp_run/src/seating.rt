@@ -42,7 +42,7 @@ pub(crate) fn seat_all(
 {
     let mut seating = Seating {
         modules: DataModules {
-            places: Vec::new(alloc),
+            places: Vec::with_capacity(alloc, netlist.module_slots() as usize)?,
             modules: Vec::new(alloc),
         },
         wheel: LevelWheel::new(alloc, units)?,

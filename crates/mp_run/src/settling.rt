@@ -29,7 +29,7 @@ pub(crate) fn all_outputs(
     requires { IsCircuit netlist.now }
     ensures { IfOk result (λ ports. ports.items ≡ map ports_of netlist.now.modules) }
 {
-    let mut ports = Vec::new(alloc);
+    let mut ports = Vec::with_capacity(alloc, netlist.module_slots() as usize)?;
     for m in 0..netlist.module_slots() {
         ports.push(outputs_of(netlist, ModuleId(m)))?;
     }
@@ -105,8 +105,8 @@ pub(crate) fn settle_all(
     ensures levels { IfOk result (λ s. AreFirstLevels netlist.now (length netlist.now.modules) s.levels.items) }
     ensures units { IfOk result (λ s. length s.wheel ≡ units) }
 {
-    let mut states = Vec::new(alloc);
-    let mut levels = Vec::new(alloc);
+    let mut states = Vec::with_capacity(alloc, outputs.len())?;
+    let mut levels = Vec::with_capacity(alloc, outputs.len())?;
     let mut wheel = EventWheel::new(alloc, units)?;
     for m in 0..netlist.module_slots() {
         let ports = outputs[m as usize];

@@ -40,7 +40,7 @@ pub(crate) fn wiring_of(alloc: Global, netlist: &Region<'_>) -> Result<WiredInpu
     ensures { IfOk result (λ wired. AreWiredInputs netlist.now (length netlist.now.modules) wired.wiring wired.inputs.items) }
 {
     let mut wiring = unread_wires(alloc, netlist.wire_slots())?;
-    let mut inputs = Vec::new(alloc);
+    let mut inputs = Vec::with_capacity(alloc, netlist.module_slots() as usize)?;
     for m in 0..netlist.module_slots() {
         inputs.push(add_slot(netlist, ModuleId(m), &mut wiring)?)?;
     }
@@ -71,9 +71,9 @@ fn unread_wires(alloc: Global, wires: u32) -> Result<Wiring, AllocError>
     ensures { IfOk result (λ wiring. AreUnread wires wiring) }
 {
     let mut wiring = Wiring {
-        rows: Vec::new(alloc),
-        next: Vec::new(alloc),
-        wires: Vec::new(alloc),
+        rows: Vec::with_capacity(alloc, wires as usize)?,
+        next: Vec::with_capacity(alloc, wires as usize)?,
+        wires: Vec::with_capacity(alloc, wires as usize)?,
     };
     for wire in 0..wires {
         wiring.add_number(OutputPort {
