@@ -50,7 +50,9 @@ impl TransitionTable {
     }
 
     /// The same table once more.
-    pub fn copy(&self) -> Result<TransitionTable, AllocError> {
+    pub fn copy(&self) -> Result<TransitionTable, AllocError>
+        ensures { IfOk result (λ table. table ≡ self.now) }
+    {
         let list = Vec::from_slice(*self.list.allocator(), self.list.as_slice())?;
         Ok(TransitionTable { list })
     }

@@ -31,7 +31,7 @@ impl Model for LevelWheel {
 }
 
 impl LevelWheel {
-    ghost use Rattle.std.specs.Prelude.{◌≡◌, ◌↔◌, ℕ, ◌-◌, ◌<◌, ◌≤◌, ◌++◌, ◌∷◌, [], drop, length, IsTrue, IfOk, OnOk, slice_index_or};
+    ghost use Rattle.std.specs.Prelude.{◌≡◌, ◌↔◌, ℕ, ◌-◌, ◌<◌, ◌≤◌, ◌++◌, ◌∷◌, [], drop, length, IsTrue, IfOk, OnOk, slice_index_or, slice_set};
     ghost use Rattle.mp_events.specs.EventWheels.{AreEmpty};
     ghost use Rattle.mp_data.specs.LevelWheels.{with_entry};
 
@@ -74,12 +74,14 @@ impl LevelWheel {
         self.slots[place].as_slice()
     }
 
-    /// The slot of so many units after the next one, and another, change places. Where the wheel has no such slot, both stay.
-    pub fn swap_slot(&mut self, units: usize, other: &mut LevelSlot) {
-        if units < self.slots.len() {
-            let place = place_after(self.next, units, self.slots.len());
-            swap(&mut self.slots[place], other);
-        }
+    /// The slot of so many units after the next one changes places with another.
+    pub fn swap_slot(&mut self, units: usize, other: &mut LevelSlot)
+        requires { units < length self.old }
+        ensures wheel { self.new ≡ slice_set self.old units other.old }
+        ensures other { other.new ≡ slice_index_or self.old units [] }
+    {
+        let place = place_after(self.next, units, self.slots.len());
+        swap(&mut self.slots[place], other);
     }
 
     /// The next unit begins: its slot becomes the present one, and the one that was present before is emptied and becomes that of the last unit.
