@@ -1,30 +1,18 @@
 -- A re-evaluation goes on from window to window.
-use Rattle.std.proofs.Common.{◌≡◌, ℕ, ◌+◌, ◌-◌, ◌%◌, ◌<◌, ◌≤◌, List, min, ap, sym, subst, ◌∙◌, arith, inl, inr}
+use Rattle.std.proofs.Common.{◌≡◌, ℕ, ◌+◌, ◌-◌, ◌%◌, ◌<◌, ◌≤◌, min, ap, sym, subst, ◌∙◌, arith, inl, inr}
 use Rattle.std.proofs.lemmas.Bool.{cases_lt}
 use Rattle.mp_netlist.specs.Circuit.{Circuit, IsCircuit}
 use Rattle.mp_netlist.specs.Delays.{least_delay}
 use Rattle.mp_netlist.specs.Limits.{checkpoint_units}
 use Rattle.mp_netlist.proofs.LimitLemmas.{units_positive}
 use Rattle.mp_evaluation.specs.Checkpoints.{IsBorder}
-use Rattle.mp_evaluation.specs.Outcomes.{Outcome}
-use Rattle.mp_redo.specs.declared.cell.Cell.{Cell}
-use Rattle.mp_redo.specs.declared.ledger.Ledger.{Ledger}
 use Rattle.mp_redo.specs.Courses.{last_block}
-use Rattle.mp_redo.specs.Joins.{AreLike}
-use Rattle.mp_redo.specs.Keeping.{IsLedgerAt, IsNextBorder, AreLedgers}
-use Rattle.mp_redo.specs.Ledgers.{ledger_at}
+use Rattle.mp_history.specs.Keeping.{IsNextBorder}
 use Rattle.mp_work.specs.Merges.{end_of_window}
 use Rattle.mp_redo.specs.Windows.{IsShort, IsWindows}
 use Rattle.mp_work.specs.Work.{block_of, window_of, window_end, IsWindow}
 use Rattle.mp_work.proofs.MultipleLemmas.{whole_rest, next_rest, multiples_apart, whole_from}
 use Rattle.mp_work.proofs.WindowLemmas.{window_within, window_cover, in_block, same_block}
-
--- a ledger follows who is live
-pub ledgers_like : (new : Circuit) (run : Outcome) (t : ℕ) (cells after : List Cell) (ledgers : List Ledger) → AreLike cells after → AreLedgers new run t cells ledgers → AreLedgers new run t after ledgers
-ledgers_like new run t cells after ledgers like are = record {
-  places = are.places;
-  each = λ m r at. subst (λ live. IsLedgerAt new run t m r live (ledger_at ledgers m)) (sym (like.live m)) (are.each m r at);
-}
 
 -- ---- windows and blocks
 

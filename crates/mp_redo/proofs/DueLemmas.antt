@@ -21,10 +21,11 @@ use Rattle.mp_evaluation.proofs.MarkLemmas.{none_in, contains_cons, marked_withi
 use Rattle.mp_redo.specs.declared.cell.Cell.{Cell}
 use Rattle.mp_redo.specs.declared.line.Line.{Line}
 use Rattle.mp_redo.specs.Answers.{IsHeardBy}
-use Rattle.mp_redo.specs.Ledgers.{state_in}
+use Rattle.mp_history.specs.Ledgers.{state_in}
 use Rattle.mp_redo.specs.Lines.{level_in, IsOwn}
 use Rattle.mp_work.specs.Revisions.{IsRevision, IsKept}
-use Rattle.mp_redo.specs.Redoing.{level_at, line_at, cell_at, no_cell, answered_to, IsWorking, IsCellAt, AreLines, IsDuring}
+use Rattle.mp_history.specs.Live.{IsWorking}
+use Rattle.mp_redo.specs.Redoing.{level_at, line_at, cell_at, no_cell, answered_to, IsCellAt, AreLines, IsDuring}
 use Rattle.mp_redo.specs.Steps.{IsAt, IsStep, AreReady, GoesOn, GoesOnFrom, GoesOnListening, GoesOnTelling}
 use Rattle.mp_redo.specs.Joins.{HaveAnswered, live_cell}
 use Rattle.mp_redo.specs.Windows.{IsShort}
@@ -62,7 +63,7 @@ marked_was marks k m is = elim (cases_eq m k) as (λ _. (m ≢ k) × (is_marked 
 
 -- none has answered
 pub answered_none : (joined : List ModuleId) (cells : List Cell) → HaveAnswered joined cells cells
-answered_none joined cells = record { places = refl; live = λ m live. live; touched = λ m. refl; stretch = λ m. refl; others = λ m none. refl }
+answered_none joined cells = record { places = refl; live = λ m live. live; touched = λ m. refl; others = λ m none. refl }
 
 -- more have answered
 pub answered_more : (joined : List ModuleId) (cells after later : List Cell) → HaveAnswered joined cells after → HaveAnswered joined after later → HaveAnswered joined cells later
@@ -70,7 +71,6 @@ answered_more joined cells after later first second = record {
   places = second.places ∙ first.places;
   live = λ m live. second.live m (first.live m live);
   touched = λ m. second.touched m ∙ first.touched m;
-  stretch = λ m. second.stretch m ∙ first.stretch m;
   others = λ m none. second.others m none ∙ first.others m none;
 }
 
@@ -80,7 +80,6 @@ answered_among joined all cells after among done = record {
   places = done.places;
   live = done.live;
   touched = done.touched;
-  stretch = done.stretch;
   others = λ m none. done.others m (λ has. none (among m has));
 }
 
@@ -96,10 +95,6 @@ answered_one joined cells m memory unless within = record {
   touched = λ k. elim (cases_eq k m) as (λ _. (cell_at (slice_set cells m now) k).touched ≡ (cell_at cells k).touched) [
     | inl same ↦ ap (λ (x : Cell). x.touched) (here k same) ∙ ap (λ j. (cell_at cells j).touched) (sym same)
     | inr other ↦ ap (λ (x : Cell). x.touched) (there k other)
-  ];
-  stretch = λ k. elim (cases_eq k m) as (λ _. (cell_at (slice_set cells m now) k).stretch ≡ (cell_at cells k).stretch) [
-    | inl same ↦ ap (λ (x : Cell). x.stretch) (here k same) ∙ ap (λ j. (cell_at cells j).stretch) (sym same)
-    | inr other ↦ ap (λ (x : Cell). x.stretch) (there k other)
   ];
   others = λ k none. elim (cases_eq k m) as (λ _. (cell_at (slice_set cells m now) k).live ≡ (cell_at cells k).live) [
     | inl same ↦

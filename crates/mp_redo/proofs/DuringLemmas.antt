@@ -16,7 +16,8 @@ use Rattle.mp_evaluation.proofs.MarkLemmas.{marked_within}
 use Rattle.mp_redo.specs.declared.cell.Cell.{Cell}
 use Rattle.mp_redo.specs.declared.line.Line.{Line}
 use Rattle.mp_work.specs.Revisions.{IsRevision}
-use Rattle.mp_redo.specs.Redoing.{level_at, cell_at, answered_to, IsWorking, IsCellAt, AreLines, IsListening, IsDuring}
+use Rattle.mp_history.specs.Live.{IsWorking}
+use Rattle.mp_redo.specs.Redoing.{level_at, cell_at, answered_to, IsCellAt, AreLines, IsListening, IsDuring}
 use Rattle.mp_redo.specs.Steps.{IsStep, GoesOnListening, GoesOnTelling}
 use Rattle.mp_redo.proofs.LineLemmas.{one_delay, idle_kept, idle_line, line_on}
 use Rattle.mp_redo.proofs.MarkedLemmas.{answered_marked}

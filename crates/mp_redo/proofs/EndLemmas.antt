@@ -1,28 +1,22 @@
 -- What a re-evaluation gives at its end.
-use Rattle.std.proofs.Common.{◌≡◌, ℕ, ◌+◌, ◌-◌, ◌<◌, ◌≤◌, List, [], ◌∷◌, ◌++◌, map, Option, Some, None, option_map, length, refl, ap, sym, subst, ◌∙◌, arith, inl, inr}
+use Rattle.std.proofs.Common.{◌≡◌, ℕ, ◌+◌, ◌-◌, ◌<◌, ◌≤◌, [], ◌∷◌, ◌++◌, Option, Some, None, length, refl, ap, sym, ◌∙◌, arith, inl, inr}
 use Rattle.std.specs.Prelude.{MatchOption}
-use Rattle.std.proofs.lemmas.Bool.{cases_lt, cases_eq}
-use Rattle.std.proofs.lemmas.List.{get_or_past, get_or_push, get_or_append_left, map-append, length-map}
+use Rattle.std.proofs.lemmas.Bool.{cases_lt}
 use Rattle.std.proofs.lemmas.Option.{same_Some, none-some}
 use Rattle.mp_wave.specs.Waveform.{Waveform, level_of, changes_after, wave_upto}
 use Rattle.mp_wave.specs.Building.{Building}
 use Rattle.mp_wave.proofs.ChangesLemmas.{last_from-changes_after, last_time-changes_after, AreChanges-changes_after, levels_of_wave, form_of_wave}
 use Rattle.mp_wave.proofs.PrefixLemmas.{level_from-over}
 use Rattle.mp_wave.proofs.WaveformLemmas.{same_levels}
-use Rattle.mp_modules.specs.Memories.{blank}
 use Rattle.mp_records.specs.declared.wire_record.WireRecord.{WireRecord}
 use Rattle.mp_records.specs.declared.module_record.ModuleRecord.{ModuleRecord}
-use Rattle.mp_netlist.specs.Slots.{slot_at}
-use Rattle.mp_netlist.specs.Circuit.{Circuit, wire_at, module_at}
+use Rattle.mp_netlist.specs.Circuit.{Circuit, wire_at}
 use Rattle.mp_model.specs.Waves.{level, state, wave, slot_wave}
-use Rattle.mp_evaluation.specs.declared.checkpoints.Checkpoint.{Checkpoint}
-use Rattle.mp_evaluation.specs.Checkpoints.{kept_at, state_before}
 use Rattle.mp_evaluation.specs.Outcomes.{Outcome, AreSlots, wave_of}
 use Rattle.mp_evaluation.specs.Runs.{AreCheckpoints, IsRun, end_memory}
 use Rattle.mp_evaluation.proofs.OutcomeLemmas.{slot_is, no_wave, no_module, checkpoint_is}
 use Rattle.mp_redo.specs.Lines.{level_in}
 use Rattle.mp_redo.specs.Prefixes.{IsUpTo}
-use Rattle.mp_redo.specs.Endings.{HasCheckpoints}
 
 -- after its last time the wave of a level holds the last level
 upto_held : (level : ℕ → ℕ) (n t : ℕ) → n ≤ t → level_of (wave_upto level n) t ≡ level n
@@ -74,32 +68,6 @@ shared_is n run w end other found is horizon some same shared = by (wave_of run 
     by (Some wave) had e is_slot here levels =
         let is_wave : wave ≡ wave_upto (level n w) (end - 1) = stood (wire_at n w) wave is_slot ∙ ap (λ h. wave_upto (level n w) (h - 1)) horizon in
         here ∙ is_wave ∙ wave_same (level n w) other end some (λ t less. sym (ap (λ x. level_of x t) is_wave ∙ levels_of_wave (level n w) (end - 1) t (omega arith)) ∙ levels t less)
-
--- what is kept of one module more
-pub kept_more : {X : Type 0} (n : Circuit) (m : ℕ) (f : X → Option (List Checkpoint)) (xs : List X) (x : X) → length xs ≡ m → ((k : ℕ) → k < m → HasCheckpoints n k (slot_at (map f xs) k)) → HasCheckpoints n m (f x)
-    → (k : ℕ) → k < m + 1 → HasCheckpoints n k (slot_at (map f (xs ++ x ∷ [])) k)
-kept_more n m f xs x size has is k low =
-    subst (λ ys. HasCheckpoints n k (slot_at ys k)) (sym (map-append f xs (x ∷ [])))
-    (elim (cases_eq k m) as (λ _. HasCheckpoints n k (slot_at (map f xs ++ f x ∷ []) k)) [
-      | inl same ↦
-          subst (HasCheckpoints n k) (sym (get_or_push (map f xs) (f x) None k (length-map xs f ∙ size ∙ sym same)))
-          (subst (λ j. HasCheckpoints n j (f x)) (sym same) is)
-      | inr other ↦
-          subst (HasCheckpoints n k) (sym (get_or_append_left (map f xs) (f x ∷ []) None k (let count = length-map xs f in omega (arith, low, other, count, size))))
-          (has k (omega (arith, low, other)))
-    ])
-
--- what is kept of all modules
-pub kept_are : (n : Circuit) (m : ℕ) (slots : List (Option (List Checkpoint))) → m ≡ length n.modules → length slots ≡ m → ((k : ℕ) → k < m → HasCheckpoints n k (slot_at slots k)) → AreCheckpoints n slots
-kept_are n m slots end size has = record {
-  places = size ∙ end;
-  each = λ k c border low. elim (cases_lt k m) as (λ _. option_map (λ ks. kept_at ks c blank) (slot_at slots k) ≡ option_map (λ (r : ModuleRecord). state_before n k r c) (module_at n k)) [
-    | inl less ↦ has k less c border low
-    | inr past ↦
-        ap (option_map (λ ks. kept_at ks c blank)) (get_or_past slots k None (omega (arith, past, size)))
-        ∙ sym (no_module n (λ (r : ModuleRecord). state_before n k r c) k (omega (arith, past, end)))
-  ];
-}
 
 -- the run of a netlist from its parts
 pub run_made : (n : Circuit) (run : Outcome) → run.horizon ≡ n.horizon → AreSlots (length n.wires) (λ w. slot_wave n w (wire_at n w)) run.waves → AreSlots (length n.modules) (end_memory n) run.ends → AreCheckpoints n run.kept → IsRun n run

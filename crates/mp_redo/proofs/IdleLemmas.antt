@@ -13,23 +13,23 @@ use Rattle.mp_evaluation.specs.Marks.{is_marked}
 use Rattle.mp_evaluation.specs.Outcomes.{Outcome}
 use Rattle.mp_evaluation.specs.Runs.{IsRun}
 use Rattle.mp_evaluation.proofs.MarkLemmas.{none_in}
+use Rattle.mp_history.specs.declared.history.History.{History}
+use Rattle.mp_history.specs.Histories.{IsHistory}
+use Rattle.mp_history.specs.Live.{JoinInWindow}
+use Rattle.mp_history.proofs.HistoryLemmas.{idle_history}
 use Rattle.mp_redo.specs.declared.cell.Cell.{Cell}
 use Rattle.mp_redo.specs.declared.line.Line.{Line}
-use Rattle.mp_work.specs.declared.stretch.Stretch.{Stretch}
-use Rattle.mp_redo.specs.Opened.{HaveOpened}
-use Rattle.mp_redo.specs.Redoing.{looks_at, AreOpen, IsBefore, IsDuring}
+use Rattle.mp_redo.specs.Redoing.{looks_at, live_in, IsBefore, IsDuring}
 use Rattle.mp_work.specs.Revisions.{IsRevision}
 use Rattle.mp_redo.specs.Rings.{AreTaken}
-use Rattle.mp_work.specs.Stretches.{AreStretchesTo}
 use Rattle.mp_redo.specs.Windows.{IsShort, IsWindows}
 use Rattle.mp_work.specs.Work.{block_of, window_of, window_end, IsWindow}
 use Rattle.mp_redo.proofs.BeginLemmas.{window_begins}
 use Rattle.mp_redo.proofs.CourseLemmas.{window_short}
-use Rattle.mp_redo.proofs.JoinWorkLemmas.{joined_stretches}
+use Rattle.mp_redo.proofs.OverLemmas.{at_work}
 use Rattle.mp_work.proofs.MultipleLemmas.{rest_le, whole_rest, next_rest}
 use Rattle.mp_work.proofs.PartLemmas.{next_begins}
 use Rattle.mp_redo.proofs.RingLemmas.{at_next}
-use Rattle.mp_redo.proofs.DueLemmas.{answered_none}
 use Rattle.mp_redo.proofs.WindowEndLemmas.{listed_none, window_ends}
 use Rattle.mp_work.proofs.WindowLemmas.{window_within, window_cover, windows_apart, in_block}
 
@@ -163,32 +163,33 @@ one_is new ok from to window =
 -- ---- window by window
 
 module _ (old new : Circuit) (old_ok : IsCircuit old) (ok : IsCircuit new) (revised : IsRevision old new) (run : Outcome) (is_run : IsRun old run)
-    (block : ℕ) (cells : List Cell) (lines : List Line) (stretches : List Stretch) (marks : List Bool) (size : length marks ≡ length new.modules) (free : (m : ℕ) → is_marked marks m ≡ false) where
+    (block : ℕ) (cells : List Cell) (lines : List Line) (history : History) (marks : List Bool) (size : length marks ≡ length new.modules) (free : (m : ℕ) → is_marked marks m ≡ false) where
   -- before a time, with these lists
   record IsIdleAt (t : ℕ) (looks : List (List ModuleId)) : Type 0 where
     pub before : IsBefore old new run block t cells lines looks
-    pub worked : AreStretchesTo old new t stretches
-    pub opened : AreOpen new t cells stretches
+    pub kept : IsHistory old new run (λ m. block) t (live_in cells) history
 
   one_window : (t to : ℕ) → IsWindow new t to → block ≡ block_of new.horizon t → (looks : List (List ModuleId)) → 0 < length looks → ((k : ℕ) → t + k < to → looks_at looks k ≡ [])
       → IsIdleAt t looks → IsIdleAt to (moved (to - t) looks)
-  one_window t to window same looks some idle is = record { before = over; worked = work.0; opened = work.1 }
+  one_window t to window same looks some idle is = record { before = over; kept = idle_history old new run block t to (live_in cells) history none is.kept }
     where
       over : IsBefore old new run block to cells lines (moved (to - t) looks)
       over = some_units old new old_ok ok revised run is_run block cells lines marks size free t to (subst (λ c. IsShort new c t to) (sym same) (window_short new ok t to window)) looks some idle is.before
 
-      none : HaveOpened new block to cells cells stretches stretches
+      none : JoinInWindow old new block t to [] (live_in cells) (live_in cells)
       none = record {
-        like = record { places = refl; live = λ m. refl; touched = λ m. refl; memory = λ m. refl };
-        more = omega arith;
-        olds = λ k low. refl;
-        news = λ k high low. absurd (omega (arith, high, low));
-        each = λ m. inl refl;
+        form = ok;
+        window = window;
+        block = same;
+        become = record {
+          stand = λ m has. absurd (none_in (let id : ModuleId = record { 0 = m } in id) has);
+          stay = λ m on. on;
+          join = λ m has. absurd (none_in (let id : ModuleId = record { 0 = m } in id) has);
+          others = λ m not. refl;
+        };
+        before = at_work old new block t cells is.before.modules;
+        after = at_work old new block to cells over.modules;
       }
-
-      work : AreStretchesTo old new to stretches × AreOpen new to cells stretches
-      work = joined_stretches old new ok t to block window same [] cells cells cells stretches stretches (answered_none [] cells) is.opened none
-          (λ m has. absurd (none_in (let id : ModuleId = record { 0 = m } in id) has)) is.before.modules over.modules is.worked
 
   -- a window that begins before windows end ends with them, or before
   ends_within : (t from to : ℕ) → IsWindow new t (window_end new t) → t < to → IsWindows new from to → window_end new t ≤ to
@@ -258,9 +259,9 @@ module _ (old new : Circuit) (old_ok : IsCircuit old) (ok : IsCircuit new) (revi
 
   pub idle_passed : (from to : ℕ) → window_of new from ≡ from → block ≡ block_of new.horizon from → IsWindows new from to → (looks after : List (List ModuleId)) → 0 < length looks → length after ≡ length looks
       → ((k : ℕ) → from + k < to → looks_at looks k ≡ []) → ((k : ℕ) → looks_at after k ≡ looks_at looks (k + (to - from)))
-      → IsBefore old new run block from cells lines looks → AreStretchesTo old new from stretches → AreOpen new from cells stretches
-      → IsBefore old new run block to cells lines after × AreStretchesTo old new to stretches × AreOpen new to cells stretches
-  idle_passed from to begins same windows looks after some places idle up before worked opened =
+      → IsBefore old new run block from cells lines looks → IsHistory old new run (λ m. block) from (live_in cells) history
+      → IsBefore old new run block to cells lines after × IsHistory old new run (λ m. block) to (live_in cells) history
+  idle_passed from to begins same windows looks after some places idle up before kept =
       let later = windows.later in
-      let on = windows_on from to same windows (to - from) from (omega (arith, later)) (omega arith) (omega (arith, later)) begins looks some idle (record { before = before; worked = worked; opened = opened }) in
-      (subst (IsBefore old new run block to cells lines) (moved_is (to - from) looks after some places up) on.before, on.worked, on.opened)
+      let on = windows_on from to same windows (to - from) from (omega (arith, later)) (omega arith) (omega (arith, later)) begins looks some idle (record { before = before; kept = kept }) in
+      (subst (IsBefore old new run block to cells lines) (moved_is (to - from) looks after some places up) on.before, on.kept)

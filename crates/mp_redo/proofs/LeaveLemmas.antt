@@ -10,8 +10,9 @@ use Rattle.mp_evaluation.specs.Outcomes.{Outcome}
 use Rattle.mp_evaluation.specs.Runs.{IsRun}
 use Rattle.mp_redo.specs.declared.cell.Cell.{Cell}
 use Rattle.mp_redo.specs.Leaving.{IsBack}
-use Rattle.mp_redo.specs.Ledgers.{state_in}
-use Rattle.mp_redo.specs.Redoing.{IsWorking, IsCellAt}
+use Rattle.mp_history.specs.Ledgers.{state_in}
+use Rattle.mp_history.specs.Live.{IsWorking}
+use Rattle.mp_redo.specs.Redoing.{IsCellAt}
 use Rattle.mp_work.specs.Revisions.{IsRevision}
 use Rattle.mp_redo.proofs.LineLemmas.{before_is, idle_agrees, idle_kept}
 use Rattle.mp_redo.proofs.OverLemmas.{old_state}

@@ -16,7 +16,6 @@ pub mod AnswerLemmas
 pub mod HearerLemmas
 pub mod ListenLemmas
 pub mod OverLemmas
-pub mod KeepLemmas
 pub mod StepLemmas
 pub mod OpenLemmas
 pub mod ApartLemmas
@@ -25,10 +24,6 @@ pub mod DuringLemmas
 pub mod CloseLemmas
 pub mod NewsLemmas
 pub mod DueLemmas
-pub mod LikeLemmas
-pub mod OpenedLemmas
-pub mod JoinLemmas
-pub mod JoinWorkLemmas
 pub mod AgainLemmas
 pub mod WindowEndLemmas
 pub mod LeaveLemmas
@@ -39,6 +34,5 @@ pub mod UnitLemmas
 pub mod TurnLemmas
 pub mod LookingLemmas
 pub mod TellLemmas
-pub mod ListedLemmas
 pub mod TaskLemmas
 pub mod IdleLemmas

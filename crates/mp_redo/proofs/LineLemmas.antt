@@ -25,7 +25,8 @@ use Rattle.mp_redo.specs.declared.line.Line.{Line}
 use Rattle.mp_redo.specs.declared.line.Line.TheVariants.{Old, Own}
 use Rattle.mp_redo.specs.Lines.{level_in, line_level, IsOwn}
 use Rattle.mp_work.specs.Revisions.{IsRevision, IsKept, AgreeBefore, IsDrivenAlike}
-use Rattle.mp_redo.specs.Redoing.{level_at, line_at, IsWorking, IsCellAt, IsGiven, IsLineAt}
+use Rattle.mp_history.specs.Live.{IsWorking}
+use Rattle.mp_redo.specs.Redoing.{level_at, line_at, IsCellAt, IsGiven, IsLineAt}
 use Rattle.mp_redo.proofs.HeardLemmas.{old_level}
 use Rattle.mp_work.proofs.LevelLemmas.{levels_stay}
 use Rattle.mp_work.proofs.SameLemmas.{same, same_memories}

@@ -13,7 +13,8 @@ use Rattle.mp_evaluation.specs.Runs.{IsRun}
 use Rattle.mp_redo.specs.declared.cell.Cell.{Cell}
 use Rattle.mp_redo.specs.declared.line.Line.{Line}
 use Rattle.mp_work.specs.Revisions.{IsRevision}
-use Rattle.mp_redo.specs.Redoing.{level_at, line_at, cell_at, answered_to, IsWorking, IsCellAt, AreCells, AreLines, IsLineAt, IsLooking, IsBefore}
+use Rattle.mp_history.specs.Live.{IsWorking}
+use Rattle.mp_redo.specs.Redoing.{level_at, line_at, cell_at, answered_to, IsCellAt, AreCells, AreLines, IsLineAt, IsLooking, IsBefore}
 use Rattle.mp_redo.proofs.LineLemmas.{before_is, one_delay, own_held, idle_kept, idle_line, still_levels, line_on}
 use Rattle.mp_redo.proofs.StillLemmas.{states_same, not_apart}
 

@@ -1,5 +1,5 @@
 -- A re-evaluation is over once all units are answered.
-use Rattle.std.proofs.Common.{◌≡◌, ℕ, ◌+◌, ◌-◌, ◌%◌, ◌<◌, ◌≤◌, Bool, true, false, List, Option, Some, None, nat_lt, ◌==◌, option_map, zero, suc, refl, ap, sym, subst, ◌∙◌, arith, inl, inr}
+use Rattle.std.proofs.Common.{◌≡◌, ℕ, ◌+◌, ◌-◌, ◌%◌, ◌<◌, ◌≤◌, Bool, true, false, List, Option, Some, None, IsSome, nat_lt, ◌==◌, option_map, zero, suc, refl, ap, sym, subst, ◌∙◌, arith, inl, inr}
 use Rattle.std.specs.Prelude.{◌&&◌, if◌then◌else◌}
 use Rattle.std.proofs.lemmas.Bool.{cases_lt, and_from, lt-ltb, eq-eqb}
 use Rattle.std.proofs.lemmas.Option.{same_Some, none-some}
@@ -15,13 +15,13 @@ use Rattle.mp_evaluation.specs.Checkpoints.{kept_at, state_before, IsBorder}
 use Rattle.mp_evaluation.specs.Outcomes.{Outcome}
 use Rattle.mp_evaluation.specs.Runs.{IsRun, checkpoint}
 use Rattle.mp_redo.specs.declared.cell.Cell.{Cell}
-use Rattle.mp_redo.specs.declared.ledger.Ledger.{Ledger}
 use Rattle.mp_redo.specs.declared.line.Line.{Line}
 use Rattle.mp_redo.specs.Endings.{IsEndAt, IsOver}
-use Rattle.mp_redo.specs.Keeping.{AreLedgers, AreStatesAt}
-use Rattle.mp_redo.specs.Redoing.{cell_at, AreCells, AreLines, IsWorking, IsCellAt}
+use Rattle.mp_history.specs.Keeping.{AreOldStates}
+use Rattle.mp_history.specs.Live.{IsWorking, AreAtWork}
+use Rattle.mp_redo.specs.Redoing.{cell_at, live_in, AreCells, AreLines, IsCellAt}
 use Rattle.mp_work.specs.Revisions.{IsRevision, IsKept}
-use Rattle.mp_redo.specs.Ledgers.{state_in}
+use Rattle.mp_history.specs.Ledgers.{state_in}
 use Rattle.mp_work.proofs.SameLemmas.{same, same_memories}
 use Rattle.mp_work.proofs.StayLemmas.{built_same}
 use Rattle.mp_redo.proofs.LineLemmas.{before_is, idle_agrees, idle_kept}
@@ -45,17 +45,12 @@ module _ (old new : Circuit) (old_ok : IsCircuit old) (new_ok : IsCircuit new) (
             ∙ sym (ap (option_map (λ (x : ModuleRecord). state new m (new.horizon - 1))) at);
       }
 
-  -- all is there where all units are answered, and the states before all borders kept
-  pub is_over : (c t : ℕ) (cells : List Cell) (lines : List Line) (ledgers : List Ledger) → c < new.horizon → ((b : ℕ) → IsBorder new.horizon b → b < new.horizon → b ≤ t)
-      → AreCells old new c (λ m. new.horizon) cells → AreLines new run (λ m. new.horizon) cells lines → AreLedgers new run t cells ledgers → IsOver new run cells lines ledgers
-  is_over c t cells lines ledgers low borders are wires kept = record {
-    line_places = wires.places;
+  -- all is there where all units are answered
+  pub is_over : (c : ℕ) (cells : List Cell) (lines : List Line) → c < new.horizon → AreCells old new c (λ m. new.horizon) cells → AreLines new run (λ m. new.horizon) cells lines → IsOver new run cells lines
+  is_over c cells lines low are wires = record {
+    places = wires.places;
     levels = λ w u within below. (wires.each w within).right u below (λ m p drives. omega arith);
     ends = end_is c cells low are;
-    ledger_places = kept.places;
-    kept = λ m r at.
-        let ledger = kept.each m r at in
-        record { order = ledger.order; states = λ b border less. ledger.right b border (borders b border less) less };
   }
 
   -- the state before a border that the old run kept
@@ -88,17 +83,13 @@ module _ (old new : Circuit) (old_ok : IsCircuit old) (new_ok : IsCircuit new) (
   ]
 
   -- at a border up to which all units are answered, the states before it
-  pub states_at : (c b : ℕ) (cells : List Cell) → c ≤ b → IsBorder new.horizon b → b < new.horizon → AreCells old new c (λ m. b) cells → AreStatesAt new run b cells
-  states_at c b cells le border low are m r at =
+  pub states_at : (c b : ℕ) (cells : List Cell) → c ≤ b → IsBorder new.horizon b → b < new.horizon → AreCells old new c (λ m. b) cells → AreOldStates new run b (live_in cells)
+  states_at c b cells le border low are m r at quiet =
       let cell = are.each m r at in
-      record {
-        live = cell.memory;
-        quiet = λ quiet.
-            let idle = cell.quiet quiet in
-            let was = idle_kept old new c b b m r (cell_at cells m) cell idle in
-            let same = revised.horizon in
-            old_state m b r was (subst (λ h. IsBorder h b) same border) (omega (arith, low, same)) ∙ agree c b m r (record { before = was; after = at }) idle le;
-      }
+      let idle = cell.quiet quiet in
+      let was = idle_kept old new c b b m r (cell_at cells m) cell idle in
+      let same = revised.horizon in
+      old_state m b r was (subst (λ h. IsBorder h b) same border) (omega (arith, low, same)) ∙ agree c b m r (record { before = was; after = at }) idle le
 
   -- so they are, of a module that isn't live, at its block's begin
   pub begin_state : (c t m : ℕ) (r : ModuleRecord) (cell : Cell) → c ≤ t → IsBorder new.horizon c → c < new.horizon → module_at new m ≡ Some r → IsCellAt old new c t m r cell → cell.live ≡ false
@@ -108,3 +99,14 @@ module _ (old new : Circuit) (old_ok : IsCircuit old) (new_ok : IsCircuit new) (
       let was = idle_kept old new c t t m r cell is idle in
       let same = revised.horizon in
       old_state m c r was (subst (λ h. IsBorder h c) same border) (omega (arith, low, same)) ∙ agree c c m r (record { before = was; after = at }) (λ works. idle (working_on old new c c t m le works)) (omega arith)
+
+-- the live modules are those at work
+pub at_work : (old new : Circuit) (c t : ℕ) (cells : List Cell) → AreCells old new c (λ m. t) cells → AreAtWork old new c t (live_in cells)
+at_work old new c t cells are = record {
+  works = λ m stands on. let r = standing (module_at new m) stands in (are.each m r.0 r.1).live on;
+  rests = λ m stands off. let r = standing (module_at new m) stands in (are.each m r.0 r.1).quiet off;
+}
+  where
+    standing : (slot : Option ModuleRecord) → IsSome slot → (r : ModuleRecord) × (slot ≡ Some r)
+    standing None some = let none : ⊥ = cc in absurd none
+    standing (Some r) some = (r, refl)

@@ -1,5 +1,5 @@
 -- Modules that have joined those that are evaluated again.
-use Rattle.std.specs.Prelude.{◌≡◌, ℕ, true, false, Bool, List, Some, length}
+use Rattle.std.specs.Prelude.{◌≡◌, ℕ, true, false, Bool, List, Some, IsSome, length}
 use Rattle.std.specs.List.{Contains}
 use Rattle.mp_modules.specs.declared.memory.Memory.{Memory}
 use Rattle.mp_records.specs.declared.ids.ModuleId.{ModuleId}
@@ -12,15 +12,13 @@ use Rattle.mp_redo.specs.Redoing.{cell_at}
 
 -- the cell of a module that is live with a state
 abbrev pub live_cell : Cell → Memory → Cell
-live_cell cell memory = record { live = true; touched = cell.touched; memory = memory; stretch = cell.stretch }
+live_cell cell memory = record { live = true; touched = cell.touched; memory = memory }
 
--- cells after some modules have joined and live ones have answered: who was live is live, no stretch has been opened yet, and nobody else
--- is live than before
+-- cells after some modules have joined and live ones have answered: who was live is live, and nobody else is live than before
 pub record HaveAnswered (joined : List ModuleId) (cells after : List Cell) : Type 0 where
   pub places : length after ≡ length cells
   pub live : (m : ℕ) → (cell_at cells m).live ≡ true → (cell_at after m).live ≡ true
   pub touched : (m : ℕ) → (cell_at after m).touched ≡ (cell_at cells m).touched
-  pub stretch : (m : ℕ) → (cell_at after m).stretch ≡ (cell_at cells m).stretch
   pub others : (m : ℕ) → (Contains joined (record { 0 = m }) → ⊥) → (cell_at after m).live ≡ (cell_at cells m).live
 
 -- the module stands, isn't live, and is apart at a time
@@ -34,9 +32,6 @@ pub record IsToJoin (old new : Circuit) (time : ℕ) (cells : List Cell) (m : �
 abbrev pub IsSettled : List ModuleId → List Bool → ℕ → Type 0
 IsSettled listed marks m = is_marked marks m ≡ true → Contains listed (record { 0 = m })
 
--- cells that differ at most in their stretches
-pub record AreLike (cells after : List Cell) : Type 0 where
-  pub places : length after ≡ length cells
-  pub live : (m : ℕ) → (cell_at after m).live ≡ (cell_at cells m).live
-  pub touched : (m : ℕ) → (cell_at after m).touched ≡ (cell_at cells m).touched
-  pub memory : (m : ℕ) → (cell_at after m).memory ≡ (cell_at cells m).memory
+-- these modules stand and are live
+abbrev pub AreLive : Circuit → List ModuleId → List Cell → Type 0
+AreLive new ids cells = (m : ℕ) → Contains ids (record { 0 = m }) → IsSome (module_at new m) × ((cell_at cells m).live ≡ true)

@@ -8,16 +8,13 @@ pub mod Prefixes
 pub mod Answers
 pub mod Drivers
 pub mod Starts
-pub mod Ledgers
 pub mod Endings
 pub mod Tasks
 pub mod Telling
-pub mod Keeping
 pub mod Steps
 pub mod Closing
 pub mod Windows
 pub mod Joins
-pub mod Opened
 pub mod Leaving
 pub mod Courses
 pub mod Looking

@@ -1,5 +1,5 @@
 -- What holds of a re-evaluation between two units.
-use Rattle.std.specs.Prelude.{◌≡◌, ◌≢◌, ◌⊎◌, ℕ, ◌+◌, ◌-◌, ◌<◌, ◌≤◌, Bool, true, false, List, [], Some, None, IsSome, length, slice_index_or, if◌then◌else◌}
+use Rattle.std.specs.Prelude.{◌≡◌, ◌≢◌, ℕ, ◌+◌, ◌-◌, ◌<◌, ◌≤◌, Bool, true, false, List, [], Some, length, slice_index_or, if◌then◌else◌}
 use Rattle.std.specs.List.{Contains}
 use Rattle.mp_modules.specs.Memories.{blank}
 use Rattle.mp_records.specs.declared.ids.ModuleId.{ModuleId}
@@ -12,19 +12,21 @@ use Rattle.mp_model.specs.Reach.{IsTouched}
 use Rattle.mp_evaluation.specs.Checkpoints.{state_before}
 use Rattle.mp_evaluation.specs.Marks.{is_marked, AreListed}
 use Rattle.mp_evaluation.specs.Outcomes.{Outcome, wave_of}
+use Rattle.mp_history.specs.Live.{IsWorking}
 use Rattle.mp_redo.specs.declared.cell.Cell.{Cell}
 use Rattle.mp_redo.specs.declared.line.Line.{Line}
 use Rattle.mp_redo.specs.declared.line.Line.TheVariants.{Old, Own}
-use Rattle.mp_work.specs.declared.stretch.Stretch.{Stretch}
 use Rattle.mp_redo.specs.Lines.{is_told, level_in, line_level, IsOwn}
-use Rattle.mp_work.specs.Stretches.{stretch_at}
-use Rattle.mp_work.specs.Work.{Differs, IsApartIn}
 
 abbrev pub no_cell : Cell
-no_cell = record { live = false; touched = false; memory = blank; stretch = None }
+no_cell = record { live = false; touched = false; memory = blank }
 
 abbrev pub cell_at : List Cell → ℕ → Cell
 cell_at cells m = slice_index_or cells m no_cell
+
+-- the modules whose cells are live
+abbrev pub live_in : List Cell → ℕ → Bool
+live_in cells m = (cell_at cells m).live
 
 abbrev pub line_at : List Line → ℕ → Line
 line_at lines w = slice_index_or lines w Old
@@ -39,10 +41,6 @@ looks_at looks k = slice_index_or looks k []
 -- to which time a module has answered, from one time on: those that are marked are still to answer
 abbrev pub answered_to : ℕ → ℕ → List Bool → ℕ → ℕ
 answered_to from to marks m = if is_marked marks m then from else to
-
--- the module is at work at a time of the block that begins at c
-abbrev pub IsWorking : Circuit → Circuit → ℕ → ℕ → ℕ → Type 0
-IsWorking old new c m t = IsTouched old new m ⊎ Differs old new m c ⊎ IsApartIn old new m c t
 
 -- the cell of a module that has answered all units below t: live just where the module is at work, and then with its state
 pub record IsCellAt (old new : Circuit) (c t m : ℕ) (r : ModuleRecord) (cell : Cell) : Type 0 where
@@ -108,23 +106,6 @@ AreTelling new run t lines looks = (w : ℕ) → IsTelling new run t lines looks
 -- no line is told
 abbrev pub AreUntold : List Line → Type 0
 AreUntold lines = (w : ℕ) → is_told (line_at lines w) ≡ false
-
--- the stretch at a place is this module's, and goes on to the horizon
-pub record IsOpenAt (new : Circuit) (stretches : List Stretch) (m k : ℕ) : Type 0 where
-  pub within : k < length stretches
-  pub own : (stretch_at stretches k).«module».0 ≡ m
-  pub on : (stretch_at stretches k).last_end ≡ new.horizon
-
--- the stretch of a live module that stands is open, one that isn't live has none, and no other stretch goes on
-pub record AreOpen (new : Circuit) (t : ℕ) (cells : List Cell) (stretches : List Stretch) : Type 0 where
-  pub opened : (m : ℕ) → IsSome (module_at new m) → (cell_at cells m).live ≡ true → (k : ℕ) × ((cell_at cells m).stretch ≡ Some k) × IsOpenAt new stretches m k
-  pub closed : (m : ℕ) → (cell_at cells m).live ≡ false → (cell_at cells m).stretch ≡ None
-  pub over : (k : ℕ) → k < length stretches → t < (stretch_at stretches k).last_end →
-      (let m = (stretch_at stretches k).«module».0 in ((cell_at cells m).live ≡ true) × ((cell_at cells m).stretch ≡ Some k) × IsSome (module_at new m))
-
--- the live modules that stand are listed
-abbrev pub IsListed : Circuit → List Cell → List ModuleId → Type 0
-IsListed new cells live = (m : ℕ) → IsSome (module_at new m) → (cell_at cells m).live ≡ true → Contains live (record { 0 = m })
 
 -- before the unit t, in the block that begins at c
 pub record IsBefore (old new : Circuit) (run : Outcome) (c t : ℕ) (cells : List Cell) (lines : List Line) (looks : List (List ModuleId)) : Type 0 where

@@ -13,7 +13,7 @@ use Rattle.mp_evaluation.specs.Outcomes.{Outcome}
 use Rattle.mp_redo.specs.declared.join.Join.{Join}
 use Rattle.mp_redo.specs.declared.line.Line.{Line}
 use Rattle.mp_redo.specs.Answers.{IsHeardBy}
-use Rattle.mp_redo.specs.Ledgers.{state_in}
+use Rattle.mp_history.specs.Ledgers.{state_in}
 
 -- the module stands, and below a time the lines give what it hears
 pub record CanAnswer (new : Circuit) (run : Outcome) (lines : List Line) (to m : ℕ) : Type 0 where

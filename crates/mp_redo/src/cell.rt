@@ -1,18 +1,17 @@
 //! A module while a change of its netlist is followed.
 use mp_modules::Memory;
-use mp_netlist::ModuleId;
+use mp_netlist::{ModuleId, Netlist};
 
-/// Whether the module is live, that is evaluated again, and whether its record has changed. Of a live one its state now, and the place
-/// of its stretch of work once this has been opened.
+/// Whether the module is live, that is evaluated again, and whether its record has changed. Of a live one its state now.
 #[derive(Clone, Copy)]
 pub(crate) struct Cell {
     pub live: bool,
     pub touched: bool,
     pub memory: Memory,
-    pub stretch: Option<usize>,
 }
 
-ghost use Rattle.std.specs.Prelude.{◌≡◌, ◌<◌, length, slice_set};
+ghost use Rattle.std.specs.Prelude.{◌≡◌, ◌↔◌, ◌<◌, true, IsSome, IsTrue, length, slice_set};
+ghost use Rattle.mp_netlist.specs.Circuit.{module_at};
 ghost use Rattle.mp_redo.specs.Joins.{live_cell};
 ghost use Rattle.mp_redo.specs.Redoing.{cell_at};
 
@@ -22,6 +21,16 @@ pub(crate) fn is_live(cells: &[Cell], id: ModuleId) -> bool
 {
     match cells.get(id.0 as usize) {
         Some(cell) => cell.live,
+        None => false,
+    }
+}
+
+/// Whether a module stands and is live.
+pub(crate) fn is_live_part(netlist: &Netlist, cells: &[Cell], id: ModuleId) -> bool
+    ensures { IsTrue result ↔ (IsSome (module_at netlist.now id.0) × ((cell_at cells.now id.0).live ≡ true)) }
+{
+    match netlist.module(id) {
+        Some(_) => is_live(cells, id),
         None => false,
     }
 }

@@ -1,32 +1,29 @@
 //! A re-evaluation on its way from window to window.
-use crate::beginning::first_cells;
+use crate::beginning::{first_cells, touched_marks};
 use crate::border::cross_border;
 use crate::cell::Cell;
 use crate::change::Change;
-use crate::first_course::{FirstModules, FirstWires, first_modules, first_wires};
-use crate::joined::open_joined;
-use crate::ledger::Ledger;
+use crate::first_course::{FirstWires, first_wires};
 use crate::line::Line;
 use crate::ring::Ring;
 use crate::unit::{pass_gate, run_unit};
+use mp_history::History;
 use mp_netlist::{ModuleId, checkpoint_units};
 use mp_phase::{Crew, Gate};
-use mp_work::{Stretch, block_of, window_end};
+use mp_work::{block_of, window_end};
 use std::alloc::{AllocError, Global};
 use std::sync::Wait;
 use std::thread::Threads;
 
-/// The cells and ledgers of all modules and the lines of all wires, by number, who looks at the inputs when, and the stretches of work so
-/// far. Besides the modules that are live, those that are due in a unit, which are marked until they have answered, those of them that
+/// The cells of all modules and the lines of all wires, by number, who looks at the inputs when, and what is kept on the way, with the
+/// modules that are live. Besides these the modules that are due in a unit, which are marked until they have answered, those of them that
 /// join, those of them that look again, and those that have joined in a window.
 #[derive(Drop)]
 pub(crate) struct Course {
     pub cells: Vec<Cell>,
     pub lines: Vec<Line>,
     pub looks: Ring,
-    pub ledgers: Vec<Ledger>,
-    pub stretches: Vec<Stretch>,
-    pub live: Vec<ModuleId>,
+    pub history: History,
     pub due: Vec<ModuleId>,
     pub joining: Vec<ModuleId>,
     pub looking: Vec<ModuleId>,
@@ -37,11 +34,10 @@ pub(crate) struct Course {
 impl Course {
     ghost use Rattle.std.specs.Prelude.{◌≡◌, ℕ, ◌+◌, ◌-◌, ◌<◌, ◌≤◌, [], false, IfOk, OnOk, length};
     ghost use Rattle.mp_netlist.specs.Delays.{least_delay};
-    ghost use Rattle.mp_evaluation.specs.Checkpoints.{IsBorder};
     ghost use Rattle.mp_evaluation.specs.Marks.{is_marked};
     ghost use Rattle.mp_redo.specs.Changes.{IsChange};
     ghost use Rattle.mp_redo.specs.Courses.{last_block, IsCourse};
-    ghost use Rattle.mp_redo.specs.Joins.{HaveAnswered};
+    ghost use Rattle.mp_redo.specs.Joins.{HaveAnswered, AreLive};
     ghost use Rattle.mp_redo.specs.Redoing.{looks_at, IsBefore};
     ghost use Rattle.mp_redo.specs.Windows.{IsShort, IsWindows};
     ghost use Rattle.mp_work.specs.Work.{block_of, window_end, window_of, IsWindow};
@@ -51,24 +47,17 @@ impl Course {
         requires { IsChange change.now }
         ensures { IfOk result (λ course. IsCourse change.now.old.now change.now.new.now change.now.run.now 0 0 course) }
     {
-        let cells = first_cells(alloc, change.old, change.new)?;
+        let touched = touched_marks(alloc, change.old, change.new)?;
+        let cells = first_cells(alloc, change.new, touched.as_slice())?;
         let wires = first_wires(alloc, change, cells.as_slice())?;
-        let modules = first_modules(alloc, change.new, cells)?;
+        let history = History::first(alloc, change.new, touched.as_slice())?;
         let marks = unmarked(alloc, change.new.module_slots() as usize)?;
         let FirstWires { lines, looks } = wires;
-        let FirstModules {
-            cells,
-            ledgers,
-            stretches,
-            live,
-        } = modules;
         Ok(Course {
             cells,
             lines,
             looks,
-            ledgers,
-            stretches,
-            live,
+            history,
             due: Vec::new(alloc),
             joining: Vec::new(alloc),
             looking: Vec::new(alloc),
@@ -121,7 +110,7 @@ impl Course {
         let horizon = change.new.horizon();
         let to = self.pass_on(rt, alloc, crew, gate, change, least, from)?;
         if to < horizon && to.is_multiple_of(checkpoint_units(horizon)) {
-            self.cross(change, to)?;
+            cross_border(change, to, self)?;
         }
         Ok(to)
     }
@@ -168,7 +157,7 @@ impl Course {
         ensures room { result ≤ from + length self.now.looks.items }
         ensures idle { (k : ℕ) → from + k < result → looks_at self.now.looks.items k ≡ [] }
     {
-        if !self.live.is_empty() {
+        if !self.history.live().is_empty() {
             return from;
         }
         let block = checkpoint_units(horizon);
@@ -200,20 +189,10 @@ impl Course {
         ensures { OnOk result (IsCourse change.now.old.now change.now.new.now change.now.run.now (block_of change.now.new.now.horizon from) to self.new) }
     {
         let block = block_of(change.new.horizon(), from);
-        pass_gate(rt, gate, self.live.as_slice(), from, to);
+        pass_gate(rt, gate, self.history.live(), from, to);
         self.run_units(rt, alloc, crew, gate, change, block, from, to)?;
-        open_joined(
-            alloc,
-            change.run,
-            change.new,
-            block,
-            to,
-            self.joined.as_slice(),
-            &mut self.cells,
-            &mut self.ledgers,
-            &mut self.stretches,
-            &mut self.live,
-        )?;
+        self.history
+            .open_joined(change.run, change.new, block, to, self.joined.as_slice())?;
         Ok(())
     }
 
@@ -241,9 +220,8 @@ impl Course {
         ensures free { OnOk result ((m : ℕ) → is_marked self.new.marks.items m ≡ false) }
         ensures cells { OnOk result (HaveAnswered self.new.joined.items self.old.cells.items self.new.cells.items) }
         ensures before { OnOk result (IsBefore change.now.old.now change.now.new.now change.now.run.now block to self.new.cells.items self.new.lines.items self.new.looks.items) }
-        ensures ledgers { self.new.ledgers ≡ self.old.ledgers }
-        ensures stretches { self.new.stretches ≡ self.old.stretches }
-        ensures live { self.new.live ≡ self.old.live }
+        ensures joined { OnOk result (AreLive change.now.new.now self.new.joined.items self.new.cells.items) }
+        ensures history { self.new.history ≡ self.old.history }
     {
         self.joined.clear();
         let mut time = pass_idle(&mut self.looks, from, to);
@@ -268,30 +246,6 @@ impl Course {
             )?;
             time = pass_idle(&mut self.looks, time + 1, to);
         }
-        Ok(())
-    }
-
-    /// From the end of a block to the next one.
-    fn cross(&mut self, change: &Change<'_>, time: u32) -> Result<(), AllocError>
-        requires change { IsChange change.now }
-        requires border { IsBorder change.now.new.now.horizon time }
-        requires later { 0 < time }
-        requires within { time < change.now.new.now.horizon }
-        requires before { IsCourse change.now.old.now change.now.new.now change.now.run.now (block_of change.now.new.now.horizon (time - 1)) time self.old }
-        ensures { OnOk result (IsCourse change.now.old.now change.now.new.now change.now.run.now time time self.new) }
-    {
-        let block = block_of(change.new.horizon(), time - 1);
-        cross_border(
-            change,
-            block,
-            time,
-            &mut self.cells,
-            &mut self.lines,
-            &mut self.looks,
-            &mut self.ledgers,
-            &mut self.stretches,
-            &mut self.live,
-        )?;
         Ok(())
     }
 }

@@ -4,10 +4,8 @@ ghost use Rattle.std.specs.List.{Contains};
 ghost use Rattle.mp_evaluation.specs.Marks.{is_marked};
 ghost use Rattle.mp_model.specs.Levels.{built};
 ghost use Rattle.mp_netlist.specs.Circuit.{module_at};
-ghost use Rattle.mp_netlist.specs.Slots.{slot_at};
 ghost use Rattle.mp_redo.specs.Changes.{IsChange};
 ghost use Rattle.mp_redo.specs.Joins.{HaveAnswered, IsSettled, IsToJoin, live_cell};
-ghost use Rattle.mp_redo.specs.Ledgers.{state_in};
 ghost use Rattle.mp_redo.specs.Looking.{StillHear, WillHear};
 ghost use Rattle.mp_redo.specs.Redoing.{cell_at, IsDuring};
 ghost use Rattle.mp_redo.specs.Windows.{IsShort};
@@ -19,21 +17,9 @@ use crate::line::Line;
 use crate::parts::part_at;
 use crate::ring::Ring;
 use crate::stepping::{give_outputs, go_on};
-use mp_evaluation::Run;
-use mp_modules::Memory;
 use mp_netlist::{ModuleId, ModuleRecord};
 use mp_storage::AnyModule;
 use std::alloc::AllocError;
-
-/// The state of a module that a run kept for a time, or a blank one.
-pub(crate) fn old_state(run: &Run, id: ModuleId, time: u32) -> Memory
-    ensures { result ≡ state_in (slot_at run.now.kept id.0) time }
-{
-    match run.checkpoints(id) {
-        Some(kept) => kept.kept_at(time),
-        None => Memory::with_one_output(&[], 0),
-    }
-}
 
 /// Whether a module has a mark.
 pub(crate) fn has_mark(marks: &[bool], id: ModuleId) -> bool

@@ -7,13 +7,13 @@ ghost use Rattle.mp_netlist.specs.Circuit.{Circuit, wire_at, module_at};
 ghost use Rattle.mp_model.specs.Waves.{level, slot_wave};
 ghost use Rattle.mp_evaluation.specs.Outcomes.{AreSlots, wave_of};
 ghost use Rattle.mp_evaluation.specs.Runs.{AreCheckpoints, IsRun, end_memory};
-ghost use Rattle.mp_redo.specs.Endings.{IsEndAt, IsWhole, IsOver, HasCheckpoints};
-ghost use Rattle.mp_redo.specs.Ledgers.{ledger_at};
+ghost use Rattle.mp_redo.specs.Changes.{IsChange};
+ghost use Rattle.mp_redo.specs.Endings.{IsEndAt, IsOver};
 ghost use Rattle.mp_redo.specs.Lines.{line_level};
 ghost use Rattle.mp_redo.specs.Redoing.{cell_at, level_at};
 
 use crate::cell::Cell;
-use crate::ledger::Ledger;
+use crate::change::Change;
 use crate::line::Line;
 use mp_evaluation::{Checkpoints, Run};
 use mp_model::Waves;
@@ -23,24 +23,22 @@ use mp_wave::Wave;
 use std::alloc::{AllocError, Global};
 use std::sync::Arc;
 
-/// The run of the new netlist. It shares with the old run what has stayed the old run's.
+/// The run of the new netlist, of whose modules these states are kept. It shares with the old run what has stayed the old run's.
 pub(crate) fn finished(
     alloc: Global,
-    old: &Netlist,
-    run: &Run,
-    new: &Netlist,
+    change: &Change<'_>,
     cells: &[Cell],
     lines: Vec<Line>,
-    ledgers: Vec<Ledger>,
+    kept: Vec<Option<Arc<Checkpoints, Global>>>,
 ) -> Result<Run, AllocError>
-    requires horizon { new.now.horizon ≡ old.now.horizon }
-    requires run { IsRun old.now run.now }
-    requires over { IsOver new.now run.now cells.now lines.items ledgers.items }
-    ensures { IfOk result (λ found. IsRun new.now found) }
+    requires change { IsChange change.now }
+    requires over { IsOver change.now.new.now change.now.run.now cells.now lines.items }
+    requires kept { AreCheckpoints change.now.new.now (map (option_map arc_value) kept.items) }
+    ensures { IfOk result (λ found. IsRun change.now.new.now found) }
 {
-    let waves = finished_waves(alloc, old, run, new, lines)?;
-    let ends = finished_ends(alloc, run, new, cells)?;
-    let kept = finished_ledgers(alloc, run, new, ledgers)?;
+    let new = change.new;
+    let waves = finished_waves(alloc, change.old, change.run, new, lines)?;
+    let ends = finished_ends(alloc, change.run, new, cells)?;
     Ok(Run::new(new.horizon(), Waves::new(waves), ends, kept))
 }
 
@@ -153,42 +151,5 @@ fn live_memory(cells: &[Cell], id: ModuleId) -> Option<Memory>
     match cells.get(id.0 as usize) {
         Some(cell) if cell.live => Some(cell.memory),
         _ => None,
-    }
-}
-
-fn finished_ledgers(
-    alloc: Global,
-    run: &Run,
-    new: &Netlist,
-    ledgers: Vec<Ledger>,
-) -> Result<Vec<Option<Arc<Checkpoints, Global>>>, AllocError>
-    requires places { length ledgers.items ≡ length new.now.modules }
-    requires kept { (m : ℕ) (r : Part) → module_at new.now m ≡ Some r → IsWhole new.now run.now m r (ledger_at ledgers.items m) }
-    ensures { IfOk result (λ found. AreCheckpoints new.now (map (option_map arc_value) found.items)) }
-{
-    let mut left = ledgers;
-    let mut found = Vec::new(alloc);
-    for m in 0..new.module_slots() {
-        let ledger = std::mem::replace(&mut left[m as usize], Ledger::Old);
-        found.push(finished_ledger(alloc, run, new, ModuleId(m), ledger)?)?;
-    }
-    Ok(found)
-}
-
-/// The states that are kept of a module that stands.
-fn finished_ledger(
-    alloc: Global,
-    run: &Run,
-    new: &Netlist,
-    id: ModuleId,
-    ledger: Ledger,
-) -> Result<Option<Arc<Checkpoints, Global>>, AllocError>
-    requires { (r : Part) → module_at new.now id.0 ≡ Some r → IsWhole new.now run.now id.0 r ledger }
-    ensures { IfOk result (λ found. HasCheckpoints new.now id.0 (option_map arc_value found)) }
-{
-    let end = new.horizon();
-    match new.module(id) {
-        Some(_) => Ok(Some(ledger.into_shared(alloc, run, id, end)?)),
-        None => Ok(None),
     }
 }

@@ -1,24 +1,15 @@
-//! The wires and the modules of a re-evaluation before time 0.
-ghost use Rattle.std.specs.Prelude.{◌≡◌, ℕ, ◌≤◌, None, IfOk, length};
-ghost use Rattle.mp_netlist.specs.Circuit.{Circuit, IsCircuit};
-ghost use Rattle.mp_evaluation.specs.Outcomes.{Outcome};
+//! The wires of a re-evaluation before time 0.
+ghost use Rattle.std.specs.Prelude.{ℕ, ◌≤◌, IfOk, length};
 ghost use Rattle.mp_redo.specs.Changes.{IsChange};
-ghost use Rattle.mp_redo.specs.Joins.{AreLike};
-ghost use Rattle.mp_redo.specs.Keeping.{AreLedgers, AreStatesAt};
 ghost use Rattle.mp_redo.specs.Windows.{listed_units};
-ghost use Rattle.mp_redo.specs.Redoing.{cell_at, AreCells, AreOpen, IsBefore, IsListed};
-ghost use Rattle.mp_work.specs.Stretches.{AreStretchesTo};
+ghost use Rattle.mp_redo.specs.Redoing.{AreCells, IsBefore};
 
-use crate::beginning::{first_looks, open_first};
+use crate::beginning::first_looks;
 use crate::cell::Cell;
 use crate::change::Change;
-use crate::keeping::first_ledgers;
-use crate::ledger::Ledger;
 use crate::line::Line;
 use crate::ring::Ring;
 use crate::starting::first_lines;
-use mp_netlist::{ModuleId, Netlist};
-use mp_work::Stretch;
 use std::alloc::{AllocError, Global};
 
 /// The line of each wire, and who looks at the inputs when.
@@ -26,15 +17,6 @@ use std::alloc::{AllocError, Global};
 pub(crate) struct FirstWires {
     pub lines: Vec<Line>,
     pub looks: Ring,
-}
-
-/// The cell and the ledger of each module, the stretches of work, and the modules that are live.
-#[derive(Drop)]
-pub(crate) struct FirstModules {
-    pub cells: Vec<Cell>,
-    pub ledgers: Vec<Ledger>,
-    pub stretches: Vec<Stretch>,
-    pub live: Vec<ModuleId>,
 }
 
 /// The lines of all wires, where these are the cells, and who looks first.
@@ -52,32 +34,4 @@ pub(crate) fn first_wires(
     let lines = first_lines(alloc, change.old, new, cells)?;
     let looks = first_looks(alloc, new, change.readers, cells, lines.as_slice())?;
     Ok(FirstWires { lines, looks })
-}
-
-/// The modules with these cells, of which the live ones have a stretch each.
-pub(crate) fn first_modules(
-    alloc: Global,
-    new: &Netlist,
-    cells: Vec<Cell>,
-) -> Result<FirstModules, AllocError>
-    requires form { IsCircuit new.now }
-    requires places { length cells.items ≡ length new.now.modules }
-    requires unopened { (m : ℕ) → (cell_at cells.items m).stretch ≡ None }
-    ensures like { IfOk result (λ modules. AreLike cells.items modules.cells.items) }
-    ensures kept { IfOk result (λ modules. (run : Outcome) → AreStatesAt new.now run 0 cells.items → AreLedgers new.now run 0 modules.cells.items modules.ledgers.items) }
-    ensures stretches { IfOk result (λ modules. (old : Circuit) → AreCells old new.now 0 (λ m. 0) cells.items
-        → AreStretchesTo old new.now 0 modules.stretches.items × AreOpen new.now 0 modules.cells.items modules.stretches.items) }
-    ensures listed { IfOk result (λ modules. IsListed new.now modules.cells.items modules.live.items) }
-{
-    let mut cells = cells;
-    let ledgers = first_ledgers(alloc, cells.as_slice(), new.horizon())?;
-    let mut stretches = Vec::new(alloc);
-    let mut live = Vec::new(alloc);
-    open_first(new, &mut cells, &mut stretches, &mut live)?;
-    Ok(FirstModules {
-        cells,
-        ledgers,
-        stretches,
-        live,
-    })
 }

@@ -10,14 +10,14 @@ use crate::cell::Cell;
 use crate::change::Change;
 use crate::course::Course;
 use crate::finishing::finished;
-use crate::ledger::Ledger;
 use crate::line::Line;
 use crate::parts::parts_of;
 use mp_depend::Readers;
 use mp_evaluation::Run;
+use mp_history::{Finished, History};
 use mp_netlist::Netlist;
 use mp_phase::{Crew, Gate};
-use mp_work::{Stretch, Work};
+use mp_work::Work;
 use std::alloc::{AllocError, Global};
 use std::sync::Wait;
 use std::thread::Threads;
@@ -82,44 +82,33 @@ fn outcome(alloc: Global, change: &Change<'_>, course: Course) -> Result<(Run, W
     let Remains {
         cells,
         lines,
-        ledgers,
-        stretches,
+        history,
     } = remains_of(course);
-    let found = finished(
-        alloc,
-        change.old,
-        change.run,
-        change.new,
-        cells.as_slice(),
-        lines,
-        ledgers,
-    )?;
+    let Finished { kept, stretches } = history.finish(alloc, change.run, change.new)?;
+    let found = finished(alloc, change, cells.as_slice(), lines, kept)?;
     Ok((found, Work::of_change(change.old, change.new, stretches)))
 }
 
-/// What a re-evaluation leaves: the cell and the ledger of each module, the line of each wire, and the stretches of work.
+/// What a re-evaluation leaves: the cell of each module, the line of each wire, and what was kept on the way.
 #[derive(Drop)]
 struct Remains {
     cells: Vec<Cell>,
     lines: Vec<Line>,
-    ledgers: Vec<Ledger>,
-    stretches: Vec<Stretch>,
+    history: History,
 }
 
 fn remains_of(course: Course) -> Remains
-    ensures { result ≡ record { cells = course.cells; lines = course.lines; ledgers = course.ledgers; stretches = course.stretches } }
+    ensures { result ≡ record { cells = course.cells; lines = course.lines; history = course.history } }
 {
     let Course {
         cells,
         lines,
-        ledgers,
-        stretches,
+        history,
         ..
     } = course;
     Remains {
         cells,
         lines,
-        ledgers,
-        stretches,
+        history,
     }
 }

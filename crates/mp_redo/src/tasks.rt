@@ -6,10 +6,10 @@ ghost use Rattle.mp_redo.specs.Changes.{IsChange};
 ghost use Rattle.mp_redo.specs.Tasks.{CanAnswer, IsDone, IsTaskOf};
 
 use crate::change::Change;
-use crate::due::old_state;
 use crate::hearing::pieces_of;
 use crate::join::Join;
 use crate::line::Line;
+use mp_history::old_state;
 use mp_model::built;
 use mp_netlist::ModuleId;
 use mp_phase::{Crew, Gate, run_here};

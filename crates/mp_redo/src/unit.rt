@@ -3,7 +3,7 @@ ghost use Rattle.std.specs.Prelude.{◌≡◌, ℕ, ◌+◌, ◌<◌, false, [],
 ghost use Rattle.std.specs.List.{Contains};
 ghost use Rattle.mp_evaluation.specs.Marks.{is_marked};
 ghost use Rattle.mp_redo.specs.Changes.{IsChange};
-ghost use Rattle.mp_redo.specs.Joins.{HaveAnswered};
+ghost use Rattle.mp_redo.specs.Joins.{HaveAnswered, AreLive};
 ghost use Rattle.mp_redo.specs.Looking.{WillHear};
 ghost use Rattle.mp_redo.specs.Redoing.{IsBefore, IsDuring};
 ghost use Rattle.mp_redo.specs.Windows.{IsShort};
@@ -56,6 +56,7 @@ fn answer_due<R: Threads + Wait + Sync, G: Gate + Sync>(
     ensures marks { OnOk result (length marks.new.items ≡ length marks.old.items) }
     ensures free { OnOk result ((m : ℕ) → is_marked marks.new.items m ≡ false) }
     ensures cells { OnOk result (HaveAnswered joining.new.items cells.old.items cells.new.items) }
+    ensures alive { OnOk result (AreLive change.now.new.now joining.new.items cells.new.items) }
     ensures hear { OnOk result ((m : ℕ) → Contains due.now (record { 0 = m }) → WillHear change.now.new.now change.now.run.now (time + 1) looking.new.items cells.new.items lines.new.items looks.new.items m) }
     ensures during { OnOk result (IsDuring change.now.old.now change.now.new.now change.now.run.now block time (time + 1) due.now marks.new.items cells.new.items lines.new.items looks.new.items) }
 {
@@ -113,6 +114,7 @@ pub(crate) fn run_unit<R: Threads + Wait + Sync, G: Gate + Sync>(
     ensures free { OnOk result ((m : ℕ) → is_marked marks.new.items m ≡ false) }
     ensures joined { OnOk result ((m : ℕ) → Contains joined.old.items (record { 0 = m }) → Contains joined.new.items (record { 0 = m })) }
     ensures cells { OnOk result (HaveAnswered joined.new.items cells.old.items cells.new.items) }
+    ensures alive { OnOk result (AreLive change.now.new.now joined.old.items cells.old.items → AreLive change.now.new.now joined.new.items cells.new.items) }
     ensures before { OnOk result (IsBefore change.now.old.now change.now.new.now change.now.run.now block (time + 1) cells.new.items lines.new.items looks.new.items) }
 {
     due.clear();

@@ -1,4 +1,4 @@
-use Rattle.std.proofs.Common.{ℕ, sym, subst}
+use Rattle.std.proofs.Common.{sym, subst}
 use Rattle.mp_evaluation.specs.Outcomes.{Outcome}
 use Rattle.mp_netlist.specs.Circuit.{Circuit}
 use Rattle.mp_redo.specs.Redoing.{AreCells, AreLines, AreUntold, IsBefore}

@@ -9,7 +9,7 @@ use Rattle.mp_model.proofs.BuiltLemmas.{width_of_module}
 use Rattle.mp_response.specs.Pieces.{levels_at}
 use Rattle.mp_response.specs.Span.{IsSpan}
 use Rattle.mp_redo.specs.Answers.{IsHeardBy}
-use Rattle.mp_redo.specs.Ledgers.{state_in}
+use Rattle.mp_history.specs.Ledgers.{state_in}
 use Rattle.mp_redo.specs.Redoing.{level_at}
 use Rattle.mp_redo.proofs.TaskLemmas.{task_gives}
 use Rattle.mp_redo.proofs.tasks.task_of.Goals as goal

@@ -3,7 +3,7 @@ use Rattle.std.specs.List.{Contains}
 use Rattle.mp_records.specs.declared.ids.ModuleId.{ModuleId}
 use Rattle.mp_evaluation.proofs.MarkLemmas.{none_in}
 use Rattle.mp_redo.proofs.LookingLemmas.{still_hear}
-use Rattle.mp_redo.proofs.UnitLemmas.{answered_then}
+use Rattle.mp_redo.proofs.UnitLemmas.{answered_then, have_joined}
 use Rattle.mp_redo.proofs.unit.answer_due.Goals as goal
 
 pub join_all-requires-clause-joins : goal.join_all-requires-clause-joins
@@ -25,3 +25,10 @@ returns-clause-cells g c =
     (λ m is. absurd (none_in (let id : ModuleId = record { 0 = m } in id) is))
     (λ m is. subst (λ xs. Contains xs (record { 0 = m })) c.as_slice.ensures.value is)
     c.in_ok-answer_or_list.ensures.cells c.in_ok-join_all.ensures.cells
+
+pub returns-clause-alive : goal.returns-clause-alive
+returns-clause-alive g c =
+    let change = c.args.change.now in
+    let done = c.in_ok-join_all.ensures in
+    have_joined change.old.now change.new.now c.args.block c.args.time c.answer_or_list.new.joining.items c.join_all.new.marks.items c.answer_or_list.new.cells.items c.join_all.new.cells.items
+    c.requires.unit.block done.free c.in_ok-answer_or_list.ensures.joins done.during.modules

@@ -1,11 +1,13 @@
 use Rattle.std.proofs.Common.{◌+◌, true, refl, sym, subst}
 use Rattle.std.specs.List.{Contains}
 use Rattle.std.proofs.lemmas.List.Elements.{Contains-append_right}
+use Rattle.mp_redo.specs.Joins.{AreLive}
 use Rattle.mp_redo.specs.Redoing.{cell_at, AreTelling, IsListening, IsDuring}
 use Rattle.mp_redo.proofs.AgainLemmas.{listening_kept}
 use Rattle.mp_redo.proofs.BeginLemmas.{window_begins}
 use Rattle.mp_redo.proofs.DueLemmas.{answered_among}
 use Rattle.mp_redo.proofs.LookingLemmas.{all_listen}
+use Rattle.mp_redo.proofs.UnitLemmas.{more_live}
 use Rattle.mp_redo.proofs.WindowEndLemmas.{listed_none, window_ends}
 use Rattle.mp_redo.proofs.unit.run_unit.Goals as goal
 
@@ -62,3 +64,12 @@ returns-clause-before g c =
     (subst (λ lines. IsListening new run (cell_at c.as_slice-3.result.now m).live (time + 1) lines lists m) c.as_slice-4.ensures.value
     (done.listening m (subst (λ xs. Contains xs (record { 0 = m })) (sym c.as_slice-5.ensures.value) is))))
     (c.in_ok-answer_due.ensures.hear m has))
+
+pub returns-clause-alive : goal.returns-clause-alive
+returns-clause-alive g c = λ were.
+    let new = c.args.change.now.new.now in
+    let cells = c.answer_due.new.cells.items in
+    let done = c.in_ok-answer_due.ensures in
+    subst (λ xs. AreLive new xs cells) (sym c.in_ok-extend_from_slice.ensures.items)
+    (more_live new c.args.joined.now.items c.as_slice-2.result.now c.args.cells.now.items cells done.cells.live were
+    (subst (λ xs. AreLive new xs cells) (sym c.as_slice-2.ensures.value) done.alive))

@@ -19,14 +19,11 @@ returns-then-from-idle_end-clause-before g c =
     let units = units_positive change.new.now.horizon in
     let after = c.move_up.new.self.items in
     let up = c.move_up.ensures in
-    let done = idle_passed change.old.now change.new.now form.old_form form.form form.revision change.run.now form.run _ now.cells.items now.lines.items now.stretches.items now.marks.items is.marks is.free
-    from to c.requires.window.begins refl (idle.windows c.if-from-idle_end.true) looks after (omega (arith, below, room, units)) up.places idle.idle up.moved is.before is.stretches is.opened in
+    let done = idle_passed change.old.now change.new.now form.old_form form.form form.revision change.run.now form.run _ now.cells.items now.lines.items now.history now.marks.items is.marks is.free
+    from to c.requires.window.begins refl (idle.windows c.if-from-idle_end.true) looks after (omega (arith, below, room, units)) up.places idle.idle up.moved is.before is.history in
     record {
       before = done.0;
-      kept = is.kept;
-      stretches = done.1;
-      opened = done.2;
-      listed = is.listed;
+      history = done.1;
       room = let places = up.places in omega (arith, room, places);
       marks = is.marks;
       free = is.free;

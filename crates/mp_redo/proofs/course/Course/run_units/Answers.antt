@@ -1,8 +1,9 @@
-use Rattle.std.proofs.Common.{◌≡◌, ◌+◌, refl, subst, arith, ◌∙◌}
+use Rattle.std.proofs.Common.{◌≡◌, ◌+◌, refl, sym, subst, arith, ◌∙◌}
+use Rattle.mp_redo.specs.Joins.{AreLive}
 use Rattle.mp_redo.specs.Redoing.{IsBefore}
 use Rattle.mp_redo.proofs.DueLemmas.{answered_none}
 use Rattle.mp_redo.proofs.IdleLemmas.{units_passed}
-use Rattle.mp_redo.proofs.UnitLemmas.{answered_then}
+use Rattle.mp_redo.proofs.UnitLemmas.{answered_then, none_live}
 use Rattle.mp_redo.proofs.course.Course.run_units.Goals as goal
 
 pub loop-time-init : goal.loop-time-init
@@ -21,9 +22,8 @@ loop-time-init g c =
       cells = answered_none c.clear.new.self.items now.cells.items;
       before = units_passed change.old.now change.new.now form.old_form form.form form.revision change.run.now form.run c.args.block now.cells.items now.lines.items now.marks.items c.requires.marks c.requires.free
           c.args.from c.args.to c.requires.window c.args.from c.pass_idle-time.result (omega arith) idle.low idle.within now.looks.items c.pass_idle-time.new.looks.items some idle.places idle.idle idle.moved c.requires.before;
-      ledgers = refl;
-      stretches = refl;
-      live = refl;
+      joined = subst (λ xs. AreLive change.new.now xs now.cells.items) (sym c.clear.ensures.items) (none_live change.new.now now.cells.items);
+      history = refl;
     }
 
 pub loop-time-smaller : goal.loop-time-smaller
@@ -56,9 +56,8 @@ loop-time-preserved g c =
       cells = answered_then c.loop-time.self.joined.items joined joined c.args.self.now.cells.items c.loop-time.self.cells.items now.cells.items unit.joined (λ m is. is) so_far.cells unit.cells;
       before = units_passed change.old.now change.new.now form.old_form form.form form.revision change.run.now form.run c.args.block now.cells.items now.lines.items now.marks.items (unit.marks ∙ so_far.marks ∙ c.requires.marks) unit.free
           c.args.from c.args.to c.requires.window (c.loop-time.time + 1) c.pass_idle-time-in-loop-time.result (omega (arith, low)) idle.low idle.within now.looks.items c.pass_idle-time-in-loop-time.new.looks.items (omega (arith, some, places, next)) idle.places idle.idle idle.moved unit.before;
-      ledgers = so_far.ledgers;
-      stretches = so_far.stretches;
-      live = so_far.live;
+      joined = unit.alive so_far.joined;
+      history = so_far.history;
     }
 
 pub returns-clause-before : goal.returns-clause-before

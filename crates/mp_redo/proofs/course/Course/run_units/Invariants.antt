@@ -1,6 +1,6 @@
 use Rattle.std.proofs.Common.{◌≡◌, ℕ, ◌-◌, ◌≤◌, false, length}
 use Rattle.mp_evaluation.specs.Marks.{is_marked}
-use Rattle.mp_redo.specs.Joins.{HaveAnswered}
+use Rattle.mp_redo.specs.Joins.{HaveAnswered, AreLive}
 use Rattle.mp_redo.specs.Redoing.{IsBefore}
 use Rattle.mp_redo.proofs.course.Course.run_units.Given as goal
 
@@ -14,9 +14,8 @@ invariant-loop-time g l = record {
   free : (m : ℕ) → is_marked l.self.marks.items m ≡ false;
   cells : HaveAnswered l.self.joined.items l.fn.self.cells.items l.self.cells.items;
   before : IsBefore l.change.old.now l.change.new.now l.change.run.now l.block l.time l.self.cells.items l.self.lines.items l.self.looks.items;
-  ledgers : l.self.ledgers ≡ l.fn.self.ledgers;
-  stretches : l.self.stretches ≡ l.fn.self.stretches;
-  live : l.self.live ≡ l.fn.self.live;
+  joined : AreLive l.change.new.now l.self.joined.items l.self.cells.items;
+  history : l.self.history ≡ l.fn.self.history;
 }
 
 abbrev pub decreases-loop-time : goal.decreases-loop-time
