@@ -1,6 +1,6 @@
 -- The lines of an input up to a division.
 use Rattle.std.specs.Prelude.{◌≡◌, ◌+◌, ◌-◌, ◌<◌, ◌≤◌, ◌∷◌, ◌++◌}
-use Rattle.mp_words.proofs.Names.{ℕ, true, false, nat_lt, List, [], length, get_or, take, drop, All, refl, sym, ap, subst, ◌∙◌, append_assoc, length-drop, arith, before_first, after_first, position_or_len, cases_lt, eqb-true, lt-ltb, le-ltb, or_left, or_right, drop_all, take_all, take_more, take-append-drop, length-take-le, All-nil, All-push, fails_before_first, passes_at_first, take-add, get_or-take, take-length, list_any-append, list_any_none, is_division, first_part, later_parts, are_divided, is_line_feed, lines_of}
+use Rattle.mp_words.proofs.Names.{ℕ, true, false, nat_lt, List, [], length, take, drop, All, refl, sym, ap, subst, ◌∙◌, append_assoc, length-drop, arith, before_first, after_first, position_or_len, cases_lt, eqb-true, lt-ltb, le-ltb, or_left, or_right, drop_all, take_all, take_more, take-append-drop, length-take-le, All-nil, All-push, fails_before_first, passes_at_first, take-add, get_or-take, take-length, list_any-append, list_any_none, is_division, first_part, later_parts, are_divided, is_line_feed, lines_of, take_rest}
 use Rattle.mp_words.proofs.DividedLemmas.{before_first-append, after_first-append, before_first-none, after_first-none}
 use Rattle.mp_words.proofs.LineLemmas.{lines_of-cons, lines_of-line}
 
@@ -64,16 +64,9 @@ module _ (input : List ℕ) (at : ℕ) where
 
     by_feed : feed < length rest → Next
     by_feed less =
-        let size : length others ≡ length rest - (feed + 1) = length-drop (feed + 1) rest in
-        let next : length input - length others ≡ at + (feed + 1) = omega (arith, long, size, inside, less) in
-        let ten : get_or rest feed 0 ≡ 10 = eqb-true _ _ (passes_at_first is_line_feed rest 0 less) in
-        let chunk : take (feed + 1) rest ≡ line ++ 10 ∷ [] = take_more rest feed 0 less ∙ ap (λ b. line ++ b ∷ []) ten in
+        let chunk : take (feed + 1) rest ≡ line ++ 10 ∷ [] = take_more rest feed 0 less ∙ ap (λ b. line ++ b ∷ []) (eqb-true _ _ (passes_at_first is_line_feed rest 0 less)) in
         let bytes : take (at + (feed + 1)) input ≡ take at input ++ (line ++ 10 ∷ []) = take-add at (feed + 1) input ∙ ap (λ c. take at input ++ c) chunk in
-        subst IsNext (sym next) (record {
-          within = omega (arith, long, inside, less);
-          lines = ap lines_of bytes ∙ lines_of-more line (no_feed less) (take at input) whole;
-          whole = λ inner. subst AreWhole (sym bytes) (line_whole line (no_feed less) (take at input) whole);
-        })
+        grind (arith, long, length-drop, lines_of-more, no_feed, line_whole)
 
     split : lines_of rest ≡ line ∷ lines_of others
     split = lines_of-cons rest (omega (arith, long, inside))
@@ -126,3 +119,5 @@ module _ (input : List ℕ) (none : Undivided (lines_of input)) where
 
   pub divided_end : nat_lt (length input) (length input) ≡ are_divided (lines_of input)
   divided_end = le-ltb (length input) (length input) (omega arith) ∙ sym (list_any_none is_division (lines_of input) none)
+
+pub ruleset division_steps = (none_whole, none_undivided, take_rest, divided_here)

@@ -1,4 +1,4 @@
-mod Names
+pub mod Names
 pub mod DecimalLemmas
 pub mod DigitLemmas
 pub mod LengthLemmas

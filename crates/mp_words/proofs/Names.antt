@@ -4,7 +4,7 @@ pub use Rattle.std.proofs.Math.Seq.{drop-append-add, get_or-append_right, get_or
 pub use Rattle.std.proofs.lemmas.Bool.{and_parts, cases_lt, false_from_ne_true, or_left, or_right}
 pub use Rattle.std.proofs.lemmas.Bool.Decides.{nat_tests}
 pub use Rattle.std.proofs.lemmas.Fmt.{decimal_by_steps, decimal_digit, decimal_nonempty, decimal_step, length-decimal-le}
-pub use Rattle.std.proofs.lemmas.Iterator.Consumers.{YieldsList-from_filter, count_from_yields_List, nth_from_yields_List}
+pub use Rattle.std.proofs.lemmas.Iterator.Consumers.{YieldsList-at, YieldsList-from_filter, count_from_yields_List, nth_from_yields_List}
 pub use Rattle.std.proofs.lemmas.Iterator.Splits.{YieldsList-from_slice_split}
 pub use Rattle.std.proofs.lemmas.List.{at_drop_all, at_drop_more, drop-map, drop_all, get_or-map, get_or_default, length-map, map_push, take-map, take_more, take_rest}
 pub use Rattle.std.proofs.lemmas.List.Elements.{All-cons, All-drop, All-filter, All-get_or, All-head, All-nil, All-push, All-tail, All-weaker}
@@ -12,7 +12,7 @@ pub use Rattle.std.proofs.lemmas.List.Folds.{list_all-append, list_any-append, l
 pub use Rattle.std.proofs.lemmas.List.Splits.{slice_split_first, slice_split_none}
 pub use Rattle.std.proofs.lemmas.List.Sums.{AllPass-from_list_all, fails_before_first, list_all-from_AllPass, passes_at_first, position_or_len_is, suffix_len_is}
 pub use Rattle.std.proofs.lemmas.Slice.Eq.{bytes_eq-Decides}
-pub use Rattle.std.proofs.lemmas.Str.{IsAscii-take}
+pub use Rattle.std.proofs.lemmas.Str.{IsAscii-take, IsUtf8-from_ascii}
 pub use Rattle.std.proofs.lemmas.Str.Ascii.{All-from_ascii, IsAscii-from_all}
 pub use Rattle.std.specs.Char.{is_ascii_alphabetic, is_ascii_digit}
 pub use Rattle.std.specs.List.{after_first, after_last, before_first, before_last, list_all, list_any, onto_first, position_or_len, slice_split, suffix_len}

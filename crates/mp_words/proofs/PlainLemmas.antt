@@ -1,6 +1,6 @@
 -- Words as they are written.
 use Rattle.std.specs.Prelude.{◌≡◌, ◌^◌, ◌<◌, ◌==◌, ◌&&◌, ◌∷◌, ◌++◌}
-use Rattle.mp_words.proofs.Names.{ℕ, Bool, true, false, not, List, [], length, All, nat_lt, decimal, true≢false, refl, sym, ◌∙◌, arith, nat_le, is_ascii_digit, list_all, decimal_nonempty, nat_tests, length-append, All-weaker, and_parts, AllPass-from_list_all, list_all-from_AllPass, list_all-append, is_allowed, is_gap, is_name, is_name_byte, begins_with_letter}
+use Rattle.mp_words.proofs.Names.{ℕ, Bool, true, false, not, List, [], length, All, nat_lt, decimal, ◌∙◌, arith, nat_le, is_ascii_digit, list_all, decimal_nonempty, nat_tests, length-append, All-weaker, and_parts, AllPass-from_list_all, list_all-from_AllPass, list_all-append, is_allowed, is_gap, is_name, is_name_byte}
 use Rattle.mp_words.proofs.DecimalLemmas.{decimal_digits}
 
 -- printed, and neither a space nor `#`
@@ -35,10 +35,7 @@ pub list_all-passing : (p q : ℕ → Bool) → ((b : ℕ) → p b ≡ true → 
 list_all-passing p q each w all = list_all-from_AllPass q w (All-passing p (λ b. q b ≡ true) each w all)
 
 pub IsPlain-append : (v w : List ℕ) → IsPlain v → IsPlain w → IsPlain (v ++ w)
-IsPlain-append v w front back = record {
-  some = let n = length-append v w in omega (arith, n, front.some);
-  plain = list_all-append is_plain_byte v w ∙ rw (front.plain, back.plain) refl;
-}
+IsPlain-append v w front back = grind (arith, length-append, list_all-append)
 
 pub IsPlain-decimal : (n : ℕ) → n < 2 ^ 64 → IsPlain (decimal n)
 IsPlain-decimal n fits = record {
@@ -48,8 +45,5 @@ IsPlain-decimal n fits = record {
 
 pub IsPlain-name : (name : List ℕ) → is_name name ≡ true → IsPlain name
 unfolding is_name
-IsPlain-name [] valid = absurd (true≢false (sym valid))
-IsPlain-name (b ∷ bs) valid = record {
-  some = omega arith;
-  plain = list_all-passing is_name_byte is_plain_byte name_byte_plain (b ∷ bs) ((and_parts (begins_with_letter (b ∷ bs) && nat_le (length (b ∷ bs)) 32) (list_all is_name_byte (b ∷ bs)) valid).1);
-}
+IsPlain-name [] valid = grind arith
+IsPlain-name (b ∷ bs) valid = grind (arith, list_all-passing, name_byte_plain, and_parts)

@@ -1,6 +1,6 @@
 -- Changes of a level that toggles.
 use Rattle.std.specs.Prelude.{◌≡◌, ◌+◌, ◌-◌, ◌<◌, ◌≤◌, ◌∷◌, ◌++◌}
-use Rattle.mp_words.proofs.Names.{left_as, left_whole, puts_then, ℕ, List, [], append_assoc, append-nil, add-one, decimal, drop, get_or, length, refl, sym, ap, subst, ◌∙◌, arith, set, length-set, drop_of_length-le, drop-cons, decimal_digit, toggle_changes, change_text, changes_text}
+use Rattle.mp_words.proofs.Names.{left_as, left_whole, puts_then, ℕ, List, [], append_assoc, append-nil, add-one, decimal, drop, get_or, length, refl, ap, ◌∙◌, arith, set, length-set, drop_of_length-le, drop-cons, decimal_digit, toggle_changes, change_text, changes_text}
 use Rattle.std.proofs.lemmas.List.Concat.{flat_map-append}
 use Rattle.mp_streams.specs.Places.{IsPlaced}
 use Rattle.mp_streams.proofs.PlaceLemmas.{placed_byte, placed_both}
@@ -12,12 +12,7 @@ toggle_placed time level room timed at sign low within placed room_left =
     let equals = placed_byte timed sign 61 (omega arith) in
     let one = placed_byte (set timed sign 61) (sign + 1) (48 + level) (omega (arith, length-set timed sign 61)) in
     let all = placed_both (placed_both (placed_both (placed_byte room at 32 within) placed) equals) one in
-    let digit : decimal level ≡ (48 + level) ∷ [] = decimal_digit level (omega arith) in
-    let text : (((32 ∷ []) ++ decimal time) ++ (61 ∷ [])) ++ ((48 + level) ∷ []) ≡ change_text (time, level) =
-    append_assoc ((32 ∷ []) ++ decimal time) (61 ∷ []) ((48 + level) ∷ []) ∙ ap (λ l. (32 ∷ decimal time) ++ (61 ∷ l)) (sym digit) in
-    let end : sign + 1 + 1 ≡ sign + 2 = omega arith in
-    subst (λ e. IsPlaced room (set (set timed sign 61) (sign + 1) (48 + level)) at (change_text (time, level)) e) end
-    (subst (λ t. IsPlaced room (set (set timed sign 61) (sign + 1) (48 + level)) at t (sign + 1 + 1)) text all)
+    grind (arith, decimal_digit, append_assoc)
 
 dropped : (times : List ℕ) (i next : ℕ) → next ≡ i + 1 → i < length times → drop i times ≡ get_or times i 0 ∷ drop next times
 dropped times i next is within = rw (is, add-one, drop-cons times i 0) refl
@@ -68,9 +63,6 @@ module _ (level one two three four : ℕ) (low : level ≤ 1) where
   pub four_placed : (a b c d e : List ℕ) (at i j k end : ℕ) → IsPlaced a b at (change_text (one, 1 - level)) i → IsPlaced b c i (change_text (two, level)) j
       → IsPlaced c d j (change_text (three, 1 - level)) k → IsPlaced d e k (change_text (four, level)) end
       → IsPlaced a e at (changes_text (toggle_changes level (one ∷ two ∷ three ∷ four ∷ []))) end
-  four_placed a b c d e at i j k end p q r s =
-      let all = placed_both (placed_both (placed_both p q) r) s in
-      let text = four_texts (change_text (one, 1 - level)) (change_text (two, level)) (change_text (three, 1 - level)) (change_text (four, level)) ∙ sym (ap changes_text by_turns) in
-      subst (λ t. IsPlaced a e at t end) text all
+  four_placed a b c d e at i j k end p q r s = let all = placed_both (placed_both (placed_both p q) r) s in grind (arith, four_texts, by_turns)
 
 pub ruleset toggle_steps = (four_from, from_low, left_as, left_whole, puts_then)

@@ -1,6 +1,6 @@
 -- Facts about words.
 use Rattle.std.specs.Prelude.{◌<◌, ◌==◌, ◌∷◌, ◌-◌, ◌≡◌}
-use Rattle.mp_words.proofs.Names.{ℕ, Bool, List, [], Bor, length, drop, take, IsAscii, All, sym, subst, slice_split, onto_first, position_or_len, All-cons, All-nil, All-head, All-tail, All-filter, All-weaker, map, arith, get_or-map, length-map, IsAscii-from_all, All-from_ascii, IsAscii-take, take_rest, drop-map, All-drop, words_of, is_word, is_gap, statement_part, texts, AreAscii}
+use Rattle.mp_words.proofs.Names.{ℕ, Bool, List, [], Bor, length, drop, take, IsAscii, All, sym, subst, slice_split, onto_first, position_or_len, All-cons, All-nil, All-head, All-tail, All-filter, All-weaker, map, arith, get_or-map, length-map, IsAscii-from_all, All-from_ascii, IsAscii-take, take_rest, drop-map, All-drop, words_of, is_word, is_gap, statement_part, texts, AreAscii, IsUtf8-from_ascii}
 
 module _ {X : Type 0} (P : X → Type 0) (p : X → Bool) where
   All-onto_first : (x : X) (parts : List (List X)) → P x → All (All P) parts → All (All P) (onto_first x parts)
@@ -36,3 +36,5 @@ rest_ascii ws k all = rw (take_rest ws k) (All-drop (λ w. IsAscii w.now) k ws a
 -- the texts of the words behind the first k
 pub texts_behind : (ws : List (Bor (List ℕ))) (k : ℕ) → texts (take (length ws - k) (drop k ws)) ≡ drop k (texts ws)
 texts_behind ws k = rw (take_rest ws k) (sym (drop-map (λ (w : Bor (List ℕ)). w.now) k ws))
+
+pub ruleset name_steps = (IsUtf8-from_ascii)

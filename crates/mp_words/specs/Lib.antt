@@ -1,5 +1,4 @@
 pub mod Names
-pub mod Limits
 pub mod LineErrors
 pub mod Words
 pub mod Lines

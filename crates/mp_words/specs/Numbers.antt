@@ -1,7 +1,10 @@
 -- How numbers are spelled, alone and in pairs.
 use Rattle.std.specs.Prelude.{◌+◌, ◌-◌, ◌*◌, ◌^◌, ◌&&◌, ◌==◌, ◌∷◌, if◌then◌else◌}
 use Rattle.mp_words.specs.Names.{ℕ, Bool, List, [], length, take, drop, position, Option, Some, None, nat_lt, nat_le, option_and_then, option_map, is_ascii_digit, before_last, after_last, byte}
-use Rattle.mp_words.specs.Limits.{max_digits}
+
+-- how many digits a number may have
+abbrev pub max_digits : ℕ
+max_digits = 20
 
 -- the number that the digits spell behind those of n, where it is below 2 ^ 64
 unfoldable pub number_from : ℕ → List ℕ → Option ℕ

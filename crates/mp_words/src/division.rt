@@ -8,6 +8,7 @@ use std::alloc::{AllocError, Global};
 
 /// The part of an input before the first line whose one word is `---`, and what is behind that
 /// line: all and nothing where there is no such line.
+#[tactic(auto, using(crate::proofs::DivisionLemmas::division_steps))]
 pub fn divided(alloc: Global, input: &[u8]) -> Result<(&[u8], &[u8]), AllocError>
     ensures short { IfOk result (λ parts. length parts.0.now ≤ length input.now) }
     ensures front { IfOk result (λ parts. lines_of parts.0.now ≡ first_part (lines_of input.now)) }

@@ -74,6 +74,7 @@ fn before_comment(line: &[u8]) -> &[u8]
 }
 
 /// The first place at which the byte stands.
+#[tactic(auto, using(crate::proofs::PlaceOfLemmas::first_place))]
 pub fn place_of(byte: u8, bytes: &[u8]) -> Option<usize>
     ensures place { result ≡ position (λ b. b == byte) bytes.now }
     ensures within { IfSome result (λ at. at < length bytes.now) }
@@ -82,6 +83,7 @@ pub fn place_of(byte: u8, bytes: &[u8]) -> Option<usize>
 }
 
 /// A word of ASCII bytes as a name. The error comes where memory is wanting.
+#[tactic(auto, using(crate::proofs::WordLemmas::name_steps))]
 pub fn name_of(alloc: Global, word: &[u8]) -> Result<Name, AllocError>
     requires { IsAscii word.now }
     ensures { IfOk result (λ name. name ≡ word.now) }

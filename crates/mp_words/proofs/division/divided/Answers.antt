@@ -1,13 +1,6 @@
 use Rattle.mp_words.proofs.Names.{rules, arith, take_rest}
-use Rattle.mp_words.proofs.DivisionLemmas.{none_whole, none_undivided, next_line_in, undivided_next, front_here, back_here, divided_here, undivided_all, front_end, back_end, divided_end}
+use Rattle.mp_words.proofs.DivisionLemmas.{next_line_in, undivided_next, front_here, back_here, undivided_all, front_end, back_end, divided_end}
 use Rattle.mp_words.proofs.division.divided.Goals as goal
-
-pub loop-at-init : goal.loop-at-init
-loop-at-init c = record {
-  within = omega arith;
-  whole = λ some. none_whole;
-  undivided = none_undivided;
-}
 
 pub loop-at-preserved : goal.loop-at-preserved
 loop-at-preserved c = grind (arith, take_rest, next_line_in, undivided_next)
@@ -23,9 +16,6 @@ returns-clause-front c = front_end c.args.input.now (undivided_all c.args.input.
 
 pub returns-clause-back : goal.returns-clause-back
 returns-clause-back c = back_end c.args.input.now (undivided_all c.args.input.now c.loop-at.at (search rules) c.loop-at.invariant.undivided)
-
-pub returns-then-branch-clause-divided : goal.returns-then-branch-clause-divided
-returns-then-branch-clause-divided c = grind (arith, divided_here, take_rest)
 
 pub returns-clause-divided : goal.returns-clause-divided
 returns-clause-divided c = divided_end c.args.input.now (undivided_all c.args.input.now c.loop-at.at (search rules) c.loop-at.invariant.undivided)

@@ -1,8 +1,7 @@
 use Rattle.std.specs.Prelude.{◌≡◌, ◌++◌, OnOk, MatchResult}
-use Rattle.mp_words.proofs.Names.{refl, ap, ◌∙◌, rules, tests, ℕ, List, Bor, Option, map, Result, Ok, Err, YieldsList-from_slice_split, YieldsList-from_filter, words_of, is_gap, is_word, statement_part, texts, AreAscii}
+use Rattle.mp_words.proofs.Names.{refl, ap, ◌∙◌, rules, tests, ℕ, List, Bor, Option, map, Result, Ok, Err, YieldsList-from_slice_split, YieldsList-from_filter, words_of, is_gap, is_word, statement_part, texts, AreAscii, YieldsList-at}
 use Rattle.std.proofs.lemmas.Iterator.Adapters.{fact_from_extend}
 use Rattle.std.specs.Iterator.{Yields, Drains}
-use Rattle.std.proofs.lemmas.Iterator.Consumers.{YieldsList-at}
 use Rattle.std.proofs.lemmas.Iterator.{YieldsList}
 use Rattle.std.specs.declared.alloc.AllocError.{AllocError}
 use Rattle.mp_words.proofs.WordLemmas.{texts_ascii}
