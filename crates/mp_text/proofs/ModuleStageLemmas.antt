@@ -1,6 +1,7 @@
 -- The edits of a netlist's modules, once its wires are added, are not refused.
 use Rattle.std.specs.Prelude.{◌≡◌, ◌<◌, ◌≤◌, ◌==◌, ◌∷◌, ◌++◌}
-use Rattle.mp_text.proofs.Names.{added_module, ℕ, true, List, [], length, map, get_or, All, Option, Some, None, Ok, option_map, is_none, refl, sym, ap, subst, ◌∙◌, arith, length-append, nat_le, IsSome, IfSome, slice_index_or, flat_map, list_all, eq-eqb, lt-ltb, nat_tests, get_or_at, get_or_append_left, get_or-map, length-map, All-head, All-tail, All-map, All-weaker, All-from_get_or, input_count, output_count, input_width, output_width, are_params, WireId, ModuleRecord, Input, InputName, OutputName, no_input, output_in, max_delay, Circuit, IsCircuit, IsModule, IsDelay, IsInputDelay, HasWidth, Drives, wire_at, module_at, width_of, module_width, HasNames, no_name, some_input, wire_name, module_by_name, module_edits, input_by_name, output_by_name, list_all-from_AllPass, and_from, refusal, edited, after_single, stands, wire_id, width_named, is_undriven, is_delay, is_input_delay, delays_fit, driven_names, are_distinct, first_width, new_width, inputs_stand, inputs_fit, output_fits, outputs_fit, module_checks, input_of, output_of, new_module, without_stimulus, module_limit, rules}
+use Rattle.mp_text.proofs.Names.{added_module, ℕ, true, List, [], length, map, get_or, All, Option, Some, None, Ok, option_map, is_none, refl, sym, ap, subst, ◌∙◌, arith, length-append, nat_le, IsSome, IfSome, slice_index_or, flat_map, list_all, eq-eqb, lt-ltb, nat_tests, get_or_at, get_or_append_left, get_or-map, length-map, All-map, All-weaker, All-from_get_or, input_count, output_count, input_width, output_width, are_params, WireId, ModuleRecord, Input, InputName, OutputName, no_input, output_in, max_delay, Circuit, IsCircuit, IsModule, IsDelay, IsInputDelay, HasWidth, Drives, wire_at, module_at, width_of, module_width, HasNames, no_name, some_input, wire_name, module_by_name, module_edits, input_by_name, output_by_name, list_all-from_AllPass, and_from, refusal, edited, after_single, stands, wire_id, width_named, is_undriven, is_delay, is_input_delay, delays_fit, driven_names, are_distinct, first_width, new_width, inputs_stand, inputs_fit, output_fits, outputs_fit, module_checks, input_of, output_of, new_module, without_stimulus, module_limit, rules, map_fixed}
+use Rattle.std.proofs.lemmas.Simd.{map-map}
 use Rattle.mp_text.proofs.SlotLemmas.{Unnamed, named_nowhere, front_unnamed}
 use Rattle.mp_text.proofs.StageLemmas.{none_failing, is_done, Reaches, Added, AddsOne, added_reached, unnamed_again}
 use Rattle.mp_text.proofs.OutputLemmas.{output_named, is_output, DrivesNone, undriven_by_name, drives_none, is_nothing_driven, driven_all, driven_distinct, counted_all}
@@ -11,11 +12,7 @@ module_name r = r.name
 
 -- names that lead to numbers of the same names
 map_back : {X Y Z : Type 0} (g : X → Y) (a : Y → Z) (b : Z → Y) (xs : List X) → All (λ x. b (a (g x)) ≡ g x) xs → map b (map a (map g xs)) ≡ map g xs
-map_back g a b [] all = refl
-map_back g a b (x ∷ xs) all =
-    let head = All-head (λ x. b (a (g x)) ≡ g x) x xs all in
-    let rest = map_back g a b xs (All-tail (λ x. b (a (g x)) ≡ g x) x xs all) in
-    rw (head, rest) refl
+map_back g a b xs all = map-map b a (map g xs) ∙ map_fixed (λ y. b (a y)) (map g xs) (All-map (λ y. b (a y) ≡ y) g xs all)
 
 is_low_delay : (d : ℕ) → IsDelay d → is_delay d ≡ true
 is_low_delay d low = grind (arith, nat_tests, and_from)

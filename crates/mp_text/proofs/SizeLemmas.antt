@@ -1,13 +1,7 @@
 -- How long a text may be is told by its front.
-use Rattle.mp_text.proofs.Names.{ℕ, Bool, cond, List, [], Some, take, length, zero, suc, refl, ap, arith, lines_of, max_text, max_short_text, number_word, first_words, is_three, states_third, text_limit, ne_eqb, words_of, min, take_min, nat_tests}
+use Rattle.mp_text.proofs.Names.{ℕ, Bool, cond, List, [], Some, take, length, refl, ap, arith, lines_of, max_text, max_short_text, number_word, first_words, is_three, states_third, text_limit, ne_eqb, words_of, min, take_min, nat_tests, take-take, eq-eqb}
 use Rattle.std.specs.Prelude.{◌≡◌, ◌≢◌, ◌+◌, ◌<◌, ◌≤◌, ◌∷◌, ◌&&◌, codes, slice_get, ◌==◌}
 use Rattle.std.specs.Str.{bytes_eq}
-use Rattle.std.proofs.lemmas.Bool.{eq-eqb}
-
-take_twice : {A : Type 0} (j k : ℕ) (xs : List A) → j ≤ k → take j (take k xs) ≡ take j xs
-take_twice (suc j) zero xs short = grind arith
-take_twice (suc j) (suc k) (x ∷ xs) short = grind (arith, (take_twice j k xs (omega (arith, short))))
-take_twice j k xs short = refl
 
 limits : (third : Bool) → (max_short_text ≤ cond third max_text max_short_text) × (cond third max_text max_short_text ≤ max_text)
 limits third = grind (arith, nat_tests)
@@ -21,7 +15,7 @@ limit_least text = (limits (states_third (first_words (lines_of (take (max_short
 pub limit_of_front : (k : ℕ) (text : List ℕ) → max_short_text < k → text_limit (take k text) ≡ text_limit text
 unfolding text_limit
 limit_of_front k text long =
-    ap (λ front. cond (states_third (first_words (lines_of front))) max_text max_short_text) (take_twice (max_short_text + 1) k text (omega (arith, long)))
+    ap (λ front. cond (states_third (first_words (lines_of front))) max_text max_short_text) (take-take (max_short_text + 1) k text (omega (arith, long)))
 
 pub front_taken : (text : List ℕ) → take (min (max_short_text + 1) (length text)) text ≡ take (max_short_text + 1) text
 front_taken text = take_min (max_short_text + 1) text

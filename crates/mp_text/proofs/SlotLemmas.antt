@@ -25,12 +25,10 @@ All-from_flat_map P f (x ∷ xs) all =
 
 -- lists end to end that are the same each are the same
 pub flat_map_agree : {X Y : Type 0} (f g : X → List Y) → ((x : X) → f x ≡ g x) → (xs : List X) → flat_map f xs ≡ flat_map g xs
-flat_map_agree f g same [] = refl
-flat_map_agree f g same (x ∷ xs) = grind (arith, nat_tests, (flat_map_agree f g same xs))
+flat_map_agree f g same xs = λ i. flat_map (λ x. same x i) xs
 
 pub map_agree : {X Y : Type 0} (f g : X → Y) → ((x : X) → f x ≡ g x) → (xs : List X) → map f xs ≡ map g xs
-map_agree f g same [] = refl
-map_agree f g same (x ∷ xs) = grind (arith, nat_tests, (map_agree f g same xs))
+map_agree f g same xs = λ i. map (λ x. same x i) xs
 
 -- a place in a list parts it
 pub parted : {R : Type 0} (slots : List (Option R)) (w : ℕ) (r : R) → slot_at slots w ≡ Some r → slots ≡ take w slots ++ Some r ∷ drop (suc w) slots

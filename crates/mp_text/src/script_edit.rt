@@ -62,10 +62,9 @@ fn input_edit(alloc: Global, words: &[&[u8]]) -> Result<SingleEdit, LineError>
     let [part, port, wire] = words else {
         return Err(LineError::WordCount);
     };
-    let port = number_word(port)?;
     Ok(SingleEdit::RewireInput {
+        port: number_word(port)?,
         module: name_of(alloc, part)?,
-        port,
         wire: Boxed::new(alloc, name_of(alloc, wire)?)?,
     })
 }
@@ -78,10 +77,9 @@ fn output_edit(alloc: Global, words: &[&[u8]]) -> Result<SingleEdit, LineError>
     let [part, port, wire] = words else {
         return Err(LineError::WordCount);
     };
-    let port = number_word(port)?;
     Ok(SingleEdit::RewireOutput {
+        port: number_word(port)?,
         module: name_of(alloc, part)?,
-        port,
         wire: driven_wire(alloc, wire)?,
     })
 }
@@ -105,12 +103,10 @@ fn input_delay_edit(alloc: Global, words: &[&[u8]]) -> Result<SingleEdit, LineEr
     let [part, port, delay] = words else {
         return Err(LineError::WordCount);
     };
-    let port = number_word(port)?;
-    let delay = number_word(delay)?;
     Ok(SingleEdit::SetInputDelay {
+        port: number_word(port)?,
+        delay: number_word(delay)?,
         module: name_of(alloc, part)?,
-        port,
-        delay,
     })
 }
 
@@ -122,12 +118,10 @@ fn delay_edit(alloc: Global, words: &[&[u8]]) -> Result<SingleEdit, LineError>
     let [part, port, delay] = words else {
         return Err(LineError::WordCount);
     };
-    let port = number_word(port)?;
-    let delay = number_word(delay)?;
     Ok(SingleEdit::SetDelay {
+        port: number_word(port)?,
+        delay: number_word(delay)?,
         module: name_of(alloc, part)?,
-        port,
-        delay,
     })
 }
 

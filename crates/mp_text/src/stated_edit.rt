@@ -31,12 +31,10 @@ fn wire_edit(alloc: Global, words: &[&[u8]]) -> Result<SingleEdit, LineError>
     let [name, width, level] = words else {
         return Err(LineError::WordCount);
     };
-    let width = number_word(width)?;
-    let level = number_word(level)?;
     Ok(SingleEdit::AddWire {
+        width: number_word(width)?,
+        level: number_word(level)?,
         name: name_of(alloc, name)?,
-        width,
-        level,
     })
 }
 
@@ -48,10 +46,9 @@ fn stimulus_edit(alloc: Global, words: &[&[u8]]) -> Result<SingleEdit, LineError
     let [wire, others @ ..] = words else {
         return Err(LineError::WordCount);
     };
-    let changes = Changes::new(each_word(alloc, others)?);
     Ok(SingleEdit::SetStimulus {
+        changes: Changes::new(each_word(alloc, others)?),
         wire: name_of(alloc, wire)?,
-        changes,
     })
 }
 
