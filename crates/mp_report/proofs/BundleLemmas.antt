@@ -37,14 +37,6 @@ soon_none f t s h event over none = none_of_times f t (min (s + 1) (h - t)) (λ 
 abbrev set_of : Bool → Bool → Bool → Bool → FindingSet
 set_of a b d e = with_code_if codes.AckWhileIdle e (with_code_if codes.RequestWhileBusy d (with_code_if codes.Setup b (with_code_if codes.DataWhileBusy a no_findings)))
 
--- the test of each code
-abbrev test_of : Bool → Bool → Bool → Bool → FindingCode → Bool
-test_of a b d e codes.DataWhileBusy = a
-test_of a b d e codes.Setup = b
-test_of a b d e codes.RequestWhileBusy = d
-test_of a b d e codes.AckWhileIdle = e
-test_of a b d e code = false
-
 found_is : (n : Circuit) (r : BundleRecord) (t : ℕ) → findings_of t (bundle_set n r t) ≡ map (λ code. (t, code)) (filter (is_found_at_bundle n (Some r) t) by_number)
 unfolding findings_of
 found_is n r t = grind (arith, nat_tests)

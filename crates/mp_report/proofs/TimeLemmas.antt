@@ -13,8 +13,7 @@ module _ {A X : Type 0} (told : A → List X) where
   told_none none (t ∷ ts) = grind (arith, (told_none none ts))
 
   pub told_same : (other : A → List X) → ((t : A) → told t ≡ other t) → (ts : List A) → flat_map told ts ≡ flat_map other ts
-  told_same other same [] = refl
-  told_same other same (t ∷ ts) = grind (arith, (told_same other same ts))
+  told_same other same ts = λ i. flat_map (λ t. same t i) ts
 
 module _ {X : Type 0} (told : ℕ → List X) where
   -- one more time

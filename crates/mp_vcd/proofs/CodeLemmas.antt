@@ -1,17 +1,12 @@
 -- Codes and binary digits, digit by digit.
 use Rattle.std.specs.Prelude.{◌≡◌, ◌+◌, ◌-◌, ◌/◌, ◌%◌, ◌<◌, ◌≤◌, ◌∷◌, ◌++◌}
-use Rattle.mp_vcd.proofs.Names.{ℕ, Bool, true, false, cond, nat_lt, List, [], append_assoc, length, drop, slice_set, zero, suc, refl, sym, ap, ◌∙◌, arith, cases_lt, ltb-false, nat_tests, drop-set, length-append, digits_of, code, bit, bits}
+use Rattle.mp_vcd.proofs.Names.{ℕ, List, [], append_assoc, length, drop, slice_set, zero, suc, refl, sym, ap, ◌∙◌, arith, cases_lt, ltb-false, nat_tests, drop-set, length-append, digits_of, code, bit, bits}
 
 -- more digits than a number has are not written
 digits_of-same : (most least n : ℕ) → n < most → n < least → digits_of most n ≡ digits_of least n
 digits_of-same zero least n below under = absurd (omega arith)
 digits_of-same (suc most) zero n below under = absurd (omega arith)
-digits_of-same (suc most) (suc least) n below under =
-    ap (λ l. (33 + n % 94) ∷ l) (by (nat_lt n 94) refl (λ high. digits_of-same most least (n / 94) (omega (arith, high)) (omega (arith, high))))
-  where
-    by : (t : Bool) → nat_lt n 94 ≡ t → (94 ≤ n → digits_of most (n / 94) ≡ digits_of least (n / 94)) → cond t [] (digits_of most (n / 94)) ≡ cond t [] (digits_of least (n / 94))
-    by true test more = refl
-    by false test more = more (ltb-false n 94 test)
+digits_of-same (suc most) (suc least) n below under = grind (arith, nat_tests, ltb-false, (digits_of-same most least (n / 94)))
 
 pub code-one : (n : ℕ) → n < 94 → code n ≡ (33 + n) ∷ []
 unfolding code
