@@ -29,7 +29,7 @@ pub use Rattle.mp_text.specs.ScriptLines.{line_at}
 pub use Rattle.mp_text.specs.declared.script_line.Line.{Line}
 pub use Rattle.mp_text.specs.declared.script_line.Line.TheVariants.{Ask, Change, Empty}
 pub use Rattle.mp_version.specs.Limits.{max_edits}
-pub use Rattle.mp_version.specs.Stories.{Story, counted_edit, present}
+pub use Rattle.mp_version.specs.Stories.{Story, counted_edit, judged, one_more, opening, present}
 pub use Rattle.mp_views.specs.Outputs.{waves_text}
 pub use Rattle.mp_words.specs.Divisions.{are_divided, first_part, later_parts, lines_of_each, parts_of}
 pub use Rattle.mp_words.specs.Lines.{lines_of}

@@ -1,12 +1,8 @@
 //! How a command gets a session, and edits it.
 ghost use Rattle.std.specs.Prelude.{◌≡◌, List, [], Ok, IfOk, IfErr, OnOk, OnErr, length, vec_len};
 ghost use Rattle.std.specs.Thread.{IsSync};
-ghost use Rattle.mp_netlist.specs.Edits.{RefusedBy};
-ghost use Rattle.mp_words.specs.Divisions.{lines_of_each};
-ghost use Rattle.mp_version.specs.Stories.{opening, one_more, present, judged};
 ghost use Rattle.mp_work.specs.declared.work_entry.WorkEntry.{WorkEntry};
-ghost use Rattle.mp_work.specs.Work.{IsWork};
-ghost use Rattle.mp_meeting.specs.Meetings.{IsMeeting};
+ghost use Rattle.mp_commands.specs.Names.{RefusedBy, lines_of_each, opening, one_more, present, judged, IsWork, IsMeeting};
 
 use mp_desk::DeskSize;
 use mp_meeting::{MeetingFault, Met};

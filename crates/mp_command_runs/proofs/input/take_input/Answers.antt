@@ -1,8 +1,5 @@
-use Rattle.std.proofs.Common.{◌≡◌, ℕ, ◌+◌, ◌-◌, ◌<◌, ◌≤◌, ◌++◌, List, IfSome, length, inl, inr, sym, subst, arith, rules}
-use Rattle.mp_text.specs.Limits.{max_short_text}
-use Rattle.mp_text.specs.Sizes.{text_limit}
-use Rattle.mp_text.proofs.SizeLemmas.{limit_least}
-use Rattle.mp_command_runs.specs.Openings.{taken_of}
+use Rattle.std.specs.Prelude.{◌≡◌, ◌+◌, ◌-◌, ◌<◌, ◌≤◌, ◌++◌}
+use Rattle.mp_command_runs.proofs.Names.{ℕ, List, IfSome, length, inl, inr, sym, subst, arith, rules, max_short_text, text_limit, limit_least, taken_of}
 use Rattle.mp_command_runs.proofs.TakenLemmas.{first_taken, more_taken, takes_first, takes_more, within_limit}
 use Rattle.mp_command_runs.proofs.input.take_input.Goals as goal
 

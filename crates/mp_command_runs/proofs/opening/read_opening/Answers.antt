@@ -1,5 +1,4 @@
-use Rattle.std.specs.Prelude.{is_some}
-use Rattle.mp_command_runs.proofs.Names.{err_from_is_err_and}
+use Rattle.mp_command_runs.proofs.Names.{err_from_is_err_and, is_some}
 use Rattle.mp_command_runs.proofs.InputLemmas.{shut_unread}
 use Rattle.mp_command_runs.proofs.opening.read_opening.Goals as goal
 
