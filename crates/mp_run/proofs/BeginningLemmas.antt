@@ -47,8 +47,7 @@ use Rattle.mp_core.proofs.WidthLemmas.{have_bits}
 use Rattle.mp_core.specs.declared.simulation.Simulation.{Simulation}
 use Rattle.mp_units.specs.DataLevels.{is_data, is_bit_wire}
 use Rattle.mp_units.proofs.LateLemmas.{late_bit}
-use Rattle.mp_run.specs.declared.delays.Delays.{Delays}
-use Rattle.mp_run.specs.declared.wiring.Wiring.{Wiring}
+use Rattle.mp_run.specs.declared.layout.Layout.{Layout}
 use Rattle.mp_run.specs.Widths.{is_bit_module}
 use Rattle.mp_run.specs.FirstLevels.{first_wave}
 use Rattle.mp_run.specs.Numbering.{is_bit}
@@ -56,7 +55,7 @@ use Rattle.mp_run.specs.Wirings.{inputs_in, reading_below}
 use Rattle.mp_run.specs.Settling.{ports_of, no_unit, first_unit_in, first_unit, is_below, is_first_bit}
 use Rattle.mp_run.specs.Narrow.{IsNarrow}
 use Rattle.mp_run.specs.Evaluations.{IsEvaluated}
-use Rattle.mp_run.specs.Beginnings.{AreBegunBits}
+use Rattle.mp_run.specs.Beginnings.{IsPartOf, AreBegunBits}
 use Rattle.mp_run.proofs.BegunLemmas.{waves_long, wired, outputs_within, sound_run}
 use Rattle.mp_run.proofs.NarrowLemmas.{one_bit_module, all_bits}
 use Rattle.mp_run.proofs.NumberingLemmas.{kept_before, kept_chained, old_before}
@@ -101,20 +100,20 @@ bit_is zero low = refl
 bit_is (suc zero) low = refl
 bit_is (suc (suc k)) low = absurd (omega arith)
 
-module _ (n : Circuit) (ok : IsCircuit n) (d : Delays) (wiring : Wiring) (ports : List (List (Option ℕ))) (s : Simulation) (are : AreBegunBits n d wiring ports s) where
+module _ (n all : Circuit) (ok : IsCircuit n) (all_ok : IsCircuit all) (of_all : IsPartOf n all) (plan : Layout) (s : Simulation) (are : AreBegunBits n all plan s) where
   abbrev pub the_source : ℕ → ℕ × ℕ
-  the_source = (wired n ok d wiring ports s are).source
+  the_source = (wired n all ok all_ok of_all plan s are).source
 
   abbrev pub the_before : ℕ → Option ℕ
-  the_before = kept_before (is_bit n) wiring.wires.items wiring.next.items s.copies.next.items are.bits.next (wired n ok d wiring ports s are).source (wired n ok d wiring ports s are).origins
-      (wired n ok d wiring ports s are).before (wired n ok d wiring ports s are).numbers.chained
+  the_before = kept_before (is_bit n) plan.wired.wiring.wires.items plan.wired.wiring.next.items s.copies.next.items are.bits.next (wired n all ok all_ok of_all plan s are).source (wired n all ok all_ok of_all plan s are).origins
+      (wired n all ok all_ok of_all plan s are).before (wired n all ok all_ok of_all plan s are).numbers.chained
 
   abbrev pub scope : Scope
   scope = record {
     place = λ m. seat_of n m (module_at n m);
     is_active = λ q. is_some (seat_of n q (module_at n q));
-    inputs = are.wired.inputs;
-    source = (wired n ok d wiring ports s are).source;
+    inputs = are.laid.wired.inputs;
+    source = (wired n all ok all_ok of_all plan s are).source;
     known = λ m. 1;
     owns = λ w u. is_bit_wire n w;
     traces = is_bit_wire n;
@@ -155,20 +154,21 @@ module _ (n : Circuit) (ok : IsCircuit n) (d : Delays) (wiring : Wiring) (ports 
   driven_is_wire m p w drv = stands_wire w (wire_at n w) refl (driven_stands n ok m p w drv)
 
   -- ---- layout
-  pub reads_own : (m : ℕ) (r : ModuleRecord) → module_at n m ≡ Some r → reading_below n (length n.modules) m ≡ r.inputs
+  pub reads_own : (m : ℕ) (r : ModuleRecord) → module_at n m ≡ Some r → reading_below all (length all.modules) m ≡ r.inputs
   reads_own m r at =
-      let low = slot_within n.modules m r at in
-      let test : nat_lt m (length n.modules) ≡ true = grind (arith, nat_tests) in
-      ap (λ b. cond b (inputs_in (module_at n m)) []) test ∙ ap inputs_in at
+      let there = of_all.same m r at in
+      let low = slot_within all.modules m r there in
+      let test : nat_lt m (length all.modules) ≡ true = grind (arith, nat_tests) in
+      ap (λ b. cond b (inputs_in (module_at all m)) []) test ∙ ap inputs_in there
 
   drives_own : (m : ℕ) (r : ModuleRecord) → module_at n m ≡ Some r → ports_at s.simulator.outputs.items m ≡ output_ports_of r
   drives_own m r at =
       ap (λ (xs : List OutputPorts). ports_at xs m) are.bits.outputs
-      ∙ get_or-map ports_of n.modules m None (record { first = no_port; second = no_port; third = no_port }) (slot_within n.modules m r at)
-      ∙ ap ports_of at
+      ∙ get_or-map ports_of all.modules m None (record { first = no_port; second = no_port; third = no_port }) (slot_within all.modules m r (of_all.same m r at))
+      ∙ ap ports_of (of_all.same m r at)
 
   pub sources_own : (m : ℕ) (r : ModuleRecord) → module_at n m ≡ Some r → map scope.source (scope.inputs m) ≡ map source_of r.inputs
-  sources_own m r at = (wired n ok d wiring ports s are).reads m ∙ ap (map source_of) (reads_own m r at)
+  sources_own m r at = (wired n all ok all_ok of_all plan s are).reads m ∙ ap (map source_of) (reads_own m r at)
 
   seat : (m : ℕ) (r : ModuleRecord) → module_at n m ≡ Some r → is_bit_module n r ≡ true → IsSeat n scope s.simulator m m r
   seat m r at one =
@@ -194,7 +194,7 @@ module _ (n : Circuit) (ok : IsCircuit n) (d : Delays) (wiring : Wiring) (ports 
 
   layout : IsLaidOut n scope s.simulator
   layout = record {
-    ports = λ q. subst (λ (rows : List (List FanoutEntry)). HasPorts rows q (are.wired.inputs q)) (sym are.bits.fanout) ((wired n ok d wiring ports s are).ports q);
+    ports = λ q. subst (λ (rows : List (List FanoutEntry)). HasPorts rows q (are.laid.wired.inputs q)) (sym are.bits.fanout) ((wired n all ok all_ok of_all plan s are).ports q);
     seats = seats;
     placed = λ q within active.
         let here = active_place q active in
@@ -228,7 +228,7 @@ module _ (n : Circuit) (ok : IsCircuit n) (d : Delays) (wiring : Wiring) (ports 
   first_waves_are : (w : ℕ) → w < length s.simulator.waves.items → is_bit_wire n w ≡ true → wave_at s.simulator.waves.items w ≡ wave_upto (level n w) 0
   first_waves_are w within is =
       ap (λ (xs : List Waveform). wave_at xs w) are.bits.waves
-      ∙ get_or-map first_wave n.wires w None (record { initial = 0; changes = [] }) (let long = waves_long n ok d wiring ports s are in omega arith)
+      ∙ get_or-map first_wave n.wires w None (record { initial = 0; changes = [] }) (let long = waves_long n all ok all_ok of_all plan s are in omega arith)
       ∙ ap (λ (k : ℕ). let v : Waveform = record { initial = k; changes = [] } in v) (bit_is (initial_of (wire_at n w)) (initial_bit w is) ∙ sym (first_level n ok w))
 
   first_trace : (w : ℕ) → w < length s.simulator.waves.items → is_bit_wire n w ≡ true → IsTrace (level n w) 0 (wave_at s.simulator.waves.items w)
@@ -255,11 +255,11 @@ module _ (n : Circuit) (ok : IsCircuit n) (d : Delays) (wiring : Wiring) (ports 
   slots_of : (w p : ℕ) (m : ModuleId) (r : ModuleRecord) → driver n w ≡ Port m p → module_at n m.0 ≡ Some r → HasSlot (length s.simulator.wheel) (output_port_of (output_at r p))
   slots_of w p m r drives at =
       let drv = finds_only_ports n w p m drives in
-      let low = slot_within n.modules m.0 r at in
-      let long : m.0 < length s.simulator.outputs.items = (let a = ap (length {A = OutputPorts}) are.bits.outputs ∙ length-map n.modules ports_of in omega arith) in
+      let low = slot_within all.modules m.0 r (of_all.same m.0 r at) in
+      let long : m.0 < length s.simulator.outputs.items = (let a = ap (length {A = OutputPorts}) are.bits.outputs ∙ length-map all.modules ports_of in omega arith) in
       let slots : HaveSlots (length s.simulator.wheel) (output_ports_of r) =
       subst (HaveSlots (length s.simulator.wheel)) (drives_own m.0 r at)
-      (outputs_within n ok d wiring ports s are m.0 (record { first = no_port; second = no_port; third = no_port }) long) in
+      (outputs_within n all ok all_ok of_all plan s are m.0 (record { first = no_port; second = no_port; third = no_port }) long) in
       let output : (output_at r p).wire ≡ Some (record { 0 = w }) =
       subst (λ (x : ModuleRecord). (output_at x p).wire ≡ Some (record { 0 = w })) (same_part n m.0 drv.part r drv.stands at) drv.output in
       one_slot (length s.simulator.wheel) r p (few_ports n ok m.0 p w r at output) slots
@@ -289,8 +289,8 @@ module _ (n : Circuit) (ok : IsCircuit n) (d : Delays) (wiring : Wiring) (ports 
 
   pub running : IsRunning n scope the_before 0 s
   running =
-      let w = wired n ok d wiring ports s are in
-      let chained = kept_chained (is_bit n) wiring.wires.items wiring.next.items s.copies.next.items are.bits.next w.source w.origins w.before w.numbers.chained in
+      let w = wired n all ok all_ok of_all plan s are in
+      let chained = kept_chained (is_bit n) plan.wired.wiring.wires.items plan.wired.wiring.next.items s.copies.next.items are.bits.next w.source w.origins w.before w.numbers.chained in
       record {
         simulator = before_first;
         chained = chained;
@@ -299,9 +299,9 @@ module _ (n : Circuit) (ok : IsCircuit n) (d : Delays) (wiring : Wiring) (ports 
 
   -- ---- whole
   pub wire_number : (w : ℕ) → nat_lt w (length n.wires) ≡ true → the_source w ≡ (w, 0)
-  wire_number w test = (wired n ok d wiring ports s are).numbers.own w (ltb-true w (length n.wires) test)
+  wire_number w test = (wired n all ok all_ok of_all plan s are).numbers.own w (ltb-true w (length n.wires) test)
 
-  pub bit_number : (x : ℕ) → x < length wiring.next.items → is_data n (the_source x).0 ≡ false → is_number scope the_before x ≡ true
+  pub bit_number : (x : ℕ) → x < length plan.wired.wiring.next.items → is_data n (the_source x).0 ≡ false → is_number scope the_before x ≡ true
   bit_number x within none = elim (cases_lt x (length n.wires)) as (λ _. is_number scope the_before x ≡ true) [
     | inl low ↦
         let test : nat_lt x (length n.wires) ≡ true = grind (arith, nat_tests) in
@@ -309,30 +309,30 @@ module _ (n : Circuit) (ok : IsCircuit n) (d : Delays) (wiring : Wiring) (ports 
         or_left (is_bit_wire n x) (is_some (the_before x)) (both_true (nat_lt x (length n.wires)) (not (is_data n x)) test (not_false (is_data n x) own))
     | inr past ↦
         or_right (is_bit_wire n x) (is_some (the_before x))
-        (ap (λ b. is_some (cond b ((wired n ok d wiring ports s are).before x) None)) (not_false (is_data n (the_source x).0) none) ∙ (wired n ok d wiring ports s are).numbers.tied x past within)
+        (ap (λ b. is_some (cond b ((wired n all ok all_ok of_all plan s are).before x) None)) (not_false (is_data n (the_source x).0) none) ∙ (wired n all ok all_ok of_all plan s are).numbers.tied x past within)
   ]
 
   copy_is : (x y : ℕ) → the_before x ≡ Some y → (is_bit_wire n x ≡ false) × (is_number scope the_before y ≡ true)
   copy_is x y is = (no_wire, bit_number y linked bits)
     where
-      old : (is_bit n (the_source x).0 ≡ true) × ((wired n ok d wiring ports s are).before x ≡ Some y)
-      old = old_before (is_bit n) wiring.wires.items wiring.next.items s.copies.next.items are.bits.next (wired n ok d wiring ports s are).source (wired n ok d wiring ports s are).origins
-          (wired n ok d wiring ports s are).before (wired n ok d wiring ports s are).numbers.chained x y is
+      old : (is_bit n (the_source x).0 ≡ true) × ((wired n all ok all_ok of_all plan s are).before x ≡ Some y)
+      old = old_before (is_bit n) plan.wired.wiring.wires.items plan.wired.wiring.next.items s.copies.next.items are.bits.next (wired n all ok all_ok of_all plan s are).source (wired n all ok all_ok of_all plan s are).origins
+          (wired n all ok all_ok of_all plan s are).before (wired n all ok all_ok of_all plan s are).numbers.chained x y is
 
       no_wire : is_bit_wire n x ≡ false
       no_wire = elim (cases_lt x (length n.wires)) as (λ _. is_bit_wire n x ≡ false) [
-        | inl low ↦ absurd (none-some y (sym ((wired n ok d wiring ports s are).numbers.first x low) ∙ old.1))
+        | inl low ↦ absurd (none-some y (sym ((wired n all ok all_ok of_all plan s are).numbers.first x low) ∙ old.1))
         | inr past ↦ (let test : nat_lt x (length n.wires) ≡ false = grind (arith, nat_tests) in ap (λ b. b && not (is_data n x)) test)
       ]
 
       bits : is_data n (the_source y).0 ≡ false
-      bits = ap (is_data n) (sym ((wired n ok d wiring ports s are).numbers.chained.wire x y old.1)) ∙ false_when (is_data n (the_source x).0) old.0
+      bits = ap (is_data n) (sym ((wired n all ok all_ok of_all plan s are).numbers.chained.wire x y old.1)) ∙ false_when (is_data n (the_source x).0) old.0
 
-      linked : y < length wiring.next.items
-      linked = elim (cases_lt y (length wiring.next.items)) as (λ _. y < length wiring.next.items) [
+      linked : y < length plan.wired.wiring.next.items
+      linked = elim (cases_lt y (length plan.wired.wiring.next.items)) as (λ _. y < length plan.wired.wiring.next.items) [
         | inl low ↦ low
         | inr past ↦
-            absurd (none-some x (sym (ap (λ (p : OutputPort). p.wire) (get_or_past wiring.next.items y no_port past)) ∙ (wired n ok d wiring ports s are).numbers.chained.first x y old.1))
+            absurd (none-some x (sym (ap (λ (p : OutputPort). p.wire) (get_or_past plan.wired.wiring.next.items y no_port past)) ∙ (wired n all ok all_ok of_all plan s are).numbers.chained.first x y old.1))
       ]
 
   -- the numbers that a module of width 1 reads
@@ -354,8 +354,8 @@ module _ (n : Circuit) (ok : IsCircuit n) (d : Delays) (wiring : Wiring) (ports 
     copies = copy_is;
     inputs = λ q active k e within.
         let here = active_place q active in
-        bit_number (slice_index_or (are.wired.inputs q) k e) ((wired n ok d wiring ports s are).low q k e within)
-        (reads_bits (are.wired.inputs q) here.part.inputs (sources_own q here.part here.stands) (λ j f low. bit_reads n ok q j f here.part here.stands here.bits low) k e within);
+        bit_number (slice_index_or (are.laid.wired.inputs q) k e) ((wired n all ok all_ok of_all plan s are).low q k e within)
+        (reads_bits (are.laid.wired.inputs q) here.part.inputs (sources_own q here.part here.stands) (λ j f low. bit_reads n ok q j f here.part here.stands here.bits low) k e within);
   }
 
   -- ---- where each wire has width 1
@@ -363,12 +363,12 @@ module _ (n : Circuit) (ok : IsCircuit n) (d : Delays) (wiring : Wiring) (ports 
   evaluated narrow = record {
     scope = scope;
     before = the_before;
-    sound = sound_run n ok d wiring ports s are;
+    sound = sound_run n all ok all_ok of_all plan s are;
     running = running;
     whole = whole;
     own = λ w u. refl;
     placed = λ m r at.
         ap (λ slot. is_some (seat_of n m slot)) at ∙ ap (λ b. is_some (cond b (Some m) None)) (eq-eqb (module_width n r) 1 (one_bit_module n ok narrow m r at));
     traces = all_bits n narrow;
-    waves = waves_long n ok d wiring ports s are;
+    waves = waves_long n all ok all_ok of_all plan s are;
   }

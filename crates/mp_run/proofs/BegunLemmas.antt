@@ -23,15 +23,14 @@ use Rattle.mp_core.specs.Simulators.{slot_at, IsBelow, AreBelow, IsSound}
 use Rattle.mp_core.specs.Simulations.{IsFrom, AreSoundCopies, IsSoundRun}
 use Rattle.mp_core.proofs.NumberLemmas.{number_low, events_part}
 use Rattle.mp_core.specs.declared.simulation.Simulation.{Simulation}
-use Rattle.mp_run.specs.declared.delays.Delays.{Delays}
-use Rattle.mp_run.specs.declared.wiring.Wiring.{Wiring}
+use Rattle.mp_run.specs.declared.layout.Layout.{Layout}
 use Rattle.mp_run.specs.Widths.{is_bit_module}
 use Rattle.mp_run.specs.FirstLevels.{first_wave}
 use Rattle.mp_run.specs.Numbers.{AreLinks}
 use Rattle.mp_run.specs.Numbering.{is_bit}
 use Rattle.mp_run.specs.Wirings.{AreWired, reading_below}
 use Rattle.mp_run.specs.Settling.{ports_of, no_unit, first_unit_in, first_unit, is_below, is_first_bit}
-use Rattle.mp_run.specs.Beginnings.{AreBegunBits}
+use Rattle.mp_run.specs.Beginnings.{IsPartOf, AreBegunBits}
 use Rattle.mp_run.proofs.SettlingLemmas.{have_slots, are_below}
 use Rattle.mp_run.proofs.NumberingLemmas.{kept_slots, kept_below, kept_from}
 
@@ -46,26 +45,28 @@ quiet_unit n m (Some r) = by (is_bit_module n r)
     by true = refl
     by false = refl
 
-module _ (n : Circuit) (ok : IsCircuit n) (d : Delays) (wiring : Wiring) (ports : List (List (Option ℕ))) (s : Simulation) (are : AreBegunBits n d wiring ports s) where
+module _ (n all : Circuit) (ok : IsCircuit n) (all_ok : IsCircuit all) (of_all : IsPartOf n all) (plan : Layout) (s : Simulation) (are : AreBegunBits n all plan s) where
   pub waves_long : length s.simulator.waves.items ≡ length n.wires
   waves_long = ap (length {A = Waveform}) are.bits.waves ∙ length-map n.wires first_wave
 
-  pub wired : AreWired (length n.wires) (length n.modules) (reading_below n (length n.modules)) are.wired.inputs wiring
-  wired = are.wired.wired.wired
+  pub wired : AreWired (length n.wires) (length n.modules) (reading_below all (length all.modules)) are.laid.wired.inputs plan.wired.wiring
+  wired =
+      subst (λ k. AreWired k (length n.modules) (reading_below all (length all.modules)) are.laid.wired.inputs plan.wired.wiring) (sym of_all.wires)
+      (subst (λ k. AreWired (length all.wires) k (reading_below all (length all.modules)) are.laid.wired.inputs plan.wired.wiring) (sym of_all.modules) are.laid.wired.wired.wired)
 
   -- how many numbers there are
-  pub numbers : length s.simulator.fanout ≡ length wiring.next.items
-  numbers = ap (length {A = List FanoutEntry}) are.bits.fanout ∙ are.wired.wired.rows
+  pub numbers : length s.simulator.fanout ≡ length plan.wired.wiring.next.items
+  numbers = ap (length {A = List FanoutEntry}) are.bits.fanout ∙ are.laid.wired.wired.rows
 
-  pub links : (longest : ℕ) → d.inputs ≤ longest → AreLinks longest wiring.next.items
+  pub links : (longest : ℕ) → plan.delays.inputs ≤ longest → AreLinks longest plan.wired.wiring.next.items
   links longest high =
-      are.wired.wired.links longest (let some = are.some_input in omega arith)
-      (λ m r at k e within. let low = (are.within m r (slot_within n.modules m r at) at).inputs k e within in omega arith)
+      are.laid.wired.wired.links longest (let some = are.laid.some_input in omega arith)
+      (λ m r at k e within. let low = (are.laid.within m r (slot_within all.modules m r at) at).inputs k e within in omega arith)
 
   pub outputs_within : All (HaveSlots (length s.simulator.wheel)) s.simulator.outputs.items
   outputs_within =
       subst (λ (xs : List OutputPorts). All (HaveSlots (length s.simulator.wheel)) xs) (sym are.bits.outputs)
-      (subst (λ k. All (HaveSlots k) (map ports_of n.modules)) (sym are.bits.units) (have_slots n ok d are.within are.some_output))
+      (subst (λ k. All (HaveSlots k) (map ports_of all.modules)) (sym are.bits.units) (have_slots all all_ok plan.delays are.laid.within are.laid.some_output))
 
   state_past : (m : ℕ) → length n.modules ≤ m → state_at s.simulator.states.items m ≡ 0
   state_past m past =
@@ -108,34 +109,34 @@ module _ (n : Circuit) (ok : IsCircuit n) (d : Delays) (wiring : Wiring) (ports 
     numbered = λ m within. are.bits.settled.each m (let places = are.bits.settled.places in omega arith);
     events = adding;
     levels = are.bits.levels.places ∙ sym are.bits.settled.places;
-    outputs = ap (length {A = OutputPorts}) are.bits.outputs ∙ length-map n.modules ports_of ∙ sym are.bits.settled.places;
+    outputs = ap (length {A = OutputPorts}) are.bits.outputs ∙ length-map all.modules ports_of ∙ sym of_all.modules ∙ sym are.bits.settled.places;
     rows = let a = waves_long in let b = numbers in let c = wired.numbers.enough in omega arith;
     placed = λ x. subst (λ (rows : List (List FanoutEntry)). All (λ (l : FanoutEntry). l.module < length s.simulator.states.items) (row_at rows x)) (sym are.bits.fanout)
-        (subst (λ k. All (λ (l : FanoutEntry). l.module < k) (row_at wiring.rows.items x)) (sym are.bits.settled.places) (wired.placed x));
+        (subst (λ k. All (λ (l : FanoutEntry). l.module < k) (row_at plan.wired.wiring.rows.items x)) (sym are.bits.settled.places) (wired.placed x));
     eventful = λ x. subst (λ (rows : List (List FanoutEntry)). All (λ (l : FanoutEntry). 0 < l.event) (row_at rows x)) (sym are.bits.fanout) (wired.eventful x);
-    some = subst (λ k. 0 < k) (sym are.bits.units) are.some_output;
+    some = subst (λ k. 0 < k) (sym are.bits.units) are.laid.some_output;
     within = outputs_within;
-    driven = subst (λ k. All (AreBelow k) s.simulator.outputs.items) (sym waves_long) (subst (λ (xs : List OutputPorts). All (AreBelow (length n.wires)) xs) (sym are.bits.outputs) (are_below n ok));
+    driven = subst (λ k. All (AreBelow k) s.simulator.outputs.items) (sym of_all.wires ∙ sym waves_long) (subst (λ (xs : List OutputPorts). All (AreBelow (length all.wires)) xs) (sym are.bits.outputs) (are_below all all_ok));
     waved = λ w k past. none_past w k (let a = waves_long in omega arith);
   }
 
-  bit_links : AreLinks (length s.copies.wheel) wiring.next.items
+  bit_links : AreLinks (length s.copies.wheel) plan.wired.wiring.next.items
   bit_links = links (length s.copies.wheel) (let units = are.bits.copies in omega arith)
 
   sound_copies : AreSoundCopies (length s.simulator.fanout) s.copies
   sound_copies = record {
     next = are.bits.next.long ∙ sym numbers;
-    some = let units = are.bits.copies in let some = are.some_input in omega arith;
-    within = kept_slots (is_bit n) wiring.wires.items wiring.next.items s.copies.next.items are.bits.next (length s.copies.wheel)
-        (let units = are.bits.copies in let some = are.some_input in omega arith) bit_links.slots;
-    below = kept_below (is_bit n) wiring.wires.items wiring.next.items s.copies.next.items are.bits.next (length s.simulator.fanout)
-        (subst (λ k. All (IsBelow k) wiring.next.items) (sym numbers) bit_links.below);
+    some = let units = are.bits.copies in let some = are.laid.some_input in omega arith;
+    within = kept_slots (is_bit n) plan.wired.wiring.wires.items plan.wired.wiring.next.items s.copies.next.items are.bits.next (length s.copies.wheel)
+        (let units = are.bits.copies in let some = are.laid.some_input in omega arith) bit_links.slots;
+    below = kept_below (is_bit n) plan.wired.wiring.wires.items plan.wired.wiring.next.items s.copies.next.items are.bits.next (length s.simulator.fanout)
+        (subst (λ k. All (IsBelow k) plan.wired.wiring.next.items) (sym numbers) bit_links.below);
     numbered = λ x k high. none_sum x (slice_index_or s.copies.wheel k []) (are.bits.empty k);
   }
 
   -- the numbers of copies are behind those of wires
-  links_behind : All (IsFrom (length n.wires)) wiring.next.items
-  links_behind = All-from_get_or (IsFrom (length n.wires)) wiring.next.items no_port
+  links_behind : All (IsFrom (length n.wires)) plan.wired.wiring.next.items
+  links_behind = All-from_get_or (IsFrom (length n.wires)) plan.wired.wiring.next.items no_port
       (λ y inside x is. elim (cases_lt x (length n.wires)) as (λ _. length n.wires ≤ x) [
         | inl low ↦ absurd (none-some y (sym (wired.numbers.first x low) ∙ wired.numbers.chained.last y x is))
         | inr past ↦ past
@@ -145,6 +146,6 @@ module _ (n : Circuit) (ok : IsCircuit n) (d : Delays) (wiring : Wiring) (ports 
   sound_run = record {
     simulator = sound_simulator;
     copies = sound_copies;
-    behind = kept_from (is_bit n) wiring.wires.items wiring.next.items s.copies.next.items are.bits.next (length s.simulator.waves.items)
-        (subst (λ k. All (IsFrom k) wiring.next.items) (sym waves_long) links_behind);
+    behind = kept_from (is_bit n) plan.wired.wiring.wires.items plan.wired.wiring.next.items s.copies.next.items are.bits.next (length s.simulator.waves.items)
+        (subst (λ k. All (IsFrom k) plan.wired.wiring.next.items) (sym waves_long) links_behind);
   }

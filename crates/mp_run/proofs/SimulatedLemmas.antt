@@ -41,14 +41,13 @@ use Rattle.mp_units.specs.DataWaves.{no_building, building_at}
 use Rattle.mp_units.specs.DataSeats.{number_at, bit_ports_of, IsDataSeat, AreDataModules}
 use Rattle.mp_units.specs.NetlistSimulations.{AreSplit, IsSimulated}
 use Rattle.mp_units.proofs.LateLemmas.{own_level}
-use Rattle.mp_run.specs.declared.delays.Delays.{Delays}
-use Rattle.mp_run.specs.declared.wiring.Wiring.{Wiring}
+use Rattle.mp_run.specs.declared.layout.Layout.{Layout}
 use Rattle.mp_run.specs.Widths.{is_bit_module}
 use Rattle.mp_run.specs.FirstLevels.{first_building}
 use Rattle.mp_run.specs.Numbering.{level_of_wire, is_bit}
 use Rattle.mp_run.specs.Settling.{is_below}
 use Rattle.mp_run.specs.Seating.{IsSeatedAt}
-use Rattle.mp_run.specs.Beginnings.{IsBegun}
+use Rattle.mp_run.specs.Beginnings.{IsPartOf, IsBegun}
 use Rattle.mp_run.proofs.PortLemmas.{level_slot, bit_slots}
 use Rattle.mp_run.proofs.SettlingLemmas.{delay_some}
 use Rattle.mp_run.proofs.NumberingLemmas.{kept_before, kept_chained, kept_slots, kept_below, old_before}
@@ -90,44 +89,44 @@ number_in [] P all p x is = absurd (none-some x is)
 number_in (y ∷ xs) P all zero x is = subst P (same_Some y x is) (all 0 y (omega arith))
 number_in (y ∷ xs) P all (suc p) x is = number_in xs P (λ k d within. all (suc k) d (omega arith)) p x is
 
-module _ (n : Circuit) (ok : IsCircuit n) (d : Delays) (wiring : Wiring) (ports : List (List (Option ℕ))) (s : NetlistSimulation) (are : IsBegun n d wiring ports s) where
+module _ (n all : Circuit) (ok : IsCircuit n) (all_ok : IsCircuit all) (of_all : IsPartOf n all) (plan : Layout) (s : NetlistSimulation) (are : IsBegun n all plan s) where
   abbrev source : ℕ → ℕ × ℕ
-  source = (wired n ok d wiring ports s.bits are.begun).source
+  source = (wired n all ok all_ok of_all plan s.bits are.begun).source
 
   abbrev old : ℕ → Option ℕ
-  old = (wired n ok d wiring ports s.bits are.begun).before
+  old = (wired n all ok all_ok of_all plan s.bits are.begun).before
 
   abbrev data_before : ℕ → Option ℕ
-  data_before = kept_before (is_data n) wiring.wires.items wiring.next.items s.wires.next.items are.wires.next (wired n ok d wiring ports s.bits are.begun).source (wired n ok d wiring ports s.bits are.begun).origins
-      (wired n ok d wiring ports s.bits are.begun).before (wired n ok d wiring ports s.bits are.begun).numbers.chained
+  data_before = kept_before (is_data n) plan.wired.wiring.wires.items plan.wired.wiring.next.items s.wires.next.items are.wires.next (wired n all ok all_ok of_all plan s.bits are.begun).source (wired n all ok all_ok of_all plan s.bits are.begun).origins
+      (wired n all ok all_ok of_all plan s.bits are.begun).before (wired n all ok all_ok of_all plan s.bits are.begun).numbers.chained
 
   old_data : (x y : ℕ) → data_before x ≡ Some y → (is_data n (source x).0 ≡ true) × (old x ≡ Some y)
-  old_data = old_before (is_data n) wiring.wires.items wiring.next.items s.wires.next.items are.wires.next (wired n ok d wiring ports s.bits are.begun).source (wired n ok d wiring ports s.bits are.begun).origins
-      (wired n ok d wiring ports s.bits are.begun).before (wired n ok d wiring ports s.bits are.begun).numbers.chained
+  old_data = old_before (is_data n) plan.wired.wiring.wires.items plan.wired.wiring.next.items s.wires.next.items are.wires.next (wired n all ok all_ok of_all plan s.bits are.begun).source (wired n all ok all_ok of_all plan s.bits are.begun).origins
+      (wired n all ok all_ok of_all plan s.bits are.begun).before (wired n all ok all_ok of_all plan s.bits are.begun).numbers.chained
 
-  old_bits : (x y : ℕ) → the_before n ok d wiring ports s.bits are.begun x ≡ Some y → (is_bit n (source x).0 ≡ true) × (old x ≡ Some y)
-  old_bits = old_before (is_bit n) wiring.wires.items wiring.next.items s.bits.copies.next.items are.begun.bits.next (wired n ok d wiring ports s.bits are.begun).source (wired n ok d wiring ports s.bits are.begun).origins
-      (wired n ok d wiring ports s.bits are.begun).before (wired n ok d wiring ports s.bits are.begun).numbers.chained
+  old_bits : (x y : ℕ) → the_before n all ok all_ok of_all plan s.bits are.begun x ≡ Some y → (is_bit n (source x).0 ≡ true) × (old x ≡ Some y)
+  old_bits = old_before (is_bit n) plan.wired.wiring.wires.items plan.wired.wiring.next.items s.bits.copies.next.items are.begun.bits.next (wired n all ok all_ok of_all plan s.bits are.begun).source (wired n all ok all_ok of_all plan s.bits are.begun).origins
+      (wired n all ok all_ok of_all plan s.bits are.begun).before (wired n all ok all_ok of_all plan s.bits are.begun).numbers.chained
 
   data_wire : (w : ℕ) (slot : Option WireRecord) → wire_at n w ≡ slot → has_data slot ≡ true → w < length n.wires
   data_wire w None at is = cc
   data_wire w (Some r) at is = slot_within n.wires w r at
 
   own_source : (w : ℕ) → w < length n.wires → source w ≡ (w, 0)
-  own_source w low = (wired n ok d wiring ports s.bits are.begun).numbers.own w low
+  own_source w low = (wired n all ok all_ok of_all plan s.bits are.begun).numbers.own w low
 
   none_before : (x : ℕ) → x < length n.wires → data_before x ≡ None
   none_before x low = by (is_data n (source x).0)
     where
       by : (b : Bool) → cond b (old x) None ≡ None
-      by true = (wired n ok d wiring ports s.bits are.begun).numbers.first x low
+      by true = (wired n all ok all_ok of_all plan s.bits are.begun).numbers.first x low
       by false = refl
 
   -- ---- numbers
-  split : AreSplit n (scope n ok d wiring ports s.bits are.begun) (the_before n ok d wiring ports s.bits are.begun) data_before (length s.bits.simulator.fanout)
+  split : AreSplit n (scope n all ok all_ok of_all plan s.bits are.begun) (the_before n all ok all_ok of_all plan s.bits are.begun) data_before (length s.bits.simulator.fanout)
   split = record {
-    bits = λ x low none. bit_number n ok d wiring ports s.bits are.begun x (let all = numbers n ok d wiring ports s.bits are.begun in omega arith) none;
-    with_data = λ x low is none. own_number x (let all = numbers n ok d wiring ports s.bits are.begun in omega arith) is none;
+    bits = λ x low none. bit_number n all ok all_ok of_all plan s.bits are.begun x (let many = numbers n all ok all_ok of_all plan s.bits are.begun in omega arith) none;
+    with_data = λ x low is none. own_number x (let many = numbers n all ok all_ok of_all plan s.bits are.begun in omega arith) is none;
     wires = λ w is. let low = data_wire w (wire_at n w) refl is in (own_source w low, none_before w low);
     data_copies = λ x y is. (old_data x y is).0;
     bit_copies = λ x y is. not_true (is_data n (source x).0) (old_bits x y is).0;
@@ -137,27 +136,27 @@ module _ (n : Circuit) (ok : IsCircuit n) (d : Delays) (wiring : Wiring) (ports 
       not_true true is = sym is
       not_true false is = refl
 
-      own_number : (x : ℕ) → x < length wiring.next.items → is_data n (source x).0 ≡ true → data_before x ≡ None → source x ≡ (x, 0)
+      own_number : (x : ℕ) → x < length plan.wired.wiring.next.items → is_data n (source x).0 ≡ true → data_before x ≡ None → source x ≡ (x, 0)
       own_number x within is none = elim (cases_lt x (length n.wires)) as (λ _. source x ≡ (x, 0)) [
         | inl low ↦ own_source x low
         | inr past ↦
-            let tied = (wired n ok d wiring ports s.bits are.begun).numbers.tied x past within in
+            let tied = (wired n all ok all_ok of_all plan s.bits are.begun).numbers.tied x past within in
             let some : is_some (old x) ≡ false = ap is_some (sym (ap (λ b. cond b (old x) None) is) ∙ none) in
             absurd (cc (tied, some))
       ]
 
   -- ---- levels
-  all_wires : length wiring.wires.items ≡ length wiring.next.items
-  all_wires = (wired n ok d wiring ports s.bits are.begun).origins.long
+  all_wires : length plan.wired.wiring.wires.items ≡ length plan.wired.wiring.next.items
+  all_wires = (wired n all ok all_ok of_all plan s.bits are.begun).origins.long
 
-  level_first : (x : ℕ) → x < length wiring.next.items → slice_index_or s.wires.levels.items x 0 ≡ late_level n (source x) 0
+  level_first : (x : ℕ) → x < length plan.wired.wiring.next.items → slice_index_or s.wires.levels.items x 0 ≡ late_level n (source x) 0
   level_first x within =
-      let inside : x < length wiring.wires.items = let size = all_wires in omega arith in
+      let inside : x < length plan.wired.wiring.wires.items = let size = all_wires in omega arith in
       let past : 0 - (source x).1 ≡ 0 = omega arith in
       let late : late_level n (source x) 0 ≡ level n (source x).0 (0 - (source x).1) = input_is n ok (record { wire = record { 0 = (source x).0 }; delay = (source x).1 }) 0 in
       ap (λ (xs : List ℕ). slice_index_or xs x 0) are.wires.levels
-      ∙ get_or-map (level_of_wire n) wiring.wires.items x 0 0 inside
-      ∙ ap (level_of_wire n) ((wired n ok d wiring ports s.bits are.begun).origins.each x within)
+      ∙ get_or-map (level_of_wire n) plan.wired.wiring.wires.items x 0 0 inside
+      ∙ ap (level_of_wire n) ((wired n all ok all_ok of_all plan s.bits are.begun).origins.each x within)
       ∙ sym (first_level n ok (source x).0)
       ∙ ap (level n (source x).0) (sym past)
       ∙ sym late
@@ -235,10 +234,10 @@ module _ (n : Circuit) (ok : IsCircuit n) (d : Delays) (wiring : Wiring) (ports 
   early v k later c false is high = never (late_change n v (0 + 1 + k) && c)
 
   data_chained : AreChained source data_before s.wires.next.items
-  data_chained = kept_chained (is_data n) wiring.wires.items wiring.next.items s.wires.next.items are.wires.next (wired n ok d wiring ports s.bits are.begun).source (wired n ok d wiring ports s.bits are.begun).origins
-      (wired n ok d wiring ports s.bits are.begun).before (wired n ok d wiring ports s.bits are.begun).numbers.chained
+  data_chained = kept_chained (is_data n) plan.wired.wiring.wires.items plan.wired.wiring.next.items s.wires.next.items are.wires.next (wired n all ok all_ok of_all plan s.bits are.begun).source (wired n all ok all_ok of_all plan s.bits are.begun).origins
+      (wired n all ok all_ok of_all plan s.bits are.begun).before (wired n all ok all_ok of_all plan s.bits are.begun).numbers.chained
 
-  copy_by : (x k : ℕ) → length n.wires ≤ x → x < length wiring.next.items → (o : Option ℕ) → data_before x ≡ o →
+  copy_by : (x k : ℕ) → length n.wires ≤ x → x < length plan.wired.wiring.next.items → (o : Option ℕ) → data_before x ≡ o →
       0 ≡ bit ((late_change n (source x) (0 + 1 + k) && is_data n (source x).0) && nat_lt k (ahead_by n s.wires.next.items x o))
   copy_by x k past within (Some y) is =
       let later = data_chained.delay x y is in
@@ -247,12 +246,12 @@ module _ (n : Circuit) (ok : IsCircuit n) (d : Delays) (wiring : Wiring) (ports 
     where
       by : (b : Bool) → is_data n (source x).0 ≡ b → 0 ≡ bit ((late_change n (source x) (0 + 1 + k) && is_data n (source x).0) && nat_lt k (ahead_by n s.wires.next.items x None))
       by true has =
-          let tied = (wired n ok d wiring ports s.bits are.begun).numbers.tied x past within in
+          let tied = (wired n all ok all_ok of_all plan s.bits are.begun).numbers.tied x past within in
           let some : is_some (old x) ≡ false = ap is_some (sym (ap (λ b. cond b (old x) None) has) ∙ is) in
           absurd (cc (tied, some))
       by false has = never_data (late_change n (source x) (0 + 1 + k)) (is_data n (source x).0) (nat_lt k (ahead_by n s.wires.next.items x None)) has
 
-  each_first : (x k : ℕ) → x < length wiring.next.items → k < length s.wires.wheel →
+  each_first : (x k : ℕ) → x < length plan.wired.wiring.next.items → k < length s.wires.wheel →
       changes_of x (data_slot s.wires.wheel k) ≡ bit ((late_change n (source x) (0 + 1 + k) && is_data n (source x).0) && nat_lt k (ahead n data_before s.wires.next.items x))
   each_first x k within inside = are.seated.slots x k inside ∙ elim (cases_lt x (length n.wires)) as (λ _. bit (is_below (length n.modules) (driver n x) && (is_first n (driver n x) x (k + 1) && is_data n x)) ≡
       bit ((late_change n (source x) (0 + 1 + k) && is_data n (source x).0) && nat_lt k (ahead n data_before s.wires.next.items x))) [
@@ -274,19 +273,19 @@ module _ (n : Circuit) (ok : IsCircuit n) (d : Delays) (wiring : Wiring) (ports 
       is.level ∙ ap (level n c.number) time ∙ sym (own_level n c.number (0 + 1 + k)) ∙ ap (λ (v : ℕ × ℕ). late_level n v (0 + 1 + k)) (sym (own_source c.number is.wire))
 
   some_units : 0 < length s.wires.wheel
-  some_units = let a = are.begun.some_output in let b = are.outputs in omega arith
+  some_units = let a = are.begun.laid.some_output in let b = are.outputs in omega arith
 
-  wires_first : AreDataWires n source data_before (length wiring.next.items) 0 s.wires
+  wires_first : AreDataWires n source data_before (length plan.wired.wiring.next.items) 0 s.wires
   wires_first =
-      let link = links n ok d wiring ports s.bits are.begun (length s.wires.wheel) are.inputs in
+      let link = links n all ok all_ok of_all plan s.bits are.begun (length s.wires.wheel) are.inputs in
       record {
-        places = ap (length {A = ℕ}) are.wires.levels ∙ length-map wiring.wires.items (level_of_wire n) ∙ all_wires;
+        places = ap (length {A = ℕ}) are.wires.levels ∙ length-map plan.wired.wiring.wires.items (level_of_wire n) ∙ all_wires;
         next = are.wires.next.long;
         chained = data_chained;
-        below = kept_below (is_data n) wiring.wires.items wiring.next.items s.wires.next.items are.wires.next (length wiring.next.items) link.below;
-        within = kept_slots (is_data n) wiring.wires.items wiring.next.items s.wires.next.items are.wires.next (length s.wires.wheel) some_units link.slots;
+        below = kept_below (is_data n) plan.wired.wiring.wires.items plan.wired.wiring.next.items s.wires.next.items are.wires.next (length plan.wired.wiring.next.items) link.below;
+        within = kept_slots (is_data n) plan.wired.wiring.wires.items plan.wired.wiring.next.items s.wires.next.items are.wires.next (length s.wires.wheel) some_units link.slots;
         some = some_units;
-        numbered = λ k j e within. let low = (are.seated.levels k j e within).wire in let enough = (wired n ok d wiring ports s.bits are.begun).numbers.enough in omega arith;
+        numbered = λ k j e within. let low = (are.seated.levels k j e within).wire in let enough = (wired n all ok all_ok of_all plan s.bits are.begun).numbers.enough in omega arith;
         changes = record {
           each = λ x k within inside. each_first x k (let long = are.wires.next.long in omega arith) inside;
           levels = levels_first;
@@ -298,33 +297,34 @@ module _ (n : Circuit) (ok : IsCircuit n) (d : Delays) (wiring : Wiring) (ports 
       }
 
   -- ---- modules with data
-  fires : (q : ℕ) (m : DataModule) → IsSeatedAt n q (slice_index_or ports q []) m → CanFire (length wiring.next.items) (length s.bits.simulator.wheel) (length s.wires.wheel) m
+  fires : (q : ℕ) (m : DataModule) → IsSeatedAt n q (slice_index_or plan.wired.inputs.items q []) m → CanFire (length plan.wired.wiring.next.items) (length s.bits.simulator.wheel) (length s.wires.wheel) m
   fires q m is =
-      let low = slot_within n.modules q is.part is.stands in
-      let delays = (are.begun.within q is.part low is.stands).outputs in
+      let there = of_all.same q is.part is.stands in
+      let low = slot_within all.modules q is.part there in
+      let delays = (are.begun.laid.within q is.part low there).outputs in
       record {
         reads = λ p x reads.
-            number_in (are.begun.wired.inputs q) (λ v. v < length wiring.next.items) ((wired n ok d wiring ports s.bits are.begun).low q) p x
-            (sym (are.begun.wired.by_port q low p) ∙ ap (λ (m : DataModule). slice_index_or m.inputs p None) (sym is.is) ∙ reads);
+            number_in (are.begun.laid.wired.inputs q) (λ v. v < length plan.wired.wiring.next.items) ((wired n all ok all_ok of_all plan s.bits are.begun).low q) p x
+            (sym (are.begun.laid.wired.by_port q low p) ∙ ap (λ (m : DataModule). slice_index_or m.inputs p None) (sym is.is) ∙ reads);
         bits = subst (λ (m : DataModule). HaveSlots (length s.bits.simulator.wheel) m.ports.bits) (sym is.is)
-            (subst (λ k. HaveSlots k (bit_ports_of n is.part)) (sym are.begun.bits.units) (bit_slots n ok d.outputs q is.part is.stands delays are.begun.some_output));
+            (subst (λ k. HaveSlots k (bit_ports_of n is.part)) (sym are.begun.bits.units) (bit_slots n ok plan.delays.outputs q is.part is.stands delays are.begun.laid.some_output));
         level = subst (λ (m : DataModule). HasSlot (length s.wires.wheel) m.ports.level) (sym is.is)
             (level_slot n ok (length s.wires.wheel) q is.part is.stands (λ k e within. let a = delays k e within in let b = are.outputs in omega arith) some_units);
       }
 
-  seat_first : (q : ℕ) (m : DataModule) → IsSeatedAt n q (slice_index_or ports q []) m →
-      IsDataSeat n (scope n ok d wiring ports s.bits are.begun) (length wiring.next.items) (length s.bits.simulator.wheel) (length s.wires.wheel) 0 q m
+  seat_first : (q : ℕ) (m : DataModule) → IsSeatedAt n q (slice_index_or plan.wired.inputs.items q []) m →
+      IsDataSeat n (scope n all ok all_ok of_all plan s.bits are.begun) (length plan.wired.wiring.next.items) (length s.bits.simulator.wheel) (length s.wires.wheel) 0 q m
   seat_first q m is =
-      let low = slot_within n.modules q is.part is.stands in
+      let low = slot_within all.modules q is.part (of_all.same q is.part is.stands) in
       record {
         record_of = is.part;
         stands = is.stands;
         inactive = ap (seat_of n q) is.stands ∙ ap (λ b. cond b (Some q) None) is.wide;
         does = ap (λ (m : DataModule). any_part m.part) is.is ∙ data_part_is n is.part is.wide;
         outputs = ap (λ (m : DataModule). m.outputs) is.is;
-        sources = sources_own n ok d wiring ports s.bits are.begun q is.part is.stands;
-        reads = λ p. ap (λ (m : DataModule). slice_index_or m.inputs p None) is.is ∙ are.begun.wired.by_port q low p;
-        low = (wired n ok d wiring ports s.bits are.begun).low q;
+        sources = sources_own n all ok all_ok of_all plan s.bits are.begun q is.part is.stands;
+        reads = λ p. ap (λ (m : DataModule). slice_index_or m.inputs p None) is.is ∙ are.begun.laid.wired.by_port q low p;
+        low = (wired n all ok all_ok of_all plan s.bits are.begun).low q;
         bits = ap (λ (m : DataModule). m.ports.bits) is.is;
         level = ap (λ (m : DataModule). m.ports.level) is.is;
         first = λ w p drv has. data_first n ok q p w drv has;
@@ -338,11 +338,11 @@ module _ (n : Circuit) (ok : IsCircuit n) (d : Delays) (wiring : Wiring) (ports 
       by true bits e = absurd (none-some m (sym e))
       by false bits e = are.seated.whole m r (slot_within n.modules m r at) at bits
 
-  modules_first : AreDataModules n (scope n ok d wiring ports s.bits are.begun) (length wiring.next.items) (length s.bits.simulator.states.items) (length s.bits.simulator.wheel) (length s.wires.wheel) 0 s.modules
+  modules_first : AreDataModules n (scope n all ok all_ok of_all plan s.bits are.begun) (length plan.wired.wiring.next.items) (length s.bits.simulator.states.items) (length s.bits.simulator.wheel) (length s.wires.wheel) 0 s.modules
   modules_first = record {
     long = are.seated.long ∙ sym are.begun.bits.settled.places;
     placed = are.seated.placed;
-    fit = All-from_get_or (CanFire (length wiring.next.items) (length s.bits.simulator.wheel) (length s.wires.wheel)) s.modules.modules.items no_module
+    fit = All-from_get_or (CanFire (length plan.wired.wiring.next.items) (length s.bits.simulator.wheel) (length s.wires.wheel)) s.modules.modules.items no_module
         (λ k inside. let place = are.seated.each k inside in fires place.place (data_module_at s.modules.modules.items k) (are.seated.seats place.place k place.is));
     seats = λ q k is. seat_first q (data_module_at s.modules.modules.items k) (are.seated.seats q k is);
     whole = whole_first;
@@ -350,20 +350,20 @@ module _ (n : Circuit) (ok : IsCircuit n) (d : Delays) (wiring : Wiring) (ports 
 
   pub simulated : IsSimulated n 0 s
   simulated = record {
-    scope = scope n ok d wiring ports s.bits are.begun;
-    before = the_before n ok d wiring ports s.bits are.begun;
+    scope = scope n all ok all_ok of_all plan s.bits are.begun;
+    before = the_before n all ok all_ok of_all plan s.bits are.begun;
     data_before = data_before;
-    sound = sound_run n ok d wiring ports s.bits are.begun;
-    running = running n ok d wiring ports s.bits are.begun;
-    whole = whole n ok d wiring ports s.bits are.begun;
+    sound = sound_run n all ok all_ok of_all plan s.bits are.begun;
+    running = running n all ok all_ok of_all plan s.bits are.begun;
+    whole = whole n all ok all_ok of_all plan s.bits are.begun;
     own = λ w u. refl;
     traces = λ w. refl;
     known = λ m r at. refl;
     places = are.begun.bits.settled.places;
     seats = λ m r at. ap (seat_of n m) at;
-    waves = waves_long n ok d wiring ports s.bits are.begun;
+    waves = waves_long n all ok all_ok of_all plan s.bits are.begun;
     split = split;
-    wires = subst (λ k. AreDataWires n source data_before k 0 s.wires) (sym (numbers n ok d wiring ports s.bits are.begun)) wires_first;
-    modules = subst (λ k. AreDataModules n (scope n ok d wiring ports s.bits are.begun) k (length s.bits.simulator.states.items) (length s.bits.simulator.wheel) (length s.wires.wheel) 0 s.modules)
-        (sym (numbers n ok d wiring ports s.bits are.begun)) modules_first;
+    wires = subst (λ k. AreDataWires n source data_before k 0 s.wires) (sym (numbers n all ok all_ok of_all plan s.bits are.begun)) wires_first;
+    modules = subst (λ k. AreDataModules n (scope n all ok all_ok of_all plan s.bits are.begun) k (length s.bits.simulator.states.items) (length s.bits.simulator.wheel) (length s.wires.wheel) 0 s.modules)
+        (sym (numbers n all ok all_ok of_all plan s.bits are.begun)) modules_first;
   }

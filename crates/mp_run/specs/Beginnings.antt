@@ -1,6 +1,8 @@
--- What a simulation of a netlist begins with.
-use Rattle.std.specs.Prelude.{◌≡◌, ℕ, ◌<◌, ◌≤◌, List, [], Option, length, map, slice_index_or}
-use Rattle.mp_netlist.specs.Circuit.{Circuit}
+-- What a simulation of a netlist begins with, whose numbers may be those of a netlist with more modules.
+use Rattle.std.specs.Prelude.{◌≡◌, ℕ, ◌<◌, ◌≤◌, List, [], Some, length, map, slice_index_or}
+use Rattle.mp_records.specs.declared.module_record.ModuleRecord.{ModuleRecord}
+use Rattle.mp_netlist.specs.Circuit.{Circuit, IsCircuit, module_at}
+use Rattle.mp_events.specs.declared.output_ports.OutputPorts.{OutputPorts}
 use Rattle.mp_core.specs.declared.simulation.Simulation.{Simulation}
 use Rattle.mp_data.specs.declared.level_change.LevelChange.{LevelChange}
 use Rattle.mp_units.specs.declared.data_wires.DataWires.{DataWires}
@@ -8,6 +10,7 @@ use Rattle.mp_units.specs.declared.netlist_simulation.NetlistSimulation.{Netlist
 use Rattle.mp_units.specs.DataLevels.{is_data}
 use Rattle.mp_run.specs.declared.delays.Delays.{Delays}
 use Rattle.mp_run.specs.declared.wiring.Wiring.{Wiring}
+use Rattle.mp_run.specs.declared.layout.Layout.{Layout}
 use Rattle.mp_run.specs.Delays.{AreWithin}
 use Rattle.mp_run.specs.FirstLevels.{first_wave, first_building}
 use Rattle.mp_run.specs.Settling.{ports_of, IsSettled, AreFirstLevels}
@@ -15,11 +18,17 @@ use Rattle.mp_run.specs.Wirings.{AreWiredInputs}
 use Rattle.mp_run.specs.Numbering.{AreCopiesOf, level_of_wire, is_bit}
 use Rattle.mp_run.specs.Seating.{IsSeated}
 
--- the modules and wires of width 1
-pub record AreFirstBits (n : Circuit) (wiring : Wiring) (d : Delays) (s : Simulation) : Type 0 where
+-- a netlist has as many slots as another, and of its modules some or all
+pub record IsPartOf (part n : Circuit) : Type 0 where
+  pub wires : length part.wires ≡ length n.wires
+  pub modules : length part.modules ≡ length n.modules
+  pub same : (m : ℕ) (r : ModuleRecord) → module_at part m ≡ Some r → module_at n m ≡ Some r
+
+-- the modules and wires of width 1 of a part, with the outputs of all modules
+pub record AreFirstBits (n all : Circuit) (wiring : Wiring) (d : Delays) (s : Simulation) : Type 0 where
   pub settled : IsSettled n (length n.modules) s.simulator.states.items s.simulator.wheel
   pub levels : AreFirstLevels n (length n.modules) s.simulator.levels.items
-  pub outputs : s.simulator.outputs.items ≡ map ports_of n.modules
+  pub outputs : s.simulator.outputs.items ≡ map ports_of all.modules
   pub fanout : s.simulator.fanout ≡ wiring.rows.items
   pub waves : s.simulator.waves.items ≡ map first_wave n.wires
   pub due : s.simulator.due.items ≡ []
@@ -35,18 +44,30 @@ pub record AreFirstWires (n : Circuit) (wiring : Wiring) (slots : List (List Lev
   pub waves : s.waves.items ≡ map first_building n.wires
   pub wheel : s.wheel ≡ slots
 
--- the same, with what was read of the netlist, and its delays
-pub record AreBegunBits (n : Circuit) (d : Delays) (wiring : Wiring) (ports : List (List (Option ℕ))) (s : Simulation) : Type 0 where
-  pub within : AreWithin n (length n.modules) d
-  pub some_output : 0 < d.outputs
-  pub some_input : 0 < d.inputs
-  pub wired : AreWiredInputs n (length n.modules) wiring ports
-  pub bits : AreFirstBits n wiring d s
+-- the longest delays of a netlist, and which numbers its modules read
+pub record IsLayout (n : Circuit) (layout : Layout) : Type 0 where
+  pub within : AreWithin n (length n.modules) layout.delays
+  pub some_output : 0 < layout.delays.outputs
+  pub some_input : 0 < layout.delays.inputs
+  pub wired : AreWiredInputs n (length n.modules) layout.wired.wiring layout.wired.inputs.items
+
+-- the layout, and these outputs, are of a netlist of which this one is a part
+pub record CanBegin (n : Circuit) (layout : Layout) (outputs : List OutputPorts) : Type 0 where
+  pub all : Circuit
+  pub form : IsCircuit all
+  pub part : IsPartOf n all
+  pub laid : IsLayout all layout
+  pub driven : outputs ≡ map ports_of all.modules
+
+-- the modules and wires of width 1 of a part, by the layout of all
+pub record AreBegunBits (n all : Circuit) (layout : Layout) (s : Simulation) : Type 0 where
+  pub laid : IsLayout all layout
+  pub bits : AreFirstBits n all layout.wired.wiring layout.delays s
 
 -- all of it, with no delay longer than the wheels
-pub record IsBegun (n : Circuit) (d : Delays) (wiring : Wiring) (ports : List (List (Option ℕ))) (s : NetlistSimulation) : Type 0 where
-  pub begun : AreBegunBits n d wiring ports s.bits
-  pub wires : AreFirstWires n wiring s.wires.wheel s.wires
-  pub seated : IsSeated n (length n.modules) ports (record { modules = s.modules; wheel = s.wires.wheel })
-  pub outputs : d.outputs ≤ length s.wires.wheel
-  pub inputs : d.inputs ≤ length s.wires.wheel
+pub record IsBegun (n all : Circuit) (layout : Layout) (s : NetlistSimulation) : Type 0 where
+  pub begun : AreBegunBits n all layout s.bits
+  pub wires : AreFirstWires n layout.wired.wiring s.wires.wheel s.wires
+  pub seated : IsSeated n (length n.modules) layout.wired.inputs.items (record { modules = s.modules; wheel = s.wires.wheel })
+  pub outputs : layout.delays.outputs ≤ length s.wires.wheel
+  pub inputs : layout.delays.inputs ≤ length s.wires.wheel

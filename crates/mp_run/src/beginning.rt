@@ -1,24 +1,16 @@
 //! What a simulation of a netlist begins with.
-ghost use Rattle.std.specs.Prelude.{◌≡◌, ◌<◌, IfOk, length};
+ghost use Rattle.std.specs.Prelude.{◌≡◌, ◌<◌, IfOk};
 ghost use Rattle.mp_netlist.specs.Circuit.{IsCircuit};
 ghost use Rattle.mp_units.specs.NetlistSimulations.{IsSimulated};
 ghost use Rattle.mp_run.specs.Narrow.{IsNarrow};
-ghost use Rattle.mp_run.specs.Delays.{AreWithin};
 ghost use Rattle.mp_run.specs.Evaluations.{IsEvaluated};
-ghost use Rattle.mp_run.specs.Beginnings.{AreFirstBits, AreFirstWires};
 
-use crate::delays::Delays;
-use crate::first_levels::{first_buildings, first_waves};
-use crate::numbering::{bit_copies, data_copies, levels_of};
-use crate::seating::{Seating, seat_all};
-use crate::settling::{Settling, all_outputs, settle_all};
-use crate::wiring::{WiredInputs, Wiring, wiring_of};
+use crate::layout::Layout;
+use crate::settling::all_outputs;
 use mp_automata::TransitionTable;
-use mp_core::{DelayedCopies, Simulation, Simulator};
-use mp_data::{LevelSlot, LevelWheel};
-use mp_events::{EventSlot, EventWheel, Fanout};
+use mp_core::Simulation;
 use mp_regions::Region;
-use mp_units::{DataWires, NetlistSimulation};
+use mp_units::NetlistSimulation;
 use std::alloc::{AllocError, Global};
 
 /// A simulation of a netlist at time 0: all wires have their initial levels, and each module is settled. An output whose level isn't the initial
@@ -28,17 +20,10 @@ pub fn begin(alloc: Global, netlist: &Region<'_>) -> Result<NetlistSimulation, A
     ensures simulated { IfOk result (λ simulation. IsSimulated netlist.now 0 simulation) }
     ensures narrow { IfOk result (λ simulation. IsNarrow netlist.now → IsEvaluated netlist.now 0 simulation.bits) }
 {
-    let delays = Delays::of(netlist);
-    let WiredInputs { wiring, inputs } = wiring_of(alloc, netlist)?;
-    let units = delays.longest() as usize;
-    let Seating { modules, wheel } = seat_all(alloc, netlist, inputs.as_slice(), units)?;
-    let wires = first_data_wires(alloc, netlist, &wiring, wheel)?;
-    let bits = first_bits(alloc, netlist, &wiring, delays)?;
-    Ok(NetlistSimulation {
-        bits,
-        wires,
-        modules,
-    })
+    let layout = Layout::of(alloc, netlist)?;
+    let outputs = all_outputs(alloc, netlist)?;
+    let table = TransitionTable::new(alloc)?;
+    layout.begin(alloc, netlist, outputs, table)
 }
 
 /// The same of a netlist whose wires have width 1, so that no module and no wire has data.
@@ -47,74 +32,9 @@ pub(crate) fn begin_bits(alloc: Global, netlist: &Region<'_>) -> Result<Simulati
     requires narrow { IsNarrow netlist.now }
     ensures { IfOk result (λ bits. IsEvaluated netlist.now 0 bits) }
 {
-    let delays = Delays::of(netlist);
-    let WiredInputs { wiring, .. } = wiring_of(alloc, netlist)?;
-    let bits = first_bits(alloc, netlist, &wiring, delays)?;
-    Ok(bits)
-}
-
-/// The wires of any width at time 0, with the levels to come.
-fn first_data_wires(
-    alloc: Global,
-    netlist: &Region<'_>,
-    wiring: &Wiring,
-    wheel: LevelWheel,
-) -> Result<DataWires, AllocError>
-    requires { length wiring.now.wires.items ≡ length wiring.now.next.items }
-    ensures { IfOk result (λ wires. AreFirstWires netlist.now wiring.now wheel wires) }
-{
-    let numbers = wiring.wires.as_slice();
-    Ok(DataWires {
-        levels: levels_of(alloc, netlist, numbers)?,
-        next: data_copies(alloc, netlist, numbers, wiring.next.as_slice())?,
-        wheel,
-        present: LevelSlot::new(alloc),
-        waves: first_buildings(alloc, netlist)?,
-        heard: Vec::new(alloc),
-    })
-}
-
-/// The modules and wires of width 1 at time 0.
-fn first_bits(
-    alloc: Global,
-    netlist: &Region<'_>,
-    wiring: &Wiring,
-    delays: Delays,
-) -> Result<Simulation, AllocError>
-    requires form { IsCircuit netlist.now }
-    requires origins { length wiring.now.wires.items ≡ length wiring.now.next.items }
-    requires within { AreWithin netlist.now (length netlist.now.modules) delays }
-    requires some { 0 < delays.outputs }
-    ensures { IfOk result (λ bits. AreFirstBits netlist.now wiring.now delays bits) }
-{
+    let layout = Layout::of(alloc, netlist)?;
     let outputs = all_outputs(alloc, netlist)?;
-    let units = delays.outputs as usize;
-    let Settling {
-        states,
-        levels,
-        wheel,
-    } = settle_all(alloc, netlist, outputs.as_slice(), units)?;
-    let next = bit_copies(
-        alloc,
-        netlist,
-        wiring.wires.as_slice(),
-        wiring.next.as_slice(),
-    )?;
-    let simulator = Simulator {
-        table: TransitionTable::new(alloc)?,
-        fanout: Fanout::from_rows(alloc, wiring.rows.as_slice())?,
-        outputs,
-        states,
-        levels,
-        due: Vec::new(alloc),
-        waves: first_waves(alloc, netlist)?,
-        wheel,
-        present: EventSlot::new(alloc),
-    };
-    let copies = DelayedCopies {
-        next,
-        wheel: EventWheel::new(alloc, delays.inputs as usize)?,
-        present: EventSlot::new(alloc),
-    };
-    Ok(Simulation { simulator, copies })
+    let table = TransitionTable::new(alloc)?;
+    let bits = layout.first_bits(alloc, netlist, outputs, table)?;
+    Ok(bits)
 }

@@ -5,6 +5,7 @@ mod beginning;
 mod delays;
 mod finishing;
 mod first_levels;
+mod layout;
 mod narrow;
 mod numbering;
 mod running;
@@ -16,6 +17,7 @@ mod wiring;
 
 pub use beginning::begin;
 pub use finishing::found_waves;
+pub use layout::Layout;
 pub use narrow::is_narrow;
 pub use running::run_waves;
 pub use stimuli::{HeardChanges, Stimuli, StimulusChange};

@@ -7,8 +7,8 @@ ghost use Rattle.mp_netlist.specs.Circuit.{IsCircuit, wire_at, module_at};
 ghost use Rattle.mp_model.specs.Levels.{initial_of, built};
 ghost use Rattle.mp_model.specs.Waves.{state};
 ghost use Rattle.mp_automata.specs.PortLevels.{levels_code};
-ghost use Rattle.mp_events.specs.Firing.{HaveSlots, scheduled, fired_at, number_of};
-ghost use Rattle.mp_core.specs.Schedules.{output_port_of};
+ghost use Rattle.mp_events.specs.Firing.{HaveSlots, scheduled, fired_at, number_of, ports_at};
+ghost use Rattle.mp_core.specs.Schedules.{output_port_of, output_ports_of};
 ghost use Rattle.mp_units.specs.DataLevels.{is_data};
 ghost use Rattle.mp_run.specs.Settling.{IsShort, ports_of, departs, departing, no_unit, first_unit_of, first_unit, first_entries, IsSettled, AreFirstLevels};
 
@@ -99,7 +99,8 @@ pub(crate) fn settle_all(
     units: usize,
 ) -> Result<Settling, AllocError>
     requires form { IsCircuit netlist.now }
-    requires ports { outputs.now ≡ map ports_of netlist.now.modules }
+    requires places { length outputs.now ≡ length netlist.now.modules }
+    requires ports { (m : ℕ) (r : Part) → module_at netlist.now m ≡ Some r → ports_at outputs.now m ≡ output_ports_of r }
     requires within { All (HaveSlots units) outputs.now }
     ensures settled { IfOk result (λ s. IsSettled netlist.now (length netlist.now.modules) s.states.items s.wheel) }
     ensures levels { IfOk result (λ s. AreFirstLevels netlist.now (length netlist.now.modules) s.levels.items) }
@@ -129,7 +130,7 @@ fn settle_module(
     wheel: &mut EventWheel,
 ) -> Result<SettledModule, AllocError>
     requires form { IsCircuit netlist.now }
-    requires ports { ports ≡ ports_of (module_at netlist.now id.0) }
+    requires ports { (r : Part) → module_at netlist.now id.0 ≡ Some r → ports ≡ output_ports_of r }
     requires within { HaveSlots (length wheel.old) ports }
     ensures state { IfOk result (λ settled. settled.state.0 ≡ number_of (first_unit netlist.now id.0)) }
     ensures levels { IfOk result (λ settled. (r : Part) → module_at netlist.now id.0 ≡ Some r → settled.levels.0 ≡ levels_code (state netlist.now id.0 0)) }

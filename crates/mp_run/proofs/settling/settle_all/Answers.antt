@@ -1,7 +1,21 @@
-use Rattle.std.proofs.Common.{◌∙◌}
+use Rattle.std.proofs.Common.{None, arith, ◌∙◌}
+use Rattle.std.proofs.lemmas.List.{get_or_default}
+use Rattle.mp_model.proofs.SlotLemmas.{slot_within}
+use Rattle.mp_events.specs.declared.output_port.OutputPort.{OutputPort}
+use Rattle.mp_events.specs.declared.output_ports.OutputPorts.{OutputPorts}
+use Rattle.mp_events.specs.Firing.{no_port}
 use Rattle.mp_run.proofs.SettlingLemmas.{settled_next}
 use Rattle.mp_run.proofs.FirstLevelLemmas.{levels_next}
 use Rattle.mp_run.proofs.settling.settle_all.Goals as goal
+
+pub settle_module-requires-clause-ports : goal.settle_module-requires-clause-ports
+settle_module-requires-clause-ports c r at =
+    let low = slot_within c.args.netlist.now.modules c.loop-m.m r at in
+    let places = c.requires.places in
+    let blank : OutputPort = record { wire = None; delay = 0 } in
+    let blanks : OutputPorts = record { first = blank; second = blank; third = blank } in
+    let absent : OutputPorts = record { first = no_port; second = no_port; third = no_port } in
+    get_or_default c.args.outputs.now c.loop-m.m blanks absent (omega arith) ∙ c.requires.ports c.loop-m.m r at
 
 pub loop-m-preserved : goal.loop-m-preserved
 loop-m-preserved c =

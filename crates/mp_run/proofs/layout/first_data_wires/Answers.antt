@@ -2,7 +2,7 @@ use Rattle.std.proofs.Common.{ℕ, List, map, subst, ap, ◌∙◌}
 use Rattle.mp_events.specs.declared.output_port.OutputPort.{OutputPort}
 use Rattle.mp_units.specs.DataLevels.{is_data}
 use Rattle.mp_run.specs.Numbering.{AreCopiesOf, level_of_wire}
-use Rattle.mp_run.proofs.beginning.first_data_wires.Goals as goal
+use Rattle.mp_run.proofs.layout.first_data_wires.Goals as goal
 
 pub returns : goal.returns
 returns c = record {
