@@ -1,6 +1,7 @@
 //! Modules in groups that are connected by wires, and in which part each group is.
 use crate::division::note_outputs;
 use crate::home::{NOWHERE, home_of};
+use crate::neighbors::Neighbors;
 use mp_netlist::{Input, ModuleId, Netlist, Output};
 use std::alloc::{AllocError, Global};
 
@@ -8,25 +9,31 @@ use std::alloc::{AllocError, Global};
 const CUTS: [u32; 4] = [16, 8, 4, 2];
 
 /// For each module its part: at most so many parts, with about as many modules in each. Connected modules are together, but for groups that are
-/// larger than a part is to be.
+/// larger than a part is to be: of these, modules are together that a walk along the wires meets one after the other.
 pub fn homes_of(alloc: Global, netlist: &Netlist, count: u32) -> Result<Vec<u32>, AllocError> {
     let drivers = Drivers::of(alloc, netlist)?;
     let modules = netlist.module_slots() as usize;
     let share = modules.div_ceil(count.max(1) as usize);
+    let share = Share {
+        parts: count,
+        share,
+    };
     let whole = drivers.groups(alloc, netlist, &[], u32::MAX)?;
     let sizes = sizes_of(alloc, whole.as_slice())?;
-    if largest(sizes.as_slice()) <= share {
-        return homes_in(alloc, whole.as_slice(), count, share);
+    let numbers = by_number(alloc, netlist.module_slots())?;
+    if largest(sizes.as_slice()) <= share.share {
+        return share.homes_in(alloc, whole.as_slice(), numbers.as_slice());
     }
-    let together = groups_that_fit(alloc, whole.as_slice(), sizes.as_slice(), share)?;
+    let together = groups_that_fit(alloc, whole.as_slice(), sizes.as_slice(), share.share)?;
     for cut in CUTS {
         let pieces = drivers.groups(alloc, netlist, together.as_slice(), cut)?;
         let sizes = sizes_of(alloc, pieces.as_slice())?;
-        if largest(sizes.as_slice()) <= share.div_ceil(4) {
-            return homes_in(alloc, pieces.as_slice(), count, share);
+        if largest(sizes.as_slice()) <= share.share.div_ceil(4) {
+            let order = drivers.walk(alloc, netlist, numbers.as_slice())?;
+            return share.homes_in(alloc, pieces.as_slice(), order.as_slice());
         }
     }
-    homes_in(alloc, whole.as_slice(), count, share)
+    share.homes_in(alloc, whole.as_slice(), numbers.as_slice())
 }
 
 /// For each wire the module that drives it, and the delay of its port.
@@ -39,8 +46,8 @@ struct Drivers {
 impl Drivers {
     fn of(alloc: Global, netlist: &Netlist) -> Result<Drivers, AllocError> {
         let mut drivers = Drivers {
-            modules: filled(alloc, netlist.wire_slots(), NOWHERE)?,
-            delays: filled(alloc, netlist.wire_slots(), 0)?,
+            modules: vec![in alloc; NOWHERE; netlist.wire_slots() as usize]?,
+            delays: vec![in alloc; 0u32; netlist.wire_slots() as usize]?,
         };
         for m in 0..netlist.module_slots() {
             if let Some(found) = netlist.module(ModuleId(m)) {
@@ -79,6 +86,19 @@ impl Drivers {
         Ok(heads)
     }
 
+    /// All modules, in the order in which a walk along the wires meets them. It begins at a module that is far from others.
+    fn walk(
+        &self,
+        alloc: Global,
+        netlist: &Netlist,
+        numbers: &[u32],
+    ) -> Result<Vec<u32>, AllocError> {
+        let neighbors = Neighbors::of(alloc, netlist, self.modules.as_slice())?;
+        let mut far = neighbors.walk(alloc, numbers)?;
+        far.reverse();
+        neighbors.walk(alloc, far.as_slice())
+    }
+
     /// Joins a module's group with those of the modules that drive its inputs by shorter delays.
     fn join_inputs(&self, heads: &mut Vec<u32>, m: u32, inputs: &[Input], cut: u32) {
         for input in inputs {
@@ -97,14 +117,6 @@ fn note_delays(delays: &mut Vec<u32>, outputs: &[Output]) {
             put(delays, wire.0, output.delay);
         }
     }
-}
-
-fn filled(alloc: Global, count: u32, number: u32) -> Result<Vec<u32>, AllocError> {
-    let mut list = Vec::new(alloc);
-    for _ in 0..count {
-        list.push(number)?;
-    }
-    Ok(list)
 }
 
 /// Joins the groups of two modules, where both are there.
@@ -136,7 +148,7 @@ fn head_of(heads: &mut Vec<u32>, m: u32) -> u32 {
     at
 }
 
-fn put(list: &mut Vec<u32>, place: u32, number: u32) {
+pub fn put(list: &mut Vec<u32>, place: u32, number: u32) {
     if let Some(slot) = list.get_mut(place as usize) {
         *slot = number;
     }
@@ -144,10 +156,7 @@ fn put(list: &mut Vec<u32>, place: u32, number: u32) {
 
 /// For each module how many its group has, if it is the first of them.
 fn sizes_of(alloc: Global, heads: &[u32]) -> Result<Vec<u32>, AllocError> {
-    let mut sizes = Vec::new(alloc);
-    for _head in heads {
-        sizes.push(0)?;
-    }
+    let mut sizes = vec![in alloc; 0u32; heads.len()]?;
     for head in heads {
         let size = home_of(sizes.as_slice(), *head);
         put(&mut sizes, *head, size.saturating_add(1));
@@ -178,35 +187,51 @@ fn groups_that_fit(
     Ok(together)
 }
 
-/// The parts of modules, group by group in the order of their first modules. The next part is begun where more than half of a group is too
-/// much.
-fn homes_in(
-    alloc: Global,
-    heads: &[u32],
-    count: u32,
-    share: usize,
-) -> Result<Vec<u32>, AllocError> {
-    let sizes = sizes_of(alloc, heads)?;
-    let mut parts = Vec::new(alloc);
-    let mut part = 0u32;
-    let mut load = 0usize;
-    for size in sizes.as_slice() {
-        let size = *size as usize;
-        if is_too_much(load, size, share) && part.saturating_add(1) < count {
-            part = part.saturating_add(1);
-            load = 0;
-        }
-        parts.push(part)?;
-        load = load.saturating_add(size);
+/// The modules by number.
+fn by_number(alloc: Global, count: u32) -> Result<Vec<u32>, AllocError> {
+    let mut numbers = Vec::new(alloc);
+    for m in 0..count {
+        numbers.push(m)?;
     }
-    let mut homes = Vec::new(alloc);
-    for head in heads {
-        homes.push(home_of(parts.as_slice(), *head))?;
-    }
-    Ok(homes)
+    Ok(numbers)
 }
 
-/// Whether more than half of a group goes beyond the share of a part with this load.
-fn is_too_much(load: usize, size: usize, share: usize) -> bool {
-    load > 0 && load.saturating_mul(2).saturating_add(size) > share.saturating_mul(2)
+/// At most so many parts, and how many modules each is to have.
+#[derive(Clone, Copy)]
+struct Share {
+    parts: u32,
+    share: usize,
+}
+
+impl Share {
+    /// The parts of modules, group by group in the order in which the first of their modules come. The next part is begun where more than half of
+    /// a group is too much.
+    fn homes_in(self, alloc: Global, heads: &[u32], order: &[u32]) -> Result<Vec<u32>, AllocError> {
+        let sizes = sizes_of(alloc, heads)?;
+        let mut parts = vec![in alloc; NOWHERE; heads.len()]?;
+        let mut part = 0u32;
+        let mut load = 0usize;
+        for m in order {
+            let head = home_of(heads, *m);
+            if home_of(parts.as_slice(), head) == NOWHERE {
+                let size = home_of(sizes.as_slice(), head) as usize;
+                if self.is_too_much(load, size) && part.saturating_add(1) < self.parts {
+                    part = part.saturating_add(1);
+                    load = 0;
+                }
+                put(&mut parts, head, part);
+                load = load.saturating_add(size);
+            }
+        }
+        let mut homes = Vec::new(alloc);
+        for head in heads {
+            homes.push(home_of(parts.as_slice(), *head))?;
+        }
+        Ok(homes)
+    }
+
+    /// Whether more than half of a group goes beyond the share of a part with this load.
+    fn is_too_much(self, load: usize, size: usize) -> bool {
+        load > 0 && load.saturating_mul(2).saturating_add(size) > self.share.saturating_mul(2)
+    }
 }

@@ -6,6 +6,7 @@ mod division;
 mod groups;
 mod heard;
 mod home;
+mod neighbors;
 mod region;
 
 pub use division::{Division, divide};
