@@ -1,7 +1,8 @@
 //! Things by number and by name.
-ghost use Rattle.std.specs.Prelude.{◌≡◌, ◌<◌, List, ℕ, None, is_some, option_map, slice_index_or, slice_set, vec_len};
+ghost use Rattle.std.specs.Prelude.{◌≡◌, ◌<◌, List, ℕ, None, option_map, slice_index_or, slice_set, vec_len};
+ghost use Rattle.mp_netlist.specs.Slots.{slot_at, has_name};
 
-use crate::index::Index;
+use crate::index::{Index, hash_of};
 use mp_records::Name;
 use std::alloc::{AllocError, Global};
 use std::marker::Model;
@@ -28,8 +29,7 @@ pub trait Change<R: Named>: Drop {
     ghost keeps_name: { (change : Self) (thing : R) → R.name_of (changed change thing) ≡ R.name_of thing };
 }
 
-/// Things by number, from 0 in order of adding, and by name. The number of a thing that went may stay in the index, since its slot stays
-/// empty.
+/// Things by number, from 0 in order of adding, and by name. The hash of a thing that went stays in the index, and its slot stays empty.
 #[derive(Drop)]
 pub struct Table<R: Named> {
     slots: Vec<Option<R>>,
@@ -38,14 +38,13 @@ pub struct Table<R: Named> {
 
 impl<R: Named> Model for Table<R> {
     ghost use Rattle.std.specs.Prelude.{List, Option};
-    ghost use Rattle.mp_netlist.specs.Indexes.{number_in};
     ghost use Rattle.mp_netlist.specs.Tables.{IsTable};
 
     ghost Value = { List (Option R) };
 
     ghost view = { λ table. table.slots.items };
 
-    ghost invariant = { λ table. IsTable R.name_of table.slots.items (number_in table.index) };
+    ghost invariant = { λ table. IsTable R.name_of table.slots.items table.index };
 }
 
 impl<R: Named> Table<R> {
@@ -77,10 +76,14 @@ impl<R: Named> Table<R> {
     pub fn number_named(&self, name: &str) -> Option<u32>
         ensures { result ≡ number_named R.name_of self.now name.now }
     {
-        match self.index.get(name) {
-            Some(number) if stands(self.slots.as_slice(), number) => Some(number),
-            _ => None,
+        let mut found = self.index.last(hash_of(name));
+        while let Some(number) = found {
+            if has_name(self.slots.as_slice(), number, name) {
+                return Some(number);
+            }
+            found = self.index.before(number);
         }
+        None
     }
 
     /// Adds a thing of a new name, with the next number.
@@ -90,10 +93,10 @@ impl<R: Named> Table<R> {
         ensures ok { OnOk result (self.new ≡ self.old ++ Some added ∷ []) }
         ensures err { OnErr result (self.new ≡ self.old) }
     {
-        let number = self.slots.len() as u32;
         let alloc = *self.slots.allocator();
+        let hash = hash_of(added.name().as_str());
         self.slots.reserve(1)?;
-        self.index.insert(alloc, added.name(), number)?;
+        self.index.push(alloc, hash)?;
         self.slots.push(Some(added)).unwrap();
         Ok(())
     }
@@ -146,13 +149,13 @@ impl<R: Named> Table<R> {
     }
 }
 
-/// Whether something stands in the slot of this number.
-fn stands<T>(slots: &[Option<T>], number: u32) -> bool
-    ensures { result ≡ is_some (slice_index_or slots.now number None) }
+/// Whether a thing of this name stands in the slot of this number.
+fn has_name<R: Named>(slots: &[Option<R>], number: u32, name: &str) -> bool
+    ensures { result ≡ has_name R.name_of name.now (slot_at slots.now number) }
 {
     match slots.get(number as usize) {
-        Some(slot) => slot.is_some(),
-        None => false,
+        Some(Some(thing)) => name == thing.name().as_str(),
+        _ => false,
     }
 }
 
