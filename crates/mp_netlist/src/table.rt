@@ -86,6 +86,21 @@ impl<R: Named> Table<R> {
         None
     }
 
+    /// The same, where the thing is looked for at a number and at the next one first: found there it costs less.
+    pub fn number_near(&self, name: &str, near: u32) -> Option<u32>
+        ensures { result ≡ number_named R.name_of self.now name.now }
+    {
+        let slots = self.slots.as_slice();
+        if has_name(slots, near, name) {
+            return Some(near);
+        }
+        let next = near.wrapping_add(1);
+        if has_name(slots, next, name) {
+            return Some(next);
+        }
+        self.number_named(name)
+    }
+
     /// Adds a thing of a new name, with the next number.
     pub fn push(&mut self, added: R) -> Result<(), AllocError>
         requires room { length self.old < 2 ^ 32 }

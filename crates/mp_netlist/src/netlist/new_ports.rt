@@ -32,13 +32,14 @@ impl Netlist {
         ensures stand { is_some result ≡ (inputs_stand self.now new.now.inputs && list_all (stands self.now) (driven_names new.now.outputs)) }
         ensures ports { IfSome result (AreNamedPorts self.now new.now) }
     {
-        let inputs = self.named_inputs(&new.inputs)?;
-        let outputs = self.named_outputs(&new.outputs)?;
+        let near = self.last_driven();
+        let inputs = self.named_inputs(&new.inputs, near)?;
+        let outputs = self.named_outputs(&new.outputs, near)?;
         Some(NewPorts { inputs, outputs })
     }
 
     /// Inputs at the wires that they name, where all of these stand.
-    fn named_inputs(&self, names: &InputNames) -> Option<Inputs>
+    fn named_inputs(&self, names: &InputNames, near: WireId) -> Option<Inputs>
         requires { length names.now ≤ MOST_INPUTS }
         ensures stand { is_some result ≡ inputs_stand self.now names.now }
         ensures inputs { IfSome result (λ inputs. inputs ≡ map (named_input self.now) names.now) }
@@ -46,7 +47,7 @@ impl Netlist {
         let mut ports = ArrayVec::new();
         for port in names.as_slice() {
             ports.push(Input {
-                wire: self.standing_wire(&port.wire)?,
+                wire: self.standing_wire(&port.wire, near)?,
                 delay: kept_delay(port.delay),
             });
         }
@@ -54,7 +55,7 @@ impl Netlist {
     }
 
     /// Outputs at the wires that they name, where all of these stand.
-    fn named_outputs(&self, names: &OutputNames) -> Option<Outputs>
+    fn named_outputs(&self, names: &OutputNames, near: WireId) -> Option<Outputs>
         requires { length names.now ≤ MOST_OUTPUTS }
         ensures stand { is_some result ≡ list_all (stands self.now) (driven_names names.now) }
         ensures outputs { IfSome result (λ outputs. outputs ≡ map (named_output self.now) names.now) }
@@ -64,7 +65,7 @@ impl Netlist {
             let delay = kept_delay(port.delay);
             match &port.wire {
                 Some(name) => {
-                    let wire = Some(self.standing_wire(name)?);
+                    let wire = Some(self.standing_wire(name, near)?);
                     ports.push(Output { wire, delay });
                 }
                 None => ports.push(Output { wire: None, delay }),
@@ -73,12 +74,23 @@ impl Netlist {
         Some(Outputs::new(ports))
     }
 
-    /// The number of the wire that has the name, where one stands.
-    fn standing_wire(&self, name: &Name) -> Option<WireId>
+    /// The number of the wire that has the name, where one stands. It costs less where this wire or the next one has it.
+    fn standing_wire(&self, name: &Name, near: WireId) -> Option<WireId>
         ensures stand { is_some result ≡ stands self.now name.now }
         ensures wire { IfSome result (λ wire. wire ≡ wire_id self.now name.now) }
     {
-        self.wire_named(name.as_str())
+        match self.wires.number_near(name.as_str(), near.0) {
+            Some(number) => Some(WireId(number)),
+            None => None,
+        }
+    }
+
+    /// A wire that the last module drives, if it stands and drives one. Those that a new module names are often near.
+    fn last_driven(&self) -> WireId {
+        match self.modules.as_slice() {
+            [.., Some(last)] => first_driven(last.outputs.as_slice()),
+            _ => WireId(0),
+        }
     }
 
     /// The width of a new module, which has these ports.
@@ -162,6 +174,20 @@ impl Netlist {
             }
         }
         true
+    }
+}
+
+/// The wire of the first output, where it drives one.
+fn first_driven(outputs: &[Output]) -> WireId {
+    match outputs {
+        [
+            Output {
+                wire: Some(wire),
+                ..
+            },
+            ..
+        ] => *wire,
+        _ => WireId(0),
     }
 }
 
