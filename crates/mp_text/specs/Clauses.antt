@@ -12,6 +12,7 @@ pub use Rattle.mp_text.specs.RoundTrips.{IsReadAs, IsReadAsWritten}
 pub use Rattle.mp_text.specs.ScriptLines.{line_at, line_word, stated_line}
 pub use Rattle.mp_text.specs.SingleEdits.{clearing, delay_edit, input_delay_edit, input_edit, output_edit, removal, single_edit, single_word}
 pub use Rattle.mp_text.specs.Sizes.{first_words, is_three, states_third, text_limit}
+pub use Rattle.mp_records.specs.declared.single_edit.SingleEdit.TheVariants.{AddModule}
 pub use Rattle.mp_text.specs.Statements.{Change, Format, Start, bundle_edit, edit_word, is_mark, kind_word, module_edit, parts_edit, stated_edit, stated_number, statement_of, stimulus_edit, wire_edit}
 pub use Rattle.mp_text.specs.Texts.{GivesText, IsReached, IsReachedIn, after_line, after_lines, after_statement, begun, finished, text_at}
 pub use Rattle.mp_text.specs.Written.{bundle_line, format_line, input_text, module_line, output_name, output_text, stimulus_line, wire_line, wire_name, written, written_line}

@@ -1,6 +1,6 @@
 //! The edits of statements.
 ghost use Rattle.std.specs.Prelude.{◌≡◌, ◌<◌};
-ghost use Rattle.mp_text.specs.Clauses.{IsAscii, IfSome, length, position, before_first, after_first, OutOfMemory, Gives, texts, AreAscii, stated_edit, wire_edit, parts_edit, module_edit, stimulus_edit, bundle_edit, kind_word, is_mark};
+ghost use Rattle.mp_text.specs.Clauses.{IsAscii, IfSome, length, position, before_first, after_first, OutOfMemory, Gives, texts, AreAscii, stated_edit, wire_edit, parts_edit, module_edit, stimulus_edit, bundle_edit, kind_word, is_mark, AddModule};
 
 use crate::edit_word::EditWord;
 use mp_modules::Kind;
@@ -75,39 +75,47 @@ fn module_edit(alloc: Global, words: &[&[u8]]) -> Result<SingleEdit, LineError>
     requires { AreAscii words.now }
     ensures { Gives OutOfMemory (λ edit. edit) result (module_edit (texts words.now)) }
 {
+    let module = stated_module(alloc, words)?;
+    Ok(SingleEdit::AddModule(Boxed::new(alloc, module)?))
+}
+
+/// The module that the words behind `module` state.
+pub fn stated_module(alloc: Global, words: &[&[u8]]) -> Result<NewModule, LineError>
+    requires { AreAscii words.now }
+    ensures { Gives OutOfMemory AddModule result (module_edit (texts words.now)) }
+{
     let [name, kind, others @ ..] = words else {
         return Err(LineError::WordCount);
     };
     let (params, ports) = divided(b':', others);
     let (inputs, outputs) = divided(b'>', ports);
-    parts_edit(alloc, name, kind, params, inputs, outputs)
+    module_of(alloc, name, kind, params, inputs, outputs)
 }
 
-/// The edit of the parts of the words behind `module`.
-fn parts_edit(
+/// The module of the parts of the words behind `module`.
+fn module_of(
     alloc: Global,
     name: &[u8],
     kind: &[u8],
     params: &[&[u8]],
     ins: &[&[u8]],
     outs: &[&[u8]],
-) -> Result<SingleEdit, LineError>
+) -> Result<NewModule, LineError>
     requires name { IsAscii name.now }
     requires inputs { AreAscii ins.now }
     requires outputs { AreAscii outs.now }
-    ensures { Gives OutOfMemory (λ edit. edit) result (parts_edit name.now kind.now (texts params.now) (texts ins.now) (texts outs.now)) }
+    ensures { Gives OutOfMemory AddModule result (parts_edit name.now kind.now (texts params.now) (texts ins.now) (texts outs.now)) }
 {
     if ins.is_empty() || outs.is_empty() {
         return Err(LineError::WordCount);
     }
-    let module = NewModule {
+    Ok(NewModule {
         kind: kind_word(kind)?,
         params: Params::new(each_word(alloc, params)?),
         inputs: InputNames::new(each_word(alloc, ins)?),
         outputs: OutputNames::new(each_word(alloc, outs)?),
         name: name_of(alloc, name)?,
-    };
-    Ok(SingleEdit::AddModule(Boxed::new(alloc, module)?))
+    })
 }
 
 fn kind_word(word: &[u8]) -> Result<Kind, LineError>

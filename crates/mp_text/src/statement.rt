@@ -2,14 +2,14 @@
 #![tactic(auto, unfolding(crate::specs::Texts::after_line, crate::specs::Statements::statement_of, crate::specs::Texts::after_statement))]
 
 ghost use Rattle.std.specs.Prelude.{◌≡◌};
-ghost use Rattle.mp_text.specs.Clauses.{result_map_both, OutOfMemory, max_horizon, after_single, Gives, texts, AreAscii, Line, Refused, Open, stated_number, stated_edit, Format, Start, Change, statement_of, begun, after_statement, after_line};
+ghost use Rattle.mp_text.specs.Clauses.{result_map_both, OutOfMemory, max_horizon, after_single, Gives, texts, AreAscii, Line, Refused, Open, stated_number, stated_edit, module_edit, AddModule, Format, Start, Change, statement_of, begun, after_statement, after_line};
 
 use crate::edit_word::EditWord;
-use crate::stated_edit::stated_edit;
+use crate::stated_edit::{stated_edit, stated_module};
 use crate::text_code::TextCode;
 use crate::text_format::TextFormat;
 use crate::text_state::TextState;
-use mp_netlist::{Edit, EditError, Netlist, NewError, SingleEdit};
+use mp_netlist::{Edit, EditError, Netlist, NewError, NewModule, SingleEdit};
 use mp_words::{LineError, number_word, read_line_words};
 use std::alloc::Global;
 
@@ -124,8 +124,32 @@ fn make_edit(
     requires { AreAscii words.now }
     ensures { Gives (Line OutOfMemory) (λ _. Open netlist.new) result (after_statement (Open netlist.old) (Change (stated_edit first (texts words.now)))) }
 {
-    let edit = stated_edit(alloc, first, words)?;
-    apply(netlist, edit)
+    match first {
+        EditWord::Module => make_module(alloc, netlist, words),
+        _ => {
+            let edit = stated_edit(alloc, first, words)?;
+            apply(netlist, edit)
+        }
+    }
+}
+
+/// Adds the module that a line states, which needs no block of its own as an edit does.
+fn make_module(alloc: Global, netlist: &mut Netlist, words: &[&[u8]]) -> Result<(), TextCode>
+    requires { AreAscii words.now }
+    ensures { Gives (Line OutOfMemory) (λ _. Open netlist.new) result (after_statement (Open netlist.old) (Change (module_edit (texts words.now)))) }
+{
+    let module = stated_module(alloc, words)?;
+    add(netlist, &module)
+}
+
+fn add(netlist: &mut Netlist, module: &NewModule) -> Result<(), TextCode>
+    ensures { Gives (Line OutOfMemory) (λ _. Open netlist.new) result (result_map_both Open Refused (after_single netlist.old (AddModule module.now))) }
+{
+    match netlist.apply_module(module) {
+        Ok(()) => Ok(()),
+        Err(EditError::OutOfMemory) => Err(TextCode::Line(LineError::OutOfMemory)),
+        Err(refusal) => Err(TextCode::Refused(refusal)),
+    }
 }
 
 fn apply(netlist: &mut Netlist, edit: SingleEdit) -> Result<(), TextCode>

@@ -54,8 +54,8 @@ impl Netlist {
     }
 
     #[tactic(auto, unfolding(crate::specs::Edits::edited, crate::specs::Edits::refusal))]
-    /// Adds a module, or says why it is refused. The wires at its ports are looked up once.
-    fn apply_module(&mut self, new: &NewModule) -> Result<(), EditError>
+    /// Adds a module, or says why it is refused, as `apply` does of the edit that adds it. The wires at its ports are looked up once.
+    pub fn apply_module(&mut self, new: &NewModule) -> Result<(), EditError>
         ensures ok { OnOk result (after_single self.old (AddModule new.now) ≡ Ok self.new) }
         ensures refused { IfErr result (RefusedBy (Single (AddModule new.now)) (after_single self.old (AddModule new.now))) }
         ensures err { OnErr result (self.new ≡ self.old) }
