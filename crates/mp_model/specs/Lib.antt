@@ -1,6 +1,7 @@
 pub mod Levels
 pub mod Histories
 pub mod Waves
+pub mod WaveLists
 pub mod Laws
 pub mod Reach
 pub mod Tracks

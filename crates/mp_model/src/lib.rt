@@ -7,6 +7,7 @@ pub mod examples;
 mod finding;
 pub mod laws;
 mod track;
+mod wave_list;
 mod waves;
 
 pub use evaluation::{built, plain_waves};

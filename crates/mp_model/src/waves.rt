@@ -2,6 +2,7 @@
 ghost use Rattle.std.specs.Prelude.{◌≡◌, option_map, IfOk};
 ghost use Rattle.std.specs.Arc.{arc_value};
 
+use crate::wave_list::WaveList;
 use mp_netlist::WireId;
 use mp_wave::Wave;
 use std::alloc::{AllocError, Global};
@@ -11,17 +12,17 @@ use std::sync::Arc;
 /// A wave for each wire number at which a wire stands. Two lists can share waves.
 #[derive(Drop)]
 pub struct Waves {
-    list: Vec<Option<Arc<Wave, Global>>>,
+    list: WaveList,
 }
 
 impl Model for Waves {
-    ghost use Rattle.std.specs.Prelude.{List, Option, map, option_map};
-    ghost use Rattle.std.specs.Arc.{arc_value};
+    ghost use Rattle.std.specs.Prelude.{List, Option};
     ghost use Rattle.mp_wave.specs.Waveform.{Waveform};
+    ghost use Rattle.mp_model.specs.WaveLists.{listed_waves};
 
     ghost Value = { List (Option Waveform) };
 
-    ghost view = { λ waves. map (option_map arc_value) waves.list.items };
+    ghost view = { λ waves. listed_waves waves.list };
 }
 
 impl Waves {
@@ -34,7 +35,18 @@ impl Waves {
     pub fn new(list: Vec<Option<Arc<Wave, Global>>>) -> Waves
         ensures { result ≡ map (option_map arc_value) list.items }
     {
-        Waves { list }
+        Waves {
+            list: WaveList::Shared(list),
+        }
+    }
+
+    /// These waves, which stand in place. Where they are shared later they are copied.
+    pub fn in_place(list: Vec<Option<Wave>>) -> Waves
+        ensures { result ≡ list.items }
+    {
+        Waves {
+            list: WaveList::InPlace(list),
+        }
     }
 
     /// These waves, each to be shared.
@@ -45,38 +57,28 @@ impl Waves {
         for wave in found {
             list.push(given(alloc, wave)?)?;
         }
-        Ok(Waves { list })
+        Ok(Waves::new(list))
     }
 
     /// The wave of a wire that stands.
     pub fn of(&self, wire: WireId) -> Option<&Wave>
         ensures { option_copied result ≡ slot_at self.now wire.0 }
     {
-        match self.list.get(wire.0 as usize) {
-            Some(Some(wave)) => Some(wave),
-            _ => None,
-        }
+        self.list.get(wire.0 as usize)
     }
 
-    /// The wave of a wire that stands, shared and not copied.
+    /// The wave of a wire that stands, to be shared. It is copied only where these waves stand in place.
     pub fn shared(&self, wire: WireId) -> Result<Option<Arc<Wave, Global>>, AllocError>
         ensures { IfOk result (λ wave. option_map arc_value wave ≡ slot_at self.now wire.0) }
     {
-        match self.list.get(wire.0 as usize) {
-            Some(slot) => shared(slot),
-            None => Ok(None),
-        }
+        self.list.share_one(wire.0 as usize)
     }
 
-    /// The same waves, shared and not copied.
+    /// The same waves, to be shared. They are copied only where they stand in place.
     pub fn share(&self, alloc: Global) -> Result<Waves, AllocError>
         ensures { IfOk result (λ waves. waves ≡ self.now) }
     {
-        let mut list = Vec::new(alloc);
-        for slot in &self.list {
-            list.push(shared(slot)?)?;
-        }
-        Ok(Waves { list })
+        Ok(Waves::new(self.list.share_all(alloc)?))
     }
 }
 
@@ -85,15 +87,6 @@ fn given(alloc: Global, wave: Option<Wave>) -> Result<Option<Arc<Wave, Global>>,
 {
     match wave {
         Some(wave) => Ok(Some(Arc::new(alloc, wave)?)),
-        None => Ok(None),
-    }
-}
-
-fn shared(slot: &Option<Arc<Wave, Global>>) -> Result<Option<Arc<Wave, Global>>, AllocError>
-    ensures { IfOk result (λ shared. option_map arc_value shared ≡ option_map arc_value slot.now) }
-{
-    match slot {
-        Some(wave) => Ok(Some(Arc::try_clone(wave)?)),
         None => Ok(None),
     }
 }

@@ -11,5 +11,5 @@ use std::alloc::{AllocError, Global};
 pub fn find_waves(alloc: Global, netlist: &Netlist) -> Result<Waves, AllocError>
     ensures { IfOk result (λ waves. AreWavesOf netlist.now waves) }
 {
-    Waves::of_all(alloc, run_waves(alloc, netlist)?)
+    Ok(Waves::in_place(run_waves(alloc, netlist)?))
 }

@@ -1,0 +1,119 @@
+//! How waves are listed.
+ghost use Rattle.std.specs.Prelude.{◌≡◌, map, option_map, IfOk};
+ghost use Rattle.std.specs.Option.{option_copied};
+ghost use Rattle.std.specs.Arc.{arc_value};
+ghost use Rattle.mp_netlist.specs.Slots.{slot_at};
+ghost use Rattle.mp_model.specs.WaveLists.{listed_waves};
+
+use mp_wave::Wave;
+use std::alloc::{AllocError, Global};
+use std::sync::Arc;
+
+/// A place for each wire number, with the wave of the wire where one stands.
+#[derive(Drop)]
+pub(crate) enum WaveList {
+    /// The waves stand in place, and no other list has them.
+    InPlace(Vec<Option<Wave>>),
+    /// Each wave is in a block of its own, which other lists may share.
+    Shared(Vec<Option<Arc<Wave, Global>>>),
+}
+
+impl WaveList {
+    /// The wave at a place.
+    pub(crate) fn get(&self, place: usize) -> Option<&Wave>
+        ensures { option_copied result ≡ slot_at (listed_waves self.now) place }
+    {
+        match self {
+            WaveList::InPlace(list) => wave_at(list.as_slice(), place),
+            WaveList::Shared(list) => shared_at(list.as_slice(), place),
+        }
+    }
+
+    /// The wave at a place, to be shared: one that stands in place is copied.
+    pub(crate) fn share_one(&self, place: usize) -> Result<Option<Arc<Wave, Global>>, AllocError>
+        ensures { IfOk result (λ wave. option_map arc_value wave ≡ slot_at (listed_waves self.now) place) }
+    {
+        match self {
+            WaveList::InPlace(list) => copied(*list.allocator(), wave_at(list.as_slice(), place)),
+            WaveList::Shared(list) => match list.get(place) {
+                Some(slot) => shared(slot),
+                None => Ok(None),
+            },
+        }
+    }
+
+    /// All waves, to be shared: those that stand in place are copied.
+    pub(crate) fn share_all(
+        &self,
+        alloc: Global,
+    ) -> Result<Vec<Option<Arc<Wave, Global>>>, AllocError>
+        ensures { IfOk result (λ list. map (option_map arc_value) list.items ≡ listed_waves self.now) }
+    {
+        match self {
+            WaveList::InPlace(list) => all_copied(alloc, list.as_slice()),
+            WaveList::Shared(list) => all_shared(alloc, list.as_slice()),
+        }
+    }
+}
+
+fn wave_at(list: &[Option<Wave>], place: usize) -> Option<&Wave>
+    ensures { option_copied result ≡ slot_at list.now place }
+{
+    match list.get(place) {
+        Some(Some(wave)) => Some(wave),
+        _ => None,
+    }
+}
+
+fn shared_at(list: &[Option<Arc<Wave, Global>>], place: usize) -> Option<&Wave>
+    ensures { option_copied result ≡ slot_at (map (option_map arc_value) list.now) place }
+{
+    match list.get(place) {
+        Some(Some(wave)) => Some(wave),
+        _ => None,
+    }
+}
+
+fn all_copied(
+    alloc: Global,
+    waves: &[Option<Wave>],
+) -> Result<Vec<Option<Arc<Wave, Global>>>, AllocError>
+    ensures { IfOk result (λ list. map (option_map arc_value) list.items ≡ waves.now) }
+{
+    let mut list = Vec::with_capacity(alloc, waves.len())?;
+    for slot in waves {
+        list.push(copied(alloc, slot.as_ref())?)?;
+    }
+    Ok(list)
+}
+
+fn all_shared(
+    alloc: Global,
+    waves: &[Option<Arc<Wave, Global>>],
+) -> Result<Vec<Option<Arc<Wave, Global>>>, AllocError>
+    ensures { IfOk result (λ list. map (option_map arc_value) list.items ≡ map (option_map arc_value) waves.now) }
+{
+    let mut list = Vec::with_capacity(alloc, waves.len())?;
+    for slot in waves {
+        list.push(shared(slot)?)?;
+    }
+    Ok(list)
+}
+
+fn copied(alloc: Global, wave: Option<&Wave>) -> Result<Option<Arc<Wave, Global>>, AllocError>
+    ensures { IfOk result (λ copy. option_map arc_value copy ≡ option_copied wave.entry) }
+{
+    match wave {
+        Some(wave) => Ok(Some(Arc::new(alloc, wave.copy()?)?)),
+        None => Ok(None),
+    }
+}
+
+fn shared(slot: &Option<Arc<Wave, Global>>) -> Result<Option<Arc<Wave, Global>>, AllocError>
+    ensures { IfOk result (λ shared. option_map arc_value shared ≡ option_map arc_value slot.now) }
+{
+    match slot {
+        Some(wave) => Ok(Some(Arc::try_clone(wave)?)),
+        None => Ok(None),
+    }
+}
