@@ -21,19 +21,20 @@ pub trait Command {
     // Whether designers and viewers sit down, so that a place may be wanting.
     ghost seats: { Bool };
 
-    /// Opens the input, which is no longer than an input may be, and writes the command's text. The clause `shared` says what the bound
+    /// Opens the input, which is no longer than an input may be, and writes the command's text. A command lets its input go when it needs
+    /// that no more. The clause `shared` says what the bound
     /// `Sync` says: in a trait the prover asks for both.
     fn answer<R: Threads + Wait + Sync, T: Sink>(
         &self,
         rt: &R,
         alloc: Global,
         out: &mut Out<T>,
-        input: &[u8],
+        input: Vec<u8>,
         options: &Options,
     ) -> Result<(), RunFault>
-        requires size { length input.now ≤ max_input }
+        requires size { length input.items ≤ max_input }
         requires shared { IsSync R.row }
-        ensures { Ran seats result (opening self.now input.now options.now) (IsText self.now input.now options.now) out.old out.new };
+        ensures { Ran seats result (opening self.now input.items options.now) (IsText self.now input.items options.now) out.old out.new };
 }
 
 /// Reads an input, all of it first, and writes what the command makes of it.
@@ -57,7 +58,7 @@ pub fn run_command<R: Threads + Wait + Sync, S: Source, T: Sink, C: Command>(
     ensures read_faults { S.fault_count source.new ≡ counted_reads result (S.fault_count source.old) }
 {
     let input = read_input(alloc, source)?;
-    match command.answer(rt, alloc, out, input.as_slice(), options) {
+    match command.answer(rt, alloc, out, input, options) {
         Ok(()) => Ok(out.flush()?),
         Err(RunFault::OutOfMemory) => {
             // what was written before memory was wanting is seen

@@ -50,10 +50,12 @@ impl<V: View> Command for Viewed<V> {
         rt: &R,
         alloc: Global,
         out: &mut Out<T>,
-        input: &[u8],
+        input: Vec<u8>,
         options: &Options,
     ) -> Result<(), RunFault> {
-        let (netlist, crew) = opened(alloc, input, self.crew(options))?;
+        let (netlist, crew) = opened(alloc, input.as_slice(), self.crew(options))?;
+        // the run wants the memory that the text has
+        drop(input);
         let Some(view) = &self.view else {
             return Err(RunFault::BadCount);
         };

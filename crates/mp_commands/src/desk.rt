@@ -35,10 +35,11 @@ impl<P: Sessions + Drop> Command for Desk<P> {
         rt: &R,
         alloc: Global,
         out: &mut Out<T>,
-        input: &[u8],
+        input: Vec<u8>,
         options: &Options,
     ) -> Result<(), RunFault> {
-        let (front, blocks) = split(alloc, input)?;
+        let text = input.as_slice();
+        let (front, blocks) = split(alloc, text)?;
         let (netlist, (crew, size)) = opened(alloc, front, desk_crew(options, blocks.len()))?;
         let session = self.sessions.open(rt, alloc, &netlist, crew)?;
         match P::meet(rt, alloc, session, blocks.as_slice(), size) {

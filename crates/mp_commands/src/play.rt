@@ -33,10 +33,11 @@ impl<P: Sessions + Drop> Command for Play<P> {
         rt: &R,
         alloc: Global,
         out: &mut Out<T>,
-        input: &[u8],
+        input: Vec<u8>,
         options: &Options,
     ) -> Result<(), RunFault> {
-        let (front, script) = divided(alloc, input)?;
+        let text = input.as_slice();
+        let (front, script) = divided(alloc, text)?;
         let (netlist, crew) = opened(alloc, front, options.crew())?;
         let mut keeper = Keeper::new(&self.sessions, rt, alloc, &netlist, crew)?;
         Ok(put_replies(rt, alloc, out, &mut keeper, script)?)
