@@ -11,6 +11,7 @@ use Rattle.mp_automata.specs.Codes.{bit}
 use Rattle.mp_events.specs.Adding.{listed}
 use Rattle.mp_core.specs.Changes.{change_at}
 use Rattle.mp_core.specs.WholeRuns.{is_stimulus}
+use Rattle.mp_core.proofs.WholeLemmas.{undriven}
 use Rattle.mp_units.specs.DataLevels.{is_data}
 use Rattle.mp_run.specs.declared.stimuli.StimulusChange.{StimulusChange}
 use Rattle.mp_evaluation.specs.Marks.{is_marked}
@@ -19,10 +20,9 @@ use Rattle.mp_regions.specs.Divisions.{heard_by, IsDivision}
 use Rattle.mp_regions.proofs.DivisionLemmas.{divided_apart, divided_closed}
 use Rattle.mp_regions.proofs.PartLemmas.{heard_driver, region_level}
 use Rattle.mp_regions.proofs.RegionLemmas.{has_stimuli}
-use Rattle.mp_engine.specs.Letters.{AreTold, IsToldOnce}
-use Rattle.mp_engine.specs.RegionRuns.{AreTidings, is_set}
-use Rattle.mp_engine.proofs.OwnStimuliLemmas.{by_width}
-use Rattle.mp_engine.proofs.TellingLemmas.{undriven}
+use Rattle.mp_letters.specs.Letters.{AreTold, IsToldOnce}
+use Rattle.mp_region_runs.specs.RegionRuns.{AreTidings, is_set}
+use Rattle.mp_region_runs.proofs.OwnStimuliLemmas.{by_width}
 
 none_heard : (a b c : Bool) (l : ℕ) → c ≡ false → cond (a && c) l 0 ≡ bit (b && c)
 none_heard true true c l is = ap (λ x. cond x l 0) is ∙ sym (ap bit is)

@@ -6,11 +6,10 @@ use Rattle.mp_netlist.specs.Circuit.{Circuit}
 use Rattle.mp_regions.specs.declared.division.Division.{Division}
 use Rattle.mp_regions.specs.Regions.{region}
 use Rattle.mp_regions.specs.Divisions.{heard_by}
-use Rattle.mp_engine.specs.declared.part_run.PartRun.{PartRun}
+use Rattle.mp_merging.specs.declared.part_run.PartRun.{PartRun}
+use Rattle.mp_merging.specs.PartRuns.{IsPartRun, AreRuns}
 use Rattle.mp_engine.specs.declared.part_of.PartOf.{PartOf}
-use Rattle.mp_engine.specs.PartRuns.{IsPartRun}
-use Rattle.mp_engine.specs.Divisions.{AreRuns}
-use Rattle.mp_engine.specs.Mails.{AreOthers, IsOther, IsRunOf}
+use Rattle.mp_engine.specs.PartsOf.{AreOthers, IsOther, IsRunOf}
 
 -- the first parts have given their runs, and the others are still to
 pub record AreJoined (n : Circuit) (division : Division) (others : List PartOf) (runs : List PartRun) : Type 0 where

@@ -4,7 +4,7 @@ ghost use Rattle.std.specs.Prelude.{[]};
 ghost use Rattle.mp_regions.specs.Regions.{HasStimuli};
 
 use crate::evaluation::run_region;
-use crate::part_run::PartRun;
+use mp_merging::PartRun;
 use mp_netlist::Netlist;
 use mp_phase::{Gate, Work};
 use mp_regions::Region;
@@ -21,7 +21,7 @@ pub(crate) struct Part<'a> {
 }
 
 impl<'a> Work for Part<'a> {
-    ghost use Rattle.mp_engine.specs.PartRuns.{IsPartRun};
+    ghost use Rattle.mp_merging.specs.PartRuns.{IsPartRun};
 
     type Done = PartRun;
 

@@ -1,11 +1,10 @@
 //! A part of a netlist as a thread of its own runs it.
 
-use crate::letter::{Subject, Window};
-use crate::mail::Mail;
-use crate::part_run::PartRun;
-use crate::region_run::RegionRun;
+use mp_letters::{Mail, Subject, Window};
+use mp_merging::PartRun;
 use mp_netlist::Netlist;
 use mp_phase::Gate;
+use mp_region_runs::RegionRun;
 use mp_regions::{Division, Region, heard_by};
 use std::alloc::{AllocError, Global};
 use std::sync::Wait;
@@ -21,14 +20,14 @@ pub(crate) struct PartOf<'a> {
 
 impl<'a> Promise<Result<PartRun, AllocError>> for PartOf<'a> {
     ghost use Rattle.std.specs.Prelude.{IfOk};
-    ghost use Rattle.mp_engine.specs.Mails.{IsRunOf};
+    ghost use Rattle.mp_engine.specs.PartsOf.{IsRunOf};
 
     ghost kept_by = { λ it result. IfOk result (IsRunOf it) };
 }
 
 impl<'a> PartOf<'a> {
     ghost use Rattle.std.specs.Prelude.{IfOk};
-    ghost use Rattle.mp_engine.specs.Mails.{IsMailOf, IsRunOf};
+    ghost use Rattle.mp_engine.specs.PartsOf.{IsMailOf, IsRunOf};
 
     /// Its run up to the horizon, window by window. What it hears of others comes by its lines.
     pub(crate) fn run<J: Subject, R: Wait, G: Gate>(

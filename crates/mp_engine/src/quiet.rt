@@ -3,10 +3,10 @@ ghost use Rattle.std.specs.Prelude.{IfOk, IfSome};
 ghost use Rattle.mp_evaluation.specs.Runs.{IsRun};
 
 use crate::evaluation::run_of;
-use crate::region_run::RegionRun;
 use mp_evaluation::Run;
 use mp_netlist::Netlist;
 use mp_phase::Gate;
+use mp_region_runs::RegionRun;
 use mp_regions::Region;
 use std::alloc::{AllocError, Global};
 use std::sync::Wait;

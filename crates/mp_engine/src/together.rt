@@ -1,13 +1,12 @@
 //! Parts of a netlist that hear of each other, each on a thread of its own.
 ghost use Rattle.std.specs.Prelude.{◌≡◌, ◌+◌, IfOk, IfSome, length, map};
 ghost use Rattle.mp_regions.specs.Divisions.{IsCrossing, IsDivision};
-ghost use Rattle.mp_engine.specs.Divisions.{AreRuns};
-ghost use Rattle.mp_engine.specs.Mails.{AreOthers, ArePartRuns, GiveRuns, IsFirst, IsMailOf, IsRunOf};
+ghost use Rattle.mp_merging.specs.PartRuns.{AreRuns};
+ghost use Rattle.mp_engine.specs.PartsOf.{AreOthers, ArePartRuns, GiveRuns, IsFirst, IsMailOf, IsRunOf};
 
-use crate::letter::Subject;
-use crate::lines::Lines;
 use crate::part_of::PartOf;
-use crate::part_run::PartRun;
+use mp_letters::{Lines, Subject};
+use mp_merging::PartRun;
 use mp_netlist::Netlist;
 use mp_phase::{Gate, lookers};
 use mp_regions::Division;

@@ -6,3 +6,4 @@ pub mod OrderLemmas
 pub mod FindingOrderLemmas
 pub mod ModuleEventLemmas
 pub mod DelayedInputLemmas
+pub mod WindowLemmas

@@ -5,3 +5,4 @@ pub mod Examples
 pub mod FindingOrder
 pub mod ModuleEvents
 pub mod DelayedInputs
+pub mod Windows

@@ -1,4 +1,4 @@
-//! Laws of what the other crates define: of edits, of texts, of findings, of modules and of inputs. No program calls them.
+//! Laws of what the other crates define: of edits, of texts, of findings, of modules, of inputs and of windows. No program calls them.
 #![tactic(auto)]
 
 pub mod edits;
@@ -7,3 +7,4 @@ pub mod findings;
 pub mod inputs;
 pub mod modules;
 pub mod texts;
+pub mod windows;

@@ -1,6 +1,6 @@
 use Rattle.std.proofs.Common.{List, Bool, Result, Ok, Err, IfOk, sym, subst}
-use Rattle.mp_engine.specs.Divisions.{AreRuns}
-use Rattle.mp_engine.proofs.MergeLemmas.{runs_are}
+use Rattle.mp_merging.specs.PartRuns.{AreRuns}
+use Rattle.mp_engine.proofs.TaskLemmas.{runs_are}
 use Rattle.mp_engine.proofs.evaluation.run_parts.Goals as goal
 
 if_ok : {T E : Type 0} (r : Result T E) (P Q : T → Type 0) → ((x : T) → P x → Q x) → IfOk r P → IfOk r Q

@@ -1,7 +1,7 @@
 use Rattle.std.proofs.Common.{◌-◌, [], subst, arith}
 use Rattle.mp_evaluation.specs.Marks.{is_marked}
-use Rattle.mp_engine.specs.RegionRuns.{IsUnderWay}
-use Rattle.mp_engine.proofs.RegionRunLemmas.{none_marked}
+use Rattle.mp_region_runs.specs.RegionRuns.{IsUnderWay}
+use Rattle.mp_region_runs.proofs.RegionRunLemmas.{none_marked}
 use Rattle.mp_engine.proofs.evaluation.run_region.Goals as goal
 
 pub run_units-requires-clause-before : goal.run_units-requires-clause-before

@@ -3,8 +3,8 @@ use Rattle.mp_netlist.specs.Circuit.{Circuit}
 use Rattle.mp_evaluation.specs.Marks.{is_marked}
 use Rattle.mp_regions.specs.Regions.{HasStimuli}
 use Rattle.mp_regions.proofs.RegionLemmas.{has_stimuli, whole_is}
-use Rattle.mp_engine.specs.RegionRuns.{IsUnderWay}
-use Rattle.mp_engine.proofs.RegionRunLemmas.{none_marked}
+use Rattle.mp_region_runs.specs.RegionRuns.{IsUnderWay}
+use Rattle.mp_region_runs.proofs.RegionRunLemmas.{none_marked}
 use Rattle.mp_engine.proofs.quiet.run_quiet.Goals as goal
 
 pub loop-look-init : goal.loop-look-init

@@ -1,6 +1,6 @@
 use Rattle.std.proofs.Common.{◌<◌, ◌≤◌, ◌-◌, []}
 use Rattle.mp_evaluation.specs.Marks.{is_marked}
-use Rattle.mp_engine.specs.RegionRuns.{IsUnderWay}
+use Rattle.mp_region_runs.specs.RegionRuns.{IsUnderWay}
 use Rattle.mp_engine.proofs.quiet.run_quiet.Given as goal
 
 -- the units before are over

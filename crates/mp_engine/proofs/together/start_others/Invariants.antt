@@ -1,5 +1,5 @@
 use Rattle.std.proofs.Common.{◌≡◌, ◌+◌, ◌<◌, length, map}
-use Rattle.mp_engine.specs.Mails.{AreOthers}
+use Rattle.mp_engine.specs.PartsOf.{AreOthers}
 use Rattle.mp_engine.proofs.together.start_others.Given as goal
 
 -- the threads of the last parts run

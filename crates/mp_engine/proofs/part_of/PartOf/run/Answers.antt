@@ -7,11 +7,11 @@ use Rattle.mp_regions.specs.Regions.{home_of, region, HasStimuli}
 use Rattle.mp_regions.specs.Divisions.{heard_by}
 use Rattle.mp_regions.proofs.DivisionLemmas.{divided_apart}
 use Rattle.mp_regions.proofs.RegionLemmas.{has_stimuli}
-use Rattle.mp_engine.specs.PartRuns.{IsPartRun}
-use Rattle.mp_engine.specs.StateHistories.{IsStateHistory}
-use Rattle.mp_engine.specs.RegionRuns.{AreTidings, IsUnderWay}
-use Rattle.mp_engine.specs.Letters.{AreTold, IsToldOnce, KnowsAhead}
-use Rattle.mp_engine.specs.Lines.{parts_of}
+use Rattle.mp_merging.specs.PartRuns.{IsPartRun}
+use Rattle.mp_region_runs.specs.StateHistories.{IsStateHistory}
+use Rattle.mp_region_runs.specs.RegionRuns.{AreTidings, IsUnderWay}
+use Rattle.mp_letters.specs.Letters.{AreTold, IsToldOnce, KnowsAhead}
+use Rattle.mp_letters.specs.Lines.{parts_of}
 use Rattle.mp_engine.proofs.HearingLemmas.{renamed, tidings_are}
 use Rattle.mp_engine.proofs.part_of.PartOf.run.Goals as goal
 

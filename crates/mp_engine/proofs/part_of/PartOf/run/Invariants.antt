@@ -1,6 +1,6 @@
 use Rattle.std.proofs.Common.{◌≡◌, ◌-◌, ◌<◌, ◌≤◌}
 use Rattle.mp_evaluation.specs.Marks.{is_marked}
-use Rattle.mp_engine.specs.RegionRuns.{IsUnderWay}
+use Rattle.mp_region_runs.specs.RegionRuns.{IsUnderWay}
 use Rattle.mp_regions.specs.Divisions.{heard_by}
 use Rattle.mp_engine.proofs.part_of.PartOf.run.Given as goal
 

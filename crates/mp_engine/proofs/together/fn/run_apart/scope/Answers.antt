@@ -3,8 +3,8 @@ use Rattle.std.specs.Prelude.{IfSome}
 use Rattle.std.proofs.lemmas.List.{length-map}
 use Rattle.mp_regions.specs.Regions.{region}
 use Rattle.mp_regions.specs.Divisions.{heard_by}
-use Rattle.mp_engine.specs.PartRuns.{IsPartRun}
-use Rattle.mp_engine.specs.Mails.{AreOthers}
+use Rattle.mp_merging.specs.PartRuns.{IsPartRun}
+use Rattle.mp_engine.specs.PartsOf.{AreOthers}
 use Rattle.mp_engine.proofs.together.fn.run_apart.scope.Goals as goal
 
 pub returns : goal.returns

@@ -1,0 +1,50 @@
+-- The parts of a netlist that is divided, each on a thread of its own.
+use Rattle.std.specs.Prelude.{◌≡◌, ℕ, ◌+◌, ◌<◌, Bool, List, length, slice_index_or}
+use Rattle.mp_netlist.specs.Circuit.{Circuit}
+use Rattle.mp_regions.specs.declared.division.Division.{Division}
+use Rattle.mp_regions.specs.Regions.{region}
+use Rattle.mp_regions.specs.Divisions.{heard_by, IsCrossing, IsDivision}
+use Rattle.mp_merging.specs.declared.part_run.PartRun.{PartRun}
+use Rattle.mp_merging.specs.PartRuns.{IsPartRun, AreRuns}
+use Rattle.mp_letters.specs.declared.letter.Subject.{Ghosts}
+use Rattle.mp_letters.specs.declared.mail.Mail.{Mail}
+use Rattle.mp_engine.specs.declared.part_of.PartOf.{PartOf}
+
+-- the part is one of a netlist that is so divided, about which letters are
+pub record IsPartOf (n : Circuit) (wires : List ℕ) (heards : List (List Bool)) (it : PartOf) : Type 0 where
+  pub division : IsDivision it.netlist.now it.division.now.homes.items it.division.now.wires.items it.division.now.heard.items it.division.now.parts
+  pub crossing : IsCrossing it.netlist.now it.division.now.heard.items it.division.now.delay
+  pub netlist : it.netlist.now ≡ n
+  pub wires_are : it.division.now.wires.items ≡ wires
+  pub heards_are : it.division.now.heard.items ≡ heards
+
+-- it is the first part
+abbrev pub IsFirst : Circuit → List ℕ → List (List Bool) → PartOf → Type 0
+IsFirst n wires heards it = IsPartOf n wires heards it × (it.part ≡ 0)
+
+module _ {J : Type 0} {subject : Ghosts J} where
+  -- the mail is the part's
+  abbrev pub IsMailOf : Circuit → List ℕ → List (List Bool) → PartOf → Mail J subject → Type 0
+  IsMailOf n wires heards it mail = IsPartOf n wires heards it × (mail.part ≡ it.part)
+
+-- the run of the part
+abbrev pub IsRunOf : PartOf → PartRun → Type 0
+IsRunOf it run = IsPartRun (region it.netlist.now it.division.now.homes.items it.part (heard_by it.division.now.heard.items it.part)) run
+
+-- what all parts give, of which this is one
+abbrev pub ArePartRuns : PartOf → List PartRun → Type 0
+ArePartRuns it runs = AreRuns it.netlist.now it.division.now.homes.items it.division.now.heard.items it.division.now.parts runs
+
+-- it is the part at a place of a list that begins with the last
+pub record IsOther (n : Circuit) (division : Division) (k : ℕ) (it : PartOf) : Type 0 where
+  pub netlist : it.netlist.now ≡ n
+  pub division_is : it.division.now ≡ division
+  pub part : it.part + k + 1 ≡ division.parts
+
+abbrev pub AreOthers : Circuit → Division → List PartOf → Type 0
+AreOthers n division others = (k : ℕ) (d : PartOf) → k < length others → IsOther n division k (slice_index_or others k d)
+
+-- the first part's run, and those that the others promise, are what all parts give
+abbrev pub GiveRuns : PartRun → List PartOf → List PartRun → Type 0
+GiveRuns first others runs = (n : Circuit) (division : Division) → length others + 1 ≡ division.parts
+    → IsPartRun (region n division.homes.items 0 (heard_by division.heard.items 0)) first → AreOthers n division others → AreRuns n division.homes.items division.heard.items division.parts runs

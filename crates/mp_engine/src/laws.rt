@@ -1,9 +1,0 @@
-//! What holds of every evaluation.
-
-ghost use Rattle.mp_engine.specs.Windows.{AnyOrder};
-
-/// In an evaluation by windows that are no longer than the least delay, the states and levels at each window's begin are right, whatever
-/// the order in which modules answer.
-pub fn any_order()
-    ensures { AnyOrder }
-{}

@@ -1,0 +1,4 @@
+pub mod CountLemmas
+pub mod LetterLemmas
+pub mod TellingLemmas
+pub mod LineLemmas

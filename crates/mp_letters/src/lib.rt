@@ -1,0 +1,10 @@
+//! What parts of a netlist tell each other, and the lines by which they do.
+#![tactic(auto)]
+
+mod letter;
+mod lines;
+mod mail;
+
+pub use letter::{Subject, Window};
+pub use lines::Lines;
+pub use mail::Mail;

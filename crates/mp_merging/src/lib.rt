@@ -1,0 +1,8 @@
+//! What parts of a netlist give, and what the netlist gives by that.
+#![tactic(auto)]
+
+mod merging;
+mod part_run;
+
+pub use merging::merged;
+pub use part_run::PartRun;

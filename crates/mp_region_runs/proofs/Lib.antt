@@ -1,0 +1,3 @@
+pub mod StateHistoryLemmas
+pub mod RegionRunLemmas
+pub mod OwnStimuliLemmas

@@ -1,0 +1,2 @@
+pub mod StateHistories
+pub mod RegionRuns
