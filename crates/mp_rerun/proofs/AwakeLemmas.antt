@@ -20,11 +20,11 @@ use Rattle.mp_evaluation.specs.Marks.{is_marked}
 use Rattle.mp_evaluation.specs.Outcomes.{Outcome}
 use Rattle.mp_agreement.specs.Sources.{IsAsBefore, AreSources}
 use Rattle.mp_run.specs.Stimuli.{left_of, rest_of}
-use Rattle.mp_view.specs.Views.{is_followed, ArePortsOn}
-use Rattle.mp_view.specs.Numberings.{Numbering}
-use Rattle.mp_view.specs.Showing.{Shows}
-use Rattle.mp_view.specs.Leaving.{is_port_of}
-use Rattle.mp_view.specs.Activating.{with_module}
+use Rattle.mp_excerpt.specs.Excerpts.{is_followed, ArePortsOn}
+use Rattle.mp_excerpt.specs.Numberings.{Numbering}
+use Rattle.mp_excerpt.specs.Showing.{Shows}
+use Rattle.mp_excerpt.specs.Leaving.{is_port_of}
+use Rattle.mp_excerpt.specs.Activating.{with_module}
 use Rattle.mp_compare.specs.declared.numbers.Numbers.{Numbers}
 use Rattle.mp_compare.specs.declared.wire_source.WireSource.{WireSource}
 use Rattle.mp_compare.specs.declared.comparison.Comparison.{Comparison}

@@ -13,8 +13,8 @@ use Rattle.mp_netlist.specs.Circuit.{Circuit, IsCircuit, Drives, module_at}
 use Rattle.mp_netlist.specs.Drivers.{driver}
 use Rattle.mp_evaluation.specs.Outcomes.{Outcome}
 use Rattle.mp_run.specs.Stimuli.{left_of}
-use Rattle.mp_view.specs.Numberings.{Numbering}
-use Rattle.mp_view.specs.Leaving.{is_port_of}
+use Rattle.mp_excerpt.specs.Numberings.{Numbering}
+use Rattle.mp_excerpt.specs.Leaving.{is_port_of}
 use Rattle.mp_steps.proofs.RestingLemmas.{none_ahead}
 use Rattle.mp_rerun.specs.declared.rerun.Rerun.{Rerun}
 use Rattle.mp_rerun.specs.Following.{AreToCome, is_tail}

@@ -16,10 +16,10 @@ use Rattle.mp_evaluation.specs.Outcomes.{Outcome}
 use Rattle.mp_evaluation.specs.Runs.{IsRun}
 use Rattle.mp_evaluation.proofs.MarkLemmas.{none_in}
 use Rattle.mp_units.specs.NetlistSimulations.{IsSimulated, CanTell}
-use Rattle.mp_view.specs.Views.{view, ArePortsOn}
-use Rattle.mp_view.proofs.LevelLemmas.{view_state}
-use Rattle.mp_view.proofs.SimulatedLemmas.{showing_simulates}
-use Rattle.mp_view.proofs.ViewLemmas.{view_is, length_active, module_active}
+use Rattle.mp_excerpt.specs.Excerpts.{excerpt, ArePortsOn}
+use Rattle.mp_excerpt.proofs.LevelLemmas.{excerpt_state}
+use Rattle.mp_excerpt.proofs.SimulatedLemmas.{showing_simulates}
+use Rattle.mp_excerpt.proofs.ExcerptLemmas.{excerpt_is, length_active, module_active}
 use Rattle.mp_agreement.proofs.RestingLemmas.{sleepers_rest}
 use Rattle.mp_compare.specs.Comparing.{AreUnseen}
 use Rattle.mp_work.specs.Revisions.{IsRevision, IsKept}
@@ -41,15 +41,15 @@ module _ (old new : Circuit) (ok : IsCircuit new) (run : Outcome) (latest time :
   ports : ArePortsOn new (active_of s) (on_of s)
   ports = is.is.followed.ports
 
-  simulated : IsSimulated (view new (active_of s) (on_of s)) (time - 1) s.simulation
+  simulated : IsSimulated (excerpt new (active_of s) (on_of s)) (time - 1) s.simulation
   simulated = showing_simulates new ok (active_of s) (on_of s) ports is.numbering (time - 1) s.simulation (omega (arith, below)) is.is.shows
 
   pub can_tell : (m : ℕ) → IsSome (module_at new m) → CanTell m s.simulation
   can_tell m stands =
       let r = standing (module_at new m) stands in
       record {
-        n = view new (active_of s) (on_of s);
-        ok = view_is new ok (active_of s) (on_of s) ports;
+        n = excerpt new (active_of s) (on_of s);
+        ok = excerpt_is new ok (active_of s) (on_of s) ports;
         t = time - 1;
         is = simulated;
         within = subst (λ (k : ℕ). m < k) (sym (length_active (active_of s) 0 new.modules)) (slot_within new.modules m r.0 r.1);
@@ -58,8 +58,8 @@ module _ (old new : Circuit) (ok : IsCircuit new) (run : Outcome) (latest time :
   pub told_state : (m : ℕ) (r : ModuleRecord) → module_at new m ≡ Some r → active_of s m ≡ true → (memory : Memory)
       → ((n : Circuit) (t : ℕ) (p : ModuleRecord) → IsCircuit n → IsSimulated n t s.simulation → module_at n m ≡ Some p → memory ≡ state n m t) → memory ≡ state new m (time - 1)
   told_state m r at on memory tells =
-      tells (view new (active_of s) (on_of s)) (time - 1) r (view_is new ok (active_of s) (on_of s) ports) simulated (module_active new (active_of s) (on_of s) m on ∙ at)
-      ∙ view_state new ok (active_of s) (on_of s) ports m (time - 1) r on at (omega (arith, below))
+      tells (excerpt new (active_of s) (on_of s)) (time - 1) r (excerpt_is new ok (active_of s) (on_of s) ports) simulated (module_active new (active_of s) (on_of s) m on ∙ at)
+      ∙ excerpt_state new ok (active_of s) (on_of s) ports m (time - 1) r on at (omega (arith, below))
 
 -- ---- who leaves and who stays
 

@@ -8,7 +8,7 @@ use Rattle.mp_events.specs.Firing.{copy_at}
 use Rattle.mp_run.specs.declared.wiring.Wiring.{Wiring}
 use Rattle.mp_run.specs.Numbers.{AreLinks}
 use Rattle.mp_run.specs.Wirings.{AreWired}
-use Rattle.mp_view.proofs.CopyLemmas.{next_inside, next_below}
+use Rattle.mp_excerpt.proofs.CopyLemmas.{next_inside, next_below}
 use Rattle.mp_compare.specs.Numbering.{AreSources, HasWires, AreNumbered}
 
 module _ (wires places : ℕ) (reading : ℕ → List Input) (inputs : ℕ → List ℕ) (wiring : Wiring) (are : AreWired wires places reading inputs wiring)

@@ -17,9 +17,9 @@ use Rattle.mp_units.specs.DataWheels.{data_slot}
 use Rattle.mp_units.proofs.PresentLemmas.{at_once}
 use Rattle.mp_run.specs.declared.stimuli.StimulusChange.{StimulusChange}
 use Rattle.mp_run.specs.Stimuli.{bits_at, levels_at}
-use Rattle.mp_view.specs.Levels.{shown_change, shown_delay, shown_ahead}
-use Rattle.mp_view.specs.Numberings.{Numbering}
-use Rattle.mp_view.specs.Showing.{Shows}
+use Rattle.mp_excerpt.specs.Levels.{shown_change, shown_delay, shown_ahead}
+use Rattle.mp_excerpt.specs.Numberings.{Numbering}
+use Rattle.mp_excerpt.specs.Showing.{Shows}
 use Rattle.mp_rerun.specs.Following.{AreToCome}
 use Rattle.mp_rerun.proofs.ToComeLemmas.{bits_to_come, levels_to_come}
 use Rattle.mp_rerun.proofs.NumberLemmas.{other_rests, bit_wire_first, wide_first, bit_wire_narrow, bit_wire_source, wide_number, narrow_number, data_copy_number}

@@ -15,7 +15,7 @@ use Rattle.mp_core.specs.PortEvents.{source_of}
 use Rattle.mp_events.specs.Adding.{listed}
 use Rattle.mp_run.specs.Wirings.{AreByPort}
 use Rattle.mp_compare.specs.Waking.{number_in, numbers_in}
-use Rattle.mp_view.specs.Numberings.{Numbering, ReadsNumbers}
+use Rattle.mp_excerpt.specs.Numberings.{Numbering, ReadsNumbers}
 use Rattle.mp_rerun.specs.Numbered.{reads_asleep, readers_asleep}
 
 -- the numbers at ports are those that are read

@@ -23,8 +23,8 @@ use Rattle.mp_units.specs.DataWheels.{driver_delay}
 use Rattle.mp_run.specs.declared.stimuli.StimulusChange.{StimulusChange}
 use Rattle.mp_run.specs.Stimuli.{AreFrom, AreInOrder, IsSetting, is_change}
 use Rattle.mp_run.proofs.AllStimuliLemmas.{in_order}
-use Rattle.mp_view.specs.Views.{is_followed}
-use Rattle.mp_view.specs.Leaving.{is_port_in}
+use Rattle.mp_excerpt.specs.Excerpts.{is_followed}
+use Rattle.mp_excerpt.specs.Leaving.{is_port_in}
 use Rattle.mp_steps.specs.Taking.{is_taken}
 use Rattle.mp_steps.specs.Tails.{IsTail, AreTails as AreTaken}
 use Rattle.mp_rerun.specs.Following.{AreTails, is_tail}

@@ -19,10 +19,10 @@ use Rattle.mp_units.proofs.LevelWheelLemmas.{changes_append}
 use Rattle.mp_units.proofs.PresentLemmas.{change_here}
 use Rattle.mp_run.specs.declared.stimuli.StimulusChange.{StimulusChange}
 use Rattle.mp_run.specs.Stimuli.{bits_at, levels_at}
-use Rattle.mp_view.specs.Levels.{shown_delay}
-use Rattle.mp_view.specs.Numberings.{Numbering}
-use Rattle.mp_view.specs.Showing.{Shows}
-use Rattle.mp_view.proofs.TestLemmas.{bit_true}
+use Rattle.mp_excerpt.specs.Levels.{shown_delay}
+use Rattle.mp_excerpt.specs.Numberings.{Numbering}
+use Rattle.mp_excerpt.specs.Showing.{Shows}
+use Rattle.mp_excerpt.proofs.TestLemmas.{bit_true}
 use Rattle.mp_netlist.specs.Drivers.{driver}
 use Rattle.mp_compare.specs.declared.comparison.Comparison.{Comparison}
 use Rattle.mp_compare.specs.declared.new_changes.NewChanges.{NewChanges}

@@ -26,7 +26,7 @@ use Rattle.mp_history.specs.declared.history.History.{History}
 use Rattle.mp_history.specs.Histories.{IsHistory}
 use Rattle.mp_steps.specs.Sleeping.{ArePutToSleep}
 use Rattle.mp_steps.proofs.AsleepLemmas.{none_asleep, puts_more_to_sleep}
-use Rattle.mp_view.specs.Numberings.{Numbering}
+use Rattle.mp_excerpt.specs.Numberings.{Numbering}
 use Rattle.mp_rerun.specs.declared.rerun.Rerun.{Rerun}
 use Rattle.mp_rerun.specs.Leaving.{HasFallenAsleep}
 use Rattle.mp_rerun.specs.Numbered.{ports_at, readers_asleep, AreCounted}

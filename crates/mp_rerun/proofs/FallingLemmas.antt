@@ -26,7 +26,7 @@ use Rattle.mp_compare.specs.Waking.{numbers_in, AreSourcesOf, HaveOwnLevels}
 use Rattle.mp_history.specs.declared.history.History.{History}
 use Rattle.mp_history.specs.Histories.{IsHistory}
 use Rattle.mp_history.specs.Live.{LeavesAt}
-use Rattle.mp_view.specs.Numberings.{Numbering}
+use Rattle.mp_excerpt.specs.Numberings.{Numbering}
 use Rattle.mp_rerun.specs.declared.rerun.Rerun.{Rerun}
 use Rattle.mp_rerun.specs.Leaving.{CanFallAsleep, HasGone, HasLeftOne}
 use Rattle.mp_rerun.specs.Numbered.{ports_at, AreNumbered}

@@ -12,7 +12,7 @@ use Rattle.mp_run.specs.Stimuli.{rest_of, left_of}
 use Rattle.mp_work.specs.Revisions.{IsRevision}
 use Rattle.mp_agreement.specs.Reading.{late as late_at, AreAlike, SleepersReadAlike}
 use Rattle.mp_agreement.specs.Sources.{WiresAgree}
-use Rattle.mp_view.specs.Numberings.{Numbering}
+use Rattle.mp_excerpt.specs.Numberings.{Numbering}
 use Rattle.mp_compare.specs.declared.new_changes.NewChanges.{NewChanges}
 use Rattle.mp_compare.specs.Comparing.{departs as departs_by, asleep_at, AreWithin, AreNewChanges, HaveLowBits, AgreeFrom, AgreeAsleep}
 use Rattle.mp_rerun.specs.declared.rerun.Rerun.{Rerun}

@@ -35,11 +35,11 @@ use Rattle.mp_work.proofs.MultipleLemmas.{whole_from}
 use Rattle.mp_agreement.specs.Reading.{QuietWhereAlike, SleepersReadAlike}
 use Rattle.mp_agreement.specs.Sleeping.{AreSleeping, SleepersAgree, SleepersSleepOn}
 use Rattle.mp_agreement.specs.Sources.{WiresAgree}
-use Rattle.mp_view.specs.Views.{view, ViewsAreCircuits, ViewsHaveStates}
-use Rattle.mp_view.specs.Numberings.{Numbering}
-use Rattle.mp_view.specs.Showing.{Shows, ShowingSimulates}
-use Rattle.mp_view.specs.Levels.{shown_level}
-use Rattle.mp_view.proofs.ViewLemmas.{length_active, module_active}
+use Rattle.mp_excerpt.specs.Excerpts.{excerpt, ExcerptsAreCircuits, ExcerptsHaveStates}
+use Rattle.mp_excerpt.specs.Numberings.{Numbering}
+use Rattle.mp_excerpt.specs.Showing.{Shows, ShowingSimulates}
+use Rattle.mp_excerpt.specs.Levels.{shown_level}
+use Rattle.mp_excerpt.proofs.ExcerptLemmas.{length_active, module_active}
 use Rattle.mp_rerun.specs.declared.rerun.Rerun.{Rerun}
 use Rattle.mp_rerun.specs.Reruns.{active_of, on_of, until_of, IsRerunBy}
 use Rattle.mp_compare.specs.Comparing.{wave_or_none, old_wave}
@@ -143,9 +143,9 @@ module _ (old new : Circuit) (old_ok : IsCircuit old) (ok : IsCircuit new) (revi
       some_record None r at = let no : ⊥ = cc in absurd no
       some_record (Some k) r at = refl
 
-  pub ends_left : ViewsAreCircuits → ViewsHaveStates → ShowingSimulates → SleepersAgree → HaveEnds new run s.activity.active.items s.simulation
+  pub ends_left : ExcerptsAreCircuits → ExcerptsHaveStates → ShowingSimulates → SleepersAgree → HaveEnds new run s.activity.active.items s.simulation
   ends_left circuits states simulates agree = record {
-    shown = view new (active_of s) (on_of s);
+    shown = excerpt new (active_of s) (on_of s);
     form = circuits new ok (active_of s) (on_of s) is.followed.ports;
     time = t;
     simulated = simulates new ok (active_of s) (on_of s) is.followed.ports numbering t s.simulation below is.shows;

@@ -1,4 +1,4 @@
--- The part of a netlist in which the marked modules are is the view of these.
+-- The part of a netlist in which the marked modules are is the excerpt of these.
 use Rattle.std.proofs.Common.{◌≡◌, ℕ, ◌+◌, ◌<◌, Bool, true, false, not, cond, List, [], ◌∷◌, Option, None, refl, ap, sym, ◌∙◌}
 use Rattle.std.specs.Prelude.{◌==◌}
 use Rattle.mp_records.specs.declared.wire_record.WireRecord.{WireRecord}
@@ -12,8 +12,8 @@ use Rattle.mp_model.specs.Waves.{level}
 use Rattle.mp_automata.specs.Codes.{bit}
 use Rattle.mp_evaluation.specs.Marks.{is_marked}
 use Rattle.mp_regions.specs.Regions.{home_of, region, set_on_slot}
-use Rattle.mp_view.specs.Views.{view, is_followed, active_slots, slots_on, unset_slot}
-use Rattle.mp_view.proofs.StartingLemmas.{regions_are_views}
+use Rattle.mp_excerpt.specs.Excerpts.{excerpt, is_followed, active_slots, slots_on, unset_slot}
+use Rattle.mp_excerpt.proofs.StartingLemmas.{regions_are_excerpts}
 
 followed_same : (a b : ℕ → Bool) → ((m : ℕ) → a m ≡ b m) → (d : Driver) → is_followed a d ≡ is_followed b d
 followed_same a b same Nothing = refl
@@ -33,9 +33,9 @@ module _ (n : Circuit) (a b : ℕ → Bool) (same : (m : ℕ) → a m ≡ b m) (
       ap (λ t. cond (on w) (cond t (set_on_slot n.horizon (level n w) slot) slot) (unset_slot slot) ∷ slots_on n a on (w + 1) slots) (followed_same a b same (driver n w))
       ∙ ap (λ (rest : List (Option WireRecord)). cond (on w) (cond (is_followed b (driver n w)) (set_on_slot n.horizon (level n w) slot) slot) (unset_slot slot) ∷ rest) (wires_same (w + 1) slots)
 
-  -- views in which the same modules are active are the same
-  pub views_same : view n a on ≡ view n b on
-  views_same =
+  -- excerpts in which the same modules are active are the same
+  pub excerpts_same : excerpt n a on ≡ excerpt n b on
+  excerpts_same =
       ap (λ (wires : List (Option WireRecord)). let seen : Circuit = record n { wires = wires; modules = active_slots a 0 n.modules } in seen) (wires_same 0 n.wires)
       ∙ ap (λ (modules : List (Option ModuleRecord)). let seen : Circuit = record n { wires = slots_on n b on 0 n.wires; modules = modules } in seen) (modules_same a b same 0 n.modules)
 
@@ -52,10 +52,10 @@ module _ (n : Circuit) (active : List Bool) (homes : List ℕ) (heard : List Boo
   home_same : (m : ℕ) → (home_of homes m == 1) ≡ is_marked active m
   home_same m = ap (λ k. k == 1) (at_home m) ∙ home_test (is_marked active m)
 
-  pub part_is : region n homes 1 heard ≡ view n (λ m. is_marked active m) (λ w. true)
+  pub part_is : region n homes 1 heard ≡ excerpt n (λ m. is_marked active m) (λ w. true)
   part_is =
-      regions_are_views n homes 1 heard (λ w. hears w ∙ followed_same (λ m. is_marked active m) (λ m. home_of homes m == 1) (λ m. sym (home_same m)) (driver n w))
-      ∙ views_same n (λ m. home_of homes m == 1) (λ m. is_marked active m) home_same (λ w. true)
+      regions_are_excerpts n homes 1 heard (λ w. hears w ∙ followed_same (λ m. is_marked active m) (λ m. home_of homes m == 1) (λ m. sym (home_same m)) (driver n w))
+      ∙ excerpts_same n (λ m. home_of homes m == 1) (λ m. is_marked active m) home_same (λ w. true)
 
   -- it hears no wire that a module drives which is in it
   pub hears_others : IsCircuit n → (m p w : ℕ) → Drives n m p w → home_of homes m ≡ 1 → is_marked heard w ≡ false

@@ -13,7 +13,7 @@ use Rattle.mp_core.specs.PortEvents.{source_of}
 use Rattle.mp_units.specs.DataSeats.{number_at}
 use Rattle.mp_regions.specs.Readers.{Reads}
 use Rattle.mp_run.specs.Wirings.{AreByPort}
-use Rattle.mp_view.specs.Numberings.{Numbering, ReadsNumbers}
+use Rattle.mp_excerpt.specs.Numberings.{Numbering, ReadsNumbers}
 use Rattle.mp_compare.specs.declared.numbers.Numbers.{Numbers}
 use Rattle.mp_compare.specs.Comparing.{wire_of}
 use Rattle.mp_compare.specs.Reading.{is_on_wire, ports_of, reads, reads_wire, asleep_below, active_below, ReadsAreListed}

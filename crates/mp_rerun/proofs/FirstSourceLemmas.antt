@@ -18,8 +18,8 @@ use Rattle.mp_evaluation.specs.Marks.{is_marked}
 use Rattle.mp_regions.specs.Readers.{Reads}
 use Rattle.mp_work.specs.Revisions.{IsDrivenAlike}
 use Rattle.mp_agreement.specs.Sources.{IsAsBefore, AreSources}
-use Rattle.mp_view.specs.Views.{is_followed, ArePortsOn}
-use Rattle.mp_view.proofs.KeptLemmas.{stands_within}
+use Rattle.mp_excerpt.specs.Excerpts.{is_followed, ArePortsOn}
+use Rattle.mp_excerpt.proofs.KeptLemmas.{stands_within}
 use Rattle.mp_compare.specs.declared.wire_source.WireSource.{WireSource}
 use Rattle.mp_compare.specs.declared.comparison.Comparison.{Comparison}
 use Rattle.mp_compare.specs.Comparing.{off, renewed, source_at}

@@ -30,14 +30,14 @@ use Rattle.mp_units.specs.DataWheels.{data_slot, driver_delay}
 use Rattle.mp_run.specs.declared.stimuli.StimulusChange.{StimulusChange}
 use Rattle.mp_agreement.specs.Sources.{slept_from}
 use Rattle.mp_compare.specs.declared.comparison.Comparison.{Comparison}
-use Rattle.mp_view.specs.Leaving.{without, is_port_in}
-use Rattle.mp_view.proofs.LeavingLemmas.{leaving_shows}
+use Rattle.mp_excerpt.specs.Leaving.{without, is_port_in}
+use Rattle.mp_excerpt.proofs.LeavingLemmas.{leaving_shows}
 use Rattle.mp_steps.proofs.SleptLemmas.{sleeping_leaves}
 use Rattle.mp_steps.proofs.TailLemmas.{takes_tails}
 use Rattle.mp_steps.specs.Tails.{AreTails as AreTaken}
 use Rattle.mp_steps.specs.Taking.{AreGone, is_gone, gone_changes, taken_toggle, taken_change, taken_at, taken_in}
-use Rattle.mp_view.specs.Numberings.{Numbering}
-use Rattle.mp_view.specs.Showing.{Shows}
+use Rattle.mp_excerpt.specs.Numberings.{Numbering}
+use Rattle.mp_excerpt.specs.Showing.{Shows}
 use Rattle.mp_rerun.specs.declared.rerun.Rerun.{Rerun}
 use Rattle.mp_rerun.specs.Leaving.{HasTakenTails}
 use Rattle.mp_rerun.specs.Reruns.{IsRerunBy, active_of, on_of, until_of}

@@ -15,7 +15,7 @@ use Rattle.mp_events.specs.declared.fanout_entry.FanoutEntry.{FanoutEntry}
 use Rattle.mp_events.specs.Adding.{listed, event_for, events_for}
 use Rattle.mp_events.specs.Ports.{weight}
 use Rattle.mp_events.specs.Toggling.{row_at, entries_from}
-use Rattle.mp_view.specs.Numberings.{Numbering}
+use Rattle.mp_excerpt.specs.Numberings.{Numbering}
 use Rattle.mp_rerun.specs.Hearing.{AreHearing}
 use Rattle.mp_rerun.specs.Numbered.{reads_asleep, readers_asleep}
 

@@ -12,8 +12,8 @@ use Rattle.mp_work.specs.Revisions.{IsRevision}
 use Rattle.mp_agreement.specs.Reading.{QuietWhereAlike, SleepersReadAlike}
 use Rattle.mp_agreement.specs.Sleeping.{SleepersAgree, SleepersSleepOn}
 use Rattle.mp_agreement.specs.Sources.{WiresAgree}
-use Rattle.mp_view.specs.Numberings.{Numbering}
-use Rattle.mp_view.specs.Setting.{AreSetOutside}
+use Rattle.mp_excerpt.specs.Numberings.{Numbering}
+use Rattle.mp_excerpt.specs.Setting.{AreSetOutside}
 use Rattle.mp_compare.specs.Comparing.{HasCursors, IsComplete, IsOldRun}
 use Rattle.mp_compare.proofs.OldRunLemmas.{runs_are_old}
 use Rattle.mp_compare.proofs.QuietLemmas.{none_due, cursors_on, complete_on}

@@ -14,13 +14,13 @@ use Rattle.mp_events.specs.Toggling.{row_at, entries_from}
 use Rattle.mp_evaluation.specs.Outcomes.{Outcome}
 use Rattle.mp_work.specs.Revisions.{IsRevision}
 use Rattle.mp_agreement.specs.Reading.{late, AreAlike, QuietWhereAlike}
-use Rattle.mp_view.specs.Numberings.{Numbering}
+use Rattle.mp_excerpt.specs.Numberings.{Numbering}
 use Rattle.mp_compare.specs.Comparing.{wire_of, delay_of, asleep_at}
 use Rattle.mp_rerun.specs.declared.rerun.Rerun.{Rerun}
 use Rattle.mp_rerun.specs.Hearing.{AreHearing}
 use Rattle.mp_rerun.specs.Joining.{AreJoining, AreDeparting, departs}
 use Rattle.mp_rerun.specs.Reruns.{IsRerunBy, active_of}
-use Rattle.mp_view.proofs.TestLemmas.{bit_true}
+use Rattle.mp_excerpt.proofs.TestLemmas.{bit_true}
 use Rattle.mp_rerun.proofs.NumberLemmas.{asleep_within}
 use Rattle.mp_rerun.proofs.HearingLemmas.{at_listed, differs_at, weight_listed, listed_weight, entry_found, entry_there, reader_counted}
 

@@ -11,7 +11,7 @@ use Rattle.mp_units.specs.declared.data_modules.DataModules.{DataModules}
 use Rattle.mp_units.specs.declared.netlist_simulation.NetlistSimulation.{NetlistSimulation}
 use Rattle.mp_units.specs.NetlistSimulations.{HasKeptNumbers}
 use Rattle.mp_run.specs.Seating.{AreOutputsWithin}
-use Rattle.mp_view.specs.Numberings.{Numbering}
+use Rattle.mp_excerpt.specs.Numberings.{Numbering}
 use Rattle.mp_compare.specs.declared.comparison.Comparison.{Comparison}
 use Rattle.mp_history.specs.declared.history.History.{History}
 use Rattle.mp_rerun.specs.declared.rerun.Rerun.{Rerun}

@@ -19,11 +19,11 @@ use Rattle.mp_agreement.specs.Resting.{SleepersRest}
 use Rattle.mp_agreement.specs.Sleeping.{SleepersAgree, SleepersSleepOn}
 use Rattle.mp_agreement.specs.Sources.{WiresAgree}
 use Rattle.mp_history.specs.Live.{AreAtWork, IsListed}
-use Rattle.mp_view.specs.Views.{view, ViewsAreCircuits}
-use Rattle.mp_view.specs.Numberings.{Numbering}
-use Rattle.mp_view.specs.Renumbering.{UnitsShow}
-use Rattle.mp_view.specs.Setting.{SetsAreStimuli}
-use Rattle.mp_view.specs.Showing.{ShowingSimulates}
+use Rattle.mp_excerpt.specs.Excerpts.{excerpt, ExcerptsAreCircuits}
+use Rattle.mp_excerpt.specs.Numberings.{Numbering}
+use Rattle.mp_excerpt.specs.Renumbering.{UnitsShow}
+use Rattle.mp_excerpt.specs.Setting.{SetsAreStimuli}
+use Rattle.mp_excerpt.specs.Showing.{ShowingSimulates}
 use Rattle.mp_compare.proofs.QuietLemmas.{later_due}
 use Rattle.mp_rerun.specs.declared.rerun.Rerun.{Rerun}
 use Rattle.mp_rerun.specs.Idle.{is_due}
@@ -41,7 +41,7 @@ pub record LeapLaws : Type 0 where
   pub agree : SleepersAgree
   pub sleep_on : SleepersSleepOn
   pub rest : SleepersRest
-  pub views : ViewsAreCircuits
+  pub excerpts : ExcerptsAreCircuits
   pub simulates : ShowingSimulates
   pub sets : SetsAreStimuli
   pub units : UnitsShow
@@ -92,11 +92,11 @@ module _ (old n : Circuit) (old_ok : IsCircuit old) (ok : IsCircuit n) (revised 
       let below : t + 1 < n.horizon = omega (arith, early, within) in
       let nothing = leap_comes (t + 1) time s early (below_never n ok (t + 1) below) can in
       let ports = is.followed.ports in
-      let circuit = laws.views n ok (active_of s) (on_of s) ports in
+      let circuit = laws.excerpts n ok (active_of s) (on_of s) ports in
       let sim = laws.simulates n ok (active_of s) (on_of s) ports numbering t s.simulation (omega (arith, below)) is.shows in
       let outside = quiet_outside old n old_ok ok revised run is_run numbering since t below s is nothing laws.wires laws.agree [] [] refl refl in
       let none = laws.sets n ok (active_of s) (on_of s) ports [] [] (t + 1) below outside in
-      let next = rests_on (view n (active_of s) (on_of s)) circuit t s.simulation can.rest sim none in
+      let next = rests_on (excerpt n (active_of s) (on_of s)) circuit t s.simulation can.rest sim none in
       record {
         shows = laws.units n ok (active_of s) (on_of s) ports numbering t (t + 1) s.simulation s.simulation below is.shows next
             (record { rows = refl; outputs = refl; next = refl; data_next = refl; units = refl; copy_units = refl; change_units = refl; places = refl; seats = refl });

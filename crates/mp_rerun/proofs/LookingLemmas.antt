@@ -2,7 +2,7 @@
 use Rattle.std.proofs.Common.{◌≡◌, ℕ, [], refl, sym, ap, subst, ◌∙◌}
 use Rattle.mp_netlist.specs.Circuit.{Circuit}
 use Rattle.mp_evaluation.specs.Outcomes.{Outcome}
-use Rattle.mp_view.specs.Numberings.{Numbering}
+use Rattle.mp_excerpt.specs.Numberings.{Numbering}
 use Rattle.mp_compare.specs.Comparing.{HasCursors}
 use Rattle.mp_rerun.specs.declared.activity.Activity.{Activity}
 use Rattle.mp_rerun.specs.declared.rerun.Rerun.{Rerun}

@@ -16,10 +16,10 @@ use Rattle.mp_units.specs.DataLevels.{has_data, is_data, is_bit_wire}
 use Rattle.mp_run.specs.declared.stimuli.StimulusChange.{StimulusChange}
 use Rattle.mp_run.specs.Stimuli.{bits_at}
 use Rattle.mp_work.specs.Revisions.{IsRevision}
-use Rattle.mp_view.specs.Levels.{shown_change, shown_delay}
-use Rattle.mp_view.specs.Numberings.{Numbering}
-use Rattle.mp_view.specs.Showing.{Shows}
-use Rattle.mp_view.proofs.TestLemmas.{bit_true}
+use Rattle.mp_excerpt.specs.Levels.{shown_change, shown_delay}
+use Rattle.mp_excerpt.specs.Numberings.{Numbering}
+use Rattle.mp_excerpt.specs.Showing.{Shows}
+use Rattle.mp_excerpt.proofs.TestLemmas.{bit_true}
 use Rattle.mp_compare.specs.declared.comparison.Comparison.{Comparison}
 use Rattle.mp_compare.specs.declared.new_changes.NewChanges.{NewChanges}
 use Rattle.mp_compare.specs.Comparing.{wire_of, delay_of, bits_of, HaveLowBits}

@@ -10,7 +10,7 @@ use Rattle.mp_core.specs.Changes.{change_at}
 use Rattle.mp_core.proofs.WholeLemmas.{undriven}
 use Rattle.mp_units.specs.declared.netlist_simulation.NetlistSimulation.{NetlistSimulation}
 use Rattle.mp_units.specs.DataLevels.{is_data, is_bit_wire}
-use Rattle.mp_view.specs.Numberings.{Numbering, HasNumbers}
+use Rattle.mp_excerpt.specs.Numberings.{Numbering, HasNumbers}
 use Rattle.mp_compare.specs.declared.comparison.Comparison.{Comparison}
 use Rattle.mp_compare.specs.Comparing.{asleep_at}
 

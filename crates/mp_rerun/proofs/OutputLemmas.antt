@@ -35,7 +35,7 @@ use Rattle.mp_compare.specs.Comparing.{off}
 use Rattle.mp_run.specs.declared.stimuli.HeardChanges.{HeardChanges}
 use Rattle.mp_run.specs.declared.stimuli.StimulusChange.{StimulusChange}
 use Rattle.mp_run.specs.Stimuli.{left_of, is_change, IsSetting}
-use Rattle.mp_view.specs.Views.{is_followed}
+use Rattle.mp_excerpt.specs.Excerpts.{is_followed}
 use Rattle.mp_steps.specs.Putting.{HasPut, entries_of, room}
 use Rattle.mp_steps.specs.Ahead.{AreAhead, AreChangesOf}
 use Rattle.mp_steps.proofs.AheadLemmas.{puts_ahead}

@@ -28,8 +28,8 @@ use Rattle.mp_units.specs.DataLevels.{has_data, is_data}
 use Rattle.mp_units.specs.DataSeats.{IsDataSeat, drives_data, bit_port_of, number_at}
 use Rattle.mp_run.specs.Seating.{AreOutputsWithin}
 use Rattle.mp_run.specs.Wirings.{AreByPort}
-use Rattle.mp_view.specs.Numberings.{Numbering, ReadsNumbers, place_in, scope_of}
-use Rattle.mp_view.specs.Activating.{with_module}
+use Rattle.mp_excerpt.specs.Numberings.{Numbering, ReadsNumbers, place_in, scope_of}
+use Rattle.mp_excerpt.specs.Activating.{with_module}
 use Rattle.mp_rerun.specs.Returning.{IsPartIn}
 
 -- ---- it does what a module of its kind does

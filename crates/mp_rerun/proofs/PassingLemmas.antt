@@ -4,8 +4,8 @@ use Rattle.mp_netlist.specs.Circuit.{Circuit}
 use Rattle.mp_evaluation.specs.Outcomes.{Outcome}
 use Rattle.mp_run.specs.Stimuli.{rest_of, left_of, changes_after}
 use Rattle.mp_agreement.specs.Sleeping.{SleepersSleepOn}
-use Rattle.mp_view.specs.Numberings.{Numbering}
-use Rattle.mp_view.specs.Setting.{AreSetOutside}
+use Rattle.mp_excerpt.specs.Numberings.{Numbering}
+use Rattle.mp_excerpt.specs.Setting.{AreSetOutside}
 use Rattle.mp_compare.specs.Comparing.{HasCursors, IsComplete}
 use Rattle.mp_rerun.specs.declared.rerun.Rerun.{Rerun}
 use Rattle.mp_rerun.specs.Following.{is_tail, is_set_anew, AreTails, AreSetAnew}

@@ -24,8 +24,8 @@ use Rattle.mp_work.specs.Revisions.{IsRevision}
 use Rattle.mp_agreement.specs.Reading.{late as late_at, AreAlike, QuietWhereAlike, SleepersReadAlike}
 use Rattle.mp_agreement.specs.Sleeping.{SleepersAgree}
 use Rattle.mp_agreement.specs.Sources.{WiresAgree}
-use Rattle.mp_view.specs.Numberings.{Numbering}
-use Rattle.mp_view.specs.Setting.{is_outside, AreSetOutside}
+use Rattle.mp_excerpt.specs.Numberings.{Numbering}
+use Rattle.mp_excerpt.specs.Setting.{is_outside, AreSetOutside}
 use Rattle.mp_compare.specs.Comparing.{wire_of, delay_of, late, source_at, asleep_at, is_tracked, may_differ, IsOldRun}
 use Rattle.mp_compare.specs.Passing.{is_set}
 use Rattle.mp_compare.proofs.CursorLemmas.{is_number}

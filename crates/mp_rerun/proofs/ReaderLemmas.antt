@@ -18,9 +18,9 @@ use Rattle.mp_automata.specs.Codes.{bit}
 use Rattle.mp_events.specs.Adding.{listed}
 use Rattle.mp_run.specs.Seating.{AreOutputsWithin}
 use Rattle.mp_run.specs.Wirings.{AreByPort}
-use Rattle.mp_view.specs.Numberings.{Numbering}
-use Rattle.mp_view.specs.Leaving.{is_port_of}
-use Rattle.mp_view.specs.Activating.{with_module}
+use Rattle.mp_excerpt.specs.Numberings.{Numbering}
+use Rattle.mp_excerpt.specs.Leaving.{is_port_of}
+use Rattle.mp_excerpt.specs.Activating.{with_module}
 use Rattle.mp_compare.specs.Waking.{number_in, numbers_in}
 use Rattle.mp_rerun.specs.Numbered.{reads_asleep, readers_asleep}
 use Rattle.mp_rerun.specs.Returning.{is_output}

@@ -16,12 +16,12 @@ use Rattle.mp_units.specs.declared.data_modules.DataModules.{DataModules}
 use Rattle.mp_evaluation.specs.Outcomes.{Outcome}
 use Rattle.mp_run.specs.Stimuli.{left_of}
 use Rattle.mp_regions.specs.Readers.{Reads}
-use Rattle.mp_view.specs.Views.{is_followed, ArePortsOn}
-use Rattle.mp_view.specs.Numberings.{Numbering}
-use Rattle.mp_view.specs.Showing.{Shows}
-use Rattle.mp_view.specs.Leaving.{is_port_of}
-use Rattle.mp_view.specs.Activating.{with_module, IsActivated}
-use Rattle.mp_view.proofs.ActivatingLemmas.{activating_shows}
+use Rattle.mp_excerpt.specs.Excerpts.{is_followed, ArePortsOn}
+use Rattle.mp_excerpt.specs.Numberings.{Numbering}
+use Rattle.mp_excerpt.specs.Showing.{Shows}
+use Rattle.mp_excerpt.specs.Leaving.{is_port_of}
+use Rattle.mp_excerpt.specs.Activating.{with_module, IsActivated}
+use Rattle.mp_excerpt.proofs.ActivatingLemmas.{activating_shows}
 use Rattle.mp_steps.specs.Seating.{IsBitSeated}
 use Rattle.mp_steps.proofs.BitActivatedLemmas.{bit_modules_activate}
 use Rattle.mp_steps.proofs.DataActivatedLemmas.{data_modules_activate}

@@ -25,7 +25,7 @@ use Rattle.mp_units.specs.declared.netlist_simulation.NetlistSimulation.{Netlist
 use Rattle.mp_units.specs.DataLevels.{changes_of}
 use Rattle.mp_units.specs.DataWheels.{data_slot}
 use Rattle.mp_evaluation.specs.Outcomes.{Outcome}
-use Rattle.mp_view.specs.Numberings.{Numbering}
+use Rattle.mp_excerpt.specs.Numberings.{Numbering}
 use Rattle.mp_steps.specs.Seating.{HasTakenSeat, seated, seat_in}
 use Rattle.mp_steps.specs.Activated.{CanTakeSeat}
 use Rattle.mp_steps.specs.Ahead.{HasNothingAhead}

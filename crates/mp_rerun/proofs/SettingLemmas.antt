@@ -21,9 +21,9 @@ use Rattle.mp_agreement.specs.Sleeping.{SleepersAgree}
 use Rattle.mp_agreement.specs.Sources.{WiresAgree}
 use Rattle.mp_work.specs.Revisions.{IsRevision}
 use Rattle.mp_evaluation.specs.Outcomes.{Outcome}
-use Rattle.mp_view.specs.Numberings.{Numbering}
-use Rattle.mp_view.specs.Setting.{is_outside, AreSetOutside}
-use Rattle.mp_view.proofs.TestLemmas.{bit_true}
+use Rattle.mp_excerpt.specs.Numberings.{Numbering}
+use Rattle.mp_excerpt.specs.Setting.{is_outside, AreSetOutside}
+use Rattle.mp_excerpt.proofs.TestLemmas.{bit_true}
 use Rattle.mp_compare.specs.declared.set_wires.SetWires.{SetWires}
 use Rattle.mp_compare.specs.Comparing.{source_at, follows, off}
 use Rattle.mp_compare.specs.Passing.{has_data_at, is_set, HasLevel, AreSet}

@@ -28,8 +28,8 @@ use Rattle.mp_work.specs.Revisions.{IsRevision}
 use Rattle.mp_agreement.specs.Reading.{late as late_at, AreAlike, QuietWhereAlike, SleepersReadAlike}
 use Rattle.mp_agreement.specs.Sleeping.{AreSleeping, SleepersSleepOn}
 use Rattle.mp_agreement.specs.Sources.{WiresAgree}
-use Rattle.mp_view.specs.Numberings.{Numbering}
-use Rattle.mp_view.specs.Views.{is_followed}
+use Rattle.mp_excerpt.specs.Numberings.{Numbering}
+use Rattle.mp_excerpt.specs.Excerpts.{is_followed}
 use Rattle.mp_compare.specs.declared.wire_source.WireSource.{WireSource}
 use Rattle.mp_compare.specs.Comparing.{wire_of, delay_of, source_at, asleep_at, old_wave, may_differ, is_tracked}
 use Rattle.mp_compare.specs.OldRuns.{RunsAreOld}

@@ -40,7 +40,7 @@ use Rattle.mp_compare.specs.declared.numbers.Numbers.{Numbers}
 use Rattle.mp_compare.specs.Comparing.{wire_of, delay_of as late_by}
 use Rattle.mp_compare.specs.Listing.{AreLinked}
 use Rattle.mp_steps.specs.Taking.{is_gone, taken_in}
-use Rattle.mp_view.specs.Numberings.{Numbering}
+use Rattle.mp_excerpt.specs.Numberings.{Numbering}
 use Rattle.mp_rerun.specs.declared.rerun.Rerun.{Rerun}
 use Rattle.mp_rerun.specs.Following.{AreTails, AreSetAnew}
 use Rattle.mp_rerun.specs.Numbered.{ports_at, AreWired, AreNumbered}

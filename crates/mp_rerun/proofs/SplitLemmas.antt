@@ -15,9 +15,9 @@ use Rattle.mp_core.specs.Changes.{change_at}
 use Rattle.mp_core.specs.WholeRuns.{is_stimulus}
 use Rattle.mp_core.proofs.WholeLemmas.{undriven}
 use Rattle.mp_agreement.specs.Sources.{AreSources}
-use Rattle.mp_view.specs.Views.{is_followed}
-use Rattle.mp_view.specs.Levels.{shown_delay}
-use Rattle.mp_view.specs.Setting.{is_outside}
+use Rattle.mp_excerpt.specs.Excerpts.{is_followed}
+use Rattle.mp_excerpt.specs.Levels.{shown_delay}
+use Rattle.mp_excerpt.specs.Setting.{is_outside}
 use Rattle.mp_rerun.specs.Following.{is_tail, is_set_anew}
 use Rattle.mp_rerun.proofs.ComingLemmas.{IsSplit}
 

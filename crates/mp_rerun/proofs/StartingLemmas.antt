@@ -28,12 +28,12 @@ use Rattle.mp_run.specs.Beginnings.{IsPartOf, IsBegun}
 use Rattle.mp_run.proofs.BegunLemmas.{numbers as as_many}
 use Rattle.mp_run.proofs.SimulatedLemmas.{IsSimulatedBy, simulated_by}
 use Rattle.mp_run.proofs.WidthLemmas.{bit_reads}
-use Rattle.mp_view.specs.Views.{view, ArePortsOn}
-use Rattle.mp_view.specs.Numberings.{Numbering, ReadsNumbers}
-use Rattle.mp_view.specs.Showing.{Shows}
-use Rattle.mp_view.proofs.ViewLemmas.{view_ok, length_active, length_on, is_here}
-use Rattle.mp_view.proofs.ShownLemmas.{shows}
-use Rattle.mp_view.proofs.StartingLemmas.{starts_show}
+use Rattle.mp_excerpt.specs.Excerpts.{excerpt, ArePortsOn}
+use Rattle.mp_excerpt.specs.Numberings.{Numbering, ReadsNumbers}
+use Rattle.mp_excerpt.specs.Showing.{Shows}
+use Rattle.mp_excerpt.proofs.ExcerptLemmas.{excerpt_ok, length_active, length_on, is_here}
+use Rattle.mp_excerpt.proofs.ShownLemmas.{shows}
+use Rattle.mp_excerpt.proofs.StartingLemmas.{starts_show}
 use Rattle.mp_compare.specs.Numbering.{AreNumbered as AreOfWires}
 use Rattle.mp_steps.specs.Activated.{IsWired}
 use Rattle.mp_rerun.specs.Numbered.{AreWired}
@@ -76,13 +76,13 @@ module _ (n : Circuit) (ok : IsCircuit n) (active : ℕ → Bool) where
   all_on w = true
 
   abbrev seen : Circuit
-  seen = view n active all_on
+  seen = excerpt n active all_on
 
   pub ports_all : ArePortsOn n active all_on
   ports_all = record { driven = λ m p w awake drives. refl; read = λ m w awake reads. refl }
 
   pub seen_ok : IsCircuit seen
-  seen_ok = view_ok n active all_on ok ports_all
+  seen_ok = excerpt_ok n active all_on ok ports_all
 
   pub part_of : IsPartOf seen n
   part_of = record {

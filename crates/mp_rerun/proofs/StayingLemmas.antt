@@ -7,8 +7,8 @@ use Rattle.mp_events.specs.declared.output_ports.OutputPorts.{OutputPorts}
 use Rattle.mp_events.specs.Firing.{ports_at as output_ports_at}
 use Rattle.mp_units.specs.declared.netlist_simulation.NetlistSimulation.{NetlistSimulation}
 use Rattle.mp_run.specs.Seating.{AreOutputsWithin}
-use Rattle.mp_view.specs.Numberings.{Numbering}
-use Rattle.mp_view.specs.Views.{ArePortsOn}
+use Rattle.mp_excerpt.specs.Numberings.{Numbering}
+use Rattle.mp_excerpt.specs.Excerpts.{ArePortsOn}
 use Rattle.mp_compare.specs.declared.comparison.Comparison.{Comparison}
 use Rattle.mp_compare.specs.declared.numbers.Numbers.{Numbers}
 use Rattle.mp_compare.specs.Comparing.{wire_of, delay_of as late_by, IsShaped}

@@ -11,7 +11,7 @@ use Rattle.mp_evaluation.specs.Outcomes.{Outcome}
 use Rattle.mp_phase.specs.Phase.{AreDone}
 use Rattle.mp_phase.proofs.PhaseLemmas.{are_done-push, are_done-at}
 use Rattle.mp_work.specs.Revisions.{IsKept}
-use Rattle.mp_view.specs.Numberings.{Numbering}
+use Rattle.mp_excerpt.specs.Numberings.{Numbering}
 use Rattle.mp_rerun.specs.declared.join.Join.{Join}
 use Rattle.mp_rerun.specs.declared.rerun.Rerun.{Rerun}
 use Rattle.mp_rerun.specs.Reruns.{active_of, IsFollowed}

@@ -20,10 +20,10 @@ use Rattle.mp_units.specs.declared.data_modules.DataModules.{DataModules}
 use Rattle.mp_units.specs.declared.netlist_simulation.NetlistSimulation.{NetlistSimulation}
 use Rattle.mp_units.specs.DataLevels.{is_data}
 use Rattle.mp_run.specs.Stimuli.{left_of, rest_of}
-use Rattle.mp_view.specs.Numberings.{Numbering}
-use Rattle.mp_view.specs.Showing.{Shows}
-use Rattle.mp_view.specs.Turning.{IsTurnedOn}
-use Rattle.mp_view.proofs.TurningLemmas.{turning_shows}
+use Rattle.mp_excerpt.specs.Numberings.{Numbering}
+use Rattle.mp_excerpt.specs.Showing.{Shows}
+use Rattle.mp_excerpt.specs.Turning.{IsTurnedOn}
+use Rattle.mp_excerpt.proofs.TurningLemmas.{turning_shows}
 use Rattle.mp_agreement.specs.Sources.{AreSources, WiresAgree}
 use Rattle.mp_compare.specs.declared.wire_source.WireSource.{WireSource}
 use Rattle.mp_compare.specs.declared.comparison.Comparison.{Comparison}

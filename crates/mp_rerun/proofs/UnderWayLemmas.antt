@@ -17,7 +17,7 @@ use Rattle.mp_work.specs.Work.{block_of, window_end, IsWindow}
 use Rattle.mp_work.proofs.WindowLemmas.{window_within}
 use Rattle.mp_history.specs.Histories.{IsHistory}
 use Rattle.mp_history.specs.Live.{AreAtWork}
-use Rattle.mp_view.specs.Views.{ArePortsOn}
+use Rattle.mp_excerpt.specs.Excerpts.{ArePortsOn}
 use Rattle.mp_compare.specs.Comparing.{wire_of, delay_of as late_by, HasCursors, AreUnseen, IsComplete}
 use Rattle.mp_compare.specs.Numbering.{AreNumbersOf, has_data}
 use Rattle.mp_compare.specs.Reading.{ReadsAreListed, ports_of}

@@ -10,14 +10,14 @@ use Rattle.mp_evaluation.specs.Marks.{is_marked}
 use Rattle.mp_evaluation.specs.Outcomes.{Outcome}
 use Rattle.mp_units.specs.declared.netlist_simulation.NetlistSimulation.{NetlistSimulation}
 use Rattle.mp_units.specs.NetlistSimulations.{IsSimulated, AreStimuli, CanPass, HasKeptNumbers}
-use Rattle.mp_view.specs.Views.{view}
-use Rattle.mp_view.specs.Numberings.{Numbering}
-use Rattle.mp_view.specs.Showing.{Shows}
-use Rattle.mp_view.specs.Setting.{AreSetOutside}
-use Rattle.mp_view.proofs.RenumberingLemmas.{units_show}
-use Rattle.mp_view.proofs.SettingLemmas.{sets_are_stimuli}
-use Rattle.mp_view.proofs.SimulatedLemmas.{showing_simulates}
-use Rattle.mp_view.proofs.ViewLemmas.{view_is}
+use Rattle.mp_excerpt.specs.Excerpts.{excerpt}
+use Rattle.mp_excerpt.specs.Numberings.{Numbering}
+use Rattle.mp_excerpt.specs.Showing.{Shows}
+use Rattle.mp_excerpt.specs.Setting.{AreSetOutside}
+use Rattle.mp_excerpt.proofs.RenumberingLemmas.{units_show}
+use Rattle.mp_excerpt.proofs.SettingLemmas.{sets_are_stimuli}
+use Rattle.mp_excerpt.proofs.SimulatedLemmas.{showing_simulates}
+use Rattle.mp_excerpt.proofs.ExcerptLemmas.{excerpt_is}
 use Rattle.mp_compare.specs.Comparing.{seen_at, AreUnseen}
 use Rattle.mp_work.specs.Work.{block_of, IsWindow}
 use Rattle.mp_history.specs.Histories.{IsHistory}
@@ -119,14 +119,14 @@ module _ (old new : Circuit) (ok : IsCircuit new) (run : Outcome) (time latest :
   shown : Shows new (active_of set) (on_of set) again.numbering (time - 1) set.simulation
   shown = subst (λ (x : Rerun). Shows new (active_of x) (on_of x) again.numbering (time - 1) x.simulation) (sym sets) again.is.shows
 
-  simulated : IsSimulated (view new (active_of set) (on_of set)) (time - 1) set.simulation
+  simulated : IsSimulated (excerpt new (active_of set) (on_of set)) (time - 1) set.simulation
   simulated = showing_simulates new ok (active_of set) (on_of set) after.ports again.numbering (time - 1) set.simulation (omega (arith, below)) shown
 
   -- what is set can change
   pub can_pass : (bits : List ℕ) (levels : List LevelChange) → AreSetOutside new (active_of set) (on_of set) bits levels time → CanPass bits levels time set.simulation
   can_pass bits levels outside = record {
-    n = view new (active_of set) (on_of set);
-    ok = view_is new ok (active_of set) (on_of set) after.ports;
+    n = excerpt new (active_of set) (on_of set);
+    ok = excerpt_is new ok (active_of set) (on_of set) after.ports;
     t = time - 1;
     now = omega (arith, some);
     is = simulated;
@@ -150,9 +150,9 @@ module _ (old new : Circuit) (ok : IsCircuit new) (run : Outcome) (time latest :
       next : time - 1 + 1 ≡ time
       next = omega (arith, some)
 
-      passed : IsSimulated (view new (active_of set) (on_of set)) time simulation
-      passed = subst (λ (t : ℕ). IsSimulated (view new (active_of set) (on_of set)) t simulation) next
-          (passes (view new (active_of set) (on_of set)) (time - 1) (view_is new ok (active_of set) (on_of set) after.ports) (omega (arith, some)) simulated
+      passed : IsSimulated (excerpt new (active_of set) (on_of set)) time simulation
+      passed = subst (λ (t : ℕ). IsSimulated (excerpt new (active_of set) (on_of set)) t simulation) next
+          (passes (excerpt new (active_of set) (on_of set)) (time - 1) (excerpt_is new ok (active_of set) (on_of set) after.ports) (omega (arith, some)) simulated
           (sets_are_stimuli new ok (active_of set) (on_of set) after.ports bits levels time below outside))
 
 -- ---- nothing happens

@@ -15,7 +15,7 @@ use Rattle.mp_evaluation.specs.Outcomes.{Outcome}
 use Rattle.mp_work.specs.Revisions.{IsRevision, IsKept}
 use Rattle.mp_agreement.specs.Sleeping.{IsSleeping, SleepersAgree}
 use Rattle.mp_history.specs.Live.{HaveBecomeLive}
-use Rattle.mp_view.specs.Numberings.{Numbering}
+use Rattle.mp_excerpt.specs.Numberings.{Numbering}
 use Rattle.mp_rerun.specs.declared.rerun.Rerun.{Rerun}
 use Rattle.mp_rerun.specs.Joining.{HaveJoined}
 use Rattle.mp_rerun.specs.Reruns.{active_of, IsFollowed}

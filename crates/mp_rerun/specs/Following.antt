@@ -9,7 +9,7 @@ use Rattle.mp_core.specs.Changes.{change_at}
 use Rattle.mp_core.specs.WholeRuns.{is_stimulus}
 use Rattle.mp_run.specs.declared.stimuli.StimulusChange.{StimulusChange}
 use Rattle.mp_run.specs.Stimuli.{AreFrom, IsSetting, is_change}
-use Rattle.mp_view.specs.Views.{is_followed}
+use Rattle.mp_excerpt.specs.Excerpts.{is_followed}
 
 -- they are the changes after t of those wires that a time has changes of, each once
 pub record AreToCome (n : Circuit) (comes : ℕ → ℕ → Bool) (t : ℕ) (ss : List StimulusChange) : Type 0 where

@@ -7,7 +7,7 @@ use Rattle.mp_units.specs.declared.netlist_simulation.NetlistSimulation.{Netlist
 use Rattle.mp_units.specs.DataLevels.{is_data}
 use Rattle.mp_run.specs.Seating.{AreOutputsWithin}
 use Rattle.mp_run.specs.Wirings.{AreByPort}
-use Rattle.mp_view.specs.Numberings.{Numbering, ReadsNumbers}
+use Rattle.mp_excerpt.specs.Numberings.{Numbering, ReadsNumbers}
 use Rattle.mp_steps.specs.Activated.{IsWired}
 use Rattle.mp_compare.specs.declared.comparison.Comparison.{Comparison}
 use Rattle.mp_compare.specs.Comparing.{wire_of, delay_of as late_by, asleep_at}

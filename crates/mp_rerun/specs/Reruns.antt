@@ -9,9 +9,9 @@ use Rattle.mp_run.specs.Stimuli.{left_of, rest_of}
 use Rattle.mp_work.specs.Revisions.{IsRevision}
 use Rattle.mp_agreement.specs.Sleeping.{AreSleeping}
 use Rattle.mp_agreement.specs.Sources.{AreSources}
-use Rattle.mp_view.specs.Views.{ArePortsOn}
-use Rattle.mp_view.specs.Numberings.{Numbering}
-use Rattle.mp_view.specs.Showing.{Shows}
+use Rattle.mp_excerpt.specs.Excerpts.{ArePortsOn}
+use Rattle.mp_excerpt.specs.Numberings.{Numbering}
+use Rattle.mp_excerpt.specs.Showing.{Shows}
 use Rattle.mp_compare.specs.Comparing.{source_at, HasCursors, IsComplete}
 use Rattle.mp_rerun.specs.declared.change.Change.{Change}
 use Rattle.mp_rerun.specs.declared.rerun.Rerun.{Rerun}

@@ -18,9 +18,9 @@ use Rattle.mp_regions.specs.Readers.{Reads}
 use Rattle.mp_run.specs.declared.stimuli.HeardChanges.{HeardChanges}
 use Rattle.mp_run.specs.declared.stimuli.StimulusChange.{StimulusChange}
 use Rattle.mp_run.specs.Stimuli.{left_of}
-use Rattle.mp_view.specs.Numberings.{Numbering}
-use Rattle.mp_view.specs.Showing.{Shows}
-use Rattle.mp_view.specs.Activating.{with_module}
+use Rattle.mp_excerpt.specs.Numberings.{Numbering}
+use Rattle.mp_excerpt.specs.Showing.{Shows}
+use Rattle.mp_excerpt.specs.Activating.{with_module}
 use Rattle.mp_steps.specs.Ahead.{AreAhead, AreChangesOf, HasNothingAhead}
 use Rattle.mp_steps.specs.Putting.{HasPut, room as room_of}
 use Rattle.mp_work.specs.Revisions.{IsKept}

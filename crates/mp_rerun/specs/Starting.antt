@@ -2,9 +2,9 @@
 use Rattle.std.specs.Prelude.{◌≡◌, ℕ, ◌<◌, Bool, length}
 use Rattle.mp_netlist.specs.Circuit.{Circuit}
 use Rattle.mp_run.specs.Wirings.{AreByPort}
-use Rattle.mp_view.specs.Views.{ArePortsOn}
-use Rattle.mp_view.specs.Numberings.{Numbering}
-use Rattle.mp_view.specs.Showing.{Shows}
+use Rattle.mp_excerpt.specs.Excerpts.{ArePortsOn}
+use Rattle.mp_excerpt.specs.Numberings.{Numbering}
+use Rattle.mp_excerpt.specs.Showing.{Shows}
 use Rattle.mp_compare.specs.Numbering.{AreNumbered as AreOfWires}
 use Rattle.mp_rerun.specs.declared.first_simulation.First.{First}
 use Rattle.mp_rerun.specs.Numbered.{AreWired, ports_at}

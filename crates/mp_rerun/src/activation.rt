@@ -18,7 +18,7 @@ impl Rerun {
     ghost use Rattle.mp_netlist.specs.Circuit.{module_at};
     ghost use Rattle.mp_evaluation.specs.Checkpoints.{state_before};
     ghost use Rattle.mp_history.specs.Live.{HaveBecomeLive};
-    ghost use Rattle.mp_view.specs.Numberings.{Numbering};
+    ghost use Rattle.mp_excerpt.specs.Numberings.{Numbering};
     ghost use Rattle.mp_rerun.specs.Joining.{HaveJoined};
     ghost use Rattle.mp_rerun.specs.Reruns.{IsChange, IsRerunBy, IsRerunAt, active_of};
     ghost use Rattle.mp_rerun.specs.Returning.{HasReturned, IsToldAwake};

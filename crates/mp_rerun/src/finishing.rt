@@ -23,7 +23,7 @@ use mp_model::Waves;
 use mp_modules::Memory;
 use mp_netlist::{ModuleId, WireId, WireRecord};
 use mp_units::{DataWires, NetlistSimulation};
-use mp_view::laws::{views_are_circuits, views_are_simulated, views_show};
+use mp_excerpt::laws::{excerpts_are_circuits, excerpts_are_simulated, excerpts_show};
 use mp_wave::{ToggleWave, Wave, WaveBuilder};
 use mp_work::Work;
 use std::alloc::{AllocError, Global};
@@ -49,9 +49,9 @@ impl Rerun {
         ensures run { IfOk result (λ both. IsRun change.now.new.now both.0) }
         ensures work { IfOk result (λ both. IsWork change.now.old.now change.now.new.now both.1) }
     {
-        views_are_circuits();
-        views_show();
-        views_are_simulated();
+        excerpts_are_circuits();
+        excerpts_show();
+        excerpts_are_simulated();
         sleepers_agree();
         sleepers_rest();
         readers_agree();

@@ -4,7 +4,7 @@ ghost use Rattle.mp_automata.specs.Codes.{bit};
 ghost use Rattle.mp_netlist.specs.Drivers.{driver};
 ghost use Rattle.mp_evaluation.specs.Marks.{is_marked};
 ghost use Rattle.mp_regions.specs.Regions.{home_of};
-ghost use Rattle.mp_view.specs.Views.{is_followed};
+ghost use Rattle.mp_excerpt.specs.Excerpts.{is_followed};
 ghost use Rattle.mp_rerun.specs.Starting.{IsFirst};
 
 use mp_automata::TransitionTable;

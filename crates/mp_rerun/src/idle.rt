@@ -12,15 +12,15 @@ use mp_agreement::laws::{readers_agree, sleepers_agree, sleepers_rest, wires_agr
 use mp_calendar::laws::comes_up;
 use mp_netlist::checkpoint_units;
 use mp_run::StimulusChange;
-use mp_view::laws::{numbers_stay, sets_are_stimuli, views_are_circuits, views_are_simulated};
+use mp_excerpt::laws::{numbers_stay, sets_are_stimuli, excerpts_are_circuits, excerpts_are_simulated};
 
 impl Rerun {
     ghost use Rattle.std.specs.Prelude.{◌≡◌, ◌≢◌, ℕ, ◌+◌, ◌-◌, ◌<◌, ◌≤◌, [], IsTrue};
     ghost use Rattle.mp_calendar.specs.Calendars.{never, time_of, IsCalendar};
     ghost use Rattle.mp_run.specs.Stimuli.{rest_of, left_of, AreFrom};
     ghost use Rattle.mp_units.specs.NetlistSimulations.{IsAtRest};
-    ghost use Rattle.mp_view.specs.Numberings.{Numbering};
-    ghost use Rattle.mp_view.specs.Setting.{AreSetOutside};
+    ghost use Rattle.mp_excerpt.specs.Numberings.{Numbering};
+    ghost use Rattle.mp_excerpt.specs.Setting.{AreSetOutside};
     ghost use Rattle.mp_rerun.specs.Idle.{IsQuiet};
     ghost use Rattle.mp_rerun.specs.Joining.{NoneIsApart, HasSet};
     ghost use Rattle.mp_rerun.specs.Reruns.{IsChange, IsRerunAt, IsRerunBy, IsFollowed, active_of, on_of};
@@ -80,8 +80,8 @@ impl Rerun {
         readers_agree();
         sleepers_agree();
         sleepers_rest();
-        views_are_circuits();
-        views_are_simulated();
+        excerpts_are_circuits();
+        excerpts_are_simulated();
         sets_are_stimuli();
         numbers_stay();
         if !self.is_idle(from) {

@@ -25,8 +25,8 @@ impl Rerun {
     ghost use Rattle.mp_records.specs.declared.module_record.ModuleRecord.{ModuleRecord as Part};
     ghost use Rattle.mp_records.specs.Outputs.{delay_of};
     ghost use Rattle.mp_run.specs.Stimuli.{left_of};
-    ghost use Rattle.mp_view.specs.Numberings.{Numbering};
-    ghost use Rattle.mp_view.specs.Leaving.{is_port_of};
+    ghost use Rattle.mp_excerpt.specs.Numberings.{Numbering};
+    ghost use Rattle.mp_excerpt.specs.Leaving.{is_port_of};
     ghost use Rattle.mp_steps.specs.Putting.{HasPut, entries_of, room};
     ghost use Rattle.mp_rerun.specs.Reruns.{IsChange};
     ghost use Rattle.mp_rerun.specs.Returning.{HasPlaces, HasSeat, CanReturn, AreBack, IsNextBack, AreTailsIn, CanPutLast, HasPutSpan, tail_of, others_of};

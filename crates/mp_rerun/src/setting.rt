@@ -10,8 +10,8 @@ use std::alloc::AllocError;
 
 impl Rerun {
     ghost use Rattle.std.specs.Prelude.{◌≡◌, ℕ, ◌+◌, ◌-◌, ◌<◌, OnOk};
-    ghost use Rattle.mp_view.specs.Numberings.{Numbering};
-    ghost use Rattle.mp_view.specs.Setting.{AreSetOutside};
+    ghost use Rattle.mp_excerpt.specs.Numberings.{Numbering};
+    ghost use Rattle.mp_excerpt.specs.Setting.{AreSetOutside};
     ghost use Rattle.mp_rerun.specs.Joining.{NoneIsApart, HasSet};
     ghost use Rattle.mp_rerun.specs.Reruns.{IsChange, IsRerunAt, IsRerunBy, IsFollowed, active_of, on_of};
 

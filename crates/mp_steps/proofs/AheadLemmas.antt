@@ -22,8 +22,8 @@ use Rattle.mp_units.specs.declared.netlist_simulation.NetlistSimulation.{Netlist
 use Rattle.mp_units.specs.DataLevels.{is_data, is_bit_wire, changes_of, IsLevelAt, late_level}
 use Rattle.mp_units.specs.DataWheels.{data_slot, driver_delay}
 use Rattle.mp_units.proofs.LevelWheelLemmas.{changes_each, holds_scheduled, HoldsIn, HoldsOf}
-use Rattle.mp_view.specs.Numberings.{Numbering}
-use Rattle.mp_view.proofs.KeptLemmas.{bit_is}
+use Rattle.mp_excerpt.specs.Numberings.{Numbering}
+use Rattle.mp_excerpt.proofs.KeptLemmas.{bit_is}
 use Rattle.mp_steps.specs.Putting.{HasPut, toggle_of, toggles_of}
 use Rattle.mp_steps.specs.Ahead.{is_entry_of, is_known, AreChangesOf, AreAhead, HasNothingAhead, PutsAhead}
 use Rattle.mp_steps.proofs.PutLemmas.{put_units, put_change_units}

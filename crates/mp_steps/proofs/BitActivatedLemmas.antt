@@ -31,11 +31,11 @@ use Rattle.mp_units.specs.declared.data_wires.DataWires.{DataWires}
 use Rattle.mp_units.specs.declared.netlist_simulation.NetlistSimulation.{NetlistSimulation}
 use Rattle.mp_units.specs.DataLevels.{is_data, is_bit_wire, changes_of}
 use Rattle.mp_units.specs.DataWheels.{data_slot, driver_delay, AreChangesBelow}
-use Rattle.mp_view.specs.Numberings.{Numbering}
-use Rattle.mp_view.specs.Levels.{AreLevelsShown}
-use Rattle.mp_view.specs.Showing.{IsSeatShown, Shows}
-use Rattle.mp_view.specs.Leaving.{is_port_of}
-use Rattle.mp_view.specs.Activating.{IsBitModuleActivated, IsActivated}
+use Rattle.mp_excerpt.specs.Numberings.{Numbering}
+use Rattle.mp_excerpt.specs.Levels.{AreLevelsShown}
+use Rattle.mp_excerpt.specs.Showing.{IsSeatShown, Shows}
+use Rattle.mp_excerpt.specs.Leaving.{is_port_of}
+use Rattle.mp_excerpt.specs.Activating.{IsBitModuleActivated, IsActivated}
 use Rattle.mp_steps.specs.Seating.{IsBitSeated}
 use Rattle.mp_steps.specs.Ahead.{is_known, AreAhead}
 use Rattle.mp_steps.specs.Activated.{IsWired, BitModulesActivate}

@@ -8,10 +8,10 @@ use Rattle.mp_core.specs.Copies.{AreChained}
 use Rattle.mp_core.specs.Simulators.{IsBelow}
 use Rattle.mp_units.specs.declared.netlist_simulation.NetlistSimulation.{NetlistSimulation}
 use Rattle.mp_units.specs.DataLevels.{is_data, is_bit_wire}
-use Rattle.mp_view.specs.Numberings.{Numbering, is_bit_number}
-use Rattle.mp_view.specs.Showing.{Shows}
-use Rattle.mp_view.proofs.CopyLemmas.{next_inside}
-use Rattle.mp_view.proofs.KeptLemmas.{bit_is}
+use Rattle.mp_excerpt.specs.Numberings.{Numbering, is_bit_number}
+use Rattle.mp_excerpt.specs.Showing.{Shows}
+use Rattle.mp_excerpt.proofs.CopyLemmas.{next_inside}
+use Rattle.mp_excerpt.proofs.KeptLemmas.{bit_is}
 use Rattle.mp_steps.specs.Chains.{next_in}
 
 -- what each number stands after, with data or not

@@ -26,11 +26,11 @@ use Rattle.mp_units.specs.declared.netlist_simulation.NetlistSimulation.{Netlist
 use Rattle.mp_units.specs.DataSeats.{IsDataSeat}
 use Rattle.mp_units.specs.DataLevels.{is_data, is_bit_wire, changes_of}
 use Rattle.mp_units.specs.DataWheels.{data_slot, AreChangesBelow}
-use Rattle.mp_view.specs.Numberings.{Numbering, place_of, place_in, scope_of}
-use Rattle.mp_view.specs.Levels.{AreLevelsShown}
-use Rattle.mp_view.specs.Showing.{IsAsleep, Shows}
-use Rattle.mp_view.specs.Leaving.{is_port_of}
-use Rattle.mp_view.specs.Activating.{with_module, IsDataSeated, IsBitModuleActivated, IsActivated}
+use Rattle.mp_excerpt.specs.Numberings.{Numbering, place_of, place_in, scope_of}
+use Rattle.mp_excerpt.specs.Levels.{AreLevelsShown}
+use Rattle.mp_excerpt.specs.Showing.{IsAsleep, Shows}
+use Rattle.mp_excerpt.specs.Leaving.{is_port_of}
+use Rattle.mp_excerpt.specs.Activating.{with_module, IsDataSeated, IsBitModuleActivated, IsActivated}
 use Rattle.mp_steps.specs.Seating.{seated, seat_in, HasTakenSeat}
 use Rattle.mp_steps.specs.Ahead.{AreAhead}
 use Rattle.mp_steps.specs.Activated.{CanTakeSeat, DataModulesActivate}

@@ -15,11 +15,11 @@ use Rattle.mp_automata.specs.Codes.{bit}
 use Rattle.mp_units.specs.declared.netlist_simulation.NetlistSimulation.{NetlistSimulation}
 use Rattle.mp_units.specs.DataLevels.{is_data, changes_of}
 use Rattle.mp_units.specs.DataWheels.{data_slot, driver_delay}
-use Rattle.mp_view.specs.Numberings.{Numbering}
-use Rattle.mp_view.specs.Levels.{shown_change, shown_delay, shown_ahead}
-use Rattle.mp_view.specs.Showing.{Shows}
-use Rattle.mp_view.specs.Leaving.{without, is_port_in}
-use Rattle.mp_view.proofs.KeptLemmas.{bit_is, copies_undriven_in}
+use Rattle.mp_excerpt.specs.Numberings.{Numbering}
+use Rattle.mp_excerpt.specs.Levels.{shown_change, shown_delay, shown_ahead}
+use Rattle.mp_excerpt.specs.Showing.{Shows}
+use Rattle.mp_excerpt.specs.Leaving.{without, is_port_in}
+use Rattle.mp_excerpt.proofs.KeptLemmas.{bit_is, copies_undriven_in}
 use Rattle.mp_steps.specs.Taking.{AreGone}
 
 -- ---- what is kept by a key

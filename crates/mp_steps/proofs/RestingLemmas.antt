@@ -13,11 +13,11 @@ use Rattle.mp_core.specs.Changes.{change_at}
 use Rattle.mp_units.specs.declared.netlist_simulation.NetlistSimulation.{NetlistSimulation}
 use Rattle.mp_units.specs.DataLevels.{is_data, is_bit_wire, changes_of}
 use Rattle.mp_units.specs.DataWheels.{data_slot}
-use Rattle.mp_view.specs.Numberings.{Numbering}
-use Rattle.mp_view.specs.Levels.{shown_change, shown_delay, shown_ahead}
-use Rattle.mp_view.specs.Showing.{Shows}
-use Rattle.mp_view.specs.Leaving.{is_port_of}
-use Rattle.mp_view.proofs.KeptLemmas.{stands_within, bit_is, copies_undriven}
+use Rattle.mp_excerpt.specs.Numberings.{Numbering}
+use Rattle.mp_excerpt.specs.Levels.{shown_change, shown_delay, shown_ahead}
+use Rattle.mp_excerpt.specs.Showing.{Shows}
+use Rattle.mp_excerpt.specs.Leaving.{is_port_of}
+use Rattle.mp_excerpt.proofs.KeptLemmas.{stands_within, bit_is, copies_undriven}
 use Rattle.mp_steps.specs.Ahead.{HasNothingAhead, NoneAhead, RestingHaveNothing}
 
 pub none_ahead : NoneAhead

@@ -20,9 +20,9 @@ use Rattle.mp_units.specs.declared.data_wires.DataWires.{DataWires}
 use Rattle.mp_units.specs.declared.netlist_simulation.NetlistSimulation.{NetlistSimulation}
 use Rattle.mp_units.specs.DataLevels.{is_bit_wire, changes_of, IsLevelAt}
 use Rattle.mp_units.specs.DataWheels.{data_slot}
-use Rattle.mp_view.specs.Numberings.{Numbering}
-use Rattle.mp_view.specs.Showing.{IsAsleep, Shows}
-use Rattle.mp_view.specs.Leaving.{is_port_in, HaveLeft}
+use Rattle.mp_excerpt.specs.Numberings.{Numbering}
+use Rattle.mp_excerpt.specs.Showing.{IsAsleep, Shows}
+use Rattle.mp_excerpt.specs.Leaving.{is_port_in, HaveLeft}
 use Rattle.mp_steps.specs.Sleeping.{ArePutToSleep}
 use Rattle.mp_steps.specs.Taking.{AreGone, HasTaken, SleepingLeaves}
 use Rattle.mp_steps.proofs.GoneLemmas.{turned, counted_kept, all_filtered, none_later, nothing_resting, no_change, none_changes}

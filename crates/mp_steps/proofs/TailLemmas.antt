@@ -29,14 +29,14 @@ use Rattle.mp_units.specs.DataLevels.{is_data, is_bit_wire, changes_of, late_lev
 use Rattle.mp_units.specs.DataSeats.{drives_data}
 use Rattle.mp_units.specs.DataWheels.{data_slot, driver_delay}
 use Rattle.mp_units.proofs.PresentLemmas.{at_once}
-use Rattle.mp_view.specs.Views.{ArePortsOn}
-use Rattle.mp_view.specs.Numberings.{Numbering}
-use Rattle.mp_view.specs.Levels.{shown_change, shown_delay, shown_ahead}
-use Rattle.mp_view.specs.Showing.{Shows}
-use Rattle.mp_view.specs.Leaving.{is_port_in}
-use Rattle.mp_view.proofs.KeptLemmas.{stands_within, bit_is}
-use Rattle.mp_view.proofs.PlaceLemmas.{bit_driven, bit_parts, placeless}
-use Rattle.mp_view.proofs.TestLemmas.{swapped}
+use Rattle.mp_excerpt.specs.Excerpts.{ArePortsOn}
+use Rattle.mp_excerpt.specs.Numberings.{Numbering}
+use Rattle.mp_excerpt.specs.Levels.{shown_change, shown_delay, shown_ahead}
+use Rattle.mp_excerpt.specs.Showing.{Shows}
+use Rattle.mp_excerpt.specs.Leaving.{is_port_in}
+use Rattle.mp_excerpt.proofs.KeptLemmas.{stands_within, bit_is}
+use Rattle.mp_excerpt.proofs.PlaceLemmas.{bit_driven, bit_parts, placeless}
+use Rattle.mp_excerpt.proofs.TestLemmas.{swapped}
 use Rattle.mp_steps.specs.Ahead.{is_known}
 use Rattle.mp_steps.specs.Taking.{AreGone, gone_changes, taken_toggle, taken_change, taken_at, taken_in}
 use Rattle.mp_steps.specs.Tails.{IsTail, AreTails, TakesTails}

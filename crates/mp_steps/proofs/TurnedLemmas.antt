@@ -25,7 +25,7 @@ use Rattle.mp_units.specs.declared.netlist_simulation.NetlistSimulation.{Netlist
 use Rattle.mp_units.specs.DataLevels.{IsLevelAt, changes_of}
 use Rattle.mp_units.specs.DataWheels.{data_slot}
 use Rattle.mp_units.proofs.LevelWheelLemmas.{changes_each, holds_scheduled, HoldsIn, HoldsOf}
-use Rattle.mp_view.proofs.CopyLemmas.{next_below}
+use Rattle.mp_excerpt.proofs.CopyLemmas.{next_below}
 use Rattle.mp_steps.specs.declared.copying.Copied.{Copied}
 use Rattle.mp_steps.specs.Putting.{entry_of, toggles_of}
 use Rattle.mp_steps.specs.Ahead.{is_entry_of}

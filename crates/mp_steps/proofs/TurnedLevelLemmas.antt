@@ -9,7 +9,7 @@ use Rattle.mp_model.specs.Levels.{initial_of}
 use Rattle.mp_model.specs.Waves.{level}
 use Rattle.mp_events.specs.declared.output_port.OutputPort.{OutputPort}
 use Rattle.mp_units.specs.DataLevels.{late_level}
-use Rattle.mp_view.specs.Turning.{IsLevelTurned}
+use Rattle.mp_excerpt.specs.Turning.{IsLevelTurned}
 use Rattle.mp_steps.specs.Chains.{next_in}
 use Rattle.mp_steps.proofs.AheadLemmas.{level_now}
 use Rattle.mp_steps.proofs.ReachedLemmas.{is_among, among_later}

@@ -16,8 +16,8 @@ use Rattle.mp_units.specs.declared.netlist_simulation.NetlistSimulation.{Netlist
 use Rattle.mp_units.specs.DataLevels.{is_data}
 use Rattle.mp_units.specs.DataWaves.{building_at}
 use Rattle.mp_units.specs.DataWheels.{AreChangesBelow}
-use Rattle.mp_view.specs.Levels.{AreLevelsShown}
-use Rattle.mp_view.specs.Turning.{IsTurnedOn}
+use Rattle.mp_excerpt.specs.Levels.{AreLevelsShown}
+use Rattle.mp_excerpt.specs.Turning.{IsTurnedOn}
 use Rattle.mp_steps.specs.Chains.{AreCopiesTurned}
 use Rattle.mp_steps.specs.TurningOn.{wave_places, CanTurnOn, WiresCanTurnOn, HasSetLevel, HasSetWave, TurnsOn}
 use Rattle.mp_steps.proofs.TurningOnLemmas.{Turning, chain, copies_two, next_two, wheel_two, levels_two, turned, simulator_two}

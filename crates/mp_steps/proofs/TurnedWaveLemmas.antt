@@ -13,7 +13,7 @@ use Rattle.mp_core.specs.Traces.{IsTrace}
 use Rattle.mp_units.specs.declared.data_wires.DataWires.{DataWires}
 use Rattle.mp_units.specs.DataLevels.{is_data, is_bit_wire}
 use Rattle.mp_units.specs.DataWaves.{building_at, no_building}
-use Rattle.mp_view.proofs.PlaceLemmas.{bit_parts}
+use Rattle.mp_excerpt.proofs.PlaceLemmas.{bit_parts}
 use Rattle.mp_steps.proofs.KeptWaveLemmas.{kept_upto, trace_upto}
 use Rattle.mp_steps.proofs.TurningOnLemmas.{Turning, turned, simulator_two}
 

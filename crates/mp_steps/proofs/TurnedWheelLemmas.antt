@@ -12,9 +12,9 @@ use Rattle.mp_core.specs.Simulations.{copy_slot}
 use Rattle.mp_data.specs.declared.level_change.LevelChange.{LevelChange}
 use Rattle.mp_units.specs.DataLevels.{is_data, changes_of}
 use Rattle.mp_units.specs.DataWheels.{data_slot}
-use Rattle.mp_view.specs.Levels.{shown_ahead}
-use Rattle.mp_view.specs.Turning.{IsCopyTurned, IsChangeTurned}
-use Rattle.mp_view.proofs.TestLemmas.{and_true}
+use Rattle.mp_excerpt.specs.Levels.{shown_ahead}
+use Rattle.mp_excerpt.specs.Turning.{IsCopyTurned, IsChangeTurned}
+use Rattle.mp_excerpt.proofs.TestLemmas.{and_true}
 use Rattle.mp_run.proofs.StimulusLemmas.{plus_none}
 use Rattle.mp_steps.specs.Chains.{next_in}
 use Rattle.mp_steps.proofs.ReachedLemmas.{is_among}

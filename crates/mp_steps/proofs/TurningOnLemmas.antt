@@ -15,8 +15,8 @@ use Rattle.mp_core.specs.Copies.{later_by}
 use Rattle.mp_units.specs.declared.data_wires.DataWires.{DataWires}
 use Rattle.mp_units.specs.declared.netlist_simulation.NetlistSimulation.{NetlistSimulation}
 use Rattle.mp_units.specs.DataLevels.{is_data}
-use Rattle.mp_view.specs.Numberings.{Numbering}
-use Rattle.mp_view.specs.Showing.{Shows}
+use Rattle.mp_excerpt.specs.Numberings.{Numbering}
+use Rattle.mp_excerpt.specs.Showing.{Shows}
 use Rattle.mp_steps.specs.Chains.{next_in, AreBehind, AreCopiesTurned}
 use Rattle.mp_steps.specs.TurningOn.{HasSetLevel, HasSetWave}
 use Rattle.mp_steps.proofs.ReachedLemmas.{is_among, among_later, not_reached}

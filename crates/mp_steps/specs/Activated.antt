@@ -12,10 +12,10 @@ use Rattle.mp_data.specs.DataFiring.{place_at}
 use Rattle.mp_core.specs.Schedules.{output_ports_of}
 use Rattle.mp_units.specs.declared.netlist_simulation.NetlistSimulation.{NetlistSimulation}
 use Rattle.mp_units.specs.DataSeats.{IsDataSeat}
-use Rattle.mp_view.specs.Numberings.{Numbering, ReadsNumbers, is_bit_number, scope_of}
-use Rattle.mp_view.specs.Showing.{Shows}
-use Rattle.mp_view.specs.Leaving.{is_port_of}
-use Rattle.mp_view.specs.Activating.{with_module, IsActivated}
+use Rattle.mp_excerpt.specs.Numberings.{Numbering, ReadsNumbers, is_bit_number, scope_of}
+use Rattle.mp_excerpt.specs.Showing.{Shows}
+use Rattle.mp_excerpt.specs.Leaving.{is_port_of}
+use Rattle.mp_excerpt.specs.Activating.{with_module, IsActivated}
 use Rattle.mp_steps.specs.Seating.{IsBitSeated, HasTakenSeat}
 use Rattle.mp_steps.specs.Ahead.{AreAhead}
 

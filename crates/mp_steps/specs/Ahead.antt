@@ -15,9 +15,9 @@ use Rattle.mp_core.specs.Simulators.{slot_at}
 use Rattle.mp_units.specs.declared.netlist_simulation.NetlistSimulation.{NetlistSimulation}
 use Rattle.mp_units.specs.DataLevels.{is_data, is_bit_wire, changes_of}
 use Rattle.mp_units.specs.DataWheels.{data_slot, driver_delay, AreChangesBelow}
-use Rattle.mp_view.specs.Numberings.{Numbering}
-use Rattle.mp_view.specs.Levels.{AreLevelsShown}
-use Rattle.mp_view.specs.Showing.{Shows}
+use Rattle.mp_excerpt.specs.Numberings.{Numbering}
+use Rattle.mp_excerpt.specs.Levels.{AreLevelsShown}
+use Rattle.mp_excerpt.specs.Showing.{Shows}
 use Rattle.mp_steps.specs.Putting.{HasPut, entries_of}
 
 -- the entry is of this number, so many units after the next

@@ -8,10 +8,10 @@ use Rattle.mp_automata.specs.Codes.{bit}
 use Rattle.mp_units.specs.declared.netlist_simulation.NetlistSimulation.{NetlistSimulation}
 use Rattle.mp_units.specs.DataLevels.{is_data}
 use Rattle.mp_run.specs.declared.stimuli.StimulusChange.{StimulusChange}
-use Rattle.mp_view.specs.Views.{ArePortsOn}
-use Rattle.mp_view.specs.Numberings.{Numbering}
-use Rattle.mp_view.specs.Showing.{Shows}
-use Rattle.mp_view.specs.Leaving.{is_port_in}
+use Rattle.mp_excerpt.specs.Excerpts.{ArePortsOn}
+use Rattle.mp_excerpt.specs.Numberings.{Numbering}
+use Rattle.mp_excerpt.specs.Showing.{Shows}
+use Rattle.mp_excerpt.specs.Leaving.{is_port_in}
 use Rattle.mp_steps.specs.Ahead.{is_known}
 use Rattle.mp_steps.specs.Taking.{AreGone, is_taken, taken_in}
 

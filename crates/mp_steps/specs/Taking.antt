@@ -12,9 +12,9 @@ use Rattle.mp_units.specs.declared.netlist_simulation.NetlistSimulation.{Netlist
 use Rattle.mp_units.specs.DataLevels.{changes_of}
 use Rattle.mp_units.specs.DataWheels.{data_slot, driver_delay}
 use Rattle.mp_run.specs.declared.stimuli.StimulusChange.{StimulusChange}
-use Rattle.mp_view.specs.Numberings.{Numbering}
-use Rattle.mp_view.specs.Showing.{Shows}
-use Rattle.mp_view.specs.Leaving.{without, is_port_in, HaveLeft}
+use Rattle.mp_excerpt.specs.Numberings.{Numbering}
+use Rattle.mp_excerpt.specs.Showing.{Shows}
+use Rattle.mp_excerpt.specs.Leaving.{without, is_port_in, HaveLeft}
 use Rattle.mp_compare.specs.declared.wire_source.WireSource.{WireSource}
 use Rattle.mp_steps.specs.Sleeping.{ArePutToSleep}
 

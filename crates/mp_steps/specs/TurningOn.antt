@@ -5,9 +5,9 @@ use Rattle.mp_netlist.specs.Circuit.{Circuit, IsCircuit}
 use Rattle.mp_model.specs.Waves.{level}
 use Rattle.mp_units.specs.declared.netlist_simulation.NetlistSimulation.{NetlistSimulation}
 use Rattle.mp_units.specs.DataLevels.{is_data}
-use Rattle.mp_view.specs.Numberings.{Numbering}
-use Rattle.mp_view.specs.Showing.{Shows}
-use Rattle.mp_view.specs.Turning.{IsTurnedOn}
+use Rattle.mp_excerpt.specs.Numberings.{Numbering}
+use Rattle.mp_excerpt.specs.Showing.{Shows}
+use Rattle.mp_excerpt.specs.Turning.{IsTurnedOn}
 use Rattle.mp_steps.specs.Chains.{CanTurnCopies}
 
 -- how many wires have waves where those of this kind have theirs
@@ -40,7 +40,7 @@ pub record HasSetWave (with_data : Bool) (wave : Waveform) (w upto : ℕ) (s new
   pub waves : new.wires.waves.items ≡ (if with_data then slice_set s.wires.waves.items w (record { wave = wave; next = upto }) else s.wires.waves.items)
   pub modules : new.modules ≡ s.modules
 
--- of whatever netlist the simulation shows a view in which the wire is off: if the wire has the levels of this wave up to now, it is turned on
+-- of whatever netlist the simulation shows an excerpt in which the wire is off: if the wire has the levels of this wave up to now, it is turned on
 abbrev pub TurnsOn : Bool → Waveform → ℕ → ℕ → NetlistSimulation → NetlistSimulation → Type 0
 TurnsOn with_data wave w now s new = (n : Circuit) → IsCircuit n → (active on : ℕ → Bool) (numbering : Numbering) → Shows n active on numbering now s → on w ≡ false → is_data n w ≡ with_data →
     ((u : ℕ) → u ≤ now → level_of wave u ≡ level n w u) → IsTurnedOn n numbering w now s new

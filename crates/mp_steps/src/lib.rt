@@ -1,4 +1,4 @@
-//! The steps between two units by which a simulation goes from one view of a netlist to another.
+//! The steps between two units by which a simulation goes from one excerpt of a netlist to another.
 #![tactic(auto)]
 
 mod copying;

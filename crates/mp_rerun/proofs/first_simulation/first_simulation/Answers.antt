@@ -6,7 +6,7 @@ use Rattle.mp_evaluation.specs.Marks.{is_marked}
 use Rattle.mp_regions.specs.Regions.{home_of, region}
 use Rattle.mp_run.specs.Settling.{ports_of}
 use Rattle.mp_run.specs.Beginnings.{IsPartOf, IsLayout, IsBegun}
-use Rattle.mp_view.specs.Views.{view, is_followed}
+use Rattle.mp_excerpt.specs.Excerpts.{excerpt, is_followed}
 use Rattle.mp_rerun.proofs.FirstPartLemmas.{part_is, hears_others}
 use Rattle.mp_rerun.proofs.StartingLemmas.{seen_ok, part_of, is_first}
 use Rattle.mp_rerun.proofs.first_simulation.first_simulation.Goals as goal
@@ -36,7 +36,7 @@ pub begin-requires-clause-form : goal.begin-requires-clause-form
 begin-requires-clause-form c =
     let n = c.args.new.now in
     let active = c.args.active.now in
-    let part : c.new-part.result ≡ view n (λ m. is_marked active m) (λ w. true) =
+    let part : c.new-part.result ≡ excerpt n (λ m. is_marked active m) (λ w. true) =
     c.new-part.ensures
     ∙ part_is n active c.as_slice.result.now c.as_slice-2.result.now (at_home active c.in_ok-homes.homes.items c.as_slice.result.now c.as_slice.ensures.value c.in_ok-homes.ensures)
     (hears n active c.in_ok-heard.heard.items c.as_slice-2.result.now c.as_slice-2.ensures.value c.in_ok-heard.ensures) in
@@ -46,7 +46,7 @@ pub begin-requires-clause-can : goal.begin-requires-clause-can
 begin-requires-clause-can c =
     let n = c.args.new.now in
     let active = c.args.active.now in
-    let part : c.new-part.result ≡ view n (λ m. is_marked active m) (λ w. true) =
+    let part : c.new-part.result ≡ excerpt n (λ m. is_marked active m) (λ w. true) =
     c.new-part.ensures
     ∙ part_is n active c.as_slice.result.now c.as_slice-2.result.now (at_home active c.in_ok-homes.homes.items c.as_slice.result.now c.as_slice.ensures.value c.in_ok-homes.ensures)
     (hears n active c.in_ok-heard.heard.items c.as_slice-2.result.now c.as_slice-2.ensures.value c.in_ok-heard.ensures) in
@@ -63,7 +63,7 @@ returns c =
     let n = c.args.new.now in
     let ok = c.horizon-horizon.ensures.form in
     let active = c.args.active.now in
-    let part : c.new-part.result ≡ view n (λ m. is_marked active m) (λ w. true) =
+    let part : c.new-part.result ≡ excerpt n (λ m. is_marked active m) (λ w. true) =
     c.new-part.ensures
     ∙ part_is n active c.as_slice.result.now c.as_slice-2.result.now (at_home active c.in_ok-homes.homes.items c.as_slice.result.now c.as_slice.ensures.value c.in_ok-homes.ensures)
     (hears n active c.in_ok-heard.heard.items c.as_slice-2.result.now c.as_slice-2.ensures.value c.in_ok-heard.ensures) in

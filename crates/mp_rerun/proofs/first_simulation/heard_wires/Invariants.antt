@@ -1,7 +1,7 @@
 use Rattle.std.proofs.Common.{◌≡◌, ℕ, ◌<◌, length}
 use Rattle.mp_depend.specs.Drivers.{driver_in}
 use Rattle.mp_evaluation.specs.Marks.{is_marked}
-use Rattle.mp_view.specs.Views.{is_followed}
+use Rattle.mp_excerpt.specs.Excerpts.{is_followed}
 use Rattle.mp_rerun.proofs.first_simulation.heard_wires.Given as goal
 
 -- those of the wires so far

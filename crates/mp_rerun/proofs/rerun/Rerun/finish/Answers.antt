@@ -32,7 +32,7 @@ all_ends-requires-clause-ends c =
     let ends = ends_left old new is.old_form is.form is.revision run is.run over.at.is.numbering over.at.is.since (c.args.end - 1)
     (before old new is.old_form is.form is.revision run is.run runs readers wires alike agree sleep_on rest c.args.end c.args.self over) c.args.self over.at.is.is
     (settled_after old new is.old_form is.form is.revision run is.run runs readers wires alike agree sleep_on rest c.args.end c.args.self over) runs readers wires alike sleep_on
-    c.views_are_circuits.ensures c.views_show.ensures.states c.views_are_simulated.ensures.simulates agree in
+    c.excerpts_are_circuits.ensures c.excerpts_show.ensures.states c.excerpts_are_simulated.ensures.simulates agree in
     let left = subst (λ (it : Remains). HaveEnds new run it.active.items it.simulation) (sym c.remains_of-simulation.ensures) ends in
     subst (λ (marks : List Bool). HaveEnds new run marks c.remains_of-simulation.result.simulation) (sym c.as_slice.ensures.value) left
 

@@ -13,8 +13,8 @@ returns-clause-after c =
       agree = c.sleepers_agree.ensures.agree;
       sleep_on = c.sleepers_agree.ensures.on;
       rest = c.sleepers_rest.ensures.rest;
-      views = c.views_are_circuits.ensures;
-      simulates = c.views_are_simulated.ensures.simulates;
+      excerpts = c.excerpts_are_circuits.ensures;
+      simulates = c.excerpts_are_simulated.ensures.simulates;
       sets = c.sets_are_stimuli.ensures;
       units = c.numbers_stay.ensures.units;
     } in

@@ -1,5 +1,5 @@
 use Rattle.std.proofs.Common.{ℕ, take}
-use Rattle.mp_view.specs.Numberings.{Numbering}
+use Rattle.mp_excerpt.specs.Numberings.{Numbering}
 use Rattle.mp_rerun.specs.Returning.{CanReturn, AreBack, is_output}
 use Rattle.mp_rerun.proofs.rerun.Rerun.put_outputs.Given as goal
 

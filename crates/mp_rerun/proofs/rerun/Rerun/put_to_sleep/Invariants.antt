@@ -1,6 +1,6 @@
 use Rattle.std.proofs.Common.{◌≡◌, ℕ, ◌-◌, ◌<◌, ◌≤◌, false, slice_index_or}
 use Rattle.mp_records.specs.declared.ids.ModuleId.{ModuleId}
-use Rattle.mp_view.specs.Numberings.{Numbering}
+use Rattle.mp_excerpt.specs.Numberings.{Numbering}
 use Rattle.mp_rerun.specs.Reruns.{IsRerunBy, active_of}
 use Rattle.mp_rerun.proofs.FallLemmas.{AreFalling}
 use Rattle.mp_rerun.proofs.rerun.Rerun.put_to_sleep.Given as goal

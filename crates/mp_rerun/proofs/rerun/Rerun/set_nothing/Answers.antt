@@ -1,5 +1,5 @@
 use Rattle.std.proofs.Common.{◌≡◌, ◌+◌, ◌-◌, ◌<◌, [], refl, sym, subst, arith}
-use Rattle.mp_view.specs.Setting.{AreSetOutside}
+use Rattle.mp_excerpt.specs.Setting.{AreSetOutside}
 use Rattle.mp_rerun.specs.declared.rerun.Rerun.{Rerun}
 use Rattle.mp_rerun.specs.Idle.{IsQuiet}
 use Rattle.mp_rerun.specs.Joining.{NoneIsApart}
