@@ -70,7 +70,7 @@ impl LevelSlot {
 
     /// Empties the slot. It keeps its memory.
     #[inline(always)]
-    pub(crate) fn clear(&mut self)
+    pub fn clear(&mut self)
         ensures { self.new ≡ [] }
     {
         self.changes.clear();

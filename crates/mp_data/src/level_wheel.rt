@@ -31,7 +31,7 @@ impl Model for LevelWheel {
 }
 
 impl LevelWheel {
-    ghost use Rattle.std.specs.Prelude.{◌≡◌, ◌↔◌, ℕ, ◌-◌, ◌<◌, ◌≤◌, ◌++◌, ◌∷◌, [], drop, length, IsTrue, IfOk, OnOk, slice_index_or};
+    ghost use Rattle.std.specs.Prelude.{◌≡◌, ◌↔◌, ℕ, ◌-◌, ◌<◌, ◌≤◌, ◌++◌, ◌∷◌, [], drop, length, IsTrue, IfOk, OnOk, slice_index_or, slice_set};
     ghost use Rattle.mp_events.specs.EventWheels.{AreEmpty};
     ghost use Rattle.mp_data.specs.LevelWheels.{with_entry};
 
@@ -40,7 +40,7 @@ impl LevelWheel {
         ensures places { IfOk result (λ wheel. length wheel ≡ units) }
         ensures empty { IfOk result (λ wheel. (k : ℕ) → slice_index_or wheel k [] ≡ []) }
     {
-        let mut slots = Vec::new(alloc);
+        let mut slots = Vec::with_capacity(alloc, units)?;
         for _unit in 0..units {
             slots.push(LevelSlot::new(alloc))?;
         }
@@ -72,6 +72,16 @@ impl LevelWheel {
         }
         let place = place_after(self.next, units, self.slots.len());
         self.slots[place].as_slice()
+    }
+
+    /// The slot of so many units after the next one changes places with another.
+    pub fn swap_slot(&mut self, units: usize, other: &mut LevelSlot)
+        requires { units < length self.old }
+        ensures wheel { self.new ≡ slice_set self.old units other.old }
+        ensures other { other.new ≡ slice_index_or self.old units [] }
+    {
+        let place = place_after(self.next, units, self.slots.len());
+        swap(&mut self.slots[place], other);
     }
 
     /// The next unit begins: its slot becomes the present one, and the one that was present before is emptied and becomes that of the last unit.

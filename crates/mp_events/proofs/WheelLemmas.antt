@@ -66,6 +66,11 @@ module _ (slots : List (List ℕ)) (next : ℕ) (within : next < length slots) w
   pub turned_slot : (later : ℕ) → later < length slots → slice_index_or slots (place_after next later (length slots)) [] ≡ slice_index_or (turned_by next slots) later []
   turned_slot later fits = slot_when later (nat_lt later (length slots - next)) refl fits
 
+  -- another slot in its place
+  pub turned_set : (later place : ℕ) (x : List ℕ) → place ≡ place_after next later (length slots) → later < length slots →
+      turned_by next (slice_set slots place x) ≡ slice_set (turned_by next slots) later x
+  turned_set later place x is fits = ap (λ k. turned_by next (slice_set slots k x)) is ∙ set_when later x (nat_lt later (length slots - next)) refl fits
+
   -- one more entry in a slot
   pub turned_entry : (later place wire : ℕ) → place ≡ place_after next later (length slots) → later < length slots →
       turned_by next (with_entry slots place wire) ≡ with_entry (turned_by next slots) later wire

@@ -68,7 +68,7 @@ impl EventSlot {
 
     /// Empties the slot. It keeps its memory.
     #[inline(always)]
-    pub(crate) fn clear(&mut self)
+    pub fn clear(&mut self)
         ensures { self.new ≡ [] }
     {
         self.wires.clear();

@@ -29,7 +29,7 @@ impl Model for EventWheel {
 }
 
 impl EventWheel {
-    ghost use Rattle.std.specs.Prelude.{◌≡◌, ◌↔◌, ℕ, ◌-◌, ◌<◌, ◌≤◌, ◌++◌, ◌∷◌, [], drop, length, IsTrue, IfOk, OnOk, slice_index_or};
+    ghost use Rattle.std.specs.Prelude.{◌≡◌, ◌↔◌, ℕ, ◌-◌, ◌<◌, ◌≤◌, ◌++◌, ◌∷◌, [], drop, length, IsTrue, IfOk, OnOk, slice_index_or, slice_set};
     ghost use Rattle.mp_events.specs.EventWheels.{with_entry, AreEmpty};
 
     /// A wheel of so many units, in which nothing toggles.
@@ -37,7 +37,7 @@ impl EventWheel {
         ensures places { IfOk result (λ wheel. length wheel ≡ units) }
         ensures empty { IfOk result (λ wheel. (k : ℕ) → slice_index_or wheel k [] ≡ []) }
     {
-        let mut slots = Vec::new(alloc);
+        let mut slots = Vec::with_capacity(alloc, units)?;
         for _unit in 0..units {
             slots.push(EventSlot::new(alloc))?;
         }
@@ -69,6 +69,16 @@ impl EventWheel {
         }
         let place = place_after(self.next, units, self.slots.len());
         self.slots[place].as_slice()
+    }
+
+    /// The slot of so many units after the next one changes places with another.
+    pub fn swap_slot(&mut self, units: usize, other: &mut EventSlot)
+        requires { units < length self.old }
+        ensures wheel { self.new ≡ slice_set self.old units other.old }
+        ensures other { other.new ≡ slice_index_or self.old units [] }
+    {
+        let place = place_after(self.next, units, self.slots.len());
+        swap(&mut self.slots[place], other);
     }
 
     /// The next unit begins: its slot becomes the present one, and the one that was present before is emptied and becomes that of the last unit.

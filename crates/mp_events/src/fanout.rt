@@ -37,8 +37,8 @@ impl Fanout {
     pub fn from_rows(alloc: Global, rows: &[FanoutRow]) -> Result<Fanout, AllocError>
         ensures { IfOk result (λ fanout. fanout ≡ rows.now) }
     {
-        let mut heads = Vec::new(alloc);
-        let mut places = Vec::new(alloc);
+        let mut heads = Vec::with_capacity(alloc, rows.len())?;
+        let mut places = Vec::with_capacity(alloc, rows.len())?;
         let mut list = Vec::new(alloc);
         places.push(0)?;
         for row in rows {

@@ -1,5 +1,5 @@
 -- Lemmas on the changes earlier and later than a time.
-use Rattle.std.proofs.Common.{◌≡◌, ℕ, ◌+◌, ◌-◌, ◌<◌, ◌≤◌, List, [], ◌∷◌, nat_lt, nat_le, cond, true, false, refl, ap, sym, ◌∙◌, arith, inl, inr, length, zero, suc, take, drop, append-nil}
+use Rattle.std.proofs.Common.{◌≡◌, ℕ, ◌+◌, ◌-◌, ◌<◌, ◌≤◌, List, [], ◌∷◌, nat_lt, nat_le, cond, true, false, refl, ap, sym, ◌∙◌, arith, inl, inr, length, zero, suc, take, drop, append-nil, subst}
 use Rattle.std.proofs.lemmas.Bool.Decides.{nat_tests}
 use Rattle.std.proofs.lemmas.Bool.{cases_lt}
 use Rattle.std.proofs.lemmas.Grind.{common_steps}
@@ -116,6 +116,14 @@ kept_levels wave upto t form some = (
       (omega (arith, last_time-earlier_than upto 0 wave.initial wave.changes some form))
       ∙ last_from-earlier_than upto 0 wave.initial wave.changes some form,
 )
+
+-- of a wave of one bit, what is kept before a time is of one bit
+pub kept_low : (wave : Waveform) (upto t : ℕ) → IsWaveform wave → 0 < upto → ((u : ℕ) → level_of wave u ≤ 1) → level_of (kept_before upto wave) t ≤ 1
+kept_low wave upto t form some low =
+    elim (cases_lt t upto) as (λ _. level_of (kept_before upto wave) t ≤ 1) [
+      | inl sooner ↦ subst (λ (v : ℕ). v ≤ 1) (sym ((kept_levels wave upto t form some).0 sooner)) (low t)
+      | inr later ↦ subst (λ (v : ℕ). v ≤ 1) (sym ((kept_levels wave upto t form some).1 later)) (low (upto - 1))
+    ]
 
 -- from the level at a time, the later changes give the levels
 pub level_from-later_than : (from before level t : ℕ) (changes : List (ℕ × ℕ)) → from ≤ t → AreChanges before level changes → level_from (level_from level changes from) (later_than from changes) t ≡ level_from level changes t

@@ -2,9 +2,9 @@
 use Rattle.std.proofs.Common.{◌≡◌, ◌≢◌, ℕ, zero, suc, ◌+◌, ◌-◌, ◌<◌, ◌≤◌, Bool, true, false, cond, List, [], ◌∷◌, ◌++◌, refl, ap, ◌∙◌, arith, append-nil, subst}
 use Rattle.std.specs.Prelude.{◌==◌}
 use Rattle.std.proofs.lemmas.Bool.{eqb-true, eqb-false}
-use Rattle.mp_wave.specs.Waveform.{Waveform, AreChanges, last_from, last_time, changes_after}
-use Rattle.mp_wave.proofs.WaveformLemmas.{last_from-append}
-use Rattle.mp_wave.specs.ToggleWaves.{toggle_changes, AreTimes, toggle_wave, toggled_at, times_upto, ToggleWavesAreWaves}
+use Rattle.mp_wave.specs.Waveform.{Waveform, AreChanges, level_from, last_from, last_time, changes_after}
+use Rattle.mp_wave.proofs.WaveformLemmas.{last_from-append, level_from-before, level_from-first, level_from-rest}
+use Rattle.mp_wave.specs.ToggleWaves.{toggle_changes, times_of, AreTimes, toggle_wave, toggled_at, times_upto, ToggleWavesAreWaves}
 
 other : (level : ℕ) → level ≢ 1 - level
 other level same = omega arith
@@ -74,3 +74,26 @@ toggled level time times new wave is more =
     subst (λ (w : Waveform). toggle_wave level new ≡ toggled_at w time) is
     (ap (λ ts. toggle_wave level ts) more ∙
     ap (λ changes. let w : Waveform = record { initial = level; changes = changes } in w) (one_more level time times))
+
+-- the times of toggles
+pub times_of-toggles : (level : ℕ) (times : List ℕ) → times_of (toggle_changes level times) ≡ times
+times_of-toggles level [] = refl
+times_of-toggles level (time ∷ times) = ap (λ (rest : List ℕ). time ∷ rest) (times_of-toggles (1 - level) times)
+
+-- the times of changes rise
+pub times_of-rise : (before level : ℕ) (changes : List (ℕ × ℕ)) → AreChanges before level changes → AreTimes before (times_of changes)
+times_of-rise before level [] are = tt
+times_of-rise before level (x ∷ xs) are = (are.0, times_of-rise x.0 x.1 xs are.2)
+
+-- changes of a level of one bit are toggles
+pub toggles_of : (before level : ℕ) (changes : List (ℕ × ℕ)) → AreChanges before level changes → ((t : ℕ) → before ≤ t → level_from level changes t ≤ 1) →
+    toggle_changes level (times_of changes) ≡ changes
+toggles_of before level [] are low = refl
+toggles_of before level (x ∷ xs) are low =
+    let was : level ≤ 1 = subst (λ (v : ℕ). v ≤ 1) (level_from-before before level before (x ∷ xs) are (omega arith)) (low before (omega arith)) in
+    let is : x.1 ≤ 1 = subst (λ (v : ℕ). v ≤ 1) (level_from-first before level x xs are) (low x.0 (omega (arith, are.0))) in
+    let differ : level ≢ x.1 = are.1 in
+    let turned : 1 - level ≡ x.1 = omega arith in
+    let later : (t : ℕ) → x.0 ≤ t → level_from x.1 xs t ≤ 1 = λ t le. subst (λ (v : ℕ). v ≤ 1) (level_from-rest level t x xs le) (low t (omega (arith, are.0))) in
+    ap (λ (v : ℕ). (x.0, v) ∷ toggle_changes v (times_of xs)) turned
+    ∙ ap (λ (rest : List (ℕ × ℕ)). x ∷ rest) (toggles_of x.0 x.1 xs are.2 later)

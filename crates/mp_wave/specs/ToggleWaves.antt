@@ -1,11 +1,15 @@
 -- Waves of wires of width 1, by the times at which they toggle.
-use Rattle.std.specs.Prelude.{◌≡◌, ℕ, ◌-◌, ◌<◌, ◌≤◌, List, [], ◌∷◌, ◌++◌, ◌==◌, if◌then◌else◌, zero, suc}
+use Rattle.std.specs.Prelude.{◌≡◌, ℕ, ◌-◌, ◌<◌, ◌≤◌, List, [], ◌∷◌, ◌++◌, ◌==◌, if◌then◌else◌, zero, suc, map}
 use Rattle.mp_wave.specs.Waveform.{Waveform, last_from, wave_upto}
 
 -- the changes after a level, at these times
 abbrev pub toggle_changes : ℕ → List ℕ → List (ℕ × ℕ)
 toggle_changes level [] = []
 toggle_changes level (time ∷ times) = (time, 1 - level) ∷ toggle_changes (1 - level) times
+
+-- the times of changes
+abbrev pub times_of : List (ℕ × ℕ) → List ℕ
+times_of changes = map (λ (c : ℕ × ℕ). c.0) changes
 
 -- the level after so many toggles
 abbrev pub level_after : ℕ → ℕ → ℕ

@@ -1,6 +1,7 @@
 //! The waves of wires of width 1.
 ghost use Rattle.std.specs.Prelude.{◌≡◌, ◌<◌, ◌≤◌, ◌++◌, ◌∷◌, [], OnOk, OnErr};
 
+use crate::{Wave, WaveChanges};
 use std::alloc::{AllocError, Global};
 use std::marker::Model;
 
@@ -30,8 +31,8 @@ impl Model for ToggleWave {
 }
 
 impl ToggleWave {
-    ghost use Rattle.std.specs.Prelude.{◌≡◌, ◌<◌, ◌≤◌, [], OnOk, OnErr};
-    ghost use Rattle.mp_wave.specs.Waveform.{last_time, IsWaveform};
+    ghost use Rattle.std.specs.Prelude.{◌≡◌, ℕ, ◌<◌, ◌≤◌, [], IfOk, OnOk, OnErr};
+    ghost use Rattle.mp_wave.specs.Waveform.{last_time, level_of, kept_before, IsWaveform};
     ghost use Rattle.mp_wave.specs.ToggleWaves.{toggle_wave, toggled_at};
 
     /// The wave with one level at every time.
@@ -43,6 +44,21 @@ impl ToggleWave {
             initial,
             times: Vec::new(alloc),
         }
+    }
+
+    /// The wave of which the levels before a time are those of another, the last of them held from then on. It has room for as many toggles as
+    /// the other has changes.
+    pub fn from_prefix(alloc: Global, wave: &Wave, upto: u32) -> Result<ToggleWave, AllocError>
+        requires some { 0 < upto }
+        requires low { (t : ℕ) → level_of wave.now t ≤ 1 }
+        ensures { IfOk result (λ prefix. prefix ≡ kept_before upto wave.now) }
+    {
+        let mut times = Vec::with_capacity(alloc, wave.changes().len())?;
+        push_times(&mut times, wave.changes_between(0, upto))?;
+        Ok(ToggleWave {
+            initial: wave.initial(),
+            times,
+        })
     }
 
     /// The level at time 0.
@@ -81,6 +97,40 @@ impl ToggleWave {
         push_time(&mut self.times, time)?;
         Ok(())
     }
+}
+
+ghost use Rattle.std.specs.Prelude.{ℕ};
+ghost use Rattle.mp_wave.specs.ToggleWaves.{times_of};
+ghost use Rattle.mp_wave.specs.WaveChanges.{changes_in};
+
+/// The times of these changes too.
+fn push_times(times: &mut Vec<u32>, changes: WaveChanges<'_>) -> Result<(), AllocError>
+    ensures { OnOk result (times.new.items ≡ times.old.items ++ times_of (changes_in changes.entry)) }
+{
+    match changes {
+        WaveChanges::Toggles { times: more, .. } => times.extend_from_slice(more)?,
+        WaveChanges::ShortPairs(pairs) => push_short_times(times, pairs)?,
+        WaveChanges::Pairs(pairs) => push_long_times(times, pairs)?,
+    }
+    Ok(())
+}
+
+fn push_short_times(times: &mut Vec<u32>, pairs: &[(u32, u32)]) -> Result<(), AllocError>
+    ensures { OnOk result (times.new.items ≡ times.old.items ++ times_of pairs.now) }
+{
+    for pair in pairs {
+        times.push(pair.0)?;
+    }
+    Ok(())
+}
+
+fn push_long_times(times: &mut Vec<u32>, pairs: &[(u32, u64)]) -> Result<(), AllocError>
+    ensures { OnOk result (times.new.items ≡ times.old.items ++ times_of pairs.now) }
+{
+    for pair in pairs {
+        times.push(pair.0)?;
+    }
+    Ok(())
 }
 
 /// One time more.
