@@ -45,6 +45,7 @@ impl Simulator {
             AreDue n scope t (next_slot self.old ++ set.now) others.now → IsDuring n scope t self.new) }
         ensures only { OnOk result (self.old.due.items ≡ [] → AreOnlyDue self.old.fanout ((next_slot self.old ++ set.now) ++ others.now) self.new.due.items) }
         ensures same { OnOk result (self.new.fanout ≡ self.old.fanout) }
+        ensures outputs { OnOk result (self.new.outputs ≡ self.old.outputs) }
         ensures present { OnOk result (self.new.present ≡ next_slot self.old ++ set.now) }
         ensures units { OnOk result (length self.new.wheel ≡ length self.old.wheel) }
         ensures places { OnOk result (length self.new.states.items ≡ length self.old.states.items) }
@@ -71,6 +72,7 @@ impl Simulator {
         ensures fired { OnOk result ((n : Circuit) (scope : Scope) (t : ℕ) → IsCircuit n → IsDuring n scope t self.old →
             IsBefore n (with_answers scope (t + 2)) (t + 1) self.new) }
         ensures same { OnOk result (self.new.fanout ≡ self.old.fanout) }
+        ensures outputs { OnOk result (self.new.outputs ≡ self.old.outputs) }
         ensures units { OnOk result (length self.new.wheel ≡ length self.old.wheel) }
         ensures places { OnOk result (length self.new.states.items ≡ length self.old.states.items) }
         ensures waves { OnOk result (self.new.waves.items ≡ self.old.waves.items) }

@@ -71,3 +71,16 @@ pub record CanTell (module_number : ℕ) (s : NetlistSimulation) : Type 0 where
   pub t : ℕ
   pub is : IsSimulated n t s
   pub within : module_number < length n.modules
+
+-- a simulation keeps which inputs read each number, what stands next after it, and what each module drives; its wheels have as many units, and
+-- the modules with data keep their places
+pub record HasKeptNumbers (s new : NetlistSimulation) : Type 0 where
+  pub rows : new.bits.simulator.fanout ≡ s.bits.simulator.fanout
+  pub outputs : new.bits.simulator.outputs ≡ s.bits.simulator.outputs
+  pub next : new.bits.copies.next.items ≡ s.bits.copies.next.items
+  pub data_next : new.wires.next.items ≡ s.wires.next.items
+  pub units : length new.bits.simulator.wheel ≡ length s.bits.simulator.wheel
+  pub copy_units : length new.bits.copies.wheel ≡ length s.bits.copies.wheel
+  pub change_units : length new.wires.wheel ≡ length s.wires.wheel
+  pub places : new.modules.places ≡ s.modules.places
+  pub seats : length new.modules.modules.items ≡ length s.modules.modules.items

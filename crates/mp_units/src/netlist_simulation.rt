@@ -24,7 +24,7 @@ impl NetlistSimulation {
     ghost use Rattle.mp_events.specs.Adding.{listed};
     ghost use Rattle.mp_core.specs.Simulators.{slot_at};
     ghost use Rattle.mp_core.specs.Simulations.{IsSoundRun};
-    ghost use Rattle.mp_units.specs.NetlistSimulations.{IsSimulated, AreStimuli, CanPass, CanTell, IsStill, IsAtRest};
+    ghost use Rattle.mp_units.specs.NetlistSimulations.{IsSimulated, AreStimuli, CanPass, CanTell, IsStill, IsAtRest, HasKeptNumbers};
     ghost use Rattle.mp_units.specs.DataWheels.{data_slot};
     ghost use Rattle.mp_units.specs.Units.{IsApplied, CanFire};
 
@@ -55,8 +55,9 @@ impl NetlistSimulation {
     ) -> Result<(), AllocError>
         requires fit { CanPass set.now levels.now time self.old }
         requires low { time < 2 ^ 32 - 1 }
-        ensures { OnOk result ((n : Circuit) (t : ℕ) → IsCircuit n → time ≡ t + 1 → IsSimulated n t self.old → AreStimuli n set.now levels.now time →
+        ensures applied { OnOk result ((n : Circuit) (t : ℕ) → IsCircuit n → time ≡ t + 1 → IsSimulated n t self.old → AreStimuli n set.now levels.now time →
             IsApplied n t self.new) }
+        ensures numbers { OnOk result (HasKeptNumbers self.old self.new) }
     {
         if set.is_empty() && levels.is_empty() && self.is_still() {
             self.skip_unit();
@@ -91,7 +92,8 @@ impl NetlistSimulation {
     /// The modules that are due fire, and the unit is over.
     pub fn fire(&mut self) -> Result<(), AllocError>
         requires { CanFire self.old }
-        ensures { OnOk result ((n : Circuit) (t : ℕ) → IsCircuit n → IsApplied n t self.old → IsSimulated n (t + 1) self.new) }
+        ensures fired { OnOk result ((n : Circuit) (t : ℕ) → IsCircuit n → IsApplied n t self.old → IsSimulated n (t + 1) self.new) }
+        ensures numbers { OnOk result (HasKeptNumbers self.old self.new) }
     {
         fire_data_modules(
             self.modules.places.as_slice(),
@@ -134,7 +136,7 @@ impl NetlistSimulation {
 
     /// Whether nothing changes in the next unit that isn't set from outside.
     #[inline(always)]
-    fn is_still(&self) -> bool
+    pub fn is_still(&self) -> bool
         requires bits { IsSoundRun self.now.bits }
         requires wheel { 0 < length self.now.wires.wheel }
         ensures { IsTrue result ↔ IsStill self.now }
@@ -157,7 +159,8 @@ impl NetlistSimulation {
         requires bits { IsSoundRun self.old.bits }
         requires wheel { 0 < length self.old.wires.wheel }
         requires still { IsStill self.old }
-        ensures { (n : Circuit) (t : ℕ) → IsCircuit n → IsSimulated n t self.old → AreStimuli n [] [] (t + 1) → IsApplied n t self.new }
+        ensures applied { (n : Circuit) (t : ℕ) → IsCircuit n → IsSimulated n t self.old → AreStimuli n [] [] (t + 1) → IsApplied n t self.new }
+        ensures numbers { HasKeptNumbers self.old self.new }
     {
         self.bits.simulator.wheel.skip();
         self.bits.copies.wheel.skip();

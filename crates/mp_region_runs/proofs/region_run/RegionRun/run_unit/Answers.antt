@@ -64,7 +64,7 @@ fire-requires g c =
       n = n;
       ok = ok;
       t = t;
-      is = c.in_ok-apply.ensures n t ok now can.is.simulated (subst (λ k. AreStimuli n c.bits.result.now c.levels.result.now k) (sym now) set);
+      is = c.in_ok-apply.ensures.applied n t ok now can.is.simulated (subst (λ k. AreStimuli n c.bits.result.now c.levels.result.now k) (sym now) set);
     }
 
 pub returns : goal.returns
@@ -84,8 +84,8 @@ returns g c is_heard until before is =
     c.levels.ensures ∙ c.in_ok-hear.ensures.levels ∙ ap (λ (xs : List LevelChange). xs ++ levels_at c.args.time heard) c.in_ok-advance.ensures.levels ∙ ap (λ k. levels_at k own ++ levels_at k heard) now in
     let known : c.args.time - 1 + 1 < until = omega (arith, later, before) in
     let set = stimuli_are n ok is_heard t until own heard c.bits.result.now c.levels.result.now bits levels low known is.own is.heard in
-    let applied = c.in_ok-apply.ensures n t ok now is.simulated (subst (λ k. AreStimuli n c.bits.result.now c.levels.result.now k) (sym now) set) in
-    let over = c.in_ok-fire.ensures n t ok applied in
+    let applied = c.in_ok-apply.ensures.applied n t ok now is.simulated (subst (λ k. AreStimuli n c.bits.result.now c.levels.result.now k) (sym now) set) in
+    let over = c.in_ok-fire.ensures.fired n t ok applied in
     record {
       simulated = subst (λ k. IsSimulated n k c.fire.new.self) (sym now) over;
       own =

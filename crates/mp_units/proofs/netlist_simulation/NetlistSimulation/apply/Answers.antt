@@ -96,16 +96,41 @@ none_when : {A : Type 0} (xs : List A) → (length xs == 0) ≡ true → xs ≡ 
 none_when [] is = refl
 none_when (x ∷ xs) is = let same = eqb-true (length (x ∷ xs)) 0 is in absurd (omega arith)
 
-pub returns-then-is_still : goal.returns-then-is_still
-returns-then-is_still c n t ok now is sets =
+pub returns-then-is_still-clause-applied : goal.returns-then-is_still-clause-applied
+returns-then-is_still-clause-applied c n t ok now is sets =
     let one : c.args.set.now ≡ [] = none_when c.args.set.now (sym c.is_empty.ensures ∙ c.if-is_empty.true) in
     let two : c.args.levels.now ≡ [] = none_when c.args.levels.now (sym c.is_empty-then-is_empty.ensures ∙ c.if-is_empty-2.true) in
-    c.skip_unit.ensures n t ok is
+    c.skip_unit.ensures.applied n t ok is
     (subst (λ (xs : List ℕ). AreStimuli n xs [] (t + 1)) one
     (subst (λ (cs : List LevelChange). AreStimuli n c.args.set.now cs (t + 1)) two (subst (λ k. AreStimuli n c.args.set.now c.args.levels.now k) now sets)))
 
-pub returns : goal.returns
-returns c n t ok now is sets =
+pub returns-then-is_still-clause-numbers : goal.returns-then-is_still-clause-numbers
+returns-then-is_still-clause-numbers c = c.skip_unit.ensures.numbers
+
+pub returns-clause-numbers : goal.returns-clause-numbers
+returns-clause-numbers c =
+    let s = c.args.self.now in
+    let begun = c.in_ok-begin_unit.ensures in
+    let applied = c.in_ok-apply.ensures in
+    let advanced = c.in_ok-advance-2.ensures in
+    let e = c.in_ok-apply_events.ensures in
+    let late = c.in_ok-advance.ensures in
+    let copies = c.begin_unit.ensures in
+    let is = c.requires.fit.is in
+    record {
+      rows = e.same;
+      outputs = e.outputs;
+      next = late.same ∙ copies.same;
+      data_next = advanced.next ∙ applied.next ∙ begun.next;
+      units = e.units;
+      copy_units = late.places ∙ ap (length {A = List ℕ}) copies.wheel ∙ turned_length s.bits.copies.wheel is.sound.copies.some;
+      change_units = advanced.places ∙ ap (length {A = List LevelChange}) (applied.wheel ∙ begun.wheel) ∙ changes_turned s.wires.wheel is.wires.some;
+      places = refl;
+      seats = refl;
+    }
+
+pub returns-clause-applied : goal.returns-clause-applied
+returns-clause-applied c n t ok now is sets =
     let s = c.args.self.now in
     let begun = c.in_ok-begin_unit.ensures in
     let applied = c.in_ok-apply.ensures in

@@ -1,4 +1,5 @@
-use Rattle.std.proofs.Common.{ℕ, ◌<◌, ◌≤◌, List, Option, All, length, refl, sym, subst}
+use Rattle.std.proofs.Common.{ℕ, ◌<◌, ◌≤◌, ◌∙◌, List, Option, All, length, refl, sym, subst}
+use Rattle.mp_events.specs.declared.output_port.OutputPort.{OutputPort}
 use Rattle.mp_events.specs.Adding.{listed}
 use Rattle.mp_core.proofs.FireLemmas.{due_once}
 use Rattle.mp_data.specs.DataModules.{CanFire}
@@ -41,8 +42,8 @@ fire-requires c =
           made.units;
     }
 
-pub returns : goal.returns
-returns c n t ok is =
+pub returns-clause-fired : goal.returns-clause-fired
+returns-clause-fired c n t ok is =
     let s = c.args.self.now in
     let made = c.in_ok-fire_data_modules.ensures in
     let last = c.in_ok-fire.ensures in
@@ -70,3 +71,19 @@ returns c n t ok is =
       units = last.units;
       seats = last.places;
     })
+
+pub returns-clause-numbers : goal.returns-clause-numbers
+returns-clause-numbers c =
+    let made = c.in_ok-fire_data_modules.ensures in
+    let last = c.in_ok-fire.ensures in
+    record {
+      rows = last.same;
+      outputs = last.outputs;
+      next = refl {A = List OutputPort};
+      data_next = refl {A = List OutputPort};
+      units = last.units ∙ made.units;
+      copy_units = refl {A = ℕ};
+      change_units = made.slots;
+      places = refl;
+      seats = made.modules.placed;
+    }
