@@ -2,8 +2,8 @@
 use Rattle.std.proofs.Common.{◌≡◌, ◌≢◌, ℕ, zero, suc, ◌+◌, ◌*◌, ◌^◌, ◌<◌, ◌≤◌, Bool, true, false, cond, List, [], ◌∷◌, ◌++◌, All, length, map, refl, sym, ap, ◌∙◌, arith, subst, inl, inr}
 use Rattle.std.specs.Prelude.{◌==◌, slice_index_or, slice_set}
 use Rattle.std.proofs.Math.Nat.{pow-suc}
-use Rattle.std.proofs.lemmas.Bool.{cases_eq, eq-eqb, ne_eqb}
-use Rattle.std.proofs.lemmas.List.{get_or-set_same, get_or-set_other, get_or_append_left, get_or_push, length-set, length_push, length-map, map_push}
+use Rattle.std.proofs.lemmas.Bool.{cases_eq, cases_lt, eq-eqb, ne_eqb}
+use Rattle.std.proofs.lemmas.List.{get_or-set_same, get_or-set_other, get_or_append_left, get_or-append-add, get_or_push, length-append, length-set, length_push, length-map, map_push}
 use Rattle.std.proofs.lemmas.List.Elements.{All-head, All-push, All-weaker}
 use Rattle.mp_records.specs.declared.ports.Input.{Input}
 use Rattle.mp_events.specs.declared.fanout_entry.FanoutEntry.{FanoutEntry}
@@ -35,6 +35,18 @@ weight_push unit (p ∷ ports) x w =
     let more = ap (λ k. cond (x == w) k 0) same in
     omega arith
 
+-- ---- what holds of inputs holds of those at the front, and of those at the back
+
+pub all_front : (P : Input → Type 0) (xs ys : List Input) → All P (xs ++ ys) → All P xs
+all_front P xs ys all i d within =
+    let size = length-append xs ys in
+    subst P (get_or_append_left xs ys d i within) (all i d (omega arith))
+
+pub all_back : (P : Input → Type 0) (xs ys : List Input) → All P (xs ++ ys) → All P ys
+all_back P xs ys all i d within =
+    let size = length-append xs ys in
+    subst P (get_or-append-add xs ys i d) (all (length xs + i) d (omega arith))
+
 -- ---- the same numbers
 
 pub map_same : (f g : ℕ → ℕ × ℕ) (xs : List ℕ) → All (λ x. f x ≡ g x) xs → map f xs ≡ map g xs
@@ -52,6 +64,7 @@ wired_as wires places reading other inputs others wiring same alike are = record
   ports = λ q. subst (λ xs. HasPorts wiring.rows.items q xs) (alike q) (are.ports q);
   reads = λ q. ap (map are.source) (sym (alike q)) ∙ are.reads q ∙ ap (map source_of) (same q);
   low = λ q. subst (λ xs. All (λ x. x < length wiring.next.items) xs) (alike q) (are.low q);
+  late = λ longest delays. are.late longest (λ q. subst (λ (xs : List Input). All (λ (i : Input). i.delay ≤ longest) xs) (sym (same q)) (delays q));
   placed = are.placed;
   eventful = are.eventful;
 }
@@ -217,6 +230,40 @@ module _ (old mid new : Wiring) (input : Input) (entry : FanoutEntry) (number po
         still : (v : ℕ) → All (λ x. x < length new.next.items) (inputs v)
         still v = All-weaker (λ x. x < length old.next.items) (λ x. x < length new.next.items) (λ x is. let a = has.longer in let b = new_numbers in omega arith) (inputs v) (are.low v)
 
+    -- no number is later than the longest delay that is read
+    late_now : (longest : ℕ) → ((q : ℕ) → All (λ (i : Input). i.delay ≤ longest) (with_inputs reading entry.module (reading entry.module ++ input ∷ []) q)) → (x : ℕ) → x < length new.next.items →
+        (again.source x).1 ≤ longest
+    late_now longest delays x within = elim (cases_lt x (length old.next.items)) as (λ _. (again.source x).1 ≤ longest) [
+      | inl before ↦
+          let was : (are.source x).1 ≤ longest = are.late longest read_before x before in
+          let same = ap {B = ℕ} (λ (v : ℕ × ℕ). v.1) (again.same x before) in
+          omega (arith, was, same)
+      | inr past ↦
+          let long = new_numbers in
+          let few = has.few in
+          let inside = has.within in
+          let own : number ≡ x = elim (cases_lt number (length old.next.items)) as (λ _. number ≡ x) [
+            | inl known ↦ let none = has.known known in omega (arith, within, past, long, none)
+            | inr new_one ↦ omega (arith, within, past, long, few, inside, new_one)
+          ] in
+          let is : (again.source x).1 ≡ input.delay = ap (λ k. (again.source k).1) (sym own) ∙ ap (λ (v : ℕ × ℕ). v.1) again.is in
+          let low : input.delay ≤ longest = read_now in
+          omega (arith, is, low)
+    ]
+      where
+        here : All (λ (i : Input). i.delay ≤ longest) (reading entry.module ++ input ∷ [])
+        here =
+            subst (λ b. All (λ (i : Input). i.delay ≤ longest) (cond b (reading entry.module ++ input ∷ []) (reading entry.module))) (eq-eqb entry.module entry.module refl) (delays entry.module)
+
+        read_now : input.delay ≤ longest
+        read_now = All-head (λ (i : Input). i.delay ≤ longest) input [] (all_back (λ (i : Input). i.delay ≤ longest) (reading entry.module) (input ∷ []) here)
+
+        read_before : (q : ℕ) → All (λ (i : Input). i.delay ≤ longest) (reading q)
+        read_before q = elim (cases_eq q entry.module) as (λ _. All (λ (i : Input). i.delay ≤ longest) (reading q)) [
+          | inl same ↦ subst (λ k. All (λ (i : Input). i.delay ≤ longest) (reading k)) (sym same) (all_front (λ (i : Input). i.delay ≤ longest) (reading entry.module) (input ∷ []) here)
+          | inr other ↦ subst (λ b. All (λ (i : Input). i.delay ≤ longest) (cond b (reading entry.module ++ input ∷ []) (reading q))) (ne_eqb q entry.module other) (delays q)
+        ]
+
     row_all : (P : FanoutEntry → Type 0) → P entry → ((x : ℕ) → All P (row_at old.rows.items x)) → (x : ℕ) → All P (row_at new.rows.items x)
     row_all P holds all x = elim (cases_eq x number) as (λ _. All P (row_at new.rows.items x)) [
       | inl same ↦ subst (All P) (sym (ap (row_at new.rows.items) same ∙ row_own)) (All-push P (row_at old.rows.items number) entry (all number) holds)
@@ -249,6 +296,7 @@ module _ (old mid new : Wiring) (input : Input) (entry : FanoutEntry) (number po
       ports = ports_now;
       reads = reads_now;
       low = low_now;
+      late = late_now;
       placed = row_all (λ (l : FanoutEntry). l.module < places) placed are.placed;
       eventful = row_all (λ (l : FanoutEntry). 0 < l.event) some_event are.eventful;
     }

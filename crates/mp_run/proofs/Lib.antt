@@ -6,15 +6,15 @@ mod NumberLemmas
 mod InputLemmas
 mod MoreInputsLemmas
 mod WiringLemmas
-mod WidthLemmas
+pub mod WidthLemmas
 mod PartLemmas
 mod SettlingLemmas
 mod PortLemmas
 mod SeatingLemmas
 mod NumberingLemmas
-mod BegunLemmas
+pub mod BegunLemmas
 mod BeginningLemmas
-mod SimulatedLemmas
+pub mod SimulatedLemmas
 mod RunLemmas
 mod RestLemmas
 mod FoundLemmas

@@ -2,12 +2,12 @@
 use Rattle.std.proofs.Common.{◌≡◌, ◌≢◌, ℕ, zero, suc, ◌+◌, ◌<◌, ◌≤◌, Bool, true, false, cond, List, [], ◌∷◌, ◌++◌, Option, Some, None, All, length, refl, sym, ap, ◌∙◌, arith, subst, inl, inr}
 use Rattle.std.specs.Prelude.{◌==◌, slice_index_or, slice_set}
 use Rattle.std.proofs.lemmas.Bool.{cases_eq, eq-eqb, eqb-true}
-use Rattle.std.proofs.lemmas.List.{get_or-set_same, get_or-set_other, get_or_append_left, get_or-append-add, append-nil, append_assoc, length-append}
+use Rattle.std.proofs.lemmas.List.{get_or-set_same, get_or-set_other, append-nil, append_assoc, length-append}
 use Rattle.mp_records.specs.declared.ports.Input.{Input}
 use Rattle.mp_run.specs.declared.wiring.Wiring.{Wiring}
 use Rattle.mp_units.specs.DataSeats.{number_at}
 use Rattle.mp_run.specs.Wirings.{with_inputs, with_numbers, AddsInputs, AreByPort}
-use Rattle.mp_run.proofs.InputLemmas.{wired_as}
+use Rattle.mp_run.proofs.InputLemmas.{all_front, all_back, wired_as}
 
 -- ---- further inputs
 
@@ -31,16 +31,6 @@ adds_none old place port = record {
       wired_as wires places reading (with_inputs reading place (reading place ++ [])) reads (with_numbers reads place (reads place ++ [])) old (λ q. none_put reading place q (q == place) refl)
       (λ q. none_put reads place q (q == place) refl) are;
 }
-
-all_front : (P : Input → Type 0) (xs ys : List Input) → All P (xs ++ ys) → All P xs
-all_front P xs ys all i d within =
-    let size = length-append xs ys in
-    subst P (get_or_append_left xs ys d i within) (all i d (omega arith))
-
-all_back : (P : Input → Type 0) (xs ys : List Input) → All P (xs ++ ys) → All P ys
-all_back P xs ys all i d within =
-    let size = length-append xs ys in
-    subst P (get_or-append-add xs ys i d) (all (length xs + i) d (omega arith))
 
 same_by : {A : Type 0} (f : ℕ → List A) (place q : ℕ) (xs ys : List A) (b : Bool) → (q == place) ≡ b →
     put (put f place (f place ++ xs)) place (put f place (f place ++ xs) place ++ ys) q ≡ put f place (f place ++ (xs ++ ys)) q

@@ -5,6 +5,7 @@ use Rattle.std.specs.List.{count_by}
 use Rattle.std.proofs.lemmas.Bool.{cases_eq, cases_lt}
 use Rattle.std.proofs.lemmas.Bool.Decides.{nat_tests}
 use Rattle.std.proofs.lemmas.List.{get_or_past, get_or_append_left, get_or_push, append-nil, length_push}
+use Rattle.std.proofs.lemmas.List.Sums.{sum_by-append, sum_by-cons}
 use Rattle.std.proofs.lemmas.Option.{none-some, same_Some}
 use Rattle.mp_records.specs.declared.module_record.ModuleRecord.{ModuleRecord}
 use Rattle.mp_netlist.specs.declared.driver.Driver.{Driver}
@@ -35,6 +36,15 @@ use Rattle.mp_run.specs.Seating.{level_departs, data_module, first_levels, seate
 use Rattle.mp_run.proofs.PortLemmas.{by_driver, slot_levels}
 
 -- ---- places
+
+plus_zero : (k : ℕ) → k + 0 ≡ k
+plus_zero k = omega arith
+
+counted_push : (places : List (Option ℕ)) (place : Option ℕ) (k : ℕ) → cond (is_some place) 1 0 + 0 ≡ k + 0 → count_by is_some (places ++ place ∷ []) ≡ count_by is_some places + k
+counted_push places place k is =
+    let all = sum_by-append (λ (p : Option ℕ). cond (is_some p) 1 0) places (place ∷ []) in
+    let last = sum_by-cons (λ (p : Option ℕ). cond (is_some p) 1 0) place [] in
+    omega (arith, all, last, is)
 
 -- a place more is that of a module with data
 record Fresh (n : Circuit) (m k count : ℕ) : Type 0 where
@@ -95,6 +105,20 @@ module _ (n : Circuit) (ok : IsCircuit n) (m : ℕ) (inputs : List (List (Option
 
   grown : count ≤ length new.modules.modules.items
   grown = elim size as (λ _. count ≤ length new.modules.modules.items) [ inl same ↦ omega arith | inr more ↦ (let e = more.0 in omega arith) ]
+
+  -- there are as many modules as places that are some module's
+  counted_by : (slot : Option ModuleRecord) → length (old.modules.modules.items ++ seated_in n m (slice_index_or inputs m []) slot) ≡ count_by is_some (old.modules.places.items ++ place_in n count slot ∷ [])
+  counted_by None = ap (length {A = DataModule}) (append-nil old.modules.modules.items) ∙ are.counted ∙ sym (counted_push old.modules.places.items None 0 refl ∙ plus_zero (count_by is_some old.modules.places.items))
+  counted_by (Some r) = by (is_bit_module n r)
+    where
+      by : (b : Bool) → length (old.modules.modules.items ++ cond b [] (data_module n m r (slice_index_or inputs m []) ∷ [])) ≡ count_by is_some (old.modules.places.items ++ cond b None (Some count) ∷ [])
+      by true = ap (length {A = DataModule}) (append-nil old.modules.modules.items) ∙ are.counted ∙ sym (counted_push old.modules.places.items None 0 refl ∙ plus_zero (count_by is_some old.modules.places.items))
+      by false =
+          length_push old.modules.modules.items (data_module n m r (slice_index_or inputs m [])) ∙ ap (λ k. k + 1) are.counted ∙ sym (counted_push old.modules.places.items (Some count) 1 refl)
+
+  counted_now : length new.modules.modules.items ≡ count_by is_some new.modules.places.items
+  counted_now =
+      ap (length {A = DataModule}) adds.modules ∙ counted_by (module_at n m) ∙ sym (ap (λ (xs : List (Option ℕ)). count_by is_some xs) adds.places)
 
   few_now : length new.modules.modules.items ≤ m + 1
   few_now = elim size as (λ _. length new.modules.modules.items ≤ m + 1) [
@@ -187,6 +211,7 @@ module _ (n : Circuit) (ok : IsCircuit n) (m : ℕ) (inputs : List (List (Option
     few = few_now;
     placed = record { below = λ q k is. below_at q k (where_at q k is); own = λ q p k one other. one_place q p k (where_at q k one) (where_at p k other) };
     seats = λ q k is. seat_at q k (where_at q k is);
+    counted = counted_now;
     each = each_now;
     whole = whole_now;
     slots = λ w k within.
@@ -214,6 +239,7 @@ seated_none n inputs s places modules empty = record {
   few = let none = ap (length {A = DataModule}) modules in omega arith;
   placed = record { below = λ q k is. absurd (no_place s.modules.places.items q k places is); own = λ q p k one other. absurd (no_place s.modules.places.items q k places one) };
   seats = λ q k is. absurd (no_place s.modules.places.items q k places is);
+  counted = ap (length {A = DataModule}) modules ∙ sym (ap (λ (xs : List (Option ℕ)). count_by is_some xs) places);
   each = λ k within. absurd (let none = ap (length {A = DataModule}) modules in omega arith);
   whole = λ m r low at wide. absurd (omega arith);
   slots = λ w k within. ap (changes_of w) (empty k) ∙ nothing_yet n w k (driver n w);

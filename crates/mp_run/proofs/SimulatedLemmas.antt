@@ -46,6 +46,7 @@ use Rattle.mp_run.specs.Widths.{is_bit_module}
 use Rattle.mp_run.specs.FirstLevels.{first_building}
 use Rattle.mp_run.specs.Numbering.{level_of_wire, is_bit}
 use Rattle.mp_run.specs.Settling.{is_below}
+use Rattle.mp_run.specs.Wirings.{AreWired, reading_below}
 use Rattle.mp_run.specs.Seating.{IsSeatedAt}
 use Rattle.mp_run.specs.Beginnings.{IsPartOf, IsBegun}
 use Rattle.mp_run.proofs.PortLemmas.{level_slot, bit_slots}
@@ -88,6 +89,13 @@ number_in : (xs : List ℕ) (P : ℕ → Type 0) → All P xs → (p x : ℕ) �
 number_in [] P all p x is = absurd (none-some x is)
 number_in (y ∷ xs) P all zero x is = subst P (same_Some y x is) (all 0 y (omega arith))
 number_in (y ∷ xs) P all (suc p) x is = number_in xs P (λ k d within. all (suc k) d (omega arith)) p x is
+
+-- a simulation at time 0 has the numbers of a layout
+pub record IsSimulatedBy (n all : Circuit) (plan : Layout) (inputs : ℕ → List ℕ) (s : NetlistSimulation) : Type 0 where
+  pub is : IsSimulated n 0 s
+  pub inputs_are : is.scope.inputs ≡ inputs
+  pub wiring : AreWired (length n.wires) (length n.modules) (reading_below all (length all.modules)) inputs plan.wired.wiring
+  pub source_is : is.scope.source ≡ wiring.source
 
 module _ (n all : Circuit) (ok : IsCircuit n) (all_ok : IsCircuit all) (of_all : IsPartOf n all) (plan : Layout) (s : NetlistSimulation) (are : IsBegun n all plan s) where
   abbrev source : ℕ → ℕ × ℕ
@@ -348,8 +356,8 @@ module _ (n all : Circuit) (ok : IsCircuit n) (all_ok : IsCircuit all) (of_all :
     whole = whole_first;
   }
 
-  pub simulated : IsSimulated n 0 s
-  simulated = record {
+  abbrev in_layout : IsSimulated n 0 s
+  in_layout = record {
     scope = scope n all ok all_ok of_all plan s.bits are.begun;
     before = the_before n all ok all_ok of_all plan s.bits are.begun;
     data_before = data_before;
@@ -367,3 +375,9 @@ module _ (n all : Circuit) (ok : IsCircuit n) (all_ok : IsCircuit all) (of_all :
     modules = subst (λ k. AreDataModules n (scope n all ok all_ok of_all plan s.bits are.begun) k (length s.bits.simulator.states.items) (length s.bits.simulator.wheel) (length s.wires.wheel) 0 s.modules)
         (sym (numbers n all ok all_ok of_all plan s.bits are.begun)) modules_first;
   }
+
+  pub simulated : IsSimulated n 0 s
+  simulated = in_layout
+
+  pub simulated_by : IsSimulatedBy n all plan are.begun.laid.wired.inputs s
+  simulated_by = record { is = in_layout; inputs_are = refl; wiring = wired n all ok all_ok of_all plan s.bits are.begun; source_is = refl }

@@ -59,6 +59,7 @@ wired_none n wiring are = record {
     ports = λ q. record { few = omega arith; each = λ w. ap (events_for q) (are.empty w) };
     reads = λ q. ap (map source_of) (nothing_read q);
     low = λ q k d within. absurd (omega arith);
+    late = λ longest delays x within. omega arith;
     placed = λ x. subst (All (λ (l : FanoutEntry). l.module < length n.modules)) (sym (are.empty x)) (λ k d within. absurd (omega arith));
     eventful = λ x. subst (All (λ (l : FanoutEntry). 0 < l.event)) (sym (are.empty x)) (λ k d within. absurd (omega arith));
   };

@@ -1,5 +1,6 @@
 -- Modules with data at time 0.
 use Rattle.std.specs.Prelude.{◌≡◌, ℕ, ◌+◌, ◌<◌, ◌≤◌, Bool, true, false, not, List, [], ◌∷◌, ◌++◌, All, Option, Some, None, is_some, length, slice_index_or, ◌==◌, ◌&&◌, if◌then◌else◌}
+use Rattle.std.specs.List.{count_by}
 use Rattle.mp_modules.specs.Memories.{output_of}
 use Rattle.mp_records.specs.declared.module_record.ModuleRecord.{ModuleRecord}
 use Rattle.mp_records.specs.declared.ports.Output.{Output}
@@ -100,6 +101,7 @@ pub record IsSeated (n : Circuit) (modules : ℕ) (inputs : List (List (Option �
   pub few : length s.modules.modules.items ≤ modules
   pub placed : ArePlaced s.modules.places.items (length s.modules.modules.items)
   pub seats : (q k : ℕ) → place_at s.modules.places.items q ≡ Some k → IsSeatedAt n q (slice_index_or inputs q []) (data_module_at s.modules.modules.items k)
+  pub counted : length s.modules.modules.items ≡ count_by is_some s.modules.places.items
   pub each : (k : ℕ) → k < length s.modules.modules.items → HasPlaceOf s.modules.places.items k
   pub whole : (m : ℕ) (r : ModuleRecord) → m < modules → module_at n m ≡ Some r → is_bit_module n r ≡ false → is_some (place_at s.modules.places.items m) ≡ true
   pub slots : (w k : ℕ) → k < length s.wheel → changes_of w (data_slot s.wheel k) ≡ bit (is_below modules (driver n w) && is_first_level n w (k + 1))

@@ -12,7 +12,8 @@ use Rattle.mp_run.specs.declared.wiring.Wiring.{Wiring}
 use Rattle.mp_units.specs.DataSeats.{number_at}
 use Rattle.mp_run.specs.Numbers.{AreLinks, AreNumbers, AreOrigins}
 
--- the rows have just the inputs that places read, so many places and so many wires being there; the ports of a place read these numbers
+-- the rows have just the inputs that places read, so many places and so many wires being there; the ports of a place read these numbers, none of
+-- which is later than the longest delay of what is read
 pub record AreWired (wires places : ℕ) (reading : ℕ → List Input) (inputs : ℕ → List ℕ) (wiring : Wiring) : Type 0 where
   pub source : ℕ → ℕ × ℕ
   pub before : ℕ → Option ℕ
@@ -21,6 +22,7 @@ pub record AreWired (wires places : ℕ) (reading : ℕ → List Input) (inputs 
   pub ports : (q : ℕ) → HasPorts wiring.rows.items q (inputs q)
   pub reads : (q : ℕ) → map source (inputs q) ≡ map source_of (reading q)
   pub low : (q : ℕ) → All (λ x. x < length wiring.next.items) (inputs q)
+  pub late : (longest : ℕ) → ((q : ℕ) → All (λ (i : Input). i.delay ≤ longest) (reading q)) → (x : ℕ) → x < length wiring.next.items → (source x).1 ≤ longest
   pub placed : (x : ℕ) → All (λ (l : FanoutEntry). l.module < places) (row_at wiring.rows.items x)
   pub eventful : (x : ℕ) → All (λ (l : FanoutEntry). 0 < l.event) (row_at wiring.rows.items x)
 

@@ -31,7 +31,7 @@ impl Layout {
     ghost use Rattle.mp_run.specs.Narrow.{IsNarrow};
     ghost use Rattle.mp_run.specs.Evaluations.{IsEvaluated};
     ghost use Rattle.mp_run.specs.Settling.{ports_of};
-    ghost use Rattle.mp_run.specs.Beginnings.{IsPartOf, AreFirstBits, IsLayout, CanBegin};
+    ghost use Rattle.mp_run.specs.Beginnings.{IsPartOf, AreFirstBits, IsLayout, CanBegin, IsBegun};
 
     /// The layout of a netlist.
     pub fn of(alloc: Global, netlist: &Region<'_>) -> Result<Layout, AllocError>
@@ -54,6 +54,8 @@ impl Layout {
     ) -> Result<NetlistSimulation, AllocError>
         requires form { IsCircuit netlist.now }
         requires can { CanBegin netlist.now self.now outputs.items }
+        ensures begun { IfOk result (λ simulation. (all : Circuit) → IsCircuit all → IsPartOf netlist.now all → IsLayout all self.now → outputs.items ≡ map ports_of all.modules →
+            IsBegun netlist.now all self.now simulation) }
         ensures simulated { IfOk result (λ simulation. IsSimulated netlist.now 0 simulation) }
         ensures narrow { IfOk result (λ simulation. IsNarrow netlist.now → IsEvaluated netlist.now 0 simulation.bits) }
     {

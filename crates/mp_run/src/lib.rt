@@ -20,4 +20,7 @@ pub use finishing::found_waves;
 pub use layout::Layout;
 pub use narrow::is_narrow;
 pub use running::run_waves;
+pub use seating::data_module;
+pub use settling::all_outputs;
 pub use stimuli::{HeardChanges, Stimuli, StimulusChange};
+pub use wiring::{WiredInputs, Wiring};

@@ -1,9 +1,10 @@
 //! Modules with data at time 0: what they read and drive, how they settle, and which levels come of that.
 ghost use Rattle.std.specs.Prelude.{◌≡◌, ◌<◌, IfOk, All, length};
 ghost use Rattle.mp_records.specs.Outputs.{output_in};
-ghost use Rattle.mp_netlist.specs.Circuit.{IsCircuit};
+ghost use Rattle.mp_netlist.specs.Circuit.{IsCircuit, IsModule};
+ghost use Rattle.mp_data.specs.DataParts.{data_part, outputs_in};
 ghost use Rattle.mp_events.specs.Firing.{no_port};
-ghost use Rattle.mp_units.specs.DataSeats.{bit_port_of};
+ghost use Rattle.mp_units.specs.DataSeats.{bit_port_of, bit_ports_of, level_port_of};
 ghost use Rattle.mp_run.specs.Settling.{IsShort};
 ghost use Rattle.mp_run.specs.Seating.{has_data_at, level_departs, level_output_of, AreOutputsWithin, IsSeated};
 
@@ -11,9 +12,10 @@ use crate::settling::{output_port, settled};
 use crate::widths::{has_data, is_bit_module};
 use mp_data::{DataModule, DataPart, DataPorts, LevelWheel, OutputLevels, schedule_level_if};
 use mp_events::{OutputPort, OutputPorts};
-use mp_modules::{EventModule, MOST_INPUTS};
+use mp_modules::{EventModule, MOST_INPUTS, Memory};
 use mp_netlist::{ModuleId, ModuleRecord, Output, WireId};
 use mp_regions::Region;
+use mp_storage::AnyModule;
 use mp_units::DataModules;
 use std::alloc::{AllocError, Global};
 
@@ -100,19 +102,39 @@ impl Seating {
     {
         let part = netlist.built(found);
         let memory = settled(netlist, found, &part);
-        let ports = data_ports(netlist, found.outputs.as_slice());
+        let module = data_module(netlist, found, &part, &memory, inputs);
+        let port = module.ports.level;
         let level = memory.output(0);
-        let departs = level_departs(netlist, ports.level, level);
-        schedule_level_if(departs, ports.level, level, &mut self.wheel)?;
+        let departs = level_departs(netlist, port, level);
+        schedule_level_if(departs, port, level, &mut self.wheel)?;
         let number = self.modules.modules.len() as u32;
         self.modules.places.push(Some(number))?;
-        self.modules.modules.push(DataModule {
-            part: DataPart::of(&part),
-            outputs: OutputLevels::of(&memory),
-            inputs,
-            ports,
-        })?;
+        self.modules.modules.push(module)?;
         Ok(())
+    }
+}
+
+/// A module with data in a state, whose inputs read these numbers by port.
+pub fn data_module(
+    netlist: &Region<'_>,
+    found: &ModuleRecord,
+    part: &AnyModule,
+    memory: &Memory,
+    inputs: [Option<u32>; MOST_INPUTS],
+) -> DataModule
+    requires form { IsCircuit netlist.now }
+    requires module { IsModule netlist.now found.now }
+    ensures part { result.part ≡ data_part part.now }
+    ensures outputs { result.outputs ≡ outputs_in memory.now }
+    ensures inputs { result.inputs ≡ inputs }
+    ensures level { result.ports.level ≡ level_port_of netlist.now found.now }
+    ensures bits { result.ports.bits ≡ bit_ports_of netlist.now found.now }
+{
+    DataModule {
+        part: DataPart::of(part),
+        outputs: OutputLevels::of(memory),
+        inputs,
+        ports: data_ports(netlist, found.outputs.as_slice()),
     }
 }
 

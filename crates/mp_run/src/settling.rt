@@ -22,10 +22,7 @@ use mp_storage::AnyModule;
 use std::alloc::{AllocError, Global};
 
 /// The outputs of each module, by its number: ports that drive no wire where none stands.
-pub(crate) fn all_outputs(
-    alloc: Global,
-    netlist: &Region<'_>,
-) -> Result<Vec<OutputPorts>, AllocError>
+pub fn all_outputs(alloc: Global, netlist: &Region<'_>) -> Result<Vec<OutputPorts>, AllocError>
     requires { IsCircuit netlist.now }
     ensures { IfOk result (λ ports. ports.items ≡ map ports_of netlist.now.modules) }
 {
