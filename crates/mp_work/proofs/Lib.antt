@@ -13,3 +13,4 @@ pub mod LeftLemmas
 pub mod QueueLemmas
 pub mod StretchLemmas
 pub mod SortLemmas
+mod InputLemmas

@@ -1,11 +1,13 @@
 -- What a change of a netlist leaves as it was.
-use Rattle.std.specs.Prelude.{◌≡◌, ℕ, ◌+◌, ◌<◌, ◌≤◌, Some}
+use Rattle.std.specs.Prelude.{◌≡◌, ◌≢◌, ◌↔◌, ℕ, ◌+◌, ◌<◌, ◌≤◌, Some, length}
 use Rattle.mp_records.specs.declared.ids.ModuleId.{ModuleId}
 use Rattle.mp_records.specs.declared.module_record.ModuleRecord.{ModuleRecord}
+use Rattle.mp_records.specs.Inputs.{input_at}
 use Rattle.mp_records.specs.Outputs.{delay_of}
 use Rattle.mp_netlist.specs.declared.driver.Driver.TheVariants.{Port}
 use Rattle.mp_netlist.specs.Circuit.{Circuit, IsCircuit, module_at}
 use Rattle.mp_netlist.specs.Drivers.{driver}
+use Rattle.mp_model.specs.Levels.{input_by}
 use Rattle.mp_model.specs.Waves.{level, state}
 use Rattle.mp_model.specs.Reach.{IsApart, IsReached}
 use Rattle.mp_work.specs.Revisions.{IsRevision, IsKept, AgreeBefore, IsDrivenAlike}
@@ -36,3 +38,11 @@ abbrev pub UnreachedLevels : Type 0
 UnreachedLevels = (old new : Circuit) → IsCircuit old → IsCircuit new → IsRevision old new → (w : ℕ) → IsDrivenAlike old new w →
     (b : ℕ) → ((m : ModuleId) (p : ℕ) → driver new w ≡ Port m p → IsReached old new m.0 b → ⊥) →
     (t : ℕ) → t ≤ b → level old w t ≡ level new w t
+
+-- one of a module's inputs has other levels in two netlists at a time
+abbrev pub IsInputApart : Circuit → Circuit → ModuleRecord → ℕ → Type 0
+IsInputApart old new r t = (p : ℕ) × (p < length r.inputs) × (input_by old (level old) (input_at r p) t ≢ input_by new (level new) (input_at r p) t)
+
+-- a module that isn't touched is apart just where an input is
+abbrev pub ApartByInputs : Type 0
+ApartByInputs = (old new : Circuit) (m t : ℕ) (r : ModuleRecord) → IsKept old new m r → IsApart old new m t ↔ IsInputApart old new r t

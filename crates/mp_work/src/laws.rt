@@ -1,7 +1,7 @@
 //! What a change of a netlist leaves as it was, and what has to be evaluated again.
 
 ghost use Rattle.mp_work.specs.Revisions.{EditsRevise};
-ghost use Rattle.mp_work.specs.Stays.{StatesStay, UnreachedStates, LevelsStay, UnreachedLevels};
+ghost use Rattle.mp_work.specs.Stays.{StatesStay, UnreachedStates, LevelsStay, UnreachedLevels, ApartByInputs};
 ghost use Rattle.mp_work.specs.Stretches.{StretchesAreWork};
 ghost use Rattle.mp_work.specs.Work.{IsOnlyWork, WindowsCover, WindowsApart, WorksOnlyReached, WorksWhileDifferent, WorksThroughout, WorksOnce, AgreesOutside, LevelsAgreeOutside};
 
@@ -17,6 +17,11 @@ pub fn unreached()
     ensures states_below { UnreachedStates }
     ensures levels { LevelsStay }
     ensures levels_below { UnreachedLevels }
+{}
+
+/// A module whose record is the same in both netlists is apart just where one of its inputs has another level.
+pub fn apart_by_inputs()
+    ensures { ApartByInputs }
 {}
 
 /// Each time below the horizon lies in a window, and no two windows have a time in common.
