@@ -1,0 +1,4 @@
+pub mod Sleeping
+pub mod Sources
+pub mod Reading
+pub mod Resting
