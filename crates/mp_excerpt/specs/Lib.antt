@@ -1,0 +1,10 @@
+pub mod Excerpts
+pub mod Numberings
+pub mod Levels
+pub mod Showing
+pub mod Starting
+pub mod Setting
+pub mod Leaving
+pub mod Turning
+pub mod Activating
+pub mod Renumbering
