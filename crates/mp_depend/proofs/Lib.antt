@@ -1,3 +1,5 @@
 pub mod RowLemmas
 pub mod ReaderLemmas
 pub mod TouchLemmas
+pub mod DriverLemmas
+pub mod SetAlikeLemmas

@@ -1,3 +1,5 @@
 pub mod Touched
 pub mod Rows
 pub mod Known
+pub mod Drivers
+pub mod SetAlike
