@@ -1,0 +1,10 @@
+pub mod Comparing
+pub mod Meeting
+pub mod Passing
+pub mod Listing
+pub mod Numbering
+pub mod OldRuns
+pub mod Reading
+pub mod First
+pub mod ChangedStimuli
+pub mod Waking
