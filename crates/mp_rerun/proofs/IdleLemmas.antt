@@ -1,0 +1,62 @@
+-- What holds after a unit in which nothing happens.
+use Rattle.std.proofs.Common.{◌≡◌, ℕ, ◌+◌, ◌<◌, List, [], sym, ap, subst, ◌∙◌, arith}
+use Rattle.mp_netlist.specs.Circuit.{Circuit, IsCircuit}
+use Rattle.mp_model.specs.Waves.{level}
+use Rattle.mp_calendar.specs.declared.calendar.Calendar.{Calendar}
+use Rattle.mp_calendar.specs.Calendars.{never, IsCalendar, ComesUp}
+use Rattle.mp_data.specs.declared.level_change.LevelChange.{LevelChange}
+use Rattle.mp_evaluation.specs.Outcomes.{Outcome}
+use Rattle.mp_evaluation.specs.Runs.{IsRun}
+use Rattle.mp_run.specs.Stimuli.{rest_of, left_of}
+use Rattle.mp_work.specs.Revisions.{IsRevision}
+use Rattle.mp_agreement.specs.Reading.{QuietWhereAlike, SleepersReadAlike}
+use Rattle.mp_agreement.specs.Sleeping.{SleepersAgree, SleepersSleepOn}
+use Rattle.mp_agreement.specs.Sources.{WiresAgree}
+use Rattle.mp_excerpt.specs.Numberings.{Numbering}
+use Rattle.mp_excerpt.specs.Setting.{AreSetOutside}
+use Rattle.mp_compare.specs.Comparing.{HasCursors, IsComplete, IsOldRun}
+use Rattle.mp_compare.proofs.OldRunLemmas.{runs_are_old}
+use Rattle.mp_compare.proofs.QuietLemmas.{none_due, cursors_on, complete_on}
+use Rattle.mp_rerun.specs.declared.rerun.Rerun.{Rerun}
+use Rattle.mp_rerun.specs.Idle.{IsQuiet}
+use Rattle.mp_rerun.specs.Joining.{NoneIsApart, HasSet}
+use Rattle.mp_rerun.specs.Reruns.{IsFollowed, IsRerunBy, active_of, on_of}
+use Rattle.mp_rerun.proofs.FindingLemmas.{below_never}
+use Rattle.mp_rerun.proofs.PassingLemmas.{followed_on}
+use Rattle.mp_rerun.proofs.QuietLemmas.{NothingComes, none_after, none_apart, none_outside}
+
+-- where it is quiet nothing comes
+pub nothing_comes : (t : ℕ) (s : Rerun) → ComesUp → t + 1 < never → IsCalendar t [] s.comparison.calendar → IsQuiet (t + 1) s → NothingComes (t + 1) s
+nothing_comes t s up low calendar quiet = record {
+  wires = quiet.still.wires;
+  copies = quiet.still.copies;
+  changes = quiet.still.changes;
+  stimuli = quiet.stimuli;
+  tails = quiet.tails;
+  calendar = none_due t s.comparison up calendar low quiet.calendar;
+}
+
+module _ (old n : Circuit) (old_ok : IsCircuit old) (ok : IsCircuit n) (revised : IsRevision old n) (run : Outcome) (is_run : IsRun old run) (numbering : Numbering) (since : ℕ → ℕ) (t : ℕ)
+    (below : t + 1 < n.horizon) (s : Rerun) (is : IsRerunBy old n run numbering since t s) (nothing : NothingComes (t + 1) s) where
+  low : t + 1 < never
+  low = below_never n ok (t + 1) below
+
+  was : IsOldRun (level old) run (t + 1)
+  was = let same = revised.horizon in runs_are_old old old_ok run is_run (t + 1) (omega (arith, below, same))
+
+  -- no module that sleeps is apart
+  pub quiet_apart : WiresAgree → SleepersReadAlike → QuietWhereAlike → NoneIsApart old n (active_of s) (t + 1)
+  quiet_apart wires readers alike = none_apart old n old_ok ok revised run numbering since t s is nothing low was wires readers alike
+
+  -- nothing is to be set
+  pub quiet_outside : WiresAgree → SleepersAgree → (bits : List ℕ) (levels : List LevelChange) → bits ≡ [] → levels ≡ [] → AreSetOutside n (active_of s) (on_of s) bits levels (t + 1)
+  quiet_outside wires sleepers bits levels no_bits no_levels = none_outside old n old_ok ok revised run numbering since t s is nothing low was wires sleepers bits levels no_bits no_levels
+
+  -- and all else holds one unit later, with a calendar of the same times
+  pub quiet_followed : WiresAgree → SleepersReadAlike → QuietWhereAlike → SleepersSleepOn → (new : Rerun) (k : Calendar) → HasSet s new → new.comparison ≡ record (s.comparison) { calendar = k } →
+      k.times.items ≡ s.comparison.calendar.times.items → IsCalendar (t + 1) [] k → new.stimuli ≡ s.stimuli → new.tails ≡ s.tails → IsFollowed old n run numbering since (t + 1) new
+  quiet_followed wires readers alike sleep_on new k kept comparison times calendar stimuli tails =
+      followed_on old n run numbering since t s new kept sleep_on (quiet_apart wires readers alike)
+      (subst (HasCursors run (t + 1) []) (sym comparison) (cursors_on run t s.comparison k times is.followed.cursors nothing.calendar calendar))
+      (subst (IsComplete run (t + 1)) (sym comparison) (complete_on run t s.comparison k times is.followed.complete))
+      (ap rest_of stimuli ∙ sym (none_after (t + 1) (rest_of s.stimuli) nothing.stimuli)) (ap left_of tails ∙ sym (none_after (t + 1) (left_of s.tails) nothing.tails)) is.followed

@@ -1,0 +1,23 @@
+//! What comes in the next unit.
+ghost use Rattle.mp_rerun.specs.Coming.{IsComing};
+
+use mp_compare::{NewChanges, SetWires};
+use mp_units::NetlistSimulation;
+
+/// What is known ahead of the next unit, and what is set in it.
+pub(crate) fn coming_changes<'a>(
+    simulation: &'a NetlistSimulation,
+    set: &'a SetWires,
+) -> NewChanges<'a>
+    ensures { IsComing simulation.now set.now result }
+{
+    NewChanges {
+        wires: simulation.toggles_ahead(0),
+        copies: simulation.bits.copies.wheel.slot(0),
+        set: set.bits.as_slice(),
+        tails: &[],
+        levels: simulation.levels_ahead(0),
+        set_levels: set.levels.as_slice(),
+        tail_levels: &[],
+    }
+}

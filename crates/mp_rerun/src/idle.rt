@@ -1,0 +1,163 @@
+//! Units in which nothing happens are passed over.
+ghost use Rattle.std.specs.Prelude.{◌≡◌, ℕ, ◌<◌, ◌≤◌, drop};
+ghost use Rattle.mp_netlist.specs.Circuit.{IsCircuit};
+ghost use Rattle.mp_netlist.specs.Delays.{least_delay};
+ghost use Rattle.mp_run.specs.Stimuli.{AreFrom};
+ghost use Rattle.mp_rerun.specs.Idle.{is_due};
+ghost use Rattle.mp_work.specs.Work.{window_of};
+
+use crate::change::Change;
+use crate::rerun::Rerun;
+use mp_agreement::laws::{readers_agree, sleepers_agree, sleepers_rest, wires_agree};
+use mp_calendar::laws::comes_up;
+use mp_excerpt::laws::{
+    excerpts_are_circuits, excerpts_are_simulated, numbers_stay, sets_are_stimuli,
+};
+use mp_netlist::checkpoint_units;
+use mp_run::StimulusChange;
+
+impl Rerun {
+    ghost use Rattle.std.specs.Prelude.{◌≡◌, ◌≢◌, ℕ, ◌+◌, ◌-◌, ◌<◌, ◌≤◌, [], IsTrue};
+    ghost use Rattle.mp_calendar.specs.Calendars.{never, time_of, IsCalendar};
+    ghost use Rattle.mp_run.specs.Stimuli.{rest_of, left_of, AreFrom};
+    ghost use Rattle.mp_units.specs.NetlistSimulations.{IsAtRest};
+    ghost use Rattle.mp_excerpt.specs.Numberings.{Numbering};
+    ghost use Rattle.mp_excerpt.specs.Setting.{AreSetOutside};
+    ghost use Rattle.mp_rerun.specs.Idle.{IsQuiet};
+    ghost use Rattle.mp_rerun.specs.Joining.{NoneIsApart, HasSet};
+    ghost use Rattle.mp_rerun.specs.Reruns.{IsChange, IsRerunAt, IsRerunBy, IsFollowed, active_of, on_of};
+    ghost use Rattle.mp_rerun.specs.Windows.{IsAtWindow};
+    ghost use Rattle.mp_work.specs.Work.{block_of, window_of};
+
+    /// Whether nothing happens in the unit of a time: nothing is known ahead of it, no number comes up, and nothing is set anew.
+    #[inline(always)]
+    pub(crate) fn is_quiet(&self, change: &Change<'_>, time: u32) -> bool
+        requires some { 0 < time }
+        requires is { (latest : ℕ) × IsRerunAt change.now.old.now change.now.new.now change.now.run.now latest (time - 1) self.now }
+        ensures { IsTrue result → IsQuiet time self.now }
+    {
+        self.simulation.is_still()
+            && self.comparison.calendar.is_quiet()
+            && !is_due(self.stimuli.list.as_slice(), self.stimuli.place, time)
+            && !is_due(self.tails.list.as_slice(), self.tails.place, time)
+    }
+
+    /// The unit of a time begins, in which nothing happens.
+    #[inline(always)]
+    pub(crate) fn set_nothing(&mut self, change: &Change<'_>, time: u32)
+        requires change { IsChange change.now }
+        requires some { 0 < time }
+        requires below { time < change.now.new.now.horizon }
+        requires is { (latest : ℕ) × IsRerunAt change.now.old.now change.now.new.now change.now.run.now latest (time - 1) self.old }
+        requires quiet { IsQuiet time self.old }
+        ensures kept { HasSet self.old self.new }
+        ensures none { NoneIsApart change.now.old.now change.now.new.now (active_of self.old) time }
+        ensures followed { (numbering : Numbering) (since : ℕ → ℕ) → IsRerunBy change.now.old.now change.now.new.now change.now.run.now numbering since (time - 1) self.old →
+            IsFollowed change.now.old.now change.now.new.now change.now.run.now numbering since time self.new }
+        ensures set { AreSetOutside change.now.new.now (active_of self.new) (on_of self.new) self.new.set.bits.items self.new.set.levels.items time }
+    {
+        comes_up();
+        wires_agree();
+        readers_agree();
+        sleepers_agree();
+        self.comparison.calendar.skip();
+        self.set.bits.clear();
+        self.set.levels.clear();
+    }
+
+    /// Where no module is active, the last time at which a window begins, or the horizon, and before which, from a time on, nothing happens; else
+    /// that time.
+    pub(crate) fn idle_end(&self, change: &Change<'_>, from: u32) -> u32
+        requires change { IsChange change.now }
+        requires some { 0 < from }
+        requires below { from < change.now.new.now.horizon }
+        requires begins { window_of change.now.new.now from ≡ from }
+        requires before { IsAtWindow change.now.old.now change.now.new.now change.now.run.now (block_of change.now.new.now.horizon (from - 1)) (from - 1) self.now }
+        ensures later { from ≤ result }
+        ensures within { result ≤ change.now.new.now.horizon }
+        ensures begins { result < change.now.new.now.horizon → window_of change.now.new.now result ≡ result }
+        ensures after { IsAtWindow change.now.old.now change.now.new.now change.now.run.now (block_of change.now.new.now.horizon (result - 1)) (result - 1) self.now }
+    {
+        wires_agree();
+        readers_agree();
+        sleepers_agree();
+        sleepers_rest();
+        excerpts_are_circuits();
+        excerpts_are_simulated();
+        sets_are_stimuli();
+        numbers_stay();
+        if !self.is_idle(from) {
+            return from;
+        }
+        let time = self.rest_end(change.new.horizon(), from);
+        last_begin(change, time)
+    }
+
+    /// Whether nobody is active, nothing is under way in the simulation, and nothing is set anew at a time.
+    fn is_idle(&self, time: u32) -> bool
+        ensures nobody { IsTrue result → self.now.history.live.items ≡ [] }
+        ensures rest { IsTrue result → IsAtRest self.now.simulation }
+    {
+        self.history.live().is_empty()
+            && self.simulation.is_at_rest()
+            && !is_due(self.stimuli.list.as_slice(), self.stimuli.place, time)
+            && !is_due(self.tails.list.as_slice(), self.tails.place, time)
+    }
+
+    /// A time up to which nothing is due, from a time on and up to a horizon.
+    fn rest_end(&self, horizon: u32, from: u32) -> u32
+        requires some { 0 < from }
+        requires below { from < horizon }
+        requires calendar { IsCalendar (from - 1) [] self.now.comparison.calendar }
+        requires stimuli { AreFrom from (rest_of self.now.stimuli) }
+        requires tails { AreFrom from (left_of self.now.tails) }
+        ensures later { from ≤ result }
+        ensures within { result ≤ horizon }
+        ensures calendar { IsCalendar (result - 1) [] self.now.comparison.calendar }
+        ensures times { (x : ℕ) → time_of self.now.comparison.calendar x ≢ never → result - 1 < time_of self.now.comparison.calendar x }
+        ensures stimuli { AreFrom result (rest_of self.now.stimuli) }
+        ensures tails { AreFrom result (left_of self.now.tails) }
+    {
+        let first = next_change(self.stimuli.list.as_slice(), self.stimuli.place, horizon);
+        let end = next_change(self.tails.list.as_slice(), self.tails.place, first);
+        from + self.comparison.calendar.slack(from, end - from)
+    }
+}
+
+/// The last time up to one at which a window begins, or the horizon.
+fn last_begin(change: &Change<'_>, time: u32) -> u32
+    requires form { IsCircuit change.now.new.now }
+    requires least { change.now.least ≡ least_delay change.now.new.now }
+    requires within { time ≤ change.now.new.now.horizon }
+    ensures early { result ≤ time }
+    ensures begins { result < change.now.new.now.horizon → window_of change.now.new.now result ≡ result }
+    ensures last { (from : ℕ) → from < change.now.new.now.horizon → from ≤ time → window_of change.now.new.now from ≡ from → from ≤ result }
+{
+    let horizon = change.new.horizon();
+    if time == horizon {
+        return horizon;
+    }
+    time - time % checkpoint_units(horizon) % change.least
+}
+
+/// Whether the change at a place is one of a time.
+#[inline(always)]
+fn is_due(changes: &[StimulusChange], place: usize, time: u32) -> bool
+    ensures { result ≡ is_due time (drop place changes.now) }
+{
+    match changes.get(place) {
+        Some(change) => change.time == time,
+        None => false,
+    }
+}
+
+/// The time of the change at a place, or an end that comes first.
+fn next_change(changes: &[StimulusChange], place: usize, end: u32) -> u32
+    ensures first { result ≤ end }
+    ensures later { (time : ℕ) → AreFrom time (drop place changes.now) → time ≤ end → (time ≤ result) × AreFrom result (drop place changes.now) }
+{
+    match changes.get(place) {
+        Some(change) => end.min(change.time),
+        None => end,
+    }
+}

@@ -1,0 +1,70 @@
+//! The states in which modules become active.
+ghost use Rattle.std.specs.Prelude.{◌≡◌};
+
+use crate::change::Change;
+use crate::rerun::Rerun;
+use crate::tasks::{states_by, tasks_of};
+use mp_history::old_state;
+use mp_modules::Memory;
+use mp_phase::{Crew, Gate};
+use mp_work::block_of;
+use std::alloc::{AllocError, Global};
+use std::sync::Wait;
+use std::thread::Threads;
+
+impl Rerun {
+    ghost use Rattle.std.specs.Prelude.{◌≡◌, ◌<◌, IfOk};
+    ghost use Rattle.mp_phase.specs.Phase.{AreDone};
+    ghost use Rattle.mp_work.specs.Work.{block_of};
+    ghost use Rattle.mp_rerun.specs.Reruns.{IsChange};
+    ghost use Rattle.mp_rerun.specs.Tasks.{AreKept, IsOldState};
+
+    /// The states in the old run, before the unit of a time, of the modules that join. Each passes the gate for all from its block's begin to
+    /// the end of the window. Where the block begins before the unit, modules answer once more up to it, on the threads of the crew where
+    /// they are as many as it shares out.
+    pub(crate) fn joining_states<R: Threads + Wait + Sync, G: Gate + Sync>(
+        &self,
+        rt: &R,
+        alloc: Global,
+        crew: &Crew,
+        gate: &G,
+        change: &Change<'_>,
+        time: u32,
+    ) -> Result<Vec<Memory>, AllocError>
+        requires change { IsChange change.now }
+        requires kept { AreKept change.now.old.now change.now.new.now self.now.activity.joining.items }
+        requires below { time < change.now.new.now.horizon }
+        ensures { IfOk result (λ states. AreDone (IsOldState change.now.old.now time) self.now.activity.joining.items states.items) }
+    {
+        if block_of(change.new.horizon(), time) == time {
+            return self.kept_states(rt, alloc, gate, change, time);
+        }
+        let joining = self.activity.joining.as_slice();
+        let tasks = tasks_of(alloc, change, joining, time, self.window_end)?;
+        states_by(rt, alloc, crew, gate, tasks)
+    }
+
+    /// The states that the old run kept of the modules that join, where a block begins with the unit.
+    fn kept_states<R: Wait, G: Gate>(
+        &self,
+        rt: &R,
+        alloc: Global,
+        gate: &G,
+        change: &Change<'_>,
+        time: u32,
+    ) -> Result<Vec<Memory>, AllocError>
+        requires change { IsChange change.now }
+        requires kept { AreKept change.now.old.now change.now.new.now self.now.activity.joining.items }
+        requires below { time < change.now.new.now.horizon }
+        requires begins { block_of change.now.new.now.horizon time ≡ time }
+        ensures { IfOk result (λ states. AreDone (IsOldState change.now.old.now time) self.now.activity.joining.items states.items) }
+    {
+        let mut states = Vec::with_capacity(alloc, self.activity.joining.len())?;
+        for place in 0..self.activity.joining.len() {
+            let id = self.activity.joining[place];
+            gate.enter(rt, id, time, self.window_end);
+            states.push(old_state(change.run, id, time))?;
+        }
+        Ok(states)
+    }
+}

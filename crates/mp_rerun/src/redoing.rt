@@ -1,0 +1,53 @@
+//! What has changed with a netlist is evaluated again.
+ghost use Rattle.std.specs.Prelude.{◌≡◌, IfOk};
+ghost use Rattle.mp_evaluation.specs.Runs.{IsRun};
+ghost use Rattle.mp_work.specs.Revisions.{IsRevision};
+ghost use Rattle.mp_work.specs.Work.{IsWork};
+
+use crate::change::Change;
+use crate::rerun::Rerun;
+use mp_evaluation::Run;
+use mp_netlist::Netlist;
+use mp_phase::{Crew, Gate};
+use mp_work::Work;
+use std::alloc::{AllocError, Global};
+use std::sync::Wait;
+use std::thread::Threads;
+
+/// The run of a netlist that was made of another, by the run of that one; and what of it was evaluated. One simulation of the new netlist has
+/// just the active modules: those that the change touches from time 0 on, and any other from the unit on in which one of its inputs first
+/// differs from the old run. At the border of a block an untouched module whose state is that of the old run again becomes inactive. A module
+/// passes the gate for each entry of the work. Modules that become active in the same unit answer once more from their block's begin up to
+/// it on the threads of the crew, where they are as many as it shares out. The calling thread does all else. Where memory runs out, the old
+/// run stays.
+pub fn redo<R: Threads + Wait + Sync, G: Gate + Sync>(
+    rt: &R,
+    alloc: Global,
+    old: &Netlist,
+    run: &Run,
+    new: &Netlist,
+    crew: &Crew,
+    gate: &G,
+) -> Result<(Run, Work), AllocError>
+    requires revision { IsRevision old.now new.now }
+    requires run { IsRun old.now run.now }
+    ensures run { IfOk result (λ both. IsRun new.now both.0) }
+    ensures work { IfOk result (λ both. IsWork old.now new.now both.1) }
+{
+    // Their contracts tell that the netlists are well formed.
+    let _old_horizon = old.horizon();
+    let _new_horizon = new.horizon();
+    let least = new.least_delay();
+    let change = Change {
+        old,
+        run,
+        new,
+        least,
+    };
+    let mut rerun = Rerun::begin(alloc, &change)?;
+    for id in rerun.history.live() {
+        gate.enter(rt, *id, 0, rerun.window_end);
+    }
+    let end = rerun.pass_all(rt, alloc, crew, gate, &change)?;
+    rerun.finish(alloc, &change, end)
+}

@@ -1,0 +1,88 @@
+//! Tasks of modules that become active within a block.
+ghost use Rattle.std.specs.Prelude.{◌≡◌, ◌<◌, IfOk};
+ghost use Rattle.mp_phase.specs.Phase.{AreDone};
+ghost use Rattle.mp_work.specs.Revisions.{IsKept};
+ghost use Rattle.mp_work.specs.Work.{block_of};
+ghost use Rattle.mp_rerun.specs.Reruns.{IsChange};
+ghost use Rattle.mp_rerun.specs.Tasks.{AreKept, IsDone, IsTaskOf};
+ghost use Rattle.mp_records.specs.declared.module_record.ModuleRecord.{ModuleRecord as Part};
+
+use crate::change::Change;
+use crate::join::Join;
+use crate::old_state::old_pieces;
+use mp_history::old_state;
+use mp_model::built;
+use mp_modules::Memory;
+use mp_netlist::ModuleId;
+use mp_phase::{Crew, Gate, run_here};
+use mp_work::block_of;
+use std::alloc::{AllocError, Global};
+use std::sync::Wait;
+use std::thread::Threads;
+
+/// The task of a module: what it did in the old run from its block's begin to before a time.
+fn task_of(
+    alloc: Global,
+    change: &Change<'_>,
+    id: ModuleId,
+    time: u32,
+    window_end: u32,
+) -> Result<Join, AllocError>
+    requires change { IsChange change.now }
+    requires kept { (r : Part) × IsKept change.now.old.now change.now.new.now id.0 r }
+    requires below { time < change.now.new.now.horizon }
+    requires within { block_of change.now.new.now.horizon time < time }
+    ensures { IfOk result (λ join. IsTaskOf change.now.old.now time id join) }
+{
+    let Some(found) = change.new.module(id) else {
+        unreachable!()
+    };
+    let block = block_of(change.new.horizon(), time);
+    let inputs = old_pieces(alloc, change.run, found.inputs.as_slice(), block, time)?;
+    Ok(Join {
+        module: id,
+        part: built(change.new, found),
+        memory: old_state(change.run, id, block),
+        inputs,
+        from: block,
+        to: time,
+        window_end,
+    })
+}
+
+/// A task for each of the listed modules.
+pub(crate) fn tasks_of(
+    alloc: Global,
+    change: &Change<'_>,
+    joining: &[ModuleId],
+    time: u32,
+    window_end: u32,
+) -> Result<Vec<Join>, AllocError>
+    requires change { IsChange change.now }
+    requires kept { AreKept change.now.old.now change.now.new.now joining.now }
+    requires below { time < change.now.new.now.horizon }
+    requires within { block_of change.now.new.now.horizon time < time }
+    ensures { IfOk result (λ tasks. AreDone (IsTaskOf change.now.old.now time) joining.now tasks.items) }
+{
+    let mut tasks = Vec::with_capacity(alloc, joining.len())?;
+    for id in joining {
+        tasks.push(task_of(alloc, change, *id, time, window_end)?)?;
+    }
+    Ok(tasks)
+}
+
+/// The states to which the tasks come: on the threads of the crew where there are as many as it shares out, and else on the calling thread.
+pub(crate) fn states_by<R: Threads + Wait + Sync, G: Gate + Sync>(
+    rt: &R,
+    alloc: Global,
+    crew: &Crew,
+    gate: &G,
+    tasks: Vec<Join>,
+) -> Result<Vec<Memory>, AllocError>
+    ensures { IfOk result (λ states. AreDone IsDone tasks.items states.items) }
+{
+    if tasks.len() < crew.least() as usize {
+        return run_here(rt, alloc, gate, tasks);
+    }
+    crew.run(rt, alloc, gate, tasks)
+}

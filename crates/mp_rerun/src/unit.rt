@@ -1,0 +1,79 @@
+//! A unit of a netlist that is evaluated again.
+ghost use Rattle.std.specs.Prelude.{◌≡◌};
+
+use crate::change::Change;
+use crate::rerun::Rerun;
+use mp_phase::{Crew, Gate};
+use std::alloc::{AllocError, Global};
+use std::sync::Wait;
+use std::thread::Threads;
+
+impl Rerun {
+    ghost use Rattle.std.specs.Prelude.{◌≡◌, ℕ, ◌+◌, ◌-◌, ◌<◌, ◌^◌, OnOk};
+    ghost use Rattle.mp_netlist.specs.Circuit.{Circuit, IsCircuit};
+    ghost use Rattle.mp_units.specs.NetlistSimulations.{IsSimulated, AreStimuli, CanPass, HasKeptNumbers};
+    ghost use Rattle.mp_rerun.specs.Idle.{IsQuiet};
+    ghost use Rattle.mp_rerun.specs.Reruns.{IsChange};
+    ghost use Rattle.mp_rerun.specs.Windows.{IsUnderWay};
+
+    /// Goes through the unit of a time, which lies in the present window: modules become active that hear something else than in the old run,
+    /// wires change that no active module drives, and active modules answer.
+    pub(crate) fn pass_unit<R: Threads + Wait + Sync, G: Gate + Sync>(
+        &mut self,
+        rt: &R,
+        alloc: Global,
+        crew: &Crew,
+        gate: &G,
+        change: &Change<'_>,
+        time: u32,
+    ) -> Result<(), AllocError>
+        requires change { IsChange change.now }
+        requires some { 0 < time }
+        requires below { time < change.now.new.now.horizon }
+        requires within { time < self.old.window_end }
+        requires before { IsUnderWay change.now.old.now change.now.new.now change.now.run.now (time - 1) self.old }
+        ensures end { OnOk result (self.new.window_end ≡ self.old.window_end) }
+        ensures after { OnOk result (IsUnderWay change.now.old.now change.now.new.now change.now.run.now time self.new) }
+    {
+        if self.is_quiet(change, time) {
+            self.pass_quiet(change, time)?;
+            return Ok(());
+        }
+        self.find_joining(change, time)?;
+        self.activate_all(rt, alloc, crew, gate, change, time)?;
+        self.set_wires(change, time)?;
+        self.run_unit(time)?;
+        Ok(())
+    }
+
+    /// Goes through the unit of a time in which nothing happens.
+    fn pass_quiet(&mut self, change: &Change<'_>, time: u32) -> Result<(), AllocError>
+        requires change { IsChange change.now }
+        requires some { 0 < time }
+        requires below { time < change.now.new.now.horizon }
+        requires within { time < self.old.window_end }
+        requires quiet { IsQuiet time self.old }
+        requires before { IsUnderWay change.now.old.now change.now.new.now change.now.run.now (time - 1) self.old }
+        ensures end { OnOk result (self.new.window_end ≡ self.old.window_end) }
+        ensures after { OnOk result (IsUnderWay change.now.old.now change.now.new.now change.now.run.now time self.new) }
+    {
+        self.set_nothing(change, time);
+        self.run_unit(time)?;
+        Ok(())
+    }
+
+    /// What is set changes in the unit of a time, and active modules answer.
+    fn run_unit(&mut self, time: u32) -> Result<(), AllocError>
+        requires fit { CanPass self.old.set.bits.items self.old.set.levels.items time self.old.simulation }
+        requires low { time < 2 ^ 32 - 1 }
+        ensures kept { OnOk result (self.new ≡ record self.old { simulation = self.new.simulation }) }
+        ensures numbers { OnOk result (HasKeptNumbers self.old.simulation self.new.simulation) }
+        ensures simulated { OnOk result ((n : Circuit) (t : ℕ) → IsCircuit n → time ≡ t + 1 → IsSimulated n t self.old.simulation →
+            AreStimuli n self.old.set.bits.items self.old.set.levels.items time → IsSimulated n (t + 1) self.new.simulation) }
+    {
+        self.simulation
+            .apply(self.set.bits.as_slice(), self.set.levels.as_slice(), time)?;
+        self.simulation.fire()?;
+        Ok(())
+    }
+}
