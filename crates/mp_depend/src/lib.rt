@@ -1,15 +1,10 @@
-//! What depends on an edit: which modules it touches, who reads each wire, and from where a module can be evaluated again.
+//! What depends on an edit: which modules it touches, what drives each wire, and on which wires the same is set as before.
 #![tactic(auto)]
 
 mod drivers;
-mod readers;
-mod records;
-mod row;
 mod set_alike;
 mod touch;
 
 pub use drivers::drivers_of;
-pub use readers::Readers;
-pub use records::Records;
 pub use set_alike::is_set_alike;
 pub use touch::touched;

@@ -9,4 +9,4 @@ mod states;
 
 pub use finished::Finished;
 pub use history::History;
-pub use states::{old_state, start_of};
+pub use states::old_state;

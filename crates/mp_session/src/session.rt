@@ -6,7 +6,7 @@ use mp_engine::evaluate;
 use mp_evaluation::Run;
 use mp_netlist::{Edit, EditError, Netlist};
 use mp_phase::{Crew, Gate};
-use mp_redo::redo;
+use mp_rerun::redo;
 use mp_version::{MAX_EDITS, Version};
 use mp_work::Work;
 use mp_work::laws::edits_revise;
@@ -16,8 +16,7 @@ use std::sync::{Arc, Wait};
 use std::thread::Threads;
 
 /// A netlist and the edits that were accepted on it: its present version with its run, a crew, and the gate that modules pass. The first run
-/// is computed on the threads of the crew. An edit's run is computed from the run before it, on the calling thread; only modules that the edit
-/// doesn't touch and that join in the same unit, since they hear anything new there, answer up to it on the threads of the crew.
+/// is computed on the threads of the crew. An edit's run is computed from the run before it, on the calling thread alone.
 #[derive(Drop)]
 pub struct Session<G: Gate> {
     alloc: Global,
@@ -95,7 +94,7 @@ impl<G: Gate> Session<G> {
 
     /// Judges the edit after the session's edits, and makes all that its commit needs. It is refused for the first check that it fails;
     /// else as `HistoryFull` after `MAX_EDITS` edits; else for want of memory, which for a batch of 1 to 256 edits may come in place of the
-    /// others. It may wait, as a gate and a crew may.
+    /// others. It may wait, as a gate may.
     pub fn prepare<R: Threads + Wait + Sync>(
         &self,
         rt: &R,

@@ -1,8 +1,0 @@
-use Rattle.std.proofs.Common.{take}
-use Rattle.mp_phase.specs.Phase.{AreDone}
-use Rattle.mp_redo.specs.Tasks.{IsTaskOf}
-use Rattle.mp_redo.proofs.tasks.tasks_of.Given as goal
-
--- a task for each so far
-abbrev pub invariant-loop-id : goal.invariant-loop-id
-invariant-loop-id l = AreDone (IsTaskOf l.change.new.now l.change.run.now l.block l.to) (take l.id-index l.joining) l.tasks.items
