@@ -98,7 +98,7 @@ module _ (old new : Circuit) (old_ok : IsCircuit old) (new_ok : IsCircuit new) (
 
     pub crossed : (history : History) → IsHistory old new run (λ m. time) time (active_of now) history → IsAtWindow old new run time (time - 1) (record now { history = history })
     crossed history kept = record {
-      is = rerun_renewed old new run time time (time - 1) now now.activity.joined history now.window_end (omega arith) is;
+      is = rerun_renewed old new run time time (time - 1) now now.activity.joined history now.window_end now.look_at (omega arith) is;
       unseen = λ x. subst (λ (k : ℕ). k < time - 1 + 1) (sym (ap (λ v. slice_index_or v.items x 0) left.seen)) (seen x);
       touched = subst (λ (marks : List Bool). AreTouched old new marks) (sym (ap (λ (x : Rerun). x.activity.touched.items) left.kept)) touched;
       none = ap (λ (x : Rerun). x.activity.joined.items) left.kept ∙ none;

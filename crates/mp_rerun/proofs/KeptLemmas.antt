@@ -93,13 +93,13 @@ followed_on old new run numbering since t s simulation kept is = record {
   stimuli = is.stimuli;
 }
 
--- a re-evaluation with another history, other modules that have joined, and another end of the window
-abbrev pub renewed : Rerun → Vec ModuleId Global → History → ℕ → Rerun
-renewed s joined history end = record s { activity = record (s.activity) { joined = joined }; history = history; window_end = end }
+-- a re-evaluation with another history, other modules that have joined, another end of the window, and another time at which to look ahead
+abbrev pub renewed : Rerun → Vec ModuleId Global → History → ℕ → ℕ → Rerun
+renewed s joined history end look = record s { activity = record (s.activity) { joined = joined }; history = history; window_end = end; look_at = look }
 
-pub rerun_renewed : (old new : Circuit) (run : Outcome) (latest later t : ℕ) (s : Rerun) (joined : Vec ModuleId Global) (history : History) (end : ℕ) → latest ≤ later → IsRerunAt old new run latest t s
-    → IsRerunAt old new run later t (renewed s joined history end)
-rerun_renewed old new run latest later t s joined history end le is = record {
+pub rerun_renewed : (old new : Circuit) (run : Outcome) (latest later t : ℕ) (s : Rerun) (joined : Vec ModuleId Global) (history : History) (end look : ℕ) → latest ≤ later → IsRerunAt old new run latest t s
+    → IsRerunAt old new run later t (renewed s joined history end look)
+rerun_renewed old new run latest later t s joined history end look le is = record {
   numbering = is.numbering;
   since = is.since;
   is = record {

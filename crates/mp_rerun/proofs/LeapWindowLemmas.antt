@@ -10,8 +10,20 @@ use Rattle.mp_history.specs.Live.{AreAtWork}
 use Rattle.mp_rerun.specs.declared.rerun.Rerun.{Rerun}
 use Rattle.mp_rerun.specs.Reruns.{IsRerunBy, active_of}
 use Rattle.mp_rerun.specs.Windows.{IsAtWindow}
+use Rattle.mp_rerun.proofs.KeptLemmas.{rerun_renewed}
 use Rattle.mp_rerun.proofs.LeapLemmas.{LeapLaws, CanLeap, units_to, nobody_works, not_live}
 use Rattle.mp_rerun.proofs.LeapHistoryLemmas.{block_later, history_on}
+
+-- when it is looked ahead again doesn't matter
+pub look_later : (old n : Circuit) (run : Outcome) (c t look : ℕ) (s : Rerun) → IsAtWindow old n run c t s → IsAtWindow old n run c t (record s { look_at = look })
+look_later old n run c t look s at = record {
+  is = rerun_renewed old n run c c t s s.activity.joined s.history s.window_end look (omega arith) at.is;
+  unseen = at.unseen;
+  touched = at.touched;
+  none = at.none;
+  work = at.work;
+  history = at.history;
+}
 
 module _ (old n : Circuit) (old_ok : IsCircuit old) (ok : IsCircuit n) (revised : IsRevision old n) (run : Outcome) (is_run : IsRun old run) (laws : LeapLaws)
     (from time to : ℕ) (some : 0 < from) (later : from ≤ to) (soon : to ≤ time) (within : time ≤ n.horizon) (s : Rerun) (can : CanLeap time s) (nobody : s.history.live.items ≡ [])

@@ -141,9 +141,9 @@ module _ (old new : Circuit) (old_ok : IsCircuit old) (new_ok : IsCircuit new) (
     }
 
     pub window_over : (joined : Vec ModuleId Global) (history : History) → joined.items ≡ [] → IsHistory old new run (λ m. block_of new.horizon from) (t + 1) (active_of s) history
-        → IsAtWindow old new run (block_of new.horizon from) t (renewed s joined history s.window_end)
+        → IsAtWindow old new run (block_of new.horizon from) t (renewed s joined history s.window_end s.look_at)
     window_over joined history none kept = record {
-      is = rerun_renewed old new run (block_of new.horizon from) (block_of new.horizon from) t s joined history s.window_end (omega arith) is.is;
+      is = rerun_renewed old new run (block_of new.horizon from) (block_of new.horizon from) t s joined history s.window_end s.look_at (omega arith) is.is;
       unseen = is.unseen;
       touched = is.touched;
       none = none;
@@ -156,9 +156,9 @@ module _ (old new : Circuit) (old_ok : IsCircuit old) (new_ok : IsCircuit new) (
       → (ids : List ModuleId) → ids ≡ s.activity.joined.items → (history : History)
       → ((first : Circuit) (start : ℕ) (live now : ℕ → Bool) → JoinInWindow first new block start time ids live now → IsHistory first new run (λ m. block) start live s.history
       → IsHistory first new run (λ m. block) time now history)
-      → (joined : Vec ModuleId Global) → joined.items ≡ [] → IsAtWindow old new run (block_of new.horizon (time - 1)) (time - 1) (renewed s joined history s.window_end)
+      → (joined : Vec ModuleId Global) → joined.items ≡ [] → IsAtWindow old new run (block_of new.horizon (time - 1)) (time - 1) (renewed s joined history s.window_end s.look_at)
   window_ends from time s is some ends block value ids all history opens joined none =
-      subst (λ (b : ℕ). IsAtWindow old new run b (time - 1) (renewed s joined history s.window_end)) (sym here) (window_over from (time - 1) s is joined history none kept)
+      subst (λ (b : ℕ). IsAtWindow old new run b (time - 1) (renewed s joined history s.window_end s.look_at)) (sym here) (window_over from (time - 1) s is joined history none kept)
     where
       next : time - 1 + 1 ≡ time
       next = omega (arith, some)
@@ -188,7 +188,7 @@ module _ (old new : Circuit) (old_ok : IsCircuit old) (new_ok : IsCircuit new) (
   pub window_begun : (time end : ℕ) (s : Rerun) → 0 < time → time < new.horizon → window_of new time ≡ time → end ≡ window_end new time → IsAtWindow old new run (block_of new.horizon time) (time - 1) s
       → IsInWindow old new run time (time - 1) (record s { window_end = end })
   window_begun time end s some below begins ends is = record {
-    is = rerun_renewed old new run (block_of new.horizon time) (block_of new.horizon time) (time - 1) s s.activity.joined s.history end (omega arith) is.is;
+    is = rerun_renewed old new run (block_of new.horizon time) (block_of new.horizon time) (time - 1) s s.activity.joined s.history end s.look_at (omega arith) is.is;
     unseen = is.unseen;
     touched = is.touched;
     window = window;

@@ -16,6 +16,9 @@ use mp_excerpt::laws::{
 use mp_netlist::checkpoint_units;
 use mp_run::StimulusChange;
 
+/// How many units pass before it is worth looking ahead again.
+const LOOK_UNITS: u32 = 1024;
+
 impl Rerun {
     ghost use Rattle.std.specs.Prelude.{◌≡◌, ◌≢◌, ℕ, ◌+◌, ◌-◌, ◌<◌, ◌≤◌, [], IsTrue};
     ghost use Rattle.mp_calendar.specs.Calendars.{never, time_of, IsCalendar};
@@ -66,17 +69,17 @@ impl Rerun {
     }
 
     /// Where no module is active, the last time at which a window begins, or the horizon, and before which, from a time on, nothing happens; else
-    /// that time.
-    pub(crate) fn idle_end(&self, change: &Change<'_>, from: u32) -> u32
+    /// that time. As all slots of the calendar are looked at, it isn't done at each window.
+    pub(crate) fn idle_end(&mut self, change: &Change<'_>, from: u32) -> u32
         requires change { IsChange change.now }
         requires some { 0 < from }
         requires below { from < change.now.new.now.horizon }
         requires begins { window_of change.now.new.now from ≡ from }
-        requires before { IsAtWindow change.now.old.now change.now.new.now change.now.run.now (block_of change.now.new.now.horizon (from - 1)) (from - 1) self.now }
+        requires before { IsAtWindow change.now.old.now change.now.new.now change.now.run.now (block_of change.now.new.now.horizon (from - 1)) (from - 1) self.old }
         ensures later { from ≤ result }
         ensures within { result ≤ change.now.new.now.horizon }
         ensures begins { result < change.now.new.now.horizon → window_of change.now.new.now result ≡ result }
-        ensures after { IsAtWindow change.now.old.now change.now.new.now change.now.run.now (block_of change.now.new.now.horizon (result - 1)) (result - 1) self.now }
+        ensures after { IsAtWindow change.now.old.now change.now.new.now change.now.run.now (block_of change.now.new.now.horizon (result - 1)) (result - 1) self.new }
     {
         wires_agree();
         readers_agree();
@@ -89,16 +92,18 @@ impl Rerun {
         if !self.is_idle(from) {
             return from;
         }
+        self.look_at = from.saturating_add(LOOK_UNITS);
         let time = self.rest_end(change.new.horizon(), from);
         last_begin(change, time)
     }
 
-    /// Whether nobody is active, nothing is under way in the simulation, and nothing is set anew at a time.
+    /// Whether it is worth looking ahead at a time, nobody is active, nothing is under way in the simulation, and nothing is set anew then.
     fn is_idle(&self, time: u32) -> bool
         ensures nobody { IsTrue result → self.now.history.live.items ≡ [] }
         ensures rest { IsTrue result → IsAtRest self.now.simulation }
     {
-        self.history.live().is_empty()
+        self.look_at <= time
+            && self.history.live().is_empty()
             && self.simulation.is_at_rest()
             && !is_due(self.stimuli.list.as_slice(), self.stimuli.place, time)
             && !is_due(self.tails.list.as_slice(), self.tails.place, time)

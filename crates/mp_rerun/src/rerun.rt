@@ -9,7 +9,8 @@ use mp_units::NetlistSimulation;
 
 /// The simulation of the new netlist, in which the modules that aren't active sleep; what is compared with the old run; the numbers that each
 /// module's inputs read, by port; what changed stimuli set; the tails of wires: the changes to come which modules decided before they fell
-/// asleep; which modules are active; what is kept on the way; what is set in the present unit; and where the present window ends.
+/// asleep; which modules are active; what is kept on the way; what is set in the present unit; where the present window ends; and from when on
+/// it is worth looking ahead.
 #[derive(Drop)]
 pub(crate) struct Rerun {
     pub simulation: NetlistSimulation,
@@ -21,4 +22,5 @@ pub(crate) struct Rerun {
     pub history: History,
     pub set: SetWires,
     pub window_end: u32,
+    pub look_at: u32,
 }

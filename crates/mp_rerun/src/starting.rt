@@ -56,6 +56,7 @@ impl Rerun {
                 levels: Vec::new(alloc),
             },
             window_end: window_end(change.least, new.horizon(), 0),
+            look_at: 0,
         })
     }
 }

@@ -50,6 +50,7 @@ returns c =
       history = c.in_ok-history.history;
       set = record { bits = c.new-2.result; levels = c.new-3.result };
       window_end = c.window_end.result;
+      look_at = 0;
     } in
     let marks : c.as_slice-marks.result.now ≡ active = c.as_slice-marks.ensures.value ∙ sym c.in_ok-activity.ensures.active in
     let touched : AreTouched old new active = subst (AreTouched old new) (sym c.in_ok-activity.ensures.active) c.in_ok-touches.ensures in

@@ -21,7 +21,7 @@ find_leaving-requires-clause-is c =
     let block = block_of new.horizon (c.args.time - 1) in (
       block,
       subst (λ (x : Rerun). IsRerunAt change.old.now new change.run.now block (c.args.time - 1) x) (sym c.in_ok-keep_states.ensures.kept)
-          (rerun_renewed change.old.now new change.run.now block block (c.args.time - 1) s s.activity.joined now.history s.window_end (omega arith) c.requires.before.is),
+          (rerun_renewed change.old.now new change.run.now block block (c.args.time - 1) s s.activity.joined now.history s.window_end s.look_at (omega arith) c.requires.before.is),
     )
 
 pub find_leaving-requires-clause-touched : goal.find_leaving-requires-clause-touched
@@ -40,7 +40,7 @@ put_to_sleep-requires-clause-is c =
       block,
       omega (arith, some),
       subst (λ (x : Rerun). IsRerunAt change.old.now new change.run.now block (c.args.time - 1) x) (sym c.in_ok-keep_states.ensures.kept)
-          (rerun_renewed change.old.now new change.run.now block block (c.args.time - 1) s s.activity.joined now.history s.window_end (omega arith) c.requires.before.is),
+          (rerun_renewed change.old.now new change.run.now block block (c.args.time - 1) s s.activity.joined now.history s.window_end s.look_at (omega arith) c.requires.before.is),
     )
 
 pub put_to_sleep-requires-clause-can : goal.put_to_sleep-requires-clause-can
@@ -73,7 +73,7 @@ returns-then-is_empty c =
     let none : vec_len found ≡ 0 = eqb-true (vec_len found) 0 (sym c.is_empty.ensures ∙ c.if-is_empty.true) in
     let told : IsHistory old new run (λ m. time) time (active_of now) now.history = subst (λ (x : Rerun). IsHistory old new run (λ m. time) time (active_of x) now.history) (sym kept) c.in_ok-keep_states.ensures.history in
     let is : IsRerunAt old new run time (time - 1) now = subst (λ (x : Rerun). IsRerunAt old new run time (time - 1) x) (sym kept)
-    (rerun_renewed old new run block time (time - 1) s s.activity.joined now.history s.window_end (omega (arith, some)) before.is) in
+    (rerun_renewed old new run block time (time - 1) s s.activity.joined now.history s.window_end s.look_at (omega (arith, some)) before.is) in
     crossed old new ok.old_form ok.form ok.revision run ok.run time c.requires.border some c.requires.below now
     (subst (λ (x : Rerun). AreTouched old new x.activity.touched.items) (sym kept) before.touched)
     (ap (λ (x : Rerun). x.activity.joined.items) kept ∙ before.none)

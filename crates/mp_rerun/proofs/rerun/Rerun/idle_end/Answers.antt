@@ -1,6 +1,7 @@
-use Rattle.std.proofs.Common.{◌≤◌, refl, subst}
+use Rattle.std.proofs.Common.{◌≤◌, ◌-◌, refl, subst}
+use Rattle.mp_work.specs.Work.{block_of}
 use Rattle.mp_rerun.proofs.LeapLemmas.{LeapLaws, CanLeap}
-use Rattle.mp_rerun.proofs.LeapWindowLemmas.{leaps}
+use Rattle.mp_rerun.proofs.LeapWindowLemmas.{leaps, look_later}
 use Rattle.mp_rerun.proofs.rerun.Rerun.idle_end.Goals as goal
 
 pub returns-clause-after : goal.returns-clause-after
@@ -26,6 +27,11 @@ returns-clause-after c =
       times = c.rest_end-time.ensures.times;
     } in
     let within : c.rest_end-time.result ≤ c.args.change.now.new.now.horizon = subst (λ h. c.rest_end-time.result ≤ h) c.horizon.ensures.value c.rest_end-time.ensures.within in
-    leaps c.args.change.now.old.now c.args.change.now.new.now change.old_form change.form change.revision c.args.change.now.run.now change.run laws
-    c.args.from c.rest_end-time.result c.last_begin.result c.requires.some (c.last_begin.ensures.last c.args.from c.requires.below c.rest_end-time.ensures.later c.requires.begins) c.last_begin.ensures.early
-    within c.args.self.now can (c.if-not-is_idle.ensures.nobody refl) c.requires.before c.requires.begins c.last_begin.ensures.begins
+    let old = c.args.change.now.old.now in
+    let new = c.args.change.now.new.now in
+    let run = c.args.change.now.run.now in
+    let end = c.last_begin.result in
+    look_later old new run (block_of new.horizon (end - 1)) (end - 1) c.saturating_add-self.result c.args.self.now
+    (leaps old new change.old_form change.form change.revision run change.run laws
+    c.args.from c.rest_end-time.result end c.requires.some (c.last_begin.ensures.last c.args.from c.requires.below c.rest_end-time.ensures.later c.requires.begins) c.last_begin.ensures.early
+    within c.args.self.now can (c.if-not-is_idle.ensures.nobody refl) c.requires.before c.requires.begins c.last_begin.ensures.begins)
