@@ -26,16 +26,20 @@ use Rattle.mp_agreement.specs.Sources.{slept_from, SleepersDriveAlike, WiresAgre
 use Rattle.mp_agreement.proofs.SleepingLemmas.{sleepers_agree}
 
 -- a wire at an output stands
-output_stands : (n : Circuit) → IsCircuit n → (m p w : ℕ) → Drives n m p w → IsSome (wire_at n w)
+pub output_stands : (n : Circuit) → IsCircuit n → (m p w : ℕ) → Drives n m p w → IsSome (wire_at n w)
 output_stands n ok m p w drives =
     let r = drives.part in
     let all : IfSome (output_at r p).wire (λ v. HasWidth n v.0 (output_width r.kind (module_width n r) p)) = (ok.modules_ok m r drives.stands).drives p in
     (subst (λ (x : Option WireId). IfSome x (λ v. HasWidth n v.0 (output_width r.kind (module_width n r) p))) drives.output all).0
 
+-- in the netlist before, the port of a module that has the same record drives the same wire
+pub drove : (old new : Circuit) (m p w : ℕ) → module_at old m ≡ module_at new m → Drives new m p w → Drives old m p w
+drove old new m p w same drives = record { part = drives.part; stands = same ∙ drives.stands; output = drives.output }
+
 -- a wire at a port of a module that has the same record is driven alike
 driven_alike : (old new : Circuit) → IsCircuit old → IsCircuit new → (m p w : ℕ) → Drives new m p w → module_at old m ≡ module_at new m → IsDrivenAlike old new w
 driven_alike old new old_ok new_ok m p w drives same =
-    let was : Drives old m p w = record { part = drives.part; stands = same ∙ drives.stands; output = drives.output } in
+    let was = drove old new m p w same drives in
     let before = finds_ports old old_ok m p w was in
     let after = finds_ports new new_ok m p w drives in
     record {
@@ -48,8 +52,15 @@ driven_alike old new old_ok new_ok m p w drives same =
           subst (λ (j : ModuleId). module_at old j.0 ≡ module_at new j.0) (sym e) same;
     }
 
--- what is there its delay after a module fell asleep was put out when that slept
-slept : (since delay u : ℕ) → slept_from since delay ≤ u + delay → since ≤ u + 1
+pub slept_low : (t since delay : ℕ) → since ≤ t + 1 → slept_from since delay ≤ t + 1 + delay
+slept_low t since delay begun = by (since == 0)
+  where
+    by : (b : Bool) → cond b 0 (since + delay) ≤ t + 1 + delay
+    by true = omega arith
+    by false = omega (arith, begun)
+
+-- what is there its delay and a unit after was put out when the module slept, or right before
+slept : (since delay u : ℕ) → slept_from since delay ≤ u + delay + 1 → since ≤ u + 1
 slept since delay u from = by (since == 0) refl
   where
     by : (b : Bool) → (since == 0) ≡ b → since ≤ u + 1
@@ -106,7 +117,7 @@ wires_agree old new old_ok new_ok revised active since until t below asleep sour
     driven m p drives false sleeps =
         let found = finds_only_ports new w p m drives in
         let positive = late new found.part p (new_ok.modules_ok m.0 found.part found.stands) in
-        sleepers_drive_alike old new old_ok new_ok revised active since until t asleep sources w p m found.part drives sleeps found.stands u from (omega (arith, within, positive))
+        sleepers_drive_alike old new old_ok new_ok revised active since until t asleep sources w p m found.part drives sleeps found.stands u (omega (arith, from)) (omega (arith, within, positive))
 
     by : (d : Driver) → driver new w ≡ d → level old w u ≡ level new w u
     by Nothing is = free (ap is_port is)

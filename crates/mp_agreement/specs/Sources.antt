@@ -26,13 +26,13 @@ pub record AreSources (old new : Circuit) (active : ℕ → Bool) (since until :
   pub asleep : (w p : ℕ) (m : ModuleId) (r : ModuleRecord) → driver new w ≡ Port m p → active m.0 ≡ false → module_at new m.0 ≡ Some r → until w ≡ slept_from (since m.0) (delay_of r p)
   pub others : (w : ℕ) → is_port (driver new w) ≡ false → (until w ≡ never) ⊎ ((until w ≡ 0) × IsAsBefore old new w)
 
--- after the unit t, the wire of a sleeping module has the levels of the old run from that time on, as far as they rest on states up to t
+-- after the unit t, the wire of a sleeping module has the levels of the old run from right before that time on, as far as they rest on states up to t
 abbrev pub SleepersDriveAlike : Type 0
 SleepersDriveAlike = (old new : Circuit) → IsCircuit old → IsCircuit new → IsRevision old new → (active : ℕ → Bool) (since until : ℕ → ℕ) (t : ℕ) →
     AreSleeping old new active since t → AreSources old new active since until → (w p : ℕ) (m : ModuleId) (r : ModuleRecord) → driver new w ≡ Port m p → active m.0 ≡ false → module_at new m.0 ≡ Some r →
-    (u : ℕ) → until w ≤ u → u ≤ t + delay_of r p → level old w u ≡ level new w u
+    (u : ℕ) → until w ≤ u + 1 → u ≤ t + delay_of r p → level old w u ≡ level new w u
 
--- so has any wire, up to the next unit
+-- from that time on so has any wire, up to the next unit
 abbrev pub WiresAgree : Type 0
 WiresAgree = (old new : Circuit) → IsCircuit old → IsCircuit new → IsRevision old new → (active : ℕ → Bool) (since until : ℕ → ℕ) (t : ℕ) → t + 1 < never →
     AreSleeping old new active since t → AreSources old new active since until → (w u : ℕ) → until w ≤ u → u ≤ t + 1 → level old w u ≡ level new w u

@@ -36,7 +36,7 @@ use Rattle.mp_rerun.specs.Following.{AreToCome, is_tail, is_set_anew, AreTails}
 use Rattle.mp_rerun.specs.Reruns.{active_of, on_of, until_of, IsFollowed, IsRerunBy}
 use Rattle.mp_rerun.specs.Returning.{is_output, HasReturned, IsToldAwake}
 use Rattle.mp_rerun.proofs.StayingLemmas.{same_wiring, numbered_kept, sources_long}
-use Rattle.mp_rerun.proofs.AgreeLemmas.{output_stands}
+use Rattle.mp_agreement.proofs.SourceLemmas.{output_stands}
 use Rattle.mp_rerun.proofs.ReaderLemmas.{numbers_by_port, none_listed, readers_more, output_drives, outputs_are}
 use Rattle.mp_rerun.proofs.ReturnLemmas.{ports_with}
 

@@ -1,5 +1,5 @@
 -- The numbers of a netlist at first: which wire each is of, and how much later.
-use Rattle.std.proofs.Common.{◌≡◌, ◌≢◌, ℕ, zero, suc, ◌+◌, ◌<◌, ◌≤◌, Bool, true, List, Option, Some, None, is_some, All, length, refl, ap, sym, subst, ◌∙◌, arith, inl, inr}
+use Rattle.std.proofs.Common.{◌≡◌, ℕ, zero, suc, ◌<◌, ◌≤◌, true, List, Option, Some, None, is_some, All, length, refl, ap, sym, arith, inl, inr}
 use Rattle.std.proofs.lemmas.Bool.{cases_lt}
 use Rattle.mp_records.specs.declared.ports.Input.{Input}
 use Rattle.mp_netlist.specs.Limits.{max_delay}
@@ -9,7 +9,7 @@ use Rattle.mp_run.specs.declared.wiring.Wiring.{Wiring}
 use Rattle.mp_run.specs.Numbers.{AreLinks}
 use Rattle.mp_run.specs.Wirings.{AreWired}
 use Rattle.mp_excerpt.proofs.CopyLemmas.{next_inside, next_below}
-use Rattle.mp_compare.specs.Numbering.{AreSources, HasWires, AreNumbered}
+use Rattle.mp_compare.specs.Numbering.{AreSources, AreNumbered}
 
 module _ (wires places : ℕ) (reading : ℕ → List Input) (inputs : ℕ → List ℕ) (wiring : Wiring) (are : AreWired wires places reading inputs wiring)
     (links : AreLinks max_delay wiring.next.items) (delays : (q : ℕ) → All (λ (i : Input). i.delay ≤ max_delay) (reading q)) where

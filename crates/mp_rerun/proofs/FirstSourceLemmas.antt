@@ -22,7 +22,7 @@ use Rattle.mp_excerpt.specs.Excerpts.{is_followed, ArePortsOn}
 use Rattle.mp_excerpt.proofs.KeptLemmas.{stands_within}
 use Rattle.mp_compare.specs.declared.wire_source.WireSource.{WireSource}
 use Rattle.mp_compare.specs.declared.comparison.Comparison.{Comparison}
-use Rattle.mp_compare.specs.Comparing.{off, renewed, source_at}
+use Rattle.mp_compare.specs.Comparing.{off, source_at}
 use Rattle.mp_compare.specs.Reading.{active_below}
 use Rattle.mp_compare.specs.First.{IsRenewedBy, AreFirst}
 use Rattle.mp_rerun.specs.Following.{AreTails}

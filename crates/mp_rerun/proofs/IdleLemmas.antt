@@ -10,8 +10,8 @@ use Rattle.mp_evaluation.specs.Runs.{IsRun}
 use Rattle.mp_run.specs.Stimuli.{rest_of, left_of}
 use Rattle.mp_work.specs.Revisions.{IsRevision}
 use Rattle.mp_agreement.specs.Reading.{QuietWhereAlike, SleepersReadAlike}
-use Rattle.mp_agreement.specs.Sleeping.{SleepersAgree, SleepersSleepOn}
-use Rattle.mp_agreement.specs.Sources.{WiresAgree}
+use Rattle.mp_agreement.specs.Sleeping.{SleepersSleepOn}
+use Rattle.mp_agreement.specs.Sources.{SleepersDriveAlike, WiresAgree}
 use Rattle.mp_excerpt.specs.Numberings.{Numbering}
 use Rattle.mp_excerpt.specs.Setting.{AreSetOutside}
 use Rattle.mp_compare.specs.Comparing.{HasCursors, IsComplete, IsOldRun}
@@ -49,7 +49,7 @@ module _ (old n : Circuit) (old_ok : IsCircuit old) (ok : IsCircuit n) (revised 
   quiet_apart wires readers alike = none_apart old n old_ok ok revised run numbering since t s is nothing low was wires readers alike
 
   -- nothing is to be set
-  pub quiet_outside : WiresAgree → SleepersAgree → (bits : List ℕ) (levels : List LevelChange) → bits ≡ [] → levels ≡ [] → AreSetOutside n (active_of s) (on_of s) bits levels (t + 1)
+  pub quiet_outside : WiresAgree → SleepersDriveAlike → (bits : List ℕ) (levels : List LevelChange) → bits ≡ [] → levels ≡ [] → AreSetOutside n (active_of s) (on_of s) bits levels (t + 1)
   quiet_outside wires sleepers bits levels no_bits no_levels = none_outside old n old_ok ok revised run numbering since t s is nothing low was wires sleepers bits levels no_bits no_levels
 
   -- and all else holds one unit later, with a calendar of the same times

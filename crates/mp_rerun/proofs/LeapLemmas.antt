@@ -16,8 +16,8 @@ use Rattle.mp_run.specs.Stimuli.{rest_of, left_of, AreFrom}
 use Rattle.mp_work.specs.Revisions.{IsRevision}
 use Rattle.mp_agreement.specs.Reading.{QuietWhereAlike, SleepersReadAlike}
 use Rattle.mp_agreement.specs.Resting.{SleepersRest}
-use Rattle.mp_agreement.specs.Sleeping.{SleepersAgree, SleepersSleepOn}
-use Rattle.mp_agreement.specs.Sources.{WiresAgree}
+use Rattle.mp_agreement.specs.Sleeping.{SleepersSleepOn}
+use Rattle.mp_agreement.specs.Sources.{SleepersDriveAlike, WiresAgree}
 use Rattle.mp_history.specs.Live.{AreAtWork, IsListed}
 use Rattle.mp_excerpt.specs.Excerpts.{excerpt, ExcerptsAreCircuits}
 use Rattle.mp_excerpt.specs.Numberings.{Numbering}
@@ -38,7 +38,7 @@ pub record LeapLaws : Type 0 where
   pub wires : WiresAgree
   pub readers : SleepersReadAlike
   pub alike : QuietWhereAlike
-  pub agree : SleepersAgree
+  pub sleepers : SleepersDriveAlike
   pub sleep_on : SleepersSleepOn
   pub rest : SleepersRest
   pub excerpts : ExcerptsAreCircuits
@@ -94,7 +94,7 @@ module _ (old n : Circuit) (old_ok : IsCircuit old) (ok : IsCircuit n) (revised 
       let ports = is.followed.ports in
       let circuit = laws.excerpts n ok (active_of s) (on_of s) ports in
       let sim = laws.simulates n ok (active_of s) (on_of s) ports numbering t s.simulation (omega (arith, below)) is.shows in
-      let outside = quiet_outside old n old_ok ok revised run is_run numbering since t below s is nothing laws.wires laws.agree [] [] refl refl in
+      let outside = quiet_outside old n old_ok ok revised run is_run numbering since t below s is nothing laws.wires laws.sleepers [] [] refl refl in
       let none = laws.sets n ok (active_of s) (on_of s) ports [] [] (t + 1) below outside in
       let next = rests_on (excerpt n (active_of s) (on_of s)) circuit t s.simulation can.rest sim none in
       record {

@@ -1,4 +1,3 @@
-pub mod AgreeLemmas
 pub mod AwakeLemmas
 pub mod BackLemmas
 pub mod BeginningLemmas

@@ -6,7 +6,6 @@ use Rattle.std.proofs.lemmas.Bool.{cases_lt, lt-ltb, le-ltb, ltb-true, eq-eqb, a
 use Rattle.std.proofs.lemmas.List.{get_or_default}
 use mathlib.Core.Path.{fun_ext}
 use Rattle.mp_wave.specs.Waveform.{Waveform, between}
-use Rattle.mp_records.specs.declared.ids.WireId.{WireId}
 use Rattle.mp_records.specs.declared.module_record.ModuleRecord.{ModuleRecord}
 use Rattle.mp_records.specs.declared.ports.Output.{Output}
 use Rattle.mp_records.specs.Outputs.{output_at, delay_of}
@@ -27,8 +26,8 @@ use Rattle.mp_units.specs.DataWheels.{driver_delay}
 use Rattle.mp_evaluation.specs.Outcomes.{Outcome, wave_of}
 use Rattle.mp_evaluation.specs.Runs.{IsRun}
 use Rattle.mp_work.specs.Revisions.{IsRevision}
-use Rattle.mp_agreement.specs.Sleeping.{IsSleeping, SleepersAgree}
-use Rattle.mp_agreement.specs.Sources.{slept_from}
+use Rattle.mp_agreement.specs.Sleeping.{IsSleeping}
+use Rattle.mp_agreement.specs.Sources.{slept_from, SleepersDriveAlike}
 use Rattle.mp_compare.specs.declared.wire_source.WireSource.{WireSource}
 use Rattle.mp_compare.specs.declared.comparison.Comparison.{Comparison}
 use Rattle.mp_compare.specs.Comparing.{off}
@@ -44,13 +43,13 @@ use Rattle.mp_rerun.specs.declared.rerun.Rerun.{Rerun}
 use Rattle.mp_rerun.specs.Following.{AreToCome, is_tail}
 use Rattle.mp_rerun.specs.Reruns.{active_of, until_of, IsFollowed}
 use Rattle.mp_rerun.specs.Returning.{AreBack, IsNextBack, AreTailsIn, CanPutLast, HasPutSpan, tail_of, others_of}
-use Rattle.mp_rerun.proofs.AgreeLemmas.{output_stands, drove, slept_low, drives_alike}
 use Rattle.mp_rerun.proofs.OldWaveLemmas.{old_levels, old_form, no_old_wave}
 use Rattle.mp_rerun.proofs.ReaderLemmas.{is_own_wire, output_within, delay_within}
 use Rattle.mp_rerun.proofs.TailLemmas.{some_bit, both_bit, gone, from_each, counted_there, count_others, others_from, others_all, right_tail, count_tail, own_tail, tail_toggles, tail_levels}
 use Rattle.mp_rerun.proofs.PutLemmas.{put_both, put_as, none_between, none_changes}
+use Rattle.mp_agreement.proofs.SourceLemmas.{slept_low, output_stands, drove}
 
-module _ (old new : Circuit) (run : Outcome) (old_ok : IsCircuit old) (ok : IsCircuit new) (revised : IsRevision old new) (is_run : IsRun old run) (agree : SleepersAgree)
+module _ (old new : Circuit) (run : Outcome) (old_ok : IsCircuit old) (ok : IsCircuit new) (revised : IsRevision old new) (is_run : IsRun old run) (sleepers : SleepersDriveAlike)
     (t m p : ℕ) (output : Output) (s : Rerun) (next : IsNextBack old new run t m p output s) (w : ℕ) (wire_is : output.wire ≡ Some (record { 0 = w })) where
   abbrev r : ModuleRecord
   r = next.part
@@ -92,11 +91,12 @@ module _ (old new : Circuit) (run : Outcome) (old_ok : IsCircuit old) (ok : IsCi
   short = let is = (ok.modules_ok m r next.stands).delays p (record { wire = None; delay = 1 }) (output_within r.outputs p w output_is) in let same = delay_is in let one = is.0 in let other = is.1 in (omega (arith, one, same), omega (arith, other, same))
 
   pub has_wave : None ≡ wave_of run w → ⊥
-  has_wave none = no_old_wave old run is_run w none (output_stands old old_ok m p w (drove old new m p w r sleeping.kept drives))
+  has_wave none = no_old_wave old run is_run w none (output_stands old old_ok m p w (drove old new m p w (sleeping.kept.before ∙ sym sleeping.kept.after) drives))
 
   pub agrees : (u : ℕ) → until_of s w ≤ u + 1 → u ≤ t + output.delay → level old w u ≡ level new w u
   agrees u from within =
-      drives_alike agree old new old_ok ok revised (next.since m) t m p w r sleeping drives u (let is = until_is in omega (arith, is, from)) (let same = delay_is in omega (arith, same, within))
+      sleepers old new old_ok ok revised (active_of was) next.since (until_of was) t followed.sleeping followed.sources w p (record { 0 = m }) r port next.can.asleep next.stands u
+      (let same = same_until in omega (arith, same, from)) (let same = delay_is in omega (arith, same, within))
 
   -- ---- the wheels have room
   pub has_room : (wide : Bool) → output.delay ≤ room wide s.simulation

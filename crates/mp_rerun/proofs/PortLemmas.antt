@@ -14,7 +14,7 @@ use Rattle.mp_regions.specs.Readers.{Reads}
 use Rattle.mp_rerun.specs.declared.rerun.Rerun.{Rerun}
 use Rattle.mp_rerun.specs.Reruns.{on_of}
 use Rattle.mp_rerun.specs.Waking.{HasTurnedOn}
-use Rattle.mp_rerun.proofs.AgreeLemmas.{output_stands}
+use Rattle.mp_agreement.proofs.SourceLemmas.{output_stands}
 use Rattle.mp_rerun.proofs.ReaderLemmas.{output_within}
 
 pub none_turned : (s : Rerun) → HasTurnedOn s s

@@ -22,8 +22,7 @@ use Rattle.mp_run.specs.declared.stimuli.StimulusChange.{StimulusChange}
 use Rattle.mp_run.specs.Stimuli.{bits_of, levels_of, bits_at, levels_at, changes_after, rest_of, left_of}
 use Rattle.mp_work.specs.Revisions.{IsRevision}
 use Rattle.mp_agreement.specs.Reading.{late as late_at, AreAlike, QuietWhereAlike, SleepersReadAlike}
-use Rattle.mp_agreement.specs.Sleeping.{SleepersAgree}
-use Rattle.mp_agreement.specs.Sources.{WiresAgree}
+use Rattle.mp_agreement.specs.Sources.{SleepersDriveAlike, WiresAgree}
 use Rattle.mp_excerpt.specs.Numberings.{Numbering}
 use Rattle.mp_excerpt.specs.Setting.{is_outside, AreSetOutside}
 use Rattle.mp_compare.specs.Comparing.{wire_of, delay_of, late, source_at, asleep_at, is_tracked, may_differ, IsOldRun}
@@ -150,7 +149,7 @@ module _ (old n : Circuit) (old_ok : IsCircuit old) (ok : IsCircuit n) (revised 
           (All-map (λ source. late_at old source (t + 1) ≡ late_at n source (t + 1)) numbering.source (numbering.inputs m) all)) apart
 
     -- ---- and nothing is set
-    rests_outside : SleepersAgree → (w : ℕ) → bit (change_at n w (t + 1) && (on_of s w && is_outside (active_of s) (driver n w))) ≡ 0
+    rests_outside : SleepersDriveAlike → (w : ℕ) → bit (change_at n w (t + 1) && (on_of s w && is_outside (active_of s) (driver n w))) ≡ 0
     rests_outside sleepers w =
         let sum = outside_split n ok old (active_of s) since (until_of s) is.followed.sources (on_of s) (change_at old w (t + 1)) w (t + 1) (is.followed.lit w) below
         (λ soon. follows_on old n old_ok ok revised wires sleepers (active_of s) since (until_of s) t below is.followed.sleeping is.followed.sources w soon) in
@@ -166,7 +165,7 @@ module _ (old n : Circuit) (old_ok : IsCircuit old) (ok : IsCircuit n) (revised 
         (sym (levels_to_come n tail t (left_of s.tails) is.followed.tails w) ∙ ap (changes_of w) (no_levels (t + 1) (left_of s.tails) nothing.tails)) in
         omega (arith, sum, none, a, b)
 
-    pub none_outside : SleepersAgree → (bits : List ℕ) (levels : List LevelChange) → bits ≡ [] → levels ≡ [] → AreSetOutside n (active_of s) (on_of s) bits levels (t + 1)
+    pub none_outside : SleepersDriveAlike → (bits : List ℕ) (levels : List LevelChange) → bits ≡ [] → levels ≡ [] → AreSetOutside n (active_of s) (on_of s) bits levels (t + 1)
     none_outside sleepers bits levels no_bits_set no_levels_set = record {
       bits = λ w. ap (listed w) no_bits_set ∙ set_by_none (change_at n w (t + 1)) (is_bit_wire n w) (on_of s w && is_outside (active_of s) (driver n w)) (rests_outside sleepers w);
       each = λ w. ap (changes_of w) no_levels_set ∙ set_by_none (change_at n w (t + 1)) (is_data n w) (on_of s w && is_outside (active_of s) (driver n w)) (rests_outside sleepers w);

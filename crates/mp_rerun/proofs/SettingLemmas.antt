@@ -17,8 +17,7 @@ use Rattle.mp_units.specs.DataLevels.{is_data, is_bit_wire, changes_of}
 use Rattle.mp_units.proofs.LevelWheelLemmas.{changes_append}
 use Rattle.mp_units.proofs.PresentLemmas.{change_here}
 use Rattle.mp_run.specs.Stimuli.{bits_at, levels_at, rest_of, left_of}
-use Rattle.mp_agreement.specs.Sleeping.{SleepersAgree}
-use Rattle.mp_agreement.specs.Sources.{WiresAgree}
+use Rattle.mp_agreement.specs.Sources.{SleepersDriveAlike, WiresAgree}
 use Rattle.mp_work.specs.Revisions.{IsRevision}
 use Rattle.mp_evaluation.specs.Outcomes.{Outcome}
 use Rattle.mp_excerpt.specs.Numberings.{Numbering}
@@ -95,7 +94,7 @@ past_data set data_too has c anew tail outside none rests = rw (none, rests) (by
     by true = refl
     by false = refl
 
-module _ (old n : Circuit) (old_ok : IsCircuit old) (ok : IsCircuit n) (revised : IsRevision old n) (wires : WiresAgree) (sleepers : SleepersAgree) (run : Outcome) (numbering : Numbering) (since : ℕ → ℕ) (t : ℕ)
+module _ (old n : Circuit) (old_ok : IsCircuit old) (ok : IsCircuit n) (revised : IsRevision old n) (wires : WiresAgree) (sleepers : SleepersDriveAlike) (run : Outcome) (numbering : Numbering) (since : ℕ → ℕ) (t : ℕ)
     (below : t + 1 < never) (s : Rerun) (is : IsFollowed old n run numbering since t s) (was set : SetWires) (none_bits : was.bits.items ≡ []) (none_levels : was.levels.items ≡ [])
     (are : AreSet (level old) (t + 1) s.comparison was set) where
   abbrev anew : ℕ → Bool
@@ -230,7 +229,7 @@ module _ (old n : Circuit) (old_ok : IsCircuit old) (ok : IsCircuit n) (revised 
     are_set_outside = record { bits = set_bits; each = set_levels; levels = all_right }
 
 -- the same at a time that comes next
-pub set_outside_at : (old n : Circuit) → IsCircuit old → IsCircuit n → IsRevision old n → WiresAgree → SleepersAgree → (run : Outcome) (numbering : Numbering) (since : ℕ → ℕ) (t time : ℕ) (s : Rerun) (was set : SetWires)
+pub set_outside_at : (old n : Circuit) → IsCircuit old → IsCircuit n → IsRevision old n → WiresAgree → SleepersDriveAlike → (run : Outcome) (numbering : Numbering) (since : ℕ → ℕ) (t time : ℕ) (s : Rerun) (was set : SetWires)
     (bits : List ℕ) (levels : List LevelChange) → t + 1 ≡ time → time < never → IsFollowed old n run numbering since t s → was.bits.items ≡ [] → was.levels.items ≡ [] →
     AreSet (level old) time s.comparison was set → bits ≡ (set.bits.items ++ bits_at time (rest_of s.stimuli)) ++ bits_at time (left_of s.tails) →
     levels ≡ (set.levels.items ++ levels_at time (rest_of s.stimuli)) ++ levels_at time (left_of s.tails) → AreSetOutside n (active_of s) (on_of s) bits levels time

@@ -1,5 +1,5 @@
 -- What modules that become active within a block do, as tasks.
-use Rattle.std.proofs.Common.{◌≡◌, ℕ, ◌+◌, ◌-◌, ◌<◌, List, [], ◌∷◌, ◌++◌, Option, Some, None, IsSome, false, length, take, slice_index_or, refl, ap, sym, subst, ◌∙◌}
+use Rattle.std.proofs.Common.{◌≡◌, ℕ, ◌+◌, ◌-◌, ◌<◌, List, [], ◌∷◌, ◌++◌, Option, Some, None, IsSome, false, length, take, slice_index_or, refl, sym, subst}
 use Rattle.std.specs.List.{Contains}
 use Rattle.std.proofs.lemmas.List.{take_more}
 use Rattle.mp_modules.specs.declared.memory.Memory.{Memory}
@@ -10,9 +10,7 @@ use Rattle.mp_evaluation.specs.Checkpoints.{state_before}
 use Rattle.mp_evaluation.specs.Outcomes.{Outcome}
 use Rattle.mp_phase.specs.Phase.{AreDone}
 use Rattle.mp_phase.proofs.PhaseLemmas.{are_done-push, are_done-at}
-use Rattle.mp_work.specs.Revisions.{IsKept}
 use Rattle.mp_excerpt.specs.Numberings.{Numbering}
-use Rattle.mp_rerun.specs.declared.join.Join.{Join}
 use Rattle.mp_rerun.specs.declared.rerun.Rerun.{Rerun}
 use Rattle.mp_rerun.specs.Reruns.{active_of, IsFollowed}
 use Rattle.mp_rerun.specs.Tasks.{AreKept, IsOldState}

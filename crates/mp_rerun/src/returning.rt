@@ -6,7 +6,7 @@ ghost use Rattle.mp_rerun.specs.Returning.{IsTailIn, AreTailsIn, tail_of, others
 use crate::change::Change;
 use crate::last_wave::last_wave;
 use crate::rerun::Rerun;
-use mp_agreement::laws::sleepers_agree;
+use mp_agreement::laws::wires_agree;
 use mp_modules::Memory;
 use mp_netlist::{ModuleId, ModuleRecord, Output};
 use mp_regions::Region;
@@ -98,7 +98,7 @@ impl Rerun {
         let Some(wire) = output.wire else {
             return Ok(());
         };
-        sleepers_agree();
+        wires_agree();
         let Some(wave) = change.run.wave(wire) else {
             return Ok(());
         };

@@ -1,9 +1,9 @@
-use Rattle.std.proofs.Common.{◌≡◌, ℕ, Bool, List, true, map, refl, ap, sym, subst, ◌∙◌}
+use Rattle.std.proofs.Common.{◌≡◌, ℕ, Bool, List, true, map, ap, sym, subst, ◌∙◌}
 use Rattle.mp_netlist.specs.Circuit.{Circuit, IsCircuit}
 use Rattle.mp_netlist.specs.Drivers.{driver}
 use Rattle.mp_automata.specs.Codes.{bit}
 use Rattle.mp_evaluation.specs.Marks.{is_marked}
-use Rattle.mp_regions.specs.Regions.{home_of, region}
+use Rattle.mp_regions.specs.Regions.{home_of}
 use Rattle.mp_run.specs.Settling.{ports_of}
 use Rattle.mp_run.specs.Beginnings.{IsPartOf, IsLayout, IsBegun}
 use Rattle.mp_excerpt.specs.Excerpts.{excerpt, is_followed}

@@ -11,7 +11,7 @@ use Rattle.mp_model.specs.Tracks.{AreTimesIn, unchanged, held_all}
 use Rattle.mp_model.specs.Waves.{level}
 use Rattle.mp_response.specs.Pieces.{put_off}
 use Rattle.mp_compare.specs.Comparing.{old_wave}
-use Rattle.mp_rerun.proofs.AgreeLemmas.{drove, output_stands}
+use Rattle.mp_agreement.proofs.SourceLemmas.{drove, output_stands}
 use Rattle.mp_rerun.proofs.OldStateLemmas.{old_level}
 use Rattle.mp_rerun.proofs.LastLemmas.{port_count, output_delay, times_later, last_levels}
 use Rattle.mp_rerun.proofs.last_wave.last_wave.Goals as goal
@@ -87,7 +87,7 @@ returns-clause-levels c = λ w u drives from upto.
     let begins = c.saturating_sub-first.ensures in
     let inside : p < length c.ports-ports.result.now = subst (λ (xs : List (List (ℕ × ℕ))). p < length xs) (sym c.ports-ports.ensures) (omega (arith, count, port)) in
     let changes = read_changes c.ports-ports.result.now piece.outputs p c.index-ports-port.result c.as_slice.result.now c.ports-ports.ensures inside c.index-ports-port.is c.as_slice.ensures in
-    let was = drove old new id p w r c.requires.kept drives in
+    let was = drove old new id p w (c.requires.kept.before ∙ sym c.requires.kept.after) drives in
     let part : drives.part ≡ r = same_Some drives.part r (sym drives.stands ∙ c.requires.kept.after) in
     let wire : (slice_index_or c.as_slice-outputs.result.now p (record { wire = None; delay = 0 })).wire ≡ Some (record { 0 = w }) =
     ap (λ (o : Output). o.wire) (sym read) ∙ ap (λ (x : ModuleRecord). (output_at x p).wire) (sym part) ∙ drives.output in

@@ -21,7 +21,7 @@ returns-in_default c = λ next.
 pub returns-in_default-wave : goal.returns-in_default-wave
 returns-in_default-wave c = λ next.
     let are = c.requires.change in
-    let no : ⊥ = has_wave c.args.change.now.old.now c.args.change.now.new.now c.args.change.now.run.now are.old_form are.form are.revision are.run c.sleepers_agree.ensures.agree c.args.now c.args.id.0 c.args.port c.args.output c.args.self.now next
+    let no : ⊥ = has_wave c.args.change.now.old.now c.args.change.now.new.now c.args.change.now.run.now are.old_form are.form are.revision are.run c.wires_agree.ensures.sleepers c.args.now c.args.id.0 c.args.port c.args.output c.args.self.now next
     c.in-Some.wire.0 c.in-Some.is c.in_default-wave.ensures in
     absurd no
 
@@ -35,8 +35,8 @@ take_tail_back-requires-clause-tails c =
     let s = c.args.self.now in
     let wide = c.index-2.result.now in
     subst (λ u. AreTailsIn c.in-Some.wire.0 c.args.now u (room wide s.simulation) wide (left_of s.tails))
-    (told_until c.args.change.now.old.now c.args.change.now.new.now c.args.change.now.run.now are.old_form are.form are.revision are.run c.sleepers_agree.ensures.agree c.args.now c.args.id.0 c.args.port c.args.output c.args.self.now next c.in-Some.wire.0 c.in-Some.is c.index.result.now c.index.ensures)
-    (tails_in c.args.change.now.old.now c.args.change.now.new.now c.args.change.now.run.now are.old_form are.form are.revision are.run c.sleepers_agree.ensures.agree c.args.now c.args.id.0 c.args.port c.args.output c.args.self.now next c.in-Some.wire.0 c.in-Some.is wide (told_kind c.args.change.now.old.now c.args.change.now.new.now c.args.change.now.run.now are.old_form are.form are.revision are.run c.sleepers_agree.ensures.agree c.args.now c.args.id.0 c.args.port c.args.output c.args.self.now next c.in-Some.wire.0 c.in-Some.is wide c.index-2.ensures))
+    (told_until c.args.change.now.old.now c.args.change.now.new.now c.args.change.now.run.now are.old_form are.form are.revision are.run c.wires_agree.ensures.sleepers c.args.now c.args.id.0 c.args.port c.args.output c.args.self.now next c.in-Some.wire.0 c.in-Some.is c.index.result.now c.index.ensures)
+    (tails_in c.args.change.now.old.now c.args.change.now.new.now c.args.change.now.run.now are.old_form are.form are.revision are.run c.wires_agree.ensures.sleepers c.args.now c.args.id.0 c.args.port c.args.output c.args.self.now next c.in-Some.wire.0 c.in-Some.is wide (told_kind c.args.change.now.old.now c.args.change.now.new.now c.args.change.now.run.now are.old_form are.form are.revision are.run c.wires_agree.ensures.sleepers c.args.now c.args.id.0 c.args.port c.args.output c.args.self.now next c.in-Some.wire.0 c.in-Some.is wide c.index-2.ensures))
 
 pub overflow_add-now : goal.overflow_add-now
 overflow_add-now c = let most = horizon_within c.args.change.now.new.now c.requires.change.form in let below = c.requires.below in omega (arith, most, below)
@@ -50,7 +50,7 @@ overflow_add-known-2 c =
     let next = c.requires.next in
     let most = horizon_within c.args.change.now.new.now are.form in
     let below = c.requires.below in
-    let brief = (short c.args.change.now.old.now c.args.change.now.new.now c.args.change.now.run.now are.old_form are.form are.revision are.run c.sleepers_agree.ensures.agree c.args.now c.args.id.0 c.args.port c.args.output c.args.self.now next c.in-Some.wire.0 c.in-Some.is).1 in
+    let brief = (short c.args.change.now.old.now c.args.change.now.new.now c.args.change.now.run.now are.old_form are.form are.revision are.run c.wires_agree.ensures.sleepers c.args.now c.args.id.0 c.args.port c.args.output c.args.self.now next c.in-Some.wire.0 c.in-Some.is).1 in
     omega (arith, most, below, brief)
 
 pub overflow_sub-own : goal.overflow_sub-own
@@ -65,10 +65,10 @@ put_old_changes-requires-clause-within c =
     let next = c.requires.next in
     let s = c.args.self.now in
     let wide = c.index-2.result.now in
-    let fits = has_room c.args.change.now.old.now c.args.change.now.new.now c.args.change.now.run.now are.old_form are.form are.revision are.run c.sleepers_agree.ensures.agree c.args.now c.args.id.0 c.args.port c.args.output c.args.self.now next c.in-Some.wire.0 c.in-Some.is wide in
+    let fits = has_room c.args.change.now.old.now c.args.change.now.new.now c.args.change.now.run.now are.old_form are.form are.revision are.run c.wires_agree.ensures.sleepers c.args.now c.args.id.0 c.args.port c.args.output c.args.self.now next c.in-Some.wire.0 c.in-Some.is wide in
     let same = room_kept wide wide (entries_of c.in-Some.wire.0 c.args.now (tail_of c.in-Some.wire.0 (left_of s.tails))) s.simulation c.take_tail_back.new.self.simulation c.in_ok-take_tail_back.ensures.put in
-    let low = until_low c.args.change.now.old.now c.args.change.now.new.now c.args.change.now.run.now are.old_form are.form are.revision are.run c.sleepers_agree.ensures.agree c.args.now c.args.id.0 c.args.port c.args.output c.args.self.now next c.in-Some.wire.0 c.in-Some.is in
-    let until = told_until c.args.change.now.old.now c.args.change.now.new.now c.args.change.now.run.now are.old_form are.form are.revision are.run c.sleepers_agree.ensures.agree c.args.now c.args.id.0 c.args.port c.args.output c.args.self.now next c.in-Some.wire.0 c.in-Some.is c.index.result.now c.index.ensures in
+    let low = until_low c.args.change.now.old.now c.args.change.now.new.now c.args.change.now.run.now are.old_form are.form are.revision are.run c.wires_agree.ensures.sleepers c.args.now c.args.id.0 c.args.port c.args.output c.args.self.now next c.in-Some.wire.0 c.in-Some.is in
+    let until = told_until c.args.change.now.old.now c.args.change.now.new.now c.args.change.now.run.now are.old_form are.form are.revision are.run c.wires_agree.ensures.sleepers c.args.now c.args.id.0 c.args.port c.args.output c.args.self.now next c.in-Some.wire.0 c.in-Some.is c.index.result.now c.index.ensures in
     let first = c.max-own.ensures in
     let least = c.min.ensures in
     let kept = c.max-kept.ensures in
@@ -78,8 +78,8 @@ pub put_last_changes-requires-clause-last : goal.put_last_changes-requires-claus
 put_last_changes-requires-clause-last c =
     let are = c.requires.change in
     let next = c.requires.next in
-    let low = until_low c.args.change.now.old.now c.args.change.now.new.now c.args.change.now.run.now are.old_form are.form are.revision are.run c.sleepers_agree.ensures.agree c.args.now c.args.id.0 c.args.port c.args.output c.args.self.now next c.in-Some.wire.0 c.in-Some.is in
-    let until = told_until c.args.change.now.old.now c.args.change.now.new.now c.args.change.now.run.now are.old_form are.form are.revision are.run c.sleepers_agree.ensures.agree c.args.now c.args.id.0 c.args.port c.args.output c.args.self.now next c.in-Some.wire.0 c.in-Some.is c.index.result.now c.index.ensures in
+    let low = until_low c.args.change.now.old.now c.args.change.now.new.now c.args.change.now.run.now are.old_form are.form are.revision are.run c.wires_agree.ensures.sleepers c.args.now c.args.id.0 c.args.port c.args.output c.args.self.now next c.in-Some.wire.0 c.in-Some.is in
+    let until = told_until c.args.change.now.old.now c.args.change.now.new.now c.args.change.now.run.now are.old_form are.form are.revision are.run c.wires_agree.ensures.sleepers c.args.now c.args.id.0 c.args.port c.args.output c.args.self.now next c.in-Some.wire.0 c.in-Some.is c.index.result.now c.index.ensures in
     let first = c.max-own.ensures in
     let least = c.min.ensures in
     let kept = c.max-kept.ensures in
@@ -96,13 +96,13 @@ put_last_changes-requires-clause-can c =
     let wide = c.index-2.result.now in
     let sim2 : NetlistSimulation = c.put_old_changes.new.simulation in
     let s1 : Rerun = c.take_tail_back.new.self in
-    let until = told_until c.args.change.now.old.now c.args.change.now.new.now c.args.change.now.run.now are.old_form are.form are.revision are.run c.sleepers_agree.ensures.agree c.args.now c.args.id.0 c.args.port c.args.output c.args.self.now next c.in-Some.wire.0 c.in-Some.is c.index.result.now c.index.ensures in
+    let until = told_until c.args.change.now.old.now c.args.change.now.new.now c.args.change.now.run.now are.old_form are.form are.revision are.run c.wires_agree.ensures.sleepers c.args.now c.args.id.0 c.args.port c.args.output c.args.self.now next c.in-Some.wire.0 c.in-Some.is c.index.result.now c.index.ensures in
     let first = c.max-own.ensures in
     let kept = c.max-kept.ensures in
     let some = c.if-kept-known.true in (
       next.part,
       w,
-      can_put_last c.args.change.now.old.now c.args.change.now.new.now c.args.change.now.run.now are.old_form are.form are.revision are.run c.sleepers_agree.ensures.agree c.args.now c.args.id.0 c.args.port c.args.output c.args.self.now next c.in-Some.wire.0 c.in-Some.is c.max-kept.result (omega (arith, until, first, kept)) (omega (arith, some)) sim2 s1.tails
+      can_put_last c.args.change.now.old.now c.args.change.now.new.now c.args.change.now.run.now are.old_form are.form are.revision are.run c.wires_agree.ensures.sleepers c.args.now c.args.id.0 c.args.port c.args.output c.args.self.now next c.in-Some.wire.0 c.in-Some.is c.max-kept.result (omega (arith, until, first, kept)) (omega (arith, some)) sim2 s1.tails
           (record s1 { simulation = sim2 }) (ap (λ (x : Rerun). (let y : Rerun = record x { simulation = sim2 } in y)) c.in_ok-take_tail_back.ensures.kept)
           (λ kind.
           room_kept kind wide _ s1.simulation sim2 c.in_ok-put_old_changes.ensures
@@ -117,19 +117,19 @@ returns-in_ok-put_last_changes c = λ next.
     let wide = c.index-2.result.now in
     let sim2 : NetlistSimulation = c.put_old_changes.new.simulation in
     let s1 : Rerun = c.take_tail_back.new.self in
-    let low = until_low c.args.change.now.old.now c.args.change.now.new.now c.args.change.now.run.now are.old_form are.form are.revision are.run c.sleepers_agree.ensures.agree c.args.now c.args.id.0 c.args.port c.args.output c.args.self.now next c.in-Some.wire.0 c.in-Some.is in
-    let until = told_until c.args.change.now.old.now c.args.change.now.new.now c.args.change.now.run.now are.old_form are.form are.revision are.run c.sleepers_agree.ensures.agree c.args.now c.args.id.0 c.args.port c.args.output c.args.self.now next c.in-Some.wire.0 c.in-Some.is c.index.result.now c.index.ensures in
+    let low = until_low c.args.change.now.old.now c.args.change.now.new.now c.args.change.now.run.now are.old_form are.form are.revision are.run c.wires_agree.ensures.sleepers c.args.now c.args.id.0 c.args.port c.args.output c.args.self.now next c.in-Some.wire.0 c.in-Some.is in
+    let until = told_until c.args.change.now.old.now c.args.change.now.new.now c.args.change.now.run.now are.old_form are.form are.revision are.run c.wires_agree.ensures.sleepers c.args.now c.args.id.0 c.args.port c.args.output c.args.self.now next c.in-Some.wire.0 c.in-Some.is c.index.result.now c.index.ensures in
     let first = c.max-own.ensures in
     let least = c.min.ensures in
     let kept = c.max-kept.ensures in
     let end = c.horizon.ensures in
     let some = c.if-kept-known.true in
-    three_back c.args.change.now.old.now c.args.change.now.new.now c.args.change.now.run.now are.old_form are.form are.revision are.run c.sleepers_agree.ensures.agree c.args.now c.args.id.0 c.args.port c.args.output c.args.self.now next c.in-Some.wire.0 c.in-Some.is wide (told_kind c.args.change.now.old.now c.args.change.now.new.now c.args.change.now.run.now are.old_form are.form are.revision are.run c.sleepers_agree.ensures.agree c.args.now c.args.id.0 c.args.port c.args.output c.args.self.now next c.in-Some.wire.0 c.in-Some.is wide c.index-2.ensures) c.in-Some-wave.wave.now c.in-Some-wave.ensures c.max-own.result c.max-kept.result
+    three_back c.args.change.now.old.now c.args.change.now.new.now c.args.change.now.run.now are.old_form are.form are.revision are.run c.wires_agree.ensures.sleepers c.args.now c.args.id.0 c.args.port c.args.output c.args.self.now next c.in-Some.wire.0 c.in-Some.is wide (told_kind c.args.change.now.old.now c.args.change.now.new.now c.args.change.now.run.now are.old_form are.form are.revision are.run c.wires_agree.ensures.sleepers c.args.now c.args.id.0 c.args.port c.args.output c.args.self.now next c.in-Some.wire.0 c.in-Some.is wide c.index-2.ensures) c.in-Some-wave.wave.now c.in-Some-wave.ensures c.max-own.result c.max-kept.result
     (first ∙ ap (λ u. max u (c.args.now + 1)) (sym until)) (omega (arith, kept)) (omega (arith, low, until, first, least, kept)) (λ more. omega (arith, more, least, kept, end))
     s1.simulation sim2 c.in_ok-take_tail_back.ensures.put c.in_ok-put_old_changes.ensures s1.tails c.in_ok-take_tail_back.ensures.left
     (record s1 { simulation = sim2 }) (ap (λ (x : Rerun). (let y : Rerun = record x { simulation = sim2 } in y)) c.in_ok-take_tail_back.ensures.kept)
-    c.put_last_changes.new.self (subst (λ d. HasPutSpan c.args.change.now.new.now w c.args.now (c.max-kept.result - 1) (c.args.now + 1 + d) (record s1 { simulation = sim2 }) c.put_last_changes.new.self) (delay_is c.args.change.now.old.now c.args.change.now.new.now c.args.change.now.run.now are.old_form are.form are.revision are.run c.sleepers_agree.ensures.agree c.args.now c.args.id.0 c.args.port c.args.output c.args.self.now next c.in-Some.wire.0 c.in-Some.is)
-    (c.in_ok-put_last_changes.ensures next.part w (can_put_last c.args.change.now.old.now c.args.change.now.new.now c.args.change.now.run.now are.old_form are.form are.revision are.run c.sleepers_agree.ensures.agree c.args.now c.args.id.0 c.args.port c.args.output c.args.self.now next c.in-Some.wire.0 c.in-Some.is c.max-kept.result (omega (arith, until, first, kept)) (omega (arith, some)) sim2 s1.tails
+    c.put_last_changes.new.self (subst (λ d. HasPutSpan c.args.change.now.new.now w c.args.now (c.max-kept.result - 1) (c.args.now + 1 + d) (record s1 { simulation = sim2 }) c.put_last_changes.new.self) (delay_is c.args.change.now.old.now c.args.change.now.new.now c.args.change.now.run.now are.old_form are.form are.revision are.run c.wires_agree.ensures.sleepers c.args.now c.args.id.0 c.args.port c.args.output c.args.self.now next c.in-Some.wire.0 c.in-Some.is)
+    (c.in_ok-put_last_changes.ensures next.part w (can_put_last c.args.change.now.old.now c.args.change.now.new.now c.args.change.now.run.now are.old_form are.form are.revision are.run c.wires_agree.ensures.sleepers c.args.now c.args.id.0 c.args.port c.args.output c.args.self.now next c.in-Some.wire.0 c.in-Some.is c.max-kept.result (omega (arith, until, first, kept)) (omega (arith, some)) sim2 s1.tails
     (record s1 { simulation = sim2 }) (ap (λ (x : Rerun). (let y : Rerun = record x { simulation = sim2 } in y)) c.in_ok-take_tail_back.ensures.kept)
     (λ kind.
     room_kept kind wide _ s1.simulation sim2 c.in_ok-put_old_changes.ensures
@@ -143,14 +143,14 @@ returns-else-kept-known c = λ next.
     let wide = c.index-2.result.now in
     let sim2 : NetlistSimulation = c.put_old_changes.new.simulation in
     let s1 : Rerun = c.take_tail_back.new.self in
-    let low = until_low c.args.change.now.old.now c.args.change.now.new.now c.args.change.now.run.now are.old_form are.form are.revision are.run c.sleepers_agree.ensures.agree c.args.now c.args.id.0 c.args.port c.args.output c.args.self.now next c.in-Some.wire.0 c.in-Some.is in
-    let until = told_until c.args.change.now.old.now c.args.change.now.new.now c.args.change.now.run.now are.old_form are.form are.revision are.run c.sleepers_agree.ensures.agree c.args.now c.args.id.0 c.args.port c.args.output c.args.self.now next c.in-Some.wire.0 c.in-Some.is c.index.result.now c.index.ensures in
+    let low = until_low c.args.change.now.old.now c.args.change.now.new.now c.args.change.now.run.now are.old_form are.form are.revision are.run c.wires_agree.ensures.sleepers c.args.now c.args.id.0 c.args.port c.args.output c.args.self.now next c.in-Some.wire.0 c.in-Some.is in
+    let until = told_until c.args.change.now.old.now c.args.change.now.new.now c.args.change.now.run.now are.old_form are.form are.revision are.run c.wires_agree.ensures.sleepers c.args.now c.args.id.0 c.args.port c.args.output c.args.self.now next c.in-Some.wire.0 c.in-Some.is c.index.result.now c.index.ensures in
     let first = c.max-own.ensures in
     let least = c.min.ensures in
     let kept = c.max-kept.ensures in
     let end = c.horizon.ensures in
     let none = c.if-kept-known.false in
-    two_back c.args.change.now.old.now c.args.change.now.new.now c.args.change.now.run.now are.old_form are.form are.revision are.run c.sleepers_agree.ensures.agree c.args.now c.args.id.0 c.args.port c.args.output c.args.self.now next c.in-Some.wire.0 c.in-Some.is wide (told_kind c.args.change.now.old.now c.args.change.now.new.now c.args.change.now.run.now are.old_form are.form are.revision are.run c.sleepers_agree.ensures.agree c.args.now c.args.id.0 c.args.port c.args.output c.args.self.now next c.in-Some.wire.0 c.in-Some.is wide c.index-2.ensures) c.in-Some-wave.wave.now c.in-Some-wave.ensures c.max-own.result c.max-kept.result
+    two_back c.args.change.now.old.now c.args.change.now.new.now c.args.change.now.run.now are.old_form are.form are.revision are.run c.wires_agree.ensures.sleepers c.args.now c.args.id.0 c.args.port c.args.output c.args.self.now next c.in-Some.wire.0 c.in-Some.is wide (told_kind c.args.change.now.old.now c.args.change.now.new.now c.args.change.now.run.now are.old_form are.form are.revision are.run c.wires_agree.ensures.sleepers c.args.now c.args.id.0 c.args.port c.args.output c.args.self.now next c.in-Some.wire.0 c.in-Some.is wide c.index-2.ensures) c.in-Some-wave.wave.now c.in-Some-wave.ensures c.max-own.result c.max-kept.result
     (first ∙ ap (λ u. max u (c.args.now + 1)) (sym until)) (omega (arith, kept)) (omega (arith, low, until, first, least, kept)) (λ more. omega (arith, more, least, kept, end))
     s1.simulation sim2 c.in_ok-take_tail_back.ensures.put c.in_ok-put_old_changes.ensures s1.tails c.in_ok-take_tail_back.ensures.left
     (record s1 { simulation = sim2 }) (ap (λ (x : Rerun). (let y : Rerun = record x { simulation = sim2 } in y)) c.in_ok-take_tail_back.ensures.kept)

@@ -65,4 +65,4 @@ returns-clause-set c =
     set_there new time s after refl
     (subst (AreSetOutside new (active_of s) (on_of s) c.clear.new.self.items c.clear-2.new.self.items) next
     (quiet_outside old new change.old_form change.form change.revision c.args.change.now.run.now change.run at.numbering at.since t early s at.is nothing
-    c.wires_agree.ensures.wires c.sleepers_agree.ensures.agree c.clear.new.self.items c.clear-2.new.self.items c.clear.ensures.items c.clear-2.ensures.items))
+    c.wires_agree.ensures.wires c.wires_agree.ensures.sleepers c.clear.new.self.items c.clear-2.new.self.items c.clear.ensures.items c.clear-2.ensures.items))

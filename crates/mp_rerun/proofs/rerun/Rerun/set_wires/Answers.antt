@@ -45,7 +45,7 @@ returns-clause-set c =
     set_there new time s
     (record s { comparison = c.pass_unit.new.self; stimuli = record (s.stimuli) { place = c.in_ok-self.field-0 }; tails = record (s.tails) { place = c.in_ok-self-2.field-0 }; set = c.list_due-2.new.set })
     kept
-    (set_outside_at old new change.old_form change.form change.revision c.wires_agree.ensures.wires c.sleepers_agree.ensures.agree run at.numbering at.since (time - 1) time s
+    (set_outside_at old new change.old_form change.form change.revision c.wires_agree.ensures.wires c.wires_agree.ensures.sleepers run at.numbering at.since (time - 1) time s
     (record { bits = c.clear.new.self; levels = c.clear-2.new.self }) c.pass_unit.new.set c.list_due-2.new.set.bits.items c.list_due-2.new.set.levels.items next (below_never new change.form time below)
     at.is.followed c.clear.ensures.items c.clear-2.ensures.items
     (c.in_ok-pass_unit.ensures.set (level old) (c.runs_are_old.ensures.levels old change.old_form run change.run time (omega (arith, below, same))) at.is.followed.complete)
