@@ -17,17 +17,15 @@ use Rattle.mp_compare.specs.Comparing.{ArePlaced, HasCursors, AreNumbers, AreWit
 use Rattle.mp_compare.specs.Meeting.{HasMet}
 use Rattle.mp_compare.proofs.MeetingLemmas.{met_join, numbers_kept}
 
--- four lists of toggles, or three of changes, are met
-pub four_met : (run : Outcome) (time : ℕ) (ps qs rs ss : List ℕ) (one two three four five : Comparison) → HasMet run time ps [] one two → HasMet run time qs [] two three →
-    HasMet run time rs [] three four → HasMet run time ss [] four five → HasMet run time (ps ++ qs ++ rs ++ ss) [] one five
-four_met run time ps qs rs ss one two three four five a b c d =
-    met_join run time (ps ++ qs ++ rs) ss [] [] one four five
-    (met_join run time (ps ++ qs) rs [] [] one three four (met_join run time ps qs [] [] one two three a b) c) d
+-- three lists of toggles, or two of changes, are met
+pub toggles_met : (run : Outcome) (time : ℕ) (ps qs rs : List ℕ) (one two three four : Comparison) → HasMet run time ps [] one two → HasMet run time qs [] two three →
+    HasMet run time rs [] three four → HasMet run time (ps ++ qs ++ rs) [] one four
+toggles_met run time ps qs rs one two three four a b c =
+    met_join run time (ps ++ qs) rs [] [] one three four (met_join run time ps qs [] [] one two three a b) c
 
-pub three_met : (run : Outcome) (time : ℕ) (ps qs rs : List LevelChange) (one two three four : Comparison) → HasMet run time [] ps one two → HasMet run time [] qs two three →
-    HasMet run time [] rs three four → HasMet run time [] (ps ++ qs ++ rs) one four
-three_met run time ps qs rs one two three four a b c =
-    met_join run time [] [] (ps ++ qs) rs one three four (met_join run time [] [] ps qs one two three a b) c
+pub levels_met : (run : Outcome) (time : ℕ) (ps qs : List LevelChange) (one two three : Comparison) → HasMet run time [] ps one two → HasMet run time [] qs two three →
+    HasMet run time [] (ps ++ qs) one three
+levels_met run time ps qs one two three a b = met_join run time [] [] ps qs one two three a b
 
 -- toggles and changes are met
 pub both_met : (run : Outcome) (time : ℕ) (bits : List ℕ) (levels : List LevelChange) (one two three : Comparison) → HasMet run time bits [] one two → HasMet run time [] levels two three →

@@ -1,11 +1,10 @@
 -- What the ports of a module read.
-use Rattle.std.proofs.Common.{◌≡◌, ℕ, zero, suc, ◌+◌, List, [], ◌∷◌, refl, ap, arith}
-use Rattle.std.specs.Prelude.{◌==◌, Option, None}
+use Rattle.std.proofs.Common.{◌≡◌, ℕ, suc, ◌+◌, List, [], ◌∷◌, refl, ap, arith}
+use Rattle.std.specs.Prelude.{◌==◌, Option}
 use Rattle.std.proofs.lemmas.List.Sums.{sum_by-cons}
 use Rattle.std.proofs.lemmas.Option.{none-some}
 use Rattle.mp_automata.specs.Codes.{bit}
 use Rattle.mp_events.specs.Adding.{listed}
-use Rattle.mp_run.specs.Wirings.{AreByPort}
 use Rattle.mp_compare.specs.Reading.{is_at, reads, ReadsAreListed}
 
 -- one port and the others

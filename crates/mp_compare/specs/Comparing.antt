@@ -150,10 +150,10 @@ abbrev pub changes_of : ℕ → List LevelChange → ℕ
 changes_of x changes = count_by (λ (change : LevelChange). change.number == x) changes
 
 abbrev pub bits_of : NewChanges → List ℕ
-bits_of coming = coming.wires.now ++ coming.copies.now ++ coming.set.now ++ coming.tails.now
+bits_of coming = coming.wires.now ++ coming.copies.now ++ coming.set.now
 
 abbrev pub levels_of : NewChanges → List LevelChange
-levels_of coming = coming.levels.now ++ coming.set_levels.now ++ coming.tail_levels.now
+levels_of coming = coming.levels.now ++ coming.set_levels.now
 
 -- each of them is a number
 abbrev pub AreNumbers : Numbers → List ℕ → Type 0
@@ -166,10 +166,8 @@ pub record AreWithin (numbers : Numbers) (coming : NewChanges) : Type 0 where
   pub wires : AreNumbers numbers coming.wires.now
   pub copies : AreNumbers numbers coming.copies.now
   pub set : AreNumbers numbers coming.set.now
-  pub tails : AreNumbers numbers coming.tails.now
   pub levels : AreOfNumbers numbers coming.levels.now
   pub set_levels : AreOfNumbers numbers coming.set_levels.now
-  pub tail_levels : AreOfNumbers numbers coming.tail_levels.now
 
 -- of the numbers that are tracked they are just those that change at a time, each once, with their levels then
 pub record AreNewChanges (after : ℕ → ℕ → ℕ) (time : ℕ) (c : Comparison) (coming : NewChanges) : Type 0 where

@@ -55,7 +55,6 @@ impl Comparison {
         self.meet_toggles(coming.wires, time)?;
         self.meet_toggles(coming.copies, time)?;
         self.meet_toggles(coming.set, time)?;
-        self.meet_toggles(coming.tails, time)?;
         Ok(())
     }
 
@@ -73,7 +72,6 @@ impl Comparison {
     {
         self.meet_levels(run, coming.levels, time)?;
         self.meet_levels(run, coming.set_levels, time)?;
-        self.meet_levels(run, coming.tail_levels, time)?;
         Ok(())
     }
 

@@ -3,10 +3,10 @@ ghost use Rattle.std.specs.Prelude.{◌≡◌, ◌<◌, ◌≤◌, IfOk, length}
 ghost use Rattle.mp_compare.specs.First.{IsUnread};
 ghost use Rattle.mp_compare.specs.Reading.{ports_of};
 
+use crate::change::Change;
 use crate::comparison::Comparison;
 use crate::first_sources::{first_sources, is_active};
 use crate::numbers::Numbers;
-use crate::revision::Revision;
 use crate::wire_source::WireSource;
 use mp_calendar::{Calendar, NEVER};
 use mp_evaluation::Run;
@@ -34,22 +34,22 @@ impl Comparison {
     /// on, and those that no port drives and that aren't driven as before.
     pub fn first(
         alloc: Global,
-        revision: &Revision<'_>,
+        change: &Change<'_>,
         numbers: Numbers,
         inputs: &[[Option<u32>; MOST_INPUTS]],
         active: &[bool],
     ) -> Result<Comparison, AllocError>
-        requires run { IsRun revision.now.old.now revision.now.run.now }
-        requires numbers { AreNumbersOf revision.now.new.now numbers }
-        requires inputs { AreInputs revision.now.new.now (length numbers.wires.items) inputs.now }
+        requires run { IsRun change.now.old.now change.now.run.now }
+        requires numbers { AreNumbersOf change.now.new.now numbers }
+        requires inputs { AreInputs change.now.new.now (length numbers.wires.items) inputs.now }
         ensures numbers { IfOk result (λ comparison. comparison.numbers ≡ numbers) }
-        ensures first { IfOk result (AreFirst revision.now.old.now revision.now.new.now active.now inputs.now) }
-        ensures cursors { IfOk result (HasCursors revision.now.run.now 0 []) }
+        ensures first { IfOk result (AreFirst change.now.old.now change.now.new.now active.now inputs.now) }
+        ensures cursors { IfOk result (HasCursors change.now.run.now 0 []) }
         ensures unseen { IfOk result (AreUnseen 1) }
-        ensures complete { IfOk result (IsComplete revision.now.run.now 0) }
+        ensures complete { IfOk result (IsComplete change.now.run.now 0) }
     {
         // Its contract tells that the netlist is well formed.
-        let Revision { old, run, new } = *revision;
+        let Change { old, run, new, .. } = *change;
         let _old_horizon = old.horizon();
         let span = new.horizon().min(SPAN);
         let sources = first_sources(alloc, old, new, active)?;

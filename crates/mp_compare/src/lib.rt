@@ -1,6 +1,7 @@
 //! A netlist that is evaluated again is compared with its old run, number by number.
 #![tactic(auto)]
 
+mod change;
 mod comparison;
 mod departing;
 mod first_comparison;
@@ -11,16 +12,15 @@ mod new_changes;
 mod numbers;
 mod old_run;
 mod passing;
-mod revision;
 mod set_wires;
 mod stimuli;
 mod waking;
 mod wire_source;
 
+pub use change::Change;
 pub use comparison::Comparison;
 pub use new_changes::NewChanges;
 pub use numbers::Numbers;
-pub use revision::Revision;
 pub use set_wires::SetWires;
 pub use stimuli::changed_stimuli;
 pub use wire_source::WireSource;

@@ -2,15 +2,13 @@
 
 use mp_data::LevelChange;
 
-/// What is known ahead of the next unit of a new run. Of numbers of width 1 those that toggle: wires and copies that modules and wires told of,
-/// wires that are set, and wires that had been decided before their drivers left. Of numbers with data their levels from then on, likewise.
+/// What is known ahead of the next unit of a new run. Of numbers of width 1 those that toggle: wires and copies that modules and wires told of, and
+/// wires that are set. Of numbers with data their levels from then on, likewise.
 #[derive(Clone, Copy)]
 pub struct NewChanges<'a> {
     pub wires: &'a [u32],
     pub copies: &'a [u32],
     pub set: &'a [u32],
-    pub tails: &'a [u32],
     pub levels: &'a [LevelChange],
     pub set_levels: &'a [LevelChange],
-    pub tail_levels: &'a [LevelChange],
 }

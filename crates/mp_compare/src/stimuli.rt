@@ -1,12 +1,12 @@
 //! What changed stimuli set.
 ghost use Rattle.std.specs.Prelude.{◌≡◌, ◌++◌, ◌∷◌, [], IfOk, OnOk, if◌then◌else◌};
-ghost use Rattle.mp_run.specs.Stimuli.{rest_of};
+ghost use Rattle.mp_run.specs.Stimuli.{left_of};
 ghost use Rattle.mp_compare.specs.ChangedStimuli.{until_in, is_new_in, AreSetAnew};
 
 use crate::wire_source::WireSource;
 use mp_calendar::NEVER;
 use mp_netlist::Netlist;
-use mp_run::{Stimuli, StimulusChange};
+use mp_run::{HeardChanges, Stimuli, StimulusChange};
 use std::alloc::{AllocError, Global};
 
 /// What stimuli change, where all is to come, of those wires whose levels come from the new run alone.
@@ -14,8 +14,8 @@ pub fn changed_stimuli(
     alloc: Global,
     netlist: &Netlist,
     sources: &[WireSource],
-) -> Result<Stimuli, AllocError>
-    ensures { IfOk result (λ stimuli. AreSetAnew netlist.now (until_in sources.now) 0 (rest_of stimuli)) }
+) -> Result<HeardChanges, AllocError>
+    ensures { IfOk result (λ stimuli. AreSetAnew netlist.now (until_in sources.now) 0 (left_of stimuli)) }
 {
     // Its contract tells that the netlist is well formed.
     let _horizon = netlist.horizon();
@@ -24,12 +24,7 @@ pub fn changed_stimuli(
     for place in all.place..all.list.len() {
         add_changed(&mut list, all.list[place], sources)?;
     }
-    Ok(Stimuli {
-        list,
-        place: 0,
-        bits: Vec::new(alloc),
-        levels: Vec::new(alloc),
-    })
+    Ok(HeardChanges { list, place: 0 })
 }
 
 /// Adds a change of a wire whose levels come from the new run alone.

@@ -19,7 +19,7 @@ use Rattle.mp_events.specs.Adding.{listed}
 use Rattle.mp_evaluation.specs.Marks.{is_marked}
 use Rattle.mp_evaluation.specs.Outcomes.{Outcome}
 use Rattle.mp_agreement.specs.Sources.{IsAsBefore, AreSources}
-use Rattle.mp_run.specs.Stimuli.{left_of, rest_of}
+use Rattle.mp_run.specs.Stimuli.{left_of}
 use Rattle.mp_excerpt.specs.Excerpts.{is_followed, ArePortsOn}
 use Rattle.mp_excerpt.specs.Numberings.{Numbering}
 use Rattle.mp_excerpt.specs.Showing.{Shows}
@@ -238,7 +238,7 @@ module _ (old new : Circuit) (run : Outcome) (ok : IsCircuit new) (numbering : N
       counted = subst (λ (active : ℕ → Bool). AreCounted new active numbering d) (sym actives) counted_now;
       tails = subst (λ (active : ℕ → Bool). AreTails new active (until_of made) t (left_of s.tails)) (sym actives)
           (subst (λ (comes : ℕ → ℕ → Bool). AreToCome new comes t (left_of s.tails)) (fun_ext (λ w. fun_ext (same_tail w))) ret.tails);
-      stimuli = subst (λ (comes : ℕ → ℕ → Bool). AreToCome new comes t (rest_of s.stimuli)) (fun_ext (λ w. fun_ext (same_set w))) ret.followed.stimuli;
+      stimuli = subst (λ (comes : ℕ → ℕ → Bool). AreToCome new comes t (left_of s.stimuli)) (fun_ext (λ w. fun_ext (same_set w))) ret.followed.stimuli;
     }
 
     by_now : IsRerunBy old new run numbering since t made

@@ -1,5 +1,5 @@
 -- What changes in the next unit of the new run, as the comparison is given it.
-use Rattle.std.proofs.Common.{◌≡◌, ℕ, ◌+◌, ◌-◌, ◌<◌, ◌≤◌, Bool, true, false, not, cond, nat_lt, List, [], ◌++◌, All, length, refl, sym, ap, subst, ◌∙◌, arith, inl, inr, slice_index_or}
+use Rattle.std.proofs.Common.{◌≡◌, ℕ, ◌+◌, ◌-◌, ◌<◌, ◌≤◌, Bool, true, false, not, cond, nat_lt, List, ◌++◌, All, length, refl, sym, ap, subst, ◌∙◌, arith, inl, inr, slice_index_or}
 use Rattle.std.specs.Prelude.{◌&&◌, ◌==◌}
 use Rattle.std.proofs.lemmas.Bool.{cases_lt, and_parts, ltb-true}
 use Rattle.std.proofs.lemmas.List.Elements.{All-append}
@@ -40,10 +40,8 @@ pub record AreComing (time : ℕ) (stimuli left : List StimulusChange) (s : Netl
   pub wires : coming.wires.now ≡ slot_at s.bits.simulator 0
   pub copies : coming.copies.now ≡ copy_slot s.bits.copies 0
   pub set : coming.set.now ≡ bits_at time stimuli ++ bits_at time left
-  pub tails : coming.tails.now ≡ []
   pub levels : coming.levels.now ≡ data_slot s.wires.wheel 0
   pub set_levels : coming.set_levels.now ≡ levels_at time stimuli ++ levels_at time left
-  pub tail_levels : coming.tail_levels.now ≡ []
 
 -- where what changed stimuli set, and the tails, are due
 pub coming_is : (time : ℕ) (stimuli left : List StimulusChange) (s : NetlistSimulation) (due : SetWires) (coming : NewChanges) → IsComing s due coming →
@@ -52,10 +50,8 @@ coming_is time stimuli left s due coming is bits levels = record {
   wires = is.wires;
   copies = is.copies;
   set = is.set ∙ bits;
-  tails = is.tails;
   levels = is.levels;
   set_levels = is.set_levels ∙ levels;
-  tail_levels = is.tail_levels;
 }
 
 -- ---- lists
@@ -74,12 +70,6 @@ narrow_change false c b some = (refl, (and_parts c b (bit_true (c && b) some)).0
 wide_change : (wide c b : Bool) → 0 < cond wide (bit (c && b)) 0 → (wide ≡ true) × (c ≡ true)
 wide_change true c b some = (refl, (and_parts c b (bit_true (c && b) some)).0)
 wide_change false c b some = let no : ⊥ = omega (arith, some) in absurd no
-
-none_listed : (x : ℕ) (xs : List ℕ) → xs ≡ [] → listed x xs ≡ 0
-none_listed x xs none = ap (listed x) none
-
-none_changed : (x : ℕ) (cs : List LevelChange) → cs ≡ [] → changes_of x cs ≡ 0
-none_changed x cs none = ap (changes_of x) none
 
 -- what is so much later than a wire, by its source
 pub late_told : (f : ℕ → ℕ → ℕ) (w d u : ℕ) (r : ℕ × ℕ) → r ≡ (w, d) → f w (u - d) ≡ f r.0 (u - r.1)
@@ -101,10 +91,8 @@ module _ (n : Circuit) (ok : IsCircuit n) (active on : ℕ → Bool) (numbering 
       listed x (bits_of coming)
       ≡ listed x (slot_at s.bits.simulator 0) + (listed x (copy_slot s.bits.copies 0) + (listed x (bits_at (t + 1) stimuli) + listed x (bits_at (t + 1) left)))
   bits_sum x =
-      let a = listed_append x (coming.wires.now ++ coming.copies.now ++ coming.set.now) coming.tails.now in
       let b = listed_append x (coming.wires.now ++ coming.copies.now) coming.set.now in
       let d = listed_append x coming.wires.now coming.copies.now in
-      let e = none_listed x coming.tails.now are.tails in
       let f = ap (listed x) are.set ∙ listed_append x (bits_at (t + 1) stimuli) (bits_at (t + 1) left) in
       let g = ap (listed x) are.wires in
       let h = ap (listed x) are.copies in
@@ -113,9 +101,7 @@ module _ (n : Circuit) (ok : IsCircuit n) (active on : ℕ → Bool) (numbering 
   levels_sum : (x : ℕ) →
       changes_of x (levels_of coming) ≡ changes_of x (data_slot s.wires.wheel 0) + (changes_of x (levels_at (t + 1) stimuli) + changes_of x (levels_at (t + 1) left))
   levels_sum x =
-      let a = changes_append x (coming.levels.now ++ coming.set_levels.now) coming.tail_levels.now in
       let b = changes_append x coming.levels.now coming.set_levels.now in
-      let e = none_changed x coming.tail_levels.now are.tail_levels in
       let f = ap (changes_of x) are.set_levels ∙ changes_append x (levels_at (t + 1) stimuli) (levels_at (t + 1) left) in
       let g = ap (changes_of x) are.levels in
       omega arith
@@ -153,23 +139,15 @@ module _ (n : Circuit) (ok : IsCircuit n) (active on : ℕ → Bool) (numbering 
   low_change : (k : ℕ) (d : LevelChange) → k < length (data_slot s.wires.wheel 0) → (slice_index_or (data_slot s.wires.wheel 0) k d).number < length c.numbers.wires.items
   low_change k d low = let within = shows.wires.numbered 0 k d low in omega (arith, within, count)
 
-  none_numbers : (xs : List ℕ) → xs ≡ [] → AreNumbers c.numbers xs
-  none_numbers xs none = subst (AreNumbers c.numbers) (sym none) (λ k d low. let no : ⊥ = omega (arith, low) in absurd no)
-
-  none_of_numbers : (cs : List LevelChange) → cs ≡ [] → AreOfNumbers c.numbers cs
-  none_of_numbers cs none = subst (AreOfNumbers c.numbers) (sym none) (λ k d low. let no : ⊥ = omega (arith, low) in absurd no)
-
   pub all_within : AreWithin c.numbers coming
   all_within = record {
     wires = subst (AreNumbers c.numbers) (sym are.wires) (all_listed (λ x. x < length c.numbers.wires.items) (slot_at s.bits.simulator 0) low_in_wires);
     copies = subst (AreNumbers c.numbers) (sym are.copies) (all_listed (λ x. x < length c.numbers.wires.items) (copy_slot s.bits.copies 0) low_in_copies);
     set = subst (AreNumbers c.numbers) (sym are.set)
         (All-append (λ x. x < length c.numbers.wires.items) (bits_at (t + 1) stimuli) (bits_at (t + 1) left) (all_in_bits anew stimuli first) (all_in_bits tail left second));
-    tails = none_numbers coming.tails.now are.tails;
     levels = subst (AreOfNumbers c.numbers) (sym are.levels) low_change;
     set_levels = subst (AreOfNumbers c.numbers) (sym are.set_levels)
         (All-append (λ (change : LevelChange). change.number < length c.numbers.wires.items) (levels_at (t + 1) stimuli) (levels_at (t + 1) left) (all_in_levels anew stimuli first) (all_in_levels tail left second));
-    tail_levels = none_of_numbers coming.tail_levels.now are.tail_levels;
   }
 
   -- ---- their levels
@@ -199,10 +177,8 @@ module _ (n : Circuit) (ok : IsCircuit n) (active on : ℕ → Bool) (numbering 
 
   all_right : All IsRight (levels_of coming)
   all_right =
-      All-append IsRight (coming.levels.now ++ coming.set_levels.now) coming.tail_levels.now
-      (All-append IsRight coming.levels.now coming.set_levels.now (subst (All IsRight) (sym are.levels) slot_right)
-      (subst (All IsRight) (sym are.set_levels) (All-append IsRight (levels_at (t + 1) stimuli) (levels_at (t + 1) left) (list_right anew stimuli first) (list_right tail left second))))
-      (subst (All IsRight) (sym are.tail_levels) (λ k d low. let no : ⊥ = omega (arith, low) in absurd no))
+      All-append IsRight coming.levels.now coming.set_levels.now (subst (All IsRight) (sym are.levels) slot_right)
+      (subst (All IsRight) (sym are.set_levels) (All-append IsRight (levels_at (t + 1) stimuli) (levels_at (t + 1) left) (list_right anew stimuli first) (list_right tail left second)))
 
   -- ---- just those that change are there
   module _ (until : ℕ → ℕ) (sources : (w : ℕ) → (source_at c w).until ≡ until w) (places : length c.asleep.items ≡ length c.numbers.wires.items)

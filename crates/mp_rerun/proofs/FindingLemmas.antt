@@ -8,7 +8,7 @@ use Rattle.mp_automata.specs.Codes.{bit}
 use Rattle.mp_events.specs.Adding.{listed}
 use Rattle.mp_calendar.specs.Calendars.{never}
 use Rattle.mp_evaluation.specs.Outcomes.{Outcome}
-use Rattle.mp_run.specs.Stimuli.{rest_of, left_of}
+use Rattle.mp_run.specs.Stimuli.{left_of}
 use Rattle.mp_work.specs.Revisions.{IsRevision}
 use Rattle.mp_agreement.specs.Reading.{late as late_at, AreAlike, SleepersReadAlike}
 use Rattle.mp_agreement.specs.Sources.{WiresAgree}
@@ -31,23 +31,23 @@ below_never n ok time low = let most = horizon_within n ok in omega arith
 
 module _ (old n : Circuit) (old_ok : IsCircuit old) (ok : IsCircuit n) (revised : IsRevision old n) (run : Outcome) (numbering : Numbering) (since : ℕ → ℕ) (t : ℕ) (s : Rerun)
     (is : IsRerunBy old n run numbering since t s) where
-  module _ (coming : NewChanges) (are : AreComing (t + 1) (rest_of s.stimuli) (left_of s.tails) s.simulation coming) where
+  module _ (coming : NewChanges) (are : AreComing (t + 1) (left_of s.stimuli) (left_of s.tails) s.simulation coming) where
     pub coming_within : AreWithin s.comparison.numbers coming
     coming_within =
         all_within n ok (active_of s) (on_of s) numbering t s.simulation is.shows s.comparison is.followed.numbered.count is.followed.numbered.source
-        (is_set_anew n (until_of s)) (is_tail n (active_of s) (until_of s)) (rest_of s.stimuli) (left_of s.tails) is.followed.stimuli is.followed.tails coming are
+        (is_set_anew n (until_of s)) (is_tail n (active_of s) (until_of s)) (left_of s.stimuli) (left_of s.tails) is.followed.stimuli is.followed.tails coming are
 
     pub coming_new : (time : ℕ) → t + 1 ≡ time → AreNewChanges (level n) time s.comparison coming
     coming_new time next =
         are_new n ok (active_of s) (on_of s) numbering t s.simulation is.shows s.comparison is.followed.numbered.count is.followed.numbered.source
-        (is_set_anew n (until_of s)) (is_tail n (active_of s) (until_of s)) (rest_of s.stimuli) (left_of s.tails) is.followed.stimuli is.followed.tails coming are
+        (is_set_anew n (until_of s)) (is_tail n (active_of s) (until_of s)) (left_of s.stimuli) (left_of s.tails) is.followed.stimuli is.followed.tails coming are
         (until_of s) (λ w. refl) is.followed.cursors.shape.asleep is.followed.lit
         (λ w some early. splits n ok old (active_of s) since (until_of s) is.followed.sources w (t + 1) some early) time next
 
     pub coming_low : HaveLowBits (level old) (level n) s.comparison coming
     coming_low =
         low_bits n ok (active_of s) (on_of s) numbering t s.simulation is.shows s.comparison is.followed.numbered.count is.followed.numbered.source
-        (is_set_anew n (until_of s)) (is_tail n (active_of s) (until_of s)) (rest_of s.stimuli) (left_of s.tails) is.followed.stimuli is.followed.tails coming are
+        (is_set_anew n (until_of s)) (is_tail n (active_of s) (until_of s)) (left_of s.stimuli) (left_of s.tails) is.followed.stimuli is.followed.tails coming are
         old old_ok revised
 
   pub agree_from : WiresAgree → (time : ℕ) → t + 1 ≡ time → time < never → AgreeFrom (level old) (level n) time s.comparison

@@ -7,7 +7,7 @@ use Rattle.mp_calendar.specs.Calendars.{never, IsCalendar, ComesUp}
 use Rattle.mp_data.specs.declared.level_change.LevelChange.{LevelChange}
 use Rattle.mp_evaluation.specs.Outcomes.{Outcome}
 use Rattle.mp_evaluation.specs.Runs.{IsRun}
-use Rattle.mp_run.specs.Stimuli.{rest_of, left_of}
+use Rattle.mp_run.specs.Stimuli.{left_of}
 use Rattle.mp_work.specs.Revisions.{IsRevision}
 use Rattle.mp_agreement.specs.Reading.{QuietWhereAlike, SleepersReadAlike}
 use Rattle.mp_agreement.specs.Sleeping.{SleepersSleepOn}
@@ -59,4 +59,4 @@ module _ (old n : Circuit) (old_ok : IsCircuit old) (ok : IsCircuit n) (revised 
       followed_on old n run numbering since t s new kept sleep_on (quiet_apart wires readers alike)
       (subst (HasCursors run (t + 1) []) (sym comparison) (cursors_on run t s.comparison k times is.followed.cursors nothing.calendar calendar))
       (subst (IsComplete run (t + 1)) (sym comparison) (complete_on run t s.comparison k times is.followed.complete))
-      (ap rest_of stimuli ∙ sym (none_after (t + 1) (rest_of s.stimuli) nothing.stimuli)) (ap left_of tails ∙ sym (none_after (t + 1) (left_of s.tails) nothing.tails)) is.followed
+      (ap left_of stimuli ∙ sym (none_after (t + 1) (left_of s.stimuli) nothing.stimuli)) (ap left_of tails ∙ sym (none_after (t + 1) (left_of s.tails) nothing.tails)) is.followed

@@ -12,7 +12,7 @@ use Rattle.mp_evaluation.specs.Outcomes.{Outcome}
 use Rattle.mp_evaluation.specs.Runs.{IsRun}
 use Rattle.mp_evaluation.proofs.MarkLemmas.{none_in}
 use Rattle.mp_run.specs.declared.stimuli.StimulusChange.{StimulusChange}
-use Rattle.mp_run.specs.Stimuli.{rest_of, left_of, AreFrom}
+use Rattle.mp_run.specs.Stimuli.{left_of, AreFrom}
 use Rattle.mp_work.specs.Revisions.{IsRevision}
 use Rattle.mp_agreement.specs.Reading.{QuietWhereAlike, SleepersReadAlike}
 use Rattle.mp_agreement.specs.Resting.{SleepersRest}
@@ -49,7 +49,7 @@ pub record LeapLaws : Type 0 where
 -- nothing is under way in the simulation; before a time no change is due, and no number; and the calendar can be so late
 pub record CanLeap (time : ℕ) (s : Rerun) : Type 0 where
   pub rest : IsAtRest s.simulation
-  pub stimuli : AreFrom time (rest_of s.stimuli)
+  pub stimuli : AreFrom time (left_of s.stimuli)
   pub tails : AreFrom time (left_of s.tails)
   pub calendar : IsCalendar (time - 1) [] s.comparison.calendar
   pub times : (x : ℕ) → time_of s.comparison.calendar x ≢ never → time - 1 < time_of s.comparison.calendar x
@@ -69,7 +69,7 @@ leap_comes u time s early low can = record {
   wires = empty_next s.simulation.bits.simulator.wheel can.rest.bits.wires;
   copies = empty_next s.simulation.bits.copies.wheel can.rest.bits.copies;
   changes = empty_next s.simulation.wires.wheel can.rest.changes;
-  stimuli = none_due_before u time (rest_of s.stimuli) early can.stimuli;
+  stimuli = none_due_before u time (left_of s.stimuli) early can.stimuli;
   tails = none_due_before u time (left_of s.tails) early can.tails;
   calendar = later_due (time - 1) u s.comparison (omega (arith, early)) low can.times;
 }

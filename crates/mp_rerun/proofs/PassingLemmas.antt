@@ -2,7 +2,7 @@
 use Rattle.std.proofs.Common.{◌≡◌, ℕ, ◌+◌, [], sym, subst}
 use Rattle.mp_netlist.specs.Circuit.{Circuit}
 use Rattle.mp_evaluation.specs.Outcomes.{Outcome}
-use Rattle.mp_run.specs.Stimuli.{rest_of, left_of, changes_after}
+use Rattle.mp_run.specs.Stimuli.{left_of, changes_after}
 use Rattle.mp_agreement.specs.Sleeping.{SleepersSleepOn}
 use Rattle.mp_excerpt.specs.Numberings.{Numbering}
 use Rattle.mp_excerpt.specs.Setting.{AreSetOutside}
@@ -14,7 +14,7 @@ use Rattle.mp_rerun.specs.Reruns.{IsFollowed, active_of, on_of, until_of}
 use Rattle.mp_rerun.proofs.ToComeLemmas.{later_to_come}
 
 pub followed_on : (old n : Circuit) (run : Outcome) (numbering : Numbering) (since : ℕ → ℕ) (t : ℕ) (s new : Rerun) → HasSet s new → SleepersSleepOn → NoneIsApart old n (active_of s) (t + 1) →
-    HasCursors run (t + 1) [] new.comparison → IsComplete run (t + 1) new.comparison → rest_of new.stimuli ≡ changes_after (t + 1) (rest_of s.stimuli) → left_of new.tails ≡ changes_after (t + 1) (left_of s.tails) →
+    HasCursors run (t + 1) [] new.comparison → IsComplete run (t + 1) new.comparison → left_of new.stimuli ≡ changes_after (t + 1) (left_of s.stimuli) → left_of new.tails ≡ changes_after (t + 1) (left_of s.tails) →
     IsFollowed old n run numbering since t s → IsFollowed old n run numbering since (t + 1) new
 followed_on old n run numbering since t s new kept sleep_on none cursors complete stimuli tails f =
     subst (IsFollowed old n run numbering since (t + 1)) (sym kept) (record {
@@ -38,7 +38,7 @@ followed_on old n run numbering since t s new kept sleep_on none cursors complet
       complete = subst (λ (r : Rerun). IsComplete run (t + 1) r.comparison) kept complete;
       counted = f.counted;
       tails = subst (AreTails n (active_of s) (until_of s) (t + 1)) (sym tails) (later_to_come n (is_tail n (active_of s) (until_of s)) t (left_of s.tails) f.tails);
-      stimuli = subst (AreSetAnew n (until_of s) (t + 1)) (sym stimuli) (later_to_come n (is_set_anew n (until_of s)) t (rest_of s.stimuli) f.stimuli);
+      stimuli = subst (AreSetAnew n (until_of s) (t + 1)) (sym stimuli) (later_to_come n (is_set_anew n (until_of s)) t (left_of s.stimuli) f.stimuli);
     })
 
 -- the same modules are active and the same wires on
@@ -50,11 +50,11 @@ set_there n time s new kept are =
 
 -- the same at a time that comes next
 pub followed_at : (old n : Circuit) (run : Outcome) (numbering : Numbering) (since : ℕ → ℕ) (t time : ℕ) (s new : Rerun) → t + 1 ≡ time → HasSet s new → SleepersSleepOn → NoneIsApart old n (active_of s) time →
-    HasCursors run time [] new.comparison → IsComplete run time new.comparison → rest_of new.stimuli ≡ changes_after time (rest_of s.stimuli) → left_of new.tails ≡ changes_after time (left_of s.tails) →
+    HasCursors run time [] new.comparison → IsComplete run time new.comparison → left_of new.stimuli ≡ changes_after time (left_of s.stimuli) → left_of new.tails ≡ changes_after time (left_of s.tails) →
     IsFollowed old n run numbering since t s → IsFollowed old n run numbering since time new
 followed_at old n run numbering since t time s new next kept sleep_on none cursors complete stimuli tails f =
     let back = sym next in
     subst (λ u. IsFollowed old n run numbering since u new) next
     (followed_on old n run numbering since t s new kept sleep_on (subst (NoneIsApart old n (active_of s)) back none) (subst (λ u. HasCursors run u [] new.comparison) back cursors)
-    (subst (λ u. IsComplete run u new.comparison) back complete) (subst (λ u. rest_of new.stimuli ≡ changes_after u (rest_of s.stimuli)) back stimuli)
+    (subst (λ u. IsComplete run u new.comparison) back complete) (subst (λ u. left_of new.stimuli ≡ changes_after u (left_of s.stimuli)) back stimuli)
     (subst (λ u. left_of new.tails ≡ changes_after u (left_of s.tails)) back tails) f)

@@ -19,7 +19,7 @@ use Rattle.mp_units.specs.DataLevels.{is_data, is_bit_wire, changes_of}
 use Rattle.mp_units.specs.DataWheels.{data_slot}
 use Rattle.mp_evaluation.specs.Outcomes.{Outcome}
 use Rattle.mp_run.specs.declared.stimuli.StimulusChange.{StimulusChange}
-use Rattle.mp_run.specs.Stimuli.{bits_of, levels_of, bits_at, levels_at, changes_after, rest_of, left_of}
+use Rattle.mp_run.specs.Stimuli.{bits_of, levels_of, bits_at, levels_at, changes_after, left_of}
 use Rattle.mp_work.specs.Revisions.{IsRevision}
 use Rattle.mp_agreement.specs.Reading.{late as late_at, AreAlike, QuietWhereAlike, SleepersReadAlike}
 use Rattle.mp_agreement.specs.Sources.{SleepersDriveAlike, WiresAgree}
@@ -61,7 +61,7 @@ pub record NothingComes (u : ℕ) (s : Rerun) : Type 0 where
   pub wires : slot_at s.simulation.bits.simulator 0 ≡ []
   pub copies : copy_slot s.simulation.bits.copies 0 ≡ []
   pub changes : data_slot s.simulation.wires.wheel 0 ≡ []
-  pub stimuli : is_due u (rest_of s.stimuli) ≡ false
+  pub stimuli : is_due u (left_of s.stimuli) ≡ false
   pub tails : is_due u (left_of s.tails) ≡ false
   pub calendar : NoneIsDue u s.comparison
 
@@ -102,7 +102,7 @@ module _ (old n : Circuit) (old_ok : IsCircuit old) (ok : IsCircuit n) (revised 
       let some = ltb-true 0 (source_at c w).until may.1 in
       let count = is.followed.numbered.count in
       let bright : on_of s (numbering.source x).0 ≡ true = ap (λ (r : ℕ × ℕ). on_of s r.0) told ∙ is.followed.lit w some in
-      let comes = all_come n ok (active_of s) (on_of s) numbering t s.simulation is.shows (is_set_anew n (until_of s)) (is_tail n (active_of s) (until_of s)) (rest_of s.stimuli) (left_of s.tails)
+      let comes = all_come n ok (active_of s) (on_of s) numbering t s.simulation is.shows (is_set_anew n (until_of s)) (is_tail n (active_of s) (until_of s)) (left_of s.stimuli) (left_of s.tails)
       is.followed.stimuli is.followed.tails x (omega (arith, within, count)) bright
       (λ own.
       let wire : w ≡ x = ap (λ (r : ℕ × ℕ). r.0) (sym told ∙ own) in
@@ -111,10 +111,10 @@ module _ (old n : Circuit) (old_ok : IsCircuit old) (ok : IsCircuit n) (revised 
       (splits n ok old (active_of s) since (until_of s) is.followed.sources w (t + 1) some (omega (arith, early, none)))) in
       let a = ap (listed x) nothing.wires in
       let b = ap (listed x) nothing.copies in
-      let e = ap (listed x) (no_bits (t + 1) (rest_of s.stimuli) nothing.stimuli) in
+      let e = ap (listed x) (no_bits (t + 1) (left_of s.stimuli) nothing.stimuli) in
       let f = ap (listed x) (no_bits (t + 1) (left_of s.tails) nothing.tails) in
       let g = ap (changes_of x) nothing.changes in
-      let h = ap (changes_of x) (no_levels (t + 1) (rest_of s.stimuli) nothing.stimuli) in
+      let h = ap (changes_of x) (no_levels (t + 1) (left_of s.stimuli) nothing.stimuli) in
       let i = ap (changes_of x) (no_levels (t + 1) (left_of s.tails) nothing.tails) in
       let rests : bit (late_change n (numbering.source x) (t + 1)) ≡ 0 = omega (arith, comes, a, b, e, f, g, h, i) in
       let same = the_same (level n (numbering.source x).0 (t - (numbering.source x).1)) (level n (numbering.source x).0 (t + 1 - (numbering.source x).1))
@@ -158,8 +158,8 @@ module _ (old n : Circuit) (old_ok : IsCircuit old) (ok : IsCircuit n) (revised 
         let anew = is_set_anew n (until_of s) in
         let tail = is_tail n (active_of s) (until_of s) in
         let a = both_parts (is_data n w) (bit (change_at n w (t + 1) && anew w (t + 1)))
-        (sym (bits_to_come n anew t (rest_of s.stimuli) is.followed.stimuli w) ∙ ap (listed w) (no_bits (t + 1) (rest_of s.stimuli) nothing.stimuli))
-        (sym (levels_to_come n anew t (rest_of s.stimuli) is.followed.stimuli w) ∙ ap (changes_of w) (no_levels (t + 1) (rest_of s.stimuli) nothing.stimuli)) in
+        (sym (bits_to_come n anew t (left_of s.stimuli) is.followed.stimuli w) ∙ ap (listed w) (no_bits (t + 1) (left_of s.stimuli) nothing.stimuli))
+        (sym (levels_to_come n anew t (left_of s.stimuli) is.followed.stimuli w) ∙ ap (changes_of w) (no_levels (t + 1) (left_of s.stimuli) nothing.stimuli)) in
         let b = both_parts (is_data n w) (bit (change_at n w (t + 1) && tail w (t + 1)))
         (sym (bits_to_come n tail t (left_of s.tails) is.followed.tails w) ∙ ap (listed w) (no_bits (t + 1) (left_of s.tails) nothing.tails))
         (sym (levels_to_come n tail t (left_of s.tails) is.followed.tails w) ∙ ap (changes_of w) (no_levels (t + 1) (left_of s.tails) nothing.tails)) in

@@ -29,7 +29,7 @@ use Rattle.mp_evaluation.specs.Outcomes.{Outcome}
 use Rattle.mp_units.specs.declared.data_modules.DataModules.{DataModules}
 use Rattle.mp_run.specs.declared.stimuli.StimulusChange.{StimulusChange}
 use Rattle.mp_run.specs.Seating.{AreOutputsWithin}
-use Rattle.mp_run.specs.Stimuli.{left_of, rest_of}
+use Rattle.mp_run.specs.Stimuli.{left_of}
 use Rattle.mp_run.specs.Wirings.{AreByPort}
 use Rattle.mp_work.specs.Revisions.{IsKept}
 use Rattle.mp_agreement.specs.Sleeping.{IsSleeping, AreSleeping}
@@ -184,10 +184,10 @@ module _ (old new : Circuit) (ok : IsCircuit new) (run : Outcome) (numbering : N
               (subst (λ (xs : List StimulusChange). IsPermutation (left_of s.tails ++ xs) (left_of last.tails)) (taken_alike (is_gone now.comparison.sources.items) time s.simulation now.simulation units (same_wheel old new ok run numbering since time units leaving s now some below is are) (same_changes old new ok run numbering since time units leaving s now some below is are))
               (subst (λ (xs : List StimulusChange). IsPermutation (xs ++ taken_in (is_gone now.comparison.sources.items) time now.simulation units) (left_of last.tails)) same_tails took.tails))
 
-      stimuli_last : AreSetAnew new (until_of now) (time - 1) (rest_of now.stimuli)
+      stimuli_last : AreSetAnew new (until_of now) (time - 1) (left_of now.stimuli)
       stimuli_last =
           let was = is.followed.stimuli in
-          subst (λ (ss : List StimulusChange). AreSetAnew new (until_of now) (time - 1) ss) (sym (ap (λ (x : Rerun). rest_of x.stimuli) are.kept)) (record {
+          subst (λ (ss : List StimulusChange). AreSetAnew new (until_of now) (time - 1) ss) (sym (ap (λ (x : Rerun). left_of x.stimuli) are.kept)) (record {
             listed = was.listed;
             each = λ w u after. was.each w u after ∙ ap (λ (b : Bool). bit (change_at new w u && b)) (sym (set_alike w (driver new w) refl));
             set = was.set;

@@ -19,7 +19,7 @@ use Rattle.mp_work.specs.Revisions.{IsRevision, IsKept}
 use Rattle.mp_units.specs.declared.data_modules.DataModules.{DataModules}
 use Rattle.mp_units.specs.declared.netlist_simulation.NetlistSimulation.{NetlistSimulation}
 use Rattle.mp_units.specs.DataLevels.{is_data}
-use Rattle.mp_run.specs.Stimuli.{left_of, rest_of}
+use Rattle.mp_run.specs.Stimuli.{left_of}
 use Rattle.mp_excerpt.specs.Numberings.{Numbering}
 use Rattle.mp_excerpt.specs.Showing.{Shows}
 use Rattle.mp_excerpt.specs.Turning.{IsTurnedOn}
@@ -30,7 +30,7 @@ use Rattle.mp_compare.specs.declared.comparison.Comparison.{Comparison}
 use Rattle.mp_compare.specs.Comparing.{source_at, off, HasCursors, IsComplete}
 use Rattle.mp_compare.specs.Waking.{turned_on}
 use Rattle.mp_steps.specs.TurningOn.{TurnsOn}
-use Rattle.mp_rerun.specs.declared.change.Change.{Change}
+use Rattle.mp_compare.specs.declared.change.Change.{Change}
 use Rattle.mp_rerun.specs.declared.rerun.Rerun.{Rerun}
 use Rattle.mp_rerun.specs.Following.{AreTails, AreSetAnew}
 use Rattle.mp_rerun.specs.Seats.{AreSeats}
@@ -177,7 +177,7 @@ module _ (w t : ℕ) (run : Outcome) (s : Rerun) (sim : NetlistSimulation) (d : 
       complete = follows.complete is.complete;
       counted = counted_kept new (active_of s) numbering s.comparison d same_numbers same_asleep is.counted;
       tails = subst (λ (until : ℕ → ℕ). AreTails new (active_of s) until t (left_of s.tails)) (sym untils) is.tails;
-      stimuli = subst (λ (until : ℕ → ℕ). AreSetAnew new until t (rest_of s.stimuli)) (sym untils) is.stimuli;
+      stimuli = subst (λ (until : ℕ → ℕ). AreSetAnew new until t (left_of s.stimuli)) (sym untils) is.stimuli;
     }
 
 -- a simulation in which a wire is turned on keeps its rows and units

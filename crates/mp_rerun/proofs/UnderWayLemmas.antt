@@ -10,7 +10,7 @@ use Rattle.mp_evaluation.specs.Runs.{IsRun}
 use Rattle.mp_units.specs.DataLevels.{has_data as has_data_there}
 use Rattle.mp_run.specs.declared.stimuli.StimulusChange.{StimulusChange}
 use Rattle.mp_run.specs.declared.wiring.WiredInputs.{WiredInputs}
-use Rattle.mp_run.specs.Stimuli.{left_of, rest_of}
+use Rattle.mp_run.specs.Stimuli.{left_of}
 use Rattle.mp_run.specs.Wirings.{AreByPort}
 use Rattle.mp_work.specs.Revisions.{IsRevision}
 use Rattle.mp_work.specs.Work.{block_of, window_end, IsWindow}
@@ -55,7 +55,7 @@ pub record IsMade (old new : Circuit) (run : Outcome) (wired : WiredInputs) (s :
   pub cursors : HasCursors run 0 [] s.comparison
   pub unseen : AreUnseen 1 s.comparison
   pub complete : IsComplete run 0 s.comparison
-  pub stimuli : AreSetAnew new (until_of s) 0 (rest_of s.stimuli)
+  pub stimuli : AreSetAnew new (until_of s) 0 (left_of s.stimuli)
   pub tails : left_of s.tails ≡ []
   pub history : IsHistory old new run (λ m. 0) 0 (active_of s) s.history
   pub window : s.window_end ≡ window_end new 0

@@ -1,5 +1,5 @@
 -- What comes in the next unit, as a comparison is given it.
-use Rattle.std.specs.Prelude.{◌≡◌, []}
+use Rattle.std.specs.Prelude.{◌≡◌}
 use Rattle.mp_core.specs.Simulators.{slot_at}
 use Rattle.mp_core.specs.Simulations.{copy_slot}
 use Rattle.mp_units.specs.declared.netlist_simulation.NetlistSimulation.{NetlistSimulation}
@@ -12,7 +12,5 @@ pub record IsComing (s : NetlistSimulation) (due : SetWires) (coming : NewChange
   pub wires : coming.wires.now ≡ slot_at s.bits.simulator 0
   pub copies : coming.copies.now ≡ copy_slot s.bits.copies 0
   pub set : coming.set.now ≡ due.bits.items
-  pub tails : coming.tails.now ≡ []
   pub levels : coming.levels.now ≡ data_slot s.wires.wheel 0
   pub set_levels : coming.set_levels.now ≡ due.levels.items
-  pub tail_levels : coming.tail_levels.now ≡ []

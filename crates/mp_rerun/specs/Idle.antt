@@ -2,7 +2,7 @@
 use Rattle.std.specs.Prelude.{◌≡◌, ◌==◌, ℕ, Bool, false, List, [], ◌∷◌}
 use Rattle.mp_calendar.specs.Calendars.{coming}
 use Rattle.mp_run.specs.declared.stimuli.StimulusChange.{StimulusChange}
-use Rattle.mp_run.specs.Stimuli.{rest_of, left_of}
+use Rattle.mp_run.specs.Stimuli.{left_of}
 use Rattle.mp_units.specs.NetlistSimulations.{IsStill}
 use Rattle.mp_rerun.specs.declared.rerun.Rerun.{Rerun}
 
@@ -15,5 +15,5 @@ is_due time (s ∷ ss) = s.time == time
 pub record IsQuiet (time : ℕ) (s : Rerun) : Type 0 where
   pub still : IsStill s.simulation
   pub calendar : coming s.comparison.calendar ≡ []
-  pub stimuli : is_due time (rest_of s.stimuli) ≡ false
+  pub stimuli : is_due time (left_of s.stimuli) ≡ false
   pub tails : is_due time (left_of s.tails) ≡ false

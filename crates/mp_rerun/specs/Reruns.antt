@@ -5,7 +5,7 @@ use Rattle.mp_netlist.specs.Delays.{least_delay}
 use Rattle.mp_evaluation.specs.Marks.{is_marked}
 use Rattle.mp_evaluation.specs.Outcomes.{Outcome}
 use Rattle.mp_evaluation.specs.Runs.{IsRun}
-use Rattle.mp_run.specs.Stimuli.{left_of, rest_of}
+use Rattle.mp_run.specs.Stimuli.{left_of}
 use Rattle.mp_work.specs.Revisions.{IsRevision}
 use Rattle.mp_agreement.specs.Sleeping.{AreSleeping}
 use Rattle.mp_agreement.specs.Sources.{AreSources}
@@ -13,7 +13,7 @@ use Rattle.mp_excerpt.specs.Excerpts.{ArePortsOn}
 use Rattle.mp_excerpt.specs.Numberings.{Numbering}
 use Rattle.mp_excerpt.specs.Showing.{Shows}
 use Rattle.mp_compare.specs.Comparing.{source_at, HasCursors, IsComplete}
-use Rattle.mp_rerun.specs.declared.change.Change.{Change}
+use Rattle.mp_compare.specs.declared.change.Change.{Change}
 use Rattle.mp_rerun.specs.declared.rerun.Rerun.{Rerun}
 use Rattle.mp_rerun.specs.Numbered.{AreNumbered, AreCounted}
 use Rattle.mp_rerun.specs.Following.{AreTails, AreSetAnew}
@@ -51,7 +51,7 @@ pub record IsFollowed (old new : Circuit) (run : Outcome) (numbering : Numbering
   pub complete : IsComplete run t s.comparison
   pub counted : AreCounted new (active_of s) numbering s.comparison
   pub tails : AreTails new (active_of s) (until_of s) t (left_of s.tails)
-  pub stimuli : AreSetAnew new (until_of s) t (rest_of s.stimuli)
+  pub stimuli : AreSetAnew new (until_of s) t (left_of s.stimuli)
 
 -- and the simulation has the active modules, and the wires that are on
 pub record IsRerunBy (old new : Circuit) (run : Outcome) (numbering : Numbering) (since : ℕ → ℕ) (t : ℕ) (s : Rerun) : Type 0 where

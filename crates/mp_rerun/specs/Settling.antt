@@ -3,7 +3,7 @@ use Rattle.std.specs.Prelude.{◌≡◌, ◌⊎◌, ℕ, ◌-◌, ◌<◌, ◌�
 use Rattle.mp_wave.specs.Waveform.{between}
 use Rattle.mp_netlist.specs.Circuit.{Circuit, module_at, stimulus_at}
 use Rattle.mp_evaluation.specs.Outcomes.{Outcome}
-use Rattle.mp_run.specs.Stimuli.{left_of, rest_of}
+use Rattle.mp_run.specs.Stimuli.{left_of}
 use Rattle.mp_calendar.specs.Calendars.{never}
 use Rattle.mp_compare.specs.declared.comparison.Comparison.{Comparison}
 use Rattle.mp_compare.specs.Comparing.{wire_of, delay_of, source_at, old_wave, is_tracked}
@@ -32,7 +32,7 @@ pub record IsOver (new : Circuit) (run : Outcome) (c : Comparison) (x time : ℕ
 -- from a time on nobody is active, no change is to come that no active module makes, and what modules read that sleep has the levels of the old run
 pub record IsSettled (new : Circuit) (run : Outcome) (time : ℕ) (s : Rerun) : Type 0 where
   pub nobody : (m : ℕ) → IsSome (module_at new m) → active_of s m ≡ true → ⊥
-  pub stimuli : rest_of s.stimuli ≡ []
+  pub stimuli : left_of s.stimuli ≡ []
   pub tails : left_of s.tails ≡ []
   pub alike : (x : ℕ) → x < length s.comparison.numbers.wires.items → (is_tracked s.comparison x time ≡ false) ⊎ IsOver new run s.comparison x time
 

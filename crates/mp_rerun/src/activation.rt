@@ -1,9 +1,9 @@
 //! Modules become active.
 ghost use Rattle.std.specs.Prelude.{◌≡◌};
 
-use crate::change::Change;
 use crate::rerun::Rerun;
 use mp_agreement::laws::sleepers_agree;
+use mp_compare::Change;
 use mp_model::built;
 use mp_modules::Memory;
 use mp_netlist::{ModuleId, ModuleRecord};

@@ -1,8 +1,8 @@
 //! The border between two blocks: states are kept, and modules whose states are those of the old run again fall asleep.
 ghost use Rattle.std.specs.Prelude.{◌≡◌};
 
-use crate::change::Change;
 use crate::rerun::Rerun;
+use mp_compare::Change;
 use mp_evaluation::Run;
 use mp_history::old_state;
 use mp_modules::Memory;

@@ -1,13 +1,3 @@
-//! A change of a netlist.
+//! A change of a netlist, as it is compared.
 
-use mp_evaluation::Run;
-use mp_netlist::Netlist;
-
-/// A netlist with its run, and the netlist that has become of it, with its least delay.
-#[derive(Clone, Copy)]
-pub(crate) struct Change<'a> {
-    pub old: &'a Netlist,
-    pub run: &'a Run,
-    pub new: &'a Netlist,
-    pub least: u32,
-}
+pub(crate) use mp_compare::Change;

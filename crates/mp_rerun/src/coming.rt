@@ -15,9 +15,7 @@ pub(crate) fn coming_changes<'a>(
         wires: simulation.toggles_ahead(0),
         copies: simulation.bits.copies.wheel.slot(0),
         set: set.bits.as_slice(),
-        tails: &[],
         levels: simulation.levels_ahead(0),
         set_levels: set.levels.as_slice(),
-        tail_levels: &[],
     }
 }

@@ -5,7 +5,7 @@ ghost use Rattle.mp_evaluation.specs.Marks.{is_marked};
 ghost use Rattle.mp_rerun.specs.Windows.{AreTouched};
 
 use crate::activity::Activity;
-use crate::change::Change;
+use mp_compare::Change;
 use mp_depend::touched;
 use mp_netlist::ModuleId;
 use std::alloc::{AllocError, Global};

@@ -6,10 +6,10 @@ ghost use Rattle.mp_run.specs.Stimuli.{AreFrom};
 ghost use Rattle.mp_rerun.specs.Idle.{is_due};
 ghost use Rattle.mp_work.specs.Work.{window_of};
 
-use crate::change::Change;
 use crate::rerun::Rerun;
 use mp_agreement::laws::{readers_agree, sleepers_agree, sleepers_rest, wires_agree};
 use mp_calendar::laws::comes_up;
+use mp_compare::Change;
 use mp_excerpt::laws::{
     excerpts_are_circuits, excerpts_are_simulated, numbers_stay, sets_are_stimuli,
 };
@@ -22,7 +22,7 @@ const LOOK_UNITS: u32 = 1024;
 impl Rerun {
     ghost use Rattle.std.specs.Prelude.{◌≡◌, ◌≢◌, ℕ, ◌+◌, ◌-◌, ◌<◌, ◌≤◌, [], IsTrue};
     ghost use Rattle.mp_calendar.specs.Calendars.{never, time_of, IsCalendar};
-    ghost use Rattle.mp_run.specs.Stimuli.{rest_of, left_of, AreFrom};
+    ghost use Rattle.mp_run.specs.Stimuli.{left_of, AreFrom};
     ghost use Rattle.mp_units.specs.NetlistSimulations.{IsAtRest};
     ghost use Rattle.mp_excerpt.specs.Numberings.{Numbering};
     ghost use Rattle.mp_excerpt.specs.Setting.{AreSetOutside};
@@ -114,13 +114,13 @@ impl Rerun {
         requires some { 0 < from }
         requires below { from < horizon }
         requires calendar { IsCalendar (from - 1) [] self.now.comparison.calendar }
-        requires stimuli { AreFrom from (rest_of self.now.stimuli) }
+        requires stimuli { AreFrom from (left_of self.now.stimuli) }
         requires tails { AreFrom from (left_of self.now.tails) }
         ensures later { from ≤ result }
         ensures within { result ≤ horizon }
         ensures calendar { IsCalendar (result - 1) [] self.now.comparison.calendar }
         ensures times { (x : ℕ) → time_of self.now.comparison.calendar x ≢ never → result - 1 < time_of self.now.comparison.calendar x }
-        ensures stimuli { AreFrom result (rest_of self.now.stimuli) }
+        ensures stimuli { AreFrom result (left_of self.now.stimuli) }
         ensures tails { AreFrom result (left_of self.now.tails) }
     {
         let first = next_change(self.stimuli.list.as_slice(), self.stimuli.place, horizon);

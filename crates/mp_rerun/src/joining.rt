@@ -6,11 +6,11 @@ ghost use Rattle.mp_events.specs.declared.fanout_entry.FanoutEntry.{FanoutEntry}
 ghost use Rattle.mp_evaluation.specs.Marks.{is_marked};
 ghost use Rattle.mp_rerun.specs.Hearing.{AreHearing};
 
-use crate::change::Change;
 use crate::coming::coming_changes;
 use crate::following::list_due;
 use crate::rerun::Rerun;
 use mp_agreement::laws::{readers_agree, wires_agree};
+use mp_compare::Change;
 use mp_compare::laws::runs_are_old;
 use mp_events::FanoutEntry;
 use mp_netlist::ModuleId;

@@ -1,9 +1,9 @@
 //! The states in which modules become active.
 ghost use Rattle.std.specs.Prelude.{◌≡◌};
 
-use crate::change::Change;
 use crate::rerun::Rerun;
 use crate::tasks::{states_by, tasks_of};
+use mp_compare::Change;
 use mp_history::old_state;
 use mp_modules::Memory;
 use mp_phase::{Crew, Gate};

@@ -11,8 +11,8 @@ ghost use Rattle.mp_work.specs.Revisions.{IsKept};
 ghost use Rattle.mp_compare.specs.Comparing.{old_wave};
 ghost use Rattle.mp_rerun.specs.Reruns.{IsChange};
 
-use crate::change::Change;
 use crate::old_state::{old_pieces, old_state_before};
+use mp_compare::Change;
 use mp_evaluation::Run;
 use mp_model::built;
 use mp_netlist::{ModuleId, ModuleRecord, Output};

@@ -10,7 +10,7 @@ ghost use Rattle.mp_work.specs.Revisions.{IsKept};
 ghost use Rattle.mp_compare.specs.Comparing.{old_wave};
 ghost use Rattle.mp_rerun.specs.Reruns.{IsChange};
 
-use crate::change::Change;
+use mp_compare::Change;
 use mp_evaluation::Run;
 use mp_history::old_state;
 use mp_modules::{MOST_INPUTS, Memory};

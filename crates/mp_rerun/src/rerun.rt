@@ -4,7 +4,7 @@ use crate::activity::Activity;
 use mp_compare::{Comparison, SetWires};
 use mp_history::History;
 use mp_modules::MOST_INPUTS;
-use mp_run::{HeardChanges, Stimuli};
+use mp_run::HeardChanges;
 use mp_units::NetlistSimulation;
 
 /// The simulation of the new netlist, in which the modules that aren't active sleep; what is compared with the old run; the numbers that each
@@ -16,7 +16,7 @@ pub(crate) struct Rerun {
     pub simulation: NetlistSimulation,
     pub comparison: Comparison,
     pub inputs: Vec<[Option<u32>; MOST_INPUTS]>,
-    pub stimuli: Stimuli,
+    pub stimuli: HeardChanges,
     pub tails: HeardChanges,
     pub activity: Activity,
     pub history: History,

@@ -3,10 +3,10 @@ ghost use Rattle.std.specs.Prelude.{◌≡◌, ℕ, ◌++◌, ◌∷◌, [], dro
 ghost use Rattle.mp_steps.specs.Putting.{HasPut, entries_of, room};
 ghost use Rattle.mp_rerun.specs.Returning.{IsTailIn, AreTailsIn, tail_of, others_of};
 
-use crate::change::Change;
 use crate::last_wave::last_wave;
 use crate::rerun::Rerun;
 use mp_agreement::laws::wires_agree;
+use mp_compare::Change;
 use mp_modules::Memory;
 use mp_netlist::{ModuleId, ModuleRecord, Output};
 use mp_regions::Region;

@@ -1,10 +1,10 @@
 //! What is set in a unit: wires that are on and that no active module drives change.
 ghost use Rattle.std.specs.Prelude.{◌≡◌};
 
-use crate::change::Change;
 use crate::following::list_due;
 use crate::rerun::Rerun;
 use mp_agreement::laws::{sleepers_agree, wires_agree};
+use mp_compare::Change;
 use mp_compare::laws::runs_are_old;
 use std::alloc::AllocError;
 

@@ -5,16 +5,16 @@ ghost use Rattle.mp_netlist.specs.Circuit.{stimulus_at};
 ghost use Rattle.mp_compare.specs.Comparing.{old_wave};
 ghost use Rattle.mp_rerun.specs.Settling.{AreUpTo, IsSetUpTo};
 
-use crate::change::Change;
 use crate::rerun::Rerun;
 use mp_calendar::NEVER;
+use mp_compare::Change;
 use mp_evaluation::Run;
 use mp_netlist::{Netlist, WireId, checkpoint_units};
 use mp_run::StimulusChange;
 
 impl Rerun {
     ghost use Rattle.std.specs.Prelude.{◌≡◌, ◌⊎◌, ℕ, ◌-◌, ◌<◌, ◌^◌, [], false, length, IsTrue};
-    ghost use Rattle.mp_run.specs.Stimuli.{left_of, rest_of};
+    ghost use Rattle.mp_run.specs.Stimuli.{left_of};
     ghost use Rattle.mp_compare.specs.Comparing.{IsShaped, is_tracked};
     ghost use Rattle.mp_rerun.specs.Settling.{IsOver, IsSettled};
     ghost use Rattle.mp_rerun.specs.Windows.{IsAtWindow};
@@ -37,7 +37,7 @@ impl Rerun {
     /// Whether nobody is live, and no change is to come that no active module makes.
     fn is_left_alone(&self) -> bool
         ensures nobody { IsTrue result → self.now.history.live.items ≡ [] }
-        ensures stimuli { IsTrue result → rest_of self.now.stimuli ≡ [] }
+        ensures stimuli { IsTrue result → left_of self.now.stimuli ≡ [] }
         ensures tails { IsTrue result → left_of self.now.tails ≡ [] }
     {
         self.history.live().is_empty()

@@ -1,8 +1,8 @@
 //! Modules fall asleep between two units.
 ghost use Rattle.std.specs.Prelude.{◌≡◌};
 
-use crate::change::Change;
 use crate::rerun::Rerun;
+use mp_compare::Change;
 use mp_netlist::{ModuleId, ModuleRecord};
 use mp_run::HeardChanges;
 use mp_steps::{put_to_sleep, take_changes};

@@ -1,12 +1,11 @@
 //! A change at time 0: the touched modules are active.
 ghost use Rattle.std.specs.Prelude.{◌≡◌};
 
-use crate::change::Change;
 use crate::first_activity::{first_activity, touched_marks};
 use crate::first_simulation::{First, first_simulation};
 use crate::rerun::Rerun;
 use mp_compare::laws::reads_are_listed;
-use mp_compare::{Comparison, Numbers, Revision, SetWires, changed_stimuli};
+use mp_compare::{Change, Comparison, Numbers, SetWires, changed_stimuli};
 use mp_history::History;
 use mp_run::{HeardChanges, WiredInputs, Wiring};
 use mp_work::window_end;
@@ -30,13 +29,8 @@ impl Rerun {
         let WiredInputs { wiring, inputs } = wired;
         let Wiring { wires, next, .. } = wiring;
         let numbers = Numbers::of(alloc, new, wires, next)?;
-        let revision = Revision {
-            old: change.old,
-            run: change.run,
-            new,
-        };
         let ports = inputs.as_slice();
-        let comparison = Comparison::first(alloc, &revision, numbers, ports, marks)?;
+        let comparison = Comparison::first(alloc, change, numbers, ports, marks)?;
         let stimuli = changed_stimuli(alloc, new, comparison.sources.as_slice())?;
         let history = History::first(alloc, new, marks)?;
         let activity = first_activity(alloc, touches, simulation.modules.places.as_slice())?;

@@ -7,9 +7,9 @@ ghost use Rattle.mp_rerun.specs.Reruns.{IsChange};
 ghost use Rattle.mp_rerun.specs.Tasks.{AreKept, IsDone, IsTaskOf};
 ghost use Rattle.mp_records.specs.declared.module_record.ModuleRecord.{ModuleRecord as Part};
 
-use crate::change::Change;
 use crate::join::Join;
 use crate::old_state::old_pieces;
+use mp_compare::Change;
 use mp_history::old_state;
 use mp_model::built;
 use mp_modules::Memory;

@@ -1,9 +1,9 @@
 //! Wires are turned on between two units.
 ghost use Rattle.std.specs.Prelude.{◌≡◌};
 
-use crate::change::Change;
 use crate::rerun::Rerun;
 use mp_agreement::laws::wires_agree;
+use mp_compare::Change;
 use mp_netlist::{ModuleId, ModuleRecord, Output, WireId};
 use mp_steps::{OldWire, turn_on};
 use std::alloc::AllocError;

@@ -1,8 +1,8 @@
 //! A unit of a netlist that is evaluated again.
 ghost use Rattle.std.specs.Prelude.{◌≡◌};
 
-use crate::change::Change;
 use crate::rerun::Rerun;
+use mp_compare::Change;
 use mp_phase::{Crew, Gate};
 use std::alloc::{AllocError, Global};
 use std::sync::Wait;

@@ -2,8 +2,8 @@
 ghost use Rattle.std.specs.Prelude.{◌≡◌};
 
 use crate::ahead::Ahead;
-use crate::change::Change;
 use crate::rerun::Rerun;
+use mp_compare::Change;
 use mp_netlist::checkpoint_units;
 use mp_phase::{Crew, Gate};
 use mp_work::{block_of, window_end};

@@ -1,6 +1,6 @@
 use Rattle.std.proofs.Common.{[]}
 use Rattle.mp_compare.proofs.MeetingLemmas.{shape_kept, placed_kept}
-use Rattle.mp_compare.proofs.MetLemmas.{three_met, levels_kept}
+use Rattle.mp_compare.proofs.MetLemmas.{levels_met, levels_kept}
 use Rattle.mp_compare.proofs.comparison.Comparison.meet_all_levels.Goals as goal
 
 pub meet_levels-requires-2-clause-shape : goal.meet_levels-requires-2-clause-shape
@@ -12,16 +12,7 @@ meet_levels-requires-2-clause-places c = placed_kept c.args.run.now c.args.run.n
 pub meet_levels-requires-2-clause-within : goal.meet_levels-requires-2-clause-within
 meet_levels-requires-2-clause-within c = levels_kept c.args.run.now c.args.time [] c.args.coming.now.levels.now c.args.self.now c.meet_levels.new.self c.args.coming.now.set_levels.now c.in_ok-meet_levels.ensures c.requires.within.set_levels
 
-pub meet_levels-requires-3-clause-shape : goal.meet_levels-requires-3-clause-shape
-meet_levels-requires-3-clause-shape c = shape_kept c.args.run.now c.args.time [] c.args.coming.now.set_levels.now c.meet_levels.new.self c.meet_levels-2.new.self c.in_ok-meet_levels-2.ensures (shape_kept c.args.run.now c.args.time [] c.args.coming.now.levels.now c.args.self.now c.meet_levels.new.self c.in_ok-meet_levels.ensures c.requires.shape)
-
-pub meet_levels-requires-3-clause-places : goal.meet_levels-requires-3-clause-places
-meet_levels-requires-3-clause-places c = placed_kept c.args.run.now c.args.run.now c.args.time c.args.time [] c.args.coming.now.set_levels.now c.meet_levels.new.self c.meet_levels-2.new.self c.in_ok-meet_levels-2.ensures (placed_kept c.args.run.now c.args.run.now c.args.time c.args.time [] c.args.coming.now.levels.now c.args.self.now c.meet_levels.new.self c.in_ok-meet_levels.ensures c.requires.places)
-
-pub meet_levels-requires-3-clause-within : goal.meet_levels-requires-3-clause-within
-meet_levels-requires-3-clause-within c = levels_kept c.args.run.now c.args.time [] c.args.coming.now.set_levels.now c.meet_levels.new.self c.meet_levels-2.new.self c.args.coming.now.tail_levels.now c.in_ok-meet_levels-2.ensures (levels_kept c.args.run.now c.args.time [] c.args.coming.now.levels.now c.args.self.now c.meet_levels.new.self c.args.coming.now.tail_levels.now c.in_ok-meet_levels.ensures c.requires.within.tail_levels)
-
 pub returns : goal.returns
 returns c =
-    three_met c.args.run.now c.args.time c.args.coming.now.levels.now c.args.coming.now.set_levels.now c.args.coming.now.tail_levels.now c.args.self.now c.meet_levels.new.self c.meet_levels-2.new.self c.meet_levels-3.new.self
-    c.in_ok-meet_levels.ensures c.in_ok-meet_levels-2.ensures c.in_ok-meet_levels-3.ensures
+    levels_met c.args.run.now c.args.time c.args.coming.now.levels.now c.args.coming.now.set_levels.now c.args.self.now c.meet_levels.new.self c.meet_levels-2.new.self
+    c.in_ok-meet_levels.ensures c.in_ok-meet_levels-2.ensures

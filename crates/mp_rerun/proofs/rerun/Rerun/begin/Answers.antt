@@ -1,7 +1,7 @@
 use Rattle.std.proofs.Common.{◌≡◌, ℕ, Bool, List, Option, length, refl, ap, sym, subst, ◌∙◌, Vec, Global}
 use Rattle.mp_netlist.specs.Delays.{least_delay}
 use Rattle.mp_evaluation.specs.Marks.{is_marked}
-use Rattle.mp_run.specs.Stimuli.{rest_of}
+use Rattle.mp_run.specs.Stimuli.{left_of}
 use Rattle.mp_work.specs.Merges.{end_of_window}
 use Rattle.mp_compare.specs.declared.numbers.Numbers.{Numbers}
 use Rattle.mp_compare.specs.declared.wire_source.WireSource.{WireSource}
@@ -74,7 +74,7 @@ returns c =
       cursors = c.in_ok-comparison.ensures.cursors;
       unseen = c.in_ok-comparison.ensures.unseen;
       complete = c.in_ok-comparison.ensures.complete;
-      stimuli = subst (λ (sources : List WireSource). AreSetAnew new (until_in sources) 0 (rest_of c.in_ok-stimuli.stimuli)) c.as_slice.ensures.value (set_anew new (until_in c.as_slice.result.now) 0 (rest_of c.in_ok-stimuli.stimuli) c.in_ok-stimuli.ensures);
+      stimuli = subst (λ (sources : List WireSource). AreSetAnew new (until_in sources) 0 (left_of c.in_ok-stimuli.stimuli)) c.as_slice.ensures.value (set_anew new (until_in c.as_slice.result.now) 0 (left_of c.in_ok-stimuli.stimuli) c.in_ok-stimuli.ensures);
       tails = c.new.ensures.items;
       history = c.in_ok-history.ensures old run (λ m. is_marked active m) (λ m. ap (λ (ms : List Bool). is_marked ms m) (sym marks)) states;
       window =

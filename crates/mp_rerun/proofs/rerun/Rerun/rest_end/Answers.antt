@@ -1,6 +1,6 @@
 use Rattle.std.proofs.Common.{◌+◌, List, drop, sym, subst, arith}
 use Rattle.mp_run.specs.declared.stimuli.StimulusChange.{StimulusChange}
-use Rattle.mp_run.specs.Stimuli.{AreFrom, rest_of, left_of}
+use Rattle.mp_run.specs.Stimuli.{AreFrom, left_of}
 use Rattle.mp_rerun.proofs.LeapLemmas.{from_earlier}
 use Rattle.mp_rerun.proofs.rerun.Rerun.rest_end.Goals as goal
 
@@ -13,7 +13,7 @@ returns-clause-stimuli c =
     let most = c.slack.ensures.most in
     let first = c.next_change-end.ensures.first in
     let reach = two.0 in
-    from_earlier (c.args.from + c.slack.result) c.next_change-first.result (rest_of s.stimuli) (omega (arith, most, first, reach))
+    from_earlier (c.args.from + c.slack.result) c.next_change-first.result (left_of s.stimuli) (omega (arith, most, first, reach))
     (subst (λ (xs : List StimulusChange). AreFrom c.next_change-first.result (drop s.stimuli.place xs)) c.as_slice.ensures.value one.1)
 
 pub returns-clause-tails : goal.returns-clause-tails
