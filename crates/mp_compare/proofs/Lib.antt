@@ -18,5 +18,7 @@ pub mod StimulusLemmas
 pub mod Telling
 pub mod TrackLemmas
 pub mod UnitLemmas
+pub mod RelistingLemmas
+pub mod AsleepLemmas
 pub mod WakingLemmas
 pub mod WaveLemmas

@@ -1,7 +1,7 @@
 use Rattle.std.proofs.Common.{ℕ, ◌-◌, List, None, subst}
 use Rattle.std.specs.Prelude.{Option}
 use Rattle.std.proofs.lemmas.List.{take_all}
-use Rattle.mp_compare.proofs.WakingLemmas.{AreAsleep, asleep_none, asleep_more, asleep_few, asleep_reads}
+use Rattle.mp_compare.proofs.AsleepLemmas.{AreAsleep, asleep_none, asleep_more, asleep_few, asleep_reads}
 use Rattle.mp_compare.proofs.comparison.Comparison.read_all_asleep.Goals as goal
 
 pub loop-input-init : goal.loop-input-init

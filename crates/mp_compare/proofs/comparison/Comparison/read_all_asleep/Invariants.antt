@@ -1,5 +1,5 @@
 use Rattle.std.proofs.Common.{◌-◌, take}
-use Rattle.mp_compare.proofs.WakingLemmas.{AreAsleep}
+use Rattle.mp_compare.proofs.AsleepLemmas.{AreAsleep}
 use Rattle.mp_compare.proofs.comparison.Comparison.read_all_asleep.Given as goal
 
 abbrev pub invariant-loop-input : goal.invariant-loop-input

@@ -1,7 +1,7 @@
 use Rattle.std.proofs.Common.{ℕ, List, take, None, subst}
 use Rattle.std.specs.Prelude.{Option}
 use Rattle.std.proofs.lemmas.List.{take_all}
-use Rattle.mp_compare.proofs.WakingLemmas.{AreAwake, awake_none, awake_more, awake_reads, awake_shape}
+use Rattle.mp_compare.proofs.AsleepLemmas.{AreAwake, awake_none, awake_more, awake_reads, awake_shape}
 use Rattle.mp_compare.proofs.comparison.Comparison.read_awake.Goals as goal
 
 pub loop-input-init : goal.loop-input-init

@@ -1,5 +1,5 @@
 use Rattle.std.proofs.Common.{take}
-use Rattle.mp_compare.proofs.WakingLemmas.{AreAwake}
+use Rattle.mp_compare.proofs.AsleepLemmas.{AreAwake}
 use Rattle.mp_compare.proofs.comparison.Comparison.read_awake.Given as goal
 
 abbrev pub invariant-loop-input : goal.invariant-loop-input

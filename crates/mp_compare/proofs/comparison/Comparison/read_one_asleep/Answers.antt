@@ -1,7 +1,8 @@
 use Rattle.std.proofs.Common.{◌≡◌, ◌+◌, ◌-◌, [], refl, sym, ap, ◌∙◌, arith}
 use Rattle.std.proofs.lemmas.Bool.{false≢true}
 use Rattle.mp_compare.specs.Comparing.{is_tracked}
-use Rattle.mp_compare.proofs.WakingLemmas.{counted_cursors, one_asleep}
+use Rattle.mp_compare.proofs.RelistingLemmas.{counted_cursors}
+use Rattle.mp_compare.proofs.AsleepLemmas.{one_asleep}
 use Rattle.mp_compare.proofs.comparison.Comparison.read_one_asleep.Goals as goal
 
 pub returns-then-not-is_tracked-clause-complete : goal.returns-then-not-is_tracked-clause-complete

@@ -1,4 +1,4 @@
-use Rattle.mp_compare.proofs.WakingLemmas.{awake_complete}
+use Rattle.mp_compare.proofs.AsleepLemmas.{awake_complete}
 use Rattle.mp_compare.proofs.comparison.Comparison.wake.Goals as goal
 
 pub returns-clause-complete : goal.returns-clause-complete
