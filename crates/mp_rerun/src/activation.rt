@@ -1,14 +1,15 @@
 //! Modules become active.
 ghost use Rattle.std.specs.Prelude.{◌≡◌};
 
+use crate::means::Means;
 use crate::rerun::Rerun;
 use mp_agreement::laws::sleepers_agree;
 use mp_compare::Change;
 use mp_model::built;
 use mp_modules::Memory;
 use mp_netlist::{ModuleId, ModuleRecord};
-use mp_phase::{Crew, Gate};
-use std::alloc::{AllocError, Global};
+use mp_phase::Gate;
+use std::alloc::AllocError;
 use std::sync::Wait;
 use std::thread::Threads;
 
@@ -28,10 +29,7 @@ impl Rerun {
     /// window, on the threads of the crew where they answer once more for units of the block and are as many as it shares out.
     pub(crate) fn activate_all<R: Threads + Wait + Sync, G: Gate + Sync>(
         &mut self,
-        rt: &R,
-        alloc: Global,
-        crew: &Crew,
-        gate: &G,
+        means: &Means<'_, R, G>,
         change: &Change<'_>,
         time: u32,
     ) -> Result<(), AllocError>
@@ -47,7 +45,7 @@ impl Rerun {
         ensures active { OnOk result (HaveBecomeLive change.now.new.now self.old.activity.joining.items (active_of self.old) (active_of self.new)) }
         ensures joined { OnOk result (HaveJoined self.old.activity.joining.items self.old.activity.joined.items self.new.activity.joined.items) }
     {
-        let states = self.joining_states(rt, alloc, crew, gate, change, time)?;
+        let states = self.joining_states(means, change, time)?;
         for place in 0..self.activity.joining.len() {
             let id = self.activity.joining[place];
             if let Some(found) = change.new.module(id) {

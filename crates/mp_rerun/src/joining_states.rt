@@ -1,14 +1,15 @@
 //! The states in which modules become active.
 ghost use Rattle.std.specs.Prelude.{◌≡◌};
 
+use crate::means::Means;
 use crate::rerun::Rerun;
 use crate::tasks::{states_by, tasks_of};
 use mp_compare::Change;
 use mp_history::old_state;
 use mp_modules::Memory;
-use mp_phase::{Crew, Gate};
+use mp_phase::Gate;
 use mp_work::block_of;
-use std::alloc::{AllocError, Global};
+use std::alloc::AllocError;
 use std::sync::Wait;
 use std::thread::Threads;
 
@@ -24,10 +25,7 @@ impl Rerun {
     /// they are as many as it shares out.
     pub(crate) fn joining_states<R: Threads + Wait + Sync, G: Gate + Sync>(
         &self,
-        rt: &R,
-        alloc: Global,
-        crew: &Crew,
-        gate: &G,
+        means: &Means<'_, R, G>,
         change: &Change<'_>,
         time: u32,
     ) -> Result<Vec<Memory>, AllocError>
@@ -37,19 +35,17 @@ impl Rerun {
         ensures { IfOk result (λ states. AreDone (IsOldState change.now.old.now time) self.now.activity.joining.items states.items) }
     {
         if block_of(change.new.horizon(), time) == time {
-            return self.kept_states(rt, alloc, gate, change, time);
+            return self.kept_states(means, change, time);
         }
         let joining = self.activity.joining.as_slice();
-        let tasks = tasks_of(alloc, change, joining, time, self.window_end)?;
-        states_by(rt, alloc, crew, gate, tasks)
+        let tasks = tasks_of(means.alloc, change, joining, time, self.window_end)?;
+        states_by(means, tasks)
     }
 
     /// The states that the old run kept of the modules that join, where a block begins with the unit.
     fn kept_states<R: Wait, G: Gate>(
         &self,
-        rt: &R,
-        alloc: Global,
-        gate: &G,
+        means: &Means<'_, R, G>,
         change: &Change<'_>,
         time: u32,
     ) -> Result<Vec<Memory>, AllocError>
@@ -59,10 +55,10 @@ impl Rerun {
         requires begins { block_of change.now.new.now.horizon time ≡ time }
         ensures { IfOk result (λ states. AreDone (IsOldState change.now.old.now time) self.now.activity.joining.items states.items) }
     {
-        let mut states = Vec::with_capacity(alloc, self.activity.joining.len())?;
+        let mut states = Vec::with_capacity(means.alloc, self.activity.joining.len())?;
         for place in 0..self.activity.joining.len() {
             let id = self.activity.joining[place];
-            gate.enter(rt, id, time, self.window_end);
+            means.gate.enter(means.rt, id, time, self.window_end);
             states.push(old_state(change.run, id, time))?;
         }
         Ok(states)

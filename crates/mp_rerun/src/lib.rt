@@ -16,6 +16,7 @@ mod join;
 mod joining;
 mod joining_states;
 mod last_wave;
+mod means;
 mod old_state;
 mod redoing;
 mod rerun;

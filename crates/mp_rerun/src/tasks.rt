@@ -8,13 +8,14 @@ ghost use Rattle.mp_rerun.specs.Tasks.{AreKept, IsDone, IsTaskOf};
 ghost use Rattle.mp_records.specs.declared.module_record.ModuleRecord.{ModuleRecord as Part};
 
 use crate::join::Join;
+use crate::means::Means;
 use crate::old_state::old_pieces;
 use mp_compare::Change;
 use mp_history::old_state;
 use mp_model::built;
 use mp_modules::Memory;
 use mp_netlist::ModuleId;
-use mp_phase::{Crew, Gate, run_here};
+use mp_phase::{Gate, run_here};
 use mp_work::block_of;
 use std::alloc::{AllocError, Global};
 use std::sync::Wait;
@@ -73,16 +74,13 @@ pub(crate) fn tasks_of(
 
 /// The states to which the tasks come: on the threads of the crew where there are as many as it shares out, and else on the calling thread.
 pub(crate) fn states_by<R: Threads + Wait + Sync, G: Gate + Sync>(
-    rt: &R,
-    alloc: Global,
-    crew: &Crew,
-    gate: &G,
+    means: &Means<'_, R, G>,
     tasks: Vec<Join>,
 ) -> Result<Vec<Memory>, AllocError>
     ensures { IfOk result (λ states. AreDone IsDone tasks.items states.items) }
 {
-    if tasks.len() < crew.least() as usize {
-        return run_here(rt, alloc, gate, tasks);
+    if tasks.len() < means.crew.least() as usize {
+        return run_here(means.rt, means.alloc, means.gate, tasks);
     }
-    crew.run(rt, alloc, gate, tasks)
+    means.crew.run(means.rt, means.alloc, means.gate, tasks)
 }

@@ -1,10 +1,11 @@
 //! A unit of a netlist that is evaluated again.
 ghost use Rattle.std.specs.Prelude.{◌≡◌};
 
+use crate::means::Means;
 use crate::rerun::Rerun;
 use mp_compare::Change;
-use mp_phase::{Crew, Gate};
-use std::alloc::{AllocError, Global};
+use mp_phase::Gate;
+use std::alloc::AllocError;
 use std::sync::Wait;
 use std::thread::Threads;
 
@@ -20,10 +21,7 @@ impl Rerun {
     /// wires change that no active module drives, and active modules answer.
     pub(crate) fn pass_unit<R: Threads + Wait + Sync, G: Gate + Sync>(
         &mut self,
-        rt: &R,
-        alloc: Global,
-        crew: &Crew,
-        gate: &G,
+        means: &Means<'_, R, G>,
         change: &Change<'_>,
         time: u32,
     ) -> Result<(), AllocError>
@@ -40,7 +38,7 @@ impl Rerun {
             return Ok(());
         }
         self.find_joining(change, time)?;
-        self.activate_all(rt, alloc, crew, gate, change, time)?;
+        self.activate_all(means, change, time)?;
         self.set_wires(change, time)?;
         self.run_unit(time)?;
         Ok(())

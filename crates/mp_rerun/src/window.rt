@@ -2,6 +2,7 @@
 ghost use Rattle.std.specs.Prelude.{◌≡◌};
 
 use crate::ahead::Ahead;
+use crate::means::Means;
 use crate::rerun::Rerun;
 use mp_compare::Change;
 use mp_netlist::checkpoint_units;
@@ -32,11 +33,17 @@ impl Rerun {
         ensures { IfOk result (λ end. HasEnded change.now.old.now change.now.new.now change.now.run.now end self.new) }
     {
         let horizon = change.new.horizon();
+        let means = Means {
+            rt,
+            alloc,
+            crew,
+            gate,
+        };
         let mut time = 1;
         while time < horizon {
             match self.look_ahead(rt, gate, change, time)? {
                 Ahead::Next(next) => {
-                    self.pass_unit(rt, alloc, crew, gate, change, next)?;
+                    self.pass_unit(&means, change, next)?;
                     time = next + 1;
                 }
                 Ahead::Over(end) => return Ok(end),
