@@ -72,7 +72,7 @@ pub record IsBut (t : ℕ) (taken : List ℕ) (number : ℕ) (calendar : Calenda
   pub soon : (x k : ℕ) → (number == x) ≡ false → 0 < listed x (slot_at calendar.wheel k) → t + 1 + k ≤ time_of calendar x
   pub due : (x : ℕ) → (number == x) ≡ false → 0 < listed x taken → t ≤ time_of calendar x
 
-bit_few : (b : Bool) → bit b ≤ 1
+pub bit_few : (b : Bool) → bit b ≤ 1
 bit_few true = omega arith
 bit_few false = omega arith
 
@@ -185,41 +185,6 @@ has_entered now taken number time calendar new later low within times span has b
     due_by : (x : ℕ) (same : Bool) → (number == x) ≡ same → 0 < listed x taken → now ≤ time_of new x
     due_by x true is some =
         subst (λ y. 0 < listed y taken → now ≤ time_of new y) (eqb-true number x is)
-        (λ s. let free = but.free in absurd (omega arith)) some
-    due_by x false is some = let before = but.due x is some in let time_too = other_time x is in omega arith
-
--- a number that is in no slot isn't listed any more
-pub is_left_out : (t : ℕ) (taken : List ℕ) (number : ℕ) (calendar new : Calendar) → number < length calendar.times.items →
-    new.times.items ≡ slice_set calendar.times.items number never → new.span ≡ calendar.span → new.wheel ≡ calendar.wheel → IsBut t taken number calendar → IsCalendar t taken new
-is_left_out t taken number calendar new within times span wheel but = record {
-  some = subst (λ (w : List (List ℕ)). 0 < length w) (sym wheel) but.some;
-  span = span ∙ but.span ∙ ap (length {A = List ℕ}) (sym wheel);
-  once = λ x. subst (λ (w : List (List ℕ)). entries x w + listed x taken ≡ bit (not (time_of new x == never))) (sym wheel) (once_by x (number == x) refl);
-  soon = λ x k some. soon_by x k (number == x) refl (subst (λ (w : List (List ℕ)). 0 < listed x (slot_at w k)) wheel some);
-  due = λ x some. due_by x (number == x) refl some;
-}
-  where
-    own_time : time_of new number ≡ never
-    own_time = ap (λ (ts : List ℕ). time_in ts number) times ∙ get_or-set_same calendar.times.items number never never within
-
-    other_time : (x : ℕ) → (number == x) ≡ false → time_of new x ≡ time_of calendar x
-    other_time x other = ap (λ (ts : List ℕ). time_in ts x) times ∙ get_or-set_other calendar.times.items number x never never (λ e. eqb-false number x other (sym e))
-
-    once_by : (x : ℕ) (same : Bool) → (number == x) ≡ same → entries x calendar.wheel + listed x taken ≡ bit (not (time_of new x == never))
-    once_by x true is =
-        subst (λ y. entries y calendar.wheel + listed y taken ≡ bit (not (time_of new y == never))) (eqb-true number x is)
-        (but.free ∙ sym (ap (λ b. bit (not b)) (eq-eqb (time_of new number) never own_time)))
-    once_by x false is = but.once x is ∙ ap (λ (u : ℕ). bit (not (u == never))) (sym (other_time x is))
-
-    soon_by : (x k : ℕ) (same : Bool) → (number == x) ≡ same → 0 < listed x (slot_at calendar.wheel k) → t + 1 + k ≤ time_of new x
-    soon_by x k true is some =
-        subst (λ y. 0 < listed y (slot_at calendar.wheel k) → t + 1 + k ≤ time_of new y) (eqb-true number x is)
-        (λ s. let none = none_in t taken number calendar but k in absurd (omega arith)) some
-    soon_by x k false is some = let before = but.soon x k is some in let time_too = other_time x is in omega arith
-
-    due_by : (x : ℕ) (same : Bool) → (number == x) ≡ same → 0 < listed x taken → t ≤ time_of new x
-    due_by x true is some =
-        subst (λ y. 0 < listed y taken → t ≤ time_of new y) (eqb-true number x is)
         (λ s. let free = but.free in absurd (omega arith)) some
     due_by x false is some = let before = but.due x is some in let time_too = other_time x is in omega arith
 

@@ -1,2 +1,2 @@
-mod CalendarLemmas
+pub mod CalendarLemmas
 mod SlackLemmas

@@ -1,7 +1,7 @@
 -- The comparison before anything is evaluated again.
 use Rattle.std.proofs.Common.{◌≡◌, ℕ, ◌+◌, ◌<◌, ◌≤◌, Bool, true, false, ◌||◌, not, List, [], length, refl, sym, ap, ◌∙◌, arith, subst, inl, inr}
 use Rattle.std.specs.Prelude.{◌==◌, Option, nat_lt, slice_index_or}
-use Rattle.std.proofs.lemmas.Bool.{cases_eq, eqb-true, ltb-true, eq-eqb, and_parts, or_cases, false≢true}
+use Rattle.std.proofs.lemmas.Bool.{cases_eq, eqb-true, ltb-true, and_parts, or_cases}
 use Rattle.mp_netlist.specs.Circuit.{Circuit, IsCircuit}
 use Rattle.mp_netlist.proofs.LimitLemmas.{horizon_within}
 use Rattle.mp_evaluation.specs.Marks.{is_marked}
@@ -117,22 +117,6 @@ pub are_never_or_zero : (old new : Circuit) (active : List Bool) (was read : Com
 are_never_or_zero old new active was read f p long first reads w low =
     let within : w < length was.sources.items = (let same = reads.long in omega arith) in
     never_or_zero old new active w (p w) (source_at read w) (first_read old new active w (p w) (source_at was w) (source_at read w) (first w (omega arith)) (reads.sources w within))
-
--- a wire that comes from the new run alone is tracked
-pub renewed_listed : (run : Outcome) (wire : ℕ) (was is : Comparison) → (source_at was wire).until ≡ never →
-    ((x : ℕ) → x < length was.numbers.wires.items → wire_of was.numbers x ≡ wire → 0 < asleep_at was x → IsListed run 0 is x) →
-    (x : ℕ) → x < length was.numbers.wires.items → wire_of was.numbers x ≡ wire → (is_following was x || is_tracked was x 1) ≡ true → IsListed run 0 is x
-renewed_listed run wire was is new_is tracked x low of needed = elim (or_cases (is_following was x) (is_tracked was x 1) needed) as (λ _. IsListed run 0 is x) [
-  | inl follows ↦
-      let to_follow = (and_parts (x == wire_of was.numbers x) (is_to_follow (source_at was (wire_of was.numbers x))) follows).1 in
-      let differs = (and_parts (source_at was (wire_of was.numbers x)).is_on (not ((source_at was (wire_of was.numbers x)).until == never)) to_follow).1 in
-      absurd (no_not ((source_at was (wire_of was.numbers x)).until == never) differs (eq-eqb _ never (ap (λ w. (source_at was w).until) of ∙ new_is)))
-  | inr tracks ↦ tracked x low of (ltb-true 0 (asleep_at was x) (and_parts (nat_lt 0 (asleep_at was x)) (may_differ (source_at was (wire_of was.numbers x)) (delay_of was.numbers x) 1) tracks).0)
-]
-  where
-    no_not : (b : Bool) → not b ≡ true → b ≡ true → ⊥
-    no_not true e is = false≢true e
-    no_not false e is = false≢true is
 
 -- of any other wire its own number is listed where it is on
 pub followed_listed : (run : Outcome) (wire : ℕ) (was is : Comparison) → (source_at was wire).until ≡ 0 → ((source_at was wire).is_on ≡ true → IsListed run 0 is wire) →

@@ -18,16 +18,6 @@ pub record HasMetSome (time : ℕ) (some : List ℕ) (was is : Comparison) : Typ
   pub kept : is ≡ record was { departing = is.departing }
   pub departing : (x : ℕ) → listed x is.departing.items ≡ listed x was.departing.items + cond (is_old_alone was time x) (listed x some) 0
 
-pub some_none : (time : ℕ) (was : Comparison) → HasMetSome time [] was was
-some_none time was = record {
-  kept = refl;
-  departing = λ x. let none = zero_of (is_old_alone was time x) 0 in omega arith;
-}
-  where
-    zero_of : (b : Bool) (n : ℕ) → cond b n n ≡ n
-    zero_of true n = refl
-    zero_of false n = refl
-
 -- one more: it is gathered, or isn't
 pub some_more : (time : ℕ) (xs : List ℕ) (i : ℕ) (was then is : Comparison) → i < length xs → HasMetSome time (take i xs) was then → is ≡ record then { departing = is.departing } →
     is.departing.items ≡ cond (is_old_alone then time (get_or xs i 0)) (then.departing.items ++ get_or xs i 0 ∷ []) then.departing.items → HasMetSome time (take (i + 1) xs) was is

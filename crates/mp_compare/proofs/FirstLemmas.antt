@@ -2,7 +2,6 @@
 use Rattle.std.proofs.Common.{◌≡◌, ◌⊎◌, ◌↔◌, ℕ, ◌+◌, ◌<◌, Bool, true, false, not, ◌||◌, IsTrue, List, [], ◌∷◌, ◌++◌, length, get_or, refl, sym, ap, ◌∙◌, arith, subst, inl, inr}
 use Rattle.std.proofs.lemmas.Bool.{cases_eq, false≢true}
 use Rattle.std.proofs.lemmas.List.{get_or_append_left, get_or_push}
-use Rattle.mp_records.specs.declared.ids.ModuleId.{ModuleId}
 use Rattle.mp_netlist.specs.declared.driver.Driver.{Driver}
 use Rattle.mp_netlist.specs.declared.driver.Driver.TheVariants.{Nothing, Stimulus, Port}
 use Rattle.mp_netlist.specs.Circuit.{Circuit, IsCircuit, Drives, stimulus_at}
@@ -10,7 +9,6 @@ use Rattle.mp_netlist.specs.Drivers.{driver, stimulus_driver}
 use Rattle.mp_netlist.proofs.DriverLemmas.{finds_ports, finds_only_ports, driven_by}
 use Rattle.mp_depend.specs.SetAlike.{IsSetAlike}
 use Rattle.mp_depend.proofs.SetAlikeLemmas.{IsPortless, portless}
-use Rattle.mp_evaluation.specs.Marks.{is_marked}
 use Rattle.mp_work.specs.Revisions.{IsDrivenAlike}
 use Rattle.mp_compare.specs.declared.wire_source.WireSource.{WireSource}
 use Rattle.mp_compare.specs.Comparing.{off, renewed}
@@ -46,12 +44,6 @@ renewed_portless : (old new : Circuit) (active : List Bool) (w : ℕ) (found : D
 renewed_portless old new active w Nothing not = (λ is. is, λ is. is)
 renewed_portless old new active w Stimulus not = (λ is. is, λ is. is)
 renewed_portless old new active w (Port m p) not = absurd (not m p refl)
-
--- a wire that a port drives, and one that none does
-pub is_by_port : (old new : Circuit) (active : List Bool) (w p : ℕ) (found : Driver) (m : ModuleId) (b : Bool) → found ≡ driver new w → found ≡ Port m p → b ≡ is_marked active m.0 →
-    IsTrue b ↔ IsRenewed old new active w
-is_by_port old new active w p found m b is at marked =
-    subst (λ (d : Driver). IsTrue b ↔ IsRenewedBy old new active w d) (sym at ∙ is) (λ yes. sym marked ∙ yes, λ yes. marked ∙ yes)
 
 pub is_by_none : (old new : Circuit) (active : List Bool) (w : ℕ) (found : Driver) (b : Bool) → IsCircuit old → IsCircuit new → found ≡ driver new w → IsPortless found →
     IsTrue b ↔ IsSetAlike old new w → IsTrue (not b) ↔ IsRenewed old new active w

@@ -13,7 +13,7 @@ use Rattle.mp_events.specs.Adding.{listed}
 use Rattle.mp_calendar.specs.Calendars.{never, time_in, time_of, IsCalendar}
 use Rattle.mp_evaluation.specs.Outcomes.{Outcome}
 use Rattle.mp_compare.specs.declared.comparison.Comparison.{Comparison}
-use Rattle.mp_compare.specs.Comparing.{place_at, changes_at, change_time, HasCursors, IsListed}
+use Rattle.mp_compare.specs.Comparing.{place_at, changes_at, change_time, HasCursors}
 use Rattle.mp_compare.specs.Listing.{IsCut}
 use Rattle.mp_compare.proofs.WaveLemmas.{rises}
 
@@ -136,22 +136,6 @@ fresh_cursors run t number time place was is has it = subst (HasCursors run t []
     later_by : (x : ℕ) (own : Bool) → (number == x) ≡ own → time_of is.calendar x ≢ never → t < time_of is.calendar x + listed x []
     later_by x true e = subst (λ y. time_of is.calendar y ≢ never → t < time_of is.calendar y + listed y []) (eqb-true number x e) (λ some. let a = now in let b = it.later in omega arith)
     later_by x false e = λ some. let before = has.later x (λ none. some (same x e ∙ none)) in let s = same x e in omega arith
-
-pub fresh_listed : (run : Outcome) (t number time place : ℕ) (was is : Comparison) → HasCursors run t [] was → IsFresh run t number time place was is → IsListed run t is number
-fresh_listed run t number time place was is has it none =
-    let now = own_time run t number time place was is has it in
-    let room = has.room number place it.within it.low in
-    let first = it.first in
-    absurd (omega arith)
-
-pub fresh_others : (run : Outcome) (t number time place : ℕ) (was is : Comparison) → HasCursors run t [] was → IsFresh run t number time place was is → (x : ℕ) → IsListed run t was x → IsListed run t is x
-fresh_others run t number time place was is has it x listed_before = by (number == x) refl
-  where
-    by : (own : Bool) → (number == x) ≡ own → IsListed run t is x
-    by true e = subst (λ y. IsListed run t is y) (eqb-true number x e) (fresh_listed run t number time place was is has it)
-    by false e =
-        subst (λ (c : Comparison). time_of is.calendar x ≡ never → (k : ℕ) → k < length (changes_at run c x) → change_time run c x k ≤ t) (sym it.kept)
-        (λ none. listed_before (sym (other_time run t number time place was is it x e) ∙ none))
 
 pub between_short : (from to : ℕ) (changes : List (ℕ × ℕ)) → length (between from to changes) ≤ length changes
 between_short from to changes =

@@ -1,17 +1,16 @@
 -- Changes in the new run are met one after the other.
-use Rattle.std.proofs.Common.{◌≡◌, ℕ, zero, suc, ◌+◌, ◌<◌, Bool, true, false, not, cond, ◌&&◌, ◌||◌, List, [], ◌∷◌, ◌++◌, All, length, get_or, take, refl, sym, ap, ◌∙◌, arith, add-one, get_or-set_same, get_or-set_other, subst}
-use Rattle.std.specs.Prelude.{◌==◌, nat_lt, slice_set}
-use Rattle.std.proofs.lemmas.Bool.{eq-eqb, eqb-true, eqb-false, lt-ltb}
+use Rattle.std.proofs.Common.{◌≡◌, ℕ, zero, suc, ◌+◌, ◌<◌, Bool, true, false, not, cond, ◌&&◌, ◌||◌, List, [], ◌∷◌, ◌++◌, All, length, get_or, take, refl, sym, ap, ◌∙◌, arith, add-one, subst}
+use Rattle.std.specs.Prelude.{◌==◌, nat_lt}
+use Rattle.std.proofs.lemmas.Bool.{lt-ltb}
 use Rattle.std.proofs.Math.Seq.{take-suc}
 use Rattle.std.proofs.lemmas.List.Elements.{All-get_or}
 use Rattle.std.proofs.lemmas.List.Sums.{sum_by-append}
-use Rattle.mp_automata.specs.Codes.{bit}
 use Rattle.mp_events.specs.Adding.{listed}
 use Rattle.mp_data.specs.declared.level_change.LevelChange.{LevelChange}
 use Rattle.mp_evaluation.specs.Outcomes.{Outcome}
 use Rattle.mp_compare.specs.declared.numbers.Numbers.{Numbers}
 use Rattle.mp_compare.specs.declared.comparison.Comparison.{Comparison}
-use Rattle.mp_compare.specs.Comparing.{seen_at, is_tracked, changes_of, IsShaped, ArePlaced, AreUnseen}
+use Rattle.mp_compare.specs.Comparing.{seen_at, is_tracked, changes_of, IsShaped, ArePlaced}
 use Rattle.mp_compare.specs.Meeting.{old_level, is_due, others_of, departures, HasMet}
 
 none_more : (a b : Bool) → a ≡ (a || (b && false))
@@ -90,102 +89,6 @@ pub record IsAlone (run : Outcome) (time number : ℕ) (bits : List ℕ) (levels
   pub here : 0 < listed number bits + changes_of number levels
   pub none : (x : ℕ) → (number == x) ≡ false → listed x bits + changes_of x levels ≡ 0
   pub no_departures : (x : ℕ) → (number == x) ≡ false → departures run was time bits levels x ≡ 0
-
--- it isn't tracked
-pub met_untracked : (run : Outcome) (time number : ℕ) (bits : List ℕ) (levels : List LevelChange) (was : Comparison) →
-    IsAlone run time number bits levels was → is_tracked was number time ≡ false → HasMet run time bits levels was was
-met_untracked run time number bits levels was alone free = record {
-  kept = refl;
-  places = refl;
-  over = λ unseen. unseen;
-  seen = λ x. seen_by x (number == x) refl;
-  departing = λ x. departing_by x (number == x) refl;
-}
-  where
-    seen_by : (x : ℕ) (same : Bool) → (number == x) ≡ same → (seen_at was x == time) ≡ ((seen_at was x == time) || (is_tracked was x time && nat_lt 0 (listed x bits + changes_of x levels)))
-    seen_by x true is =
-        subst (λ y. (seen_at was y == time) ≡ ((seen_at was y == time) || (is_tracked was y time && nat_lt 0 (listed y bits + changes_of y levels)))) (eqb-true number x is)
-        (or_false (seen_at was number == time) ∙ ap (λ b. (seen_at was number == time) || (b && nat_lt 0 (listed number bits + changes_of number levels))) (sym free))
-      where
-        or_false : (a : Bool) → a ≡ (a || false)
-        or_false true = refl
-        or_false false = refl
-    seen_by x false is = none_more (seen_at was x == time) (is_tracked was x time) ∙ ap (λ n. (seen_at was x == time) || (is_tracked was x time && nat_lt 0 n)) (sym (alone.none x is))
-
-    departing_by : (x : ℕ) (same : Bool) → (number == x) ≡ same → listed x was.departing.items ≡ listed x was.departing.items + departures run was time bits levels x
-    departing_by x true is =
-        subst (λ y. listed y was.departing.items ≡ listed y was.departing.items + departures run was time bits levels y) (eqb-true number x is)
-        (let none = ap (λ b. cond b (cond (is_due was number time) (others_of run was number levels) (listed number bits + changes_of number levels)) 0) free in omega arith)
-    departing_by x false is = let none = alone.no_departures x is in omega arith
-
--- it is tracked, and is seen, and it departs so often
-pub met_tracked : (run : Outcome) (time number often : ℕ) (bits : List ℕ) (levels : List LevelChange) (was is : Comparison) →
-    IsAlone run time number bits levels was → is_tracked was number time ≡ true → is ≡ record was { seen = is.seen; departing = is.departing } →
-    number < length was.seen.items → is.seen.items ≡ slice_set was.seen.items number time → often ≡ departures run was time bits levels number →
-    ((x : ℕ) → listed x is.departing.items ≡ listed x was.departing.items + cond (number == x) often 0) → length is.seen.items ≡ length was.seen.items →
-    HasMet run time bits levels was is
-met_tracked run time number often bits levels was is alone tracked kept within seen_now right departing places = record {
-  kept = kept;
-  places = places;
-  over = λ unseen x. over_by unseen x (number == x) refl;
-  seen = λ x. seen_by x (number == x) refl;
-  departing = λ x. departing_by x (number == x) refl;
-}
-  where
-    over_by : AreUnseen (time + 1) was → (x : ℕ) (same : Bool) → (number == x) ≡ same → seen_at is x < time + 1
-    over_by unseen x true is_x =
-        subst (λ y. seen_at is y < time + 1) (eqb-true number x is_x)
-        (let now = ap (λ (xs : List ℕ). get_or xs number 0) seen_now ∙ get_or-set_same was.seen.items number time 0 within in omega arith)
-    over_by unseen x false is_x =
-        let same = ap (λ (xs : List ℕ). get_or xs x 0) seen_now ∙ get_or-set_other was.seen.items number x time 0 (λ e. eqb-false number x is_x (sym e)) in
-        let before = unseen x in
-        omega arith
-
-    or_true : (a : Bool) → true ≡ (a || true)
-    or_true true = refl
-    or_true false = refl
-
-    seen_by : (x : ℕ) (same : Bool) → (number == x) ≡ same → (seen_at is x == time) ≡ ((seen_at was x == time) || (is_tracked was x time && nat_lt 0 (listed x bits + changes_of x levels)))
-    seen_by x true is_x =
-        subst (λ y. (seen_at is y == time) ≡ ((seen_at was y == time) || (is_tracked was y time && nat_lt 0 (listed y bits + changes_of y levels)))) (eqb-true number x is_x)
-        (eq-eqb (seen_at is number) time (ap (λ (xs : List ℕ). get_or xs number 0) seen_now ∙ get_or-set_same was.seen.items number time 0 within)
-        ∙ or_true (seen_at was number == time)
-        ∙ ap (λ b. (seen_at was number == time) || b) (sym (ap (λ b. b && nat_lt 0 (listed number bits + changes_of number levels)) tracked ∙ lt-ltb 0 (listed number bits + changes_of number levels) alone.here)))
-    seen_by x false is_x =
-        ap (λ n. n == time) (ap (λ (xs : List ℕ). get_or xs x 0) seen_now ∙ get_or-set_other was.seen.items number x time 0 (λ e. eqb-false number x is_x (sym e)))
-        ∙ none_more (seen_at was x == time) (is_tracked was x time) ∙ ap (λ n. (seen_at was x == time) || (is_tracked was x time && nat_lt 0 n)) (sym (alone.none x is_x))
-
-    departing_by : (x : ℕ) (same : Bool) → (number == x) ≡ same → listed x is.departing.items ≡ listed x was.departing.items + departures run was time bits levels x
-    departing_by x true is_x =
-        subst (λ y. listed y is.departing.items ≡ listed y was.departing.items + departures run was time bits levels y) (eqb-true number x is_x)
-        (let now = departing number in let own = ap (λ b. cond b often 0) (eq-eqb number number refl) in omega arith)
-    departing_by x false is_x = let now = departing x in let none = alone.no_departures x is_x in let other = ap (λ b. cond b often 0) is_x in omega arith
-
--- a number of width 1
-pub alone_bit : (run : Outcome) (time number : ℕ) (was : Comparison) → IsAlone run time number (number ∷ []) [] was
-alone_bit run time number was = record {
-  here = let own = ap bit (eq-eqb number number refl) in omega arith;
-  none = λ x other. let it = ap bit other in omega arith;
-  no_departures = λ x other. none_of x (is_tracked was x time) (is_due was x time) (bit (number == x)) (ap bit other);
-}
-  where
-    none_of : (x : ℕ) (t d : Bool) (n : ℕ) → n ≡ 0 → cond t (cond d 0 (0 + n + 0)) 0 ≡ 0
-    none_of x true true n e = refl
-    none_of x true false n e = omega arith
-    none_of x false d n e = refl
-
--- a number with data
-pub alone_level : (run : Outcome) (time : ℕ) (change : LevelChange) (was : Comparison) → IsAlone run time change.number [] (change ∷ []) was
-alone_level run time change was = record {
-  here = let own = ap bit (eq-eqb change.number change.number refl) in omega arith;
-  none = λ x other. let it = ap bit other in omega arith;
-  no_departures = λ x other. none_of x (is_tracked was x time) (is_due was x time) (not (change.level == old_level run was x)) (change.number == x) other;
-}
-  where
-    none_of : (x : ℕ) (t d other same : Bool) → same ≡ false → cond t (cond d (0 + cond (same && other) 1 0) (0 + (0 + cond same 1 0))) 0 ≡ 0
-    none_of x true true other same e = ap (λ b. 0 + bit (b && other)) e
-    none_of x true false other same e = ap (λ b. 0 + (0 + bit b)) e
-    none_of x false d other same e = refl
 
 -- what stands in each list of numbers stays there
 pub shape_kept : (run : Outcome) (time : ℕ) (bits : List ℕ) (levels : List LevelChange) (was is : Comparison) → HasMet run time bits levels was is → IsShaped was → IsShaped is

@@ -86,28 +86,10 @@ module _ (source : ℕ → ℕ × ℕ) (next : List OutputPort) (wire number : �
   noted_right x low of =
       (noting.right x (all_seen (length next) (λ v. (copy_at next v).wire) source (are_behind source next are) wire noting.seen noting.first seen_behind (suc (source x).1) x (omega arith) low of)).0
 
-  pub noted_others : (x : ℕ) → (source x).0 ≢ wire → slice_index_or is x 0 ≡ slice_index_or was x 0
-  noted_others x other = by (noting.seen x) refl
-    where
-      by : (seen : Bool) → noting.seen x ≡ seen → slice_index_or is x 0 ≡ slice_index_or was x 0
-      by true e = absurd (other (noting.right x e).1)
-      by false e = noting.others x e
-
 -- how much later the copies are of the wires below one is noted
 pub record AreNotedTo (source : ℕ → ℕ × ℕ) (next : List OutputPort) (wires : ℕ) (delays : List ℕ) : Type 0 where
   pub right : (x : ℕ) → x < length next → (source x).0 < wires → slice_index_or delays x 0 ≡ (source x).1
   pub none : (x : ℕ) → wires ≤ (source x).0 → slice_index_or delays x 0 ≡ 0
-
-pub noted_more : (source : ℕ → ℕ × ℕ) (next : List OutputPort) (wire : ℕ) (was is : List ℕ) → AreNotedTo source next wire was →
-    ((x : ℕ) → x < length next → (source x).0 ≡ wire → slice_index_or is x 0 ≡ (source x).1) → ((x : ℕ) → (source x).0 ≢ wire → slice_index_or is x 0 ≡ slice_index_or was x 0) →
-    AreNotedTo source next (wire + 1) is
-noted_more source next wire was is noted right others = record {
-  right = λ x low less. elim (cases_eq (source x).0 wire) as (λ _. slice_index_or is x 0 ≡ (source x).1) [
-    | inl own ↦ right x low own
-    | inr other ↦ others x other ∙ noted.right x low (omega arith)
-  ];
-  none = λ x more. others x (λ same. absurd (omega arith)) ∙ noted.none x (omega arith);
-}
 
 pub all_noted : (source : ℕ → ℕ × ℕ) (next : List OutputPort) (count wires : ℕ) (delays : List ℕ) → HasWires count source next → count ≤ wires → AreNotedTo source next wires delays →
     (x : ℕ) → x < length next → slice_index_or delays x 0 ≡ (source x).1

@@ -14,6 +14,7 @@ use Rattle.mp_compare.specs.Comparing.{wire_of, delay_of, place_at, old_changes,
 use Rattle.mp_compare.specs.Passing.{HasPassed}
 use Rattle.mp_wave.specs.Faults.{pair_at}
 use Rattle.mp_compare.proofs.CursorLemmas.{next_later}
+use Rattle.mp_calendar.proofs.CalendarLemmas.{bit_few}
 
 -- how often a number is listed among one and others
 pub one_of : (x number : ℕ) (rest : List ℕ) → listed x (number ∷ rest) ≡ bit (number == x) + listed x rest
@@ -22,10 +23,6 @@ one_of x number rest = sum_by-cons (λ d. cond (d == x) 1 0) number rest ∙ ap 
     plain : (b : Bool) → cond b 1 0 ≡ bit b
     plain true = refl
     plain false = refl
-
-bit_few : (b : Bool) → bit b ≤ 1
-bit_few true = omega arith
-bit_few false = omega arith
 
 -- a number that is taken out is listed, and isn't among the others
 pub taken_listed : (run : Outcome) (t number : ℕ) (rest : List ℕ) (c : Comparison) → HasCursors run t (number ∷ rest) c → time_of c.calendar number ≢ never

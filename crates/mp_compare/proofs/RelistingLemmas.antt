@@ -32,31 +32,6 @@ counted_cursors run t taken was is kept long has = subst (HasCursors run t taken
   later = has.later;
 })
 
--- and where wires have other sources
-pub sourced_cursors : (run : Outcome) (t : ℕ) (taken : List ℕ) (was is : Comparison) → is ≡ record was { sources = is.sources } → length is.sources.items ≡ length was.sources.items →
-    HasCursors run t taken was → HasCursors run t taken is
-sourced_cursors run t taken was is kept long has = subst (HasCursors run t taken) (sym kept) (record {
-  shape = record {
-    delays = has.shape.delays;
-    next = has.shape.next;
-    have_data = has.shape.have_data ∙ sym long;
-    asleep = has.shape.asleep;
-    times = has.shape.times;
-    places = has.shape.places;
-    seen = has.shape.seen;
-    few = (let few = has.shape.few in omega arith);
-    wires = λ x low. (let within = has.shape.wires x low in omega arith);
-    own = λ w low. has.shape.own w (omega arith);
-  };
-  form = has.form;
-  calendar = has.calendar;
-  room = has.room;
-  place = has.place;
-  time = has.time;
-  over = has.over;
-  later = has.later;
-})
-
 -- so many sources stay
 pub sources_long : (run : Outcome) (t : ℕ) (taken : List ℕ) (was is : Comparison) → is.numbers ≡ was.numbers → HasCursors run t taken was → HasCursors run t taken is → length is.sources.items ≡ length was.sources.items
 sources_long run t taken was is same before after = sym after.shape.have_data ∙ ap (λ (ns : Numbers). length ns.have_data.items) same ∙ before.shape.have_data

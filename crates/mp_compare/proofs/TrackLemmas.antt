@@ -100,14 +100,6 @@ tracking_goes_on run now wire number next was mid is linked after_is tracking li
         (listed.listed (subst (λ y. 0 < asleep_at mid y) (eqb-true x number own) (let same = asleep_same was mid x tracking.kept in omega arith)))
     done_by x asleep (inr seen) = listed.others x (tracking.done x seen asleep)
 
--- less is left
-pub less_left : (numbers : Numbers) (x : ℕ) (next : Option ℕ) → AreLinked numbers → after numbers x ≡ next → left numbers next < left numbers (Some x)
-less_left numbers x None linked e = omega arith
-less_left numbers x (Some y) linked e =
-    let later = linked.later x y e in
-    let low = linked.low y in
-    omega arith
-
 are_behind : (numbers : Numbers) → AreLinked numbers → length numbers.next.items ≡ length numbers.wires.items →
     AreBehind (length numbers.wires.items) (after numbers) (λ x. (wire_of numbers x, delay_of numbers x))
 are_behind numbers linked long = record {

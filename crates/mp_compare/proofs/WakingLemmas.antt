@@ -92,7 +92,7 @@ slept_before : (outputs : List Output) (o : Output) (time w : ℕ) (source : Wir
 slept_before [] o time w source other = ap (λ b. cond b (from_then (time + o.delay) source) source) other
 slept_before (x ∷ outputs) o time w source other = ap (cond (is_wire x.wire w) (from_then (time + x.delay) source)) (slept_before outputs o time w source other)
 
-wire_is : (o : Option WireId) (w : ℕ) → is_wire o w ≡ true → o ≡ Some (record { 0 = w })
+pub wire_is : (o : Option WireId) (w : ℕ) → is_wire o w ≡ true → o ≡ Some (record { 0 = w })
 wire_is None w e = absurd (false≢true e)
 wire_is (Some v) w e = ap (λ (n : ℕ). Some (let id : WireId = record { 0 = n } in id)) (eqb-true v.0 w e)
 

@@ -20,7 +20,8 @@ use Rattle.mp_rerun.specs.declared.rerun.Rerun.{Rerun}
 use Rattle.mp_rerun.specs.Following.{AreToCome, is_tail}
 use Rattle.mp_rerun.specs.Reruns.{active_of, until_of}
 use Rattle.mp_rerun.specs.Returning.{CanReturn, AreBack, IsNextBack, is_output}
-use Rattle.mp_rerun.proofs.ReaderLemmas.{outputs_are, wire_told}
+use Rattle.mp_rerun.proofs.ReaderLemmas.{outputs_are}
+use Rattle.mp_compare.proofs.WakingLemmas.{wire_is}
 
 -- before the first, none is back
 pub none_back : (old new : Circuit) (run : Outcome) (numbering : Numbering) (since : ℕ → ℕ) (t m : ℕ) (s : Rerun) → CanReturn old new run numbering since t m s → AreBack new numbering t (is_output []) s s
@@ -49,7 +50,7 @@ found_before : (k : ℕ) (outputs : List Output) (w : ℕ) → is_output (take k
 found_before zero outputs w is = absurd (true≢false (sym is))
 found_before (suc k) [] w is = absurd (true≢false (sym is))
 found_before (suc k) (o ∷ outputs) w is = elim (or_cases (is_wire o.wire w) (is_output (take k outputs) w) is) as (λ _. (p : ℕ) × (p < suc k) × ((output_in (o ∷ outputs) p).wire ≡ Some (record { 0 = w }))) [
-  | inl here ↦ (0, omega arith, wire_told o.wire w here)
+  | inl here ↦ (0, omega arith, wire_is o.wire w here)
   | inr else ↦ let more = found_before k outputs w else in let low = more.1 in (suc more.0, omega (arith, low), more.2)
 ]
 

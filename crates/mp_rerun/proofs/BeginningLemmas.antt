@@ -35,14 +35,11 @@ use Rattle.mp_run.specs.declared.stimuli.StimulusChange.{StimulusChange}
 use Rattle.mp_compare.specs.ChangedStimuli.{AreSetAnew as AreThoseSetAnew}
 use Rattle.mp_rerun.specs.Following.{AreSetAnew}
 use Rattle.mp_rerun.specs.Windows.{AreTouched}
+use Rattle.mp_rerun.proofs.StandingLemmas.{standing}
 
 -- what changed stimuli set is to come
 pub set_anew : (n : Circuit) (until : ℕ → ℕ) (t : ℕ) (ss : List StimulusChange) → AreThoseSetAnew n until t ss → AreSetAnew n until t ss
 set_anew n until t ss are = record { listed = are.listed; each = are.each; set = are.set }
-
-standing : {A : Type 0} (slot : Option A) → IsSome slot → (x : A) × (slot ≡ Some x)
-standing None some = let none : ⊥ = cc in absurd none
-standing (Some x) some = (x, refl)
 
 -- no time of a run has passed before time 0
 nothing_before : (old new : Circuit) (m : ℕ) → (Differs old new m 0 ⊎ IsApartIn old new m 0 0) → ⊥

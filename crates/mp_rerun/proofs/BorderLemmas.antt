@@ -33,7 +33,8 @@ use Rattle.mp_rerun.specs.Reruns.{IsRerunAt, active_of, on_of}
 use Rattle.mp_rerun.specs.Windows.{AreTouched, IsAtWindow}
 use Rattle.mp_rerun.proofs.KeepingLemmas.{old_state_is}
 use Rattle.mp_rerun.proofs.KeptLemmas.{rerun_renewed}
-use Rattle.mp_rerun.proofs.WindowLemmas.{is_listed, standing}
+use Rattle.mp_rerun.proofs.StandingLemmas.{standing}
+use Rattle.mp_rerun.proofs.WindowLemmas.{is_listed}
 
 -- ---- states of active modules
 

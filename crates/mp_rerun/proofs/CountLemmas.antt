@@ -13,17 +13,8 @@ use Rattle.mp_netlist.specs.Circuit.{Circuit, IsCircuit, module_at}
 use Rattle.mp_netlist.specs.Slots.{slot_at}
 use Rattle.mp_core.specs.PortEvents.{source_of}
 use Rattle.mp_events.specs.Adding.{listed}
-use Rattle.mp_run.specs.Wirings.{AreByPort}
-use Rattle.mp_compare.specs.Waking.{number_in, numbers_in}
 use Rattle.mp_excerpt.specs.Numberings.{Numbering, ReadsNumbers}
 use Rattle.mp_rerun.specs.Numbered.{reads_asleep, readers_asleep}
-
--- the numbers at ports are those that are read
-pub numbers_by_port : (numbers : List ℕ) (ports : List (Option ℕ)) → AreByPort numbers ports → numbers_in ports ≡ numbers
-numbers_by_port [] [] by = refl
-numbers_by_port [] (port ∷ ports) by = ap (λ (o : Option ℕ). number_in o (numbers_in ports)) (by 0) ∙ numbers_by_port [] ports (λ p. by (suc p))
-numbers_by_port (x ∷ xs) [] by = absurd (none-some x (by 0))
-numbers_by_port (x ∷ xs) (port ∷ ports) by = ap (λ (o : Option ℕ). number_in o (numbers_in ports)) (by 0) ∙ ap (λ (ys : List ℕ). x ∷ ys) (numbers_by_port xs ports (λ p. by (suc p)))
 
 module _ (active after : ℕ → Bool) (numbering : Numbering) (x : ℕ) where
   reads_alike : (m : ℕ) (slot : Option ModuleRecord) → after m ≡ active m → reads_asleep after numbering x m slot ≡ reads_asleep active numbering x m slot

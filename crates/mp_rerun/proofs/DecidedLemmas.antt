@@ -1,10 +1,9 @@
 -- Tails: what modules have decided of their wires before they fell asleep.
-use Rattle.std.proofs.Common.{◌≡◌, ℕ, ◌+◌, ◌-◌, ◌≤◌, Bool, true, false, not, cond, nat_lt, List, [], ◌∷◌, ◌++◌, All, Option, Some, zero, suc, refl, ap, sym, subst, ◌∙◌, arith, inl, inr}
+use Rattle.std.proofs.Common.{◌≡◌, ℕ, ◌+◌, ◌-◌, ◌≤◌, Bool, true, false, not, cond, nat_lt, List, [], ◌∷◌, ◌++◌, All, Option, Some, zero, suc, refl, ap, sym, subst, ◌∙◌, arith}
 use Rattle.std.specs.Prelude.{◌&&◌, ◌==◌}
 use Rattle.std.specs.List.{count_by}
 use Rattle.std.specs.List.Sorted.{IsPermutation}
 use mathlib.Core.Path.{fun_ext}
-use Rattle.std.proofs.lemmas.Bool.{cases_lt, lt-ltb, le-ltb}
 use Rattle.std.proofs.lemmas.List.Elements.{All-append, All-weaker}
 use Rattle.std.proofs.lemmas.List.Sorted.{sum_by-IsPermutation, All-permutation}
 use Rattle.std.proofs.lemmas.List.Sums.{sum_by-append}
@@ -28,6 +27,7 @@ use Rattle.mp_excerpt.specs.Leaving.{is_port_in}
 use Rattle.mp_steps.specs.Taking.{is_taken}
 use Rattle.mp_steps.specs.Tails.{IsTail, AreTails as AreTaken}
 use Rattle.mp_rerun.specs.Following.{AreTails, is_tail}
+use Rattle.mp_steps.proofs.AheadLemmas.{shifted}
 
 and_swap : (a b : Bool) → (a && b) ≡ (b && a)
 and_swap true true = refl
@@ -42,12 +42,6 @@ later_all : (time : ℕ) (ss : List StimulusChange) → AreFrom time ss → All 
 later_all time [] from j d within = absurd (let no : ⊥ = omega (arith, within) in no)
 later_all time (s ∷ ss) from zero d within = from.0
 later_all time (s ∷ ss) from (suc j) d within = let rest = later_all s.time ss from.1 j d (omega (arith, within)) in let first = from.0 in omega (arith, rest, first)
-
-shifted : (t k d : ℕ) → nat_lt (t + 1 + k) (t + 1 + d) ≡ nat_lt k d
-shifted t k d = elim (cases_lt k d) as (λ _. nat_lt (t + 1 + k) (t + 1 + d) ≡ nat_lt k d) [
-  | inl low ↦ lt-ltb (t + 1 + k) (t + 1 + d) (omega (arith, low)) ∙ sym (lt-ltb k d low)
-  | inr past ↦ le-ltb (t + 1 + k) (t + 1 + d) (omega (arith, past)) ∙ sym (le-ltb k d past)
-]
 
 not_counted : (c b : Bool) → bit (c && (false && b)) ≡ 0
 not_counted true b = refl

@@ -10,7 +10,7 @@ use Rattle.mp_events.specs.Adding.{listed}
 use Rattle.mp_core.specs.Changes.{change_at}
 use Rattle.mp_core.specs.Simulators.{slot_at}
 use Rattle.mp_core.specs.Simulations.{copy_slot}
-use Rattle.mp_core.proofs.ListedLemmas.{listed_append, listed_here}
+use Rattle.mp_core.proofs.ListedLemmas.{listed_append}
 use Rattle.mp_data.specs.declared.level_change.LevelChange.{LevelChange}
 use Rattle.mp_units.specs.declared.netlist_simulation.NetlistSimulation.{NetlistSimulation}
 use Rattle.mp_units.specs.DataLevels.{is_data, is_bit_wire, changes_of, late_level}
@@ -31,7 +31,7 @@ use Rattle.mp_compare.specs.declared.set_wires.SetWires.{SetWires}
 use Rattle.mp_rerun.specs.Coming.{IsComing}
 use Rattle.mp_rerun.specs.Following.{AreToCome}
 use Rattle.mp_rerun.proofs.LateLemmas.{late_is, late_differs}
-use Rattle.mp_rerun.proofs.NumberLemmas.{changes_stand, asleep_within}
+use Rattle.mp_rerun.proofs.NumberLemmas.{changes_stand, asleep_within, all_listed}
 use Rattle.mp_rerun.proofs.ToComeLemmas.{bits_to_come, levels_to_come, set_to_come}
 use Rattle.mp_rerun.proofs.ComingLemmas.{IsSplit, wires_ahead, all_come}
 
@@ -55,9 +55,6 @@ coming_is time stimuli left s due coming is bits levels = record {
 }
 
 -- ---- lists
-
-all_listed : (P : ℕ → Type 0) (xs : List ℕ) → ((x : ℕ) → 0 < listed x xs → P x) → All P xs
-all_listed P xs each k d low = each (slice_index_or xs k d) (listed_here xs k d low)
 
 all_changed : (P : ℕ → Type 0) (cs : List LevelChange) → ((x : ℕ) → 0 < changes_of x cs → P x) → All (λ (c : LevelChange). P c.number) cs
 all_changed P cs each k d low = each (slice_index_or cs k d).number (change_here cs k d low)

@@ -31,8 +31,9 @@ use Rattle.mp_rerun.specs.declared.rerun.Rerun.{Rerun}
 use Rattle.mp_rerun.specs.Leaving.{HasFallenAsleep}
 use Rattle.mp_rerun.specs.Numbered.{ports_at, readers_asleep, AreCounted}
 use Rattle.mp_rerun.specs.Reruns.{IsRerunBy, active_of, on_of, until_of}
-use Rattle.mp_rerun.proofs.CountLemmas.{numbers_by_port, readers_more}
+use Rattle.mp_rerun.proofs.CountLemmas.{readers_more}
 use Rattle.mp_rerun.proofs.SourceLemmas.{slept_else, slept_on, sources_fall, lit_fall}
+use Rattle.mp_rerun.proofs.ReaderLemmas.{numbers_by_port}
 
 -- it was active, and isn't
 abbrev pub has_left : Rerun → Rerun → ℕ → Bool

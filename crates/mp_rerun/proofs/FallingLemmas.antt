@@ -31,9 +31,10 @@ use Rattle.mp_rerun.specs.declared.rerun.Rerun.{Rerun}
 use Rattle.mp_rerun.specs.Leaving.{CanFallAsleep, HasGone, HasLeftOne}
 use Rattle.mp_rerun.specs.Numbered.{ports_at, AreNumbered}
 use Rattle.mp_rerun.specs.Reruns.{IsRerunBy, active_of}
-use Rattle.mp_rerun.proofs.CountLemmas.{numbers_by_port, read_few, readers_few}
+use Rattle.mp_rerun.proofs.CountLemmas.{read_few, readers_few}
 use Rattle.mp_rerun.proofs.KeepingLemmas.{border_window}
 use Rattle.mp_rerun.proofs.FallLemmas.{AreFalling, falling_more}
+use Rattle.mp_rerun.proofs.ReaderLemmas.{numbers_by_port}
 
 -- with more room
 falling_wider : (old new : Circuit) (run : Outcome) (numbering : Numbering) (since : ℕ → ℕ) (time units more : ℕ) (leaving : List ModuleId) (s now : Rerun) → units ≤ more

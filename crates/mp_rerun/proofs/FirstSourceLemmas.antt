@@ -145,15 +145,12 @@ module _ (old new : Circuit) (new_ok : IsCircuit new) (active : List Bool) (inpu
   zero_when : (w : ℕ) → (until w ≡ never → ⊥) → until w ≡ 0
   zero_when w deny = elim (until_is w) as (λ _. until w ≡ 0) [ inl is ↦ absurd (deny is) | inr is ↦ is ]
 
-  driven_low : (w p : ℕ) (m : ModuleId) → driver new w ≡ Port m p → w < length new.wires
-  driven_low w p m drives = port_within new new_ok w p m drives
-
   awake : (w p : ℕ) (m : ModuleId) → driver new w ≡ Port m p → is_marked active m.0 ≡ true → until w ≡ never
-  awake w p m drives marked = (first.sources w (driven_low w p m drives)).never.1 (renews_by old new active w p m (driver new w) drives marked)
+  awake w p m drives marked = (first.sources w (port_within new new_ok w p m drives)).never.1 (renews_by old new active w p m (driver new w) drives marked)
 
   asleep : (w p : ℕ) (m : ModuleId) → driver new w ≡ Port m p → is_marked active m.0 ≡ false → until w ≡ 0
   asleep w p m drives sleeps =
-      zero_when w (λ is. both_ways (is_marked active m.0) sleeps (renewed_by old new active w p m (driver new w) drives ((first.sources w (driven_low w p m drives)).never.0 is)))
+      zero_when w (λ is. both_ways (is_marked active m.0) sleeps (renewed_by old new active w p m (driver new w) drives ((first.sources w (port_within new new_ok w p m drives)).never.0 is)))
 
   others : (w : ℕ) → is_port (driver new w) ≡ false → (until w ≡ never) ⊎ ((until w ≡ 0) × IsAsBefore old new w)
   others w portless = elim (cases_lt w (length new.wires)) as (λ _. (until w ≡ never) ⊎ ((until w ≡ 0) × IsAsBefore old new w)) [

@@ -1,5 +1,5 @@
 -- Which modules hear of numbers.
-use Rattle.std.proofs.Common.{◌≡◌, ◌≢◌, ℕ, zero, suc, ◌+◌, ◌*◌, ◌<◌, Bool, true, false, cond, List, [], ◌∷◌, ◌++◌, All, Option, Some, None, length, map, take, refl, sym, ap, subst, ◌∙◌, arith, inl, inr, slice_index_or}
+use Rattle.std.proofs.Common.{◌≡◌, ◌≢◌, ℕ, zero, suc, ◌+◌, ◌*◌, ◌<◌, Bool, false, cond, List, [], ◌∷◌, ◌++◌, All, Option, Some, None, length, map, take, refl, sym, ap, subst, ◌∙◌, arith, inl, inr, slice_index_or}
 use Rattle.std.specs.Prelude.{◌==◌, ◌↔◌}
 use Rattle.std.specs.List.{Contains}
 use Rattle.std.proofs.lemmas.Bool.{cases_lt, cases_Bool, cases_eq, eq-eqb, eqb-true}
@@ -129,25 +129,6 @@ hearing_more active es e joining some asleep are m = (there, here)
           let more = hears.1 in
           let own = event_of m e (omega (arith, sum, more, none)) in
           subst (λ k. Contains (joining ++ named e.module ∷ []) (named k)) own (Contains-push joining (named e.module))
-    ]
-
-pub hearing_same : (active : ℕ → Bool) (es : List FanoutEntry) (e : FanoutEntry) (joining : List ModuleId) → active e.module ≡ true → AreHearing active es joining →
-    AreHearing active (es ++ e ∷ []) joining
-hearing_same active es e joining awake are m = (there, here)
-  where
-    there : Contains joining (named m) → (active m ≡ false) × (0 < events_for m (es ++ e ∷ []))
-    there found = let before = (are m).0 found in let sum = events_push m es e in (before.0, let more = before.1 in omega (arith, sum, more))
-
-    here : (active m ≡ false) × (0 < events_for m (es ++ e ∷ [])) → Contains joining (named m)
-    here hears = elim (cases_lt 0 (events_for m es)) as (λ _. Contains joining (named m)) [
-      | inl before ↦ (are m).1 (hears.0, before)
-      | inr none ↦
-          let sum = events_push m es e in
-          let more = hears.1 in
-          let own = event_of m e (omega (arith, sum, more, none)) in
-          let is : active m ≡ true = subst (λ k. active k ≡ true) own awake in
-          let sleeps = hears.0 in
-          let no : ⊥ = cc in absurd no
     ]
 
 -- one entry more is gone through

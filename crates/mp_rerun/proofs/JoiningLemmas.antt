@@ -1,5 +1,5 @@
 -- The modules that sleep and hear of numbers that depart are those that are apart.
-use Rattle.std.proofs.Common.{◌≡◌, ◌≢◌, ℕ, ◌+◌, ◌<◌, true, false, not, nat_lt, List, All, Option, Some, None, IsSome, length, refl, sym, ap, subst, ◌∙◌, arith}
+use Rattle.std.proofs.Common.{◌≡◌, ◌≢◌, ℕ, ◌+◌, ◌<◌, true, false, not, nat_lt, List, All, Option, Some, None, length, refl, sym, ap, subst, ◌∙◌, arith}
 use Rattle.std.specs.Prelude.{◌&&◌, ◌==◌}
 use Rattle.std.proofs.lemmas.Bool.{and_parts, ltb-true, lt-ltb, eq-eqb, ne_eqb}
 use Rattle.std.proofs.lemmas.List.Elements.{All-map}
@@ -23,10 +23,7 @@ use Rattle.mp_rerun.specs.Reruns.{IsRerunBy, active_of}
 use Rattle.mp_excerpt.proofs.TestLemmas.{bit_true}
 use Rattle.mp_rerun.proofs.NumberLemmas.{asleep_within}
 use Rattle.mp_rerun.proofs.HearingLemmas.{at_listed, differs_at, weight_listed, listed_weight, entry_found, entry_there, reader_counted}
-
-some_is : {A : Type 0} (o : Option A) (x : A) → o ≡ Some x → IsSome o
-some_is None x is = let no : ⊥ = cc in absurd no
-some_is (Some y) x is = refl
+use Rattle.mp_rerun.proofs.StandingLemmas.{some_is}
 
 module _ (old n : Circuit) (run : Outcome) (numbering : Numbering) (since : ℕ → ℕ) (t : ℕ) (s : Rerun) (is : IsRerunBy old n run numbering since t s) (are : AreDeparting old n (t + 1) s) where
   -- a number that departs is one that modules read that sleep

@@ -1,11 +1,8 @@
 -- States of active modules are kept before a border.
-use Rattle.std.proofs.Common.{◌≡◌, ◌≢◌, ◌⊎◌, ℕ, ◌+◌, ◌-◌, ◌%◌, ◌<◌, ◌≤◌, Bool, true, false, List, Option, IsSome, Some, None, cond, nat_lt, ◌==◌, eqb, option_map, length, slice_index_or, suc, refl, ap, sym, subst, ◌∙◌, arith, inl, inr}
-use Rattle.std.specs.Prelude.{◌&&◌, if◌then◌else◌}
-use Rattle.std.proofs.lemmas.Bool.{cases_eq, both_ways, and_from, lt-ltb, eq-eqb, ne_eqb}
+use Rattle.std.proofs.Common.{◌≡◌, ◌≢◌, ◌⊎◌, ℕ, ◌+◌, ◌-◌, ◌<◌, ◌≤◌, Bool, true, false, List, IsSome, Some, cond, eqb, length, slice_index_or, suc, refl, ap, sym, subst, ◌∙◌, arith, inl, inr}
+use Rattle.std.proofs.lemmas.Bool.{cases_eq, both_ways, eq-eqb, ne_eqb}
 use Rattle.std.proofs.lemmas.List.{get_or_default}
-use Rattle.std.proofs.lemmas.Option.{same_Some, none-some}
 use Rattle.mp_modules.specs.declared.memory.Memory.{Memory}
-use Rattle.mp_modules.specs.Memories.{blank}
 use Rattle.mp_records.specs.declared.ids.ModuleId.{ModuleId}
 use Rattle.mp_records.specs.declared.module_record.ModuleRecord.{ModuleRecord}
 use Rattle.mp_netlist.specs.Circuit.{Circuit, IsCircuit, module_at}
@@ -13,10 +10,9 @@ use Rattle.mp_netlist.specs.Limits.{checkpoint_units}
 use Rattle.mp_netlist.specs.Slots.{slot_at}
 use Rattle.mp_netlist.proofs.LimitLemmas.{units_positive}
 use Rattle.mp_model.specs.Waves.{state}
-use Rattle.mp_evaluation.specs.declared.checkpoints.Checkpoint.{Checkpoint}
-use Rattle.mp_evaluation.specs.Checkpoints.{kept_at, state_before, IsBorder}
+use Rattle.mp_evaluation.specs.Checkpoints.{state_before, IsBorder}
 use Rattle.mp_evaluation.specs.Outcomes.{Outcome}
-use Rattle.mp_evaluation.specs.Runs.{IsRun, checkpoint}
+use Rattle.mp_evaluation.specs.Runs.{IsRun}
 use Rattle.mp_work.specs.Revisions.{IsRevision}
 use Rattle.mp_work.specs.Work.{block_of, window_of, window_end, IsWindow}
 use Rattle.mp_work.proofs.MultipleLemmas.{whole_rest, multiples_apart, whole_from}
@@ -28,7 +24,8 @@ use Rattle.mp_history.specs.Ledgers.{state_in}
 use Rattle.mp_history.proofs.HistoryLemmas.{can_keep}
 use Rattle.mp_agreement.specs.Sleeping.{AreSleeping}
 use Rattle.mp_agreement.proofs.SleepingLemmas.{sleepers_agree}
-use Rattle.mp_rerun.proofs.WindowLemmas.{standing}
+use Rattle.mp_rerun.proofs.StandingLemmas.{standing}
+use Rattle.mp_rerun.proofs.OldStateLemmas.{kept_state}
 
 -- ---- borders
 
@@ -65,29 +62,11 @@ pub before_is : (n : Circuit) (m time : ℕ) (r : ModuleRecord) → 0 < time →
 before_is n m time r some = let e : suc (time - 1) ≡ time = omega (arith, some) in subst (λ k. state_before n m r k ≡ state n m (time - 1)) e refl
 
 module _ (old new : Circuit) (old_ok : IsCircuit old) (new_ok : IsCircuit new) (revised : IsRevision old new) (run : Outcome) (is : IsRun old run) where
-  -- the state before a border that the old run kept
-  kept_state : (m b : ℕ) (r : ModuleRecord) → module_at old m ≡ Some r → IsBorder old.horizon b → b < old.horizon → state_in (slot_at run.kept m) b ≡ state_before old m r b
-  kept_state m b r at border low = by (slot_at run.kept m) (opened (nat_lt b run.horizon && b % checkpoint_units run.horizon == 0) (is.checkpoints m b ∙ told ∙ ap (option_map (λ (x : ModuleRecord). state_before old m x b)) at))
-    where
-      test : (nat_lt b old.horizon && b % checkpoint_units old.horizon == 0) ≡ true
-      test = and_from (nat_lt b old.horizon) (b % checkpoint_units old.horizon == 0) (lt-ltb b old.horizon low) (eq-eqb (b % checkpoint_units old.horizon) 0 border)
-
-      told : checkpoint old m b ≡ option_map (λ (x : ModuleRecord). state_before old m x b) (module_at old m)
-      told = rw test refl
-
-      opened : (test : Bool) → (if test then option_map (λ ks. kept_at ks b blank) (slot_at run.kept m) else None) ≡ Some (state_before old m r b) → option_map (λ ks. kept_at ks b blank) (slot_at run.kept m) ≡ Some (state_before old m r b)
-      opened true e = e
-      opened false e = absurd (none-some (state_before old m r b) e)
-
-      by : (slot : Option (List Checkpoint)) → option_map (λ ks. kept_at ks b blank) slot ≡ Some (state_before old m r b) → state_in slot b ≡ state_before old m r b
-      by None e = absurd (none-some (state_before old m r b) e)
-      by (Some ks) e = same_Some (kept_at ks b blank) (state_before old m r b) e
-
   -- so it is of the unit before it
   pub old_state_is : (m time : ℕ) (r : ModuleRecord) → module_at old m ≡ Some r → IsBorder new.horizon time → 0 < time → time < new.horizon → state_in (slot_at run.kept m) time ≡ state old m (time - 1)
   old_state_is m time r at border some below =
       let same = revised.horizon in
-      kept_state m time r at (subst (λ h. IsBorder h time) same border) (omega (arith, below, same)) ∙ before_is old m time r some
+      kept_state old old_ok run is m time r at (subst (λ h. IsBorder h time) same border) (omega (arith, below, same)) ∙ before_is old m time r some
 
   -- of modules that sleep the old run has kept the states
   pub sleepers_kept : (active : ℕ → Bool) (since : ℕ → ℕ) (latest time : ℕ) → IsBorder new.horizon time → 0 < time → time < new.horizon → latest ≤ time → ((m : ℕ) → since m < latest + 1)

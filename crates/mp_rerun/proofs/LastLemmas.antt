@@ -35,18 +35,12 @@ use Rattle.mp_records.specs.declared.ids.WireId.{WireId}
 use Rattle.mp_records.specs.declared.ports.Output.{Output}
 use Rattle.mp_units.specs.declared.netlist_simulation.NetlistSimulation.{NetlistSimulation}
 use Rattle.mp_units.specs.DataLevels.{is_data}
-use Rattle.mp_work.specs.Revisions.{IsKept}
 use Rattle.mp_steps.specs.Putting.{HasPut, entries_of}
 use Rattle.mp_steps.proofs.OldChangeLemmas.{old_changes_are_ahead}
 use Rattle.mp_rerun.specs.declared.rerun.Rerun.{Rerun}
 use Rattle.mp_rerun.specs.Returning.{CanPutLast, HasPutSpan}
-use Rattle.mp_rerun.proofs.OldStateLemmas.{old_inputs}
+use Rattle.mp_rerun.proofs.OldStateLemmas.{old_inputs, before_alike}
 use Rattle.mp_rerun.proofs.ReaderLemmas.{output_within}
-
--- the state before a time, as spans and as runs have it
-before_alike : (n : Circuit) (m t : ℕ) (r : ModuleRecord) → spans.state_before (built n r) (state n m) t ≡ state_before n m r t
-before_alike n m zero r = refl
-before_alike n m (suc t) r = refl
 
 -- a module that answers once more does what it did
 pub answered_span : (old : Circuit) (ok : IsCircuit old) (run : Outcome) → IsRun old run → (m a to : ℕ) (r : ModuleRecord) (part : AnyModule) (seen : ℕ → List ℕ) (memory : Memory) (piece : Piece) → module_at old m ≡ Some r →
@@ -184,9 +178,6 @@ module _ (old new : Circuit) (ok : IsCircuit new) (t m port from : ℕ) (found :
 
   pub drives_last : Drives new m port wire
   drives_last = record { part = part; stands = can.kept.after; output = can.output }
-
-  pub found_kept : IsKept old new m found
-  found_kept = subst (λ (r : ModuleRecord). IsKept old new m r) part_is can.kept
 
   module _ (here : Output) (is : here ≡ slice_index_or items port here) where
     here_is : output_at part port ≡ here

@@ -31,7 +31,7 @@ use Rattle.mp_rerun.specs.Reruns.{IsRerunBy, active_of, on_of}
 use Rattle.mp_rerun.proofs.FindingLemmas.{below_never}
 use Rattle.mp_rerun.proofs.QuietLemmas.{NothingComes}
 use Rattle.mp_rerun.proofs.IdleLemmas.{quiet_outside, quiet_followed}
-use Rattle.mp_rerun.proofs.WindowLemmas.{standing}
+use Rattle.mp_rerun.proofs.StandingLemmas.{standing}
 
 -- the laws that are needed
 pub record LeapLaws : Type 0 where

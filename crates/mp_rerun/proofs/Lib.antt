@@ -51,6 +51,7 @@ pub mod SleptLemmas
 pub mod SourceLemmas
 pub mod SplicingLemmas
 pub mod SplitLemmas
+pub mod StandingLemmas
 pub mod StartingLemmas
 pub mod StayingLemmas
 pub mod TailLemmas

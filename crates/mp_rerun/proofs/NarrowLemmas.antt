@@ -25,10 +25,11 @@ use Rattle.mp_compare.specs.declared.new_changes.NewChanges.{NewChanges}
 use Rattle.mp_compare.specs.Comparing.{wire_of, delay_of, bits_of, HaveLowBits}
 use Rattle.mp_rerun.specs.Following.{AreToCome}
 use Rattle.mp_rerun.proofs.LateLemmas.{late_low}
-use Rattle.mp_rerun.proofs.NumberLemmas.{Stands, changes_stand, bit_wire_is, bit_wire_narrow, bit_wire_source}
+use Rattle.mp_rerun.proofs.NumberLemmas.{Stands, changes_stand, bit_wire_narrow, bit_wire_source}
 use Rattle.mp_rerun.proofs.ToComeLemmas.{bits_to_come}
 use Rattle.mp_rerun.proofs.ComingLemmas.{wires_ahead, copies_ahead}
 use Rattle.mp_rerun.proofs.DepartingLemmas.{AreComing, narrow_change, late_told, bits_sum, low_wire, low_in_copies}
+use Rattle.mp_excerpt.proofs.KeptLemmas.{bit_is}
 
 module _ (n : Circuit) (ok : IsCircuit n) (active on : ℕ → Bool) (numbering : Numbering) (t : ℕ) (s : NetlistSimulation) (shows : Shows n active on numbering t s)
     (c : Comparison) (count : length c.numbers.wires.items ≡ length s.bits.simulator.fanout)
@@ -42,7 +43,7 @@ module _ (n : Circuit) (ok : IsCircuit n) (active on : ℕ → Bool) (numbering 
   own_narrow : (x : ℕ) → is_data n x ≡ false → change_at n x (t + 1) ≡ true → IsNarrow x
   own_narrow x narrow changes =
       let stands = changes_stand n ok x (t + 1) changes in
-      let is = bit_wire_is n x stands.low narrow in
+      let is = bit_is n x stands.low narrow in
       let own : (numbering.source x).0 ≡ x = ap (λ (r : ℕ × ℕ). r.0) (shows.numbers.wires x is) in
       (low_wire n ok active on numbering t s shows c count told anew tail stimuli left first second coming are x changes, bit_wire_source n numbering s shows.numbers x is, subst (Stands n) (sym own) stands)
 

@@ -1,7 +1,7 @@
 -- Numbers of wires of width 1, of wires with data, and of their copies.
-use Rattle.std.proofs.Common.{◌≡◌, ℕ, ◌<◌, ◌≤◌, Bool, true, false, not, nat_lt, Option, Some, None, length, refl, ap, ◌∙◌, arith, inl, inr}
-use Rattle.std.specs.Prelude.{◌&&◌}
-use Rattle.std.proofs.lemmas.Bool.{cases_lt, cases_Bool, lt-ltb, and_parts}
+use Rattle.std.proofs.Common.{◌≡◌, ℕ, ◌<◌, ◌≤◌, Bool, true, false, not, nat_lt, Option, Some, None, length, refl, ap, ◌∙◌, arith, inl, inr, List, All}
+use Rattle.std.specs.Prelude.{slice_index_or}
+use Rattle.std.proofs.lemmas.Bool.{cases_lt, cases_Bool, and_parts}
 use Rattle.std.proofs.lemmas.List.{get_or_past}
 use Rattle.mp_records.specs.declared.wire_record.WireRecord.{WireRecord}
 use Rattle.mp_netlist.specs.Circuit.{Circuit, IsCircuit, wire_at}
@@ -13,6 +13,9 @@ use Rattle.mp_units.specs.DataLevels.{is_data, is_bit_wire}
 use Rattle.mp_excerpt.specs.Numberings.{Numbering, HasNumbers}
 use Rattle.mp_compare.specs.declared.comparison.Comparison.{Comparison}
 use Rattle.mp_compare.specs.Comparing.{asleep_at}
+use Rattle.mp_events.specs.Adding.{listed}
+use Rattle.mp_core.proofs.ListedLemmas.{listed_here}
+use Rattle.mp_excerpt.proofs.KeptLemmas.{bit_is}
 
 -- what no wire stands under never changes
 pub gone_rests : (n : Circuit) → IsCircuit n → (w u : ℕ) → wire_at n w ≡ None → change_at n w u ≡ false
@@ -41,10 +44,6 @@ changes_stand n ok w u changes = by (wire_at n w) refl
       ];
     }
 
--- a number is of width 1 where it is that of a wire which isn't one with data
-pub bit_wire_is : (n : Circuit) (w : ℕ) → w < length n.wires → is_data n w ≡ false → is_bit_wire n w ≡ true
-bit_wire_is n w low narrow = ap (λ b. b && not (is_data n w)) (lt-ltb w (length n.wires) low) ∙ ap not narrow
-
 pub bit_wire_narrow : (n : Circuit) (w : ℕ) → is_bit_wire n w ≡ true → is_data n w ≡ false
 bit_wire_narrow n w is = by (is_data n w) (and_parts (nat_lt w (length n.wires)) (not (is_data n w)) is).1
   where
@@ -55,7 +54,7 @@ bit_wire_narrow n w is = by (is_data n w) (and_parts (nat_lt w (length n.wires))
 -- a number that is of no wire never changes
 pub other_rests : (n : Circuit) → IsCircuit n → (w u : ℕ) → is_bit_wire n w ≡ false → is_data n w ≡ false → change_at n w u ≡ false
 other_rests n ok w u none narrow = elim (cases_lt w (length n.wires)) as (λ _. change_at n w u ≡ false) [
-  | inl low ↦ let is = bit_wire_is n w low narrow in let no : ⊥ = cc in absurd no
+  | inl low ↦ let is = bit_is n w low narrow in let no : ⊥ = cc in absurd no
   | inr past ↦ past_rests n ok w u past
 ]
 
@@ -111,3 +110,7 @@ module _ (n : Circuit) (numbering : Numbering) (s : NetlistSimulation) (has : Ha
     | inl wide ↦ let first = (has.data_wires x wide).1 in let no : ⊥ = cc in absurd no
     | inr other ↦ other
   ]
+
+-- what holds of each number that is listed holds of all
+pub all_listed : (P : ℕ → Type 0) (xs : List ℕ) → ((x : ℕ) → 0 < listed x xs → P x) → All P xs
+all_listed P xs each k d low = each (slice_index_or xs k d) (listed_here xs k d low)

@@ -43,7 +43,7 @@ map_same f g (i ∷ is) same =
     ap (λ x. x ∷ map f is) here ∙ ap (λ xs. g i ∷ xs) others
 
 -- the state before a time, as spans and as runs have it
-before_alike : (n : Circuit) (m t : ℕ) (r : ModuleRecord) → spans.state_before (built n r) (state n m) t ≡ state_before n m r t
+pub before_alike : (n : Circuit) (m t : ℕ) (r : ModuleRecord) → spans.state_before (built n r) (state n m) t ≡ state_before n m r t
 before_alike n m zero r = refl
 before_alike n m (suc t) r = refl
 

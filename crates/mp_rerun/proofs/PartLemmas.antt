@@ -1,22 +1,19 @@
 -- A module with data in a state.
-use Rattle.std.proofs.Common.{◌≡◌, ℕ, ◌<◌, ◌≤◌, Bool, true, false, not, cond, List, [], ◌∷◌, All, Option, Some, None, IsSome, IfSome, length, zero, suc, nat_lt, refl, ap, sym, subst, ◌∙◌, arith, inl, inr}
+use Rattle.std.proofs.Common.{◌≡◌, ℕ, ◌<◌, ◌≤◌, Bool, true, false, cond, List, [], ◌∷◌, All, Option, Some, None, length, zero, suc, refl, ap, sym, subst, ◌∙◌, arith, inl, inr}
 use Rattle.std.specs.Prelude.{◌==◌, slice_index_or}
-use Rattle.std.proofs.lemmas.Bool.{cases_lt, and_right, false≢true}
-use Rattle.std.proofs.lemmas.Bool.Decides.{nat_tests}
+use Rattle.std.proofs.lemmas.Bool.{cases_lt, and_right}
 use Rattle.std.proofs.lemmas.List.{get_or_past}
 use Rattle.std.proofs.lemmas.Option.{none-some, same_Some}
 use Rattle.mp_modules.specs.declared.kind.Kind.{Kind}
 use Rattle.mp_modules.specs.declared.kind.Kind.TheVariants as kinds
 use Rattle.mp_modules.specs.declared.memory.Memory.{Memory}
-use Rattle.mp_modules.specs.Kinds.{has_width, wide_outputs, output_width}
+use Rattle.mp_modules.specs.Kinds.{has_width}
 use Rattle.mp_storage.specs.AnyModules.{any_part_of}
-use Rattle.mp_records.specs.declared.ids.WireId.{WireId}
-use Rattle.mp_records.specs.declared.wire_record.WireRecord.{WireRecord}
 use Rattle.mp_records.specs.declared.ports.Output.{Output}
 use Rattle.mp_records.specs.declared.module_record.ModuleRecord.{ModuleRecord}
 use Rattle.mp_records.specs.Inputs.{input_at}
 use Rattle.mp_records.specs.Outputs.{output_at}
-use Rattle.mp_netlist.specs.Circuit.{Circuit, IsCircuit, HasWidth, Drives, wire_at, width_of, module_at, module_width}
+use Rattle.mp_netlist.specs.Circuit.{Circuit, IsCircuit, wire_at, width_of, module_at, module_width}
 use Rattle.mp_model.specs.Levels.{built}
 use Rattle.mp_model.specs.Waves.{state}
 use Rattle.mp_events.specs.declared.output_port.OutputPort.{OutputPort}
@@ -24,13 +21,13 @@ use Rattle.mp_events.specs.Firing.{no_port, HasSlot, HaveSlots}
 use Rattle.mp_core.specs.Schedules.{output_port_of}
 use Rattle.mp_data.specs.declared.data_module.DataModule.{DataModule}
 use Rattle.mp_data.specs.DataParts.{data_part, any_part, outputs_in}
-use Rattle.mp_units.specs.DataLevels.{has_data, is_data}
 use Rattle.mp_units.specs.DataSeats.{IsDataSeat, drives_data, bit_port_of, number_at}
 use Rattle.mp_run.specs.Seating.{AreOutputsWithin}
 use Rattle.mp_run.specs.Wirings.{AreByPort}
 use Rattle.mp_excerpt.specs.Numberings.{Numbering, ReadsNumbers, place_in, scope_of}
 use Rattle.mp_excerpt.specs.Activating.{with_module}
 use Rattle.mp_rerun.specs.Returning.{IsPartIn}
+use Rattle.mp_run.proofs.WidthLemmas.{data_first}
 
 -- ---- it does what a module of its kind does
 by_kind : (kind : Kind) (params : List ℕ) (width k : ℕ) → (cond (has_width kind) k 1 == 1) ≡ false → any_part (data_part (any_part_of kind params width)) ≡ any_part_of kind params width
@@ -53,30 +50,6 @@ does_as : (n : Circuit) (r : ModuleRecord) → (module_width n r == 1) ≡ false
 does_as n r wide = by_kind r.kind r.params (module_width n r) (width_of (wire_at n (input_at r 0).wire.0)) wide
 
 -- ---- only its first output has data
-data_by : (slot : Option WireRecord) (k : ℕ) → IsSome slot → width_of slot ≡ k → has_data slot ≡ not (k == 1)
-data_by None k some is = cc
-data_by (Some r) k some is = ap (λ v. not (v == 1)) is
-
-few_wide : (kind : Kind) → wide_outputs kind ≤ 1
-few_wide kinds.Buf = omega arith
-few_wide kinds.Reg = omega arith
-few_wide kinds.AddC = omega arith
-few_wide kinds.XorC = omega arith
-few_wide kinds.Sum = omega arith
-few_wide _ = omega arith
-
-first_if : (b : Bool) (p wide width : ℕ) → nat_lt p wide ≡ b → wide ≤ 1 → not (cond b width 1 == 1) ≡ true → p ≡ 0
-first_if true p wide width is few data_too = let low : p < wide = grind (arith, nat_tests) in omega arith
-first_if false p wide width is few data_too = absurd (false≢true data_too)
-
-only_first : (n : Circuit) → IsCircuit n → (m p w : ℕ) → Drives n m p w → is_data n w ≡ true → p ≡ 0
-only_first n ok m p w drives has =
-    let r = drives.part in
-    let all : IfSome (output_at r p).wire (λ v. HasWidth n v.0 (output_width r.kind (module_width n r) p)) = (ok.modules_ok m r drives.stands).drives p in
-    let width : HasWidth n w (output_width r.kind (module_width n r) p) = subst (λ (x : Option WireId). IfSome x (λ v. HasWidth n v.0 (output_width r.kind (module_width n r) p))) drives.output all in
-    let is : is_data n w ≡ not (output_width drives.part.kind (module_width n drives.part) p == 1) = data_by (wire_at n w) (output_width drives.part.kind (module_width n drives.part) p) width.0 width.1 in
-    first_if (nat_lt p (wide_outputs drives.part.kind)) p (wide_outputs drives.part.kind) (module_width n drives.part) refl (few_wide drives.part.kind) (sym is ∙ has)
-
 -- ---- the wheels have slots for its outputs
 port_slot : (n : Circuit) → IsCircuit n → (units m p : ℕ) (r : ModuleRecord) → module_at n m ≡ Some r → AreOutputsWithin n units → 0 < units → HasSlot units (output_port_of (output_at r p))
 port_slot n ok units m p r at within some = elim (cases_lt p (length r.outputs)) as (λ _. HasSlot units (output_port_of (output_at r p))) [
@@ -117,7 +90,7 @@ is_seat n ok active numbering numbers events changes m t r ports memory part at 
   low = low;
   bits = is.bits;
   level = is.level;
-  first = λ w p drives has. only_first n ok m p w drives has;
+  first = λ w p drives has. data_first n ok m p w drives has;
   fit = record {
     reads = λ p x read. number_in (numbering.inputs m) (λ x. x < numbers) low p x (sym (input_is p) ∙ read);
     bits = subst (HaveSlots events) (sym is.bits) (record { first = bit_slot 0; second = bit_slot 1; third = bit_slot 2 });

@@ -20,14 +20,11 @@ use Rattle.mp_steps.proofs.PutLemmas.{all_between, put_units, put_change_units}
 use Rattle.mp_run.specs.declared.stimuli.StimulusChange.{StimulusChange}
 use Rattle.mp_rerun.specs.Returning.{tail_of, others_of}
 use Rattle.mp_rerun.proofs.TailLemmas.{tail_both, others_both, entries_both}
+use Rattle.mp_events.proofs.FiringLemmas.{scheduled_append}
 
 toggles_both : (xs ys : List (ℕ × LevelChange)) → toggles_of (xs ++ ys) ≡ toggles_of xs ++ toggles_of ys
 toggles_both [] ys = refl
 toggles_both (x ∷ xs) ys = ap (λ (es : List (ℕ × ℕ)). toggle_of x ∷ es) (toggles_both xs ys)
-
-scheduled_both : (slots : List (List ℕ)) (xs ys : List (ℕ × ℕ)) → scheduled slots (xs ++ ys) ≡ scheduled (scheduled slots xs) ys
-scheduled_both slots [] ys = refl
-scheduled_both slots (x ∷ xs) ys = scheduled_both (slice_set slots x.0 (slice_index_or slots x.0 [] ++ x.1 ∷ [])) xs ys
 
 levels_both : (slots : List (List LevelChange)) (xs ys : List (ℕ × LevelChange)) → levels_scheduled slots (xs ++ ys) ≡ levels_scheduled (levels_scheduled slots xs) ys
 levels_both slots [] ys = refl
@@ -47,7 +44,7 @@ put_both wide xs ys s mid new one other = record {
         new.bits.simulator.wheel ≡ cond wide s.bits.simulator.wheel (scheduled s.bits.simulator.wheel (toggles_of (xs ++ ys)))
     events true one other = other ∙ one
     events false one other =
-        other ∙ ap (λ (wheel : List (List ℕ)). scheduled wheel (toggles_of ys)) one ∙ sym (scheduled_both s.bits.simulator.wheel (toggles_of xs) (toggles_of ys))
+        other ∙ ap (λ (wheel : List (List ℕ)). scheduled wheel (toggles_of ys)) one ∙ sym (scheduled_append s.bits.simulator.wheel (toggles_of xs) (toggles_of ys))
         ∙ sym (ap (scheduled s.bits.simulator.wheel) (toggles_both xs ys))
 
     changes : (wide : Bool) → mid.wires.wheel ≡ cond wide (levels_scheduled s.wires.wheel xs) s.wires.wheel →

@@ -1,5 +1,5 @@
 -- A unit in which nothing is known ahead, nothing is due, and no number comes up.
-use Rattle.std.proofs.Common.{◌≡◌, ℕ, ◌+◌, ◌-◌, ◌<◌, Bool, true, false, not, cond, nat_lt, List, [], ◌∷◌, ◌++◌, All, Some, length, refl, sym, ap, subst, ◌∙◌, arith, slice_index_or}
+use Rattle.std.proofs.Common.{◌≡◌, ℕ, ◌+◌, ◌-◌, ◌<◌, Bool, true, false, not, cond, nat_lt, List, [], ◌∷◌, ◌++◌, All, Some, length, refl, sym, ap, subst, ◌∙◌, arith}
 use Rattle.std.specs.Prelude.{◌&&◌, ◌==◌}
 use Rattle.std.proofs.lemmas.Bool.{and_parts, ltb-true, eqb-true}
 use Rattle.std.proofs.lemmas.List.Elements.{All-map}
@@ -13,7 +13,6 @@ use Rattle.mp_calendar.specs.Calendars.{never}
 use Rattle.mp_core.specs.Changes.{change_at, late_change}
 use Rattle.mp_core.specs.Simulators.{slot_at}
 use Rattle.mp_core.specs.Simulations.{copy_slot}
-use Rattle.mp_core.proofs.ListedLemmas.{listed_here}
 use Rattle.mp_data.specs.declared.level_change.LevelChange.{LevelChange}
 use Rattle.mp_units.specs.DataLevels.{is_data, is_bit_wire, changes_of}
 use Rattle.mp_units.specs.DataWheels.{data_slot}
@@ -41,6 +40,7 @@ use Rattle.mp_rerun.proofs.HearingLemmas.{at_listed, reader_counted}
 use Rattle.mp_rerun.proofs.LateLemmas.{late_differs}
 use Rattle.mp_rerun.proofs.SplitLemmas.{splits, outside_split}
 use Rattle.mp_rerun.proofs.ToComeLemmas.{bits_to_come, levels_to_come}
+use Rattle.mp_rerun.proofs.NumberLemmas.{all_listed}
 
 -- ---- changes of which none is due
 
@@ -82,9 +82,6 @@ set_by_none : (c is o : Bool) → bit (c && o) ≡ 0 → 0 ≡ bit ((c && is) &&
 set_by_none true true o none = sym none
 set_by_none true false o none = refl
 set_by_none false is o none = refl
-
-all_listed : (P : ℕ → Type 0) (xs : List ℕ) → ((x : ℕ) → 0 < listed x xs → P x) → All P xs
-all_listed P xs each k d low = each (slice_index_or xs k d) (listed_here xs k d low)
 
 module _ (old n : Circuit) (old_ok : IsCircuit old) (ok : IsCircuit n) (revised : IsRevision old n) (run : Outcome) (numbering : Numbering) (since : ℕ → ℕ) (t : ℕ) (s : Rerun)
     (is : IsRerunBy old n run numbering since t s) (nothing : NothingComes (t + 1) s) where

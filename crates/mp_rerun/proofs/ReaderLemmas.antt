@@ -25,6 +25,7 @@ use Rattle.mp_compare.specs.Waking.{number_in, numbers_in}
 use Rattle.mp_rerun.specs.Numbered.{reads_asleep, readers_asleep}
 use Rattle.mp_rerun.specs.Returning.{is_output}
 use Rattle.mp_rerun.proofs.TailLemmas.{counted_cons}
+use Rattle.mp_compare.proofs.WakingLemmas.{wire_is}
 
 -- ---- the numbers at ports
 pub numbers_by_port : (numbers : List ℕ) (ports : List (Option ℕ)) → AreByPort numbers ports → numbers_in ports ≡ numbers
@@ -82,17 +83,13 @@ module _ (active : ℕ → Bool) (numbering : Numbering) (x m : ℕ) where
       omega (arith, one, more)
 
 -- ---- the outputs of a module
-pub wire_told : (o : Option WireId) (w : ℕ) → is_wire o w ≡ true → o ≡ Some (record { 0 = w })
-wire_told None w is = absurd (true≢false (sym is))
-wire_told (Some v) w is = ap (λ (k : ℕ). Some (let id : WireId = record { 0 = k } in id)) (eqb-true v.0 w is)
-
-wire_tells : (o : Option WireId) (w : ℕ) → o ≡ Some (record { 0 = w }) → is_wire o w ≡ true
+pub wire_tells : (o : Option WireId) (w : ℕ) → o ≡ Some (record { 0 = w }) → is_wire o w ≡ true
 wire_tells o w is = ap (λ (o : Option WireId). is_wire o w) is ∙ eq-eqb w w refl
 
 output_found : (outputs : List Output) (w : ℕ) → is_output outputs w ≡ true → (p : ℕ) × ((output_in outputs p).wire ≡ Some (record { 0 = w }))
 output_found [] w is = absurd (true≢false (sym is))
 output_found (o ∷ outputs) w is = elim (or_cases (is_wire o.wire w) (is_output outputs w) is) as (λ _. (p : ℕ) × ((output_in (o ∷ outputs) p).wire ≡ Some (record { 0 = w }))) [
-  | inl here ↦ (0, wire_told o.wire w here)
+  | inl here ↦ (0, wire_is o.wire w here)
   | inr else ↦ let more = output_found outputs w else in (suc more.0, more.1)
 ]
 

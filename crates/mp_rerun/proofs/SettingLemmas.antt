@@ -29,10 +29,11 @@ use Rattle.mp_compare.specs.Passing.{has_data_at, is_set, HasLevel, AreSet}
 use Rattle.mp_rerun.specs.declared.rerun.Rerun.{Rerun}
 use Rattle.mp_rerun.specs.Following.{is_tail, is_set_anew}
 use Rattle.mp_rerun.specs.Reruns.{IsFollowed, active_of, on_of, until_of}
-use Rattle.mp_rerun.proofs.NumberLemmas.{past_rests, bit_wire_is, bit_wire_narrow}
+use Rattle.mp_rerun.proofs.NumberLemmas.{past_rests, bit_wire_narrow}
 use Rattle.mp_rerun.proofs.ToComeLemmas.{bits_to_come, levels_to_come, set_to_come}
 use Rattle.mp_rerun.proofs.SplitLemmas.{outside_split}
 use Rattle.mp_rerun.proofs.FollowLemmas.{agrees, follows_on}
+use Rattle.mp_excerpt.proofs.KeptLemmas.{bit_is}
 
 -- ---- tests
 
@@ -135,7 +136,7 @@ module _ (old n : Circuit) (old_ok : IsCircuit old) (ok : IsCircuit n) (revised 
               | inl wide ↦
                   sort_unset (is_set (level old) (t + 1) s.comparison w) (is_data n w) (change_at n w (t + 1)) (anew w) (tail w) (outside w) (is_bit_wire n w) wide (wide_bit w wide)
               | inr narrow ↦
-                  sort_set (is_set (level old) (t + 1) s.comparison w) (is_data n w) (change_at n w (t + 1)) (anew w) (tail w) (outside w) (is_bit_wire n w) narrow (bit_wire_is n w low narrow) (sum w)
+                  sort_set (is_set (level old) (t + 1) s.comparison w) (is_data n w) (change_at n w (t + 1)) (anew w) (tail w) (outside w) (is_bit_wire n w) narrow (bit_is n w low narrow) (sum w)
             ]
         | inr past ↦
             past_set (is_set (level old) (t + 1) s.comparison w) (is_data n w) (has_data_at s.comparison w) (change_at n w (t + 1)) (anew w) (tail w) (outside w) (is_bit_wire n w)

@@ -1,7 +1,6 @@
 -- The history of a re-evaluation that is settled goes up to the horizon.
-use Rattle.std.proofs.Common.{◌≡◌, ℕ, ◌+◌, ◌-◌, ◌<◌, ◌≤◌, Option, IsSome, Some, None, refl, sym, subst, arith, inl, inr}
+use Rattle.std.proofs.Common.{◌≡◌, ℕ, ◌+◌, ◌-◌, ◌<◌, ◌≤◌, sym, subst, arith, inl, inr}
 use Rattle.std.proofs.lemmas.Bool.{cases_lt}
-use Rattle.mp_records.specs.declared.module_record.ModuleRecord.{ModuleRecord}
 use Rattle.mp_netlist.specs.Circuit.{Circuit, IsCircuit, module_at}
 use Rattle.mp_evaluation.specs.Outcomes.{Outcome}
 use Rattle.mp_evaluation.specs.Runs.{IsRun}
@@ -19,10 +18,7 @@ use Rattle.mp_rerun.specs.Reruns.{active_of}
 use Rattle.mp_rerun.specs.Settling.{HasEnded, IsSettled}
 use Rattle.mp_rerun.proofs.LeapHistoryLemmas.{history_on}
 use Rattle.mp_rerun.proofs.SettlingLemmas.{sleeping_at}
-
-standing : (slot : Option ModuleRecord) → IsSome slot → (r : ModuleRecord) × (slot ≡ Some r)
-standing None some = let none : ⊥ = cc in absurd none
-standing (Some r) some = (r, refl)
+use Rattle.mp_rerun.proofs.StandingLemmas.{standing}
 
 module _ (old n : Circuit) (old_ok : IsCircuit old) (ok : IsCircuit n) (revised : IsRevision old n) (run : Outcome) (is_run : IsRun old run) (runs : RunsAreOld) (readers : SleepersReadAlike)
     (wires : WiresAgree) (alike : QuietWhereAlike) (agree : SleepersAgree) (sleep_on : SleepersSleepOn) (rest : SleepersRest) (end : ℕ) (s : Rerun) (over : HasEnded old n run end s) where

@@ -1,5 +1,5 @@
 -- Where a re-evaluation is settled, modules sleep on, and wires keep their levels up to when they have those of the old run again.
-use Rattle.std.proofs.Common.{◌≡◌, ◌⊎◌, ◌^◌, ℕ, zero, suc, ◌+◌, ◌-◌, ◌<◌, ◌≤◌, Bool, true, false, not, nat_lt, List, All, Option, Some, None, IsSome, length, refl, sym, ap, subst, ◌∙◌, arith, inl, inr, slice_index_or}
+use Rattle.std.proofs.Common.{◌≡◌, ◌⊎◌, ◌^◌, ℕ, zero, suc, ◌+◌, ◌-◌, ◌<◌, ◌≤◌, Bool, true, false, not, nat_lt, Some, length, refl, sym, ap, subst, ◌∙◌, arith, inl, inr}
 use Rattle.std.specs.Prelude.{◌&&◌, ◌==◌}
 use Rattle.std.specs.List.{count_by}
 use Rattle.std.proofs.lemmas.Bool.{cases_lt, and_from, both_ways, lt-ltb, eq-eqb, eqb-true}
@@ -19,7 +19,6 @@ use Rattle.mp_events.specs.Adding.{listed}
 use Rattle.mp_calendar.specs.Calendars.{never}
 use Rattle.mp_core.specs.Changes.{change_at}
 use Rattle.mp_core.specs.WholeRuns.{is_stimulus}
-use Rattle.mp_core.proofs.ListedLemmas.{listed_here}
 use Rattle.mp_core.proofs.WholeLemmas.{undriven}
 use Rattle.mp_evaluation.specs.Outcomes.{Outcome}
 use Rattle.mp_evaluation.specs.Runs.{IsRun}
@@ -40,14 +39,11 @@ use Rattle.mp_rerun.specs.Reruns.{IsRerunBy, active_of, until_of}
 use Rattle.mp_rerun.specs.Settling.{IsOver, IsSettled}
 use Rattle.mp_rerun.proofs.FindingLemmas.{below_never, agree_asleep}
 use Rattle.mp_rerun.proofs.HearingLemmas.{at_listed, reader_counted}
-use Rattle.mp_rerun.proofs.NumberLemmas.{asleep_within}
+use Rattle.mp_rerun.proofs.NumberLemmas.{asleep_within, all_listed}
 use Rattle.mp_rerun.proofs.OverLemmas.{level_set, level_rests, slept_low}
+use Rattle.mp_rerun.proofs.StandingLemmas.{some_is}
 
 -- ---- tests
-
-some_is : {A : Type 0} (o : Option A) (x : A) → o ≡ Some x → IsSome o
-some_is None x is = let no : ⊥ = cc in absurd no
-some_is (Some y) x is = refl
 
 rest_if : (a b : Bool) → b ≡ true → 0 ≡ bit (a && b) → a ≡ false
 rest_if false b comes none = refl
@@ -60,9 +56,6 @@ equal_if a b none = by (a == b) refl none
     by : (same : Bool) → (a == b) ≡ same → not same ≡ false → a ≡ b
     by true e off = eqb-true a b e
     by false e off = let no : ⊥ = cc in absurd no
-
-all_listed : (P : ℕ → Type 0) (xs : List ℕ) → ((x : ℕ) → 0 < listed x xs → P x) → All P xs
-all_listed P xs each k d low = each (slice_index_or xs k d) (listed_here xs k d low)
 
 -- what modules read that sleep, and what isn't tracked, has the levels of the old run
 late_enough : (asleep : ℕ) (source : WireSource) (d time u : ℕ) → (nat_lt 0 asleep && may_differ source d time) ≡ false → 0 < asleep → time ≤ u → source.until ≤ u - d

@@ -1,6 +1,6 @@
 -- From when on wires have the levels of the old run, when one module more sleeps.
-use Rattle.std.proofs.Common.{◌≡◌, ◌≢◌, ◌⊎◌, ℕ, ◌+◌, ◌<◌, Bool, true, false, cond, List, [], ◌∷◌, Option, Some, None, suc, zero, refl, ap, sym, ◌∙◌, arith, inl, inr}
-use Rattle.std.proofs.lemmas.Bool.{cases_Bool, cases_eq, both_ways, eqb-true, eq-eqb, ne_eqb}
+use Rattle.std.proofs.Common.{◌≡◌, ◌≢◌, ◌⊎◌, ℕ, ◌+◌, ◌<◌, Bool, false, cond, List, [], ◌∷◌, Some, suc, zero, refl, ap, sym, ◌∙◌, arith, inl, inr}
+use Rattle.std.proofs.lemmas.Bool.{cases_Bool, cases_eq, both_ways, ne_eqb}
 use Rattle.std.proofs.lemmas.Option.{none-some}
 use Rattle.mp_records.specs.declared.ids.ModuleId.{ModuleId}
 use Rattle.mp_records.specs.declared.ids.WireId.{WireId}
@@ -16,13 +16,8 @@ use Rattle.mp_calendar.specs.Calendars.{never}
 use Rattle.mp_agreement.specs.Sources.{slept_from, IsAsBefore, AreSources}
 use Rattle.mp_compare.specs.declared.wire_source.WireSource.{WireSource}
 use Rattle.mp_compare.specs.Waking.{slept}
-
-named : (o : Option WireId) (w : ℕ) → is_wire o w ≡ true → o ≡ Some (record { 0 = w })
-named None w is = let no : ⊥ = cc in absurd no
-named (Some v) w is = ap (λ (k : ℕ). let x : Option WireId = Some (record { 0 = k }) in x) (eqb-true v.0 w is)
-
-is_named : (o : Option WireId) (w : ℕ) → o ≡ Some (record { 0 = w }) → is_wire o w ≡ true
-is_named o w at = ap (λ (x : Option WireId). is_wire x w) at ∙ eq-eqb w w refl
+use Rattle.mp_compare.proofs.WakingLemmas.{wire_is}
+use Rattle.mp_rerun.proofs.ReaderLemmas.{wire_tells}
 
 -- the wire of the first output that drives it has the levels of the old run its delay after a time; where none does, nothing is other
 abbrev pub IsSlept : List Output → ℕ → ℕ → WireSource → WireSource → Type 0
@@ -36,7 +31,7 @@ no_output w p is = let v : WireId = record { 0 = w } in none-some v is
 slept_is : (outputs : List Output) (time w : ℕ) (source : WireSource) → IsSlept outputs time w source (slept outputs time w source)
 slept_is [] time w source = inl (refl, no_output w)
 slept_is (o ∷ outputs) time w source = elim (cases_Bool (is_wire o.wire w)) as (λ _. IsSlept (o ∷ outputs) time w source (slept (o ∷ outputs) time w source)) [
-  | inl its ↦ inr (0, named o.wire w its, ap (λ (b : Bool). cond b (record source { until = time + o.delay }) (slept outputs time w source)) its)
+  | inl its ↦ inr (0, wire_is o.wire w its, ap (λ (b : Bool). cond b (record source { until = time + o.delay }) (slept outputs time w source)) its)
   | inr other ↦
       let same : slept (o ∷ outputs) time w source ≡ slept outputs time w source = ap (λ (b : Bool). cond b (record source { until = time + o.delay }) (slept outputs time w source)) other in
       elim (slept_is outputs time w source) as (λ _. IsSlept (o ∷ outputs) time w source (slept (o ∷ outputs) time w source)) [
@@ -46,7 +41,7 @@ slept_is (o ∷ outputs) time w source = elim (cases_Bool (is_wire o.wire w)) as
 ]
   where
     not_named : is_wire o.wire w ≡ false → ((p : ℕ) → (output_in outputs p).wire ≡ Some (record { 0 = w }) → ⊥) → (p : ℕ) → (output_in (o ∷ outputs) p).wire ≡ Some (record { 0 = w }) → ⊥
-    not_named other none zero is = both_ways (is_wire o.wire w) other (is_named o.wire w is)
+    not_named other none zero is = both_ways (is_wire o.wire w) other (wire_tells o.wire w is)
     not_named other none (suc p) is = none p is
 
 module _ (n : Circuit) (ok : IsCircuit n) (m : ℕ) (r : ModuleRecord) (at : module_at n m ≡ Some r) where

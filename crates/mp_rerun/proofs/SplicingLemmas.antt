@@ -1,12 +1,12 @@
 -- Waves that are known up to a time, and go on with others.
 use Rattle.std.proofs.Common.{◌≡◌, ℕ, ◌+◌, ◌-◌, ◌<◌, ◌≤◌, List, [], ◌∷◌, Option, Some, None, IsSome, refl, ap, sym, subst, ◌∙◌, arith, inl, inr}
 use Rattle.std.proofs.lemmas.Bool.{cases_lt, lt-ltb, le-ltb}
-use Rattle.mp_wave.specs.Waveform.{Waveform, IsWaveform, AreChanges, level_from, level_of, last_time, between, kept_before, changes_after, wave_upto}
+use Rattle.mp_wave.specs.Waveform.{Waveform, IsWaveform, AreChanges, level_from, level_of, last_time, between, changes_after, wave_upto}
 use Rattle.mp_wave.specs.Building.{Building, IsBuilding}
 use Rattle.mp_wave.proofs.WaveformLemmas.{le-last_time, level_of-held_before, level_of-held_after, same_levels}
 use Rattle.mp_wave.proofs.ChangesLemmas.{last_from-changes_after, last_time-changes_after, AreChanges-changes_after, levels_of_wave, form_of_wave}
 use Rattle.mp_wave.proofs.BuildingLemmas.{last_time-held, form-held}
-use Rattle.mp_wave.proofs.PrefixLemmas.{AreChanges-earlier_than, last_time-earlier_than, level_from-over, cut_levels, kept_levels, AreChanges-between, last_time-between}
+use Rattle.mp_wave.proofs.PrefixLemmas.{level_from-over, cut_levels, AreChanges-between, last_time-between}
 use Rattle.mp_records.specs.declared.wire_record.WireRecord.{WireRecord}
 use Rattle.mp_netlist.specs.Circuit.{Circuit, wire_at}
 use Rattle.mp_model.specs.Waves.{level, slot_wave}
@@ -29,15 +29,6 @@ switched_same time one two other t same = elim (cases_lt t time) as (λ _. switc
   | inl before ↦ switched_before time one other t before ∙ same before ∙ sym (switched_before time two other t before)
   | inr after ↦ switched_after time one other t after ∙ sym (switched_after time two other t after)
 ]
-
--- only the levels below the end count
-pub up_to_same : (one other : ℕ → ℕ) (end : ℕ) (built : Building) → 0 < end → ((t : ℕ) → t < end → one t ≡ other t) → IsUpTo one end built → IsUpTo other end built
-up_to_same one other end built some same is = record {
-  levels = λ t less. is.levels t less ∙ same t less;
-  held = λ t le. is.held t le ∙ same (end - 1) (omega arith);
-  next = is.next;
-  form = is.form;
-}
 
 pub next-all : (built : Building) (end : ℕ) (changes : List (ℕ × ℕ)) → built.next ≤ end → AreTimesIn built.next end changes → (held_all built changes).next ≤ end
 next-all built end [] le times = le
@@ -135,18 +126,6 @@ held_up_to built from to level is later less = record {
   where
     over : (t : ℕ) → from ≤ t → level_of (held_on built from level).wave t ≡ level
     over t after = level_of-held_after built.wave from level t is.form (omega (arith, is.over, later)) after
-
--- a wave that is kept up to an end
-pub kept_up_to : (wave : Waveform) (end : ℕ) → IsWaveform wave → 0 < end → IsUpTo (level_of wave) end (record { wave = kept_before end wave; next = end })
-kept_up_to wave end form some = record {
-  levels = λ t less. (kept_levels wave end t form some).0 less;
-  held = λ t le. (kept_levels wave end t form some).1 le;
-  next = omega arith;
-  form = record {
-    form = AreChanges-earlier_than end 0 wave.initial wave.changes form;
-    over = last_time-earlier_than end 0 wave.initial wave.changes some form;
-  };
-}
 
 -- a wave that was built up to an end
 pub wave_up_to : (level : ℕ → ℕ) (end : ℕ) (built : Building) → IsUpTo level end built → IsWaveUpTo level end built.wave

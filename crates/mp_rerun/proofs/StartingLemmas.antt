@@ -1,14 +1,11 @@
 -- The simulation with which a re-evaluation begins has the active modules, and the numbers of all.
-use Rattle.std.proofs.Common.{◌≡◌, ℕ, ◌<◌, ◌≤◌, Bool, true, false, cond, nat_lt, List, [], ◌∷◌, Option, Some, None, All, length, map, slice_index_or, refl, ap, sym, subst, ◌∙◌, arith, inl, inr}
+use Rattle.std.proofs.Common.{◌≡◌, ℕ, ◌<◌, ◌≤◌, Bool, true, false, cond, nat_lt, List, [], ◌∷◌, Option, Some, None, All, length, map, slice_index_or, refl, ap, sym, subst, ◌∙◌, arith}
 use Rattle.std.specs.Prelude.{◌==◌}
-use Rattle.std.proofs.lemmas.Bool.{cases_lt, lt-ltb}
-use Rattle.std.proofs.lemmas.List.{get_or-map, get_or_past, length-map}
-use Rattle.std.proofs.lemmas.Option.{none-some}
+use Rattle.std.proofs.lemmas.Bool.{lt-ltb}
+use Rattle.std.proofs.lemmas.List.{get_or-map, length-map}
 use Rattle.mp_records.specs.declared.ports.Input.{Input}
-use Rattle.mp_records.specs.declared.ports.Output.{Output}
 use Rattle.mp_records.specs.declared.module_record.ModuleRecord.{ModuleRecord}
-use Rattle.mp_records.specs.declared.ids.WireId.{WireId}
-use Rattle.mp_records.specs.Outputs.{output_in, delay_of}
+use Rattle.mp_records.specs.Outputs.{delay_of}
 use Rattle.mp_netlist.specs.Limits.{max_delay}
 use Rattle.mp_netlist.specs.Circuit.{Circuit, IsCircuit, Drives, module_at, module_width}
 use Rattle.mp_model.proofs.SlotLemmas.{slot_within}
@@ -40,6 +37,7 @@ use Rattle.mp_rerun.specs.Numbered.{AreWired}
 use Rattle.mp_rerun.specs.Seats.{AreSeats}
 use Rattle.mp_rerun.specs.Starting.{IsFirst}
 use Rattle.mp_rerun.proofs.ChainLemmas.{numbered}
+use Rattle.mp_rerun.proofs.ReaderLemmas.{output_within}
 
 -- no input has a longer delay than an input may have
 delays_low : (n : Circuit) → IsCircuit n → AreDelaysWithin n max_delay
@@ -61,15 +59,6 @@ none_read false slot none = refl
 empty_map : (f : ℕ → ℕ × ℕ) (xs : List ℕ) → map f xs ≡ [] → xs ≡ []
 empty_map f [] is = refl
 empty_map f (x ∷ xs) is = let no : ⊥ = cc in absurd no
-
--- an output that drives a wire is one of the outputs
-output_inside : (outputs : List Output) (p w : ℕ) → (output_in outputs p).wire ≡ Some (record { 0 = w }) → p < length outputs
-output_inside outputs p w is = elim (cases_lt p (length outputs)) as (λ _. p < length outputs) [
-  | inl low ↦ low
-  | inr past ↦
-      let wire : WireId = record { 0 = w } in
-      absurd (none-some wire (sym (ap (λ (o : Output). o.wire) (get_or_past outputs p (record { wire = None; delay = 1 }) past)) ∙ is))
-]
 
 module _ (n : Circuit) (ok : IsCircuit n) (active : ℕ → Bool) where
   abbrev all_on : ℕ → Bool
@@ -167,7 +156,7 @@ module _ (n : Circuit) (ok : IsCircuit n) (active : ℕ → Bool) where
     driven_room : (m p w : ℕ) (r : ModuleRecord) → module_at n m ≡ Some r → Drives n m p w → delay_of r p ≤ length s.bits.simulator.wheel
     driven_room m p w r at drives =
         let same : drives.part ≡ r = same_part n m drives.part r drives.stands at in
-        let inside : p < length r.outputs = subst (λ (x : ModuleRecord). p < length x.outputs) same (output_inside drives.part.outputs p w drives.output) in
+        let inside : p < length r.outputs = subst (λ (x : ModuleRecord). p < length x.outputs) same (output_within drives.part.outputs p w drives.output) in
         room m r at p (record { wire = None; delay = 1 }) inside
 
     bits_wired : (m : ℕ) (r : ModuleRecord) → module_at n m ≡ Some r → (module_width n r == 1) ≡ true → IsWired n numbering m r s

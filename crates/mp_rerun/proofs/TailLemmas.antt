@@ -24,10 +24,6 @@ counted_unless : {A : Type 0} (p : A → Bool) (b : Bool) (x : A) (xs : List A) 
 counted_unless p true x xs = refl
 counted_unless p false x xs = counted_cons p x xs
 
-counted_if : {A : Type 0} (p : A → Bool) (b : Bool) (x : A) (xs : List A) → count_by p (cond b (x ∷ xs) xs) ≡ cond b (bit (p x) + count_by p xs) (count_by p xs)
-counted_if p true x xs = counted_cons p x xs
-counted_if p false x xs = refl
-
 pub counted_there : {A : Type 0} (p : A → Bool) (xs : List A) (k : ℕ) (d : A) → k < length xs → p (slice_index_or xs k d) ≡ true → 0 < count_by p xs
 counted_there p [] k d low is = absurd (omega arith)
 counted_there p (x ∷ xs) zero d low is = let e = counted_cons p x xs in let one : bit (p x) ≡ 1 = ap bit is in omega (arith, e, one)
@@ -212,19 +208,6 @@ others_both w (s ∷ xs) ys = by (others_both w xs ys) (s.wire == w)
 pub entries_both : (w t : ℕ) (xs ys : List (ℕ × ℕ)) → entries_of w t (xs ++ ys) ≡ entries_of w t xs ++ entries_of w t ys
 entries_both w t [] ys = refl
 entries_both w t (c ∷ xs) ys = ap (λ (es : List (ℕ × LevelChange)). entry_of w t c ∷ es) (entries_both w t xs ys)
-
--- a change of the wire, and one of another
-pub own_one : (w : ℕ) (s : StimulusChange) → s.wire ≡ w → (tail_of w (s ∷ []) ≡ (s.time, s.level) ∷ []) × (others_of w (s ∷ []) ≡ [])
-own_one w s is = (
-  ap (λ b. cond b ((s.time, s.level) ∷ []) []) (eq-eqb s.wire w is),
-  ap (λ b. cond b (let none : List StimulusChange = [] in none) (s ∷ [])) (eq-eqb s.wire w is),
-)
-
-pub other_one : (w : ℕ) (s : StimulusChange) → (s.wire ≡ w → ⊥) → (tail_of w (s ∷ []) ≡ []) × (others_of w (s ∷ []) ≡ s ∷ [])
-other_one w s is = (
-  ap (λ b. cond b ((s.time, s.level) ∷ []) []) (ne_eqb s.wire w is),
-  ap (λ b. cond b (let none : List StimulusChange = [] in none) (s ∷ [])) (ne_eqb s.wire w is),
-)
 
 -- what holds of all behind a place
 pub all_behind : (P : StimulusChange → Type 0) (list : List StimulusChange) (from place : ℕ) (d : StimulusChange) → All P (drop from list) → from ≤ place → place < length list → P (slice_index_or list place d)

@@ -1,5 +1,5 @@
 -- What modules that become active within a block do, as tasks.
-use Rattle.std.proofs.Common.{◌≡◌, ℕ, ◌+◌, ◌-◌, ◌<◌, List, [], ◌∷◌, ◌++◌, Option, Some, None, IsSome, false, length, take, slice_index_or, refl, sym, subst}
+use Rattle.std.proofs.Common.{◌≡◌, ℕ, ◌+◌, ◌-◌, ◌<◌, List, [], ◌∷◌, ◌++◌, Some, IsSome, false, length, take, slice_index_or, sym, subst}
 use Rattle.std.specs.List.{Contains}
 use Rattle.std.proofs.lemmas.List.{take_more}
 use Rattle.mp_modules.specs.declared.memory.Memory.{Memory}
@@ -15,6 +15,7 @@ use Rattle.mp_rerun.specs.declared.rerun.Rerun.{Rerun}
 use Rattle.mp_rerun.specs.Reruns.{active_of, IsFollowed}
 use Rattle.mp_rerun.specs.Tasks.{AreKept, IsOldState}
 use Rattle.mp_rerun.proofs.WakingLemmas.{is_kept}
+use Rattle.mp_rerun.proofs.StandingLemmas.{standing}
 
 -- what is made of what is made of each
 pub done_through : {A B C : Type 0} (first : A → B → Type 0) (second : B → C → Type 0) (both : A → C → Type 0) → ((x : A) (y : B) (z : C) → first x y → second y z → both x z)
@@ -33,16 +34,11 @@ done_next gives ids i xs new x low is are here =
     let d : ModuleId = record { 0 = 0 } in
     subst (λ ys. AreDone gives ys new) (sym (take_more ids i d low)) (are_done-push gives (take i ids) (slice_index_or ids i d) xs new x is are here)
 
--- a module that stands has a record
-pub record_of : (slot : Option ModuleRecord) → IsSome slot → (r : ModuleRecord) × (slot ≡ Some r)
-record_of None some = let no : ⊥ = cc in absurd no
-record_of (Some r) some = (r, refl)
-
 -- modules that stand and aren't active are kept
 pub are_kept : (old new : Circuit) (run : Outcome) (numbering : Numbering) (since : ℕ → ℕ) (time : ℕ) (s : Rerun) → 0 < time → IsFollowed old new run numbering since (time - 1) s → (ids : List ModuleId)
     → ((m : ℕ) → Contains ids (record { 0 = m }) → IsSome (module_at new m)) → ((m : ℕ) → Contains ids (record { 0 = m }) → active_of s m ≡ false) → AreKept old new ids
 are_kept old new run numbering since time s some is ids stand asleep m has =
-    let one = record_of (module_at new m) (stand m has) in
+    let one = standing (module_at new m) (stand m has) in
     (one.0, is_kept old new run numbering since time m one.0 s some is one.1 (asleep m has))
 
 -- the state at a module's place is its own

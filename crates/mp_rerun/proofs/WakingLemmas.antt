@@ -71,19 +71,6 @@ pub record HaveWokenUpTo (joining : List ModuleId) (k : ℕ) (s l : Rerun) : Typ
   pub joined : (m : ℕ) → Contains l.activity.joined.items (record { 0 = m }) → Contains s.activity.joined.items (record { 0 = m }) ⊎ Contains (take k joining) (record { 0 = m })
   pub were : (m : ℕ) → Contains s.activity.joined.items (record { 0 = m }) → Contains l.activity.joined.items (record { 0 = m })
 
-empty_take : (joining : List ModuleId) (x : ModuleId) → Contains (take 0 joining) x → ⊥
-empty_take joining x there = let low = there.1 in omega (arith, low)
-
-pub none_woken : (joining : List ModuleId) (s : Rerun) → HaveWokenUpTo joining 0 s s
-none_woken joining s = record {
-  woken = record { kept = refl; seen = refl };
-  stay = λ m awake. awake;
-  done = λ m there. absurd (empty_take joining (record { 0 = m }) there);
-  awake = λ m awake. inl awake;
-  joined = λ m there. inl there;
-  were = λ m there. there;
-}
-
 module _ (joining : List ModuleId) (k : ℕ) (id : ModuleId) (s l : Rerun) (low : k < length joining) (is : slice_index_or joining k id ≡ id) (so : HaveWokenUpTo joining k s l) where
   one_more : take (k + 1) joining ≡ take k joining ++ id ∷ []
   one_more = take_more joining k id low ∙ ap (λ (x : ModuleId). take k joining ++ x ∷ []) is

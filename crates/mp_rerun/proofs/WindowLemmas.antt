@@ -1,5 +1,5 @@
 -- A netlist that is evaluated again goes from window to window.
-use Rattle.std.proofs.Common.{◌≡◌, ◌⊎◌, ℕ, ◌+◌, ◌-◌, ◌%◌, ◌<◌, ◌≤◌, Bool, true, false, List, [], ◌∷◌, Option, IsSome, Some, None, suc, refl, ap, sym, subst, ◌∙◌, arith, inl, inr, Vec, Global}
+use Rattle.std.proofs.Common.{◌≡◌, ◌⊎◌, ℕ, ◌+◌, ◌-◌, ◌%◌, ◌<◌, ◌≤◌, Bool, true, false, List, [], ◌∷◌, IsSome, suc, refl, ap, sym, subst, ◌∙◌, arith, inl, inr, Vec, Global}
 use Rattle.std.specs.List.{Contains}
 use Rattle.std.proofs.lemmas.Bool.{cases_Bool, cases_eq, cases_lt, both_ways}
 use Rattle.std.proofs.lemmas.Nat.{mod_below}
@@ -24,6 +24,7 @@ use Rattle.mp_rerun.specs.declared.rerun.Rerun.{Rerun}
 use Rattle.mp_rerun.specs.Reruns.{active_of}
 use Rattle.mp_rerun.specs.Windows.{IsInWindow, IsAtWindow}
 use Rattle.mp_rerun.proofs.KeptLemmas.{renewed, rerun_renewed}
+use Rattle.mp_rerun.proofs.StandingLemmas.{standing}
 
 -- ---- windows
 
@@ -97,10 +98,6 @@ working_on : (old new : Circuit) (c m t u : ℕ) → t ≤ u → IsWorking old n
 working_on old new c m t u le (inl touched) = inl touched
 working_on old new c m t u le (inr (inl differs)) = inr (inl differs)
 working_on old new c m t u le (inr (inr apart)) = let low = apart.2 in inr (inr (apart.0, apart.1, omega (arith, low, le), apart.3))
-
-pub standing : {A : Type 0} (slot : Option A) → IsSome slot → (x : A) × (slot ≡ Some x)
-standing None some = let none : ⊥ = cc in absurd none
-standing (Some x) some = (x, refl)
 
 module _ (old new : Circuit) (old_ok : IsCircuit old) (new_ok : IsCircuit new) (revised : IsRevision old new) (run : Outcome) where
   module _ (from t : ℕ) (s : Rerun) (is : IsInWindow old new run from t s) where

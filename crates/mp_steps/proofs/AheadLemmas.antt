@@ -47,7 +47,7 @@ merge true false known was now mid add is before here else = let none = else ref
 merge false true known was now mid add is before here else = let a = here refl in let none = a.none in let same = a.is in omega (arith, is, before, none, same)
 merge false false known was now mid add is before here else = let none = else refl in omega (arith, is, before, none)
 
-shifted : (t k d : ℕ) → nat_lt (t + 1 + k) (t + 1 + d) ≡ nat_lt k d
+pub shifted : (t k d : ℕ) → nat_lt (t + 1 + k) (t + 1 + d) ≡ nat_lt k d
 shifted t k d = elim (cases_lt k d) as (λ _. nat_lt (t + 1 + k) (t + 1 + d) ≡ nat_lt k d) [
   | inl low ↦ lt-ltb (t + 1 + k) (t + 1 + d) (omega (arith, low)) ∙ sym (lt-ltb k d low)
   | inr high ↦ le-ltb (t + 1 + k) (t + 1 + d) (omega (arith, high)) ∙ sym (le-ltb k d high)

@@ -39,13 +39,7 @@ use Rattle.mp_excerpt.specs.Activating.{IsBitModuleActivated, IsActivated}
 use Rattle.mp_steps.specs.Seating.{IsBitSeated}
 use Rattle.mp_steps.specs.Ahead.{is_known, AreAhead}
 use Rattle.mp_steps.specs.Activated.{IsWired, BitModulesActivate}
-
-pub swapped : (a b c : Bool) → ((a && b) && c) ≡ ((a && c) && b)
-swapped true true true = refl
-swapped true true false = refl
-swapped true false true = refl
-swapped true false false = refl
-swapped false b c = refl
+use Rattle.mp_excerpt.proofs.TestLemmas.{swapped}
 
 -- what a slot has, with the wires told by their drivers
 pub told : (n : Circuit) (m t w k : ℕ) (b own kind : Bool) (new was old : ℕ) → b ≡ own → was ≡ old → new ≡ cond b (bit (is_known n t w k && kind)) was →

@@ -22,9 +22,6 @@ pub record HasSameRoom (with_data : Bool) (s new : NetlistSimulation) : Type 0 w
   pub room : copy_room with_data new ≡ copy_room with_data s
   pub levels : length new.wires.levels.items ≡ length s.wires.levels.items
 
-pub room_same : (with_data : Bool) (s : NetlistSimulation) → HasSameRoom with_data s s
-room_same with_data s = record { next = refl; room = refl; levels = refl }
-
 set_long : (b : Bool) (xs : List ℕ) (k x : ℕ) → length (cond b xs (slice_set xs k x)) ≡ length xs
 set_long true xs k x = refl
 set_long false xs k x = length-set xs k x
@@ -48,9 +45,6 @@ room_more with_data wave copy now s mid new same turned = record {
 abbrev pub LeadsOn : Bool → Waveform → ℕ → ℕ → NetlistSimulation → ℕ → ℕ → NetlistSimulation → Type 0
 LeadsOn with_data wave w now s number late mid =
     (copies : List Copied) (new : NetlistSimulation) → AreBehind (next_in with_data s) now number late copies → AreTurned with_data wave now copies mid new → AreCopiesTurned with_data wave w now s new
-
-pub leads_first : (with_data : Bool) (wave : Waveform) (w now : ℕ) (s : NetlistSimulation) → LeadsOn with_data wave w now s w 0 s
-leads_first with_data wave w now s copies new behind turned = record { copies = copies; behind = behind; turned = turned }
 
 -- the copy next after a number is one of the numbers
 pub below_at : (next : List OutputPort) (numbers y x : ℕ) → y < length next → All (IsBelow numbers) next → (copy_at next y).wire ≡ Some x → x < numbers

@@ -1,5 +1,5 @@
 -- Changes to come of delayed copies are put into the wheels, one after the other.
-use Rattle.std.proofs.Common.{◌≡◌, ℕ, ◌+◌, ◌-◌, ◌<◌, ◌≤◌, All, arith, Bool, true, false, List, [], ◌∷◌, cond, length, refl, ap, ◌∙◌}
+use Rattle.std.proofs.Common.{◌≡◌, ℕ, ◌+◌, ◌-◌, ◌<◌, ◌≤◌, All, arith, Bool, true, false, List, [], ◌∷◌, cond, length, ap, ◌∙◌}
 use Rattle.std.proofs.lemmas.List.Elements.{All-map}
 use Rattle.mp_wave.specs.Waveform.{between}
 use Rattle.mp_core.specs.declared.simulation.Simulation.{Simulation}
@@ -32,9 +32,6 @@ pub copy_change_units : (with_data : Bool) (entries : List (ℕ × LevelChange))
 copy_change_units true entries s new put = ap (length {A = List LevelChange}) put.changes ∙ levels_length s.wires.wheel entries
 copy_change_units false entries s new put = ap (length {A = List LevelChange}) put.changes
 
-pub no_copy_put : (with_data : Bool) (all : List (ℕ × LevelChange)) (s : NetlistSimulation) → PutCopiesSoFar with_data all all s s
-no_copy_put with_data all s = record { bits = refl; events = refl; units = refl; wires = refl; changes = refl; change_units = refl; modules = refl; room = refl }
-
 pub copy_more : (with_data : Bool) (all left : List (ℕ × LevelChange)) (entry : ℕ × LevelChange) (s mid new : NetlistSimulation) →
     PutCopiesSoFar with_data all (entry ∷ left) s mid → HasPutCopy with_data (entry ∷ []) mid new → PutCopiesSoFar with_data all left s new
 copy_more with_data all left entry s mid new so put = record {
@@ -65,21 +62,6 @@ copy_more with_data all left entry s mid new so put = record {
         cond with_data (levels_scheduled new.wires.wheel left) new.wires.wheel ≡ cond with_data (levels_scheduled s.wires.wheel all) s.wires.wheel
     changes true all put so = ap (λ (wheel : List (List LevelChange)). levels_scheduled wheel left) put ∙ so
     changes false all put so = put ∙ so
-
-pub all_copies_put : (with_data : Bool) (all : List (ℕ × LevelChange)) (s new : NetlistSimulation) → PutCopiesSoFar with_data all [] s new → HasPutCopy with_data all s new
-all_copies_put with_data all s new so = record { bits = so.bits; events = events with_data so.events; wires = so.wires; changes = changes with_data so.changes; modules = so.modules }
-  where
-    events : (with_data : Bool) →
-        cond with_data new.bits.copies.wheel new.bits.copies.wheel ≡ cond with_data s.bits.copies.wheel (scheduled s.bits.copies.wheel (toggles_of all)) →
-        new.bits.copies.wheel ≡ cond with_data s.bits.copies.wheel (scheduled s.bits.copies.wheel (toggles_of all))
-    events true so = so
-    events false so = so
-
-    changes : (with_data : Bool) →
-        cond with_data new.wires.wheel new.wires.wheel ≡ cond with_data (levels_scheduled s.wires.wheel all) s.wires.wheel →
-        new.wires.wheel ≡ cond with_data (levels_scheduled s.wires.wheel all) s.wires.wheel
-    changes true so = so
-    changes false so = so
 
 -- what the number before a copy has had, and the copy not yet
 pub delayed_ahead : (sooner delay now units : ℕ) (changes : List (ℕ × ℕ)) → sooner ≤ now → sooner < delay → delay - sooner ≤ units →

@@ -77,21 +77,6 @@ put_more with_data all left entry s mid new so put = record {
     changes true all put so = ap (λ (wheel : List (List LevelChange)). levels_scheduled wheel left) put ∙ so
     changes false all put so = put ∙ so
 
-pub all_put : (with_data : Bool) (all : List (ℕ × LevelChange)) (s new : NetlistSimulation) → PutSoFar with_data all [] s new → HasPut with_data all s new
-all_put with_data all s new so = record { bits = so.bits; events = events with_data so.events; wires = so.wires; changes = changes with_data so.changes; modules = so.modules }
-  where
-    events : (with_data : Bool) →
-        cond with_data new.bits.simulator.wheel new.bits.simulator.wheel ≡ cond with_data s.bits.simulator.wheel (scheduled s.bits.simulator.wheel (toggles_of all)) →
-        new.bits.simulator.wheel ≡ cond with_data s.bits.simulator.wheel (scheduled s.bits.simulator.wheel (toggles_of all))
-    events true so = so
-    events false so = so
-
-    changes : (with_data : Bool) →
-        cond with_data new.wires.wheel new.wires.wheel ≡ cond with_data (levels_scheduled s.wires.wheel all) s.wires.wheel →
-        new.wires.wheel ≡ cond with_data (levels_scheduled s.wires.wheel all) s.wires.wheel
-    changes true so = so
-    changes false so = so
-
 -- the changes between two times
 earlier_more : (from to : ℕ) (c : ℕ × ℕ) (changes : List (ℕ × ℕ)) (b : Bool) → nat_lt c.0 to ≡ b → from < c.0 → All (λ (c : ℕ × ℕ). (from < c.0) × (c.0 < to)) changes →
     All (λ (c : ℕ × ℕ). (from < c.0) × (c.0 < to)) (cond b (c ∷ changes) changes)

@@ -1,4 +1,4 @@
-use Rattle.std.proofs.Common.{◌≡◌, ◌<◌, ◌+◌, ℕ, Option, Some, None, length, arith, refl, sym, ap, subst, ◌∙◌}
+use Rattle.std.proofs.Common.{◌≡◌, ◌<◌, ◌+◌, Some, None, length, arith, refl, sym, ap, subst, ◌∙◌}
 use Rattle.std.specs.Prelude.{slice_index_or, slice_set}
 use Rattle.std.proofs.Math.ListN.{length-set}
 use Rattle.std.proofs.lemmas.List.{get_or_default, get_or_read}
@@ -6,10 +6,7 @@ use Rattle.mp_events.specs.declared.output_port.OutputPort.{OutputPort}
 use Rattle.mp_events.specs.Firing.{copy_at, no_port}
 use Rattle.mp_compare.proofs.NumberingLemmas.{IsNoting, noting_starts, noting_goes_on, noted_right}
 use Rattle.mp_compare.proofs.numbers.note_delays.Goals as goal
-
-none_of : (o : Option ℕ) → ((x : ℕ) → o ≡ Some x → ⊥) → o ≡ None
-none_of None not = refl
-none_of (Some x) not = absurd (not x refl)
+use Rattle.mp_compare.proofs.ChainLemmas.{none_of}
 
 pub loop-number-init : goal.loop-number-init
 loop-number-init c = record {

@@ -1,4 +1,4 @@
-use Rattle.std.proofs.Common.{◌≡◌, ◌+◌, ℕ, List, [], ◌∷◌, Option, Some, None, length, refl, ap, sym, ◌∙◌, arith}
+use Rattle.std.proofs.Common.{◌≡◌, ◌+◌, List, [], ◌∷◌, Some, length, refl, ap, sym, ◌∙◌, arith}
 use Rattle.mp_events.specs.declared.output_port.OutputPort.{OutputPort}
 use Rattle.mp_events.specs.Firing.{copy_at}
 use Rattle.mp_steps.specs.declared.copying.Copied.{Copied}
@@ -6,10 +6,7 @@ use Rattle.mp_steps.specs.Copying.{HasTurnedCopy}
 use Rattle.mp_steps.specs.Chains.{next_in}
 use Rattle.mp_steps.proofs.ChainLemmas.{room_more, below_at}
 use Rattle.mp_steps.proofs.turning_on.turn_copies_on.Goals as goal
-
-none_of : (o : Option ℕ) → ((x : ℕ) → o ≡ Some x → ⊥) → o ≡ None
-none_of None not = refl
-none_of (Some x) not = absurd (not x refl)
+use Rattle.mp_compare.proofs.ChainLemmas.{none_of}
 
 pub returns-in_default : goal.returns-in_default
 returns-in_default c =

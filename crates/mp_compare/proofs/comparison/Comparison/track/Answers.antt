@@ -1,7 +1,8 @@
-use Rattle.std.proofs.Common.{◌≡◌, ℕ, Option, Some, None, arith, refl, sym, subst}
+use Rattle.std.proofs.Common.{arith, sym, subst}
 use Rattle.mp_compare.proofs.TrackLemmas.{IsTracking, HasListed, listed_none, tracking_starts, tracking_goes_on, tracking_ends}
 use Rattle.mp_compare.proofs.comparison.Comparison.track.Goals as goal
 use Rattle.mp_compare.proofs.comparison.Comparison.track.Goals.{then-asleep_of-gt0+in_ok-list, else-asleep_of-gt0}
+use Rattle.mp_compare.proofs.ChainLemmas.{none_of}
 
 pub loop-number-init : goal.loop-number-init
 loop-number-init c =
@@ -28,10 +29,6 @@ loop-number-preserved c =
     ] in
     tracking_goes_on run now c.args.wire x c.after-number.result c.args.self.now mid is c.requires.linked c.after-number.ensures
     (subst (λ o. IsTracking run now c.args.wire o c.args.self.now mid) c.in-Some.is c.loop-number.invariant) listed
-
-none_of : (o : Option ℕ) → ((x : ℕ) → o ≡ Some x → ⊥) → o ≡ None
-none_of None not = refl
-none_of (Some x) not = absurd (not x refl)
 
 pub returns-clause-listed : goal.returns-clause-listed
 returns-clause-listed c =

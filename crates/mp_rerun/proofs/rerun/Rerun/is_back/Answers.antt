@@ -6,7 +6,7 @@ use Rattle.mp_netlist.specs.Circuit.{module_at}
 use Rattle.mp_evaluation.specs.Marks.{is_marked}
 use Rattle.mp_history.specs.Live.{IsWorking}
 use Rattle.mp_rerun.proofs.BorderLemmas.{can_tell, told_state, can_leave_at, works_on}
-use Rattle.mp_rerun.proofs.WindowLemmas.{standing}
+use Rattle.mp_rerun.proofs.StandingLemmas.{standing}
 use Rattle.mp_rerun.proofs.rerun.Rerun.is_back.Goals as goal
 
 pub index-requires : goal.index-requires
