@@ -14,23 +14,13 @@ pub use Rattle.std.proofs.lemmas.List.Sums.{AllPass-from_list_all, fails_before_
 pub use Rattle.std.proofs.lemmas.Slice.Eq.{bytes_eq-Decides}
 pub use Rattle.std.proofs.lemmas.Str.{IsAscii-take, IsUtf8-from_ascii}
 pub use Rattle.std.proofs.lemmas.Str.Ascii.{All-from_ascii, IsAscii-from_all}
-pub use Rattle.std.specs.Char.{is_ascii_alphabetic, is_ascii_digit}
-pub use Rattle.std.specs.List.{after_first, after_last, before_first, before_last, list_all, list_any, onto_first, position_or_len, slice_split, suffix_len}
 pub use Rattle.mp_records.specs.Names.{begins_with_letter, is_name_byte}
 unfoldable pub use Rattle.mp_records.specs.Names.{is_name}
 pub use Rattle.mp_streams.proofs.LeftLemmas.{Left, left_as, left_failed, left_none, left_then, left_whole}
 pub use Rattle.mp_streams.proofs.OutLemmas.{puts_next, puts_stopped, puts_then, writes_failed}
-pub use Rattle.mp_streams.specs.Outgoing.{Writes}
-pub use Rattle.mp_wave.specs.ToggleWaves.{toggle_changes}
-pub use Rattle.mp_words.specs.Divisions.{are_divided, first_part, is_division, later_parts, lines_of_each, parts_of}
-pub use Rattle.mp_words.specs.Lines.{is_allowed, is_line_feed}
 unfoldable pub use Rattle.mp_words.specs.Lines.{lines_of}
-pub use Rattle.mp_words.specs.Numbers.{is_slash}
 unfoldable pub use Rattle.mp_words.specs.Numbers.{name_and_number, number_from, parts_at_equals, parts_at_slash, spelled_number, time_and_value}
-pub use Rattle.mp_words.specs.Reads.{with_front, ◌>>=◌}
-pub use Rattle.mp_words.specs.WaveLines.{change_text, changes_text, pair_text}
-pub use Rattle.mp_words.specs.WordLists.{change_word, number_word}
 unfoldable pub use Rattle.mp_words.specs.WordLists.{each_word, input_word, output_word}
-pub use Rattle.mp_words.specs.Words.{AreAscii, is_gap, is_word, statement_part, texts}
 unfoldable pub use Rattle.mp_words.specs.Words.{words_of}
-pub use Rattle.mp_words.specs.declared.line_error.LineError.{LineError}
+pub use Rattle.mp_words.specs.Clauses.{AreAscii, LineError, Writes, after_first, after_last, are_divided, before_first, before_last, change_text, change_word, changes_text, first_part, is_allowed, is_division, is_gap, is_line_feed, is_slash, is_word, later_parts, lines_of_each, list_all, list_any, number_word, onto_first, pair_text, parts_of, position_or_len, slice_split, statement_part, suffix_len, texts, toggle_changes, with_front, ◌>>=◌}
+pub use Rattle.mp_words.specs.Names.{is_ascii_alphabetic, is_ascii_digit}

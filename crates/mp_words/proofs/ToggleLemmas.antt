@@ -1,6 +1,6 @@
 -- Changes of a level that toggles.
 use Rattle.std.specs.Prelude.{◌≡◌, ◌+◌, ◌-◌, ◌<◌, ◌≤◌, ◌∷◌, ◌++◌}
-use Rattle.mp_words.proofs.Names.{left_as, left_whole, puts_then, ℕ, List, [], append_assoc, append-nil, add-one, decimal, drop, get_or, length, refl, ap, ◌∙◌, arith, set, length-set, drop_of_length-le, drop-cons, decimal_digit, toggle_changes, change_text, changes_text}
+use Rattle.mp_words.proofs.Names.{left_as, left_whole, left_none, puts_then, ℕ, List, [], append_assoc, append-nil, add-one, decimal, drop, get_or, length, refl, ap, ◌∙◌, arith, set, length-set, drop_of_length-le, drop-cons, decimal_digit, toggle_changes, change_text, changes_text}
 use Rattle.std.proofs.lemmas.List.Concat.{flat_map-append}
 use Rattle.mp_streams.specs.Places.{IsPlaced}
 use Rattle.mp_streams.proofs.PlaceLemmas.{placed_byte, placed_both}
@@ -66,3 +66,5 @@ module _ (level one two three four : ℕ) (low : level ≤ 1) where
   four_placed a b c d e at i j k end p q r s = let all = placed_both (placed_both (placed_both p q) r) s in grind (arith, four_texts, by_turns)
 
 pub ruleset toggle_steps = (four_from, from_low, left_as, left_whole, puts_then)
+
+pub ruleset few_steps = (none_from, left_whole, left_none)

@@ -1,6 +1,6 @@
--- The names that clauses here cite, passed on from one place. Declares nothing.
+-- The names that clauses and proofs here cite, passed on from one place. Declares nothing.
 pub use Rattle.std.specs.Fmt.{decimal}
-pub use Rattle.std.specs.List.{after_first, before_first, list_all, list_any, suffix_len}
+pub use Rattle.std.specs.List.{after_first, after_last, before_first, before_last, list_all, list_any, onto_first, position_or_len, slice_split, suffix_len}
 pub use Rattle.std.specs.Option.{option_copied}
 pub use Rattle.std.specs.Prelude.{All, IfOk, IfSome, IsAscii, IsTrue, List, OnOk, Result, [], drop, length, nat_lt, not, option_map, position, slice_get, vec_len, ℕ, ◌+◌, ◌-◌, ◌<◌, ◌==◌, ◌∷◌, ◌≡◌, ◌≤◌}
 pub use Rattle.mp_streams.specs.Outgoing.{Writes}
@@ -9,9 +9,9 @@ pub use Rattle.mp_wave.specs.ToggleWaves.{toggle_changes}
 pub use Rattle.mp_words.specs.Divisions.{are_divided, are_division, first_part, is_division, later_parts, lines_of_each, parts_of}
 pub use Rattle.mp_words.specs.Lines.{is_allowed, is_line_feed, line_words, lines_of}
 pub use Rattle.mp_words.specs.Numbers.{is_slash, name_and_number, number_from, parts_at_equals, parts_at_slash, spelled_number, time_and_value}
-pub use Rattle.mp_words.specs.Reads.{Gives}
-pub use Rattle.mp_words.specs.WaveLines.{change_text, changes_text}
+pub use Rattle.mp_words.specs.Reads.{Gives, with_front, ◌>>=◌}
+pub use Rattle.mp_words.specs.WaveLines.{change_text, changes_text, pair_text}
 pub use Rattle.mp_words.specs.WordLists.{change_word, each_word, input_word, number_word, output_word, wire_or_none}
-pub use Rattle.mp_words.specs.Words.{AreAscii, is_gap, statement_part, texts, words_of}
+pub use Rattle.mp_words.specs.Words.{AreAscii, is_gap, is_word, statement_part, texts, words_of}
 pub use Rattle.mp_words.specs.declared.line_error.LineError.{LineError}
 pub use Rattle.mp_words.specs.declared.line_error.LineError.TheVariants.{OutOfMemory}

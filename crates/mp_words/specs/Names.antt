@@ -1,6 +1,6 @@
 -- The names that many clauses and definitions here cite, passed on from one place. Declares nothing.
 pub use Rattle.std.specs.Borrow.{Bor}
-pub use Rattle.std.specs.Char.{is_ascii_digit}
+pub use Rattle.std.specs.Char.{is_ascii_alphabetic, is_ascii_digit}
 pub use Rattle.std.specs.Fmt.{decimal}
 pub use Rattle.std.specs.List.{after_first, after_last, before_first, before_last, flat_map, list_all, list_any, onto_first, slice_split}
 pub use Rattle.std.specs.Option.{ok_or}

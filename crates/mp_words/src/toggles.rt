@@ -43,6 +43,7 @@ fn from_place(times: &[u32], place: usize) -> &[u32]
 }
 
 /// Writes the changes of a level that toggles at these times, one by one.
+#[tactic(auto, using(crate::proofs::ToggleLemmas::few_steps))]
 fn put_few<S: Sink>(out: &mut Out<S>, level: u64, times: &[u32]) -> Result<(), Failed>
     ensures { Writes result out.old out.new (changes_text (toggle_changes level times.now)) }
 {

@@ -62,9 +62,7 @@ impl Worded for InputName {
                 delay: 0,
             });
         }
-        let Some((name, delay)) = name_and_number(word) else {
-            return Err(LineError::BadNumber);
-        };
+        let (name, delay) = name_and_number(word).ok_or(LineError::BadNumber)?;
         Ok(InputName {
             wire: name_of(alloc, name)?,
             delay,
@@ -102,9 +100,7 @@ impl Worded for OutputName {
                 delay: 1,
             });
         }
-        let Some((name, delay)) = name_and_number(word) else {
-            return Err(LineError::BadNumber);
-        };
+        let (name, delay) = name_and_number(word).ok_or(LineError::BadNumber)?;
         Ok(OutputName {
             wire: wire_or_none(alloc, name)?,
             delay,

@@ -1,9 +1,6 @@
-use Rattle.mp_words.proofs.Names.{left_as, left_failed, left_none, left_then, left_whole, writes_failed}
-use Rattle.mp_words.proofs.ToggleLemmas.{one_from, none_from}
+use Rattle.mp_words.proofs.Names.{left_as, left_failed, left_then, writes_failed}
+use Rattle.mp_words.proofs.ToggleLemmas.{one_from}
 use Rattle.mp_words.proofs.toggles.put_few.Goals as goal
-
-pub loop-time-init : goal.loop-time-init
-loop-time-init g c = left_whole _ _
 
 pub returns-in_err-put_piece : goal.returns-in_err-put_piece
 returns-in_err-put_piece g c =
@@ -15,6 +12,3 @@ pub loop-time-preserved : goal.loop-time-preserved
 loop-time-preserved g c =
     let next = one_from c.loop-time.level _ c.args.times.now c.loop-time.time-index c.saturating_sub-level.ensures c.loop-time-test.true in
     left_then (left_as next c.loop-time.invariant) c.in_ok-put_piece.ensures
-
-pub returns : goal.returns
-returns g c = left_none (none_from c.loop-time.level c.args.times.now c.loop-time.time-index c.loop-time-test.false) c.loop-time.invariant
