@@ -1,6 +1,6 @@
 -- The changes of a time, one before the others.
 use Rattle.std.specs.Prelude.{◌≡◌, ◌≢◌, ◌+◌, ◌-◌, ◌<◌, ◌≤◌, ◌==◌, ◌∷◌, ◌++◌}
-use Rattle.mp_vcd.proofs.Names.{left_none, nat_lt-false, nat_lt-true, earlier_than-take, get_or_default, ℕ, Bool, true, not, cond, nat_le, List, [], length, length-append, take, slice_index, slice_set, Some, zero, suc, refl, sym, ap, subst, ◌∙◌, zero-add, add-one, get_or, arith, get_or-set_other, get_or-set_same, nat_tests, cases_lt, eq-eqb, eqb-true, le-leb, lt-leb, lt-ltb, ne_eqb, get_or-append, length-set, get_or-append_seam, take-suc, change_after, changes_after, between, WireRecord, Circuit, wire_at, width_of, level, filter, flat_map, flat_map-map, value_line, value_at, marked, time_mark, Entry, no_entry, entry_at, IsChain, Tells, told_from, with_told, onto, onto_slot, with_levels, told_lines}
+use Rattle.mp_vcd.proofs.Names.{None, map, get_or-map, left_none, nat_lt-false, nat_lt-true, earlier_than-take, get_or_default, ℕ, Bool, true, not, cond, nat_le, List, [], length, length-append, take, slice_index, slice_set, Some, zero, suc, refl, sym, ap, subst, ◌∙◌, zero-add, add-one, get_or, arith, get_or-set_other, get_or-set_same, nat_tests, cases_lt, eq-eqb, eqb-true, le-leb, lt-leb, lt-ltb, ne_eqb, get_or-append, length-set, get_or-append_seam, take-suc, change_after, changes_after, between, WireRecord, Circuit, wire_at, width_of, level, filter, flat_map, flat_map-map, value_line, value_at, marked, time_mark, Entry, no_entry, entry_at, IsChain, Tells, told_from, with_told, onto, onto_slot, with_levels, told_lines}
 
 -- ---- chains
 
@@ -83,16 +83,21 @@ onto_wave n w t r others within = grind (arith, nat_tests, le-leb, onto_changes)
 
 -- ---- the lines of what is told
 
+-- the width that is listed of a wire
+pub width_is : (n : Circuit) (widths : List ℕ) (w : ℕ) → widths ≡ map width_of n.wires → slice_index widths w ≡ width_of (wire_at n w)
+width_is n widths w are = ap (λ ws. slice_index ws w) are ∙ get_or-map width_of n.wires w None
+
 -- a chain that is not over has an entry, whose line comes first
-pub record HasEntry (n : Circuit) (entries : List Entry) (entry : Entry) (place : ℕ) (told : List (ℕ × ℕ)) : Type 0 where
+pub record HasEntry (n : Circuit) (entries : List Entry) (entry : Entry) (place : ℕ) (told : List (ℕ × ℕ)) (line : List ℕ) : Type 0 where
   pub later : List (ℕ × ℕ)
   pub smaller : entry.next < place
   pub chain : IsChain entries entry.next later
-  pub lines : told_lines n told ≡ value_line (width_of (wire_at n entry.wire)) entry.wire entry.level ++ told_lines n later
+  pub lines : told_lines n told ≡ line ++ told_lines n later
 
-pub chain_next : (n : Circuit) (entries : List Entry) (entry : Entry) (place : ℕ) (told : List (ℕ × ℕ)) → entry_at entries (place - 1) ≡ entry → IsChain entries place told → 0 < place → HasEntry n entries entry place told
-chain_next n entries entry place [] is chain some = grind (arith, nat_tests)
-chain_next n entries entry place (x ∷ later) is chain some = grind (arith, nat_tests)
+pub chain_next : (n : Circuit) (widths : List ℕ) (entries : List Entry) (entry : Entry) (place : ℕ) (told : List (ℕ × ℕ)) (line : List ℕ) → widths ≡ map width_of n.wires
+    → entry_at entries (place - 1) ≡ entry → IsChain entries place told → 0 < place → line ≡ value_line (slice_index widths entry.wire) entry.wire entry.level → HasEntry n entries entry place told line
+chain_next n widths entries entry place [] line are is chain some same = grind (arith, nat_tests)
+chain_next n widths entries entry place (x ∷ later) line are is chain some same = grind (arith, nat_tests, width_is)
 
 pub chain_over : (n : Circuit) (entries : List Entry) (place : ℕ) (told : List (ℕ × ℕ)) → place ≡ 0 → IsChain entries place told → told_lines n told ≡ []
 chain_over n entries place [] none chain = refl

@@ -15,18 +15,12 @@ unfoldable pub use Rattle.mp_records.specs.Names.{is_name}
 pub use Rattle.mp_streams.proofs.LeftLemmas.{Left, left_as, left_failed, left_none, left_then, left_whole}
 pub use Rattle.mp_streams.proofs.OutLemmas.{puts_as, puts_ok, puts_sooner, puts_then, puts_unmade, writes_failed}
 pub use Rattle.mp_streams.proofs.PlaceLemmas.{placed_between, placed_both, placed_byte}
-pub use Rattle.mp_streams.specs.Places.{IsPlaced}
 pub use Rattle.mp_streams.specs.declared.write_error.WriteError.TheVariants.{OutOfMemory, WriteFailed}
-pub use Rattle.mp_vcd.specs.Agendas.{IsChain, Tells, entry_at, no_entry, onto, onto_slot, told_at, told_from, told_lines, with_levels, with_told}
-pub use Rattle.mp_vcd.specs.Codes.{digits_of}
 unfoldable pub use Rattle.mp_vcd.specs.Codes.{code}
-pub use Rattle.mp_vcd.specs.Dumps.{block_start, changed, declaration, if_stands, is_changed, line, marked, opening_lines, preamble, slot_declaration, standing, standing_from, time_mark, unit_text, value_at}
 unfoldable pub use Rattle.mp_vcd.specs.Dumps.{dump}
 pub use Rattle.mp_vcd.specs.Names.{AllDigits, AllWithin, Circuit, Entry, IsCircuit, Waveform, WireRecord, between, change_after, changes_after, changes_in, digit_value, digits_value, digits_value_after, is_ascii_digit, is_ascii_whitespace, level, list_all, list_any, range_with_len, slot_wave, wave, width_of, wire_at}
-pub use Rattle.mp_vcd.specs.Parts.{part_line, slot_text}
-pub use Rattle.mp_vcd.specs.Readings.{AmongValues, BehindDigits, BetweenDeclarations, Given, InDeclaration, Inside, Outside, Reading, Side, Variable, at_place, is_binary, is_made_of, is_printed, nothing_read, read_words, takes, value_of, with_time, with_value, word_first, word_in, words, words_from}
 unfoldable pub use Rattle.mp_vcd.specs.Readings.{reading}
-pub use Rattle.mp_vcd.specs.Values.{bit, value_line}
 unfoldable pub use Rattle.mp_vcd.specs.Values.{bits}
 pub use Rattle.mp_wave.proofs.PrefixLemmas.{earlier_than-take, later_than-drop, nat_lt-false, nat_lt-true}
 pub use Rattle.mp_words.proofs.PlainLemmas.{IsPlain, IsPlain-decimal, IsPlain-name, is_plain_byte, list_all-passing}
+pub use Rattle.mp_vcd.specs.Clauses.{AmongValues, BehindDigits, BetweenDeclarations, Given, InDeclaration, Inside, IsChain, IsPlaced, Outside, Reading, Side, Tells, Variable, at_place, bit, block_start, changed, declaration, digits_of, entry_at, if_stands, is_binary, is_changed, is_made_of, is_printed, line, marked, no_entry, nothing_read, onto, onto_slot, opening_lines, part_line, preamble, read_words, slot_declaration, slot_text, standing, standing_from, takes, time_mark, told_at, told_from, told_lines, unit_text, value_at, value_line, value_of, with_levels, with_time, with_told, with_value, word_first, word_in, words, words_from}

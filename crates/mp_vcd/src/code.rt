@@ -15,8 +15,6 @@ const FIRST_DIGIT: u8 = b'!';
 pub(crate) struct Code(pub(crate) u32);
 
 impl Piece for Code {
-    ghost use Rattle.mp_vcd.specs.Clauses.{code};
-
     ghost text = { λ wire. code wire.0 };
 
     fn write(&self, room: &mut [u8], at: usize) -> usize {

@@ -13,14 +13,8 @@ pub fn put_declaration<S: Sink>(
 ) -> Result<(), Failed>
     ensures { Writes result out.old out.new (slot_declaration id.0 (Some wire.now)) }
 {
-    let name = wire.name.as_str();
-    (
-        "$var wire ",
-        wire.width,
-        " ",
-        (Code(id.0), " ", name, " $end\n"),
-    )
-        .put_to(out)
+    let named = (Code(id.0), " ", wire.name.as_str(), " $end\n");
+    ("$var wire ", wire.width, " ", named).put_to(out)
 }
 
 /// Writes the line of a time.

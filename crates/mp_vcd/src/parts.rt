@@ -34,10 +34,7 @@ fn is_over(changes: WaveChanges<'_>, place: usize, time: u32) -> bool
     requires within { place ≤ length (changes_in changes) }
     ensures { result ≡ true → AllWithin (λ (c : ℕ × ℕ). c.0 < time) (changes_in changes.entry) 0 place }
 {
-    if place == 0 {
-        return true;
-    }
-    changes.time_at(place - 1) < time
+    place == 0 || changes.time_at(place - 1) < time
 }
 
 /// Whether the changes from a place on are no earlier than a time.
@@ -47,11 +44,7 @@ fn is_ahead(changes: WaveChanges<'_>, place: usize, time: u32) -> bool
     ensures behind { result ≡ false → (place < length (changes_in changes.entry)) × ((slice_index_or (changes_in changes.entry) place (0, 0)).0 < time) }
     ensures next { result ≡ false → place + 1 < 2 ^ 64 }
 {
-    if place < changes.len() {
-        time <= changes.time_at(place)
-    } else {
-        true
-    }
+    place >= changes.len() || time <= changes.time_at(place)
 }
 
 /// How many changes are earlier than a time, counted from the first on.

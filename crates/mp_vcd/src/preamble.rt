@@ -5,7 +5,7 @@ use crate::lines::put_declaration;
 use crate::value_lines::ValueLine;
 use mp_model::Waves;
 use mp_netlist::{Netlist, WireId};
-use mp_streams::{Failed, Out, Sink};
+use mp_streams::{Failed, Out, Sink, Text};
 
 const OPENING: &str = "$timescale 1 ns $end\n$scope module top $end\n";
 
@@ -29,53 +29,58 @@ pub fn put_preamble<S: Sink>(
     requires { AreWavesOf netlist.now waves.now }
     ensures { Writes result out.old out.new (preamble netlist.now) }
 {
-    out.put_text(OPENING)?;
-    put_wires(out, netlist, waves, Part::Declarations)?;
-    out.put_text(BLOCK_START)?;
-    put_wires(out, netlist, waves, Part::FirstLevels)?;
-    out.put_text(BLOCK_END)
+    let declarations = WireLines {
+        netlist,
+        waves,
+        part: Part::Declarations,
+    };
+    let levels = WireLines {
+        netlist,
+        waves,
+        part: Part::FirstLevels,
+    };
+    (OPENING, (declarations, (BLOCK_START, (levels, BLOCK_END)))).put_to(out)
 }
 
-/// Writes the lines of a part for each wire that stands, by number.
-#[tactic(auto, using(crate::proofs::StandingLemmas::put_wires_steps))]
-fn put_wires<S: Sink>(
-    out: &mut Out<S>,
-    netlist: &Netlist,
-    waves: &Waves,
+/// The lines of a part for each wire that stands, by number.
+#[derive(Clone, Copy)]
+struct WireLines<'a> {
+    netlist: &'a Netlist,
+    waves: &'a Waves,
     part: Part,
-) -> Result<(), Failed>
-    requires { AreWavesOf netlist.now waves.now }
-    ensures { Writes result out.old out.new (flat_map (part_line netlist.now part) (standing netlist.now)) }
-{
-    for number in 0..netlist.wire_slots() {
-        put_part(out, netlist, waves, WireId(number), part)?;
+    ghost of_netlist: { AreWavesOf netlist.now waves.now },
+}
+
+impl<'a> Text for WireLines<'a> {
+    ghost text = { λ lines. flat_map (part_line lines.netlist.now lines.part) (standing lines.netlist.now) };
+
+    #[tactic(auto, using(crate::proofs::StandingLemmas::put_wires_steps))]
+    fn put_to<S: Sink>(&self, out: &mut Out<S>) -> Result<(), Failed> {
+        for number in 0..self.netlist.wire_slots() {
+            self.put_part(out, WireId(number))?;
+        }
+        Ok(())
     }
-    Ok(())
 }
 
-/// Writes the line of a part for a wire, where the wire stands.
-fn put_part<S: Sink>(
-    out: &mut Out<S>,
-    netlist: &Netlist,
-    waves: &Waves,
-    id: WireId,
-    part: Part,
-) -> Result<(), Failed>
-    requires { AreWavesOf netlist.now waves.now }
-    ensures { Writes result out.old out.new (slot_text (part_line netlist.now part) id.0 (wire_at netlist.now id.0)) }
-{
-    let Some(wire) = netlist.wire(id) else {
-        return Ok(());
-    };
-    let Some(wave) = waves.of(id) else {
-        return Ok(());
-    };
-    match part {
-        Part::Declarations => put_declaration(out, id, wire),
-        Part::FirstLevels => out.put_piece(&ValueLine {
-            width: wire.width,
-            wire: id.0,
-            level: wave.initial(),
-        }),
+impl<'a> WireLines<'a> {
+    /// Writes the line of a wire, where the wire stands.
+    fn put_part<S: Sink>(&self, out: &mut Out<S>, id: WireId) -> Result<(), Failed>
+        ensures { Writes result out.old out.new (slot_text (part_line self.now.netlist.now self.now.part) id.0 (wire_at self.now.netlist.now id.0)) }
+    {
+        let Some(wire) = self.netlist.wire(id) else {
+            return Ok(());
+        };
+        let Some(wave) = self.waves.of(id) else {
+            return Ok(());
+        };
+        match self.part {
+            Part::Declarations => put_declaration(out, id, wire),
+            Part::FirstLevels => out.put_piece(&ValueLine {
+                width: wire.width,
+                wire: id.0,
+                level: wave.initial(),
+            }),
+        }
     }
 }

@@ -101,25 +101,16 @@ fn add_wire(
     let Some(wave) = waves.of(id) else {
         return Ok(());
     };
-    let place = place_of(places, id);
+    let place = places.get(id.0 as usize).copied().unwrap_or(0);
     let changes = part(wave, agenda.from, to, place);
     add_changes(agenda, id.0, changes)?;
     set_place(places, id, place.saturating_add(changes.len()));
     Ok(())
 }
 
-/// The place of a wire's next change, where it is known.
-fn place_of(places: &[usize], id: WireId) -> usize {
-    match places.get(id.0 as usize) {
-        Some(&place) => place,
-        None => 0,
-    }
-}
-
 fn set_place(places: &mut [usize], id: WireId, place: usize) {
-    let number = id.0 as usize;
-    if number < places.len() {
-        places[number] = place;
+    if let Some(next) = places.get_mut(id.0 as usize) {
+        *next = place;
     }
 }
 

@@ -2,8 +2,8 @@ use Rattle.std.specs.Prelude.{◌≡◌, ◌-◌, ◌<◌, ◌≤◌}
 use Rattle.mp_vcd.proofs.Names.{ℕ, length, slice_index_or, ap, arith, ltb-true, get_or_default, changes_in}
 use Rattle.mp_vcd.proofs.parts.is_over.Goals as goal
 
-pub returns : goal.returns
-returns c = λ early k d low high.
+pub returns-else-place-eq0 : goal.returns-else-place-eq0
+returns-else-place-eq0 c = λ early k d low high.
     let changes = changes_in c.args.changes in
     let last = c.args.place - 1 in
     let inside : last < length changes = omega (arith, high, c.requires.within) in

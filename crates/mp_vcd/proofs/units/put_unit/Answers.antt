@@ -1,7 +1,7 @@
 use Rattle.std.specs.Prelude.{◌≡◌, ◌≢◌, ◌+◌, ◌-◌, ◌<◌, ◌≤◌}
-use Rattle.mp_vcd.proofs.Names.{ℕ, None, List, map, slice_index, sym, ap, subst, ◌∙◌, rules, arith, vec_len, get_or-map, writes_failed, Circuit, wire_at, width_of, value_line, changed, IsChain, Tells, told_from, told_at, left_whole, left_as, left_then, left_failed, left_none}
+use Rattle.mp_vcd.proofs.Names.{ℕ, slice_index, sym, subst, ◌∙◌, rules, arith, vec_len, writes_failed, Circuit, changed, IsChain, Tells, told_from, told_at, left_whole, left_as, left_then, left_failed, left_none}
 use Rattle.mp_vcd.specs.declared.agenda.Agenda.{Agenda}
-use Rattle.mp_vcd.proofs.AgendaLemmas.{chain_next, marked_none, marked_some}
+use Rattle.mp_vcd.proofs.AgendaLemmas.{width_is, chain_next, marked_none, marked_some}
 use Rattle.mp_vcd.proofs.StandingLemmas.{narrow}
 use Rattle.mp_vcd.proofs.units.put_unit.Goals as goal
 
@@ -11,10 +11,6 @@ chain_at : (n : Circuit) (agenda : Agenda) (t place : ℕ) → agenda.from ≤ t
 chain_at n agenda t place low high told is =
     let same : agenda.from + (t - agenda.from) ≡ t = omega (arith, low) in
     subst (λ u. IsChain agenda.entries.items place (told_at n u)) same (rw is (told (t - agenda.from) (omega (arith, low, high))))
-
--- the width that is listed of a wire
-width_is : (n : Circuit) (widths : List ℕ) (w : ℕ) → widths ≡ map width_of n.wires → slice_index widths w ≡ width_of (wire_at n w)
-width_is n widths w are = ap (λ ws. slice_index ws w) are ∙ get_or-map width_of n.wires w None
 
 pub returns-then-place-eq0 : goal.returns-then-place-eq0
 returns-then-place-eq0 g c = grind (arith, chain_at, left_none, marked_none, left_whole)
@@ -39,28 +35,22 @@ line_of-requires g c =
 
 pub returns-in_err-put_piece : goal.returns-in_err-put_piece
 returns-in_err-put_piece g c =
-    let n = c.args.netlist.now in
-    let change = c.entry-change.result in
     let left = c.loop-place.invariant in
     let some : 0 < c.loop-place.place = search rules in
-    let next = chain_next n _ change _ left.0 (sym c.entry-change.ensures) left.1 some in
-    let text = c.line_of.ensures ∙ ap (λ width. value_line width change.wire change.level) (width_is n c.args.widths.now change.wire c.requires.widths) in
+    let next = chain_next c.args.netlist.now _ _ _ _ _ _ c.requires.widths (sym c.entry-change.ensures) left.1 some c.line_of.ensures in
     let is = c.from_residual-in_err-put_piece.ensures.0 in
-    left_failed _ (left_as next.lines left.2) _ is (writes_failed _ is (rw text at c.in_err-put_piece.ensures))
+    left_failed _ (left_as next.lines left.2) _ is (writes_failed _ is c.in_err-put_piece.ensures)
 
 pub loop-place-smaller : goal.loop-place-smaller
 loop-place-smaller g c =
     let left = c.loop-place.invariant in
     let some : 0 < c.loop-place.place = search rules in
-    let next = chain_next c.args.netlist.now _ c.entry-change.result _ left.0 (sym c.entry-change.ensures) left.1 some in
+    let next = chain_next c.args.netlist.now _ _ _ _ _ _ c.requires.widths (sym c.entry-change.ensures) left.1 some c.line_of.ensures in
     next.smaller
 
 pub loop-place-preserved : goal.loop-place-preserved
 loop-place-preserved g c =
-    let n = c.args.netlist.now in
-    let change = c.entry-change.result in
     let left = c.loop-place.invariant in
     let some : 0 < c.loop-place.place = search rules in
-    let next = chain_next n _ change _ left.0 (sym c.entry-change.ensures) left.1 some in
-    let text = c.line_of.ensures ∙ ap (λ width. value_line width change.wire change.level) (width_is n c.args.widths.now change.wire c.requires.widths) in
-    (next.later, next.chain, left_then (left_as next.lines left.2) (rw text at c.in_ok-put_piece.ensures))
+    let next = chain_next c.args.netlist.now _ _ _ _ _ _ c.requires.widths (sym c.entry-change.ensures) left.1 some c.line_of.ensures in
+    (next.later, next.chain, left_then (left_as next.lines left.2) c.in_ok-put_piece.ensures)
