@@ -53,46 +53,37 @@ pub not_plain : (line : List ℕ) → list_all is_allowed line ≡ false → lin
 unfolding line_at
 not_plain line odd = ap (λ b. cond b (Ok (words_of line)) (Err NotAscii) >>= line_of) odd
 
--- a line of allowed bytes
-module _ (line : List ℕ) (plain : list_all is_allowed line ≡ true) where
-  by_words : line_at line ≡ line_of (words_of line)
-  unfolding line_at
-  by_words = ap (λ b. cond b (Ok (words_of line)) (Err NotAscii) >>= line_of) plain
+-- a line of allowed bytes says what its words say
+pub by_words : (line : List ℕ) → list_all is_allowed line ≡ true → line_at line ≡ line_of (words_of line)
+unfolding line_at
+by_words line plain = ap (λ b. cond b (Ok (words_of line)) (Err NotAscii) >>= line_of) plain
 
-  of_no_words : (ws : Words) → slice_get ws 0 ≡ None → line_of ws ≡ Ok Empty
+pub without_words : (ws : Words) → slice_get ws 0 ≡ None → line_of ws ≡ Ok Empty
+unfolding line_of
+without_words ws none = grind (arith, nat_tests)
+
+module _ (ws : Words) (word : List ℕ) (is : slice_get ws 0 ≡ Some word) where
+  pub with_unknown_word : line_word word ≡ None → line_of ws ≡ Err UnknownStatement
   unfolding line_of
-  of_no_words ws none = grind (arith, nat_tests)
+  with_unknown_word none = grind (arith, nat_tests)
 
-  pub without_words : slice_get (words_of line) 0 ≡ None → line_at line ≡ Ok Empty
-  without_words none = by_words ∙ of_no_words (words_of line) none
-
-  module _ (word : List ℕ) where
-    of_unknown : (ws : Words) → slice_get ws 0 ≡ Some word → line_word word ≡ None → line_of ws ≡ Err UnknownStatement
+  module _ (first : LineWord) (known : line_word word ≡ Some first) where
+    pub as_stated : line_of ws ≡ stated_line first (drop 1 ws)
     unfolding line_of
-    of_unknown ws is none = grind (arith, nat_tests)
+    as_stated = grind (arith, nat_tests)
 
-    pub with_unknown_word : slice_get (words_of line) 0 ≡ Some word → line_word word ≡ None → line_at line ≡ Err UnknownStatement
-    with_unknown_word is none = by_words ∙ of_unknown (words_of line) is none
+    pub with_wrong_count : takes first (length ws - 1) ≡ false → line_of ws ≡ Err WordCount
+    with_wrong_count wrong = as_stated ∙ refused_by_count first (drop 1 ws) (ap (takes first) (length-drop 1 ws) ∙ wrong)
 
-    module _ (first : LineWord) (known : line_word word ≡ Some first) where
-      of_stated : (ws : Words) → slice_get ws 0 ≡ Some word → line_of ws ≡ stated_line first (drop 1 ws)
-      unfolding line_of
-      of_stated ws is = grind (arith, nat_tests)
+    begun : takes first (length ws - 1) ≡ true → is_begun ws ≡ true
+    begun right = grind (arith, nat_tests)
 
-      pub as_stated : slice_get (words_of line) 0 ≡ Some word → line_at line ≡ stated_line first (drop 1 (words_of line))
-      as_stated is = by_words ∙ of_stated (words_of line) is
-
-      pub with_wrong_count : slice_get (words_of line) 0 ≡ Some word → takes first (length (words_of line) - 1) ≡ false → line_at line ≡ Err WordCount
-      with_wrong_count is wrong = as_stated is ∙ refused_by_count first (drop 1 (words_of line)) (ap (takes first) (length-drop 1 (words_of line)) ∙ wrong)
-
-      of_begun : (ws : Words) → slice_get ws 0 ≡ Some word → takes first (length ws - 1) ≡ true → is_begun ws ≡ true
-      of_begun ws is right = grind (arith, nat_tests)
-
-      pub has_form : slice_get (words_of line) 0 ≡ Some word → takes first (length (words_of line) - 1) ≡ true → HasForm line
-      has_form is right = (plain, of_begun (words_of line) is right)
+pub has_form : (line word : List ℕ) (first : LineWord) → list_all is_allowed line ≡ true → slice_get (words_of line) 0 ≡ Some word → line_word word ≡ Some first
+    → takes first (length (words_of line) - 1) ≡ true → HasForm line
+has_form line word first plain is known right = (plain, begun (words_of line) word is first known right)
 
 -- a call that wants memory only where the line has its form
 pub only_with_form : (result : Result Line LineError) (line : List ℕ) → HasForm line → IfErr result (λ error. error ≡ OutOfMemory → HasForm line)
 only_with_form result line form = grind (arith, nat_tests)
 
-pub ruleset read_line_steps = (not_plain, without_words, with_unknown_word, with_wrong_count, only_with_form, has_form, as_stated, rest_ascii, texts_behind)
+pub ruleset read_line_steps = (not_plain, by_words, without_words, with_unknown_word, with_wrong_count, only_with_form, has_form, as_stated, rest_ascii, texts_behind)

@@ -18,14 +18,6 @@ edit_of statement = None
 abbrev pub statements : List (List ℕ) → List Statement
 statements lines = map (λ line. statement_of (words_of line)) lines
 
--- the horizons that the lines state
-abbrev pub horizons_of : List (List ℕ) → List ℕ
-horizons_of lines = filter_map horizon_of (statements lines)
-
--- the edits that the lines state, in order
-abbrev pub edits_of : List (List ℕ) → List SingleEdit
-edits_of lines = filter_map edit_of (statements lines)
-
 -- the format that the first line with words states, if it states one
 abbrev pub format_by : List Statement → NetlistFormat
 format_by [] = Standard
@@ -35,7 +27,9 @@ format_by (other ∷ later) = Standard
 
 -- the lines state one horizon, and the netlist is the replay of their edits on the empty netlist of this horizon and of their format
 abbrev pub IsReplayed : List (List ℕ) → Circuit → Type 0
-IsReplayed lines n = (h : ℕ) × ((horizons_of lines ≡ h ∷ []) × (replay (empty_circuit (format_by (statements lines)) h) (map Single (edits_of lines)) ≡ Ok n))
+IsReplayed lines n =
+    (h : ℕ) × ((filter_map horizon_of (statements lines) ≡ h ∷ [])
+    × (replay (empty_circuit (format_by (statements lines)) h) (map Single (filter_map edit_of (statements lines))) ≡ Ok n))
 
 -- each text that is read is replayed
 abbrev pub IsReplay : Type 0

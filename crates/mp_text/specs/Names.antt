@@ -9,8 +9,8 @@ pub use Rattle.std.specs.Str.{byte, bytes_eq}
 pub use Rattle.mp_modules.specs.Kinds.{are_params, has_width, input_count, input_width, kind_named, output_count, output_width, word_of}
 pub use Rattle.mp_modules.specs.declared.kind.Kind.{Kind}
 pub use Rattle.mp_netlist.specs.Circuit.{Circuit, Drives, HasNames, HasWidth, IsBundle, IsCircuit, IsDelay, IsInputDelay, IsModule, bundle_at, empty_circuit, module_at, module_width, stimulus_at, stimulus_in, width_of, wire_at}
-pub use Rattle.mp_netlist.specs.Edits.{after_single, are_distinct, driven_names, first_failing, go_on, unless}
-pub use Rattle.mp_netlist.specs.Limits.{horizon_limit, max_delay, max_horizon, max_setup}
+pub use Rattle.mp_netlist.specs.Edits.{after_single, are_distinct, bundle_checks, delays_fit, driven_names, first_failing, first_width, go_on, input_of, inputs_fit, inputs_stand, is_delay, is_input_delay, is_undriven, module_checks, new_bundle, new_module, new_width, output_fits, output_of, outputs_fit, stands, stimulus_checks, unless, width_named, wire_checks, wire_id, with_stimulus, without_stimulus}
+pub use Rattle.mp_netlist.specs.Limits.{bundle_limit, horizon_limit, max_delay, max_horizon, max_setup, module_limit, wire_limit}
 pub use Rattle.mp_netlist.specs.Replays.{replay, replay_singles}
 pub use Rattle.mp_netlist.specs.declared.format.Format.TheVariants.{Large, Standard}
 pub use Rattle.mp_records.specs.declared.bundle_record.BundleRecord.{BundleRecord}
@@ -27,11 +27,11 @@ pub use Rattle.mp_records.specs.declared.single_edit.SingleEdit.TheVariants.{Add
 pub use Rattle.mp_records.specs.declared.wire_record.WireRecord.{WireRecord}
 pub use Rattle.mp_streams.specs.Outgoing.{Writes}
 pub use Rattle.mp_words.specs.LineErrors.{line_name_of, line_number_of}
-pub use Rattle.mp_words.specs.Lines.{is_allowed, line_words, lines_of}
+pub use Rattle.mp_words.specs.Lines.{is_allowed, is_line_feed, line_words, lines_of}
 pub use Rattle.mp_words.specs.Reads.{Gives, with_front, ◌>>=◌}
 pub use Rattle.mp_words.specs.WaveLines.{changes_text, pair_text}
 pub use Rattle.mp_words.specs.WordLists.{change_word, each_word, input_word, number_word, output_word, wire_or_none}
-pub use Rattle.mp_words.specs.Words.{AreAscii, texts, words_of}
+pub use Rattle.mp_words.specs.Words.{AreAscii, is_gap, is_word, statement_part, texts, words_of}
 pub use Rattle.mp_words.specs.declared.line_error.LineError.{LineError}
 pub use Rattle.mp_words.specs.declared.line_error.LineError.TheVariants.{BadNumber, NotAscii, OutOfMemory, UnknownStatement, WordCount}
 pub use Rattle.mp_text.specs.declared.edit_word.EditWord.{EditWord}

@@ -13,35 +13,23 @@ removal (thing ∷ name ∷ []) =
     else Err UnknownStatement))
 removal _ = Err WordCount
 
--- the edit of the words behind `input`
-abbrev pub input_edit : List (List ℕ) → Result SingleEdit LineError
-input_edit (part ∷ port ∷ wire ∷ []) = do
-  p ← number_word port
-  Ok (RewireInput part p wire)
-input_edit _ = Err WordCount
-
--- the edit of the words behind `output`, where `-` is no wire
-abbrev pub output_edit : List (List ℕ) → Result SingleEdit LineError
-output_edit (part ∷ port ∷ wire ∷ []) = do
-  p ← number_word port
-  Ok (RewireOutput part p (wire_or_none wire))
-output_edit _ = Err WordCount
-
--- the edit of the words behind `indelay`
-abbrev pub input_delay_edit : List (List ℕ) → Result SingleEdit LineError
-input_delay_edit (part ∷ port ∷ delay ∷ []) = do
-  p ← number_word port
+-- what changes at a port of a module: the wire that it hears, the wire that it drives, where `-` is none, or a delay
+abbrev pub port_change : SingleWord → List ℕ → ℕ → List ℕ → Result SingleEdit LineError
+port_change Input part port wire = Ok (RewireInput part port wire)
+port_change Output part port wire = Ok (RewireOutput part port (wire_or_none wire))
+port_change InputDelay part port delay = do
   d ← number_word delay
-  Ok (SetInputDelay part p d)
-input_delay_edit _ = Err WordCount
-
--- the edit of the words behind `delay`
-abbrev pub delay_edit : List (List ℕ) → Result SingleEdit LineError
-delay_edit (part ∷ port ∷ delay ∷ []) = do
-  p ← number_word port
+  Ok (SetInputDelay part port d)
+port_change word part port delay = do
   d ← number_word delay
-  Ok (SetDelay part p d)
-delay_edit _ = Err WordCount
+  Ok (SetDelay part port d)
+
+-- the edit of the words behind a word that changes a port: a module, a port of it, and what is new there
+abbrev pub port_edit : SingleWord → List (List ℕ) → Result SingleEdit LineError
+port_edit word (part ∷ port ∷ new ∷ []) = do
+  p ← number_word port
+  port_change word part p new
+port_edit word _ = Err WordCount
 
 -- the edit of the words behind `clear`
 abbrev pub clearing : List (List ℕ) → Result SingleEdit LineError
@@ -63,8 +51,5 @@ single_word word =
 abbrev pub single_edit : SingleWord → List (List ℕ) → Result SingleEdit LineError
 single_edit (Stated word) words = stated_edit word words
 single_edit Remove words = removal words
-single_edit Input words = input_edit words
-single_edit Output words = output_edit words
-single_edit InputDelay words = input_delay_edit words
-single_edit Delay words = delay_edit words
 single_edit Clear words = clearing words
+single_edit port words = port_edit port words

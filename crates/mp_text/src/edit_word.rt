@@ -21,16 +21,12 @@ impl EditWord {
     pub fn from_word(word: &[u8]) -> Option<EditWord>
         ensures { result ≡ edit_word word.now }
     {
-        if word == b"wire".as_slice() {
-            Some(EditWord::Wire)
-        } else if word == b"module".as_slice() {
-            Some(EditWord::Module)
-        } else if word == b"stim".as_slice() {
-            Some(EditWord::Stimulus)
-        } else if word == b"bundle".as_slice() {
-            Some(EditWord::Bundle)
-        } else {
-            None
+        match word {
+            _ if word == b"wire".as_slice() => Some(EditWord::Wire),
+            _ if word == b"module".as_slice() => Some(EditWord::Module),
+            _ if word == b"stim".as_slice() => Some(EditWord::Stimulus),
+            _ if word == b"bundle".as_slice() => Some(EditWord::Bundle),
+            _ => None,
         }
     }
 

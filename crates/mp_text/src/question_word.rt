@@ -41,36 +41,22 @@ impl QuestionWord {
     pub fn from_word(word: &[u8]) -> Option<QuestionWord>
         ensures { result ≡ question_word word.now }
     {
-        if word == b"wave".as_slice() {
-            Some(QuestionWord::Wave)
-        } else if word == b"waves".as_slice() {
-            Some(QuestionWord::Waves)
-        } else if word == b"text".as_slice() {
-            Some(QuestionWord::Text)
-        } else if word == b"report".as_slice() {
-            Some(QuestionWord::Report)
-        } else if word == b"dump".as_slice() {
-            Some(QuestionWord::Dump)
-        } else if word == b"work".as_slice() {
-            Some(QuestionWord::Work)
-        } else if word == b"show".as_slice() {
-            Some(QuestionWord::Show)
-        } else if word == b"why".as_slice() {
-            Some(QuestionWord::Why)
-        } else if word == b"path".as_slice() {
-            Some(QuestionWord::Path)
-        } else if word == b"waits".as_slice() {
-            Some(QuestionWord::Waits)
-        } else if word == b"measure".as_slice() {
-            Some(QuestionWord::Measure)
-        } else if word == b"graph".as_slice() {
-            Some(QuestionWord::Graph)
-        } else if word == b"version".as_slice() {
-            Some(QuestionWord::Version)
-        } else if word == b"edits".as_slice() {
-            Some(QuestionWord::Edits)
-        } else {
-            None
+        match word {
+            _ if word == b"wave".as_slice() => Some(QuestionWord::Wave),
+            _ if word == b"waves".as_slice() => Some(QuestionWord::Waves),
+            _ if word == b"text".as_slice() => Some(QuestionWord::Text),
+            _ if word == b"report".as_slice() => Some(QuestionWord::Report),
+            _ if word == b"dump".as_slice() => Some(QuestionWord::Dump),
+            _ if word == b"work".as_slice() => Some(QuestionWord::Work),
+            _ if word == b"show".as_slice() => Some(QuestionWord::Show),
+            _ if word == b"why".as_slice() => Some(QuestionWord::Why),
+            _ if word == b"path".as_slice() => Some(QuestionWord::Path),
+            _ if word == b"waits".as_slice() => Some(QuestionWord::Waits),
+            _ if word == b"measure".as_slice() => Some(QuestionWord::Measure),
+            _ if word == b"graph".as_slice() => Some(QuestionWord::Graph),
+            _ if word == b"version".as_slice() => Some(QuestionWord::Version),
+            _ if word == b"edits".as_slice() => Some(QuestionWord::Edits),
+            _ => None,
         }
     }
 
@@ -83,13 +69,8 @@ impl QuestionWord {
             QuestionWord::Path | QuestionWord::Measure => count == 2,
             QuestionWord::Why => count == 2 || count == 3,
             QuestionWord::Show => count >= 2,
-            QuestionWord::Waves
-            | QuestionWord::Text
-            | QuestionWord::Report
-            | QuestionWord::Dump
-            | QuestionWord::Work
-            | QuestionWord::Graph
-            | QuestionWord::Version => count == 0,
+            // the others stand alone
+            _ => count == 0,
         }
     }
 }

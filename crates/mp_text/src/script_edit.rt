@@ -1,6 +1,6 @@
 //! The edits that scripts alone have.
 ghost use Rattle.std.specs.Prelude.{◌≡◌};
-ghost use Rattle.mp_text.specs.Clauses.{IfOk, IsAscii, OutOfMemory, Gives, wire_or_none, texts, AreAscii, removal, input_edit, output_edit, input_delay_edit, delay_edit, clearing, single_edit};
+ghost use Rattle.mp_text.specs.Clauses.{IfOk, IsAscii, OutOfMemory, Gives, wire_or_none, texts, AreAscii, removal, port_edit, clearing, single_edit};
 
 use crate::single_word::SingleWord;
 use crate::stated_edit::stated_edit;
@@ -20,11 +20,8 @@ pub fn single_edit(
     match first {
         SingleWord::Stated(word) => stated_edit(alloc, word, words),
         SingleWord::Remove => removal(alloc, words),
-        SingleWord::Input => input_edit(alloc, words),
-        SingleWord::Output => output_edit(alloc, words),
-        SingleWord::InputDelay => input_delay_edit(alloc, words),
-        SingleWord::Delay => delay_edit(alloc, words),
         SingleWord::Clear => clearing(alloc, words),
+        _ => port_edit(alloc, first, words),
     }
 }
 
@@ -37,51 +34,46 @@ fn removal(alloc: Global, words: &[&[u8]]) -> Result<SingleEdit, LineError>
         return Err(LineError::WordCount);
     };
     let thing: &[u8] = thing;
-    if thing == b"wire".as_slice() {
-        Ok(SingleEdit::RemoveWire {
-            wire: name_of(alloc, name)?,
-        })
-    } else if thing == b"module".as_slice() {
-        Ok(SingleEdit::RemoveModule {
-            module: name_of(alloc, name)?,
-        })
-    } else if thing == b"bundle".as_slice() {
-        Ok(SingleEdit::RemoveBundle {
-            bundle: name_of(alloc, name)?,
-        })
-    } else {
-        Err(LineError::UnknownStatement)
+    let name = name_of(alloc, name)?;
+    match thing {
+        _ if thing == b"wire".as_slice() => Ok(SingleEdit::RemoveWire { wire: name }),
+        _ if thing == b"module".as_slice() => Ok(SingleEdit::RemoveModule { module: name }),
+        _ if thing == b"bundle".as_slice() => Ok(SingleEdit::RemoveBundle { bundle: name }),
+        _ => Err(LineError::UnknownStatement),
     }
 }
 
-/// The edit of the words behind `input`.
-fn input_edit(alloc: Global, words: &[&[u8]]) -> Result<SingleEdit, LineError>
+/// The edit of the words behind a word that changes a port: a module, a port of it, and the wire or the delay that is new there.
+fn port_edit(alloc: Global, first: SingleWord, words: &[&[u8]]) -> Result<SingleEdit, LineError>
     requires { AreAscii words.now }
-    ensures { Gives OutOfMemory (λ edit. edit) result (input_edit (texts words.now)) }
+    ensures { Gives OutOfMemory (λ edit. edit) result (port_edit first (texts words.now)) }
 {
-    let [part, port, wire] = words else {
+    let [part, port, new] = words else {
         return Err(LineError::WordCount);
     };
-    Ok(SingleEdit::RewireInput {
-        port: number_word(port)?,
-        module: name_of(alloc, part)?,
-        wire: Boxed::new(alloc, name_of(alloc, wire)?)?,
-    })
-}
-
-/// The edit of the words behind `output`, where `-` is no wire.
-fn output_edit(alloc: Global, words: &[&[u8]]) -> Result<SingleEdit, LineError>
-    requires { AreAscii words.now }
-    ensures { Gives OutOfMemory (λ edit. edit) result (output_edit (texts words.now)) }
-{
-    let [part, port, wire] = words else {
-        return Err(LineError::WordCount);
-    };
-    Ok(SingleEdit::RewireOutput {
-        port: number_word(port)?,
-        module: name_of(alloc, part)?,
-        wire: driven_wire(alloc, wire)?,
-    })
+    let port = number_word(port)?;
+    match first {
+        SingleWord::Input => Ok(SingleEdit::RewireInput {
+            port,
+            module: name_of(alloc, part)?,
+            wire: Boxed::new(alloc, name_of(alloc, new)?)?,
+        }),
+        SingleWord::Output => Ok(SingleEdit::RewireOutput {
+            port,
+            module: name_of(alloc, part)?,
+            wire: driven_wire(alloc, new)?,
+        }),
+        SingleWord::InputDelay => Ok(SingleEdit::SetInputDelay {
+            port,
+            delay: number_word(new)?,
+            module: name_of(alloc, part)?,
+        }),
+        _ => Ok(SingleEdit::SetDelay {
+            port,
+            delay: number_word(new)?,
+            module: name_of(alloc, part)?,
+        }),
+    }
 }
 
 /// The wire that is named, in a block of its own, where `-` names none. The error comes where memory is wanting.
@@ -93,36 +85,6 @@ fn driven_wire(alloc: Global, name: &[u8]) -> Result<Option<Boxed<Name>>, AllocE
         Some(wire) => Ok(Some(Boxed::new(alloc, wire)?)),
         None => Ok(None),
     }
-}
-
-/// The edit of the words behind `indelay`.
-fn input_delay_edit(alloc: Global, words: &[&[u8]]) -> Result<SingleEdit, LineError>
-    requires { AreAscii words.now }
-    ensures { Gives OutOfMemory (λ edit. edit) result (input_delay_edit (texts words.now)) }
-{
-    let [part, port, delay] = words else {
-        return Err(LineError::WordCount);
-    };
-    Ok(SingleEdit::SetInputDelay {
-        port: number_word(port)?,
-        delay: number_word(delay)?,
-        module: name_of(alloc, part)?,
-    })
-}
-
-/// The edit of the words behind `delay`.
-fn delay_edit(alloc: Global, words: &[&[u8]]) -> Result<SingleEdit, LineError>
-    requires { AreAscii words.now }
-    ensures { Gives OutOfMemory (λ edit. edit) result (delay_edit (texts words.now)) }
-{
-    let [part, port, delay] = words else {
-        return Err(LineError::WordCount);
-    };
-    Ok(SingleEdit::SetDelay {
-        port: number_word(port)?,
-        delay: number_word(delay)?,
-        module: name_of(alloc, part)?,
-    })
 }
 
 /// The edit of the words behind `clear`.

@@ -28,20 +28,14 @@ impl SingleWord {
     pub fn from_word(word: &[u8]) -> Option<SingleWord>
         ensures { result ≡ single_word word.now }
     {
-        if word == b"remove".as_slice() {
-            Some(SingleWord::Remove)
-        } else if word == b"input".as_slice() {
-            Some(SingleWord::Input)
-        } else if word == b"output".as_slice() {
-            Some(SingleWord::Output)
-        } else if word == b"indelay".as_slice() {
-            Some(SingleWord::InputDelay)
-        } else if word == b"delay".as_slice() {
-            Some(SingleWord::Delay)
-        } else if word == b"clear".as_slice() {
-            Some(SingleWord::Clear)
-        } else {
-            Some(SingleWord::Stated(EditWord::from_word(word)?))
+        match word {
+            _ if word == b"remove".as_slice() => Some(SingleWord::Remove),
+            _ if word == b"input".as_slice() => Some(SingleWord::Input),
+            _ if word == b"output".as_slice() => Some(SingleWord::Output),
+            _ if word == b"indelay".as_slice() => Some(SingleWord::InputDelay),
+            _ if word == b"delay".as_slice() => Some(SingleWord::Delay),
+            _ if word == b"clear".as_slice() => Some(SingleWord::Clear),
+            _ => Some(SingleWord::Stated(EditWord::from_word(word)?)),
         }
     }
 

@@ -1,6 +1,6 @@
 //! The edits of statements.
 ghost use Rattle.std.specs.Prelude.{◌≡◌, ◌<◌};
-ghost use Rattle.mp_text.specs.Clauses.{IsAscii, IfSome, length, position, before_first, after_first, OutOfMemory, Gives, texts, AreAscii, stated_edit, wire_edit, parts_edit, module_edit, stimulus_edit, bundle_edit, kind_word, is_mark, AddModule};
+ghost use Rattle.mp_text.specs.Clauses.{IsAscii, IfSome, length, position, before_first, after_first, OutOfMemory, Gives, texts, AreAscii, stated_edit, wire_edit, parts_edit, module_edit, stimulus_edit, bundle_edit, is_mark, AddModule};
 
 use crate::edit_word::EditWord;
 use mp_modules::Kind;
@@ -110,18 +110,12 @@ fn module_of(
         return Err(LineError::WordCount);
     }
     Ok(NewModule {
-        kind: kind_word(kind)?,
+        kind: Kind::from_word(kind).ok_or(LineError::UnknownStatement)?,
         params: Params::new(each_word(alloc, params)?),
         inputs: InputNames::new(each_word(alloc, ins)?),
         outputs: OutputNames::new(each_word(alloc, outs)?),
         name: name_of(alloc, name)?,
     })
-}
-
-fn kind_word(word: &[u8]) -> Result<Kind, LineError>
-    ensures { result ≡ kind_word word.now }
-{
-    Kind::from_word(word).ok_or(LineError::UnknownStatement)
 }
 
 /// The words before and behind the first that is this byte alone: all and none where there is none.

@@ -1,5 +1,5 @@
 //! What a line makes of a netlist.
-#![tactic(auto, unfolding(crate::specs::Texts::after_line, crate::specs::Statements::statement_of, crate::specs::Texts::after_statement))]
+#![tactic(auto, using(mp_words::proofs::WordLemmas::rest_ascii), unfolding(crate::specs::Texts::after_line, crate::specs::Statements::statement_of, crate::specs::Texts::after_statement))]
 
 ghost use Rattle.std.specs.Prelude.{◌≡◌};
 ghost use Rattle.mp_text.specs.Clauses.{result_map_both, OutOfMemory, max_horizon, after_single, Gives, texts, AreAscii, Line, Refused, Open, stated_number, stated_edit, module_edit, AddModule, Format, Start, Change, statement_of, begun, after_statement, after_line};

@@ -24,14 +24,11 @@ impl TextFormat {
     pub fn of(number: u64) -> Result<TextFormat, TextCode>
         ensures { result ≡ format_of number }
     {
-        if number == 1 {
-            Ok(TextFormat::First)
-        } else if number == 2 {
-            Ok(TextFormat::Second)
-        } else if number == 3 {
-            Ok(TextFormat::Third)
-        } else {
-            Err(TextCode::BadFormat)
+        match number {
+            1 => Ok(TextFormat::First),
+            2 => Ok(TextFormat::Second),
+            3 => Ok(TextFormat::Third),
+            _ => Err(TextCode::BadFormat),
         }
     }
 
