@@ -1,3 +1,4 @@
 pub mod AskedWireLemmas
 pub mod PictureLemmas
 pub mod OutputLemmas
+pub mod SpanLemmas

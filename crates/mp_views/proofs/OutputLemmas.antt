@@ -1,5 +1,5 @@
 -- The lines of waves, one after the other.
-use Rattle.std.proofs.Common.{◌≡◌, ℕ, ◌+◌, ◌-◌, ◌≤◌, List, [], ◌++◌, append_assoc, length, Option, Some, zero, suc, refl, sym, ap, ◌∙◌, add-one, add-zero, add-suc, arith}
+use Rattle.std.proofs.Common.{◌≡◌, ℕ, ◌+◌, ◌-◌, ◌≤◌, List, [], ◌++◌, append_assoc, length, Option, Some, zero, suc, refl, sym, ap, ◌∙◌, add-zero, add-suc, arith}
 use Rattle.std.proofs.lemmas.List.{append-nil}
 use Rattle.mp_wave.specs.Waveform.{Waveform}
 use Rattle.mp_records.specs.declared.wire_record.WireRecord.{WireRecord}
@@ -7,7 +7,7 @@ use Rattle.mp_netlist.specs.Circuit.{Circuit, wire_at}
 use Rattle.mp_netlist.specs.Slots.{slot_at}
 use Rattle.mp_model.specs.Waves.{wave, slot_wave, AreWavesOf}
 use Rattle.mp_words.specs.WaveLines.{wave_line}
-use Rattle.mp_views.specs.Outputs.{slot_line, lines_below, waves_text}
+use Rattle.mp_views.specs.Outputs.{slot_line, lines_below, lines_from, lines_between, waves_text}
 
 -- ---- the wave of a wire that stands
 
@@ -23,27 +23,58 @@ line_of_wave n w waves r v given stands found =
 
 -- ---- lines after lines
 
-pub lines_below-zero : (n : Circuit) → lines_below n 0 ≡ []
-unfolding lines_below
-lines_below-zero n = refl
+abbrev pub line_at : Circuit → ℕ → List ℕ
+line_at n w = slot_line (wire_at n w) (wave n w)
 
-lines_below-suc : (n : Circuit) (w : ℕ) → lines_below n (suc w) ≡ lines_below n w ++ slot_line (wire_at n w) (wave n w)
-unfolding lines_below
-lines_below-suc n w = refl
+lines_from-zero : (n : Circuit) (first : ℕ) → lines_from n first 0 ≡ []
+unfolding lines_from
+lines_from-zero n first = refl
 
-pub lines_below-next : (n : Circuit) (w : ℕ) → lines_below n (w + 1) ≡ lines_below n w ++ slot_line (wire_at n w) (wave n w)
-lines_below-next n w = rw add-one (lines_below-suc n w)
+lines_from-suc : (n : Circuit) (first d : ℕ) → lines_from n first (suc d) ≡ lines_from n first d ++ line_at n (first + d)
+unfolding lines_from
+lines_from-suc n first d = refl
 
-lines_below-add : (n : Circuit) (k d : ℕ) → (rest : List ℕ) × (lines_below n (k + d) ≡ lines_below n k ++ rest)
-lines_below-add n k zero = ([], ap (lines_below n) (add-zero k) ∙ sym (append-nil (lines_below n k)))
-lines_below-add n k (suc d) =
-    let before = lines_below-add n k d in
-    let line = slot_line (wire_at n (k + d)) (wave n (k + d)) in
-    (before.0 ++ line, ap (lines_below n) (add-suc k d) ∙ lines_below-suc n (k + d) ∙ ap (λ l. l ++ line) before.1 ∙ append_assoc (lines_below n k) before.0 line)
+lines_from-then : (n : Circuit) (first d e : ℕ) → lines_from n first (d + e) ≡ lines_from n first d ++ lines_from n (first + d) e
+lines_from-then n first d zero =
+    ap (lines_from n first) (add-zero d) ∙ sym (append-nil (lines_from n first d)) ∙ ap (λ l. lines_from n first d ++ l) (sym (lines_from-zero n (first + d)))
+lines_from-then n first d (suc e) =
+    let front = lines_from n first d in
+    let place : first + (d + e) ≡ first + d + e = omega arith in
+    ap (lines_from n first) (add-suc d e) ∙ lines_from-suc n first (d + e)
+    ∙ ap (λ l. l ++ line_at n (first + (d + e))) (lines_from-then n first d e)
+    ∙ append_assoc front (lines_from n (first + d) e) (line_at n (first + (d + e)))
+    ∙ ap (λ w. front ++ (lines_from n (first + d) e ++ line_at n w)) place
+    ∙ ap (λ l. front ++ l) (sym (lines_from-suc n (first + d) e))
 
--- the lines below a number are the front of all
-pub lines_below-front : (n : Circuit) (k : ℕ) → k ≤ length n.wires → (rest : List ℕ) × (waves_text n ≡ lines_below n k ++ rest)
-lines_below-front n k within =
-    let over = lines_below-add n k (length n.wires - k) in
-    let all : k + (length n.wires - k) ≡ length n.wires = omega arith in
-    (over.0, ap (lines_below n) (sym all) ∙ over.1)
+lines_below-from : (n : Circuit) (k : ℕ) → lines_below n k ≡ lines_from n 0 k
+unfolding lines_below lines_from
+lines_below-from n zero = refl
+lines_below-from n (suc k) =
+    let place : k ≡ 0 + k = omega arith in
+    ap (λ l. l ++ line_at n k) (lines_below-from n k) ∙ ap (λ w. lines_from n 0 k ++ line_at n w) place
+
+-- ---- the lines from one number to before another
+
+pub lines-none : (n : Circuit) (from : ℕ) → lines_between n from from ≡ []
+lines-none n from =
+    let none : from - from ≡ 0 = omega arith in
+    ap (lines_from n from) none ∙ lines_from-zero n from
+
+pub lines-next : (n : Circuit) (from w : ℕ) → from ≤ w → lines_between n from (w + 1) ≡ lines_between n from w ++ line_at n w
+lines-next n from w least =
+    let count : w + 1 - from ≡ suc (w - from) = omega arith in
+    let place : from + (w - from) ≡ w = omega arith in
+    ap (lines_from n from) count ∙ lines_from-suc n from (w - from) ∙ ap (λ v. lines_between n from w ++ line_at n v) place
+
+pub lines-then : (n : Circuit) (a b c : ℕ) → a ≤ b → b ≤ c → lines_between n a c ≡ lines_between n a b ++ lines_between n b c
+lines-then n a b c low high =
+    let count : c - a ≡ b - a + (c - b) = omega arith in
+    let place : a + (b - a) ≡ b = omega arith in
+    ap (lines_from n a) count ∙ lines_from-then n a (b - a) (c - b) ∙ ap (λ v. lines_between n a b ++ lines_from n v (c - b)) place
+
+pub lines-all : (n : Circuit) → waves_text n ≡ lines_between n 0 (length n.wires)
+lines-all n =
+    let count : length n.wires ≡ length n.wires - 0 = omega arith in
+    lines_below-from n (length n.wires) ∙ ap (lines_from n 0) count
+
+pub ruleset all_lines = (lines-all)

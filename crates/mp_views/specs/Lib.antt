@@ -3,3 +3,5 @@ pub mod Outputs
 pub mod AskedWires
 pub mod Pictures
 pub mod Chains
+pub mod WireSpans
+pub mod LineBuffers

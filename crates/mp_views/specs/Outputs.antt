@@ -1,5 +1,5 @@
 -- The lines of waves.
-use Rattle.std.specs.Prelude.{ℕ, List, [], ◌++◌, length, Option, Some, None, zero, suc}
+use Rattle.std.specs.Prelude.{ℕ, ◌+◌, ◌-◌, List, [], ◌++◌, length, Option, Some, None, zero, suc}
 use Rattle.mp_wave.specs.Waveform.{Waveform}
 use Rattle.mp_records.specs.declared.wire_record.WireRecord.{WireRecord}
 use Rattle.mp_netlist.specs.Circuit.{Circuit, wire_at}
@@ -19,3 +19,12 @@ lines_below n (suc w) = lines_below n w ++ slot_line (wire_at n w) (wave n w)
 -- the lines of all wires that stand, by number
 abbrev pub waves_text : Circuit → List ℕ
 waves_text n = lines_below n (length n.wires)
+
+-- the lines of so many wires from a number on
+unfoldable pub lines_from : Circuit → ℕ → ℕ → List ℕ
+lines_from n first zero = []
+lines_from n first (suc d) = lines_from n first d ++ slot_line (wire_at n (first + d)) (wave n (first + d))
+
+-- the lines of the wires with the numbers from one to before another
+abbrev pub lines_between : Circuit → ℕ → ℕ → List ℕ
+lines_between n from to = lines_from n from (to - from)

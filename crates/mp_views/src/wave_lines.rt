@@ -1,11 +1,12 @@
 //! The lines of a netlist's waves.
-ghost use Rattle.std.specs.Prelude.{◌≡◌, []};
+ghost use Rattle.std.specs.Prelude.{◌≡◌, ◌≤◌, []};
 ghost use Rattle.mp_netlist.specs.Circuit.{wire_at};
 ghost use Rattle.mp_model.specs.Waves.{wave};
 ghost use Rattle.mp_streams.specs.Outgoing.{Writes};
-ghost use Rattle.mp_views.specs.Outputs.{slot_line, waves_text};
+ghost use Rattle.mp_views.specs.Outputs.{slot_line, lines_between, waves_text};
 
 use crate::evaluated::Evaluated;
+use crate::shared_lines::put_shared_lines;
 use crate::view::View;
 use mp_netlist::{Netlist, WireId};
 use mp_streams::{Failed, Out, Sink, Text, WriteError};
@@ -50,20 +51,34 @@ impl View for WaveLines {
 
     fn put<R: Threads + Sync, T: Sink>(
         &self,
-        _rt: &R,
-        _alloc: Global,
+        rt: &R,
+        alloc: Global,
         out: &mut Out<T>,
         of: &Evaluated<'_>,
     ) -> Result<(), WriteError> {
-        Ok(put_wave_lines(out, of)?)
+        Ok(put_shared_lines(rt, alloc, out, of)?)
     }
 }
 
 /// Writes the line of each wire that stands, by number.
+#[tactic(auto, using(crate::proofs::OutputLemmas::all_lines))]
 pub fn put_wave_lines<T: Sink>(out: &mut Out<T>, of: &Evaluated<'_>) -> Result<(), Failed>
     ensures { Writes result out.old out.new (waves_text of.now.netlist.now) }
 {
-    for number in 0..of.netlist.wire_slots() {
+    put_lines(out, of, 0, of.netlist.wire_slots())
+}
+
+/// Writes the line of each wire that stands with a number from one to before another, by number. `Failed` is as that of `Out::put_bytes`.
+pub(crate) fn put_lines<T: Sink>(
+    out: &mut Out<T>,
+    of: &Evaluated<'_>,
+    from: u32,
+    to: u32,
+) -> Result<(), Failed>
+    requires { from ≤ to }
+    ensures { Writes result out.old out.new (lines_between of.now.netlist.now from to) }
+{
+    for number in from..to {
         put_wave_line(out, of, WireId(number))?;
     }
     Ok(())
