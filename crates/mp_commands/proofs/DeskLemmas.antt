@@ -1,9 +1,8 @@
 -- The blocks of an input, and the lines of a meeting.
 use Rattle.std.specs.Prelude.{◌≡◌, ◌+◌, ◌<◌, ◌∷◌, ◌++◌}
-use Rattle.mp_commands.proofs.Names.{ℕ, true, false, List, [], length, drop, slice_index_or, Result, Ok, Err, IsErr, IsOk, refl, sym, ap, subst, ◌∙◌, length-map, drop_more, Failed, Left, left_as, left_then, left_failed, writes_failed, Circuit, replay, lines_of, parts_of, later_parts, are_divided, lines_of_each, Story, present, blocks_of, met_text, IsDeskText, run_fault_of, lines_from, Outgoing}
+use Rattle.mp_commands.proofs.Names.{ℕ, true, List, [], length, drop, slice_index_or, Result, Ok, Err, IsErr, IsOk, refl, sym, ap, subst, ◌∙◌, length-map, drop_all, drop_more, Failed, left_none, left_whole, Left, left_as, left_then, left_failed, writes_failed, Circuit, replay, lines_of, lines_of_each, Story, present, blocks_of, met_text, IsDeskText, run_fault_of, lines_from, Outgoing}
 use Rattle.std.specs.Borrow.{Bor}
 use Rattle.mp_streams.specs.Outgoing.{Writes}
-use Rattle.mp_words.proofs.PartLemmas.{parts_of-split, parts_of-one}
 use Rattle.mp_meeting.specs.declared.tally.Tally.{Tally}
 use Rattle.mp_meeting.specs.declared.meeting_fault.MeetingFault.{MeetingFault}
 use Rattle.mp_meeting.specs.declared.meeting_fault.MeetingFault.TheVariants.{OutOfMemory, NoPlace}
@@ -27,15 +26,9 @@ module _ {S X : Type 0} (line : ℕ → X → List ℕ) (a b c : Outgoing S) (xs
       → Left (lines_from line 1 xs) a b (lines_from line (k + 1) (drop k xs)) → (r : Result (Unit {0}) Failed) → IsErr r → Writes r a c (lines_from line 1 xs)
   line_failed {error = error} put here within left r is = left_failed (lines_from line (k + 1 + 1) (drop (k + 1) xs)) (left_as (next_line within here) left) r is (writes_failed r is put)
 
--- ---- the blocks
+pub ruleset put_lines_steps = (left_whole, left_none, drop_all)
 
-pub blocks_of-none : (input : List ℕ) → are_divided (lines_of input) ≡ false → blocks_of input ≡ []
-blocks_of-none input undivided = ap (λ (l : List (List (List ℕ))). drop 1 l) (parts_of-one (lines_of input) undivided)
-
-pub blocks_of-some : (input : List ℕ) → are_divided (lines_of input) ≡ true → blocks_of input ≡ parts_of (later_parts (lines_of input))
-blocks_of-some input divided = ap (λ (l : List (List (List ℕ))). drop 1 l) (parts_of-split (lines_of input) divided)
-
--- there are so many of them
+-- there are so many blocks
 pub blocks_count : (input : List ℕ) (blocks : List (Bor (List ℕ))) (n : ℕ) → n ≡ length blocks → lines_of_each blocks ≡ blocks_of input → n ≡ length (blocks_of input)
 blocks_count input blocks n same are = same ∙ sym (length-map blocks (λ text. lines_of text.now)) ∙ ap length are
 

@@ -59,6 +59,7 @@ fn desk_crew(options: &Options, designers: usize) -> Option<(Crew, DeskSize)>
 }
 
 /// The netlist's part of an input, and the blocks.
+#[tactic(auto, using(mp_words::proofs::PartLemmas::part_steps))]
 fn split(alloc: Global, input: &[u8]) -> Result<(&[u8], Vec<&[u8]>), AllocError>
     ensures short { IfOk result (λ both. length both.0.now ≤ length input.now) }
     ensures front { IfOk result (λ both. lines_of both.0.now ≡ first_part (lines_of input.now)) }

@@ -58,6 +58,7 @@ impl NumberedLine for u32 {
 }
 
 /// Writes the line of each, counted from 1.
+#[tactic(auto, using(crate::proofs::DeskLemmas::put_lines_steps))]
 fn put_lines<L: NumberedLine, T: Sink>(out: &mut Out<T>, things: &[L]) -> Result<(), Failed>
     ensures { Writes result out.old out.new (lines_from L.line 1 things.now) }
 {

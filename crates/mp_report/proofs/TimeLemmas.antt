@@ -1,7 +1,8 @@
 -- What is told over a run of times.
 use Rattle.std.specs.Prelude.{◌≡◌, ◌+◌, ◌<◌, ◌≤◌, ◌∷◌, ◌++◌}
-use Rattle.mp_report.proofs.Names.{ℕ, List, [], flat_map, zero, suc, refl, ap, ◌∙◌, append-nil, arith, range_with_len}
+use Rattle.mp_report.proofs.Names.{ℕ, List, [], flat_map, zero, suc, refl, ap, ◌∙◌, append-nil, append_assoc, arith, range_with_len}
 use Rattle.std.proofs.lemmas.Grind.{flat_map-append}
+use Rattle.std.proofs.lemmas.List.FromFn.{map-range_with_len_more}
 
 pub times_more : (a n : ℕ) → range_with_len a (n + 1) ≡ range_with_len a n ++ (a + n) ∷ []
 times_more a zero = grind arith
@@ -35,3 +36,5 @@ module _ {X : Type 0} (told : ℕ → List X) where
   pub told_same_from : (other : ℕ → List X) (a n : ℕ) → ((t : ℕ) → a ≤ t → t < a + n → told t ≡ other t) → flat_map told (range_with_len a n) ≡ flat_map other (range_with_len a n)
   told_same_from other a zero same = refl
   told_same_from other a (suc n) same = grind (arith, (told_same_from other (a + 1) n (λ t low high. same t (omega (arith, low)) (omega (arith, high)))))
+
+pub ruleset places_steps = (map-range_with_len_more, append_assoc)
