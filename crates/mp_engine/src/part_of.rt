@@ -3,8 +3,9 @@
 use mp_letters::{Mail, Subject, Window};
 use mp_merging::PartRun;
 use mp_netlist::Netlist;
+use mp_parting::Part;
 use mp_phase::Gate;
-use mp_region_runs::RegionRun;
+use mp_region_runs::{Halt, RegionRun};
 use mp_regions::{Division, Region, heard_by};
 use std::alloc::{AllocError, Global};
 use std::sync::Wait;
@@ -16,6 +17,7 @@ pub(crate) struct PartOf<'a> {
     pub netlist: &'a Netlist,
     pub division: &'a Division,
     pub part: u32,
+    pub halt: &'a Halt,
 }
 
 impl<'a> Promise<Result<PartRun, AllocError>> for PartOf<'a> {
@@ -44,13 +46,21 @@ impl<'a> PartOf<'a> {
             netlist,
             division,
             part,
+            halt,
         } = self;
         let horizon = netlist.horizon();
         let span = division.delay;
         let heard = heard_by(division.heard.as_slice(), part);
         let region = Region::new(netlist, division.homes.as_slice(), part, heard);
-        let mut run = RegionRun::begin(rt, alloc, netlist, &region, gate)?;
-        let mut from = 1;
+        let it = Part {
+            netlist,
+            homes: division.homes.as_slice(),
+            heard,
+            part,
+            parts: division.parts,
+        };
+        let mut run = RegionRun::resume(alloc, &it, halt)?;
+        let mut from = halt.known.time;
         while from < horizon {
             let until = from.saturating_add(span).min(horizon);
             let window = Window { from, until };

@@ -6,7 +6,7 @@ use crate::evaluation::run_of;
 use mp_evaluation::Run;
 use mp_netlist::Netlist;
 use mp_phase::Gate;
-use mp_region_runs::RegionRun;
+use mp_region_runs::{Halt, RegionRun};
 use mp_regions::Region;
 use std::alloc::{AllocError, Global};
 use std::sync::Wait;
@@ -17,6 +17,13 @@ const FIRST_LOOK: u32 = 32;
 /// So often it is looked at, each time after twice as many units as before.
 const LOOKS: u32 = 4;
 
+/// What one thread makes of a netlist: its run, or what has run before a time, where enough happens.
+#[derive(Drop)]
+pub(crate) enum Begun {
+    Over(Run),
+    Busy(Halt),
+}
+
 /// What one thread makes of a netlist. Nothing, where at one of some early times at least so many modules fired a window since the
 /// time before: then it is given up.
 pub(crate) fn run_quiet<R: Wait, G: Gate>(
@@ -26,8 +33,7 @@ pub(crate) fn run_quiet<R: Wait, G: Gate>(
     gate: &G,
     delay: u32,
     least: u32,
-) -> Result<Option<Run>, AllocError>
-    ensures { IfOk result (λ found. IfSome found (IsRun netlist.now)) }
+) -> Result<Begun, AllocError>
 {
     let horizon = netlist.horizon();
     let region = Region::whole(netlist);
@@ -37,14 +43,14 @@ pub(crate) fn run_quiet<R: Wait, G: Gate>(
     for _look in 0..LOOKS {
         let fired = run.run_units(rt, &region, gate, from, to)?;
         if is_busy(fired, to - from, delay, least) {
-            return Ok(None);
+            return Ok(Begun::Busy(run.halt(alloc, netlist, to)?));
         }
         from = to;
         to = to.saturating_mul(2).min(horizon);
     }
     run.run_units(rt, &region, gate, from, horizon)?;
     let run = run.finish(alloc, &region)?;
-    Ok(Some(run_of(horizon, run)))
+    Ok(Begun::Over(run_of(horizon, run)))
 }
 
 /// Whether so often modules fired in some units that it is at least so often a window on average, where a window has as many units as this

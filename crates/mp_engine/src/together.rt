@@ -9,6 +9,7 @@ use mp_letters::{Lines, Subject};
 use mp_merging::PartRun;
 use mp_netlist::Netlist;
 use mp_phase::{Gate, lookers};
+use mp_region_runs::Halt;
 use mp_regions::Division;
 use std::alloc::{AllocError, Global};
 use std::marker::Brand;
@@ -23,12 +24,13 @@ pub(crate) fn run_together<R: Threads + Wait + Sync, G: Gate + Sync>(
     netlist: &Netlist,
     gate: &G,
     division: &Division,
+    halt: &Halt,
 ) -> Result<Option<Vec<PartRun>>, AllocError>
     requires division { IsDivision netlist.now division.now.homes.items division.now.wires.items division.now.heard.items division.now.parts }
     requires crossing { IsCrossing netlist.now division.now.heard.items division.now.delay }
     ensures { IfOk result (λ found. IfSome found (λ runs. AreRuns netlist.now division.now.homes.items division.now.heard.items division.now.parts runs.items)) }
 {
-    run_apart::<Brand, R, G>(rt, alloc, netlist, gate, division)
+    run_apart::<Brand, R, G>(rt, alloc, netlist, gate, division, halt)
 }
 
 /// The same, where letters are about the netlist as it is divided.
@@ -38,6 +40,7 @@ fn run_apart<J: Subject + Send + Sync, R: Threads + Wait + Sync, G: Gate + Sync>
     netlist: &Netlist,
     gate: &G,
     division: &Division,
+    halt: &Halt,
 ) -> Result<Option<Vec<PartRun>>, AllocError>
     requires division { IsDivision netlist.now division.now.homes.items division.now.wires.items division.now.heard.items division.now.parts }
     requires crossing { IsCrossing netlist.now division.now.heard.items division.now.delay }
@@ -51,6 +54,7 @@ fn run_apart<J: Subject + Send + Sync, R: Threads + Wait + Sync, G: Gate + Sync>
         netlist,
         division,
         part: 0,
+        halt,
     };
     thread::scope(
         thread::scope_env(),

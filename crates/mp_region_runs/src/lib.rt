@@ -6,4 +6,4 @@ mod marks;
 mod region_run;
 mod state_history;
 
-pub use region_run::RegionRun;
+pub use region_run::{Halt, RegionRun};

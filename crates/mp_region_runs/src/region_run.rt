@@ -15,6 +15,7 @@ use mp_merging::PartRun;
 use mp_model::Waves;
 use mp_modules::Memory;
 use mp_netlist::{ModuleId, Netlist};
+use mp_parting::{Known, Part, known_before, simulation_before};
 use mp_phase::Gate;
 use mp_regions::Region;
 use mp_run::{HeardChanges, Stimuli, StimulusChange, begin, found_waves};
@@ -28,6 +29,14 @@ pub struct RegionRun {
     pub simulation: NetlistSimulation,
     stimuli: Stimuli,
     heard: HeardChanges,
+    history: StateHistory,
+}
+
+/// Where the run of a whole netlist has stopped: what is known of it, what stimuli set later, and the states that are kept.
+#[derive(Drop)]
+pub struct Halt {
+    pub known: Known,
+    stimuli: Stimuli,
     history: StateHistory,
 }
 
@@ -123,6 +132,32 @@ impl RegionRun {
         Ok(fired)
     }
 
+    /// The run stops before the unit of a time.
+    pub fn halt(self, alloc: Global, netlist: &Netlist, time: u32) -> Result<Halt, AllocError> {
+        let RegionRun {
+            simulation,
+            stimuli,
+            history,
+            ..
+        } = self;
+        let known = known_before(alloc, netlist, simulation, time)?;
+        Ok(Halt {
+            known,
+            stimuli,
+            history,
+        })
+    }
+
+    /// The run of a part that goes on where that of the whole has stopped. Nothing is heard yet.
+    pub fn resume(alloc: Global, part: &Part<'_>, halt: &Halt) -> Result<RegionRun, AllocError> {
+        Ok(RegionRun {
+            simulation: simulation_before(alloc, part, &halt.known)?,
+            stimuli: left(alloc, &halt.stimuli)?,
+            heard: HeardChanges::of(Vec::new(alloc)),
+            history: halt.history.part(alloc, part.homes, part.part)?,
+        })
+    }
+
     /// What a run gives whose units are all over.
     pub fn finish(self, alloc: Global, region: &Region<'_>) -> Result<PartRun, AllocError>
         requires simulated { IsSimulated region.now (region.now.horizon - 1) self.simulation }
@@ -213,4 +248,18 @@ fn shared(
         Some(_) => Ok(Some(Arc::new(alloc, checkpoints)?)),
         None => Ok(None),
     }
+}
+
+/// What stimuli change that is still to come.
+fn left(alloc: Global, stimuli: &Stimuli) -> Result<Stimuli, AllocError> {
+    let mut list = Vec::new(alloc);
+    for place in stimuli.place..stimuli.list.len() {
+        list.push(stimuli.list[place])?;
+    }
+    Ok(Stimuli {
+        list,
+        place: 0,
+        bits: Vec::new(alloc),
+        levels: Vec::new(alloc),
+    })
 }

@@ -9,7 +9,7 @@ use crate::marks::no_marks;
 use mp_evaluation::{Checkpoint, Checkpoints};
 use mp_modules::EventModule;
 use mp_netlist::{ModuleId, checkpoint_units};
-use mp_regions::Region;
+use mp_regions::{Region, home_of};
 use mp_units::NetlistSimulation;
 use std::alloc::{AllocError, Global};
 
@@ -39,6 +39,31 @@ impl StateHistory {
             mark(&mut marks, &mut list, ModuleId(m))?;
         }
         let kept = first_states(alloc, netlist)?;
+        Ok(StateHistory { marks, list, kept })
+    }
+
+    /// What is kept of the modules that are at home in a part.
+    pub(crate) fn part(
+        &self,
+        alloc: Global,
+        homes: &[u32],
+        part: u32,
+    ) -> Result<StateHistory, AllocError> {
+        let mut marks = no_marks(alloc, self.marks.len() as u32)?;
+        let mut list = Vec::new(alloc);
+        for id in self.list.as_slice() {
+            if home_of(homes, id.0) == part {
+                mark(&mut marks, &mut list, *id)?;
+            }
+        }
+        let mut kept = Vec::with_capacity(alloc, self.kept.len())?;
+        for m in 0..self.kept.len() {
+            let mut copy = Checkpoints::new(alloc);
+            if home_of(homes, m as u32) == part {
+                copy.follow(&self.kept[m], 0, u32::MAX)?;
+            }
+            kept.push(copy)?;
+        }
         Ok(StateHistory { marks, list, kept })
     }
 
