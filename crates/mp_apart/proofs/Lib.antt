@@ -1,0 +1,4 @@
+pub mod PartLemmas
+pub mod PartLevelLemmas
+mod SameModuleLemmas
+pub mod PartWorkLemmas

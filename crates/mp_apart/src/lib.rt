@@ -1,0 +1,4 @@
+//! Netlists in parts that no wire connects.
+#![tactic(auto)]
+
+pub mod laws;
