@@ -1,4 +1,4 @@
-//! The run of a netlist that was evaluated again, and the work.
+//! The run of a netlist that was evaluated again, and the stretches of work.
 ghost use Rattle.std.specs.Prelude.{◌≡◌, ◌<◌, ◌≤◌, Some, IfOk, IsSome, length, map, option_map};
 ghost use Rattle.std.specs.Arc.{arc_value};
 ghost use Rattle.mp_netlist.specs.Circuit.{wire_at};
@@ -25,29 +25,29 @@ use mp_modules::Memory;
 use mp_netlist::{ModuleId, WireId, WireRecord};
 use mp_units::{DataWires, NetlistSimulation};
 use mp_wave::{ToggleWave, Wave, WaveBuilder};
-use mp_work::Work;
+use mp_work::Stretch;
 use std::alloc::{AllocError, Global};
 use std::sync::Arc;
 
 impl Rerun {
     ghost use Rattle.std.specs.Prelude.{◌≡◌, IfOk};
     ghost use Rattle.mp_evaluation.specs.Runs.{IsRun};
-    ghost use Rattle.mp_work.specs.Work.{IsWork};
+    ghost use Rattle.mp_work.specs.Stretches.{AreStretches};
     ghost use Rattle.mp_rerun.specs.Reruns.{IsChange};
     ghost use Rattle.mp_rerun.specs.Settling.{HasEnded};
 
-    /// The run and the work, where all units before an end are over. From then on the rest is that of the old run. What is the old run's is
-    /// shared.
+    /// The run and all stretches of work, where all units before an end are over. From then on the rest is that of the old run. What is the
+    /// old run's is shared.
     pub(crate) fn finish(
         self,
         alloc: Global,
         change: &Change<'_>,
         end: u32,
-    ) -> Result<(Run, Work), AllocError>
+    ) -> Result<(Run, Vec<Stretch>), AllocError>
         requires change { IsChange change.now }
         requires over { HasEnded change.now.old.now change.now.new.now change.now.run.now end self }
         ensures run { IfOk result (λ both. IsRun change.now.new.now both.0) }
-        ensures work { IfOk result (λ both. IsWork change.now.old.now change.now.new.now both.1) }
+        ensures stretches { IfOk result (λ both. AreStretches change.now.old.now change.now.new.now both.1.items) }
     {
         excerpts_are_circuits();
         excerpts_show();
@@ -67,7 +67,7 @@ impl Rerun {
         let waves = all_waves(alloc, change, simulation, sources.as_slice(), end)?;
         let Finished { kept, stretches } = history.finish(alloc, change.run, change.new)?;
         let run = Run::new(change.new.horizon(), Waves::new(waves), ends, kept);
-        Ok((run, Work::of_change(change.old, change.new, stretches)))
+        Ok((run, stretches))
     }
 }
 

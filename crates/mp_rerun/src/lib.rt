@@ -31,4 +31,4 @@ mod turning_on;
 mod unit;
 mod window;
 
-pub use redoing::redo;
+pub use redoing::{redo, redo_stretches};

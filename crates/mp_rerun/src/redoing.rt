@@ -2,6 +2,7 @@
 ghost use Rattle.std.specs.Prelude.{◌≡◌, IfOk};
 ghost use Rattle.mp_evaluation.specs.Runs.{IsRun};
 ghost use Rattle.mp_work.specs.Revisions.{IsRevision};
+ghost use Rattle.mp_work.specs.Stretches.{AreStretches};
 ghost use Rattle.mp_work.specs.Work.{IsWork};
 
 use crate::change::Change;
@@ -9,7 +10,7 @@ use crate::rerun::Rerun;
 use mp_evaluation::Run;
 use mp_netlist::Netlist;
 use mp_phase::{Crew, Gate};
-use mp_work::Work;
+use mp_work::{Stretch, Work};
 use std::alloc::{AllocError, Global};
 use std::sync::Wait;
 use std::thread::Threads;
@@ -33,6 +34,25 @@ pub fn redo<R: Threads + Wait + Sync, G: Gate + Sync>(
     requires run { IsRun old.now run.now }
     ensures run { IfOk result (λ both. IsRun new.now both.0) }
     ensures work { IfOk result (λ both. IsWork old.now new.now both.1) }
+{
+    let (run, stretches) = redo_stretches(rt, alloc, old, run, new, crew, gate)?;
+    Ok((run, Work::of_change(old, new, stretches)))
+}
+
+/// The same run, and the work as all its stretches, in no order.
+pub fn redo_stretches<R: Threads + Wait + Sync, G: Gate + Sync>(
+    rt: &R,
+    alloc: Global,
+    old: &Netlist,
+    run: &Run,
+    new: &Netlist,
+    crew: &Crew,
+    gate: &G,
+) -> Result<(Run, Vec<Stretch>), AllocError>
+    requires revision { IsRevision old.now new.now }
+    requires run { IsRun old.now run.now }
+    ensures run { IfOk result (λ both. IsRun new.now both.0) }
+    ensures stretches { IfOk result (λ both. AreStretches old.now new.now both.1.items) }
 {
     // Their contracts tell that the netlists are well formed.
     let _old_horizon = old.horizon();

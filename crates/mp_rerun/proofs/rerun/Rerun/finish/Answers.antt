@@ -74,8 +74,8 @@ finish-requires c =
     subst (λ (it : Remains). IsOver new run it.history) (sym c.remains_of-simulation.ensures)
     (history_over old new run (λ m. block) new.horizon (active_of c.args.self) c.args.self.history history (λ m b border less. last_block new b border less))
 
-pub of_change-requires : goal.of_change-requires
-of_change-requires c =
+pub returns-clause-stretches : goal.returns-clause-stretches
+returns-clause-stretches c =
     let change = c.args.change.now in
     let old = change.old.now in
     let new = change.new.now in
