@@ -5,8 +5,8 @@ use crate::prepared::Prepared;
 use mp_engine::evaluate;
 use mp_evaluation::Run;
 use mp_netlist::{Edit, EditError, Netlist};
+use mp_parts::redo;
 use mp_phase::{Crew, Gate};
-use mp_rerun::redo;
 use mp_version::{MAX_EDITS, Version};
 use mp_work::Work;
 use mp_work::laws::edits_revise;
@@ -16,7 +16,8 @@ use std::sync::{Arc, Wait};
 use std::thread::Threads;
 
 /// A netlist and the edits that were accepted on it: its present version with its run, a crew, and the gate that modules pass. The first run
-/// is computed on the threads of the crew. An edit's run is computed from the run before it, on the calling thread alone.
+/// is computed on the threads of the crew. An edit's run is computed from the run before it, by the crew where it reaches much in parts that no
+/// wire connects.
 #[derive(Drop)]
 pub struct Session<G: Gate> {
     alloc: Global,

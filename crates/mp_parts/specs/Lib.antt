@@ -1,0 +1,5 @@
+pub mod Partitions
+pub mod Changes
+pub mod Redone
+pub mod Drivers
+pub mod Removals

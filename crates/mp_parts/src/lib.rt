@@ -1,0 +1,17 @@
+//! A change of a netlist is evaluated again part by part, where the netlist falls into groups of modules that no wire connects.
+#![tactic(auto)]
+
+mod change;
+mod driven;
+mod least;
+mod part;
+mod part_netlist;
+mod part_run;
+mod partition;
+mod reached;
+mod redoing;
+mod redone;
+mod together;
+mod whole_run;
+
+pub use redoing::redo;

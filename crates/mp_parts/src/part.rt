@@ -1,0 +1,47 @@
+//! A part of a netlist that has changed, as a thread of its own evaluates it again.
+
+use crate::change::Change;
+use crate::part_netlist::part_netlist;
+use crate::part_run::part_run;
+use crate::redone::Redone;
+use mp_phase::{Crew, Gate};
+use mp_rerun::redo_stretches;
+use std::alloc::{AllocError, Global};
+use std::sync::Wait;
+use std::thread::Threads;
+
+/// A part of a netlist that has changed, by its number.
+#[derive(Clone, Copy)]
+pub(crate) struct Part<'a> {
+    pub change: Change<'a>,
+    pub number: u32,
+}
+
+impl<'a> Part<'a> {
+    ghost use Rattle.std.specs.Prelude.{IfOk};
+    ghost use Rattle.mp_parts.specs.Changes.{IsChange};
+    ghost use Rattle.mp_parts.specs.Redone.{IsRedone};
+
+    /// What the change makes of the part, on one thread.
+    pub(crate) fn redo<R: Threads + Wait + Sync, G: Gate + Sync>(
+        self,
+        rt: &R,
+        alloc: Global,
+        gate: &G,
+    ) -> Result<Redone, AllocError>
+        requires { IsChange self.change }
+        ensures { IfOk result (IsRedone self.entry.change self.entry.number) }
+    {
+        let Part { change, number } = self;
+        let homes = change.partition.division.homes.as_slice();
+        let old = part_netlist(change.old, homes, number)?;
+        let new = part_netlist(change.new, homes, number)?;
+        let before = part_run(alloc, &change, number)?;
+        let Ok(crew) = Crew::new(1, 1) else {
+            unreachable!()
+        };
+        let found = redo_stretches(rt, alloc, &old, &before, &new, &crew, gate)?;
+        let (run, stretches) = found;
+        Ok(Redone { run, stretches })
+    }
+}

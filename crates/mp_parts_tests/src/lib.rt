@@ -1,0 +1,5 @@
+//! Tests of re-evaluation part by part, by what its crate exports. They are a crate of their own since a crate with tests is proved twice.
+#![tactic(auto)]
+
+#[cfg(test)]
+mod meeting;
