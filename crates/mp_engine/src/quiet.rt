@@ -12,10 +12,10 @@ use std::alloc::{AllocError, Global};
 use std::sync::Wait;
 
 /// The first look comes when one part of so many of the time is over.
-const FIRST_LOOK: u32 = 32;
+const FIRST_LOOK: u32 = 128;
 
 /// So often it is looked at, each time after twice as many units as before.
-const LOOKS: u32 = 4;
+const LOOKS: u32 = 6;
 
 /// What one thread makes of a netlist. Nothing, where at one of some early times at least so many modules fired a window since the
 /// time before: then it is given up.
