@@ -1,10 +1,11 @@
 -- The parts of a divided netlist as tasks.
-use Rattle.std.specs.Prelude.{◌≡◌, ℕ, ◌<◌, List, [], length, slice_index_or}
+use Rattle.std.specs.Prelude.{◌≡◌, ℕ, ◌<◌, Bool, List, [], length, slice_index_or}
 use Rattle.mp_netlist.specs.Circuit.{Circuit}
 use Rattle.mp_regions.specs.Regions.{region}
 use Rattle.mp_engine.specs.declared.part.Part.{Part}
 
--- a task for each part, which hears of nothing
-pub record AreParts (n : Circuit) (homes : List ℕ) (parts : ℕ) (tasks : List Part) : Type 0 where
+-- a task for each part, which hears of nothing, and whether it keeps states
+pub record AreParts (n : Circuit) (homes : List ℕ) (parts : ℕ) (keeps : Bool) (tasks : List Part) : Type 0 where
   pub places : length tasks ≡ parts
   pub each : (k : ℕ) (d : Part) → k < parts → (slice_index_or tasks k d).region ≡ region n homes k []
+  pub same : (k : ℕ) (d : Part) → k < parts → (slice_index_or tasks k d).keeps ≡ keeps

@@ -9,6 +9,7 @@ use Rattle.mp_merging.specs.PartRuns.{IsPartRun, AreRuns}
 use Rattle.mp_letters.specs.declared.letter.Subject.{Ghosts}
 use Rattle.mp_letters.specs.declared.mail.Mail.{Mail}
 use Rattle.mp_engine.specs.declared.part_of.PartOf.{PartOf}
+use Rattle.mp_engine.specs.declared.part_of.Divided.{Divided}
 
 -- the part is one of a netlist that is so divided, about which letters are
 pub record IsPartOf (n : Circuit) (wires : List ℕ) (heards : List (List Bool)) (it : PartOf) : Type 0 where
@@ -29,22 +30,27 @@ module _ {J : Type 0} {subject : Ghosts J} where
 
 -- the run of the part
 abbrev pub IsRunOf : PartOf → PartRun → Type 0
-IsRunOf it run = IsPartRun (region it.netlist.now it.division.now.homes.items it.part (heard_by it.division.now.heard.items it.part)) run
+IsRunOf it run = IsPartRun (region it.netlist.now it.division.now.homes.items it.part (heard_by it.division.now.heard.items it.part)) it.keeps run
 
 -- what all parts give, of which this is one
 abbrev pub ArePartRuns : PartOf → List PartRun → Type 0
-ArePartRuns it runs = AreRuns it.netlist.now it.division.now.homes.items it.division.now.heard.items it.division.now.parts runs
+ArePartRuns it runs = AreRuns it.netlist.now it.division.now.homes.items it.division.now.heard.items it.division.now.parts it.keeps runs
+
+-- what all parts of a netlist that is so divided give
+abbrev pub AreRunsOf : Divided → List PartRun → Type 0
+AreRunsOf it runs = AreRuns it.netlist.now it.division.now.homes.items it.division.now.heard.items it.division.now.parts it.keeps runs
 
 -- it is the part at a place of a list that begins with the last
-pub record IsOther (n : Circuit) (division : Division) (k : ℕ) (it : PartOf) : Type 0 where
+pub record IsOther (n : Circuit) (division : Division) (keeps : Bool) (k : ℕ) (it : PartOf) : Type 0 where
   pub netlist : it.netlist.now ≡ n
   pub division_is : it.division.now ≡ division
+  pub keeps_is : it.keeps ≡ keeps
   pub part : it.part + k + 1 ≡ division.parts
 
-abbrev pub AreOthers : Circuit → Division → List PartOf → Type 0
-AreOthers n division others = (k : ℕ) (d : PartOf) → k < length others → IsOther n division k (slice_index_or others k d)
+abbrev pub AreOthers : Circuit → Division → Bool → List PartOf → Type 0
+AreOthers n division keeps others = (k : ℕ) (d : PartOf) → k < length others → IsOther n division keeps k (slice_index_or others k d)
 
 -- the first part's run, and those that the others promise, are what all parts give
 abbrev pub GiveRuns : PartRun → List PartOf → List PartRun → Type 0
-GiveRuns first others runs = (n : Circuit) (division : Division) → length others + 1 ≡ division.parts
-    → IsPartRun (region n division.homes.items 0 (heard_by division.heard.items 0)) first → AreOthers n division others → AreRuns n division.homes.items division.heard.items division.parts runs
+GiveRuns first others runs = (n : Circuit) (division : Division) (keeps : Bool) → length others + 1 ≡ division.parts
+    → IsPartRun (region n division.homes.items 0 (heard_by division.heard.items 0)) keeps first → AreOthers n division keeps others → AreRuns n division.homes.items division.heard.items division.parts keeps runs

@@ -11,12 +11,13 @@ use mp_regions::Region;
 use std::alloc::{AllocError, Global};
 use std::sync::Wait;
 
-/// A part of a netlist that hears of nothing, to be run up to the horizon, and how many modules are at home in it.
+/// A part of a netlist that hears of nothing, to be run up to the horizon, how many modules are at home in it, and whether states are to be kept.
 #[derive(Drop)]
 pub(crate) struct Part<'a> {
     pub netlist: &'a Netlist,
     pub region: Region<'a>,
     pub size: usize,
+    pub keeps: bool,
     pub ghost stimuli: { HasStimuli netlist.now region [] },
 }
 
@@ -25,7 +26,7 @@ impl<'a> Work for Part<'a> {
 
     type Done = PartRun;
 
-    ghost gives = { λ part run. IsPartRun part.region run };
+    ghost gives = { λ part run. IsPartRun part.region part.keeps run };
 
     fn weight(&self) -> usize {
         self.size
@@ -38,6 +39,6 @@ impl<'a> Work for Part<'a> {
         gate: &G,
     ) -> Result<PartRun, AllocError> {
         let _horizon = self.netlist.horizon();
-        run_region(rt, alloc, self.netlist, &self.region, gate)
+        run_region(rt, alloc, self.netlist, &self.region, gate, self.keeps)
     }
 }

@@ -1,4 +1,4 @@
-//! A part of a netlist as a thread of its own runs it.
+//! A netlist that is divided, and a part of it as a thread of its own runs it.
 
 use mp_letters::{Mail, Subject, Window};
 use mp_merging::PartRun;
@@ -10,12 +10,21 @@ use std::alloc::{AllocError, Global};
 use std::sync::Wait;
 use std::thread::Promise;
 
-/// A part of a netlist that is divided.
+/// A netlist that is divided, and whether states are to be kept of its modules.
+#[derive(Clone, Copy)]
+pub(crate) struct Divided<'a> {
+    pub netlist: &'a Netlist,
+    pub division: &'a Division,
+    pub keeps: bool,
+}
+
+/// A part of a netlist that is divided, and whether states are to be kept of its modules.
 #[derive(Clone, Copy)]
 pub(crate) struct PartOf<'a> {
     pub netlist: &'a Netlist,
     pub division: &'a Division,
     pub part: u32,
+    pub keeps: bool,
 }
 
 impl<'a> Promise<Result<PartRun, AllocError>> for PartOf<'a> {
@@ -44,12 +53,13 @@ impl<'a> PartOf<'a> {
             netlist,
             division,
             part,
+            keeps,
         } = self;
         let horizon = netlist.horizon();
         let span = division.delay;
         let heard = heard_by(division.heard.as_slice(), part);
         let region = Region::new(netlist, division.homes.as_slice(), part, heard);
-        let mut run = RegionRun::begin(rt, alloc, netlist, &region, gate)?;
+        let mut run = RegionRun::begin(rt, alloc, netlist, &region, gate, keeps)?;
         let mut from = 1;
         while from < horizon {
             let until = from.saturating_add(span).min(horizon);

@@ -1,15 +1,12 @@
 //! Parts of a netlist that hear of each other, each on a thread of its own.
 ghost use Rattle.std.specs.Prelude.{◌≡◌, ◌+◌, IfOk, IfSome, length, map};
 ghost use Rattle.mp_regions.specs.Divisions.{IsCrossing, IsDivision};
-ghost use Rattle.mp_merging.specs.PartRuns.{AreRuns};
-ghost use Rattle.mp_engine.specs.PartsOf.{AreOthers, ArePartRuns, GiveRuns, IsFirst, IsMailOf, IsRunOf};
+ghost use Rattle.mp_engine.specs.PartsOf.{AreOthers, ArePartRuns, AreRunsOf, GiveRuns, IsFirst, IsMailOf, IsRunOf};
 
-use crate::part_of::PartOf;
+use crate::part_of::{Divided, PartOf};
 use mp_letters::{Lines, Subject};
 use mp_merging::PartRun;
-use mp_netlist::Netlist;
 use mp_phase::{Gate, lookers};
-use mp_regions::Division;
 use std::alloc::{AllocError, Global};
 use std::marker::Brand;
 use std::sync::Wait;
@@ -20,37 +17,41 @@ use std::thread::{PromisedHandle, Scope, Threads};
 pub(crate) fn run_together<R: Threads + Wait + Sync, G: Gate + Sync>(
     rt: &R,
     alloc: Global,
-    netlist: &Netlist,
     gate: &G,
-    division: &Division,
+    divided: Divided<'_>,
 ) -> Result<Option<Vec<PartRun>>, AllocError>
-    requires division { IsDivision netlist.now division.now.homes.items division.now.wires.items division.now.heard.items division.now.parts }
-    requires crossing { IsCrossing netlist.now division.now.heard.items division.now.delay }
-    ensures { IfOk result (λ found. IfSome found (λ runs. AreRuns netlist.now division.now.homes.items division.now.heard.items division.now.parts runs.items)) }
+    requires division { IsDivision divided.netlist.now divided.division.now.homes.items divided.division.now.wires.items divided.division.now.heard.items divided.division.now.parts }
+    requires crossing { IsCrossing divided.netlist.now divided.division.now.heard.items divided.division.now.delay }
+    ensures { IfOk result (λ found. IfSome found (λ runs. AreRunsOf divided.entry runs.items)) }
 {
-    run_apart::<Brand, R, G>(rt, alloc, netlist, gate, division)
+    run_apart::<Brand, R, G>(rt, alloc, gate, divided)
 }
 
 /// The same, where letters are about the netlist as it is divided.
 fn run_apart<J: Subject + Send + Sync, R: Threads + Wait + Sync, G: Gate + Sync>(
     rt: &R,
     alloc: Global,
-    netlist: &Netlist,
     gate: &G,
-    division: &Division,
+    divided: Divided<'_>,
 ) -> Result<Option<Vec<PartRun>>, AllocError>
-    requires division { IsDivision netlist.now division.now.homes.items division.now.wires.items division.now.heard.items division.now.parts }
-    requires crossing { IsCrossing netlist.now division.now.heard.items division.now.delay }
-    requires netlist { netlist.now ≡ J.netlist }
-    requires wires { division.now.wires.items ≡ J.wires }
-    requires heards { division.now.heard.items ≡ J.heards }
-    ensures { IfOk result (λ found. IfSome found (λ runs. AreRuns netlist.now division.now.homes.items division.now.heard.items division.now.parts runs.items)) }
+    requires division { IsDivision divided.netlist.now divided.division.now.homes.items divided.division.now.wires.items divided.division.now.heard.items divided.division.now.parts }
+    requires crossing { IsCrossing divided.netlist.now divided.division.now.heard.items divided.division.now.delay }
+    requires netlist { divided.netlist.now ≡ J.netlist }
+    requires wires { divided.division.now.wires.items ≡ J.wires }
+    requires heards { divided.division.now.heard.items ≡ J.heards }
+    ensures { IfOk result (λ found. IfSome found (λ runs. AreRunsOf divided.entry runs.items)) }
 {
+    let Divided {
+        netlist,
+        division,
+        keeps,
+    } = divided;
     let mut lines = Lines::<J>::between(alloc, netlist, division, lookers(rt))?;
     let first = PartOf {
         netlist,
         division,
         part: 0,
+        keeps,
     };
     thread::scope(
         thread::scope_env(),
@@ -93,7 +94,7 @@ fn start_others<
     requires lines { lines.old ≡ first.division.now.parts }
     requires first { IsFirst J.netlist J.wires J.heards first }
     ensures lines { IfOk result (λ found. IfSome found (λ others. lines.new ≡ 1)) }
-    ensures others { IfOk result (λ found. IfSome found (λ others. AreOthers first.entry.netlist.now first.entry.division.now (map (λ other. other.promise) others.items))) }
+    ensures others { IfOk result (λ found. IfSome found (λ others. AreOthers first.entry.netlist.now first.entry.division.now first.entry.keeps (map (λ other. other.promise) others.items))) }
     ensures count { IfOk result (λ found. IfSome found (λ others. length others.items + 1 ≡ first.entry.division.now.parts)) }
 {
     let mut others = Vec::new(alloc);

@@ -1,5 +1,5 @@
 -- What parts of a netlist give is what the netlist gives.
-use Rattle.std.proofs.Common.{◌≡◌, ℕ, ◌-◌, ◌<◌, Bool, List, [], ◌∷◌, Option, Some, None, map, option_map, length, slice_index_or, refl, ap, sym, ◌∙◌, arith, inl, inr}
+use Rattle.std.proofs.Common.{◌≡◌, ℕ, ◌-◌, ◌<◌, Bool, true, List, [], ◌∷◌, Option, Some, None, map, option_map, length, slice_index_or, refl, ap, sym, ◌∙◌, arith, inl, inr}
 use Rattle.std.proofs.lemmas.Bool.{cases_lt}
 use Rattle.std.proofs.lemmas.List.{get_or_past, get_or-map}
 use Rattle.mp_modules.specs.Memories.{blank}
@@ -12,7 +12,7 @@ use Rattle.mp_merging.specs.declared.part_run.PartRun.{PartRun}
 use Rattle.mp_evaluation.specs.Checkpoints.{kept_at, state_before, IsBorder}
 use Rattle.mp_regions.specs.Divisions.{heard_by, IsDivision}
 use Rattle.mp_evaluation.specs.Outcomes.{AreSlots}
-use Rattle.mp_merging.specs.PartRuns.{kept_in, AreRuns}
+use Rattle.mp_merging.specs.PartRuns.{kept_in, AreRuns, HaveWaves}
 use Rattle.mp_evaluation.specs.Runs.{AreCheckpoints, end_memory}
 use Rattle.mp_regions.specs.Regions.{home_of, region}
 use Rattle.mp_evaluation.proofs.OutcomeLemmas.{no_module}
@@ -21,24 +21,27 @@ use Rattle.mp_regions.proofs.PartLemmas.{region_state, region_before, region_wav
 use Rattle.mp_regions.proofs.RegionLemmas.{length_at_home, module_here}
 
 -- the wave of a wire, from the part whose modules drive it
-pub divided_wave : (n : Circuit) → IsCircuit n → (homes wires : List ℕ) (heards : List (List Bool)) (parts w part : ℕ) (runs : List PartRun) (d : PartRun) → IsDivision n homes wires heards parts → AreRuns n homes heards parts runs
+pub divided_wave : (n : Circuit) → IsCircuit n → (homes wires : List ℕ) (heards : List (List Bool)) (parts w part : ℕ) (runs : List PartRun) (d : PartRun) → IsDivision n homes wires heards parts → HaveWaves n homes heards parts runs
     → w < length n.wires → part < parts → (home_of wires w < parts → home_of wires w ≡ part) → slot_at (slice_index_or runs part d).waves w ≡ slot_wave n w (wire_at n w)
 divided_wave n ok homes wires heards parts w part runs d is are within low at =
-    (are.each part d low).waves w
+    are.each part d low w
     ∙ region_wave n ok homes part (heard_by heards part) (divided_apart n homes wires heards parts part is) (divided_closed n homes wires heards parts part is) w (divided_seen n homes wires heards parts w part is at)
+
+pub have_waves : (n : Circuit) (homes : List ℕ) (heards : List (List Bool)) (parts : ℕ) (keeps : Bool) (runs : List PartRun) → AreRuns n homes heards parts keeps runs → HaveWaves n homes heards parts runs
+have_waves n homes heards parts keeps runs are = record { places = are.places; each = λ k d low. (are.each k d low).waves }
 
 -- what stands in a module's slot in its own part
 home_slot : (n : Circuit) (homes : List ℕ) (heards : List (List Bool)) (m : ℕ) → module_at (region n homes (home_of homes m) (heard_by heards (home_of homes m))) m ≡ module_at n m
 home_slot n homes heards m = module_here n homes (home_of homes m) (heard_by heards (home_of homes m)) m refl
 
 -- the last state of a module, from its own part
-pub divided_end : (n : Circuit) → IsCircuit n → (homes wires : List ℕ) (heards : List (List Bool)) (parts m : ℕ) (runs : List PartRun) (d : PartRun) → IsDivision n homes wires heards parts → AreRuns n homes heards parts runs
+pub divided_end : (n : Circuit) → IsCircuit n → (homes wires : List ℕ) (heards : List (List Bool)) (parts m : ℕ) (runs : List PartRun) (d : PartRun) → IsDivision n homes wires heards parts → AreRuns n homes heards parts true runs
     → m < length n.modules → slot_at (slice_index_or runs (home_of homes m) d).ends.items m ≡ end_memory n m
 divided_end n ok homes wires heards parts m runs d is are within =
     let part = home_of homes m in
     let there = region n homes part (heard_by heards part) in
     let places = length_at_home homes part 0 n.modules in
-    (are.each part d (is.few m)).ends.each m (omega (arith, within, places))
+    ((are.each part d (is.few m)).ends refl).each m (omega (arith, within, places))
     ∙ ap (option_map (λ (r : ModuleRecord). state there m (n.horizon - 1))) (home_slot n homes heards m)
     ∙ by (module_at n m) refl
   where
@@ -49,13 +52,13 @@ divided_end n ok homes wires heards parts m runs d is are within =
         (divided_closed n homes wires heards parts (home_of homes m) is) m (n.horizon - 1) r (let low = ok.horizon_low in omega (arith, low)) (home_slot n homes heards m ∙ at))
 
 -- its states before checkpoints, from its own part
-pub divided_checkpoint : (n : Circuit) → IsCircuit n → (homes wires : List ℕ) (heards : List (List Bool)) (parts m c : ℕ) (runs : List PartRun) (d : PartRun) → IsDivision n homes wires heards parts → AreRuns n homes heards parts runs
+pub divided_checkpoint : (n : Circuit) → IsCircuit n → (homes wires : List ℕ) (heards : List (List Bool)) (parts m c : ℕ) (runs : List PartRun) (d : PartRun) → IsDivision n homes wires heards parts → AreRuns n homes heards parts true runs
     → IsBorder n.horizon c → c < n.horizon
     → option_map (λ ks. kept_at ks c blank) (slot_at (kept_in (slice_index_or runs (home_of homes m) d)) m) ≡ option_map (λ (r : ModuleRecord). state_before n m r c) (module_at n m)
 divided_checkpoint n ok homes wires heards parts m c runs d is are border low =
     let part = home_of homes m in
     let there = region n homes part (heard_by heards part) in
-    (are.each part d (is.few m)).kept.each m c border low
+    ((are.each part d (is.few m)).kept refl).each m c border low
     ∙ ap (option_map (λ (r : ModuleRecord). state_before there m r c)) (home_slot n homes heards m)
     ∙ by (module_at n m) refl
   where
@@ -66,7 +69,7 @@ divided_checkpoint n ok homes wires heards parts m c runs d is are border low =
         (divided_closed n homes wires heards parts (home_of homes m) is) m c r low (home_slot n homes heards m ∙ at))
 
 -- the checkpoints of all modules, each from its own part
-pub divided_checkpoints : (n : Circuit) → IsCircuit n → (homes wires : List ℕ) (heards : List (List Bool)) (parts : ℕ) (runs : List PartRun) (kept : List (Option (List Checkpoint))) → IsDivision n homes wires heards parts → AreRuns n homes heards parts runs
+pub divided_checkpoints : (n : Circuit) → IsCircuit n → (homes wires : List ℕ) (heards : List (List Bool)) (parts : ℕ) (runs : List PartRun) (kept : List (Option (List Checkpoint))) → IsDivision n homes wires heards parts → AreRuns n homes heards parts true runs
     → AreSlots (length n.modules) (λ m. slot_at (slice_index_or (map kept_in runs) (home_of homes m) []) m) kept → AreCheckpoints n kept
 divided_checkpoints n ok homes wires heards parts [] kept is are slots = absurd (let places = are.places in let some = is.some in let no : ⊥ = omega (arith, places, some) in no)
 divided_checkpoints n ok homes wires heards parts (d ∷ ds) kept is are slots = record {

@@ -4,5 +4,5 @@
 mod merging;
 mod part_run;
 
-pub use merging::merged;
+pub use merging::{merged, merged_waves};
 pub use part_run::PartRun;

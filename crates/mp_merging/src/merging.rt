@@ -1,14 +1,14 @@
 //! What parts of a netlist give, as what the netlist gives.
-ghost use Rattle.std.specs.Prelude.{◌≡◌, ◌<◌, IfOk, length, map, option_map};
+ghost use Rattle.std.specs.Prelude.{◌≡◌, ◌<◌, true, IfOk, length, map, option_map};
 ghost use Rattle.std.specs.Arc.{arc_value};
 ghost use Rattle.mp_netlist.specs.Slots.{slot_at};
 ghost use Rattle.mp_netlist.specs.Circuit.{IsCircuit, wire_at};
-ghost use Rattle.mp_model.specs.Waves.{slot_wave};
+ghost use Rattle.mp_model.specs.Waves.{slot_wave, AreWavesOf};
 ghost use Rattle.mp_evaluation.specs.Outcomes.{AreSlots};
 ghost use Rattle.mp_evaluation.specs.Runs.{AreCheckpoints, end_memory};
 ghost use Rattle.mp_regions.specs.Divisions.{IsDivision};
 ghost use Rattle.mp_regions.specs.Regions.{home_of};
-ghost use Rattle.mp_merging.specs.PartRuns.{kept_in, AreRuns, IsPartRun};
+ghost use Rattle.mp_merging.specs.PartRuns.{kept_in, AreRuns, HaveWaves, IsPartRun};
 
 use crate::part_run::PartRun;
 use mp_evaluation::Checkpoints;
@@ -29,20 +29,31 @@ pub fn merged(
 ) -> Result<PartRun, AllocError>
     requires form { IsCircuit netlist.now }
     requires division { IsDivision netlist.now division.now.homes.items division.now.wires.items division.now.heard.items division.now.parts }
-    requires runs { AreRuns netlist.now division.now.homes.items division.now.heard.items division.now.parts runs.now }
-    ensures { IfOk result (λ run. IsPartRun netlist.now run) }
+    requires runs { AreRuns netlist.now division.now.homes.items division.now.heard.items division.now.parts true runs.now }
+    ensures { IfOk result (λ run. IsPartRun netlist.now true run) }
 {
     let waves = merged_waves(alloc, netlist, division, runs)?;
     let ends = merged_ends(alloc, netlist, division, runs)?;
     let kept = merged_checkpoints(alloc, netlist, division, runs)?;
-    Ok(PartRun {
-        waves: Waves::new(waves),
-        ends,
-        kept,
-    })
+    Ok(PartRun { waves, ends, kept })
 }
 
-fn merged_waves(
+/// Each wire's wave from the part whose modules drive it.
+pub fn merged_waves(
+    alloc: Global,
+    netlist: &Netlist,
+    division: &Division,
+    runs: &[PartRun],
+) -> Result<Waves, AllocError>
+    requires form { IsCircuit netlist.now }
+    requires division { IsDivision netlist.now division.now.homes.items division.now.wires.items division.now.heard.items division.now.parts }
+    requires runs { HaveWaves netlist.now division.now.homes.items division.now.heard.items division.now.parts runs.now }
+    ensures { IfOk result (λ waves. AreWavesOf netlist.now waves) }
+{
+    Ok(Waves::new(wave_list(alloc, netlist, division, runs)?))
+}
+
+fn wave_list(
     alloc: Global,
     netlist: &Netlist,
     division: &Division,
@@ -50,7 +61,7 @@ fn merged_waves(
 ) -> Result<Vec<Option<Arc<Wave, Global>>>, AllocError>
     requires form { IsCircuit netlist.now }
     requires division { IsDivision netlist.now division.now.homes.items division.now.wires.items division.now.heard.items division.now.parts }
-    requires runs { AreRuns netlist.now division.now.homes.items division.now.heard.items division.now.parts runs.now }
+    requires runs { HaveWaves netlist.now division.now.homes.items division.now.heard.items division.now.parts runs.now }
     ensures { IfOk result (λ waves. AreSlots (length netlist.now.wires) (λ w. slot_wave netlist.now w (wire_at netlist.now w)) (map (option_map arc_value) waves.items)) }
 {
     let mut waves = Vec::new(alloc);
@@ -69,7 +80,7 @@ fn wave_of(
 ) -> Result<Option<Arc<Wave, Global>>, AllocError>
     requires form { IsCircuit netlist.now }
     requires division { IsDivision netlist.now division.now.homes.items division.now.wires.items division.now.heard.items division.now.parts }
-    requires runs { AreRuns netlist.now division.now.homes.items division.now.heard.items division.now.parts runs.now }
+    requires runs { HaveWaves netlist.now division.now.homes.items division.now.heard.items division.now.parts runs.now }
     requires low { wire.0 < length netlist.now.wires }
     ensures { IfOk result (λ wave. option_map arc_value wave ≡ slot_wave netlist.now wire.0 (wire_at netlist.now wire.0)) }
 {
@@ -100,7 +111,7 @@ fn merged_ends(
 ) -> Result<Vec<Option<Memory>>, AllocError>
     requires form { IsCircuit netlist.now }
     requires division { IsDivision netlist.now division.now.homes.items division.now.wires.items division.now.heard.items division.now.parts }
-    requires runs { AreRuns netlist.now division.now.homes.items division.now.heard.items division.now.parts runs.now }
+    requires runs { AreRuns netlist.now division.now.homes.items division.now.heard.items division.now.parts true runs.now }
     ensures { IfOk result (λ ends. AreSlots (length netlist.now.modules) (end_memory netlist.now) ends.items) }
 {
     let mut ends = Vec::new(alloc);
@@ -114,7 +125,7 @@ fn merged_ends(
 fn end_of(netlist: &Netlist, division: &Division, runs: &[PartRun], id: ModuleId) -> Option<Memory>
     requires form { IsCircuit netlist.now }
     requires division { IsDivision netlist.now division.now.homes.items division.now.wires.items division.now.heard.items division.now.parts }
-    requires runs { AreRuns netlist.now division.now.homes.items division.now.heard.items division.now.parts runs.now }
+    requires runs { AreRuns netlist.now division.now.homes.items division.now.heard.items division.now.parts true runs.now }
     requires low { id.0 < length netlist.now.modules }
     ensures { result ≡ end_memory netlist.now id.0 }
 {
@@ -139,7 +150,7 @@ fn merged_checkpoints(
 ) -> Result<Vec<Option<Arc<Checkpoints, Global>>>, AllocError>
     requires form { IsCircuit netlist.now }
     requires division { IsDivision netlist.now division.now.homes.items division.now.wires.items division.now.heard.items division.now.parts }
-    requires runs { AreRuns netlist.now division.now.homes.items division.now.heard.items division.now.parts runs.now }
+    requires runs { AreRuns netlist.now division.now.homes.items division.now.heard.items division.now.parts true runs.now }
     ensures { IfOk result (λ kept. AreCheckpoints netlist.now (map (option_map arc_value) kept.items)) }
 {
     let mut kept = Vec::new(alloc);

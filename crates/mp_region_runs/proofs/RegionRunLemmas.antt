@@ -22,7 +22,8 @@ use Rattle.mp_run.specs.Stimuli.{bits_at, levels_at, changes_after, is_change, A
 use Rattle.mp_run.proofs.AllStimuliLemmas.{in_order}
 use Rattle.mp_run.proofs.PresentLemmas.{bits_now, levels_now, set_at, after_now, from_after, settings_after, stimuli_counted}
 use Rattle.mp_evaluation.specs.Marks.{is_marked}
-use Rattle.mp_region_runs.specs.RegionRuns.{is_set, AreComing, AreTidings, IsBeforeAll}
+use Rattle.mp_region_runs.specs.RegionRuns.{is_set, AreComing, AreTidings, CanRun, IsBeforeAll}
+use Rattle.mp_region_runs.specs.declared.region_run.RegionRun.{RegionRun}
 
 both_sorts : (c b : Bool) → bit (c && not b) + bit (c && b) ≡ bit c
 both_sorts true true = refl
@@ -81,6 +82,13 @@ coming_less n is_told t less until ss low are = record {
   listed = are.listed;
   each = λ w u later before. are.each w u later (omega (arith, low, before));
   set = are.set;
+}
+
+pub can_less : (n : Circuit) (t less until : ℕ) (run : RegionRun) → less ≤ until → CanRun n t until run → CanRun n t less run
+can_less n t less until run low can = record {
+  keeps = can.keeps;
+  is_heard = can.is_heard;
+  is = record { simulated = can.is.simulated; own = can.is.own; heard = coming_less n can.is_heard t less until _ low can.is.heard; kept = can.is.kept };
 }
 
 -- tidings by time

@@ -25,7 +25,8 @@ use Rattle.mp_evaluation.specs.Runs.{AreCheckpoints, IsRun, end_memory}
 use Rattle.mp_evaluation.proofs.KeepLemmas.{kept_at-last}
 use Rattle.mp_evaluation.proofs.MarkLemmas.{contains_one}
 use Rattle.mp_evaluation.proofs.OutcomeLemmas.{slot_is, no_module, checkpoint_is}
-use Rattle.mp_region_runs.specs.StateHistories.{kept_of, id_of, ids_of, first_kept, IsKept, AreKept, AreFirst}
+use Rattle.mp_region_runs.specs.StateHistories.{kept_of, id_of, ids_of, first_kept, IsKept, AreKept, AreFirst, HasHistory, HasMarked, IsHistory}
+use Rattle.mp_region_runs.specs.declared.state_history.StateHistory.{StateHistory}
 
 -- ---- marks
 
@@ -183,6 +184,22 @@ unit_over n b t marks new list more due kept added rests are = record {
             old.last before ∙ sym (rests m r at idle);
       };
 }
+
+-- the same, where states may be kept
+pub history_over : (n : Circuit) (keeps : Bool) (b t : ℕ) (due : List ℕ) (old new : Option StateHistory) →
+    ((m : ℕ) (r : ModuleRecord) → module_at n m ≡ Some r → listed m due ≡ 0 → state n m (t + 1) ≡ state n m t) → HasMarked due old new → IsHistory n keeps b t old → IsHistory n keeps b (t + 1) new
+history_over n keeps b t due None None rests marked is = is
+history_over n keeps b t due None (Some new) rests marked is = absurd marked
+history_over n keeps b t due (Some old) None rests marked is = absurd marked
+history_over n keeps b t due (Some old) (Some new) rests marked is = record {
+  kept = subst (λ (kept : List (List Checkpoint)). AreKept n b (t + 1) new.marks.items kept) (sym marked.1)
+      (unit_over n b t old.marks.items new.marks.items old.list.items new.list.items due old.kept.items marked.0 rests is.kept);
+  listed = marked.0.listed is.listed;
+}
+
+pub has_history : (n : Circuit) (keeps : Bool) (b t : ℕ) (history : Option StateHistory) → IsHistory n keeps b t history → HasHistory n b t history
+has_history n keeps b t None is = tt
+has_history n keeps b t (Some h) is = is
 
 -- ---- the end
 

@@ -11,7 +11,7 @@ use Rattle.mp_run.specs.declared.stimuli.StimulusChange.{StimulusChange}
 use Rattle.mp_run.specs.Stimuli.{rest_of, left_of, is_change, AreFrom, IsSetting}
 use Rattle.mp_evaluation.specs.Marks.{is_marked}
 use Rattle.mp_region_runs.specs.declared.region_run.RegionRun.{RegionRun}
-use Rattle.mp_region_runs.specs.StateHistories.{IsStateHistory}
+use Rattle.mp_region_runs.specs.StateHistories.{IsHistory}
 
 -- a wire of this sort is set to another level from outside at a time
 abbrev pub is_set : Circuit → (ℕ → Bool) → ℕ → ℕ → Bool
@@ -29,17 +29,19 @@ pub record AreTidings (n : Circuit) (is_told : ℕ → Bool) (t until : ℕ) (ss
   pub each : (w u : ℕ) → t < u → u < until → count_by (is_change w u) ss ≡ bit (is_set n is_told w u)
   pub set : All (IsSetting n) ss
 
--- the unit t is over, what stimuli set later is ahead, and what is heard before a time; and the states before all borders up to t are kept
-pub record IsUnderWay (n : Circuit) (is_heard : ℕ → Bool) (t until : ℕ) (run : RegionRun) : Type 0 where
+-- the unit t is over, what stimuli set later is ahead, and what is heard before a time; and the states before all borders up to t are kept,
+-- if states are to be
+pub record IsUnderWay (n : Circuit) (keeps : Bool) (is_heard : ℕ → Bool) (t until : ℕ) (run : RegionRun) : Type 0 where
   pub simulated : IsSimulated n t run.simulation
   pub own : AreComing n (λ w. not (is_heard w)) t n.horizon (rest_of run.stimuli)
   pub heard : AreComing n is_heard t until (left_of run.heard)
-  pub kept : IsStateHistory n (t + 1) t run.history
+  pub kept : IsHistory n keeps (t + 1) t run.history
 
--- so it is, whichever wires are heard
+-- so it is, whichever wires are heard, and whether or not states are kept
 pub record CanRun (n : Circuit) (t until : ℕ) (run : RegionRun) : Type 0 where
+  pub keeps : Bool
   pub is_heard : ℕ → Bool
-  pub is : IsUnderWay n is_heard t until run
+  pub is : IsUnderWay n keeps is_heard t until run
 
 -- nothing can be heard before a time: no wire is, or it is the first
 abbrev pub IsBeforeAll : List Bool → ℕ → Type 0

@@ -1,5 +1,5 @@
 -- The states that a run of a whole netlist keeps on its way.
-use Rattle.std.specs.Prelude.{◌≡◌, ℕ, ◌<◌, ◌≤◌, Bool, false, List, [], ◌∷◌, All, Option, Some, None, length, map, slice_index_or}
+use Rattle.std.specs.Prelude.{◌≡◌, ℕ, ◌<◌, ◌≤◌, Bool, false, List, [], ◌∷◌, All, Option, Some, None, IfSome, length, map, slice_index_or}
 use Rattle.mp_modules.specs.Memories.{blank}
 use Rattle.mp_storage.specs.AnyModules.{start}
 use Rattle.mp_records.specs.declared.ids.ModuleId.{ModuleId}
@@ -9,7 +9,7 @@ use Rattle.mp_model.specs.Levels.{built}
 use Rattle.mp_model.specs.Waves.{state}
 use Rattle.mp_evaluation.specs.declared.checkpoints.Checkpoint.{Checkpoint}
 use Rattle.mp_evaluation.specs.Checkpoints.{kept_at, last_kept, state_before, IsBorder}
-use Rattle.mp_evaluation.specs.Marks.{is_marked, AreListed}
+use Rattle.mp_evaluation.specs.Marks.{is_marked, AreListed, AreAdded}
 use Rattle.mp_region_runs.specs.declared.state_history.StateHistory.{StateHistory}
 
 abbrev pub kept_of : List (List Checkpoint) → ℕ → List Checkpoint
@@ -37,6 +37,22 @@ pub record AreKept (n : Circuit) (b t : ℕ) (marks : List Bool) (kept : List (L
 pub record IsStateHistory (n : Circuit) (b t : ℕ) (h : StateHistory) : Type 0 where
   pub kept : AreKept n b t h.marks.items h.kept.items
   pub listed : AreListed h.marks.items h.list.items
+
+-- so it is, where states are kept
+abbrev pub HasHistory : Circuit → ℕ → ℕ → Option StateHistory → Type 0
+HasHistory n b t history = IfSome history (IsStateHistory n b t)
+
+-- and they are, if they are to be
+abbrev pub IsHistory : Circuit → Bool → ℕ → ℕ → Option StateHistory → Type 0
+IsHistory n keeps b t None = keeps ≡ false
+IsHistory n keeps b t (Some h) = IsStateHistory n b t h
+
+-- modules are marked where states are kept
+abbrev pub HasMarked : List ℕ → Option StateHistory → Option StateHistory → Type 0
+HasMarked numbers None None = Unit {0}
+HasMarked numbers None (Some new) = ⊥
+HasMarked numbers (Some old) None = ⊥
+HasMarked numbers (Some old) (Some new) = AreAdded (ids_of numbers) old.marks.items new.marks.items old.list.items new.list.items × (new.kept.items ≡ old.kept.items)
 
 -- the state before time 0 of what stands in a module's slot
 abbrev pub first_kept : Circuit → Option ModuleRecord → List Checkpoint

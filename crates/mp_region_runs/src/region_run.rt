@@ -1,12 +1,13 @@
 //! The run of a part of a netlist on one thread.
-ghost use Rattle.std.specs.Prelude.{◌≡◌, ◌-◌, ◌<◌, IfOk, length, map, option_map};
+ghost use Rattle.std.specs.Prelude.{◌≡◌, ◌+◌, ◌-◌, ◌<◌, Bool, IfOk, OnOk, length, map, option_map};
 ghost use Rattle.std.specs.Arc.{arc_value};
 ghost use Rattle.mp_netlist.specs.Circuit.{IsCircuit, module_at};
 ghost use Rattle.mp_records.specs.declared.module_record.ModuleRecord.{ModuleRecord as Part};
 ghost use Rattle.mp_units.specs.NetlistSimulations.{IsSimulated};
 ghost use Rattle.mp_evaluation.specs.Outcomes.{AreSlots};
 ghost use Rattle.mp_evaluation.specs.Runs.{end_memory};
-ghost use Rattle.mp_region_runs.specs.StateHistories.{kept_of};
+ghost use Rattle.mp_model.specs.Waves.{AreWavesOf};
+ghost use Rattle.mp_region_runs.specs.StateHistories.{kept_of, HasHistory, HasMarked, IsHistory};
 
 use crate::gate::pass_gate;
 use crate::state_history::StateHistory;
@@ -22,13 +23,14 @@ use mp_units::NetlistSimulation;
 use std::alloc::{AllocError, Global};
 use std::sync::{Arc, Wait};
 
-/// The run of a part of a netlist, unit by unit: its simulation, what is set from outside later, and the states that are kept on the way.
+/// The run of a part of a netlist, unit by unit: its simulation, what is set from outside later, and the states that are kept on the way, where
+/// any are.
 #[derive(Drop)]
 pub struct RegionRun {
     pub simulation: NetlistSimulation,
     stimuli: Stimuli,
     heard: HeardChanges,
-    history: StateHistory,
+    history: Option<StateHistory>,
 }
 
 impl RegionRun {
@@ -38,20 +40,21 @@ impl RegionRun {
     ghost use Rattle.mp_evaluation.specs.Marks.{is_marked};
     ghost use Rattle.mp_regions.specs.Regions.{HasStimuli};
     ghost use Rattle.mp_merging.specs.PartRuns.{IsPartRun};
-    ghost use Rattle.mp_region_runs.specs.StateHistories.{IsStateHistory};
+    ghost use Rattle.mp_region_runs.specs.StateHistories.{HasHistory, IsHistory};
     ghost use Rattle.mp_region_runs.specs.RegionRuns.{AreTidings, IsUnderWay, CanRun, AreUnset, IsBeforeAll};
 
-    /// The run after time 0, at which each module passes the gate. Nothing is heard yet.
+    /// The run after time 0, at which each module passes the gate. Nothing is heard yet. It is told whether states are to be kept.
     pub fn begin<R: Wait, G: Gate>(
         rt: &R,
         alloc: Global,
         netlist: &Netlist,
         region: &Region<'_>,
         gate: &G,
+        keeps: bool,
     ) -> Result<RegionRun, AllocError>
         requires { IsCircuit netlist.now }
         ensures { IfOk result (λ run. (heard : List Bool) (until : ℕ) → HasStimuli netlist.now region.now heard → AreUnset netlist.now heard → IsBeforeAll heard until →
-            IsUnderWay region.now (is_marked heard) 0 until run) }
+            IsUnderWay region.now keeps (is_marked heard) 0 until run) }
     {
         let _horizon = region.horizon();
         let modules = all_modules(alloc, region)?;
@@ -60,14 +63,14 @@ impl RegionRun {
             simulation: begin(alloc, region)?,
             stimuli: Stimuli::of(alloc, netlist)?,
             heard: HeardChanges::of(Vec::new(alloc)),
-            history: StateHistory::new(alloc, region)?,
+            history: first_history(alloc, region, keeps)?,
         })
     }
 
     /// All that is heard before a time, in place of what was heard before, which is over.
     pub fn hear(&mut self, changes: Vec<StimulusChange>)
-        ensures { (n : Circuit) (is_heard : ℕ → Bool) (t until : ℕ) → IsUnderWay n is_heard t (t + 1) self.old → AreTidings n is_heard t until changes.items →
-            IsUnderWay n is_heard t until self.new }
+        ensures { (n : Circuit) (keeps : Bool) (is_heard : ℕ → Bool) (t until : ℕ) → IsUnderWay n keeps is_heard t (t + 1) self.old → AreTidings n is_heard t until changes.items →
+            IsUnderWay n keeps is_heard t until self.new }
     {
         self.heard = HeardChanges::of(changes);
     }
@@ -85,8 +88,8 @@ impl RegionRun {
         requires some { from ≤ to }
         requires within { to ≤ region.now.horizon }
         requires before { CanRun region.now (from - 1) to self.old }
-        ensures { OnOk result ((is_heard : ℕ → Bool) (until : ℕ) → to ≤ until → IsUnderWay region.now is_heard (from - 1) until self.old →
-            IsUnderWay region.now is_heard (to - 1) until self.new) }
+        ensures { OnOk result ((keeps : Bool) (is_heard : ℕ → Bool) (until : ℕ) → to ≤ until → IsUnderWay region.now keeps is_heard (from - 1) until self.old →
+            IsUnderWay region.now keeps is_heard (to - 1) until self.new) }
     {
         let mut fired = 0usize;
         for time in from..to {
@@ -106,28 +109,28 @@ impl RegionRun {
         requires later { 0 < time }
         requires low { time < region.now.horizon }
         requires before { CanRun region.now (time - 1) (time + 1) self.old }
-        ensures { OnOk result ((is_heard : ℕ → Bool) (until : ℕ) → time < until → IsUnderWay region.now is_heard (time - 1) until self.old →
-            IsUnderWay region.now is_heard time until self.new) }
+        ensures { OnOk result ((keeps : Bool) (is_heard : ℕ → Bool) (until : ℕ) → time < until → IsUnderWay region.now keeps is_heard (time - 1) until self.old →
+            IsUnderWay region.now keeps is_heard time until self.new) }
     {
         let _horizon = region.horizon();
-        self.history.pass(region, &self.simulation, time)?;
+        pass_history(&mut self.history, region, &self.simulation, time)?;
         self.stimuli.advance(time)?;
         self.stimuli.hear(&mut self.heard, time)?;
         self.simulation
             .apply(self.stimuli.bits(), self.stimuli.levels(), time)?;
         let due = self.simulation.due();
         let fired = due.len();
-        self.history.mark(due)?;
+        mark_fired(&mut self.history, due)?;
         pass_gate(rt, gate, due, time);
         self.simulation.fire()?;
         Ok(fired)
     }
 
-    /// What a run gives whose units are all over.
+    /// What a run gives whose units are all over. Where no states were kept, none are among it.
     pub fn finish(self, alloc: Global, region: &Region<'_>) -> Result<PartRun, AllocError>
         requires simulated { IsSimulated region.now (region.now.horizon - 1) self.simulation }
-        requires kept { IsStateHistory region.now (region.now.horizon - 1 + 1) (region.now.horizon - 1) self.history }
-        ensures { IfOk result (λ run. IsPartRun region.now run) }
+        requires kept { HasHistory region.now (region.now.horizon - 1 + 1) (region.now.horizon - 1) self.history }
+        ensures { IfOk result (λ run. (keeps : Bool) → IsHistory region.now keeps (region.now.horizon - 1 + 1) (region.now.horizon - 1) self.history → IsPartRun region.now keeps run) }
     {
         let _horizon = region.horizon();
         let RegionRun {
@@ -135,12 +138,80 @@ impl RegionRun {
             history,
             ..
         } = self;
+        let Some(history) = history else {
+            return Ok(PartRun {
+                waves: all_waves(alloc, region, simulation)?,
+                ends: Vec::new(alloc),
+                kept: Vec::new(alloc),
+            });
+        };
         let StateHistory { kept, .. } = history;
         let ends = end_memories(alloc, region, &simulation)?;
         let kept = shared_checkpoints(alloc, region, kept)?;
-        let waves = Waves::of_all(alloc, found_waves(alloc, region, simulation)?)?;
+        let waves = all_waves(alloc, region, simulation)?;
         Ok(PartRun { waves, ends, kept })
     }
+}
+
+/// What states are kept from time 0 on, where any are to be.
+fn first_history(
+    alloc: Global,
+    region: &Region<'_>,
+    keeps: bool,
+) -> Result<Option<StateHistory>, AllocError>
+    requires { IsCircuit region.now }
+    ensures { IfOk result (λ history. IsHistory region.now keeps 1 0 history) }
+{
+    if keeps {
+        Ok(Some(StateHistory::new(alloc, region)?))
+    } else {
+        Ok(None)
+    }
+}
+
+/// Goes on to the unit of a time with the states that are kept, where any are.
+#[inline(always)]
+fn pass_history(
+    history: &mut Option<StateHistory>,
+    region: &Region<'_>,
+    simulation: &NetlistSimulation,
+    time: u32,
+) -> Result<(), AllocError>
+    requires form { IsCircuit region.now }
+    requires later { 0 < time }
+    requires simulated { IsSimulated region.now (time - 1) simulation.now }
+    requires before { HasHistory region.now time (time - 1) history.old }
+    ensures { OnOk result ((keeps : Bool) → IsHistory region.now keeps time (time - 1) history.old → IsHistory region.now keeps (time + 1) (time - 1) history.new) }
+{
+    if let Some(kept) = history {
+        kept.pass(region, simulation, time)?;
+    }
+    Ok(())
+}
+
+/// These modules, by number, are to fire: they are marked where states are kept.
+#[inline(always)]
+fn mark_fired(history: &mut Option<StateHistory>, numbers: &[u32]) -> Result<(), AllocError>
+    ensures { OnOk result (HasMarked numbers.now history.old history.new) }
+{
+    if let Some(kept) = history {
+        kept.mark(numbers)?;
+    }
+    Ok(())
+}
+
+/// The waves of a run whose units are all over.
+fn all_waves(
+    alloc: Global,
+    region: &Region<'_>,
+    simulation: NetlistSimulation,
+) -> Result<Waves, AllocError>
+    requires form { IsCircuit region.now }
+    requires over { IsSimulated region.now (region.now.horizon - 1) simulation }
+    ensures { IfOk result (λ waves. AreWavesOf region.now waves) }
+{
+    let waves = Waves::of_all(alloc, found_waves(alloc, region, simulation)?)?;
+    Ok(waves)
 }
 
 /// The modules that stand, by number.

@@ -6,5 +6,5 @@ use Rattle.mp_engine.proofs.evaluation.parts_of.Goals as goal
 
 pub invariant_of-push : goal.invariant_of-push
 invariant_of-push c = record {
-  stimuli = subst (λ (r : Circuit). HasStimuli c.args.netlist.now r []) (sym c.new-region.ensures) (has_stimuli c.args.netlist.now c.as_slice-homes.result.now c.loop-part.part []);
+  stimuli = subst (λ (r : Circuit). HasStimuli c.args.divided.netlist.now r []) (sym c.new-region.ensures) (has_stimuli c.args.divided.netlist.now c.as_slice-homes.result.now c.loop-part.part []);
 }

@@ -7,5 +7,6 @@ use Rattle.mp_engine.proofs.evaluation.parts_of.Given as goal
 abbrev pub invariant-loop-part : goal.invariant-loop-part
 invariant-loop-part l = record {
   places : length l.parts.items ≡ l.part;
-  each : (k : ℕ) (d : Part) → k < l.part → (slice_index_or l.parts.items k d).region ≡ region l.netlist l.division.homes.items k [];
+  each : (k : ℕ) (d : Part) → k < l.part → (slice_index_or l.parts.items k d).region ≡ region l.divided.netlist.now l.divided.division.now.homes.items k [];
+  same : (k : ℕ) (d : Part) → k < l.part → (slice_index_or l.parts.items k d).keeps ≡ l.divided.keeps;
 }

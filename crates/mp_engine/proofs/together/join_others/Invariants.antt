@@ -1,4 +1,4 @@
-use Rattle.std.proofs.Common.{◌≡◌, ◌+◌, length, map}
+use Rattle.std.proofs.Common.{◌≡◌, ◌+◌, Bool, length, map}
 use Rattle.mp_netlist.specs.Circuit.{Circuit}
 use Rattle.mp_regions.specs.declared.division.Division.{Division}
 use Rattle.mp_regions.specs.Regions.{region}
@@ -11,8 +11,8 @@ use Rattle.mp_engine.proofs.together.join_others.Given as goal
 -- the runs of the first parts are there
 abbrev pub invariant-loop-other : goal.invariant-loop-other
 invariant-loop-other g l =
-    (n : Circuit) (division : Division) → length (map (λ other. other.promise) l.fn.others.items) + 1 ≡ division.parts → IsPartRun (region n division.homes.items 0 (heard_by division.heard.items 0)) l.fn.first
-    → AreOthers n division (map (λ other. other.promise) l.fn.others.items) → AreJoined n division (map (λ other. other.promise) l.others.items) l.runs.items
+    (n : Circuit) (division : Division) (keeps : Bool) → length (map (λ other. other.promise) l.fn.others.items) + 1 ≡ division.parts → IsPartRun (region n division.homes.items 0 (heard_by division.heard.items 0)) keeps l.fn.first
+    → AreOthers n division keeps (map (λ other. other.promise) l.fn.others.items) → AreJoined n division keeps (map (λ other. other.promise) l.others.items) l.runs.items
 
 abbrev pub decreases-loop-other : goal.decreases-loop-other
 decreases-loop-other g l = length l.others.items

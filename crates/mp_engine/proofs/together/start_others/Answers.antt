@@ -10,7 +10,7 @@ loop-part-init g c = record {
   some = c.requires.first.0.division.some;
   lines = c.requires.lines;
   count = (let none = ap length c.new-others.ensures.items in omega (arith, none));
-  others = subst (λ xs. AreOthers c.args.first.netlist.now c.args.first.division.now (map (λ other. other.promise) xs)) (sym c.new-others.ensures.items) (λ k d low. absurd (omega arith));
+  others = subst (λ xs. AreOthers c.args.first.netlist.now c.args.first.division.now c.args.first.keeps (map (λ other. other.promise) xs)) (sym c.new-others.ensures.items) (λ k d low. absurd (omega arith));
 }
 
 pub loop-part-preserved : goal.loop-part-preserved
@@ -31,11 +31,12 @@ loop-part-preserved g c =
       some = omega (arith, some);
       lines = omega (arith, first, rest, lines);
       count = omega (arith, longer, count, some);
-      others = one_other c.args.first.netlist.now c.args.first.division.now (map (λ other. other.promise) c.loop-part.others.items) (map (λ other. other.promise) c.push.new.self.items) c.in-Ok.handle.promise
+      others = one_other c.args.first.netlist.now c.args.first.division.now c.args.first.keeps (map (λ other. other.promise) c.loop-part.others.items) (map (λ other. other.promise) c.push.new.self.items) c.in-Ok.handle.promise
           (ap (map (λ other. other.promise)) items ∙ map_push (λ other. other.promise) c.loop-part.others.items c.in-Ok.handle)
           (record {
             netlist = ap (λ (p : PartOf). p.netlist.now) promise;
             division_is = ap (λ (p : PartOf). p.division.now) promise;
+            keeps_is = ap (λ (p : PartOf). p.keeps) promise;
             part = omega (arith, here, long, count, some);
           }) before.others;
     }

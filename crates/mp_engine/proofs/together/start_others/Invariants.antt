@@ -8,7 +8,7 @@ invariant-loop-part g l = record {
   some : 0 < l.part;
   lines : l.lines ≡ l.part;
   count : length l.others.items + l.part ≡ l.first.division.now.parts;
-  others : AreOthers l.first.netlist.now l.first.division.now (map (λ other. other.promise) l.others.items);
+  others : AreOthers l.first.netlist.now l.first.division.now l.first.keeps (map (λ other. other.promise) l.others.items);
 }
 
 abbrev pub decreases-loop-part : goal.decreases-loop-part

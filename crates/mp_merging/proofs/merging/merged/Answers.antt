@@ -1,15 +1,11 @@
-use Rattle.std.proofs.Common.{List, Option, length, sym, subst}
-use Rattle.mp_wave.specs.Waveform.{Waveform}
-use Rattle.mp_netlist.specs.Circuit.{wire_at}
-use Rattle.mp_model.specs.Waves.{slot_wave, AreWavesOf}
-use Rattle.mp_evaluation.proofs.OutcomeLemmas.{slot_is, no_wave}
+use Rattle.std.proofs.Common.{true}
+use Rattle.mp_merging.proofs.MergeLemmas.{have_waves}
 use Rattle.mp_merging.proofs.merging.merged.Goals as goal
 
+pub merged_waves-requires-clause-runs : goal.merged_waves-requires-clause-runs
+merged_waves-requires-clause-runs c =
+    let division = c.args.division.now in
+    have_waves c.args.netlist.now division.homes.items division.heard.items division.parts true c.args.runs.now c.requires.runs
+
 pub returns : goal.returns
-returns c =
-    let n = c.args.netlist.now in
-    record {
-      waves = subst (λ (xs : List (Option Waveform)). AreWavesOf n xs) (sym c.new.ensures) (slot_is (length n.wires) (λ w. slot_wave n w (wire_at n w)) _ (no_wave n) c.in_ok-waves.ensures);
-      ends = c.in_ok-ends.ensures;
-      kept = c.in_ok-kept.ensures;
-    }
+returns c = record { waves = c.in_ok-waves.ensures; ends = λ _. c.in_ok-ends.ensures; kept = λ _. c.in_ok-kept.ensures }

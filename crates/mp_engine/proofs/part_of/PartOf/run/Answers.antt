@@ -8,11 +8,13 @@ use Rattle.mp_regions.specs.Divisions.{heard_by}
 use Rattle.mp_regions.proofs.DivisionLemmas.{divided_apart}
 use Rattle.mp_regions.proofs.RegionLemmas.{has_stimuli}
 use Rattle.mp_merging.specs.PartRuns.{IsPartRun}
-use Rattle.mp_region_runs.specs.StateHistories.{IsStateHistory}
+use Rattle.mp_region_runs.specs.StateHistories.{IsHistory}
 use Rattle.mp_region_runs.specs.RegionRuns.{AreTidings, IsUnderWay}
 use Rattle.mp_letters.specs.Letters.{AreTold, IsToldOnce, KnowsAhead}
 use Rattle.mp_letters.specs.Lines.{parts_of}
+use Rattle.mp_region_runs.proofs.StateHistoryLemmas.{has_history}
 use Rattle.mp_engine.proofs.HearingLemmas.{renamed, tidings_are}
+use Rattle.mp_engine.proofs.TaskLemmas.{if_ok}
 use Rattle.mp_engine.proofs.part_of.PartOf.run.Goals as goal
 
 pub new-region-requires : goal.new-region-requires
@@ -102,9 +104,9 @@ run_units-requires-clause-before g c =
     let told_next = subst (λ k. AreTold n wires (heard_by heards part) bys (record { from = k; until = until }) changes) next told in
     let low = c.min-until.ensures in
     let tidings = tidings_are n c.horizon-horizon.ensures.form homes wires heards c.args.self.division.now.parts about.division part bys (from - 1) until changes (omega (arith, low, horizon)) once told_next in
-    let over = c.hear-in-loop-from.ensures c.new-region.result (is_marked heard) (from - 1) until (subst (λ k. IsUnderWay c.new-region.result (is_marked heard) (from - 1) k c.loop-from.run) next before.under_way)
+    let over = c.hear-in-loop-from.ensures c.new-region.result c.args.self.keeps (is_marked heard) (from - 1) until (subst (λ k. IsUnderWay c.new-region.result c.args.self.keeps (is_marked heard) (from - 1) k c.loop-from.run) next before.under_way)
     (subst (λ (r : Circuit). AreTidings r (is_marked heard) (from - 1) until changes) (sym here) tidings) in
-    record { is_heard = is_marked heard; is = over }
+    record { keeps = c.args.self.keeps; is_heard = is_marked heard; is = over }
 
 pub loop-from-preserved : goal.loop-from-preserved
 loop-from-preserved g c =
@@ -132,7 +134,7 @@ loop-from-preserved g c =
     let told_next = subst (λ k. AreTold n wires (heard_by heards part) bys (record { from = k; until = until }) changes) next told in
     let low = c.min-until.ensures in
     let tidings = tidings_are n c.horizon-horizon.ensures.form homes wires heards c.args.self.division.now.parts about.division part bys (from - 1) until changes (omega (arith, low, horizon)) once told_next in
-    let over = c.hear-in-loop-from.ensures c.new-region.result (is_marked heard) (from - 1) until (subst (λ k. IsUnderWay c.new-region.result (is_marked heard) (from - 1) k c.loop-from.run) next before.under_way)
+    let over = c.hear-in-loop-from.ensures c.new-region.result c.args.self.keeps (is_marked heard) (from - 1) until (subst (λ k. IsUnderWay c.new-region.result c.args.self.keeps (is_marked heard) (from - 1) k c.loop-from.run) next before.under_way)
     (subst (λ (r : Circuit). AreTidings r (is_marked heard) (from - 1) until changes) (sym here) tidings) in
     let sum = c.saturating_add.ensures in
     let some = c.loop-from-test.true in
@@ -141,7 +143,7 @@ loop-from-preserved g c =
       within = omega (arith, low);
       horizon = before.horizon;
       span = before.span;
-      under_way = c.in_ok-run_units.ensures (is_marked heard) until (omega arith) over;
+      under_way = c.in_ok-run_units.ensures c.args.self.keeps (is_marked heard) until (omega arith) over;
     }
 
 pub loop-from-smaller : goal.loop-from-smaller
@@ -185,7 +187,8 @@ finish-requires-clause-kept g c =
     let within = before.within in
     let past = c.loop-from-test.false in
     let now : c.loop-from.from ≡ c.new-region.result.horizon = (let last : c.loop-from.from ≡ c.horizon-horizon.result = omega (arith, within, past) in last ∙ before.horizon ∙ sym (ap (λ (r : Circuit). r.horizon) here)) in
-    subst (λ k. IsStateHistory c.new-region.result (k - 1 + 1) (k - 1) c.loop-from.run.history) now before.under_way.kept
+    let r = c.new-region.result in
+    has_history r c.args.self.keeps (r.horizon - 1 + 1) (r.horizon - 1) _ (subst (λ k. IsHistory r c.args.self.keeps (k - 1 + 1) (k - 1) c.loop-from.run.history) now before.under_way.kept)
 
 pub returns : goal.returns
 returns g c =
@@ -197,4 +200,10 @@ returns g c =
     c.new-region.ensures ∙ ap (λ (hs : List ℕ). region n hs part c.heard_by-heard.result.now) c.as_slice-2.ensures.value
     ∙ ap (λ (marks : List Bool). region n homes part marks) (c.heard_by-heard.ensures ∙ ap (λ (hs : List (List Bool)). heard_by hs part) c.as_slice.ensures.value)
     in
-    subst (λ (r : Circuit). IfOk c.finish.result (IsPartRun r)) here c.finish.ensures
+    let before = c.loop-from.invariant in
+    let within = before.within in
+    let past = c.loop-from-test.false in
+    let now : c.loop-from.from ≡ c.new-region.result.horizon = (let last : c.loop-from.from ≡ c.horizon-horizon.result = omega (arith, within, past) in last ∙ before.horizon ∙ sym (ap (λ (r : Circuit). r.horizon) here)) in
+    let r = c.new-region.result in
+    let is = subst (λ k. IsHistory r c.args.self.keeps (k - 1 + 1) (k - 1) c.loop-from.run.history) now before.under_way.kept in
+    subst (λ (m : Circuit). IfOk c.finish.result (IsPartRun m c.args.self.keeps)) here (if_ok c.finish.result _ _ (λ run gives. gives c.args.self.keeps is) c.finish.ensures)

@@ -11,7 +11,7 @@ invariant-loop-from g l = record {
   within : l.from ≤ l.horizon;
   horizon : l.horizon ≡ l.self.netlist.now.horizon;
   span : l.span ≡ l.division.delay;
-  under_way : IsUnderWay l.region (is_marked (heard_by l.division.heard.items l.part)) (l.from - 1) l.from l.run;
+  under_way : IsUnderWay l.region l.keeps (is_marked (heard_by l.division.heard.items l.part)) (l.from - 1) l.from l.run;
 }
 
 abbrev pub decreases-loop-from : goal.decreases-loop-from

@@ -3,7 +3,7 @@ use Rattle.mp_region_runs.proofs.RegionRunLemmas.{in_time}
 use Rattle.mp_region_runs.proofs.region_run.RegionRun.hear.Goals as goal
 
 pub returns : goal.returns
-returns c n is_heard t until before tidings = record {
+returns c n keeps is_heard t until before tidings = record {
   simulated = before.simulated;
   own = before.own;
   heard = in_time n is_heard t until c.args.changes.items (left_of c.of.result) c.of.ensures.all c.of.ensures.order tidings;

@@ -3,17 +3,17 @@ use Rattle.mp_data.specs.declared.level_change.LevelChange.{LevelChange}
 use Rattle.mp_units.specs.NetlistSimulations.{IsSimulated, AreStimuli}
 use Rattle.mp_run.specs.declared.stimuli.StimulusChange.{StimulusChange}
 use Rattle.mp_run.specs.Stimuli.{rest_of, left_of, bits_at, levels_at, changes_after}
-use Rattle.mp_evaluation.specs.declared.checkpoints.Checkpoint.{Checkpoint}
-use Rattle.mp_region_runs.specs.StateHistories.{AreKept, IsStateHistory}
+use Rattle.mp_region_runs.specs.StateHistories.{HasHistory, IsHistory}
 use Rattle.mp_region_runs.specs.RegionRuns.{AreComing}
-use Rattle.mp_region_runs.proofs.StateHistoryLemmas.{unit_over}
+use Rattle.mp_region_runs.proofs.StateHistoryLemmas.{has_history, history_over}
 use Rattle.mp_region_runs.proofs.RegionRunLemmas.{stimuli_are, coming_next}
 use Rattle.mp_region_runs.proofs.region_run.RegionRun.run_unit.Goals as goal
 
-pub pass-requires-clause-before : goal.pass-requires-clause-before
-pass-requires-clause-before g c =
+pub pass_history-requires-clause-before : goal.pass_history-requires-clause-before
+pass_history-requires-clause-before g c =
     let next : c.args.time - 1 + 1 ≡ c.args.time = (let later = c.requires.later in omega (arith, later)) in
-    subst (λ k. IsStateHistory c.args.region.now k (c.args.time - 1) c.args.self.now.history) next c.requires.before.is.kept
+    let can = c.requires.before in
+    subst (λ k. HasHistory c.args.region.now k (c.args.time - 1) c.args.self.now.history) next (has_history c.args.region.now can.keeps (c.args.time - 1 + 1) (c.args.time - 1) c.args.self.now.history can.is.kept)
 
 pub apply-requires-clause-fit : goal.apply-requires-clause-fit
 apply-requires-clause-fit g c =
@@ -68,7 +68,7 @@ fire-requires g c =
     }
 
 pub returns : goal.returns
-returns g c is_heard until before is =
+returns g c keeps is_heard until before is =
     let n = c.args.region.now in
     let t = c.args.time - 1 in
     let ok = c.horizon-horizon.ensures.form in
@@ -94,12 +94,8 @@ returns g c is_heard until before is =
       heard =
           subst (λ (ss : List StimulusChange). AreComing n is_heard c.args.time until ss) (sym (c.in_ok-hear.ensures.left ∙ ap (λ k. changes_after k heard) now))
           (subst (λ k. AreComing n is_heard k until (changes_after (t + 1) heard)) (sym now) (coming_next n is_heard t until heard is.heard));
-      kept = record {
-        kept =
-            subst (λ k. AreKept n (c.args.time + 1) k c.mark.new.self.marks.items c.mark.new.self.kept.items) (sym now)
-            (subst (λ (kept : List (List Checkpoint)). AreKept n (c.args.time + 1) (t + 1) c.mark.new.self.marks.items kept) (sym c.mark.ensures.kept)
-            (unit_over n (c.args.time + 1) t c.pass.new.self.marks.items c.mark.new.self.marks.items c.pass.new.self.list.items c.mark.new.self.list.items c.due-due.result.now c.pass.new.self.kept.items
-            c.in_ok-mark.ensures.added (λ m r at idle. c.due-due.ensures n t m r ok applied at idle) c.in_ok-pass.ensures.kept));
-        listed = c.in_ok-mark.ensures.added.listed c.in_ok-pass.ensures.listed;
-      };
+      kept =
+          subst (λ k. IsHistory n keeps (c.args.time + 1) k c.mark_fired.new.history) (sym now)
+          (history_over n keeps (c.args.time + 1) t c.due-due.result.now c.pass_history.new.history c.mark_fired.new.history (λ m r at idle. c.due-due.ensures n t m r ok applied at idle) c.in_ok-mark_fired.ensures
+          (c.in_ok-pass_history.ensures keeps (subst (λ k. IsHistory n keeps k t c.args.self.now.history) (sym now) is.kept)));
     }

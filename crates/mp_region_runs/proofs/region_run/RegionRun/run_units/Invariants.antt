@@ -6,5 +6,5 @@ use Rattle.mp_region_runs.proofs.region_run.RegionRun.run_units.Given as goal
 abbrev pub invariant-loop-time : goal.invariant-loop-time
 invariant-loop-time g l = record {
   can : CanRun l.region (l.time - 1) l.to l.self;
-  over : (is_heard : ℕ → Bool) (until : ℕ) → l.to ≤ until → IsUnderWay l.region is_heard (l.from - 1) until l.fn.self → IsUnderWay l.region is_heard (l.time - 1) until l.self;
+  over : (keeps : Bool) (is_heard : ℕ → Bool) (until : ℕ) → l.to ≤ until → IsUnderWay l.region keeps is_heard (l.from - 1) until l.fn.self → IsUnderWay l.region keeps is_heard (l.time - 1) until l.self;
 }

@@ -11,6 +11,6 @@ pub returns : goal.returns
 returns g c =
     let it = c.captures.first in
     let count = subst (λ o. IfSome o (λ others. length others.items + 1 ≡ it.division.now.parts)) c.in-Some.is c.in_ok-others.ensures.count in
-    let others = subst (λ o. IfSome o (λ others. AreOthers it.netlist.now it.division.now (map (λ other. other.promise) others.items))) c.in-Some.is c.in_ok-others.ensures.others in
-    let first = subst (λ part. IsPartRun (region it.netlist.now it.division.now.homes.items part (heard_by it.division.now.heard.items part)) c.in_ok-run.run') c.requires.first.1 c.in_ok-run.ensures in
-    c.in_ok-join_others.ensures it.netlist.now it.division.now (ap (λ k. k + 1) (length-map c.in-Some.others.items (λ other. other.promise)) ∙ count) first others
+    let others = subst (λ o. IfSome o (λ others. AreOthers it.netlist.now it.division.now it.keeps (map (λ other. other.promise) others.items))) c.in-Some.is c.in_ok-others.ensures.others in
+    let first = subst (λ part. IsPartRun (region it.netlist.now it.division.now.homes.items part (heard_by it.division.now.heard.items part)) it.keeps c.in_ok-run.run') c.requires.first.1 c.in_ok-run.ensures in
+    c.in_ok-join_others.ensures it.netlist.now it.division.now it.keeps (ap (λ k. k + 1) (length-map c.in-Some.others.items (λ other. other.promise)) ∙ count) first others

@@ -3,7 +3,7 @@ use Rattle.std.specs.Arc.{arc_value}
 use Rattle.mp_netlist.specs.Circuit.{wire_at}
 use Rattle.mp_model.specs.Waves.{slot_wave}
 use Rattle.mp_evaluation.specs.Outcomes.{AreSlots}
-use Rattle.mp_merging.proofs.merging.merged_waves.Given as goal
+use Rattle.mp_merging.proofs.merging.wave_list.Given as goal
 
 -- those so far
 abbrev pub invariant-loop-w : goal.invariant-loop-w
