@@ -103,3 +103,8 @@ pub last_kept-at : (ks : List Checkpoint) (k : Checkpoint) (i : ℕ) (before : M
 last_kept-at [] k i before end is = absurd (omega arith)
 last_kept-at (x ∷ ks) k zero before end is = last_of_none ks x.memory (omega arith) ∙ ap (λ (y : Checkpoint). y.memory) (same_Some x k is)
 last_kept-at (x ∷ ks) k (suc i) before end is = last_kept-at ks k i x.memory (omega arith) is
+
+-- a list that has an element isn't empty
+pub some_there : (ks : List Checkpoint) (k : Checkpoint) (i : ℕ) → Some k ≡ slice_get ks i → 0 < length ks
+some_there [] k i is = absurd (cc is)
+some_there (x ∷ ks) k i is = omega arith

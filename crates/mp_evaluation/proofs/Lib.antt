@@ -1,3 +1,4 @@
 pub mod MarkLemmas
 pub mod KeepLemmas
 pub mod OutcomeLemmas
+pub mod SearchLemmas

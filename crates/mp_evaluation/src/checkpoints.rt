@@ -1,5 +1,7 @@
 //! States of modules that are kept, for evaluations that begin later.
-ghost use Rattle.std.specs.Prelude.{◌≡◌, ◌<◌, ◌≤◌, ◌++◌, ◌∷◌, [], All, OnOk};
+ghost use Rattle.std.specs.Prelude.{◌≡◌, ◌<◌, ◌≤◌, ◌++◌, ◌∷◌, [], All, IfOk, OnOk};
+ghost use Rattle.std.specs.List.Sorted.{IsNonDecreasingBy};
+ghost use Rattle.mp_evaluation.specs.declared.checkpoints.Checkpoint.{Checkpoint as Kept};
 
 use mp_modules::Memory;
 use std::alloc::{AllocError, Global};
@@ -16,6 +18,7 @@ pub struct Checkpoint {
 #[derive(Drop)]
 pub struct Checkpoints {
     list: Vec<Checkpoint>,
+    ghost rising: { IsNonDecreasingBy (λ (kept : Kept). kept.time) list.items },
 }
 
 impl Model for Checkpoints {
@@ -28,8 +31,7 @@ impl Model for Checkpoints {
 }
 
 impl Checkpoints {
-    ghost use Rattle.mp_evaluation.specs.Checkpoints.{kept_at, KeepsFrom, KeepsBetween};
-    ghost use Rattle.mp_evaluation.specs.declared.checkpoints.Checkpoint.{Checkpoint as Kept};
+    ghost use Rattle.mp_evaluation.specs.Checkpoints.{kept_at, kept_before, KeepsFrom, KeepsBetween};
     ghost use Rattle.mp_modules.specs.Memories.{blank};
 
     /// None are kept.
@@ -41,8 +43,18 @@ impl Checkpoints {
         }
     }
 
+    /// The state in which a module starts, before time 0, alone.
+    pub fn of_start(alloc: Global, memory: Memory) -> Result<Self, AllocError>
+        ensures { IfOk result (λ kept. kept ≡ record { time = 0; memory = memory } ∷ []) }
+    {
+        let mut kept = Checkpoints::new(alloc);
+        kept.push(Checkpoint { time: 0, memory })?;
+        Ok(kept)
+    }
+
     /// One more, of a time that isn't before the others.
-    pub fn push(&mut self, checkpoint: Checkpoint) -> Result<(), AllocError>
+    fn push(&mut self, checkpoint: Checkpoint) -> Result<(), AllocError>
+        requires { All (λ (kept : Kept). kept.time ≤ checkpoint.time) self.old }
         ensures { OnOk result (self.new ≡ self.old ++ checkpoint ∷ []) }
     {
         self.list.push(checkpoint)?;
@@ -68,8 +80,8 @@ impl Checkpoints {
         self.keep(time, memory)
     }
 
-    /// From a time on, which isn't before any other, the states are kept that another list keeps up to an end. It takes as long as that
-    /// list up to the end.
+    /// From a time on, which isn't before any other, the states are kept that another list keeps up to an end. What comes before is passed
+    /// over by a search.
     pub fn follow(&mut self, other: &Checkpoints, from: u32, to: u32) -> Result<(), AllocError>
         requires over { All (λ (kept : Kept). kept.time ≤ from) self.old }
         requires some { from < to }
@@ -77,27 +89,34 @@ impl Checkpoints {
     {
         let (memory, later) = split(other.list.as_slice(), from);
         self.push(Checkpoint { time: from, memory })?;
-        add_before(&mut self.list, later, to)
+        self.add_before(later, to)
     }
 
-    /// The last that is kept for a time not after this one, or a blank one.
+    /// Adds those states of a list, of later times, that are kept for times before an end.
+    fn add_before(&mut self, more: &[Checkpoint], end: u32) -> Result<(), AllocError>
+        requires over { All (λ (later : Kept). All (λ (kept : Kept). kept.time ≤ later.time) self.old) more.now }
+        requires rising { IsNonDecreasingBy (λ (later : Kept). later.time) more.now }
+        ensures { OnOk result (self.new ≡ self.old ++ kept_before end more.now) }
+    {
+        for checkpoint in more {
+            if checkpoint.time >= end {
+                return Ok(());
+            }
+            self.push(*checkpoint)?;
+        }
+        Ok(())
+    }
+
+    /// The last that is kept for a time not after this one, or a blank one. It is searched for.
     pub fn kept_at(&self, time: u32) -> Memory
         ensures { result ≡ kept_at self.now time blank }
     {
-        let mut kept = Memory::with_one_output(&[], 0);
-        let list = self.list.as_slice();
-        for checkpoint in list {
-            if checkpoint.time > time {
-                return kept;
-            }
-            kept = checkpoint.memory;
-        }
-        kept
+        split(self.list.as_slice(), time).0
     }
 }
 
 ghost use Rattle.std.specs.Prelude.{◌↔◌, ℕ, IsTrue};
-ghost use Rattle.mp_evaluation.specs.Checkpoints.{kept_at, kept_before, last_kept};
+ghost use Rattle.mp_evaluation.specs.Checkpoints.{kept_at, last_kept};
 ghost use Rattle.mp_modules.specs.Memories.{blank};
 
 /// Whether this state is the last that is kept.
@@ -118,29 +137,23 @@ fn is_same(one: Memory, other: Memory) -> bool
 
 /// The last that is kept for a time not after this one, or a blank one, and what is kept for later times.
 fn split(list: &[Checkpoint], time: u32) -> (Memory, &[Checkpoint])
-    ensures { (c : ℕ) → time ≤ c → kept_at list.now c blank ≡ kept_at result.1.now c result.0 }
+    requires { IsNonDecreasingBy (λ (kept : Kept). kept.time) list.now }
+    ensures at { kept_at list.now time blank ≡ result.0 }
+    ensures from { (c : ℕ) → time ≤ c → kept_at list.now c blank ≡ kept_at result.1.now c result.0 }
+    ensures later { All (λ (kept : Kept). time < kept.time) result.1.now }
+    ensures rising { IsNonDecreasingBy (λ (kept : Kept). kept.time) result.1.now }
 {
-    let mut memory = Memory::with_one_output(&[], 0);
-    let mut rest = list;
-    while let Some((first, later)) = rest.split_first() {
-        if first.time > time {
-            return (memory, rest);
-        }
-        memory = first.memory;
-        rest = later;
-    }
-    (memory, rest)
+    let count = list.partition_point(|kept| kept.time <= time);
+    let (before, later) = list.split_at(count);
+    (last_state(before), later)
 }
 
-/// Adds what is kept for times before an end.
-fn add_before(list: &mut Vec<Checkpoint>, more: &[Checkpoint], end: u32) -> Result<(), AllocError>
-    ensures { OnOk result (list.new.items ≡ list.old.items ++ kept_before end more.now) }
+/// The last state of a list, or a blank one.
+fn last_state(list: &[Checkpoint]) -> Memory
+    ensures { result ≡ last_kept list.now blank }
 {
-    for checkpoint in more {
-        if checkpoint.time >= end {
-            return Ok(());
-        }
-        list.push(*checkpoint)?;
+    match list.last() {
+        Some(last) => last.memory,
+        None => Memory::with_one_output(&[], 0),
     }
-    Ok(())
 }

@@ -6,7 +6,7 @@ ghost use Rattle.mp_evaluation.specs.Marks.{is_marked, AreListed, AreAdded};
 ghost use Rattle.mp_region_runs.specs.StateHistories.{ids_of, first_kept, AreFirst, AreKept};
 
 use crate::marks::no_marks;
-use mp_evaluation::{Checkpoint, Checkpoints};
+use mp_evaluation::Checkpoints;
 use mp_modules::EventModule;
 use mp_netlist::{ModuleId, checkpoint_units};
 use mp_regions::Region;
@@ -145,12 +145,10 @@ fn first_state(alloc: Global, netlist: &Region<'_>, id: ModuleId) -> Result<Chec
     requires { IsCircuit netlist.now }
     ensures { IfOk result (λ kept. kept ≡ first_kept netlist.now (module_at netlist.now id.0)) }
 {
-    let mut kept = Checkpoints::new(alloc);
-    if let Some(found) = netlist.module(id) {
-        let memory = netlist.built(found).start();
-        kept.push(Checkpoint { time: 0, memory })?;
+    match netlist.module(id) {
+        Some(found) => Checkpoints::of_start(alloc, netlist.built(found).start()),
+        None => Ok(Checkpoints::new(alloc)),
     }
-    Ok(kept)
 }
 
 fn is_marked(marks: &[bool], id: ModuleId) -> bool

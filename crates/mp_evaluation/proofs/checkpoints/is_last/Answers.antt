@@ -1,12 +1,7 @@
-use Rattle.std.proofs.Common.{◌≡◌, ◌+◌, ◌-◌, ◌<◌, ℕ, List, [], ◌∷◌, Some, length, slice_get, sym, ◌∙◌, arith}
+use Rattle.std.proofs.Common.{◌≡◌, ◌+◌, ◌-◌, length, sym, ◌∙◌, arith}
 use Rattle.mp_modules.specs.Memories.{blank}
-use Rattle.mp_evaluation.specs.declared.checkpoints.Checkpoint.{Checkpoint}
-use Rattle.mp_evaluation.proofs.KeepLemmas.{last_kept-at}
+use Rattle.mp_evaluation.proofs.KeepLemmas.{some_there, last_kept-at}
 use Rattle.mp_evaluation.proofs.checkpoints.is_last.Goals as goal
-
-some_there : (ks : List Checkpoint) (k : Checkpoint) (i : ℕ) → Some k ≡ slice_get ks i → 0 < length ks
-some_there [] k i is = absurd (cc is)
-some_there (x ∷ ks) k i is = omega arith
 
 pub returns-in-Some : goal.returns-in-Some
 returns-in-Some c same =

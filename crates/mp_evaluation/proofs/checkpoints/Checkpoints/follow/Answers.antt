@@ -4,16 +4,22 @@ use Rattle.mp_modules.specs.Memories.{blank}
 use Rattle.mp_evaluation.specs.declared.checkpoints.Checkpoint.{Checkpoint}
 use Rattle.mp_evaluation.specs.Checkpoints.{kept_at, kept_before, KeepsBetween}
 use Rattle.mp_evaluation.proofs.KeepLemmas.{keeps_between}
+use Rattle.mp_evaluation.proofs.SearchLemmas.{AreOver, over-new}
 use Rattle.mp_evaluation.proofs.checkpoints.Checkpoints.follow.Goals as goal
+
+pub add_before-requires-clause-over : goal.add_before-requires-clause-over
+add_before-requires-clause-over c =
+    let later = c.split.result.1.now in
+    let new : Checkpoint = record { time = c.args.from; memory = c.split.result.0 } in
+    subst (λ (l : List Checkpoint). AreOver l later) (sym c.in_ok-push.ensures) (over-new c.args.self.now later new c.requires.over c.split.ensures.later)
 
 pub returns : goal.returns
 returns c =
     let later = c.split.result.1.now in
     let whole = c.as_slice.ensures.value ∙ c.other.view_is in
     let ks : List Checkpoint = c.args.self.now in
-    let new : Checkpoint = record { time = c.args.from; memory = c.split.result.0 } in
     on_ok_weaker c.add_before.result
-    (λ e. subst (KeepsBetween ks c.args.other.now c.args.from c.args.to) (sym (e ∙ ap (λ (xs : List Checkpoint). xs ++ kept_before c.args.to later) (c.self.view_is ∙ c.in_ok-push.ensures)))
-    (keeps_between c.args.self.now c.args.other.now later c.args.from c.args.to c.split.result.0 c.requires.over c.requires.some
-    (λ time le. subst (λ (ks : List Checkpoint). kept_at ks time blank ≡ kept_at later time c.split.result.0) whole (c.split.ensures time le))))
+    (λ e. subst (KeepsBetween ks c.args.other.now c.args.from c.args.to) (sym (e ∙ ap (λ (xs : List Checkpoint). xs ++ kept_before c.args.to later) c.in_ok-push.ensures))
+    (keeps_between ks c.args.other.now later c.args.from c.args.to c.split.result.0 c.requires.over c.requires.some
+    (λ time le. subst (λ (ks : List Checkpoint). kept_at ks time blank ≡ kept_at later time c.split.result.0) whole (c.split.ensures.from time le))))
     c.add_before.ensures
