@@ -9,4 +9,4 @@ use Rattle.mp_records.specs.declared.edit.Edit.{Edit}
 pub edits_next : (edits : List Edit) (k : ℕ) → k < length edits → edits_from edits k ≡ numbered_at (k + 1) (slice_get edits k) ++ edits_from edits (k + 1)
 edits_next edits k low = grind (arith, slice_get_cases, drop_more)
 
-pub ruleset edit_answers_put_edits_steps = (left_whole, edits_next, left_then, left_as, drop_all, left_none)
+pub ruleset lines_left_steps = (left_whole, edits_next, left_then, left_as, drop_all, left_none)

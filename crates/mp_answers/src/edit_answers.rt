@@ -9,7 +9,7 @@ use mp_streams::{Failed, Out, Sink, Text};
 use mp_version::History;
 
 /// Writes a line `N EDIT` for each edit from this place on, the first place being 0.
-#[tactic(auto, using(crate::proofs::EditAnswerLemmas::edit_answers_put_edits_steps))]
+#[tactic(auto, using(crate::proofs::EditAnswerLemmas::lines_left_steps))]
 pub(crate) fn put_edits<T: Sink>(
     out: &mut Out<T>,
     edits: &History,

@@ -25,8 +25,6 @@ impl<'a> Model for Snapshot<'a> {
 }
 
 impl<'a> Snapshot<'a> {
-    ghost use Rattle.std.specs.Prelude.{◌≡◌};
-
     /// The netlist of the version.
     pub(crate) fn netlist(&self) -> &'a Netlist
         ensures { result.now ≡ self.now.netlist }

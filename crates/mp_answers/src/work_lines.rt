@@ -9,6 +9,7 @@ use mp_streams::{Failed, Out, Sink, Text, WriteError};
 use mp_work::{Work, WorkEntry};
 
 /// Writes a line for each entry of work, `MODULE FROM TO`, as it comes. An entry of a module that doesn't stand has none.
+#[tactic(auto, using(crate::proofs::EditAnswerLemmas::lines_left_steps))]
 pub fn put_work_lines<T: Sink>(
     out: &mut Out<T>,
     netlist: &Netlist,

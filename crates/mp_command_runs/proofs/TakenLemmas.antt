@@ -1,6 +1,6 @@
 -- What a run takes of its source.
 use Rattle.std.specs.Prelude.{◌≡◌, ◌+◌, ◌-◌, ◌<◌, ◌≤◌, ◌⊎◌, ◌++◌}
-use Rattle.mp_command_runs.proofs.Names.{ℕ, inl, inr, IfSome, List, length, take, Option, None, Some, ap, subst, sym, ◌∙◌, arith, length-append, max_short_text, text_limit, limit_least, limit_of_front, taken_of, TakesInput}
+use Rattle.mp_command_runs.proofs.Names.{ℕ, inl, inr, IfSome, List, length, min, take, cases_lt, Option, None, Some, ap, subst, sym, ◌∙◌, arith, length-append, max_short_text, text_limit, limit_least, limit_of_front, taken_of, TakesInput}
 use Rattle.std.specs.Io.KnownBytes.{Consumes, IsAtEnd}
 use Rattle.std.proofs.KnownBytes.{Consumes-trans}
 use Rattle.std.proofs.Math.Seq.{take-append_seam}
@@ -14,13 +14,12 @@ taken_by (Some bytes) first text front taken = taken ∙ ap (λ l. take (l + 1) 
 
 -- where these are all, or the input may not have more, they are what is taken
 pub first_taken : (old new : Option (List ℕ)) (first : List ℕ) → Consumes old new first → length first ≤ max_short_text + 1 → (length first < max_short_text + 1 → IsAtEnd new)
-    → IfSome old (λ bytes. first ≡ take (max_short_text + 1) bytes) → (length first ≤ max_short_text) ⊎ (text_limit first ≤ max_short_text) → IfSome old (λ bytes. first ≡ taken_of bytes)
-first_taken old new first took most end front (inl few) =
-    taken_by old first first front
-    (taken_front old new first (text_limit first + 1) took (omega (arith, few, limit_least first)) (λ less. end (omega (arith, few))))
-first_taken old new first took most end front (inr low) =
-    let same : max_short_text ≡ text_limit first = omega (arith, low, limit_least first) in
-    taken_by old first first front (subst (λ l. IfSome old (λ bytes. first ≡ take (l + 1) bytes)) same front)
+    → IfSome old (λ bytes. first ≡ take (max_short_text + 1) bytes) → min (length first) (text_limit first) ≤ max_short_text → IfSome old (λ bytes. first ≡ taken_of bytes)
+first_taken old new first took most end front low = taken_by old first first front (by (cases_lt max_short_text (length first)))
+  where
+    by : (max_short_text < length first) ⊎ (length first ≤ max_short_text) → IfSome old (λ bytes. first ≡ take (text_limit first + 1) bytes)
+    by (inl long) = let same : max_short_text ≡ text_limit first = omega (arith, low, long, limit_least first) in subst (λ l. IfSome old (λ bytes. first ≡ take (l + 1) bytes)) same front
+    by (inr few) = taken_front old new first (text_limit first + 1) took (omega (arith, few, limit_least first)) (λ less. end (omega (arith, few)))
 
 -- else more are taken
 pub more_taken : (old mid new : Option (List ℕ)) (first rest : List ℕ) → Consumes old mid first → Consumes mid new rest → length first ≤ max_short_text + 1 → max_short_text < length first
@@ -59,3 +58,5 @@ within_limit first rest long most few =
     let front : take (max_short_text + 1) (first ++ rest) ≡ first = ap (λ k. take k (first ++ rest)) whole ∙ take-append_seam first rest in
     let same : text_limit first ≡ text_limit (first ++ rest) = ap text_limit (sym front) ∙ limit_of_front (max_short_text + 1) (first ++ rest) (omega arith) in
     omega (arith, length-append first rest, limit_least first, same, most, few)
+
+pub ruleset take_steps = (takes_first, takes_more, limit_least)

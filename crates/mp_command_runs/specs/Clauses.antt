@@ -1,4 +1,4 @@
--- The names that clauses here cite, passed on from one place. Declares nothing.
+-- The names that clauses and proofs here cite, passed on from one place. Declares nothing.
 pub use Rattle.std.specs.Prelude.{Bool, IfErr, IfOk, IfSome, IsSomeAnd, List, Ok, OnOk, Result, Some, [], false, is_some, length, map, slice_index_or, ℕ, ◌&&◌, ◌++◌, ◌+◌, ◌≡◌, ◌≤◌}
 pub use Rattle.std.specs.Thread.{IsSync}
 pub use Rattle.mp_netlist.specs.Circuit.{Circuit}
@@ -7,10 +7,10 @@ pub use Rattle.mp_text.specs.Sizes.{text_limit}
 pub use Rattle.mp_words.specs.Lines.{lines_of}
 pub use Rattle.mp_command_runs.specs.Limits.{max_input}
 pub use Rattle.mp_command_runs.specs.OpenedInputs.{StaysShutWith, opening_with}
-pub use Rattle.mp_command_runs.specs.Openings.{opening_of, taken_of, viewed_opening, within_size}
+pub use Rattle.mp_command_runs.specs.Openings.{counted_netlist, opening_of, taken_of, too_long, viewed_opening, within_size}
 pub use Rattle.mp_command_runs.specs.OptionLimits.{has_valid_crew}
-pub use Rattle.mp_command_runs.specs.RunFaults.{counted_reads, fault_of_take, fault_of_text, fault_of_write, line_of, numbered, status_of, text_line, wire_fault_line}
-pub use Rattle.mp_command_runs.specs.Runs.{HasInput, IsInput, Ran, RanFrom, Refuses, StaysUnread, TakesInput}
+pub use Rattle.mp_command_runs.specs.RunFaults.{counted_reads, fault_at, fault_of_take, fault_of_text, fault_of_write, line_of, numbered, status_of, text_line, wire_fault_line}
+pub use Rattle.mp_command_runs.specs.Runs.{HasInput, IsInput, Ran, RanFrom, Refuses, StaysUnread, TakesInput, WritesOne}
 pub use Rattle.mp_command_runs.specs.declared.options.Options.{Options}
 pub use Rattle.mp_command_runs.specs.declared.run_fault.RunFault.{RunFault}
-pub use Rattle.mp_command_runs.specs.declared.run_fault.RunFault.TheVariants.{OutOfMemory, WriteFailed}
+pub use Rattle.mp_command_runs.specs.declared.run_fault.RunFault.TheVariants.{BadCount, NoPlace, NoSuchWire, OutOfMemory, ReadFailed, Text, WriteFailed}

@@ -8,7 +8,7 @@ pub use Rattle.mp_streams.specs.StreamFaults.{one_more}
 pub use Rattle.mp_streams.specs.WriteErrors.{Writes}
 pub use Rattle.mp_streams.specs.declared.take_error.TakeError.{TakeError}
 pub use Rattle.mp_streams.specs.declared.write_error.WriteError.{WriteError}
-pub use Rattle.mp_text.specs.Limits.{max_text}
+pub use Rattle.mp_text.specs.Limits.{max_short_text, max_text}
 pub use Rattle.mp_text.specs.Sizes.{text_limit}
 pub use Rattle.mp_text.specs.TextCodes.{name_of, number_of}
 pub use Rattle.mp_text.specs.Texts.{after_lines}

@@ -30,6 +30,7 @@ pub(crate) fn read_input<S: Source>(alloc: Global, source: &mut S) -> Result<Vec
 
 /// Takes the input of a run: all that the source has, but no more than as many bytes as a text may have that begins so, and one more, by which
 /// it is known to be too long. `Failed` comes with the first fault of the source, `OutOfMemory` where the memory for the bytes is refused.
+#[tactic(auto, using(crate::proofs::TakenLemmas::take_steps))]
 fn take_input<S: Source>(alloc: Global, source: &mut S) -> Result<Vec<u8>, TakeError>
     ensures within { IfOk result (λ input. length input.items ≤ text_limit input.items + 1) }
     ensures front { IfOk result (λ input. IfSome (S.left source.old) (λ bytes. input.items ≡ taken_of bytes)) }
@@ -37,11 +38,8 @@ fn take_input<S: Source>(alloc: Global, source: &mut S) -> Result<Vec<u8>, TakeE
     ensures faults { S.fault_count source.new ≡ counted_take result (S.fault_count source.old) }
 {
     let mut input = take_all(alloc, source, MAX_SHORT_TEXT + 1)?;
-    if input.len() <= MAX_SHORT_TEXT {
-        return Ok(input);
-    }
     let limit = text_limit(input.as_slice());
-    if limit <= MAX_SHORT_TEXT {
+    if input.len().min(limit) <= MAX_SHORT_TEXT {
         return Ok(input);
     }
     let rest = take_all(alloc, source, limit - MAX_SHORT_TEXT)?;

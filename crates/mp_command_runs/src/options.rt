@@ -21,9 +21,6 @@ impl Options {
     pub fn crew(&self) -> Option<Crew>
         ensures { is_some result ≡ has_valid_crew self.now }
     {
-        match Crew::new(self.workers, self.least) {
-            Ok(crew) => Some(crew),
-            Err(_) => None,
-        }
+        Crew::new(self.workers, self.least).ok()
     }
 }

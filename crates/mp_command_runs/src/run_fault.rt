@@ -5,7 +5,7 @@ ghost use Rattle.mp_command_runs.specs.Clauses.{[], IfOk, map, slice_index_or, W
 use mp_netlist::EditError;
 use mp_streams::{Failed, TakeError, WriteError};
 use mp_text::{LineError, TextCode, TextError};
-use std::alloc::{AllocError, AllocFailed, Global};
+use std::alloc::{AllocError, Global};
 use thiserror::Error;
 
 /// Why a run ends early.
@@ -84,14 +84,6 @@ impl From<AllocError> for RunFault {
     }
 }
 
-impl<T: Drop> From<AllocFailed<T>> for RunFault {
-    ghost from_gives = { λ _ fault. fault ≡ OutOfMemory };
-
-    fn from(_error: AllocFailed<T>) -> RunFault {
-        RunFault::OutOfMemory
-    }
-}
-
 /// The status with which the program ends: 1 for what was asked of it, 3 for a device, 4 for want
 /// of memory or of a place.
 pub fn exit_status(fault: &RunFault) -> u8
@@ -123,10 +115,7 @@ pub fn fault_line(alloc: Global, fault: &RunFault, wires: &[&str]) -> Result<Vec
 fn wire_at<'a>(wires: &[&'a str], place: usize) -> &'a str
     ensures { result.now ≡ slice_index_or (map (λ wire. wire.now) wires.now) place [] }
 {
-    match wires.get(place) {
-        Some(wire) => wire,
-        None => "",
-    }
+    wires.get(place).copied().unwrap_or("")
 }
 
 fn wire_line(alloc: Global, wire: &str) -> Result<Vec<u8>, AllocError>

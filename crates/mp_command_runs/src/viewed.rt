@@ -28,9 +28,6 @@ pub struct Viewed<V> {
 }
 
 impl<V: View> Viewed<V> {
-    ghost use Rattle.std.specs.Prelude.{◌≡◌, ◌&&◌};
-    ghost use Rattle.mp_command_runs.specs.Clauses.{is_some, has_valid_crew};
-
     /// The crew of the options, where there is a view too.
     fn crew(&self, options: &Options) -> Option<Crew>
         ensures { is_some result ≡ (has_valid_crew options.now && is_some self.now.view) }

@@ -1,7 +1,8 @@
 -- What is told over a run of times.
 use Rattle.std.specs.Prelude.{◌≡◌, ◌+◌, ◌<◌, ◌≤◌, ◌∷◌, ◌++◌}
-use Rattle.mp_report.proofs.Names.{ℕ, List, [], flat_map, zero, suc, refl, ap, ◌∙◌, append-nil, arith, range_with_len}
+use Rattle.mp_report.proofs.Names.{ℕ, List, [], map, flat_map, Place, zero, suc, refl, append-nil, append_assoc, arith, range_with_len}
 use Rattle.std.proofs.lemmas.Grind.{flat_map-append}
+use Rattle.std.proofs.lemmas.List.FromFn.{map-range_with_len_more}
 
 pub times_more : (a n : ℕ) → range_with_len a (n + 1) ≡ range_with_len a n ++ (a + n) ∷ []
 times_more a zero = grind arith
@@ -22,16 +23,17 @@ module _ {X : Type 0} (told : ℕ → List X) where
 
   -- times at which nothing is told
   pub told_quiet : (a n j : ℕ) → ((t : ℕ) → a + n ≤ t → t < a + n + j → told t ≡ []) → flat_map told (range_with_len a (n + j)) ≡ flat_map told (range_with_len a n)
-  told_quiet a n zero quiet = let same : n + 0 ≡ n = omega arith in ap (λ k. flat_map told (range_with_len a k)) same
+  told_quiet a n zero quiet = grind arith
   told_quiet a n (suc j) quiet =
-      let same : n + suc j ≡ n + j + 1 = omega arith in
-      ap (λ k. flat_map told (range_with_len a k)) same
-      ∙ told_more a (n + j) (a + n + j) (omega arith)
-      ∙ ap (λ xs. flat_map told (range_with_len a (n + j)) ++ xs) (quiet (a + n + j) (omega arith) (omega arith))
-      ∙ append-nil (flat_map told (range_with_len a (n + j)))
-      ∙ told_quiet a n j (λ t low high. quiet t low (omega (arith, high)))
+      grind (arith, append-nil, (told_more a (n + j) (a + n + j) (omega arith)), (quiet (a + n + j) (omega arith) (omega arith)), (told_quiet a n j (λ t low high. quiet t low (omega (arith, high)))))
 
   -- the same where they tell the same from a time on
   pub told_same_from : (other : ℕ → List X) (a n : ℕ) → ((t : ℕ) → a ≤ t → t < a + n → told t ≡ other t) → flat_map told (range_with_len a n) ≡ flat_map other (range_with_len a n)
   told_same_from other a zero same = refl
   told_same_from other a (suc n) same = grind (arith, (told_same_from other (a + 1) n (λ t low high. same t (omega (arith, low)) (omega (arith, high)))))
+
+-- one place more
+pub place_more : (place : ℕ → Place) (n : ℕ) → map place (range_with_len 0 (n + 1)) ≡ map place (range_with_len 0 n) ++ place n ∷ []
+place_more place n = map-range_with_len_more place 0 n n (omega arith)
+
+pub ruleset places_steps = (place_more, append_assoc)

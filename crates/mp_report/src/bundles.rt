@@ -1,5 +1,5 @@
 //! What is found at a bundle.
-ghost use Rattle.std.specs.Prelude.{◌≡◌, ◌-◌, ◌<◌, ◌&&◌};
+ghost use Rattle.std.specs.Prelude.{◌≡◌, ◌-◌, ◌<◌};
 ghost use Rattle.mp_report.specs.Clauses.{IsSome, IfOk, flat_map, range_with_len, IsBundle, IsCircuit, wire_at, AreWavesOf, level, bundle_place, is_requested_soon, findings_of, IsAhead, AreAhead, found_over};
 ghost use Rattle.mp_report.specs.Bundles.{bundle_set};
 
@@ -92,16 +92,10 @@ fn found_now(netlist: &Netlist, bundle: &BundleRecord, watch: Watch<'_>, time: u
     let busy = watch.request.level != watch.acknowledge.level;
     let soon = is_requested_soon(netlist, bundle, watch.request, time);
     FindingSet::empty()
-        .with_if(FindingCode::DataWhileBusy, both(payload, busy))
-        .with_if(FindingCode::Setup, both(payload, soon))
-        .with_if(FindingCode::RequestWhileBusy, both(request, busy))
-        .with_if(FindingCode::AckWhileIdle, both(acknowledge, !busy))
-}
-
-fn both(one: bool, other: bool) -> bool
-    ensures { result ≡ one && other }
-{
-    one && other
+        .with_if(FindingCode::DataWhileBusy, payload & busy)
+        .with_if(FindingCode::Setup, payload & soon)
+        .with_if(FindingCode::RequestWhileBusy, request & busy)
+        .with_if(FindingCode::AckWhileIdle, acknowledge & !busy)
 }
 
 /// Whether a request event stands at a time, or below the horizon no more than the setup after it.

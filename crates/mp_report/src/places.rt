@@ -10,6 +10,7 @@ use mp_response::Findings;
 use std::alloc::{AllocError, Global};
 
 /// The modules by number, and then the bundles by number, removed ones among them.
+#[tactic(auto, using(crate::proofs::TimeLemmas::places_steps))]
 pub(crate) fn places(alloc: Global, netlist: &Netlist) -> Result<Vec<Place>, AllocError>
     ensures { IfOk result (λ list. list.items ≡ places netlist.now) }
 {

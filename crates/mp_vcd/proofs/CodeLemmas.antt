@@ -33,11 +33,7 @@ pub bits_step : (whole digits : List ℕ) (start left rest : ℕ) → 0 < left �
     → whole ≡ bits (left - 1) (rest / 2) ++ drop (start - 1) (slice_set digits (start - 1) (bit rest))
 bits_step whole digits start left rest some room within same =
     let last : left ≡ suc (left - 1) = omega arith in
-    let place : start - 1 + 1 ≡ start = omega arith in
-    let back : drop (start - 1) (slice_set digits (start - 1) (bit rest)) ≡ bit rest ∷ drop start digits =
-    drop-set digits (start - 1) (bit rest) (omega arith) ∙ ap (λ k. bit rest ∷ drop k digits) place in
-    same ∙ ap (λ k. bits k rest ++ drop start digits) last ∙ ap (λ l. l ++ drop start digits) (bits-suc (left - 1) rest)
-    ∙ append_assoc (bits (left - 1) (rest / 2)) (bit rest ∷ []) (drop start digits) ∙ ap (λ l. bits (left - 1) (rest / 2) ++ l) (sym back)
+    grind (arith, append_assoc, (ap (λ k. bits k rest) last), (bits-suc (left - 1) rest), (drop-set digits (start - 1) (bit rest) (omega arith)))
 
 pub bits_long : (width level : ℕ) → length (bits width level) ≡ width
 bits_long zero level = grind (arith, nat_tests, bits-zero)

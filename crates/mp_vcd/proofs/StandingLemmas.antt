@@ -1,6 +1,6 @@
 -- The wires that stand, one after the other.
 use Rattle.std.specs.Prelude.{◌≡◌, ◌+◌, ◌-◌, ◌<◌, ◌≤◌, ◌∷◌, ◌++◌}
-use Rattle.mp_vcd.proofs.Names.{take_more, map-append, left_whole, left_then, left_as, left_none, ℕ, List, [], append_assoc, length, drop, Option, None, Some, zero, suc, refl, sym, ap, ◌∙◌, add-one, add-zero, arith, filter, flat_map, range_with_len, drop-cons, drop-length, Waveform, WireRecord, Circuit, IsCircuit, wire_at, width_of, slot_at, wave, slot_wave, if_stands, standing_from, is_changed, slot_text, with_levels, onto_slot, nat_tests}
+use Rattle.mp_vcd.proofs.Names.{take_more, map-append, left_whole, left_then, left_as, left_none, ℕ, List, [], append_assoc, length, drop, Option, None, Some, zero, suc, refl, ap, ◌∙◌, add-one, arith, filter, flat_map, range_with_len, drop-cons, drop-length, Waveform, WireRecord, Circuit, IsCircuit, wire_at, width_of, slot_at, wave, slot_wave, if_stands, standing_from, is_changed, slot_text, with_levels, onto_slot, nat_tests}
 
 pub standing_end : (slots : List (Option WireRecord)) (w : ℕ) → w ≡ length slots → standing_from w (drop w slots) ≡ []
 standing_end slots w over = ap (λ k. standing_from w (drop k slots)) over ∙ ap (standing_from w) (drop-length slots)
@@ -32,22 +32,14 @@ pub times_end : (t upto : ℕ) → upto ≤ t → range_with_len t (upto - t) �
 times_end t upto over = let none : upto - t ≡ 0 = omega arith in ap (range_with_len t) none
 
 -- the texts of some times, and then of others
-pub times_split : (f : ℕ → List ℕ) (t m k : ℕ) → flat_map f (range_with_len t (m + k)) ≡ flat_map f (range_with_len t m) ++ flat_map f (range_with_len (t + m) k)
-times_split f t zero k = let none : 0 + k ≡ k = omega arith in ap (λ j. flat_map f (range_with_len t j)) none ∙ ap (λ u. flat_map f (range_with_len u k)) (sym (add-zero t))
-times_split f t (suc m) k =
-    let more : suc m + k ≡ suc (m + k) = omega arith in
-    let later : t + 1 + m ≡ t + suc m = omega arith in
-    ap (λ j. flat_map f (range_with_len t j)) more
-    ∙ ap (λ l. f t ++ l) (times_split f (t + 1) m k ∙ ap (λ u. flat_map f (range_with_len (t + 1) m) ++ flat_map f (range_with_len u k)) later)
-    ∙ sym (append_assoc (f t) (flat_map f (range_with_len (t + 1) m)) (flat_map f (range_with_len (t + suc m) k)))
+times_split : (f : ℕ → List ℕ) (t m k u n : ℕ) → t + m ≡ u → m + k ≡ n → flat_map f (range_with_len t n) ≡ flat_map f (range_with_len t m) ++ flat_map f (range_with_len u k)
+times_split f t zero k u n there all = grind arith
+times_split f t (suc m) k u zero there all = absurd (omega (arith, all))
+times_split f t (suc m) k u (suc n) there all = grind (arith, append_assoc, (times_split f (t + 1) m k u n (omega (arith, there)) (omega (arith, all))))
 
 pub times_divide : (f : ℕ → List ℕ) (from to upto : ℕ) → from ≤ to → to ≤ upto
     → flat_map f (range_with_len from (upto - from)) ≡ flat_map f (range_with_len from (to - from)) ++ flat_map f (range_with_len to (upto - to))
-times_divide f from to upto first second =
-    let parts : upto - from ≡ (to - from) + (upto - to) = omega (arith, first, second) in
-    let there : from + (to - from) ≡ to = omega (arith, first) in
-    ap (λ j. flat_map f (range_with_len from j)) parts ∙ times_split f from (to - from) (upto - to)
-    ∙ ap (λ u. flat_map f (range_with_len from (to - from)) ++ flat_map f (range_with_len u (upto - to))) there
+times_divide f from to upto first second = times_split f from (to - from) (upto - to) to (upto - from) (omega (arith, first)) (omega (arith, first, second))
 
 -- ---- what the wave of a wire tells
 

@@ -20,6 +20,7 @@ impl Piece for ValueLine {
     ghost text = { λ line. value_line line.width line.wire line.level };
 
     #[inline(always)]
+    #[tactic(auto, using(mp_streams::proofs::PlaceLemmas::placed_both, mp_streams::proofs::PlaceLemmas::placed_byte))]
     fn write(&self, room: &mut [u8], at: usize) -> usize {
         let value_end = write_value(self.width, self.level, room, at);
         let end = write_code(self.wire, room, value_end);

@@ -10,15 +10,13 @@ returns-in_err-flush-in-Ok-clause-written g c =
     let seats = g.C.Command.seats in
     let r = c.from_residual-in_err-flush-in-Ok in
     let p = err_from_is_err_and r.result r.ensures.1 in
-    let ran = c.in-Ok.ensures in
     rw (p.1, p.2) (from_input seats _ _ _ _ _ (Err WriteFailed) c.in_ok-input.input.items c.in_ok-input.ensures.input c.in_ok-input.ensures.within
-    (ran_unflushed _ _ _ _ _ seats ran c.in_err-flush-in-Ok.ensures.written))
+    (ran_unflushed _ _ _ _ _ seats c.in-Ok.ensures c.in_err-flush-in-Ok.ensures.written))
 
 pub returns-in_ok-flush-in-Ok-clause-written : goal.returns-in_ok-flush-in-Ok-clause-written
 returns-in_ok-flush-in-Ok-clause-written g c =
-    let seats = g.C.Command.seats in
-    let ran = c.in-Ok.ensures in
-    from_input seats _ _ _ _ _ (Ok tt) c.in_ok-input.input.items c.in_ok-input.ensures.input c.in_ok-input.ensures.within (ran_flushed _ _ _ _ _ seats ran c.in_ok-flush-in-Ok.ensures.written)
+    from_input g.C.Command.seats _ _ _ _ _ (Ok tt) c.in_ok-input.input.items c.in_ok-input.ensures.input c.in_ok-input.ensures.within
+    (ran_flushed _ _ _ _ _ g.C.Command.seats c.in-Ok.ensures c.in_ok-flush-in-Ok.ensures.written)
 
 pub returns-in_err-flush-in-Err-OutOfMemory-clause-written : goal.returns-in_err-flush-in-Err-OutOfMemory-clause-written
 returns-in_err-flush-in-Err-OutOfMemory-clause-written g c =

@@ -1,5 +1,4 @@
-use Rattle.std.specs.Prelude.{◌<◌, ◌≤◌}
-use Rattle.mp_command_runs.proofs.Names.{refl, err_from_is_err_and, length, rules, text_limit}
+use Rattle.mp_command_runs.proofs.Names.{refl, err_from_is_err_and, rules}
 use Rattle.mp_command_runs.proofs.InputLemmas.{short_input, long_input, unread_as}
 use Rattle.mp_command_runs.proofs.input.read_input.Goals as goal
 
@@ -9,11 +8,7 @@ returns-in_err-input-clause-refused g c =
     rw (p.1, p.2) (unread_as (g.S.Source.left c.args.source.now) c.in_err-input.field-0.0)
 
 pub returns-then-len-limit-clause-refused : goal.returns-then-len-limit-clause-refused
-returns-then-len-limit-clause-refused g c =
-    let long : text_limit c.in_ok-input.input.items < length c.in_ok-input.input.items = search rules in
-    (refl, long_input (g.S.Source.left c.args.source.now) c.in_ok-input.input.items c.in_ok-input.ensures.front long c.in_ok-input.ensures.within)
+returns-then-len-limit-clause-refused g c = (refl, long_input (g.S.Source.left c.args.source.now) c.in_ok-input.input.items c.in_ok-input.ensures.front (search rules) c.in_ok-input.ensures.within)
 
 pub returns-clause-input : goal.returns-clause-input
-returns-clause-input g c =
-    let short : length c.in_ok-input.input.items ≤ text_limit c.in_ok-input.input.items = search rules in
-    short_input (g.S.Source.left c.args.source.now) c.in_ok-input.input.items c.in_ok-input.ensures.front short
+returns-clause-input g c = short_input (g.S.Source.left c.args.source.now) c.in_ok-input.input.items c.in_ok-input.ensures.front (search rules)

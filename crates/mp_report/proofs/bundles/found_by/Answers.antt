@@ -9,11 +9,10 @@ loop-time-init c =
     let n = c.args.netlist.now in
     let b = c.args.bundle.now in
     let same = c.horizon-horizon.ensures.value in
-    let some = c.horizon-horizon.ensures.low in
     let next = c.next-time.ensures in
     let last = next.within in
     let time = c.next-time.result in
-    let low = next.later n b 1 c.requires (omega (arith, some)) in
+    let low = next.later n b 1 c.requires (omega (arith, c.horizon-horizon.ensures.low)) in
     let told : ℕ → List (ℕ × FindingCode) = λ t. findings_of t (bundle_set n b t) in
     let all : 0 + (time - 1) ≡ time - 1 = omega arith in
     record {
@@ -27,13 +26,10 @@ loop-time-init c =
 pub loop-time-smaller : goal.loop-time-smaller
 loop-time-smaller c =
     let kept = c.loop-time.invariant in
-    let n = c.args.netlist.now in
-    let same = kept.same in
     let test = c.loop-time-test.true in
     let next = c.next-time-in-loop-time.ensures in
-    let later = next.later n c.args.bundle.now (c.loop-time.time + 1) (c.since-watch.ensures n c.args.bundle.now kept.ahead (omega (arith, same, test))) (omega (arith, test)) in
-    let last = next.within in
-    omega (arith, later, last, test)
+    let after = c.since-watch.ensures c.args.netlist.now c.args.bundle.now kept.ahead (omega (arith, kept.same, test)) in
+    omega (arith, next.later c.args.netlist.now c.args.bundle.now (c.loop-time.time + 1) after (omega (arith, test)), next.within, test)
 
 pub loop-time-preserved : goal.loop-time-preserved
 loop-time-preserved c =

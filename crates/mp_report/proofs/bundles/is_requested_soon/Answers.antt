@@ -26,6 +26,5 @@ returns-else-event-horizon c =
     let f = level n c.args.bundle.now.request.0 in
     let same = c.horizon-horizon.ensures.value in
     let next = c.next-event.ensures in
-    let over = c.if-event-horizon.false in
     let fails : nat_lt c.next-event.result c.horizon-horizon.result ≡ false = grind (arith, nat_tests) in
-    fails ∙ sym (soon_none f c.args.time c.args.bundle.now.setup n.horizon c.next-event.result (omega (arith, same, over)) (λ u low high within. next.quiet f n.horizon c.args.time u c.requires.ahead low high within))
+    fails ∙ sym (soon_none f c.args.time c.args.bundle.now.setup n.horizon c.next-event.result (omega (arith, same, c.if-event-horizon.false)) (λ u low high within. next.quiet f n.horizon c.args.time u c.requires.ahead low high within))

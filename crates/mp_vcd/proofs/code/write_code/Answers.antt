@@ -1,4 +1,4 @@
-use Rattle.std.specs.Prelude.{◌≡◌, ◌+◌, ◌%◌, ◌<◌, ◌≤◌, ◌∷◌, ◌++◌}
+use Rattle.std.specs.Prelude.{◌≡◌, ◌+◌, ◌%◌, ◌<◌, ◌∷◌, ◌++◌}
 use Rattle.mp_vcd.proofs.Names.{ℕ, List, [], length, refl, ap, sym, subst, ◌∙◌, rules, arith, set, length-append, IsPlaced, placed_both, placed_byte, code}
 use Rattle.mp_vcd.proofs.CodeLemmas.{code-one, code_step, code_long, code_some}
 use Rattle.mp_vcd.proofs.code.write_code.Goals as goal
@@ -15,9 +15,8 @@ pub loop-rest-preserved : goal.loop-rest-preserved
 loop-rest-preserved c =
     let h = c.loop-rest.invariant in
     let rest = c.loop-rest.rest in
-    let high : 94 ≤ rest = search rules in
     let placed = placed_both h.1 (placed_byte c.loop-rest.room c.loop-rest.end (33 + rest % 94) (omega (arith, h.3, c.loop-rest.auto.room))) in
-    let same = code_step h.0 (code c.args.wire) rest high h.2 in
+    let same = code_step h.0 (code c.args.wire) rest (search rules) h.2 in
     (h.0 ++ (33 + rest % 94) ∷ [], placed, same, ends _ _ _ _ _ _ _ c.ranges.wire.fits placed same)
 
 pub returns-clause-placed : goal.returns-clause-placed
@@ -26,6 +25,5 @@ returns-clause-placed c =
     let room = c.loop-rest.room in
     let end = c.loop-rest.end in
     let rest = c.loop-rest.rest in
-    let low : rest < 94 = search rules in
-    let last : h.0 ++ (33 + rest) ∷ [] ≡ code c.args.wire = ap (λ l. h.0 ++ l) (sym (code-one rest low)) ∙ h.2 in
+    let last : h.0 ++ (33 + rest) ∷ [] ≡ code c.args.wire = ap (λ l. h.0 ++ l) (sym (code-one rest (search rules))) ∙ h.2 in
     subst (λ text. IsPlaced c.args.room.now (set room end (33 + rest)) c.args.at text (end + 1)) last (placed_both h.1 (placed_byte room end (33 + rest) (omega (arith, h.3, c.loop-rest.auto.room))))

@@ -18,20 +18,17 @@ returns-in_err-agenda g c =
 pub returns-in_err-put_agenda : goal.returns-in_err-put_agenda
 returns-in_err-put_agenda g c =
     let n = c.args.netlist.now in
-    let order : c.loop-from.from ≤ c.min-to.result = search rules in
-    let end : c.min-to.result ≤ n.horizon = search rules in
     let piece = rw c.in_ok-agenda.ensures.from at c.in_err-put_agenda.ensures in
     let r = c.from_residual-in_err-put_agenda.result in
-    left_failed _ (left_as (times_divide (unit_text n) c.loop-from.from c.min-to.result n.horizon order end) c.loop-from.invariant.left) r c.from_residual-in_err-put_agenda.ensures.0
+    left_failed _ (left_as (times_divide (unit_text n) c.loop-from.from c.min-to.result n.horizon (search rules) (search rules)) c.loop-from.invariant.left) r c.from_residual-in_err-put_agenda.ensures.0
     (puts_as r WriteFailed c.from_residual-in_err-put_agenda.ensures.1 refl piece)
 
 pub loop-from-preserved : goal.loop-from-preserved
 loop-from-preserved g c =
     let n = c.args.netlist.now in
     let order : c.loop-from.from ≤ c.min-to.result = search rules in
-    let end : c.min-to.result ≤ n.horizon = search rules in
     let piece = rw c.in_ok-agenda.ensures.from at c.in_ok-put_agenda.ensures in
     record {
       some = omega (arith, order, c.loop-from.invariant.some);
-      left = left_then (left_as (times_divide (unit_text n) c.loop-from.from c.min-to.result n.horizon order end) c.loop-from.invariant.left) piece;
+      left = left_then (left_as (times_divide (unit_text n) c.loop-from.from c.min-to.result n.horizon order (search rules)) c.loop-from.invariant.left) piece;
     }

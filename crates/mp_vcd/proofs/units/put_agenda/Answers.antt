@@ -1,4 +1,3 @@
-use Rattle.std.specs.Prelude.{◌<◌}
 use Rattle.mp_vcd.proofs.Names.{ap, rules, flat_map, writes_failed, unit_text, left_as, left_failed}
 use Rattle.mp_vcd.proofs.StandingLemmas.{times_step}
 use Rattle.mp_vcd.proofs.units.put_agenda.Goals as goal
@@ -6,6 +5,5 @@ use Rattle.mp_vcd.proofs.units.put_agenda.Goals as goal
 pub returns-in_err-put_unit : goal.returns-in_err-put_unit
 returns-in_err-put_unit g c =
     let t = c.loop-time.time in
-    let within : t < c.args.to = search rules in
     let is = c.from_residual.ensures.0 in
-    left_failed _ (left_as (ap (flat_map (unit_text c.args.netlist.now)) (times_step t c.args.to within)) c.loop-time.invariant) _ is (writes_failed _ is c.in_err-put_unit.ensures)
+    left_failed _ (left_as (ap (flat_map (unit_text c.args.netlist.now)) (times_step t c.args.to (search rules))) c.loop-time.invariant) _ is (writes_failed _ is c.in_err-put_unit.ensures)

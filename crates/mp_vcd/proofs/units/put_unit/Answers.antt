@@ -1,5 +1,5 @@
 use Rattle.std.specs.Prelude.{◌≡◌, ◌≢◌, ◌+◌, ◌-◌, ◌<◌, ◌≤◌}
-use Rattle.mp_vcd.proofs.Names.{ℕ, slice_index, sym, subst, ◌∙◌, rules, arith, vec_len, writes_failed, Circuit, changed, IsChain, Tells, told_from, told_at, left_whole, left_as, left_then, left_failed, left_none}
+use Rattle.mp_vcd.proofs.Names.{ℕ, slice_index, sym, subst, rules, arith, vec_len, writes_failed, Circuit, changed, IsChain, Tells, told_from, told_at, left_whole, left_as, left_then, left_failed, left_none}
 use Rattle.mp_vcd.specs.declared.agenda.Agenda.{Agenda}
 use Rattle.mp_vcd.proofs.AgendaLemmas.{width_is, chain_next, marked_none, marked_some}
 use Rattle.mp_vcd.proofs.StandingLemmas.{narrow}
@@ -36,21 +36,16 @@ line_of-requires g c =
 pub returns-in_err-put_piece : goal.returns-in_err-put_piece
 returns-in_err-put_piece g c =
     let left = c.loop-place.invariant in
-    let some : 0 < c.loop-place.place = search rules in
-    let next = chain_next c.args.netlist.now _ _ _ _ _ _ c.requires.widths (sym c.entry-change.ensures) left.1 some c.line_of.ensures in
+    let next = chain_next c.args.netlist.now _ _ _ _ _ _ c.requires.widths (sym c.entry-change.ensures) left.1 (search rules) c.line_of.ensures in
     let is = c.from_residual-in_err-put_piece.ensures.0 in
     left_failed _ (left_as next.lines left.2) _ is (writes_failed _ is c.in_err-put_piece.ensures)
 
 pub loop-place-smaller : goal.loop-place-smaller
 loop-place-smaller g c =
-    let left = c.loop-place.invariant in
-    let some : 0 < c.loop-place.place = search rules in
-    let next = chain_next c.args.netlist.now _ _ _ _ _ _ c.requires.widths (sym c.entry-change.ensures) left.1 some c.line_of.ensures in
-    next.smaller
+    (chain_next c.args.netlist.now _ _ _ _ _ _ c.requires.widths (sym c.entry-change.ensures) c.loop-place.invariant.1 (search rules) c.line_of.ensures).smaller
 
 pub loop-place-preserved : goal.loop-place-preserved
 loop-place-preserved g c =
     let left = c.loop-place.invariant in
-    let some : 0 < c.loop-place.place = search rules in
-    let next = chain_next c.args.netlist.now _ _ _ _ _ _ c.requires.widths (sym c.entry-change.ensures) left.1 some c.line_of.ensures in
+    let next = chain_next c.args.netlist.now _ _ _ _ _ _ c.requires.widths (sym c.entry-change.ensures) left.1 (search rules) c.line_of.ensures in
     (next.later, next.chain, left_then (left_as next.lines left.2) c.in_ok-put_piece.ensures)

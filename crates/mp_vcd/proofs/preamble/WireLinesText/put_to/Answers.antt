@@ -1,5 +1,4 @@
-use Rattle.std.specs.Prelude.{◌<◌}
-use Rattle.mp_vcd.proofs.Names.{length, rules, writes_failed, part_line, left_as, left_failed}
+use Rattle.mp_vcd.proofs.Names.{rules, writes_failed, part_line, left_as, left_failed}
 use Rattle.mp_vcd.proofs.StandingLemmas.{lines_step}
 use Rattle.mp_vcd.proofs.preamble.WireLinesText.put_to.Goals as goal
 
@@ -7,6 +6,5 @@ pub returns-in_err-put_part : goal.returns-in_err-put_part
 returns-in_err-put_part g c =
     let n = c.args.self.now.netlist.now in
     let w = c.loop-number.number in
-    let within : w < length n.wires = search rules in
     let is = c.from_residual.ensures.0 in
-    left_failed _ (left_as (lines_step (part_line n c.args.self.now.part) n.wires w within) c.loop-number.invariant) _ is (writes_failed _ is c.in_err-put_part.ensures)
+    left_failed _ (left_as (lines_step (part_line n c.args.self.now.part) n.wires w (search rules)) c.loop-number.invariant) _ is (writes_failed _ is c.in_err-put_part.ensures)
