@@ -154,24 +154,29 @@ static RISE: Change<'static> = Change::Signal(Signal {
     changes: &[(50, 1)],
 });
 
-/// Whether the first buffer's input, set to rise at 50, has modules pass the gate in just so many windows, which are the work, and leads to the
-/// version of this number.
+/// What an edit leads to: in how many windows modules pass the gate, the work, and the version of this number.
+#[derive(Drop)]
+struct Effect<'a> {
+    windows: u64,
+    pieces: &'a [Piece],
+    number: u32,
+}
+
+/// Whether the first buffer's input, set to rise at 50, has just this effect.
 fn rises(
     rt: &(impl Threads + Wait + Sync),
     alloc: Global,
     session: &mut Session<Counting<'_>>,
     gate: Counting<'_>,
-    windows: u64,
-    pieces: &[Piece],
-    number: u32,
+    effect: &Effect<'_>,
 ) -> bool {
     gate.expected.store(0, Ordering::SeqCst);
     gate.others.store(0, Ordering::SeqCst);
     takes(rt, alloc, session, &RISE)
-        && gate.expected.load(Ordering::SeqCst) == windows
+        && gate.expected.load(Ordering::SeqCst) == effect.windows
         && gate.others.load(Ordering::SeqCst) == 0
-        && has_entries(session.last_work(), pieces)
-        && is_version(session.version(), number, 2, &[(54, 1)])
+        && has_entries(session.last_work(), effect.pieces)
+        && is_version(session.version(), effect.number, 2, &[(54, 1)])
 }
 
 /// Whether only the module that the change reaches is evaluated again, and only for the work's entries, and the same edit again makes no work.
@@ -181,15 +186,17 @@ fn rises_twice(
     session: &mut Session<Counting<'_>>,
     gate: Counting<'_>,
 ) -> bool {
-    rises(
-        rt,
-        alloc,
-        session,
-        gate,
-        25,
-        &[Piece(0, 52, 52), Piece(52, 100, 2)],
-        1,
-    ) && rises(rt, alloc, session, gate, 0, &[], 2)
+    let first = Effect {
+        windows: 25,
+        pieces: &[Piece(0, 52, 52), Piece(52, 100, 2)],
+        number: 1,
+    };
+    let second = Effect {
+        windows: 0,
+        pieces: &[],
+        number: 2,
+    };
+    rises(rt, alloc, session, gate, &first) && rises(rt, alloc, session, gate, &second)
 }
 
 #[test]

@@ -1,5 +1,5 @@
 //! Modules that begin to work in the same unit do so at the same time.
-use super::row::{Row, Watch, changed_run, evaluated};
+use super::row::{Row, Trial, Watch, changed_run, evaluated};
 use mp_modules::Kind;
 use mp_netlist::ModuleId;
 use mp_part_tests::making::{Change, Part, Plan, Signal};
@@ -66,7 +66,12 @@ fn assert_meeting(
     let crew = Crew::new(count, 1)?;
     let gate = Meeting::of(u64::from(count));
     let old = evaluated(rt, alloc, row)?;
-    let new = changed_run(rt, alloc, &old.0, &old.1, &crew, &gate, row);
+    let trial = Trial {
+        crew: &crew,
+        gate: &gate,
+        row,
+    };
+    let new = changed_run(rt, alloc, &old.0, &old.1, &trial);
     drop(old);
     drop(new?);
     Ok(())

@@ -33,6 +33,14 @@ pub(super) struct Row<'a> {
     pub work: &'a [Span],
 }
 
+/// By which crew a row's change is made, and which gate modules pass then.
+#[derive(Drop)]
+pub(super) struct Trial<'a, G> {
+    pub crew: &'a Crew,
+    pub gate: &'a G,
+    pub row: &'a Row<'a>,
+}
+
 /// A gate that is to be passed in a certain way.
 pub(super) trait Watch: Gate {
     /// Whether it was passed so in a re-evaluation with this work.
@@ -80,16 +88,14 @@ fn redone<G: Watch + Sync>(
     old: &Netlist,
     run: &Run,
     new: &Netlist,
-    crew: &Crew,
-    gate: &G,
-    row: &Row<'_>,
+    trial: &Trial<'_, G>,
 ) -> Result<Run, Fail>
     requires revision { IsRevision old.now new.now }
     requires run { IsRun old.now run.now }
     ensures { IfOk result (λ found. IsRun new.now found) }
 {
-    let (found, work) = redo(rt, alloc, old, run, new, crew, gate)?;
-    let known = has_waves(row, &found) && gate.is_content(&work);
+    let (found, work) = redo(rt, alloc, old, run, new, trial.crew, trial.gate)?;
+    let known = has_waves(trial.row, &found) && trial.gate.is_content(&work);
     drop(work);
     assert!(rt; known);
     Ok(found)
@@ -119,15 +125,13 @@ pub(super) fn changed_run<G: Watch + Sync>(
     alloc: Global,
     old: &Netlist,
     run: &Run,
-    crew: &Crew,
-    gate: &G,
-    row: &Row<'_>,
+    trial: &Trial<'_, G>,
 ) -> Result<(Netlist, Run), Fail>
     requires { IsRun old.now run.now }
     ensures { IfOk result (λ both. IsRun both.0 both.1) }
 {
-    let new = changed(alloc, old, row)?;
-    match redone(rt, alloc, old, run, &new, crew, gate, row) {
+    let new = changed(alloc, old, trial.row)?;
+    match redone(rt, alloc, old, run, &new, trial) {
         Ok(found) => Ok((new, found)),
         Err(error) => {
             drop(new);
@@ -146,10 +150,16 @@ fn assert_changes(
     row: &Row<'_>,
 ) -> Result<(), Fail> {
     let old = evaluated(rt, alloc, row)?;
-    let new = changed_run(rt, alloc, &old.0, &old.1, crew, gate, row);
+    let first = Trial { crew, gate, row };
+    let new = changed_run(rt, alloc, &old.0, &old.1, &first);
     drop(old);
     let new = new?;
-    let same = changed_run(rt, alloc, &new.0, &new.1, crew, again, row);
+    let second = Trial {
+        crew,
+        gate: again,
+        row,
+    };
+    let same = changed_run(rt, alloc, &new.0, &new.1, &second);
     drop(new);
     drop(same?);
     Ok(())
