@@ -1,15 +1,11 @@
 //! The command that writes a view.
-ghost use Rattle.std.specs.Prelude.{◌≡◌, ◌&&◌, IfOk};
-ghost use Rattle.mp_model.specs.Waves.{AreWavesOf};
+ghost use Rattle.std.specs.Prelude.{◌≡◌, ◌&&◌};
 ghost use Rattle.mp_command_runs.specs.Clauses.{false, is_some, IsSomeAnd, lines_of, has_valid_crew, opening_of, viewed_opening};
 
 use crate::command::Command;
 use crate::opening::opened;
 use crate::options::Options;
 use crate::run_fault::RunFault;
-use mp_engine::share_waves;
-use mp_model::Waves;
-use mp_netlist::Netlist;
 use mp_phase::Crew;
 use mp_simulate::find_waves;
 use mp_streams::{Out, Sink};
@@ -63,7 +59,7 @@ impl<V: View> Command for Viewed<V> {
         if let Some(place) = view.missing(&netlist) {
             return Err(RunFault::NoSuchWire(place));
         }
-        let waves = waves_of(rt, alloc, &netlist, &crew)?;
+        let waves = find_waves(rt, alloc, &netlist, &crew)?;
         let put = {
             let of = Evaluated {
                 netlist: &netlist,
@@ -76,20 +72,5 @@ impl<V: View> Command for Viewed<V> {
         forget(waves);
         forget(netlist);
         Ok(put?)
-    }
-}
-
-/// The wave of each wire of a netlist, by the crew where that is quicker.
-fn waves_of<R: Threads + Wait + Sync>(
-    rt: &R,
-    alloc: Global,
-    netlist: &Netlist,
-    crew: &Crew,
-) -> Result<Waves, AllocError>
-    ensures { IfOk result (λ waves. AreWavesOf netlist.now waves) }
-{
-    match share_waves(rt, alloc, netlist, crew)? {
-        Some(waves) => Ok(waves),
-        None => find_waves(alloc, netlist),
     }
 }

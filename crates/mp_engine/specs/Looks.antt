@@ -1,11 +1,12 @@
 -- A run that is looked at early.
-use Rattle.std.specs.Prelude.{ℕ, ◌-◌, ◌≤◌, Bool}
+use Rattle.std.specs.Prelude.{ℕ, ◌-◌, ◌<◌, ◌≤◌, true, []}
 use Rattle.mp_netlist.specs.Circuit.{Circuit}
+use Rattle.mp_evaluation.specs.Marks.{is_marked}
 use Rattle.mp_region_runs.specs.declared.region_run.RegionRun.{RegionRun}
 use Rattle.mp_region_runs.specs.RegionRuns.{IsUnderWay}
 
--- where the units before one time were over, those before another are
-pub record IsLookedAt (n : Circuit) (from : ℕ) (old : RegionRun) (to : ℕ) (new : RegionRun) : Type 0 where
-  pub later : from ≤ to
+-- it is a run of a whole netlist, of which all states are kept, and the units before a time are over
+pub record IsLookedAt (n : Circuit) (to : ℕ) (run : RegionRun) : Type 0 where
+  pub some : 0 < to
   pub within : to ≤ n.horizon
-  pub over : (keeps : Bool) (is_heard : ℕ → Bool) → IsUnderWay n keeps is_heard (from - 1) n.horizon old → IsUnderWay n keeps is_heard (to - 1) n.horizon new
+  pub over : IsUnderWay n true (is_marked []) (to - 1) n.horizon run

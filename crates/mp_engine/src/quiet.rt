@@ -1,8 +1,9 @@
 //! A netlist in which little happens.
-ghost use Rattle.std.specs.Prelude.{IfOk, IfSome};
+ghost use Rattle.std.specs.Prelude.{IfOk, IfSome, OnOk};
 ghost use Rattle.mp_evaluation.specs.Runs.{IsRun};
+ghost use Rattle.mp_engine.specs.Looks.{IsLookedAt};
 
-use crate::evaluation::run_of;
+use crate::evaluation::{run_of, run_to_end};
 use crate::looking::{Looks, Pace, Plan};
 use mp_evaluation::Run;
 use mp_netlist::Netlist;
@@ -36,13 +37,36 @@ pub(crate) fn run_quiet<R: Wait, G: Gate>(
     let mut run = RegionRun::begin(rt, alloc, netlist, &region, gate, true)?;
     let mut looks = Looks::new(PLAN);
     let pace = Pace {
-        fired: least as usize,
+        count: least as usize,
         units: delay,
     };
-    if looks.find(&mut run, rt, &region, gate, pace)? {
+    look_at(&mut run, rt, &region, gate, &mut looks, pace)?;
+    if looks.see(pace) {
         return Ok(None);
     }
-    run.run_units(rt, &region, gate, looks.to, horizon)?;
-    let run = run.finish(alloc, &region)?;
+    let run = run_to_end(rt, alloc, &region, gate, run, looks.to)?;
     Ok(Some(run_of(horizon, run)))
+}
+
+/// Looks at a run until its modules fire as often as this since the look before, or no more looks are to be taken.
+fn look_at<R: Wait, G: Gate>(
+    run: &mut RegionRun,
+    rt: &R,
+    region: &Region<'_>,
+    gate: &G,
+    looks: &mut Looks,
+    pace: Pace,
+) -> Result<(), AllocError>
+    requires { IsLookedAt region.now looks.old.to run.old }
+    ensures { OnOk result (IsLookedAt region.now looks.new.to run.new) }
+{
+    let horizon = region.horizon();
+    for _look in 0..PLAN.most {
+        let Some(to) = looks.next(horizon, pace) else {
+            break;
+        };
+        let fired = run.run_units(rt, region, gate, looks.to, to)?;
+        looks.add(to, fired);
+    }
+    Ok(())
 }

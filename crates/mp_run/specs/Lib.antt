@@ -11,3 +11,4 @@ pub mod Stimuli
 pub mod Beginnings
 pub mod Evaluations
 pub mod Runs
+pub mod WavesRuns

@@ -1,6 +1,7 @@
 //! The waves of a netlist, by the quickest way that finds them.
 #![tactic(auto)]
 
+mod busy;
 mod finding;
 
 pub use finding::find_waves;

@@ -1,4 +1,4 @@
-use Rattle.std.proofs.Common.{◌-◌, length, map, ap, sym, ◌∙◌, subst, arith}
+use Rattle.std.proofs.Common.{length, map, ap, sym, ◌∙◌, subst, arith}
 use Rattle.std.proofs.lemmas.List.{map_push, length_push, length-map}
 use Rattle.mp_engine.specs.declared.part_of.PartOf.{PartOf}
 use Rattle.mp_engine.specs.PartsOf.{AreOthers}

@@ -1,4 +1,4 @@
-use Rattle.std.proofs.Common.{◌≡◌, ℕ, List, All, refl, ap, sym, ◌∙◌, subst}
+use Rattle.std.proofs.Common.{ℕ, List, All, refl, ap, sym, ◌∙◌, subst}
 use Rattle.mp_records.specs.declared.ports.Output.{Output}
 use Rattle.mp_records.specs.Outputs.{output_in}
 use Rattle.mp_units.specs.DataSeats.{bit_port_of}

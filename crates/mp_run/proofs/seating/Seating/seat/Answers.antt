@@ -1,4 +1,4 @@
-use Rattle.std.proofs.Common.{◌≡◌, length, rules, ◌++◌, ◌∷◌, [], ℕ, List, Some, sym, ap, ◌∙◌}
+use Rattle.std.proofs.Common.{◌≡◌, length, rules, ◌++◌, ◌∷◌, [], Some, sym, ap, ◌∙◌}
 use Rattle.mp_model.proofs.BuiltLemmas.{width_of_module}
 use Rattle.mp_data.specs.declared.output_levels.OutputLevels.{OutputLevels}
 use Rattle.mp_data.specs.DataParts.{data_part, outputs_in}

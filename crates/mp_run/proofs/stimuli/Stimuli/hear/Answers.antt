@@ -1,4 +1,4 @@
-use Rattle.std.proofs.Common.{◌≡◌, ◌++◌, List, drop, ap, sym, ◌∙◌}
+use Rattle.std.proofs.Common.{◌++◌, List, drop, ap, sym, ◌∙◌}
 use Rattle.mp_run.specs.declared.stimuli.StimulusChange.{StimulusChange}
 use Rattle.mp_run.specs.Stimuli.{bits_at, levels_at, changes_after}
 use Rattle.mp_run.proofs.stimuli.Stimuli.hear.Goals as goal

@@ -3,7 +3,7 @@ use Rattle.std.specs.Vec.Iter.{into_iter_items, into_iter_len}
 use Rattle.mp_netlist.specs.Slots.{slot_at}
 use Rattle.mp_netlist.specs.Circuit.{wire_at}
 use Rattle.mp_model.specs.Waves.{slot_wave}
-use Rattle.mp_run.proofs.running.finished.Given as goal
+use Rattle.mp_run.proofs.waves_run.bit_waves.Given as goal
 
 -- the waves so far are those of their wires
 abbrev pub invariant-loop-w : goal.invariant-loop-w

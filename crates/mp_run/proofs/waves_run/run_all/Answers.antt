@@ -3,7 +3,7 @@ use Rattle.mp_data.specs.declared.level_change.LevelChange.{LevelChange}
 use Rattle.mp_units.specs.NetlistSimulations.{IsSimulated, AreStimuli}
 use Rattle.mp_run.specs.Stimuli.{rest_of, AreAhead, AreFrom}
 use Rattle.mp_run.proofs.RestLemmas.{rested}
-use Rattle.mp_run.proofs.running.pass_all.Goals as goal
+use Rattle.mp_run.proofs.waves_run.run_all.Goals as goal
 
 pub pass_unit-requires-clause-fit : goal.pass_unit-requires-clause-fit
 pass_unit-requires-clause-fit c =

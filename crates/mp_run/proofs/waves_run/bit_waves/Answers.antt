@@ -4,7 +4,7 @@ use Rattle.std.specs.Vec.Iter.{into_iter_items, into_iter_len}
 use Rattle.mp_wave.specs.Waveform.{Waveform}
 use Rattle.mp_run.proofs.NarrowLemmas.{bit_level}
 use Rattle.mp_run.proofs.RunLemmas.{one_item, one_wave, waves_more, all_waves}
-use Rattle.mp_run.proofs.running.finished.Goals as goal
+use Rattle.mp_run.proofs.waves_run.bit_waves.Goals as goal
 
 pub loop-w-preserved : goal.loop-w-preserved
 loop-w-preserved c =

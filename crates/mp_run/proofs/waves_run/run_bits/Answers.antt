@@ -7,7 +7,7 @@ use Rattle.mp_run.specs.Evaluations.{IsEvaluated}
 use Rattle.mp_run.proofs.NarrowLemmas.{all_bits}
 use Rattle.mp_run.proofs.RestLemmas.{idled}
 use Rattle.mp_run.proofs.RunLemmas.{fit, passed}
-use Rattle.mp_run.proofs.running.run.Goals as goal
+use Rattle.mp_run.proofs.waves_run.run_bits.Goals as goal
 
 pub pass_unit-requires-clause-fit : goal.pass_unit-requires-clause-fit
 pass_unit-requires-clause-fit c =

@@ -1,16 +1,16 @@
 use Rattle.std.proofs.Common.{◌-◌, ◌<◌, ◌≤◌}
 use Rattle.mp_units.specs.NetlistSimulations.{IsSimulated}
 use Rattle.mp_run.specs.Stimuli.{rest_of, AreAhead}
-use Rattle.mp_run.proofs.running.pass_all.Given as goal
+use Rattle.mp_run.proofs.waves_run.run_all.Given as goal
 
 -- the units before this one are over
 abbrev pub invariant-loop-time : goal.invariant-loop-time
 invariant-loop-time l = record {
   some : 0 < l.time;
-  most : l.time ≤ l.horizon;
+  most : l.time ≤ l.to;
   simulated : IsSimulated l.netlist (l.time - 1) l.simulation;
   ahead : AreAhead l.netlist (l.time - 1) (rest_of l.stimuli);
 }
 
 abbrev pub decreases-loop-time : goal.decreases-loop-time
-decreases-loop-time l = l.horizon - l.time
+decreases-loop-time l = l.to - l.time
