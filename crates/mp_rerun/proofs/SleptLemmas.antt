@@ -19,7 +19,6 @@ use Rattle.mp_core.specs.declared.simulation.Simulation.{Simulation}
 use Rattle.mp_core.specs.Changes.{change_at}
 use Rattle.mp_core.specs.WholeRuns.{is_stimulus}
 use Rattle.mp_events.specs.declared.fanout_entry.FanoutEntry.{FanoutEntry}
-use Rattle.mp_events.specs.Adding.{listed}
 use Rattle.mp_events.specs.Firing.{ports_at as outputs_at}
 use Rattle.mp_data.specs.declared.data_module.DataModule.{DataModule}
 use Rattle.mp_data.specs.declared.level_change.LevelChange.{LevelChange}

@@ -1,12 +1,18 @@
 -- A simulation with which a re-evaluation begins.
-use Rattle.std.specs.Prelude.{◌≡◌, ℕ, ◌<◌, Bool, length}
+use Rattle.std.specs.Prelude.{◌≡◌, ℕ, ◌<◌, Bool, List, [], length}
 use Rattle.mp_netlist.specs.Circuit.{Circuit}
+use Rattle.mp_evaluation.specs.Marks.{is_marked}
+use Rattle.mp_evaluation.specs.Outcomes.{Outcome}
+use Rattle.mp_run.specs.declared.wiring.WiredInputs.{WiredInputs}
 use Rattle.mp_run.specs.Wirings.{AreByPort}
 use Rattle.mp_excerpt.specs.Excerpts.{ArePortsOn}
 use Rattle.mp_excerpt.specs.Numberings.{Numbering}
 use Rattle.mp_excerpt.specs.Showing.{Shows}
-use Rattle.mp_compare.specs.Numbering.{AreNumbered as AreOfWires}
+use Rattle.mp_compare.specs.Comparing.{wire_of, delay_of, HasCursors, AreUnseen, IsComplete}
+use Rattle.mp_compare.specs.First.{AreFirst}
+use Rattle.mp_compare.specs.Numbering.{AreNumbered as AreOfWires, AreNumbersOf}
 use Rattle.mp_rerun.specs.declared.first_simulation.First.{First}
+use Rattle.mp_rerun.specs.declared.starting.FirstRun.{FirstRun}
 use Rattle.mp_rerun.specs.Numbered.{AreWired, ports_at}
 use Rattle.mp_rerun.specs.Seats.{AreSeats}
 
@@ -20,3 +26,16 @@ pub record IsFirst (n : Circuit) (active : ℕ → Bool) (first : First) : Type 
   pub modules : length first.wired.inputs.items ≡ length n.modules
   pub by_port : (m : ℕ) → m < length n.modules → AreByPort (numbering.inputs m) (ports_at first.wired.inputs.items m)
   pub seats : AreSeats (length n.modules) first.simulation.modules.places.items first.simulation.modules
+
+-- it is made of a first simulation, and of a first comparison by its numbers
+pub record IsFirstRun (old new : Circuit) (run : Outcome) (active : List Bool) (it : FirstRun) : Type 0 where
+  pub wired : WiredInputs
+  pub first : IsFirst new (is_marked active) (record { simulation = it.simulation; wired = wired })
+  pub wires : it.comparison.numbers.wires.items ≡ wired.wiring.wires.items
+  pub inputs : it.inputs.items ≡ wired.inputs.items
+  pub sources : (x : ℕ) → x < length wired.wiring.next.items → first.numbering.source x ≡ (wire_of it.comparison.numbers x, delay_of it.comparison.numbers x)
+  pub numbers : AreNumbersOf new it.comparison.numbers
+  pub compared : AreFirst old new active it.inputs.items it.comparison
+  pub cursors : HasCursors run 0 [] it.comparison
+  pub unseen : AreUnseen 1 it.comparison
+  pub complete : IsComplete run 0 it.comparison

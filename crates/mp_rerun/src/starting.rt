@@ -1,5 +1,9 @@
 //! A change at time 0: the touched modules are active.
-ghost use Rattle.std.specs.Prelude.{◌≡◌};
+ghost use Rattle.std.specs.Prelude.{◌≡◌, ℕ, ◌<◌, IfOk, length};
+ghost use Rattle.mp_compare.specs.Comparing.{delay_of, wire_of};
+ghost use Rattle.mp_compare.specs.Numbering.{AreNumbered, AreNumbersOf};
+ghost use Rattle.mp_rerun.specs.Reruns.{IsChange};
+ghost use Rattle.mp_rerun.specs.Starting.{IsFirstRun};
 
 use crate::first_activity::{first_activity, touched_marks};
 use crate::first_simulation::{First, first_simulation};
@@ -7,12 +11,15 @@ use crate::rerun::Rerun;
 use mp_compare::laws::reads_are_listed;
 use mp_compare::{Change, Comparison, Numbers, SetWires, changed_stimuli};
 use mp_history::History;
+use mp_modules::MOST_INPUTS;
+use mp_netlist::Netlist;
 use mp_run::{HeardChanges, WiredInputs, Wiring};
+use mp_units::NetlistSimulation;
 use mp_work::window_end;
 use std::alloc::{AllocError, Global};
 
 impl Rerun {
-    ghost use Rattle.std.specs.Prelude.{◌≡◌, IfOk};
+    ghost use Rattle.std.specs.Prelude.{IfOk};
     ghost use Rattle.mp_rerun.specs.Reruns.{IsChange};
     ghost use Rattle.mp_rerun.specs.Windows.{IsUnderWay};
 
@@ -24,16 +31,16 @@ impl Rerun {
         reads_are_listed();
         let new = change.new;
         let touches = touched_marks(alloc, change)?;
-        let marks = touches.as_slice();
-        let First { simulation, wired } = first_simulation(alloc, new, marks)?;
-        let WiredInputs { wiring, inputs } = wired;
-        let Wiring { wires, next, .. } = wiring;
-        let numbers = Numbers::of(alloc, new, wires, next)?;
-        let ports = inputs.as_slice();
-        let comparison = Comparison::first(alloc, change, numbers, ports, marks)?;
-        let stimuli = changed_stimuli(alloc, new, comparison.sources.as_slice())?;
-        let history = History::first(alloc, new, marks)?;
-        let activity = first_activity(alloc, touches, simulation.modules.places.as_slice())?;
+        let history = History::first(alloc, new, touches.as_slice())?;
+        let first = first_run(alloc, change, touches.as_slice())?;
+        let stimuli = changed_stimuli(alloc, new, first.comparison.sources.as_slice())?;
+        let places = first.simulation.modules.places.as_slice();
+        let activity = first_activity(alloc, touches, places)?;
+        let FirstRun {
+            simulation,
+            comparison,
+            inputs,
+        } = first;
         Ok(Rerun {
             simulation,
             comparison,
@@ -53,4 +60,40 @@ impl Rerun {
             look_at: 0,
         })
     }
+}
+
+/// A simulation at time 0, compared with the old run, and the numbers that each module's inputs read, by port.
+#[derive(Drop)]
+pub(crate) struct FirstRun {
+    pub simulation: NetlistSimulation,
+    pub comparison: Comparison,
+    pub inputs: Vec<[Option<u32>; MOST_INPUTS]>,
+}
+
+/// The simulation of a change at time 0, in which the marked modules are active, compared with the old run.
+fn first_run(alloc: Global, change: &Change<'_>, active: &[bool]) -> Result<FirstRun, AllocError>
+    requires { IsChange change.now }
+    ensures { IfOk result (IsFirstRun change.now.old.now change.now.new.now change.now.run.now active.now) }
+{
+    let First { simulation, wired } = first_simulation(alloc, change.new, active)?;
+    let WiredInputs { wiring, inputs } = wired;
+    let numbers = numbers_of(alloc, change.new, wiring)?;
+    let comparison = Comparison::first(alloc, change, numbers, inputs.as_slice(), active)?;
+    Ok(FirstRun {
+        simulation,
+        comparison,
+        inputs,
+    })
+}
+
+/// The numbers of a netlist, which are wired so.
+fn numbers_of(alloc: Global, netlist: &Netlist, wiring: Wiring) -> Result<Numbers, AllocError>
+    requires { (source : ℕ → ℕ × ℕ) × AreNumbered (length netlist.now.wires) source wiring.wires.items wiring.next.items }
+    ensures wires { IfOk result (λ numbers. numbers.wires ≡ wiring.wires) }
+    ensures sources { IfOk result (λ numbers. (source : ℕ → ℕ × ℕ) → AreNumbered (length netlist.now.wires) source wiring.wires.items wiring.next.items →
+        (x : ℕ) → x < length wiring.next.items → source x ≡ (wire_of numbers x, delay_of numbers x)) }
+    ensures are { IfOk result (AreNumbersOf netlist.now) }
+{
+    let Wiring { wires, next, .. } = wiring;
+    Numbers::of(alloc, netlist, wires, next)
 }

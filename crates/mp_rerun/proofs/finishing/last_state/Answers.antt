@@ -1,4 +1,4 @@
-use Rattle.std.proofs.Common.{◌-◌, arith}
+use Rattle.std.proofs.Common.{arith}
 use Rattle.mp_rerun.proofs.finishing.last_state.Goals as goal
 
 pub memory-requires : goal.memory-requires
