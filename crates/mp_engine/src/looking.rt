@@ -1,5 +1,4 @@
 //! How much happens in a netlist early on.
-ghost use Rattle.std.specs.Prelude.{◌≡◌};
 
 /// How often something happens, on average, in so many units.
 #[derive(Clone, Copy)]
