@@ -26,6 +26,10 @@ const PLAN: Plan = Plan {
 /// Parts that hear of nothing are to have the least work in so many units.
 const SPAN: u32 = 64;
 
+/// Where parts hear of each other, the netlist is to have so many times as many modules as there are in the least work. With fewer, waiting takes
+/// more of the processors than is gained.
+const SHARES: u32 = 6;
+
 /// Whether a netlist is large enough for several threads, and no larger than they run it.
 pub(crate) fn can_pay(netlist: &Netlist, crew: &Crew) -> bool {
     let modules = netlist.module_slots();
@@ -71,6 +75,9 @@ pub(crate) fn busy_division(
     let Some(division) = divide(alloc, netlist, crew.count(), crew.least())? else {
         return Ok(None);
     };
+    if !has_room(netlist, crew, &division) {
+        return Ok(None);
+    }
     let window = Pace {
         count: least.saturating_mul(4) / crew.count().min(4).max(1) as usize,
         units: window_of(&division),
@@ -81,6 +88,11 @@ pub(crate) fn busy_division(
     } else {
         Ok(None)
     }
+}
+
+/// Whether the parts of a netlist are large enough to wait for each other, where they do.
+fn has_room(netlist: &Netlist, crew: &Crew, division: &Division) -> bool {
+    division.heard.is_empty() || netlist.module_slots() >= crew.least().saturating_mul(SHARES)
 }
 
 /// Looks at a run until its wires change as often as this since the look before, or no more looks are to be taken.
