@@ -1,9 +1,8 @@
 -- A simulation in which nothing is known to change.
-use Rattle.std.proofs.Common.{◌≡◌, ℕ, ◌+◌, ◌<◌, drop, List, [], ◌∷◌, ◌++◌, refl, sym}
-use Rattle.mp_events.specs.EventWheels.{AreEmpty}
+use Rattle.std.proofs.Common.{refl, sym}
 use Rattle.mp_events.proofs.EmptyLemmas.{empty_turned, empty_next}
 use Rattle.mp_core.specs.declared.simulation.Simulation.{Simulation}
-use Rattle.mp_core.specs.Simulations.{IsQuiet, IsIdle, IsSoundRun, StaysIdle}
+use Rattle.mp_core.specs.Simulations.{IsQuiet, IsIdle, StaysIdle}
 use Rattle.mp_core.proofs.QuietLemmas.{quiet_before, quiet_copies}
 use Rattle.mp_core.proofs.SimulationLemmas.{running}
 

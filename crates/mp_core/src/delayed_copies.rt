@@ -17,6 +17,7 @@ impl DelayedCopies {
     ghost use Rattle.std.specs.Prelude.{◌≡◌, ℕ, ◌+◌, ◌<◌, ◌++◌, ◌∷◌, [], Option, OnOk, All, drop, length, slice_index_or};
     ghost use Rattle.mp_netlist.specs.Circuit.{Circuit};
     ghost use Rattle.mp_events.specs.Firing.{HasSlot};
+    ghost use Rattle.mp_core.specs.Simulations.{IsFrom};
     ghost use Rattle.mp_core.specs.Simulators.{IsBelow};
     ghost use Rattle.mp_core.specs.Copies.{AreChained, HaveCopies, HaveLaterCopies, AreOriginals, AreListedBelow};
 
@@ -31,11 +32,14 @@ impl DelayedCopies {
         self.wheel.turn(&mut self.present);
     }
 
-    /// In the present unit the present copies have toggled, and these wires. What stands next after them toggles later.
-    pub fn advance(&mut self, wires: &[u32]) -> Result<(), AllocError>
+    /// In the present unit the present copies have toggled, and these wires. What stands next after them toggles later. The numbers of copies are
+    /// behind those of so many wires, and where there are no more numbers, nothing is to be done.
+    pub fn advance(&mut self, wires: &[u32], count: usize) -> Result<(), AllocError>
         requires present { All (λ x. x < length self.old.next.items) self.old.present }
         requires wires { All (λ w. w < length self.old.next.items) wires.now }
         requires within { All (HasSlot (length self.old.wheel)) self.old.next.items }
+        requires below { All (IsBelow (length self.old.next.items)) self.old.next.items }
+        requires behind { All (IsFrom count) self.old.next.items }
         ensures next { OnOk result ((n : Circuit) (source : ℕ → ℕ × ℕ) (before : ℕ → Option ℕ) (t : ℕ) → AreChained source before self.old.next.items →
             HaveLaterCopies n source before self.old.next.items t self.old.wheel → AreOriginals n source before (self.old.present ++ wires.now) (t + 1) →
             HaveCopies n source before self.old.next.items (t + 1) self.new.wheel) }
@@ -43,6 +47,9 @@ impl DelayedCopies {
         ensures places { OnOk result (length self.new.wheel ≡ length self.old.wheel) }
         ensures low { OnOk result ((bound : ℕ) → All (IsBelow bound) self.old.next.items → AreListedBelow bound self.old.wheel → AreListedBelow bound self.new.wheel) }
     {
+        if self.next.len() <= count {
+            return Ok(());
+        }
         schedule_copies(
             self.next.as_slice(),
             &mut self.wheel,

@@ -12,7 +12,7 @@ pub struct Simulation {
 }
 
 impl Simulation {
-    ghost use Rattle.std.specs.Prelude.{◌≡◌, ◌↔◌, ℕ, ◌+◌, [], Option, IsTrue, OnOk, length, nat_lt};
+    ghost use Rattle.std.specs.Prelude.{◌≡◌, ◌↔◌, ℕ, ◌+◌, [], Option, IsTrue, OnOk, length};
     ghost use Rattle.mp_netlist.specs.Circuit.{Circuit, IsCircuit};
     ghost use Rattle.mp_core.specs.Scopes.{Scope, with_answers};
     ghost use Rattle.mp_core.specs.Simulators.{CanApply};
@@ -49,19 +49,11 @@ impl Simulation {
         self.copies.begin_unit();
         self.simulator
             .apply_events(set, self.copies.present.as_slice(), time)?;
-        if !self.has_copies() {
-            return Ok(());
-        }
-        self.copies.advance(self.simulator.present.as_slice())?;
+        self.copies.advance(
+            self.simulator.present.as_slice(),
+            self.simulator.waves.len(),
+        )?;
         Ok(())
-    }
-
-    /// Whether there are numbers behind those of the wires: these are of delayed copies.
-    #[inline(always)]
-    fn has_copies(&self) -> bool
-        ensures { result ≡ nat_lt (length self.now.simulator.waves.items) (length self.now.copies.next.items) }
-    {
-        self.simulator.waves.len() < self.copies.next.len()
     }
 
     /// The modules that are due fire, and the unit is over.

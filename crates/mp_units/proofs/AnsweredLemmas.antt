@@ -1,14 +1,13 @@
 -- Within a unit, when the modules of width 1 have had their events and those with data have answered.
-use Rattle.std.proofs.Common.{◌≡◌, ℕ, suc, ◌+◌, ◌-◌, ◌<◌, ◌≤◌, Bool, true, false, not, cond, nat_lt, drop, List, [], ◌∷◌, ◌++◌, Option, Some, None, All, length, map, refl, sym, ap, ◌∙◌, arith, subst}
+use Rattle.std.proofs.Common.{◌≡◌, ℕ, suc, ◌+◌, ◌-◌, ◌<◌, ◌≤◌, Bool, true, false, nat_lt, drop, List, [], ◌∷◌, ◌++◌, Option, Some, None, All, length, map, refl, sym, ap, ◌∙◌, arith, subst}
 use Rattle.std.specs.Prelude.{◌==◌, ◌&&◌, slice_index, slice_index_or}
 use Rattle.std.proofs.lemmas.Bool.Decides.{nat_tests}
 use Rattle.std.proofs.lemmas.List.Elements.{All-append}
 use Rattle.std.proofs.Math.ListN.{get_or-eq_default}
 use Rattle.mp_records.specs.declared.ids.ModuleId.{ModuleId}
 use Rattle.mp_records.specs.declared.module_record.ModuleRecord.{ModuleRecord}
-use Rattle.mp_records.specs.Outputs.{output_at, delay_of}
-use Rattle.mp_netlist.specs.declared.driver.Driver.{Driver}
-use Rattle.mp_netlist.specs.declared.driver.Driver.TheVariants.{Nothing, Stimulus, Port}
+use Rattle.mp_records.specs.Outputs.{delay_of}
+use Rattle.mp_netlist.specs.declared.driver.Driver.TheVariants.{Port}
 use Rattle.mp_netlist.specs.Circuit.{Circuit, IsCircuit, module_at}
 use Rattle.mp_netlist.specs.Drivers.{driver}
 use Rattle.mp_netlist.proofs.DriverLemmas.{finds_only_ports}
@@ -19,32 +18,30 @@ use Rattle.mp_events.specs.declared.output_port.OutputPort.{OutputPort}
 use Rattle.mp_events.proofs.EntryLemmas.{schedules_each}
 use Rattle.mp_events.specs.Adding.{listed}
 use Rattle.mp_events.specs.Ports.{HasPorts}
-use Rattle.mp_events.specs.Firing.{HasSlot, HaveSlots, no_port, copy_at, scheduled as events_scheduled}
+use Rattle.mp_events.specs.Firing.{HaveSlots, no_port, copy_at, scheduled as events_scheduled}
 use Rattle.mp_core.specs.declared.simulator.Simulator.{Simulator}
 use Rattle.mp_core.specs.Changes.{change_at}
-use Rattle.mp_core.specs.Schedules.{output_port_of}
 use Rattle.mp_core.specs.Scopes.{Scope, with_answers}
 use Rattle.mp_core.specs.Simulators.{next_slot, IsSound, AreOnlyDue}
 use Rattle.mp_core.specs.Units.{IsBefore, IsDuring, AreDue}
 use Rattle.mp_core.specs.Simulations.{copy_slot}
 use Rattle.mp_core.proofs.FireLemmas.{due_once}
-use Rattle.mp_core.proofs.ScheduleLemmas.{none_some, same_part}
+use Rattle.mp_core.proofs.ScheduleLemmas.{none_some}
 use Rattle.mp_data.specs.declared.level_change.LevelChange.{LevelChange}
 use Rattle.mp_data.specs.Levels.{toggled, changed}
 use Rattle.mp_data.specs.LevelWheels.{scheduled, copied_from}
-use Rattle.mp_data.specs.DataFiring.{place_at, module_at as data_module_at, HaveStepped, fired_by, changed_by}
+use Rattle.mp_data.specs.DataFiring.{HaveStepped, fired_by, changed_by}
 use Rattle.mp_units.specs.declared.data_modules.DataModules.{DataModules}
 use Rattle.mp_units.specs.declared.netlist_simulation.NetlistSimulation.{NetlistSimulation}
-use Rattle.mp_units.specs.DataLevels.{is_data, is_bit_wire, late_level, number_of_change}
-use Rattle.mp_units.specs.DataWheels.{data_slot, driver_delay, ahead_by, ahead, AreChangesBelow}
-use Rattle.mp_units.specs.DataSeats.{drives_data, AreDataModules}
+use Rattle.mp_units.specs.DataLevels.{is_data, late_level, number_of_change}
+use Rattle.mp_units.specs.DataWheels.{data_slot, ahead_by, ahead, AreChangesBelow}
+use Rattle.mp_units.specs.DataSeats.{AreDataModules}
 use Rattle.mp_units.specs.NetlistSimulations.{IsSimulated, AreStimuli}
 use Rattle.mp_units.specs.Units.{present_of, others_of}
 use Rattle.mp_units.proofs.LevelWheelLemmas.{HoldsOf, holds_scheduled, turned_at}
 use Rattle.mp_units.proofs.AheadLemmas.{AreEntered}
 use Rattle.mp_units.proofs.LevelCopyLemmas.{copied_hold}
-use Rattle.mp_units.proofs.FiredLemmas.{both}
-use Rattle.mp_units.proofs.FiringLemmas.{some_is, events_none, events_data, events_driven, changes_none, changes_driven, changes_hold, changed_levels, stepped_next}
+use Rattle.mp_units.proofs.FiringLemmas.{events_none, events_data, events_driven, changes_none, changes_driven, changes_hold, changed_levels, stepped_next}
 use Rattle.mp_units.proofs.DuringLemmas.{with_data, with_wheel, wire_low, still_during}
 use Rattle.mp_units.proofs.PresentLemmas.{data_wire}
 use Rattle.mp_units.proofs.SeatLemmas.{seat_of, owns, placeless, far_driver}

@@ -1,5 +1,5 @@
 -- What a simulation knows of the units to come.
-use Rattle.std.proofs.Common.{◌≡◌, ℕ, ◌+◌, ◌-◌, ◌<◌, ◌≤◌, Bool, true, false, not, cond, nat_lt, List, [], Option, Some, None, All, length, refl, sym, ap, ◌∙◌, arith, subst}
+use Rattle.std.proofs.Common.{◌≡◌, ℕ, ◌+◌, ◌-◌, ◌<◌, ◌≤◌, Bool, true, false, not, cond, nat_lt, List, [], Option, Some, All, length, refl, sym, ap, ◌∙◌, arith}
 use Rattle.std.specs.Prelude.{◌&&◌, slice_index_or}
 use Rattle.std.proofs.lemmas.Bool.Decides.{nat_tests}
 use Rattle.std.proofs.Math.ListN.{get_or-eq_default}
@@ -20,7 +20,6 @@ use Rattle.mp_units.specs.declared.netlist_simulation.NetlistSimulation.{Netlist
 use Rattle.mp_units.specs.DataLevels.{is_data, is_bit_wire, changes_of, late_level}
 use Rattle.mp_units.specs.DataWheels.{data_slot, driver_delay, ahead_by, ahead}
 use Rattle.mp_units.specs.NetlistSimulations.{IsSimulated}
-use Rattle.mp_units.proofs.FiredLemmas.{both}
 use Rattle.mp_units.proofs.PresentLemmas.{at_once}
 use Rattle.mp_units.proofs.SeatLemmas.{owns, far_driver}
 

@@ -74,9 +74,10 @@ impl NetlistSimulation {
             self.bits.copies.present.as_slice(),
             time,
         )?;
-        self.bits
-            .copies
-            .advance(self.bits.simulator.present.as_slice())?;
+        self.bits.copies.advance(
+            self.bits.simulator.present.as_slice(),
+            self.bits.simulator.waves.len(),
+        )?;
         self.wires.advance()?;
         Ok(())
     }

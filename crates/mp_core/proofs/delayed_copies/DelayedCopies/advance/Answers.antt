@@ -1,5 +1,5 @@
-use Rattle.std.proofs.Common.{◌++◌, ◌∙◌}
-use Rattle.mp_core.proofs.CopyLemmas.{scheduled_both, copies_next, low_next}
+use Rattle.std.proofs.Common.{◌≡◌, ◌≤◌, ◌++◌, ◌∙◌, length, vec_len, rules, arith}
+use Rattle.mp_core.proofs.CopyLemmas.{scheduled_both, copies_next, copies_none, low_next}
 use Rattle.mp_core.proofs.delayed_copies.DelayedCopies.advance.Goals as goal
 
 pub returns-clause-next : goal.returns-clause-next
@@ -25,3 +25,10 @@ returns-clause-low c bound below none =
     c.as_slice.ensures.value c.as_slice-3.ensures.value c.as_slice-2.ensures c.in_ok-schedule_copies.ensures.scheduled c.in_ok-schedule_copies-2.ensures.scheduled in
     low_next next rest slots (slot ++ wires) bound below is
     (c.in_ok-schedule_copies-2.ensures.places ∙ c.in_ok-schedule_copies.ensures.places) none
+
+pub returns-then-len-count-clause-next : goal.returns-then-len-count-clause-next
+returns-then-len-count-clause-next c n source before t chained have originals =
+    let old = c.args.self.now in
+    let long : vec_len old.next ≡ length old.next.items = search rules in
+    let few : length old.next.items ≤ c.args.count = omega (arith, long) in
+    copies_none n source before old.next.items t c.args.count old.wheel few c.requires.below c.requires.behind chained c.requires.within have

@@ -1,13 +1,11 @@
-use Rattle.std.proofs.Common.{◌≡◌, ℕ, ◌+◌, ◌<◌, ◌≤◌, ◌++◌, ◌∙◌, Bool, false, List, All, length, nat_lt, sym, ap, subst, arith}
-use Rattle.std.proofs.lemmas.Bool.Decides.{nat_tests}
+use Rattle.std.proofs.Common.{◌≡◌, ℕ, ◌+◌, ◌<◌, ◌++◌, ◌∙◌, List, All, length, vec_len, rules, sym, ap, subst}
 use Rattle.mp_events.specs.declared.output_port.OutputPort.{OutputPort}
-use Rattle.mp_events.specs.Firing.{HasSlot}
 use Rattle.mp_core.specs.Simulators.{next_slot, IsBelow}
 use Rattle.mp_core.specs.Units.{AreDue}
 use Rattle.mp_core.specs.Copies.{AreChained, HaveCopies, HaveLaterCopies, AreOriginals, AreListedBelow}
 use Rattle.mp_core.specs.Simulations.{copy_slot}
 use Rattle.mp_core.proofs.ApplyLemmas.{all_waved, all_rowed}
-use Rattle.mp_core.proofs.CopyLemmas.{copies_later, copies_none, behind_kept, low_turned}
+use Rattle.mp_core.proofs.CopyLemmas.{copies_later, behind_kept, low_turned}
 use Rattle.mp_core.proofs.SimulationLemmas.{all_changes_now, copies_sound, all_heard}
 use Rattle.mp_core.proofs.TurnLemmas.{turned_length}
 use Rattle.mp_core.proofs.simulation.Simulation.apply.Goals as goal
@@ -21,6 +19,18 @@ advance-requires-clause-wires c =
     subst (λ k. All (λ w. w < k) c.as_slice-2.result.now) (sym numbers)
     (subst (λ (ws : List ℕ). All (λ w. w < length s.fanout) ws) (sym present)
     (all_rowed s (next_slot s ++ set) c.requires.sound.simulator (all_waved s set c.requires.sound.simulator c.requires.fit.waved)))
+
+pub advance-requires-clause-below : goal.advance-requires-clause-below
+advance-requires-clause-below c =
+    let sound = c.requires.sound.copies in
+    subst (λ (ports : List OutputPort). All (IsBelow (length ports)) ports) (sym c.begin_unit.ensures.same)
+    (subst (λ k. All (IsBelow k) c.args.self.now.copies.next.items) (sym sound.next) sound.below)
+
+pub advance-requires-clause-behind : goal.advance-requires-clause-behind
+advance-requires-clause-behind c =
+    let waves = c.apply_events.new.self.waves in
+    let long : vec_len waves ≡ length waves.items = search rules in
+    behind_kept c.args.self.now.copies.next.items _ _ _ c.requires.sound.behind c.begin_unit.ensures.same (c.len.ensures ∙ long ∙ c.in_ok-apply_events.ensures.waves)
 
 pub returns-clause-sound : goal.returns-clause-sound
 returns-clause-sound c =
@@ -37,46 +47,6 @@ returns-clause-sound c =
           (c.in_ok-advance.ensures.low numbers below low) (ap length c.in_ok-apply_events.ensures.same);
       behind = behind_kept old.next.items _ _ _ c.requires.sound.behind (c.in_ok-advance.ensures.same ∙ begun.same) c.in_ok-apply_events.ensures.waves;
     }
-
-pub returns-then-not-has_copies-clause-sound : goal.returns-then-not-has_copies-clause-sound
-returns-then-not-has_copies-clause-sound c =
-    let old = c.args.self.now.copies in
-    let numbers = length c.args.self.now.simulator.fanout in
-    let sound = c.requires.sound.copies in
-    let begun = c.begin_unit.ensures in
-    record {
-      simulator = c.in_ok-apply_events.ensures.sound;
-      copies = copies_sound old c.begin_unit.new.self numbers _ sound begun.same
-          (ap (length {A = List ℕ}) begun.wheel ∙ turned_length old.wheel sound.some)
-          (subst (λ (slots : List (List ℕ)). AreListedBelow numbers slots) (sym begun.wheel) (low_turned numbers old.wheel sound.numbered)) (ap length c.in_ok-apply_events.ensures.same);
-      behind = behind_kept old.next.items _ _ _ c.requires.sound.behind begun.same c.in_ok-apply_events.ensures.waves;
-    }
-
-few_when : (wires numbers : ℕ) (more : Bool) → more ≡ nat_lt wires numbers → more ≡ false → numbers ≤ wires
-few_when wires numbers more is none = let test : nat_lt wires numbers ≡ false = sym is ∙ none in grind (arith, nat_tests)
-
-pub returns-then-not-has_copies-clause-heard : goal.returns-then-not-has_copies-clause-heard
-returns-then-not-has_copies-clause-heard c n scope before t ok now whole sets is =
-    let s = c.args.self.now in
-    let set = c.args.set.now in
-    let sound = c.requires.sound.copies in
-    let begun = c.begin_unit.ensures in
-    let next = s.copies.next.items in
-    let slots = c.begin_unit.new.self.wheel in
-    let all = all_changes_now n ok scope before t s set c.requires.sound is whole sets in
-    let due = subst (λ (xs : List ℕ). AreDue n scope t (next_slot s.simulator ++ set) xs) (sym (c.as_slice.ensures ∙ begun.present)) all.due in
-    let during = c.in_ok-apply_events.ensures.applied n scope t ok now is.simulator due in
-    let later = subst (λ (slots : List (List ℕ)). HaveLaterCopies n scope.source before next t slots) (sym begun.wheel)
-    (copies_later n scope.source before next t s.copies.wheel sound.some is.chained sound.within is.copies) in
-    let few = few_when _ _ _ c.has_copies.ensures c.if-not-has_copies.true in
-    let as_many = ap (length {A = OutputPort}) begun.same in
-    let waves = c.in_ok-apply_events.ensures.waves in
-    let units = ap (length {A = List ℕ}) begun.wheel ∙ turned_length s.copies.wheel sound.some in
-    all_heard n scope before t s c.begin_unit.new.self c.apply_events.new.self is begun.same
-    (copies_none n scope.source before next t (length s.simulator.waves.items) slots (omega (arith, few, as_many, waves))
-    (subst (λ k. All (IsBelow k) next) (sym sound.next) sound.below) c.requires.sound.behind is.chained
-    (subst (λ k. All (HasSlot k) next) (sym units) sound.within) later)
-    during
 
 pub returns-clause-heard : goal.returns-clause-heard
 returns-clause-heard c n scope before t ok now whole sets is =

@@ -1,4 +1,4 @@
-use Rattle.std.proofs.Common.{◌≡◌, ◌==◌, ℕ, ◌+◌, ◌≤◌, ◌++◌, ◌∷◌, ◌∙◌, [], true, List, All, length, map, refl, sym, ap, subst, arith}
+use Rattle.std.proofs.Common.{◌≡◌, ◌==◌, ℕ, ◌+◌, ◌≤◌, ◌++◌, ◌∷◌, ◌∙◌, [], true, List, All, length, vec_len, rules, map, refl, sym, ap, subst, arith}
 use Rattle.std.proofs.lemmas.Bool.{eqb-true}
 use Rattle.mp_events.specs.declared.output_port.OutputPort.{OutputPort}
 use Rattle.mp_events.specs.Firing.{HasSlot}
@@ -6,6 +6,7 @@ use Rattle.mp_core.specs.Copies.{AreChained, HaveCopies, HaveLaterCopies, AreOri
 use Rattle.mp_core.specs.Simulators.{next_slot, IsBelow, AreOnlyDue}
 use Rattle.mp_core.specs.Units.{AreDue}
 use Rattle.mp_core.specs.Simulations.{copy_slot}
+use Rattle.mp_core.proofs.CopyLemmas.{behind_kept}
 use Rattle.mp_core.proofs.TurnLemmas.{turned_length}
 use Rattle.mp_data.specs.declared.level_change.LevelChange.{LevelChange}
 use Rattle.mp_wave.specs.Building.{Building}
@@ -73,6 +74,18 @@ advance-requires-clause-within c =
     let units = ap (length {A = List ℕ}) c.begin_unit.ensures.wheel ∙ turned_length old.wheel sound.some in
     subst (λ (ports : List OutputPort). All (HasSlot (length c.begin_unit.new.self.wheel)) ports) (sym c.begin_unit.ensures.same)
     (subst (λ k. All (HasSlot k) old.next.items) (sym units) sound.within)
+
+pub advance-requires-clause-below : goal.advance-requires-clause-below
+advance-requires-clause-below c =
+    let sound = c.requires.fit.is.sound.copies in
+    subst (λ (ports : List OutputPort). All (IsBelow (length ports)) ports) (sym c.begin_unit.ensures.same)
+    (subst (λ k. All (IsBelow k) c.args.self.now.bits.copies.next.items) (sym sound.next) sound.below)
+
+pub advance-requires-clause-behind : goal.advance-requires-clause-behind
+advance-requires-clause-behind c =
+    let waves = c.apply_events.new.self.waves in
+    let long : vec_len waves ≡ length waves.items = search rules in
+    behind_kept c.args.self.now.bits.copies.next.items _ _ _ c.requires.fit.is.sound.behind c.begin_unit.ensures.same (c.len.ensures ∙ long ∙ c.in_ok-apply_events.ensures.waves)
 
 pub advance-requires-2-clause-present : goal.advance-requires-2-clause-present
 advance-requires-2-clause-present c =
