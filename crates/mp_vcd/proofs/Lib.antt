@@ -2,6 +2,7 @@ mod Names
 pub mod CodeLemmas
 pub mod StandingLemmas
 pub mod AgendaLemmas
+pub mod PassageLemmas
 pub mod CodeReadLemmas
 pub mod ReadingLemmas
 pub mod LevelReadLemmas

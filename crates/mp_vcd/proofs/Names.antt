@@ -23,4 +23,4 @@ unfoldable pub use Rattle.mp_vcd.specs.Readings.{reading}
 unfoldable pub use Rattle.mp_vcd.specs.Values.{bits}
 pub use Rattle.mp_wave.proofs.PrefixLemmas.{earlier_than-take, later_than-drop, nat_lt-false, nat_lt-true}
 pub use Rattle.mp_words.proofs.PlainLemmas.{IsPlain, IsPlain-decimal, IsPlain-name, is_plain_byte, list_all-passing}
-pub use Rattle.mp_vcd.specs.Clauses.{AmongValues, BehindDigits, BetweenDeclarations, Given, InDeclaration, Inside, IsChain, IsPlaced, Outside, Reading, Side, Tells, Variable, at_place, bit, block_start, changed, declaration, digits_of, entry_at, if_stands, is_binary, is_changed, is_made_of, is_printed, line, marked, no_entry, nothing_read, onto, onto_slot, opening_lines, part_line, preamble, read_words, slot_declaration, slot_text, standing, standing_from, takes, time_mark, told_at, told_from, told_lines, unit_text, value_at, value_line, value_of, with_levels, with_time, with_told, with_value, word_first, word_in, words, words_from}
+pub use Rattle.mp_vcd.specs.Clauses.{AmongValues, AreMade, IsMade, IsMadeAt, BehindDigits, BetweenDeclarations, Given, InDeclaration, Inside, IsChain, IsPlaced, Outside, Reading, Side, Tells, Variable, at_place, bit, block_start, changed, declaration, digits_of, entry_at, if_stands, is_binary, is_changed, is_made_of, is_printed, line, marked, no_entry, nothing_read, onto, onto_slot, opening_lines, part_line, preamble, read_words, slot_declaration, slot_text, standing, standing_from, takes, time_mark, times_text, passage_text, told_at, told_from, told_lines, unit_text, value_at, value_line, value_of, with_levels, with_time, with_told, with_value, word_first, word_in, words, words_from}

@@ -4,6 +4,7 @@ pub mod Values
 pub mod Dumps
 pub mod Agendas
 pub mod Parts
+pub mod Passages
 pub mod Readings
 pub mod Laws
 pub mod Clauses

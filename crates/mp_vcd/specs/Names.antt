@@ -2,7 +2,7 @@
 pub use Rattle.std.specs.Char.{digit_value, is_ascii_digit, is_ascii_whitespace}
 pub use Rattle.std.specs.Fmt.{decimal}
 pub use Rattle.std.specs.List.{AllWithin, filter, flat_map, list_all, list_any, range_with_len}
-pub use Rattle.std.specs.Prelude.{Bool, List, None, Option, Some, [], codes, length, map, nat_le, nat_lt, not, slice_index, slice_index_or, suc, true, zero, ℕ}
+pub use Rattle.std.specs.Prelude.{Bool, IfSome, List, None, Option, Some, [], codes, length, map, nat_le, nat_lt, not, slice_index, slice_index_or, suc, true, zero, ℕ}
 pub use Rattle.std.specs.Str.{byte, bytes_eq}
 pub use Rattle.std.specs.Str.Parse.{AllDigits, digits_value, digits_value_after}
 pub use Rattle.mp_model.specs.Waves.{AreWavesOf, level, slot_wave, wave}
@@ -12,5 +12,8 @@ pub use Rattle.mp_streams.specs.Outgoing.{Writes}
 pub use Rattle.mp_wave.specs.WaveChanges.{changes_in}
 pub use Rattle.mp_wave.specs.Waveform.{Waveform, between, change_after, changes_after, earlier_than, later_than}
 pub use Rattle.mp_vcd.specs.declared.agenda.Entry.{Entry}
+pub use Rattle.mp_vcd.specs.declared.batch.Batch.{Batch}
+pub use Rattle.mp_vcd.specs.declared.passage.Passage.{Passage}
+pub use Rattle.mp_vcd.specs.declared.room.Room.{Room}
 pub use Rattle.mp_vcd.specs.declared.preamble.Part.{Part}
 pub use Rattle.mp_vcd.specs.declared.preamble.Part.TheVariants.{Declarations, FirstLevels}

@@ -47,6 +47,44 @@ fn is_ahead(changes: WaveChanges<'_>, place: usize, time: u32) -> bool
     place >= changes.len() || time <= changes.time_at(place)
 }
 
+/// How many places before and behind the one at a steady pace are looked at before others.
+const NEAR: usize = 24;
+
+/// The place at which the changes of a wave from a time on begin. It is looked for first near where it is if changes come at a steady pace up to
+/// the horizon.
+pub(crate) fn place_at(wave: &Wave, time: u32, horizon: u32) -> usize
+    ensures { result ≤ length wave.now.changes }
+{
+    let changes = wave.changes();
+    let steady = share(changes.len(), time, horizon);
+    let mut low = steady.saturating_sub(NEAR);
+    if !is_over(changes, low, time) {
+        low = 0;
+    }
+    let mut high = steady.saturating_add(NEAR).min(changes.len());
+    if !is_ahead(changes, high, time) {
+        high = changes.len();
+    }
+    while low < high {
+        let middle = low + (high - low) / 2;
+        if is_ahead(changes, middle, time) {
+            high = middle;
+        } else {
+            low = middle + 1;
+        }
+    }
+    low
+}
+
+/// The share of a count that a time has of the horizon.
+fn share(count: usize, time: u32, horizon: u32) -> usize
+    ensures { result ≤ count }
+{
+    let all = count as u128;
+    let share = all * u128::from(time) / u128::from(horizon.max(1));
+    share.min(all) as usize
+}
+
 /// How many changes are earlier than a time, counted from the first on.
 #[tactic(auto, using(crate::proofs::AgendaLemmas::parts_count_before_steps))]
 fn count_before(changes: WaveChanges<'_>, time: u32) -> usize

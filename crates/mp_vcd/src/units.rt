@@ -1,31 +1,28 @@
 //! The changes of a dump.
 ghost use Rattle.std.specs.Prelude.{◌≡◌, ◌+◌, ◌-◌, ◌<◌, ◌≤◌};
-ghost use Rattle.mp_vcd.specs.Clauses.{map, slice_index, vec_len, flat_map, range_with_len, Writes, IsCircuit, width_of, Tells, told_from, told_at, unit_text, value_line};
+ghost use Rattle.mp_vcd.specs.Clauses.{slice_index, vec_len, flat_map, range_with_len, Writes, Tells, told_from, told_at, unit_text, value_line};
 
 use crate::agenda::{Agenda, Entry};
 use crate::lines::put_time_mark;
+use crate::recorded::Recorded;
 use crate::value_lines::ValueLine;
-use mp_netlist::Netlist;
 use mp_streams::{Failed, Out, Sink};
 
 /// Writes the changes of each time of an agenda, the last of which is before another.
 #[tactic(auto, using(crate::proofs::StandingLemmas::put_agenda_steps))]
-pub fn put_agenda<S: Sink>(
+pub(crate) fn put_agenda<S: Sink>(
     out: &mut Out<S>,
-    netlist: &Netlist,
-    widths: &[u32],
+    of: Recorded<'_>,
     agenda: &Agenda,
     to: u32,
 ) -> Result<(), Failed>
-    requires form { IsCircuit netlist.now }
-    requires widths { widths.now ≡ map width_of netlist.now.wires }
     requires order { agenda.now.from ≤ to }
     requires times { vec_len agenda.now.firsts ≡ to - agenda.now.from }
-    requires told { Tells agenda.now.firsts.items agenda.now.entries.items (told_from agenda.now.from (told_at netlist.now)) }
-    ensures { Writes result out.old out.new (flat_map (unit_text netlist.now) (range_with_len agenda.now.from (to - agenda.now.from))) }
+    requires told { Tells agenda.now.firsts.items agenda.now.entries.items (told_from agenda.now.from (told_at of.netlist.now)) }
+    ensures { Writes result out.old out.new (flat_map (unit_text of.entry.netlist.now) (range_with_len agenda.now.from (to - agenda.now.from))) }
 {
     for time in agenda.from..to {
-        put_unit(out, netlist, widths, agenda, time)?;
+        put_unit(out, of, agenda, time)?;
     }
     Ok(())
 }
@@ -34,17 +31,14 @@ pub fn put_agenda<S: Sink>(
 #[tactic(auto, using(crate::proofs::AgendaLemmas::units_put_unit_steps))]
 fn put_unit<S: Sink>(
     out: &mut Out<S>,
-    netlist: &Netlist,
-    widths: &[u32],
+    of: Recorded<'_>,
     agenda: &Agenda,
     time: u32,
 ) -> Result<(), Failed>
-    requires form { IsCircuit netlist.now }
-    requires widths { widths.now ≡ map width_of netlist.now.wires }
     requires from { agenda.now.from ≤ time }
     requires times { time < agenda.now.from + vec_len agenda.now.firsts }
-    requires told { Tells agenda.now.firsts.items agenda.now.entries.items (told_from agenda.now.from (told_at netlist.now)) }
-    ensures { Writes result out.old out.new (unit_text netlist.now time) }
+    requires told { Tells agenda.now.firsts.items agenda.now.entries.items (told_from agenda.now.from (told_at of.netlist.now)) }
+    ensures { Writes result out.old out.new (unit_text of.entry.netlist.now time) }
 {
     let mut place = agenda.first(time);
     if place == 0 {
@@ -53,7 +47,7 @@ fn put_unit<S: Sink>(
     put_time_mark(out, time)?;
     while place > 0 {
         let change = agenda.entry(place);
-        out.put_piece(&line_of(widths, change))?;
+        out.put_piece(&line_of(of.widths, change))?;
         place = change.next;
     }
     Ok(())

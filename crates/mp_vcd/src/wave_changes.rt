@@ -4,76 +4,32 @@ ghost use Rattle.mp_vcd.specs.Clauses.{ℕ, List, IfOk, OnOk, vec_len, wire_at, 
 
 use crate::agenda::Agenda;
 use crate::parts::part;
-use mp_model::Waves;
-use mp_netlist::{Netlist, WireId};
+use crate::recorded::Recorded;
+use mp_netlist::WireId;
 use mp_wave::WaveChanges;
 use std::alloc::{AllocError, Global};
 
-/// So many changes are listed at once for each wire, on average: so that a wire is looked at seldom.
-const CHANGES_A_WIRE: usize = 8;
-
-/// So many changes are listed at once, or more: few enough to stay near the processor.
-const CHANGES_AT_ONCE: usize = 16_384;
-
-/// How much of the waves is listed at once.
-#[derive(Clone, Copy)]
-pub struct Portion {
-    /// How many units, one at least.
-    pub units: u32,
-    /// How many changes there are in so many units, on average.
-    pub changes: usize,
-}
-
-/// Portions of a number of changes that stays near the processor, and in which wires are looked at less often than they change.
-pub fn portion_of(netlist: &Netlist, waves: &Waves) -> Portion
-    ensures { 0 < result.units }
-{
-    let wires = netlist.wire_slots() as usize;
-    let most = wires.saturating_mul(CHANGES_A_WIRE).max(CHANGES_AT_ONCE);
-    let changes = change_count(netlist, waves);
-    let portions = (changes / most).saturating_add(1);
-    let units = (netlist.horizon() as usize / portions) as u32;
-    Portion {
-        units: units.max(1),
-        changes: changes / portions,
-    }
-}
-
-/// How many changes the waves have.
-fn change_count(netlist: &Netlist, waves: &Waves) -> usize {
-    let mut count: usize = 0;
-    for number in 0..netlist.wire_slots() {
-        if let Some(wave) = waves.of(WireId(number)) {
-            count = count.saturating_add(wave.changes().len());
-        }
-    }
-    count
-}
-
-/// The changes of all wires by time, from a time to before another, those of a time by wire; with room for some. Each wire's are looked for
+/// The changes of all wires by time, from a time to before another, those of a time by wire; with room for as many as a portion has. Each wire's are looked for
 /// at its place, which is afterwards that of its next change.
-pub fn agenda_of(
+pub(crate) fn agenda_of(
     alloc: Global,
-    netlist: &Netlist,
-    waves: &Waves,
+    of: Recorded<'_>,
     places: &mut [usize],
     from: u32,
     to: u32,
-    room: usize,
 ) -> Result<Agenda, AllocError>
-    requires waves { AreWavesOf netlist.now waves.now }
     requires from { 0 < from }
     requires order { from ≤ to }
-    requires end { to ≤ netlist.now.horizon }
+    requires end { to ≤ of.netlist.now.horizon }
     ensures from { IfOk result (λ agenda. agenda.from ≡ from) }
     ensures times { IfOk result (λ agenda. vec_len agenda.firsts ≡ to - from) }
-    ensures told { IfOk result (λ agenda. Tells agenda.firsts.items agenda.entries.items (told_from from (told_at netlist.now))) }
+    ensures told { IfOk result (λ agenda. Tells agenda.firsts.items agenda.entries.items (told_from from (told_at of.entry.netlist.now))) }
 {
-    let mut agenda = Agenda::new(alloc, from, to - from, room)?;
-    let mut number = netlist.wire_slots();
+    let mut agenda = Agenda::new(alloc, from, to - from, of.portion.changes)?;
+    let mut number = of.netlist.wire_slots();
     while number > 0 {
         number -= 1;
-        add_wire(&mut agenda, netlist, waves, places, WireId(number), to)?;
+        add_wire(&mut agenda, of, places, WireId(number), to)?;
     }
     Ok(agenda)
 }
@@ -82,23 +38,21 @@ pub fn agenda_of(
 #[tactic(auto, using(crate::proofs::AgendaLemmas::told_as, crate::proofs::StandingLemmas::none_in))]
 fn add_wire(
     agenda: &mut Agenda,
-    netlist: &Netlist,
-    waves: &Waves,
+    of: Recorded<'_>,
     places: &mut [usize],
     id: WireId,
     to: u32,
 ) -> Result<(), AllocError>
-    requires waves { AreWavesOf netlist.now waves.now }
     requires from { 0 < agenda.old.from }
     requires order { agenda.old.from ≤ to }
-    requires end { to ≤ netlist.now.horizon }
+    requires end { to ≤ of.netlist.now.horizon }
     requires times { vec_len agenda.old.firsts ≡ to - agenda.old.from }
     ensures from { OnOk result (agenda.new.from ≡ agenda.old.from) }
     ensures times { OnOk result (vec_len agenda.new.firsts ≡ vec_len agenda.old.firsts) }
     ensures told { OnOk result ((told : ℕ → List (ℕ × ℕ)) → Tells agenda.old.firsts.items agenda.old.entries.items (told_from agenda.old.from told)
-        → Tells agenda.new.firsts.items agenda.new.entries.items (told_from agenda.old.from (λ t. onto_slot netlist.now t id.0 (wire_at netlist.now id.0) (told t)))) }
+        → Tells agenda.new.firsts.items agenda.new.entries.items (told_from agenda.old.from (λ t. onto_slot of.entry.netlist.now t id.0 (wire_at of.entry.netlist.now id.0) (told t)))) }
 {
-    let Some(wave) = waves.of(id) else {
+    let Some(wave) = of.waves.of(id) else {
         return Ok(());
     };
     let place = places.get(id.0 as usize).copied().unwrap_or(0);

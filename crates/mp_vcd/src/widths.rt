@@ -1,6 +1,6 @@
 //! The widths of wires as a list.
-ghost use Rattle.std.specs.Prelude.{◌≡◌};
-ghost use Rattle.mp_vcd.specs.Clauses.{IfOk, map, wire_at, width_of};
+ghost use Rattle.std.specs.Prelude.{◌≡◌, ◌≤◌};
+ghost use Rattle.mp_vcd.specs.Clauses.{ℕ, IfOk, map, slice_index, wire_at, width_of};
 
 use mp_netlist::{Netlist, WireId};
 use std::alloc::{AllocError, Global};
@@ -8,8 +8,10 @@ use std::alloc::{AllocError, Global};
 /// The width of each wire by number, 0 where none stands: so that no record is looked at for a change.
 #[tactic(auto, using(crate::proofs::StandingLemmas::widths_of_steps))]
 pub fn widths_of(alloc: Global, netlist: &Netlist) -> Result<Vec<u32>, AllocError>
-    ensures { IfOk result (λ widths. widths.items ≡ map width_of netlist.now.wires) }
+    ensures are { IfOk result (λ widths. widths.items ≡ map width_of netlist.now.wires) }
+    ensures narrow { IfOk result (λ widths. (w : ℕ) → slice_index widths.items w ≤ 64) }
 {
+    let _horizon = netlist.horizon();
     let mut widths = Vec::with_capacity(alloc, netlist.wire_slots() as usize)?;
     for number in 0..netlist.wire_slots() {
         widths.push(width_of(netlist, WireId(number)))?;

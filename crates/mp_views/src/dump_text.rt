@@ -25,11 +25,11 @@ impl View for DumpText {
 
     fn put<R: Threads + Sync, T: Sink>(
         &self,
-        _rt: &R,
+        rt: &R,
         alloc: Global,
         out: &mut Out<T>,
         of: &Evaluated<'_>,
     ) -> Result<(), WriteError> {
-        put_dump(alloc, out, of.netlist, of.waves)
+        put_dump(rt, alloc, out, of.netlist, of.waves, of.threads())
     }
 }

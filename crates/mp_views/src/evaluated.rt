@@ -13,3 +13,13 @@ pub struct Evaluated<'a> {
     pub crew: Crew,
     ghost are_waves: { AreWavesOf netlist.now waves.now },
 }
+
+impl<'a> Evaluated<'a> {
+    /// How many threads make what is asked for: one alone where there are fewer modules than the crew shares out.
+    pub(crate) fn threads(&self) -> usize {
+        if self.netlist.module_slots() < self.crew.least() {
+            return 1;
+        }
+        self.crew.count() as usize
+    }
+}

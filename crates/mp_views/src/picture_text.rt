@@ -7,7 +7,6 @@ use crate::asked_picture::AskedPicture;
 use crate::asked_wires::{missing_at, wires_of};
 use crate::drawing::Drawing;
 use crate::evaluated::Evaluated;
-use crate::report_lines::finders;
 use crate::view::View;
 use mp_netlist::Netlist;
 use mp_picture::{Columns, Picture, put_diagram};
@@ -40,7 +39,7 @@ impl<'a> View for PictureText<'a> {
         out: &mut Out<T>,
         of: &Evaluated<'_>,
     ) -> Result<(), WriteError> {
-        let findings = report(rt, alloc, of.netlist, of.waves, finders(of))?;
+        let findings = report(rt, alloc, of.netlist, of.waves, of.threads())?;
         let wires = wires_of(alloc, of.netlist, self.asked.wires)?;
         let picture = Picture {
             netlist: of.netlist,

@@ -30,15 +30,7 @@ impl View for ReportLines {
         out: &mut Out<T>,
         of: &Evaluated<'_>,
     ) -> Result<(), WriteError> {
-        let found = report(rt, alloc, of.netlist, of.waves, finders(of))?;
+        let found = report(rt, alloc, of.netlist, of.waves, of.threads())?;
         Ok(put_report(out, of.netlist, found.as_slice())?)
     }
-}
-
-/// How many threads look for findings: one alone where there are fewer modules than the crew shares out.
-pub(crate) fn finders(of: &Evaluated<'_>) -> usize {
-    if of.netlist.module_slots() < of.crew.least() {
-        return 1;
-    }
-    of.crew.count() as usize
 }

@@ -1,34 +1,8 @@
-use Rattle.std.specs.Prelude.{◌≤◌}
-use Rattle.mp_vcd.proofs.Names.{[], refl, rules, arith, puts_as, puts_unmade, WriteFailed, OutOfMemory, unit_text, left_as, left_then, left_failed}
-use Rattle.mp_vcd.proofs.StandingLemmas.{times_divide}
+use Rattle.mp_vcd.proofs.Names.{refl, puts_unmade, OutOfMemory}
 use Rattle.mp_vcd.proofs.dumping.put_units.Goals as goal
 
 pub returns-in_err-widths : goal.returns-in_err-widths
 returns-in_err-widths g c = puts_unmade _ OutOfMemory _ _ c.from_residual.ensures.1 refl
 
-pub returns-in_err-places : goal.returns-in_err-places
-returns-in_err-places g c = puts_unmade _ OutOfMemory _ _ c.from_residual-in_err-places.ensures.1 refl
-
-pub returns-in_err-agenda : goal.returns-in_err-agenda
-returns-in_err-agenda g c =
-    let r = c.from_residual-in_err-agenda.result in
-    let is = c.from_residual-in_err-agenda.ensures in
-    left_failed {xs = []} _ c.loop-from.invariant.left r is.0 (puts_unmade r OutOfMemory _ [] is.1 refl)
-
-pub returns-in_err-put_agenda : goal.returns-in_err-put_agenda
-returns-in_err-put_agenda g c =
-    let n = c.args.netlist.now in
-    let piece = rw c.in_ok-agenda.ensures.from at c.in_err-put_agenda.ensures in
-    let r = c.from_residual-in_err-put_agenda.result in
-    left_failed _ (left_as (times_divide (unit_text n) c.loop-from.from c.min-to.result n.horizon (search rules) (search rules)) c.loop-from.invariant.left) r c.from_residual-in_err-put_agenda.ensures.0
-    (puts_as r WriteFailed c.from_residual-in_err-put_agenda.ensures.1 refl piece)
-
-pub loop-from-preserved : goal.loop-from-preserved
-loop-from-preserved g c =
-    let n = c.args.netlist.now in
-    let order : c.loop-from.from ≤ c.min-to.result = search rules in
-    let piece = rw c.in_ok-agenda.ensures.from at c.in_ok-put_agenda.ensures in
-    record {
-      some = omega (arith, order, c.loop-from.invariant.some);
-      left = left_then (left_as (times_divide (unit_text n) c.loop-from.from c.min-to.result n.horizon order (search rules)) c.loop-from.invariant.left) piece;
-    }
+pub returns-in_err-passages : goal.returns-in_err-passages
+returns-in_err-passages g c = puts_unmade _ OutOfMemory _ _ c.from_residual-in_err-passages.ensures.1 refl

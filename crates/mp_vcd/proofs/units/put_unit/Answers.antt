@@ -1,8 +1,7 @@
 use Rattle.std.specs.Prelude.{◌≡◌, ◌≢◌, ◌+◌, ◌-◌, ◌<◌, ◌≤◌}
 use Rattle.mp_vcd.proofs.Names.{ℕ, slice_index, sym, subst, rules, arith, vec_len, writes_failed, Circuit, changed, IsChain, Tells, told_from, told_at, left_whole, left_as, left_then, left_failed, left_none}
 use Rattle.mp_vcd.specs.declared.agenda.Agenda.{Agenda}
-use Rattle.mp_vcd.proofs.AgendaLemmas.{width_is, chain_next, marked_none, marked_some}
-use Rattle.mp_vcd.proofs.StandingLemmas.{narrow}
+use Rattle.mp_vcd.proofs.AgendaLemmas.{chain_next, marked_none, marked_some}
 use Rattle.mp_vcd.proofs.units.put_unit.Goals as goal
 
 -- the chain of a time
@@ -17,7 +16,7 @@ returns-then-place-eq0 g c = grind (arith, chain_at, left_none, marked_none, lef
 
 pub returns-in_err-put_time_mark : goal.returns-in_err-put_time_mark
 returns-in_err-put_time_mark g c =
-    let n = c.args.netlist.now in
+    let n = c.args.of.netlist.now in
     let t = c.args.time in
     let chain = chain_at n c.args.agenda.now t _ c.requires.from c.requires.times c.requires.told c.first-place.ensures in
     let some : c.first-place.result ≢ 0 = search rules in
@@ -28,24 +27,21 @@ pub loop-place-init : goal.loop-place-init
 loop-place-init g c = grind (arith, chain_at, left_then, left_as, marked_some, left_whole)
 
 pub line_of-requires : goal.line_of-requires
-line_of-requires g c =
-    let n = c.args.netlist.now in
-    let w = c.entry-change.result.wire in
-    omega (arith, width_is n c.args.widths.now w c.requires.widths, narrow n c.requires.form w)
+line_of-requires g c = c.args.of.narrow c.entry-change.result.wire
 
 pub returns-in_err-put_piece : goal.returns-in_err-put_piece
 returns-in_err-put_piece g c =
     let left = c.loop-place.invariant in
-    let next = chain_next c.args.netlist.now _ _ _ _ _ _ c.requires.widths (sym c.entry-change.ensures) left.1 (search rules) c.line_of.ensures in
+    let next = chain_next c.args.of.netlist.now _ _ _ _ _ _ c.args.of.are_widths (sym c.entry-change.ensures) left.1 (search rules) c.line_of.ensures in
     let is = c.from_residual-in_err-put_piece.ensures.0 in
     left_failed _ (left_as next.lines left.2) _ is (writes_failed _ is c.in_err-put_piece.ensures)
 
 pub loop-place-smaller : goal.loop-place-smaller
 loop-place-smaller g c =
-    (chain_next c.args.netlist.now _ _ _ _ _ _ c.requires.widths (sym c.entry-change.ensures) c.loop-place.invariant.1 (search rules) c.line_of.ensures).smaller
+    (chain_next c.args.of.netlist.now _ _ _ _ _ _ c.args.of.are_widths (sym c.entry-change.ensures) c.loop-place.invariant.1 (search rules) c.line_of.ensures).smaller
 
 pub loop-place-preserved : goal.loop-place-preserved
 loop-place-preserved g c =
     let left = c.loop-place.invariant in
-    let next = chain_next c.args.netlist.now _ _ _ _ _ _ c.requires.widths (sym c.entry-change.ensures) left.1 (search rules) c.line_of.ensures in
+    let next = chain_next c.args.of.netlist.now _ _ _ _ _ _ c.args.of.are_widths (sym c.entry-change.ensures) left.1 (search rules) c.line_of.ensures in
     (next.later, next.chain, left_then (left_as next.lines left.2) c.in_ok-put_piece.ensures)

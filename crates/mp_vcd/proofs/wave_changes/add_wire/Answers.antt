@@ -7,11 +7,11 @@ use Rattle.mp_vcd.proofs.wave_changes.add_wire.Goals as goal
 
 pub returns-clause-told : goal.returns-clause-told
 returns-clause-told c = λ told tells.
-    let n = c.args.netlist.now in
+    let n = c.args.of.netlist.now in
     let w = c.args.id.0 in
     let from = c.args.agenda.now.from in
     let to = c.args.to in
-    let in_slot = changes_in n w (wire_at n w) c.in-Some.wave.now (c.in-Some.ensures ∙ c.requires.waves w) in
+    let in_slot = changes_in n w (wire_at n w) c.in-Some.wave.now (c.in-Some.ensures ∙ c.args.of.are_waves w) in
     let new = c.add_changes.new.agenda in
     told_as new.firsts.items new.entries.items (told_from from (λ t. onto w (listed c.part-changes.result) t (told t))) (told_from from (λ t. onto_slot n t w (wire_at n w) (told t)))
     (λ k within.

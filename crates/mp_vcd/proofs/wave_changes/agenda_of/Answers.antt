@@ -6,7 +6,7 @@ use Rattle.mp_vcd.proofs.wave_changes.agenda_of.Goals as goal
 
 pub loop-number-preserved : goal.loop-number-preserved
 loop-number-preserved c =
-    let n = c.args.netlist.now in
+    let n = c.args.of.netlist.now in
     let number = c.loop-number.number in
     let from = c.args.from in
     let some : 0 < number = search rules in

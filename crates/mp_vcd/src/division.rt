@@ -1,0 +1,71 @@
+//! How the changes of a dump are divided.
+ghost use Rattle.std.specs.Prelude.{◌≡◌};
+ghost use Rattle.mp_vcd.specs.Clauses.{IfOk, flat_map, passage_text, times_text};
+
+use crate::passage::Passage;
+use crate::recorded::Recorded;
+use mp_netlist::WireId;
+use std::alloc::{AllocError, Global};
+
+/// How many bytes a passage has, about, where there are several.
+const PASSAGE_BYTES: usize = 2_097_152;
+
+/// How many bytes the value of a wire has beside its digits, about: what goes before them, a code and a line feed.
+const BYTES_BESIDE: usize = 6;
+
+/// How many bytes the line of a time has, about.
+const TIME_BYTES: usize = 8;
+
+/// The times from 1 to one below the horizon, in passages for so many threads: in one where there is one thread or little to write, and where
+/// there are so many wires that a passage would look at each for few changes.
+pub(crate) fn passages_of(
+    alloc: Global,
+    of: Recorded<'_>,
+    threads: usize,
+) -> Result<Vec<Passage<'_>>, AllocError>
+    ensures { IfOk result (λ passages. flat_map passage_text passages.items ≡ times_text of.entry.netlist.now 1 of.entry.netlist.now.horizon) }
+{
+    let horizon = of.netlist.horizon();
+    let units = if threads < 2 {
+        horizon
+    } else {
+        units_of_passage(of)
+    };
+    let mut passages = Vec::new(alloc);
+    let mut from: u32 = 1;
+    while from < horizon {
+        let to = from.saturating_add(units.max(1)).min(horizon);
+        passages.push(Passage { of, from, to })?;
+        from = to;
+    }
+    Ok(passages)
+}
+
+/// How many units a passage has.
+fn units_of_passage(of: Recorded<'_>) -> u32 {
+    let horizon = of.netlist.horizon();
+    let passages = text_bytes(of) / PASSAGE_BYTES + 1;
+    let units = (horizon as usize / passages) as u32;
+    if units < of.portion.units {
+        return horizon;
+    }
+    units
+}
+
+/// How many bytes the changes have, about.
+fn text_bytes(of: Recorded<'_>) -> usize {
+    let mut bytes = 0usize;
+    let mut changes = 0usize;
+    for number in 0..of.netlist.wire_slots() {
+        if let (Some(wire), Some(wave)) = (
+            of.netlist.wire(WireId(number)),
+            of.waves.of(WireId(number)),
+        ) {
+            let count = wave.changes().len();
+            bytes = bytes.saturating_add(count.saturating_mul(wire.width as usize + BYTES_BESIDE));
+            changes = changes.saturating_add(count);
+        }
+    }
+    let times = changes.min(of.netlist.horizon() as usize);
+    bytes.saturating_add(times.saturating_mul(TIME_BYTES))
+}
