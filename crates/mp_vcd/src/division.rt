@@ -1,5 +1,5 @@
 //! How the changes of a dump are divided.
-ghost use Rattle.std.specs.Prelude.{◌≡◌};
+ghost use Rattle.std.specs.Prelude.{◌≡◌, ◌<◌, ◌≤◌};
 ghost use Rattle.mp_vcd.specs.Clauses.{IfOk, flat_map, passage_text, times_text};
 
 use crate::passage::Passage;
@@ -10,6 +10,12 @@ use std::alloc::{AllocError, Global};
 /// How many bytes a passage has, about, where there are several.
 const PASSAGE_BYTES: usize = 2_097_152;
 
+/// How many bytes a passage has at most, about, where there are several.
+const MOST_BYTES: usize = 8_388_608;
+
+/// How many portions a passage has at least: so many that it costs little to find where the changes of each wire begin in it.
+const PORTIONS: u32 = 4;
+
 /// How many bytes the value of a wire has beside its digits, about: what goes before them, a code and a line feed.
 const BYTES_BESIDE: usize = 6;
 
@@ -17,7 +23,7 @@ const BYTES_BESIDE: usize = 6;
 const TIME_BYTES: usize = 8;
 
 /// The times from 1 to one below the horizon, in passages for so many threads: in one where there is one thread or little to write, and where
-/// there are so many wires that a passage would look at each for few changes.
+/// there are so many wires that the text of so many portions would be too long.
 pub(crate) fn passages_of(
     alloc: Global,
     of: Recorded<'_>,
@@ -44,12 +50,20 @@ pub(crate) fn passages_of(
 /// How many units a passage has.
 fn units_of_passage(of: Recorded<'_>) -> u32 {
     let horizon = of.netlist.horizon();
-    let passages = text_bytes(of) / PASSAGE_BYTES + 1;
-    let units = (horizon as usize / passages) as u32;
-    if units < of.portion.units {
+    let bytes = text_bytes(of);
+    let least = of.portion.units.saturating_mul(PORTIONS);
+    if least > units_in(horizon, bytes, MOST_BYTES) {
         return horizon;
     }
-    units
+    units_in(horizon, bytes, PASSAGE_BYTES).max(least)
+}
+
+/// In how many units there are so many bytes, of all that there are up to the horizon.
+fn units_in(horizon: u32, all: usize, bytes: usize) -> u32
+    requires { 0 < bytes }
+    ensures { result ≤ horizon }
+{
+    (horizon as usize / (all / bytes).saturating_add(1)) as u32
 }
 
 /// How many bytes the changes have, about.

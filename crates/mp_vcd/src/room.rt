@@ -9,7 +9,7 @@ use mp_streams::{Out, Sink, WriteError};
 use std::alloc::Global;
 
 /// How many bytes a text has at most that is made ahead.
-const MOST_BYTES: usize = 4_194_304;
+const MOST_BYTES: usize = 16_777_216;
 
 /// The text of a passage, where it was made ahead.
 #[derive(Drop)]
