@@ -13,6 +13,9 @@ const PASSAGE_BYTES: usize = 2_097_152;
 /// How many bytes a passage has at most, about, where there are several.
 const MOST_BYTES: usize = 8_388_608;
 
+/// From so many threads on there are several passages: two make them no sooner than one thread writes them.
+const LEAST_THREADS: usize = 3;
+
 /// How many portions a passage has at least: so many that it costs little to find where the changes of each wire begin in it.
 const PORTIONS: u32 = 4;
 
@@ -22,7 +25,7 @@ const BYTES_BESIDE: usize = 6;
 /// How many bytes the line of a time has, about.
 const TIME_BYTES: usize = 8;
 
-/// The times from 1 to one below the horizon, in passages for so many threads: in one where there is one thread or little to write, and where
+/// The times from 1 to one below the horizon, in passages for so many threads: in one where there are one or two threads or little to write, and where
 /// there are so many wires that the text of so many portions would be too long.
 pub(crate) fn passages_of(
     alloc: Global,
@@ -32,7 +35,7 @@ pub(crate) fn passages_of(
     ensures { IfOk result (λ passages. flat_map passage_text passages.items ≡ times_text of.entry.netlist.now 1 of.entry.netlist.now.horizon) }
 {
     let horizon = of.netlist.horizon();
-    let units = if threads < 2 {
+    let units = if threads < LEAST_THREADS {
         horizon
     } else {
         units_of_passage(of)

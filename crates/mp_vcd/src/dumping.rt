@@ -16,8 +16,8 @@ use std::alloc::Global;
 use std::thread::Threads;
 
 /// Writes the value change dump of a netlist, given its waves. Read by the rules of IEEE Std 1364, its text declares the wires that stand,
-/// and gives each at each time below the horizon the wire's level. At most so many threads make its text ahead of the calling one, which writes it;
-/// of 0 or 1 none is started.
+/// and gives each at each time below the horizon the wire's level. Of three threads or more, so many at most make its text ahead of
+/// the calling one, which writes it.
 ///
 /// `WriteFailed` comes with a fault of the sink: then some of what was held and of the dump, from the front, is with the sink, and nothing
 /// is held. `OutOfMemory` comes where memory is wanting: then a part of the dump, from its front, is written. It takes time in proportion
