@@ -21,8 +21,9 @@ use std::thread::Threads;
 ///
 /// `WriteFailed` comes with a fault of the sink: then some of what was held and of the dump, from the front, is with the sink, and nothing
 /// is held. `OutOfMemory` comes where memory is wanting: then a part of the dump, from its front, is written. It takes time in proportion
-/// to the wires, the units and the changes; and of memory 12 bytes for each wire, and, for each thread that makes text, 16 for each change and 4 for each unit of a portion,
-/// which has as many changes as stay near the processor, and twice the text of a passage, 2 MiB mostly and 16 MiB at most.
+/// to the wires, the units and the changes; and of memory 12 bytes for each wire, and for each thread that makes text 8 for each wire, 16 for
+/// each change and 4 for each unit of a portion, which has as many changes as stay near the processor, and twice the text of a passage, 2 MiB
+/// mostly and 16 MiB at most.
 #[tactic(auto, using(crate::proofs::DumpReadLemmas::says_levels))]
 pub fn put_dump<R: Threads + Sync, S: Sink>(
     rt: &R,
