@@ -1,7 +1,10 @@
 //! What the program is asked for: the words of its command line, read by `clap`.
 #![tactic(auto)]
 
+mod argument_form;
+mod arguments;
 mod asked;
+mod command_form;
 mod help;
 mod parser;
 mod picture_words;

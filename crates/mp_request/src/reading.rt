@@ -9,7 +9,7 @@ use crate::parser::{explain, parser};
 use crate::picture_words::PictureWords;
 use crate::request::{Command, Request};
 use clap::error::ErrorKind;
-use clap::{ArgMatches, Error};
+use clap::{ArgMatches, Command as Parser, Error};
 use std::alloc::{AllocError, Global};
 
 /// The word that stands for standard input.
@@ -21,15 +21,22 @@ pub fn read_words<'a>(alloc: Global, words: &'a [String]) -> Result<Asked<'a>, E
     ensures { IfOk result (λ asked. IfSome (file_of asked) (λ path. path.now ≢ codes "-")) }
 {
     let matches = parser(alloc)?.try_get_matches_from(words)?;
+    asked(alloc, &matches)
+}
+
+/// What the words ask for that were found so.
+fn asked<'a>(alloc: Global, matches: &ArgMatches<'a>) -> Result<Asked<'a>, Error>
+    ensures { IfOk result (λ asked. IfSome (file_of asked) (λ path. path.now ≢ codes "-")) }
+{
     let Some((word, found)) = matches.subcommand() else {
-        return Err(no_command(alloc)?);
+        return Err(no_command(alloc));
     };
     if word == "explain" {
         return Ok(Asked::Explain(found.get_str("word")));
     }
     match command_of(alloc, word, found)? {
         Some(command) => Ok(Asked::Run(request(command, found))),
-        None => Err(no_command(alloc)?),
+        None => Err(no_command(alloc)),
     }
 }
 
@@ -38,14 +45,39 @@ pub fn unknown_word(alloc: Global, word: &str) -> Result<Error, AllocError>
     ensures { IfOk result (λ error. kind_of error ≡ kinds.InvalidValue) }
 {
     let message = format!(in alloc; "no code and no kind of module is called '{word}'")?;
-    explain(alloc)?
-        .bin_name("mpwb explain")?
-        .error(ErrorKind::InvalidValue, message.as_str())
+    unexplained(alloc, message.as_str())
+}
+
+/// What `explain` tells where its word is wrong in this way.
+fn unexplained(alloc: Global, message: &str) -> Result<Error, AllocError>
+    ensures { IfOk result (λ error. kind_of error ≡ kinds.InvalidValue) }
+{
+    told_by(named_explain(alloc), ErrorKind::InvalidValue, message)
+}
+
+/// The command that tells what a word means, under the name by which it is run.
+fn named_explain<'a>(alloc: Global) -> Result<Parser<'a>, AllocError> {
+    explain(alloc)?.bin_name("mpwb explain")
 }
 
 /// What is told where the words name no command that the program runs.
-fn no_command(alloc: Global) -> Result<Error, AllocError> {
-    parser(alloc)?.error(ErrorKind::InvalidSubcommand, "unrecognized subcommand")
+fn no_command(alloc: Global) -> Error {
+    let message = "unrecognized subcommand";
+    match told_by(parser(alloc), ErrorKind::InvalidSubcommand, message) {
+        Ok(error) => error,
+        Err(error) => Error::from(error),
+    }
+}
+
+/// What a command tells of a fault of this kind.
+fn told_by(
+    command: Result<Parser<'_>, AllocError>,
+    kind: ErrorKind,
+    message: &str,
+) -> Result<Error, AllocError>
+    ensures { IfOk result (λ error. kind_of error ≡ kind) }
+{
+    command?.error(kind, message)
 }
 
 /// The command of this word, with what is its own.
@@ -60,20 +92,18 @@ fn command_of<'a>(
         "dump" => Command::Dump,
         "show" => Command::Show(picture_words(alloc, found)?),
         "why" => Command::Why {
-            wire: found.get_str("wire").unwrap_or(""),
-            time: found.get_one::<u64>("time").unwrap_or(0),
+            wire: wire(found),
+            time: time(found),
             steps: found.get_one::<u32>("steps").unwrap_or(20),
         },
         "path" => Command::Path {
-            wire: found.get_str("wire").unwrap_or(""),
-            time: found.get_one::<u64>("time").unwrap_or(0),
+            wire: wire(found),
+            time: time(found),
         },
-        "waits" => Command::Waits {
-            time: found.get_one::<u64>("time").unwrap_or(0),
-        },
+        "waits" => Command::Waits { time: time(found) },
         "measure" => Command::Measure {
-            from: found.get_one::<u64>("from").unwrap_or(0),
-            to: found.get_one::<u64>("to").unwrap_or(u64::MAX),
+            from: from(found),
+            to: to(found),
         },
         "graph" => Command::Graph,
         "play" => Command::Play,
@@ -99,12 +129,32 @@ fn picture_words<'a>(
 ) -> Result<PictureWords<'a>, AllocError> {
     Ok(PictureWords {
         wires: Vec::from_slice(alloc, found.get_strs("wire").unwrap_or(&[]))?,
-        from: found.get_one::<u64>("from").unwrap_or(0),
-        to: found.get_one::<u64>("to").unwrap_or(u64::MAX),
+        from: from(found),
+        to: to(found),
         columns: found.get_one::<u32>("columns").unwrap_or(72),
         ascii: found.get_flag("ascii"),
         svg: found.get_flag("svg"),
     })
+}
+
+/// The name of the wire that a command is about.
+fn wire<'a>(found: &ArgMatches<'a>) -> &'a str {
+    found.get_str("wire").unwrap_or("")
+}
+
+/// The time that a command is about.
+fn time(found: &ArgMatches<'_>) -> u64 {
+    found.get_one::<u64>("time").unwrap_or(0)
+}
+
+/// The first time of a range, 0 where none is given.
+fn from(found: &ArgMatches<'_>) -> u64 {
+    found.get_one::<u64>("from").unwrap_or(0)
+}
+
+/// The end of a range of times, 2^64 - 1 where none is given.
+fn to(found: &ArgMatches<'_>) -> u64 {
+    found.get_one::<u64>("to").unwrap_or(u64::MAX)
 }
 
 fn request<'a>(command: Command<'a>, found: &ArgMatches<'a>) -> Request<'a>

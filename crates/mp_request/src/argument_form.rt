@@ -1,0 +1,112 @@
+//! The arguments of commands, as `clap` parses them.
+use clap::{Arg, ArgAction, value_parser};
+use std::alloc::{AllocError, Global};
+
+/// An argument of a command: its name, what help calls its value, if it takes one, and says of it.
+#[derive(Clone, Copy)]
+pub(crate) struct ArgumentForm {
+    pub name: &'static str,
+    pub value: &'static str,
+    pub help: &'static str,
+    pub takes: Takes,
+}
+
+/// What an argument takes.
+#[derive(Clone, Copy)]
+pub(crate) enum Takes {
+    /// A word by its place, which may be left out.
+    Word,
+    /// A word by its place.
+    NeededWord,
+    /// A time by its place.
+    NeededTime,
+    /// An option with a number, this one where none is given.
+    Number(&'static str),
+    /// An option with a number, which goes with another argument alone.
+    NumberWith(&'static str),
+    /// An option with a word, which goes with another argument alone.
+    WordWith(&'static str),
+    /// An option with a time.
+    Time,
+    /// An option with a word, which may be given several times.
+    Words,
+    /// An option with nothing.
+    Nothing,
+}
+
+impl ArgumentForm {
+    /// The argument of this form.
+    pub(crate) fn argument<'a>(&self, alloc: Global) -> Result<Arg<'a>, AllocError> {
+        match self.takes {
+            Takes::Word => self.word(alloc),
+            Takes::NeededWord => self.needed_word(alloc),
+            Takes::NeededTime => self.needed_time(alloc),
+            Takes::Number(default) => self.number(alloc, default),
+            Takes::NumberWith(other) => self.count(alloc).requires_arg(other),
+            Takes::WordWith(other) => self.valued(alloc).requires_arg(other),
+            Takes::Time => self.time(alloc),
+            Takes::Words => self.words(alloc),
+            Takes::Nothing => self.flag(alloc),
+        }
+    }
+
+    fn word<'a>(&self, alloc: Global) -> Result<Arg<'a>, AllocError> {
+        Ok(self.placed(alloc))
+    }
+
+    fn needed_word<'a>(&self, alloc: Global) -> Result<Arg<'a>, AllocError> {
+        Ok(self.needed(alloc))
+    }
+
+    fn needed_time<'a>(&self, alloc: Global) -> Result<Arg<'a>, AllocError> {
+        Ok(self.needed(alloc).value_parser(value_parser!(u64)))
+    }
+
+    fn needed<'a>(&self, alloc: Global) -> Arg<'a> {
+        self.placed(alloc).required(true)
+    }
+
+    /// The argument that is known by its place, with what help calls its value, and says of it.
+    fn placed<'a>(&self, alloc: Global) -> Arg<'a> {
+        self.named(Arg::new(alloc, self.name))
+    }
+
+    fn number<'a>(&self, alloc: Global, default: &'static str) -> Result<Arg<'a>, AllocError> {
+        Ok(self.count(alloc).default_value(default))
+    }
+
+    fn count<'a>(&self, alloc: Global) -> Arg<'a> {
+        self.valued(alloc).value_parser(value_parser!(u32))
+    }
+
+    fn time<'a>(&self, alloc: Global) -> Result<Arg<'a>, AllocError> {
+        Ok(self.valued(alloc).value_parser(value_parser!(u64)))
+    }
+
+    fn words<'a>(&self, alloc: Global) -> Result<Arg<'a>, AllocError> {
+        Ok(self.valued(alloc).action(ArgAction::Append))
+    }
+
+    fn flag<'a>(&self, alloc: Global) -> Result<Arg<'a>, AllocError> {
+        Ok(
+            self.option(alloc)
+                .action(ArgAction::SetTrue)
+                .help(self.help),
+        )
+    }
+
+    /// The option with what help calls its value, and says of it.
+    fn valued<'a>(&self, alloc: Global) -> Arg<'a> {
+        self.named(self.option(alloc))
+    }
+
+    /// The option of this name.
+    fn option<'a>(&self, alloc: Global) -> Arg<'a> {
+        Arg::new(alloc, self.name).long(self.name)
+    }
+
+    /// The argument with what help calls its value, and says of it.
+    fn named<'a>(&self, argument: Arg<'a>) -> Arg<'a> {
+        argument.value_name(self.value).help(self.help)
+    }
+}
