@@ -20,3 +20,5 @@ pub mod BundleStageLemmas
 pub mod SameRecordLemmas
 mod PartLemmas
 mod LineStartLemmas
+mod EditedLemmas
+mod GivenLemmas

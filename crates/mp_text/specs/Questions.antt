@@ -61,6 +61,18 @@ measure_question (from ∷ to ∷ []) = do
   Ok (questions.Measure f t)
 measure_question _ = Err WordCount
 
+-- the first word of a question about what was before, or about the netlist
+abbrev pub later_question_word : List ℕ → Option QuestionWord
+later_question_word word =
+    if bytes_eq word (codes "why") then Some Why
+    else (if bytes_eq word (codes "path") then Some Path
+    else (if bytes_eq word (codes "waits") then Some Waits
+    else (if bytes_eq word (codes "measure") then Some Measure
+    else (if bytes_eq word (codes "graph") then Some Graph
+    else (if bytes_eq word (codes "version") then Some Version
+    else (if bytes_eq word (codes "edits") then Some Edits
+    else None))))))
+
 -- the first word of a question
 abbrev pub question_word : List ℕ → Option QuestionWord
 question_word word =
@@ -71,14 +83,7 @@ question_word word =
     else (if bytes_eq word (codes "dump") then Some Dump
     else (if bytes_eq word (codes "work") then Some Work
     else (if bytes_eq word (codes "show") then Some Show
-    else (if bytes_eq word (codes "why") then Some Why
-    else (if bytes_eq word (codes "path") then Some Path
-    else (if bytes_eq word (codes "waits") then Some Waits
-    else (if bytes_eq word (codes "measure") then Some Measure
-    else (if bytes_eq word (codes "graph") then Some Graph
-    else (if bytes_eq word (codes "version") then Some Version
-    else (if bytes_eq word (codes "edits") then Some Edits
-    else None)))))))))))))
+    else later_question_word word))))))
 
 -- the question of that word and the words behind it
 abbrev pub stated_question : QuestionWord → List (List ℕ) → Result Question LineError

@@ -1,6 +1,8 @@
 -- What a netlist's text means.
 use Rattle.std.specs.Prelude.{◌≡◌, ◌⊎◌, ◌+◌, ◌≤◌, ◌∷◌, ◌&&◌, if◌then◌else◌}
 use Rattle.mp_text.specs.Names.{result_map_both, Circuit, empty_circuit, after_single, LineError, UnknownStatement, BadNumber, OutOfMemory, lines_of, line_words, ◌>>=◌, ℕ, List, [], length, Result, Ok, Err, nat_le, TextCode, Line, BadFormat, NoHorizon, SecondHorizon, Refused, TooLong, TextError, TextFormat, First, TextState, Fresh, Formatted, Open}
+use Rattle.mp_records.specs.declared.edit_error.EditError.{EditError}
+use Rattle.mp_records.specs.declared.edit_error.EditError.TheVariants as edits
 use Rattle.mp_text.specs.Formats.{format_of, max_horizon_of, netlist_format}
 use Rattle.mp_text.specs.Sizes.{text_limit}
 use Rattle.mp_text.specs.Statements.{Statement, Blank, Unknown, Format, Start, Change, statement_of}
@@ -40,6 +42,12 @@ after_statement (Formatted format) (Change edit) = Err NoHorizon
 after_statement (Open n) (Change edit) = do
   e ← in_text edit
   result_map_both Open Refused (after_single n e)
+
+-- how an edit ended, as it is told of the line that states it: want of memory is that of the line
+abbrev pub told : {A : Type 0} → Result A EditError → Result A TextCode
+told (Ok x) = Ok x
+told (Err edits.OutOfMemory) = Err (Line OutOfMemory)
+told (Err error) = Err (Refused error)
 
 -- where a text is after a line
 unfoldable pub after_line : TextState → List ℕ → Result TextState TextCode

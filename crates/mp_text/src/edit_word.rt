@@ -1,7 +1,7 @@
 //! First words of statements that are edits.
 
 /// The first word of an edit that texts and scripts have.
-#[derive(Clone, Copy, Debug, PartialEq, Eq)]
+#[derive(Clone, Copy)]
 pub enum EditWord {
     /// `wire`
     Wire,

@@ -3,7 +3,7 @@ use crate::question_word::QuestionWord;
 use crate::single_word::SingleWord;
 
 /// The first word of a script's line.
-#[derive(Clone, Copy, Debug, PartialEq, Eq)]
+#[derive(Clone, Copy)]
 pub enum LineWord {
     /// That of an edit of one thing.
     Single(SingleWord),

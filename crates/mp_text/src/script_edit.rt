@@ -1,6 +1,7 @@
 //! The edits that scripts alone have.
 ghost use Rattle.std.specs.Prelude.{◌≡◌};
-ghost use Rattle.mp_text.specs.Clauses.{IfOk, IsAscii, OutOfMemory, Gives, wire_or_none, texts, AreAscii, removal, port_edit, clearing, single_edit};
+ghost use Rattle.mp_text.specs.Clauses.{IfOk, IsAscii, OutOfMemory, Gives, wire_or_none, texts, AreAscii, removal, port_change, port_edit, clearing, single_edit};
+ghost use Rattle.mp_text.specs.declared.single_word.SingleWord.TheVariants.{Input, Output, InputDelay, Delay};
 
 use crate::single_word::SingleWord;
 use crate::stated_edit::stated_edit;
@@ -53,31 +54,65 @@ fn port_edit(alloc: Global, first: SingleWord, words: &[&[u8]]) -> Result<Single
     };
     let port = number_word(port)?;
     match first {
-        SingleWord::Input => Ok(SingleEdit::RewireInput {
-            port,
-            module: name_of(alloc, part)?,
-            wire: Boxed::new(alloc, name_of(alloc, new)?)?,
-        }),
-        SingleWord::Output => Ok(SingleEdit::RewireOutput {
-            port,
-            module: name_of(alloc, part)?,
-            wire: driven_wire(alloc, new)?,
-        }),
-        SingleWord::InputDelay => Ok(SingleEdit::SetInputDelay {
-            port,
-            delay: number_word(new)?,
-            module: name_of(alloc, part)?,
-        }),
-        _ => Ok(SingleEdit::SetDelay {
-            port,
-            delay: number_word(new)?,
-            module: name_of(alloc, part)?,
-        }),
+        SingleWord::Input => heard_wire(alloc, part, port, new),
+        SingleWord::Output => driven_wire(alloc, part, port, new),
+        SingleWord::InputDelay => input_delay(alloc, part, port, new),
+        _ => delay(alloc, part, port, new),
     }
 }
 
+/// The edit that has an input hear another wire.
+fn heard_wire(alloc: Global, part: &[u8], port: u64, wire: &[u8]) -> Result<SingleEdit, LineError>
+    requires part { IsAscii part.now }
+    requires wire { IsAscii wire.now }
+    ensures { Gives OutOfMemory (λ edit. edit) result (port_change Input part.now port wire.now) }
+{
+    Ok(SingleEdit::RewireInput {
+        port,
+        wire: Boxed::new(alloc, name_of(alloc, wire)?)?,
+        module: name_of(alloc, part)?,
+    })
+}
+
+/// The edit that has an output drive another wire, or none.
+fn driven_wire(alloc: Global, part: &[u8], port: u64, wire: &[u8]) -> Result<SingleEdit, LineError>
+    requires part { IsAscii part.now }
+    requires wire { IsAscii wire.now }
+    ensures { Gives OutOfMemory (λ edit. edit) result (port_change Output part.now port wire.now) }
+{
+    Ok(SingleEdit::RewireOutput {
+        port,
+        wire: boxed_wire(alloc, wire)?,
+        module: name_of(alloc, part)?,
+    })
+}
+
+/// The edit of an input's delay.
+fn input_delay(alloc: Global, part: &[u8], port: u64, delay: &[u8]) -> Result<SingleEdit, LineError>
+    requires { IsAscii part.now }
+    ensures { Gives OutOfMemory (λ edit. edit) result (port_change InputDelay part.now port delay.now) }
+{
+    Ok(SingleEdit::SetInputDelay {
+        port,
+        delay: number_word(delay)?,
+        module: name_of(alloc, part)?,
+    })
+}
+
+/// The edit of an output's delay.
+fn delay(alloc: Global, part: &[u8], port: u64, delay: &[u8]) -> Result<SingleEdit, LineError>
+    requires { IsAscii part.now }
+    ensures { Gives OutOfMemory (λ edit. edit) result (port_change Delay part.now port delay.now) }
+{
+    Ok(SingleEdit::SetDelay {
+        port,
+        delay: number_word(delay)?,
+        module: name_of(alloc, part)?,
+    })
+}
+
 /// The wire that is named, in a block of its own, where `-` names none. The error comes where memory is wanting.
-fn driven_wire(alloc: Global, name: &[u8]) -> Result<Option<Boxed<Name>>, AllocError>
+fn boxed_wire(alloc: Global, name: &[u8]) -> Result<Option<Boxed<Name>>, AllocError>
     requires { IsAscii name.now }
     ensures { IfOk result (λ wire. wire ≡ wire_or_none name.now) }
 {

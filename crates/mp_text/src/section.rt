@@ -7,7 +7,7 @@ use mp_netlist::{BundleId, ModuleId, Netlist, WireId};
 use mp_streams::{Failed, Out, Sink, Text};
 
 /// The lines of a netlist's text behind its horizon, of one sort each.
-#[derive(Clone, Copy, Debug, PartialEq, Eq)]
+#[derive(Clone, Copy)]
 pub enum Section {
     Wires,
     Modules,

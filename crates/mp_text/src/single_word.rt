@@ -2,7 +2,7 @@
 use crate::edit_word::EditWord;
 
 /// The first word of an edit of one thing, as a line or in a batch.
-#[derive(Clone, Copy, Debug, PartialEq, Eq)]
+#[derive(Clone, Copy)]
 pub enum SingleWord {
     /// That of an edit that texts have too.
     Stated(EditWord),

@@ -1,14 +1,14 @@
 //! The edits of statements.
 ghost use Rattle.std.specs.Prelude.{◌≡◌, ◌<◌};
-ghost use Rattle.mp_text.specs.Clauses.{IsAscii, IfSome, length, position, before_first, after_first, OutOfMemory, Gives, texts, AreAscii, stated_edit, wire_edit, parts_edit, module_edit, stimulus_edit, bundle_edit, is_mark, AddModule};
+ghost use Rattle.mp_text.specs.Clauses.{IsAscii, IfOk, IfSome, length, position, before_first, after_first, OutOfMemory, Gives, texts, AreAscii, stated_edit, wire_edit, parts_edit, module_edit, stimulus_edit, bundle_edit, is_mark, AddModule};
 
 use crate::edit_word::EditWord;
 use mp_modules::Kind;
 use mp_netlist::{
-    Boxed, Changes, InputNames, NewBundle, NewModule, OutputNames, Params, SingleEdit,
+    Boxed, Changes, InputNames, Name, NewBundle, NewModule, OutputNames, Params, SingleEdit,
 };
 use mp_words::{LineError, each_word, name_of, number_word};
-use std::alloc::Global;
+use std::alloc::{AllocError, Global};
 
 /// The edit of a first word and the words behind it.
 pub fn stated_edit(alloc: Global, word: EditWord, words: &[&[u8]]) -> Result<SingleEdit, LineError>
@@ -60,14 +60,44 @@ fn bundle_edit(alloc: Global, words: &[&[u8]]) -> Result<SingleEdit, LineError>
     let [name, request, acknowledge, payload, setup] = words else {
         return Err(LineError::WordCount);
     };
-    let bundle = NewBundle {
-        setup: number_word(setup)?,
-        name: name_of(alloc, name)?,
-        request: name_of(alloc, request)?,
-        acknowledge: name_of(alloc, acknowledge)?,
-        payload: name_of(alloc, payload)?,
-    };
+    let setup = number_word(setup)?;
+    let bundle = bundle_of(alloc, name, request, acknowledge, payload, setup)?;
     Ok(SingleEdit::AddBundle(Boxed::new(alloc, bundle)?))
+}
+
+/// The bundle of this name, these wires and this setup. The error comes where memory is wanting.
+fn bundle_of(
+    alloc: Global,
+    name: &[u8],
+    request: &[u8],
+    acknowledge: &[u8],
+    payload: &[u8],
+    setup: u64,
+) -> Result<NewBundle, AllocError>
+    requires name { IsAscii name.now }
+    requires request { IsAscii request.now }
+    requires acknowledge { IsAscii acknowledge.now }
+    requires payload { IsAscii payload.now }
+    ensures { IfOk result (λ bundle. bundle ≡ record { name = name.now; request = request.now; acknowledge = acknowledge.now; payload = payload.now; setup = setup }) }
+{
+    let (name, request) = two_names(alloc, name, request)?;
+    let (acknowledge, payload) = two_names(alloc, acknowledge, payload)?;
+    Ok(NewBundle {
+        name,
+        request,
+        acknowledge,
+        payload,
+        setup,
+    })
+}
+
+/// The words as names. The error comes where memory is wanting.
+fn two_names(alloc: Global, first: &[u8], second: &[u8]) -> Result<(Name, Name), AllocError>
+    requires first { IsAscii first.now }
+    requires second { IsAscii second.now }
+    ensures { IfOk result (λ names. names ≡ (first.now, second.now)) }
+{
+    Ok((name_of(alloc, first)?, name_of(alloc, second)?))
 }
 
 /// The edit of the words behind `module`.

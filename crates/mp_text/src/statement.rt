@@ -2,7 +2,7 @@
 #![tactic(auto, using(mp_words::proofs::WordLemmas::rest_ascii), unfolding(crate::specs::Texts::after_line, crate::specs::Statements::statement_of, crate::specs::Texts::after_statement))]
 
 ghost use Rattle.std.specs.Prelude.{◌≡◌};
-ghost use Rattle.mp_text.specs.Clauses.{result_map_both, OutOfMemory, max_horizon, after_single, Gives, texts, AreAscii, Line, Refused, Open, stated_number, stated_edit, module_edit, AddModule, Format, Start, Change, statement_of, begun, after_statement, after_line};
+ghost use Rattle.mp_text.specs.Clauses.{result_map_both, OutOfMemory, max_horizon, after_single, Gives, texts, AreAscii, Line, Refused, Open, stated_number, stated_edit, module_edit, AddModule, Format, Start, Change, statement_of, begun, after_statement, after_line, told};
 
 use crate::edit_word::EditWord;
 use crate::stated_edit::{stated_edit, stated_module};
@@ -145,17 +145,20 @@ fn make_module(alloc: Global, netlist: &mut Netlist, words: &[&[u8]]) -> Result<
 fn add(netlist: &mut Netlist, module: &NewModule) -> Result<(), TextCode>
     ensures { Gives (Line OutOfMemory) (λ _. Open netlist.new) result (result_map_both Open Refused (after_single netlist.old (AddModule module.now))) }
 {
-    match netlist.apply_module(module) {
-        Ok(()) => Ok(()),
-        Err(EditError::OutOfMemory) => Err(TextCode::Line(LineError::OutOfMemory)),
-        Err(refusal) => Err(TextCode::Refused(refusal)),
-    }
+    told(netlist.apply_module(module))
 }
 
 fn apply(netlist: &mut Netlist, edit: SingleEdit) -> Result<(), TextCode>
     ensures { Gives (Line OutOfMemory) (λ _. Open netlist.new) result (result_map_both Open Refused (after_single netlist.old edit)) }
 {
-    match netlist.apply(&Edit::Single(edit)) {
+    told(netlist.apply(&Edit::Single(edit)))
+}
+
+/// How an edit ended, as it is told of the line that states it.
+fn told(ended: Result<(), EditError>) -> Result<(), TextCode>
+    ensures { result ≡ told ended }
+{
+    match ended {
         Ok(()) => Ok(()),
         Err(EditError::OutOfMemory) => Err(TextCode::Line(LineError::OutOfMemory)),
         Err(error) => Err(TextCode::Refused(error)),

@@ -9,7 +9,7 @@ use mp_netlist::Format;
 pub const MAX_FIRST_HORIZON: u64 = 65_536;
 
 /// The form of a text: how long a horizon it may state, and how large its netlist may get.
-#[derive(Clone, Copy, Debug, PartialEq, Eq)]
+#[derive(Clone, Copy)]
 pub enum TextFormat {
     /// `format 1`, and a text that states none: at most 65,536 units.
     First,
