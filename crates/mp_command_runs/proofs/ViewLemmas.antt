@@ -1,7 +1,7 @@
 -- The opening of a view.
 use Rattle.std.specs.Prelude.{◌≡◌}
-use Rattle.mp_command_runs.proofs.Names.{ℕ, false, List, Option, Some, None, Result, Ok, Err, refl, ap, ◌∙◌, Circuit, RunFault, Text, BadCount, ReadFailed, WriteFailed, OutOfMemory, NoPlace, NoSuchWire, viewed_opening, Refuses}
-use Rattle.mp_views.specs.AskedWires.{missing_at}
+use Rattle.mp_command_runs.proofs.Names.{ℕ, false, List, Option, Some, None, Result, Ok, Err, refl, ap, ◌∙◌, Circuit, RunFault, Text, BadCount, ReadFailed, WriteFailed, OutOfMemory, NoPlace, NoSuchWire, IsSomeAnd, viewed_opening, with_wires, Refuses, Ran}
+use Rattle.mp_streams.specs.Outgoing.{Outgoing}
 
 module _ {V : Type 0} (wires : V → List (List ℕ)) (view : Option V) where
   -- a fault of the text or of a number is told before a wire
@@ -22,7 +22,7 @@ module _ {V : Type 0} (wires : V → List (List ℕ)) (view : Option V) where
     viewed_refused ReadFailed is = is
     viewed_refused WriteFailed is = is
 
-    module _ (v : V) (n : Circuit) (is_view : view ≡ Some v) (is_read : read ≡ Ok n) where
-      -- no wire is missing
-      pub viewed_whole : missing_at n (wires v) ≡ None → viewed_opening wires view read ≡ Ok n
-      viewed_whole all = rw (is_view, is_read, all) refl
+    -- a run with that view, on what was read
+    pub viewed_ran : {S : Type 0} (text : V → Circuit → List ℕ) (v : V) (n : Circuit) (r : Result (Unit {0}) RunFault) (a b : Outgoing S) → view ≡ Some v → read ≡ Ok n
+        → Ran false r (with_wires (wires v) (Ok n)) (λ m t. t ≡ text v m) a b → Ran false r (viewed_opening wires view read) (λ m t. IsSomeAnd view (λ w. t ≡ text w m)) a b
+    viewed_ran text v n r a b is_view is_read ran = rw (is_view, is_read) ran

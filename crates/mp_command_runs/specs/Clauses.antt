@@ -7,7 +7,7 @@ pub use Rattle.mp_text.specs.Sizes.{text_limit}
 pub use Rattle.mp_words.specs.Lines.{lines_of}
 pub use Rattle.mp_command_runs.specs.Limits.{max_input}
 pub use Rattle.mp_command_runs.specs.OpenedInputs.{StaysShutWith, opening_with}
-pub use Rattle.mp_command_runs.specs.Openings.{counted_netlist, opening_of, taken_of, too_long, viewed_opening, within_size}
+pub use Rattle.mp_command_runs.specs.Openings.{counted_netlist, opening_of, taken_of, too_long, viewed_opening, with_all, with_wires, within_size}
 pub use Rattle.mp_command_runs.specs.OptionLimits.{has_valid_crew}
 pub use Rattle.mp_command_runs.specs.RunFaults.{counted_reads, fault_at, fault_of_take, fault_of_text, fault_of_write, line_of, numbered, status_of, text_line, wire_fault_line}
 pub use Rattle.mp_command_runs.specs.Runs.{HasInput, IsInput, Ran, RanFrom, Refuses, StaysUnread, TakesInput, WritesOne}

@@ -23,7 +23,7 @@ pub fn read_opening<S: Source, C: Drop>(
     ensures read_faults { S.fault_count source.new ≡ counted_reads result (S.fault_count source.old) }
 {
     let input = read_input(alloc, source)?;
-    opened(alloc, input.as_slice(), crew)
+    opened_input(alloc, input, crew)
 }
 
 /// The netlist of a text, with a crew for it. Where there is none `BadCount` comes, after the faults of the text.
@@ -42,4 +42,18 @@ pub fn opened<C: Drop>(
         Some(crew) => Ok((netlist, crew)),
         None => Err(RunFault::BadCount),
     }
+}
+
+/// The netlist of an input, with a crew for it, as `opened`. The input is let go, since a run wants the memory that it has.
+pub(crate) fn opened_input<C: Drop>(
+    alloc: Global,
+    input: Vec<u8>,
+    crew: Option<C>,
+) -> Result<(Netlist, C), RunFault>
+    requires { length input.items ≤ max_input }
+    ensures netlist { IfOk result (λ both. opening_of (lines_of input.items) (is_some crew) ≡ Ok both.0) }
+    ensures crew { IfOk result (λ both. crew ≡ Some both.1) }
+    ensures refused { IfErr result (Refuses false (opening_of (lines_of input.items) (is_some crew))) }
+{
+    opened(alloc, input.as_slice(), crew)
 }

@@ -1,11 +1,12 @@
 //! The command that writes a view.
 ghost use Rattle.std.specs.Prelude.{◌≡◌, ◌&&◌};
-ghost use Rattle.mp_command_runs.specs.Clauses.{false, is_some, IsSomeAnd, lines_of, has_valid_crew, opening_of, viewed_opening};
+ghost use Rattle.mp_command_runs.specs.Clauses.{false, is_some, Some, Ok, IfSome, IsSomeAnd, IsSync, Ran, lines_of, has_valid_crew, opening_of, viewed_opening, with_wires};
 
 use crate::command::Command;
-use crate::opening::opened;
+use crate::opening::opened_input;
 use crate::options::Options;
 use crate::run_fault::RunFault;
+use mp_netlist::Netlist;
 use mp_phase::Crew;
 use mp_simulate::find_waves;
 use mp_streams::{Out, Sink};
@@ -24,12 +25,13 @@ pub struct Viewed<V> {
 }
 
 impl<V: View> Viewed<V> {
-    /// The crew of the options, where there is a view too.
-    fn crew(&self, options: &Options) -> Option<Crew>
-        ensures { is_some result ≡ (has_valid_crew options.now && is_some self.now.view) }
+    /// The view with the crew of the options, where there are both.
+    fn crewed(&self, options: &Options) -> Option<(&V, Crew)>
+        ensures both { is_some result ≡ (has_valid_crew options.now && is_some self.now.view) }
+        ensures view { IfSome result (λ both. self.now.view ≡ Some both.0.now) }
     {
-        match self.view {
-            Some(_) => options.crew(),
+        match &self.view {
+            Some(view) => Some((view, options.crew()?)),
             None => None,
         }
     }
@@ -50,27 +52,40 @@ impl<V: View> Command for Viewed<V> {
         input: Vec<u8>,
         options: &Options,
     ) -> Result<(), RunFault> {
-        let (netlist, crew) = opened(alloc, input.as_slice(), self.crew(options))?;
-        // the run wants the memory that the text has
-        drop(input);
-        let Some(view) = &self.view else {
-            return Err(RunFault::BadCount);
-        };
-        if let Some(place) = view.missing(&netlist) {
-            return Err(RunFault::NoSuchWire(place));
+        let (netlist, (view, crew)) = opened_input(alloc, input, self.crewed(options))?;
+        match answer_of(rt, alloc, out, &netlist, view, crew) {
+            Ok(()) => {
+                // the run is over: all memory goes back to the system at once
+                forget(netlist);
+                Ok(())
+            }
+            Err(fault) => Err(fault),
         }
-        let waves = find_waves(rt, alloc, &netlist, &crew)?;
-        let put = {
-            let of = Evaluated {
-                netlist: &netlist,
-                waves: &waves,
-                crew,
-            };
-            view.put(rt, alloc, out, &of)
-        };
-        // the run is over: all memory goes back to the system at once
-        forget(waves);
-        forget(netlist);
-        Ok(put?)
     }
+}
+
+/// Writes a view of a netlist.
+fn answer_of<V: View, R: Threads + Wait + Sync, T: Sink>(
+    rt: &R,
+    alloc: Global,
+    out: &mut Out<T>,
+    netlist: &Netlist,
+    view: &V,
+    crew: Crew,
+) -> Result<(), RunFault>
+    requires { IsSync R.row }
+    ensures { Ran false result (with_wires (V.wires view.now) (Ok netlist.now)) (λ n text. text ≡ V.text view.now n) out.old out.new }
+{
+    if let Some(place) = view.missing(netlist) {
+        return Err(RunFault::NoSuchWire(place));
+    }
+    let waves = find_waves(rt, alloc, netlist, &crew)?;
+    let of = Evaluated {
+        netlist,
+        waves: &waves,
+        crew,
+    };
+    let put = view.put(rt, alloc, out, &of);
+    forget(waves);
+    Ok(put?)
 }
