@@ -18,6 +18,11 @@ prefix_either {A} (x ∷ xs) (y ∷ ys) (z ∷ zs) p q =
     ⊎_elim (λ (r : IsPrefix xs ys). inl (r.0, cc (heads, r.1))) (λ (r : IsPrefix ys xs). inr (r.0, cc (heads, r.1)))
     (prefix_either xs ys zs (p.0, cc (p.1)) (q.0, cc (q.1)))
 
+-- a list begins another that has one element more, and is no longer than the other: so it begins the other
+pub prefix_before : {A : Type 0} (xs ys : List A) (y : A) → IsPrefix xs (ys ++ y ∷ []) → length xs ≤ length ys → IsPrefix xs ys
+prefix_before xs ys y p le =
+    ⊎_elim (λ (r : IsPrefix xs ys). r) (λ (r : IsPrefix ys xs). subst (IsPrefix xs) (sym (prefix_whole ys xs r le)) (prefix_self xs)) (prefix_either xs ys (ys ++ y ∷ []) p (y ∷ [], refl))
+
 -- ---- chains
 
 -- the end of a chain extends its start

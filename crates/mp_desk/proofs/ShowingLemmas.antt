@@ -29,10 +29,6 @@ shown_is p b s e f = λ i. record { book = e i; story = f i }
 pub follows_read : (now y : Shown) (first known : Known) → KeepsRead first known → Covers y known → y ≡ now → FollowsRead now first
 follows_read now y first known h c e s at = subst (λ (z : Shown). Follows z s) e (covers_has y known s c (h s at))
 
--- what follows in the same history as what was published is that
-pub follows_new : (now : Shown) (y : Shown) → y.book ≡ now.book → Extends y.story now.story → Follows y now
-follows_new now y b h = record { same_book = b; extends = h }
-
 -- the one entry that is left to publish is the version that is published
 pub fold_same : (now next : Shown) (pending : List Shown) → pending ≡ next ∷ [] → next ≡ now → Follows (fold (λ _ v. v) now pending) now
 fold_same now next pending e same = subst (λ (xs : List Shown). Follows (fold (λ _ v. v) now xs) now) (sym e) (subst (λ (z : Shown). Follows z now) (sym same) (follows_self now))

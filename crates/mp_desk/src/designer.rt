@@ -1,12 +1,15 @@
 //! Those who edit.
 use crate::authors::Authors;
 use crate::log_prefix::LogPrefix;
+use crate::log_writer::LogWriter;
 use crate::name::DeskName;
 use crate::pass::{Pass, ReadError};
+use crate::publication::Publication;
+use crate::showing::show;
 use mp_version::Version;
 use std::marker::Model;
-use std::sync::Arc;
-use std::sync::ledger::Share;
+use std::sync::ledger::{Book, Share};
+use std::sync::{Arc, Wait};
 
 /// Submits edits. A contract sees the version that was seen last, how many edits were accepted, the designer's number, and the authors of all edits
 /// up to the last one that was accepted.
@@ -35,8 +38,10 @@ impl<L: DeskName> Model for Designer<L> {
 }
 
 impl<L: DeskName> Designer<L> {
-    ghost use Rattle.std.specs.Prelude.{◌≡◌, IfOk, OnErr};
+    ghost use Rattle.std.specs.Prelude.{◌≡◌, ◌<◌, ◌≤◌, ◌+◌, length, IfOk, OnErr};
     ghost use Rattle.std.specs.Arc.{arc_value};
+    ghost use mathlib.Core.List.{IsPrefix};
+    ghost use Rattle.mp_version.specs.Limits.{max_edits};
     ghost use Rattle.mp_desk.specs.Extending.{Extends};
 
     /// Reads what is published, and waits for nobody: it is the version that was seen last, or a later one. `Closed` where the desk is, and
@@ -50,6 +55,40 @@ impl<L: DeskName> Designer<L> {
         let published = self.pass.enter()?;
         self.seen = published.prefix().again();
         Ok(published.into_version())
+    }
+
+    /// Sees what is published, and that its authors begin with those that were known earlier.
+    pub(crate) fn catch_up<H: Wait, R: Wait + Drop>(
+        &mut self,
+        rt: &H,
+        publication: &Publication<R>,
+        writer: &LogWriter,
+    )
+        requires book { (publication.now.book ≡ L.history) × (writer.now.book ≡ L.history) }
+        requires story { length writer.now.authors ≡ length publication.now.story.edits }
+        ensures seen { self.new.seen ≡ publication.now.story }
+        ensures extends { Extends publication.now.story self.old.seen }
+        ensures begins { IsPrefix self.old.signed writer.now.authors }
+        ensures same { (self.new.accepted ≡ self.old.accepted) × (self.new.number ≡ self.old.number) × (self.new.signed ≡ self.old.signed) }
+    {
+        show(rt, publication, &mut self.pass);
+        writer.begins_with(&self.signed);
+        self.seen = publication.published().prefix().again();
+    }
+
+    /// Signs all edits of the history, of which the last one is this designer's, and counts it in the book.
+    pub(crate) fn sign(&mut self, writer: &LogWriter, book: &mut Book<L>)
+        requires history { writer.now.book ≡ L.history }
+        requires authors { length writer.now.authors ≤ length self.old.seen.edits }
+        requires room { book.old.total < max_edits }
+        ensures signed { self.new.signed ≡ writer.now.authors }
+        ensures counted { (self.new.accepted ≡ self.old.accepted + 1) × (book.new.total ≡ book.old.total + 1) }
+        ensures same { (self.new.seen ≡ self.old.seen) × (self.new.number ≡ self.old.number) }
+    {
+        book.add(&mut self.share, 1);
+        book.audit(&mut self.share);
+        self.accepted += 1;
+        self.signed = writer.authors();
     }
 
     /// How many edits of this designer were accepted.

@@ -1,6 +1,9 @@
 //! What is under the lock of a desk.
-ghost use Rattle.std.specs.Prelude.{◌≡◌, IfOk};
+ghost use Rattle.std.specs.Prelude.{◌≡◌, ◌≤◌, length, IfOk, IfSome, MatchOption};
 ghost use Rattle.std.specs.Arc.{arc_value};
+ghost use Rattle.mp_version.specs.Limits.{max_edits};
+ghost use Rattle.mp_desk.specs.Extending.{Succeeds};
+ghost use Rattle.mp_desk.specs.Chronicles.{written_on};
 
 use crate::designer::Designer;
 use crate::log_writer::LogWriter;
@@ -9,7 +12,6 @@ use crate::notice::Notice;
 use crate::publication::Publication;
 use crate::publishing::Published;
 use crate::receipt::Receipt;
-use crate::showing::show;
 use mp_netlist::{Edit, EditError};
 use mp_version::{EditSession, Version};
 use std::alloc::AllocError;
@@ -39,17 +41,11 @@ impl<S: EditSession, L: DeskName, R: Wait + Drop> Model for DeskState<S, L, R> {
     ghost invariant = { λ k. (k.publication ≡ record { book = L.history; story = S.story k.session }) × (k.writer.book ≡ L.history) × (k.writer.story ≡ S.story k.session) × (length k.writer.authors ≡ length (S.story k.session).edits) × (k.book.total ≡ length (S.story k.session).edits) × (k.share.parts ≡ 1) × (k.share.amount ≡ L.opening) };
 }
 
-/// Two owners of one version.
-fn owners(version: &Arc<Version>) -> Result<(Arc<Version>, Arc<Version>), AllocError>
-    ensures { IfOk result (λ v. (arc_value v.0 ≡ arc_value version.now) × (arc_value v.1 ≡ arc_value version.now)) }
-{
-    Ok((Arc::try_clone(version)?, Arc::try_clone(version)?))
-}
-
 impl<S: EditSession, L: DeskName, R: Wait + Drop> DeskState<S, L, R> {
-    ghost use Rattle.std.specs.Prelude.{◌+◌, IfOk, IfErr, OnErr};
+    ghost use Rattle.std.specs.Prelude.{◌+◌, IfOk, IfErr, OnErr, IfNone};
     ghost use Rattle.std.specs.Arc.{arc_value};
     ghost use Rattle.mp_version.specs.Stories.{one_more};
+    ghost use Rattle.mp_version.specs.Steps.{story_after};
     ghost use Rattle.mp_desk.specs.Extending.{Extends};
     ghost use Rattle.mp_desk.specs.Holders.{RefusedAfter, Signs};
 
@@ -72,31 +68,76 @@ impl<S: EditSession, L: DeskName, R: Wait + Drop> DeskState<S, L, R> {
         ensures number { me.new.number ≡ me.old.number }
         ensures forward { OnErr result (Extends me.new.seen me.old.seen) }
     {
-        show(rt, &self.publication, &mut me.pass);
-        me.seen = self.publication.published().prefix().again();
-        self.writer.begins_with(&me.signed);
+        me.catch_up(rt, &self.publication, &self.writer);
         let prepared = self.session.prepare(rt, edit)?;
-        let Ok((version, next)) = owners(S::next_version(&prepared)) else {
+        let Some(receipt) = self.accept(rt, me, prepared) else {
             return Err(EditError::OutOfMemory);
         };
-        if !self.writer.add(&version, me.number) {
-            // The history ends with what is published, so this doesn't come.
-            return Err(EditError::OutOfMemory);
-        }
-        let notice = Notice {
-            prefix: self.writer.prefix(),
-            number: version.number(),
-            of: PhantomData,
-        };
-        let published = Published::new(next, self.writer.prefix());
-        self.publication.publish(published);
-        self.session.commit(prepared);
-        self.book.add(&mut me.share, 1);
-        self.book.audit(&mut me.share);
-        me.accepted += 1;
-        show(rt, &self.publication, &mut me.pass);
-        me.seen = self.writer.prefix();
-        me.signed = self.writer.authors();
-        Ok(Receipt { version, notice })
+        Ok(receipt)
     }
+
+    /// Makes an edit that this designer has had prepared, and publishes the version after it. None where memory is wanting: then all stays.
+    fn accept<H: Wait>(
+        &mut self,
+        rt: &H,
+        me: &mut Designer<L>,
+        prepared: S::Prepared,
+    ) -> Option<Receipt<L>>
+        requires fits { (S.step prepared).before ≡ self.old }
+        requires seen { me.old.seen ≡ self.old }
+        ensures accepted { IfSome result (λ r. arc_value r.version ≡ story_after (S.step prepared)) }
+        ensures notice { IfSome result (λ r. r.notice ≡ arc_value r.version) }
+        ensures seen { IfSome result (λ r. me.new.seen ≡ arc_value r.version) }
+        ensures counted { IfSome result (λ _. me.new.accepted ≡ me.old.accepted + 1) }
+        ensures signed { IfSome result (λ r. Signs me.old me.new (arc_value r.version)) }
+        ensures number { me.new.number ≡ me.old.number }
+        ensures wanting { IfNone result (me.new ≡ me.old) }
+    {
+        let (receipt, next) = write_version(
+            &mut self.writer,
+            S::next_version(&prepared),
+            me.number,
+        )?;
+        self.publication.publish(next);
+        self.session.commit(prepared);
+        me.catch_up(rt, &self.publication, &self.writer);
+        me.sign(&self.writer, &mut self.book);
+        Some(receipt)
+    }
+}
+
+/// Adds the next version by this author to the history, and gives its receipt and what is to be published of it. None where memory is wanting: then
+/// the history stays.
+fn write_version<L: DeskName>(
+    writer: &mut LogWriter,
+    version: &Arc<Version>,
+    author: usize,
+) -> Option<(Receipt<L>, Published)>
+    requires book { writer.old.book ≡ L.history }
+    requires follows { Succeeds (arc_value version.now) writer.old.story }
+    ensures writer { MatchOption result (writer.new ≡ writer.old) (λ _. writer.new ≡ written_on writer.old (arc_value version.now) author) }
+    ensures version { IfSome result (λ both. arc_value both.0.version ≡ arc_value version.now) }
+    ensures notice { IfSome result (λ both. both.0.notice ≡ arc_value version.now) }
+    ensures few { IfSome result (λ _. length (arc_value version.now).edits ≤ max_edits) }
+    ensures published { IfSome result (λ both. both.1 ≡ record { book = L.history; story = arc_value version.now }) }
+{
+    let (version, next) = owners(version).ok()?;
+    if !writer.add(&version, author) {
+        // The history ends with what is published, so this doesn't come.
+        return None;
+    }
+    let notice = Notice {
+        prefix: writer.prefix(),
+        number: version.number(),
+        of: PhantomData,
+    };
+    let published = Published::new(next, writer.prefix());
+    Some((Receipt { version, notice }, published))
+}
+
+/// Two owners of one version.
+fn owners(version: &Arc<Version>) -> Result<(Arc<Version>, Arc<Version>), AllocError>
+    ensures { IfOk result (λ v. (arc_value v.0 ≡ arc_value version.now) × (arc_value v.1 ≡ arc_value version.now)) }
+{
+    Ok((Arc::try_clone(version)?, Arc::try_clone(version)?))
 }

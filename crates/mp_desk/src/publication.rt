@@ -1,5 +1,6 @@
 //! The one writer of what viewers read.
-ghost use Rattle.std.specs.Prelude.{◌≡◌, ◌∷◌, ◌++◌, [], fold, drop, MatchResult};
+ghost use Rattle.std.specs.Prelude.{◌≡◌, ◌<◌, ◌^◌, ◌∷◌, ◌++◌, [], fold, drop, IfOk, MatchResult};
+ghost use Rattle.std.specs.Arc.{arc_value};
 ghost use Rattle.left_right.specs.Sides.{view};
 ghost use Rattle.mp_desk.specs.Chronicles.{Follows};
 
@@ -60,19 +61,7 @@ impl<R: Wait + Drop> Publication<R> {
         requires prefix { arc_value version.now ≡ prefix.now.story }
         ensures { IfOk result (λ p. p ≡ prefix.now) }
     {
-        let first = Published::new(Arc::try_clone(version)?, prefix.again());
-        let second = Published::new(Arc::try_clone(version)?, prefix.again());
-        let again = Published::new(Arc::try_clone(version)?, prefix.again());
-        let mut writer = RuledWriter::new(alloc, first, second, readers)?;
-        if writer.append(again).is_err() {
-            drop(writer.take(&rt));
-            return Err(AllocError);
-        }
-        let (writer, shown) = published(&rt, writer);
-        if shown.is_err() {
-            drop(writer.take(&rt));
-            return Err(AllocError);
-        }
+        let writer = first_writer(&rt, alloc, version, prefix, readers)?;
         Ok(Publication { writer, rt })
     }
 
@@ -134,6 +123,34 @@ impl<R: Wait + Drop> Publication<R> {
             { (brought(rt, writer), ()) },
         )
     }
+}
+
+/// The writer of a first version, which is published, with room for so many readers.
+fn first_writer<R: Wait>(
+    rt: &R,
+    alloc: Global,
+    version: &Arc<Version>,
+    prefix: &LogPrefix,
+    readers: usize,
+) -> Result<RuledWriter, AllocError>
+    requires room { (0 < readers) × (readers < 2 ^ 32) }
+    requires prefix { arc_value version.now ≡ prefix.now.story }
+    ensures { IfOk result (λ w. (w.desk.shown.value ≡ prefix.now) × (view w.desk.place ≡ w.desk.shown.value ∷ [])) }
+{
+    let first = Published::new(Arc::try_clone(version)?, prefix.again());
+    let second = first.try_copy()?;
+    let again = first.try_copy()?;
+    let mut writer = RuledWriter::new(alloc, first, second, readers)?;
+    if writer.append(again).is_err() {
+        drop(writer.take(rt));
+        return Err(AllocError);
+    }
+    let (writer, shown) = published(rt, writer);
+    if shown.is_err() {
+        drop(writer.take(rt));
+        return Err(AllocError);
+    }
+    Ok(writer)
 }
 
 fn published<R: Wait>(rt: &R, writer: RuledWriter) -> (RuledWriter, Result<(), AllocError>)
