@@ -1,5 +1,5 @@
 -- Those who sit at a desk, as lists.
-use Rattle.std.proofs.Common.{◌≡◌, ◌<◌, ℕ, zero, suc, List, [], ◌∷◌, ◌++◌, length, map, slice_index_or, All, refl, sym, ap, subst, ◌∙◌, arith}
+use Rattle.std.proofs.Common.{◌≡◌, ◌<◌, ℕ, zero, suc, List, [], ◌∷◌, ◌++◌, length, map, slice_index_or, All, refl, sym, ap, subst, ◌∙◌, append_assoc, arith}
 use Rattle.std.proofs.lemmas.List.{map-append, length-map}
 use Rattle.mp_version.specs.Stories.{Story}
 use Rattle.mp_desk.specs.Extending.{Extends}
@@ -14,6 +14,13 @@ pub both_more : {A B C : Type 0} (f : A → C) (g : B → C) (xs zs : List A) (x
     → map f zs ≡ map g (ys ++ y ∷ [])
 both_more f g xs zs x ys y pushed before same =
     ap (map f) pushed ∙ map-append f xs (x ∷ []) ∙ ap (λ l. l ++ f x ∷ []) before ∙ ap (λ z. map g ys ++ z ∷ []) same ∙ sym (map-append g ys (y ∷ []))
+
+-- one element more that is done, and one fewer that is left
+pub one_placed : {A B : Type 0} (f : B → A) (done done' : List B) (left left' : List A) (x : A) (y : B) (all : List A) → done' ≡ done ++ y ∷ [] → left ≡ x ∷ left' → f y ≡ x
+    → map f done ++ left ≡ all → map f done' ++ left' ≡ all
+one_placed f done done' left left' x y all pushed taken same before =
+    ap (λ l. map f l ++ left') pushed ∙ ap (λ l. l ++ left') (map-append f done (y ∷ [])) ∙ append_assoc (map f done) (f y ∷ []) left' ∙ ap (λ z. map f done ++ z ∷ left') same
+    ∙ ap (λ l. map f done ++ l) (sym taken) ∙ before
 
 through : {A B C : Type 0} (f : B → C) (g : A → B) (xs : List A) → map (λ x. f (g x)) xs ≡ map f (map g xs)
 through f g [] = refl

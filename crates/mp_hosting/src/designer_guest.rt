@@ -1,4 +1,5 @@
 //! A designer at a seat.
+use crate::rises::Rises;
 use mp_desk::{Desk, DeskName};
 use mp_meeting::Sitting;
 use mp_netlist::Edit;
@@ -37,5 +38,18 @@ impl<'a, S: EditSession, L: DeskName, R: Wait + Drop> Guest for DesignerGuest<'a
 
     fn refuse(&mut self) {
         self.sitting.refuse();
+    }
+}
+
+impl<'a, S: EditSession, L: DeskName, R: Wait + Drop> Rises for DesignerGuest<'a, S, L, R> {
+    ghost use Rattle.mp_hosting.specs.Guests.{sitter};
+
+    type Person = Sitting<L>;
+
+    ghost seated_as = { sitter };
+
+    fn rise(self) -> Sitting<L> {
+        let DesignerGuest { sitting, .. } = self;
+        sitting
     }
 }

@@ -12,6 +12,7 @@ mod own_seat;
 mod people;
 mod place;
 mod post;
+mod rises;
 mod serves;
 mod service;
 mod staff;

@@ -5,6 +5,7 @@ ghost use Rattle.mp_hosting.specs.Guests.{sitter, looker};
 use crate::designer_guest::DesignerGuest;
 use crate::door::Door;
 use crate::post::{Post, posts};
+use crate::rises::Rises;
 use crate::viewer_guest::ViewerGuest;
 use mp_desk::{Desk, DeskName, Viewer};
 use mp_meeting::Sitting;
@@ -32,7 +33,7 @@ fn designer_guests<'a, S: EditSession, L: DeskName, R: Wait + Drop>(
 {
     let mut guests = Vec::with_capacity(alloc, sittings.len())?;
     for sitting in sittings {
-        guests.push(DesignerGuest { desk, sitting })?;
+        guests.push_reserved(DesignerGuest { desk, sitting });
     }
     Ok(guests)
 }
@@ -46,7 +47,7 @@ fn viewer_guests<L: DeskName>(
 {
     let mut guests = Vec::with_capacity(alloc, viewers.len())?;
     for viewer in viewers {
-        guests.push(ViewerGuest { viewer })?;
+        guests.push_reserved(ViewerGuest { viewer });
     }
     Ok(guests)
 }
@@ -91,34 +92,16 @@ pub(crate) fn viewer_posts<L: DeskName, B: Scribe + Copy, D: Door>(
     Ok(made)
 }
 
-/// The designers at these posts.
-pub(crate) fn sittings_of<S: EditSession, L: DeskName, R: Wait + Drop, B: Scribe, D: Door>(
+/// The people at these posts.
+pub(crate) fn people_at<B: Scribe, G: Rises, D: Door>(
     alloc: Global,
-    posts: Vec<Post<B, DesignerGuest<'_, S, L, R>, D>>,
-) -> Result<Vec<Sitting<L>>, AllocError>
-    ensures { IfOk result (λ v. map sitter v.items ≡ map (λ p. p.seat) posts.entry.items) }
+    posts: Vec<Post<B, G, D>>,
+) -> Result<Vec<G::Person>, AllocError>
+    ensures { IfOk result (λ v. map G.seated_as v.items ≡ map (λ p. p.seat) posts.items) }
 {
-    let mut sittings = Vec::with_capacity(alloc, posts.len())?;
+    let mut people = Vec::with_capacity(alloc, posts.len())?;
     for post in posts {
-        let Post { seat, .. } = post;
-        let DesignerGuest { sitting, .. } = seat.into_guest();
-        sittings.push(sitting)?;
+        people.push_reserved(post.into_guest().rise());
     }
-    Ok(sittings)
-}
-
-/// The viewers at these posts.
-pub(crate) fn viewers_of<L: DeskName, B: Scribe, D: Door>(
-    alloc: Global,
-    posts: Vec<Post<B, ViewerGuest<L>, D>>,
-) -> Result<Vec<Viewer<L>>, AllocError>
-    ensures { IfOk result (λ v. map looker v.items ≡ map (λ p. p.seat) posts.items) }
-{
-    let mut viewers = Vec::with_capacity(alloc, posts.len())?;
-    for post in posts {
-        let Post { seat, .. } = post;
-        let ViewerGuest { viewer } = seat.into_guest();
-        viewers.push(viewer)?;
-    }
-    Ok(viewers)
+    Ok(people)
 }

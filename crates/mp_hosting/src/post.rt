@@ -20,6 +20,16 @@ pub(crate) struct Post<B: Scribe, G: Guest, D: Door> {
     pub door: D,
 }
 
+impl<B: Scribe, G: Guest, D: Door> Post<B, G, D> {
+    /// The one who sat there.
+    pub fn into_guest(self) -> G
+        ensures { G.seated result ≡ self.seat }
+    {
+        let Post { seat, .. } = self;
+        seat.into_guest()
+    }
+}
+
 impl<B: Scribe, G: Guest, D: Door> Serves for Post<B, G, D> {
     ghost Becomes = { λ p q. WasAttended D.Output D.Comes D.Leaves D.TurnsAway (record { answer = B.answer_text; reply = B.reply_text }) G.edits p.seat p.door q.seat q.door };
 
@@ -132,7 +142,7 @@ pub(crate) fn posts<B: Scribe + Copy, G: Guest, D: Door>(
     let mut posts = Vec::with_capacity(alloc, guests.len())?;
     for (guest, door) in guests.into_iter().zip(doors) {
         let seat = Seat::new(alloc, scribe, guest);
-        posts.push(Post { seat, door })?;
+        posts.push_reserved(Post { seat, door });
     }
     Ok(posts)
 }

@@ -6,11 +6,13 @@ ghost use Rattle.mp_hosting.specs.Guests.{sitter, looker, just_come, just_lookin
 ghost use Rattle.mp_hosting.specs.OwnSeats.{HasTalked, EndsFor};
 ghost use Rattle.mp_hosting.specs.Stays.{Each, AreAttended};
 
+use crate::designer_guest::DesignerGuest;
 use crate::door::{Door, Exit};
 use crate::hall::Hall;
 use crate::host_fault::HostFault;
 use crate::own_seat::OwnSeat;
-use crate::people::{People, designer_posts, sittings_of, viewer_posts, viewers_of};
+use crate::people::{People, designer_posts, people_at, viewer_posts};
+use crate::post::Post;
 use crate::serves::{Ends, Serves};
 use crate::staff::Staff;
 use crate::viewer_guest::ViewerGuest;
@@ -21,7 +23,7 @@ use mp_seats::{Scribe, Seat};
 use mp_streams::{Out, Sink, Source};
 use mp_talk::{Answerer, TalkFault, converse};
 use mp_version::EditSession;
-use std::alloc::Global;
+use std::alloc::{AllocError, Global};
 use std::sync::Wait;
 use std::thread::{Threads, for_each_mut, join_mut};
 
@@ -57,6 +59,34 @@ where
     ensures fault { IfErr result (λ fault. EndsFor (record { answer = B.answer_text; reply = B.reply_text }) fault people.entry.own.last (X.names hall.exit) lines.old lines.new out.old out.new) }
     ensures flushed { out.new.held ≡ [] }
 {
+    let (mut staff, mut own) = seats_of(alloc, people, hall)?;
+    let (ended, held) = serve_all(rt, alloc, &mut staff, &mut own, lines, out);
+    drop(held);
+    drop(own);
+    ended?;
+    Ok(people_of(alloc, staff)?)
+}
+
+/// The posts of the people at a desk, each with the door in its place, and the seat of whoever runs it.
+fn seats_of<'a, S: EditSession, L: DeskName, R: Wait + Drop, D: Door, X: Exit, B: Scribe + Copy>(
+    alloc: Global,
+    people: People<'a, S, L, R>,
+    hall: Hall<D, X, B>,
+) -> Result<
+    (
+        Staff<Post<B, DesignerGuest<'a, S, L, R>, D>, Post<B, ViewerGuest<L>, D>>,
+        OwnSeat<B, ViewerGuest<L>, X>,
+    ),
+    AllocError,
+>
+    requires designers { vec_len people.sittings ≡ vec_len hall.designers }
+    requires viewers { vec_len people.viewers ≡ vec_len hall.viewers }
+    ensures designers { IfOk result (λ both. map (λ p. p.seat) both.0.designers.items ≡ map sitter people.entry.sittings.items) }
+    ensures designer_doors { IfOk result (λ both. map (λ p. p.door) both.0.designers.items ≡ hall.designers.items) }
+    ensures viewers { IfOk result (λ both. map (λ p. p.seat) both.0.viewers.items ≡ map looker people.entry.viewers.items) }
+    ensures viewer_doors { IfOk result (λ both. map (λ p. p.door) both.0.viewers.items ≡ hall.viewers.items) }
+    ensures own { IfOk result (λ both. both.1 ≡ record { seated = looker people.entry.own; names = X.names hall.exit }) }
+{
     let People {
         desk,
         sittings,
@@ -69,19 +99,25 @@ where
         exit,
         scribe,
     } = hall;
-    let mut staff = Staff {
+    let staff = Staff {
         designers: designer_posts(alloc, scribe, desk, sittings, designer_doors)?,
         viewers: viewer_posts(alloc, scribe, viewers, viewer_doors)?,
     };
-    let mut own = OwnSeat {
-        seat: Seat::new(alloc, scribe, ViewerGuest { viewer: own }),
-        exit,
-    };
-    let (ended, held) = serve_all(rt, alloc, &mut staff, &mut own, lines, out);
-    drop(held);
-    ended?;
+    let seat = Seat::new(alloc, scribe, ViewerGuest { viewer: own });
+    Ok((staff, OwnSeat { seat, exit }))
+}
+
+/// The designers and the viewers at these posts.
+fn people_of<S: EditSession, L: DeskName, R: Wait + Drop, B: Scribe, D: Door>(
+    alloc: Global,
+    staff: Staff<Post<B, DesignerGuest<'_, S, L, R>, D>, Post<B, ViewerGuest<L>, D>>,
+) -> Result<(Vec<Sitting<L>>, Vec<Viewer<L>>), AllocError>
+    ensures designers { IfOk result (λ both. map sitter both.0.items ≡ map (λ p. p.seat) staff.entry.designers.items) }
+    ensures viewers { IfOk result (λ both. map looker both.1.items ≡ map (λ p. p.seat) staff.entry.viewers.items) }
+{
     let Staff { designers, viewers } = staff;
-    Ok((sittings_of(alloc, designers)?, viewers_of(alloc, viewers)?))
+    let sittings = people_at(alloc, designers)?;
+    Ok((sittings, people_at(alloc, viewers)?))
 }
 
 /// Has all posts serve those who come, each on a thread of its own where one can be made, and the lines of whoever runs the desk answered meanwhile.

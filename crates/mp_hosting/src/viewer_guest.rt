@@ -1,4 +1,5 @@
 //! A viewer at a seat.
+use crate::rises::Rises;
 use mp_desk::{DeskName, Viewer};
 use mp_netlist::Edit;
 use mp_seats::{Guest, Refusal};
@@ -30,4 +31,17 @@ impl<L: DeskName> Guest for ViewerGuest<L> {
     }
 
     fn refuse(&mut self) {}
+}
+
+impl<L: DeskName> Rises for ViewerGuest<L> {
+    ghost use Rattle.mp_hosting.specs.Guests.{looker};
+
+    type Person = Viewer<L>;
+
+    ghost seated_as = { looker };
+
+    fn rise(self) -> Viewer<L> {
+        let ViewerGuest { viewer } = self;
+        viewer
+    }
 }
