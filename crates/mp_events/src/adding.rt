@@ -3,6 +3,7 @@ ghost use Rattle.std.specs.Prelude.{◌≡◌, ◌<◌, ◌∷◌, [], OnOk, All
 ghost use Rattle.mp_events.specs.Adding.{IsAdding, AreAdded};
 ghost use Rattle.mp_events.specs.Toggling.{entries_from};
 
+use crate::batches::{batch_end, is_large};
 use crate::fanout::Fanout;
 use crate::fanout_entry::FanoutEntry;
 use mp_automata::AutomatonState;
@@ -59,8 +60,17 @@ pub fn add_fanout_events(
     ensures adding { OnOk result (IsAdding states.new.items due.new.items []) }
     ensures places { OnOk result (length states.new.items ≡ length states.old.items) }
 {
-    for wire in wires {
-        add_events(states, due, rows.of(*wire))?;
+    let is_large = is_large(states.len());
+    let mut from = 0;
+    while from < wires.len() {
+        let to = batch_end(wires, from, is_large);
+        if is_large {
+            due.reserve(rows.count_read_once(&wires[from..to]))?;
+        }
+        for place in from..to {
+            add_events(states, due, rows.of(wires[place]))?;
+        }
+        from = to;
     }
     Ok(())
 }

@@ -53,6 +53,20 @@ impl Fanout {
         })
     }
 
+    /// How many of these wires have one reader. All their heads are in a cache after that.
+    #[inline(always)]
+    pub(crate) fn count_read_once(&self, wires: &[u32]) -> usize {
+        let mut count = 0usize;
+        for wire in wires {
+            if let Some(head) = self.heads.get(*wire as usize) {
+                if head.event != 0 {
+                    count += 1;
+                }
+            }
+        }
+        count
+    }
+
     /// The inputs that read a wire.
     #[inline(always)]
     pub fn of(&self, wire: u32) -> &[FanoutEntry]

@@ -6,6 +6,7 @@ ghost use Rattle.mp_events.specs.Adding.{state_at, listed};
 ghost use Rattle.mp_events.specs.Firing.{UnitState, HasSlot, HaveSlots, scheduled, entry_if, fired_at, ports_at, number_of, next_state, events_of, AreNumbered, HaveFired, fired_by, copied_from, StayElse};
 ghost use Rattle.mp_events.specs.LevelFlips.{levels_at, flipped, HaveFlipped};
 
+use crate::batches::{batch_end, is_large};
 use crate::event_wheel::EventWheel;
 use crate::output_port::OutputPort;
 use crate::output_ports::OutputPorts;
@@ -46,6 +47,40 @@ fn schedule_toggles(
     schedule_if(toggles % 2 == 1, ports.first, wheel)?;
     schedule_if(toggles / 2 % 2 == 1, ports.second, wheel)?;
     schedule_if(toggles / 4 % 2 == 1, ports.third, wheel)
+}
+
+/// How many of the modules at these places have a delay at their first output: all. Their outputs are in a cache after that.
+#[inline(always)]
+fn count_delayed(ports: &[OutputPorts], due: &[u32]) -> usize
+    requires places { All (λ m. m < length ports.now) due.now }
+    requires slots { (units : ℕ) × All (HaveSlots units) ports.now }
+    ensures { result ≡ length due.now }
+{
+    let mut count = 0usize;
+    for place in due {
+        if ports[*place as usize].first.delay > 0 {
+            count += 1;
+        }
+    }
+    count
+}
+
+/// Where the batch of modules ends that begins at a place. In a large netlist their outputs are read ahead.
+#[inline(always)]
+fn batch_of_modules(ports: &[OutputPorts], due: &[u32], from: usize) -> usize
+    requires some { from < length due.now }
+    requires places { All (λ m. m < length ports.now) due.now }
+    requires slots { (units : ℕ) × All (HaveSlots units) ports.now }
+    ensures later { from < result }
+    ensures within { result ≤ length due.now }
+{
+    let is_large = is_large(ports.len());
+    let to = batch_end(due, from, is_large);
+    if is_large {
+        from + count_delayed(ports, &due[from..to])
+    } else {
+        to
+    }
 }
 
 /// A module goes on from the events of a unit.
@@ -100,8 +135,13 @@ pub fn fire_modules(
     ensures wheel { OnOk result ((state_of : ℕ → UnitState) → AreNumbered states.old.items state_of → wheel.new ≡ scheduled wheel.old (fired_by state_of ports.now due.now)) }
     ensures places { OnOk result (length wheel.new ≡ length wheel.old) }
 {
-    for place in due {
-        fire_module(table, ports, states, levels, wheel, *place)?;
+    let mut from = 0;
+    while from < due.len() {
+        let to = batch_of_modules(ports, due, from);
+        for place in from..to {
+            fire_module(table, ports, states, levels, wheel, due[place])?;
+        }
+        from = to;
     }
     Ok(())
 }

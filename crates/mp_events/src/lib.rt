@@ -2,6 +2,7 @@
 #![tactic(auto)]
 
 mod adding;
+mod batches;
 mod event_slot;
 mod event_wheel;
 mod fanout;

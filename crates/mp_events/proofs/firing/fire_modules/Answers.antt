@@ -6,8 +6,10 @@ use Rattle.mp_events.proofs.firing.fire_modules.Goals as goal
 pub loop-place-preserved : goal.loop-place-preserved
 loop-place-preserved c =
     let due = c.args.due.now in
-    let i = c.loop-place.place-index in
-    let within = c.loop-place-test.true in
+    let i = c.loop-place.place in
+    let most = c.batch_of_modules-to.ensures.within in
+    let here = c.loop-place-test.true in
+    let within : i < length due = omega arith in
     let once = c.requires.once in
     let v = c.loop-place.invariant in
     let e = c.in_ok-fire_module.ensures in
@@ -35,13 +37,19 @@ loop-place-preserved c =
 
 pub fire_module-requires-clause-levels : goal.fire_module-requires-clause-levels
 fire_module-requires-clause-levels c =
-    let low : slice_index_or c.args.due.now c.loop-place.place-index 0 < length c.args.states.now.items = c.requires.states c.loop-place.place-index 0 c.loop-place-test.true in
+    let most = c.batch_of_modules-to.ensures.within in
+    let here = c.loop-place-test.true in
+    let within : c.loop-place.place < length c.args.due.now = omega arith in
+    let low : slice_index_or c.args.due.now c.loop-place.place 0 < length c.args.states.now.items = c.requires.states c.loop-place.place 0 within in
     let long = c.requires.levels in
     let leveled = c.loop-place.invariant.leveled in
     omega arith
 
 pub fire_module-requires-clause-low : goal.fire_module-requires-clause-low
 fire_module-requires-clause-low c =
-    let w = slice_index_or c.args.due.now c.loop-place.place-index 0 in
-    let none = not_yet c.args.due.now c.loop-place.place-index c.loop-place-test.true c.requires.once in
+    let most = c.batch_of_modules-to.ensures.within in
+    let here = c.loop-place-test.true in
+    let within : c.loop-place.place < length c.args.due.now = omega arith in
+    let w = slice_index_or c.args.due.now c.loop-place.place 0 in
+    let none = not_yet c.args.due.now c.loop-place.place within c.requires.once in
     subst (λ k. k < 1728) (sym (c.loop-place.invariant.others w none)) (c.requires.low w)
