@@ -1,6 +1,5 @@
 -- Numbers as they are written.
-use Rattle.std.specs.Prelude.{◌≡◌, ◌+◌, ◌-◌, ◌*◌, ◌/◌, ◌%◌, ◌^◌, ◌<◌, ◌≤◌, ◌&&◌, ◌∷◌, ◌++◌}
-use Rattle.mp_words.proofs.Names.{length-set, ℕ, true, List, [], Some, decimal, ◌∙◌, arith, is_ascii_digit, list_all, decimal_by_steps, length-decimal-le, decimal_nonempty, nat_tests, list_all-append, number_from, spelled_number}
+use Rattle.mp_words.proofs.Names.{◌≡◌, ◌+◌, ◌-◌, ◌*◌, ◌/◌, ◌%◌, ◌^◌, ◌<◌, ◌≤◌, ◌&&◌, ◌∷◌, ◌++◌, length-set, ℕ, true, List, [], Some, decimal, ◌∙◌, arith, is_ascii_digit, list_all, decimal_by_steps, length-decimal-le, decimal_nonempty, nat_tests, list_all-append, number_from, spelled_number}
 
 -- one more digit
 number_from-push : (a : ℕ) (ds : List ℕ) (n d : ℕ) → number_from a ds ≡ Some n → d < 10 → n * 10 + d < 2 ^ 64 → number_from a (ds ++ (48 + d) ∷ []) ≡ Some (n * 10 + d)

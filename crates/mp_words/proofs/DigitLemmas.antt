@@ -1,6 +1,5 @@
 -- A step of reading digits.
-use Rattle.std.specs.Prelude.{◌≡◌, ◌+◌, ◌-◌, ◌*◌, ◌^◌, ◌<◌, ◌≤◌, ◌∷◌}
-use Rattle.mp_words.proofs.Names.{ℕ, true, false, cond, List, [], length, get_or, drop, None, Some, ap, ◌∙◌, arith, is_ascii_digit, at_drop_more, at_drop_all, nat_tests, number_from}
+use Rattle.mp_words.proofs.Names.{◌≡◌, ◌+◌, ◌-◌, ◌*◌, ◌^◌, ◌<◌, ◌≤◌, ◌∷◌, ℕ, true, false, cond, List, [], length, get_or, drop, None, Some, ap, ◌∙◌, arith, is_ascii_digit, at_drop_more, at_drop_all, nat_tests, number_from}
 
 -- a number that is too large stays so
 pub number_from_over : (n : ℕ) (bytes : List ℕ) → 2 ^ 64 ≤ n → number_from n bytes ≡ None

@@ -1,6 +1,5 @@
 -- Where lists of bytes and words are divided.
-use Rattle.std.specs.Prelude.{◌≡◌, ◌+◌, ◌-◌, ◌<◌, ◌≤◌, ◌∷◌, ◌++◌}
-use Rattle.mp_words.proofs.Names.{ℕ, Bool, true, false, not, List, [], length, take, drop, get_or, All, Some, position, refl, ap, ◌∙◌, arith, length-append, list_all, position_or_len, before_first, after_first, before_last, after_last, suffix_len, nat_tests, All-head, All-tail, suffix_len_is, position_or_len_is, take-length, drop_all, AllPass-from_list_all, take-append_seam, drop-append-add, get_or-append_seam, get_or-append_right}
+use Rattle.mp_words.proofs.Names.{◌≡◌, ◌+◌, ◌-◌, ◌<◌, ◌≤◌, ◌∷◌, ◌++◌, ℕ, Bool, true, false, not, List, [], length, take, drop, get_or, All, Some, position, refl, ap, ◌∙◌, arith, length-append, list_all, position_or_len, before_first, after_first, before_last, after_last, suffix_len, nat_tests, All-head, All-tail, suffix_len_is, position_or_len_is, take-length, drop_all, AllPass-from_list_all, take-append_seam, drop-append-add, get_or-append_seam, get_or-append_right}
 
 module _ {A : Type 0} (p : A → Bool) (m : A) (ys : List A) (found : p m ≡ true) where
   pub first_at : (xs : List A) → All (λ x. p x ≡ false) xs → position_or_len p (xs ++ m ∷ ys) ≡ length xs

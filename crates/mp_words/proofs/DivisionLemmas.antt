@@ -1,6 +1,5 @@
 -- The lines of an input up to a division.
-use Rattle.std.specs.Prelude.{◌≡◌, ◌+◌, ◌-◌, ◌<◌, ◌≤◌, ◌∷◌, ◌++◌}
-use Rattle.mp_words.proofs.Names.{ℕ, true, false, nat_lt, List, [], length, take, drop, All, refl, sym, ap, subst, ◌∙◌, append_assoc, length-drop, arith, before_first, after_first, position_or_len, cases_lt, eqb-true, lt-ltb, le-ltb, or_left, or_right, drop_all, take_all, take_more, take-append-drop, length-take-le, All-nil, All-push, fails_before_first, passes_at_first, take-add, get_or-take, take-length, list_any-append, list_any_none, is_division, first_part, later_parts, are_divided, is_line_feed, lines_of, take_rest}
+use Rattle.mp_words.proofs.Names.{◌≡◌, ◌+◌, ◌-◌, ◌<◌, ◌≤◌, ◌∷◌, ◌++◌, ℕ, true, false, nat_lt, List, [], length, take, drop, All, refl, sym, ap, subst, ◌∙◌, append_assoc, length-drop, arith, before_first, after_first, position_or_len, cases_lt, eqb-true, lt-ltb, le-ltb, or_left, or_right, drop_all, take_all, take_more, take-append-drop, length-take-le, All-nil, All-push, fails_before_first, passes_at_first, take-add, get_or-take, take-length, list_any-append, list_any_none, is_division, first_part, later_parts, are_divided, is_line_feed, lines_of, take_rest}
 use Rattle.mp_words.proofs.DividedLemmas.{before_first-append, after_first-append, before_first-none, after_first-none}
 use Rattle.mp_words.proofs.LineLemmas.{lines_of-cons, lines_of-line}
 

@@ -1,6 +1,5 @@
 -- How many digits a number has.
-use Rattle.std.specs.Prelude.{◌≡◌, ◌+◌, ◌*◌, ◌/◌, ◌^◌, ◌<◌, ◌≤◌}
-use Rattle.mp_words.proofs.Names.{ℕ, zero, suc, length, decimal, arith, length-append, decimal_step, decimal_nonempty, length-decimal-le}
+use Rattle.mp_words.proofs.Names.{◌≡◌, ◌+◌, ◌*◌, ◌/◌, ◌^◌, ◌<◌, ◌≤◌, ℕ, zero, suc, length, decimal, arith, length-append, decimal_step, decimal_nonempty, length-decimal-le}
 use Rattle.std.proofs.Math.Nat.{pow-suc, one-le-pow}
 
 -- a power of ten that is no more than the number

@@ -1,6 +1,5 @@
 -- Facts about lines.
-use Rattle.std.specs.Prelude.{◌≡◌, ◌+◌, ◌<◌, ◌≤◌, ◌∷◌, ◌++◌}
-use Rattle.mp_words.proofs.Names.{ℕ, Bool, true, false, cond, List, [], length, length-drop, refl, arith, onto_first, before_first, after_first, position_or_len, nat_tests, is_line_feed, lines_of, All, length-append}
+use Rattle.mp_words.proofs.Names.{◌≡◌, ◌+◌, ◌<◌, ◌≤◌, ◌∷◌, ◌++◌, ℕ, Bool, true, false, cond, List, [], length, length-drop, refl, arith, onto_first, before_first, after_first, position_or_len, nat_tests, is_line_feed, lines_of, All, length-append}
 use Rattle.std.proofs.lemmas.Grind.{common_steps}
 use Rattle.mp_words.proofs.DividedLemmas.{before_first-append, after_first-append}
 

@@ -1,5 +1,5 @@
 -- The names that many proofs here cite, passed on from one place. Declares nothing.
-pub use Rattle.std.proofs.Common.{All, Bool, Bor, Err, IfOk, IsAscii, List, None, Ok, Option, Result, Some, [], add-one, ap, append-nil, append_assoc, arith, codes, cond, decimal, drop, drop-cons, drop_of_length-le, eqb-true, false, get_or, get_or-take, inl, inr, le-ltb, length, length-append, length-drop, length-set, length-take-le, lt-ltb, map, nat_le, nat_lt, not, position, refl, rules, set, subst, suc, sym, take, take-add, take-append-drop, take_all, tests, true, true≢false, zero, ℕ, ◌%◌, ◌&&◌, ◌*◌, ◌++◌, ◌+◌, ◌-◌, ◌/◌, ◌<◌, ◌==◌, ◌^◌, ◌∙◌, ◌∷◌, ◌≡◌, ◌≤◌}
+pub use Rattle.std.proofs.Common.{All, Bool, Bor, Err, IfOk, IsAscii, List, MatchResult, None, Ok, OnOk, Option, Result, Some, [], add-one, ap, append-nil, append_assoc, arith, codes, cond, decimal, drop, drop-cons, drop_of_length-le, eqb-true, false, get_or, get_or-take, inl, inr, le-ltb, length, length-append, length-drop, length-set, length-take-le, lt-ltb, map, nat_le, nat_lt, not, position, refl, rules, set, subst, suc, sym, take, take-add, take-append-drop, take_all, tests, true, true≢false, zero, ℕ, ◌%◌, ◌&&◌, ◌*◌, ◌++◌, ◌+◌, ◌-◌, ◌/◌, ◌<◌, ◌==◌, ◌^◌, ◌∙◌, ◌∷◌, ◌≡◌, ◌≤◌}
 pub use Rattle.std.proofs.Math.Seq.{drop-append-add, get_or-append_right, get_or-append_seam, take-append_seam, take-length}
 pub use Rattle.std.proofs.lemmas.Bool.{and_parts, cases_lt, false_from_ne_true, or_left, or_right}
 pub use Rattle.std.proofs.lemmas.Bool.Decides.{nat_tests}

@@ -1,6 +1,5 @@
 -- The parts of an input, one after the other.
-use Rattle.std.specs.Prelude.{◌≡◌, ◌∷◌}
-use Rattle.mp_words.proofs.Names.{append_assoc, lt-ltb, le-ltb, map_push, true, false, List, [], ℕ, arith, cases_lt, false_from_ne_true, get_or_default, fails_before_first, list_any_none, list_any-from_Any, slice_split_none, slice_split_first, first_part, later_parts, are_divided, parts_of}
+use Rattle.mp_words.proofs.Names.{◌≡◌, ◌∷◌, append_assoc, lt-ltb, le-ltb, map_push, true, false, List, [], ℕ, arith, cases_lt, false_from_ne_true, get_or_default, fails_before_first, list_any_none, list_any-from_Any, slice_split_none, slice_split_first, first_part, later_parts, are_divided, parts_of}
 use Rattle.mp_words.proofs.DividedLemmas.{before_first-none}
 
 -- the first part, and those behind the first division

@@ -1,6 +1,5 @@
 -- Searches of bytes.
-use Rattle.std.specs.Prelude.{◌≡◌, ◌<◌}
-use Rattle.mp_words.proofs.Names.{ℕ, Bool, List, Option, Some, None, get_or, length, arith, position, position_or_len, false_from_ne_true, nat_tests, position_or_len_is}
+use Rattle.mp_words.proofs.Names.{◌≡◌, ◌<◌, ℕ, Bool, List, Option, Some, None, get_or, length, arith, position, position_or_len, false_from_ne_true, nat_tests, position_or_len_is}
 use Rattle.memchr.specs.Find.{IsFirstByte}
 
 -- the first place that a search gives

@@ -1,6 +1,5 @@
 -- Words as they are written.
-use Rattle.std.specs.Prelude.{◌≡◌, ◌^◌, ◌<◌, ◌==◌, ◌&&◌, ◌∷◌, ◌++◌}
-use Rattle.mp_words.proofs.Names.{ℕ, Bool, true, false, not, List, [], length, All, nat_lt, decimal, ◌∙◌, arith, nat_le, is_ascii_digit, list_all, decimal_nonempty, nat_tests, length-append, All-weaker, and_parts, AllPass-from_list_all, list_all-from_AllPass, list_all-append, is_allowed, is_gap, is_name, is_name_byte}
+use Rattle.mp_words.proofs.Names.{◌≡◌, ◌^◌, ◌<◌, ◌==◌, ◌&&◌, ◌∷◌, ◌++◌, ℕ, Bool, true, false, not, List, [], length, All, nat_lt, decimal, ◌∙◌, arith, nat_le, is_ascii_digit, list_all, decimal_nonempty, nat_tests, length-append, All-weaker, and_parts, AllPass-from_list_all, list_all-from_AllPass, list_all-append, is_allowed, is_gap, is_name, is_name_byte}
 use Rattle.mp_words.proofs.DecimalLemmas.{decimal_digits}
 
 -- printed, and neither a space nor `#`

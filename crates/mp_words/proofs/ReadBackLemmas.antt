@@ -1,6 +1,5 @@
 -- Words that are written are read again.
-use Rattle.std.specs.Prelude.{◌≡◌, ◌^◌, ◌<◌, ◌==◌, ◌&&◌, ◌∷◌, ◌++◌}
-use Rattle.mp_words.proofs.Names.{ℕ, true, false, not, List, [], length, map, All, Some, None, Result, Ok, decimal, refl, ap, ◌∙◌, arith, codes, nat_le, is_ascii_digit, is_ascii_alphabetic, list_all, list_any, nat_tests, and_parts, false_from_ne_true, or_right, length-append, bytes_eq-Decides, list_any-append, list_any_none, All-head, All-tail, take-append_seam, drop-append-add, LineError, pair_text, is_name, is_name_byte, begins_with_letter, time_and_value, parts_at_equals, is_slash, parts_at_slash, name_and_number, number_word, change_word, input_word, output_word, each_word}
+use Rattle.mp_words.proofs.Names.{◌≡◌, ◌^◌, ◌<◌, ◌==◌, ◌&&◌, ◌∷◌, ◌++◌, ℕ, true, false, not, List, [], length, map, All, Some, None, Result, Ok, decimal, refl, ap, ◌∙◌, arith, codes, nat_le, is_ascii_digit, is_ascii_alphabetic, list_all, list_any, nat_tests, and_parts, false_from_ne_true, or_right, length-append, bytes_eq-Decides, list_any-append, list_any_none, All-head, All-tail, take-append_seam, drop-append-add, LineError, pair_text, is_name, is_name_byte, begins_with_letter, time_and_value, parts_at_equals, is_slash, parts_at_slash, name_and_number, number_word, change_word, input_word, output_word, each_word}
 use Rattle.std.specs.Option.{ok_or}
 use Rattle.std.specs.Str.{bytes_eq}
 use Rattle.mp_words.specs.declared.line_error.LineError.TheVariants.{BadNumber}

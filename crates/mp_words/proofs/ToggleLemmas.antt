@@ -1,6 +1,5 @@
 -- Changes of a level that toggles.
-use Rattle.std.specs.Prelude.{◌≡◌, ◌+◌, ◌-◌, ◌<◌, ◌≤◌, ◌∷◌, ◌++◌}
-use Rattle.mp_words.proofs.Names.{left_as, left_whole, left_none, puts_then, ℕ, List, [], append_assoc, append-nil, add-one, decimal, drop, get_or, length, refl, ap, ◌∙◌, arith, set, length-set, drop_of_length-le, drop-cons, decimal_digit, toggle_changes, change_text, changes_text}
+use Rattle.mp_words.proofs.Names.{◌≡◌, ◌+◌, ◌-◌, ◌<◌, ◌≤◌, ◌∷◌, ◌++◌, left_as, left_whole, left_none, puts_then, ℕ, List, [], append_assoc, append-nil, add-one, decimal, drop, get_or, length, refl, ap, ◌∙◌, arith, set, length-set, drop_of_length-le, drop-cons, decimal_digit, toggle_changes, change_text, changes_text}
 use Rattle.std.proofs.lemmas.List.Concat.{flat_map-append}
 use Rattle.mp_streams.specs.Places.{IsPlaced}
 use Rattle.mp_streams.proofs.PlaceLemmas.{placed_byte, placed_both}

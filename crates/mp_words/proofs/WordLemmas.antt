@@ -1,6 +1,5 @@
 -- Facts about words.
-use Rattle.std.specs.Prelude.{◌<◌, ◌==◌, ◌∷◌, ◌-◌, ◌≡◌}
-use Rattle.mp_words.proofs.Names.{ℕ, Bool, List, [], Bor, length, drop, take, IsAscii, All, sym, subst, slice_split, onto_first, position_or_len, All-cons, All-nil, All-head, All-tail, All-filter, All-weaker, map, arith, get_or-map, length-map, IsAscii-from_all, All-from_ascii, IsAscii-take, take_rest, drop-map, All-drop, words_of, is_word, is_gap, statement_part, texts, AreAscii, IsUtf8-from_ascii}
+use Rattle.mp_words.proofs.Names.{◌<◌, ◌==◌, ◌∷◌, ◌-◌, ◌≡◌, ℕ, Bool, List, [], Bor, length, drop, take, IsAscii, All, sym, subst, slice_split, onto_first, position_or_len, All-cons, All-nil, All-head, All-tail, All-filter, All-weaker, map, arith, get_or-map, length-map, IsAscii-from_all, All-from_ascii, IsAscii-take, take_rest, drop-map, All-drop, words_of, is_word, is_gap, statement_part, texts, AreAscii, IsUtf8-from_ascii}
 
 module _ {X : Type 0} (P : X → Type 0) (p : X → Bool) where
   All-onto_first : (x : X) (parts : List (List X)) → P x → All (All P) parts → All (All P) (onto_first x parts)

@@ -1,6 +1,5 @@
 -- Facts about words that are read in turn.
-use Rattle.std.specs.Prelude.{◌≡◌, ◌+◌, ◌<◌, ◌≤◌, ◌∷◌, ◌++◌}
-use Rattle.mp_words.proofs.Names.{All-get_or, ℕ, List, [], Bor, Result, Ok, Err, append_assoc, length, get_or, take, drop, Bool, not, cond, refl, sym, ap, ◌∙◌, at_drop_more, at_drop_all, append-nil, take-map, drop-map, before_first, after_first, position_or_len, map, LineError, with_front, ◌>>=◌, texts, each_word}
+use Rattle.mp_words.proofs.Names.{◌≡◌, ◌+◌, ◌<◌, ◌≤◌, ◌∷◌, ◌++◌, All-get_or, ℕ, List, [], Bor, Result, Ok, Err, append_assoc, length, get_or, take, drop, Bool, not, cond, refl, sym, ap, ◌∙◌, at_drop_more, at_drop_all, append-nil, take-map, drop-map, before_first, after_first, position_or_len, map, LineError, with_front, ◌>>=◌, texts, each_word}
 
 module _ {W X A : Type 0} (read : W → Result A LineError) (see : X → W) (ws : List X) (i : ℕ) (d : X) (front : List A) where
   abbrev Goes : Type 0

@@ -1,5 +1,4 @@
-use Rattle.std.specs.Prelude.{◌-◌, ◌<◌, ◌≤◌}
-use Rattle.mp_words.proofs.Names.{length, take, lines_of}
+use Rattle.mp_words.proofs.Names.{◌-◌, ◌<◌, ◌≤◌, length, take, lines_of}
 use Rattle.mp_words.proofs.DivisionLemmas.{AreWhole, Undivided}
 use Rattle.mp_words.proofs.division.divided.Given as goal
 

@@ -1,5 +1,4 @@
-use Rattle.std.specs.Prelude.{◌≡◌, ◌++◌}
-use Rattle.mp_words.proofs.Names.{length, lines_of, parts_of, lines_of_each}
+use Rattle.mp_words.proofs.Names.{◌≡◌, ◌++◌, length, lines_of, parts_of, lines_of_each}
 use Rattle.mp_words.proofs.division.parts.Given as goal
 
 -- the parts so far, and those of the rest

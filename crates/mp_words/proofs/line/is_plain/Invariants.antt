@@ -1,5 +1,4 @@
-use Rattle.std.specs.Prelude.{◌≡◌}
-use Rattle.mp_words.proofs.Names.{take, list_all, is_allowed}
+use Rattle.mp_words.proofs.Names.{◌≡◌, take, list_all, is_allowed}
 use Rattle.mp_words.proofs.line.is_plain.Given as goal
 
 -- the bytes so far are told

@@ -1,5 +1,4 @@
-use Rattle.std.specs.Prelude.{◌≡◌, ◌+◌, ◌≤◌}
-use Rattle.mp_words.proofs.Names.{not, length, take, suffix_len, is_slash}
+use Rattle.mp_words.proofs.Names.{◌≡◌, ◌+◌, ◌≤◌, not, length, take, suffix_len, is_slash}
 use Rattle.mp_words.proofs.number.behind_slash.Given as goal
 
 -- the bytes from here on hold no slash

@@ -1,5 +1,4 @@
-use Rattle.std.specs.Prelude.{◌≡◌, ◌<◌, ◌^◌}
-use Rattle.mp_words.proofs.Names.{drop, number_from}
+use Rattle.mp_words.proofs.Names.{◌≡◌, ◌<◌, ◌^◌, drop, number_from}
 use Rattle.mp_words.proofs.number.digits.Given as goal
 
 -- the digits that are left go on from the value

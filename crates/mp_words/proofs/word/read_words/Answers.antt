@@ -1,5 +1,4 @@
-use Rattle.std.specs.Prelude.{◌≡◌, ◌++◌, OnOk, MatchResult}
-use Rattle.mp_words.proofs.Names.{refl, ap, ◌∙◌, rules, tests, ℕ, List, Bor, Option, map, Result, Ok, Err, YieldsList-from_slice_split, YieldsList-from_filter, words_of, is_gap, is_word, statement_part, texts, AreAscii, YieldsList-at}
+use Rattle.mp_words.proofs.Names.{◌≡◌, ◌++◌, refl, ap, ◌∙◌, rules, tests, ℕ, List, Bor, Option, map, Result, Ok, Err, YieldsList-from_slice_split, YieldsList-from_filter, words_of, is_gap, is_word, statement_part, texts, AreAscii, YieldsList-at, OnOk, MatchResult}
 use Rattle.std.proofs.lemmas.Iterator.Adapters.{fact_from_extend}
 use Rattle.std.specs.Iterator.{Yields, Drains}
 use Rattle.std.proofs.lemmas.Iterator.{YieldsList}

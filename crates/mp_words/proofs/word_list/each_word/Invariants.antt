@@ -1,5 +1,4 @@
-use Rattle.std.specs.Prelude.{◌≡◌}
-use Rattle.mp_words.proofs.Names.{drop, with_front, texts, each_word}
+use Rattle.mp_words.proofs.Names.{◌≡◌, drop, with_front, texts, each_word}
 use Rattle.mp_words.proofs.word_list.each_word.Given as goal
 
 -- what was read so far, and what the words that are left say

@@ -1,5 +1,4 @@
-use Rattle.std.specs.Prelude.{◌-◌, ◌≤◌}
-use Rattle.mp_words.proofs.Names.{drop, length, toggle_changes, changes_text, Left}
+use Rattle.mp_words.proofs.Names.{◌-◌, ◌≤◌, drop, length, toggle_changes, changes_text, Left}
 use Rattle.mp_words.proofs.toggles.TogglesText.put_to.Given as goal
 
 -- what is left to write are the changes from a place on
