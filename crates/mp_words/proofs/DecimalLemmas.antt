@@ -7,25 +7,18 @@ unfolding number_from
 number_from-push a [] n d read low fits = grind (arith, nat_tests)
 number_from-push a (b ∷ bs) n d read low fits = grind (arith, nat_tests, (number_from-push (a * 10 + (b - 48)) bs n d))
 
-Reads : ℕ → List ℕ → Type 0
-Reads n ds = n < 2 ^ 64 → number_from 0 ds ≡ Some n
-
 -- a number that is written is read
 number_from-decimal : (n : ℕ) → n < 2 ^ 64 → number_from 0 (decimal n) ≡ Some n
-unfolding Reads number_from
-number_from-decimal n fits = decimal_by_steps Reads (λ n low _. grind (arith, number_from-push)) (λ n ds high read small. grind (arith, number_from-push)) n fits fits
+unfolding number_from
+number_from-decimal n fits = decimal_by_steps (λ n ds. n < 2 ^ 64 → number_from 0 ds ≡ Some n) (λ n low _. grind (arith, number_from-push)) (λ n ds high read small. grind (arith, number_from-push)) n fits fits
 
 -- a written number is spelled
 pub spelled_number-decimal : (n : ℕ) → n < 2 ^ 64 → spelled_number (decimal n) ≡ Some n
 unfolding spelled_number
 spelled_number-decimal n fits = grind (arith, nat_tests, decimal_nonempty, number_from-decimal, (length-decimal-le 20 n))
 
-AreDigits : ℕ → List ℕ → Type 0
-AreDigits n ds = list_all is_ascii_digit ds ≡ true
-
 -- a written number is made of digits
 pub decimal_digits : (n : ℕ) → n < 2 ^ 64 → list_all is_ascii_digit (decimal n) ≡ true
-unfolding AreDigits
-decimal_digits n fits = decimal_by_steps AreDigits (λ n low. grind (arith, nat_tests)) (λ n ds high before. grind (arith, nat_tests, list_all-append)) n fits
+decimal_digits n fits = decimal_by_steps (λ n ds. list_all is_ascii_digit ds ≡ true) (λ n low. grind (arith, nat_tests)) (λ n ds high before. grind (arith, nat_tests, list_all-append)) n fits
 
 pub ruleset changepiece_write_steps = (length-set)

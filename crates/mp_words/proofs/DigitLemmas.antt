@@ -1,5 +1,5 @@
 -- A step of reading digits.
-use Rattle.mp_words.proofs.Names.{◌≡◌, ◌+◌, ◌-◌, ◌*◌, ◌^◌, ◌<◌, ◌≤◌, ◌∷◌, ℕ, true, false, cond, List, [], length, get_or, drop, None, Some, ap, ◌∙◌, arith, is_ascii_digit, at_drop_more, at_drop_all, nat_tests, number_from}
+use Rattle.mp_words.proofs.Names.{◌≡◌, ◌+◌, ◌-◌, ◌*◌, ◌^◌, ◌<◌, ◌≤◌, ◌∷◌, ℕ, cond, List, [], length, get_or, drop, None, Some, ◌∙◌, arith, is_ascii_digit, at_drop_more, at_drop_all, nat_tests, number_from}
 
 -- a number that is too large stays so
 pub number_from_over : (n : ℕ) (bytes : List ℕ) → 2 ^ 64 ≤ n → number_from n bytes ≡ None
@@ -7,21 +7,15 @@ unfolding number_from
 number_from_over n [] over = grind (arith, nat_tests)
 number_from_over n (byte ∷ bytes) over = grind (arith, nat_tests, (number_from_over (n * 10 + (byte - 48)) bytes (omega arith)))
 
--- at a digit
-pub number_from_digit : (word : List ℕ) (i n : ℕ) → i < length word → is_ascii_digit (get_or word i 0) ≡ true → number_from n (drop i word) ≡ number_from (n * 10 + (get_or word i 0 - 48)) (drop (i + 1) word)
+-- at a byte
+pub number_from_next : (word : List ℕ) (i n : ℕ) → i < length word
+    → number_from n (drop i word) ≡ cond (is_ascii_digit (get_or word i 0)) (number_from (n * 10 + (get_or word i 0 - 48)) (drop (i + 1) word)) None
 unfolding number_from
-number_from_digit word i n within digit = at_drop_more (number_from n) word i 0 within ∙ ap (λ b. cond b (number_from (n * 10 + (get_or word i 0 - 48)) (drop (i + 1) word)) None) digit
-
--- at another byte
-pub number_from_other : (word : List ℕ) (i n : ℕ) → i < length word → is_ascii_digit (get_or word i 0) ≡ false → number_from n (drop i word) ≡ None
-unfolding number_from
-number_from_other word i n within other = at_drop_more (number_from n) word i 0 within ∙ ap (λ b. cond b (number_from (n * 10 + (get_or word i 0 - 48)) (drop (i + 1) word)) None) other
+number_from_next word i n within = at_drop_more (number_from n) word i 0 within
 
 -- at the end
 pub number_from_end : (word : List ℕ) (i n : ℕ) → length word ≤ i → n < 2 ^ 64 → number_from n (drop i word) ≡ Some n
 unfolding number_from
-number_from_end word i n over fits =
-    let at = at_drop_all (number_from n) word i over in
-    at ∙ grind (arith, nat_tests)
+number_from_end word i n over fits = at_drop_all (number_from n) word i over ∙ grind (arith, nat_tests)
 
-pub ruleset digit_steps = (number_from_over, number_from_digit, number_from_other, number_from_end)
+pub ruleset digit_steps = (number_from_over, number_from_next, number_from_end)

@@ -32,22 +32,16 @@ module _ (p : ℕ → Bool) (m : ℕ) (ys : List ℕ) (found : p m ≡ true) (no
   after_mark : (k : ℕ) → length xs + 1 ≤ k → k < length (xs ++ m ∷ ys) → not (p (get_or (xs ++ m ∷ ys) k 0)) ≡ true
   after_mark k from within = grind (arith, nat_tests, length-append, get_or-append_right, AllPass-from_list_all)
 
-  at_mark : not (p (get_or (xs ++ m ∷ ys) (length xs + 1 - 1) 0)) ≡ false
-  at_mark =
+  behind_last : suffix_len (λ y. not (p y)) (xs ++ m ∷ ys) ≡ length ys
+  behind_last =
       let same : length xs + 1 - 1 ≡ length xs = omega arith in
-      ap (λ j. not (p (get_or (xs ++ m ∷ ys) j 0))) same ∙ ap (λ y. not (p y)) (get_or-append_seam xs m ys 0) ∙ ap not found
-
-  pub behind_last : suffix_len (λ y. not (p y)) (xs ++ m ∷ ys) ≡ length ys
-  behind_last = grind (arith, nat_tests, length-append, after_mark, at_mark, suffix_len_is)
+      let at = ap (λ j. not (p (get_or (xs ++ m ∷ ys) j 0))) same ∙ ap (λ y. not (p y)) (get_or-append_seam xs m ys 0) ∙ ap not found in
+      grind (arith, nat_tests, length-append, after_mark, at, suffix_len_is)
 
   pub before_last-append : before_last p (xs ++ m ∷ ys) ≡ xs
   before_last-append =
-      let long = length-append xs (m ∷ ys) in
-      let at : length (xs ++ m ∷ ys) - suffix_len (λ y. not (p y)) (xs ++ m ∷ ys) - 1 ≡ length xs = omega (arith, long, behind_last) in
+      let at : length (xs ++ m ∷ ys) - suffix_len (λ y. not (p y)) (xs ++ m ∷ ys) - 1 ≡ length xs = omega (arith, length-append xs (m ∷ ys), behind_last) in
       ap (λ n. take n (xs ++ m ∷ ys)) at ∙ take-append_seam xs (m ∷ ys)
 
   pub after_last-append : after_last p (xs ++ m ∷ ys) ≡ ys
-  after_last-append =
-      let long = length-append xs (m ∷ ys) in
-      let at : length (xs ++ m ∷ ys) - suffix_len (λ y. not (p y)) (xs ++ m ∷ ys) ≡ length xs + 1 = omega (arith, long, behind_last) in
-      ap (λ n. drop n (xs ++ m ∷ ys)) at ∙ drop-append-add xs (m ∷ ys) 1
+  after_last-append = grind (arith, length-append, behind_last, (drop-append-add xs (m ∷ ys) 1))

@@ -51,41 +51,32 @@ module _ (input : List ℕ) (at : ℕ) where
     pub lines : lines_of (take next input) ≡ lines_of (take at input) ++ line ∷ []
     pub whole : next < length input → AreWhole (take next input)
 
-  abbrev Next : Type 0
-  Next = IsNext (length input - length others)
-
   module _ (inside : at < length input) (whole : AreWhole (take at input)) where
     long : length rest ≡ length input - at
     long = length-drop at input
 
-    no_feed : feed < length rest → All (λ b. is_line_feed b ≡ false) line
-    no_feed less k d within = grind (arith, length-take-le, get_or-take, fails_before_first)
-
-    by_feed : feed < length rest → Next
+    by_feed : feed < length rest → IsNext (length input - length others)
     by_feed less =
+        let no_feed : All (λ b. is_line_feed b ≡ false) line = (λ k d within. grind (arith, length-take-le, get_or-take, fails_before_first)) in
         let chunk : take (feed + 1) rest ≡ line ++ 10 ∷ [] = take_more rest feed 0 less ∙ ap (λ b. line ++ b ∷ []) (eqb-true _ _ (passes_at_first is_line_feed rest 0 less)) in
         let bytes : take (at + (feed + 1)) input ≡ take at input ++ (line ++ 10 ∷ []) = take-add at (feed + 1) input ∙ ap (λ c. take at input ++ c) chunk in
         grind (arith, long, length-drop, lines_of-more, no_feed, line_whole)
 
-    split : lines_of rest ≡ line ∷ lines_of others
-    split = lines_of-cons rest (omega (arith, long, inside))
-
     all_lines : lines_of input ≡ lines_of (take at input) ++ line ∷ lines_of others
-    all_lines = ap lines_of (sym (take-append-drop at input)) ∙ whole rest ∙ ap (λ l. lines_of (take at input) ++ l) split
+    all_lines = ap lines_of (sym (take-append-drop at input)) ∙ whole rest ∙ ap (λ l. lines_of (take at input) ++ l) (lines_of-cons rest (omega (arith, long, inside)))
 
     -- the last line, without a line feed
-    by_end : length rest ≤ feed → Next
+    by_end : length rest ≤ feed → IsNext (length input - length others)
     by_end more =
         let none : others ≡ [] = drop_all (feed + 1) rest (omega arith) in
-        let size : length others ≡ 0 = ap length none in
-        let next : length input - length others ≡ length input = omega (arith, size) in
+        let next : length input - length others ≡ length input = omega (arith, ap length none) in
         subst IsNext (sym next) (record {
           within = omega arith;
           lines = ap lines_of (take-length input) ∙ all_lines ∙ ap (λ l. lines_of (take at input) ++ line ∷ l) (ap lines_of none ∙ no_lines);
           whole = λ inner. absurd (omega (arith, inner));
         })
 
-    pub next_line_in : Next
+    pub next_line_in : IsNext (length input - length others)
     next_line_in = grind (arith, cases_lt, by_feed, by_end)
 
     module _ (none : Undivided (lines_of (take at input))) where
@@ -105,10 +96,10 @@ module _ (input : List ℕ) (at : ℕ) where
 
 -- ---- at the end
 
-pub undivided_all : (input : List ℕ) (at : ℕ) → length input ≤ at → Undivided (lines_of (take at input)) → Undivided (lines_of input)
-undivided_all input at over none = subst (λ bytes. Undivided (lines_of bytes)) (take_all at input over) none
+module _ (input : List ℕ) (at : ℕ) (over : length input ≤ at) (before : Undivided (lines_of (take at input))) where
+  none : Undivided (lines_of input)
+  none = subst (λ bytes. Undivided (lines_of bytes)) (take_all at input over) before
 
-module _ (input : List ℕ) (none : Undivided (lines_of input)) where
   -- all lines are of the first part
   pub front_end : lines_of input ≡ first_part (lines_of input)
   front_end = sym (before_first-none is_division (lines_of input) none)

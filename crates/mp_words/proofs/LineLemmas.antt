@@ -1,13 +1,11 @@
 -- Facts about lines.
-use Rattle.mp_words.proofs.Names.{◌≡◌, ◌+◌, ◌<◌, ◌≤◌, ◌∷◌, ◌++◌, ℕ, Bool, true, false, cond, List, [], length, length-drop, refl, arith, onto_first, before_first, after_first, position_or_len, nat_tests, is_line_feed, lines_of, All, length-append}
+use Rattle.mp_words.proofs.Names.{◌≡◌, ◌+◌, ◌<◌, ◌≤◌, ◌∷◌, ◌++◌, ℕ, Bool, false, cond, List, [], length, length-drop, refl, arith, onto_first, before_first, after_first, position_or_len, nat_tests, is_line_feed, lines_of, All, length-append}
 use Rattle.std.proofs.lemmas.Grind.{common_steps}
 use Rattle.mp_words.proofs.DividedLemmas.{before_first-append, after_first-append}
 
-module _ (b : ℕ) (bs : List ℕ) where
-  onto_line : (t : Bool) → is_line_feed b ≡ t → onto_first b (lines_of bs) ≡ (b ∷ before_first is_line_feed bs) ∷ lines_of (after_first is_line_feed bs)
-      → cond t ([] ∷ lines_of bs) (onto_first b (lines_of bs)) ≡ before_first is_line_feed (b ∷ bs) ∷ lines_of (after_first is_line_feed (b ∷ bs))
-  onto_line true e next = grind (arith, nat_tests)
-  onto_line false e next = grind (arith, nat_tests)
+onto_line : (b : ℕ) (bs : List ℕ) (t : Bool) → is_line_feed b ≡ t → onto_first b (lines_of bs) ≡ (b ∷ before_first is_line_feed bs) ∷ lines_of (after_first is_line_feed bs)
+    → cond t ([] ∷ lines_of bs) (onto_first b (lines_of bs)) ≡ before_first is_line_feed (b ∷ bs) ∷ lines_of (after_first is_line_feed (b ∷ bs))
+onto_line b bs t e next = grind (arith, nat_tests)
 
 onto_lines : (b : ℕ) (bs : List ℕ) → onto_first b (lines_of bs) ≡ (b ∷ before_first is_line_feed bs) ∷ lines_of (after_first is_line_feed bs)
 unfolding lines_of

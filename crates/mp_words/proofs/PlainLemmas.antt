@@ -1,5 +1,5 @@
 -- Words as they are written.
-use Rattle.mp_words.proofs.Names.{◌≡◌, ◌^◌, ◌<◌, ◌==◌, ◌&&◌, ◌∷◌, ◌++◌, ℕ, Bool, true, false, not, List, [], length, All, nat_lt, decimal, ◌∙◌, arith, nat_le, is_ascii_digit, list_all, decimal_nonempty, nat_tests, length-append, All-weaker, and_parts, AllPass-from_list_all, list_all-from_AllPass, list_all-append, is_allowed, is_gap, is_name, is_name_byte}
+use Rattle.mp_words.proofs.Names.{◌≡◌, ◌^◌, ◌<◌, ◌==◌, ◌&&◌, ◌∷◌, ◌++◌, ℕ, Bool, true, false, not, List, [], length, All, nat_lt, decimal, arith, nat_le, is_ascii_digit, list_all, decimal_nonempty, nat_tests, length-append, All-weaker, and_parts, AllPass-from_list_all, list_all-from_AllPass, list_all-append, is_allowed, is_gap, is_name, is_name_byte}
 use Rattle.mp_words.proofs.DecimalLemmas.{decimal_digits}
 
 -- printed, and neither a space nor `#`
@@ -20,12 +20,6 @@ plain_no_gap b plain = grind (arith, nat_tests)
 pub plain_no_hash : (b : ℕ) → is_plain_byte b ≡ true → (b == 35) ≡ false
 plain_no_hash b plain = grind (arith, nat_tests)
 
-digit_plain : (b : ℕ) → is_ascii_digit b ≡ true → is_plain_byte b ≡ true
-digit_plain b digit = grind (arith, nat_tests)
-
-name_byte_plain : (b : ℕ) → is_name_byte b ≡ true → is_plain_byte b ≡ true
-name_byte_plain b name = grind (arith, nat_tests)
-
 -- what holds of each byte that passes holds of all
 pub All-passing : (p : ℕ → Bool) (P : ℕ → Type 0) → ((b : ℕ) → p b ≡ true → P b) → (w : List ℕ) → list_all p w ≡ true → All P w
 All-passing p P each w all = All-weaker (λ b. p b ≡ true) P each w (AllPass-from_list_all p w all)
@@ -37,12 +31,9 @@ pub IsPlain-append : (v w : List ℕ) → IsPlain v → IsPlain w → IsPlain (v
 IsPlain-append v w front back = grind (arith, length-append, list_all-append)
 
 pub IsPlain-decimal : (n : ℕ) → n < 2 ^ 64 → IsPlain (decimal n)
-IsPlain-decimal n fits = record {
-  some = decimal_nonempty n fits;
-  plain = list_all-passing is_ascii_digit is_plain_byte digit_plain (decimal n) (decimal_digits n fits);
-}
+IsPlain-decimal n fits = record { some = decimal_nonempty n fits; plain = list_all-passing is_ascii_digit is_plain_byte (λ b digit. grind (arith, nat_tests)) (decimal n) (decimal_digits n fits) }
 
 pub IsPlain-name : (name : List ℕ) → is_name name ≡ true → IsPlain name
 unfolding is_name
 IsPlain-name [] valid = grind arith
-IsPlain-name (b ∷ bs) valid = grind (arith, list_all-passing, name_byte_plain, and_parts)
+IsPlain-name (b ∷ bs) valid = grind (arith, nat_tests, and_parts, (list_all-passing is_name_byte is_plain_byte (λ b name. grind (arith, nat_tests))))

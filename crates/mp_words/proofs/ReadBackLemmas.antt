@@ -1,5 +1,5 @@
 -- Words that are written are read again.
-use Rattle.mp_words.proofs.Names.{◌≡◌, ◌^◌, ◌<◌, ◌==◌, ◌&&◌, ◌∷◌, ◌++◌, ℕ, true, false, not, List, [], length, map, All, Some, None, Result, Ok, decimal, refl, ap, ◌∙◌, arith, codes, nat_le, is_ascii_digit, is_ascii_alphabetic, list_all, list_any, nat_tests, and_parts, false_from_ne_true, or_right, length-append, bytes_eq-Decides, list_any-append, list_any_none, All-head, All-tail, take-append_seam, drop-append-add, LineError, pair_text, is_name, is_name_byte, begins_with_letter, time_and_value, parts_at_equals, is_slash, parts_at_slash, name_and_number, number_word, change_word, input_word, output_word, each_word}
+use Rattle.mp_words.proofs.Names.{◌≡◌, ◌^◌, ◌<◌, ◌==◌, ◌&&◌, ◌∷◌, ◌++◌, ℕ, true, false, not, List, [], length, map, All, Some, None, Result, Ok, decimal, refl, ap, arith, codes, nat_le, is_ascii_digit, list_all, list_any, nat_tests, and_parts, false_from_ne_true, or_right, length-append, bytes_eq-Decides, list_any-append, list_any_none, All-head, All-tail, take-append_seam, drop-append-add, LineError, pair_text, is_name, is_name_byte, begins_with_letter, time_and_value, parts_at_equals, is_slash, parts_at_slash, name_and_number, number_word, change_word, input_word, output_word, each_word}
 use Rattle.std.specs.Option.{ok_or}
 use Rattle.std.specs.Str.{bytes_eq}
 use Rattle.mp_words.specs.declared.line_error.LineError.TheVariants.{BadNumber}
@@ -11,36 +11,23 @@ use Rattle.mp_words.proofs.PlainLemmas.{All-passing, list_all-passing}
 pub number_back : (n : ℕ) → n < 2 ^ 64 → number_word (decimal n) ≡ Ok n
 number_back n fits = ap (λ o. ok_or o BadNumber) (spelled_number-decimal n fits)
 
-digit_no_equals : (b : ℕ) → is_ascii_digit b ≡ true → (b == 61) ≡ false
-digit_no_equals b digit = grind (arith, nat_tests)
-
-digit_no_slash : (b : ℕ) → is_ascii_digit b ≡ true → not (is_slash b) ≡ true
-digit_no_slash b digit = grind (arith, nat_tests)
-
 -- a time and a value
 pub change_back : (change : ℕ × ℕ) → change.0 < 2 ^ 64 → change.1 < 2 ^ 64 → change_word (pair_text change) ≡ Ok change
 unfolding time_and_value parts_at_equals
 change_back change time value =
     let front = decimal change.0 in
     let back = decimal change.1 in
-    let none = All-passing is_ascii_digit (λ b. (b == 61) ≡ false) digit_no_equals front (decimal_digits change.0 time) in
-    let at = position-append (λ b. b == 61) 61 back refl front none in
-    let first = take-append_seam front (61 ∷ back) in
-    let second = drop-append-add front (61 ∷ back) 1 in
-    let t = spelled_number-decimal change.0 time in
-    let v = spelled_number-decimal change.1 value in
-    rw at (rw (first, second) (rw (t, v) refl))
+    let none = All-passing is_ascii_digit (λ b. (b == 61) ≡ false) (λ b digit. grind (arith, nat_tests)) front (decimal_digits change.0 time) in
+    rw (position-append (λ b. b == 61) 61 back refl front none)
+    (rw (take-append_seam front (61 ∷ back), drop-append-add front (61 ∷ back) 1) (rw (spelled_number-decimal change.0 time, spelled_number-decimal change.1 value) refl))
 
 -- a name and a number
 pub name_and_number-back : (name : List ℕ) (n : ℕ) → 0 < length name → n < 2 ^ 64 → name_and_number (name ++ 47 ∷ decimal n) ≡ Some (name, n)
 unfolding name_and_number parts_at_slash
 name_and_number-back name n some fits =
-    let digits = list_all-passing is_ascii_digit (λ b. not (is_slash b)) digit_no_slash (decimal n) (decimal_digits n fits) in
-    let front = before_last-append is_slash 47 (decimal n) refl digits name in
-    let back = after_last-append is_slash 47 (decimal n) refl digits name in
+    let digits = list_all-passing is_ascii_digit (λ b. not (is_slash b)) (λ b digit. grind (arith, nat_tests)) (decimal n) (decimal_digits n fits) in
     let long : (length name == 0) ≡ false = grind (arith, nat_tests) in
-    let value = spelled_number-decimal n fits in
-    rw (front, back) (rw long (rw value refl))
+    rw (before_last-append is_slash 47 (decimal n) refl digits name, after_last-append is_slash 47 (decimal n) refl digits name) (rw long (rw (spelled_number-decimal n fits) refl))
 
 -- what each word says
 pub each_back : {W X A : Type 0} (read : W → Result A LineError) (write : X → W) (see : X → A) (xs : List X)
@@ -58,19 +45,13 @@ longer name ds some =
 -- an output without a wire
 pub no_wire_back : (delay : ℕ) → delay < 2 ^ 64 → output_word (codes "-" ++ (47 ∷ decimal delay)) ≡ Ok (record { wire = None; delay = delay })
 unfolding output_word
-no_wire_back delay fits =
-    let word = longer (codes "-") (decimal delay) (omega arith) in
-    let pair = name_and_number-back (codes "-") delay (omega arith) fits in
-    rw (word, pair) refl
-
-letter_no_dash : (b : ℕ) → is_ascii_alphabetic b ≡ true → (b == 45) ≡ false
-letter_no_dash b letter = grind (arith, nat_tests)
+no_wire_back delay fits = rw (longer (codes "-") (decimal delay) (omega arith), name_and_number-back (codes "-") delay (omega arith) fits) refl
 
 -- a name is not `-`
 name_not_dash : (name : List ℕ) → is_name name ≡ true → bytes_eq name (codes "-") ≡ false
 unfolding is_name
 name_not_dash [] valid = refl
-name_not_dash (b ∷ bs) valid = grind (arith, nat_tests, and_parts, letter_no_dash)
+name_not_dash (b ∷ bs) valid = grind (arith, nat_tests, and_parts)
 
 -- an output at a wire
 pub wire_back : (name : List ℕ) (delay : ℕ) → is_name name ≡ true → 0 < length name → delay < 2 ^ 64
@@ -78,25 +59,18 @@ pub wire_back : (name : List ℕ) (delay : ℕ) → is_name name ≡ true → 0 
 unfolding output_word
 wire_back name delay valid some fits = grind (arith, nat_tests, longer, name_and_number-back, name_not_dash)
 
--- a byte of a name is no slash
-name_byte_no_slash : (b : ℕ) → is_name_byte b ≡ true → is_slash b ≡ false
-name_byte_no_slash b name = grind (arith, nat_tests)
-
 name_no_slash : (name : List ℕ) → is_name name ≡ true → list_any is_slash name ≡ false
 unfolding is_name
 name_no_slash name valid =
     let bytes = (and_parts (begins_with_letter name && nat_le (length name) 32) (list_all is_name_byte name) valid).1 in
-    list_any_none is_slash name (All-passing is_name_byte (λ b. is_slash b ≡ false) name_byte_no_slash name bytes)
-
-slash_within : (name ds : List ℕ) → list_any is_slash (name ++ 47 ∷ ds) ≡ true
-slash_within name ds = list_any-append is_slash name (47 ∷ ds) ∙ or_right (list_any is_slash name) (list_any is_slash (47 ∷ ds)) refl
+    list_any_none is_slash name (All-passing is_name_byte (λ b. is_slash b ≡ false) (λ b byte. grind (arith, nat_tests)) name bytes)
 
 -- an input without a delay
 pub input_back : (name : List ℕ) → is_name name ≡ true → input_word name ≡ Ok (record { wire = name; delay = 0 })
 unfolding input_word
-input_back name valid = let none = name_no_slash name valid in rw none refl
+input_back name valid = rw (name_no_slash name valid) refl
 
 -- an input with one
 pub late_input_back : (name : List ℕ) (delay : ℕ) → 0 < length name → delay < 2 ^ 64 → input_word (name ++ (47 ∷ decimal delay)) ≡ Ok (record { wire = name; delay = delay })
 unfolding input_word
-late_input_back name delay some fits = grind (arith, nat_tests, slash_within, name_and_number-back)
+late_input_back name delay some fits = grind (arith, nat_tests, list_any-append, or_right, name_and_number-back)

@@ -16,26 +16,20 @@ toggle_placed time level room timed at sign low within placed room_left =
 dropped : (times : List ℕ) (i next : ℕ) → next ≡ i + 1 → i < length times → drop i times ≡ get_or times i 0 ∷ drop next times
 dropped times i next is within = rw (is, add-one, drop-cons times i 0) refl
 
--- the times from a place on are four, and those behind them
-dropped_four : (times : List ℕ) (i : ℕ) → i + 4 ≤ length times →
-    drop i times ≡ get_or times i 0 ∷ get_or times (i + 1) 0 ∷ get_or times (i + 2) 0 ∷ get_or times (i + 3) 0 ∷ drop (i + 4) times
-dropped_four times i within = grind (arith, dropped)
-
 -- the changes at four times, and at those behind them
-pub four_more : (level one two three four : ℕ) (others : List ℕ) → level ≤ 1 →
+four_more : (level one two three four : ℕ) (others : List ℕ) → level ≤ 1 →
     changes_text (toggle_changes level (one ∷ two ∷ three ∷ four ∷ others)) ≡
     changes_text (toggle_changes level (one ∷ two ∷ three ∷ four ∷ [])) ++ changes_text (toggle_changes level others)
 four_more level one two three four others low =
-    let same : 1 - (1 - (1 - (1 - level))) ≡ level = omega arith in
     let front = toggle_changes level (one ∷ two ∷ three ∷ four ∷ []) in
-    ap (λ l. changes_text (front ++ toggle_changes l others)) same ∙ flat_map-append change_text front (toggle_changes level others)
+    ap (λ l. changes_text (front ++ toggle_changes l others)) (omega arith) ∙ flat_map-append change_text front (toggle_changes level others)
 
 -- the same from a place on
 pub four_from : (level : ℕ) (times : List ℕ) (i : ℕ) → level ≤ 1 → i + 4 ≤ length times →
     changes_text (toggle_changes level (drop i times)) ≡
     changes_text (toggle_changes level (get_or times i 0 ∷ get_or times (i + 1) 0 ∷ get_or times (i + 2) 0 ∷ get_or times (i + 3) 0 ∷ []))
     ++ changes_text (toggle_changes level (drop (i + 4) times))
-four_from level times i low within = grind (arith, dropped_four, four_more)
+four_from level times i low within = grind (arith, dropped, four_more)
 
 -- one change, and those behind it
 pub one_from : (level next : ℕ) (times : List ℕ) (i : ℕ) → next ≡ 1 - level → i < length times →
@@ -51,18 +45,11 @@ pub from_low : (level low : ℕ) (times : List ℕ) → 1 - low ≡ 1 - level �
 from_low level low [] same = refl
 from_low level low (time ∷ times) same = grind arith
 
-four_texts : (a b c d : List ℕ) → ((a ++ b) ++ c) ++ d ≡ a ++ (b ++ (c ++ (d ++ [])))
-four_texts a b c d = simp (append_assoc, append-nil)
-
-module _ (level one two three four : ℕ) (low : level ≤ 1) where
-  by_turns : toggle_changes level (one ∷ two ∷ three ∷ four ∷ []) ≡ (one, 1 - level) ∷ (two, level) ∷ (three, 1 - level) ∷ (four, level) ∷ []
-  by_turns = grind arith
-
-  -- four changes, one behind the other
-  pub four_placed : (a b c d e : List ℕ) (at i j k end : ℕ) → IsPlaced a b at (change_text (one, 1 - level)) i → IsPlaced b c i (change_text (two, level)) j
-      → IsPlaced c d j (change_text (three, 1 - level)) k → IsPlaced d e k (change_text (four, level)) end
-      → IsPlaced a e at (changes_text (toggle_changes level (one ∷ two ∷ three ∷ four ∷ []))) end
-  four_placed a b c d e at i j k end p q r s = let all = placed_both (placed_both (placed_both p q) r) s in grind (arith, four_texts, by_turns)
+-- four changes, one behind the other
+pub four_placed : (level one two three four : ℕ) → level ≤ 1 → (a b c d e : List ℕ) (at i j k end : ℕ) → IsPlaced a b at (change_text (one, 1 - level)) i → IsPlaced b c i (change_text (two, level)) j
+    → IsPlaced c d j (change_text (three, 1 - level)) k → IsPlaced d e k (change_text (four, level)) end
+    → IsPlaced a e at (changes_text (toggle_changes level (one ∷ two ∷ three ∷ four ∷ []))) end
+four_placed level one two three four low a b c d e at i j k end p q r s = let all = placed_both (placed_both (placed_both p q) r) s in grind (arith, append_assoc, append-nil)
 
 pub ruleset toggle_steps = (four_from, from_low, left_as, left_whole, puts_then)
 

@@ -15,18 +15,14 @@ module _ {X : Type 0} (P : X → Type 0) (p : X → Bool) where
 pub All-unmap : {X Y : Type 0} (P : Y → Type 0) (f : X → Y) (xs : List X) → All P (map f xs) → All (λ x. P (f x)) xs
 All-unmap P f xs all k d within = subst P (get_or-map f xs k d (f d) within) (all k (f d) (omega (arith, within, length-map xs f)))
 
--- the words of a line of ASCII bytes are such
-pub words_ascii : (line : List ℕ) → IsAscii line → All IsAscii (words_of line)
-unfolding words_of
-words_ascii line ascii =
-    let part = statement_part line in
-    let low : IsAscii part = IsAscii-take line (position_or_len (λ byte. byte == 35) line) ascii in
-    let parts = All-weaker (All (λ b. b < 128)) IsAscii IsAscii-from_all (slice_split is_gap part) (All-slice_split (λ b. b < 128) is_gap part (All-from_ascii part low)) in
-    All-filter is_word IsAscii (slice_split is_gap part) parts
-
 -- words that are those of a line of ASCII bytes
 pub texts_ascii : (ws : List (Bor (List ℕ))) (line : List ℕ) → texts ws ≡ words_of line → IsAscii line → AreAscii ws
-texts_ascii ws line same ascii = All-unmap IsAscii (λ w. w.now) ws (subst (All IsAscii) (sym same) (words_ascii line ascii))
+unfolding words_of
+texts_ascii ws line same ascii =
+    let part = statement_part line in
+    let bytes = All-from_ascii part (IsAscii-take line (position_or_len (λ byte. byte == 35) line) ascii) in
+    let parts = All-weaker (All (λ b. b < 128)) IsAscii IsAscii-from_all (slice_split is_gap part) (All-slice_split (λ b. b < 128) is_gap part bytes) in
+    All-unmap IsAscii (λ w. w.now) ws (subst (All IsAscii) (sym same) (All-filter is_word IsAscii (slice_split is_gap part) parts))
 
 -- the words behind the first k
 pub rest_ascii : (ws : List (Bor (List ℕ))) (k : ℕ) → AreAscii ws → AreAscii (take (length ws - k) (drop k ws))

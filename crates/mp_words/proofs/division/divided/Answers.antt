@@ -1,5 +1,5 @@
 use Rattle.mp_words.proofs.Names.{rules, arith, take_rest}
-use Rattle.mp_words.proofs.DivisionLemmas.{next_line_in, undivided_next, front_here, back_here, undivided_all, front_end, back_end, divided_end}
+use Rattle.mp_words.proofs.DivisionLemmas.{next_line_in, undivided_next, front_here, back_here, front_end, back_end, divided_end}
 use Rattle.mp_words.proofs.division.divided.Goals as goal
 
 pub loop-at-preserved : goal.loop-at-preserved
@@ -12,10 +12,10 @@ pub returns-then-branch-clause-back : goal.returns-then-branch-clause-back
 returns-then-branch-clause-back c = grind (arith, take_rest, back_here)
 
 pub returns-clause-front : goal.returns-clause-front
-returns-clause-front c = front_end c.args.input.now (undivided_all c.args.input.now c.loop-at.at (search rules) c.loop-at.invariant.undivided)
+returns-clause-front c = front_end c.args.input.now c.loop-at.at (search rules) c.loop-at.invariant.undivided
 
 pub returns-clause-back : goal.returns-clause-back
-returns-clause-back c = back_end c.args.input.now (undivided_all c.args.input.now c.loop-at.at (search rules) c.loop-at.invariant.undivided)
+returns-clause-back c = back_end c.args.input.now c.loop-at.at (search rules) c.loop-at.invariant.undivided
 
 pub returns-clause-divided : goal.returns-clause-divided
-returns-clause-divided c = divided_end c.args.input.now (undivided_all c.args.input.now c.loop-at.at (search rules) c.loop-at.invariant.undivided)
+returns-clause-divided c = divided_end c.args.input.now c.loop-at.at (search rules) c.loop-at.invariant.undivided

@@ -1,4 +1,4 @@
-use Rattle.mp_words.proofs.Names.{◌+◌, ◌-◌, ◌≤◌, length, arith, left_as, left_failed, left_then, writes_failed}
+use Rattle.mp_words.proofs.Names.{◌+◌, ◌≤◌, length, arith, left_as, left_failed, left_then, writes_failed}
 use Rattle.mp_words.proofs.ToggleLemmas.{four_from}
 use Rattle.mp_words.proofs.toggles.TogglesText.put_to.Goals as goal
 
