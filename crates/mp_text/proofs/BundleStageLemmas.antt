@@ -1,6 +1,5 @@
 -- The edits of a netlist's bundles, once its wires are added, are not refused.
-use Rattle.std.specs.Prelude.{◌≡◌, ◌<◌, ◌≤◌, ◌==◌, ◌&&◌, ◌∷◌, ◌++◌}
-use Rattle.mp_text.proofs.Names.{each_end, each_ok, All-get_or, added_bundle, ℕ, true, List, [], length, get_or, All, Option, Some, None, Ok, is_none, refl, ap, ◌∙◌, arith, length-append, nat_le, flat_map, eq-eqb, lt-ltb, nat_tests, get_or_at, ModuleRecord, BundleRecord, max_setup, Circuit, IsCircuit, IsBundle, bundle_at, HasNames, wire_name, bundle_by_name, bundle_edits, and_from, refusal, edited, after_single, stands, width_named, bundle_checks, new_bundle, bundle_limit}
+use Rattle.mp_text.proofs.Names.{◌≡◌, ◌<◌, ◌≤◌, ◌==◌, ◌&&◌, ◌∷◌, ◌++◌, each_end, each_ok, All-get_or, added_bundle, ℕ, true, List, [], length, get_or, All, Option, Some, None, Ok, is_none, refl, ap, ◌∙◌, arith, length-append, nat_le, flat_map, eq-eqb, lt-ltb, nat_tests, get_or_at, ModuleRecord, BundleRecord, max_setup, Circuit, IsCircuit, IsBundle, bundle_at, HasNames, wire_name, bundle_by_name, bundle_edits, and_from, refusal, edited, after_single, stands, width_named, bundle_checks, new_bundle, bundle_limit}
 use Rattle.mp_text.proofs.SlotLemmas.{Unnamed, named_nowhere, front_unnamed}
 use Rattle.mp_text.proofs.StageLemmas.{none_failing, is_done, Reaches, Added, AddsOne, added_reached, unnamed_again}
 use Rattle.mp_text.proofs.WireStageLemmas.{made, HasWires, HasWires-compact, IsBack, is_back}
@@ -52,19 +51,23 @@ module _ (n : Circuit) (circuit : IsCircuit n) (named : HasNames n) (modules : L
     bundle_done : after_single c (added_bundle n r) ≡ Ok (bundled (bundles ++ Some new ∷ []))
     unfolding refusal edited
     bundle_done =
-        let first = wire_name n r.request in
-        let second = wire_name n r.acknowledge in
-        let third = wire_name n r.payload in
         let free = ap is_none (named_nowhere bundle_name r.name bundles unnamed) in
-        let found = and_from (stands c first && stands c second) (stands c third) (and_from (stands c first) (stands c second) request.found acknowledge.found) payload.found in
-        let wide = and_from (width_named c first == 1) (width_named c second == 1)
-        (eq-eqb _ _ (request.width ∙ is.request.1)) (eq-eqb _ _ (acknowledge.width ∙ is.acknowledge.1)) in
-        let low = is.setup in
-        let early : nat_le r.setup max_setup ≡ true = grind (arith, nat_tests) in
         let within : length front < bundle_limit n.format = omega (arith, ap length split, length-append front (Some r ∷ back), circuit.bundles_few) in
-        let room = lt-ltb (length bundles) (bundle_limit n.format) (omega (arith, few)) in
-        is_done c (added_bundle n r)
-        (none_failing (bundle_checks c (bundle_by_name n r)) (named.bundles (length front) r at, (free, (found, (wide, (early, (room, tt)))))))
+        is_done c (added_bundle n r) (none_failing (bundle_checks c (bundle_by_name n r)) (grind (
+          arith,
+          nat_tests,
+          and_from,
+          (named.bundles (length front) r at),
+          free,
+          is.request.1,
+          is.acknowledge.1,
+          is.setup,
+          request.found,
+          acknowledge.found,
+          payload.found,
+          request.width,
+          acknowledge.width,
+        )))
 
     bundle_added : AddsOne n.bundles (added_bundle n) (added_bundle (bundled [])) bundled r bundles
     bundle_added = record { new = new; done = bundle_done; same = rw (request.name, acknowledge.name, payload.name) refl }

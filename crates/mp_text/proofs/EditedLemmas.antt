@@ -1,6 +1,5 @@
 -- How the end of an edit is told of the line that states it.
-use Rattle.std.specs.Prelude.{◌≡◌, OnOk}
-use Rattle.mp_text.proofs.Names.{Result, Ok, Err, IfErr, inl, inr, refl, ap, EditError, Circuit, TextCode, Line, Refused, TextState, Open, OutOfMemory, Gives, result_map_both}
+use Rattle.mp_text.proofs.Names.{◌≡◌, Result, Ok, Err, IfErr, inl, inr, refl, ap, EditError, Circuit, TextCode, Line, Refused, TextState, Open, OutOfMemory, Gives, result_map_both, OnOk}
 use Rattle.mp_records.specs.declared.edit.Edit.{Edit}
 use Rattle.mp_records.specs.declared.edit_error.EditError.TheVariants as edits
 use Rattle.mp_netlist.specs.Edits.{RefusedBy}

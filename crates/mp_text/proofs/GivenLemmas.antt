@@ -1,8 +1,6 @@
 -- What a call that reads gives where a step of it failed.
-use Rattle.std.specs.Prelude.{◌≡◌, ◌+◌, ◌<◌, ◌≤◌, ◌∷◌, ◌++◌}
-use Rattle.mp_text.proofs.Names.{ℕ, List, [], length, get_or, take, Bor, IsAscii, AreAscii, Result, Ok, Err, inl, true, nat_lt, ltb-true, refl, ap, ◌∙◌, arith, take_more, map-append, LineError, OutOfMemory, Gives, with_front, texts}
+use Rattle.mp_text.proofs.Names.{◌≡◌, ◌+◌, ◌<◌, ◌≤◌, ◌∷◌, ◌++◌, ℕ, List, [], length, get_or, take, Bor, IsAscii, AreAscii, Result, Ok, Err, inl, true, nat_lt, ltb-true, refl, ap, ◌∙◌, arith, take_more, map-append, LineError, OutOfMemory, Gives, with_front, texts, err_from_is_err_and}
 use Rattle.std.specs.Result.{IsErrAnd}
-use Rattle.std.proofs.lemmas.Result.{err_from_is_err_and}
 
 -- memory was wanting
 pub wanting_given : {X Y : Type 0} (view : X → Y) (given : Result X LineError) (read : Result Y LineError) → IsErrAnd given (λ e. e ≡ OutOfMemory) → Gives OutOfMemory view given read

@@ -1,8 +1,7 @@
 -- How a line begins decides what it says.
-use Rattle.std.specs.Prelude.{◌≡◌, ◌-◌, ◌<◌, ◌==◌, ◌||◌, ◌∷◌}
-use Rattle.mp_text.proofs.Names.{rest_ascii, texts_behind, ℕ, zero, suc, min, Bool, true, false, cond, List, [], length, drop, None, Some, Result, Ok, Err, IfErr, refl, ap, ◌∙◌, arith, true≢false, length-take, length-drop, nat_le, slice_get, byte, before_first, after_first, list_all, cases_eq, leb-false, nat_tests, LineError, WordCount, UnknownStatement, NotAscii, OutOfMemory, is_allowed, words_of, ◌>>=◌, statement_takes, single_takes, question_takes, takes, is_begun, HasForm, is_mark, module_edit, stated_edit, line_word, stated_line, line_of, line_at, each_word, EditWord, SingleWord, LineWord, Single, Batch, Question, QuestionWord, Empty}
+use Rattle.mp_text.proofs.Names.{◌≡◌, ◌-◌, ◌<◌, ◌==◌, ◌||◌, ◌∷◌, rest_ascii, texts_behind, ℕ, zero, suc, min, Bool, true, false, cond, List, [], length, drop, None, Some, Result, Ok, Err, IfErr, refl, ap, ◌∙◌, arith, true≢false, length-take, length-drop, nat_le, slice_get, byte, before_first, after_first, list_all, cases_eq, leb-false, nat_tests, LineError, WordCount, UnknownStatement, NotAscii, OutOfMemory, is_allowed, words_of, ◌>>=◌, statement_takes, single_takes, question_takes, takes, is_begun, HasForm, is_mark, module_edit, stated_edit, line_word, stated_line, line_of, line_at, each_word, EditWord, SingleWord, LineWord, Single, Batch, Question, QuestionWord, Empty}
 use Rattle.mp_text.specs.declared.script_line.Line.{Line}
-use Rattle.mp_text.specs.Questions.{stated_question, show_question}
+use Rattle.mp_text.specs.Questions.{stated_question}
 
 abbrev Words : Type 0
 Words = List (List ℕ)
@@ -34,11 +33,8 @@ few_ports words few = grind (arith, nat_tests, cases_eq, length-drop, length-tak
 statement_refused : (first : EditWord) (words : Words) → statement_takes first (length words) ≡ false → stated_edit first words ≡ Err WordCount
 statement_refused first words wrong = grind (arith, nat_tests, not_so_many, few_ports, leb-false)
 
-not_range : (words : Words) → nat_le 2 (length words) ≡ false → show_question words ≡ Err WordCount
-not_range words few = grind (arith, nat_tests, leb-false)
-
 question_refused : (first : QuestionWord) (words : Words) → question_takes first (length words) ≡ false → stated_question first words ≡ Err WordCount
-question_refused first words wrong = grind (arith, nat_tests, not_so_many, not_range)
+question_refused first words wrong = grind (arith, nat_tests, not_so_many, leb-false)
 
 -- a first word with another number of words behind it than it takes
 refused_by_count : (first : LineWord) (words : Words) → takes first (length words) ≡ false → stated_line first words ≡ Err WordCount

@@ -1,14 +1,9 @@
 -- The lines of modules lead where the edits of the modules lead.
-use Rattle.std.specs.Prelude.{◌≡◌, ◌^◌, ◌<◌, ◌≤◌, ◌==◌, ◌∷◌, ◌++◌}
-use Rattle.mp_text.proofs.Names.{ℕ, Bool, true, cond, List, [], length, map, All, Option, Some, None, Ok, decimal, refl, arith, inl, inr, codes, nat_lt, IsTrue, IsSome, IfSome, list_all, cases_Bool, eqb-true, append-nil, All-cons, All-map, All-append, All-get_or, All-from_get_or, All-weaker, Kind, some_input, some_output, param_bound-low, WireId, WireRecord, ModuleRecord, Input, Output, added_module, is_name, input_at, output_at, max_delay, Circuit, IsCircuit, IsModule, IsDelay, HasWidth, wire_at, module_at, width_of, module_width, HasNames, input_word, module_line, wire_name, delay_text, input_text, output_name, output_text, module_edits, statement_of, Change, IsPlain, IsPlain-append, IsPlain-decimal, IsPlain-name, and_parts, input_back, late_input_back, no_wire_back, wire_back, All-passing, ltb-true, nat_tests}
+use Rattle.mp_text.proofs.Names.{◌≡◌, ◌^◌, ◌<◌, ◌≤◌, ◌==◌, ◌∷◌, ◌++◌, ℕ, Bool, true, cond, List, length, map, All, Option, Some, None, Ok, decimal, refl, arith, inl, inr, codes, nat_lt, IsTrue, IsSome, IfSome, list_all, cases_Bool, eqb-true, append-nil, All-cons, All-map, All-append, All-get_or, All-from_get_or, All-weaker, Kind, some_input, some_output, param_bound-low, WireId, WireRecord, ModuleRecord, Input, Output, added_module, is_name, input_at, output_at, max_delay, Circuit, IsCircuit, IsModule, IsDelay, HasWidth, wire_at, module_at, width_of, module_width, HasNames, input_word, module_line, wire_name, delay_text, input_text, output_name, output_text, module_edits, statement_of, Change, IsPlain, IsPlain-append, IsPlain-decimal, IsPlain-name, and_parts, input_back, late_input_back, no_wire_back, wire_back, All-passing, ltb-true, nat_tests}
 use Rattle.mp_modules.specs.Kinds.{word_of, param_bound, param_count, are_params, has_width, output_width}
 use Rattle.mp_text.proofs.StatementBackLemmas.{name_no_greater, module_stated}
 use Rattle.mp_text.proofs.TextBackLemmas.{SlotLeads, leads_line}
-use Rattle.mp_text.proofs.RecordBackLemmas.{wire_named}
-
--- the word of a kind
-IsPlain-kind : (kind : Kind) → IsPlain (word_of kind)
-IsPlain-kind kind = grind (arith, nat_tests)
+use Rattle.mp_text.proofs.RecordBackLemmas.{wire_named, number_behind}
 
 params_low : (kind : Kind) (width : ℕ) (params : List ℕ) → width ≤ 64 → IsTrue (are_params kind width params) → All (λ p. p < 2 ^ 64) params
 unfolding are_params
@@ -34,26 +29,19 @@ module _ (n : Circuit) (circuit : IsCircuit n) (named : HasNames n) where
   module_narrow b w = grind (arith, nat_tests, slot_narrow)
 
   output_plain : (wire : Option WireId) (delay : ℕ) → delay ≤ max_delay → Stands n wire → IsPlain (output_name n wire ++ (47 ∷ decimal delay))
-  output_plain wire delay low stands =
-      IsPlain-append (output_name n wire) (47 ∷ decimal delay) (by wire stands)
-      (IsPlain-append (47 ∷ []) (decimal delay) (record { some = omega arith; plain = refl }) (IsPlain-decimal delay (omega (arith, low))))
-    where
-      by : (wire : Option WireId) → Stands n wire → IsPlain (output_name n wire)
-      by None stands = record { some = omega arith; plain = refl }
-      by (Some w) stands = IsPlain-name (wire_name n w) (wire_named n circuit named w stands)
+  output_plain None delay low stands = IsPlain-append (codes "-") (47 ∷ decimal delay) (record { some = omega arith; plain = refl }) (number_behind 47 delay refl (omega (arith, low)))
+  output_plain (Some w) delay low stands =
+      IsPlain-append (wire_name n w) (47 ∷ decimal delay) (IsPlain-name (wire_name n w) (wire_named n circuit named w stands)) (number_behind 47 delay refl (omega (arith, low)))
 
   -- a name, with a delay behind it where there is one
   named_back : (name : List ℕ) (delay : ℕ) → is_name name ≡ true → delay ≤ max_delay → input_word (name ++ delay_text delay) ≡ Ok (record { wire = name; delay = delay })
   named_back name delay valid low = grind (arith, cases_Bool, eqb-true, append-nil, input_back, late_input_back, IsPlain-name)
 
   named_plain : (name : List ℕ) (delay : ℕ) → is_name name ≡ true → delay ≤ max_delay → IsPlain (name ++ delay_text delay)
-  named_plain name delay valid low =
-      elim (cases_Bool (delay == 0)) as (λ _. IsPlain (name ++ delay_text delay)) [
-        | inl none ↦ rw none (rw append-nil (IsPlain-name name valid))
-        | inr some ↦
-            rw some (IsPlain-append name (47 ∷ decimal delay) (IsPlain-name name valid)
-            (IsPlain-append (47 ∷ []) (decimal delay) (record { some = omega arith; plain = refl }) (IsPlain-decimal delay (omega (arith, low)))))
-      ]
+  named_plain name delay valid low = elim (cases_Bool (delay == 0)) as (λ _. IsPlain (name ++ delay_text delay)) [
+    | inl none ↦ rw none (rw append-nil (IsPlain-name name valid))
+    | inr some ↦ rw some (IsPlain-append name (47 ∷ decimal delay) (IsPlain-name name valid) (number_behind 47 delay refl (omega (arith, low))))
+  ]
 
   -- an input at a wire with a name
   abbrev IsInput : Input → Type 0
@@ -87,12 +75,13 @@ module _ (n : Circuit) (circuit : IsCircuit n) (named : HasNames n) where
 
     plain_words : All IsPlain (r.name ∷ word_of r.kind ∷ (params_words ++ (codes ":" ∷ behind_colon)))
     plain_words =
+        let kind : IsPlain (word_of r.kind) = grind (arith, nat_tests) in
         let outs = All-map IsPlain (output_text n) r.outputs (All-weaker IsOutput (λ o. IsPlain (output_text n o)) (λ o low. output_plain o.wire o.delay low.0 low.1) r.outputs outputs_ok) in
         let ins = All-map IsPlain (input_text n) r.inputs (All-weaker IsInput (λ i. IsPlain (input_text n i)) (λ i is. named_plain (wire_name n i.wire) i.delay is.0 is.1) r.inputs inputs_ok) in
         let numbers = All-map IsPlain decimal r.params (All-weaker (λ p. p < 2 ^ 64) (λ p. IsPlain (decimal p)) IsPlain-decimal r.params params_ok) in
         let back = All-append IsPlain input_words (codes ">" ∷ output_words) ins (All-cons IsPlain (codes ">") output_words (record { some = omega arith; plain = refl }) outs) in
         let rest = All-append IsPlain params_words (codes ":" ∷ behind_colon) numbers (All-cons IsPlain (codes ":") behind_colon (record { some = omega arith; plain = refl }) back) in
-        All-cons IsPlain r.name (word_of r.kind ∷ (params_words ++ (codes ":" ∷ behind_colon))) (IsPlain-name r.name (named.modules m r at)) (All-cons IsPlain (word_of r.kind) (params_words ++ (codes ":" ∷ behind_colon)) (IsPlain-kind r.kind) rest)
+        All-cons IsPlain r.name (word_of r.kind ∷ (params_words ++ (codes ":" ∷ behind_colon))) (IsPlain-name r.name (named.modules m r at)) (All-cons IsPlain (word_of r.kind) (params_words ++ (codes ":" ∷ behind_colon)) kind rest)
 
     module_again : statement_of (codes "module" ∷ r.name ∷ word_of r.kind ∷ (params_words ++ (codes ":" ∷ behind_colon))) ≡ Change (Ok (added_module n r))
     module_again = grind (arith, nat_tests, All-weaker, no_wire_back, wire_named, wire_back, IsPlain-name, outputs_ok, some_input, some_output, name_no_greater, inputs_ok, named_back, module_stated, params_ok)

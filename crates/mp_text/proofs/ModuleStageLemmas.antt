@@ -1,7 +1,5 @@
 -- The edits of a netlist's modules, once its wires are added, are not refused.
-use Rattle.std.specs.Prelude.{◌≡◌, ◌<◌, ◌≤◌, ◌==◌, ◌∷◌, ◌++◌}
-use Rattle.mp_text.proofs.Names.{added_module, ℕ, true, List, [], length, map, get_or, All, Option, Some, None, Ok, option_map, is_none, refl, sym, ap, subst, ◌∙◌, arith, length-append, nat_le, IsSome, IfSome, slice_index_or, flat_map, list_all, eq-eqb, lt-ltb, nat_tests, get_or_at, get_or_append_left, get_or-map, length-map, All-map, All-weaker, All-from_get_or, input_count, output_count, input_width, output_width, are_params, WireId, ModuleRecord, Input, InputName, OutputName, no_input, output_in, max_delay, Circuit, IsCircuit, IsModule, IsDelay, IsInputDelay, HasWidth, Drives, wire_at, module_at, width_of, module_width, HasNames, no_name, some_input, wire_name, module_by_name, module_edits, input_by_name, output_by_name, list_all-from_AllPass, and_from, refusal, edited, after_single, stands, wire_id, width_named, is_undriven, is_delay, is_input_delay, delays_fit, driven_names, are_distinct, first_width, new_width, inputs_stand, inputs_fit, output_fits, outputs_fit, module_checks, input_of, output_of, new_module, without_stimulus, module_limit, rules, map_fixed}
-use Rattle.std.proofs.lemmas.Simd.{map-map}
+use Rattle.mp_text.proofs.Names.{◌≡◌, ◌<◌, ◌≤◌, ◌==◌, ◌∷◌, ◌++◌, added_module, ℕ, true, List, [], length, map, get_or, All, Option, Some, None, Ok, option_map, is_none, refl, sym, ap, subst, ◌∙◌, arith, length-append, IsSome, IfSome, slice_index_or, flat_map, list_all, eq-eqb, nat_tests, get_or_at, get_or_append_left, get_or-map, length-map, All-map, All-from_get_or, input_width, output_width, are_params, WireId, ModuleRecord, Input, InputName, OutputName, no_input, output_in, Circuit, IsCircuit, IsModule, HasWidth, Drives, wire_at, module_at, width_of, module_width, HasNames, no_name, some_input, wire_name, module_by_name, module_edits, input_by_name, output_by_name, list_all-from_AllPass, and_from, refusal, edited, after_single, stands, wire_id, width_named, is_undriven, is_delay, is_input_delay, delays_fit, driven_names, first_width, new_width, inputs_stand, inputs_fit, output_fits, outputs_fit, module_checks, input_of, output_of, new_module, without_stimulus, module_limit, map_fixed, map-map}
 use Rattle.mp_text.proofs.SlotLemmas.{Unnamed, named_nowhere, front_unnamed}
 use Rattle.mp_text.proofs.StageLemmas.{none_failing, is_done, Reaches, Added, AddsOne, added_reached, unnamed_again}
 use Rattle.mp_text.proofs.OutputLemmas.{output_named, is_output, DrivesNone, undriven_by_name, drives_none, is_nothing_driven, driven_all, driven_distinct, counted_all}
@@ -13,12 +11,6 @@ module_name r = r.name
 -- names that lead to numbers of the same names
 map_back : {X Y Z : Type 0} (g : X → Y) (a : Y → Z) (b : Z → Y) (xs : List X) → All (λ x. b (a (g x)) ≡ g x) xs → map b (map a (map g xs)) ≡ map g xs
 map_back g a b xs all = map-map b a (map g xs) ∙ map_fixed (λ y. b (a y)) (map g xs) (All-map (λ y. b (a y) ≡ y) g xs all)
-
-is_low_delay : (d : ℕ) → IsDelay d → is_delay d ≡ true
-is_low_delay d low = grind (arith, nat_tests, and_from)
-
-is_low_input_delay : (d : ℕ) → IsInputDelay d → is_input_delay d ≡ true
-is_low_input_delay d most = let short : nat_le d max_delay ≡ true = grind (arith, nat_tests) in short
 
 -- the wires at the ports of a module are as wide in the other netlist
 module _ (n c : Circuit) (has : HasWires n c) (r : ModuleRecord) (is : IsModule n r) where
@@ -83,10 +75,10 @@ module _ (n c : Circuit) (has : HasWires n c) (r : ModuleRecord) (is : IsModule 
           subst (λ wire. output_fits c wire (output_width r.kind (new_width c r.kind input_names) p) ≡ true) (sym (output_named n r.outputs p)) (output_wide p (output_in r.outputs p).wire refl)
 
   inputs_low : list_all (λ (i : InputName). is_input_delay i.delay) input_names ≡ true
-  inputs_low = search (rules, arith, nat_tests, list_all-from_AllPass, All-map, All-weaker, is_low_input_delay)
+  inputs_low = list_all-from_AllPass _ input_names (All-map (λ (i : InputName). is_input_delay i.delay ≡ true) (input_by_name n) r.inputs (λ k d within. grind (arith, nat_tests)))
 
   outputs_low : list_all (λ (o : OutputName). is_delay o.delay) output_names ≡ true
-  outputs_low = search (rules, arith, nat_tests, list_all-from_AllPass, All-map, All-weaker, is_low_delay)
+  outputs_low = list_all-from_AllPass _ output_names (All-map (λ (o : OutputName). is_delay o.delay ≡ true) (output_by_name n) r.outputs (λ k d within. grind (arith, nat_tests, and_from)))
 
   pub delays_low : delays_fit input_names output_names ≡ true
   delays_low = and_from (list_all (λ (i : InputName). is_input_delay i.delay) input_names) (list_all (λ (o : OutputName). is_delay o.delay) output_names) inputs_low outputs_low
@@ -187,21 +179,28 @@ module _ (n : Circuit) (circuit : IsCircuit n) (named : HasNames n) where
     module_done : after_single c (added_module n r) ≡ Ok (moduled (modules ++ Some new ∷ []))
     unfolding refusal edited
     module_done =
-        let inputs = map (input_by_name n) r.inputs in
         let outputs = map (output_by_name n) r.outputs in
         let has = has_wires modules in
-        let free = ap is_none (named_nowhere module_name r.name modules unnamed) in
-        let counts = and_from (length inputs == input_count r.kind) (length outputs == output_count r.kind)
-        (eq-eqb _ _ (length-map r.inputs (input_by_name n) ∙ is.inputs)) (eq-eqb _ _ (length-map r.outputs (output_by_name n) ∙ is.outputs)) in
-        let found = and_from (inputs_stand c inputs) (list_all (stands c) (driven_names outputs)) (inputs_found n c has r is) (outputs_found n c has r is) in
-        let width = new_width c r.kind inputs in
-        let wide = and_from (inputs_fit c r.kind width inputs) (outputs_fit c r.kind width outputs) (inputs_wide n c has r is) (outputs_wide n c has r is) in
-        let free_outputs = and_from (list_all (is_undriven c) (driven_names outputs)) (are_distinct (driven_names outputs)) (driven_all (is_undriven c) outputs undriven) (driven_distinct outputs distinct) in
         let within : length front < module_limit n.format = omega (arith, ap length split, length-append front (Some r ∷ back), circuit.modules_few) in
-        let room = lt-ltb (length modules) (module_limit n.format) (omega (arith, few)) in
-        is_done c (added_module n r)
-        (none_failing (module_checks c (module_by_name n r))
-        (named.modules (length front) r at, (free, (counts, (found, (wide, (params_ranged n c has r is, (delays_low n c has r is, (free_outputs, (room, tt))))))))))
+        is_done c (added_module n r) (none_failing (module_checks c (module_by_name n r)) (grind (
+          arith,
+          nat_tests,
+          and_from,
+          (named.modules (length front) r at),
+          (ap is_none (named_nowhere module_name r.name modules unnamed)),
+          (length-map r.inputs (input_by_name n)),
+          (length-map r.outputs (output_by_name n)),
+          is.inputs,
+          is.outputs,
+          (inputs_found n c has r is),
+          (outputs_found n c has r is),
+          (inputs_wide n c has r is),
+          (outputs_wide n c has r is),
+          (params_ranged n c has r is),
+          (delays_low n c has r is),
+          (driven_all (is_undriven c) outputs undriven),
+          (driven_distinct outputs distinct),
+        )))
 
     module_added : AddsOne n.modules (added_module n) (added_module (moduled [])) moduled r modules
     module_added = record { new = new; done = module_done; same = added_again n c (has_wires modules) r is }

@@ -1,17 +1,13 @@
 -- The outputs of modules by name.
-use Rattle.std.specs.Prelude.{◌≡◌, ◌<◌, ◌∷◌, ◌⊎◌}
-use Rattle.mp_text.proofs.Names.{ℕ, suc, Bool, true, false, not, List, [], length, map, get_or, All, Option, Some, None, option_map, is_some, refl, sym, ap, subst, ◌∙◌, arith, inl, inr, flat_map, list_all, list_any, enumerate_from, bytes_eq, All-cons, All-nil, All-head, All-get_or, All-from_get_or, WireId, ModuleRecord, Output, OutputName, SingleEdit, AddModule, added_module, output_in, Circuit, Drives, wire_at, stimulus_at, driver, is_nothing, is_port, stimulus_driver, driven_names, are_distinct, slot_within, no_name, name_in, wire_name, output_by_name, module_edits, list_all-from_AllPass, and_from, list_any_none, nat_tests}
+use Rattle.mp_text.proofs.Names.{◌≡◌, ◌<◌, ◌∷◌, ℕ, suc, Bool, true, false, not, List, [], length, map, get_or, All, Option, Some, None, option_map, is_some, refl, sym, ap, subst, ◌∙◌, arith, inl, inr, flat_map, list_all, list_any, enumerate_from, bytes_eq, All-cons, All-nil, All-head, All-get_or, All-from_get_or, WireId, ModuleRecord, Output, OutputName, SingleEdit, AddModule, added_module, output_in, Circuit, Drives, wire_at, stimulus_at, driver, is_nothing, is_port, stimulus_driver, driven_names, are_distinct, slot_within, no_name, name_in, wire_name, output_by_name, module_edits, list_all-from_AllPass, and_from, list_any_none, nat_tests}
 use Rattle.std.proofs.Math.ListN.{get_or-map}
 use Rattle.std.proofs.lemmas.List.FromFn.{get_or-enumerate_from, length-enumerate_from}
 use Rattle.mp_netlist.proofs.DriverLemmas.{driven_by}
 use Rattle.mp_text.proofs.SlotLemmas.{All-flat_map, All-from_flat_map, unequal_name}
 
-abbrev no_output : Output
-no_output = record { wire = None; delay = 1 }
-
 -- an output of a list by name has the name of the output's wire
 pub output_named : (n : Circuit) (outputs : List Output) (p : ℕ) → (get_or (map (output_by_name n) outputs) p no_name).wire ≡ option_map (wire_name n) (output_in outputs p).wire
-output_named n outputs p = ap (λ (o : OutputName). o.wire) (get_or-map (output_by_name n) outputs p no_output)
+output_named n outputs p = ap (λ (o : OutputName). o.wire) (get_or-map (output_by_name n) outputs p (record { wire = None; delay = 1 }))
 
 -- the wire of an output that has a name
 pub record IsOutput (n : Circuit) (outputs : List Output) (p : ℕ) (q : List ℕ) : Type 0 where
@@ -50,21 +46,17 @@ drives_none n q slots nobody =
 
 -- a wire that no port drives
 no_port_driver : (c : Circuit) (w : ℕ) → ((m p : ℕ) → Drives c m p w → ⊥) → driver c w ≡ stimulus_driver (stimulus_at c w)
-no_port_driver c w none = by (driven_by c w)
-  where
-    by : ((m p : ℕ) × Drives c m p w) ⊎ (driver c w ≡ stimulus_driver (stimulus_at c w)) → driver c w ≡ stimulus_driver (stimulus_at c w)
-    by (inl found) = absurd (none found.0 found.1 found.2)
-    by (inr same) = same
+no_port_driver c w none = elim (driven_by c w) [
+  | inl found ↦ absurd (none found.0 found.1 found.2)
+  | inr same ↦ same
+]
 
 -- nothing drives it where nothing is set on it
 pub is_nothing_driven : (c : Circuit) (w : ℕ) → ((m p : ℕ) → Drives c m p w → ⊥) → stimulus_at c w ≡ None → is_nothing (driver c w) ≡ true
 is_nothing_driven c w none unset = ap is_nothing (no_port_driver c w none ∙ ap stimulus_driver unset)
 
-no_port_of : (stimulus : Option (List (ℕ × ℕ))) → is_port (stimulus_driver stimulus) ≡ false
-no_port_of stimulus = grind (arith, nat_tests)
-
 pub is_no_port : (c : Circuit) (w : ℕ) → ((m p : ℕ) → Drives c m p w → ⊥) → is_port (driver c w) ≡ false
-is_no_port c w none = ap is_port (no_port_driver c w none) ∙ no_port_of (stimulus_at c w)
+is_no_port c w none = ap is_port (no_port_driver c w none) ∙ grind (arith, nat_tests)
 
 abbrev name_first : Option (List ℕ) → List (List ℕ) → List (List ℕ)
 name_first None names = names
@@ -73,11 +65,7 @@ name_first (Some name) names = name ∷ names
 -- what holds of each output's name holds of all names
 driven_each : (P : List ℕ → Type 0) (outputs : List OutputName) → ((p : ℕ) (q : List ℕ) → (get_or outputs p no_name).wire ≡ Some q → P q) → All P (driven_names outputs)
 driven_each P [] each = All-nil P
-driven_each P (o ∷ os) each = by o.wire refl (driven_each P os (λ p q at. each (suc p) q at))
-  where
-    by : (wire : Option (List ℕ)) → o.wire ≡ wire → All P (driven_names os) → All P (name_first wire (driven_names os))
-    by None at rest = rest
-    by (Some q) at rest = All-cons P q (driven_names os) (each 0 q at) rest
+driven_each P (o ∷ os) each = grind (arith, nat_tests, All-cons, (each 0), (driven_each P os (λ p q at. each (suc p) q at)))
 
 pub driven_all : (test : List ℕ → Bool) (outputs : List OutputName) → ((p : ℕ) (q : List ℕ) → (get_or outputs p no_name).wire ≡ Some q → test q ≡ true) → list_all test (driven_names outputs) ≡ true
 driven_all test outputs each = list_all-from_AllPass test (driven_names outputs) (driven_each (λ q. test q ≡ true) outputs each)

@@ -1,7 +1,5 @@
 -- Facts about the parts of a batch's words.
-use Rattle.std.specs.Prelude.{◌≡◌, ◌∷◌}
-use Rattle.mp_text.proofs.Names.{take_more, map-append, ℕ, Bool, List, [], map, All, IsAscii, Bor, refl, sym, ap, subst, ◌∙◌, byte, slice_split, onto_first, texts, AreAscii, is_mark, All-slice_split, All-unmap, part_texts, arith, nat_tests}
-use Rattle.std.proofs.lemmas.Simd.{map-map}
+use Rattle.mp_text.proofs.Names.{◌≡◌, ◌∷◌, take_more, map-append, ℕ, Bool, List, [], map, All, IsAscii, Bor, refl, sym, ap, subst, ◌∙◌, byte, slice_split, onto_first, texts, AreAscii, is_mark, All-slice_split, All-unmap, part_texts, arith, nat_tests, map-map}
 
 -- a word that divides parts, where it lies in memory
 abbrev pub divides : Bor (List ℕ) → Bool

@@ -1,6 +1,5 @@
 -- The lines of records lead where the edits of the records lead.
-use Rattle.std.specs.Prelude.{◌≡◌, ◌^◌, ◌<◌, ◌≤◌, ◌&&◌, ◌∷◌, ◌++◌}
-use Rattle.mp_text.proofs.Names.{ℕ, Bool, true, List, [], map, All, Option, Some, None, Ok, decimal, refl, arith, codes, nat_lt, IsTrue, IsSome, IfSome, nat_tests, All-cons, All-nil, All-map, All-weaker, WireId, WireRecord, BundleRecord, SingleEdit, AddWire, SetStimulus, is_name, max_horizon, Circuit, IsCircuit, wire_at, bundle_at, HasNames, change_word, pair_text, wire_line, stimulus_line, bundle_line, stimulus_words, name_in, wire_name, wire_edits, stimulus_edits, set_edits, bundle_by_name, added_bundle, bundle_edits, IsPlain, IsPlain-append, IsPlain-decimal, IsPlain-name, and_parts, change_back, is_stimulus, horizon_within, All-from_recursion}
+use Rattle.mp_text.proofs.Names.{is_plain_byte, ◌≡◌, ◌^◌, ◌<◌, ◌≤◌, ◌∷◌, ◌++◌, ℕ, true, List, [], map, All, Option, Some, None, Ok, decimal, refl, arith, codes, nat_lt, IsTrue, IsSome, IfSome, nat_tests, All-cons, All-nil, All-map, All-weaker, WireId, WireRecord, BundleRecord, SingleEdit, AddWire, SetStimulus, is_name, max_horizon, Circuit, IsCircuit, wire_at, bundle_at, HasNames, change_word, pair_text, wire_line, stimulus_line, bundle_line, stimulus_words, wire_name, wire_edits, stimulus_edits, set_edits, bundle_by_name, added_bundle, bundle_edits, IsPlain, IsPlain-append, IsPlain-decimal, IsPlain-name, and_parts, change_back, is_stimulus, horizon_within, All-from_recursion}
 use Rattle.std.proofs.Math.Nat.{pow-le-pow_right}
 use Rattle.mp_modules.specs.Levels.{fits_width}
 use Rattle.mp_text.proofs.StatementBackLemmas.{wire_stated, stimulus_stated, bundle_stated}
@@ -25,11 +24,8 @@ module _ (n : Circuit) (circuit : IsCircuit n) (named : HasNames n) where
       record { each = leads_line (codes "wire") words (AddWire r.name r.width r.initial) (record { some = omega arith; plain = refl }) plain (wire_stated r.name r.width r.initial width level) }
 
   -- the name of a wire that stands
-  stands_named : (w : ℕ) (slot : Option WireRecord) → wire_at n w ≡ slot → IsSome slot → is_name (name_in slot) ≡ true
-  stands_named w slot at some = grind (arith, nat_tests)
-
   pub wire_named : (w : WireId) → IsSome (wire_at n w.0) → is_name (wire_name n w) ≡ true
-  wire_named w some = stands_named w.0 (wire_at n w.0) refl some
+  wire_named w some = grind (arith, nat_tests)
 
   plain_name : (w : WireId) → IsSome (wire_at n w.0) → IsPlain (wire_name n w)
   plain_name w some = IsPlain-name (wire_name n w) (wire_named w some)
@@ -47,18 +43,17 @@ module _ (n : Circuit) (circuit : IsCircuit n) (named : HasNames n) where
 abbrev IsChange : ℕ × ℕ → Type 0
 IsChange change = (change.0 < 2 ^ 64) × (change.1 < 2 ^ 64)
 
-three : (a b c d : Bool) → (a && b && c && d) ≡ true → (b ≡ true) × (c ≡ true) × (d ≡ true)
-three a b c d all = let front = and_parts (a && b && c) d all in let middle = and_parts (a && b) c front.0 in ((and_parts a b middle.0).1, middle.1, front.1)
-
 stimulus_low : (horizon width before : ℕ) (changes : List (ℕ × ℕ)) → horizon ≤ max_horizon → width ≤ 64 → is_stimulus horizon width before changes ≡ true → All IsChange changes
 unfolding is_stimulus fits_width
 stimulus_low horizon width before [] short narrow all = grind (arith, nat_tests, All-nil)
-stimulus_low horizon width before (change ∷ changes) short narrow all = grind (arith, three, nat_tests, All-cons, level_low, (stimulus_low horizon width change.0 changes short narrow))
+stimulus_low horizon width before (change ∷ changes) short narrow all = grind (arith, and_parts, nat_tests, All-cons, level_low, (stimulus_low horizon width change.0 changes short narrow))
+
+-- a number behind a byte
+pub number_behind : (b n : ℕ) → is_plain_byte b ≡ true → n < 2 ^ 64 → IsPlain (b ∷ decimal n)
+number_behind b n plain low = IsPlain-append (b ∷ []) (decimal n) (record { some = omega arith; plain = rw plain refl }) (IsPlain-decimal n low)
 
 pair_plain : (change : ℕ × ℕ) → IsChange change → IsPlain (pair_text change)
-pair_plain change low =
-    IsPlain-append (decimal change.0) (61 ∷ decimal change.1) (IsPlain-decimal change.0 low.0)
-    (IsPlain-append (61 ∷ []) (decimal change.1) (record { some = omega arith; plain = refl }) (IsPlain-decimal change.1 low.1))
+pair_plain change low = IsPlain-append (decimal change.0) (61 ∷ decimal change.1) (IsPlain-decimal change.0 low.0) (number_behind 61 change.1 refl low.1)
 
 module _ (n : Circuit) (circuit : IsCircuit n) (named : HasNames n) where
   set_leads : (name : List ℕ) (width : ℕ) → is_name name ≡ true → width ≤ 64 → (stimulus : Option (List (ℕ × ℕ)))

@@ -1,6 +1,5 @@
 -- The netlist of a text is a replay.
-use Rattle.mp_text.proofs.Names.{ℕ, Bool, true, false, cond, List, [], map, Result, Ok, Err, length, refl, ap, nat_le, filter_map, list_all, SingleEdit, EditError, Circuit, empty_circuit, after_single, go_on, replay, replay_singles, NotAscii, BadNumber, Line, TextCode, TextState, Fresh, Formatted, Open, ◌>>=◌, TextError, lines_of, is_allowed, words_of, Statement, Format, Start, statement_of, in_text, text_at, after_lines, after_line, after_statement, formatted, next_line, Standard, Large, netlist_format, text_limit, TextFormat, format_of, eqb-true, arith, nat_tests}
-use Rattle.std.specs.Prelude.{◌≡◌, ◌+◌, ◌∷◌, if◌then◌else◌, ◌==◌}
+use Rattle.mp_text.proofs.Names.{◌≡◌, ◌+◌, ◌∷◌, if◌then◌else◌, ◌==◌, ℕ, Bool, true, false, cond, List, [], map, Result, Ok, Err, refl, ap, filter_map, list_all, SingleEdit, EditError, Circuit, empty_circuit, after_single, go_on, replay, replay_singles, NotAscii, BadNumber, Line, TextCode, TextState, Fresh, Formatted, Open, ◌>>=◌, TextError, lines_of, is_allowed, words_of, Statement, Format, Start, statement_of, in_text, text_at, after_lines, after_line, after_statement, formatted, next_line, Standard, Large, netlist_format, TextFormat, format_of, eqb-true, arith, nat_tests}
 use Rattle.mp_netlist.specs.declared.format.Format.{Format as NetlistFormat}
 use Rattle.mp_records.specs.declared.edit.Edit.TheVariants.{Single}
 use Rattle.mp_text.specs.Laws.{format_by, horizon_of, edit_of, statements, IsReplayed, IsReplay}
@@ -67,9 +66,6 @@ opens k c (line ∷ lines) h =
     by_line k c Fresh (λ after. after_lines (k + 1) after lines) (λ s. Opens (format_by (s ∷ statements lines)) (s ∷ statements lines) c)
     (opens_fresh k c (statements lines) (λ after. after_lines (k + 1) after lines) (opens_behind (k + 1) c lines) (λ m. leads_on (k + 1) m c lines) (opens (k + 1) c lines)) (list_all is_allowed line) (words_of line) h
 
-of_length : (b : Bool) (lines : Result Circuit TextError) (c : Circuit) (e : TextError) → cond b lines (Err e) ≡ Ok c → lines ≡ Ok c
-of_length b lines c e h = grind (arith, nat_tests)
-
 -- a replay of edits of one thing
 singles_replayed : (n : Circuit) (edits : List SingleEdit) → replay n (map Single edits) ≡ replay_singles n edits
 singles_replayed n [] = refl
@@ -85,4 +81,4 @@ replayed lines c opened = grind (arith, nat_tests, singles_replayed)
 
 pub text_is_replay : IsReplay
 unfolding text_at
-text_is_replay text c h = replayed (lines_of text) c (opens 0 c (lines_of text) (of_length (nat_le (length text) (text_limit text)) (after_lines 0 Fresh (lines_of text)) c _ h))
+text_is_replay text c h = replayed (lines_of text) c (opens 0 c (lines_of text) (grind (arith, nat_tests, h)))

@@ -1,6 +1,5 @@
 -- The text of a netlist is read as the edits of its records.
-use Rattle.std.specs.Prelude.{◌≡◌, ◌+◌, ◌≤◌, ◌∷◌, ◌++◌}
-use Rattle.mp_text.proofs.Names.{ℕ, List, [], length, All, Ok, Bool, true, false, cond, decimal, refl, sym, ap, subst, ◌∙◌, arith, codes, nat_le, nat_tests, flat_map, append-nil, All-cons, All-nil, SingleEdit, Circuit, IsCircuit, empty_circuit, HasNames, lines_of, wire_edits, module_edits, stimulus_edits, bundle_edits, edits_by_name, IsReadAs, IsReadAsWritten, IsPlain, IsPlain-decimal, max_first_horizon, Start, Second, TextState, Fresh, Formatted, Open, after_statement, after_lines, next_line, written, written_line, format_line, horizon_line, wire_line, module_line, stimulus_line, bundle_line, statement_of, Standard, Large, horizon_limit, horizon_within, netlist_format, max_horizon_of, text_limit, TextFormat, Third}
+use Rattle.mp_text.proofs.Names.{◌^◌, ◌<◌, ◌≡◌, ◌+◌, ◌≤◌, ◌∷◌, ◌++◌, ℕ, List, [], length, All, Ok, Bool, true, false, cond, decimal, refl, sym, ap, subst, ◌∙◌, arith, codes, nat_le, nat_tests, flat_map, append-nil, All-cons, All-nil, SingleEdit, Circuit, IsCircuit, empty_circuit, HasNames, lines_of, wire_edits, module_edits, stimulus_edits, bundle_edits, edits_by_name, IsReadAs, IsReadAsWritten, IsPlain, IsPlain-decimal, max_first_horizon, Start, Second, TextState, Fresh, Formatted, Open, after_statement, after_lines, next_line, written, written_line, format_line, horizon_line, wire_line, module_line, stimulus_line, bundle_line, statement_of, Standard, Large, horizon_limit, horizon_within, netlist_format, max_horizon_of, text_limit, TextFormat, Third}
 use Rattle.mp_netlist.specs.declared.format.Format.{Format as NetlistFormat}
 use Rattle.mp_text.proofs.WrittenLineLemmas.{lines_of-written}
 use Rattle.mp_words.specs.Numbers.{spelled_number, number_from}
@@ -21,17 +20,14 @@ opens_formatted : (form : TextFormat) (h : ℕ) → 1 ≤ h → h ≤ max_horizo
 unfolding after_statement
 opens_formatted form h low high = grind (arith, nat_tests)
 
--- the line of a form
-format_begins : (digit : List ℕ) (form : TextFormat) (rest : List ℕ) → IsPlain digit → after_statement Fresh (statement_of (codes "format" ∷ digit ∷ [])) ≡ Ok (Formatted form)
-    → after_lines 0 Fresh (lines_of (written_line (codes "format") (digit ∷ []) ++ rest)) ≡ after_lines (0 + 1) (Formatted form) (lines_of rest)
+-- a line of two words in front of others
+line_begins : (k : ℕ) (state next : TextState) (first word rest : List ℕ) → IsPlain first → IsPlain word → after_statement state (statement_of (first ∷ word ∷ [])) ≡ Ok next
+    → after_lines k state (lines_of (written_line first (word ∷ []) ++ rest)) ≡ after_lines (k + 1) next (lines_of rest)
 unfolding after_lines
-format_begins digit form rest number formed =
-    let words = digit ∷ [] in
-    let plain : All IsPlain words = All-cons IsPlain digit [] number (All-nil IsPlain) in
-    let first : IsPlain (codes "format") = record { some = omega arith; plain = refl } in
-    let line = line_stated Fresh (codes "format") words first plain ∙ formed in
-    ap (after_lines 0 Fresh) (lines_of-written (codes "format") words rest first plain)
-    ∙ ap (next_line 0 (λ after. after_lines (0 + 1) after (lines_of rest))) line
+line_begins k state next first word rest plain other said =
+    let all : All IsPlain (word ∷ []) = All-cons IsPlain word [] other (All-nil IsPlain) in
+    ap (after_lines k state) (lines_of-written first (word ∷ []) rest plain all)
+    ∙ ap (next_line k (λ after. after_lines (k + 1) after (lines_of rest))) (line_stated state first (word ∷ []) plain all ∙ said)
 
 second_formed : after_statement Fresh (statement_of (codes "format" ∷ codes "2" ∷ [])) ≡ Ok (Formatted Second)
 unfolding after_statement statement_of spelled_number number_from
@@ -61,14 +57,10 @@ module _ (n : Circuit) (circuit : IsCircuit n) (named : HasNames n) where
   -- the line of the horizon begins an empty netlist
   horizon_begins : (k : ℕ) (state : TextState) (rest : List ℕ) → after_statement state (Start (Ok n.horizon)) ≡ Ok (Open (empty_circuit n.format n.horizon))
       → after_lines k state (lines_of (horizon_line n.horizon ++ rest)) ≡ after_lines (k + 1) (Open (empty_circuit n.format n.horizon)) (lines_of rest)
-  unfolding after_lines
   horizon_begins k state rest opens =
-      let words = decimal n.horizon ∷ [] in
-      let plain : All IsPlain words = All-cons IsPlain (decimal n.horizon) [] (IsPlain-decimal n.horizon (omega (arith, horizon_within n circuit))) (All-nil IsPlain) in
-      let first : IsPlain (codes "horizon") = record { some = omega arith; plain = refl } in
-      let line = line_stated state (codes "horizon") words first plain ∙ ap (after_statement state) (horizon_stated n.horizon (omega (arith, horizon_within n circuit))) ∙ opens in
-      ap (after_lines k state) (lines_of-written (codes "horizon") words rest first plain)
-      ∙ ap (next_line k (λ after. after_lines (k + 1) after (lines_of rest))) line
+      let low : n.horizon < 2 ^ 64 = omega (arith, horizon_within n circuit) in
+      line_begins k state _ (codes "horizon") (decimal n.horizon) rest (record { some = omega arith; plain = refl }) (IsPlain-decimal n.horizon low)
+      (ap (after_statement state) (horizon_stated n.horizon low) ∙ opens)
 
   -- some lines in front of the rest begin an empty netlist
   abbrev Begins : List ℕ → List ℕ → Type 0
@@ -79,7 +71,7 @@ module _ (n : Circuit) (circuit : IsCircuit n) (named : HasNames n) where
       → n.format ≡ netlist_format form → n.horizon ≤ max_horizon_of form → Begins (written_line (codes "format") (digit ∷ [])) rest
   begins_formed digit rest form plain formed is high = (
     0 + 1 + 1,
-    format_begins digit form (horizon_line n.horizon ++ rest) plain formed
+    line_begins 0 Fresh (Formatted form) (codes "format") digit (horizon_line n.horizon ++ rest) (record { some = omega arith; plain = refl }) plain formed
         ∙ horizon_begins (0 + 1) (Formatted form) rest (opens_formatted form n.horizon circuit.horizon_low high ∙ ap (λ f. Ok (Open (empty_circuit f n.horizon))) (sym is)),
   )
 

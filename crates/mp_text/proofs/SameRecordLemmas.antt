@@ -1,7 +1,5 @@
 -- The edits of a netlist's records by name lead to a netlist with the same records.
-use Rattle.std.specs.Prelude.{◌≡◌, ◌∷◌, ◌++◌}
-use Rattle.mp_text.proofs.Names.{ℕ, suc, List, [], get_or, Option, Some, None, Ok, refl, sym, ap, ◌∙◌, flat_map, append-nil, WireId, WireRecord, ModuleRecord, Input, InputName, Circuit, IsCircuit, empty_circuit, HasNames, replay_singles, name_in, wire_name, SameRecords, standing, input_by_name, module_edits, stimulus_edits, bundle_edits, edits_by_name, arith, nat_tests}
-use Rattle.mp_text.proofs.SlotLemmas.{flat_map_agree, map_agree}
+use Rattle.mp_text.proofs.Names.{AddModule, edit_for, map, option_map, ◌≡◌, ◌∷◌, ◌++◌, ℕ, suc, List, [], get_or, Option, Some, None, Ok, refl, sym, ap, ◌∙◌, flat_map, append-nil, WireId, WireRecord, ModuleRecord, Circuit, IsCircuit, empty_circuit, HasNames, replay_singles, name_in, wire_name, SameRecords, standing, module_edits, stimulus_edits, bundle_edits, edits_by_name, arith, nat_tests}
 use Rattle.mp_text.proofs.WireStageLemmas.{bare, made, wires_reached}
 use Rattle.mp_text.proofs.ModuleStageLemmas.{modules_reached}
 use Rattle.mp_text.proofs.StimulusStageLemmas.{kept, stimuli_reached}
@@ -19,12 +17,14 @@ names_kept slots v = refl
 
 -- modules have the same names of wires in netlists whose wires have the same names
 module _ (c d : Circuit) (names : (w : WireId) → wire_name c w ≡ wire_name d w) where
-  input_agrees : (i : Input) → input_by_name c i ≡ input_by_name d i
-  input_agrees i = let P : List ℕ → InputName = λ name. record { wire = name; delay = i.delay } in ap P (names i.wire)
-
-  module_agrees : (slot : Option ModuleRecord) → module_edits c slot ≡ module_edits d slot
-  module_agrees None = refl
-  module_agrees (Some r) = grind (arith, nat_tests, map_agree, input_agrees)
+  modules_agree : (slots : List (Option ModuleRecord)) → flat_map (module_edits c) slots ≡ flat_map (module_edits d) slots
+  modules_agree slots = λ j. flat_map (edit_for (λ r. AddModule (record {
+    name = r.name;
+    kind = r.kind;
+    params = r.params;
+    inputs = map (λ i. record { wire = names i.wire j; delay = i.delay }) r.inputs;
+    outputs = map (λ o. record { wire = option_map (λ w. names w j) o.wire; delay = o.delay }) r.outputs;
+  }))) slots
 
 -- the edits of the records lead to a netlist with the same records
 pub record IsMadeAgain (n : Circuit) : Type 0 where
@@ -36,7 +36,7 @@ module _ (n : Circuit) (circuit : IsCircuit n) (named : HasNames n) (modules : L
     (same : flat_map (module_edits (made n (flat_map bare n.wires) [] [])) modules ≡ flat_map (module_edits n) n.modules) where
   -- a netlist of the same wires, modules and bundles by name
   same_records : (c : Circuit) → AtBundles n circuit named modules n.bundles [] c → SameRecords n c
-  same_records c at = grind (arith, nat_tests, standing-kept, flat_map_agree, module_agrees, names_kept)
+  same_records c at = grind (arith, nat_tests, standing-kept, modules_agree, names_kept)
 
 pub made_again : (n : Circuit) → IsCircuit n → HasNames n → IsMadeAgain n
 made_again n circuit named =

@@ -1,6 +1,5 @@
 -- The lines of a section, slot by slot.
-use Rattle.std.specs.Prelude.{◌≡◌, ◌+◌, ◌<◌, ◌≤◌, ◌++◌}
-use Rattle.mp_text.proofs.Names.{left_none, left_as, left_then, left_whole, ℕ, List, [], drop, None, refl, flat_map, at_drop_more, at_drop_all, Circuit, Wires, Modules, Stimuli, Bundles, slot_count, slot_line, section_text, wire_line, module_line, stimulus_line, bundle_line, Section, arith, nat_tests}
+use Rattle.mp_text.proofs.Names.{◌≡◌, ◌+◌, ◌<◌, ◌≤◌, ◌++◌, left_none, left_as, left_then, left_whole, ℕ, List, [], drop, None, refl, flat_map, at_drop_more, at_drop_all, Circuit, Wires, Modules, Stimuli, Bundles, slot_count, slot_line, section_text, wire_line, module_line, stimulus_line, bundle_line, Section, arith, nat_tests}
 
 -- the lines of the slots with this number and those above
 unfoldable pub lines_from : Circuit → Section → ℕ → List ℕ

@@ -1,6 +1,5 @@
 -- How long a text may be is told by its front.
-use Rattle.mp_text.proofs.Names.{ℕ, Bool, cond, List, [], Some, take, length, refl, ap, arith, lines_of, max_text, max_short_text, number_word, first_words, is_three, states_third, text_limit, ne_eqb, words_of, min, take_min, nat_tests, take-take, eq-eqb}
-use Rattle.std.specs.Prelude.{◌≡◌, ◌≢◌, ◌+◌, ◌<◌, ◌≤◌, ◌∷◌, ◌&&◌, codes, slice_get, ◌==◌}
+use Rattle.mp_text.proofs.Names.{◌≡◌, ◌≢◌, ◌+◌, ◌<◌, ◌≤◌, ◌∷◌, ◌&&◌, ◌==◌, ℕ, Bool, cond, List, [], Some, take, length, refl, ap, arith, lines_of, max_text, max_short_text, number_word, first_words, is_three, states_third, text_limit, ne_eqb, words_of, nat_tests, take-take, eq-eqb, codes, slice_get}
 use Rattle.std.specs.Str.{bytes_eq}
 
 limits : (third : Bool) → (max_short_text ≤ cond third max_text max_short_text) × (cond third max_text max_short_text ≤ max_text)
@@ -16,9 +15,6 @@ pub limit_of_front : (k : ℕ) (text : List ℕ) → max_short_text < k → text
 unfolding text_limit
 limit_of_front k text long =
     ap (λ front. cond (states_third (first_words (lines_of front))) max_text max_short_text) (take-take (max_short_text + 1) k text (omega (arith, long)))
-
-pub front_taken : (text : List ℕ) → take (min (max_short_text + 1) (length text)) text ≡ take (max_short_text + 1) text
-front_taken text = take_min (max_short_text + 1) text
 
 -- ---- the first line that has words
 

@@ -1,6 +1,5 @@
 -- Slots without the empty ones, and where a name is found among them.
-use Rattle.std.specs.Prelude.{◌≡◌, ◌<◌, ◌≤◌, ◌∷◌, ◌++◌}
-use Rattle.mp_text.proofs.Names.{ℕ, suc, false, List, [], length, get_or, take, drop, map, All, Option, Some, None, is_some, refl, sym, ap, subst, ◌∙◌, arith, flat_map, bytes_eq, append-nil, get_or_at, get_or_append_left, set-get_or, set_split, flat_map-append, All-cons, All-nil, All-head, All-tail, All-append, All-weaker, All-from_get_or, false_from_ne_true, same_name, equal_name, slot_within, slot_at, has_name, number_named, nat_lt, nat_tests, first_none, position-append, rules}
+use Rattle.mp_text.proofs.Names.{◌≡◌, ◌<◌, ◌≤◌, ◌∷◌, ◌++◌, ℕ, suc, false, List, [], length, get_or, take, drop, All, Option, Some, None, is_some, refl, sym, ap, subst, ◌∙◌, arith, flat_map, bytes_eq, append-nil, get_or_at, get_or_append_left, set-get_or, set_split, flat_map-append, All-cons, All-nil, All-head, All-tail, All-append, All-weaker, All-from_get_or, false_from_ne_true, same_name, equal_name, slot_within, slot_at, has_name, number_named, nat_lt, nat_tests, first_none, position-append}
 use Rattle.std.proofs.lemmas.Iterator.Adapters.{position_from-zero}
 
 -- a thing that stands, changed, and nothing where none does
@@ -22,13 +21,6 @@ All-from_flat_map P f [] all = All-nil (λ x. All P (f x))
 All-from_flat_map P f (x ∷ xs) all =
     let parts = All-parts P (f x) (flat_map f xs) all in
     All-cons (λ x. All P (f x)) x xs parts.0 (All-from_flat_map P f xs parts.1)
-
--- lists end to end that are the same each are the same
-pub flat_map_agree : {X Y : Type 0} (f g : X → List Y) → ((x : X) → f x ≡ g x) → (xs : List X) → flat_map f xs ≡ flat_map g xs
-flat_map_agree f g same xs = λ i. flat_map (λ x. same x i) xs
-
-pub map_agree : {X Y : Type 0} (f g : X → Y) → ((x : X) → f x ≡ g x) → (xs : List X) → map f xs ≡ map g xs
-map_agree f g same xs = λ i. map (λ x. same x i) xs
 
 -- a place in a list parts it
 pub parted : {R : Type 0} (slots : List (Option R)) (w : ℕ) (r : R) → slot_at slots w ≡ Some r → slots ≡ take w slots ++ Some r ∷ drop (suc w) slots
@@ -74,9 +66,6 @@ module _ {R : Type 0} (name_of : R → List ℕ) where
   named_behind front back thing q all is =
       sym (position_from-zero (has_name name_of q) (front ++ Some thing ∷ back)) ∙ position-append (has_name name_of q) (Some thing) back (equal_name q (name_of thing) (sym is)) front all
 
-  pub IsAt-behind : (front back : List (Option R)) (thing : R) (q : List ℕ) → All (Unnamed q) front → name_of thing ≡ q → IsAt (front ++ Some thing ∷ back) q thing
-  IsAt-behind front back thing q all is = record { place = length front; named = named_behind front back thing q all is; at = get_or_at front (Some thing) back None (length front) refl }
-
   -- other things have other names
   abbrev pub AreDistinct : List (Option R) → Type 0
   AreDistinct slots = (w v : ℕ) (r s : R) → slot_at slots w ≡ Some r → slot_at slots v ≡ Some s → name_of r ≡ name_of s → w ≡ v
@@ -94,11 +83,9 @@ module _ {R : Type 0} (name_of : R → List ℕ) where
           omega arith)
 
   module _ (change : R → R) (kept : (r : R) → name_of (change r) ≡ name_of r) where
-    compact_unnamed_slot : (q : List ℕ) (slot : Option R) → Unnamed q slot → All (Unnamed q) (compact change slot)
-    compact_unnamed_slot q slot none = grind (arith, nat_tests, All-nil, All-cons)
-
     pub compact_unnamed : (q : List ℕ) (slots : List (Option R)) → All (Unnamed q) slots → All (Unnamed q) (flat_map (compact change) slots)
-    compact_unnamed q slots all = search (rules, arith, nat_tests, All-flat_map, All-weaker, compact_unnamed_slot)
+    compact_unnamed q slots all =
+        All-flat_map (Unnamed q) (compact change) slots (All-weaker (Unnamed q) (λ slot. All (Unnamed q) (compact change slot)) (λ slot none. grind (arith, nat_tests, All-nil, All-cons)) slots all)
 
     -- each name finds its thing, changed, among those that stand
     pub IsAt-compact : (slots : List (Option R)) → AreDistinct slots → (w : ℕ) (r : R) → slot_at slots w ≡ Some r → IsAt (flat_map (compact change) slots) (name_of r) (change r)
@@ -106,6 +93,8 @@ module _ {R : Type 0} (name_of : R → List ℕ) where
         let front = take w slots in
         let back = drop (suc w) slots in
         let same = parted slots w r at in
+        let before = flat_map (compact change) front in
+        let behind = flat_map (compact change) back in
         let all = compact_unnamed (name_of r) front (front_unnamed slots front back r distinct same) in
         subst (λ xs. IsAt xs (name_of r) (change r)) (sym (ap (flat_map (compact change)) same ∙ flat_map-append (compact change) front (Some r ∷ back)))
-        (IsAt-behind (flat_map (compact change) front) (flat_map (compact change) back) (change r) (name_of r) all (kept r))
+        (record { place = length before; named = named_behind before behind (change r) (name_of r) all (kept r); at = get_or_at before (Some (change r)) behind None (length before) refl })

@@ -1,6 +1,5 @@
 -- Edits, slot by slot, that no check refuses.
-use Rattle.std.specs.Prelude.{◌≡◌, ◌≤◌, ◌∷◌, ◌++◌}
-use Rattle.mp_text.proofs.Names.{ℕ, Bool, true, false, List, [], append_assoc, All, Option, None, Some, Ok, length, refl, sym, ap, subst, ◌∙◌, arith, flat_map, flat_map-append, append-nil, length_push, bytes_eq, All-cons, All-nil, All-head, All-weaker, SingleEdit, AddModule, AddBundle, EditError, Circuit, go_on, after_single, unless, refusal, edited, first_failing, replay_singles, edit_for, nat_tests}
+use Rattle.mp_text.proofs.Names.{◌≡◌, ◌≤◌, ◌∷◌, ◌++◌, ℕ, Bool, true, false, List, [], append_assoc, All, Option, None, Some, Ok, length, refl, sym, ap, subst, ◌∙◌, arith, flat_map, flat_map-append, append-nil, length_push, bytes_eq, All-cons, All-nil, All-head, All-weaker, SingleEdit, AddModule, AddBundle, EditError, Circuit, go_on, after_single, unless, refusal, edited, first_failing, replay_singles, edit_for, nat_tests}
 use Rattle.mp_text.proofs.SlotLemmas.{All-flat_map, All-from_flat_map, Unnamed}
 
 -- each check passes
@@ -83,14 +82,8 @@ module _ {R : Type 0} (slots : List (Option R)) (add again : R → SingleEdit) (
 
   -- things that the edits add again have no name that those in front don't have
   module _ (name_of : R → List ℕ) (q : List ℕ) (adds : (r : R) → bytes_eq q (name_of r) ≡ false → AddsNone q (add r)) (named : (r : R) → AddsNone q (again r) → bytes_eq q (name_of r) ≡ false) where
-    front_adds : (slot : Option R) → Unnamed name_of q slot → All (AddsNone q) (edit_for add slot)
-    front_adds slot none = grind (arith, nat_tests, All-nil, All-cons)
-
-    slot_adds : (slot : Option R) → All (AddsNone q) (edit_for again slot) → Unnamed name_of q slot
-    slot_adds slot none = grind (arith, nat_tests, All-head)
-
     pub unnamed_again : (front things : List (Option R)) → flat_map (edit_for again) things ≡ flat_map (edit_for add) front → All (Unnamed name_of q) front → All (Unnamed name_of q) things
     unnamed_again front things same old =
-        let before = All-flat_map (AddsNone q) (edit_for add) front (All-weaker (Unnamed name_of q) (λ slot. All (AddsNone q) (edit_for add slot)) front_adds front old) in
-        All-weaker (λ slot. All (AddsNone q) (edit_for again slot)) (Unnamed name_of q) slot_adds things
+        let before = All-flat_map (AddsNone q) (edit_for add) front (All-weaker (Unnamed name_of q) (λ slot. All (AddsNone q) (edit_for add slot)) (λ slot none. grind (arith, nat_tests, All-nil, All-cons)) front old) in
+        All-weaker (λ slot. All (AddsNone q) (edit_for again slot)) (Unnamed name_of q) (λ slot none. grind (arith, nat_tests, All-head)) things
         (All-from_flat_map (AddsNone q) (edit_for again) things (subst (All (AddsNone q)) (sym same) before))

@@ -1,13 +1,12 @@
 -- Statements that are written are read again.
-use Rattle.std.specs.Prelude.{◌≡◌, ◌^◌, ◌<◌, ◌==◌, ◌∷◌, ◌++◌}
-use Rattle.mp_text.proofs.Names.{ℕ, true, false, List, [], length, map, All, Ok, decimal, refl, ap, ◌∙◌, arith, codes, list_all, nat_tests, map-id, All-map, All-weaker, Kind, word_of, InputName, OutputName, AddWire, AddModule, AddBundle, SetStimulus, number_word, change_word, input_word, output_word, pair_text, and_parts, number_back, each_back, is_name, is_mark, Start, Change, statement_of, before_first-append, after_first-append, NewModule, NewBundle}
+use Rattle.mp_text.proofs.Names.{length-map, ◌≡◌, ◌^◌, ◌<◌, ◌==◌, ◌∷◌, ◌++◌, ℕ, true, false, List, [], length, map, All, Ok, decimal, refl, ap, ◌∙◌, arith, codes, list_all, nat_tests, map-id, All-map, All-weaker, Kind, word_of, InputName, OutputName, AddWire, AddModule, AddBundle, SetStimulus, number_word, change_word, input_word, output_word, pair_text, and_parts, number_back, each_back, is_name, is_mark, Start, Change, statement_of, before_first-append, after_first-append, NewModule, NewBundle}
 use Rattle.std.specs.Char.{is_ascii_digit}
 use Rattle.mp_modules.proofs.WordLemmas.{by_word}
 use Rattle.mp_words.proofs.DecimalLemmas.{decimal_digits}
 
 pub horizon_stated : (h : ℕ) → h < 2 ^ 64 → statement_of (codes "horizon" ∷ decimal h ∷ []) ≡ Start (Ok h)
 unfolding statement_of
-horizon_stated h low = let number = number_back h low in rw number refl
+horizon_stated h low = rw (number_back h low) refl
 
 pub wire_stated : (name : List ℕ) (width level : ℕ) → width < 2 ^ 64 → level < 2 ^ 64
     → statement_of (codes "wire" ∷ name ∷ decimal width ∷ decimal level ∷ []) ≡ Change (Ok (AddWire name width level))
@@ -17,15 +16,12 @@ wire_stated name width level narrow low = grind (arith, nat_tests, number_back)
 pub bundle_stated : (new : NewBundle) → new.setup < 2 ^ 64
     → statement_of (codes "bundle" ∷ new.name ∷ new.request ∷ new.acknowledge ∷ new.payload ∷ decimal new.setup ∷ []) ≡ Change (Ok (AddBundle new))
 unfolding statement_of
-bundle_stated new low = let s = number_back new.setup low in rw s refl
+bundle_stated new low = rw (number_back new.setup low) refl
 
 pub stimulus_stated : (name : List ℕ) (changes : List (ℕ × ℕ)) → All (λ change. change_word (pair_text change) ≡ Ok change) changes
     → statement_of (codes "stim" ∷ name ∷ map pair_text changes) ≡ Change (Ok (SetStimulus name changes))
 unfolding statement_of
-stimulus_stated name changes all =
-    let read = each_back change_word pair_text (λ change. change) changes all in
-    let same = map-id changes in
-    rw read (rw same refl)
+stimulus_stated name changes all = rw (each_back change_word pair_text (λ change. change) changes all) (rw (map-id changes) refl)
 
 -- a word that begins with a byte other than the mark
 other_byte : (mark b : ℕ) (bs : List ℕ) → (b == mark) ≡ false → is_mark mark (b ∷ bs) ≡ false
@@ -35,17 +31,13 @@ digits_no_colon : (ds : List ℕ) → list_all is_ascii_digit ds ≡ true → is
 digits_no_colon [] all = refl
 digits_no_colon (b ∷ bs) all = grind (arith, nat_tests, other_byte, and_parts)
 
-pub number_no_colon : (n : ℕ) → n < 2 ^ 64 → is_mark 58 (decimal n) ≡ false
-number_no_colon n fits = digits_no_colon (decimal n) (decimal_digits n fits)
-
 -- a word that begins with a name is not `>`
 pub name_no_greater : (name rest : List ℕ) → is_name name ≡ true → is_mark 62 (name ++ rest) ≡ false
 unfolding is_name
 name_no_greater name rest valid = grind (arith, nat_tests, and_parts, other_byte)
 
 some_words : {A : Type 0} (write : A → List ℕ) (xs : List A) → 0 < length xs → (length (map write xs) == 0) ≡ false
-some_words write [] some = grind (arith, nat_tests)
-some_words write (x ∷ xs) some = grind (arith, nat_tests)
+some_words write xs some = grind (arith, nat_tests, length-map)
 
 module _ {I O : Type 0} (name : List ℕ) (kind : Kind) (params : List ℕ) (inputs : List I) (outputs : List O)
     (input : I → List ℕ) (hear : I → InputName) (output : O → List ℕ) (see : O → OutputName)
@@ -60,16 +52,13 @@ module _ {I O : Type 0} (name : List ℕ) (kind : Kind) (params : List ℕ) (inp
   pub module_stated : statement_of (codes "module" ∷ name ∷ word_of kind ∷ (map decimal params ++ (codes ":" ∷ back))) ≡ Change (Ok (AddModule new))
   unfolding statement_of
   module_stated =
-      let no_colon = All-map (λ w. is_mark 58 w ≡ false) decimal params (All-weaker (λ p. p < 2 ^ 64) (λ p. is_mark 58 (decimal p) ≡ false) number_no_colon params low) in
+      let no_colon = All-map (λ w. is_mark 58 w ≡ false) decimal params (All-weaker (λ p. p < 2 ^ 64) (λ p. is_mark 58 (decimal p) ≡ false) (λ p fits. digits_no_colon (decimal p) (decimal_digits p fits)) params low) in
       let no_greater = All-map (λ w. is_mark 62 w ≡ false) input inputs unmarked in
       let front = before_first-append (is_mark 58) (codes ":") back refl (map decimal params) no_colon in
       let ports = after_first-append (is_mark 58) (codes ":") back refl (map decimal params) no_colon in
       let ins = before_first-append (is_mark 62) (codes ">") (map output outputs) refl (map input inputs) no_greater in
       let outs = after_first-append (is_mark 62) (codes ">") (map output outputs) refl (map input inputs) no_greater in
-      let i = some_words input inputs some_inputs in
-      let o = some_words output outputs some_outputs in
-      let k = by_word kind in
       let numbers = each_back number_word decimal (λ p. p) params (All-weaker (λ p. p < 2 ^ 64) (λ p. number_word (decimal p) ≡ Ok p) number_back params low) ∙ ap Ok (map-id params) in
       let hears = each_back input_word input hear inputs heard in
       let read = each_back output_word output see outputs reads in
-      rw (front, ports) (rw (ins, outs) (rw (i, o) (rw k (rw numbers (rw (hears, read) refl)))))
+      rw (front, ports) (rw (ins, outs) (rw (some_words input inputs some_inputs, some_words output outputs some_outputs) (rw (by_word kind) (rw numbers (rw (hears, read) refl)))))

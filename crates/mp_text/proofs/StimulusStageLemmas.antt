@@ -1,6 +1,5 @@
 -- The edits of what is set on a netlist's wires, once its modules are added, are not refused.
-use Rattle.std.specs.Prelude.{◌≡◌, ◌<◌, ◌∷◌, ◌++◌}
-use Rattle.mp_text.proofs.Names.{ℕ, true, not, List, [], append_assoc, length, get_or, All, Option, Some, None, Ok, option_map, is_some, unwrap_or, refl, sym, ap, subst, ◌∙◌, IsTrue, IfSome, slice_set, flat_map, option_and_then, append-nil, get_or_at, set_at, flat_map-append, WireId, WireRecord, ModuleRecord, SetStimulus, output_in, number_named, Circuit, IsCircuit, Drives, wire_at, width_of, stimulus_in, stimulus_at, HasNames, driver, is_port, name_in, wire_name, module_edits, set_edits, stimulus_edits, is_stimulus, refusal, edited, after_single, stands, wire_id, width_named, stimulus_checks, with_stimulus, without_stimulus, arith, nat_tests}
+use Rattle.mp_text.proofs.Names.{◌≡◌, ◌<◌, ◌∷◌, ◌++◌, ℕ, true, not, List, [], append_assoc, length, get_or, All, Option, Some, None, Ok, option_map, is_some, unwrap_or, refl, sym, ap, subst, ◌∙◌, IsTrue, IfSome, slice_set, flat_map, option_and_then, append-nil, get_or_at, set_at, flat_map-append, WireId, WireRecord, ModuleRecord, SetStimulus, output_in, number_named, Circuit, IsCircuit, Drives, wire_at, width_of, stimulus_in, stimulus_at, HasNames, driver, is_port, name_in, wire_name, module_edits, set_edits, stimulus_edits, is_stimulus, refusal, edited, after_single, stands, wire_id, width_named, stimulus_checks, with_stimulus, without_stimulus, arith, nat_tests}
 use Rattle.mp_text.proofs.SlotLemmas.{compact, compact-none, length-compact, named_behind, front_unnamed, compact_unnamed}
 use Rattle.mp_text.proofs.StageLemmas.{none_failing, is_done, Reaches, Reaches-none, Reaches-one, Steps, stage}
 use Rattle.mp_text.proofs.OutputLemmas.{DrivesNone, undriven_by_name, drives_none, is_no_port}

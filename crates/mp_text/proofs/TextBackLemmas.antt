@@ -1,6 +1,5 @@
 -- Lines that are written lead from netlist to netlist as their edits do.
-use Rattle.std.specs.Prelude.{◌≡◌, ◌∷◌, ◌++◌}
-use Rattle.mp_text.proofs.Names.{ℕ, List, [], append_assoc, suc, All, Option, Some, None, Ok, refl, sym, ap, subst, flat_map, slot_at, SingleEdit, Circuit, replay_singles, TextState, Open, Change, statement_of, spaced, written_line, IsPlain, lines_of, after_statement, after_line, after_lines, arith, nat_tests}
+use Rattle.mp_text.proofs.Names.{◌≡◌, ◌∷◌, ◌++◌, ℕ, List, [], append_assoc, suc, All, Option, Some, None, Ok, refl, sym, ap, subst, flat_map, slot_at, SingleEdit, Circuit, replay_singles, TextState, Open, Change, statement_of, spaced, written_line, IsPlain, lines_of, after_statement, after_line, after_lines, arith, nat_tests}
 use Rattle.mp_text.proofs.WrittenLineLemmas.{lines_of-written, line_words-spaced}
 
 -- the lines of the bytes lead where the edits lead

@@ -1,6 +1,5 @@
 -- Facts about texts as a whole.
-use Rattle.std.specs.Prelude.{◌≡◌, ◌+◌, ◌<◌, ◌≤◌, ◌∷◌}
-use Rattle.mp_text.proofs.Names.{rest_falls, ℕ, List, [], length, Result, Ok, Err, IfErr, refl, sym, ap, subst, arith, before_first, after_first, nat_tests, Circuit, TextError, TextCode, TooLong, TextState, Fresh, Formatted, Open, lines_of-cons, is_line_feed, lines_of, text_at, after_lines, after_line, next_line, finished, last_line, GivesText, IsReachedIn, text_limit}
+use Rattle.mp_text.proofs.Names.{◌≡◌, ◌+◌, ◌<◌, ◌≤◌, ◌∷◌, rest_falls, ℕ, List, [], length, Result, Ok, Err, IfErr, refl, sym, ap, subst, arith, before_first, after_first, nat_tests, Circuit, TextError, TextCode, TooLong, TextState, Fresh, Formatted, Open, lines_of-cons, is_line_feed, lines_of, text_at, after_lines, after_line, next_line, finished, last_line, GivesText, IsReachedIn, text_limit}
 
 -- a text that is not too long is its lines
 pub text_within : (text : List ℕ) → length text ≤ text_limit text → text_at text ≡ after_lines 0 Fresh (lines_of text)
@@ -42,15 +41,8 @@ pub line_reached : (n : ℕ) (state : TextState) (rest text : List ℕ) → 0 < 
     → (read : Result Circuit TextError) → after_lines n state (lines_of rest) ≡ read → n + 1 ≤ last_line text read
 unfolding after_lines
 line_reached n state rest text some counted read same =
-    let lines = lines_of (after_first is_line_feed rest) in
-    let line = before_first is_line_feed rest in
-    let cons = lines_of-cons rest some in
-    let low : n + 1 ≤ end_behind n (line ∷ lines) (after_lines n state (line ∷ lines)) = end_next n line lines (end_low (n + 1) lines) (after_line state line) in
-    by read (subst (λ ls. n + 1 ≤ end_behind n ls (after_lines n state ls)) (sym cons) low) same
-  where
-    by : (r : Result Circuit TextError) → n + 1 ≤ end_behind n (lines_of rest) (after_lines n state (lines_of rest)) → after_lines n state (lines_of rest) ≡ r → n + 1 ≤ last_line text r
-    by (Ok net) low same = let at = subst (λ r. n + 1 ≤ end_behind n (lines_of rest) r) same low in omega (arith, at, counted)
-    by (Err error) low same = subst (λ r. n + 1 ≤ end_behind n (lines_of rest) r) same low
+    let low = end_next n (before_first is_line_feed rest) (lines_of (after_first is_line_feed rest)) (end_low (n + 1) (lines_of (after_first is_line_feed rest))) (after_line state (before_first is_line_feed rest)) in
+    grind (arith, nat_tests, (lines_of-cons rest some), low)
 
 -- a line is taken off the count
 pub lines_counted : (rest text : List ℕ) (n : ℕ) → 0 < length rest → n + length (lines_of rest) ≡ length (lines_of text)

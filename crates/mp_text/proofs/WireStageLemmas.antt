@@ -1,6 +1,5 @@
 -- The edits of a netlist's wires, on an empty netlist, are not refused.
-use Rattle.std.specs.Prelude.{◌≡◌, ◌<◌, ◌∷◌, ◌++◌}
-use Rattle.mp_text.proofs.Names.{ℕ, suc, true, List, [], length, get_or, Option, Some, None, is_none, is_some, unwrap_or, Ok, refl, sym, ap, subst, ◌∙◌, arith, length-append, nat_le, IsSome, flat_map, option_and_then, lt-ltb, nat_tests, get_or_at, flat_map-append, WireId, WireRecord, ModuleRecord, BundleRecord, AddWire, Circuit, IsCircuit, wire_at, width_of, stimulus_in, HasNames, name_in, wire_name, wire_edits, and_from, refusal, edited, after_single, stands, wire_id, width_named, wire_checks, without_stimulus, wire_limit}
+use Rattle.mp_text.proofs.Names.{◌≡◌, ◌<◌, ◌∷◌, ◌++◌, ℕ, suc, true, List, [], length, get_or, Option, Some, None, is_none, is_some, unwrap_or, Ok, refl, sym, ap, subst, ◌∙◌, arith, length-append, IsSome, flat_map, option_and_then, nat_tests, get_or_at, flat_map-append, WireId, WireRecord, ModuleRecord, BundleRecord, AddWire, Circuit, IsCircuit, wire_at, width_of, stimulus_in, HasNames, name_in, wire_name, wire_edits, and_from, refusal, edited, after_single, stands, wire_id, width_named, wire_checks, without_stimulus, wire_limit}
 use Rattle.mp_text.proofs.SlotLemmas.{compact, compact-none, compact_few, IsAt, IsAt-compact, named_nowhere, front_unnamed, compact_unnamed}
 use Rattle.mp_text.proofs.StageLemmas.{none_failing, is_done, Reaches, Reaches-none, Reaches-one, Steps, stage}
 
@@ -68,12 +67,8 @@ module _ (n : Circuit) (circuit : IsCircuit n) (named : HasNames n) where
       let ok = circuit.wires_ok (length front) r at in
       let free = named_nowhere name_of r.name (flat_map bare front) (compact_unnamed name_of without_stimulus (λ s. refl) r.name front (front_unnamed name_of n.wires front back r named.one_wire same)) in
       let few : length front < wire_limit n.format = omega (arith, ap length same, length-append front (Some r ∷ back), circuit.wires_few) in
-      let low = ok.wide in
-      let high = ok.narrow in
-      let one : nat_le 1 r.width ≡ true = grind (arith, nat_tests) in
-      let most : nat_le r.width 64 ≡ true = grind (arith, nat_tests) in
-      let room = lt-ltb (length (flat_map bare front)) (wire_limit n.format) (omega (arith, compact_few without_stimulus front)) in
-      let none = none_failing (wire_checks (wired front) r.name r.width r.initial) (named.wires (length front) r at, (ap is_none free, (and_from (nat_le 1 r.width) (nat_le r.width 64) one most, (ok.level, (room, tt))))) in
+      let none = none_failing (wire_checks (wired front) r.name r.width r.initial)
+      (grind (arith, nat_tests, and_from, (named.wires (length front) r at), (ap is_none free), ok.wide, ok.narrow, ok.level, (compact_few without_stimulus front))) in
       is_done (wired front) (AddWire r.name r.width r.initial) none
       ∙ ap (λ wires. Ok (made n wires [] [])) (sym (flat_map-append bare front (Some r ∷ [])))
 

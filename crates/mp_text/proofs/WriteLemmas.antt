@@ -1,6 +1,5 @@
 -- The lines of a netlist's text in pieces.
-use Rattle.std.specs.Prelude.{◌≡◌, ◌∷◌, ◌++◌}
-use Rattle.mp_text.proofs.Names.{ℕ, List, [], Option, Some, append_assoc, codes, flat_map, word_of, ModuleRecord, flat_map-map, changes_text, Circuit, Wires, Modules, Stimuli, Bundles, section_text, stimulus_words, input_text, output_text, format_line, module_line, written, arith, nat_tests}
+use Rattle.mp_text.proofs.Names.{◌≡◌, ◌∷◌, ◌++◌, ℕ, List, [], Option, Some, append_assoc, codes, flat_map, word_of, ModuleRecord, flat_map-map, changes_text, Circuit, Wires, Modules, Stimuli, Bundles, section_text, stimulus_words, input_text, output_text, format_line, module_line, written, arith, nat_tests}
 use Rattle.std.specs.Fmt.{decimal}
 use Rattle.std.proofs.lemmas.Grind.{flat_map-append}
 

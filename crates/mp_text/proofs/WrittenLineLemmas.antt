@@ -1,6 +1,5 @@
 -- A line that is written is read as its words.
-use Rattle.std.specs.Prelude.{◌≡◌, ◌+◌, ◌<◌, ◌==◌, ◌∷◌, ◌++◌}
-use Rattle.mp_text.proofs.Names.{ℕ, true, false, suc, List, [], append_assoc, length, filter, All, Ok, refl, sym, ap, ◌∙◌, arith, slice_split, position_or_len, list_all, nat_tests, append-nil, All-head, All-tail, All-cons, All-nil, list_all-append, spaced, written_line, IsPlain, is_plain_byte, plain_allowed, plain_no_gap, plain_no_hash, All-passing, list_all-passing, lines_of, is_line_feed, is_allowed, line_words, words_of, statement_part, is_word, is_gap}
+use Rattle.mp_text.proofs.Names.{◌≡◌, ◌+◌, ◌<◌, ◌==◌, ◌∷◌, ◌++◌, ℕ, true, false, suc, List, [], append_assoc, length, filter, All, Ok, refl, ap, arith, position_or_len, list_all, nat_tests, append-nil, All-head, All-tail, All-cons, All-nil, list_all-append, spaced, written_line, IsPlain, is_plain_byte, plain_allowed, plain_no_gap, plain_no_hash, All-passing, list_all-passing, lines_of, is_line_feed, is_allowed, line_words, words_of, statement_part, is_word, is_gap}
 use Rattle.std.proofs.lemmas.List.Splits.{slice_split_at, slice_split_none}
 use Rattle.mp_words.proofs.LineLemmas.{lines_of-line as lines_of-ended}
 
@@ -13,9 +12,8 @@ no_gap w plain = All-passing is_plain_byte (λ b. is_gap b ≡ false) plain_no_g
 part-append : (w rest : List ℕ) → All (λ b. (b == 35) ≡ false) w → statement_part (w ++ rest) ≡ w ++ statement_part rest
 part-append [] rest all = refl
 part-append (b ∷ w) rest all =
-    let here = All-head (λ b. (b == 35) ≡ false) b w all in
     let one : 1 + position_or_len (λ b. b == 35) (w ++ rest) ≡ suc (position_or_len (λ b. b == 35) (w ++ rest)) = omega arith in
-    rw (here, one) (ap (λ l. b ∷ l) (part-append w rest (All-tail (λ b. (b == 35) ≡ false) b w all)))
+    rw (All-head (λ b. (b == 35) ≡ false) b w all, one) (ap (λ l. b ∷ l) (part-append w rest (All-tail (λ b. (b == 35) ≡ false) b w all)))
 
 word_kept : (w : List ℕ) (parts : List (List ℕ)) → 0 < length w → filter is_word (w ∷ parts) ≡ w ∷ filter is_word parts
 word_kept w parts some = grind (arith, nat_tests)
@@ -28,9 +26,7 @@ words_of-cons w line plain = grind (arith, nat_tests, part-append, All-cons, All
 -- a last word
 pub words_of-last : (w : List ℕ) → IsPlain w → words_of w ≡ w ∷ []
 unfolding words_of
-words_of-last w plain =
-    let part : statement_part w ≡ w = ap statement_part (sym (append-nil w)) ∙ part-append w [] (no_hash w plain) ∙ append-nil w in
-    ap (λ l. filter is_word (slice_split is_gap l)) part ∙ ap (filter is_word) (slice_split_none is_gap w (no_gap w plain)) ∙ word_kept w [] plain.some
+words_of-last w plain = grind (arith, append-nil, (part-append w [] (no_hash w plain)), (slice_split_none is_gap w (no_gap w plain)), word_kept)
 
 -- the words of a line as it is written
 pub words_of-spaced : (first : List ℕ) (words : List (List ℕ)) → IsPlain first → All IsPlain words → words_of (first ++ spaced words) ≡ first ∷ words
@@ -46,12 +42,9 @@ allowed-spaced first (word ∷ words) plain all = grind (arith, nat_tests, list_
 pub line_words-spaced : (first : List ℕ) (words : List (List ℕ)) → IsPlain first → All IsPlain words → line_words (first ++ spaced words) ≡ Ok (first ∷ words)
 line_words-spaced first words plain all = grind (arith, nat_tests, allowed-spaced, words_of-spaced)
 
-no_line_feed : (b : ℕ) → is_allowed b ≡ true → is_line_feed b ≡ false
-no_line_feed b allowed = grind (arith, nat_tests)
-
 -- a line in front of others
 pub lines_of-line : (line rest : List ℕ) → list_all is_allowed line ≡ true → lines_of (line ++ 10 ∷ rest) ≡ line ∷ lines_of rest
-lines_of-line line rest all = lines_of-ended line (All-passing is_allowed (λ b. is_line_feed b ≡ false) no_line_feed line all) rest
+lines_of-line line rest all = lines_of-ended line (All-passing is_allowed (λ b. is_line_feed b ≡ false) (λ b allowed. grind (arith, nat_tests)) line all) rest
 
 -- a written line in front of others
 pub lines_of-written : (first : List ℕ) (words : List (List ℕ)) (rest : List ℕ) → IsPlain first → All IsPlain words

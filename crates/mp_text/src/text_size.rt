@@ -25,7 +25,7 @@ pub fn text_limit(text: &[u8]) -> usize
 }
 
 /// As many bytes of a text as one of format 1 or 2 may have, and one more, or all.
-#[tactic(auto, using(crate::proofs::SizeLemmas::front_taken))]
+#[tactic(auto, using(std::proofs::lemmas::List::take_min))]
 fn front_of(text: &[u8]) -> &[u8]
     ensures { result.now ≡ take (max_short_text + 1) text.now }
 {

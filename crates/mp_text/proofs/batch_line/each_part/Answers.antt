@@ -1,5 +1,4 @@
-use Rattle.mp_text.proofs.Names.{[], inl, inr, Ok, sym, ap, ◌∙◌, arith, texts, each_err, each_ok, each_end, part_edit}
-use Rattle.std.proofs.lemmas.Result.{err_from_is_err_and}
+use Rattle.mp_text.proofs.Names.{[], inl, inr, Ok, sym, ap, ◌∙◌, arith, texts, each_err, each_ok, each_end, part_edit, err_from_is_err_and}
 use Rattle.mp_text.proofs.GivenLemmas.{wanting_given, front_none}
 use Rattle.mp_text.proofs.batch_line.each_part.Goals as goal
 

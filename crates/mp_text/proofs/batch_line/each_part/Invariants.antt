@@ -1,5 +1,4 @@
-use Rattle.std.specs.Prelude.{◌≡◌}
-use Rattle.mp_text.proofs.Names.{drop, with_front, each_part, part_texts}
+use Rattle.mp_text.proofs.Names.{◌≡◌, drop, with_front, each_part, part_texts}
 use Rattle.mp_text.proofs.batch_line.each_part.Given as goal
 
 -- what was read so far, and what the parts that are left say

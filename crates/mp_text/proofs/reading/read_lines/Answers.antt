@@ -1,5 +1,4 @@
-use Rattle.mp_text.proofs.Names.{length, arith, nat_tests}
-use Rattle.std.proofs.Common.{◌≡◌, ◌<◌, ℕ, false, ◌==◌, List}
+use Rattle.mp_text.proofs.Names.{◌≡◌, ◌<◌, ◌==◌, length, arith, nat_tests, ℕ, false, List}
 use Rattle.mp_text.proofs.TextLemmas.{lines_next, lines_end, line_reached, gives_same}
 use Rattle.mp_text.proofs.reading.read_lines.Goals as goal
 

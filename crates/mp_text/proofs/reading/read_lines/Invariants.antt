@@ -1,5 +1,4 @@
-use Rattle.std.specs.Prelude.{◌≡◌, ◌+◌, ◌≤◌}
-use Rattle.mp_text.proofs.Names.{length, lines_of, after_lines, max_text, Fresh}
+use Rattle.mp_text.proofs.Names.{◌≡◌, ◌+◌, ◌≤◌, length, lines_of, after_lines, max_text, Fresh}
 use Rattle.mp_text.proofs.reading.read_lines.Given as goal
 
 -- the lines that are left go on from the netlist so far

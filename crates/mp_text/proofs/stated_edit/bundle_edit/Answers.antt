@@ -1,5 +1,4 @@
-use Rattle.mp_text.proofs.Names.{Ok, inr, refl, sym, ap, ◌∙◌, AddBundle}
-use Rattle.std.proofs.lemmas.Result.{err_from_is_err_and}
+use Rattle.mp_text.proofs.Names.{Ok, inr, refl, sym, ap, ◌∙◌, AddBundle, err_from_is_err_and}
 use Rattle.mp_text.proofs.GivenLemmas.{wanting_given, ascii_at, texts_five}
 use Rattle.mp_text.proofs.stated_edit.bundle_edit.Goals as goal
 

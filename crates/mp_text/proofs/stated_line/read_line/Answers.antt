@@ -1,5 +1,4 @@
-use Rattle.std.specs.Prelude.{◌-◌}
-use Rattle.mp_text.proofs.Names.{inr, drop, sym, ap, subst, ◌∙◌, option_copied, OutOfMemory, Gives, texts, texts_behind, takes, stated_line}
+use Rattle.mp_text.proofs.Names.{◌-◌, inr, drop, sym, ap, subst, ◌∙◌, option_copied, OutOfMemory, Gives, texts, texts_behind, takes, stated_line}
 use Rattle.mp_text.proofs.GivenLemmas.{wanting_given}
 use Rattle.mp_text.proofs.LineStartLemmas.{not_plain, by_words, without_words, with_unknown_word, with_wrong_count, has_form, only_with_form, as_stated}
 use Rattle.mp_text.proofs.stated_line.read_line.Goals as goal

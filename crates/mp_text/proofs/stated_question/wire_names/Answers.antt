@@ -1,5 +1,4 @@
-use Rattle.mp_text.proofs.Names.{sym, ap, ◌∙◌, texts}
-use Rattle.std.proofs.lemmas.List.{take_all}
+use Rattle.mp_text.proofs.Names.{sym, ap, ◌∙◌, texts, take_all}
 use Rattle.mp_text.proofs.GivenLemmas.{texts_more}
 use Rattle.mp_text.proofs.stated_question.wire_names.Goals as goal
 

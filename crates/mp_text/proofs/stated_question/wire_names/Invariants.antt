@@ -1,5 +1,4 @@
-use Rattle.std.specs.Prelude.{◌≡◌}
-use Rattle.mp_text.proofs.Names.{take, texts}
+use Rattle.mp_text.proofs.Names.{◌≡◌, take, texts}
 use Rattle.mp_text.proofs.stated_question.wire_names.Given as goal
 
 -- the names so far

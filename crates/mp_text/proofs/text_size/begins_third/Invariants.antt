@@ -1,5 +1,4 @@
-use Rattle.std.specs.Prelude.{◌≡◌}
-use Rattle.mp_text.proofs.Names.{length, lines_of, first_words}
+use Rattle.mp_text.proofs.Names.{◌≡◌, length, lines_of, first_words}
 use Rattle.mp_text.proofs.text_size.begins_third.Given as goal
 
 -- the lines that are left have the same first words

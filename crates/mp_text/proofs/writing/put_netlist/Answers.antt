@@ -1,5 +1,4 @@
-use Rattle.std.specs.Prelude.{◌≡◌}
-use Rattle.mp_text.proofs.Names.{rules}
+use Rattle.mp_text.proofs.Names.{◌≡◌, rules}
 use Rattle.mp_text.proofs.WriteLemmas.{written_pieces}
 use Rattle.mp_text.proofs.writing.put_netlist.Goals as goal
 

@@ -1,5 +1,4 @@
-use Rattle.std.specs.Prelude.{◌∷◌}
-use Rattle.mp_text.proofs.Names.{puts_next, puts_stopped, writes_failed}
+use Rattle.mp_text.proofs.Names.{◌∷◌, puts_next, puts_stopped, writes_failed}
 use Rattle.mp_text.proofs.port_texts.PortsText.put_to.Goals as goal
 
 pub returns-in_err-put_spaced : goal.returns-in_err-put_spaced

@@ -1,5 +1,4 @@
-use Rattle.std.specs.Prelude.{◌<◌, ◌≤◌}
-use Rattle.mp_text.proofs.Names.{sym, subst, writes_failed, left_whole, left_as, left_then, left_none, left_failed}
+use Rattle.mp_text.proofs.Names.{◌<◌, ◌≤◌, sym, subst, writes_failed, left_whole, left_as, left_then, left_none, left_failed}
 use Rattle.mp_text.proofs.SectionLemmas.{lines_from-all, lines_from-next, lines_from-none}
 use Rattle.mp_text.proofs.section.SectionLinesText.put_to.Goals as goal
 

@@ -1,5 +1,4 @@
-use Rattle.std.specs.Prelude.{◌∷◌}
-use Rattle.mp_text.proofs.Names.{Ok, take, flat_map, Writes}
+use Rattle.mp_text.proofs.Names.{◌∷◌, Ok, take, flat_map, Writes}
 use Rattle.mp_text.proofs.spaced.SpacedText.put_to.Given as goal
 
 -- the texts so far are written
