@@ -1,8 +1,5 @@
 -- The changes of a time, one before the others.
-use Rattle.std.specs.Prelude.{◌≡◌, ◌≢◌, ◌+◌, ◌-◌, ◌<◌, ◌≤◌, ◌==◌, ◌∷◌, ◌++◌}
-use Rattle.mp_vcd.proofs.Names.{None, map, get_or-map, left_none, nat_lt-false, nat_lt-true, earlier_than-take, get_or_default, ℕ, Bool, true, not, cond, nat_le, List, [], length, length-append, take, slice_index, slice_set, Some, zero, suc, refl, sym, ap, subst, ◌∙◌, zero-add, add-one, get_or, arith, get_or-set_other, get_or-set_same, nat_tests, cases_lt, eq-eqb, eqb-true, le-leb, lt-leb, lt-ltb, ne_eqb, get_or-append, length-set, get_or-append_seam, take-suc, change_after, changes_after, between, WireRecord, Circuit, wire_at, width_of, level, filter, flat_map, flat_map-map, value_line, value_at, marked, time_mark, Entry, no_entry, entry_at, IsChain, Tells, told_from, with_told, onto, onto_slot, with_levels, told_lines}
-
--- ---- chains
+use Rattle.mp_vcd.proofs.Names.{◌≡◌, ◌≢◌, ◌+◌, ◌-◌, ◌<◌, ◌≤◌, ◌==◌, ◌∷◌, ◌++◌, None, map, get_or-map, left_none, nat_lt-false, nat_lt-true, earlier_than-take, get_or_default, ℕ, Bool, true, not, cond, nat_le, List, [], length, length-append, take, slice_index, slice_set, Some, zero, suc, refl, sym, ap, subst, ◌∙◌, zero-add, add-one, get_or, arith, get_or-set_other, get_or-set_same, nat_tests, cases_lt, eq-eqb, eqb-true, le-leb, lt-leb, lt-ltb, ne_eqb, get_or-append, length-set, get_or-append_seam, take-suc, change_after, changes_after, between, WireRecord, Circuit, wire_at, width_of, level, filter, flat_map, flat_map-map, value_line, value_at, marked, time_mark, Entry, no_entry, entry_at, IsChain, Tells, told_from, with_told, onto, onto_slot, with_levels, told_lines}
 
 -- one entry more at the end leaves a chain
 pub chain_more : (entries : List Entry) (added : Entry) (place : ℕ) (told : List (ℕ × ℕ)) → IsChain entries place told → IsChain (entries ++ added ∷ []) place told
@@ -13,8 +10,6 @@ pub chain_within : (entries : List Entry) (place : ℕ) (told : List (ℕ × ℕ
 chain_within entries place [] chain = grind (arith, nat_tests)
 chain_within entries place (x ∷ told) chain = grind (arith, nat_tests)
 
--- ---- what is told at each time
-
 pub told_as : (firsts : List ℕ) (entries : List Entry) (told other : ℕ → List (ℕ × ℕ)) → ((t : ℕ) → t < length firsts → told t ≡ other t) → Tells firsts entries told → Tells firsts entries other
 told_as firsts entries told other same tells t within = subst (IsChain entries (slice_index firsts t)) (same t within) (tells t within)
 
@@ -23,18 +18,11 @@ module _ (firsts : List ℕ) (entries : List Entry) (told : ℕ → List (ℕ ×
   first_here : IsChain (entries ++ added ∷ []) place ((added.wire, added.level) ∷ told time)
   first_here =
       let old = tells time within in
-      let below : slice_index firsts time ≤ length entries = chain_within entries (slice_index firsts time) (told time) old in
-      let long = length-append entries (added ∷ []) in
-      let before : place - 1 ≡ length entries = omega arith in
-      let same : entry_at (entries ++ added ∷ []) (place - 1) ≡ added = ap (entry_at (entries ++ added ∷ [])) before ∙ get_or-append_seam entries added [] no_entry in
-      let later : IsChain (entries ++ added ∷ []) added.next (told time) =
-      subst (λ (k : ℕ). IsChain (entries ++ added ∷ []) k (told time)) (sym next) (chain_more entries added (slice_index firsts time) (told time) old) in
-      rw same (omega arith, omega (arith, long), omega (arith, below, next), refl, refl, later)
+      let same : entry_at (entries ++ added ∷ []) (place - 1) ≡ added = ap (entry_at (entries ++ added ∷ [])) (omega arith) ∙ get_or-append_seam entries added [] no_entry in
+      grind (arith, same, (length-append entries (added ∷ [])), (chain_within entries (slice_index firsts time) (told time) old), (chain_more entries added (slice_index firsts time) (told time) old))
 
   pub told_more : Tells (slice_set firsts time place) (entries ++ added ∷ []) (with_told told time (added.wire, added.level))
   told_more t inside = grind (arith, length-set, eqb-true, get_or-set_same, first_here, nat_tests, get_or-set_other, chain_more)
-
--- ---- the changes of a wire
 
 pub onto-append : (w : ℕ) (xs ys : List (ℕ × ℕ)) (t : ℕ) (others : List (ℕ × ℕ)) → onto w (xs ++ ys) t others ≡ onto w ys t (onto w xs t others)
 onto-append w [] ys t others = refl
@@ -51,14 +39,11 @@ module _ (levels : ℕ → ℕ) (w t : ℕ) where
   abbrev differs : Bool
   differs = not (levels t == levels (t - 1))
 
-  abbrev where_differs : List (ℕ × ℕ) → List (ℕ × ℕ)
-  where_differs others = cond differs ((w, levels t) ∷ others) others
-
   here : (m : ℕ) (test : Bool) → suc m ≡ t → (levels m == levels (suc m)) ≡ test → differs ≡ not test
   here m test same equal = grind (arith, nat_tests)
 
   -- the changes of a level up to a time leave its change at a time not later
-  pub onto_changes : (m : ℕ) (others : List (ℕ × ℕ)) → onto w (changes_after levels 0 m) t others ≡ cond (nat_le t m) (where_differs others) others
+  pub onto_changes : (m : ℕ) (others : List (ℕ × ℕ)) → onto w (changes_after levels 0 m) t others ≡ cond (nat_le t m) (cond differs ((w, levels t) ∷ others) others) others
   onto_changes zero others = grind (arith, nat_tests, eq-eqb, le-leb, lt-leb)
   onto_changes (suc m) others = grind (arith, onto-append, zero-add, eqb-true, cases_lt, lt-leb, le-leb, nat_tests, ne_eqb, (onto_changes m others))
 
@@ -80,8 +65,6 @@ with_told-from told from time change k after = grind (arith, nat_tests)
 pub onto_wave : (n : Circuit) (w t : ℕ) (r : WireRecord) (others : List (ℕ × ℕ)) → t < n.horizon
     → onto w (changes_after (level n w) 0 (n.horizon - 1)) t others ≡ onto_slot n t w (Some r) others
 onto_wave n w t r others within = grind (arith, nat_tests, le-leb, onto_changes)
-
--- ---- the lines of what is told
 
 -- the width that is listed of a wire
 pub width_is : (n : Circuit) (widths : List ℕ) (w : ℕ) → widths ≡ map width_of n.wires → slice_index widths w ≡ width_of (wire_at n w)

@@ -1,6 +1,5 @@
 -- Codes and binary digits, digit by digit.
-use Rattle.std.specs.Prelude.{◌≡◌, ◌+◌, ◌-◌, ◌/◌, ◌%◌, ◌<◌, ◌≤◌, ◌∷◌, ◌++◌}
-use Rattle.mp_vcd.proofs.Names.{ℕ, List, [], append_assoc, length, drop, slice_set, zero, suc, refl, sym, ap, ◌∙◌, arith, cases_lt, ltb-false, nat_tests, drop-set, length-append, digits_of, code, bit, bits}
+use Rattle.mp_vcd.proofs.Names.{◌≡◌, ◌+◌, ◌-◌, ◌/◌, ◌%◌, ◌<◌, ◌≤◌, ◌∷◌, ◌++◌, ℕ, List, [], append_assoc, length, drop, slice_set, zero, suc, refl, sym, ap, ◌∙◌, arith, cases_lt, ltb-false, nat_tests, drop-set, length-append, digits_of, code, bit, bits}
 
 -- more digits than a number has are not written
 digits_of-same : (most least n : ℕ) → n < most → n < least → digits_of most n ≡ digits_of least n
@@ -38,8 +37,6 @@ bits_step whole digits start left rest some room within same =
 pub bits_long : (width level : ℕ) → length (bits width level) ≡ width
 bits_long zero level = grind (arith, nat_tests, bits-zero)
 bits_long (suc width) level = grind (arith, nat_tests, bits-suc, length-append, (bits_long width (level / 2)))
-
--- ---- how long a code is
 
 pub code_longer : (w most : ℕ) → 0 < most → (94 ≤ w → length (code (w / 94)) ≤ most) → length (code w) ≤ most + 1
 code_longer w most some later = grind (arith, nat_tests, code-one, code-more, cases_lt)

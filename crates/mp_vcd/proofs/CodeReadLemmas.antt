@@ -1,23 +1,17 @@
 -- Codes and numbers as words, and what they are read as.
-use Rattle.std.specs.Prelude.{◌≡◌, ◌≢◌, ◌+◌, ◌-◌, ◌*◌, ◌/◌, ◌%◌, ◌^◌, ◌<◌, ◌≤◌, ◌∷◌, ◌++◌}
-use Rattle.mp_vcd.proofs.Names.{ℕ, Bool, true, false, nat_lt, List, [], length, zero, suc, decimal, refl, sym, ap, subst, ◌∙◌, add-one, arith, codes, digit_value, is_ascii_digit, list_all, bytes_eq, AllDigits, digits_value_after, digits_value, false_from_ne_true, lt-ltb, ltb-false, ltb-true, nat_tests, list_all-append, bytes_eq-Decides, IsPlain, IsPlain-decimal, IsPlain-name, is_plain_byte, list_all-passing, is_made_of, is_binary, is_printed, is_name, digits_of, code, bit, bits, max_wires}
+use Rattle.mp_vcd.proofs.Names.{◌≡◌, ◌≢◌, ◌+◌, ◌-◌, ◌*◌, ◌/◌, ◌%◌, ◌^◌, ◌<◌, ◌≤◌, ◌∷◌, ◌++◌, ℕ, Bool, true, false, nat_lt, List, [], length, zero, suc, decimal, refl, sym, ap, subst, ◌∙◌, add-one, arith, codes, digit_value, is_ascii_digit, list_all, bytes_eq, AllDigits, digits_value_after, digits_value, false_from_ne_true, lt-ltb, ltb-false, ltb-true, nat_tests, list_all-append, bytes_eq-Decides, IsPlain, IsPlain-decimal, IsPlain-name, is_plain_byte, list_all-passing, is_made_of, is_binary, is_printed, is_name, digits_of, code, bit, bits, max_wires}
 use Rattle.std.proofs.lemmas.Fmt.{decimal_is_IsNumeral}
 use Rattle.std.proofs.lemmas.Nat.{mod-pow-add}
 use Rattle.mp_words.proofs.DecimalLemmas.{decimal_digits}
 use Rattle.mp_vcd.proofs.CodeLemmas.{bits_long, code_some}
-
--- ---- words
 
 -- some bytes, none of them white space
 pub record IsSolid (word : List ℕ) : Type 0 where
   pub some : 0 < length word
   pub solid : list_all (nat_lt 32) word ≡ true
 
-plain_solid : (b : ℕ) → is_plain_byte b ≡ true → nat_lt 32 b ≡ true
-plain_solid b plain = grind (arith, nat_tests)
-
 IsSolid-plain : (word : List ℕ) → IsPlain word → IsSolid word
-IsSolid-plain word plain = record { some = plain.some; solid = list_all-passing is_plain_byte (nat_lt 32) plain_solid word plain.plain }
+IsSolid-plain word plain = record { some = plain.some; solid = list_all-passing is_plain_byte (nat_lt 32) (λ b plain. grind (arith, nat_tests)) word plain.plain }
 
 pub IsSolid-decimal : (n : ℕ) → n < 2 ^ 64 → IsSolid (decimal n)
 IsSolid-decimal n fits = IsSolid-plain (decimal n) (IsPlain-decimal n fits)
@@ -28,8 +22,6 @@ IsSolid-name name valid = IsSolid-plain name (IsPlain-name name valid)
 -- a byte before solid bytes
 pub solid_behind : (b : ℕ) (word : List ℕ) → 32 < b → list_all (nat_lt 32) word ≡ true → IsSolid (b ∷ word)
 solid_behind b word high solid = grind (arith, nat_tests)
-
--- ---- codes
 
 digits_all : (p : ℕ → Bool) → ((n : ℕ) → p (33 + n % 94) ≡ true) → (most n : ℕ) → list_all p (digits_of most n) ≡ true
 digits_all p each zero n = refl
@@ -61,8 +53,6 @@ code_worth w = worth-digits (suc w) w (omega arith)
 pub own_codes : (w v : ℕ) → code w ≡ code v → w ≡ v
 own_codes w v same = sym (code_worth w) ∙ ap worth same ∙ code_worth v
 
--- ---- words that end nothing
-
 other_bytes : (xs ys : List ℕ) → xs ≢ ys → bytes_eq xs ys ≡ false
 other_bytes xs ys other = false_from_ne_true (bytes_eq xs ys) (λ same. other ((bytes_eq-Decides xs ys).0 same))
 
@@ -84,8 +74,6 @@ code_not_end w few =
     other_bytes (code w) (codes "$end")
     (λ e. let number : w ≡ 56335895 = sym (code_worth w) ∙ ap worth e in omega (arith, few, number))
 
--- ---- numbers
-
 pub decimal_read : (n : ℕ) → n < 2 ^ 64 → digits_value 10 (decimal n) ≡ n
 decimal_read n fits = (decimal_is_IsNumeral n fits).1
 
@@ -93,14 +81,11 @@ digits_value-append : (n : ℕ) (xs : List ℕ) (d : ℕ) → digits_value_after
 digits_value-append n [] d = refl
 digits_value-append n (x ∷ xs) d = grind (arith, nat_tests, (digits_value-append (n * 2 + digit_value x) xs d))
 
-half_of : (width level : ℕ) → (level / 2) % 2 ^ width * 2 + level % 2 ≡ level % 2 ^ suc width
-half_of width level = sym (mod-pow-add level width 1) ∙ ap (λ k. level % 2 ^ k) (add-one width)
-
 -- the digits of a level are read as its lowest bits
 pub bits_read : (width level : ℕ) → digits_value 2 (bits width level) ≡ level % 2 ^ width
 unfolding bits
 bits_read zero level = grind (arith, nat_tests)
-bits_read (suc width) level = grind (arith, nat_tests, digits_value-append, half_of, (bits_read width (level / 2)))
+bits_read (suc width) level = grind (arith, nat_tests, digits_value-append, add-one, (mod-pow-add level width 1), (bits_read width (level / 2)))
 
 bits_all : (p : ℕ → Bool) → ((level : ℕ) → p (bit level) ≡ true) → (width level : ℕ) → list_all p (bits width level) ≡ true
 unfolding bits
@@ -109,8 +94,6 @@ bits_all p each (suc width) level = grind (arith, nat_tests, list_all-append, (b
 
 pub bits_solid : (width level : ℕ) → list_all (nat_lt 32) (bits width level) ≡ true
 bits_solid width level = bits_all (nat_lt 32) (λ l. grind (arith, nat_tests)) width level
-
--- ---- of what words are made
 
 pub decimal_made : (n : ℕ) → n < 2 ^ 64 → is_made_of is_ascii_digit (decimal n) ≡ true
 decimal_made n fits = grind (arith, nat_tests, lt-ltb, IsSolid-decimal, decimal_digits)

@@ -1,24 +1,19 @@
 -- The whole of a dump, read.
-use Rattle.std.specs.Prelude.{◌≡◌, ◌+◌, ◌-◌, ◌<◌, ◌≤◌, ◌∷◌, ◌++◌}
-use Rattle.mp_vcd.proofs.Names.{ℕ, List, [], append_assoc, append-nil, length, map, Option, None, Some, suc, refl, sym, ap, subst, ◌∙◌, add-zero, zero-add, arith, codes, and_from, le-leb, flat_map, range_with_len, WireRecord, Circuit, IsCircuit, wire_at, width_of, slot_at, code, standing, standing_from, slot_declaration, declaration, value_at, unit_text, time_mark, line, opening_lines, block_start, preamble, dump, words, Variable, Given, Outside, Inside, Reading, nothing_read, takes, read_words, reading, Contains, Contains-get_or, slice_index_or, max_wires, any_passes, contains_map, nat_tests}
+use Rattle.mp_vcd.proofs.Names.{◌≡◌, ◌+◌, ◌-◌, ◌<◌, ◌≤◌, ◌∷◌, ◌++◌, ℕ, List, [], append_assoc, append-nil, length, map, Option, None, Some, suc, refl, sym, ap, subst, ◌∙◌, add-zero, zero-add, arith, codes, and_from, le-leb, flat_map, range_with_len, WireRecord, Circuit, IsCircuit, wire_at, width_of, slot_at, code, standing, standing_from, slot_declaration, declaration, value_at, unit_text, time_mark, line, opening_lines, block_start, preamble, dump, words, Variable, Given, Outside, Inside, nothing_read, takes, read_words, reading, Contains, Contains-get_or, slice_index_or, max_wires, any_passes, contains_map, nat_tests}
 use Rattle.mp_netlist.proofs.LimitLemmas.{horizon_within, wires_within}
 use Rattle.std.proofs.Math.Nat.{mod-eq_of_lt}
-use Rattle.mp_vcd.specs.Laws.{name_of, variable, SaysLevels, IsReadBack}
+use Rattle.mp_vcd.specs.Laws.{name_of, variable, SaysLevels}
 use Rattle.mp_vcd.proofs.CodeReadLemmas.{same_bytes}
 use Rattle.mp_vcd.proofs.ReadingLemmas.{Leads, leads_none, leads_both, leads_as, declaring, declared_as, leads_declaration, leads_time, valued, HasVariable}
 use Rattle.mp_vcd.proofs.LevelReadLemmas.{given_at, leads_values, stands_in, stands_of, IsReadable, AreReadable, knows_first, Units, leads_units}
 use Rattle.mp_model.proofs.LevelFitLemmas.{level_fits}
 
--- ---- the declarations
-
 module _ (n : Circuit) (circuit : IsCircuit n) where
-  variable_stands : (w : ℕ) (r : WireRecord) → wire_at n w ≡ Some r → variable n w ≡ declared_as w r
-  variable_stands w r stands = ap (λ slot. record { scopes = codes "top" ∷ []; width = width_of slot; code = code w; name = name_of slot }) stands
-
   declared_wire : (vs : List Variable) (w : ℕ) (r : WireRecord) → wire_at n w ≡ Some r → w < max_wires → Leads (declaring vs) (declaration n w) (declaring (vs ++ variable n w ∷ []))
   declared_wire vs w r stands few =
+      let same : declared_as w r ≡ variable n w = ap (λ slot. record { scopes = codes "top" ∷ []; width = width_of slot; code = code w; name = name_of slot }) (sym stands) in
       let wire = circuit.wires_ok w r stands in
-      leads_as (declaring vs) _ _ (slot_declaration w (Some r)) (declaration n w) (ap (slot_declaration w) (sym stands)) (ap (λ v. declaring (vs ++ v ∷ [])) (sym (variable_stands w r stands)))
+      leads_as (declaring vs) _ _ (slot_declaration w (Some r)) (declaration n w) (ap (slot_declaration w) (sym stands)) (ap (λ v. declaring (vs ++ v ∷ [])) same)
       (leads_declaration vs w r (omega (arith, few)) (omega (arith, wire.narrow)) (circuit.names.wires w r stands))
 
   leads_declarations : (vs : List Variable) (k : ℕ) (slots : List (Option WireRecord)) → k + length slots ≤ max_wires → ((i : ℕ) (r : WireRecord) → slot_at slots i ≡ Some r → wire_at n (k + i) ≡ Some r)
@@ -31,23 +26,6 @@ module _ (n : Circuit) (circuit : IsCircuit n) where
       let later = leads_declarations (vs ++ variable n k ∷ []) (k + 1) slots (omega (arith, few)) (λ i s stands. let e : k + suc i ≡ k + 1 + i = omega arith in ap (wire_at n) (sym e) ∙ same (suc i) s stands) in
       leads_as (declaring vs) _ _ _ _ refl (ap declaring (append_assoc vs (variable n k ∷ []) (map (variable n) (standing_from (k + 1) slots))))
       (leads_both (declaring vs) (declaring (vs ++ variable n k ∷ [])) _ (declaration n k) _ (declared_wire vs k r here (omega (arith, few))) later)
-
--- ---- the lines between
-
-starts : Leads nothing_read opening_lines (declaring [])
-starts = record { each = λ rest. refl }
-
-block_starts : (vs : List Variable) → Leads (declaring vs) block_start (valued Inside vs 0 [])
-block_starts vs = record { each = λ rest. refl }
-
-block_ends : (vs : List Variable) (given : List Given) → Leads (valued Inside vs 0 given) (line (codes "$end")) (valued Outside vs 0 given)
-block_ends vs given = record { each = λ rest. refl }
-
--- ---- the whole
-
-leads_all : (text : List ℕ) (to : Reading) → Leads nothing_read text to → reading text ≡ to
-unfolding reading
-leads_all text to leads = ap (λ l. read_words (words l) nothing_read) (sym (append-nil text)) ∙ leads.each []
 
 module _ (n : Circuit) (circuit : IsCircuit n) where
   abbrev all_variables : List Variable
@@ -70,20 +48,20 @@ module _ (n : Circuit) (circuit : IsCircuit n) where
   all_readable : AreReadable n all_variables (standing n)
   all_readable k d within = is_readable (slice_index_or (standing n) k d) (Contains-get_or (standing n) k d within)
 
-  abbrev units : List ℕ
-  units = flat_map (unit_text n) (range_with_len 1 (n.horizon - 1))
-
-  all_units : Units n all_variables (valued Outside all_variables 0 first_given) units (0 + (n.horizon - 1))
+  all_units : Units n all_variables (valued Outside all_variables 0 first_given) (flat_map (unit_text n) (range_with_len 1 (n.horizon - 1))) (0 + (n.horizon - 1))
   all_units = leads_units n all_variables (n.horizon - 1) 0 0 first_given all_readable (omega arith) (omega (arith, horizon_within n circuit)) (knows_first n)
 
   leads_dump : Leads nothing_read (dump n) (valued Outside all_variables n.horizon all_units.given)
   unfolding dump
   leads_dump =
       let vs = all_variables in
+      let starts : Leads nothing_read opening_lines (declaring []) = record { each = λ rest. refl } in
+      let block_starts : Leads (declaring vs) block_start (valued Inside vs 0 []) = record { each = λ rest. refl } in
+      let block_ends : Leads (valued Inside vs 0 first_given) (line (codes "$end")) (valued Outside vs 0 first_given) = record { each = λ rest. refl } in
       let end = leads_time vs all_units.time n.horizon all_units.given (omega (arith, all_units.upto, circuit.horizon_low)) (omega (arith, horizon_within n circuit)) in
-      let changes = leads_both _ _ _ units (time_mark n.horizon) all_units.leads end in
-      let levels = leads_both _ _ _ (flat_map (value_at n 0) (standing n)) _ (leads_values Inside n vs 0 (standing n) [] all_readable) (block_ends vs first_given) in
-      let block = leads_both _ _ _ block_start _ (block_starts vs) levels in
+      let changes = leads_both _ _ _ _ (time_mark n.horizon) all_units.leads end in
+      let levels = leads_both _ _ _ (flat_map (value_at n 0) (standing n)) _ (leads_values Inside n vs 0 (standing n) [] all_readable) block_ends in
+      let block = leads_both _ _ _ block_start _ block_starts levels in
       let stands : (i : ℕ) (r : WireRecord) → slot_at n.wires i ≡ Some r → wire_at n (0 + i) ≡ Some r = λ i r at. ap (wire_at n) (zero-add i) ∙ at in
       let declared = leads_both _ _ _ (flat_map (declaration n) (standing n)) _ (leads_declarations n circuit [] 0 n.wires (omega (arith, wires_within n circuit)) stands) block in
       leads_both _ _ _ (preamble n) _ (leads_both _ _ _ opening_lines _ starts declared) changes
@@ -92,7 +70,5 @@ module _ (n : Circuit) (circuit : IsCircuit n) where
   says = grind (arith, nat_tests, all_units, stands_in, mod-eq_of_lt, level_fits)
 
   pub says_levels : SaysLevels n (reading (dump n))
-  says_levels = subst (SaysLevels n) (sym (leads_all (dump n) _ leads_dump)) says
-
-pub dump_is_read : IsReadBack
-dump_is_read n circuit = says_levels n circuit
+  unfolding reading
+  says_levels = subst (SaysLevels n) (sym (ap (λ l. read_words (words l) nothing_read) (sym (append-nil (dump n))) ∙ leads_dump.each [])) says

@@ -1,6 +1,5 @@
 -- The levels that a reader of a dump knows, unit by unit.
-use Rattle.std.specs.Prelude.{◌≡◌, ◌+◌, ◌%◌, ◌^◌, ◌<◌, ◌≤◌, ◌⊎◌, ◌∷◌}
-use Rattle.mp_vcd.proofs.Names.{ℕ, inl, inr, false, List, [], Option, None, Some, zero, suc, refl, sym, ap, subst, ◌∙◌, add-zero, zero-add, arith, flat_map, range_with_len, cases_lt, eqb-true, le-leb, lt-leb, not-false, bytes_eq-Decides, WireRecord, Circuit, wire_at, width_of, slot_at, level, code, standing, standing_from, if_stands, value_at, is_changed, changed, marked, unit_text, time_mark, Variable, Given, Side, Outside, Reading, value_of, All, Contains, All-head, All-tail, All-filter, contains_here, contains_there, contains_cases, contains_filter, nat_tests}
+use Rattle.mp_vcd.proofs.Names.{◌≡◌, ◌+◌, ◌%◌, ◌^◌, ◌<◌, ◌≤◌, ◌∷◌, ℕ, inl, inr, false, List, [], Option, None, Some, zero, suc, refl, sym, ap, subst, ◌∙◌, add-zero, zero-add, arith, flat_map, range_with_len, cases_lt, eqb-true, le-leb, lt-leb, not-false, bytes_eq-Decides, WireRecord, Circuit, wire_at, width_of, slot_at, level, code, standing, standing_from, if_stands, value_at, is_changed, changed, marked, unit_text, time_mark, Variable, Given, Side, Outside, Reading, value_of, All, Contains, All-head, All-tail, All-filter, contains_here, contains_there, contains_cases, contains_filter, nat_tests}
 use Rattle.mp_vcd.proofs.CodeReadLemmas.{own_codes, same_bytes}
 use Rattle.mp_vcd.proofs.ReadingLemmas.{Leads, leads_none, leads_both, leads_time, leads_value, valued, giving, HasVariable}
 
@@ -8,14 +7,10 @@ use Rattle.mp_vcd.proofs.ReadingLemmas.{Leads, leads_none, leads_both, leads_tim
 abbrev pub level_bits : Circuit → ℕ → ℕ → ℕ
 level_bits n w t = level n w t % 2 ^ width_of (wire_at n w)
 
--- ---- the values of some wires at a time
-
 -- the values given, after those of some wires at a time
 abbrev pub given_at : Circuit → ℕ → List ℕ → List Given → List Given
 given_at n t [] given = given
 given_at n t (w ∷ ws) given = given_at n t ws (giving t w (level_bits n w t) ∷ given)
-
--- ---- wires among others
 
 behind_slot : (k w : ℕ) (slot : Option WireRecord) (others : List ℕ) → Contains others w → Contains (if_stands k slot others) w
 behind_slot k w None others within = grind arith
@@ -32,12 +27,10 @@ stands_in n w r stands = subst (Contains (standing n)) (zero-add w) (in_standing
 standing_in : (k w : ℕ) (slots : List (Option WireRecord)) → Contains (standing_from k slots) w → (i : ℕ) × (r : WireRecord) × (k + i ≡ w) × (slot_at slots i ≡ Some r)
 standing_in k w [] within = absurd (omega (arith, within.1))
 standing_in k w (None ∷ slots) within = let found = standing_in (k + 1) w slots within in (suc found.0, found.1, omega (arith, found.2), found.3)
-standing_in k w (Some r ∷ slots) within = by (contains_cases w k (standing_from (k + 1) slots) within) (standing_in (k + 1) w slots)
-  where
-    by : (k ≡ w) ⊎ Contains (standing_from (k + 1) slots) w → (Contains (standing_from (k + 1) slots) w → (i : ℕ) × (s : WireRecord) × (k + 1 + i ≡ w) × (slot_at slots i ≡ Some s))
-        → (i : ℕ) × (s : WireRecord) × (k + i ≡ w) × (slot_at (Some r ∷ slots) i ≡ Some s)
-    by (inl same) later = (0, r, omega (arith, same), refl)
-    by (inr there) later = let found = later there in (suc found.0, found.1, omega (arith, found.2), found.3)
+standing_in k w (Some r ∷ slots) within = elim (contains_cases w k (standing_from (k + 1) slots) within) [
+  | inl same ↦ (0, r, omega (arith, same), refl)
+  | inr there ↦ let found = standing_in (k + 1) w slots there in (suc found.0, found.1, omega (arith, found.2), found.3)
+]
 
 -- a wire that is among those that stand does stand
 pub stands_of : (n : Circuit) (w : ℕ) → Contains (standing n) w → (r : WireRecord) × (wire_at n w ≡ Some r)
@@ -45,8 +38,6 @@ stands_of n w within =
     let found = standing_in 0 w n.wires within in
     let same : w ≡ found.0 = omega (arith, found.2) in
     (found.1, ap (wire_at n) same ∙ found.3)
-
--- ---- the values of some wires, read
 
 -- a variable is declared for the wire, which has one bit or more
 pub record IsReadable (n : Circuit) (vs : List Variable) (w : ℕ) : Type 0 where
@@ -80,8 +71,6 @@ leads_marked n vs before t (w ∷ ws) given later fits each =
     leads_both (valued Outside vs before given) (valued Outside vs t given) _ (time_mark t) (flat_map (value_at n t) (w ∷ ws)) (leads_time vs before t given later fits)
     (leads_values Outside n vs t (w ∷ ws) given each)
 
--- ---- the values of a code
-
 -- earlier values stay
 value_before : (n : Circuit) (t s : ℕ) (c : List ℕ) (ws : List ℕ) (given : List Given) → s < t → value_of c s (given_at n t ws given) ≡ value_of c s given
 value_before n t s c [] given sooner = refl
@@ -98,8 +87,6 @@ value_given : (n : Circuit) (t s w : ℕ) (ws : List ℕ) (given : List Given) �
 value_given n t s w [] given not_later within = grind arith
 value_given n t s w (v ∷ ws) given not_later within = grind (arith, contains_cases, le-leb, same_bytes, value_kept, (value_given n t s w ws))
 
--- ---- what is known at a time
-
 -- the values of the wires that stand are their levels up to a time, and from then on the last of them
 pub record Knows (n : Circuit) (t : ℕ) (given : List Given) : Type 0 where
   pub before : (w s : ℕ) → Contains (standing n) w → s ≤ t → value_of (code w) s given ≡ Some (level_bits n w s)
@@ -115,8 +102,6 @@ module _ (n : Circuit) (t : ℕ) (given : List Given) (known : Knows n t given) 
 
   pub knows_next : Knows n (t + 1) (given_at n (t + 1) (changed n (t + 1)) given)
   knows_next = grind (arith, nat_tests, cases_lt, value_given, contains_filter, value_kept, stays, value_before)
-
--- ---- all units
 
 -- the units lead to a reading that knows the levels up to the last of them
 pub record Units (n : Circuit) (vs : List Variable) (from : Reading) (text : List ℕ) (last : ℕ) : Type 0 where

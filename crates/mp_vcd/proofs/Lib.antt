@@ -2,7 +2,6 @@ mod Names
 pub mod CodeLemmas
 pub mod StandingLemmas
 pub mod AgendaLemmas
-pub mod PassageLemmas
 pub mod CodeReadLemmas
 pub mod ReadingLemmas
 pub mod LevelReadLemmas

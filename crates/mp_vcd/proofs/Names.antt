@@ -1,10 +1,11 @@
 -- The names that many proofs here cite, passed on from one place. Declares nothing.
-pub use Rattle.std.proofs.Common.{All, Bool, Contains, List, None, Option, Some, [], add-one, add-zero, ap, append-nil, append_assoc, arith, bytes_eq, codes, cond, decimal, drop, drop-cons, eq-eqb, eqb-true, false, filter, flat_map, get_or, get_or-set_other, get_or-set_same, inl, inr, le-leb, leb-true, length, length-append, length-set, lt-ltb, ltb-false, ltb-true, map, nat_le, nat_lt, ne_eqb, not, refl, rules, set, slice_index, slice_index_or, slice_set, subst, suc, sym, take, take-suc, true, vec_len, zero, zero-add, ℕ, ◌∙◌}
+pub use Rattle.std.proofs.Common.{All, Bool, Contains, List, None, Option, Result, Some, [], add-one, add-zero, ap, append-nil, append_assoc, arith, bytes_eq, codes, cond, decimal, drop, drop-cons, drop-drop, eq-eqb, eqb-true, false, filter, flat_map, get_or, get_or-set_other, get_or-set_same, inl, inr, le-leb, leb-true, length, length-append, length-set, length-take, lt-ltb, ltb-false, ltb-true, map, nat_le, nat_lt, ne_eqb, not, refl, rules, set, slice_index, slice_index_or, slice_set, subst, suc, sym, take, take-append-drop, take-suc, take_all, true, vec_len, zero, zero-add, ℕ, ◌%◌, ◌*◌, ◌++◌, ◌+◌, ◌-◌, ◌/◌, ◌<◌, ◌==◌, ◌^◌, ◌∙◌, ◌∷◌, ◌≡◌, ◌≢◌, ◌≤◌, ◌⊎◌}
 pub use Rattle.std.proofs.Math.ListN.{get_or-append, get_or-map}
 pub use Rattle.std.proofs.Math.Seq.{drop-length, get_or-append_seam}
 pub use Rattle.std.proofs.lemmas.Bool.{and_from, and_parts, cases_lt, false_from_ne_true, lt-leb, not-false}
 pub use Rattle.std.proofs.lemmas.Bool.Decides.{nat_tests}
-pub use Rattle.std.proofs.lemmas.List.{drop-set, get_or_default, get_or_read_under, map-append, take-set-le, take_more}
+pub use Rattle.std.proofs.lemmas.List.{at_drop_more, drop-set, drop_all, get_or_default, get_or_read_under, map-append, take-set-le, take_more}
+pub use Rattle.std.proofs.lemmas.List.Concat.{flat_map-append}
 pub use Rattle.std.proofs.lemmas.List.Elements.{All-filter, All-head, All-tail, Contains-get_or}
 pub use Rattle.std.proofs.lemmas.List.Folds.{flat_map-map, list_all-append}
 pub use Rattle.std.proofs.lemmas.Slice.Eq.{bytes_eq-Decides}

@@ -1,10 +1,7 @@
 -- What the parts of a dump say to a reader.
-use Rattle.std.specs.Prelude.{◌≤◌, ◌≡◌, ◌+◌, ◌%◌, ◌^◌, ◌<◌, ◌∷◌, ◌++◌}
-use Rattle.mp_vcd.proofs.Names.{ℕ, true, false, nat_lt, List, [], append_assoc, append-nil, length, Some, None, decimal, refl, sym, ap, subst, ◌∙◌, arith, codes, is_ascii_digit, is_ascii_whitespace, list_all, list_any, bytes_eq, digits_value, eqb-true, lt-ltb, nat_tests, WireRecord, and_parts, code, bit, bits, value_line, slot_declaration, time_mark, word_first, words_from, words, is_made_of, is_printed, Variable, Given, Side, Outside, Reading, BetweenDeclarations, InDeclaration, AmongValues, BehindDigits, at_place, with_time, takes, with_value, word_in, read_words, is_name, max_wires}
+use Rattle.mp_vcd.proofs.Names.{◌≤◌, ◌≡◌, ◌+◌, ◌%◌, ◌^◌, ◌<◌, ◌∷◌, ◌++◌, ℕ, true, false, nat_lt, List, [], append_assoc, append-nil, length, Some, None, decimal, refl, sym, ap, subst, ◌∙◌, arith, codes, is_ascii_digit, is_ascii_whitespace, list_all, list_any, bytes_eq, digits_value, eqb-true, lt-ltb, nat_tests, WireRecord, and_parts, code, bit, bits, value_line, slot_declaration, time_mark, word_first, words_from, words, is_made_of, is_printed, Variable, Given, Side, Outside, Reading, BetweenDeclarations, InDeclaration, AmongValues, BehindDigits, at_place, with_time, takes, with_value, word_in, read_words, is_name, max_wires}
 use Rattle.mp_vcd.proofs.CodeLemmas.{bits_long}
 use Rattle.mp_vcd.proofs.CodeReadLemmas.{IsSolid, IsSolid-decimal, IsSolid-name, IsSolid-code, solid_behind, code_solid, bits_solid, decimal_not_end, name_not_end, code_not_end, decimal_read, bits_read, decimal_made, code_made, bits_made, one_bit}
-
--- ---- words
 
 words_solid : (begun word rest : List ℕ) → list_all (nat_lt 32) word ≡ true → words_from begun (word ++ rest) ≡ words_from (begun ++ word) rest
 words_solid begun [] rest solid = grind (arith, nat_tests, append-nil)
@@ -12,8 +9,6 @@ words_solid begun (b ∷ bs) rest solid = grind (arith, nat_tests, and_parts, ap
 
 first_word : (word : List ℕ) (others : List (List ℕ)) → 0 < length word → word_first word others ≡ word ∷ others
 first_word word others some = grind (arith, nat_tests)
-
--- ---- texts that lead a reader on
 
 -- the text leads from one reading to another, whatever comes behind it
 pub record Leads (from : Reading) (text : List ℕ) (to : Reading) : Type 0 where
@@ -31,17 +26,11 @@ leads_word r t word space more solid white later = grind (arith, nat_tests, appe
 pub leads_as : (r s t : Reading) (xs ys : List ℕ) → xs ≡ ys → s ≡ t → Leads r xs s → Leads r ys t
 leads_as r s t xs ys same there leads = record { each = λ rest. ap (λ l. read_words (words (l ++ rest)) r) (sym same) ∙ leads.each rest ∙ ap (read_words (words rest)) there }
 
--- ---- declarations
-
 abbrev pub declaring : List Variable → Reading
 declaring vs = record { place = BetweenDeclarations; unit = Some (1, codes "ns"); scopes = codes "top" ∷ []; variables = vs; time = None; given = [] }
 
 abbrev in_var : List Variable → List (List ℕ) → Reading
 in_var vs ws = at_place (InDeclaration (codes "$var") (codes "wire" ∷ ws)) (declaring vs)
-
-goes_on : (vs : List Variable) (ws : List (List ℕ)) (word : List ℕ) → bytes_eq word (codes "$end") ≡ false
-    → word_in (InDeclaration (codes "$var") (codes "wire" ∷ ws)) word (in_var vs ws) ≡ in_var vs (ws ++ word ∷ [])
-goes_on vs ws word other = rw other refl
 
 var_end : (vs : List Variable) (width code name : List ℕ) → is_made_of is_ascii_digit width ≡ true → is_made_of is_printed code ≡ true
     → Leads (in_var vs (width ∷ code ∷ name ∷ [])) (codes "$end" ++ 10 ∷ [])
@@ -49,10 +38,9 @@ var_end : (vs : List Variable) (width code name : List ℕ) → is_made_of is_as
 var_end vs width code name number printed = record { each = λ rest. rw (number, printed) refl }
 
 var_word : (vs : List Variable) (ws : List (List ℕ)) (t : Reading) (word more : List ℕ) → IsSolid word → bytes_eq word (codes "$end") ≡ false → Leads (in_var vs (ws ++ word ∷ [])) more t → Leads (in_var vs ws) (word ++ 32 ∷ more) t
-var_word vs ws t word more solid other later = leads_word (in_var vs ws) t word 32 more solid refl (subst (λ (r : Reading). Leads r more t) (sym (goes_on vs ws word other)) later)
-
-var_start : (vs : List Variable) → Leads (declaring vs) (codes "$var wire ") (in_var vs [])
-var_start vs = record { each = λ rest. refl }
+var_word vs ws t word more solid other later =
+    let goes_on : word_in (InDeclaration (codes "$var") (codes "wire" ∷ ws)) word (in_var vs ws) ≡ in_var vs (ws ++ word ∷ []) = rw other refl in
+    leads_word (in_var vs ws) t word 32 more solid refl (subst (λ (r : Reading). Leads r more t) (sym goes_on) later)
 
 -- the variable of a wire with this record
 abbrev pub declared_as : ℕ → WireRecord → Variable
@@ -65,23 +53,20 @@ leads_declaration vs w r few narrow valid =
     let name = var_word vs (decimal r.width ∷ code w ∷ []) _ r.name (codes "$end" ++ 10 ∷ []) (IsSolid-name r.name valid) (name_not_end r.name valid) over in
     let own = var_word vs (decimal r.width ∷ []) _ (code w) _ (IsSolid-code w) (code_not_end w few) name in
     let width = var_word vs [] _ (decimal r.width) _ (IsSolid-decimal r.width narrow) (decimal_not_end r.width narrow) own in
-    let all = leads_both (declaring vs) (in_var vs []) _ (codes "$var wire ") _ (var_start vs) width in
+    let start : Leads (declaring vs) (codes "$var wire ") (in_var vs []) = record { each = λ rest. refl } in
+    let all = leads_both (declaring vs) (in_var vs []) _ (codes "$var wire ") _ start width in
     leads_as (declaring vs) _ _ (slot_declaration w (Some r)) (slot_declaration w (Some r)) refl
     (ap (λ k. declaring (vs ++ record { scopes = codes "top" ∷ []; width = k; code = code w; name = r.name } ∷ [])) (decimal_read r.width narrow)) all
-
--- ---- times and values
 
 abbrev pub valued : Side → List Variable → ℕ → List Given → Reading
 valued side vs t given = record { place = AmongValues side; unit = Some (1, codes "ns"); scopes = []; variables = vs; time = Some t; given = given }
 
-time_read : (vs : List Variable) (t new : ℕ) (given : List Given) → t < new → new < 2 ^ 64 → with_time (decimal new) (valued Outside vs t given) ≡ valued Outside vs new given
-time_read vs t new given later fits = grind (arith, nat_tests, decimal_made, decimal_read, lt-ltb)
-
 pub leads_time : (vs : List Variable) (t new : ℕ) (given : List Given) → t < new → new < 2 ^ 64 → Leads (valued Outside vs t given) (time_mark new) (valued Outside vs new given)
 leads_time vs t new given later fits =
+    let read : with_time (decimal new) (valued Outside vs t given) ≡ valued Outside vs new given = grind (arith, nat_tests, decimal_made, decimal_read, lt-ltb) in
     let word = solid_behind 35 (decimal new) (omega arith) (IsSolid-decimal new fits).solid in
     leads_word (valued Outside vs t given) (valued Outside vs new given) (35 ∷ decimal new) 10 [] word refl
-    (subst (λ (r : Reading). Leads r [] (valued Outside vs new given)) (sym (time_read vs t new given later fits)) (leads_none (valued Outside vs new given)))
+    (subst (λ (r : Reading). Leads r [] (valued Outside vs new given)) (sym read) (leads_none (valued Outside vs new given)))
 
 abbrev pub giving : ℕ → ℕ → ℕ → Given
 giving t w value = record { time = t; code = code w; value = value }
@@ -108,14 +93,12 @@ module _ (side : Side) (vs : List Variable) (t w level : ℕ) (given : List Give
   abbrev behind : Reading
   behind = at_place (BehindDigits side (bits width level)) (valued side vs t given)
 
-  vector_word : word_in (AmongValues side) (98 ∷ bits width level) (valued side vs t given) ≡ behind
-  vector_word = grind (arith, nat_tests, bits_made)
-
   leads_vector : Leads (valued side vs t given) ((98 ∷ (bits width level ++ 32 ∷ [])) ++ (code w ++ 10 ∷ [])) (valued side vs t (giving t w (level % 2 ^ width) ∷ given))
   leads_vector =
       let to = valued side vs t (giving t w (level % 2 ^ width) ∷ given) in
       let own : Leads behind (code w ++ 10 ∷ []) to =
       leads_word behind to (code w) 10 [] (IsSolid-code w) refl (subst (λ (r : Reading). Leads r [] to) (sym (code_read (bits width level) refl)) (leads_none to)) in
+      let vector_word : word_in (AmongValues side) (98 ∷ bits width level) (valued side vs t given) ≡ behind = grind (arith, nat_tests, bits_made) in
       let vector = solid_behind 98 (bits width level) (omega arith) (bits_solid width level) in
       let all = leads_word (valued side vs t given) to (98 ∷ bits width level) 32 (code w ++ 10 ∷ []) vector refl
       (subst (λ (r : Reading). Leads r (code w ++ 10 ∷ []) to) (sym vector_word) own) in

@@ -1,5 +1,4 @@
-use Rattle.std.specs.Prelude.{◌≡◌, ◌+◌, ◌%◌, ◌<◌, ◌∷◌, ◌++◌}
-use Rattle.mp_vcd.proofs.Names.{ℕ, List, [], length, refl, ap, sym, subst, ◌∙◌, rules, arith, set, length-append, IsPlaced, placed_both, placed_byte, code}
+use Rattle.mp_vcd.proofs.Names.{◌≡◌, ◌+◌, ◌%◌, ◌<◌, ◌∷◌, ◌++◌, ℕ, List, [], length, refl, ap, sym, subst, ◌∙◌, rules, arith, set, length-append, IsPlaced, placed_both, placed_byte, code}
 use Rattle.mp_vcd.proofs.CodeLemmas.{code-one, code_step, code_long, code_some}
 use Rattle.mp_vcd.proofs.code.write_code.Goals as goal
 

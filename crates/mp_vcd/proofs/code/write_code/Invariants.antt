@@ -1,5 +1,4 @@
-use Rattle.std.specs.Prelude.{◌≡◌, ◌+◌, ◌<◌, ◌++◌}
-use Rattle.mp_vcd.proofs.Names.{ℕ, List, IsPlaced, code}
+use Rattle.mp_vcd.proofs.Names.{◌≡◌, ◌+◌, ◌<◌, ◌++◌, ℕ, List, IsPlaced, code}
 use Rattle.mp_vcd.proofs.code.write_code.Given as goal
 
 -- the rest's code completes the wire's, which has five digits at most

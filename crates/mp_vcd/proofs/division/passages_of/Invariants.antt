@@ -1,5 +1,4 @@
-use Rattle.std.specs.Prelude.{◌≡◌, ◌-◌, ◌<◌, ◌≤◌}
-use Rattle.mp_vcd.proofs.Names.{flat_map, passage_text, times_text}
+use Rattle.mp_vcd.proofs.Names.{◌≡◌, ◌-◌, ◌<◌, ◌≤◌, flat_map, passage_text, times_text}
 use Rattle.mp_vcd.proofs.division.passages_of.Given as goal
 
 -- the passages so far are those of the times before the next

@@ -1,5 +1,4 @@
-use Rattle.std.specs.Prelude.{◌≡◌}
-use Rattle.mp_vcd.proofs.Names.{vec_len}
+use Rattle.mp_vcd.proofs.Names.{◌≡◌, vec_len}
 use Rattle.mp_vcd.proofs.first_places.first_places.Given as goal
 
 -- the wires so far have places

@@ -1,5 +1,4 @@
-use Rattle.std.specs.Prelude.{◌-◌, ◌<◌, ◌≤◌}
-use Rattle.mp_vcd.proofs.Names.{ℕ, length, AllWithin, changes_in}
+use Rattle.mp_vcd.proofs.Names.{◌-◌, ◌<◌, ◌≤◌, ℕ, length, AllWithin, changes_in}
 use Rattle.mp_vcd.proofs.parts.count_before.Given as goal
 
 -- the changes so far are earlier

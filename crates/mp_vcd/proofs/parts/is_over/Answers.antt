@@ -1,5 +1,4 @@
-use Rattle.std.specs.Prelude.{◌-◌, ◌<◌}
-use Rattle.mp_vcd.proofs.Names.{ℕ, length, ap, arith, ltb-true, get_or_default, changes_in}
+use Rattle.mp_vcd.proofs.Names.{◌-◌, ◌<◌, ℕ, length, ap, arith, ltb-true, get_or_default, changes_in}
 use Rattle.mp_vcd.proofs.parts.is_over.Goals as goal
 
 pub returns-else-place-eq0 : goal.returns-else-place-eq0

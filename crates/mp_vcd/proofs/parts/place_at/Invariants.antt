@@ -1,5 +1,4 @@
-use Rattle.std.specs.Prelude.{◌-◌, ◌≤◌}
-use Rattle.mp_vcd.proofs.Names.{length}
+use Rattle.mp_vcd.proofs.Names.{◌-◌, ◌≤◌, length}
 use Rattle.mp_vcd.proofs.parts.place_at.Given as goal
 
 -- the place lies between the two

@@ -1,7 +1,5 @@
-use Rattle.std.specs.Prelude.{◌+◌, ◌-◌, ◌≤◌, ◌++◌}
-use Rattle.std.proofs.lemmas.List.{drop_all, length-take}
-use Rattle.mp_vcd.proofs.Names.{refl, rules, drop, length, vec_len, ap, sym, ◌∙◌, arith, flat_map, passage_text, puts_as, puts_ok, left_whole, left_as, left_then, left_failed}
-use Rattle.mp_vcd.proofs.PassageLemmas.{text_divide, left_last}
+use Rattle.mp_vcd.proofs.Names.{◌+◌, ◌-◌, ◌≤◌, ◌++◌, refl, rules, drop, length, vec_len, ap, sym, ◌∙◌, arith, flat_map, passage_text, puts_as, puts_ok, left_whole, left_as, left_then, left_failed, drop_all, length-take}
+use Rattle.mp_vcd.proofs.StandingLemmas.{text_divide, left_last}
 use Rattle.mp_vcd.proofs.sharing.put_batches.Goals as goal
 
 pub loop-next-init : goal.loop-next-init

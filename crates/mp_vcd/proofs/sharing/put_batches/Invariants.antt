@@ -1,5 +1,4 @@
-use Rattle.std.specs.Prelude.{◌≡◌, ◌-◌, ◌<◌, ◌≤◌, ◌++◌}
-use Rattle.mp_vcd.proofs.Names.{drop, flat_map, length, vec_len, passage_text, AreMade, Left}
+use Rattle.mp_vcd.proofs.Names.{◌≡◌, ◌-◌, ◌<◌, ◌≤◌, ◌++◌, drop, flat_map, length, vec_len, passage_text, AreMade, Left}
 use Rattle.mp_vcd.proofs.sharing.put_batches.Given as goal
 
 -- the texts of the batch that is made and of the passages behind it are left

@@ -1,5 +1,4 @@
-use Rattle.std.specs.Prelude.{◌-◌}
-use Rattle.mp_vcd.proofs.Names.{flat_map, range_with_len, unit_text, Left}
+use Rattle.mp_vcd.proofs.Names.{◌-◌, flat_map, range_with_len, unit_text, Left}
 use Rattle.mp_vcd.proofs.units.put_agenda.Given as goal
 
 -- the units from the time on are left

@@ -1,5 +1,4 @@
-use Rattle.std.specs.Prelude.{◌≡◌, ◌≢◌, ◌+◌, ◌-◌, ◌<◌, ◌≤◌}
-use Rattle.mp_vcd.proofs.Names.{ℕ, slice_index, sym, subst, rules, arith, vec_len, writes_failed, Circuit, changed, IsChain, Tells, told_from, told_at, left_whole, left_as, left_then, left_failed, left_none}
+use Rattle.mp_vcd.proofs.Names.{◌≡◌, ◌≢◌, ◌+◌, ◌-◌, ◌<◌, ◌≤◌, ℕ, slice_index, sym, subst, rules, arith, vec_len, writes_failed, Circuit, changed, IsChain, Tells, told_from, told_at, left_whole, left_as, left_then, left_failed, left_none}
 use Rattle.mp_vcd.specs.declared.agenda.Agenda.{Agenda}
 use Rattle.mp_vcd.proofs.AgendaLemmas.{chain_next, marked_none, marked_some}
 use Rattle.mp_vcd.proofs.units.put_unit.Goals as goal

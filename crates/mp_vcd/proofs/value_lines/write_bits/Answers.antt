@@ -1,5 +1,4 @@
-use Rattle.std.specs.Prelude.{◌≡◌, ◌+◌, ◌-◌, ◌<◌, ◌≤◌, ◌/◌, ◌++◌}
-use Rattle.mp_vcd.proofs.Names.{drop, length, slice_set, rules, sym, ap, ◌∙◌, arith, take-set-le, length-set, placed_between, bit, bits}
+use Rattle.mp_vcd.proofs.Names.{◌≡◌, ◌+◌, ◌-◌, ◌<◌, ◌≤◌, ◌/◌, ◌++◌, drop, length, slice_set, rules, sym, ap, ◌∙◌, arith, take-set-le, length-set, placed_between, bit, bits}
 use Rattle.mp_vcd.proofs.CodeLemmas.{bits_step, bits-zero, bits_long}
 use Rattle.mp_vcd.proofs.value_lines.write_bits.Goals as goal
 

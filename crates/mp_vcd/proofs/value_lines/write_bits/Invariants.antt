@@ -1,5 +1,4 @@
-use Rattle.std.specs.Prelude.{◌≡◌, ◌+◌, ◌-◌, ◌≤◌, ◌++◌}
-use Rattle.mp_vcd.proofs.Names.{drop, take, length, bits}
+use Rattle.mp_vcd.proofs.Names.{◌≡◌, ◌+◌, ◌-◌, ◌≤◌, ◌++◌, drop, take, length, bits}
 use Rattle.mp_vcd.proofs.value_lines.write_bits.Given as goal
 
 -- the bits that are left stand before the digits so far, and what is before and behind them stays

@@ -1,5 +1,4 @@
-use Rattle.std.specs.Prelude.{◌+◌, ◌<◌}
-use Rattle.mp_vcd.proofs.Names.{ℕ, List, length, get_or, take, sym, subst, ◌∙◌, arith, changes_in, Tells, told_from, onto, with_told}
+use Rattle.mp_vcd.proofs.Names.{◌+◌, ◌<◌, ℕ, List, length, get_or, take, sym, subst, ◌∙◌, arith, changes_in, Tells, told_from, onto, with_told}
 use Rattle.mp_vcd.proofs.AgendaLemmas.{told_as, onto_next}
 use Rattle.mp_vcd.proofs.wave_changes.add_changes.Goals as goal
 

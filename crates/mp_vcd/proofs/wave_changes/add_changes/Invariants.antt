@@ -1,5 +1,4 @@
-use Rattle.std.specs.Prelude.{◌≡◌, ◌≤◌}
-use Rattle.mp_vcd.proofs.Names.{ℕ, List, length, take, vec_len, Tells, told_from, onto, changes_in}
+use Rattle.mp_vcd.proofs.Names.{◌≡◌, ◌≤◌, ℕ, List, length, take, vec_len, Tells, told_from, onto, changes_in}
 use Rattle.mp_vcd.proofs.wave_changes.add_changes.Given as goal
 
 -- the changes so far are told

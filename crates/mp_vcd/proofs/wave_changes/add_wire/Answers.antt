@@ -1,5 +1,4 @@
-use Rattle.std.specs.Prelude.{◌+◌, ◌-◌, ◌<◌}
-use Rattle.mp_vcd.proofs.Names.{sym, ap, ◌∙◌, arith, wire_at, told_from, onto, onto_slot}
+use Rattle.mp_vcd.proofs.Names.{◌+◌, ◌-◌, ◌<◌, sym, ap, ◌∙◌, arith, wire_at, told_from, onto, onto_slot}
 use Rattle.mp_wave.specs.WaveChanges.{changes_in as listed}
 use Rattle.mp_vcd.proofs.AgendaLemmas.{told_as, onto_wave, onto_between}
 use Rattle.mp_vcd.proofs.StandingLemmas.{changes_in}

@@ -1,5 +1,4 @@
-use Rattle.std.specs.Prelude.{◌≡◌, ◌+◌, ◌-◌, ◌<◌}
-use Rattle.mp_vcd.proofs.Names.{ℕ, List, drop, sym, ap, subst, ◌∙◌, rules, arith, filter, wire_at, standing_from, is_changed, Tells, told_from, with_levels, onto_slot}
+use Rattle.mp_vcd.proofs.Names.{◌≡◌, ◌+◌, ◌-◌, ◌<◌, ℕ, List, drop, sym, ap, subst, ◌∙◌, rules, arith, filter, wire_at, standing_from, is_changed, Tells, told_from, with_levels, onto_slot}
 use Rattle.mp_vcd.proofs.AgendaLemmas.{told_as}
 use Rattle.mp_vcd.proofs.StandingLemmas.{told_step}
 use Rattle.mp_vcd.proofs.wave_changes.agenda_of.Goals as goal

@@ -1,5 +1,4 @@
-use Rattle.std.specs.Prelude.{◌≡◌, ◌-◌, ◌≤◌}
-use Rattle.mp_vcd.proofs.Names.{drop, length, vec_len, filter, standing_from, is_changed, Tells, told_from, with_levels}
+use Rattle.mp_vcd.proofs.Names.{◌≡◌, ◌-◌, ◌≤◌, drop, length, vec_len, filter, standing_from, is_changed, Tells, told_from, with_levels}
 use Rattle.mp_vcd.proofs.wave_changes.agenda_of.Given as goal
 
 -- the changes of the wires from the number on are told

@@ -1,6 +1,4 @@
-use Rattle.std.specs.Prelude.{◌≡◌}
-use Rattle.std.proofs.Common.{take_all}
-use Rattle.mp_vcd.proofs.Names.{map, ap, ◌∙◌, arith, width_of}
+use Rattle.mp_vcd.proofs.Names.{◌≡◌, map, ap, ◌∙◌, arith, width_of, take_all}
 use Rattle.mp_vcd.proofs.AgendaLemmas.{width_is}
 use Rattle.mp_vcd.proofs.StandingLemmas.{narrow}
 use Rattle.mp_vcd.proofs.widths.widths_of.Goals as goal

@@ -1,5 +1,4 @@
-use Rattle.std.specs.Prelude.{◌≡◌}
-use Rattle.mp_vcd.proofs.Names.{map, take, width_of}
+use Rattle.mp_vcd.proofs.Names.{◌≡◌, map, take, width_of}
 use Rattle.mp_vcd.proofs.widths.widths_of.Given as goal
 
 -- the widths of the wires so far

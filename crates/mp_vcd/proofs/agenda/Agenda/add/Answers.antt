@@ -1,5 +1,4 @@
-use Rattle.std.specs.Prelude.{◌≡◌, ◌-◌, ◌<◌, ◌∷◌, ◌++◌}
-use Rattle.mp_vcd.proofs.Names.{[], length, slice_index, rules, refl, get_or_read_under, Entry, told_from, with_told}
+use Rattle.mp_vcd.proofs.Names.{◌≡◌, ◌-◌, ◌<◌, ◌∷◌, ◌++◌, [], length, slice_index, rules, refl, get_or_read_under, Entry, told_from, with_told}
 use Rattle.mp_vcd.proofs.AgendaLemmas.{told_as, told_more, with_told-from}
 use Rattle.mp_vcd.proofs.agenda.Agenda.add.Goals as goal
 

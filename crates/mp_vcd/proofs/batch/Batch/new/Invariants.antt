@@ -1,5 +1,4 @@
-use Rattle.std.specs.Prelude.{◌≡◌}
-use Rattle.mp_vcd.proofs.Names.{vec_len}
+use Rattle.mp_vcd.proofs.Names.{◌≡◌, vec_len}
 use Rattle.mp_vcd.proofs.batch.Batch.new.Given as goal
 
 -- so many rooms are there

@@ -1,5 +1,4 @@
-use Rattle.std.specs.Prelude.{◌≤◌}
-use Rattle.mp_vcd.proofs.Names.{[], refl, rules, arith, puts_as, puts_unmade, WriteFailed, OutOfMemory, unit_text, left_as, left_then, left_failed}
+use Rattle.mp_vcd.proofs.Names.{◌≤◌, [], refl, rules, arith, puts_as, puts_unmade, WriteFailed, OutOfMemory, unit_text, left_as, left_then, left_failed}
 use Rattle.mp_vcd.proofs.StandingLemmas.{times_divide}
 use Rattle.mp_vcd.proofs.passage.Passage.put.Goals as goal
 

@@ -1,5 +1,4 @@
-use Rattle.std.specs.Prelude.{◌-◌, ◌<◌, ◌≤◌}
-use Rattle.mp_vcd.proofs.Names.{Left, passage_text, times_text}
+use Rattle.mp_vcd.proofs.Names.{◌-◌, ◌<◌, ◌≤◌, Left, passage_text, times_text}
 use Rattle.mp_vcd.proofs.passage.Passage.put.Given as goal
 
 -- the units from the time on are left
