@@ -51,23 +51,12 @@ module _ (n : Circuit) (circuit : IsCircuit n) (named : HasNames n) (modules : L
     bundle_done : after_single c (added_bundle n r) ≡ Ok (bundled (bundles ++ Some new ∷ []))
     unfolding refusal edited
     bundle_done =
+        let valid = named.bundles (length front) r at in
         let free = ap is_none (named_nowhere bundle_name r.name bundles unnamed) in
+        let found = and_from _ _ (and_from _ _ request.found acknowledge.found) payload.found in
+        let wide = and_from _ _ (eq-eqb _ _ (request.width ∙ is.request.1)) (eq-eqb _ _ (acknowledge.width ∙ is.acknowledge.1)) in
         let within : length front < bundle_limit n.format = omega (arith, ap length split, length-append front (Some r ∷ back), circuit.bundles_few) in
-        is_done c (added_bundle n r) (none_failing (bundle_checks c (bundle_by_name n r)) (grind (
-          arith,
-          nat_tests,
-          and_from,
-          (named.bundles (length front) r at),
-          free,
-          is.request.1,
-          is.acknowledge.1,
-          is.setup,
-          request.found,
-          acknowledge.found,
-          payload.found,
-          request.width,
-          acknowledge.width,
-        )))
+        is_done c (added_bundle n r) (none_failing (bundle_checks c (bundle_by_name n r)) (grind (arith, nat_tests, valid, free, found, wide, is.setup)))
 
     bundle_added : AddsOne n.bundles (added_bundle n) (added_bundle (bundled [])) bundled r bundles
     bundle_added = record { new = new; done = bundle_done; same = rw (request.name, acknowledge.name, payload.name) refl }

@@ -1,5 +1,5 @@
 -- What a call that reads gives where a step of it failed.
-use Rattle.mp_text.proofs.Names.{◌≡◌, ◌+◌, ◌<◌, ◌≤◌, ◌∷◌, ◌++◌, ℕ, List, [], length, get_or, take, Bor, IsAscii, AreAscii, Result, Ok, Err, inl, true, nat_lt, ltb-true, refl, ap, ◌∙◌, arith, take_more, map-append, LineError, OutOfMemory, Gives, with_front, texts, err_from_is_err_and}
+use Rattle.mp_text.proofs.Names.{◌≡◌, ◌+◌, ◌<◌, ◌≤◌, ◌∷◌, ◌++◌, ℕ, List, [], length, get_or, take, Bor, IsAscii, AreAscii, Result, inl, true, nat_lt, ltb-true, refl, ap, ◌∙◌, arith, take_more, map-append, LineError, OutOfMemory, Gives, with_front, texts, err_from_is_err_and}
 use Rattle.std.specs.Result.{IsErrAnd}
 
 -- memory was wanting
@@ -8,8 +8,7 @@ wanting_given view given read is = let p = err_from_is_err_and given is in rw (p
 
 -- nothing goes before what was read
 pub front_none : {A : Type 0} (read : Result (List A) LineError) → with_front [] read ≡ read
-front_none (Ok items) = refl
-front_none (Err error) = refl
+front_none read = grind arith
 
 -- what a place that is not there reads as
 abbrev pub no_word : Bor (List ℕ)

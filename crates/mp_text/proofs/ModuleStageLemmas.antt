@@ -1,5 +1,5 @@
 -- The edits of a netlist's modules, once its wires are added, are not refused.
-use Rattle.mp_text.proofs.Names.{◌≡◌, ◌<◌, ◌≤◌, ◌==◌, ◌∷◌, ◌++◌, added_module, ℕ, true, List, [], length, map, get_or, All, Option, Some, None, Ok, option_map, is_none, refl, sym, ap, subst, ◌∙◌, arith, length-append, IsSome, IfSome, slice_index_or, flat_map, list_all, eq-eqb, nat_tests, get_or_at, get_or_append_left, get_or-map, length-map, All-map, All-from_get_or, input_width, output_width, are_params, WireId, ModuleRecord, Input, InputName, OutputName, no_input, output_in, Circuit, IsCircuit, IsModule, HasWidth, Drives, wire_at, module_at, width_of, module_width, HasNames, no_name, some_input, wire_name, module_by_name, module_edits, input_by_name, output_by_name, list_all-from_AllPass, and_from, refusal, edited, after_single, stands, wire_id, width_named, is_undriven, is_delay, is_input_delay, delays_fit, driven_names, first_width, new_width, inputs_stand, inputs_fit, output_fits, outputs_fit, module_checks, input_of, output_of, new_module, without_stimulus, module_limit, map_fixed, map-map}
+use Rattle.mp_text.proofs.Names.{lt-ltb, ◌≡◌, ◌<◌, ◌≤◌, ◌==◌, ◌∷◌, ◌++◌, added_module, ℕ, true, List, [], length, map, get_or, All, Option, Some, None, Ok, option_map, is_none, refl, sym, ap, subst, ◌∙◌, arith, length-append, IsSome, IfSome, slice_index_or, flat_map, list_all, eq-eqb, nat_tests, get_or_at, get_or_append_left, get_or-map, length-map, All-map, All-from_get_or, input_width, output_width, are_params, WireId, ModuleRecord, Input, InputName, OutputName, no_input, output_in, Circuit, IsCircuit, IsModule, HasWidth, Drives, wire_at, module_at, width_of, module_width, HasNames, no_name, some_input, wire_name, module_by_name, module_edits, input_by_name, output_by_name, list_all-from_AllPass, and_from, refusal, edited, after_single, stands, wire_id, width_named, is_undriven, is_delay, is_input_delay, delays_fit, driven_names, first_width, new_width, inputs_stand, inputs_fit, output_fits, outputs_fit, module_checks, input_of, output_of, new_module, without_stimulus, module_limit, map_fixed, map-map}
 use Rattle.mp_text.proofs.SlotLemmas.{Unnamed, named_nowhere, front_unnamed}
 use Rattle.mp_text.proofs.StageLemmas.{none_failing, is_done, Reaches, Added, AddsOne, added_reached, unnamed_again}
 use Rattle.mp_text.proofs.OutputLemmas.{output_named, is_output, DrivesNone, undriven_by_name, drives_none, is_nothing_driven, driven_all, driven_distinct, counted_all}
@@ -44,8 +44,7 @@ module _ (n c : Circuit) (has : HasWires n c) (r : ModuleRecord) (is : IsModule 
       by : (p : ℕ) → p < length input_names → (width_named c (get_or input_names p nowhere).wire == input_width r.kind (new_width c r.kind input_names) p) ≡ true
       by p long =
           let within : p < length r.inputs = omega (arith, long, length-map r.inputs (input_by_name n)) in
-          let at = get_or-map (input_by_name n) r.inputs p no_input nowhere within in
-          eq-eqb _ _ (ap (λ (i : InputName). width_named c i.wire) at ∙ (input_back p within).width ∙ (is.reads p no_input within).1 ∙ ap (λ width. input_width r.kind width p) (sym width_same))
+          grind (arith, nat_tests, (get_or-map (input_by_name n) r.inputs p no_input nowhere within), (input_back p within).width, (is.reads p no_input within).1, width_same)
 
   pub params_ranged : are_params r.kind (new_width c r.kind input_names) r.params ≡ true
   params_ranged = ap (λ width. are_params r.kind width r.params) width_same ∙ is.params
@@ -63,9 +62,7 @@ module _ (n c : Circuit) (has : HasWires n c) (r : ModuleRecord) (is : IsModule 
 
   output_wide : (p : ℕ) (wire : Option WireId) → (output_in r.outputs p).wire ≡ wire → output_fits c (option_map (wire_name n) wire) (output_width r.kind (new_width c r.kind input_names) p) ≡ true
   output_wide p None at = refl
-  output_wide p (Some w) at =
-      let wide = output_wires p w at in
-      eq-eqb _ _ ((is_back n c has w wide.0).width ∙ wide.1 ∙ ap (λ width. output_width r.kind width p) (sym width_same))
+  output_wide p (Some w) at = let wide = output_wires p w at in grind (arith, nat_tests, wide.1, (is_back n c has w wide.0).width, width_same)
 
   pub outputs_wide : outputs_fit c r.kind (new_width c r.kind input_names) output_names ≡ true
   outputs_wide = counted_all (λ (port : ℕ × OutputName). output_fits c port.1.wire (output_width r.kind (new_width c r.kind input_names) port.0)) output_names no_name by
@@ -181,26 +178,16 @@ module _ (n : Circuit) (circuit : IsCircuit n) (named : HasNames n) where
     module_done =
         let outputs = map (output_by_name n) r.outputs in
         let has = has_wires modules in
+        let valid = named.modules (length front) r at in
+        let free = ap is_none (named_nowhere module_name r.name modules unnamed) in
+        let counts = and_from _ _ (eq-eqb _ _ (length-map r.inputs (input_by_name n) ∙ is.inputs)) (eq-eqb _ _ (length-map r.outputs (output_by_name n) ∙ is.outputs)) in
+        let found = and_from _ _ (inputs_found n c has r is) (outputs_found n c has r is) in
+        let wide = and_from _ _ (inputs_wide n c has r is) (outputs_wide n c has r is) in
+        let unset = and_from _ _ (driven_all (is_undriven c) outputs undriven) (driven_distinct outputs distinct) in
         let within : length front < module_limit n.format = omega (arith, ap length split, length-append front (Some r ∷ back), circuit.modules_few) in
-        is_done c (added_module n r) (none_failing (module_checks c (module_by_name n r)) (grind (
-          arith,
-          nat_tests,
-          and_from,
-          (named.modules (length front) r at),
-          (ap is_none (named_nowhere module_name r.name modules unnamed)),
-          (length-map r.inputs (input_by_name n)),
-          (length-map r.outputs (output_by_name n)),
-          is.inputs,
-          is.outputs,
-          (inputs_found n c has r is),
-          (outputs_found n c has r is),
-          (inputs_wide n c has r is),
-          (outputs_wide n c has r is),
-          (params_ranged n c has r is),
-          (delays_low n c has r is),
-          (driven_all (is_undriven c) outputs undriven),
-          (driven_distinct outputs distinct),
-        )))
+        let room = lt-ltb (length modules) (module_limit n.format) (omega (arith, few)) in
+        is_done c (added_module n r)
+        (none_failing (module_checks c (module_by_name n r)) (valid, (free, (counts, (found, (wide, (params_ranged n c has r is, (delays_low n c has r is, (unset, (room, tt))))))))))
 
     module_added : AddsOne n.modules (added_module n) (added_module (moduled [])) moduled r modules
     module_added = record { new = new; done = module_done; same = added_again n c (has_wires modules) r is }

@@ -1,5 +1,5 @@
 -- The names that many proofs here cite, passed on from one place. Declares nothing.
-pub use Rattle.std.proofs.Common.{All, Bool, Bor, Err, IfErr, IfSome, IsAscii, IsSome, IsTrue, List, None, Ok, OnOk, Option, Result, Some, [], ap, append-nil, append_assoc, arith, bytes_eq, codes, cond, decimal, drop, eq-eqb, eqb-true, false, filter, filter_map, flat_map, get_or, if◌then◌else◌, inl, inr, is_none, is_some, leb-false, length, length-append, length-drop, length-take, lt-ltb, ltb-true, map, map-id, min, nat_le, nat_lt, not, option_and_then, option_copied, option_map, refl, rules, slice_get, slice_index_or, slice_set, subst, suc, sym, take, tests, true, true≢false, unwrap_or, zero, ℕ, ◌&&◌, ◌++◌, ◌+◌, ◌-◌, ◌<◌, ◌==◌, ◌^◌, ◌||◌, ◌∙◌, ◌∷◌, ◌≡◌, ◌≢◌, ◌≤◌, ◌⊎◌}
+pub use Rattle.std.proofs.Common.{drop-cons, add-one, drop_of_length-le, All, Bool, Bor, Err, IfErr, IfSome, IsAscii, IsSome, IsTrue, List, None, Ok, OnOk, Option, Result, Some, [], ap, append-nil, append_assoc, arith, bytes_eq, codes, cond, decimal, drop, eq-eqb, eqb-true, false, filter, filter_map, flat_map, get_or, if◌then◌else◌, inl, inr, is_none, is_some, leb-false, length, length-append, length-drop, length-take, lt-ltb, ltb-true, map, map-id, min, nat_le, nat_lt, not, option_and_then, option_copied, option_map, refl, rules, slice_get, slice_index_or, slice_set, subst, suc, sym, take, tests, true, true≢false, unwrap_or, zero, ℕ, ◌&&◌, ◌++◌, ◌+◌, ◌-◌, ◌<◌, ◌==◌, ◌^◌, ◌||◌, ◌∙◌, ◌∷◌, ◌≡◌, ◌≢◌, ◌≤◌, ◌⊎◌}
 pub use Rattle.std.proofs.lemmas.Bool.{and_from, and_parts, cases_Bool, cases_eq, false_from_ne_true, ne_eqb}
 pub use Rattle.std.proofs.lemmas.Bool.Decides.{nat_tests}
 pub use Rattle.std.proofs.lemmas.List.{at_drop_all, at_drop_more, get_or-map, get_or_append_left, get_or_at, length-map, length_push, map-append, set-get_or, set_at, set_split, take-take, take_all, take_min, take_more}

@@ -1,5 +1,5 @@
 -- The netlist of a text is a replay.
-use Rattle.mp_text.proofs.Names.{◌≡◌, ◌+◌, ◌∷◌, if◌then◌else◌, ◌==◌, ℕ, Bool, true, false, cond, List, [], map, Result, Ok, Err, refl, ap, filter_map, list_all, SingleEdit, EditError, Circuit, empty_circuit, after_single, go_on, replay, replay_singles, NotAscii, BadNumber, Line, TextCode, TextState, Fresh, Formatted, Open, ◌>>=◌, TextError, lines_of, is_allowed, words_of, Statement, Format, Start, statement_of, in_text, text_at, after_lines, after_line, after_statement, formatted, next_line, Standard, Large, netlist_format, TextFormat, format_of, eqb-true, arith, nat_tests}
+use Rattle.mp_text.proofs.Names.{◌≡◌, ◌+◌, ◌∷◌, if◌then◌else◌, ◌==◌, ℕ, Bool, true, false, cond, List, [], map, Result, Ok, Err, refl, ap, filter_map, list_all, SingleEdit, Circuit, empty_circuit, replay, replay_singles, NotAscii, BadNumber, Line, TextCode, TextState, Fresh, Formatted, Open, ◌>>=◌, TextError, lines_of, is_allowed, words_of, Statement, Format, Start, statement_of, in_text, text_at, after_lines, after_line, after_statement, formatted, next_line, Standard, Large, netlist_format, TextFormat, format_of, eqb-true, arith, nat_tests}
 use Rattle.mp_netlist.specs.declared.format.Format.{Format as NetlistFormat}
 use Rattle.mp_records.specs.declared.edit.Edit.TheVariants.{Single}
 use Rattle.mp_text.specs.Laws.{format_by, horizon_of, edit_of, statements, IsReplayed, IsReplay}
@@ -69,12 +69,7 @@ opens k c (line ∷ lines) h =
 -- a replay of edits of one thing
 singles_replayed : (n : Circuit) (edits : List SingleEdit) → replay n (map Single edits) ≡ replay_singles n edits
 singles_replayed n [] = refl
-singles_replayed n (edit ∷ edits) = by (after_single n edit) (λ next. singles_replayed next edits)
-  where
-    by : (made : Result Circuit EditError) → ((next : Circuit) → replay next (map Single edits) ≡ replay_singles next edits)
-        → go_on (λ next. replay next (map Single edits)) made ≡ go_on (λ next. replay_singles next edits) made
-    by (Ok next) later = later next
-    by (Err error) later = refl
+singles_replayed n (edit ∷ edits) = grind (arith, nat_tests, (λ (next : Circuit). singles_replayed next edits))
 
 replayed : (lines : List (List ℕ)) (c : Circuit) → Opens (format_by (statements lines)) (statements lines) c → IsReplayed lines c
 replayed lines c opened = grind (arith, nat_tests, singles_replayed)

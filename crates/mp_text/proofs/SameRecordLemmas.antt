@@ -1,5 +1,5 @@
 -- The edits of a netlist's records by name lead to a netlist with the same records.
-use Rattle.mp_text.proofs.Names.{AddModule, edit_for, map, option_map, ◌≡◌, ◌∷◌, ◌++◌, ℕ, suc, List, [], get_or, Option, Some, None, Ok, refl, sym, ap, ◌∙◌, flat_map, append-nil, WireId, WireRecord, ModuleRecord, Circuit, IsCircuit, empty_circuit, HasNames, replay_singles, name_in, wire_name, SameRecords, standing, module_edits, stimulus_edits, bundle_edits, edits_by_name, arith, nat_tests}
+use Rattle.mp_text.proofs.Names.{AddModule, edit_for, map, option_map, ◌≡◌, ◌∷◌, ◌++◌, ℕ, suc, List, [], get_or, Option, Some, None, Ok, refl, flat_map, append-nil, WireId, WireRecord, ModuleRecord, Circuit, IsCircuit, empty_circuit, HasNames, replay_singles, name_in, wire_name, SameRecords, standing, module_edits, stimulus_edits, bundle_edits, edits_by_name, arith, nat_tests}
 use Rattle.mp_text.proofs.WireStageLemmas.{bare, made, wires_reached}
 use Rattle.mp_text.proofs.ModuleStageLemmas.{modules_reached}
 use Rattle.mp_text.proofs.StimulusStageLemmas.{kept, stimuli_reached}
@@ -44,19 +44,11 @@ made_again n circuit named =
     let modules = modules_reached n circuit named in
     let stimuli = stimuli_reached n circuit named modules.holds.things modules.holds.same in
     let bundles = bundles_reached n circuit named modules.holds.things in
-    let stimulus_changes = flat_map stimulus_edits n.wires in
-    let bundle_changes = flat_map (bundle_edits n) n.bundles in
-    let module_changes = flat_map (module_edits n) n.modules in
+    let last = flat_map (bundle_edits n) n.bundles in
+    let others = flat_map stimulus_edits n.wires ++ last in
+    let edits = flat_map (module_edits n) n.modules ++ others in
     record {
       again = bundles.goal;
-      replayed =
-          wires.leads (module_changes ++ (stimulus_changes ++ bundle_changes))
-          ∙ ap (λ c. replay_singles c (module_changes ++ (stimulus_changes ++ bundle_changes))) wires.holds
-          ∙ modules.leads (stimulus_changes ++ bundle_changes)
-          ∙ ap (λ c. replay_singles c (stimulus_changes ++ bundle_changes)) modules.holds.is
-          ∙ stimuli.leads bundle_changes
-          ∙ ap (λ c. replay_singles c bundle_changes) stimuli.holds
-          ∙ ap (replay_singles (made n (flat_map kept n.wires) modules.holds.things [])) (sym (append-nil bundle_changes))
-          ∙ bundles.leads [];
+      replayed = grind (arith, append-nil, (wires.leads edits), wires.holds, (modules.leads others), modules.holds.is, (stimuli.leads last), stimuli.holds, (bundles.leads []));
       same = same_records n circuit named modules.holds.things modules.holds.same bundles.goal bundles.holds;
     }

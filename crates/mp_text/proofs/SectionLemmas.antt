@@ -1,5 +1,5 @@
 -- The lines of a section, slot by slot.
-use Rattle.mp_text.proofs.Names.{◌≡◌, ◌+◌, ◌<◌, ◌≤◌, ◌++◌, left_none, left_as, left_then, left_whole, ℕ, List, [], drop, None, refl, flat_map, at_drop_more, at_drop_all, Circuit, Wires, Modules, Stimuli, Bundles, slot_count, slot_line, section_text, wire_line, module_line, stimulus_line, bundle_line, Section, arith, nat_tests}
+use Rattle.mp_text.proofs.Names.{drop-cons, add-one, drop_of_length-le, ◌≡◌, ◌+◌, ◌<◌, ◌≤◌, ◌++◌, left_none, left_as, left_then, left_whole, ℕ, List, [], drop, None, refl, flat_map, at_drop_more, at_drop_all, Circuit, Wires, Modules, Stimuli, Bundles, slot_count, slot_line, section_text, wire_line, module_line, stimulus_line, bundle_line, Section, arith, nat_tests}
 
 -- the lines of the slots with this number and those above
 unfoldable pub lines_from : Circuit → Section → ℕ → List ℕ
@@ -15,16 +15,10 @@ lines_from-all n s = grind (arith, nat_tests)
 -- the line of a slot, before those of the others
 pub lines_from-next : (n : Circuit) (s : Section) (k : ℕ) → k < slot_count n s → lines_from n s k ≡ slot_line n s k ++ lines_from n s (k + 1)
 unfolding lines_from
-lines_from-next n Wires k within = at_drop_more (flat_map wire_line) n.wires k None within
-lines_from-next n Modules k within = at_drop_more (flat_map (module_line n)) n.modules k None within
-lines_from-next n Stimuli k within = at_drop_more (flat_map stimulus_line) n.wires k None within
-lines_from-next n Bundles k within = at_drop_more (flat_map (bundle_line n)) n.bundles k None within
+lines_from-next n s k within = grind (arith, nat_tests, drop-cons, add-one)
 
 pub lines_from-none : (n : Circuit) (s : Section) (k : ℕ) → slot_count n s ≤ k → lines_from n s k ≡ []
 unfolding lines_from
-lines_from-none n Wires k over = at_drop_all (flat_map wire_line) n.wires k over
-lines_from-none n Modules k over = at_drop_all (flat_map (module_line n)) n.modules k over
-lines_from-none n Stimuli k over = at_drop_all (flat_map stimulus_line) n.wires k over
-lines_from-none n Bundles k over = at_drop_all (flat_map (bundle_line n)) n.bundles k over
+lines_from-none n s k over = grind (arith, nat_tests, drop_of_length-le)
 
 pub ruleset sectionlinestext_put_to_steps = (lines_from-all, left_whole, left_then, left_as, lines_from-next, left_none, lines_from-none)

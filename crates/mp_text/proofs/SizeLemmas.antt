@@ -16,8 +16,6 @@ unfolding text_limit
 limit_of_front k text long =
     ap (λ front. cond (states_third (first_words (lines_of front))) max_text max_short_text) (take-take (max_short_text + 1) k text (omega (arith, long)))
 
--- ---- the first line that has words
-
 pub first_blank : (line : List ℕ) (lines : List (List ℕ)) → length (words_of line) ≡ 0 → first_words (line ∷ lines) ≡ first_words lines
 first_blank line lines none = rw (eq-eqb (length (words_of line)) 0 none) refl
 

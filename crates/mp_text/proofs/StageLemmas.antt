@@ -1,5 +1,5 @@
 -- Edits, slot by slot, that no check refuses.
-use Rattle.mp_text.proofs.Names.{◌≡◌, ◌≤◌, ◌∷◌, ◌++◌, ℕ, Bool, true, false, List, [], append_assoc, All, Option, None, Some, Ok, length, refl, sym, ap, subst, ◌∙◌, arith, flat_map, flat_map-append, append-nil, length_push, bytes_eq, All-cons, All-nil, All-head, All-weaker, SingleEdit, AddModule, AddBundle, EditError, Circuit, go_on, after_single, unless, refusal, edited, first_failing, replay_singles, edit_for, nat_tests}
+use Rattle.mp_text.proofs.Names.{◌≡◌, ◌≤◌, ◌∷◌, ◌++◌, ℕ, Bool, true, false, List, [], append_assoc, All, Option, None, Some, Ok, length, refl, sym, ap, subst, arith, flat_map, flat_map-append, append-nil, length_push, bytes_eq, All-cons, All-nil, All-head, All-weaker, SingleEdit, AddModule, AddBundle, EditError, Circuit, go_on, after_single, unless, refusal, edited, first_failing, replay_singles, edit_for, nat_tests}
 use Rattle.mp_text.proofs.SlotLemmas.{All-flat_map, All-from_flat_map, Unnamed}
 
 -- each check passes
@@ -38,8 +38,6 @@ pub stage : {R : Type 0} (slots : List (Option R)) (edits : Option R → List Si
 stage slots edits At step [] front same c holds = grind (arith, Reaches-none, append-nil)
 stage slots edits At step (slot ∷ back) front same c holds = grind (arith, nat_tests, append_assoc, (stage slots edits At step back (front ++ slot ∷ [])))
 
--- ---- things that edits add by name
-
 -- the edit adds no module and no bundle of this name
 abbrev AddsNone : List ℕ → SingleEdit → Type 0
 AddsNone q (AddModule new) = bytes_eq q new.name ≡ false
@@ -70,9 +68,7 @@ module _ {R : Type 0} (slots : List (Option R)) (add again : R → SingleEdit) (
   add_step adds front back (Some r) split c at =
       let one = adds front back r split at.things at.same at.few in
       let things = at.things ++ Some one.new ∷ [] in
-      let same : flat_map (edit_for again) things ≡ flat_map (edit_for add) (front ++ Some r ∷ []) =
-      flat_map-append (edit_for again) at.things (Some one.new ∷ []) ∙ ap (λ edits. edits ++ again one.new ∷ []) at.same
-      ∙ ap (λ edit. flat_map (edit_for add) front ++ edit ∷ []) one.same ∙ sym (flat_map-append (edit_for add) front (Some r ∷ [])) in
+      let same : flat_map (edit_for again) things ≡ flat_map (edit_for add) (front ++ Some r ∷ []) = grind (arith, flat_map-append, at.same, one.same) in
       subst (λ d. Reaches (Added (front ++ Some r ∷ []) back) d (add r ∷ [])) (sym at.is)
       (Reaches-one (Added (front ++ Some r ∷ []) back) (build at.things) (build things) (add r) one.done
       (record { things = things; is = refl; same = same; few = omega (arith, at.few, length_push at.things (Some one.new), length_push front (Some r)) }))

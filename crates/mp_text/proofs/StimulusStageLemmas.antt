@@ -1,5 +1,5 @@
 -- The edits of what is set on a netlist's wires, once its modules are added, are not refused.
-use Rattle.mp_text.proofs.Names.{◌≡◌, ◌<◌, ◌∷◌, ◌++◌, ℕ, true, not, List, [], append_assoc, length, get_or, All, Option, Some, None, Ok, option_map, is_some, unwrap_or, refl, sym, ap, subst, ◌∙◌, IsTrue, IfSome, slice_set, flat_map, option_and_then, append-nil, get_or_at, set_at, flat_map-append, WireId, WireRecord, ModuleRecord, SetStimulus, output_in, number_named, Circuit, IsCircuit, Drives, wire_at, width_of, stimulus_in, stimulus_at, HasNames, driver, is_port, name_in, wire_name, module_edits, set_edits, stimulus_edits, is_stimulus, refusal, edited, after_single, stands, wire_id, width_named, stimulus_checks, with_stimulus, without_stimulus, arith, nat_tests}
+use Rattle.mp_text.proofs.Names.{◌≡◌, ◌<◌, ◌∷◌, ◌++◌, ℕ, true, not, List, [], append_assoc, length, get_or, All, Option, Some, None, Ok, is_some, unwrap_or, refl, sym, ap, subst, ◌∙◌, IsTrue, IfSome, flat_map, option_and_then, append-nil, get_or_at, set_at, flat_map-append, WireId, WireRecord, ModuleRecord, SetStimulus, output_in, number_named, Circuit, IsCircuit, Drives, wire_at, width_of, stimulus_in, stimulus_at, HasNames, driver, is_port, name_in, wire_name, module_edits, set_edits, stimulus_edits, is_stimulus, refusal, edited, after_single, stands, wire_id, width_named, stimulus_checks, with_stimulus, without_stimulus, arith, nat_tests}
 use Rattle.mp_text.proofs.SlotLemmas.{compact, compact-none, length-compact, named_behind, front_unnamed, compact_unnamed}
 use Rattle.mp_text.proofs.StageLemmas.{none_failing, is_done, Reaches, Reaches-none, Reaches-one, Steps, stage}
 use Rattle.mp_text.proofs.OutputLemmas.{DrivesNone, undriven_by_name, drives_none, is_no_port}
@@ -9,9 +9,6 @@ use Rattle.mp_text.proofs.ModuleStageLemmas.{drive_stands}
 -- a wire with what is set on it
 abbrev pub kept : Option WireRecord → List (Option WireRecord)
 kept slot = compact (λ (r : WireRecord). r) slot
-
-abbrev with_set : WireRecord → Option (List (ℕ × ℕ)) → WireRecord
-with_set r stimulus = record r { stimulus = stimulus }
 
 module _ (n : Circuit) (circuit : IsCircuit n) (named : HasNames n) (modules : List (Option ModuleRecord))
     (same : flat_map (module_edits (made n (flat_map bare n.wires) [] [])) modules ≡ flat_map (module_edits n) n.modules) where
@@ -54,11 +51,8 @@ module _ (n : Circuit) (circuit : IsCircuit n) (named : HasNames n) (modules : L
 
     unset_name : name_in (wire_at unset (wire_id c r.name).0) ≡ r.name
     unset_name =
-        let parts = ap (flat_map bare) split ∙ flat_map-append bare front (Some r ∷ back) in
         let long : length (flat_map bare front) ≡ length before = length-compact without_stimulus (λ (s : WireRecord). s) front in
-        ap (λ k. name_in (wire_at unset k)) place
-        ∙ ap (λ xs. name_in (get_or xs (length before) None)) parts
-        ∙ ap name_in (get_or_at (flat_map bare front) (Some (without_stimulus r)) behind None (length before) long)
+        grind (arith, place, split, (flat_map-append bare front (Some r ∷ back)), (get_or_at (flat_map bare front) (Some (without_stimulus r)) behind None (length before) long))
 
     module _ (changes : List (ℕ × ℕ)) (set : r.stimulus ≡ Some changes) where
       nobody : (k p : ℕ) (s : ModuleRecord) (w : WireId) → k < length n.modules → get_or n.modules k None ≡ Some s → (output_in s.outputs p).wire ≡ Some w → wire_name n w ≡ r.name → ⊥
@@ -82,11 +76,8 @@ module _ (n : Circuit) (circuit : IsCircuit n) (named : HasNames n) (modules : L
           let free : not (is_port (driver c (wire_id c r.name).0)) ≡ true = ap not (is_no_port c (wire_id c r.name).0 undriven) in
           let ok = subst (λ stimulus. IfSome stimulus (λ (changes : List (ℕ × ℕ)). IsTrue (is_stimulus n.horizon r.width 0 changes))) set (circuit.wires_ok (length front) r at).stimulus in
           let valid : is_stimulus n.horizon (width_named c r.name) 0 changes ≡ true = ap (λ w. is_stimulus n.horizon w 0 changes) width ∙ ok in
-          is_done c (SetStimulus r.name changes) (none_failing (stimulus_checks c r.name changes) (found, (free, (valid, tt))))
-          ∙ ap (λ i. Ok (made n (slice_set c.wires i (option_map (with_stimulus changes) (wire_at c i))) modules [])) place
-          ∙ ap (λ wire. Ok (made n (slice_set c.wires (length before) (option_map (with_stimulus changes) wire)) modules [])) slot
-          ∙ ap (λ wires. Ok (made n wires modules [])) (set_at before (Some (without_stimulus r)) behind (Some (with_stimulus changes (without_stimulus r))) (length before) refl)
-          ∙ ap (λ stimulus. Ok (made n (before ++ Some (with_set r stimulus) ∷ behind) modules [])) (sym set)
+          let done = is_done c (SetStimulus r.name changes) (none_failing (stimulus_checks c r.name changes) (found, (free, (valid, tt)))) in
+          grind (arith, done, place, slot, set, (set_at before (Some (without_stimulus r)) behind (Some (with_stimulus changes (without_stimulus r))) (length before) refl))
 
     -- the netlist once the wire has what is set on it
     wire_set : (stimulus : Option (List (ℕ × ℕ))) → r.stimulus ≡ stimulus → Reaches (AtStimuli (front ++ Some r ∷ []) back) c (set_edits r.name stimulus)

@@ -1,5 +1,5 @@
 -- The edits of a netlist's wires, on an empty netlist, are not refused.
-use Rattle.mp_text.proofs.Names.{◌≡◌, ◌<◌, ◌∷◌, ◌++◌, ℕ, suc, true, List, [], length, get_or, Option, Some, None, is_none, is_some, unwrap_or, Ok, refl, sym, ap, subst, ◌∙◌, arith, length-append, IsSome, flat_map, option_and_then, nat_tests, get_or_at, flat_map-append, WireId, WireRecord, ModuleRecord, BundleRecord, AddWire, Circuit, IsCircuit, wire_at, width_of, stimulus_in, HasNames, name_in, wire_name, wire_edits, and_from, refusal, edited, after_single, stands, wire_id, width_named, wire_checks, without_stimulus, wire_limit}
+use Rattle.mp_text.proofs.Names.{◌≡◌, ◌<◌, ◌∷◌, ◌++◌, ℕ, suc, true, List, [], length, get_or, Option, Some, None, is_none, Ok, refl, sym, ap, subst, ◌∙◌, arith, length-append, IsSome, flat_map, nat_tests, get_or_at, flat_map-append, WireId, WireRecord, ModuleRecord, BundleRecord, AddWire, Circuit, IsCircuit, wire_at, width_of, stimulus_in, HasNames, name_in, wire_name, wire_edits, and_from, refusal, edited, after_single, stands, wire_id, width_named, wire_checks, without_stimulus, wire_limit}
 use Rattle.mp_text.proofs.SlotLemmas.{compact, compact-none, compact_few, IsAt, IsAt-compact, named_nowhere, front_unnamed, compact_unnamed}
 use Rattle.mp_text.proofs.StageLemmas.{none_failing, is_done, Reaches, Reaches-none, Reaches-one, Steps, stage}
 
@@ -37,13 +37,7 @@ is_back n c has w some = by (wire_at n w.0) refl some
     by None at some = cc
     by (Some r) at some =
         let kept = has.each w.0 r at in
-        let same : wire_name n w ≡ r.name = ap name_in at in
-        let number : (wire_id c r.name).0 ≡ kept.there.place = ap (λ (found : Option ℕ). unwrap_or found 0) kept.there.named in
-        record {
-          found = ap (stands c) same ∙ ap is_some kept.there.named;
-          width = ap (width_named c) same ∙ ap (λ (found : Option ℕ). width_of (option_and_then (wire_at c) found)) kept.there.named ∙ ap width_of kept.there.at ∙ kept.width ∙ sym (ap width_of at);
-          name = ap (λ name. wire_name c (wire_id c name)) same ∙ ap (λ place. name_in (wire_at c place)) number ∙ ap name_in kept.there.at ∙ kept.called ∙ sym same;
-        }
+        grind (arith, nat_tests, at, kept.there.named, kept.there.at, kept.called, kept.width)
 
 -- two wires of one name are one
 pub same_wire : (n : Circuit) → HasNames n → (w v : ℕ) → IsSome (wire_at n w) → IsSome (wire_at n v) → name_in (wire_at n w) ≡ name_in (wire_at n v) → w ≡ v
