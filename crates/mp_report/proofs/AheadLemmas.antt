@@ -1,6 +1,5 @@
 -- Lemmas on a wire from a time on.
-use Rattle.std.specs.Prelude.{◌≡◌, ◌≢◌, ◌+◌, ◌-◌, ◌<◌, ◌≤◌, ◌==◌, ◌∷◌}
-use Rattle.mp_report.proofs.Names.{ℕ, true, false, List, [], refl, ap, sym, subst, ◌∙◌, arith, Some, None, slice_get, cases_eq, ne_eqb, nat_tests, changes_in, Waveform, AreChanges, level_from, last_time, wave_upto, last_time-changes_after, AreChanges-changes_after, level_from-changes_after, has_event, IsAhead, Ahead}
+use Rattle.mp_report.proofs.Names.{◌≡◌, ◌+◌, ◌-◌, ◌<◌, ◌≤◌, ◌==◌, ◌∷◌, ℕ, true, false, List, [], refl, ap, sym, ◌∙◌, arith, Some, None, slice_get, cases_eq, ne_eqb, nat_tests, changes_in, Waveform, AreChanges, level_from, last_time, wave_upto, last_time-changes_after, AreChanges-changes_after, level_from-changes_after, has_event, IsAhead, Ahead}
 use Rattle.mp_wave.proofs.WaveformLemmas.{level_from-before, level_from-first, le-last_time}
 
 -- a wave from time 1 on
@@ -11,24 +10,20 @@ ahead_of_wave f end a wave some is level changes = grind (arith, nat_tests, last
 pub level_before : (f : ℕ → ℕ) (end time : ℕ) (a : Ahead) → IsAhead f end time a → time ≤ end → a.level ≡ f (time - 1)
 level_before f end time a is le = grind (arith, nat_tests, level_from-before)
 
--- an event is a difference
-pub event_of : (f : ℕ → ℕ) (t : ℕ) → 0 < t → f (t - 1) ≢ f t → has_event f t ≡ true
-event_of f t some other = grind (arith, nat_tests, ne_eqb)
-
 -- where its changes begin with one
 module _ (f : ℕ → ℕ) (end time : ℕ) (a : Ahead) (change : ℕ × ℕ) (later : List (ℕ × ℕ)) (is : IsAhead f end time a) (head : (changes_in a.changes) ≡ change ∷ later) where
   form : AreChanges (time - 1) a.level (change ∷ later)
-  form = subst (AreChanges (time - 1) a.level) head is.form
+  form = rw head at is.form
 
   last : last_time change.0 later < end
-  last = subst (λ (cs : List (ℕ × ℕ)). last_time (time - 1) cs < end) head is.within
+  last = rw head at is.within
 
   -- no change comes before the time that is reached
   pub first_late : time ≤ change.0
   first_late = omega (arith, form.0, is.some)
 
   levels_are : (u : ℕ) → time ≤ u + 1 → u < end → level_from a.level (change ∷ later) u ≡ f u
-  levels_are u low high = ap (λ (cs : List (ℕ × ℕ)). level_from a.level cs u) (sym head) ∙ is.levels u low high
+  levels_are u low high = rw head at is.levels u low high
 
   -- before the first change the level stays
   held : (u : ℕ) → time ≤ u + 1 → u < change.0 → u < end → f u ≡ a.level
@@ -40,7 +35,7 @@ module _ (f : ℕ → ℕ) (end time : ℕ) (a : Ahead) (change : ℕ × ℕ) (l
       let least = le-last_time change.0 change.1 later form.2 in
       let before = held (change.0 - 1) (omega (arith, is.some, form.0)) (omega (arith, form.0)) (omega (arith, last, least)) in
       let now : f change.0 ≡ change.1 = sym (levels_are change.0 (omega (arith, first_late)) (omega (arith, last, least))) ∙ level_from-first (time - 1) a.level change later form in
-      event_of f change.0 (omega (arith, form.0)) (λ same. form.1 (sym before ∙ same ∙ now))
+      grind (arith, nat_tests, ne_eqb, before, now, form.0, form.1)
 
   -- before it there is none
   pub none_sooner : (t : ℕ) → time ≤ t → t < change.0 → t < end → has_event f t ≡ false

@@ -1,8 +1,6 @@
 -- Findings by place, sorted by time, are the findings by time.
-use Rattle.std.specs.Prelude.{◌≡◌, ◌≢◌, ◌+◌, ◌-◌, ◌<◌, ◌≤◌, ◌==◌, ◌⊎◌, ◌&&◌, ◌∷◌, ◌++◌}
-use Rattle.mp_report.proofs.Names.{ℕ, inl, inr, Bool, true, false, not, cond, List, [], map, All, filter, flat_map, nat_cmp, is_lt, zero, suc, refl, ap, sym, subst, ◌∙◌, append-nil, arith, range_with_len, cases_eq, cases_lt, nat_tests, FindingCode, MergeCollision, by_number, Circuit, Place, Finding, codes_at, found_over, finding_at, found_by_place}
+use Rattle.mp_report.proofs.Names.{map-append, map-map, ◌≡◌, ◌≢◌, ◌+◌, ◌-◌, ◌<◌, ◌≤◌, ◌==◌, ◌⊎◌, ◌&&◌, ◌∷◌, ◌++◌, ℕ, inl, inr, Bool, not, cond, List, [], map, All, filter, flat_map, nat_cmp, is_lt, zero, suc, refl, ap, sym, subst, ◌∙◌, append-nil, arith, range_with_len, cases_eq, cases_lt, nat_tests, FindingCode, MergeCollision, by_number, Circuit, Place, Finding, codes_at, found_over, finding_at, found_by_place}
 use Rattle.std.specs.List.Sorted.{IsNonDecreasingBy, IsStableByKey}
-use Rattle.std.proofs.lemmas.List.{map-append}
 use Rattle.std.proofs.lemmas.List.Elements.{filter-append, filter_agree}
 use Rattle.mp_model.specs.Findings.{is_found, module_place, places, found_at, findings}
 use Rattle.mp_report.proofs.TimeLemmas.{told_none, told_same}
@@ -24,10 +22,10 @@ module _ {X : Type 0} (key : X → ℕ) where
   AllAt t (x ∷ xs) = (key x ≡ t) × AllAt t xs
 
   yes_key : (t : ℕ) (x : X) (xs : List X) → key x ≡ t → filter (at_key t) (x ∷ xs) ≡ x ∷ filter (at_key t) xs
-  yes_key t x xs same = let test : at_key t x ≡ true = grind (arith, nat_tests) in ap (λ b. cond b (x ∷ filter (at_key t) xs) (filter (at_key t) xs)) test
+  yes_key t x xs same = grind (arith, nat_tests)
 
   no_key : (t : ℕ) (x : X) (xs : List X) → key x ≢ t → filter (at_key t) (x ∷ xs) ≡ filter (at_key t) xs
-  no_key t x xs other = let test : at_key t x ≡ false = grind (arith, nat_tests) in ap (λ b. cond b (x ∷ filter (at_key t) xs) (filter (at_key t) xs)) test
+  no_key t x xs other = grind (arith, nat_tests)
 
   none_at : (a b : ℕ) (xs : List X) → a < b → Rising b xs → filter (at_key a) xs ≡ []
   none_at a b [] lt up = refl
@@ -36,8 +34,6 @@ module _ {X : Type 0} (key : X → ℕ) where
   none_other : (t u : ℕ) (xs : List X) → u ≢ t → AllAt u xs → filter (at_key t) xs ≡ []
   none_other t u [] other are = refl
   none_other t u (x ∷ xs) other are = grind (arith, nat_tests, no_key, (none_other t u xs other are.1))
-
-  -- ---- rising lists with the same elements of each key
 
   not_below : (x y : X) (xs ys : List X) → Rising (key y) ys → filter (at_key (key x)) (x ∷ xs) ≡ filter (at_key (key x)) (y ∷ ys) → key y ≤ key x
   not_below x y xs ys up same = grind (arith, nat_tests, none_at, yes_key, cases_lt)
@@ -58,8 +54,6 @@ module _ {X : Type 0} (key : X → ℕ) where
       let rest : (t : ℕ) → filter (at_key t) xs ≡ filter (at_key t) ys =
       (λ t. same_rest x y (filter (at_key t) xs) (filter (at_key t) ys) (at_key t x) (at_key t y) (ap (λ k. k == t) equal) (same t)) in
       ap (λ z. z ∷ xs) first ∙ ap (λ l. y ∷ l) (same_lists (key x) xs ys up.1 (subst (λ (k : ℕ). Rising k ys) (sym equal) rises.1) rest)
-
-  -- ---- which lists rise
 
   rising_front : (a : ℕ) (xs ys : List X) → AllAt a xs → Rising (a + 1) ys → Rising a (xs ++ ys)
   rising_front a [] [] are up = grind (arith, nat_tests)
@@ -89,10 +83,6 @@ filter_flat_map : {X Y : Type 0} (p : Y → Bool) (f : X → List Y) (xs : List 
 filter_flat_map p f [] = refl
 filter_flat_map p f (x ∷ xs) = grind (arith, nat_tests, filter-append, (filter_flat_map p f xs))
 
-map_flat_map : {X Y Z : Type 0} (g : Y → Z) (f : X → List Y) (xs : List X) → map g (flat_map f xs) ≡ flat_map (λ x. map g (f x)) xs
-map_flat_map g f [] = refl
-map_flat_map g f (x ∷ xs) = grind (arith, nat_tests, map-append, (map_flat_map g f xs))
-
 module _ {P X : Type 0} (key : X → ℕ) (at : ℕ → P → List X) (are : (u : ℕ) (p : P) → AllAt key u (at u p)) (ps : List P) (t : ℕ) where
   abbrev of_place : ℕ → ℕ → P → List X
   of_place a n p = filter (at_key key t) (flat_map (λ u. at u p) (range_with_len a n))
@@ -118,8 +108,6 @@ module _ {P X : Type 0} (key : X → ℕ) (at : ℕ → P → List X) (are : (u 
       ∙ turn a n (cases_eq a t) (swapped (a + 1) n)
       ∙ sym (filter-append (at_key key t) (flat_map (at a) ps) times ∙ ap (λ l. l ++ of_times (a + 1) n) (filter_flat_map (at_key key t) (at a) ps))
 
--- ---- findings
-
 abbrev pub time_of : Finding → ℕ
 time_of f = f.time
 
@@ -136,18 +124,13 @@ all_at place t (code ∷ codes) = grind (arith, nat_tests, (all_at place t codes
 all_found : (n : Circuit) (t : ℕ) (place : Place) → AllAt time_of t (found_at n t place)
 all_found n t place = all_at place t (filter (is_found n place t) by_number)
 
-found_is : (place : Place) (t : ℕ) (codes : List FindingCode) → map (finding_at place) (map (λ (code : FindingCode). let pair : ℕ × FindingCode = (t, code) in pair) codes) ≡ map (one_finding t place) codes
-found_is place t [] = refl
-found_is place t (code ∷ codes) = grind (arith, nat_tests, (found_is place t codes))
-
 -- what is found at a place, time by time
-over_times : (n : Circuit) (place : Place) → map (finding_at place) (found_over n place) ≡ flat_map (λ u. found_at n u place) (range_with_len 1 (n.horizon - 1))
-unfolding found_over
-over_times n place =
-    map_flat_map (finding_at place) (codes_at n place) (range_with_len 1 (n.horizon - 1))
-    ∙ told_same (λ u. map (finding_at place) (codes_at n place u)) (λ u. found_at n u place) (λ u. found_is place u (filter (is_found n place u) by_number)) (range_with_len 1 (n.horizon - 1))
-
--- ---- sorted by time
+over_times : (n : Circuit) (place : Place) (ts : List ℕ) → map (finding_at place) (flat_map (codes_at n place) ts) ≡ flat_map (λ u. found_at n u place) ts
+over_times n place [] = refl
+over_times n place (t ∷ ts) =
+    map-append (finding_at place) (codes_at n place t) (flat_map (codes_at n place) ts)
+    ∙ ap (λ l. l ++ map (finding_at place) (flat_map (codes_at n place) ts)) (map-map (finding_at place) (λ code. (t, code)) (filter (is_found n place t) by_number))
+    ∙ ap (λ l. found_at n t place ++ l) (over_times n place ts)
 
 tie_is : (t u : ℕ) → not (is_lt (nat_cmp t u)) && not (is_lt (nat_cmp u t)) ≡ (u == t)
 tie_is t u = grind (arith, is_lt, nat_tests)
@@ -155,18 +138,16 @@ tie_is t u = grind (arith, is_lt, nat_tests)
 -- a stable sort by time leaves the findings of each time as they were
 same_at : (xs ys : List Finding) → IsStableByKey time_of nat_cmp xs ys → (t : ℕ) → filter (is_at t) ys ≡ filter (is_at t) xs
 same_at xs ys stable t =
-    let x = one_finding t (module_place 0) MergeCollision in
-    sym (filter_agree (λ (y : Finding). not (is_lt (nat_cmp x.time y.time)) && not (is_lt (nat_cmp y.time x.time))) (is_at t) (λ y. tie_is t y.time) ys)
-    ∙ stable x
-    ∙ filter_agree (λ (y : Finding). not (is_lt (nat_cmp x.time y.time)) && not (is_lt (nat_cmp y.time x.time))) (is_at t) (λ y. tie_is t y.time) xs
+    let tied : Finding → Bool = (λ y. not (is_lt (nat_cmp t y.time)) && not (is_lt (nat_cmp y.time t))) in
+    sym (filter_agree tied (is_at t) (λ y. tie_is t y.time) ys) ∙ stable (one_finding t (module_place 0) MergeCollision) ∙ filter_agree tied (is_at t) (λ y. tie_is t y.time) xs
 
 -- the findings by place, sorted by time
 pub sorted_findings : (n : Circuit) (xs ys : List Finding) → xs ≡ found_by_place n (places n) → IsNonDecreasingBy time_of ys → IsStableByKey time_of nat_cmp xs ys → ys ≡ findings n
-unfolding findings
+unfolding findings found_over
 sorted_findings n xs ys are rises stable =
     let ps = places n in
     let over : Place → List Finding = (λ place. flat_map (λ u. found_at n u place) (range_with_len 1 (n.horizon - 1))) in
-    let by_times : xs ≡ flat_map over ps = are ∙ told_same (λ place. map (finding_at place) (found_over n place)) over (over_times n) ps in
+    let by_times : xs ≡ flat_map over ps = are ∙ told_same (λ place. map (finding_at place) (found_over n place)) over (λ place. over_times n place (range_with_len 1 (n.horizon - 1))) ps in
     let told : ℕ → List Finding = (λ t. flat_map (found_at n t) ps) in
     let up = rising_front time_of 0 [] (flat_map told (range_with_len 1 (n.horizon - 1))) tt (rising_times time_of told (λ t. all_flat time_of t (found_at n t) (all_found n t) ps) 1 (n.horizon - 1)) in
     same_lists time_of 0 ys (flat_map told (range_with_len 1 (n.horizon - 1))) (rising_from time_of 0 ys rises (λ k d within. omega arith)) up

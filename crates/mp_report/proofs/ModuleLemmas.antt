@@ -1,6 +1,5 @@
 -- Lemmas on what is found at modules.
-use Rattle.std.specs.Prelude.{◌≡◌, ◌-◌, ◌<◌, ◌≤◌, ◌++◌}
-use Rattle.mp_report.proofs.Names.{ℕ, List, [], Some, None, flat_map, suc, refl, ap, subst, ◌∙◌, arith, range_with_len, nat_tests, FindingCode, Memory, no_findings, Circuit, IsCircuit, module_at, built, inputs_by, level, state, module_place, start, found, any_part_of, IsSpan, findings_of, found_at, codes_at, found_over, ModuleRecord}
+use Rattle.mp_report.proofs.Names.{◌≡◌, ◌-◌, ◌<◌, ◌≤◌, ℕ, List, [], Some, None, flat_map, suc, ap, subst, ◌∙◌, arith, range_with_len, nat_tests, FindingCode, Memory, no_findings, Circuit, IsCircuit, module_at, built, inputs_by, level, state, module_place, start, found, any_part_of, IsSpan, findings_of, found_at, codes_at, found_over, ModuleRecord}
 use Rattle.mp_storage.specs.declared.any_module.AnyModule.{AnyModule}
 use Rattle.mp_model.proofs.BehaviourLemmas.{satisfies}
 use Rattle.mp_model.proofs.BuiltLemmas.{width_of_module}
@@ -10,26 +9,14 @@ use Rattle.mp_response.proofs.DelayLemmas.{finds_by_states}
 use Rattle.mp_response.proofs.JoinLemmas.{inside_alone}
 use Rattle.mp_report.proofs.TimeLemmas.{told_none, told_same_from}
 
--- what is found at a module at a time from 1 on
-later_found : (n : Circuit) (m t : ℕ) (r : ModuleRecord) → module_at n m ≡ Some r → 1 ≤ t
-    → findings_of t (found_at (built n r) (state_before (built n r) (state n m) t) (inputs_by n (level n) r t) t) ≡ codes_at n (module_place m) t
-unfolding findings_of
-later_found n m t r at some = grind (arith, nat_tests)
-
-first_found : (part : AnyModule) (s : Memory) (x : List ℕ) → findings_of 0 (found_at part s x 0) ≡ []
-unfolding findings_of
-first_found part s x = refl
-
 -- what is found over a span of all times
 module_over : (n : Circuit) (m : ℕ) (r : ModuleRecord) → module_at n m ≡ Some r → 1 ≤ n.horizon
     → flat_map (λ t. findings_of t (found_at (built n r) (state_before (built n r) (state n m) t) (inputs_by n (level n) r t) t)) (range_with_len 0 (n.horizon - 0)) ≡ found_over n (module_place m)
-unfolding found_over
+unfolding found_over findings_of
 module_over n m r at some =
     let told : ℕ → List (ℕ × FindingCode) = λ t. findings_of t (found_at (built n r) (state_before (built n r) (state n m) t) (inputs_by n (level n) r t) t) in
     let whole : n.horizon - 0 ≡ suc (n.horizon - 1) = omega (arith, some) in
-    ap (λ k. flat_map told (range_with_len 0 k)) whole
-    ∙ ap (λ (fs : List (ℕ × FindingCode)). fs ++ flat_map told (range_with_len 1 (n.horizon - 1))) (first_found (built n r) (state_before (built n r) (state n m) 0) (inputs_by n (level n) r 0))
-    ∙ told_same_from told (codes_at n (module_place m)) 1 (n.horizon - 1) (λ t low high. later_found n m t r at low)
+    ap (λ k. flat_map told (range_with_len 0 k)) whole ∙ told_same_from told (codes_at n (module_place m)) 1 (n.horizon - 1) (λ t low high. grind (arith, nat_tests))
 
 -- the findings of a module's answer over all times
 pub answer_over : (n : Circuit) → IsCircuit n → (m : ℕ) (r : ModuleRecord) (part : AnyModule) (s : Memory) (x : ℕ → List ℕ) (piece : Piece) → module_at n m ≡ Some r → part ≡ built n r → s ≡ start part

@@ -1,6 +1,5 @@
 -- Lists that several threads make.
-use Rattle.std.specs.Prelude.{◌≡◌, ◌∷◌, ◌++◌}
-use Rattle.mp_report.proofs.Names.{List, [], map, flat_map, Ok, Err, refl, sym, ap, subst, ◌∙◌, AllZip, IfOk, MatchResult}
+use Rattle.mp_report.proofs.Names.{◌≡◌, ◌∷◌, ◌++◌, List, [], map, flat_map, Ok, Err, refl, sym, ap, subst, ◌∙◌, AllZip, IfOk, MatchResult}
 use Rattle.std.specs.declared.result.Result.{Result}
 
 -- where each answer is there, what holds of it holds of what it has
@@ -13,8 +12,7 @@ all_there E P xs ys h = absurd h
 pub collected : {A B C E F : Type 0} (P : A → B → Type 0) (items : C → List B) (lost : F → Type 0) (xs : List A) (rs : List (Result B E)) (r : Result C F)
     → AllZip (λ x a. IfOk a (P x)) xs rs → MatchResult r (λ c. (ys : List B) × (rs ≡ map Ok ys) × (items c ≡ ys)) lost → IfOk r (λ c. AllZip P xs (items c))
 collected {E = E} P items lost xs rs (Ok c) each done =
-    let ys = done.0 in
-    subst (AllZip P xs) (sym done.2) (all_there E P xs ys (subst (AllZip (λ x (a : Result _ E). IfOk a (P x)) xs) done.1 each))
+    subst (AllZip P xs) (sym done.2) (all_there E P xs done.0 (subst (AllZip (λ x (a : Result _ E). IfOk a (P x)) xs) done.1 each))
 collected P items lost xs rs (Err e) each done = tt
 
 -- lists that are those of a function, side by side

@@ -1,6 +1,5 @@
 -- The waves of wires that stand.
-use Rattle.std.specs.Prelude.{◌≡◌, ◌-◌, ◌<◌}
-use Rattle.mp_report.proofs.Names.{form_of_wave, ℕ, List, Option, Some, IsSome, ap, ◌∙◌, arith, Waveform, IsWaveform, level_of, between, levels_of_wave, Input, Circuit, IsCircuit, wire_at, input_by, level, wave, AreWavesOf, later_by, put_off, piece_level, InPiece}
+use Rattle.mp_report.proofs.Names.{◌≡◌, ◌-◌, ◌<◌, form_of_wave, ℕ, List, Option, Some, IsSome, ap, ◌∙◌, arith, Waveform, IsWaveform, level_of, between, levels_of_wave, Input, Circuit, IsCircuit, wire_at, input_by, level, wave, AreWavesOf, later_by, put_off, piece_level, InPiece}
 use Rattle.mp_wave.proofs.PrefixLemmas.{cut_levels}
 use Rattle.mp_netlist.specs.Slots.{slot_at}
 use Rattle.mp_model.proofs.InputLemmas.{input_is}

@@ -1,5 +1,4 @@
-use Rattle.std.specs.Prelude.{◌≡◌, ◌-◌, ◌+◌, ◌++◌}
-use Rattle.mp_report.proofs.Names.{ℕ, List, flat_map, ap, sym, ◌∙◌, arith, range_with_len, FindingCode, findings_of, bundle_set}
+use Rattle.mp_report.proofs.Names.{◌≡◌, ◌-◌, ◌+◌, ◌++◌, ℕ, List, flat_map, ap, sym, ◌∙◌, arith, range_with_len, FindingCode, findings_of, bundle_set}
 use Rattle.mp_report.proofs.TimeLemmas.{told_more, told_quiet}
 use Rattle.mp_report.proofs.BundleLemmas.{quiet_set}
 use Rattle.mp_report.proofs.bundles.found_by.Goals as goal

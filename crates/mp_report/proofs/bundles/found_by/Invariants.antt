@@ -1,5 +1,4 @@
-use Rattle.std.specs.Prelude.{◌-◌, ◌≡◌, ◌≤◌}
-use Rattle.mp_report.proofs.Names.{flat_map, range_with_len, AreAhead, bundle_set, findings_of}
+use Rattle.mp_report.proofs.Names.{◌-◌, ◌≡◌, ◌≤◌, flat_map, range_with_len, AreAhead, bundle_set, findings_of}
 use Rattle.mp_report.proofs.bundles.found_by.Given as goal
 
 -- what is found before the time of the next change

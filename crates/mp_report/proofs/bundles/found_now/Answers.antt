@@ -1,5 +1,4 @@
-use Rattle.std.specs.Prelude.{◌≡◌, ◌==◌, ◌-◌}
-use Rattle.mp_report.proofs.Names.{ℕ, not, ap, ◌∙◌, arith, level, is_busy, is_requested_soon, changes}
+use Rattle.mp_report.proofs.Names.{◌≡◌, ◌==◌, ◌-◌, not, arith, level, is_busy, is_requested_soon, changes}
 use Rattle.mp_report.proofs.AheadLemmas.{level_before}
 use Rattle.mp_report.proofs.bundles.found_now.Goals as goal
 
@@ -16,6 +15,5 @@ returns c =
     let soon : c.is_requested_soon-soon.result ≡ is_requested_soon n b t = c.is_requested_soon-soon.ensures in
     let before = level_before (level n b.request.0) n.horizon t c.args.watch.request ahead.request (omega (arith, within)) in
     let after = level_before (level n b.acknowledge.0) n.horizon t c.args.watch.acknowledge ahead.acknowledge (omega (arith, within)) in
-    let busy : not (c.args.watch.request.level == c.args.watch.acknowledge.level) ≡ is_busy n b (t - 1) =
-    ap (λ (v : ℕ). not (v == c.args.watch.acknowledge.level)) before ∙ ap (λ (v : ℕ). not (level n b.request.0 (t - 1) == v)) after in
+    let busy : not (c.args.watch.request.level == c.args.watch.acknowledge.level) ≡ is_busy n b (t - 1) = cc in
     cc

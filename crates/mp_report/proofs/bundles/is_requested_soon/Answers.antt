@@ -1,5 +1,4 @@
-use Rattle.std.specs.Prelude.{◌≡◌}
-use Rattle.mp_report.proofs.Names.{nat_lt, false, sym, ◌∙◌, arith, nat_tests, level}
+use Rattle.mp_report.proofs.Names.{◌≡◌, nat_lt, false, sym, ◌∙◌, arith, nat_tests, level}
 use Rattle.mp_report.proofs.BundleLemmas.{soon_if, soon_none}
 use Rattle.mp_report.proofs.bundles.is_requested_soon.Goals as goal
 

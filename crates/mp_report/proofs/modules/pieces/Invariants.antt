@@ -1,5 +1,4 @@
-use Rattle.std.specs.Prelude.{◌≡◌, ◌<◌}
-use Rattle.mp_report.proofs.Names.{ℕ, map, take, vec_len, input_by, level, levels_at}
+use Rattle.mp_report.proofs.Names.{◌≡◌, ◌<◌, ℕ, map, take, vec_len, input_by, level, levels_at}
 use Rattle.mp_report.proofs.modules.pieces.Given as goal
 
 -- the pieces so far are those of the inputs so far

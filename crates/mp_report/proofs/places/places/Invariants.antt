@@ -1,5 +1,4 @@
-use Rattle.std.specs.Prelude.{◌≡◌, ◌++◌}
-use Rattle.mp_report.proofs.Names.{map, length, range_with_len, module_place, bundle_place}
+use Rattle.mp_report.proofs.Names.{◌≡◌, ◌++◌, map, length, range_with_len, module_place, bundle_place}
 use Rattle.mp_report.proofs.places.places.Given as goal
 
 -- the modules so far

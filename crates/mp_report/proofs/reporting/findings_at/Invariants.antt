@@ -1,5 +1,4 @@
-use Rattle.std.specs.Prelude.{◌≡◌}
-use Rattle.mp_report.proofs.Names.{map, take, finding_at}
+use Rattle.mp_report.proofs.Names.{◌≡◌, map, take, finding_at}
 use Rattle.mp_report.proofs.reporting.findings_at.Given as goal
 
 -- the findings so far

@@ -1,5 +1,4 @@
-use Rattle.std.specs.Prelude.{◌≡◌}
-use Rattle.mp_report.proofs.Names.{ap, ◌∙◌, map, IfOk, Place, found_over, finding_at}
+use Rattle.mp_report.proofs.Names.{◌≡◌, ap, ◌∙◌, map, IfOk, Place, found_over, finding_at}
 use Rattle.rayon.proofs.ToStd.{slice-AllZip}
 use Rattle.mp_report.proofs.ShareLemmas.{collected}
 use Rattle.mp_report.proofs.reporting.found_at_each.Goals as goal

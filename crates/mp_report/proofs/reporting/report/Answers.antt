@@ -1,5 +1,4 @@
-use Rattle.std.specs.Prelude.{◌≡◌}
-use Rattle.mp_report.proofs.Names.{◌∙◌, rules, map, Vec, Global, Place, Finding, places, found_over, finding_at}
+use Rattle.mp_report.proofs.Names.{◌≡◌, ◌∙◌, rules, map, Vec, Global, Place, Finding, places, found_over, finding_at}
 use Rattle.std.proofs.lemmas.Fn.{always_returns_same}
 use Rattle.std.proofs.lemmas.List.Sorted.{IsNonDecreasingBy-from_sort_by_key}
 use Rattle.mp_report.proofs.MergeLemmas.{time_of, sorted_findings}

@@ -1,5 +1,4 @@
-use Rattle.std.specs.Prelude.{◌≡◌}
-use Rattle.mp_report.proofs.Names.{ℕ, subst, sym, ◌∙◌, arith, true, has_event, changes_in}
+use Rattle.mp_report.proofs.Names.{◌≡◌, ℕ, subst, sym, ◌∙◌, arith, true, has_event, changes_in}
 use Rattle.mp_report.proofs.AheadLemmas.{first_event, first_is}
 use Rattle.mp_report.proofs.ahead.Ahead.next.Goals as goal
 
