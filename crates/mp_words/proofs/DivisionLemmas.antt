@@ -1,13 +1,11 @@
 -- The lines of an input up to a division.
-use Rattle.mp_words.proofs.Names.{◌≡◌, ◌+◌, ◌-◌, ◌<◌, ◌≤◌, ◌∷◌, ◌++◌, ℕ, true, false, nat_lt, List, [], length, take, drop, All, refl, sym, ap, subst, ◌∙◌, append_assoc, length-drop, arith, before_first, after_first, position_or_len, cases_lt, eqb-true, lt-ltb, le-ltb, or_left, or_right, drop_all, take_all, take_more, take-append-drop, length-take-le, All-nil, All-push, fails_before_first, passes_at_first, take-add, get_or-take, take-length, list_any-append, list_any_none, is_division, first_part, later_parts, are_divided, is_line_feed, lines_of, take_rest}
+use Rattle.mp_words.proofs.Names.{◌≡◌, ◌+◌, ◌-◌, ◌<◌, ◌≤◌, ◌∷◌, ◌++◌, ℕ, true, false, nat_lt, List, [], length, take, drop, All, refl, sym, ap, subst, ◌∙◌, append_assoc, length-drop, arith, before_first, after_first, position_or_len, cases_lt, eqb-true, lt-ltb, le-ltb, or_left, or_right, drop_all, take_all, take_more, take-append-drop, length-take-le, All-nil, All-push, fails_before_first, passes_at_first, take-add, get_or-take, take-length, list_any-append, list_any_none, is_division, first_part, later_parts, are_divided, is_line_feed, lines_of, take_rest, map_push, false_from_ne_true, get_or_default, list_any-from_Any, slice_split_none, slice_split_first, parts_of}
 use Rattle.mp_words.proofs.DividedLemmas.{before_first-append, after_first-append, before_first-none, after_first-none}
 use Rattle.mp_words.proofs.LineLemmas.{lines_of-cons, lines_of-line}
 
 no_lines : lines_of [] ≡ []
 unfolding lines_of
 no_lines = refl
-
--- ---- whole lines before others
 
 -- bytes that end where a line ends
 abbrev pub AreWhole : List ℕ → Type 0
@@ -22,8 +20,6 @@ module _ (line : List ℕ) (none : All (λ b. is_line_feed b ≡ false) line) wh
 
   line_whole : (front : List ℕ) → AreWhole front → AreWhole (front ++ (line ++ 10 ∷ []))
   line_whole front whole more = grind (arith, append_assoc, lines_of-line, lines_of-more)
-
--- ---- one line further
 
 -- none of the lines divides an input
 abbrev pub Undivided : List (List ℕ) → Type 0
@@ -70,11 +66,7 @@ module _ (input : List ℕ) (at : ℕ) where
     by_end more =
         let none : others ≡ [] = drop_all (feed + 1) rest (omega arith) in
         let next : length input - length others ≡ length input = omega (arith, ap length none) in
-        subst IsNext (sym next) (record {
-          within = omega arith;
-          lines = ap lines_of (take-length input) ∙ all_lines ∙ ap (λ l. lines_of (take at input) ++ line ∷ l) (ap lines_of none ∙ no_lines);
-          whole = λ inner. absurd (omega (arith, inner));
-        })
+        grind (arith, next, none, (take-length input), all_lines, no_lines)
 
     pub next_line_in : IsNext (length input - length others)
     next_line_in = grind (arith, cases_lt, by_feed, by_end)
@@ -94,8 +86,6 @@ module _ (input : List ℕ) (at : ℕ) where
         pub divided_here : nat_lt (length (take at input)) (length input) ≡ are_divided (lines_of input)
         divided_here = grind (arith, length-take-le, or_right, or_left, lt-ltb, all_lines, list_any-append)
 
--- ---- at the end
-
 module _ (input : List ℕ) (at : ℕ) (over : length input ≤ at) (before : Undivided (lines_of (take at input))) where
   none : Undivided (lines_of input)
   none = subst (λ bytes. Undivided (lines_of bytes)) (take_all at input over) before
@@ -111,3 +101,14 @@ module _ (input : List ℕ) (at : ℕ) (over : length input ≤ at) (before : Un
   divided_end = le-ltb (length input) (length input) (omega arith) ∙ sym (list_any_none is_division (lines_of input) none)
 
 pub ruleset division_steps = (none_whole, none_undivided, take_rest, divided_here)
+
+-- the first part, and those behind the first division
+pub parts_of-split : (lines : List (List ℕ)) → are_divided lines ≡ true → parts_of lines ≡ first_part lines ∷ parts_of (later_parts lines)
+parts_of-split lines divided = grind (arith, slice_split_first, cases_lt, list_any_none, fails_before_first)
+
+-- without a division there is one part
+pub parts_of-one : (lines : List (List ℕ)) → are_divided lines ≡ false → parts_of lines ≡ first_part lines ∷ []
+parts_of-one lines undivided = grind (arith, false_from_ne_true, list_any-from_Any, get_or_default, slice_split_none, before_first-none)
+
+-- by which the parts of an input are taken one by one
+pub ruleset part_steps = (parts_of-split, parts_of-one, lt-ltb, le-ltb, append_assoc, map_push)

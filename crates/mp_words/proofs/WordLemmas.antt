@@ -1,5 +1,6 @@
 -- Facts about words.
-use Rattle.mp_words.proofs.Names.{◌<◌, ◌==◌, ◌∷◌, ◌-◌, ◌≡◌, ℕ, Bool, List, [], Bor, length, drop, take, IsAscii, All, sym, subst, slice_split, onto_first, position_or_len, All-cons, All-nil, All-head, All-tail, All-filter, All-weaker, map, arith, get_or-map, length-map, IsAscii-from_all, All-from_ascii, IsAscii-take, take_rest, drop-map, All-drop, words_of, is_word, is_gap, statement_part, texts, AreAscii, IsUtf8-from_ascii}
+use Rattle.mp_words.proofs.Names.{◌<◌, ◌==◌, ◌∷◌, ◌-◌, ◌≡◌, ℕ, Bool, List, [], Bor, length, drop, take, IsAscii, All, sym, subst, slice_split, onto_first, position_or_len, All-cons, All-nil, All-head, All-tail, All-filter, All-weaker, map, arith, get_or-map, length-map, IsAscii-from_all, All-from_ascii, IsAscii-take, take_rest, drop-map, All-drop, words_of, is_word, is_gap, statement_part, texts, AreAscii, IsUtf8-from_ascii, Option, Some, None, get_or, position, false_from_ne_true, nat_tests, position_or_len_is}
+use Rattle.memchr.specs.Find.{IsFirstByte}
 
 module _ {X : Type 0} (P : X → Type 0) (p : X → Bool) where
   All-onto_first : (x : X) (parts : List (List X)) → P x → All (All P) parts → All (All P) (onto_first x parts)
@@ -33,3 +34,11 @@ pub texts_behind : (ws : List (Bor (List ℕ))) (k : ℕ) → texts (take (lengt
 texts_behind ws k = rw (take_rest ws k) (sym (drop-map (λ (w : Bor (List ℕ)). w.now) k ws))
 
 pub ruleset name_steps = (IsUtf8-from_ascii)
+
+-- the first place that a search gives
+pub first_place : (test : ℕ → Bool) (hay : List ℕ) (r : Option ℕ) → IsFirstByte test hay r → r ≡ position test hay
+first_place test hay None none =
+    grind (arith, nat_tests, (position_or_len_is test hay (length hay) 0 (omega arith) (λ k low. false_from_ne_true (test (get_or hay k 0)) (none k (omega arith) low)) (λ less. absurd (omega (arith, less)))))
+first_place test hay (Some k) found =
+    let within : k < length hay = found.0.high in
+    grind (arith, nat_tests, (position_or_len_is test hay k 0 (omega (arith, within)) (λ i low. false_from_ne_true (test (get_or hay i 0)) (found.0.before i (omega arith) low)) (λ less. found.1)))

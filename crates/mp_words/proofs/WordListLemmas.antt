@@ -1,5 +1,5 @@
 -- Facts about words that are read in turn.
-use Rattle.mp_words.proofs.Names.{◌≡◌, ◌+◌, ◌<◌, ◌≤◌, ◌∷◌, ◌++◌, All-get_or, ℕ, List, [], Bor, Result, Ok, Err, append_assoc, length, get_or, take, drop, Bool, not, cond, refl, sym, ap, ◌∙◌, at_drop_more, at_drop_all, append-nil, take-map, drop-map, before_first, after_first, position_or_len, map, LineError, with_front, ◌>>=◌, texts, each_word}
+use Rattle.mp_words.proofs.Names.{arith, ◌≡◌, ◌+◌, ◌<◌, ◌≤◌, ◌∷◌, ◌++◌, All-get_or, ℕ, List, [], Bor, Result, Ok, Err, append_assoc, length, get_or, take, drop, Bool, not, cond, refl, sym, ap, ◌∙◌, at_drop_more, at_drop_all, append-nil, take-map, drop-map, before_first, after_first, position_or_len, map, LineError, with_front, ◌>>=◌, texts, each_word}
 
 module _ {W X A : Type 0} (read : W → Result A LineError) (see : X → W) (ws : List X) (i : ℕ) (d : X) (front : List A) where
   abbrev Goes : Type 0
@@ -17,11 +17,7 @@ module _ {W X A : Type 0} (read : W → Result A LineError) (see : X → W) (ws 
   pub each_ok : (item : A) → i < length ws → Goes → read (see (get_or ws i d)) ≡ Ok item
       → with_front (front ++ item ∷ []) (each_word read (map see (drop (i + 1) ws))) ≡ each_word read (map see ws)
   unfolding each_word
-  each_ok item within goes was = by (each_word read (map see (drop (i + 1) ws))) (sym goes ∙ rw (each_next within, was) refl)
-    where
-      by : (rest : Result (List A) LineError) → each_word read (map see ws) ≡ with_front front (rest >>= λ items. Ok (item ∷ items)) → with_front (front ++ item ∷ []) rest ≡ each_word read (map see ws)
-      by (Ok items) e = ap Ok (append_assoc front (item ∷ []) items) ∙ sym e
-      by (Err code) e = sym e
+  each_ok item within goes was = grind (arith, append_assoc, goes, was, (each_next within))
 
   -- no word is left
   pub each_end : length ws ≤ i → Goes → each_word read (map see ws) ≡ Ok front

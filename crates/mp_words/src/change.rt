@@ -27,7 +27,7 @@ impl Piece for Change {
 
 /// Writes the number from a place on, in decimal digits, and returns where they end. Of most times and levels it is known how many they are.
 #[inline(always)]
-#[tactic(auto, using(crate::proofs::LengthLemmas::few_digits))]
+#[tactic(auto, using(crate::proofs::DecimalLemmas::few_digits))]
 pub(crate) fn write_number(number: u64, room: &mut [u8], at: usize) -> usize
     requires { at + 20 ≤ length room.old }
     ensures placed { IsPlaced room.old room.new at (decimal number) result }
@@ -65,7 +65,7 @@ fn write_counted(number: u64, digits: usize, room: &mut [u8], at: usize) -> usiz
 /// How many decimal digits the number has. Those of times and of most values are few, and as many as
 /// those of the number before.
 #[inline]
-#[tactic(auto, using(std::proofs::lemmas::Fmt::decimal_digit, crate::proofs::LengthLemmas::few_digits, crate::proofs::LengthLemmas::digits_of_power))]
+#[tactic(auto, using(std::proofs::lemmas::Fmt::decimal_digit, crate::proofs::DecimalLemmas::few_digits, crate::proofs::DecimalLemmas::digits_of_power))]
 fn digit_count(number: u64) -> usize
     ensures value { result ≡ length (decimal number) }
     ensures short { result ≤ 20 }

@@ -28,7 +28,7 @@ pub fn divided(alloc: Global, input: &[u8]) -> Result<(&[u8], &[u8]), AllocError
 }
 
 /// The parts of an input between the lines whose one word is `---`, of which there is one more than there are such lines.
-#[tactic(auto, using(crate::proofs::PartLemmas::part_steps))]
+#[tactic(auto, using(crate::proofs::DivisionLemmas::part_steps))]
 pub fn parts(alloc: Global, input: &[u8]) -> Result<Vec<&[u8]>, AllocError>
     ensures some { IfOk result (λ parts. 0 < vec_len parts) }
     ensures parts { IfOk result (λ parts. lines_of_each parts.items ≡ parts_of (lines_of input.now)) }

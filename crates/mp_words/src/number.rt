@@ -19,7 +19,7 @@ pub fn number(word: &[u8]) -> Option<u64>
     digits(word)
 }
 
-#[tactic(auto, using(crate::proofs::DigitLemmas::digit_steps))]
+#[tactic(auto, using(crate::proofs::DecimalLemmas::digit_steps))]
 fn digits(word: &[u8]) -> Option<u64>
     ensures { result ≡ number_from 0 word.now }
 {

@@ -99,7 +99,7 @@ fn write_toggle(time: u32, level: u64, room: &mut [u8], at: usize) -> usize
 
 /// Writes a time from a place on, in decimal digits, and returns where they end.
 #[inline(always)]
-#[tactic(auto, using(crate::proofs::LengthLemmas::few_digits))]
+#[tactic(auto, using(crate::proofs::DecimalLemmas::few_digits))]
 fn write_time(time: u32, room: &mut [u8], at: usize) -> usize
     requires { at + 20 ≤ length room.old }
     ensures placed { IsPlaced room.old room.new at (decimal time) result }

@@ -74,7 +74,7 @@ fn before_comment(line: &[u8]) -> &[u8]
 }
 
 /// The first place at which the byte stands.
-#[tactic(auto, using(crate::proofs::PlaceOfLemmas::first_place))]
+#[tactic(auto, using(crate::proofs::WordLemmas::first_place))]
 pub fn place_of(byte: u8, bytes: &[u8]) -> Option<usize>
     ensures place { result ≡ position (λ b. b == byte) bytes.now }
     ensures within { IfSome result (λ at. at < length bytes.now) }
