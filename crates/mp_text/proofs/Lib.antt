@@ -4,10 +4,8 @@ pub mod ReplayLemmas
 pub mod RoundTripLemmas
 pub mod StatementBackLemmas
 pub mod TextBackLemmas
-pub mod SizeLemmas
 pub mod TextLemmas
 pub mod WriteLemmas
-pub mod SectionLemmas
 pub mod ModuleBackLemmas
 pub mod WrittenLineLemmas
 pub mod SlotLemmas
@@ -20,5 +18,4 @@ pub mod BundleStageLemmas
 pub mod SameRecordLemmas
 mod PartLemmas
 mod LineStartLemmas
-mod EditedLemmas
 mod GivenLemmas

@@ -16,9 +16,7 @@ not_so_many : {A : Type 0} (n : ℕ) (read : Words → Result A LineError) → T
 not_so_many zero read only [] wrong = absurd (true≢false wrong)
 not_so_many zero read only (word ∷ words) wrong = only word words
 not_so_many (suc n) read only [] wrong = only.0
-not_so_many (suc n) read only (word ∷ words) wrong =
-    let rest : (length words == n) ≡ false = grind (arith, nat_tests) in
-    not_so_many n (λ words. read (word ∷ words)) (only.1 word) words rest
+not_so_many (suc n) read only (word ∷ words) wrong = grind (arith, nat_tests, (not_so_many n (λ words. read (word ∷ words)) (only.1 word) words))
 
 abbrev is_colon : List ℕ → Bool
 is_colon = is_mark (byte ":")

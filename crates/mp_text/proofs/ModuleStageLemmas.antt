@@ -39,12 +39,9 @@ module _ (n c : Circuit) (has : HasWires n c) (r : ModuleRecord) (is : IsModule 
       (All-map (λ (i : InputName). stands c i.wire ≡ true) (input_by_name n) r.inputs (All-from_get_or (λ i. stands c (wire_name n i.wire) ≡ true) r.inputs no_input (λ p within. (input_back p within).found)))
 
   pub inputs_wide : inputs_fit c r.kind (new_width c r.kind input_names) input_names ≡ true
-  inputs_wide = counted_all (λ (port : ℕ × InputName). width_named c port.1.wire == input_width r.kind (new_width c r.kind input_names) port.0) input_names nowhere by
-    where
-      by : (p : ℕ) → p < length input_names → (width_named c (get_or input_names p nowhere).wire == input_width r.kind (new_width c r.kind input_names) p) ≡ true
-      by p long =
-          let within : p < length r.inputs = omega (arith, long, length-map r.inputs (input_by_name n)) in
-          grind (arith, nat_tests, (get_or-map (input_by_name n) r.inputs p no_input nowhere within), (input_back p within).width, (is.reads p no_input within).1, width_same)
+  inputs_wide = counted_all (λ (port : ℕ × InputName). width_named c port.1.wire == input_width r.kind (new_width c r.kind input_names) port.0) input_names nowhere (λ p long.
+      let within : p < length r.inputs = omega (arith, long, length-map r.inputs (input_by_name n)) in
+      grind (arith, nat_tests, (get_or-map (input_by_name n) r.inputs p no_input nowhere within), (input_back p within).width, (is.reads p no_input within).1, width_same))
 
   pub params_ranged : are_params r.kind (new_width c r.kind input_names) r.params ≡ true
   params_ranged = ap (λ width. are_params r.kind width r.params) width_same ∙ is.params
@@ -53,23 +50,17 @@ module _ (n c : Circuit) (has : HasWires n c) (r : ModuleRecord) (is : IsModule 
   output_wires p w at = subst (λ wire. IfSome wire (λ (v : WireId). HasWidth n v.0 (output_width r.kind (module_width n r) p))) at (is.drives p)
 
   pub outputs_found : list_all (stands c) (driven_names output_names) ≡ true
-  outputs_found = driven_all (stands c) output_names by
-    where
-      by : (p : ℕ) (q : List ℕ) → (get_or output_names p no_name).wire ≡ Some q → stands c q ≡ true
-      by p q at =
-          let o = is_output n r.outputs p q at in
-          subst (λ name. stands c name ≡ true) o.name (is_back n c has o.wire (output_wires p o.wire o.drives).0).found
+  outputs_found = driven_all (stands c) output_names (λ p q at.
+      let o = is_output n r.outputs p q at in
+      subst (λ name. stands c name ≡ true) o.name (is_back n c has o.wire (output_wires p o.wire o.drives).0).found)
 
   output_wide : (p : ℕ) (wire : Option WireId) → (output_in r.outputs p).wire ≡ wire → output_fits c (option_map (wire_name n) wire) (output_width r.kind (new_width c r.kind input_names) p) ≡ true
   output_wide p None at = refl
   output_wide p (Some w) at = let wide = output_wires p w at in grind (arith, nat_tests, wide.1, (is_back n c has w wide.0).width, width_same)
 
   pub outputs_wide : outputs_fit c r.kind (new_width c r.kind input_names) output_names ≡ true
-  outputs_wide = counted_all (λ (port : ℕ × OutputName). output_fits c port.1.wire (output_width r.kind (new_width c r.kind input_names) port.0)) output_names no_name by
-    where
-      by : (p : ℕ) → p < length output_names → output_fits c (get_or output_names p no_name).wire (output_width r.kind (new_width c r.kind input_names) p) ≡ true
-      by p long =
-          subst (λ wire. output_fits c wire (output_width r.kind (new_width c r.kind input_names) p) ≡ true) (sym (output_named n r.outputs p)) (output_wide p (output_in r.outputs p).wire refl)
+  outputs_wide = counted_all (λ (port : ℕ × OutputName). output_fits c port.1.wire (output_width r.kind (new_width c r.kind input_names) port.0)) output_names no_name (λ p long.
+      subst (λ wire. output_fits c wire (output_width r.kind (new_width c r.kind input_names) p) ≡ true) (sym (output_named n r.outputs p)) (output_wide p (output_in r.outputs p).wire refl))
 
   inputs_low : list_all (λ (i : InputName). is_input_delay i.delay) input_names ≡ true
   inputs_low = list_all-from_AllPass _ input_names (All-map (λ (i : InputName). is_input_delay i.delay ≡ true) (input_by_name n) r.inputs (λ k d within. grind (arith, nat_tests)))

@@ -87,10 +87,5 @@ driven_distinct (o ∷ os) each =
 -- a test that each place of a list passes, counted
 pub counted_all : {X : Type 0} (test : ℕ × X → Bool) (xs : List X) (d : X) → ((k : ℕ) → k < length xs → test (k, get_or xs k d) ≡ true) → list_all test (enumerate_from 0 xs) ≡ true
 counted_all {X = X} test xs d each =
-    list_all-from_AllPass test (enumerate_from 0 xs) (All-from_get_or (λ pair. test pair ≡ true) (enumerate_from 0 xs) (0, d) by)
-  where
-    by : (k : ℕ) → k < length (enumerate_from 0 xs) → test (get_or (enumerate_from 0 xs) k (0, d)) ≡ true
-    by k long =
-        let here : k < length xs = omega (arith, long, length-enumerate_from 0 xs) in
-        let at = get_or-enumerate_from 0 xs k (0, d) here ∙ ap (λ i. (i, get_or xs k d)) (omega arith) in
-        subst (λ (pair : ℕ × X). test pair ≡ true) (sym at) (each k here)
+    list_all-from_AllPass test (enumerate_from 0 xs) (All-from_get_or (λ pair. test pair ≡ true) (enumerate_from 0 xs) (0, d) (λ k long.
+    grind (arith, (each k), (length-enumerate_from 0 xs), (get_or-enumerate_from 0 xs k (0, d)))))

@@ -1,5 +1,5 @@
 -- Slots without the empty ones, and where a name is found among them.
-use Rattle.mp_text.proofs.Names.{◌≡◌, ◌<◌, ◌≤◌, ◌∷◌, ◌++◌, ℕ, suc, false, List, [], length, get_or, take, drop, All, Option, Some, None, is_some, refl, sym, ap, subst, ◌∙◌, arith, flat_map, bytes_eq, append-nil, get_or_at, get_or_append_left, set-get_or, set_split, flat_map-append, All-cons, All-nil, All-head, All-tail, All-append, All-weaker, All-from_get_or, false_from_ne_true, same_name, equal_name, slot_within, slot_at, has_name, number_named, nat_lt, nat_tests, first_none, position-append}
+use Rattle.mp_text.proofs.Names.{◌≡◌, ◌<◌, ◌≤◌, ◌∷◌, ◌++◌, ℕ, suc, false, List, [], length, get_or, take, drop, All, Option, Some, None, is_some, refl, sym, ap, subst, ◌∙◌, arith, flat_map, bytes_eq, append-nil, get_or_at, get_or_append_left, set-get_or, set_split, flat_map-append, All-cons, All-nil, All-head, All-tail, All-append, All-weaker, All-from_get_or, false_from_ne_true, same_name, equal_name, slot_within, slot_at, has_name, number_named, nat_tests, first_none, position-append}
 use Rattle.std.proofs.lemmas.Iterator.Adapters.{position_from-zero}
 
 -- a thing that stands, changed, and nothing where none does
@@ -26,7 +26,7 @@ All-from_flat_map P f (x ∷ xs) all =
 pub parted : {R : Type 0} (slots : List (Option R)) (w : ℕ) (r : R) → slot_at slots w ≡ Some r → slots ≡ take w slots ++ Some r ∷ drop (suc w) slots
 parted slots w r at =
     let within = slot_within slots w (ap is_some at) in
-    sym (set-get_or slots w None) ∙ set_split slots w (get_or slots w None) within ∙ ap (λ slot. take w slots ++ slot ∷ drop (suc w) slots) at
+    grind (arith, at, (set-get_or slots w None), (set_split slots w (get_or slots w None) within))
 
 pub compact-none : {R : Type 0} (change : R → R) (front : List (Option R)) → flat_map (compact change) (front ++ None ∷ []) ≡ flat_map (compact change) front
 compact-none change front = flat_map-append (compact change) front (None ∷ []) ∙ append-nil (flat_map (compact change) front)
@@ -50,9 +50,7 @@ module _ {R : Type 0} (name_of : R → List ℕ) where
   pub named_nowhere : (q : List ℕ) (slots : List (Option R)) → All (Unnamed q) slots → number_named name_of slots q ≡ None
   unfolding number_named
   named_nowhere q slots all =
-      let over = first_none (has_name name_of q) slots all in
-      let none : nat_lt (length slots) (length slots) ≡ false = grind (arith, nat_tests) in
-      sym (position_from-zero (has_name name_of q) slots) ∙ rw (over, none) refl
+      grind (arith, nat_tests, (first_none (has_name name_of q) slots all), (position_from-zero (has_name name_of q) slots))
 
   -- a name finds a thing at a place
   pub record IsAt (slots : List (Option R)) (q : List ℕ) (thing : R) : Type 0 where

@@ -59,8 +59,7 @@ module _ (n : Circuit) (circuit : IsCircuit n) (named : HasNames n) (modules : L
       nobody k p s w within there drives name =
           let stands = drive_stands n circuit named k p s w there drives in
           let wires = same_wire n named w.0 (length front) stands (ap is_some at) (name ∙ sym (ap name_in at)) in
-          let driven : Drives n k p w.0 = record { part = s; stands = there; output = drives } in
-          let none = circuit.port_or_stimulus k p w.0 driven in
+          let none = circuit.port_or_stimulus k p w.0 (record { part = s; stands = there; output = drives }) in
           let some : stimulus_at n w.0 ≡ Some changes = ap (stimulus_at n) wires ∙ ap stimulus_in at ∙ set in
           cc
 

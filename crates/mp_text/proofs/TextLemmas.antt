@@ -1,5 +1,6 @@
 -- Facts about texts as a whole.
-use Rattle.mp_text.proofs.Names.{◌≡◌, ◌+◌, ◌<◌, ◌≤◌, ◌∷◌, rest_falls, ℕ, List, [], length, Result, Ok, Err, IfErr, refl, sym, ap, subst, arith, before_first, after_first, nat_tests, Circuit, TextError, TextCode, TooLong, TextState, Fresh, Formatted, Open, lines_of-cons, is_line_feed, lines_of, text_at, after_lines, after_line, next_line, finished, last_line, GivesText, IsReachedIn, text_limit}
+use Rattle.mp_text.proofs.Names.{◌≡◌, ◌+◌, ◌<◌, ◌≤◌, ◌∷◌, rest_falls, ℕ, List, [], length, Result, Ok, Err, IfErr, refl, sym, ap, subst, arith, before_first, after_first, nat_tests, Circuit, TextError, TextCode, TooLong, TextState, Fresh, Formatted, Open, lines_of-cons, is_line_feed, lines_of, text_at, after_lines, after_line, next_line, finished, last_line, GivesText, IsReachedIn, text_limit, ◌≢◌, ◌&&◌, ◌==◌, Bool, cond, Some, take, max_text, max_short_text, number_word, first_words, is_three, states_third, ne_eqb, words_of, take-take, eq-eqb, codes, slice_get}
+use Rattle.std.specs.Str.{bytes_eq}
 
 -- a text that is not too long is its lines
 pub text_within : (text : List ℕ) → length text ≤ text_limit text → text_at text ≡ after_lines 0 Fresh (lines_of text)
@@ -58,3 +59,29 @@ pub finished_reached : (text : List ℕ) (read : Result Circuit TextError) (n : 
 finished_reached text read n state = grind (arith, nat_tests)
 
 pub ruleset reading_read_lines_steps = (rest_falls, lines_counted, lines_next, lines_end, gives_same, finished_reached)
+
+-- a text may always be as long as one of the first form
+pub limit_least : (text : List ℕ) → max_short_text ≤ text_limit text
+unfolding text_limit
+limit_least text = grind (arith, nat_tests)
+
+-- a front of more bytes than a text of the first form may have tells it
+pub limit_of_front : (k : ℕ) (text : List ℕ) → max_short_text < k → text_limit (take k text) ≡ text_limit text
+unfolding text_limit
+limit_of_front k text long = grind (arith, (take-take (max_short_text + 1) k text))
+
+pub first_blank : (line : List ℕ) (lines : List (List ℕ)) → length (words_of line) ≡ 0 → first_words (line ∷ lines) ≡ first_words lines
+first_blank line lines none = rw (eq-eqb (length (words_of line)) 0 none) refl
+
+pub first_worded : (line : List ℕ) (lines : List (List ℕ)) → length (words_of line) ≢ 0 → first_words (line ∷ lines) ≡ words_of line
+first_worded line lines some = rw (ne_eqb (length (words_of line)) 0 some) refl
+
+pub no_words : (text : List ℕ) → length text ≡ 0 → first_words (lines_of text) ≡ []
+unfolding lines_of
+no_words [] none = refl
+no_words (b ∷ bs) none = grind arith
+
+-- two words are looked at
+pub third_of : (words : List (List ℕ)) (first second : Bool) → ((text : List ℕ) → slice_get words 0 ≡ Some text → first ≡ bytes_eq text (codes "format"))
+    → ((text : List ℕ) → slice_get words 1 ≡ Some text → second ≡ is_three (number_word text)) → (length words == 2 && first && second) ≡ states_third words
+third_of words first second is_first is_second = grind (arith, nat_tests, ne_eqb)

@@ -27,7 +27,7 @@ impl<'a> Text for SectionLines<'a> {
 
     ghost text = { λ lines. section_text lines.netlist.now lines.section };
 
-    #[tactic(auto, using(crate::proofs::SectionLemmas::sectionlinestext_put_to_steps))]
+    #[tactic(auto, using(crate::proofs::WriteLemmas::sectionlinestext_put_to_steps))]
     fn put_to<S: Sink>(&self, out: &mut Out<S>) -> Result<(), Failed> {
         for number in 0..self.slot_count() {
             self.put_slot(out, number)?;

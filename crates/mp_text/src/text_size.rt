@@ -33,7 +33,7 @@ fn front_of(text: &[u8]) -> &[u8]
 }
 
 /// Whether the first line with words says that a text has the third form.
-#[tactic(auto, using(crate::proofs::SizeLemmas::first_worded, crate::proofs::SizeLemmas::first_blank, crate::proofs::SizeLemmas::no_words))]
+#[tactic(auto, using(crate::proofs::TextLemmas::first_worded, crate::proofs::TextLemmas::first_blank, crate::proofs::TextLemmas::no_words))]
 fn begins_third(text: &[u8]) -> bool
     ensures { result ≡ states_third (first_words (lines_of text.now)) }
 {
@@ -49,7 +49,7 @@ fn begins_third(text: &[u8]) -> bool
 }
 
 /// Whether the words of a line say that a text has the third form.
-#[tactic(auto, using(crate::proofs::SizeLemmas::third_of))]
+#[tactic(auto, using(crate::proofs::TextLemmas::third_of))]
 fn states_third(line: &[u8]) -> bool
     ensures { result ≡ states_third (words_of line.now) }
 {

@@ -1,5 +1,5 @@
 use Rattle.mp_records.specs.declared.edit.Edit.TheVariants.{Single}
-use Rattle.mp_text.proofs.EditedLemmas.{gives_told}
+use Rattle.mp_text.proofs.GivenLemmas.{gives_told}
 use Rattle.mp_text.proofs.statement.apply.Goals as goal
 
 pub returns : goal.returns

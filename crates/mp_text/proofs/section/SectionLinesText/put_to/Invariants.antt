@@ -1,5 +1,5 @@
 use Rattle.mp_text.proofs.Names.{section_text, Left}
-use Rattle.mp_text.proofs.SectionLemmas.{lines_from}
+use Rattle.mp_text.proofs.WriteLemmas.{lines_from}
 use Rattle.mp_text.proofs.section.SectionLinesText.put_to.Given as goal
 
 -- the lines of the slots from the number on are left
