@@ -34,16 +34,10 @@ pub onto_next : (w : ℕ) (changes : List (ℕ × ℕ)) (i t : ℕ) (others : Li
 onto_next w changes i t others within =
     ap (λ l. onto w l t others) (ap (λ k. take k changes) (add-one i) ∙ take-suc changes i (0, 0) within) ∙ onto-append w (take i changes) (get_or changes i (0, 0) ∷ []) t others
 
+-- the changes of a level up to a time leave its change at a time not later, where it differs there from the one a unit before
 module _ (levels : ℕ → ℕ) (w t : ℕ) where
-  -- whether a level differs from the one a unit before
-  abbrev differs : Bool
-  differs = not (levels t == levels (t - 1))
-
-  here : (m : ℕ) (test : Bool) → suc m ≡ t → (levels m == levels (suc m)) ≡ test → differs ≡ not test
-  here m test same equal = grind (arith, nat_tests)
-
-  -- the changes of a level up to a time leave its change at a time not later
-  pub onto_changes : (m : ℕ) (others : List (ℕ × ℕ)) → onto w (changes_after levels 0 m) t others ≡ cond (nat_le t m) (cond differs ((w, levels t) ∷ others) others) others
+  pub onto_changes : (m : ℕ) (others : List (ℕ × ℕ))
+      → onto w (changes_after levels 0 m) t others ≡ cond (nat_le t m) (cond (not (levels t == levels (t - 1))) ((w, levels t) ∷ others) others) others
   onto_changes zero others = grind (arith, nat_tests, eq-eqb, le-leb, lt-leb)
   onto_changes (suc m) others = grind (arith, onto-append, zero-add, eqb-true, cases_lt, lt-leb, le-leb, nat_tests, ne_eqb, (onto_changes m others))
 

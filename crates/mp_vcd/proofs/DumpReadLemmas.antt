@@ -41,9 +41,8 @@ module _ (n : Circuit) (circuit : IsCircuit n) where
   is_readable : (w : ℕ) → Contains (standing n) w → IsReadable n all_variables w
   is_readable w within =
       let wire = stands_of n w within in
-      let width = ap width_of wire.1 in
       let ok = circuit.wires_ok w wire.0 wire.1 in
-      record { wide = omega (arith, ok.wide, width); declared = has_variable w within }
+      record { wide = omega (arith, ok.wide, ap width_of wire.1); declared = has_variable w within }
 
   all_readable : AreReadable n all_variables (standing n)
   all_readable k d within = is_readable (slice_index_or (standing n) k d) (Contains-get_or (standing n) k d within)

@@ -1,5 +1,5 @@
 -- What the parts of a dump say to a reader.
-use Rattle.mp_vcd.proofs.Names.{◌≤◌, ◌≡◌, ◌+◌, ◌%◌, ◌^◌, ◌<◌, ◌∷◌, ◌++◌, ℕ, true, false, nat_lt, List, [], append_assoc, append-nil, length, Some, None, decimal, refl, sym, ap, subst, ◌∙◌, arith, codes, is_ascii_digit, is_ascii_whitespace, list_all, list_any, bytes_eq, digits_value, eqb-true, lt-ltb, nat_tests, WireRecord, and_parts, code, bit, bits, value_line, slot_declaration, time_mark, word_first, words_from, words, is_made_of, is_printed, Variable, Given, Side, Outside, Reading, BetweenDeclarations, InDeclaration, AmongValues, BehindDigits, at_place, with_time, takes, with_value, word_in, read_words, is_name, max_wires}
+use Rattle.mp_vcd.proofs.Names.{◌≤◌, ◌≡◌, ◌+◌, ◌%◌, ◌^◌, ◌<◌, ◌∷◌, ◌++◌, ℕ, true, false, nat_lt, List, [], append_assoc, append-nil, length, Some, None, decimal, refl, sym, ap, ◌∙◌, arith, codes, is_ascii_digit, is_ascii_whitespace, list_all, list_any, bytes_eq, digits_value, eqb-true, lt-ltb, nat_tests, WireRecord, and_parts, code, bit, bits, value_line, slot_declaration, time_mark, word_first, words_from, words, is_made_of, is_printed, Variable, Given, Side, Outside, Reading, BetweenDeclarations, InDeclaration, AmongValues, BehindDigits, at_place, with_time, takes, with_value, word_in, read_words, is_name, max_wires}
 use Rattle.mp_vcd.proofs.CodeLemmas.{bits_long}
 use Rattle.mp_vcd.proofs.CodeReadLemmas.{IsSolid, IsSolid-decimal, IsSolid-name, IsSolid-code, solid_behind, code_solid, bits_solid, decimal_not_end, name_not_end, code_not_end, decimal_read, bits_read, decimal_made, code_made, bits_made, one_bit}
 
@@ -20,8 +20,9 @@ leads_none r = record { each = λ rest. refl }
 pub leads_both : (r s t : Reading) (xs ys : List ℕ) → Leads r xs s → Leads s ys t → Leads r (xs ++ ys) t
 leads_both r s t xs ys first second = record { each = λ rest. ap (λ l. read_words (words l) r) (append_assoc xs ys rest) ∙ first.each (ys ++ rest) ∙ second.each rest }
 
-pub leads_word : (r t : Reading) (word : List ℕ) (space : ℕ) (more : List ℕ) → IsSolid word → is_ascii_whitespace space ≡ true → Leads (word_in r.place word r) more t → Leads r (word ++ space ∷ more) t
-leads_word r t word space more solid white later = grind (arith, nat_tests, append_assoc, words_solid, first_word)
+pub leads_word : (r s t : Reading) (word : List ℕ) (space : ℕ) (more : List ℕ) → IsSolid word → is_ascii_whitespace space ≡ true → word_in r.place word r ≡ s → Leads s more t
+    → Leads r (word ++ space ∷ more) t
+leads_word r s t word space more solid white next later = grind (arith, nat_tests, append_assoc, words_solid, first_word, next)
 
 pub leads_as : (r s t : Reading) (xs ys : List ℕ) → xs ≡ ys → s ≡ t → Leads r xs s → Leads r ys t
 leads_as r s t xs ys same there leads = record { each = λ rest. ap (λ l. read_words (words (l ++ rest)) r) (sym same) ∙ leads.each rest ∙ ap (read_words (words rest)) there }
@@ -38,9 +39,7 @@ var_end : (vs : List Variable) (width code name : List ℕ) → is_made_of is_as
 var_end vs width code name number printed = record { each = λ rest. rw (number, printed) refl }
 
 var_word : (vs : List Variable) (ws : List (List ℕ)) (t : Reading) (word more : List ℕ) → IsSolid word → bytes_eq word (codes "$end") ≡ false → Leads (in_var vs (ws ++ word ∷ [])) more t → Leads (in_var vs ws) (word ++ 32 ∷ more) t
-var_word vs ws t word more solid other later =
-    let goes_on : word_in (InDeclaration (codes "$var") (codes "wire" ∷ ws)) word (in_var vs ws) ≡ in_var vs (ws ++ word ∷ []) = rw other refl in
-    leads_word (in_var vs ws) t word 32 more solid refl (subst (λ (r : Reading). Leads r more t) (sym goes_on) later)
+var_word vs ws t word more solid other later = leads_word (in_var vs ws) (in_var vs (ws ++ word ∷ [])) t word 32 more solid refl (rw other refl) later
 
 -- the variable of a wire with this record
 abbrev pub declared_as : ℕ → WireRecord → Variable
@@ -54,9 +53,9 @@ leads_declaration vs w r few narrow valid =
     let own = var_word vs (decimal r.width ∷ []) _ (code w) _ (IsSolid-code w) (code_not_end w few) name in
     let width = var_word vs [] _ (decimal r.width) _ (IsSolid-decimal r.width narrow) (decimal_not_end r.width narrow) own in
     let start : Leads (declaring vs) (codes "$var wire ") (in_var vs []) = record { each = λ rest. refl } in
-    let all = leads_both (declaring vs) (in_var vs []) _ (codes "$var wire ") _ start width in
     leads_as (declaring vs) _ _ (slot_declaration w (Some r)) (slot_declaration w (Some r)) refl
-    (ap (λ k. declaring (vs ++ record { scopes = codes "top" ∷ []; width = k; code = code w; name = r.name } ∷ [])) (decimal_read r.width narrow)) all
+    (ap (λ k. declaring (vs ++ record { scopes = codes "top" ∷ []; width = k; code = code w; name = r.name } ∷ [])) (decimal_read r.width narrow))
+    (leads_both (declaring vs) (in_var vs []) _ (codes "$var wire ") _ start width)
 
 abbrev pub valued : Side → List Variable → ℕ → List Given → Reading
 valued side vs t given = record { place = AmongValues side; unit = Some (1, codes "ns"); scopes = []; variables = vs; time = Some t; given = given }
@@ -65,8 +64,7 @@ pub leads_time : (vs : List Variable) (t new : ℕ) (given : List Given) → t <
 leads_time vs t new given later fits =
     let read : with_time (decimal new) (valued Outside vs t given) ≡ valued Outside vs new given = grind (arith, nat_tests, decimal_made, decimal_read, lt-ltb) in
     let word = solid_behind 35 (decimal new) (omega arith) (IsSolid-decimal new fits).solid in
-    leads_word (valued Outside vs t given) (valued Outside vs new given) (35 ∷ decimal new) 10 [] word refl
-    (subst (λ (r : Reading). Leads r [] (valued Outside vs new given)) (sym read) (leads_none (valued Outside vs new given)))
+    leads_word _ _ (valued Outside vs new given) (35 ∷ decimal new) 10 [] word refl read (leads_none (valued Outside vs new given))
 
 abbrev pub giving : ℕ → ℕ → ℕ → Given
 giving t w value = record { time = t; code = code w; value = value }
@@ -85,10 +83,8 @@ module _ (side : Side) (vs : List Variable) (t w level : ℕ) (given : List Give
 
   leads_scalar : width ≡ 1 → Leads (valued side vs t given) (bit level ∷ [] ++ (code w ++ 10 ∷ [])) (valued side vs t (giving t w (level % 2 ^ width) ∷ given))
   leads_scalar one =
-      let high : 32 < bit level = omega arith in
       let there = scalar_word (level % 2) (omega arith) ∙ code_read (bit level ∷ []) (sym (ap (λ k. bits k level) one ∙ one_bit level)) in
-      leads_word (valued side vs t given) _ (bit level ∷ code w) 10 [] (solid_behind (bit level) (code w) high (code_solid w)) refl
-      (subst (λ (r : Reading). Leads r [] (valued side vs t (giving t w (level % 2 ^ width) ∷ given))) (sym there) (leads_none (valued side vs t (giving t w (level % 2 ^ width) ∷ given))))
+      leads_word (valued side vs t given) _ _ (bit level ∷ code w) 10 [] (solid_behind (bit level) (code w) (omega arith) (code_solid w)) refl there (leads_none _)
 
   abbrev behind : Reading
   behind = at_place (BehindDigits side (bits width level)) (valued side vs t given)
@@ -96,12 +92,10 @@ module _ (side : Side) (vs : List Variable) (t w level : ℕ) (given : List Give
   leads_vector : Leads (valued side vs t given) ((98 ∷ (bits width level ++ 32 ∷ [])) ++ (code w ++ 10 ∷ [])) (valued side vs t (giving t w (level % 2 ^ width) ∷ given))
   leads_vector =
       let to = valued side vs t (giving t w (level % 2 ^ width) ∷ given) in
-      let own : Leads behind (code w ++ 10 ∷ []) to =
-      leads_word behind to (code w) 10 [] (IsSolid-code w) refl (subst (λ (r : Reading). Leads r [] to) (sym (code_read (bits width level) refl)) (leads_none to)) in
+      let own = leads_word behind to to (code w) 10 [] (IsSolid-code w) refl (code_read (bits width level) refl) (leads_none to) in
       let vector_word : word_in (AmongValues side) (98 ∷ bits width level) (valued side vs t given) ≡ behind = grind (arith, nat_tests, bits_made) in
       let vector = solid_behind 98 (bits width level) (omega arith) (bits_solid width level) in
-      let all = leads_word (valued side vs t given) to (98 ∷ bits width level) 32 (code w ++ 10 ∷ []) vector refl
-      (subst (λ (r : Reading). Leads r (code w ++ 10 ∷ []) to) (sym vector_word) own) in
+      let all = leads_word (valued side vs t given) behind to (98 ∷ bits width level) 32 (code w ++ 10 ∷ []) vector refl vector_word own in
       leads_as (valued side vs t given) to to _ _ (sym (append_assoc (98 ∷ bits width level) (32 ∷ []) (code w ++ 10 ∷ []))) refl all
 
   pub leads_value : Leads (valued side vs t given) (value_line width w level) (valued side vs t (giving t w (level % 2 ^ width) ∷ given))

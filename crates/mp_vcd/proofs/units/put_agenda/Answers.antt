@@ -4,6 +4,5 @@ use Rattle.mp_vcd.proofs.units.put_agenda.Goals as goal
 
 pub returns-in_err-put_unit : goal.returns-in_err-put_unit
 returns-in_err-put_unit g c =
-    let t = c.loop-time.time in
     let is = c.from_residual.ensures.0 in
-    left_failed _ (left_as (ap (flat_map (unit_text c.args.of.netlist.now)) (times_step t c.args.to (search rules))) c.loop-time.invariant) _ is (writes_failed _ is c.in_err-put_unit.ensures)
+    left_failed _ (left_as (ap (flat_map (unit_text c.args.of.netlist.now)) (times_step c.loop-time.time c.args.to (search rules))) c.loop-time.invariant) _ is (writes_failed _ is c.in_err-put_unit.ensures)

@@ -9,17 +9,14 @@ loop-place-preserved c =
     let room = c.loop-place.room in
     let rest = c.loop-place.rest in
     let more : at < place = search rules in
-    let some : 0 < place - at = omega arith in
-    let first : 0 < place = omega arith in
     let within : place ≤ length room = omega (arith, c.loop-place.invariant.long, c.loop-place.invariant.high, c.requires) in
-    let back : at ≤ place - 1 = omega arith in
     let next : place - at - 1 ≡ place - 1 - at = omega arith in
     record {
-      low = back;
+      low = omega arith;
       high = omega (arith, c.loop-place.invariant.high);
       long = length-set room _ _ ∙ c.loop-place.invariant.long;
-      before = take-set-le at room (place - 1) _ back ∙ c.loop-place.invariant.before;
-      same = rw c.bit.ensures (bits_step (bits c.args.width c.args.level ++ drop (at + c.args.width) c.args.room.now) room place (place - at) rest some first within c.loop-place.invariant.same
+      before = take-set-le at room (place - 1) _ (omega arith) ∙ c.loop-place.invariant.before;
+      same = rw c.bit.ensures (bits_step (bits c.args.width c.args.level ++ drop (at + c.args.width) c.args.room.now) room place (place - at) rest (omega arith) (omega arith) within c.loop-place.invariant.same
           ∙ ap (λ k. bits k (rest / 2) ++ drop (place - 1) (slice_set room (place - 1) (bit rest))) next);
     }
 
@@ -29,7 +26,6 @@ returns-clause-placed c =
     let room = c.loop-place.room in
     let none : c.loop-place.place ≡ at = omega (arith, c.loop-place.invariant.low) in
     let empty : c.loop-place.place - at ≡ 0 = omega (arith, none) in
-    let behind : drop at room ≡ bits c.args.width c.args.level ++ drop (at + c.args.width) c.args.room.now =
-    sym (c.loop-place.invariant.same ∙ ap (λ k. bits k c.loop-place.rest ++ drop c.loop-place.place room) empty ∙ ap (λ l. l ++ drop c.loop-place.place room) (bits-zero c.loop-place.rest) ∙ ap (λ k. drop k room) none) in
+    let behind = sym (rw (empty, (bits-zero c.loop-place.rest), none) at c.loop-place.invariant.same) in
     placed_between c.args.room.now room (bits c.args.width c.args.level) at (at + c.args.width) c.loop-place.invariant.before behind
     (ap (λ k. at + k) (bits_long c.args.width c.args.level)) c.requires c.loop-place.invariant.long

@@ -5,6 +5,5 @@ use Rattle.mp_vcd.proofs.preamble.WireLinesText.put_to.Goals as goal
 pub returns-in_err-put_part : goal.returns-in_err-put_part
 returns-in_err-put_part g c =
     let n = c.args.self.now.netlist.now in
-    let w = c.loop-number.number in
     let is = c.from_residual.ensures.0 in
-    left_failed _ (left_as (lines_step (part_line n c.args.self.now.part) n.wires w (search rules)) c.loop-number.invariant) _ is (writes_failed _ is c.in_err-put_part.ensures)
+    left_failed _ (left_as (lines_step (part_line n c.args.self.now.part) n.wires c.loop-number.number (search rules)) c.loop-number.invariant) _ is (writes_failed _ is c.in_err-put_part.ensures)
