@@ -1,5 +1,4 @@
 mod Names
-pub mod TakenLemmas
 pub mod InputLemmas
 pub mod RunLemmas
 mod ViewLemmas

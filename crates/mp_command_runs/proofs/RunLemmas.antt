@@ -1,7 +1,5 @@
 -- The ends of a run.
-use Rattle.std.specs.Prelude.{◌≡◌, ◌+◌, ◌<◌, ◌≤◌, ◌⊎◌, ◌++◌}
-use Rattle.mp_command_runs.proofs.Names.{ℕ, inl, inr, Bool, false, List, [], length, Option, Result, Ok, Err, IsErrAnd, refl, sym, ap, subst, ◌∙◌, arith, length-append, err_from_is_err_and, Circuit, RunFault, ReadFailed, WriteFailed, OutOfMemory, NoPlace, counted_netlist, within_size, fault_of_text, fault_of_write, IsInput, StaysUnread, Refuses, WritesOne, Ran, RanFrom, text_limit}
-use Rattle.mp_streams.specs.Outgoing.{Outgoing}
+use Rattle.mp_command_runs.proofs.Names.{◌≡◌, ◌<◌, ◌≤◌, ◌⊎◌, ℕ, inl, inr, Bool, false, List, [], length, Option, Result, Ok, Err, IsErrAnd, refl, sym, subst, arith, length-append, err_from_is_err_and, Circuit, RunFault, ReadFailed, WriteFailed, OutOfMemory, counted_netlist, within_size, fault_of_text, fault_of_write, IsInput, StaysUnread, Refuses, WritesOne, Ran, RanFrom, text_limit, Outgoing}
 use Rattle.mp_streams.specs.Outgoing as outs
 use Rattle.mp_streams.specs.WriteErrors.{Writes}
 use Rattle.mp_streams.specs.declared.failed.Failed.{Failed}
@@ -27,22 +25,17 @@ module _ {S : Type 0} (seats : Bool) (opening : Result Circuit RunFault) (IsText
 
 -- where nobody sits down, no place is wanting
 pub refused_unseated : (seats : Bool) (opening : Result Circuit RunFault) (fault : RunFault) → Refuses false opening fault → Refuses seats opening fault
-refused_unseated seats opening NoPlace (none, is) = grind arith
 refused_unseated seats opening fault h = grind arith
 
 -- ---- a run that wrote
 
 module _ {S : Type 0} (seats : Bool) (opening : Result Circuit RunFault) (IsText : Circuit → List ℕ → Type 0) (n : Circuit) (same : opening ≡ Ok n) (text : List ℕ) (is : IsText n text) (a b : Outgoing S) where
-  one : {T : Type 0} (r : Result T WriteError) → Writes r a b text → WritesOne r opening IsText a b
-  one r put = rw same (text, is, put)
-
   failed_by : (error : WriteError) → Writes {T = Unit {0}} (Err error) a b text → Ran seats (Err (fault_of_write error)) opening IsText a b
-  failed_by writes.WriteFailed put = grind arith
-  failed_by writes.OutOfMemory put = grind arith
+  failed_by error put = grind arith
 
   -- a text
   pub wrote : Writes {T = Unit {0}} (Ok tt) a b text → Ran seats (Ok tt) opening IsText a b
-  wrote put = one (Ok tt) put
+  wrote put = rw same (text, is, put)
 
   -- a part of one
   pub wrote_part : (r : Result (Unit {0}) RunFault) (error : WriteError) → IsErrAnd r (λ f. f ≡ fault_of_write error) → Writes {T = Unit {0}} (Err error) a b text → Ran seats r opening IsText a b
@@ -55,34 +48,28 @@ pub nothing_held : {S : Type 0} {error : Failed} (a b c : Outgoing S) → a.held
 nothing_held {error = error} a b c none first second =
     let all = both a b c [] first.front first.lost second.front second.lost first.held second.held in
     let some : 0 < length second.lost = second.ends.2 in
-    let long : 0 ≡ length (first.front ++ second.front) + (length c.held + (length second.lost + length first.lost)) =
-    sym (ap (λ l. length (l ++ [])) none) ∙ ap length all ∙ length-append (first.front ++ second.front) (c.held ++ (second.lost ++ first.lost))
-    ∙ ap (λ n. length (first.front ++ second.front) + n) (length-append c.held (second.lost ++ first.lost) ∙ ap (λ n. length c.held + n) (length-append second.lost first.lost)) in
-    omega (arith, some, long)
+    grind (arith, none, all, some, length-append)
 
 module _ {S : Type 0} (opening : Result Circuit RunFault) (IsText : Circuit → List ℕ → Type 0) (a b c : Outgoing S) where
   -- one text becomes another
-  passed_on : (r s : Result (Unit {0}) WriteError) → ((text : List ℕ) → Writes r a b text → Writes s a c text) → WritesOne r opening IsText a b → WritesOne s opening IsText a c
-  passed_on r s on = by opening
-    where
-      by : (o : Result Circuit RunFault) → WritesOne r o IsText a b → WritesOne s o IsText a c
-      by (Ok n) h = (h.0, h.1, on h.0 h.2)
-      by (Err fault) h = h
+  passed_on : (o : Result Circuit RunFault) (r s : Result (Unit {0}) WriteError) → ((text : List ℕ) → Writes r a b text → Writes s a c text) → WritesOne r o IsText a b → WritesOne s o IsText a c
+  passed_on (Ok n) r s on h = (h.0, h.1, on h.0 h.2)
+  passed_on (Err fault) r s on h = h
 
   module _ (seats : Bool) where
     pub ran_flushed : Ran seats (Ok tt) opening IsText a b → outs.Writes {T = Unit {0}} (Ok tt) b c [] → Ran seats (Ok tt) opening IsText a c
-    ran_flushed ran put = passed_on (Ok tt) (Ok tt) (λ text first. flushed a b c text first put) ran
+    ran_flushed ran put = passed_on opening (Ok tt) (Ok tt) (λ text first. flushed a b c text first put) ran
 
     pub ran_unflushed : {error : Failed} → Ran seats (Ok tt) opening IsText a b → outs.Writes {T = Unit {0}} (Err error) b c [] → Ran seats (Err WriteFailed) opening IsText a c
-    ran_unflushed ran put = passed_on (Ok tt) (Err writes.WriteFailed) (λ text first. unflushed a b c text first put) ran
+    ran_unflushed ran put = passed_on opening (Ok tt) (Err writes.WriteFailed) (λ text first. unflushed a b c text first put) ran
 
     pub part_flushed : Ran seats (Err OutOfMemory) opening IsText a b → outs.Writes {T = Unit {0}} (Ok tt) b c [] → Ran seats (Err OutOfMemory) opening IsText a c
     part_flushed (inl none) put = inl (flushed_part a b c [] none put)
-    part_flushed (inr part) put = inr (passed_on (Err writes.OutOfMemory) (Err writes.OutOfMemory) (λ text first. flushed_part a b c text first put) part)
+    part_flushed (inr part) put = inr (passed_on opening (Err writes.OutOfMemory) (Err writes.OutOfMemory) (λ text first. flushed_part a b c text first put) part)
 
     pub part_unflushed : {error : Failed} → a.held ≡ [] → Ran seats (Err OutOfMemory) opening IsText a b → outs.Writes {T = Unit {0}} (Err error) b c [] → Ran seats (Err WriteFailed) opening IsText a c
     part_unflushed {error = error} empty (inl none) put = absurd (nothing_held {error = error} a b c empty none put)
-    part_unflushed {error = error} empty (inr part) put = passed_on (Err writes.OutOfMemory) (Err writes.WriteFailed) (λ text first. unflushed_part a b c text first put) part
+    part_unflushed {error = error} empty (inr part) put = passed_on opening (Err writes.OutOfMemory) (Err writes.WriteFailed) (λ text first. unflushed_part a b c text first put) part
 
 -- ---- the input
 
@@ -110,5 +97,4 @@ module _ {S : Type 0} (seats : Bool) (opening : List ℕ → Result Circuit RunF
 -- ---- a netlist that is not read
 
 pub refused_text : (read : Result Circuit TextError) (valid : Bool) (error : TextError) → (error.code ≡ texts.Line lines.OutOfMemory) ⊎ (read ≡ Err error) → Refuses false (counted_netlist read valid) (fault_of_text error)
-refused_text read valid error (inl memory) = grind arith
-refused_text read valid error (inr same) = grind arith
+refused_text read valid error h = grind arith

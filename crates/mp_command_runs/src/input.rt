@@ -30,7 +30,7 @@ pub(crate) fn read_input<S: Source>(alloc: Global, source: &mut S) -> Result<Vec
 
 /// Takes the input of a run: all that the source has, but no more than as many bytes as a text may have that begins so, and one more, by which
 /// it is known to be too long. `Failed` comes with the first fault of the source, `OutOfMemory` where the memory for the bytes is refused.
-#[tactic(auto, using(crate::proofs::TakenLemmas::take_steps))]
+#[tactic(auto, using(crate::proofs::InputLemmas::take_steps))]
 fn take_input<S: Source>(alloc: Global, source: &mut S) -> Result<Vec<u8>, TakeError>
     ensures within { IfOk result (λ input. length input.items ≤ text_limit input.items + 1) }
     ensures front { IfOk result (λ input. IfSome (S.left source.old) (λ bytes. input.items ≡ taken_of bytes)) }

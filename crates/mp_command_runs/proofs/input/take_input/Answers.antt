@@ -1,6 +1,5 @@
-use Rattle.std.specs.Prelude.{◌≡◌, ◌+◌, ◌-◌, ◌<◌, ◌≤◌, ◌++◌}
-use Rattle.mp_command_runs.proofs.Names.{ℕ, List, IfSome, length, sym, ap, subst, ◌∙◌, rules, max_short_text, text_limit, taken_of}
-use Rattle.mp_command_runs.proofs.TakenLemmas.{first_taken, more_taken, takes_first, takes_more, within_limit}
+use Rattle.mp_command_runs.proofs.Names.{◌≡◌, ◌+◌, ◌-◌, ◌<◌, ◌≤◌, ◌++◌, ℕ, List, IfSome, length, sym, ap, subst, ◌∙◌, rules, max_short_text, text_limit, taken_of}
+use Rattle.mp_command_runs.proofs.InputLemmas.{first_taken, more_taken, takes_first, takes_more, within_limit}
 use Rattle.mp_command_runs.proofs.input.take_input.Goals as goal
 
 -- ---- the first bytes alone

@@ -1,5 +1,4 @@
-use Rattle.std.specs.Prelude.{◌≡◌}
-use Rattle.mp_command_runs.proofs.Names.{is_some, true, false, Ok, ap, ◌∙◌, rules, err_from_is_err_and, Fresh, after_lines, lines_of, counted_netlist}
+use Rattle.mp_command_runs.proofs.Names.{◌≡◌, is_some, true, false, Ok, ap, ◌∙◌, rules, err_from_is_err_and, Fresh, after_lines, lines_of, counted_netlist}
 use Rattle.mp_command_runs.proofs.RunLemmas.{refused_text}
 use Rattle.mp_command_runs.proofs.opening.opened.Goals as goal
 
