@@ -1,6 +1,7 @@
 -- How a line begins decides what it says.
 use Rattle.mp_text.proofs.Names.{◌≡◌, ◌-◌, ◌<◌, ◌==◌, ◌||◌, ◌∷◌, rest_ascii, texts_behind, ℕ, zero, suc, min, Bool, true, false, cond, List, [], length, drop, None, Some, Result, Ok, Err, IfErr, refl, ap, ◌∙◌, arith, true≢false, length-take, length-drop, nat_le, slice_get, byte, before_first, after_first, list_all, cases_eq, leb-false, nat_tests, LineError, WordCount, UnknownStatement, NotAscii, OutOfMemory, is_allowed, words_of, ◌>>=◌, statement_takes, single_takes, question_takes, takes, is_begun, HasForm, is_mark, module_edit, stated_edit, line_word, stated_line, line_of, line_at, each_word, EditWord, SingleWord, LineWord, Single, Batch, Question, QuestionWord, Empty}
 use Rattle.mp_text.specs.declared.script_line.Line.{Line}
+use Rattle.mp_text.proofs.GivenLemmas.{wanting_given}
 use Rattle.mp_text.specs.Questions.{stated_question}
 
 abbrev Words : Type 0
@@ -80,4 +81,4 @@ has_form line word first plain is known right = (plain, begun (words_of line) wo
 pub only_with_form : (result : Result Line LineError) (line : List ℕ) → HasForm line → IfErr result (λ error. error ≡ OutOfMemory → HasForm line)
 only_with_form result line form = grind (arith, nat_tests)
 
-pub ruleset read_line_steps = (not_plain, by_words, without_words, with_unknown_word, with_wrong_count, only_with_form, has_form, as_stated, rest_ascii, texts_behind)
+pub ruleset read_line_steps = (not_plain, by_words, without_words, with_unknown_word, with_wrong_count, only_with_form, has_form, as_stated, rest_ascii, texts_behind, wanting_given)

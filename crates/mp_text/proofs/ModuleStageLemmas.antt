@@ -72,14 +72,11 @@ module _ (n c : Circuit) (has : HasWires n c) (r : ModuleRecord) (is : IsModule 
   delays_low = and_from (list_all (λ (i : InputName). is_input_delay i.delay) input_names) (list_all (λ (o : OutputName). is_delay o.delay) output_names) inputs_low outputs_low
 
   -- the ports of the new module have the names of the old one's
-  abbrev heard_as : ℕ → List ℕ → InputName
-  heard_as delay wire = record { wire = wire; delay = delay }
-
   inputs_again : map (input_by_name c) (map (input_of c) input_names) ≡ input_names
   inputs_again =
       map_back (input_by_name n) (input_of c) (input_by_name c) r.inputs
       (All-from_get_or (λ i. input_by_name c (input_of c (input_by_name n i)) ≡ input_by_name n i) r.inputs no_input
-      (λ p within. ap (heard_as (get_or r.inputs p no_input).delay) (input_back p within).name))
+      (λ p within. grind (arith, (input_back p within).name)))
 
   abbrev called_as : ℕ → Option (List ℕ) → OutputName
   called_as delay wire = record { wire = wire; delay = delay }
@@ -102,9 +99,7 @@ module _ (n : Circuit) (circuit : IsCircuit n) (named : HasNames n) where
   -- a wire at an output stands
   pub drive_stands : (m p : ℕ) (r : ModuleRecord) (w : WireId) → module_at n m ≡ Some r → (output_in r.outputs p).wire ≡ Some w → IsSome (wire_at n w.0)
   drive_stands m p r w at drives =
-      let is = circuit.modules_ok m r at in
-      let wide = subst (λ wire. IfSome wire (λ (v : WireId). HasWidth n v.0 (output_width r.kind (module_width n r) p))) drives (is.drives p) in
-      wide.0
+      (subst (λ wire. IfSome wire (λ (v : WireId). HasWidth n v.0 (output_width r.kind (module_width n r) p))) drives ((circuit.modules_ok m r at).drives p)).0
 
   -- ports at wires of one name are one port
   pub one_name : (m p k q : ℕ) (r s : ModuleRecord) (w v : WireId) → module_at n m ≡ Some r → (output_in r.outputs p).wire ≡ Some w → module_at n k ≡ Some s → (output_in s.outputs q).wire ≡ Some v
@@ -146,8 +141,7 @@ module _ (n : Circuit) (circuit : IsCircuit n) (named : HasNames n) where
         let none = drives_none n q front (λ k j s w within there drives name.
         let place = (one_name k j (length front) p s r w o.wire (earlier k s within there) drives at o.drives (name ∙ sym o.name)).0 in
         omega arith) in
-        let back = is_back n c (has_wires modules) o.wire (drive_stands (length front) p r o.wire at o.drives) in
-        let name = subst (λ q. wire_name c (wire_id c q) ≡ q) o.name back.name in
+        let name = subst (λ q. wire_name c (wire_id c q) ≡ q) o.name (is_back n c (has_wires modules) o.wire (drive_stands (length front) p r o.wire at o.drives)).name in
         is_nothing_driven c (wire_id c q).0 (undriven_by_name c (wire_id c q).0 q name (subst (All (DrivesNone q)) (sym same) none)) (bare_unset n.wires (wire_id c q).0)
 
     distinct : (p q : ℕ) (name : List ℕ) → (get_or (map (output_by_name n) r.outputs) p no_name).wire ≡ Some name → (get_or (map (output_by_name n) r.outputs) q no_name).wire ≡ Some name → p ≡ q

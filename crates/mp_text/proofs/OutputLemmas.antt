@@ -26,9 +26,8 @@ DrivesNone q _ = Unit {0}
 -- no port drives a wire whose name no output has
 pub undriven_by_name : (c : Circuit) (w : ℕ) (q : List ℕ) → name_in (wire_at c w) ≡ q → All (DrivesNone q) (flat_map (module_edits c) c.modules) → (m p : ℕ) → Drives c m p w → ⊥
 undriven_by_name c w q name all m p drives =
-    let each = All-from_flat_map (DrivesNone q) (module_edits c) c.modules all in
     let within = slot_within c.modules m (ap is_some drives.stands) in
-    let here = All-get_or (λ slot. All (DrivesNone q) (module_edits c slot)) c.modules m None within each in
+    let here = All-get_or (λ slot. All (DrivesNone q) (module_edits c slot)) c.modules m None within (All-from_flat_map (DrivesNone q) (module_edits c) c.modules all) in
     let there = subst (λ slot. All (DrivesNone q) (module_edits c slot)) drives.stands here in
     All-head (DrivesNone q) (added_module c drives.part) [] there p (output_named c drives.part.outputs p ∙ ap (option_map (wire_name c)) drives.output ∙ ap Some name)
 

@@ -9,16 +9,13 @@ use Rattle.mp_text.proofs.TextBackLemmas.{Leads, SlotLeads, leads_line}
 pub level_low : (width level : ℕ) → width ≤ 64 → nat_lt level (2 ^ width) ≡ true → level < 2 ^ 64
 level_low width level narrow below = grind (arith, pow-le-pow_right, nat_tests)
 
-fits_low : (width level : ℕ) → width ≤ 64 → IsTrue (fits_width width level) → level < 2 ^ 64
-unfolding fits_width
-fits_low width level narrow fits = level_low width level narrow fits
-
 module _ (n : Circuit) (circuit : IsCircuit n) (named : HasNames n) where
   pub wire_leads : (w : ℕ) (r : WireRecord) → wire_at n w ≡ Some r → SlotLeads wire_line wire_edits (Some r)
+  unfolding fits_width
   wire_leads w r at =
       let ok = circuit.wires_ok w r at in
       let width : r.width < 2 ^ 64 = omega (arith, ok.narrow) in
-      let level = fits_low r.width r.initial ok.narrow ok.level in
+      let level = level_low r.width r.initial ok.narrow ok.level in
       let words = r.name ∷ decimal r.width ∷ decimal r.initial ∷ [] in
       let plain = All-from_recursion IsPlain words (IsPlain-name r.name (named.wires w r at), (IsPlain-decimal r.width width, (IsPlain-decimal r.initial level, tt))) in
       record { each = leads_line (codes "wire") words (AddWire r.name r.width r.initial) (record { some = omega arith; plain = refl }) plain (wire_stated r.name r.width r.initial width level) }

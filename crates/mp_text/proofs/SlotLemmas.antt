@@ -25,8 +25,7 @@ All-from_flat_map P f (x ∷ xs) all =
 -- a place in a list parts it
 pub parted : {R : Type 0} (slots : List (Option R)) (w : ℕ) (r : R) → slot_at slots w ≡ Some r → slots ≡ take w slots ++ Some r ∷ drop (suc w) slots
 parted slots w r at =
-    let within = slot_within slots w (ap is_some at) in
-    grind (arith, at, (set-get_or slots w None), (set_split slots w (get_or slots w None) within))
+    grind (arith, at, (set-get_or slots w None), (set_split slots w (get_or slots w None) (slot_within slots w (ap is_some at))))
 
 pub compact-none : {R : Type 0} (change : R → R) (front : List (Option R)) → flat_map (compact change) (front ++ None ∷ []) ≡ flat_map (compact change) front
 compact-none change front = flat_map-append (compact change) front (None ∷ []) ∙ append-nil (flat_map (compact change) front)

@@ -1,5 +1,5 @@
 -- The edits of what is set on a netlist's wires, once its modules are added, are not refused.
-use Rattle.mp_text.proofs.Names.{◌≡◌, ◌<◌, ◌∷◌, ◌++◌, ℕ, true, not, List, [], append_assoc, length, get_or, All, Option, Some, None, Ok, is_some, unwrap_or, refl, sym, ap, subst, ◌∙◌, IsTrue, IfSome, flat_map, option_and_then, append-nil, get_or_at, set_at, flat_map-append, WireId, WireRecord, ModuleRecord, SetStimulus, output_in, number_named, Circuit, IsCircuit, Drives, wire_at, width_of, stimulus_in, stimulus_at, HasNames, driver, is_port, name_in, wire_name, module_edits, set_edits, stimulus_edits, is_stimulus, refusal, edited, after_single, stands, wire_id, width_named, stimulus_checks, with_stimulus, without_stimulus, arith, nat_tests}
+use Rattle.mp_text.proofs.Names.{◌≡◌, ◌<◌, ◌∷◌, ◌++◌, ℕ, true, not, List, [], append_assoc, length, get_or, All, Option, Some, None, Ok, is_some, unwrap_or, refl, sym, ap, subst, ◌∙◌, IsTrue, IfSome, flat_map, append-nil, get_or_at, set_at, flat_map-append, WireId, WireRecord, ModuleRecord, SetStimulus, output_in, number_named, Circuit, IsCircuit, Drives, wire_at, stimulus_in, stimulus_at, HasNames, driver, is_port, name_in, wire_name, module_edits, set_edits, stimulus_edits, is_stimulus, refusal, edited, after_single, stands, wire_id, width_named, stimulus_checks, with_stimulus, without_stimulus, arith, nat_tests}
 use Rattle.mp_text.proofs.SlotLemmas.{compact, compact-none, length-compact, named_behind, front_unnamed, compact_unnamed}
 use Rattle.mp_text.proofs.StageLemmas.{none_failing, is_done, Reaches, Reaches-none, Reaches-one, Steps, stage}
 use Rattle.mp_text.proofs.OutputLemmas.{DrivesNone, undriven_by_name, drives_none, is_no_port}
@@ -46,9 +46,6 @@ module _ (n : Circuit) (circuit : IsCircuit n) (named : HasNames n) (modules : L
     slot : wire_at c (length before) ≡ Some (without_stimulus r)
     slot = get_or_at before (Some (without_stimulus r)) behind None (length before) refl
 
-    width : width_named c r.name ≡ r.width
-    width = ap (λ (found : Option ℕ). width_of (option_and_then (wire_at c) found)) number_found ∙ ap width_of slot
-
     unset_name : name_in (wire_at unset (wire_id c r.name).0) ≡ r.name
     unset_name =
         let long : length (flat_map bare front) ≡ length before = length-compact without_stimulus (λ (s : WireRecord). s) front in
@@ -74,7 +71,7 @@ module _ (n : Circuit) (circuit : IsCircuit n) (named : HasNames n) (modules : L
           let found : stands c r.name ≡ true = ap is_some number_found in
           let free : not (is_port (driver c (wire_id c r.name).0)) ≡ true = ap not (is_no_port c (wire_id c r.name).0 undriven) in
           let ok = subst (λ stimulus. IfSome stimulus (λ (changes : List (ℕ × ℕ)). IsTrue (is_stimulus n.horizon r.width 0 changes))) set (circuit.wires_ok (length front) r at).stimulus in
-          let valid : is_stimulus n.horizon (width_named c r.name) 0 changes ≡ true = ap (λ w. is_stimulus n.horizon w 0 changes) width ∙ ok in
+          let valid : is_stimulus n.horizon (width_named c r.name) 0 changes ≡ true = grind (arith, number_found, slot, ok) in
           let done = is_done c (SetStimulus r.name changes) (none_failing (stimulus_checks c r.name changes) (found, (free, (valid, tt)))) in
           grind (arith, done, place, slot, set, (set_at before (Some (without_stimulus r)) behind (Some (with_stimulus changes (without_stimulus r))) (length before) refl))
 

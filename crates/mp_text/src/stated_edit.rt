@@ -53,6 +53,7 @@ fn stimulus_edit(alloc: Global, words: &[&[u8]]) -> Result<SingleEdit, LineError
 }
 
 /// The edit of the words behind `bundle`.
+#[tactic(auto, using(crate::proofs::GivenLemmas::wanting_given))]
 fn bundle_edit(alloc: Global, words: &[&[u8]]) -> Result<SingleEdit, LineError>
     requires { AreAscii words.now }
     ensures { Gives OutOfMemory (λ edit. edit) result (bundle_edit (texts words.now)) }
@@ -123,6 +124,7 @@ pub fn stated_module(alloc: Global, words: &[&[u8]]) -> Result<NewModule, LineEr
 }
 
 /// The module of the parts of the words behind `module`.
+#[tactic(auto, using(crate::proofs::GivenLemmas::wanting_given))]
 fn module_of(
     alloc: Global,
     name: &[u8],

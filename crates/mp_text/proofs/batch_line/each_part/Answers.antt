@@ -1,9 +1,6 @@
 use Rattle.mp_text.proofs.Names.{[], inl, inr, Ok, sym, ap, ◌∙◌, arith, texts, each_err, each_ok, each_end, part_edit, err_from_is_err_and}
-use Rattle.mp_text.proofs.GivenLemmas.{wanting_given, front_none}
+use Rattle.mp_text.proofs.GivenLemmas.{front_none}
 use Rattle.mp_text.proofs.batch_line.each_part.Goals as goal
-
-pub returns-in_err-edits : goal.returns-in_err-edits
-returns-in_err-edits c = wanting_given _ c.from_residual.result _ c.from_residual.ensures.1
 
 pub loop-part-init : goal.loop-part-init
 loop-part-init c = rw c.in_ok-edits.ensures.items (front_none _)
@@ -18,9 +15,6 @@ returns-in_err-edit c =
       | inl memory ↦ rw (p.1, p.2) (inl memory)
       | inr failed ↦ rw (p.1, p.2) (inr (each_err part_edit (λ part. texts part.now) c.args.parts.now c.loop-part.part-index _ c.loop-part.edits.items c.in_err-edit.field-0.0 (omega arith) c.loop-part.invariant failed))
     ]
-
-pub returns-in_err-push : goal.returns-in_err-push
-returns-in_err-push c = wanting_given _ c.from_residual-in_err-push.result _ c.from_residual-in_err-push.ensures.1
 
 pub loop-part-preserved : goal.loop-part-preserved
 loop-part-preserved c =

@@ -1,12 +1,11 @@
 use Rattle.mp_text.proofs.Names.{Ok, inr, refl, sym, ap, ◌∙◌, AddBundle, err_from_is_err_and}
-use Rattle.mp_text.proofs.GivenLemmas.{wanting_given, ascii_at, texts_five}
+use Rattle.mp_text.proofs.GivenLemmas.{ascii_at, texts_five}
 use Rattle.mp_text.proofs.stated_edit.bundle_edit.Goals as goal
 
 pub returns-in_err-setup : goal.returns-in_err-setup
 returns-in_err-setup c =
     let p = err_from_is_err_and c.from_residual.result c.from_residual.ensures.1 in
-    let said = sym c.number_word.ensures ∙ c.in_err-setup.was in
-    rw (p.1, p.2) (inr (rw (texts_five c.args.words.now c.in-len5.len_at_least c.in-len5.len_below, said) refl))
+    rw (p.1, p.2) (inr (rw (texts_five c.args.words.now c.in-len5.len_at_least c.in-len5.len_below, sym c.number_word.ensures ∙ c.in_err-setup.was) refl))
 
 pub bundle_of-requires-clause-name : goal.bundle_of-requires-clause-name
 bundle_of-requires-clause-name c = ascii_at c.args.words.now 0 5 c.requires c.in-len5.len_at_least refl
@@ -19,12 +18,6 @@ bundle_of-requires-clause-acknowledge c = ascii_at c.args.words.now 2 5 c.requir
 
 pub bundle_of-requires-clause-payload : goal.bundle_of-requires-clause-payload
 bundle_of-requires-clause-payload c = ascii_at c.args.words.now 3 5 c.requires c.in-len5.len_at_least refl
-
-pub returns-in_err-bundle : goal.returns-in_err-bundle
-returns-in_err-bundle c = wanting_given _ c.from_residual-in_err-bundle.result _ c.from_residual-in_err-bundle.ensures.1
-
-pub returns-in_err-new : goal.returns-in_err-new
-returns-in_err-new c = wanting_given _ c.from_residual-in_err-new.result _ c.from_residual-in_err-new.ensures.1
 
 pub returns : goal.returns
 returns c =

@@ -1,5 +1,4 @@
 use Rattle.mp_text.proofs.Names.{◌-◌, inr, drop, sym, ap, subst, ◌∙◌, option_copied, OutOfMemory, Gives, texts, texts_behind, takes, stated_line}
-use Rattle.mp_text.proofs.GivenLemmas.{wanting_given}
 use Rattle.mp_text.proofs.LineStartLemmas.{not_plain, by_words, without_words, with_unknown_word, with_wrong_count, has_form, only_with_form, as_stated}
 use Rattle.mp_text.proofs.stated_line.read_line.Goals as goal
 
@@ -23,9 +22,6 @@ returns-then-not-takes-clause-read c =
     (by_words c.args.line.now (sym c.is_plain.ensures.value ∙ c.if-not-is_plain.false)
     ∙ with_wrong_count _ c.in-Some.word.now (sym c.first_word.ensures ∙ ap option_copied c.in-Some.is) first (sym c.from_word.ensures ∙ c.in-Some-from_word.is)
     (sym (c.takes.ensures ∙ ap (λ count. takes first (count - 1)) c.word_count.ensures) ∙ c.if-not-takes.true))
-
-pub returns-in_err-words-clause-read : goal.returns-in_err-words-clause-read
-returns-in_err-words-clause-read c = wanting_given _ c.from_residual.result _ c.from_residual.ensures.1
 
 pub returns-in_err-words-clause-wanting : goal.returns-in_err-words-clause-wanting
 returns-in_err-words-clause-wanting c =

@@ -3,6 +3,5 @@ use Rattle.mp_text.proofs.written_lines.put_module.Goals as goal
 
 pub returns : goal.returns
 returns g c =
-    let r = c.args.part.now in
     let written = rw (c.as_slice.ensures, c.as_slice-2.ensures, c.as_slice-3.ensures, c.as_str.ensures, c.word.ensures) at c.put_to.ensures in
-    rw (module_pieces c.args.netlist.now r) written
+    rw (module_pieces c.args.netlist.now c.args.part.now) written
