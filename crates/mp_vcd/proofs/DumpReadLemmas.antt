@@ -12,9 +12,8 @@ module _ (n : Circuit) (circuit : IsCircuit n) where
   declared_wire : (vs : List Variable) (w : ℕ) (r : WireRecord) → wire_at n w ≡ Some r → w < max_wires → Leads (declaring vs) (declaration n w) (declaring (vs ++ variable n w ∷ []))
   declared_wire vs w r stands few =
       let same : declared_as w r ≡ variable n w = ap (λ slot. record { scopes = codes "top" ∷ []; width = width_of slot; code = code w; name = name_of slot }) (sym stands) in
-      let wire = circuit.wires_ok w r stands in
       leads_as (declaring vs) _ _ (slot_declaration w (Some r)) (declaration n w) (ap (slot_declaration w) (sym stands)) (ap (λ v. declaring (vs ++ v ∷ [])) same)
-      (leads_declaration vs w r (omega (arith, few)) (omega (arith, wire.narrow)) (circuit.names.wires w r stands))
+      (leads_declaration vs w r (omega (arith, few)) (omega (arith, (circuit.wires_ok w r stands).narrow)) (circuit.names.wires w r stands))
 
   leads_declarations : (vs : List Variable) (k : ℕ) (slots : List (Option WireRecord)) → k + length slots ≤ max_wires → ((i : ℕ) (r : WireRecord) → slot_at slots i ≡ Some r → wire_at n (k + i) ≡ Some r)
       → Leads (declaring vs) (flat_map (declaration n) (standing_from k slots)) (declaring (vs ++ map (variable n) (standing_from k slots)))
@@ -41,8 +40,7 @@ module _ (n : Circuit) (circuit : IsCircuit n) where
   is_readable : (w : ℕ) → Contains (standing n) w → IsReadable n all_variables w
   is_readable w within =
       let wire = stands_of n w within in
-      let ok = circuit.wires_ok w wire.0 wire.1 in
-      record { wide = omega (arith, ok.wide, ap width_of wire.1); declared = has_variable w within }
+      record { wide = omega (arith, (circuit.wires_ok w wire.0 wire.1).wide, ap width_of wire.1); declared = has_variable w within }
 
   all_readable : AreReadable n all_variables (standing n)
   all_readable k d within = is_readable (slice_index_or (standing n) k d) (Contains-get_or (standing n) k d within)
@@ -58,12 +56,11 @@ module _ (n : Circuit) (circuit : IsCircuit n) where
       let block_starts : Leads (declaring vs) block_start (valued Inside vs 0 []) = record { each = λ rest. refl } in
       let block_ends : Leads (valued Inside vs 0 first_given) (line (codes "$end")) (valued Outside vs 0 first_given) = record { each = λ rest. refl } in
       let end = leads_time vs all_units.time n.horizon all_units.given (omega (arith, all_units.upto, circuit.horizon_low)) (omega (arith, horizon_within n circuit)) in
-      let changes = leads_both _ _ _ _ (time_mark n.horizon) all_units.leads end in
       let levels = leads_both _ _ _ (flat_map (value_at n 0) (standing n)) _ (leads_values Inside n vs 0 (standing n) [] all_readable) block_ends in
       let block = leads_both _ _ _ block_start _ block_starts levels in
       let stands : (i : ℕ) (r : WireRecord) → slot_at n.wires i ≡ Some r → wire_at n (0 + i) ≡ Some r = λ i r at. ap (wire_at n) (zero-add i) ∙ at in
       let declared = leads_both _ _ _ (flat_map (declaration n) (standing n)) _ (leads_declarations n circuit [] 0 n.wires (omega (arith, wires_within n circuit)) stands) block in
-      leads_both _ _ _ (preamble n) _ (leads_both _ _ _ opening_lines _ starts declared) changes
+      leads_both _ _ _ (preamble n) _ (leads_both _ _ _ opening_lines _ starts declared) (leads_both _ _ _ _ (time_mark n.horizon) all_units.leads end)
 
   says : SaysLevels n (valued Outside all_variables n.horizon all_units.given)
   says = grind (arith, nat_tests, all_units, stands_in, mod-eq_of_lt, level_fits)

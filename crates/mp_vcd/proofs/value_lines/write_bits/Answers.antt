@@ -23,9 +23,8 @@ loop-place-preserved c =
 pub returns-clause-placed : goal.returns-clause-placed
 returns-clause-placed c =
     let at = c.args.at in
-    let room = c.loop-place.room in
     let none : c.loop-place.place ≡ at = omega (arith, c.loop-place.invariant.low) in
     let empty : c.loop-place.place - at ≡ 0 = omega (arith, none) in
     let behind = sym (rw (empty, (bits-zero c.loop-place.rest), none) at c.loop-place.invariant.same) in
-    placed_between c.args.room.now room (bits c.args.width c.args.level) at (at + c.args.width) c.loop-place.invariant.before behind
+    placed_between c.args.room.now c.loop-place.room (bits c.args.width c.args.level) at (at + c.args.width) c.loop-place.invariant.before behind
     (ap (λ k. at + k) (bits_long c.args.width c.args.level)) c.requires c.loop-place.invariant.long
