@@ -33,9 +33,8 @@ module _ (f : ℕ → ℕ) (end time : ℕ) (a : Ahead) (change : ℕ × ℕ) (l
   pub first_event : has_event f change.0 ≡ true
   first_event =
       let least = le-last_time change.0 change.1 later form.2 in
-      let before = held (change.0 - 1) (omega (arith, is.some, form.0)) (omega (arith, form.0)) (omega (arith, last, least)) in
       let now : f change.0 ≡ change.1 = sym (levels_are change.0 (omega (arith, first_late)) (omega (arith, last, least))) ∙ level_from-first (time - 1) a.level change later form in
-      grind (arith, nat_tests, ne_eqb, before, now, form.0, form.1)
+      grind (arith, nat_tests, ne_eqb, held (change.0 - 1) (omega (arith, is.some, form.0)) (omega (arith, form.0)) (omega (arith, last, least)), now, form.0, form.1)
 
   -- before it there is none
   pub none_sooner : (t : ℕ) → time ≤ t → t < change.0 → t < end → has_event f t ≡ false

@@ -46,9 +46,7 @@ module _ {X : Type 0} (key : X → ℕ) where
   same_lists a [] (y ∷ ys) up rises same = let some : [] ≡ y ∷ filter (at_key (key y)) ys = same (key y) ∙ yes_key (key y) y ys refl in cc
   same_lists a (x ∷ xs) [] up rises same = let some : x ∷ filter (at_key (key x)) xs ≡ [] = sym (yes_key (key x) x xs refl) ∙ same (key x) in cc
   same_lists a (x ∷ xs) (y ∷ ys) up rises same =
-      let low = not_below x y xs ys rises.1 (same (key x)) in
-      let high = not_below y x ys xs up.1 (sym (same (key y))) in
-      let equal : key x ≡ key y = omega (arith, low, high) in
+      let equal : key x ≡ key y = omega (arith, not_below x y xs ys rises.1 (same (key x)), not_below y x ys xs up.1 (sym (same (key y)))) in
       let whole : x ∷ filter (at_key (key x)) xs ≡ y ∷ filter (at_key (key x)) ys = sym (yes_key (key x) x xs refl) ∙ same (key x) ∙ yes_key (key x) y ys (sym equal) in
       let first : x ≡ y = cc in
       let rest : (t : ℕ) → filter (at_key t) xs ≡ filter (at_key t) ys =

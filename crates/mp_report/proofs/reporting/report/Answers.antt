@@ -9,10 +9,9 @@ pub returns : goal.returns
 returns g c =
     let n = c.args.netlist.now in
     let sort = c.in_ok-sort_by_key.ensures in
-    let order = c.as_slice.ensures.value ∙ c.in_ok-places.ensures in
     sorted_findings n c.in_ok-all.all.items c.sort_by_key.new.self.items
     (c.in_ok-all.ensures
     ∙ joined_lists (λ (place : Place). map (finding_at place) (found_over n place)) (λ (list : Vec Finding Global). list.items) (places n) c.as_slice-2.result.now
-    (rw (c.as_slice-2.ensures.value, ← order) c.in_ok-lists.ensures))
+    (rw (c.as_slice-2.ensures.value, ← (c.as_slice.ensures.value ∙ c.in_ok-places.ensures)) c.in_ok-lists.ensures))
     (IsNonDecreasingBy-from_sort_by_key time_of c.sort_by_key.new.self.items sort.sorted (λ a r q k. search rules))
     (sort.stable time_of (always_returns_same _ (λ a r. r ≡ time_of a.0.now) _ (λ a r q k. search rules)))

@@ -7,9 +7,8 @@ returns-clause-later c n b time ahead le = search (rules, c.next.ensures.later, 
 pub returns-clause-still : goal.returns-clause-still
 returns-clause-still c n b time ahead low high =
     let last = c.next.ensures.within in
-    let second = c.next-end-2.ensures.within in
     record {
-      request = c.next-end.ensures.still (level n b.request.0) n.horizon time c.next.result ahead.request low (omega (arith, last, second)) high;
+      request = c.next-end.ensures.still (level n b.request.0) n.horizon time c.next.result ahead.request low (omega (arith, last, c.next-end-2.ensures.within)) high;
       acknowledge = c.next-end-2.ensures.still (level n b.acknowledge.0) n.horizon time c.next.result ahead.acknowledge low (omega (arith, last)) high;
       payload = c.next.ensures.still (level n b.payload.0) n.horizon time c.next.result ahead.payload low (omega arith) high;
     }
