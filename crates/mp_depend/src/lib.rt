@@ -7,4 +7,4 @@ mod touch;
 
 pub use drivers::drivers_of;
 pub use set_alike::is_set_alike;
-pub use touch::touched;
+pub use touch::{is_touched, touched};

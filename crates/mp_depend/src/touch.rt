@@ -27,7 +27,7 @@ pub fn touched(alloc: Global, old: &Netlist, new: &Netlist) -> Result<Vec<Module
 }
 
 /// Whether a module stands in the new netlist, and its record isn't the same in the old one.
-fn is_touched(old: &Netlist, new: &Netlist, id: ModuleId) -> bool
+pub fn is_touched(old: &Netlist, new: &Netlist, id: ModuleId) -> bool
     ensures touched { IsTrue result ↔ IsTouched old.now new.now id.0 }
     ensures same { result ≡ false → IsSameStanding old.now new.now id.0 }
 {

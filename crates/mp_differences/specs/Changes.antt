@@ -1,7 +1,11 @@
 -- A change of a netlist with both runs, and when a module is first apart.
-use Rattle.std.specs.Prelude.{◌≡◌, ◌≢◌, ℕ, ◌<◌, ◌≤◌}
+use Rattle.std.specs.Prelude.{◌≡◌, ◌≢◌, ◌⊎◌, ℕ, ◌<◌, ◌≤◌, List, length}
+use Rattle.mp_wave.specs.Faults.{pair_at}
+use Rattle.mp_records.specs.declared.ports.Input.{Input}
 use Rattle.mp_netlist.specs.Circuit.{Circuit, IsCircuit}
 use Rattle.mp_evaluation.specs.Runs.{IsRun}
+use Rattle.mp_model.specs.Levels.{input_by}
+use Rattle.mp_model.specs.Waves.{level}
 use Rattle.mp_model.specs.Reach.{IsApart}
 use Rattle.mp_work.specs.Revisions.{IsRevision}
 use Rattle.mp_differences.specs.declared.change.Change.{Change}
@@ -20,6 +24,26 @@ pub record IsFirstDifference (one other : ℕ → ℕ) (from to time : ℕ) : Ty
   pub below : time < to
   pub differ : one time ≢ other time
   pub before : (t : ℕ) → from ≤ t → t < time → one t ≡ other t
+
+-- the list has a change at the place, and it is at the time
+pub record IsTimeAt (changes : List (ℕ × ℕ)) (place time : ℕ) : Type 0 where
+  pub within : place < length changes
+  pub is : time ≡ (pair_at changes place).0
+
+-- two lists of changes are the same before a place, and not at it: the time is that of the first change there
+pub record IsParting (ours theirs : List (ℕ × ℕ)) (time : ℕ) : Type 0 where
+  pub place : ℕ
+  pub within_ours : place ≤ length ours
+  pub within_theirs : place ≤ length theirs
+  pub same : (k : ℕ) → k < place → pair_at ours k ≡ pair_at theirs k
+  pub first_ours : place < length ours → time ≤ (pair_at ours place).0
+  pub first_theirs : place < length theirs → time ≤ (pair_at theirs place).0
+  pub reached : IsTimeAt ours place time ⊎ IsTimeAt theirs place time
+  pub unlike : place < length ours → place < length theirs → pair_at ours place ≢ pair_at theirs place
+
+-- the level at an input port over time
+abbrev pub heard : Circuit → Input → ℕ → ℕ
+heard n input t = input_by n (level n) input t
 
 -- the module isn't apart from one time to before another
 abbrev pub IsNeverApart : Circuit → Circuit → ℕ → ℕ → ℕ → Type 0

@@ -1,12 +1,20 @@
 //! What a module works on in a block of time.
-ghost use Rattle.std.specs.Prelude.{◌≡◌, ℕ, ◌+◌, ◌<◌, ◌≤◌, IfNone, IfSome};
+ghost use Rattle.std.specs.Prelude.{◌≡◌, ◌≢◌, ◌↔◌, ◌<◌, Some, IsTrue, IfNone, IfSome};
+ghost use Rattle.mp_modules.specs.declared.memory.Memory.{Memory as State};
+ghost use Rattle.mp_records.specs.declared.module_record.ModuleRecord.{ModuleRecord as Part};
+ghost use Rattle.mp_netlist.specs.Circuit.{IsCircuit};
+ghost use Rattle.mp_evaluation.specs.Checkpoints.{IsBorder};
+ghost use Rattle.mp_evaluation.specs.Outcomes.{checkpoint_of};
 ghost use Rattle.mp_work.specs.Revisions.{IsKept};
+ghost use Rattle.mp_work.specs.Work.{Differs, window_end, window_of};
 ghost use Rattle.mp_differences.specs.Changes.{AreRuns};
 ghost use Rattle.mp_differences.specs.Blocks.{IsBlock, IsIdleIn, IsStretchIn};
 
 use crate::change::Change;
 use crate::inputs::first_apart;
-use mp_netlist::{ModuleId, ModuleRecord, checkpoint_units};
+use mp_evaluation::Run;
+use mp_modules::Memory;
+use mp_netlist::{ModuleId, ModuleRecord, Netlist, checkpoint_units};
 use mp_work::{Stretch, window_end};
 
 /// A block of time, from its begin to before its end.
@@ -29,32 +37,60 @@ pub(crate) fn stretch_in(
     ensures none { IfNone result (IsIdleIn change.now.old.now change.now.new.now id.0 block.from block.to) }
     ensures some { IfSome result (IsStretchIn change.now.old.now change.now.new.now id.0 block.from block.to) }
 {
-    let (least, horizon) = (change.new.least_delay(), change.new.horizon());
-    let start = if differs(change, id, block.from) {
-        block.from
-    } else {
-        window_of(
-            horizon,
-            least,
-            first_apart(change, id, found, block.from, block.to)?,
-        )
-    };
-    Some(Stretch {
+    if differs(change, id, block.from) {
+        return Some(stretch_from(change, id, block, block.from));
+    }
+    let time = first_apart(change, id, found, block.from, block.to)?;
+    Some(stretch_from(change, id, block, window_of(change.new, time)))
+}
+
+/// The stretch of a module in a block whose first entry ends with the window that begins at a time.
+pub(crate) fn stretch_from(change: &Change<'_>, id: ModuleId, block: Block, start: u32) -> Stretch
+    ensures { result ≡ record { «module» = id; from = block.from; first_end = window_end change.now.new.now start; last_end = block.to } }
+{
+    Stretch {
         module: id,
         from: block.from,
-        first_end: window_end(least, horizon, start),
+        first_end: window_end(change.new.least_delay(), change.new.horizon(), start),
         last_end: block.to,
-    })
+    }
 }
 
 /// Whether the states of a module before a block aren't the same.
-fn differs(change: &Change<'_>, id: ModuleId, time: u32) -> bool {
-    change.old_run.checkpoint(id, time) != change.new_run.checkpoint(id, time)
+fn differs(change: &Change<'_>, id: ModuleId, time: u32) -> bool
+    requires runs { AreRuns change.now }
+    requires kept { (r : Part) × IsKept change.now.old.now change.now.new.now id.0 r }
+    requires border { IsBorder change.now.new.now.horizon time }
+    requires below { time < change.now.new.now.horizon }
+    ensures { IsTrue result ↔ Differs change.now.old.now change.now.new.now id.0 time }
+{
+    time > 0
+        && is_other(
+            kept_state(change.old_run, id, time),
+            kept_state(change.new_run, id, time),
+        )
+}
+
+fn is_other(one: Memory, other: Memory) -> bool
+    ensures { IsTrue result ↔ (one ≢ other) }
+{
+    one != other
+}
+
+/// The state of a module that a run kept for a time, or a blank one.
+fn kept_state(run: &Run, id: ModuleId, time: u32) -> Memory
+    ensures { (kept : State) → checkpoint_of run.now id.0 time ≡ Some kept → result ≡ kept }
+{
+    match run.checkpoint(id, time) {
+        Some(kept) => kept,
+        None => Memory::with_one_output(&[], 0),
+    }
 }
 
 /// Where the window of a time begins.
-fn window_of(horizon: u32, least: u32, time: u32) -> u32
-    requires { 0 < least }
+fn window_of(netlist: &Netlist, time: u32) -> u32
+    requires { IsCircuit netlist.now }
+    ensures { result ≡ window_of netlist.now time }
 {
-    time - time % checkpoint_units(horizon) % least
+    time - time % checkpoint_units(netlist.horizon()) % netlist.least_delay()
 }

@@ -1,7 +1,8 @@
 //! When a module first hears something else.
-ghost use Rattle.std.specs.Prelude.{◌≡◌, ℕ, ◌<◌, ◌≤◌, IfNone, IfSome};
+ghost use Rattle.std.specs.Prelude.{◌≡◌, ℕ, ◌<◌, ◌≤◌, IfNone, IfSome, IsSome};
+ghost use Rattle.mp_netlist.specs.Circuit.{wire_at};
 ghost use Rattle.mp_work.specs.Revisions.{IsKept};
-ghost use Rattle.mp_differences.specs.Changes.{AreRuns, IsFirstApart, IsNeverApart};
+ghost use Rattle.mp_differences.specs.Changes.{AreRuns, IsFirstApart, IsFirstDifference, IsNeverApart, heard};
 
 use crate::change::Change;
 use crate::waves::differ_between;
@@ -17,7 +18,6 @@ pub(crate) fn first_apart(
 ) -> Option<u32>
     requires runs { AreRuns change.now }
     requires kept { IsKept change.now.old.now change.now.new.now id.0 found.now }
-    requires some { from < to }
     requires within { to ≤ change.now.new.now.horizon }
     ensures none { IfNone result (IsNeverApart change.now.old.now change.now.new.now id.0 from to) }
     ensures some { IfSome result (IsFirstApart change.now.old.now change.now.new.now id.0 from to) }
@@ -33,14 +33,24 @@ pub(crate) fn first_apart(
     apart
 }
 
-/// The same of an input.
-fn input_apart(change: &Change<'_>, input: Input, from: u32, to: u32) -> Option<u32> {
+/// The first time from one to before another at which an input has another level in the new run, if any.
+fn input_apart(change: &Change<'_>, input: Input, from: u32, to: u32) -> Option<u32>
+    requires runs { AreRuns change.now }
+    requires before { IsSome (wire_at change.now.old.now input.wire.0) }
+    requires after { IsSome (wire_at change.now.new.now input.wire.0) }
+    requires within { to ≤ change.now.new.now.horizon }
+    ensures none { IfNone result ((t : ℕ) → from ≤ t → t < to → heard change.now.old.now input t ≡ heard change.now.new.now input t) }
+    ensures some { IfSome result (λ time. IsFirstDifference (heard change.now.old.now input) (heard change.now.new.now input) from to time) }
+{
     let begin = from.saturating_sub(input.delay);
     let end = to.saturating_sub(input.delay);
     if begin >= end {
         return None;
     }
-    match (change.old_run.wave(input.wire), change.new_run.wave(input.wire)) {
+    match (
+        change.old_run.wave(input.wire),
+        change.new_run.wave(input.wire),
+    ) {
         (Some(one), Some(other)) => match differ_between(one, other, begin, end) {
             Some(time) => Some(time + input.delay),
             None => None,

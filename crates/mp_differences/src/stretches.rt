@@ -1,14 +1,18 @@
 //! All work of a change, as stretches.
-ghost use Rattle.std.specs.Prelude.{IfOk};
+ghost use Rattle.std.specs.Prelude.{◌+◌, IfOk, OnOk};
 ghost use Rattle.mp_evaluation.specs.Runs.{IsRun};
-ghost use Rattle.mp_work.specs.Revisions.{IsRevision};
+ghost use Rattle.mp_model.specs.Reach.{IsTouched};
+ghost use Rattle.mp_work.specs.Revisions.{IsKept, IsRevision};
 ghost use Rattle.mp_work.specs.Stretches.{AreStretches};
+ghost use Rattle.mp_differences.specs.Blocks.{IsStretchIn};
+ghost use Rattle.mp_differences.specs.Built.{AreFound};
+ghost use Rattle.mp_differences.specs.Changes.{AreRuns};
 
-use crate::blocks::{Block, stretch_in};
+use crate::blocks::{Block, stretch_from, stretch_in};
 use crate::change::Change;
-use mp_depend::touched;
+use mp_depend::is_touched;
 use mp_netlist::{ModuleId, ModuleRecord, checkpoint_units};
-use mp_work::{Stretch, window_end};
+use mp_work::Stretch;
 use std::alloc::{AllocError, Global};
 
 /// All stretches in which modules work for a change, in no order: found where the two runs differ.
@@ -18,25 +22,26 @@ pub fn stretches_of(alloc: Global, change: &Change<'_>) -> Result<Vec<Stretch>, 
     requires after { IsRun change.now.new.now change.now.new_run.now }
     ensures { IfOk result (λ all. AreStretches change.now.old.now change.now.new.now all.items) }
 {
+    // Their contracts tell that the netlists are well formed.
+    let _old_horizon = change.old.horizon();
+    let _new_horizon = change.new.horizon();
     let mut all = Vec::new(alloc);
-    let touched = touched(alloc, change.old, change.new)?;
     for m in 0..change.new.module_slots() {
-        add_work(change, touched.as_slice(), ModuleId(m), &mut all)?;
+        add_work(change, ModuleId(m), &mut all)?;
     }
     Ok(all)
 }
 
 /// The stretches of a module too.
-fn add_work(
-    change: &Change<'_>,
-    touched: &[ModuleId],
-    id: ModuleId,
-    all: &mut Vec<Stretch>,
-) -> Result<(), AllocError> {
+fn add_work(change: &Change<'_>, id: ModuleId, all: &mut Vec<Stretch>) -> Result<(), AllocError>
+    requires runs { AreRuns change.now }
+    requires before { AreFound change.now.old.now change.now.new.now id.0 0 all.old.items }
+    ensures { OnOk result (AreFound change.now.old.now change.now.new.now (id.0 + 1) 0 all.new.items) }
+{
     let Some(found) = change.new.module(id) else {
         return Ok(());
     };
-    if touched.binary_search_by_key(&id.0, |one| one.0).is_ok() {
+    if is_touched(change.old, change.new, id) {
         all.push(whole_stretch(change, id))?;
         return Ok(());
     }
@@ -44,14 +49,12 @@ fn add_work(
 }
 
 /// A touched module works from time 0 to the horizon.
-fn whole_stretch(change: &Change<'_>, id: ModuleId) -> Stretch {
-    let horizon = change.new.horizon();
-    Stretch {
-        module: id,
-        from: 0,
-        first_end: window_end(change.new.least_delay(), horizon, 0),
-        last_end: horizon,
-    }
+fn whole_stretch(change: &Change<'_>, id: ModuleId) -> Stretch
+    requires { IsTouched change.now.old.now change.now.new.now id.0 }
+    ensures { IsStretchIn change.now.old.now change.now.new.now id.0 0 change.now.new.now.horizon result }
+{
+    let to = change.new.horizon();
+    stretch_from(change, id, Block { from: 0, to }, 0)
 }
 
 /// The stretches of a module that isn't touched too, block by block.
@@ -60,7 +63,12 @@ fn add_blocks(
     id: ModuleId,
     found: &ModuleRecord,
     all: &mut Vec<Stretch>,
-) -> Result<(), AllocError> {
+) -> Result<(), AllocError>
+    requires runs { AreRuns change.now }
+    requires kept { IsKept change.now.old.now change.now.new.now id.0 found.now }
+    requires before { AreFound change.now.old.now change.now.new.now id.0 0 all.old.items }
+    ensures { OnOk result (AreFound change.now.old.now change.now.new.now id.0 change.now.new.now.horizon all.new.items) }
+{
     let horizon = change.new.horizon();
     let mut from = 0;
     while from < horizon {

@@ -1,7 +1,8 @@
 //! From when on two waves differ.
 ghost use Rattle.std.specs.Prelude.{◌≡◌, ℕ, ◌<◌, ◌≤◌, IfNone, IfSome};
 ghost use Rattle.mp_wave.specs.Waveform.{level_of};
-ghost use Rattle.mp_differences.specs.Changes.{IsFirstDifference};
+ghost use Rattle.mp_wave.specs.WaveChanges.{changes_in};
+ghost use Rattle.mp_differences.specs.Changes.{IsFirstDifference, IsParting};
 
 use mp_wave::{Wave, WaveChanges};
 
@@ -22,22 +23,22 @@ pub(crate) fn differ_between(one: &Wave, other: &Wave, from: u32, to: u32) -> Op
 }
 
 /// The time of the first change that isn't in both of two lists, if any.
-fn first_unlike(ours: WaveChanges<'_>, theirs: WaveChanges<'_>) -> Option<u32> {
-    let mut place = 0usize;
-    loop {
-        match (ours.get(place), theirs.get(place)) {
-            (Some(a), Some(b)) => {
-                if a.0 != b.0 {
-                    return Some(a.0.min(b.0));
-                }
-                if a.1 != b.1 {
-                    return Some(a.0);
-                }
-            }
-            (Some(a), None) => return Some(a.0),
-            (None, Some(b)) => return Some(b.0),
-            (None, None) => return None,
+fn first_unlike(ours: WaveChanges<'_>, theirs: WaveChanges<'_>) -> Option<u32>
+    ensures none { IfNone result (changes_in ours.entry ≡ changes_in theirs.entry) }
+    ensures some { IfSome result (λ time. IsParting (changes_in ours.entry) (changes_in theirs.entry) time) }
+{
+    let common = ours.len().min(theirs.len());
+    for place in 0..common {
+        let (a, b) = (ours.time_at(place), theirs.time_at(place));
+        if a != b || ours.level_at(place) != theirs.level_at(place) {
+            return Some(a.min(b));
         }
-        place = place.wrapping_add(1);
+    }
+    if common < ours.len() {
+        Some(ours.time_at(common))
+    } else if common < theirs.len() {
+        Some(theirs.time_at(common))
+    } else {
+        None
     }
 }

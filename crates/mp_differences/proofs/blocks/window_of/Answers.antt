@@ -1,0 +1,9 @@
+use Rattle.std.proofs.Common.{arith}
+use Rattle.mp_netlist.proofs.DelayLemmas.{delays_are_least}
+use Rattle.mp_differences.proofs.blocks.window_of.Goals as goal
+
+pub nonzero_rem-result-2 : goal.nonzero_rem-result-2
+nonzero_rem-result-2 c =
+    let positive = (delays_are_least c.args.netlist.now c.requires).positive in
+    let is = c.least_delay.ensures in
+    omega (arith, positive, is)
