@@ -4,8 +4,8 @@ use crate::change::Change;
 use crate::part_netlist::part_netlist;
 use crate::part_run::part_run;
 use crate::redone::Redone;
+use crate::versions::Versions;
 use mp_phase::{Crew, Gate};
-use mp_rerun::redo_stretches;
 use std::alloc::{AllocError, Global};
 use std::sync::Wait;
 use std::thread::Threads;
@@ -40,8 +40,11 @@ impl<'a> Part<'a> {
         let Ok(crew) = Crew::new(1, 1) else {
             unreachable!()
         };
-        let found = redo_stretches(rt, alloc, &old, &before, &new, &crew, gate)?;
-        let (run, stretches) = found;
-        Ok(Redone { run, stretches })
+        let versions = Versions {
+            old: &old,
+            run: &before,
+            new: &new,
+        };
+        versions.redo(rt, alloc, &crew, gate)
     }
 }

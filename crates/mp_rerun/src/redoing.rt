@@ -1,11 +1,13 @@
 //! What has changed with a netlist is evaluated again.
-ghost use Rattle.std.specs.Prelude.{◌≡◌, IfOk};
+ghost use Rattle.std.specs.Prelude.{◌≡◌, true, IsSome, IfOk, IfSome};
 ghost use Rattle.mp_evaluation.specs.Runs.{IsRun};
+ghost use Rattle.mp_rerun.specs.Reruns.{IsChange};
 ghost use Rattle.mp_work.specs.Revisions.{IsRevision};
 ghost use Rattle.mp_work.specs.Stretches.{AreStretches};
 ghost use Rattle.mp_work.specs.Work.{IsWork};
 
 use crate::change::Change;
+use crate::means::Means;
 use crate::rerun::Rerun;
 use mp_evaluation::Run;
 use mp_netlist::Netlist;
@@ -35,11 +37,30 @@ pub fn redo<R: Threads + Wait + Sync, G: Gate + Sync>(
     ensures run { IfOk result (λ both. IsRun new.now both.0) }
     ensures work { IfOk result (λ both. IsWork old.now new.now both.1) }
 {
-    let (run, stretches) = redo_stretches(rt, alloc, old, run, new, crew, gate)?;
+    // Their contracts tell that the netlists are well formed.
+    let _old_horizon = old.horizon();
+    let _new_horizon = new.horizon();
+    let least = new.least_delay();
+    let change = Change {
+        old,
+        run,
+        new,
+        least,
+    };
+    let means = Means {
+        rt,
+        alloc,
+        crew,
+        gate,
+    };
+    let Some((run, stretches)) = run_again(&means, &change, true)? else {
+        unreachable!()
+    };
     Ok((run, Work::of_change(old, new, stretches)))
 }
 
-/// The same run, and the work as all its stretches, in no order.
+/// The same run, and the work as all its stretches, in no order. Nothing, where the change reaches most of the netlist early, and for longer
+/// than a block: what becomes of the netlist is then found in less time by an evaluation.
 pub fn redo_stretches<R: Threads + Wait + Sync, G: Gate + Sync>(
     rt: &R,
     alloc: Global,
@@ -48,11 +69,11 @@ pub fn redo_stretches<R: Threads + Wait + Sync, G: Gate + Sync>(
     new: &Netlist,
     crew: &Crew,
     gate: &G,
-) -> Result<(Run, Vec<Stretch>), AllocError>
+) -> Result<Option<(Run, Vec<Stretch>)>, AllocError>
     requires revision { IsRevision old.now new.now }
     requires run { IsRun old.now run.now }
-    ensures run { IfOk result (λ both. IsRun new.now both.0) }
-    ensures stretches { IfOk result (λ both. AreStretches old.now new.now both.1.items) }
+    ensures run { IfOk result (λ found. IfSome found (λ both. IsRun new.now both.0)) }
+    ensures stretches { IfOk result (λ found. IfSome found (λ both. AreStretches old.now new.now both.1.items)) }
 {
     // Their contracts tell that the netlists are well formed.
     let _old_horizon = old.horizon();
@@ -64,10 +85,35 @@ pub fn redo_stretches<R: Threads + Wait + Sync, G: Gate + Sync>(
         new,
         least,
     };
-    let mut rerun = Rerun::begin(alloc, &change)?;
+    let means = Means {
+        rt,
+        alloc,
+        crew,
+        gate,
+    };
+    run_again(&means, &change, false)
+}
+
+/// The same. Where it is to be patient, it goes on however much the change reaches.
+fn run_again<R: Threads + Wait + Sync, G: Gate + Sync>(
+    means: &Means<'_, R, G>,
+    change: &Change<'_>,
+    is_patient: bool,
+) -> Result<Option<(Run, Vec<Stretch>)>, AllocError>
+    requires { IsChange change.now }
+    ensures run { IfOk result (λ found. IfSome found (λ both. IsRun change.now.new.now both.0)) }
+    ensures stretches { IfOk result (λ found. IfSome found (λ both. AreStretches change.now.old.now change.now.new.now both.1.items)) }
+    ensures patient { is_patient ≡ true → IfOk result (λ found. IsSome found) }
+{
+    let mut rerun = Rerun::begin(means.alloc, change)?;
     for id in rerun.history.live() {
-        gate.enter(rt, *id, 0, rerun.window_end);
+        means.gate.enter(means.rt, *id, 0, rerun.window_end);
     }
-    let end = rerun.pass_all(rt, alloc, crew, gate, &change)?;
-    rerun.finish(alloc, &change, end)
+    match rerun.pass_all(means, change, is_patient)? {
+        Some(end) => {
+            let both = rerun.finish(means.alloc, change, end)?;
+            Ok(Some(both))
+        }
+        None => Ok(None),
+    }
 }

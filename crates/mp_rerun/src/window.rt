@@ -6,51 +6,60 @@ use crate::means::Means;
 use crate::rerun::Rerun;
 use mp_compare::Change;
 use mp_netlist::checkpoint_units;
-use mp_phase::{Crew, Gate};
+use mp_phase::Gate;
 use mp_work::{block_of, window_end};
 use std::alloc::{AllocError, Global};
 use std::sync::Wait;
 use std::thread::Threads;
 
 impl Rerun {
-    ghost use Rattle.std.specs.Prelude.{◌≡◌, ◌-◌, ◌<◌, ◌≤◌, IfOk, OnOk};
+    ghost use Rattle.std.specs.Prelude.{◌≡◌, ◌-◌, ◌<◌, ◌≤◌, true, IsSome, IfOk, IfSome, OnOk};
     ghost use Rattle.mp_rerun.specs.Reruns.{IsChange};
     ghost use Rattle.mp_rerun.specs.Settling.{HasEnded, IsAhead};
     ghost use Rattle.mp_rerun.specs.Windows.{IsUnderWay, IsAtWindow};
     ghost use Rattle.mp_work.specs.Work.{block_of, window_of};
 
-    /// Goes through the units up to an end, which it returns: the horizon, or a time from which on the rest is that of the old run.
+    /// Goes through the units up to an end, which it returns: the horizon, or a time from which on the rest is that of the old run. Nothing, where
+    /// it isn't to be patient, and the change reaches too much.
     pub(crate) fn pass_all<R: Threads + Wait + Sync, G: Gate + Sync>(
         &mut self,
-        rt: &R,
-        alloc: Global,
-        crew: &Crew,
-        gate: &G,
+        means: &Means<'_, R, G>,
         change: &Change<'_>,
-    ) -> Result<u32, AllocError>
+        is_patient: bool,
+    ) -> Result<Option<u32>, AllocError>
         requires change { IsChange change.now }
         requires before { IsUnderWay change.now.old.now change.now.new.now change.now.run.now 0 self.old }
-        ensures { IfOk result (λ end. HasEnded change.now.old.now change.now.new.now change.now.run.now end self.new) }
+        ensures ended { IfOk result (λ found. IfSome found (λ end. HasEnded change.now.old.now change.now.new.now change.now.run.now end self.new)) }
+        ensures patient { is_patient ≡ true → IfOk result (λ found. IsSome found) }
     {
         let horizon = change.new.horizon();
-        let means = Means {
-            rt,
-            alloc,
-            crew,
-            gate,
-        };
         let mut time = 1;
         while time < horizon {
-            match self.look_ahead(rt, gate, change, time)? {
+            if !is_patient && self.reaches_much(change, time) {
+                return Ok(None);
+            }
+            match self.look_ahead(means.rt, means.gate, change, time)? {
                 Ahead::Next(next) => {
-                    self.pass_unit(&means, change, next)?;
+                    self.pass_unit(means, change, next)?;
                     time = next + 1;
                 }
-                Ahead::Over(end) => return Ok(end),
+                Ahead::Over(end) => return Ok(Some(end)),
             }
         }
         self.end_window(change, horizon)?;
-        Ok(horizon)
+        Ok(Some(horizon))
+    }
+
+    /// Whether a window ends at a time in the first quarter of all, but not in the first block, and three of four modules are live then.
+    fn reaches_much(&self, change: &Change<'_>, time: u32) -> bool {
+        if time < self.window_end {
+            return false;
+        }
+        let horizon = change.new.horizon();
+        let modules = change.new.module_slots() as usize;
+        time > checkpoint_units(horizon)
+            && time <= horizon / 4
+            && self.history.live().len() >= modules - modules / 4
     }
 
     /// What follows the units before a time. Where a window ends there, the next one begins: then, or, where nothing happens for a while, at a
