@@ -2,6 +2,7 @@
 use Rattle.std.specs.Prelude.{◌≡◌, ◌≢◌, ◌⊎◌, ℕ, ◌<◌, ◌≤◌, List, length}
 use Rattle.mp_wave.specs.Faults.{pair_at}
 use Rattle.mp_records.specs.declared.ports.Input.{Input}
+use Rattle.mp_netlist.specs.Delays.{least_delay}
 use Rattle.mp_netlist.specs.Circuit.{Circuit, IsCircuit}
 use Rattle.mp_evaluation.specs.Runs.{IsRun}
 use Rattle.mp_model.specs.Levels.{input_by}
@@ -10,13 +11,14 @@ use Rattle.mp_model.specs.Reach.{IsApart}
 use Rattle.mp_work.specs.Revisions.{IsRevision}
 use Rattle.mp_differences.specs.declared.change.Change.{Change}
 
--- both netlists are well formed, one has become of the other, and the runs are theirs
+-- both netlists are well formed, one has become of the other, and the runs and the least delay are theirs
 pub record AreRuns (change : Change) : Type 0 where
   pub before : IsCircuit change.old.now
   pub after : IsCircuit change.new.now
   pub revision : IsRevision change.old.now change.new.now
   pub old : IsRun change.old.now change.old_run.now
   pub new : IsRun change.new.now change.new_run.now
+  pub least : change.least ≡ least_delay change.new.now
 
 -- the time is the first from one to before another at which this isn't the same
 pub record IsFirstDifference (one other : ℕ → ℕ) (from to time : ℕ) : Type 0 where

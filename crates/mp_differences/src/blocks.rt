@@ -2,7 +2,6 @@
 ghost use Rattle.std.specs.Prelude.{◌≡◌, ◌≢◌, ◌↔◌, ◌<◌, Some, IsTrue, IfNone, IfSome};
 ghost use Rattle.mp_modules.specs.declared.memory.Memory.{Memory as State};
 ghost use Rattle.mp_records.specs.declared.module_record.ModuleRecord.{ModuleRecord as Part};
-ghost use Rattle.mp_netlist.specs.Circuit.{IsCircuit};
 ghost use Rattle.mp_evaluation.specs.Checkpoints.{IsBorder};
 ghost use Rattle.mp_evaluation.specs.Outcomes.{checkpoint_of};
 ghost use Rattle.mp_work.specs.Revisions.{IsKept};
@@ -14,7 +13,7 @@ use crate::change::Change;
 use crate::inputs::first_apart;
 use mp_evaluation::Run;
 use mp_modules::Memory;
-use mp_netlist::{ModuleId, ModuleRecord, Netlist, checkpoint_units};
+use mp_netlist::{ModuleId, ModuleRecord, checkpoint_units};
 use mp_work::{Stretch, window_end};
 
 /// A block of time, from its begin to before its end.
@@ -41,17 +40,18 @@ pub(crate) fn stretch_in(
         return Some(stretch_from(change, id, block, block.from));
     }
     let time = first_apart(change, id, found, block.from, block.to)?;
-    Some(stretch_from(change, id, block, window_of(change.new, time)))
+    Some(stretch_from(change, id, block, window_of(change, time)))
 }
 
 /// The stretch of a module in a block whose first entry ends with the window that begins at a time.
 pub(crate) fn stretch_from(change: &Change<'_>, id: ModuleId, block: Block, start: u32) -> Stretch
+    requires { AreRuns change.now }
     ensures { result ≡ record { «module» = id; from = block.from; first_end = window_end change.now.new.now start; last_end = block.to } }
 {
     Stretch {
         module: id,
         from: block.from,
-        first_end: window_end(change.new.least_delay(), change.new.horizon(), start),
+        first_end: window_end(change.least, change.new.horizon(), start),
         last_end: block.to,
     }
 }
@@ -88,9 +88,9 @@ fn kept_state(run: &Run, id: ModuleId, time: u32) -> Memory
 }
 
 /// Where the window of a time begins.
-fn window_of(netlist: &Netlist, time: u32) -> u32
-    requires { IsCircuit netlist.now }
-    ensures { result ≡ window_of netlist.now time }
+fn window_of(change: &Change<'_>, time: u32) -> u32
+    requires { AreRuns change.now }
+    ensures { result ≡ window_of change.now.new.now time }
 {
-    time - time % checkpoint_units(netlist.horizon()) % netlist.least_delay()
+    time - time % checkpoint_units(change.new.horizon()) % change.least
 }

@@ -1,8 +1,7 @@
 //! All work of a change, as stretches.
 ghost use Rattle.std.specs.Prelude.{◌+◌, IfOk, OnOk};
-ghost use Rattle.mp_evaluation.specs.Runs.{IsRun};
 ghost use Rattle.mp_model.specs.Reach.{IsTouched};
-ghost use Rattle.mp_work.specs.Revisions.{IsKept, IsRevision};
+ghost use Rattle.mp_work.specs.Revisions.{IsKept};
 ghost use Rattle.mp_work.specs.Stretches.{AreStretches};
 ghost use Rattle.mp_differences.specs.Blocks.{IsStretchIn};
 ghost use Rattle.mp_differences.specs.Built.{AreFound};
@@ -17,14 +16,9 @@ use std::alloc::{AllocError, Global};
 
 /// All stretches in which modules work for a change, in no order: found where the two runs differ.
 pub fn stretches_of(alloc: Global, change: &Change<'_>) -> Result<Vec<Stretch>, AllocError>
-    requires revision { IsRevision change.now.old.now change.now.new.now }
-    requires before { IsRun change.now.old.now change.now.old_run.now }
-    requires after { IsRun change.now.new.now change.now.new_run.now }
+    requires { AreRuns change.now }
     ensures { IfOk result (λ all. AreStretches change.now.old.now change.now.new.now all.items) }
 {
-    // Their contracts tell that the netlists are well formed.
-    let _old_horizon = change.old.horizon();
-    let _new_horizon = change.new.horizon();
     let mut all = Vec::new(alloc);
     for m in 0..change.new.module_slots() {
         add_work(change, ModuleId(m), &mut all)?;
@@ -50,7 +44,8 @@ fn add_work(change: &Change<'_>, id: ModuleId, all: &mut Vec<Stretch>) -> Result
 
 /// A touched module works from time 0 to the horizon.
 fn whole_stretch(change: &Change<'_>, id: ModuleId) -> Stretch
-    requires { IsTouched change.now.old.now change.now.new.now id.0 }
+    requires runs { AreRuns change.now }
+    requires touched { IsTouched change.now.old.now change.now.new.now id.0 }
     ensures { IsStretchIn change.now.old.now change.now.new.now id.0 0 change.now.new.now.horizon result }
 {
     let to = change.new.horizon();

@@ -59,12 +59,16 @@ impl<'a> Versions<'a> {
         ensures stretches { IfOk result (λ redone. AreStretches self.entry.old.now self.entry.new.now redone.stretches.items) }
     {
         let Versions { old, run, new } = self;
+        // Their contracts tell that the netlists are well formed.
+        let _old_horizon = old.horizon();
+        let _new_horizon = new.horizon();
         let new_run = evaluate(rt, alloc, new, crew, gate)?;
         let change = Change {
             old,
             old_run: run,
             new,
             new_run: &new_run,
+            least: new.least_delay(),
         };
         let stretches = stretches_of(alloc, &change)?;
         Ok(Redone {

@@ -18,6 +18,7 @@ mod joining_states;
 mod last_wave;
 mod means;
 mod old_state;
+mod reach;
 mod redoing;
 mod rerun;
 mod returning;

@@ -50,18 +50,6 @@ impl Rerun {
         Ok(Some(horizon))
     }
 
-    /// Whether a window ends at a time in the first quarter of all, but not in the first block, and three of four modules are live then.
-    fn reaches_much(&self, change: &Change<'_>, time: u32) -> bool {
-        if time < self.window_end {
-            return false;
-        }
-        let horizon = change.new.horizon();
-        let modules = change.new.module_slots() as usize;
-        time > checkpoint_units(horizon)
-            && time <= horizon / 4
-            && self.history.live().len() >= modules - modules / 4
-    }
-
     /// What follows the units before a time. Where a window ends there, the next one begins: then, or, where nothing happens for a while, at a
     /// later time.
     fn look_ahead<R: Wait, G: Gate>(

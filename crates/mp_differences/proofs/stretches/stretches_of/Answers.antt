@@ -10,7 +10,7 @@ pub loop-m-init : goal.loop-m-init
 loop-m-init c =
     let old = c.args.change.now.old.now in
     let new = c.args.change.now.new.now in
-    subst (λ (ss : List Stretch). AreFound old new 0 0 ss) (sym c.new-all.ensures.items) (none_found old new c.horizon-new_horizon.ensures.form)
+    subst (λ (ss : List Stretch). AreFound old new 0 0 ss) (sym c.new-all.ensures.items) (none_found old new c.requires.after)
 
 pub returns : goal.returns
 returns c =
@@ -18,4 +18,4 @@ returns c =
     let new = c.args.change.now.new.now in
     let over = c.loop-m-test.false in
     let count = c.module_slots-m-end.ensures.value in
-    found_all old new c.horizon-new_horizon.ensures.form c.loop-m.m c.loop-m.all.items (none_behind new c.loop-m.m (omega (arith, over, count))) c.loop-m.invariant
+    found_all old new c.requires.after c.loop-m.m c.loop-m.all.items (none_behind new c.loop-m.m (omega (arith, over, count))) c.loop-m.invariant
