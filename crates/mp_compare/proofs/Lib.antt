@@ -7,6 +7,7 @@ pub mod FirstLemmas
 pub mod ListingLemmas
 pub mod MeetingLemmas
 pub mod MetLemmas
+pub mod NearLemmas
 pub mod NumberingLemmas
 pub mod OldRunLemmas
 pub mod PassingLemmas

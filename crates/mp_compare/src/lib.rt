@@ -8,6 +8,7 @@ mod first_comparison;
 mod first_sources;
 pub mod laws;
 mod listing;
+mod nearby;
 mod new_changes;
 mod numbers;
 mod old_run;
@@ -19,6 +20,7 @@ mod wire_source;
 
 pub use change::Change;
 pub use comparison::Comparison;
+pub use nearby::rests_near;
 pub use new_changes::NewChanges;
 pub use numbers::Numbers;
 pub use set_wires::SetWires;

@@ -5,6 +5,7 @@ ghost use Rattle.mp_compare.specs.Listing.{IsCut, IsCount};
 ghost use Rattle.mp_compare.specs.Comparing.{old_changes};
 
 use crate::comparison::Comparison;
+use crate::nearby::find_near;
 use crate::old_run::old_changes;
 use mp_calendar::NEVER;
 use mp_evaluation::Run;
@@ -32,7 +33,8 @@ impl Comparison {
         }
         let wire = self.numbers.wire_of(number);
         let delay = self.numbers.delay_of(number);
-        let place = old_count(run, wire, delay, now);
+        let near = self.places[number as usize] as usize;
+        let place = old_count(run, wire, delay, near, now);
         let changes = old_changes(run, wire);
         if place >= changes.len() {
             return Ok(());
@@ -65,8 +67,8 @@ impl Comparison {
     }
 }
 
-/// How many changes a wire had in the old run up to a delay before a time.
-fn old_count(run: &Run, wire: u32, delay: u32, time: u32) -> usize
+/// How many changes a wire had in the old run up to a delay before a time. They are looked for near a place.
+fn old_count(run: &Run, wire: u32, delay: u32, near: usize, time: u32) -> usize
     requires { (k : ℕ) → k < length (old_changes run.now wire) → (pair_at (old_changes run.now wire) k).0 < 2 ^ 32 - 1 }
     ensures { IsCount (old_changes run.now wire) delay time result }
 {
@@ -74,15 +76,18 @@ fn old_count(run: &Run, wire: u32, delay: u32, time: u32) -> usize
         return 0;
     }
     match run.wave(WireId(wire)) {
-        Some(wave) => count_upto(wave, time - delay),
+        Some(wave) => count_upto(wave, near, time - delay),
         None => 0,
     }
 }
 
-/// How many changes of a wave come up to a time.
-fn count_upto(wave: &Wave, time: u32) -> usize
+/// How many changes of a wave come up to a time. They are looked for near a place, and else among all.
+fn count_upto(wave: &Wave, near: usize, time: u32) -> usize
     requires { (k : ℕ) → k < length wave.now.changes → (pair_at wave.now.changes k).0 < 2 ^ 32 - 1 }
     ensures { IsCut time wave.now.changes result }
 {
+    if let Some(count) = find_near(wave, near, time) {
+        return count;
+    }
     wave.changes().len() - wave.changes_between(time, u32::MAX).len()
 }

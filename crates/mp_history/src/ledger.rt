@@ -91,7 +91,7 @@ impl Ledger {
     {
         match self {
             Ledger::Old => Ok(()),
-            Ledger::Own { kept: list, .. } => list.keep(time, memory),
+            Ledger::Own { kept: list, .. } => list.keep_change(time, memory),
         }
     }
 

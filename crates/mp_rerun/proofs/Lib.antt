@@ -42,6 +42,7 @@ pub mod PortLemmas
 pub mod PutLemmas
 pub mod QuietLemmas
 pub mod ReaderLemmas
+pub mod RestedLemmas
 pub mod ReturnLemmas
 pub mod SeatLemmas
 pub mod SettingLemmas

@@ -35,7 +35,7 @@ use Rattle.mp_work.proofs.MultipleLemmas.{whole_rest}
 use Rattle.mp_compare.specs.Comparing.{wave_or_none, old_wave}
 
 -- lists that are the same at each element
-map_same : (f g : Input → ℕ) (inputs : List Input) → ((i : Input) → Contains inputs i → f i ≡ g i) → map f inputs ≡ map g inputs
+pub map_same : (f g : Input → ℕ) (inputs : List Input) → ((i : Input) → Contains inputs i → f i ≡ g i) → map f inputs ≡ map g inputs
 map_same f g [] same = refl
 map_same f g (i ∷ is) same =
     let here = same i (0, omega arith, refl) in

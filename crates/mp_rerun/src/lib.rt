@@ -21,6 +21,7 @@ mod old_state;
 mod reach;
 mod redoing;
 mod rerun;
+mod resting;
 mod returning;
 mod setting;
 mod settling;

@@ -1,12 +1,13 @@
 //! A module that sleeps takes its place in the simulation again, and what is known of its wires is put back into the wheels.
-ghost use Rattle.std.specs.Prelude.{◌≡◌, ℕ, ◌++◌, ◌∷◌, [], drop, OnOk};
+ghost use Rattle.std.specs.Prelude.{◌≡◌, ℕ, ◌+◌, ◌-◌, ◌≤◌, ◌++◌, ◌∷◌, [], drop, OnOk};
+ghost use Rattle.mp_wave.specs.Waveform.{between};
 ghost use Rattle.mp_steps.specs.Putting.{HasPut, entries_of, room};
 ghost use Rattle.mp_rerun.specs.Returning.{IsTailIn, AreTailsIn, tail_of, others_of};
 
 use crate::last_wave::last_wave;
 use crate::rerun::Rerun;
 use mp_agreement::laws::wires_agree;
-use mp_compare::Change;
+use mp_compare::{Change, rests_near};
 use mp_modules::Memory;
 use mp_netlist::{ModuleId, ModuleRecord, Output};
 use mp_regions::Region;
@@ -102,6 +103,7 @@ impl Rerun {
         let Some(wave) = change.run.wave(wire) else {
             return Ok(());
         };
+        let near = self.near_place(wire.0);
         let w = wire.0 as usize;
         let until = self.comparison.sources[w].until;
         let old = OldWire {
@@ -113,7 +115,7 @@ impl Rerun {
         let own = until.max(now + 1);
         let known = now + 1 + output.delay;
         let kept = change.new.horizon().min(known).max(own);
-        put_old_changes(&mut self.simulation, old, own - 1, kept, now)?;
+        put_near_changes(&mut self.simulation, old, near, own - 1, kept, now)?;
         if kept < known {
             self.put_last_changes(change, id, port, kept, now)?;
         }
@@ -184,6 +186,26 @@ impl Rerun {
         };
         Ok(())
     }
+}
+
+/// After the unit of a time, a wire is to have the changes that it had in the old run later than one time and earlier than another. Mostly there
+/// are none, which is told by those near a place.
+fn put_near_changes(
+    simulation: &mut NetlistSimulation,
+    wire: OldWire<'_>,
+    near: usize,
+    from: u32,
+    to: u32,
+    now: u32,
+) -> Result<(), AllocError>
+    requires later { now ≤ from }
+    requires within { to - now ≤ room wire.has_data simulation.old + 1 }
+    ensures { OnOk result (HasPut wire.entry.has_data (entries_of wire.entry.number now (between from to wire.entry.wave.now.changes)) simulation.old simulation.new) }
+{
+    if to > 0 && rests_near(wire.wave, near, from, to - 1) {
+        return Ok(());
+    }
+    put_old_changes(simulation, wire, from, to, now)
 }
 
 /// Of the changes from a place on, those of a wire are put into the wheels after the unit of a time, and the others listed.

@@ -1,7 +1,7 @@
 use Rattle.std.proofs.Common.{ℕ, ◌-◌}
 use Rattle.mp_rerun.specs.Reruns.{IsRerunAt}
 use Rattle.mp_rerun.proofs.WakingLemmas.{HaveWokenUpTo}
-use Rattle.mp_rerun.proofs.rerun.Rerun.activate_all.Given as goal
+use Rattle.mp_rerun.proofs.rerun.Rerun.activate_few.Given as goal
 
 -- the first of those that join are active
 abbrev pub invariant-loop-place : goal.invariant-loop-place

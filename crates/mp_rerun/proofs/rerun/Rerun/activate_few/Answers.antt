@@ -7,12 +7,9 @@ use Rattle.mp_netlist.specs.Circuit.{module_at}
 use Rattle.mp_model.proofs.SlotLemmas.{slot_within}
 use Rattle.mp_rerun.specs.declared.rerun.Rerun.{Rerun}
 use Rattle.mp_rerun.specs.Reruns.{active_of, IsRerunAt}
-use Rattle.mp_phase.proofs.PhaseLemmas.{are_done-length}
-use Rattle.mp_rerun.specs.Tasks.{IsOldState}
-use Rattle.mp_rerun.proofs.TaskLemmas.{are_kept, state_at}
-use Rattle.mp_rerun.proofs.WakingLemmas.{is_kept, HaveWokenUpTo, passed_over, one_woken, have_become, have_joined}
-use Rattle.mp_rerun.proofs.rerun.Rerun.activate_all.Goals as goal
-use Rattle.mp_rerun.proofs.rerun.Rerun.activate_all.Goals.{in-Some+then-not-index+in_ok-activate, in-Some+else-not-index, in_default}
+use Rattle.mp_rerun.proofs.WakingLemmas.{HaveWokenUpTo, passed_over, one_woken, have_become, have_joined}
+use Rattle.mp_rerun.proofs.rerun.Rerun.activate_few.Goals as goal
+use Rattle.mp_rerun.proofs.rerun.Rerun.activate_few.Goals.{in-Some+then-not-index+in_ok-activate_one, in-Some+else-not-index, in_default}
 
 pub index-requires : goal.index-requires
 index-requires g c =
@@ -25,46 +22,21 @@ index-requires g c =
     let low : id.0 < length c.loop-place.self.activity.active.items = omega (arith, inside, same) in
     search rules
 
-pub joining_states-requires-clause-kept : goal.joining_states-requires-clause-kept
-joining_states-requires-clause-kept g c κs within =
-    let at = c.requires.is.1 in
-    are_kept c.args.change.now.old.now c.args.change.now.new.now c.args.change.now.run.now at.numbering at.since c.args.time c.args.self.now c.requires.some at.is.followed c.args.self.now.activity.joining.items
-    c.requires.stand c.requires.asleep
-
-pub index-requires-then-not-index : goal.index-requires-then-not-index
-index-requires-then-not-index g c =
-    let s = c.args.self.now in
-    let old = c.args.change.now.old.now in
-    let so = c.loop-place.invariant.so in
-    let all = are_done-length (IsOldState old c.args.time) s.activity.joining.items c.in_ok-states.states.items c.in_ok-states.ensures in
-    let low : c.loop-place.place < length s.activity.joining.items = search rules in
-    omega (arith, all, low)
-
-pub activate-requires-clause-state : goal.activate-requires-clause-state
-activate-requires-clause-state g c =
-    let old = c.args.change.now.old.now in
+pub activate_one-requires-clause-asleep : goal.activate_one-requires-clause-asleep
+activate_one-requires-clause-asleep g c =
     let new = c.args.change.now.new.now in
-    let s = c.args.self.now in
-    let joining = s.activity.joining.items in
-    let k = c.loop-place.place in
     let l = c.loop-place.self in
-    let so = c.loop-place.invariant.so in
     let id = c.index-id.result.now in
-    let low : k < length joining = search rules in
-    let same : l.activity.joining.items ≡ joining = ap (λ (x : Rerun). x.activity.joining.items) so.woken.kept in
-    let named : slice_index_or joining k id ≡ id = sym (c.index-id.ensures ∙ ap (λ (xs : List ModuleId). slice_index_or xs k id) same) in
     let at : module_at new id.0 ≡ Some c.in-Some.found.now = sym c.in-Some.ensures.value in
     let now = c.loop-place.invariant.is c.requires.is.0 c.requires.is.1 in
     let inside = slot_within new.modules id.0 c.in-Some.found.now at in
     let long = now.is.followed.modules in
     let marked : id.0 < length l.activity.active.items = omega (arith, inside, long) in
     let off : c.index.result.now ≡ false = search rules in
-    let asleep : active_of l id.0 ≡ false = get_or_default l.activity.active.items id.0 false c.index.result.now marked ∙ sym c.index.ensures ∙ off in
-    let kept = is_kept old new c.args.change.now.run.now now.numbering now.since c.args.time id.0 c.in-Some.found.now l c.requires.some now.is.followed at asleep in
-    state_at old c.args.time joining c.in_ok-states.states.items k id c.index-then-not-index.result.now c.in-Some.found.now c.in_ok-states.ensures low named (sym c.index-then-not-index.ensures) kept.before
+    get_or_default l.activity.active.items id.0 false c.index.result.now marked ∙ sym c.index.ensures ∙ off
 
-pub activate-requires-clause-is : goal.activate-requires-clause-is
-activate-requires-clause-is g c = (c.requires.is.0, c.loop-place.invariant.is c.requires.is.0 c.requires.is.1)
+pub activate_one-requires-clause-is : goal.activate_one-requires-clause-is
+activate_one-requires-clause-is g c = (c.requires.is.0, c.loop-place.invariant.is c.requires.is.0 c.requires.is.1)
 
 pub loop-place-preserved : goal.loop-place-preserved
 loop-place-preserved g c =
@@ -82,10 +54,10 @@ loop-place-preserved g c =
     let same : l.activity.joining.items ≡ joining = ap (λ (x : Rerun). x.activity.joining.items) so.woken.kept in
     let is : slice_index_or joining k id ≡ id = sym (c.index-id.ensures ∙ ap (λ (xs : List ModuleId). slice_index_or xs k id) same) in
     elim c.match-module.branch [
-      | in-Some+then-not-index+in_ok-activate w ↦
-          let woken = w.in_ok-activate.ensures in
+      | in-Some+then-not-index+in_ok-activate_one w ↦
+          let woken = w.in_ok-activate_one.ensures in
           record {
-            so = subst (λ (x : Rerun). HaveWokenUpTo joining (k + 1) s x) (sym w.self-is) (one_woken joining k id s l low is so w.activate.new.self woken.woken woken.joined);
+            so = subst (λ (x : Rerun). HaveWokenUpTo joining (k + 1) s x) (sym w.self-is) (one_woken joining k id s l low is so w.activate_one.new.self woken.woken woken.joined);
             is = λ latest at. subst (λ (x : Rerun). IsRerunAt old new run latest t x) (sym w.self-is) (woken.is latest (c.loop-place.invariant.is latest at));
           }
       | in-Some+else-not-index w ↦
