@@ -1,9 +1,8 @@
 -- A module whose inputs rest in the old run keeps its state.
-use Rattle.std.proofs.Common.{◌≡◌, ℕ, Bool, true, false, refl, ◌+◌, ◌-◌, ◌<◌, ◌≤◌, List, [], All, zero, suc, ap, sym, subst, ◌∙◌, arith}
+use Rattle.std.proofs.Common.{◌≡◌, ℕ, ◌+◌, ◌-◌, ◌<◌, ◌≤◌, List, [], All, Some, zero, suc, ap, sym, subst, ◌∙◌, arith}
 use Rattle.mp_wave.specs.Waveform.{Waveform, IsWaveform, level_from, level_of, between}
 use Rattle.mp_wave.proofs.PrefixLemmas.{cut_levels}
 use Rattle.mp_records.specs.declared.module_record.ModuleRecord.{ModuleRecord}
-use Rattle.mp_records.specs.declared.ports.Input.{Input}
 use Rattle.mp_netlist.specs.Circuit.{Circuit, IsCircuit, module_at}
 use Rattle.mp_model.specs.Levels.{inputs_by}
 use Rattle.mp_model.specs.Waves.{level, state}
@@ -11,8 +10,6 @@ use Rattle.mp_model.proofs.QuietLemmas.{same_inputs}
 use Rattle.mp_evaluation.specs.Checkpoints.{state_before}
 use Rattle.mp_evaluation.specs.Outcomes.{Outcome}
 use Rattle.mp_evaluation.specs.Runs.{IsRun}
-use Rattle.mp_units.specs.declared.netlist_simulation.NetlistSimulation.{NetlistSimulation}
-use Rattle.mp_steps.specs.Putting.{HasPut}
 use Rattle.mp_compare.specs.Comparing.{old_wave}
 use Rattle.mp_rerun.specs.Resting.{HasRested}
 use Rattle.mp_rerun.proofs.KeepingLemmas.{before_is}
@@ -22,11 +19,6 @@ use Rattle.mp_rerun.proofs.OldStateLemmas.{map_same, old_inputs}
 pub level_rests : (wave : Waveform) (first last t : ℕ) → IsWaveform wave → between first (last + 1) wave.changes ≡ [] → first ≤ t → t ≤ last → level_of wave t ≡ level_of wave first
 level_rests wave first last t form none least most =
     sym (cut_levels wave first (last + 1) t form least (omega (arith, most))) ∙ ap (λ (xs : List (ℕ × ℕ)). level_from (level_of wave first) xs t) none
-
--- nothing is put
-pub nothing_put : (wide : Bool) (s : NetlistSimulation) → HasPut wide [] s s
-nothing_put true s = record { bits = refl; events = refl; wires = refl; changes = refl; modules = refl }
-nothing_put false s = record { bits = refl; events = refl; wires = refl; changes = refl; modules = refl }
 
 module _ (old : Circuit) (ok : IsCircuit old) (run : Outcome) (is : IsRun old run) where
   -- so many units after one its state is that of it

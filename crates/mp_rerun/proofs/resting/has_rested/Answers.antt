@@ -1,4 +1,4 @@
-use Rattle.std.proofs.Common.{◌≡◌, ◌-◌, ◌≤◌, ap, sym, subst, ◌∙◌, arith}
+use Rattle.std.proofs.Common.{◌≡◌, ◌-◌, ap, sym, subst, ◌∙◌, arith}
 use Rattle.mp_wave.specs.Waveform.{Waveform, level_of}
 use Rattle.mp_compare.specs.Comparing.{wave_or_none, old_wave}
 use Rattle.mp_rerun.proofs.RestedLemmas.{level_rests}

@@ -1,4 +1,3 @@
-use Rattle.std.proofs.Common.{◌≡◌, ◌-◌}
 use Rattle.mp_rerun.proofs.WakingLemmas.{is_kept}
 use Rattle.mp_rerun.proofs.rerun.Rerun.activate_one.Goals as goal
 
