@@ -45,6 +45,7 @@ impl<'a> Part<'a> {
             run: &before,
             new: &new,
         };
-        versions.redo(rt, alloc, &crew, gate)
+        let redone = versions.redo(rt, alloc, &crew, gate)?;
+        Ok(redone)
     }
 }

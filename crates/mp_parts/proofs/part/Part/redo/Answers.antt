@@ -8,8 +8,8 @@ use Rattle.mp_apart.proofs.PartWorkLemmas.{parts_are_revisions}
 use Rattle.mp_parts.specs.Changes.{homes_in, new_part, old_part}
 use Rattle.mp_parts.proofs.part.Part.redo.Goals as goal
 
-pub redo_stretches-requires-clause-revision : goal.redo_stretches-requires-clause-revision
-redo_stretches-requires-clause-revision g c = λ asked lives.
+pub redo-redone-requires-clause-revision : goal.redo-redone-requires-clause-revision
+redo-redone-requires-clause-revision g c = λ asked lives.
     let change = c.args.self.change in
     let k = c.args.self.number in
     let homes = c.as_slice-homes.ensures.value in
@@ -18,8 +18,8 @@ redo_stretches-requires-clause-revision g c = λ asked lives.
     subst (λ (n : Circuit). IsRevision n c.in_ok-new.new) (sym old) (subst (λ (n : Circuit). IsRevision (old_part change k) n) (sym new)
     (parts_are_revisions change.old.now change.new.now c.requires.revision (homes_in change) k))
 
-pub redo_stretches-requires-clause-run : goal.redo_stretches-requires-clause-run
-redo_stretches-requires-clause-run g c = λ asked lives.
+pub redo-redone-requires-clause-run : goal.redo-redone-requires-clause-run
+redo-redone-requires-clause-run g c = λ asked lives.
     let change = c.args.self.change in
     let k = c.args.self.number in
     let old : c.in_ok-old.old ≡ old_part change k = c.in_ok-old.ensures ∙ ap (λ (hs : List ℕ). part_of change.old.now hs k) c.as_slice-homes.ensures.value in
@@ -33,7 +33,7 @@ returns g c =
     let old : c.in_ok-old.old ≡ old_part change k = c.in_ok-old.ensures ∙ ap (λ (hs : List ℕ). part_of change.old.now hs k) homes in
     let new : c.in_ok-new.new ≡ new_part change k = c.in_ok-new.ensures ∙ ap (λ (hs : List ℕ). part_of change.new.now hs k) homes in
     record {
-      run = subst (λ (n : Circuit). IsRun n c.in_ok-found.found.0) new c.in_ok-found.ensures.run;
-      stretches = subst (λ (n : Circuit). AreStretches n (new_part change k) c.in_ok-found.found.1.items) old
-          (subst (λ (n : Circuit). AreStretches c.in_ok-old.old n c.in_ok-found.found.1.items) new c.in_ok-found.ensures.stretches);
+      run = subst (λ (n : Circuit). IsRun n c.in_ok-redone.redone.run) new c.in_ok-redone.ensures.run;
+      stretches = subst (λ (n : Circuit). AreStretches n (new_part change k) c.in_ok-redone.redone.stretches.items) old
+          (subst (λ (n : Circuit). AreStretches c.in_ok-old.old n c.in_ok-redone.redone.stretches.items) new c.in_ok-redone.ensures.stretches);
     }
