@@ -10,7 +10,7 @@ const SHARE: usize = 64;
 
 impl Rerun {
     /// Whether a change reaches most of what happens: where it is looked, at least three modules are live for four wires that change in the old run
-    /// in the block before.
+    /// in the block before, or, where none does, for four modules of the netlist.
     pub(crate) fn reaches_much(&self, change: &Change<'_>, time: u32) -> bool {
         let horizon = change.new.horizon();
         let units = checkpoint_units(horizon);
@@ -18,10 +18,13 @@ impl Rerun {
             return false;
         }
         let live = self.history.live().len();
-        if live < change.new.module_slots() as usize / SHARE {
+        let modules = change.new.module_slots() as usize;
+        if live < modules / SHARE {
             return false;
         }
-        live >= count_busy(change, time - units, time) / 4 * 3
+        let busy = count_busy(change, time - units, time);
+        let most = if busy > 0 { busy } else { modules };
+        live >= most - most / 4
     }
 }
 
