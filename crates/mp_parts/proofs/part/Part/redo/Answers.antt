@@ -8,8 +8,8 @@ use Rattle.mp_apart.proofs.PartWorkLemmas.{parts_are_revisions}
 use Rattle.mp_parts.specs.Changes.{homes_in, new_part, old_part}
 use Rattle.mp_parts.proofs.part.Part.redo.Goals as goal
 
-pub redo-redone-requires-clause-revision : goal.redo-redone-requires-clause-revision
-redo-redone-requires-clause-revision g c = λ asked lives.
+pub redo-requires-clause-revision : goal.redo-requires-clause-revision
+redo-requires-clause-revision g c = λ asked lives.
     let change = c.args.self.change in
     let k = c.args.self.number in
     let homes = c.as_slice-homes.ensures.value in
@@ -18,8 +18,8 @@ redo-redone-requires-clause-revision g c = λ asked lives.
     subst (λ (n : Circuit). IsRevision n c.in_ok-new.new) (sym old) (subst (λ (n : Circuit). IsRevision (old_part change k) n) (sym new)
     (parts_are_revisions change.old.now change.new.now c.requires.revision (homes_in change) k))
 
-pub redo-redone-requires-clause-run : goal.redo-redone-requires-clause-run
-redo-redone-requires-clause-run g c = λ asked lives.
+pub redo-requires-clause-run : goal.redo-requires-clause-run
+redo-requires-clause-run g c = λ asked lives.
     let change = c.args.self.change in
     let k = c.args.self.number in
     let old : c.in_ok-old.old ≡ old_part change k = c.in_ok-old.ensures ∙ ap (λ (hs : List ℕ). part_of change.old.now hs k) c.as_slice-homes.ensures.value in
