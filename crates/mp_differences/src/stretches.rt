@@ -26,7 +26,7 @@ pub fn stretches_of(alloc: Global, change: &Change<'_>) -> Result<Vec<Stretch>, 
     Ok(all)
 }
 
-/// The stretches of a module too.
+/// Adds the stretches of a module.
 fn add_work(change: &Change<'_>, id: ModuleId, all: &mut Vec<Stretch>) -> Result<(), AllocError>
     requires runs { AreRuns change.now }
     requires before { AreFound change.now.old.now change.now.new.now id.0 0 all.old.items }
@@ -52,7 +52,7 @@ fn whole_stretch(change: &Change<'_>, id: ModuleId) -> Stretch
     stretch_from(change, id, Block { from: 0, to }, 0)
 }
 
-/// The stretches of a module that isn't touched too, block by block.
+/// Adds the stretches of a module that isn't touched, block by block.
 fn add_blocks(
     change: &Change<'_>,
     id: ModuleId,
