@@ -1,5 +1,5 @@
 //! A sink with a buffer before it.
-ghost use Rattle.std.specs.Prelude.{◌≡◌, ◌+◌, ◌≤◌, ◌∷◌, [], length, IfOk};
+ghost use Rattle.std.specs.Prelude.{◌≡◌, ◌+◌, ◌≤◌, [], length, IfOk};
 ghost use Rattle.std.specs.Fmt.{decimal};
 ghost use Rattle.mp_streams.specs.Outgoing.{Writes};
 ghost use Rattle.mp_streams.specs.Places.{IsPlaced};
@@ -80,14 +80,6 @@ impl<S: Sink> Out<S> {
         ensures { Writes result self.old self.new text.now }
     {
         self.put_bytes(text.as_bytes())
-    }
-
-    /// Writes the byte. `Failed` is as that of `put_bytes`.
-    #[inline]
-    pub fn put_byte(&mut self, byte: u8) -> Result<(), Failed>
-        ensures { Writes result self.old self.new (byte ∷ []) }
-    {
-        self.put_bytes(&[byte])
     }
 
     /// Writes the number in decimal digits. `Failed` is as that of `put_bytes`.

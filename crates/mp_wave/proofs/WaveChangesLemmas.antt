@@ -1,8 +1,8 @@
 -- Toggles as they are listed.
-use Rattle.std.proofs.Common.{◌≡◌, ℕ, zero, suc, ◌+◌, ◌-◌, ◌<◌, ◌≤◌, Bool, true, false, Option, Some, List, [], ◌∷◌, ◌++◌, append_assoc, append-nil, length, take, drop, slice_index_or, slice_get, refl, ap, sym, ◌∙◌, subst, arith}
+use Rattle.std.proofs.Common.{◌≡◌, ℕ, zero, suc, ◌+◌, ◌-◌, ◌<◌, ◌≤◌, Bool, true, false, List, [], ◌∷◌, ◌++◌, append_assoc, append-nil, length, take, drop, slice_index_or, refl, ap, sym, ◌∙◌, subst, arith}
 use Rattle.std.proofs.lemmas.Grind.{common_steps}
 use Rattle.std.proofs.lemmas.List.{drop_more, drop_all}
-use Rattle.std.specs.List.{AllWithin, IsLastAndRest}
+use Rattle.std.specs.List.{AllWithin}
 use Rattle.std.specs.List.Sorted.{IsNonDecreasingBy, IsPartitionPoint}
 use Rattle.mp_wave.specs.ToggleWaves.{toggle_changes, level_after}
 
@@ -67,20 +67,6 @@ parted_toggles test level count times point = (
   subst (λ (n : ℕ). AllWithin (λ (c : ℕ × ℕ). test c.0 ≡ false) (toggle_changes level times) count n) (sym (length_toggles level times))
       (within_toggles (λ (t : ℕ). test t ≡ false) level count (length times) times point.1),
 )
-
-some_same : (y x : ℕ × ℕ) → (let one : Option (ℕ × ℕ) = Some y in one) ≡ Some x → y ≡ x
-some_same y x is = cc
-
--- the last of changes and those before it
-pub last_and_rest : (xs rest : List (ℕ × ℕ)) (x : ℕ × ℕ) → slice_get xs (length xs - 1) ≡ Some x → rest ≡ take (length xs - 1) xs → IsLastAndRest xs x rest
-last_and_rest [] rest x is front = let no : ⊥ = cc in absurd no
-last_and_rest (y ∷ []) rest x is front = let same : y ≡ x = some_same y x is in rw (front, same) (refl, refl)
-last_and_rest (y ∷ z ∷ zs) rest x is front =
-    let shorter : length (y ∷ z ∷ zs) - 1 ≡ suc (length (z ∷ zs) - 1) = omega arith in
-    let later = last_and_rest (z ∷ zs) (take (length (z ∷ zs) - 1) (z ∷ zs)) x (sym (ap (slice_get (y ∷ z ∷ zs)) shorter) ∙ is) refl in
-    let whole : rest ≡ y ∷ take (length (z ∷ zs) - 1) (z ∷ zs) = front ∙ ap (λ n. take n (y ∷ z ∷ zs)) shorter in
-    let sum = later.1 in
-    rw whole (ap (λ (l : List (ℕ × ℕ)). y ∷ l) later.0, omega (arith, sum))
 
 -- toggles that are listed one more time on
 pub pairs_next : (level present next i : ℕ) (times : List ℕ) (pairs new : List (ℕ × ℕ)) → i < length times → next ≡ 1 - present → new ≡ pairs ++ (slice_index_or times i 0, next) ∷ []

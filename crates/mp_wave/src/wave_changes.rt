@@ -18,7 +18,7 @@ pub enum WaveChanges<'a> {
 
 impl<'a> WaveChanges<'a> {
     ghost use Rattle.std.specs.Prelude.{◌≡◌, ℕ, ◌-◌, ◌<◌, ◌≤◌, ◌↔◌, [], MatchOption, IsSome, IfOk, drop, length, nat_le, nat_lt, slice_get, take, true, false};
-    ghost use Rattle.std.specs.List.{AllWithin, IsFirstAndRest, IsLastAndRest};
+    ghost use Rattle.std.specs.List.{AllWithin, IsFirstAndRest};
     ghost use Rattle.std.specs.List.Sorted.{IsNonDecreasingBy};
     ghost use Rattle.mp_wave.specs.Faults.{pair_at};
     ghost use Rattle.mp_wave.specs.WaveChanges.{changes_in};
@@ -140,17 +140,6 @@ impl<'a> WaveChanges<'a> {
     {
         match self.first() {
             Some(change) => Some((change, self.from_place(1))),
-            None => None,
-        }
-    }
-
-    /// The last change and those before it, if any.
-    #[inline(always)]
-    pub fn split_last(self) -> Option<((u32, u64), Self)>
-        ensures cases { MatchOption result (length (changes_in self.entry) ≡ 0) (λ p. IsLastAndRest (changes_in self.entry) p.0 (changes_in p.1)) }
-    {
-        match self.last() {
-            Some(change) => Some((change, self.before_place(self.len() - 1))),
             None => None,
         }
     }
