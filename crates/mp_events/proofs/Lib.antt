@@ -4,5 +4,6 @@ pub mod PortLemmas
 pub mod FiringLemmas
 pub mod EntryLemmas
 pub mod FanoutLemmas
+pub mod OutputTableLemmas
 pub mod WheelLemmas
 pub mod EmptyLemmas

@@ -9,7 +9,7 @@ ghost use Rattle.mp_events.specs.LevelFlips.{levels_at, flipped, HaveFlipped};
 use crate::batches::{batch_end, is_large};
 use crate::event_wheel::EventWheel;
 use crate::output_port::OutputPort;
-use crate::output_ports::OutputPorts;
+use crate::output_table::OutputTable;
 use mp_automata::{AutomatonState, PortLevels, TransitionTable};
 use std::alloc::AllocError;
 
@@ -30,35 +30,40 @@ pub fn schedule_if(
     }
 }
 
-/// The outputs of these bits toggle.
+/// The outputs of the module at a place toggle, if they are among these bits.
 #[inline(always)]
 fn schedule_toggles(
-    ports: &OutputPorts,
+    ports: &OutputTable,
+    place: usize,
     toggles: u8,
     wheel: &mut EventWheel,
 ) -> Result<(), AllocError>
-    requires { HaveSlots (length wheel.old) ports.now }
-    ensures scheduled { OnOk result ((t : AnyToggles) → toggles ≡ toggles_code t → wheel.new ≡ scheduled wheel.old (fired_at ports.now t)) }
+    requires place { place < length ports.now }
+    requires slots { HaveSlots (length wheel.old) (ports_at ports.now place) }
+    ensures scheduled { OnOk result ((t : AnyToggles) → toggles ≡ toggles_code t → wheel.new ≡ scheduled wheel.old (fired_at (ports_at ports.now place) t)) }
     ensures places { OnOk result (length wheel.new ≡ length wheel.old) }
 {
     if toggles == 0 {
         return Ok(());
     }
-    schedule_if(toggles % 2 == 1, ports.first, wheel)?;
-    schedule_if(toggles / 2 % 2 == 1, ports.second, wheel)?;
-    schedule_if(toggles / 4 % 2 == 1, ports.third, wheel)
+    schedule_if(toggles % 2 == 1, ports.first(place), wheel)?;
+    if toggles < 2 {
+        return Ok(());
+    }
+    schedule_if(toggles / 2 % 2 == 1, ports.second(place), wheel)?;
+    schedule_if(toggles / 4 % 2 == 1, ports.third(place), wheel)
 }
 
 /// How many of the modules at these places have a delay at their first output: all. Their outputs are in a cache after that.
 #[inline(always)]
-fn count_delayed(ports: &[OutputPorts], due: &[u32]) -> usize
+fn count_delayed(ports: &OutputTable, due: &[u32]) -> usize
     requires places { All (λ m. m < length ports.now) due.now }
     requires slots { (units : ℕ) × All (HaveSlots units) ports.now }
     ensures { result ≡ length due.now }
 {
     let mut count = 0usize;
     for place in due {
-        if ports[*place as usize].first.delay > 0 {
+        if ports.first(*place as usize).delay > 0 {
             count += 1;
         }
     }
@@ -67,7 +72,7 @@ fn count_delayed(ports: &[OutputPorts], due: &[u32]) -> usize
 
 /// Where the batch of modules ends that begins at a place. In a large netlist their outputs are read ahead.
 #[inline(always)]
-fn batch_of_modules(ports: &[OutputPorts], due: &[u32], from: usize) -> usize
+fn batch_of_modules(ports: &OutputTable, due: &[u32], from: usize) -> usize
     requires some { from < length due.now }
     requires places { All (λ m. m < length ports.now) due.now }
     requires slots { (units : ℕ) × All (HaveSlots units) ports.now }
@@ -87,7 +92,7 @@ fn batch_of_modules(ports: &[OutputPorts], due: &[u32], from: usize) -> usize
 #[inline(always)]
 fn fire_module(
     table: &TransitionTable,
-    ports: &[OutputPorts],
+    ports: &OutputTable,
     states: &mut Vec<AutomatonState>,
     levels: &mut Vec<PortLevels>,
     wheel: &mut EventWheel,
@@ -109,14 +114,14 @@ fn fire_module(
     let transition = table.of(states[m]);
     states[m] = transition.next;
     levels[m].flip(transition.flips);
-    schedule_toggles(&ports[m], transition.flips / 16, wheel)
+    schedule_toggles(ports, m, transition.flips / 16, wheel)
 }
 
 /// The modules at these places, each listed once, go on from the events of a unit: their states become those before the next unit, the levels
 /// at their ports change by their events and toggles, and the wires of the outputs that toggle are scheduled. Other states and levels stay.
 pub fn fire_modules(
     table: &TransitionTable,
-    ports: &[OutputPorts],
+    ports: &OutputTable,
     states: &mut Vec<AutomatonState>,
     levels: &mut Vec<PortLevels>,
     wheel: &mut EventWheel,

@@ -12,6 +12,8 @@ mod firing;
 pub mod laws;
 mod output_port;
 mod output_ports;
+mod output_table;
+mod packed_port;
 mod toggling;
 
 pub use adding::{add_event, add_fanout_events};
@@ -23,4 +25,5 @@ pub use fanout_row::FanoutRow;
 pub use firing::{fire_modules, schedule_copies, schedule_if};
 pub use output_port::OutputPort;
 pub use output_ports::OutputPorts;
+pub use output_table::OutputTable;
 pub use toggling::toggle_wires;
