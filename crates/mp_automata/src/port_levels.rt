@@ -37,7 +37,8 @@ impl PortLevels {
     }
 
     /// The levels at the inputs.
-    pub(crate) fn inputs(self) -> [u64; MOST_INPUTS]
+    #[inline(always)]
+    pub fn inputs(self) -> [u64; MOST_INPUTS]
         ensures { result ≡ input_bits self.0 }
     {
         [
@@ -49,7 +50,8 @@ impl PortLevels {
     }
 
     /// The levels of the outputs.
-    pub(crate) fn outputs(self) -> [u64; MOST_OUTPUTS]
+    #[inline(always)]
+    pub fn outputs(self) -> [u64; MOST_OUTPUTS]
         ensures { result ≡ output_bits self.0 }
     {
         [

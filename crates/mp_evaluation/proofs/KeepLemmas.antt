@@ -1,13 +1,12 @@
 -- Lists of states that go on with a state or with another list.
-use Rattle.std.proofs.Common.{◌≡◌, ℕ, ◌+◌, ◌<◌, ◌≤◌, List, [], ◌∷◌, ◌++◌, Some, length, slice_get, nat_le, zero, suc, refl, ap, sym, ◌∙◌, arith, inl, inr, append_assoc}
+use Rattle.std.proofs.Common.{◌≡◌, ℕ, ◌+◌, ◌<◌, ◌≤◌, List, [], ◌∷◌, ◌++◌, length, slice_index_or, nat_le, zero, suc, refl, ap, sym, ◌∙◌, arith, inl, inr, append_assoc}
 use Rattle.std.specs.Prelude.{All}
 use Rattle.std.proofs.lemmas.Bool.{cases_Bool, cases_lt, lt-ltb, le-ltb}
-use Rattle.std.proofs.lemmas.Option.{same_Some}
 use Rattle.std.proofs.lemmas.List.Elements.{All-push, All-weaker, All-nil, All-cons}
 use Rattle.mp_wave.proofs.WaveformLemmas.{nat_le-true, nat_le-false}
 use Rattle.mp_modules.specs.declared.memory.Memory.{Memory}
 use Rattle.mp_modules.specs.Memories.{blank}
-use Rattle.mp_evaluation.specs.declared.checkpoints.Checkpoint.{Checkpoint}
+use Rattle.mp_evaluation.specs.declared.checkpoint.Checkpoint.{Checkpoint}
 use Rattle.mp_evaluation.specs.Checkpoints.{kept_at, last_kept, kept_before, KeepsFrom, KeepsBetween}
 
 -- what comes behind a later one isn't seen
@@ -99,12 +98,7 @@ last_of_none [] memory none = refl
 last_of_none (k ∷ ks) memory none = absurd (omega arith)
 
 -- the last is at the last place
-pub last_kept-at : (ks : List Checkpoint) (k : Checkpoint) (i : ℕ) (before : Memory) → i + 1 ≡ length ks → slice_get ks i ≡ Some k → last_kept ks before ≡ k.memory
+pub last_kept-at : (ks : List Checkpoint) (k : Checkpoint) (i : ℕ) (before : Memory) → i + 1 ≡ length ks → slice_index_or ks i k ≡ k → last_kept ks before ≡ k.memory
 last_kept-at [] k i before end is = absurd (omega arith)
-last_kept-at (x ∷ ks) k zero before end is = last_of_none ks x.memory (omega arith) ∙ ap (λ (y : Checkpoint). y.memory) (same_Some x k is)
+last_kept-at (x ∷ ks) k zero before end is = last_of_none ks x.memory (omega arith) ∙ ap (λ (y : Checkpoint). y.memory) is
 last_kept-at (x ∷ ks) k (suc i) before end is = last_kept-at ks k i x.memory (omega arith) is
-
--- a list that has an element isn't empty
-pub some_there : (ks : List Checkpoint) (k : Checkpoint) (i : ℕ) → Some k ≡ slice_get ks i → 0 < length ks
-some_there [] k i is = absurd (cc is)
-some_there (x ∷ ks) k i is = omega arith

@@ -1,4 +1,5 @@
 pub mod MarkLemmas
+pub mod StateListLemmas
 pub mod KeepLemmas
 pub mod OutcomeLemmas
 pub mod SearchLemmas

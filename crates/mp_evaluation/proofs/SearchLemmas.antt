@@ -2,15 +2,16 @@
 use Rattle.std.proofs.Common.{◌≡◌, ℕ, ◌+◌, ◌<◌, ◌≤◌, List, [], ◌∷◌, ◌++◌, true, false, length, slice_index_or, take, drop, nat_le, zero, suc, refl, ap, sym, ◌∙◌, subst, arith, append_assoc}
 use Rattle.std.specs.Prelude.{All}
 use Rattle.std.specs.List.{AllWithin}
-use Rattle.std.specs.List.Sorted.{IsNonDecreasingBy}
 use Rattle.std.proofs.lemmas.Bool.{lt-ltb}
 use Rattle.std.proofs.lemmas.Bool.Decides.{nat_tests}
-use Rattle.std.proofs.lemmas.List.{length-take, length-drop, get_or-take, get_or-drop}
+use Rattle.std.proofs.lemmas.List.{length-take, length-drop, get_or-take, get_or-drop, take-append-drop}
 use Rattle.std.proofs.lemmas.List.Elements.{All-push, All-weaker}
 use Rattle.mp_wave.proofs.WaveformLemmas.{nat_le-false}
 use Rattle.mp_modules.specs.declared.memory.Memory.{Memory}
-use Rattle.mp_evaluation.specs.declared.checkpoints.Checkpoint.{Checkpoint}
-use Rattle.mp_evaluation.specs.Checkpoints.{kept_at, kept_before}
+use Rattle.mp_evaluation.specs.declared.checkpoint.Checkpoint.{Checkpoint}
+use Rattle.mp_evaluation.specs.Checkpoints.{kept_at, last_kept, kept_before}
+use Rattle.mp_evaluation.specs.StateLists.{IsRising}
+use Rattle.mp_evaluation.proofs.KeepLemmas.{kept_at-over}
 
 from_true : (a b : ℕ) → nat_le a b ≡ true → a ≤ b
 from_true a b is = grind (arith, nat_tests)
@@ -35,10 +36,13 @@ pub none_yet : (ks : List Checkpoint) (time : ℕ) (before : Memory) → All (λ
 none_yet [] time before later = refl
 none_yet (k ∷ ks) time before later = rw (nat_le-false k.time time (later 0 k (omega arith))) refl
 
--- ---- by rising time
+-- from a time on what stands before the place is seen by its last state alone
+pub seen_from : (ks : List Checkpoint) (time count c : ℕ) (before : Memory) → AllWithin (λ (k : Checkpoint). nat_le k.time time ≡ true) ks 0 count → time ≤ c →
+    kept_at ks c before ≡ kept_at (drop count ks) c (last_kept (take count ks) before)
+seen_from ks time count c before within le =
+    ap (λ xs. kept_at xs c before) (sym (take-append-drop count ks)) ∙ kept_at-over (take count ks) (drop count ks) time c before (early ks time count within) le
 
-abbrev pub IsRising : List Checkpoint → Type 0
-IsRising ks = IsNonDecreasingBy (λ (k : Checkpoint). k.time) ks
+-- ---- by rising time
 
 -- no state of the first list is for a later time than one of the second
 abbrev pub AreOver : List Checkpoint → List Checkpoint → Type 0

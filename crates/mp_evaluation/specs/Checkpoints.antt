@@ -8,7 +8,7 @@ use Rattle.mp_netlist.specs.Circuit.{Circuit}
 use Rattle.mp_netlist.specs.Limits.{checkpoint_units}
 use Rattle.mp_model.specs.Levels.{built}
 use Rattle.mp_model.specs.Waves.{state}
-use Rattle.mp_evaluation.specs.declared.checkpoints.Checkpoint.{Checkpoint}
+use Rattle.mp_evaluation.specs.declared.checkpoint.Checkpoint.{Checkpoint}
 
 -- the last that is kept for a time not after c, or else the memory before
 abbrev pub kept_at : List Checkpoint → ℕ → Memory → Memory

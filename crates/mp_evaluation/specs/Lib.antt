@@ -1,3 +1,4 @@
+pub mod StateLists
 pub mod Checkpoints
 pub mod Outcomes
 pub mod Runs

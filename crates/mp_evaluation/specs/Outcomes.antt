@@ -5,7 +5,7 @@ use Rattle.mp_modules.specs.declared.memory.Memory.{Memory}
 use Rattle.mp_modules.specs.Memories.{blank}
 use Rattle.mp_netlist.specs.Limits.{checkpoint_units}
 use Rattle.mp_netlist.specs.Slots.{slot_at}
-use Rattle.mp_evaluation.specs.declared.checkpoints.Checkpoint.{Checkpoint}
+use Rattle.mp_evaluation.specs.declared.checkpoint.Checkpoint.{Checkpoint}
 use Rattle.mp_evaluation.specs.Checkpoints.{kept_at}
 
 -- the horizon, the wave of each wire, and of each module its last state and the states kept

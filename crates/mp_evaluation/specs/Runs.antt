@@ -9,7 +9,7 @@ use Rattle.mp_evaluation.specs.Checkpoints.{state_before, kept_at, IsBorder}
 use Rattle.mp_evaluation.specs.Outcomes.{Outcome, wave_of, end_of, checkpoint_of}
 use Rattle.mp_modules.specs.Memories.{blank}
 use Rattle.mp_netlist.specs.Slots.{slot_at}
-use Rattle.mp_evaluation.specs.declared.checkpoints.Checkpoint.{Checkpoint}
+use Rattle.mp_evaluation.specs.declared.checkpoint.Checkpoint.{Checkpoint}
 
 -- the state after the last unit of a module that stands
 abbrev pub end_memory : Circuit → ℕ → Option Memory

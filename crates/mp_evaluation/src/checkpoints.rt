@@ -1,33 +1,29 @@
 //! States of modules that are kept, for evaluations that begin later.
-ghost use Rattle.std.specs.Prelude.{◌≡◌, ◌<◌, ◌≤◌, ◌++◌, ◌∷◌, [], All, IfOk, OnOk};
-ghost use Rattle.std.specs.List.Sorted.{IsNonDecreasingBy};
-ghost use Rattle.mp_evaluation.specs.declared.checkpoints.Checkpoint.{Checkpoint as Kept};
+ghost use Rattle.std.specs.Prelude.{◌≡◌, ◌<◌, ◌≤◌, ◌++◌, ◌∷◌, [], All, IfOk, OnOk, drop};
+ghost use Rattle.mp_evaluation.specs.StateLists.{states_of, IsRising};
+ghost use Rattle.mp_evaluation.specs.declared.checkpoint.Checkpoint.{Checkpoint as Kept};
 
+use crate::checkpoint::Checkpoint;
+use crate::state_list::StateList;
 use mp_modules::Memory;
 use std::alloc::{AllocError, Global};
 use std::marker::Model;
 
-/// A module's state before the unit of a time.
-#[derive(Clone, Copy)]
-pub struct Checkpoint {
-    pub time: u32,
-    pub memory: Memory,
-}
-
 /// The states of a module that are kept, by rising time. Between two of them it didn't answer before the later's time.
 #[derive(Drop)]
 pub struct Checkpoints {
-    list: Vec<Checkpoint>,
-    ghost rising: { IsNonDecreasingBy (λ (kept : Kept). kept.time) list.items },
+    list: StateList,
+    ghost rising: { IsRising (states_of list) },
 }
 
 impl Model for Checkpoints {
     ghost use Rattle.std.specs.Prelude.{List};
-    ghost use Rattle.mp_evaluation.specs.declared.checkpoints.Checkpoint.{Checkpoint};
+    ghost use Rattle.mp_evaluation.specs.StateLists.{states_of};
+    ghost use Rattle.mp_evaluation.specs.declared.checkpoint.Checkpoint.{Checkpoint};
 
     ghost Value = { List Checkpoint };
 
-    ghost view = { λ checkpoints. checkpoints.list.items };
+    ghost view = { λ checkpoints. states_of checkpoints.list };
 }
 
 impl Checkpoints {
@@ -39,7 +35,7 @@ impl Checkpoints {
         ensures { result ≡ [] }
     {
         Checkpoints {
-            list: Vec::new(alloc),
+            list: StateList::new(alloc),
         }
     }
 
@@ -74,7 +70,7 @@ impl Checkpoints {
         requires { All (λ (kept : Kept). kept.time ≤ time) self.old }
         ensures { OnOk result (KeepsFrom self.old time memory self.new) }
     {
-        if is_last(self.list.as_slice(), memory) {
+        if is_last(&self.list, memory) {
             return Ok(());
         }
         self.keep(time, memory)
@@ -87,22 +83,24 @@ impl Checkpoints {
         requires some { from < to }
         ensures { OnOk result (KeepsBetween self.old other.now from to self.new) }
     {
-        let (memory, later) = split(other.list.as_slice(), from);
+        let (memory, later) = split(&other.list, from);
         self.push(Checkpoint { time: from, memory })?;
-        self.add_before(later, to)
+        self.add_before(&other.list, later, to)
     }
 
-    /// Adds those states of a list, of later times, that are kept for times before an end.
-    fn add_before(&mut self, more: &[Checkpoint], end: u32) -> Result<(), AllocError>
-        requires over { All (λ (later : Kept). All (λ (kept : Kept). kept.time ≤ later.time) self.old) more.now }
-        requires rising { IsNonDecreasingBy (λ (later : Kept). later.time) more.now }
-        ensures { OnOk result (self.new ≡ self.old ++ kept_before end more.now) }
+    /// Adds those states of a list that stand from a place on and are kept for times before an end. None of them is of an earlier time than
+    /// those that are kept.
+    fn add_before(&mut self, list: &StateList, from: usize, end: u32) -> Result<(), AllocError>
+        requires over { All (λ (later : Kept). All (λ (kept : Kept). kept.time ≤ later.time) self.old) (drop from (states_of list.now)) }
+        requires rising { IsRising (states_of list.now) }
+        ensures { OnOk result (self.new ≡ self.old ++ kept_before end (drop from (states_of list.now))) }
     {
-        for checkpoint in more {
+        for place in from..list.len() {
+            let checkpoint = list.at(place);
             if checkpoint.time >= end {
                 return Ok(());
             }
-            self.push(*checkpoint)?;
+            self.push(checkpoint)?;
         }
         Ok(())
     }
@@ -111,22 +109,19 @@ impl Checkpoints {
     pub fn kept_at(&self, time: u32) -> Memory
         ensures { result ≡ kept_at self.now time blank }
     {
-        split(self.list.as_slice(), time).0
+        split(&self.list, time).0
     }
 }
 
-ghost use Rattle.std.specs.Prelude.{◌↔◌, ℕ, IsTrue};
+ghost use Rattle.std.specs.Prelude.{◌↔◌, ℕ, IsTrue, length, take};
 ghost use Rattle.mp_evaluation.specs.Checkpoints.{kept_at, last_kept};
 ghost use Rattle.mp_modules.specs.Memories.{blank};
 
-/// Whether this state is the last that is kept.
-fn is_last(list: &[Checkpoint], memory: Memory) -> bool
-    ensures { IsTrue result → last_kept list.now blank ≡ memory }
+/// Whether this state is the last that is kept, where a blank one is while there is none.
+fn is_last(list: &StateList, memory: Memory) -> bool
+    ensures { IsTrue result → last_kept (states_of list.now) blank ≡ memory }
 {
-    match list.last() {
-        Some(last) => is_same(last.memory, memory),
-        None => false,
-    }
+    is_same(state_before(list, list.len()), memory)
 }
 
 fn is_same(one: Memory, other: Memory) -> bool
@@ -135,25 +130,24 @@ fn is_same(one: Memory, other: Memory) -> bool
     one == other
 }
 
-/// The last that is kept for a time not after this one, or a blank one, and what is kept for later times.
-fn split(list: &[Checkpoint], time: u32) -> (Memory, &[Checkpoint])
-    requires { IsNonDecreasingBy (λ (kept : Kept). kept.time) list.now }
-    ensures at { kept_at list.now time blank ≡ result.0 }
-    ensures from { (c : ℕ) → time ≤ c → kept_at list.now c blank ≡ kept_at result.1.now c result.0 }
-    ensures later { All (λ (kept : Kept). time < kept.time) result.1.now }
-    ensures rising { IsNonDecreasingBy (λ (kept : Kept). kept.time) result.1.now }
+/// The last that is kept for a time not after this one, or a blank one, and the place of the first that is kept for a later time.
+fn split(list: &StateList, time: u32) -> (Memory, usize)
+    requires { IsRising (states_of list.now) }
+    ensures at { kept_at (states_of list.now) time blank ≡ result.0 }
+    ensures from { (c : ℕ) → time ≤ c → kept_at (states_of list.now) c blank ≡ kept_at (drop result.1 (states_of list.now)) c result.0 }
+    ensures later { All (λ (kept : Kept). time < kept.time) (drop result.1 (states_of list.now)) }
 {
-    let count = list.partition_point(|kept| kept.time <= time);
-    let (before, later) = list.split_at(count);
-    (last_state(before), later)
+    let count = list.count_upto(time);
+    (state_before(list, count), count)
 }
 
-/// The last state of a list, or a blank one.
-fn last_state(list: &[Checkpoint]) -> Memory
-    ensures { result ≡ last_kept list.now blank }
+/// The last state before a place, or a blank one.
+fn state_before(list: &StateList, place: usize) -> Memory
+    requires { place ≤ length (states_of list.now) }
+    ensures { result ≡ last_kept (take place (states_of list.now)) blank }
 {
-    match list.last() {
-        Some(last) => last.memory,
-        None => Memory::with_one_output(&[], 0),
+    if place == 0 {
+        return Memory::with_one_output(&[], 0);
     }
+    list.at(place - 1).memory
 }

@@ -1,8 +1,12 @@
 //! What an evaluation of a netlist gives: waves, and states of modules.
 #![tactic(auto)]
 
+mod bit_memory;
+mod checkpoint;
 mod checkpoints;
 mod run;
+mod state_list;
 
-pub use checkpoints::{Checkpoint, Checkpoints};
+pub use checkpoint::Checkpoint;
+pub use checkpoints::Checkpoints;
 pub use run::Run;

@@ -6,7 +6,7 @@ use Rattle.mp_modules.specs.Memories.{blank}
 use Rattle.mp_records.specs.declared.module_record.ModuleRecord.{ModuleRecord}
 use Rattle.mp_netlist.specs.Slots.{slot_at}
 use Rattle.mp_netlist.specs.Circuit.{Circuit, module_at}
-use Rattle.mp_evaluation.specs.declared.checkpoints.Checkpoint.{Checkpoint}
+use Rattle.mp_evaluation.specs.declared.checkpoint.Checkpoint.{Checkpoint}
 use Rattle.mp_evaluation.specs.Checkpoints.{kept_at, state_before}
 use Rattle.mp_evaluation.specs.Runs.{AreCheckpoints}
 use Rattle.mp_evaluation.proofs.OutcomeLemmas.{no_module}

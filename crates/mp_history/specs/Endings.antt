@@ -5,7 +5,7 @@ use Rattle.mp_records.specs.declared.module_record.ModuleRecord.{ModuleRecord}
 use Rattle.mp_netlist.specs.Slots.{slot_at}
 use Rattle.mp_netlist.specs.Circuit.{Circuit, module_at}
 use Rattle.mp_evaluation.specs.Checkpoints.{kept_at, state_before, IsBorder}
-use Rattle.mp_evaluation.specs.declared.checkpoints.Checkpoint.{Checkpoint}
+use Rattle.mp_evaluation.specs.declared.checkpoint.Checkpoint.{Checkpoint}
 use Rattle.mp_evaluation.specs.Outcomes.{Outcome}
 use Rattle.mp_history.specs.declared.ledger.Ledger.{Ledger}
 use Rattle.mp_history.specs.Ledgers.{ledger_at, ledger_state, IsInOrder}

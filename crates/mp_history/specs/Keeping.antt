@@ -4,7 +4,7 @@ use Rattle.mp_modules.specs.declared.memory.Memory.{Memory}
 use Rattle.mp_records.specs.declared.module_record.ModuleRecord.{ModuleRecord}
 use Rattle.mp_netlist.specs.Slots.{slot_at}
 use Rattle.mp_netlist.specs.Circuit.{Circuit, module_at}
-use Rattle.mp_evaluation.specs.declared.checkpoints.Checkpoint.{Checkpoint}
+use Rattle.mp_evaluation.specs.declared.checkpoint.Checkpoint.{Checkpoint}
 use Rattle.mp_evaluation.specs.Checkpoints.{state_before, IsBorder}
 use Rattle.mp_evaluation.specs.Outcomes.{Outcome}
 use Rattle.mp_history.specs.declared.ledger.Ledger.{Ledger}

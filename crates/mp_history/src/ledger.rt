@@ -19,7 +19,7 @@ impl Ledger {
     ghost use Rattle.mp_netlist.specs.Slots.{slot_at};
     ghost use Rattle.mp_modules.specs.Memories.{blank};
     ghost use Rattle.mp_evaluation.specs.Checkpoints.{kept_at};
-    ghost use Rattle.mp_evaluation.specs.declared.checkpoints.Checkpoint.{Checkpoint as State};
+    ghost use Rattle.mp_evaluation.specs.declared.checkpoint.Checkpoint.{Checkpoint as State};
     ghost use Rattle.mp_history.specs.Keeping.{HasKept};
     ghost use Rattle.mp_history.specs.Ledgers.{state_in, ledger_state, IsInOrder, IsOwn, KeepsTo};
 

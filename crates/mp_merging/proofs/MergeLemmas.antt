@@ -7,7 +7,7 @@ use Rattle.mp_records.specs.declared.module_record.ModuleRecord.{ModuleRecord}
 use Rattle.mp_netlist.specs.Slots.{slot_at}
 use Rattle.mp_netlist.specs.Circuit.{Circuit, IsCircuit, wire_at, module_at}
 use Rattle.mp_model.specs.Waves.{state, slot_wave}
-use Rattle.mp_evaluation.specs.declared.checkpoints.Checkpoint.{Checkpoint}
+use Rattle.mp_evaluation.specs.declared.checkpoint.Checkpoint.{Checkpoint}
 use Rattle.mp_merging.specs.declared.part_run.PartRun.{PartRun}
 use Rattle.mp_evaluation.specs.Checkpoints.{kept_at, state_before, IsBorder}
 use Rattle.mp_regions.specs.Divisions.{heard_by, IsDivision}

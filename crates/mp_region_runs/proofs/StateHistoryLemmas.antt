@@ -17,7 +17,7 @@ use Rattle.mp_model.specs.Levels.{built}
 use Rattle.mp_model.specs.Waves.{state, AreWavesOf}
 use Rattle.mp_model.proofs.SlotLemmas.{slot_within}
 use Rattle.mp_events.specs.Adding.{listed}
-use Rattle.mp_evaluation.specs.declared.checkpoints.Checkpoint.{Checkpoint}
+use Rattle.mp_evaluation.specs.declared.checkpoint.Checkpoint.{Checkpoint}
 use Rattle.mp_evaluation.specs.Checkpoints.{kept_at, state_before, IsBorder, KeepsFrom}
 use Rattle.mp_evaluation.specs.Marks.{is_marked, AreListed, AreAdded}
 use Rattle.mp_evaluation.specs.Outcomes.{Outcome, AreSlots}

@@ -7,7 +7,7 @@ use Rattle.mp_records.specs.declared.module_record.ModuleRecord.{ModuleRecord}
 use Rattle.mp_netlist.specs.Circuit.{Circuit, module_at}
 use Rattle.mp_model.specs.Levels.{built}
 use Rattle.mp_model.specs.Waves.{state}
-use Rattle.mp_evaluation.specs.declared.checkpoints.Checkpoint.{Checkpoint}
+use Rattle.mp_evaluation.specs.declared.checkpoint.Checkpoint.{Checkpoint}
 use Rattle.mp_evaluation.specs.Checkpoints.{kept_at, last_kept, state_before, IsBorder}
 use Rattle.mp_evaluation.specs.Marks.{is_marked, AreListed, AreAdded}
 use Rattle.mp_region_runs.specs.declared.state_history.StateHistory.{StateHistory}

@@ -20,7 +20,7 @@ use Rattle.mp_model.specs.Levels.{built, input_by, inputs_by}
 use Rattle.mp_model.specs.Waves.{level, state, wave, slot_wave}
 use Rattle.mp_model.proofs.BehaviourLemmas.{satisfies}
 use Rattle.mp_model.proofs.InputLemmas.{input_is}
-use Rattle.mp_evaluation.specs.declared.checkpoints.Checkpoint.{Checkpoint}
+use Rattle.mp_evaluation.specs.declared.checkpoint.Checkpoint.{Checkpoint}
 use Rattle.mp_evaluation.specs.Checkpoints.{kept_at, state_before, IsBorder}
 use Rattle.mp_evaluation.specs.Outcomes.{Outcome}
 use Rattle.mp_evaluation.specs.Runs.{IsRun, checkpoint}

@@ -2,7 +2,7 @@ use Rattle.std.proofs.Common.{◌≡◌, ◌+◌, ◌<◌, ℕ, [], List, Option
 use Rattle.std.specs.Arc.{arc_value}
 use Rattle.std.proofs.lemmas.List.{get_or-map, map_push}
 use Rattle.mp_netlist.specs.Slots.{slot_at}
-use Rattle.mp_evaluation.specs.declared.checkpoints.Checkpoint.{Checkpoint}
+use Rattle.mp_evaluation.specs.declared.checkpoint.Checkpoint.{Checkpoint}
 use Rattle.mp_merging.specs.declared.part_run.PartRun.{PartRun}
 use Rattle.mp_evaluation.specs.Outcomes.{AreSlots}
 use Rattle.mp_merging.specs.PartRuns.{kept_in}

@@ -1,7 +1,7 @@
 use Rattle.std.proofs.Common.{◌≡◌, ◌<◌, ◌+◌, ◌-◌, ◌≤◌, [], true, List, length, ap, sym, subst, ◌∙◌, arith}
 use Rattle.std.specs.Prelude.{All}
 use Rattle.std.proofs.lemmas.List.{get_or_read}
-use Rattle.mp_evaluation.specs.declared.checkpoints.Checkpoint.{Checkpoint}
+use Rattle.mp_evaluation.specs.declared.checkpoint.Checkpoint.{Checkpoint}
 use Rattle.mp_evaluation.specs.Checkpoints.{KeepsFrom}
 use Rattle.mp_evaluation.specs.Marks.{is_marked}
 use Rattle.mp_evaluation.proofs.MarkLemmas.{marked_within}
