@@ -53,14 +53,14 @@ pub record IsApplied (s new : Simulator) (set others : List ℕ) (time : ℕ) : 
   pub turned : new.wheel ≡ drop 1 s.wheel ++ [] ∷ []
   pub fanout : new.fanout ≡ s.fanout
   pub levels : new.levels.items ≡ s.levels.items
-  pub outputs : new.outputs.items ≡ s.outputs.items
+  pub outputs : new.outputs ≡ s.outputs
   pub added : AreAdded s.states.items new.states.items (entries_from s.fanout (next_slot s ++ set) ++ entries_from s.fanout others)
   pub adding : IsAdding new.states.items new.due.items []
   pub places : length new.states.items ≡ length s.states.items
   pub waves : AreToggled s.waves.items new.waves.items (next_slot s ++ set) time
 
 pub is_applied : (s new : Simulator) (set others wires : List ℕ) (time : ℕ) (mid : List AutomatonState) →
-    wires ≡ next_slot s ++ set → new.wheel ≡ drop 1 s.wheel ++ [] ∷ [] → new.fanout ≡ s.fanout → new.levels.items ≡ s.levels.items → new.outputs.items ≡ s.outputs.items →
+    wires ≡ next_slot s ++ set → new.wheel ≡ drop 1 s.wheel ++ [] ∷ [] → new.fanout ≡ s.fanout → new.levels.items ≡ s.levels.items → new.outputs ≡ s.outputs →
     AreAdded s.states.items mid (entries_from s.fanout wires) → AreAdded mid new.states.items (entries_from s.fanout others) →
     IsAdding new.states.items new.due.items [] → length new.states.items ≡ length s.states.items → AreToggled s.waves.items new.waves.items wires time →
     IsApplied s new set others time
@@ -151,8 +151,8 @@ module _ (s new : Simulator) (set others : List ℕ) (time : ℕ) (sound : IsSou
         (subst (λ k. All (λ (l : FanoutEntry). l.module < k) (row_at s.fanout x)) (sym is.places) (sound.placed x));
     eventful = λ x. subst (λ (rows : List (List FanoutEntry)). All (λ (l : FanoutEntry). 0 < l.event) (row_at rows x)) (sym is.fanout) (sound.eventful x);
     some = let some = sound.some in let a = long_as in omega arith;
-    within = subst (λ (xs : List OutputPorts). All (HaveSlots (length new.wheel)) xs) (sym is.outputs) (subst (λ k. All (HaveSlots k) s.outputs.items) (sym long_as) sound.within);
-    driven = subst (λ (xs : List OutputPorts). All (AreBelow (length new.waves.items)) xs) (sym is.outputs) (subst (λ k. All (AreBelow k) s.outputs.items) (sym waved_as) sound.driven);
+    within = subst (λ (xs : List OutputPorts). All (HaveSlots (length new.wheel)) xs) (sym is.outputs) (subst (λ k. All (HaveSlots k) s.outputs) (sym long_as) sound.within);
+    driven = subst (λ (xs : List OutputPorts). All (AreBelow (length new.waves.items)) xs) (sym is.outputs) (subst (λ k. All (AreBelow k) s.outputs) (sym waved_as) sound.driven);
     waved = λ w k high. ap (λ xs. listed w xs) (slot_is k) ∙ (let a = waved_as in sound.waved w (suc k) (omega arith));
   }
 

@@ -26,28 +26,25 @@ use Rattle.mp_core.proofs.NumberLemmas.{events_part, number_low}
 pub record IsFired (s new : Simulator) : Type 0 where
   pub states : (state_of : ℕ → UnitState) → AreNumbered s.states.items state_of → HaveFired state_of s.due.items s.states.items new.states.items
   pub levels : (state_of : ℕ → UnitState) → AreNumbered s.states.items state_of → HaveFlipped state_of s.due.items s.levels.items new.levels.items
-  pub wheel : (state_of : ℕ → UnitState) → AreNumbered s.states.items state_of → new.wheel ≡ scheduled s.wheel (fired_by state_of s.outputs.items s.due.items)
+  pub wheel : (state_of : ℕ → UnitState) → AreNumbered s.states.items state_of → new.wheel ≡ scheduled s.wheel (fired_by state_of s.outputs s.due.items)
   pub units : length new.wheel ≡ length s.wheel
   pub places : length new.states.items ≡ length s.states.items
   pub leveled : length new.levels.items ≡ length s.levels.items
   pub due : new.due.items ≡ []
   pub fanout : new.fanout ≡ s.fanout
-  pub outputs : new.outputs.items ≡ s.outputs.items
+  pub outputs : new.outputs ≡ s.outputs
   pub waves : new.waves.items ≡ s.waves.items
 
-pub is_fired : (s new : Simulator) (outputs : List OutputPorts) (due : List ℕ) → outputs ≡ s.outputs.items → due ≡ s.due.items →
+pub is_fired : (s new : Simulator) (due : List ℕ) → due ≡ s.due.items →
     ((state_of : ℕ → UnitState) → AreNumbered s.states.items state_of → HaveFired state_of due s.states.items new.states.items) →
     ((state_of : ℕ → UnitState) → AreNumbered s.states.items state_of → HaveFlipped state_of due s.levels.items new.levels.items) →
-    ((state_of : ℕ → UnitState) → AreNumbered s.states.items state_of → new.wheel ≡ scheduled s.wheel (fired_by state_of outputs due)) →
+    ((state_of : ℕ → UnitState) → AreNumbered s.states.items state_of → new.wheel ≡ scheduled s.wheel (fired_by state_of s.outputs due)) →
     length new.wheel ≡ length s.wheel → length new.states.items ≡ length s.states.items → length new.levels.items ≡ length s.levels.items → new.due.items ≡ [] →
-    new.fanout ≡ s.fanout → new.outputs.items ≡ s.outputs.items → new.waves.items ≡ s.waves.items → IsFired s new
-is_fired s new outputs due same_outputs same_due states levels wheel units places leveled none fanout same waves = record {
+    new.fanout ≡ s.fanout → new.outputs ≡ s.outputs → new.waves.items ≡ s.waves.items → IsFired s new
+is_fired s new due same_due states levels wheel units places leveled none fanout same waves = record {
   states = λ state_of numbered. subst (λ (xs : List ℕ). HaveFired state_of xs s.states.items new.states.items) same_due (states state_of numbered);
   levels = λ state_of numbered. subst (λ (xs : List ℕ). HaveFlipped state_of xs s.levels.items new.levels.items) same_due (levels state_of numbered);
-  wheel = λ state_of numbered.
-      wheel state_of numbered
-      ∙ ap (λ (xs : List OutputPorts). scheduled s.wheel (fired_by state_of xs due)) same_outputs
-      ∙ ap (λ (xs : List ℕ). scheduled s.wheel (fired_by state_of s.outputs.items xs)) same_due;
+  wheel = λ state_of numbered. wheel state_of numbered ∙ ap (λ (xs : List ℕ). scheduled s.wheel (fired_by state_of s.outputs xs)) same_due;
   units = units;
   places = places;
   leveled = leveled;
@@ -75,7 +72,7 @@ pub due_placed : (s : Simulator) → IsSound s → All (λ q. q < length s.state
 due_placed s sound =
     all_below (length s.states.items) s.due.items (λ q high. none_due (listed q s.due.items) (state_at s.states.items q) (sound.events.once q) (nowhere s.states.items q high))
 
-pub due_led : (s : Simulator) → IsSound s → All (λ q. q < length s.outputs.items) s.due.items
+pub due_led : (s : Simulator) → IsSound s → All (λ q. q < length s.outputs) s.due.items
 due_led s sound k d within =
     let low : slice_index_or s.due.items k d < length s.states.items = due_placed s sound k d within in
     let same = sound.outputs in
@@ -163,15 +160,15 @@ module _ (s new : Simulator) (sound : IsSound s) (is : IsFired s new) where
   waved_when : (w k : ℕ) (low : Bool) → nat_lt k (length s.wheel) ≡ low → length s.waves.items ≤ w → listed w (slot_at new k) ≡ 0
   waved_when w k true low high =
       let within : k < length s.wheel = grind (arith, nat_tests) in
-      let entries = fired_by sound.units s.outputs.items s.due.items in
+      let entries = fired_by sound.units s.outputs s.due.items in
       let old = sound.waved w k high in
       let more = schedules_each s.wheel entries k w within in
       let none : count_by (is_entry k w) entries ≡ 0 =
-      counted_flat k w (λ x. events_of (sound.units x) (ports_at s.outputs.items x)) s.due.items
-      ∙ sum_of_none (λ x. count_by (is_entry k w) (events_of (sound.units x) (ports_at s.outputs.items x))) s.due.items
+      counted_flat k w (λ x. events_of (sound.units x) (ports_at s.outputs x)) s.due.items
+      ∙ sum_of_none (λ x. count_by (is_entry k w) (events_of (sound.units x) (ports_at s.outputs x))) s.due.items
       (λ j d inside_due.
       let x = slice_index_or s.due.items j d in
-      unscheduled k w (length s.waves.items) (ports_at s.outputs.items x) (reaction (sound.units x)).toggles
+      unscheduled k w (length s.waves.items) (ports_at s.outputs x) (reaction (sound.units x)).toggles
       (sound.driven x (record { first = no_port; second = no_port; third = no_port }) (due_led s sound j d inside_due)) high) in
       ap (λ (xs : List (List ℕ)). listed w (slice_index_or xs k [])) (is.wheel sound.units sound.numbered) ∙ omega arith
   waved_when w k false low high =
@@ -191,8 +188,8 @@ module _ (s new : Simulator) (sound : IsSound s) (is : IsFired s new) where
         (subst (λ k. All (λ (l : FanoutEntry). l.module < k) (row_at s.fanout x)) (sym is.places) (sound.placed x));
     eventful = λ x. subst (λ (rows : List (List FanoutEntry)). All (λ (l : FanoutEntry). 0 < l.event) (row_at rows x)) (sym is.fanout) (sound.eventful x);
     some = let some = sound.some in let a = is.units in omega arith;
-    within = subst (λ (xs : List OutputPorts). All (HaveSlots (length new.wheel)) xs) (sym is.outputs) (subst (λ k. All (HaveSlots k) s.outputs.items) (sym is.units) sound.within);
+    within = subst (λ (xs : List OutputPorts). All (HaveSlots (length new.wheel)) xs) (sym is.outputs) (subst (λ k. All (HaveSlots k) s.outputs) (sym is.units) sound.within);
     driven = subst (λ (xs : List OutputPorts). All (AreBelow (length new.waves.items)) xs) (sym is.outputs)
-        (subst (λ k. All (AreBelow k) s.outputs.items) (sym (ap (length {A = Waveform}) is.waves)) sound.driven);
+        (subst (λ k. All (AreBelow k) s.outputs) (sym (ap (length {A = Waveform}) is.waves)) sound.driven);
     waved = λ w k high. waved_when w k (nat_lt k (length s.wheel)) refl (let a = ap (length {A = Waveform}) is.waves in omega arith);
   }

@@ -122,7 +122,7 @@ module _ (s new : Simulator) (sound : IsSound s) (is : IsFired s new) (n : Circu
       ∙ ap (λ (u : UnitState). bit_xor (levels_code (state n m t)) (ports_code u.events (reaction u).toggles)) (during.active m q r at place)
       ∙ levels_advance n ok m t r at seat.of_bits seat.state_bits (seat.input_bits (t + 1))
 
-  firing : IsFiring n scope.place scope.is_active t during.units s.outputs.items s.due.items
+  firing : IsFiring n scope.place scope.is_active t during.units s.outputs s.due.items
   firing = record {
     placed = λ k d within active. during.layout.placed (slice_index_or s.due.items k d) (due_placed s sound k d within) active;
     asleep = λ q asleep. ap (λ (k : Reaction). k.toggles) (sleeps (during.units q).automaton (during.units q).phase (during.units q).events (during.asleep q asleep));
@@ -161,22 +161,22 @@ module _ (s new : Simulator) (sound : IsSound s) (is : IsFired s new) (n : Circu
         placed = λ q within active. b.placed q (let long = is.places in omega arith) active;
       }
 
-  slot_is : (k : ℕ) → slot_at new k ≡ slice_index_or (scheduled s.wheel (fired_by during.units s.outputs.items s.due.items)) k []
+  slot_is : (k : ℕ) → slot_at new k ≡ slice_index_or (scheduled s.wheel (fired_by during.units s.outputs s.due.items)) k []
   slot_is k = ap (λ (xs : List (List ℕ)). slice_index_or xs k []) (is.wheel during.units during.numbered)
 
   -- a wire that no active module drives
   other_events : (w k : ℕ) → k < length s.wheel → IsUndrivenBy n scope.place w → listed w (slot_at new k) ≡ bit (is_expected n scope w (t + 1 + 1 + k))
   other_events w k within none =
       ap (λ xs. listed w xs) (slot_is k)
-      ∙ firing_leaves_others n ok scope.place scope.is_active t during.units s.outputs.items s.due.items s.wheel firing w k none within
+      ∙ firing_leaves_others n ok scope.place scope.is_active t during.units s.outputs s.due.items s.wheel firing w k none within
       ∙ during.events w k within
 
   slots_of : (m q p : ℕ) (r : ModuleRecord) (w : ℕ) → module_at n m ≡ Some r → scope.place m ≡ Some q → (output_at r p).wire ≡ Some (record { 0 = w }) →
       HasSlot (length s.wheel) (output_port_of (output_at r p))
   slots_of m q p r w at place wire =
       let seat = during.layout.seats m q r at place in
-      let low : q < length s.outputs.items = (let a = seat.within in let same = sound.outputs in omega arith) in
-      has_slot (length s.wheel) p (ports_at s.outputs.items q) r (sound.within q (record { first = no_port; second = no_port; third = no_port }) low) seat.drives (few_ports n ok m p w r at wire)
+      let low : q < length s.outputs = (let a = seat.within in let same = sound.outputs in omega arith) in
+      has_slot (length s.wheel) p (ports_at s.outputs q) r (sound.within q (record { first = no_port; second = no_port; third = no_port }) low) seat.drives (few_ports n ok m p w r at wire)
 
   -- a wire that an active module drives
   driven_events : (w k p q : ℕ) (m : ModuleId) (r : ModuleRecord) → k < length s.wheel → driver n w ≡ Port m p → module_at n m.0 ≡ Some r → scope.place m.0 ≡ Some q →
@@ -196,7 +196,7 @@ module _ (s new : Simulator) (sound : IsSound s) (is : IsFired s new) (n : Circu
       ∙ ap (λ x. bit (change_at n w u && nat_lt u (x + d) && scope.owns w u)) known in
       let drv : Drives n m.0 p w = record { part = r; stands = at; output = wire } in
       ap (λ xs. listed w xs) (slot_is k)
-      ∙ firing_schedules n ok scope.place scope.is_active t during.units s.outputs.items s.due.items s.wheel firing w p q k m r drives at place some_delay within
+      ∙ firing_schedules n ok scope.place scope.is_active t during.units s.outputs s.due.items s.wheel firing w p q k m r drives at place some_delay within
       ∙ ap (λ x. x + bit (change_at n w (t + 1 + d) && (d - 1 == k))) old
       ∙ sum_bits (change_at n w u) (change_at n w (t + 1 + d)) (scope.owns w u) (nat_lt u (t + 1 + d)) (nat_lt u (t + 2 + d)) (d - 1 == k)
       (λ here.

@@ -31,13 +31,13 @@ pub record IsSound (s : Simulator) : Type 0 where
   pub numbered : AreNumbered s.states.items units
   pub events : IsAdding s.states.items s.due.items []
   pub levels : length s.levels.items ≡ length s.states.items
-  pub outputs : length s.outputs.items ≡ length s.states.items
+  pub outputs : length s.outputs ≡ length s.states.items
   pub rows : length s.waves.items ≤ length s.fanout
   pub placed : (x : ℕ) → All (λ (l : FanoutEntry). l.module < length s.states.items) (row_at s.fanout x)
   pub eventful : (x : ℕ) → All (λ (l : FanoutEntry). 0 < l.event) (row_at s.fanout x)
   pub some : 0 < length s.wheel
-  pub within : All (HaveSlots (length s.wheel)) s.outputs.items
-  pub driven : All (AreBelow (length s.waves.items)) s.outputs.items
+  pub within : All (HaveSlots (length s.wheel)) s.outputs
+  pub driven : All (AreBelow (length s.waves.items)) s.outputs
   pub waved : (w k : ℕ) → length s.waves.items ≤ w → listed w (slot_at s k) ≡ 0
 
 -- at a time the wires of the next slot and further ones can toggle, and other numbers can be heard: each is there once, their waves are over

@@ -37,7 +37,7 @@ pub record IsSeat (n : Circuit) (scope : Scope) (s : Simulator) (m q : ℕ) (r :
   pub state_bits : (u : ℕ) → IsBitState (built n r) (state n m u)
   pub input_bits : (u : ℕ) → AreBits (inputs_by n (level n) r u)
   pub reads : map scope.source (scope.inputs q) ≡ map source_of r.inputs
-  pub drives : ports_at s.outputs.items q ≡ output_ports_of r
+  pub drives : ports_at s.outputs q ≡ output_ports_of r
   pub owned : (w p u : ℕ) → Drives n m p w → scope.known m < u → scope.owns w u ≡ true
 
 -- each place has the rows of its inputs; active modules have places, and active places have modules

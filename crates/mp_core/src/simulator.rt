@@ -3,7 +3,7 @@ ghost use Rattle.std.specs.Prelude.{◌≡◌};
 
 use mp_automata::{AutomatonState, PortLevels, TransitionTable};
 use mp_events::{
-    EventSlot, EventWheel, Fanout, OutputPorts, add_fanout_events, fire_modules, toggle_wires,
+    EventSlot, EventWheel, Fanout, OutputTable, add_fanout_events, fire_modules, toggle_wires,
 };
 use mp_modules::Memory;
 use mp_wave::ToggleWave;
@@ -17,7 +17,7 @@ use std::alloc::AllocError;
 pub struct Simulator {
     pub table: TransitionTable,
     pub fanout: Fanout,
-    pub outputs: Vec<OutputPorts>,
+    pub outputs: OutputTable,
     pub states: Vec<AutomatonState>,
     pub levels: Vec<PortLevels>,
     pub due: Vec<u32>,
@@ -79,7 +79,7 @@ impl Simulator {
     {
         fire_modules(
             &self.table,
-            self.outputs.as_slice(),
+            &self.outputs,
             &mut self.states,
             &mut self.levels,
             &mut self.wheel,

@@ -98,7 +98,7 @@ module _ (n : Circuit) (ok : IsCircuit n) (active on : ℕ → Bool) (numbering 
         placed = λ x k d within. let low = old.placed x k d within in let same = made.bits.states in omega (arith, low, same);
         eventful = old.eventful;
         some = let some = old.some in let same = made.bits.units in omega (arith, some, same);
-        within = subst (λ k. All (HaveSlots k) new.bits.simulator.outputs.items) (sym made.bits.units) made.bits.slots;
+        within = subst (λ k. All (HaveSlots k) new.bits.simulator.outputs) (sym made.bits.units) made.bits.slots;
         driven = made.bits.driven;
         waved = none_waved;
       }

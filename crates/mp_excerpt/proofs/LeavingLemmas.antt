@@ -98,7 +98,7 @@ module _ (n : Circuit) (ok : IsCircuit n) (active on : ℕ → Bool) (numbering 
         placed = λ x k d within. let low = old.placed x k d within in let same = left.states in omega (arith, low, same);
         eventful = old.eventful;
         some = let some = old.some in let same = left.units in omega (arith, some, same);
-        within = subst (λ k. All (HaveSlots k) s.bits.simulator.outputs.items) (sym left.units) old.within;
+        within = subst (λ k. All (HaveSlots k) s.bits.simulator.outputs) (sym left.units) old.within;
         driven = old.driven;
         waved = none_waved;
       }

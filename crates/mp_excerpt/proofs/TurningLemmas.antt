@@ -89,7 +89,7 @@ module _ (n : Circuit) (ok : IsCircuit n) (active on : ℕ → Bool) (ports : Ar
         eventful = old.eventful;
         some = old.some;
         within = old.within;
-        driven = subst (λ k. All (AreBelow k) s.bits.simulator.outputs.items) (sym turned.traces) old.driven;
+        driven = subst (λ k. All (AreBelow k) s.bits.simulator.outputs) (sym turned.traces) old.driven;
         waved = λ v k past. old.waved v k (let same = turned.traces in omega (arith, past, same));
       }
 

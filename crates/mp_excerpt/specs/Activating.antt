@@ -43,15 +43,15 @@ pub record IsBitModuleActivated (n : Circuit) (numbering : Numbering) (m t : ℕ
   }
   pub states : length new.bits.simulator.states.items ≡ length s.bits.simulator.states.items
   pub levels : length new.bits.simulator.levels.items ≡ length s.bits.simulator.levels.items
-  pub outputs : length new.bits.simulator.outputs.items ≡ length s.bits.simulator.outputs.items
+  pub outputs : length new.bits.simulator.outputs ≡ length s.bits.simulator.outputs
   pub units : length new.bits.simulator.wheel ≡ length s.bits.simulator.wheel
-  pub slots : All (HaveSlots (length s.bits.simulator.wheel)) new.bits.simulator.outputs.items
-  pub driven : All (AreBelow (length s.bits.simulator.waves.items)) new.bits.simulator.outputs.items
+  pub slots : All (HaveSlots (length s.bits.simulator.wheel)) new.bits.simulator.outputs
+  pub driven : All (AreBelow (length s.bits.simulator.waves.items)) new.bits.simulator.outputs
   pub seat : (module_width n r == 1) ≡ true → IsSeatShown n numbering t m r new.bits.simulator
   pub sleeps : (module_width n r == 1) ≡ false → IsAsleep (state_at new.bits.simulator.states.items m)
   pub other_states : (q : ℕ) → (q == m) ≡ false → state_at new.bits.simulator.states.items q ≡ state_at s.bits.simulator.states.items q
   pub other_levels : (q : ℕ) → (q == m) ≡ false → levels_at new.bits.simulator.levels.items q ≡ levels_at s.bits.simulator.levels.items q
-  pub other_outputs : (q : ℕ) → (q == m) ≡ false → ports_at new.bits.simulator.outputs.items q ≡ ports_at s.bits.simulator.outputs.items q
+  pub other_outputs : (q : ℕ) → (q == m) ≡ false → ports_at new.bits.simulator.outputs q ≡ ports_at s.bits.simulator.outputs q
   pub room : (w p : ℕ) → Drives n m p w → delay_of r p ≤ length s.bits.simulator.wheel
   pub events : (w k : ℕ) → k < length s.bits.simulator.wheel →
       listed w (slot_at new.bits.simulator k)

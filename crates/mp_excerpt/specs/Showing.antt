@@ -40,7 +40,7 @@ use Rattle.mp_excerpt.specs.Levels.{shown_level, shown_late, IsEventShown, IsCop
 pub record IsSeatShown (n : Circuit) (numbering : Numbering) (t m : ℕ) (r : ModuleRecord) (s : Simulator) : Type 0 where
   pub reads : ReadsNumbers numbering m r
   pub numbers : All (λ x. is_bit_number n numbering x ≡ true) (numbering.inputs m)
-  pub drives : ports_at s.outputs.items m ≡ output_ports_of r
+  pub drives : ports_at s.outputs m ≡ output_ports_of r
   pub word : state_at s.states.items m ≡ number_of (rest_state_at n r m t)
   pub levels : levels_at s.levels.items m ≡ levels_code (state n m t)
 

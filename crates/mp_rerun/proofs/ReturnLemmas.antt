@@ -87,7 +87,7 @@ module _ (old new : Circuit) (run : Outcome) (ok : IsCircuit new) (numbering : N
   ahead_wiring : HasSameWiring s2.simulation s3.simulation
   ahead_wiring = record {
     fanout = ap (λ (b : Simulation). b.simulator.fanout) back.ahead.bits;
-    outputs = ap (λ (b : Simulation). b.simulator.outputs.items) back.ahead.bits;
+    outputs = ap (λ (b : Simulation). b.simulator.outputs) back.ahead.bits;
     units = back.ahead.units;
     change_units = back.ahead.change_units;
   }

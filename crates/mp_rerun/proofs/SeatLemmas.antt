@@ -160,7 +160,7 @@ module _ (old new : Circuit) (run : Outcome) (ok : IsCircuit new) (numbering : N
           record {
             wiring = record {
               fanout = ap (λ (b : Simulation). b.simulator.fanout) bits.bits;
-              outputs = ap (λ (b : Simulation). b.simulator.outputs.items) bits.bits;
+              outputs = ap (λ (b : Simulation). b.simulator.outputs) bits.bits;
               units = ap (λ (b : Simulation). length b.simulator.wheel) bits.bits;
               change_units = ap (λ (w : DataWires). length w.wheel) bits.wires;
             };
@@ -175,7 +175,7 @@ module _ (old new : Circuit) (run : Outcome) (ok : IsCircuit new) (numbering : N
           record {
             wiring = record {
               fanout = ap (λ (b : Simulation). b.simulator.fanout) taken.bits;
-              outputs = ap (λ (b : Simulation). b.simulator.outputs.items) taken.bits;
+              outputs = ap (λ (b : Simulation). b.simulator.outputs) taken.bits;
               units = ap (λ (b : Simulation). length b.simulator.wheel) taken.bits;
               change_units = ap (λ (w : DataWires). length w.wheel) taken.wires;
             };

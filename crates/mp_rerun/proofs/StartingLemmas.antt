@@ -138,7 +138,7 @@ module _ (n : Circuit) (ok : IsCircuit n) (active : ℕ → Bool) where
         ∙ get_or-map source_of r.inputs k none (0, 0) inside in
         ap (λ (v : ℕ × ℕ). is_data n v.0) same ∙ bit_reads n ok m k none r at one inside
 
-    outputs_own : (m : ℕ) (r : ModuleRecord) → module_at n m ≡ Some r → ports_at s.bits.simulator.outputs.items m ≡ output_ports_of r
+    outputs_own : (m : ℕ) (r : ModuleRecord) → module_at n m ≡ Some r → ports_at s.bits.simulator.outputs m ≡ output_ports_of r
     outputs_own m r at =
         ap (λ (xs : List OutputPorts). ports_at xs m) begun.begun.bits.outputs
         ∙ get_or-map ports_of n.modules m None (record { first = no_port; second = no_port; third = no_port }) (slot_within n.modules m r at)

@@ -18,7 +18,7 @@ use Rattle.mp_rerun.specs.Numbered.{AreWired, AreNumbered, AreCounted}
 -- a simulation has the rows, the outputs and the units of another
 pub record HasSameWiring (s new : NetlistSimulation) : Type 0 where
   pub fanout : new.bits.simulator.fanout ≡ s.bits.simulator.fanout
-  pub outputs : new.bits.simulator.outputs.items ≡ s.bits.simulator.outputs.items
+  pub outputs : new.bits.simulator.outputs ≡ s.bits.simulator.outputs
   pub units : length new.bits.simulator.wheel ≡ length s.bits.simulator.wheel
   pub change_units : length new.wires.wheel ≡ length s.wires.wheel
 

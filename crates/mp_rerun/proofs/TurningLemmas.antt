@@ -184,7 +184,7 @@ module _ (w t : ℕ) (run : Outcome) (s : Rerun) (sim : NetlistSimulation) (d : 
 turned_wiring : (n : Circuit) (numbering : Numbering) (w t : ℕ) (s new : NetlistSimulation) → IsTurnedOn n numbering w t s new → HasSameWiring s new
 turned_wiring n numbering w t s new is = record {
   fanout = ap (λ (x : Simulator). x.fanout) is.simulator;
-  outputs = ap (λ (x : Simulator). x.outputs.items) is.simulator;
+  outputs = ap (λ (x : Simulator). x.outputs) is.simulator;
   units = ap (λ (x : Simulator). length x.wheel) is.simulator;
   change_units = is.change_units;
 }

@@ -161,7 +161,7 @@ module _ (n all : Circuit) (ok : IsCircuit n) (all_ok : IsCircuit all) (of_all :
       let test : nat_lt m (length all.modules) ≡ true = grind (arith, nat_tests) in
       ap (λ b. cond b (inputs_in (module_at all m)) []) test ∙ ap inputs_in there
 
-  drives_own : (m : ℕ) (r : ModuleRecord) → module_at n m ≡ Some r → ports_at s.simulator.outputs.items m ≡ output_ports_of r
+  drives_own : (m : ℕ) (r : ModuleRecord) → module_at n m ≡ Some r → ports_at s.simulator.outputs m ≡ output_ports_of r
   drives_own m r at =
       ap (λ (xs : List OutputPorts). ports_at xs m) are.bits.outputs
       ∙ get_or-map ports_of all.modules m None (record { first = no_port; second = no_port; third = no_port }) (slot_within all.modules m r (of_all.same m r at))
@@ -256,7 +256,7 @@ module _ (n all : Circuit) (ok : IsCircuit n) (all_ok : IsCircuit all) (of_all :
   slots_of w p m r drives at =
       let drv = finds_only_ports n w p m drives in
       let low = slot_within all.modules m.0 r (of_all.same m.0 r at) in
-      let long : m.0 < length s.simulator.outputs.items = (let a = ap (length {A = OutputPorts}) are.bits.outputs ∙ length-map all.modules ports_of in omega arith) in
+      let long : m.0 < length s.simulator.outputs = (let a = ap (length {A = OutputPorts}) are.bits.outputs ∙ length-map all.modules ports_of in omega arith) in
       let slots : HaveSlots (length s.simulator.wheel) (output_ports_of r) =
       subst (HaveSlots (length s.simulator.wheel)) (drives_own m.0 r at)
       (outputs_within n all ok all_ok of_all plan s are m.0 (record { first = no_port; second = no_port; third = no_port }) long) in

@@ -63,7 +63,7 @@ module _ (n all : Circuit) (ok : IsCircuit n) (all_ok : IsCircuit all) (of_all :
       are.laid.wired.wired.links longest (let some = are.laid.some_input in omega arith)
       (λ m r at k e within. let low = (are.laid.within m r (slot_within all.modules m r at) at).inputs k e within in omega arith)
 
-  pub outputs_within : All (HaveSlots (length s.simulator.wheel)) s.simulator.outputs.items
+  pub outputs_within : All (HaveSlots (length s.simulator.wheel)) s.simulator.outputs
   outputs_within =
       subst (λ (xs : List OutputPorts). All (HaveSlots (length s.simulator.wheel)) xs) (sym are.bits.outputs)
       (subst (λ k. All (HaveSlots k) (map ports_of all.modules)) (sym are.bits.units) (have_slots all all_ok plan.delays are.laid.within are.laid.some_output))
@@ -116,7 +116,7 @@ module _ (n all : Circuit) (ok : IsCircuit n) (all_ok : IsCircuit all) (of_all :
     eventful = λ x. subst (λ (rows : List (List FanoutEntry)). All (λ (l : FanoutEntry). 0 < l.event) (row_at rows x)) (sym are.bits.fanout) (wired.eventful x);
     some = subst (λ k. 0 < k) (sym are.bits.units) are.laid.some_output;
     within = outputs_within;
-    driven = subst (λ k. All (AreBelow k) s.simulator.outputs.items) (sym of_all.wires ∙ sym waves_long) (subst (λ (xs : List OutputPorts). All (AreBelow (length all.wires)) xs) (sym are.bits.outputs) (are_below all all_ok));
+    driven = subst (λ k. All (AreBelow k) s.simulator.outputs) (sym of_all.wires ∙ sym waves_long) (subst (λ (xs : List OutputPorts). All (AreBelow (length all.wires)) xs) (sym are.bits.outputs) (are_below all all_ok));
     waved = λ w k past. none_past w k (let a = waves_long in omega arith);
   }
 

@@ -28,7 +28,7 @@ pub record IsPartOf (part n : Circuit) : Type 0 where
 pub record AreFirstBits (n all : Circuit) (wiring : Wiring) (d : Delays) (s : Simulation) : Type 0 where
   pub settled : IsSettled n (length n.modules) s.simulator.states.items s.simulator.wheel
   pub levels : AreFirstLevels n (length n.modules) s.simulator.levels.items
-  pub outputs : s.simulator.outputs.items ≡ map ports_of all.modules
+  pub outputs : s.simulator.outputs ≡ map ports_of all.modules
   pub fanout : s.simulator.fanout ≡ wiring.rows.items
   pub waves : s.simulator.waves.items ≡ map first_wave n.wires
   pub due : s.simulator.due.items ≡ []

@@ -11,7 +11,7 @@ use crate::wiring::{WiredInputs, Wiring, wiring_of};
 use mp_automata::TransitionTable;
 use mp_core::{DelayedCopies, Simulation, Simulator};
 use mp_data::{LevelSlot, LevelWheel};
-use mp_events::{EventSlot, EventWheel, Fanout, OutputPorts};
+use mp_events::{EventSlot, EventWheel, Fanout, OutputPorts, OutputTable};
 use mp_regions::Region;
 use mp_units::{DataWires, NetlistSimulation};
 use std::alloc::{AllocError, Global};
@@ -100,7 +100,7 @@ impl Layout {
         let simulator = Simulator {
             table,
             fanout: Fanout::from_rows(alloc, wiring.rows.as_slice())?,
-            outputs,
+            outputs: OutputTable::from_ports(alloc, outputs.as_slice())?,
             states,
             levels,
             due: Vec::new(alloc),

@@ -90,7 +90,7 @@ module _ (n : Circuit) (ok : IsCircuit n) (active on : ℕ → Bool) (numbering 
   levels_are : new.bits.simulator.levels.items ≡ slice_set s.bits.simulator.levels.items m own_levels
   levels_are = ap (λ x. x.items) same_levels ∙ seat.levels
 
-  outputs_are : new.bits.simulator.outputs.items ≡ s.bits.simulator.outputs.items
+  outputs_are : new.bits.simulator.outputs ≡ s.bits.simulator.outputs
   outputs_are = ap (λ x. x.items) same_outputs
 
   simulator_is : new.bits.simulator ≡ record (s.bits.simulator) {

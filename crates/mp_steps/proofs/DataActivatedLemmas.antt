@@ -92,7 +92,7 @@ module _ (n : Circuit) (ok : IsCircuit n) (active on : ℕ → Bool) (numbering 
   same_fanout : new.bits.simulator.fanout ≡ s.bits.simulator.fanout
   same_fanout = ap (λ (b : Simulation). b.simulator.fanout) ahead.bits ∙ ap (λ (b : Simulation). b.simulator.fanout) taken.bits
 
-  outputs_are : new.bits.simulator.outputs.items ≡ s.bits.simulator.outputs.items
+  outputs_are : new.bits.simulator.outputs ≡ s.bits.simulator.outputs
   outputs_are = ap (λ x. x.items) same_outputs
 
   places_are : new.modules.places.items ≡ slice_set old_places m (Some place)

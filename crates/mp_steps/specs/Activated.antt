@@ -23,7 +23,7 @@ use Rattle.mp_steps.specs.Ahead.{AreAhead}
 pub record IsWired (n : Circuit) (numbering : Numbering) (m : ℕ) (r : ModuleRecord) (s : NetlistSimulation) : Type 0 where
   pub reads : ReadsNumbers numbering m r
   pub numbers : All (λ x. is_bit_number n numbering x ≡ true) (numbering.inputs m)
-  pub drives : ports_at s.bits.simulator.outputs.items m ≡ output_ports_of r
+  pub drives : ports_at s.bits.simulator.outputs m ≡ output_ports_of r
   pub room : (w p : ℕ) → Drives n m p w → delay_of r p ≤ length s.bits.simulator.wheel
 
 -- a module of width 1

@@ -83,7 +83,7 @@ sound_with s wheel sound units none = record {
   placed = sound.placed;
   eventful = sound.eventful;
   some = let some = sound.some in omega arith;
-  within = subst (λ k. All (HaveSlots k) s.outputs.items) (sym units) sound.within;
+  within = subst (λ k. All (HaveSlots k) s.outputs) (sym units) sound.within;
   driven = sound.driven;
   waved = none;
 }
