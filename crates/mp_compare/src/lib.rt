@@ -20,7 +20,7 @@ mod wire_source;
 
 pub use change::Change;
 pub use comparison::Comparison;
-pub use nearby::rests_near;
+pub use nearby::{find_near, rests_near};
 pub use new_changes::NewChanges;
 pub use numbers::Numbers;
 pub use set_wires::SetWires;

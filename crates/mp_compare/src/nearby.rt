@@ -11,7 +11,7 @@ use mp_wave::{Wave, WaveChanges};
 const STRIDE: usize = 8;
 
 /// How many changes of a wave come up to a time, if they are some few more or fewer than so many.
-pub(crate) fn find_near(wave: &Wave, place: usize, time: u32) -> Option<usize>
+pub fn find_near(wave: &Wave, place: usize, time: u32) -> Option<usize>
     ensures { IfSome result (IsCut time wave.now.changes) }
 {
     let changes = wave.changes();

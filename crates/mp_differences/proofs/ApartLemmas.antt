@@ -11,7 +11,7 @@ use Rattle.mp_model.specs.Reach.{IsApart, inputs, slot_inputs}
 use Rattle.mp_work.specs.Revisions.{IsKept}
 use Rattle.mp_work.specs.Stays.{IsInputApart}
 use Rattle.mp_work.proofs.StayLemmas.{some_is}
-use Rattle.mp_differences.specs.Changes.{IsFirstDifference, IsFirstApart, IsNeverApart, heard}
+use Rattle.mp_differences.specs.Changes.{IsFirstUnlike, IsFirstApart, IsNeverApart, heard}
 
 heard_in : (n : Circuit) (m t : ℕ) (r : ModuleRecord) → module_at n m ≡ Some r → inputs n m t ≡ map (λ i. heard n i t) r.inputs
 heard_in n m t r at = ap (λ slot. slot_inputs n slot t) at
@@ -70,7 +70,7 @@ heard_same old new r i from to end count apart before is here = record {
 
 -- one more input that is apart
 pub heard_apart : (old new : Circuit) (r : ModuleRecord) (i : Input) (from to end count time : ℕ) (apart : Option ℕ) → AreHeard old new r from to end count apart → i ≡ input_at r count → count < length r.inputs →
-    IsFirstDifference (heard old i) (heard new i) from end time → AreHeard old new r from to time (count + 1) (Some time)
+    IsFirstUnlike (heard old i) (heard new i) from end time → AreHeard old new r from to time (count + 1) (Some time)
 heard_apart old new r i from to end count time apart before is within found = record {
   upto = omega (arith, found.below, before.upto);
   none = tt;

@@ -1,5 +1,5 @@
 -- What a module works on in a block of time.
-use Rattle.std.proofs.Common.{◌≡◌, ◌≢◌, ◌↔◌, ◌⊎◌, ℕ, zero, suc, ◌+◌, ◌-◌, ◌%◌, ◌<◌, ◌≤◌, Bool, true, cond, nat_lt, Option, Some, None, IfNone, option_map, eq-eqb, refl, ap, sym, subst, ◌∙◌, arith, inl, inr}
+use Rattle.std.proofs.Common.{◌≡◌, ◌≢◌, ◌↔◌, ◌⊎◌, ℕ, zero, suc, ◌+◌, ◌-◌, ◌%◌, ◌<◌, ◌≤◌, true, cond, nat_lt, Option, Some, None, IfNone, option_map, eq-eqb, refl, ap, sym, subst, ◌∙◌, arith, inl, inr}
 use Rattle.std.specs.Prelude.{min, ◌==◌, ◌&&◌}
 use Rattle.std.proofs.lemmas.Bool.{cases_lt, cases_eq, lt-ltb}
 use Rattle.mp_records.specs.declared.module_record.ModuleRecord.{ModuleRecord}
@@ -11,11 +11,11 @@ use Rattle.mp_evaluation.specs.Checkpoints.{IsBorder, state_before}
 use Rattle.mp_evaluation.specs.Outcomes.{Outcome, checkpoint_of}
 use Rattle.mp_evaluation.specs.Runs.{IsRun}
 use Rattle.mp_model.specs.Waves.{state}
-use Rattle.mp_model.specs.Reach.{IsApart, IsTouched}
+use Rattle.mp_model.specs.Reach.{IsTouched}
 use Rattle.mp_work.specs.declared.stretch.Stretch.{Stretch}
 use Rattle.mp_work.specs.Revisions.{IsKept}
 use Rattle.mp_work.specs.Work.{block_of, window_of, window_end, IsWindow, Differs, IsAtWork, IsApartIn, WorksFrom, IsEntry}
-use Rattle.mp_work.specs.Stretches.{IsPart, EndsWithWindow}
+use Rattle.mp_work.specs.Stretches.{IsPart}
 use Rattle.mp_work.proofs.MultipleLemmas.{zero_rest, whole_rest, next_rest, multiples_apart}
 use Rattle.mp_work.proofs.WindowLemmas.{window_within, windows_apart, window_cover}
 use Rattle.mp_differences.specs.Changes.{IsNeverApart, IsFirstApart}

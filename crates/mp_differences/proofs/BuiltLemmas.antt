@@ -1,13 +1,12 @@
 -- Stretches that are found one after the other.
 use Rattle.std.proofs.Common.{◌≡◌, ◌⊎◌, ℕ, ◌+◌, ◌%◌, ◌<◌, ◌≤◌, false, List, [], ◌∷◌, ◌++◌, length, Option, Some, None, is_some, IsSome, Result, Ok, Err, OnOk, refl, ap, sym, subst, ◌∙◌, arith, inl, inr}
-use Rattle.std.specs.Prelude.{slice_index_or}
 use Rattle.std.proofs.lemmas.Bool.{cases_lt, cases_eq, both_ways}
 use Rattle.std.proofs.lemmas.List.{length-append, get_or_append_left, get_or-append-add}
 use Rattle.mp_netlist.specs.Circuit.{Circuit, IsCircuit, module_at}
 use Rattle.mp_netlist.specs.Limits.{checkpoint_units}
 use Rattle.mp_work.specs.declared.stretch.Stretch.{Stretch}
-use Rattle.mp_work.specs.Work.{block_of, window_end, IsWindow, IsAtWork, WorksFrom, IsEntry}
-use Rattle.mp_work.specs.Stretches.{no_stretch, stretch_at, IsPart, IsIn, EndsWithWindow, HasBegun, AreStretches}
+use Rattle.mp_work.specs.Work.{window_end, IsWindow, IsAtWork, WorksFrom, IsEntry}
+use Rattle.mp_work.specs.Stretches.{no_stretch, stretch_at, IsPart, IsIn, EndsWithWindow, AreStretches}
 use Rattle.mp_netlist.specs.Delays.{least_delay}
 use Rattle.mp_records.specs.declared.module_record.ModuleRecord.{ModuleRecord}
 use Rattle.mp_model.specs.Reach.{IsTouched}

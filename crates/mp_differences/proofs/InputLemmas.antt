@@ -12,7 +12,7 @@ use Rattle.mp_evaluation.specs.Outcomes.{Outcome, wave_of}
 use Rattle.mp_evaluation.specs.Runs.{IsRun}
 use Rattle.mp_work.specs.Revisions.{IsRevision}
 use Rattle.mp_work.proofs.LevelLemmas.{initials_same}
-use Rattle.mp_differences.specs.Changes.{IsFirstDifference, heard}
+use Rattle.mp_differences.specs.Changes.{IsFirstUnlike, heard}
 
 run_wave : (n : Circuit) (run : Outcome) → IsRun n run → (w : ℕ) (slot : Option WireRecord) → wire_at n w ≡ slot → IsSome slot → wave_of run w ≡ Some (wave n w)
 run_wave n run is w None at some = cc
@@ -46,7 +46,7 @@ inputs_agree old new revised i before after from to begin end begins ends same t
 
 -- where they first differ, so do they
 pub inputs_part : (old new : Circuit) → IsRevision old new → (i : Input) → IsSome (wire_at old i.wire.0) → IsSome (wire_at new i.wire.0) → (from to begin end time : ℕ) → begin ≡ from - i.delay → end ≡ to - i.delay →
-    IsFirstDifference (level old i.wire.0) (level new i.wire.0) begin end time → IsFirstDifference (heard old i) (heard new i) from to (time + i.delay)
+    IsFirstUnlike (level old i.wire.0) (level new i.wire.0) begin end time → IsFirstUnlike (heard old i) (heard new i) from to (time + i.delay)
 inputs_part old new revised i before after from to begin end time begins ends found =
     let back : (time + i.delay) - i.delay ≡ time = omega arith in
     let at : (n : Circuit) → heard n i (time + i.delay) ≡ level n i.wire.0 time =

@@ -1,6 +1,5 @@
 -- A change of a netlist with both runs, and when a module is first apart.
-use Rattle.std.specs.Prelude.{◌≡◌, ◌≢◌, ◌⊎◌, ℕ, ◌<◌, ◌≤◌, List, length}
-use Rattle.mp_wave.specs.Faults.{pair_at}
+use Rattle.std.specs.Prelude.{◌≡◌, ◌≢◌, ℕ, ◌<◌, ◌≤◌}
 use Rattle.mp_records.specs.declared.ports.Input.{Input}
 use Rattle.mp_netlist.specs.Delays.{least_delay}
 use Rattle.mp_netlist.specs.Circuit.{Circuit, IsCircuit}
@@ -21,27 +20,11 @@ pub record AreRuns (change : Change) : Type 0 where
   pub least : change.least ≡ least_delay change.new.now
 
 -- the time is the first from one to before another at which this isn't the same
-pub record IsFirstDifference (one other : ℕ → ℕ) (from to time : ℕ) : Type 0 where
+pub record IsFirstUnlike (one other : ℕ → ℕ) (from to time : ℕ) : Type 0 where
   pub later : from ≤ time
   pub below : time < to
   pub differ : one time ≢ other time
   pub before : (t : ℕ) → from ≤ t → t < time → one t ≡ other t
-
--- the list has a change at the place, and it is at the time
-pub record IsTimeAt (changes : List (ℕ × ℕ)) (place time : ℕ) : Type 0 where
-  pub within : place < length changes
-  pub is : time ≡ (pair_at changes place).0
-
--- two lists of changes are the same before a place, and not at it: the time is that of the first change there
-pub record IsParting (ours theirs : List (ℕ × ℕ)) (time : ℕ) : Type 0 where
-  pub place : ℕ
-  pub within_ours : place ≤ length ours
-  pub within_theirs : place ≤ length theirs
-  pub same : (k : ℕ) → k < place → pair_at ours k ≡ pair_at theirs k
-  pub first_ours : place < length ours → time ≤ (pair_at ours place).0
-  pub first_theirs : place < length theirs → time ≤ (pair_at theirs place).0
-  pub reached : IsTimeAt ours place time ⊎ IsTimeAt theirs place time
-  pub unlike : place < length ours → place < length theirs → pair_at ours place ≢ pair_at theirs place
 
 -- the level at an input port over time
 abbrev pub heard : Circuit → Input → ℕ → ℕ

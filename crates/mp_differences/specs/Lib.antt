@@ -1,3 +1,4 @@
 pub mod Changes
+pub mod Partings
 pub mod Blocks
 pub mod Built

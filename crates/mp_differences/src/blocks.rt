@@ -71,6 +71,7 @@ fn differs(change: &Change<'_>, id: ModuleId, time: u32) -> bool
         )
 }
 
+/// Whether two states aren't the same.
 fn is_other(one: Memory, other: Memory) -> bool
     ensures { IsTrue result ↔ (one ≢ other) }
 {

@@ -2,7 +2,7 @@
 ghost use Rattle.std.specs.Prelude.{◌≡◌, ℕ, ◌<◌, ◌≤◌, IfNone, IfSome, IsSome};
 ghost use Rattle.mp_netlist.specs.Circuit.{wire_at};
 ghost use Rattle.mp_work.specs.Revisions.{IsKept};
-ghost use Rattle.mp_differences.specs.Changes.{AreRuns, IsFirstApart, IsFirstDifference, IsNeverApart, heard};
+ghost use Rattle.mp_differences.specs.Changes.{AreRuns, IsFirstApart, IsFirstUnlike, IsNeverApart, heard};
 
 use crate::change::Change;
 use crate::waves::differ_between;
@@ -40,7 +40,7 @@ fn input_apart(change: &Change<'_>, input: Input, from: u32, to: u32) -> Option<
     requires after { IsSome (wire_at change.now.new.now input.wire.0) }
     requires within { to ≤ change.now.new.now.horizon }
     ensures none { IfNone result ((t : ℕ) → from ≤ t → t < to → heard change.now.old.now input t ≡ heard change.now.new.now input t) }
-    ensures some { IfSome result (λ time. IsFirstDifference (heard change.now.old.now input) (heard change.now.new.now input) from to time) }
+    ensures some { IfSome result (λ time. IsFirstUnlike (heard change.now.old.now input) (heard change.now.new.now input) from to time) }
 {
     let begin = from.saturating_sub(input.delay);
     let end = to.saturating_sub(input.delay);

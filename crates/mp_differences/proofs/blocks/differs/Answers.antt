@@ -1,6 +1,4 @@
-use Rattle.std.proofs.Common.{◌≡◌, ◌≢◌, ◌<◌, ap, sym, ◌∙◌, subst}
-use Rattle.mp_modules.specs.declared.memory.Memory.{Memory}
-use Rattle.mp_netlist.specs.Limits.{checkpoint_units}
+use Rattle.std.proofs.Common.{◌≡◌, ◌<◌, sym, ◌∙◌, subst}
 use Rattle.mp_evaluation.specs.Checkpoints.{IsBorder, state_before}
 use Rattle.mp_differences.proofs.BlockLemmas.{kept_before, differ_kept}
 use Rattle.mp_differences.proofs.blocks.differs.Goals as goal

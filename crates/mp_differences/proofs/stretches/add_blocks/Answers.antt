@@ -1,4 +1,4 @@
-use Rattle.std.proofs.Common.{◌≡◌, ◌⊎◌, List, sym, subst, ◌∙◌, arith, inl, inr}
+use Rattle.std.proofs.Common.{◌≡◌, ◌⊎◌, List, sym, subst, arith, inl, inr}
 use Rattle.mp_evaluation.specs.Checkpoints.{IsBorder}
 use Rattle.mp_work.specs.declared.stretch.Stretch.{Stretch}
 use Rattle.mp_differences.specs.Built.{AreFound}

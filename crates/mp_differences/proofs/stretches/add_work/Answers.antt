@@ -1,4 +1,4 @@
-use Rattle.std.proofs.Common.{◌≡◌, List, ap, sym, subst, ◌∙◌, arith, refl}
+use Rattle.std.proofs.Common.{List, ap, sym, subst, ◌∙◌, arith}
 use Rattle.std.specs.Option.{option_copied}
 use Rattle.mp_work.specs.declared.stretch.Stretch.{Stretch}
 use Rattle.mp_differences.specs.Built.{AreFound}

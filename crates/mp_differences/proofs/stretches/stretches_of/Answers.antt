@@ -1,6 +1,4 @@
-use Rattle.std.proofs.Common.{◌≡◌, ◌≤◌, ℕ, IsSome, sym, subst, arith, List, ◌∙◌}
-use Rattle.mp_records.specs.declared.module_record.ModuleRecord.{ModuleRecord}
-use Rattle.mp_netlist.specs.Circuit.{module_at}
+use Rattle.std.proofs.Common.{sym, subst, arith, List}
 use Rattle.mp_work.specs.declared.stretch.Stretch.{Stretch}
 use Rattle.mp_differences.specs.Built.{AreFound}
 use Rattle.mp_differences.proofs.BuiltLemmas.{none_found, found_all, none_behind}

@@ -35,7 +35,7 @@ returns c all ok of_all driven =
     record {
       settled = c.in_ok-states.ensures.settled;
       levels = c.in_ok-states.ensures.levels;
-      outputs = driven;
+      outputs = c.in_ok-from_ports.ensures ∙ c.as_slice-5.ensures.value ∙ driven;
       fanout = c.in_ok-from_rows.ensures ∙ c.as_slice-4.ensures.value;
       waves = c.in_ok-first_waves.ensures;
       due = c.new.ensures.items;
