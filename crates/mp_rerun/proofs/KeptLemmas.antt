@@ -44,7 +44,7 @@ module _ (n : Circuit) (numbering : Numbering) (s new : NetlistSimulation) (kept
         record {
           reads = is.reads;
           numbers = is.numbers;
-          drives = ap (λ v. ports_at v.items m) kept.outputs ∙ is.drives;
+          drives = ap (λ v. ports_at v m) kept.outputs ∙ is.drives;
           room = λ w p drives. subst (λ k. delay_of r p ≤ k) (sym kept.units) (is.room w p drives);
         };
     low = λ m. subst (λ k. All (λ x. x < k) (numbering.inputs m)) (ap (length {A = List FanoutEntry}) (sym kept.rows)) (are.low m);

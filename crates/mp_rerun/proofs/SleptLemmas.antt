@@ -87,7 +87,7 @@ module _ (old new : Circuit) (ok : IsCircuit new) (run : Outcome) (numbering : N
               record {
                 reads = seat.reads;
                 numbers = seat.numbers;
-                drives = ap (λ v. outputs_at v.items m) same_outputs ∙ seat.drives;
+                drives = ap (λ v. outputs_at v m) same_outputs ∙ seat.drives;
                 room = λ w p drives. subst (λ (k : ℕ). delay_of r p ≤ k) (sym same_units) (seat.room w p drives);
               };
           low = λ m. subst (λ (k : ℕ). All (λ x. x < k) (numbering.inputs m)) (ap (length {A = List FanoutEntry}) (sym same_fanout)) (was.low m);

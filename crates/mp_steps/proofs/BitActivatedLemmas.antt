@@ -90,9 +90,6 @@ module _ (n : Circuit) (ok : IsCircuit n) (active on : ℕ → Bool) (numbering 
   levels_are : new.bits.simulator.levels.items ≡ slice_set s.bits.simulator.levels.items m own_levels
   levels_are = ap (λ x. x.items) same_levels ∙ seat.levels
 
-  outputs_are : new.bits.simulator.outputs ≡ s.bits.simulator.outputs
-  outputs_are = ap (λ x. x.items) same_outputs
-
   simulator_is : new.bits.simulator ≡ record (s.bits.simulator) {
     outputs = new.bits.simulator.outputs;
     states = new.bits.simulator.states;
@@ -113,7 +110,7 @@ module _ (n : Circuit) (ok : IsCircuit n) (active on : ℕ → Bool) (numbering 
   seat_shown = record {
     reads = wired.reads;
     numbers = wired.numbers;
-    drives = ap (λ (xs : List OutputPorts). ports_at xs m) outputs_are ∙ wired.drives;
+    drives = ap (λ (xs : List OutputPorts). ports_at xs m) same_outputs ∙ wired.drives;
     word = ap (λ (xs : List AutomatonState). state_at xs m) states_are ∙ ap (λ (x : AutomatonState). x.0) (get_or-set_same s.bits.simulator.states.items m own_state (record { 0 = 0 }) low);
     levels = ap (λ (xs : List PortLevels). levels_at xs m) levels_are ∙ ap (λ (x : PortLevels). x.0) (get_or-set_same s.bits.simulator.levels.items m own_levels (record { 0 = 0 }) levels_low);
   }
@@ -126,15 +123,15 @@ module _ (n : Circuit) (ok : IsCircuit n) (active on : ℕ → Bool) (numbering 
     simulator = simulator_is;
     states = ap (length {A = AutomatonState}) states_are ∙ length-set s.bits.simulator.states.items m own_state;
     levels = ap (length {A = PortLevels}) levels_are ∙ length-set s.bits.simulator.levels.items m own_levels;
-    outputs = ap (length {A = OutputPorts}) outputs_are;
+    outputs = ap (length {A = OutputPorts}) same_outputs;
     units = ahead.units ∙ ap (length {A = List ℕ}) mid_wheel;
-    slots = subst (λ (xs : List OutputPorts). All (HaveSlots (length s.bits.simulator.wheel)) xs) (sym outputs_are) shown.bits.sound.simulator.within;
-    driven = subst (λ (xs : List OutputPorts). All (AreBelow (length s.bits.simulator.waves.items)) xs) (sym outputs_are) shown.bits.sound.simulator.driven;
+    slots = subst (λ (xs : List OutputPorts). All (HaveSlots (length s.bits.simulator.wheel)) xs) (sym same_outputs) shown.bits.sound.simulator.within;
+    driven = subst (λ (xs : List OutputPorts). All (AreBelow (length s.bits.simulator.waves.items)) xs) (sym same_outputs) shown.bits.sound.simulator.driven;
     seat = λ is. seat_shown;
     sleeps = λ wide. let no : ⊥ = (let never = sym narrow ∙ wide in cc) in absurd no;
     other_states = λ q other. ap (λ (xs : List AutomatonState). state_at xs q) states_are ∙ ap (λ (x : AutomatonState). x.0) (get_or-set_other s.bits.simulator.states.items m q own_state (record { 0 = 0 }) (is_other q other));
     other_levels = λ q other. ap (λ (xs : List PortLevels). levels_at xs q) levels_are ∙ ap (λ (x : PortLevels). x.0) (get_or-set_other s.bits.simulator.levels.items m q own_levels (record { 0 = 0 }) (is_other q other));
-    other_outputs = λ q other. ap (λ (xs : List OutputPorts). ports_at xs q) outputs_are;
+    other_outputs = λ q other. ap (λ (xs : List OutputPorts). ports_at xs q) same_outputs;
     room = wired.room;
     events = λ w k within.
         told n m t w k (wires w) (is_port_of m (driver n w)) (is_bit_wire n w) (listed w (slot_at new.bits.simulator k)) (listed w (slot_at mid.bits.simulator k)) (listed w (slot_at s.bits.simulator k)) (driven w)

@@ -92,9 +92,6 @@ module _ (n : Circuit) (ok : IsCircuit n) (active on : ℕ → Bool) (numbering 
   same_fanout : new.bits.simulator.fanout ≡ s.bits.simulator.fanout
   same_fanout = ap (λ (b : Simulation). b.simulator.fanout) ahead.bits ∙ ap (λ (b : Simulation). b.simulator.fanout) taken.bits
 
-  outputs_are : new.bits.simulator.outputs ≡ s.bits.simulator.outputs
-  outputs_are = ap (λ x. x.items) same_outputs
-
   places_are : new.modules.places.items ≡ slice_set old_places m (Some place)
   places_are = ap (λ (x : DataModules). x.places.items) ahead.modules ∙ taken.places
 
@@ -131,15 +128,15 @@ module _ (n : Circuit) (ok : IsCircuit n) (active on : ℕ → Bool) (numbering 
     simulator = simulator_is;
     states = ap (λ x. length x.items) same_states;
     levels = ap (λ x. length x.items) same_levels;
-    outputs = ap (length {A = OutputPorts}) outputs_are;
+    outputs = ap (length {A = OutputPorts}) same_outputs;
     units = units_are;
-    slots = subst (λ (xs : List OutputPorts). All (HaveSlots (length s.bits.simulator.wheel)) xs) (sym outputs_are) shown.bits.sound.simulator.within;
-    driven = subst (λ (xs : List OutputPorts). All (AreBelow (length s.bits.simulator.waves.items)) xs) (sym outputs_are) shown.bits.sound.simulator.driven;
+    slots = subst (λ (xs : List OutputPorts). All (HaveSlots (length s.bits.simulator.wheel)) xs) (sym same_outputs) shown.bits.sound.simulator.within;
+    driven = subst (λ (xs : List OutputPorts). All (AreBelow (length s.bits.simulator.waves.items)) xs) (sym same_outputs) shown.bits.sound.simulator.driven;
     seat = λ narrow. let no : ⊥ = (let never = sym narrow ∙ wide in cc) in absurd no;
     sleeps = λ is. sleeps;
     other_states = λ q other. ap (λ x. state_at x.items q) same_states;
     other_levels = λ q other. ap (λ x. levels_at x.items q) same_levels;
-    other_outputs = λ q other. ap (λ (xs : List OutputPorts). ports_at xs q) outputs_are;
+    other_outputs = λ q other. ap (λ (xs : List OutputPorts). ports_at xs q) same_outputs;
     room = can.room;
     events = λ w k within.
         told n m t w k (wires w) (is_port_of m (driver n w)) (is_bit_wire n w) (listed w (slot_at new.bits.simulator k)) (listed w (slot_at mid.bits.simulator k)) (listed w (slot_at s.bits.simulator k)) (driven w)
