@@ -1,5 +1,6 @@
 -- Facts about the parts of a batch's words.
-use Rattle.mp_text.proofs.Names.{◌≡◌, ◌∷◌, take_more, map-append, ℕ, Bool, List, [], map, All, IsAscii, Bor, refl, sym, ap, subst, ◌∙◌, byte, slice_split, onto_first, texts, AreAscii, is_mark, All-slice_split, All-unmap, part_texts, arith, nat_tests, map-map}
+use Rattle.mp_text.proofs.Names.{◌≡◌, ◌∷◌, take_more, map-append, ℕ, Bool, List, [], map, All, IsAscii, Bor, refl, sym, ap, subst, ◌∙◌, byte, slice_split, onto_first, texts, AreAscii, is_mark, All-slice_split, All-unmap, part_texts, arith, nat_tests, map-map, take_all, before_first, after_first, texts-before_first, texts-after_first, All-take, All-drop}
+use Rattle.mp_text.proofs.GivenLemmas.{ascii_at}
 
 -- a word that divides parts, where it lies in memory
 abbrev pub divides : Bor (List ℕ) → Bool
@@ -25,4 +26,14 @@ module _ (words : List Word) (parts : List (Bor (List Word))) (split : map (λ p
   pub parts_ascii : AreAscii words → All (λ part. AreAscii part.now) parts
   parts_ascii all = All-unmap AreAscii (λ part. part.now) parts (subst (All AreAscii) (sym split) (All-slice_split (λ word. IsAscii word.now) divides words all))
 
-pub ruleset wire_names_steps = (take_more, map-append)
+pub ruleset wire_names_steps = (take_more, map-append, ascii_at, take_all)
+
+-- the words before and behind a mark
+module _ (mark : ℕ) (words part : List Word) where
+  pub front_texts : part ≡ before_first (λ word. is_mark mark word.now) words → texts part ≡ before_first (is_mark mark) (texts words)
+  front_texts same = ap texts same ∙ texts-before_first (is_mark mark) words
+
+  pub back_texts : part ≡ after_first (λ word. is_mark mark word.now) words → texts part ≡ after_first (is_mark mark) (texts words)
+  back_texts same = ap texts same ∙ texts-after_first (is_mark mark) words
+
+pub ruleset divided_steps = (front_texts, back_texts, All-take, All-drop)

@@ -6,7 +6,7 @@ pub use Rattle.std.specs.Option.{ok_or, option_copied}
 pub use Rattle.std.specs.Prelude.{Bool, Err, IsTrue, List, None, Ok, Option, Result, Some, [], codes, false, length, map, nat_le, option_map, take, ℕ}
 pub use Rattle.std.specs.Result.{result_map_both}
 pub use Rattle.std.specs.Str.{byte, bytes_eq}
-pub use Rattle.mp_modules.specs.Kinds.{are_params, has_width, input_count, input_width, kind_named, output_count, output_width, word_of}
+pub use Rattle.mp_modules.specs.Kinds.{are_params, input_count, input_width, kind_named, output_count, output_width, word_of}
 pub use Rattle.mp_modules.specs.declared.kind.Kind.{Kind}
 pub use Rattle.mp_netlist.specs.Circuit.{Circuit, Drives, HasNames, HasWidth, IsBundle, IsCircuit, IsDelay, IsInputDelay, IsModule, bundle_at, empty_circuit, module_at, module_width, stimulus_at, stimulus_in, width_of, wire_at}
 pub use Rattle.mp_netlist.specs.Edits.{after_single, are_distinct, bundle_checks, delays_fit, driven_names, first_failing, first_width, go_on, input_of, inputs_fit, inputs_stand, is_delay, is_input_delay, is_undriven, module_checks, new_bundle, new_module, new_width, output_fits, output_of, outputs_fit, stands, stimulus_checks, unless, width_named, wire_checks, wire_id, with_stimulus, without_stimulus}

@@ -4,14 +4,13 @@ use Rattle.mp_text.specs.Names.{bytes_eq, SingleEdit, RemoveWire, RemoveModule, 
 use Rattle.mp_text.specs.declared.single_word.SingleWord.TheVariants.{Stated, Remove, Input, Output, InputDelay, Delay, Clear}
 use Rattle.mp_text.specs.Statements.{edit_word, stated_edit}
 
--- the edit of the words behind `remove`
-abbrev pub removal : List (List ℕ) → Result SingleEdit LineError
-removal (thing ∷ name ∷ []) =
+-- the edit that takes away the thing of this sort and name
+abbrev pub removal : List ℕ → List ℕ → Result SingleEdit LineError
+removal thing name =
     if bytes_eq thing (codes "wire") then Ok (RemoveWire name)
     else (if bytes_eq thing (codes "module") then Ok (RemoveModule name)
     else (if bytes_eq thing (codes "bundle") then Ok (RemoveBundle name)
     else Err UnknownStatement))
-removal _ = Err WordCount
 
 -- what changes at a port of a module: the wire that it hears, the wire that it drives, where `-` is none, or a delay
 abbrev pub port_change : SingleWord → List ℕ → ℕ → List ℕ → Result SingleEdit LineError
@@ -23,18 +22,6 @@ port_change InputDelay part port delay = do
 port_change word part port delay = do
   d ← number_word delay
   Ok (SetDelay part port d)
-
--- the edit of the words behind a word that changes a port: a module, a port of it, and what is new there
-abbrev pub port_edit : SingleWord → List (List ℕ) → Result SingleEdit LineError
-port_edit word (part ∷ port ∷ new ∷ []) = do
-  p ← number_word port
-  port_change word part p new
-port_edit word _ = Err WordCount
-
--- the edit of the words behind `clear`
-abbrev pub clearing : List (List ℕ) → Result SingleEdit LineError
-clearing (wire ∷ []) = Ok (ClearStimulus wire)
-clearing _ = Err WordCount
 
 -- the first word of an edit of one thing
 abbrev pub single_word : List ℕ → Option SingleWord
@@ -50,6 +37,11 @@ single_word word =
 -- the edit of that word and the words behind it
 abbrev pub single_edit : SingleWord → List (List ℕ) → Result SingleEdit LineError
 single_edit (Stated word) words = stated_edit word words
-single_edit Remove words = removal words
-single_edit Clear words = clearing words
-single_edit port words = port_edit port words
+single_edit Remove (thing ∷ name ∷ []) = removal thing name
+single_edit Remove words = Err WordCount
+single_edit Clear (wire ∷ []) = Ok (ClearStimulus wire)
+single_edit Clear words = Err WordCount
+single_edit word (part ∷ port ∷ new ∷ []) = do
+  p ← number_word port
+  port_change word part p new
+single_edit word words = Err WordCount

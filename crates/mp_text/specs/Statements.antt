@@ -10,14 +10,6 @@ abbrev pub stated_number : List (List ℕ) → Result ℕ LineError
 stated_number (word ∷ []) = number_word word
 stated_number _ = Err WordCount
 
--- the edit of the words behind `wire`
-abbrev pub wire_edit : List (List ℕ) → Result SingleEdit LineError
-wire_edit (name ∷ width ∷ level ∷ []) = do
-  w ← number_word width
-  l ← number_word level
-  Ok (AddWire name w l)
-wire_edit _ = Err WordCount
-
 -- the edit of the parts of the words behind `module`, where there is an input and an output
 abbrev pub parts_edit : List ℕ → List ℕ → List (List ℕ) → List (List ℕ) → List (List ℕ) → Result SingleEdit LineError
 parts_edit name kind params inputs outputs =
@@ -41,20 +33,6 @@ module_edit (name ∷ kind ∷ words) =
     parts_edit name kind (before_first (is_mark (byte ":")) words) (before_first (is_mark (byte ">")) ports) (after_first (is_mark (byte ">")) ports)
 module_edit _ = Err WordCount
 
--- the edit of the words behind `stim`
-abbrev pub stimulus_edit : List (List ℕ) → Result SingleEdit LineError
-stimulus_edit [] = Err WordCount
-stimulus_edit (wire ∷ words) = do
-  changes ← each_word change_word words
-  Ok (SetStimulus wire changes)
-
--- the edit of the words behind `bundle`
-abbrev pub bundle_edit : List (List ℕ) → Result SingleEdit LineError
-bundle_edit (name ∷ request ∷ acknowledge ∷ payload ∷ setup ∷ []) = do
-  s ← number_word setup
-  Ok (AddBundle (record { name = name; request = request; acknowledge = acknowledge; payload = payload; setup = s }))
-bundle_edit _ = Err WordCount
-
 -- the first word of an edit that texts and scripts have
 abbrev pub edit_word : List ℕ → Option EditWord
 edit_word word =
@@ -66,10 +44,18 @@ edit_word word =
 
 -- the edit of the words behind that word
 abbrev pub stated_edit : EditWord → List (List ℕ) → Result SingleEdit LineError
-stated_edit Wire words = wire_edit words
+stated_edit Wire (name ∷ width ∷ level ∷ []) = do
+  w ← number_word width
+  l ← number_word level
+  Ok (AddWire name w l)
 stated_edit Module words = module_edit words
-stated_edit Stimulus words = stimulus_edit words
-stated_edit Bundle words = bundle_edit words
+stated_edit Stimulus (wire ∷ words) = do
+  changes ← each_word change_word words
+  Ok (SetStimulus wire changes)
+stated_edit Bundle (name ∷ request ∷ acknowledge ∷ payload ∷ setup ∷ []) = do
+  s ← number_word setup
+  Ok (AddBundle (record { name = name; request = request; acknowledge = acknowledge; payload = payload; setup = s }))
+stated_edit _ _ = Err WordCount
 
 -- a line without words, one that begins with another word, the form or the horizon of a text, or an edit
 pub data Statement : Type 0 where

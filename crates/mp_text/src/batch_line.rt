@@ -1,6 +1,6 @@
 //! The batches that scripts have.
 ghost use Rattle.std.specs.Prelude.{◌≡◌, ◌∷◌};
-ghost use Rattle.mp_text.specs.Clauses.{IfOk, All, map, slice_split, byte, OutOfMemory, Gives, texts, AreAscii, is_mark, part_edit, each_part, batch_of, part_texts};
+ghost use Rattle.mp_text.specs.Clauses.{IfOk, All, slice_split, byte, OutOfMemory, Gives, texts, AreAscii, is_mark, part_edit, each_part, batch_of, part_texts};
 
 use crate::script_edit::single_edit;
 use crate::single_word::SingleWord;
@@ -19,21 +19,10 @@ pub fn batch(alloc: Global, words: &[&[u8]]) -> Result<Batch, LineError>
 }
 
 /// The parts of the words, between the words `;`.
-#[tactic(auto, using(crate::proofs::PartLemmas::parts_texts, crate::proofs::PartLemmas::parts_ascii))]
 fn parts<'a, 'b>(alloc: Global, words: &'a [&'b [u8]]) -> Result<Vec<&'a [&'b [u8]]>, AllocError>
     requires { AreAscii words.now }
     ensures parts { IfOk result (λ parts. part_texts parts.items ≡ slice_split (is_mark (byte ";")) (texts words.now)) }
     ensures ascii { IfOk result (λ parts. All (λ part. AreAscii part.now) parts.items) }
-{
-    let parts = split_parts(alloc, words)?;
-    Ok(parts)
-}
-
-fn split_parts<'a, 'b>(
-    alloc: Global,
-    words: &'a [&'b [u8]],
-) -> Result<Vec<&'a [&'b [u8]]>, AllocError>
-    ensures { IfOk result (λ parts. map (λ part. part.now) parts.items ≡ slice_split (λ word. is_mark (byte ";") word.now) words.now) }
 {
     words.split(|word| is_mark(b';', word)).collect(alloc)
 }

@@ -35,7 +35,7 @@ pub enum QuestionWord {
 
 impl QuestionWord {
     ghost use Rattle.std.specs.Prelude.{◌≡◌};
-    ghost use Rattle.mp_text.specs.Clauses.{later_question_word, question_word, question_takes};
+    ghost use Rattle.mp_text.specs.Clauses.{question_word, question_takes};
 
     /// What the word is as such a first word, where it is one.
     pub fn from_word(word: &[u8]) -> Option<QuestionWord>
@@ -49,15 +49,6 @@ impl QuestionWord {
             _ if word == b"dump".as_slice() => Some(QuestionWord::Dump),
             _ if word == b"work".as_slice() => Some(QuestionWord::Work),
             _ if word == b"show".as_slice() => Some(QuestionWord::Show),
-            _ => QuestionWord::from_later_word(word),
-        }
-    }
-
-    /// What the word is as one of the others.
-    fn from_later_word(word: &[u8]) -> Option<QuestionWord>
-        ensures { result ≡ later_question_word word.now }
-    {
-        match word {
             _ if word == b"why".as_slice() => Some(QuestionWord::Why),
             _ if word == b"path".as_slice() => Some(QuestionWord::Path),
             _ if word == b"waits".as_slice() => Some(QuestionWord::Waits),

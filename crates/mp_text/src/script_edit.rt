@@ -1,7 +1,6 @@
 //! The edits that scripts alone have.
 ghost use Rattle.std.specs.Prelude.{◌≡◌};
-ghost use Rattle.mp_text.specs.Clauses.{IfOk, IsAscii, OutOfMemory, Gives, wire_or_none, texts, AreAscii, removal, port_change, port_edit, clearing, single_edit};
-ghost use Rattle.mp_text.specs.declared.single_word.SingleWord.TheVariants.{Input, Output, InputDelay, Delay};
+ghost use Rattle.mp_text.specs.Clauses.{IfOk, IsAscii, OutOfMemory, Gives, wire_or_none, texts, AreAscii, removal, port_change, single_edit};
 
 use crate::single_word::SingleWord;
 use crate::stated_edit::stated_edit;
@@ -10,6 +9,7 @@ use mp_words::{LineError, name_of, number_word, wire_or_none};
 use std::alloc::{AllocError, Global};
 
 /// The edit of a first word and the words behind it.
+#[tactic(auto, using(crate::proofs::GivenLemmas::word_steps))]
 pub fn single_edit(
     alloc: Global,
     first: SingleWord,
@@ -18,23 +18,23 @@ pub fn single_edit(
     requires { AreAscii words.now }
     ensures { Gives OutOfMemory (λ edit. edit) result (single_edit first (texts words.now)) }
 {
-    match first {
-        SingleWord::Stated(word) => stated_edit(alloc, word, words),
-        SingleWord::Remove => removal(alloc, words),
-        SingleWord::Clear => clearing(alloc, words),
-        _ => port_edit(alloc, first, words),
+    match (first, words) {
+        (SingleWord::Stated(word), _) => stated_edit(alloc, word, words),
+        (SingleWord::Remove, [thing, name]) => removal(alloc, thing, name),
+        (SingleWord::Clear, [wire]) => Ok(SingleEdit::ClearStimulus {
+            wire: name_of(alloc, wire)?,
+        }),
+        (SingleWord::Remove | SingleWord::Clear, _) => Err(LineError::WordCount),
+        (_, [part, port, new]) => port_change(alloc, first, part, number_word(port)?, new),
+        _ => Err(LineError::WordCount),
     }
 }
 
-/// The edit of the words behind `remove`.
-fn removal(alloc: Global, words: &[&[u8]]) -> Result<SingleEdit, LineError>
-    requires { AreAscii words.now }
-    ensures { Gives OutOfMemory (λ edit. edit) result (removal (texts words.now)) }
+/// The edit that takes away the thing of this sort and name.
+fn removal(alloc: Global, thing: &[u8], name: &[u8]) -> Result<SingleEdit, LineError>
+    requires { IsAscii name.now }
+    ensures { Gives OutOfMemory (λ edit. edit) result (removal thing.now name.now) }
 {
-    let [thing, name] = words else {
-        return Err(LineError::WordCount);
-    };
-    let thing: &[u8] = thing;
     let name = name_of(alloc, name)?;
     match thing {
         _ if thing == b"wire".as_slice() => Ok(SingleEdit::RemoveWire { wire: name }),
@@ -44,71 +44,40 @@ fn removal(alloc: Global, words: &[&[u8]]) -> Result<SingleEdit, LineError>
     }
 }
 
-/// The edit of the words behind a word that changes a port: a module, a port of it, and the wire or the delay that is new there.
-fn port_edit(alloc: Global, first: SingleWord, words: &[&[u8]]) -> Result<SingleEdit, LineError>
-    requires { AreAscii words.now }
-    ensures { Gives OutOfMemory (λ edit. edit) result (port_edit first (texts words.now)) }
+/// The edit that has an input hear another wire or an output drive another or none, or the edit of a delay of one of these.
+fn port_change(
+    alloc: Global,
+    first: SingleWord,
+    part: &[u8],
+    port: u64,
+    new: &[u8],
+) -> Result<SingleEdit, LineError>
+    requires part { IsAscii part.now }
+    requires new { IsAscii new.now }
+    ensures { Gives OutOfMemory (λ edit. edit) result (port_change first part.now port new.now) }
 {
-    let [part, port, new] = words else {
-        return Err(LineError::WordCount);
-    };
-    let port = number_word(port)?;
     match first {
-        SingleWord::Input => heard_wire(alloc, part, port, new),
-        SingleWord::Output => driven_wire(alloc, part, port, new),
-        SingleWord::InputDelay => input_delay(alloc, part, port, new),
-        _ => delay(alloc, part, port, new),
+        SingleWord::Input => Ok(SingleEdit::RewireInput {
+            port,
+            wire: Boxed::new(alloc, name_of(alloc, new)?)?,
+            module: name_of(alloc, part)?,
+        }),
+        SingleWord::Output => Ok(SingleEdit::RewireOutput {
+            port,
+            wire: boxed_wire(alloc, new)?,
+            module: name_of(alloc, part)?,
+        }),
+        SingleWord::InputDelay => Ok(SingleEdit::SetInputDelay {
+            port,
+            delay: number_word(new)?,
+            module: name_of(alloc, part)?,
+        }),
+        _ => Ok(SingleEdit::SetDelay {
+            port,
+            delay: number_word(new)?,
+            module: name_of(alloc, part)?,
+        }),
     }
-}
-
-/// The edit that has an input hear another wire.
-fn heard_wire(alloc: Global, part: &[u8], port: u64, wire: &[u8]) -> Result<SingleEdit, LineError>
-    requires part { IsAscii part.now }
-    requires wire { IsAscii wire.now }
-    ensures { Gives OutOfMemory (λ edit. edit) result (port_change Input part.now port wire.now) }
-{
-    Ok(SingleEdit::RewireInput {
-        port,
-        wire: Boxed::new(alloc, name_of(alloc, wire)?)?,
-        module: name_of(alloc, part)?,
-    })
-}
-
-/// The edit that has an output drive another wire, or none.
-fn driven_wire(alloc: Global, part: &[u8], port: u64, wire: &[u8]) -> Result<SingleEdit, LineError>
-    requires part { IsAscii part.now }
-    requires wire { IsAscii wire.now }
-    ensures { Gives OutOfMemory (λ edit. edit) result (port_change Output part.now port wire.now) }
-{
-    Ok(SingleEdit::RewireOutput {
-        port,
-        wire: boxed_wire(alloc, wire)?,
-        module: name_of(alloc, part)?,
-    })
-}
-
-/// The edit of an input's delay.
-fn input_delay(alloc: Global, part: &[u8], port: u64, delay: &[u8]) -> Result<SingleEdit, LineError>
-    requires { IsAscii part.now }
-    ensures { Gives OutOfMemory (λ edit. edit) result (port_change InputDelay part.now port delay.now) }
-{
-    Ok(SingleEdit::SetInputDelay {
-        port,
-        delay: number_word(delay)?,
-        module: name_of(alloc, part)?,
-    })
-}
-
-/// The edit of an output's delay.
-fn delay(alloc: Global, part: &[u8], port: u64, delay: &[u8]) -> Result<SingleEdit, LineError>
-    requires { IsAscii part.now }
-    ensures { Gives OutOfMemory (λ edit. edit) result (port_change Delay part.now port delay.now) }
-{
-    Ok(SingleEdit::SetDelay {
-        port,
-        delay: number_word(delay)?,
-        module: name_of(alloc, part)?,
-    })
 }
 
 /// The wire that is named, in a block of its own, where `-` names none. The error comes where memory is wanting.
@@ -120,17 +89,4 @@ fn boxed_wire(alloc: Global, name: &[u8]) -> Result<Option<Boxed<Name>>, AllocEr
         Some(wire) => Ok(Some(Boxed::new(alloc, wire)?)),
         None => Ok(None),
     }
-}
-
-/// The edit of the words behind `clear`.
-fn clearing(alloc: Global, words: &[&[u8]]) -> Result<SingleEdit, LineError>
-    requires { AreAscii words.now }
-    ensures { Gives OutOfMemory (λ edit. edit) result (clearing (texts words.now)) }
-{
-    let [wire] = words else {
-        return Err(LineError::WordCount);
-    };
-    Ok(SingleEdit::ClearStimulus {
-        wire: name_of(alloc, wire)?,
-    })
 }

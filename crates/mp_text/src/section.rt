@@ -41,8 +41,7 @@ impl<'a> SectionLines<'a> {
 
     /// The lines of this section of the netlist.
     pub(crate) fn new(netlist: &'a Netlist, section: Section) -> Self
-        ensures netlist { result.netlist.now ≡ netlist.now }
-        ensures section { result.section ≡ section }
+        ensures { result ≡ record { netlist = netlist.entry; section = section } }
     {
         SectionLines { netlist, section }
     }

@@ -1,6 +1,6 @@
 //! The edits of statements.
 ghost use Rattle.std.specs.Prelude.{◌≡◌, ◌<◌};
-ghost use Rattle.mp_text.specs.Clauses.{IsAscii, IfOk, IfSome, length, position, before_first, after_first, OutOfMemory, Gives, texts, AreAscii, stated_edit, wire_edit, parts_edit, module_edit, stimulus_edit, bundle_edit, is_mark, AddModule};
+ghost use Rattle.mp_text.specs.Clauses.{IsAscii, IfOk, IfSome, length, position, before_first, after_first, OutOfMemory, Gives, texts, AreAscii, stated_edit, parts_edit, module_edit, is_mark, AddModule};
 
 use crate::edit_word::EditWord;
 use mp_modules::Kind;
@@ -11,103 +11,37 @@ use mp_words::{LineError, each_word, name_of, number_word};
 use std::alloc::{AllocError, Global};
 
 /// The edit of a first word and the words behind it.
+#[tactic(auto, using(crate::proofs::GivenLemmas::word_steps))]
 pub fn stated_edit(alloc: Global, word: EditWord, words: &[&[u8]]) -> Result<SingleEdit, LineError>
     requires { AreAscii words.now }
     ensures { Gives OutOfMemory (λ edit. edit) result (stated_edit word (texts words.now)) }
 {
-    match word {
-        EditWord::Wire => wire_edit(alloc, words),
-        EditWord::Module => module_edit(alloc, words),
-        EditWord::Stimulus => stimulus_edit(alloc, words),
-        EditWord::Bundle => bundle_edit(alloc, words),
+    match (word, words) {
+        (EditWord::Wire, [name, width, level]) => Ok(SingleEdit::AddWire {
+            width: number_word(width)?,
+            level: number_word(level)?,
+            name: name_of(alloc, name)?,
+        }),
+        (EditWord::Module, _) => {
+            let module = stated_module(alloc, words)?;
+            Ok(SingleEdit::AddModule(Boxed::new(alloc, module)?))
+        }
+        (EditWord::Stimulus, [wire, others @ ..]) => Ok(SingleEdit::SetStimulus {
+            changes: Changes::new(each_word(alloc, others)?),
+            wire: name_of(alloc, wire)?,
+        }),
+        (EditWord::Bundle, [name, request, acknowledge, payload, setup]) => {
+            let bundle = NewBundle {
+                setup: number_word(setup)?,
+                name: name_of(alloc, name)?,
+                request: name_of(alloc, request)?,
+                acknowledge: name_of(alloc, acknowledge)?,
+                payload: name_of(alloc, payload)?,
+            };
+            Ok(SingleEdit::AddBundle(Boxed::new(alloc, bundle)?))
+        }
+        _ => Err(LineError::WordCount),
     }
-}
-
-/// The edit of the words behind `wire`.
-fn wire_edit(alloc: Global, words: &[&[u8]]) -> Result<SingleEdit, LineError>
-    requires { AreAscii words.now }
-    ensures { Gives OutOfMemory (λ edit. edit) result (wire_edit (texts words.now)) }
-{
-    let [name, width, level] = words else {
-        return Err(LineError::WordCount);
-    };
-    Ok(SingleEdit::AddWire {
-        width: number_word(width)?,
-        level: number_word(level)?,
-        name: name_of(alloc, name)?,
-    })
-}
-
-/// The edit of the words behind `stim`.
-fn stimulus_edit(alloc: Global, words: &[&[u8]]) -> Result<SingleEdit, LineError>
-    requires { AreAscii words.now }
-    ensures { Gives OutOfMemory (λ edit. edit) result (stimulus_edit (texts words.now)) }
-{
-    let [wire, others @ ..] = words else {
-        return Err(LineError::WordCount);
-    };
-    Ok(SingleEdit::SetStimulus {
-        changes: Changes::new(each_word(alloc, others)?),
-        wire: name_of(alloc, wire)?,
-    })
-}
-
-/// The edit of the words behind `bundle`.
-#[tactic(auto, using(crate::proofs::GivenLemmas::wanting_given))]
-fn bundle_edit(alloc: Global, words: &[&[u8]]) -> Result<SingleEdit, LineError>
-    requires { AreAscii words.now }
-    ensures { Gives OutOfMemory (λ edit. edit) result (bundle_edit (texts words.now)) }
-{
-    let [name, request, acknowledge, payload, setup] = words else {
-        return Err(LineError::WordCount);
-    };
-    let setup = number_word(setup)?;
-    let bundle = bundle_of(alloc, name, request, acknowledge, payload, setup)?;
-    Ok(SingleEdit::AddBundle(Boxed::new(alloc, bundle)?))
-}
-
-/// The bundle of this name, these wires and this setup. The error comes where memory is wanting.
-fn bundle_of(
-    alloc: Global,
-    name: &[u8],
-    request: &[u8],
-    acknowledge: &[u8],
-    payload: &[u8],
-    setup: u64,
-) -> Result<NewBundle, AllocError>
-    requires name { IsAscii name.now }
-    requires request { IsAscii request.now }
-    requires acknowledge { IsAscii acknowledge.now }
-    requires payload { IsAscii payload.now }
-    ensures { IfOk result (λ bundle. bundle ≡ record { name = name.now; request = request.now; acknowledge = acknowledge.now; payload = payload.now; setup = setup }) }
-{
-    let (name, request) = two_names(alloc, name, request)?;
-    let (acknowledge, payload) = two_names(alloc, acknowledge, payload)?;
-    Ok(NewBundle {
-        name,
-        request,
-        acknowledge,
-        payload,
-        setup,
-    })
-}
-
-/// The words as names. The error comes where memory is wanting.
-fn two_names(alloc: Global, first: &[u8], second: &[u8]) -> Result<(Name, Name), AllocError>
-    requires first { IsAscii first.now }
-    requires second { IsAscii second.now }
-    ensures { IfOk result (λ names. names ≡ (first.now, second.now)) }
-{
-    Ok((name_of(alloc, first)?, name_of(alloc, second)?))
-}
-
-/// The edit of the words behind `module`.
-fn module_edit(alloc: Global, words: &[&[u8]]) -> Result<SingleEdit, LineError>
-    requires { AreAscii words.now }
-    ensures { Gives OutOfMemory (λ edit. edit) result (module_edit (texts words.now)) }
-{
-    let module = stated_module(alloc, words)?;
-    Ok(SingleEdit::AddModule(Boxed::new(alloc, module)?))
 }
 
 /// The module that the words behind `module` state.
@@ -151,6 +85,7 @@ fn module_of(
 }
 
 /// The words before and behind the first that is this byte alone: all and none where there is none.
+#[tactic(auto, using(crate::proofs::PartLemmas::divided_steps))]
 fn divided<'a, 'b>(mark: u8, words: &'a [&'b [u8]]) -> (&'a [&'b [u8]], &'a [&'b [u8]])
     requires { AreAscii words.now }
     ensures front { texts result.0.now ≡ before_first (is_mark mark) (texts words.now) }

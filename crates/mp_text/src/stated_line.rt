@@ -4,10 +4,8 @@ ghost use Rattle.mp_text.specs.Clauses.{IfErr, OutOfMemory, Gives, texts, AreAsc
 
 use crate::batch_line::batch;
 use crate::line_word::LineWord;
-use crate::question_word::QuestionWord;
 use crate::script_edit::single_edit;
 use crate::script_line::Line;
-use crate::single_word::SingleWord;
 use crate::stated_question::stated_question;
 use mp_netlist::Edit;
 use mp_words::{LineError, first_word, is_plain, word_count, words};
@@ -51,32 +49,8 @@ fn stated_line(alloc: Global, first: LineWord, words: &[&[u8]]) -> Result<Line, 
     ensures { Gives OutOfMemory (λ line. line) result (stated_line first (texts words.now)) }
 {
     match first {
-        LineWord::Single(word) => single_line(alloc, word, words),
-        LineWord::Batch => batch_line(alloc, words),
-        LineWord::Question(word) => question_line(alloc, word, words),
+        LineWord::Single(word) => Ok(Line::Change(Edit::Single(single_edit(alloc, word, words)?))),
+        LineWord::Batch => Ok(Line::Change(Edit::Batch(batch(alloc, words)?))),
+        LineWord::Question(word) => Ok(Line::Ask(stated_question(alloc, word, words)?)),
     }
-}
-
-/// The line that is an edit of one thing.
-fn single_line(alloc: Global, word: SingleWord, words: &[&[u8]]) -> Result<Line, LineError>
-    requires { AreAscii words.now }
-    ensures { Gives OutOfMemory (λ line. line) result (single_line (single_edit word (texts words.now))) }
-{
-    Ok(Line::Change(Edit::Single(single_edit(alloc, word, words)?)))
-}
-
-/// The line that is a batch.
-fn batch_line(alloc: Global, words: &[&[u8]]) -> Result<Line, LineError>
-    requires { AreAscii words.now }
-    ensures { Gives OutOfMemory (λ line. line) result (batch_line (batch_of (texts words.now))) }
-{
-    Ok(Line::Change(Edit::Batch(batch(alloc, words)?)))
-}
-
-/// The line that is a question.
-fn question_line(alloc: Global, word: QuestionWord, words: &[&[u8]]) -> Result<Line, LineError>
-    requires { AreAscii words.now }
-    ensures { Gives OutOfMemory (λ line. line) result (question_line (stated_question word (texts words.now))) }
-{
-    Ok(Line::Ask(stated_question(alloc, word, words)?))
 }

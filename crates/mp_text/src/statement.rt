@@ -2,14 +2,14 @@
 #![tactic(auto, using(mp_words::proofs::WordLemmas::rest_ascii), unfolding(crate::specs::Texts::after_line, crate::specs::Statements::statement_of, crate::specs::Texts::after_statement))]
 
 ghost use Rattle.std.specs.Prelude.{◌≡◌};
-ghost use Rattle.mp_text.specs.Clauses.{result_map_both, OutOfMemory, max_horizon, after_single, Gives, texts, AreAscii, Line, Refused, Open, stated_number, stated_edit, module_edit, AddModule, Format, Start, Change, statement_of, begun, after_statement, after_line, told};
+ghost use Rattle.mp_text.specs.Clauses.{OutOfMemory, max_horizon, Gives, texts, AreAscii, Line, Refused, Open, stated_number, stated_edit, Format, Start, Change, statement_of, begun, after_statement, after_line, told};
 
 use crate::edit_word::EditWord;
 use crate::stated_edit::{stated_edit, stated_module};
 use crate::text_code::TextCode;
 use crate::text_format::TextFormat;
 use crate::text_state::TextState;
-use mp_netlist::{Edit, EditError, Netlist, NewError, NewModule, SingleEdit};
+use mp_netlist::{Edit, EditError, Netlist, NewError};
 use mp_words::{LineError, number_word, read_line_words};
 use std::alloc::Global;
 
@@ -99,6 +99,7 @@ pub fn stated_number(words: &[&[u8]]) -> Result<u64, LineError>
 }
 
 /// Makes the edit that a line states, where a netlist stands.
+#[tactic(auto, using(crate::proofs::GivenLemmas::gives_told), unfolding(crate::specs::Texts::after_statement))]
 fn change(
     alloc: Global,
     state: &mut TextState,
@@ -108,50 +109,14 @@ fn change(
     requires { AreAscii words.now }
     ensures { Gives (Line OutOfMemory) (λ _. state.new) result (after_statement state.old (Change (stated_edit first (texts words.now)))) }
 {
-    match state {
-        TextState::Open(netlist) => make_edit(alloc, netlist, first, words),
-        _ => Err(TextCode::NoHorizon),
-    }
-}
-
-/// Makes the edit that a line states.
-fn make_edit(
-    alloc: Global,
-    netlist: &mut Netlist,
-    first: EditWord,
-    words: &[&[u8]],
-) -> Result<(), TextCode>
-    requires { AreAscii words.now }
-    ensures { Gives (Line OutOfMemory) (λ _. Open netlist.new) result (after_statement (Open netlist.old) (Change (stated_edit first (texts words.now)))) }
-{
+    let TextState::Open(netlist) = state else {
+        return Err(TextCode::NoHorizon);
+    };
+    // a module needs no block of its own, as an edit does
     match first {
-        EditWord::Module => make_module(alloc, netlist, words),
-        _ => {
-            let edit = stated_edit(alloc, first, words)?;
-            apply(netlist, edit)
-        }
+        EditWord::Module => told(netlist.apply_module(&stated_module(alloc, words)?)),
+        _ => told(netlist.apply(&Edit::Single(stated_edit(alloc, first, words)?))),
     }
-}
-
-/// Adds the module that a line states, which needs no block of its own as an edit does.
-fn make_module(alloc: Global, netlist: &mut Netlist, words: &[&[u8]]) -> Result<(), TextCode>
-    requires { AreAscii words.now }
-    ensures { Gives (Line OutOfMemory) (λ _. Open netlist.new) result (after_statement (Open netlist.old) (Change (module_edit (texts words.now)))) }
-{
-    let module = stated_module(alloc, words)?;
-    add(netlist, &module)
-}
-
-fn add(netlist: &mut Netlist, module: &NewModule) -> Result<(), TextCode>
-    ensures { Gives (Line OutOfMemory) (λ _. Open netlist.new) result (result_map_both Open Refused (after_single netlist.old (AddModule module.now))) }
-{
-    told(netlist.apply_module(module))
-}
-
-fn apply(netlist: &mut Netlist, edit: SingleEdit) -> Result<(), TextCode>
-    ensures { Gives (Line OutOfMemory) (λ _. Open netlist.new) result (result_map_both Open Refused (after_single netlist.old edit)) }
-{
-    told(netlist.apply(&Edit::Single(edit)))
 }
 
 /// How an edit ended, as it is told of the line that states it.

@@ -1,6 +1,6 @@
 //! How long a text may be.
 ghost use Rattle.std.specs.Prelude.{◌≡◌, ◌≤◌, ◌+◌};
-ghost use Rattle.mp_text.specs.Clauses.{List, ℕ, Some, codes, take, option_copied, bytes_eq, lines_of, number_word, words_of, max_text, max_short_text, first_words, is_three, states_third, text_limit};
+ghost use Rattle.mp_text.specs.Clauses.{take, lines_of, words_of, max_text, max_short_text, first_words, states_third, text_limit};
 
 use mp_words::{first_line, number_word, word_at, word_count};
 
@@ -49,31 +49,16 @@ fn begins_third(text: &[u8]) -> bool
 }
 
 /// Whether the words of a line say that a text has the third form.
-#[tactic(auto, using(crate::proofs::TextLemmas::third_of))]
+#[tactic(auto, using(crate::proofs::TextLemmas::third_steps))]
 fn states_third(line: &[u8]) -> bool
     ensures { result ≡ states_third (words_of line.now) }
 {
-    let formed = is_format(word_at(line, 0));
-    let third = is_three(word_at(line, 1));
-    (word_count(line) == 2) & formed & third
-}
-
-/// Whether a word is `format`.
-fn is_format(word: Option<&[u8]>) -> bool
-    ensures { (text : List ℕ) → option_copied word.entry ≡ Some text → result ≡ bytes_eq text (codes "format") }
-{
-    match word {
-        Some(word) => word == b"format".as_slice(),
-        None => false,
-    }
-}
-
-/// Whether a word is the number 3.
-fn is_three(word: Option<&[u8]>) -> bool
-    ensures { (text : List ℕ) → option_copied word.entry ≡ Some text → result ≡ is_three (number_word text) }
-{
-    match word {
-        Some(word) => matches!(number_word(word), Ok(3)),
-        None => false,
+    match (word_at(line, 0), word_at(line, 1)) {
+        (Some(word), Some(number)) => {
+            let formed = word == b"format".as_slice();
+            let third = matches!(number_word(number), Ok(3));
+            (word_count(line) == 2) & formed & third
+        }
+        _ => false,
     }
 }

@@ -3,24 +3,18 @@ ghost use Rattle.std.specs.Prelude.{◌≡◌};
 ghost use Rattle.mp_text.specs.Clauses.{Some, Writes, wire_line, module_line, stimulus_line, bundle_line};
 
 use crate::port_texts::{Ports, wire_word};
-use crate::spaced::{Spaced, put_line};
-use itoa::Buffer;
+use crate::spaced::Spaced;
 use mp_netlist::{BundleRecord, ModuleRecord, Netlist, WireRecord};
 use mp_streams::{Failed, Out, Sink, Text};
 use mp_words::Changes;
 
 /// Writes the line of a wire.
+#[tactic(auto, using(crate::proofs::WriteLemmas::put_line_steps))]
 pub fn put_wire<S: Sink>(out: &mut Out<S>, wire: &WireRecord) -> Result<(), Failed>
     ensures { Writes result out.old out.new (wire_line (Some wire.now)) }
 {
-    let mut width = Buffer::new();
-    let mut initial = Buffer::new();
-    let words = [
-        wire.name.as_str().as_bytes(),
-        width.format(wire.width).as_bytes(),
-        initial.format(wire.initial).as_bytes(),
-    ];
-    put_line(out, b"wire", &words)
+    let numbers = (" ", wire.width, " ", wire.initial);
+    ("wire ", wire.name.as_str(), numbers, "\n").put_to(out)
 }
 
 /// Writes the line of a module of the netlist.
@@ -61,6 +55,7 @@ pub fn put_stimulus<S: Sink>(out: &mut Out<S>, wire: &WireRecord) -> Result<(), 
 }
 
 /// Writes the line of a bundle of the netlist.
+#[tactic(auto, using(crate::proofs::WriteLemmas::put_line_steps))]
 pub fn put_bundle<S: Sink>(
     out: &mut Out<S>,
     netlist: &Netlist,
@@ -68,13 +63,14 @@ pub fn put_bundle<S: Sink>(
 ) -> Result<(), Failed>
     ensures { Writes result out.old out.new (bundle_line netlist.now (Some bundle.now)) }
 {
-    let mut setup = Buffer::new();
-    let words = [
-        bundle.name.as_str().as_bytes(),
-        wire_word(netlist, bundle.request),
-        wire_word(netlist, bundle.acknowledge),
-        wire_word(netlist, bundle.payload),
-        setup.format(bundle.setup).as_bytes(),
-    ];
-    put_line(out, b"bundle", &words)
+    let request = (" ", wire_word(netlist, bundle.request));
+    let acknowledge = (" ", wire_word(netlist, bundle.acknowledge));
+    let payload = (" ", wire_word(netlist, bundle.payload));
+    let start = ("bundle ", bundle.name.as_str());
+    (
+        start,
+        (request, acknowledge, payload),
+        (" ", bundle.setup, "\n"),
+    )
+        .put_to(out)
 }

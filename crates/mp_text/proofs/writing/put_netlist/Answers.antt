@@ -5,6 +5,5 @@ use Rattle.mp_text.proofs.writing.put_netlist.Goals as goal
 pub returns-clause-written : goal.returns-clause-written
 returns-clause-written g c =
     let horizon : c.horizon-horizon.result ≡ c.args.netlist.now.horizon = search rules in
-    let head = rw (c.format_text.ensures, c.format.ensures, horizon) at c.put_to.ensures in
-    let half = rw (c.new-wires.ensures.netlist, c.new-wires.ensures.section, c.new-modules.ensures.netlist, c.new-modules.ensures.section) at head in
-    rw (written_pieces c.args.netlist.now) (rw (c.new-stimuli.ensures.netlist, c.new-stimuli.ensures.section, c.new-bundles.ensures.netlist, c.new-bundles.ensures.section) at half)
+    rw (written_pieces c.args.netlist.now)
+    (rw (c.format_text.ensures, c.format.ensures, horizon, c.new-wires.ensures, c.new-modules.ensures, c.new-stimuli.ensures, c.new-bundles.ensures) at c.put_to.ensures)

@@ -3,11 +3,9 @@ use Rattle.mp_text.proofs.spaced.SpacedText.put_to.Goals as goal
 
 pub returns-in_err-put_to : goal.returns-in_err-put_to
 returns-in_err-put_to g c =
-    let here = rw c.item-item.is at c.in_err-put_to.ensures in
     writes_failed _ c.from_residual.ensures.0
-    (puts_stopped (λ item. 32 ∷ g.T.Text.text item) _ c.loop-item.item-index c.item-item.result c.loop-item-test.true c.loop-item.invariant here)
+    (puts_stopped (λ item. 32 ∷ g.T.Text.text item) _ c.loop-item.item-index c.item-item.result c.loop-item-test.true c.loop-item.invariant (rw c.item-item.is at c.in_err-put_to.ensures))
 
 pub loop-item-preserved : goal.loop-item-preserved
 loop-item-preserved g c =
-    let here = rw c.item-item.is at c.in_ok-put_to.ensures in
-    puts_next (λ item. 32 ∷ g.T.Text.text item) _ c.loop-item.item-index c.item-item.result c.loop-item-test.true c.loop-item.invariant here
+    puts_next (λ item. 32 ∷ g.T.Text.text item) _ c.loop-item.item-index c.item-item.result c.loop-item-test.true c.loop-item.invariant (rw c.item-item.is at c.in_ok-put_to.ensures)
