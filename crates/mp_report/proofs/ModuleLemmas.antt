@@ -1,6 +1,5 @@
 -- Lemmas on what is found at modules.
-use Rattle.mp_report.proofs.Names.{◌≡◌, ◌-◌, ◌<◌, ◌≤◌, ℕ, List, [], Some, None, flat_map, suc, ap, subst, ◌∙◌, arith, range_with_len, nat_tests, FindingCode, Memory, no_findings, Circuit, IsCircuit, module_at, built, inputs_by, level, state, module_place, start, found, any_part_of, IsSpan, findings_of, found_at, codes_at, found_over, ModuleRecord}
-use Rattle.mp_storage.specs.declared.any_module.AnyModule.{AnyModule}
+use Rattle.mp_report.proofs.Names.{◌≡◌, ◌-◌, ◌<◌, ◌≤◌, ℕ, List, [], Some, None, flat_map, suc, ap, ◌∙◌, arith, range_with_len, nat_tests, FindingCode, Memory, no_findings, Circuit, IsCircuit, module_at, built, inputs_by, level, state, module_place, start, found, any_part_of, IsSpan, findings_of, found_at, codes_at, found_over, ModuleRecord}
 use Rattle.mp_model.proofs.BehaviourLemmas.{satisfies}
 use Rattle.mp_model.proofs.BuiltLemmas.{width_of_module}
 use Rattle.mp_response.specs.Delays.{state_before}
@@ -19,14 +18,11 @@ module_over n m r at some =
     ap (λ k. flat_map told (range_with_len 0 k)) whole ∙ told_same_from told (codes_at n (module_place m)) 1 (n.horizon - 1) (λ t low high. grind (arith, nat_tests))
 
 -- the findings of a module's answer over all times
-pub answer_over : (n : Circuit) → IsCircuit n → (m : ℕ) (r : ModuleRecord) (part : AnyModule) (s : Memory) (x : ℕ → List ℕ) (piece : Piece) → module_at n m ≡ Some r → part ≡ built n r → s ≡ start part
-    → ((t : ℕ) → t < n.horizon → x t ≡ inputs_by n (level n) r t) → IsSpan part x s 0 n.horizon piece → piece.findings ≡ found_over n (module_place m)
-answer_over n ok m r part s x piece at is starts hears span =
-    let begins : s ≡ start (built n r) = starts ∙ ap start is in
-    let own : IsSpan (built n r) (inputs_by n (level n) r) (start (built n r)) 0 n.horizon piece =
-    subst (λ (z : Memory). IsSpan (built n r) (inputs_by n (level n) r) z 0 n.horizon piece) begins
-    (subst (λ (p : AnyModule). IsSpan p (inputs_by n (level n) r) s 0 n.horizon piece) is (inside_alone part x (inputs_by n (level n) r) s 0 n.horizon piece (λ t low high. hears t high) span)) in
-    finds_by_states n (level n) (state n) (satisfies n ok) m 0 n.horizon r piece at own ∙ module_over n m r at ok.horizon_low
+pub answer_over : (n : Circuit) → IsCircuit n → (m : ℕ) (r : ModuleRecord) (x : ℕ → List ℕ) (piece : Piece) → module_at n m ≡ Some r → ((t : ℕ) → t < n.horizon → x t ≡ inputs_by n (level n) r t)
+    → IsSpan (built n r) x (start (built n r)) 0 n.horizon piece → piece.findings ≡ found_over n (module_place m)
+answer_over n ok m r x piece at hears span =
+    finds_by_states n (level n) (state n) (satisfies n ok) m 0 n.horizon r piece at (inside_alone (built n r) x (inputs_by n (level n) r) (start (built n r)) 0 n.horizon piece (λ t low high. hears t high) span)
+    ∙ module_over n m r at ok.horizon_low
 
 -- nothing is found where none stands
 pub no_module_over : (n : Circuit) (m : ℕ) → module_at n m ≡ None → [] ≡ found_over n (module_place m)

@@ -1,7 +1,7 @@
 -- What is told over a run of times.
 use Rattle.mp_report.proofs.Names.{◌≡◌, ◌+◌, ◌<◌, ◌≤◌, ◌∷◌, ◌++◌, ℕ, List, [], map, flat_map, Place, zero, suc, refl, append-nil, append_assoc, arith, range_with_len}
 use Rattle.std.proofs.lemmas.Grind.{flat_map-append}
-use Rattle.std.proofs.lemmas.List.FromFn.{map-range_with_len_more}
+use Rattle.std.proofs.lemmas.List.{map-append}
 
 pub times_more : (a n : ℕ) → range_with_len a (n + 1) ≡ range_with_len a n ++ (a + n) ∷ []
 times_more a zero = grind arith
@@ -31,8 +31,4 @@ module _ {X : Type 0} (told : ℕ → List X) where
   told_same_from other a zero same = refl
   told_same_from other a (suc n) same = grind (arith, (told_same_from other (a + 1) n (λ t low high. same t (omega (arith, low)) (omega (arith, high)))))
 
--- one place more
-pub place_more : (place : ℕ → Place) (n : ℕ) → map place (range_with_len 0 (n + 1)) ≡ map place (range_with_len 0 n) ++ place n ∷ []
-place_more place n = map-range_with_len_more place 0 n n (omega arith)
-
-pub ruleset places_steps = (place_more, append_assoc)
+pub ruleset places_steps = (times_more, map-append, append_assoc)

@@ -71,11 +71,15 @@ fn found_by(
     let horizon = netlist.horizon();
     let mut found = Findings::none(alloc);
     let mut watch = first;
-    let mut time = watch.next(horizon);
-    while time < horizon {
+    let mut from = 1;
+    while from < horizon {
+        let time = watch.next(horizon);
+        if time == horizon {
+            return Ok(found);
+        }
         found.extend(time, found_now(netlist, bundle, watch, time))?;
         watch = watch.since(time);
-        time = watch.next(horizon);
+        from = time + 1;
     }
     Ok(found)
 }
@@ -111,5 +115,5 @@ fn is_requested_soon(
 {
     let horizon = netlist.horizon();
     let event = request.next(horizon);
-    event < horizon && event - time <= bundle.setup
+    (event < horizon) & (event - time <= bundle.setup)
 }

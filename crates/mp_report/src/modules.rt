@@ -81,10 +81,7 @@ fn piece(
     ensures { IfOk result (λ piece. (t : ℕ) → t < netlist.now.horizon → piece_level piece t ≡ input_by netlist.now (level netlist.now) input t) }
 {
     match waves.of(input.wire) {
-        Some(wave) => {
-            let piece = heard(alloc, wave, input.delay, netlist.horizon())?;
-            Ok(piece)
-        }
+        Some(wave) => heard(alloc, wave, input.delay, netlist.horizon()),
         None => unreachable!(),
     }
 }
@@ -97,9 +94,7 @@ fn heard(alloc: Global, wave: &Wave, delay: u32, end: u32) -> Result<InPiece, Al
     ensures { IfOk result (λ piece. (t : ℕ) → t < end → piece_level piece t ≡ level_of wave.now (t - delay)) }
 {
     if delay == 0 {
-        let piece = cut(alloc, wave, 0, end)?;
-        return Ok(piece);
+        return cut(alloc, wave, 0, end);
     }
-    let piece = cut_delayed(alloc, wave, delay, 0, end)?;
-    Ok(piece)
+    cut_delayed(alloc, wave, delay, 0, end)
 }

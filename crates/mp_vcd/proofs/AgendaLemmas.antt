@@ -1,5 +1,6 @@
 -- The changes of a time, one before the others.
-use Rattle.mp_vcd.proofs.Names.{◌≡◌, ◌≢◌, ◌+◌, ◌-◌, ◌<◌, ◌≤◌, ◌==◌, ◌∷◌, ◌++◌, None, map, get_or-map, left_none, nat_lt-false, nat_lt-true, earlier_than-take, get_or_default, ℕ, Bool, true, not, cond, nat_le, List, [], length, length-append, take, slice_index, slice_set, Some, zero, suc, refl, sym, ap, subst, ◌∙◌, zero-add, add-one, get_or, arith, get_or-set_other, get_or-set_same, nat_tests, cases_lt, eq-eqb, eqb-true, le-leb, lt-leb, lt-ltb, ne_eqb, get_or-append, length-set, get_or-append_seam, take-suc, change_after, changes_after, between, WireRecord, Circuit, wire_at, width_of, level, filter, flat_map, flat_map-map, value_line, value_at, marked, time_mark, Entry, no_entry, entry_at, IsChain, Tells, told_from, with_told, onto, onto_slot, with_levels, told_lines}
+use Rattle.mp_vcd.proofs.Names.{rules, vec_len, told_at, left_whole, left_then, left_as, ◌≡◌, ◌≢◌, ◌+◌, ◌-◌, ◌<◌, ◌≤◌, ◌==◌, ◌∷◌, ◌++◌, None, map, get_or-map, left_none, nat_lt-false, nat_lt-true, earlier_than-take, get_or_default, ℕ, Bool, true, not, cond, nat_le, List, [], length, length-append, take, slice_index, slice_set, Some, zero, suc, refl, sym, ap, subst, ◌∙◌, zero-add, add-one, get_or, arith, get_or-set_other, get_or-set_same, nat_tests, cases_lt, eq-eqb, eqb-true, le-leb, lt-leb, lt-ltb, ne_eqb, get_or-append, length-set, get_or-append_seam, take-suc, change_after, changes_after, between, WireRecord, Circuit, wire_at, width_of, level, filter, flat_map, flat_map-map, value_line, value_at, marked, time_mark, Entry, no_entry, entry_at, IsChain, Tells, told_from, with_told, onto, onto_slot, with_levels, told_lines}
+use Rattle.mp_vcd.specs.declared.agenda.Agenda.{Agenda}
 
 -- one entry more at the end leaves a chain
 pub chain_more : (entries : List Entry) (added : Entry) (place : ℕ) (told : List (ℕ × ℕ)) → IsChain entries place told → IsChain (entries ++ added ∷ []) place told
@@ -64,6 +65,13 @@ onto_wave n w t r others within = grind (arith, nat_tests, le-leb, onto_changes)
 pub width_is : (n : Circuit) (widths : List ℕ) (w : ℕ) → widths ≡ map width_of n.wires → slice_index widths w ≡ width_of (wire_at n w)
 width_is n widths w are = ap (λ ws. slice_index ws w) are ∙ get_or-map width_of n.wires w None
 
+-- the chain of a time
+pub chain_at : (n : Circuit) (agenda : Agenda) (t place : ℕ) → agenda.from ≤ t → t < agenda.from + vec_len agenda.firsts → Tells agenda.firsts.items agenda.entries.items (told_from agenda.from (told_at n))
+    → place ≡ slice_index agenda.firsts.items (t - agenda.from) → IsChain agenda.entries.items place (told_at n t)
+chain_at n agenda t place low high told is =
+    let same : agenda.from + (t - agenda.from) ≡ t = omega (arith, low) in
+    subst (λ u. IsChain agenda.entries.items place (told_at n u)) same (rw is (told (t - agenda.from) (omega (arith, low, high))))
+
 -- a chain that is not over has an entry, whose line comes first
 pub record HasEntry (n : Circuit) (entries : List Entry) (entry : Entry) (place : ℕ) (told : List (ℕ × ℕ)) (line : List ℕ) : Type 0 where
   pub later : List (ℕ × ℕ)
@@ -80,12 +88,10 @@ pub chain_over : (n : Circuit) (entries : List Entry) (place : ℕ) (told : List
 chain_over n entries place [] none chain = refl
 chain_over n entries place (x ∷ told) none chain = grind (arith, nat_tests)
 
-levels_lines : (n : Circuit) (t : ℕ) (ws : List ℕ) → flat_map (value_at n t) ws ≡ told_lines n (with_levels n t ws)
-levels_lines n t ws = sym (flat_map-map (λ (change : ℕ × ℕ). value_line (width_of (wire_at n change.0)) change.0 change.1) (λ (w : ℕ). (w, level n w t)) ws)
-
 -- the text of a unit with changes
 pub marked_some : (n : Circuit) (t : ℕ) (ws : List ℕ) (entries : List Entry) (place : ℕ) → IsChain entries place (with_levels n t ws) → place ≢ 0 → marked n t ws ≡ time_mark t ++ told_lines n (with_levels n t ws)
-marked_some n t ws entries place chain some = grind (arith, nat_tests, levels_lines)
+marked_some n t ws entries place chain some =
+    grind (arith, nat_tests, (flat_map-map (λ (change : ℕ × ℕ). value_line (width_of (wire_at n change.0)) change.0 change.1) (λ (w : ℕ). (w, level n w t)) ws))
 
 -- and of one without
 pub marked_none : (n : Circuit) (t : ℕ) (ws : List ℕ) (entries : List Entry) (place : ℕ) → IsChain entries place (with_levels n t ws) → place ≡ 0 → marked n t ws ≡ []
@@ -93,4 +99,4 @@ marked_none n t ws entries place chain none = grind (arith, nat_tests)
 
 pub ruleset parts_count_before_steps = (get_or_default, cases_lt, earlier_than-take, nat_lt-true, nat_lt-false)
 
-pub ruleset units_put_unit_steps = (chain_within, left_none, chain_over)
+pub ruleset units_put_unit_steps = (chain_within, left_none, chain_over, chain_at, left_whole, left_then, left_as, marked_none, marked_some)

@@ -1,5 +1,5 @@
 -- Codes and binary digits, digit by digit.
-use Rattle.mp_vcd.proofs.Names.{◌≡◌, ◌+◌, ◌-◌, ◌/◌, ◌%◌, ◌<◌, ◌≤◌, ◌∷◌, ◌++◌, ℕ, List, [], append_assoc, length, drop, slice_set, zero, suc, refl, sym, ap, ◌∙◌, arith, cases_lt, ltb-false, nat_tests, drop-set, length-append, digits_of, code, bit, bits}
+use Rattle.mp_vcd.proofs.Names.{◌≡◌, ◌+◌, ◌-◌, ◌/◌, ◌%◌, ◌<◌, ◌≤◌, ◌∷◌, ◌++◌, ℕ, List, [], append_assoc, length, drop, slice_set, zero, suc, ap, arith, cases_lt, ltb-false, nat_tests, drop-set, length-append, digits_of, code, bit, bits}
 
 -- more digits than a number has are not written
 digits_of-same : (most least n : ℕ) → n < most → n < least → digits_of most n ≡ digits_of least n
@@ -11,32 +11,22 @@ pub code-one : (n : ℕ) → n < 94 → code n ≡ (33 + n) ∷ []
 unfolding code
 code-one n low = grind (arith, nat_tests)
 
-code-more : (n : ℕ) → 94 ≤ n → code n ≡ (33 + n % 94) ∷ code (n / 94)
+pub code-more : (n : ℕ) → 94 ≤ n → code n ≡ (33 + n % 94) ∷ code (n / 94)
 unfolding code
 code-more n high = grind (arith, nat_tests, digits_of-same)
-
--- one digit more is written
-pub code_step : (text whole : List ℕ) (n : ℕ) → 94 ≤ n → text ++ code n ≡ whole → (text ++ (33 + n % 94) ∷ []) ++ code (n / 94) ≡ whole
-code_step text whole n high same = append_assoc text ((33 + n % 94) ∷ []) (code (n / 94)) ∙ ap (λ l. text ++ l) (sym (code-more n high)) ∙ same
-
-bits-suc : (width level : ℕ) → bits (suc width) level ≡ bits width (level / 2) ++ bit level ∷ []
-unfolding bits
-bits-suc width level = refl
-
-pub bits-zero : (level : ℕ) → bits 0 level ≡ []
-unfolding bits
-bits-zero level = refl
 
 -- one bit more is written
 pub bits_step : (whole digits : List ℕ) (start left rest : ℕ) → 0 < left → 0 < start → start ≤ length digits → whole ≡ bits left rest ++ drop start digits
     → whole ≡ bits (left - 1) (rest / 2) ++ drop (start - 1) (slice_set digits (start - 1) (bit rest))
+unfolding bits
 bits_step whole digits start left rest some room within same =
     let last : left ≡ suc (left - 1) = omega arith in
-    grind (arith, append_assoc, (ap (λ k. bits k rest) last), (bits-suc (left - 1) rest), (drop-set digits (start - 1) (bit rest) (omega arith)))
+    grind (arith, append_assoc, (ap (λ k. bits k rest) last), (drop-set digits (start - 1) (bit rest) (omega arith)))
 
 pub bits_long : (width level : ℕ) → length (bits width level) ≡ width
-bits_long zero level = grind (arith, nat_tests, bits-zero)
-bits_long (suc width) level = grind (arith, nat_tests, bits-suc, length-append, (bits_long width (level / 2)))
+unfolding bits
+bits_long zero level = grind (arith, nat_tests)
+bits_long (suc width) level = grind (arith, nat_tests, length-append, (bits_long width (level / 2)))
 
 pub code_longer : (w most : ℕ) → 0 < most → (94 ≤ w → length (code (w / 94)) ≤ most) → length (code w) ≤ most + 1
 code_longer w most some later = grind (arith, nat_tests, code-one, code-more, cases_lt)

@@ -1,6 +1,9 @@
 -- The wires that stand, one after the other.
+use Rattle.std.proofs.Common.{IsErrAnd}
 use Rattle.mp_streams.specs.Outgoing.{Outgoing, Puts}
-use Rattle.mp_vcd.proofs.Names.{◌≡◌, ◌+◌, ◌-◌, ◌<◌, ◌≤◌, ◌∷◌, ◌++◌, take_more, map-append, left_whole, left_then, left_as, left_none, ℕ, List, [], append_assoc, length, drop, Option, None, Some, zero, suc, refl, ap, ◌∙◌, add-one, arith, filter, flat_map, range_with_len, drop-cons, drop-length, Waveform, WireRecord, Circuit, IsCircuit, wire_at, width_of, slot_at, wave, slot_wave, if_stands, standing_from, is_changed, slot_text, with_levels, onto_slot, nat_tests, flat_map-append, Bool, append-nil, get_or, take, sym, subst, puts_then, Left, unit_text, times_text, take-append-drop, Result, drop-drop}
+use Rattle.mp_streams.specs.WriteErrors.{is_fault}
+use Rattle.mp_streams.specs.declared.write_error.WriteError.{WriteError}
+use Rattle.mp_vcd.proofs.Names.{puts_unmade, OutOfMemory, ◌≡◌, ◌+◌, ◌-◌, ◌<◌, ◌≤◌, ◌∷◌, ◌++◌, take_more, map-append, left_whole, left_then, left_as, left_none, ℕ, List, [], append_assoc, length, drop, Option, None, Some, zero, suc, refl, ap, ◌∙◌, add-one, arith, filter, flat_map, range_with_len, drop-cons, drop-length, Waveform, WireRecord, Circuit, IsCircuit, wire_at, width_of, slot_at, wave, slot_wave, if_stands, standing_from, is_changed, slot_text, with_levels, onto_slot, nat_tests, flat_map-append, Bool, append-nil, get_or, take, sym, subst, puts_then, Left, unit_text, times_text, take-append-drop, Result, drop-drop}
 
 pub standing_end : (slots : List (Option WireRecord)) (w : ℕ) → w ≡ length slots → standing_from w (drop w slots) ≡ []
 standing_end slots w over = ap (λ k. standing_from w (drop k slots)) over ∙ ap (standing_from w) (drop-length slots)
@@ -9,10 +12,9 @@ pub lines_step : (told : ℕ → List ℕ) (slots : List (Option WireRecord)) (w
     → flat_map told (standing_from w (drop w slots)) ≡ slot_text told w (slot_at slots w) ++ flat_map told (standing_from (w + 1) (drop (w + 1) slots))
 lines_step told slots w within = grind (arith, nat_tests, drop-cons, add-one)
 
-pub told_step : (n : Circuit) (t w : ℕ) → w < length n.wires
-    → with_levels n t (filter (is_changed n t) (standing_from w (drop w n.wires)))
-    ≡ onto_slot n t w (wire_at n w) (with_levels n t (filter (is_changed n t) (standing_from (w + 1) (drop (w + 1) n.wires))))
-told_step n t w within = grind (arith, nat_tests, drop-cons, add-one)
+pub told_step : (n : Circuit) (t w next : ℕ) → w < length n.wires → next ≡ w + 1
+    → with_levels n t (filter (is_changed n t) (standing_from w (drop w n.wires))) ≡ onto_slot n t w (wire_at n w) (with_levels n t (filter (is_changed n t) (standing_from next (drop next n.wires))))
+told_step n t w next within is = rw is (grind (arith, nat_tests, drop-cons, add-one))
 
 pub times_step : (t upto : ℕ) → t < upto → range_with_len t (upto - t) ≡ t ∷ range_with_len (t + 1) (upto - (t + 1))
 times_step t upto within = let more : upto - t ≡ suc (upto - (t + 1)) = omega arith in ap (range_with_len t) more
@@ -35,6 +37,10 @@ pub text_divide : {X : Type 0} (t : X → List ℕ) (xs : List X) (k e : ℕ) �
 text_divide t xs k e order =
     let there : k + (e - k) ≡ e = omega (arith, order) in
     grind (arith, there, (take-append-drop (e - k) (drop k xs)), (drop-drop (e - k) k xs), flat_map-append)
+
+-- memory was wanting before anything was written
+pub unmade : {S U : Type 0} {r : Result U WriteError} (a : Outgoing S) (xs : List ℕ) → IsErrAnd r (λ y. y ≡ OutOfMemory) → Puts is_fault r a a xs
+unmade {r = r} a xs is = puts_unmade r OutOfMemory a xs is refl
 
 -- the last piece of a text was written, or failed
 pub left_last : {S U E : Type 0} {g : E → Bool} {r : Result U E} {whole xs ys : List ℕ} {a b c : Outgoing S} → ys ≡ [] → Left whole a b (xs ++ ys) → Puts g r b c xs → Puts g r a c whole

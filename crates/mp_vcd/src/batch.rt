@@ -1,9 +1,10 @@
 //! Passages whose texts are made at once.
 ghost use Rattle.std.specs.Prelude.{◌≡◌, ◌<◌, ℕ, length, slice_index_or};
-ghost use Rattle.mp_vcd.specs.Clauses.{IsMadeAt};
+ghost use Rattle.mp_streams.specs.WriteErrors.{Writes};
+ghost use Rattle.mp_vcd.specs.Clauses.{flat_map, passage_text, IsMadeAt};
 
 use crate::passage::Passage;
-use crate::room::Room;
+use crate::room::{Room, put_text};
 use mp_streams::{Out, Sink, WriteError};
 use std::alloc::{AllocError, Global};
 use std::thread::{Threads, for_each_mut};
@@ -16,7 +17,7 @@ pub(crate) struct Batch<'a> {
 }
 
 impl<'a> Batch<'a> {
-    ghost use Rattle.std.specs.Prelude.{◌≡◌, ◌<◌, ◌≤◌, [], length, vec_len, IfOk};
+    ghost use Rattle.std.specs.Prelude.{◌≡◌, ◌<◌, [], vec_len, IfOk};
     ghost use Rattle.mp_streams.specs.WriteErrors.{Writes};
     ghost use Rattle.mp_vcd.specs.Clauses.{flat_map, passage_text, AreMade};
 
@@ -53,15 +54,27 @@ impl<'a> Batch<'a> {
 
     /// Writes the texts of the passages, one behind the other.
     pub(crate) fn put<S: Sink>(&self, alloc: Global, out: &mut Out<S>) -> Result<(), WriteError>
-        requires within { length self.now.passages.now ≤ vec_len self.now.rooms }
-        requires made { AreMade self.now }
+        requires { AreMade self.now }
         ensures { Writes result out.old out.new (flat_map passage_text self.now.passages.now) }
     {
-        for place in 0..self.passages.len() {
-            self.rooms[place].put(alloc, out, &self.passages[place])?;
-        }
-        Ok(())
+        put_each(alloc, out, self.passages, self.rooms.as_slice())
     }
+}
+
+/// Writes the texts of passages, one behind the other: those that rooms at their places have, and the others as the passages write them.
+pub(crate) fn put_each<S: Sink>(
+    alloc: Global,
+    out: &mut Out<S>,
+    passages: &[Passage<'_>],
+    rooms: &[Room],
+) -> Result<(), WriteError>
+    requires { (place : ℕ) (d : Room) → place < length rooms.now → IsMadeAt passages.now place (slice_index_or rooms.now place d) }
+    ensures { Writes result out.old out.new (flat_map passage_text passages.now) }
+{
+    for place in 0..passages.len() {
+        put_text(alloc, out, &passages[place], rooms.get(place))?;
+    }
+    Ok(())
 }
 
 fn make_each<R: Threads + Sync>(rt: &R, alloc: Global, passages: &[Passage<'_>], rooms: &mut [Room])

@@ -45,6 +45,7 @@ pub fn put_dump<R: Threads + Sync, S: Sink>(
 }
 
 /// Writes the changes of each time from 1 to one below the horizon.
+#[tactic(auto, using(crate::proofs::StandingLemmas::unmade))]
 fn put_units<R: Threads + Sync, S: Sink>(
     rt: &R,
     alloc: Global,

@@ -24,7 +24,7 @@ impl<'a> Passage<'a> {
     ghost use Rattle.mp_vcd.specs.Clauses.{passage_text};
 
     /// Writes the changes of each of its times, portion by portion.
-    #[tactic(auto, using(mp_streams::proofs::LeftLemmas::left_none, crate::proofs::StandingLemmas::times_end))]
+    #[tactic(auto, using(mp_streams::proofs::LeftLemmas::left_none, crate::proofs::StandingLemmas::times_end, crate::proofs::StandingLemmas::unmade))]
     pub(crate) fn put<S: Sink>(&self, alloc: Global, out: &mut Out<S>) -> Result<(), WriteError>
         ensures { Writes result out.old out.new (passage_text self.now) }
     {

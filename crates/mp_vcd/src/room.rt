@@ -1,7 +1,8 @@
 //! The text of a passage, ahead of its place.
 ghost use Rattle.std.specs.Prelude.{◌≡◌, ◌++◌};
 ghost use Rattle.std.specs.Io.KnownBytes.{Appends};
-ghost use Rattle.mp_vcd.specs.Clauses.{IfSome, OnOk, passage_text};
+ghost use Rattle.mp_streams.specs.WriteErrors.{Writes};
+ghost use Rattle.mp_vcd.specs.Clauses.{IfSome, OnOk, IsMade, passage_text};
 
 use crate::limited::Limited;
 use crate::passage::Passage;
@@ -18,8 +19,7 @@ pub(crate) struct Room {
 }
 
 impl Room {
-    ghost use Rattle.mp_streams.specs.WriteErrors.{Writes};
-    ghost use Rattle.mp_vcd.specs.Clauses.{IsMade, passage_text};
+    ghost use Rattle.mp_vcd.specs.Clauses.{IsMade};
 
     /// Makes the text of a passage. It isn't made where it is too long, and where memory is refused.
     pub(crate) fn make(&mut self, alloc: Global, passage: &Passage<'_>)
@@ -31,21 +31,21 @@ impl Room {
         };
         self.text = made(alloc, passage, bytes);
     }
+}
 
-    /// Writes the text of a passage: the one that was made, or, where none was, as the passage writes it.
-    pub(crate) fn put<S: Sink>(
-        &self,
-        alloc: Global,
-        out: &mut Out<S>,
-        passage: &Passage<'_>,
-    ) -> Result<(), WriteError>
-        requires { IsMade passage.now self.now }
-        ensures { Writes result out.old out.new (passage_text passage.now) }
-    {
-        match &self.text {
-            Some(text) => Ok(out.put_bytes(text.as_slice())?),
-            None => passage.put(alloc, out),
-        }
+/// Writes the text of a passage: the one that a room has, or, where none has it, as the passage writes it.
+pub(crate) fn put_text<S: Sink>(
+    alloc: Global,
+    out: &mut Out<S>,
+    passage: &Passage<'_>,
+    room: Option<&Room>,
+) -> Result<(), WriteError>
+    requires { IfSome room (λ room. IsMade passage.now room.now) }
+    ensures { Writes result out.old out.new (passage_text passage.now) }
+{
+    match room {
+        Some(Room { text: Some(text) }) => Ok(out.put_bytes(text.as_slice())?),
+        _ => passage.put(alloc, out),
     }
 }
 

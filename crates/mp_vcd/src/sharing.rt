@@ -1,9 +1,9 @@
 //! Passages whose texts several threads make.
-ghost use Rattle.std.specs.Prelude.{◌≡◌, ◌<◌, ◌≤◌};
+ghost use Rattle.std.specs.Prelude.{◌≡◌, ◌<◌};
 ghost use Rattle.mp_streams.specs.WriteErrors.{Writes};
-ghost use Rattle.mp_vcd.specs.Clauses.{[], flat_map, length, vec_len, passage_text, AreMade};
+ghost use Rattle.mp_vcd.specs.Clauses.{[], flat_map, vec_len, passage_text, AreMade};
 
-use crate::batch::Batch;
+use crate::batch::{Batch, put_each};
 use crate::passage::Passage;
 use mp_streams::{Out, Sink, WriteError};
 use std::alloc::Global;
@@ -12,6 +12,7 @@ use std::thread::{Threads, join_mut};
 
 /// Writes the texts of the passages, one behind the other. Where there are several passages, so many threads make their texts, while the calling
 /// thread writes those that were made before.
+#[tactic(auto, using(crate::proofs::StandingLemmas::unmade))]
 pub(crate) fn put_passages<R: Threads + Sync, S: Sink>(
     rt: &R,
     alloc: Global,
@@ -23,25 +24,11 @@ pub(crate) fn put_passages<R: Threads + Sync, S: Sink>(
 {
     let makers = threads.min(passages.len());
     if makers < 2 {
-        return put_each(alloc, out, passages);
+        return put_each(alloc, out, passages, &[]);
     }
     let ready = Batch::new(alloc, makers)?;
     let coming = Batch::new(alloc, makers)?;
     put_batches(rt, alloc, out, passages, ready, coming)
-}
-
-/// Writes the texts of the passages on the calling thread alone.
-fn put_each<S: Sink>(
-    alloc: Global,
-    out: &mut Out<S>,
-    passages: &[Passage<'_>],
-) -> Result<(), WriteError>
-    ensures { Writes result out.old out.new (flat_map passage_text passages.now) }
-{
-    for passage in passages {
-        passage.put(alloc, out)?;
-    }
-    Ok(())
 }
 
 /// Writes the texts of the passages by two batches in turn: one is made while the other is written.
@@ -80,7 +67,6 @@ fn make_and_put<'a, R: Threads + Sync, S: Sink>(
     ready: &Batch<'a>,
 ) -> Result<(), WriteError>
     requires some { 0 < vec_len coming.old.rooms }
-    requires within { length ready.now.passages.now ≤ vec_len ready.now.rooms }
     requires made { AreMade ready.now }
     ensures passages { coming.new.passages.now ≡ next.now }
     ensures rooms { vec_len coming.new.rooms ≡ vec_len coming.old.rooms }
@@ -93,8 +79,7 @@ fn make_and_put<'a, R: Threads + Sync, S: Sink>(
             requires { 0 < vec_len coming.now.rooms }
         { coming.make(rt, alloc, next) },
         &mut || -> Result<(), WriteError>
-            requires within { length ready.now.passages.now ≤ vec_len ready.now.rooms }
-            requires made { AreMade ready.now }
+            requires { AreMade ready.now }
         { ready.put(alloc, out) },
     );
     put

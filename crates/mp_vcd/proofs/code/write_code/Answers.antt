@@ -1,5 +1,5 @@
-use Rattle.mp_vcd.proofs.Names.{◌≡◌, ◌+◌, ◌%◌, ◌<◌, ◌∷◌, ◌++◌, ℕ, List, [], length, refl, ap, sym, subst, ◌∙◌, rules, arith, set, length-append, IsPlaced, placed_both, placed_byte, code}
-use Rattle.mp_vcd.proofs.CodeLemmas.{code-one, code_step, code_long, code_some}
+use Rattle.mp_vcd.proofs.Names.{append_assoc, ◌/◌, ◌≡◌, ◌+◌, ◌%◌, ◌<◌, ◌∷◌, ◌++◌, ℕ, List, [], length, refl, ap, sym, subst, ◌∙◌, rules, arith, set, length-append, IsPlaced, placed_both, placed_byte, code}
+use Rattle.mp_vcd.proofs.CodeLemmas.{code-one, code-more, code_long, code_some}
 use Rattle.mp_vcd.proofs.code.write_code.Goals as goal
 
 -- where the digits so far end
@@ -15,7 +15,7 @@ loop-rest-preserved c =
     let h = c.loop-rest.invariant in
     let rest = c.loop-rest.rest in
     let placed = placed_both h.1 (placed_byte c.loop-rest.room c.loop-rest.end (33 + rest % 94) (omega (arith, h.3, c.loop-rest.auto.room))) in
-    let same = code_step h.0 (code c.args.wire) rest (search rules) h.2 in
+    let same = append_assoc h.0 ((33 + rest % 94) ∷ []) (code (rest / 94)) ∙ ap (λ l. h.0 ++ l) (sym (code-more rest (search rules))) ∙ h.2 in
     (h.0 ++ (33 + rest % 94) ∷ [], placed, same, ends _ _ _ _ _ _ _ c.ranges.wire.fits placed same)
 
 pub returns-clause-placed : goal.returns-clause-placed

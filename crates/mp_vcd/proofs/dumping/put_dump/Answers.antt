@@ -13,11 +13,9 @@ returns-in_err-put_units-clause-written g c =
 pub returns-in_err-put_time_mark-clause-written : goal.returns-in_err-put_time_mark-clause-written
 unfolding dump
 returns-in_err-put_time_mark-clause-written g c =
-    let mark = rw c.horizon-horizon.ensures.value at c.in_err-put_time_mark.ensures in
-    puts_then c.in_ok-put_preamble.ensures (puts_then c.in_ok-put_units.ensures (puts_as _ WriteFailed c.from_residual-in_err-put_time_mark.ensures.1 refl mark))
+    puts_then c.in_ok-put_preamble.ensures (puts_then c.in_ok-put_units.ensures
+    (puts_as _ WriteFailed c.from_residual-in_err-put_time_mark.ensures.1 refl (rw c.horizon-horizon.ensures.value at c.in_err-put_time_mark.ensures)))
 
 pub returns-clause-written : goal.returns-clause-written
 unfolding dump
-returns-clause-written g c =
-    let mark = rw c.horizon-horizon.ensures.value at c.in_ok-put_time_mark.ensures in
-    puts_then c.in_ok-put_preamble.ensures (puts_then c.in_ok-put_units.ensures (puts_ok mark))
+returns-clause-written g c = puts_then c.in_ok-put_preamble.ensures (puts_then c.in_ok-put_units.ensures (puts_ok (rw c.horizon-horizon.ensures.value at c.in_ok-put_time_mark.ensures)))

@@ -1,5 +1,4 @@
-use Rattle.mp_vcd.proofs.Names.{ℕ, sym, subst, arith, changes_in, later_than-drop}
-use Rattle.std.specs.List.Sorted.{IsNonDecreasingBy}
+use Rattle.mp_vcd.proofs.Names.{ℕ, arith, later_than-drop}
 use Rattle.std.proofs.lemmas.List.Sorted.{IsNonDecreasingBy-drop}
 use Rattle.mp_wave.proofs.WaveformLemmas.{IsNonDecreasingBy-changes, nat_le-true, nat_le-false}
 use Rattle.mp_vcd.proofs.parts.part.Goals as goal
@@ -9,10 +8,8 @@ begins_at-requires c = rw c.changes-changes.ensures.value (IsNonDecreasingBy-cha
 
 pub count_before-count-requires : goal.count_before-count-requires
 count_before-count-requires c =
-    let changes = changes_in c.changes-changes.result in
-    let rises : IsNonDecreasingBy (λ (p : ℕ × ℕ). p.0) changes =
-    rw c.changes-changes.ensures.value (IsNonDecreasingBy-changes 0 c.args.wave.now.initial c.args.wave.now.changes c.changes-changes.ensures.form) in
-    subst (IsNonDecreasingBy (λ (p : ℕ × ℕ). p.0)) (sym c.from_place-rest.ensures) (IsNonDecreasingBy-drop (λ (p : ℕ × ℕ). p.0) c.args.place changes rises)
+    rw (c.from_place-rest.ensures, c.changes-changes.ensures.value)
+    (IsNonDecreasingBy-drop (λ (p : ℕ × ℕ). p.0) c.args.place c.args.wave.now.changes (IsNonDecreasingBy-changes 0 c.args.wave.now.initial c.args.wave.now.changes c.changes-changes.ensures.form))
 
 pub returns : goal.returns
 returns c = grind (arith, later_than-drop, nat_le-true, nat_le-false)

@@ -1,4 +1,4 @@
-use Rattle.mp_vcd.proofs.Names.{◌+◌, ◌-◌, ◌≤◌, ◌++◌, refl, rules, drop, length, vec_len, ap, sym, ◌∙◌, arith, flat_map, passage_text, puts_as, puts_ok, left_whole, left_as, left_then, left_failed, drop_all, length-take}
+use Rattle.mp_vcd.proofs.Names.{◌≤◌, ◌++◌, refl, rules, drop, length, ap, sym, ◌∙◌, arith, flat_map, passage_text, puts_as, puts_ok, left_whole, left_as, left_then, left_failed, drop_all}
 use Rattle.mp_vcd.proofs.StandingLemmas.{text_divide, left_last}
 use Rattle.mp_vcd.proofs.sharing.put_batches.Goals as goal
 
@@ -9,7 +9,6 @@ loop-next-init g c =
       inside = omega arith;
       some = c.requires.some;
       same = c.requires.same;
-      within = omega (arith, none);
       made = λ place d within p inside. absurd (omega (arith, inside, none));
       left = left_as (ap (λ ps. flat_map passage_text ps ++ flat_map passage_text c.args.passages.now) (sym c.requires.none)) (left_whole c.args.out.now _);
     }
@@ -25,12 +24,10 @@ loop-next-preserved g c =
     let made = c.make_and_put.ensures in
     let end = c.min-end.result in
     let order : c.loop-next.next ≤ end = search rules in
-    let taken : end ≤ c.loop-next.next + vec_len c.loop-next.coming.rooms = search rules in
     rw (c.swap.ensures.x_after, c.swap.ensures.y_after) (record {
       inside = search rules;
       some = omega (arith, made.rooms, c.loop-next.invariant.same, c.loop-next.invariant.some);
       same = sym (made.rooms ∙ c.loop-next.invariant.same);
-      within = omega (arith, ap length made.passages, length-take (end - c.loop-next.next) (drop c.loop-next.next passages), taken, made.rooms);
       made = made.made;
       left = left_as (text_divide passage_text passages c.loop-next.next end order ∙ ap (λ ps. flat_map passage_text ps ++ flat_map passage_text (drop end passages)) (sym made.passages)) (left_then c.loop-next.invariant.left (puts_ok c.in_ok-make_and_put.ensures.written));
     })

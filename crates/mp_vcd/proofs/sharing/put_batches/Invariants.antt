@@ -7,7 +7,6 @@ invariant-loop-next g l = record {
   inside : l.next ≤ length l.passages;
   some : 0 < vec_len l.ready.rooms;
   same : vec_len l.coming.rooms ≡ vec_len l.ready.rooms;
-  within : length l.ready.passages.now ≤ vec_len l.ready.rooms;
   made : AreMade l.ready;
   left : Left (flat_map passage_text l.passages) l.fn.out l.out (flat_map passage_text l.ready.passages.now ++ flat_map passage_text (drop l.next l.passages));
 }

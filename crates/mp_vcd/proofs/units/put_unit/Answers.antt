@@ -1,17 +1,6 @@
-use Rattle.mp_vcd.proofs.Names.{◌≡◌, ◌≢◌, ◌+◌, ◌-◌, ◌<◌, ◌≤◌, ℕ, slice_index, sym, subst, rules, arith, vec_len, writes_failed, Circuit, changed, IsChain, Tells, told_from, told_at, left_whole, left_as, left_then, left_failed, left_none}
-use Rattle.mp_vcd.specs.declared.agenda.Agenda.{Agenda}
-use Rattle.mp_vcd.proofs.AgendaLemmas.{chain_next, marked_none, marked_some}
+use Rattle.mp_vcd.proofs.Names.{◌≢◌, sym, rules, writes_failed, changed, left_whole, left_as, left_then, left_failed}
+use Rattle.mp_vcd.proofs.AgendaLemmas.{chain_at, chain_next, marked_some}
 use Rattle.mp_vcd.proofs.units.put_unit.Goals as goal
-
--- the chain of a time
-chain_at : (n : Circuit) (agenda : Agenda) (t place : ℕ) → agenda.from ≤ t → t < agenda.from + vec_len agenda.firsts → Tells agenda.firsts.items agenda.entries.items (told_from agenda.from (told_at n))
-    → place ≡ slice_index agenda.firsts.items (t - agenda.from) → IsChain agenda.entries.items place (told_at n t)
-chain_at n agenda t place low high told is =
-    let same : agenda.from + (t - agenda.from) ≡ t = omega (arith, low) in
-    subst (λ u. IsChain agenda.entries.items place (told_at n u)) same (rw is (told (t - agenda.from) (omega (arith, low, high))))
-
-pub returns-then-place-eq0 : goal.returns-then-place-eq0
-returns-then-place-eq0 g c = grind (arith, chain_at, left_none, marked_none, left_whole)
 
 pub returns-in_err-put_time_mark : goal.returns-in_err-put_time_mark
 returns-in_err-put_time_mark g c =
@@ -21,9 +10,6 @@ returns-in_err-put_time_mark g c =
     let some : c.first-place.result ≢ 0 = search rules in
     let is = c.from_residual.ensures.0 in
     left_failed _ (left_as (marked_some n t (changed n t) _ _ chain some) (left_whole _ _)) _ is (writes_failed _ is c.in_err-put_time_mark.ensures)
-
-pub loop-place-init : goal.loop-place-init
-loop-place-init g c = grind (arith, chain_at, left_then, left_as, marked_some, left_whole)
 
 pub line_of-requires : goal.line_of-requires
 line_of-requires g c = c.args.of.narrow c.entry-change.result.wire

@@ -1,5 +1,5 @@
 use Rattle.mp_vcd.proofs.Names.{◌≡◌, ◌+◌, ◌-◌, ◌<◌, ◌≤◌, ◌/◌, ◌++◌, drop, length, slice_set, rules, sym, ap, ◌∙◌, arith, take-set-le, length-set, placed_between, bit, bits}
-use Rattle.mp_vcd.proofs.CodeLemmas.{bits_step, bits-zero, bits_long}
+use Rattle.mp_vcd.proofs.CodeLemmas.{bits_step, bits_long}
 use Rattle.mp_vcd.proofs.value_lines.write_bits.Goals as goal
 
 pub loop-place-preserved : goal.loop-place-preserved
@@ -21,10 +21,11 @@ loop-place-preserved c =
     }
 
 pub returns-clause-placed : goal.returns-clause-placed
+unfolding bits
 returns-clause-placed c =
     let at = c.args.at in
     let none : c.loop-place.place ≡ at = omega (arith, c.loop-place.invariant.low) in
     let empty : c.loop-place.place - at ≡ 0 = omega (arith, none) in
-    let behind = sym (rw (empty, (bits-zero c.loop-place.rest), none) at c.loop-place.invariant.same) in
+    let behind = sym (rw (empty, none) at c.loop-place.invariant.same) in
     placed_between c.args.room.now c.loop-place.room (bits c.args.width c.args.level) at (at + c.args.width) c.loop-place.invariant.before behind
     (ap (λ k. at + k) (bits_long c.args.width c.args.level)) c.requires c.loop-place.invariant.long

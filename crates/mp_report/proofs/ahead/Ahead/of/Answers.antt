@@ -1,5 +1,5 @@
-use Rattle.mp_report.proofs.AheadLemmas.{ahead_of_wave}
+use Rattle.mp_report.proofs.Names.{arith, nat_tests, last_time-changes_after, AreChanges-changes_after, level_from-changes_after}
 use Rattle.mp_report.proofs.ahead.Ahead.of.Goals as goal
 
 pub returns : goal.returns
-returns c f end some is = ahead_of_wave f end _ c.args.wave.now some is c.initial.ensures.value c.changes.ensures.value
+returns c f end some is = grind (arith, nat_tests, c.initial.ensures.value, c.changes.ensures.value, last_time-changes_after, AreChanges-changes_after, level_from-changes_after)

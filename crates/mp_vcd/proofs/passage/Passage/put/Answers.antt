@@ -1,15 +1,9 @@
-use Rattle.mp_vcd.proofs.Names.{◌≤◌, [], refl, rules, arith, puts_as, puts_unmade, WriteFailed, OutOfMemory, unit_text, left_as, left_then, left_failed}
-use Rattle.mp_vcd.proofs.StandingLemmas.{times_divide}
+use Rattle.mp_vcd.proofs.Names.{◌≤◌, [], refl, rules, arith, puts_as, WriteFailed, unit_text, left_as, left_then, left_failed}
+use Rattle.mp_vcd.proofs.StandingLemmas.{times_divide, unmade}
 use Rattle.mp_vcd.proofs.passage.Passage.put.Goals as goal
 
-pub returns-in_err-places : goal.returns-in_err-places
-returns-in_err-places g c = puts_unmade _ OutOfMemory _ _ c.from_residual.ensures.1 refl
-
 pub returns-in_err-agenda : goal.returns-in_err-agenda
-returns-in_err-agenda g c =
-    let r = c.from_residual-in_err-agenda.result in
-    let is = c.from_residual-in_err-agenda.ensures in
-    left_failed {xs = []} _ c.loop-from.invariant.left r is.0 (puts_unmade r OutOfMemory _ [] is.1 refl)
+returns-in_err-agenda g c = left_failed {xs = []} _ c.loop-from.invariant.left _ c.from_residual-in_err-agenda.ensures.0 (unmade _ [] c.from_residual-in_err-agenda.ensures.1)
 
 pub returns-in_err-put_agenda : goal.returns-in_err-put_agenda
 returns-in_err-put_agenda g c =
