@@ -8,9 +8,10 @@ use Rattle.std.proofs.lemmas.List.{length-take, length-drop, get_or-take, get_or
 use Rattle.std.proofs.lemmas.List.Elements.{All-push, All-weaker}
 use Rattle.mp_wave.proofs.WaveformLemmas.{nat_le-false}
 use Rattle.mp_modules.specs.declared.memory.Memory.{Memory}
+use Rattle.mp_modules.specs.Memories.{blank}
 use Rattle.mp_evaluation.specs.declared.checkpoint.Checkpoint.{Checkpoint}
 use Rattle.mp_evaluation.specs.Checkpoints.{kept_at, last_kept, kept_before}
-use Rattle.mp_evaluation.specs.StateLists.{IsRising}
+use Rattle.mp_evaluation.specs.StateLists.{IsRising, IsCut}
 use Rattle.mp_evaluation.proofs.KeepLemmas.{kept_at-over}
 
 from_true : (a b : ℕ) → nat_le a b ≡ true → a ≤ b
@@ -41,6 +42,10 @@ pub seen_from : (ks : List Checkpoint) (time count c : ℕ) (before : Memory) �
     kept_at ks c before ≡ kept_at (drop count ks) c (last_kept (take count ks) before)
 seen_from ks time count c before within le =
     ap (λ xs. kept_at xs c before) (sym (take-append-drop count ks)) ∙ kept_at-over (take count ks) (drop count ks) time c before (early ks time count within) le
+
+-- so what is kept for the time is the last of them
+pub kept_by_cut : (ks : List Checkpoint) (time count : ℕ) → IsCut ks time count → kept_at ks time blank ≡ last_kept (take count ks) blank
+kept_by_cut ks time count cut = seen_from ks time count time blank cut.0 (omega arith) ∙ none_yet (drop count ks) time (last_kept (take count ks) blank) (late ks time count cut.1)
 
 -- ---- by rising time
 

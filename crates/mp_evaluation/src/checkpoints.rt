@@ -111,6 +111,15 @@ impl Checkpoints {
     {
         split(&self.list, time).0
     }
+
+    /// The same, and how many are kept for such times. Where these are so many as `before`, or one more, they aren't searched for: so many
+    /// are kept for the times of one border after the other.
+    pub fn kept_near(&self, time: u32, before: usize) -> (Memory, usize)
+        ensures { result.0 ≡ kept_at self.now time blank }
+    {
+        let count = self.list.count_near(time, before);
+        (state_before(&self.list, count), count)
+    }
 }
 
 ghost use Rattle.std.specs.Prelude.{◌↔◌, ℕ, IsTrue, length, take};

@@ -1,17 +1,12 @@
-use Rattle.std.proofs.Common.{take, drop, ap, sym, ◌∙◌, arith}
+use Rattle.std.proofs.Common.{drop, ap, sym, ◌∙◌}
 use Rattle.mp_modules.specs.Memories.{blank}
-use Rattle.mp_evaluation.specs.Checkpoints.{kept_at, last_kept}
+use Rattle.mp_evaluation.specs.Checkpoints.{kept_at}
 use Rattle.mp_evaluation.specs.StateLists.{states_of}
-use Rattle.mp_evaluation.proofs.SearchLemmas.{late, none_yet, seen_from}
+use Rattle.mp_evaluation.proofs.SearchLemmas.{kept_by_cut, late, seen_from}
 use Rattle.mp_evaluation.proofs.checkpoints.split.Goals as goal
 
 pub returns-clause-at : goal.returns-clause-at
-returns-clause-at c =
-    let ks = states_of c.args.list.now in
-    let count = c.count_upto-count.result in
-    seen_from ks c.args.time count c.args.time blank c.count_upto-count.ensures.parted.0 (omega arith)
-    ∙ none_yet (drop count ks) c.args.time (last_kept (take count ks) blank) (late ks c.args.time count c.count_upto-count.ensures.parted.1)
-    ∙ sym c.state_before.ensures
+returns-clause-at c = kept_by_cut (states_of c.args.list.now) c.args.time c.count_upto-count.result c.count_upto-count.ensures.parted ∙ sym c.state_before.ensures
 
 pub returns-clause-from : goal.returns-clause-from
 returns-clause-from c t le =
