@@ -19,7 +19,7 @@ use Rattle.mp_work.specs.Stretches.{IsPart}
 use Rattle.mp_work.proofs.MultipleLemmas.{zero_rest, whole_rest, next_rest, multiples_apart}
 use Rattle.mp_work.proofs.WindowLemmas.{window_within, windows_apart, window_cover}
 use Rattle.mp_differences.specs.Changes.{IsNeverApart, IsFirstApart}
-use Rattle.mp_differences.specs.Blocks.{IsBlock, IsIdleIn, IsStretchIn}
+use Rattle.mp_differences.specs.Blocks.{IsBlock, IsIdleIn, IsStretchIn, GoesUpTo}
 
 -- a run has kept the state of a module that stands before a block
 pub kept_before : (n : Circuit) (run : Outcome) → IsRun n run → (m c : ℕ) (r : ModuleRecord) → module_at n m ≡ Some r → IsBorder n.horizon c → c < n.horizon →
@@ -259,6 +259,73 @@ module _ (old new : Circuit) (ok : IsCircuit new) (m from to : ℕ) (block : IsB
           let f = cover in
           let within = window_within new ok a b later.0 in
           (omega (arith, later.1, first, f.1, within.1), omega (arith, later.2, last))
+
+module _ (old new : Circuit) (ok : IsCircuit new) (m a from to : ℕ) (block : IsBlock new.horizon from to) where
+  -- a stretch that goes on up to a block in each of whose windows the module works goes on through it
+  pub goes_through : ((t : ℕ) → block_of new.horizon t ≡ from → IsAtWork old new m t) → (s longer : Stretch) → GoesUpTo old new m a from s →
+      longer.«module».0 ≡ s.«module».0 → longer.from ≡ s.from → longer.first_end ≡ s.first_end → longer.last_end ≡ to → GoesUpTo old new m a to longer
+  goes_through work s longer up part begins first last = record {
+    is = record {
+      part = part ∙ up.is.part;
+      entries = λ x y above below. (there x y above below, back x y above below);
+      within = inside;
+      first = let early = up.is.first in let later = some new ok from to block in omega (arith, first, early, later);
+      ends = subst (λ e. (e ≡ new.horizon) ⊎ ((start : ℕ) × IsWindow new start e)) (sym last) (last_window new ok from to block);
+    };
+    last = last;
+  }
+    where
+      whole : Stretch
+      whole = record { «module» = record { 0 = m }; from = from; first_end = window_end new from; last_end = to }
+
+      all : IsStretchIn old new m from to whole
+      all = works_whole old new ok m from to block work whole refl refl refl refl
+
+      there : (x y : ℕ) → a < y → y ≤ to → IsEntry old new m x y → IsPart new longer x y
+      there x y above below entry = elim (cases_lt from y) as (λ _. IsPart new longer x y) [
+        | inl late ↦ behind ((all.entries x y late below).0 entry)
+        | inr early ↦ before early ((up.is.entries x y above early).0 entry)
+      ]
+        where
+          before : y ≤ from → IsPart new s x y → IsPart new longer x y
+          before early (inl here) = inl (here.0 ∙ sym begins, here.1 ∙ sym first)
+          before early (inr later) = inr (later.0, omega (arith, later.1, first), omega (arith, below, last))
+
+          behind : IsPart new whole x y → IsPart new longer x y
+          behind (inl here) =
+              let early = up.is.first in
+              let is : IsWindow new x y = subst (λ e. IsWindow new x e) (sym here.1) (subst (λ b. IsWindow new b (window_end new from)) (sym here.0) (first_window new ok from to block)) in
+              inr (is, omega (arith, here.0, early, first), omega (arith, below, last))
+          behind (inr later) =
+              let early = up.is.first in
+              let f = first_within new ok from to block in
+              inr (later.0, omega (arith, later.1, f.0, early, first), omega (arith, below, last))
+
+      back : (x y : ℕ) → a < y → y ≤ to → IsPart new longer x y → IsEntry old new m x y
+      back x y above below (inl here) =
+          let early = up.is.first in
+          (up.is.entries x y above (omega (arith, here.1, first, early))).1 (inl (here.0 ∙ begins, here.1 ∙ first))
+      back x y above below (inr later) = elim (cases_lt from y) as (λ _. IsEntry old new m x y) [
+        | inr early ↦ (up.is.entries x y above early).1 (inr (later.0, omega (arith, later.1, first), let ends = up.last in omega (arith, early, ends)))
+        | inl late ↦
+            let starts = begins_in new ok from to block x y later.0 late below in
+            elim (cases_eq x from) as (λ _. IsEntry old new m x y) [
+              | inl same ↦ (all.entries x y late below).1 (inl (same, later.0.ends ∙ ap (window_end new) same))
+              | inr other ↦
+                  let over = windows_apart new ok from (window_end new from) x y (first_window new ok from to block) later.0 (omega (arith, starts.0, other)) in
+                  (all.entries x y late below).1 (inr (later.0, over, below))
+            ]
+      ]
+
+      inside : (x y : ℕ) → IsPart new longer x y → (a < y) × (y ≤ to)
+      inside x y (inl here) =
+          let at = up.is.within x y (inl (here.0 ∙ begins, here.1 ∙ first)) in
+          let more = some new ok from to block in
+          (at.0, omega (arith, at.1, more))
+      inside x y (inr later) =
+          let at = up.is.within s.from s.first_end (inl (refl, refl)) in
+          let within = window_within new ok x y later.0 in
+          (omega (arith, at.0, later.1, first, within.1), omega (arith, later.2, last))
 
 -- where its states differ before a block, a module is at work before each window of it
 pub differing : (old new : Circuit) (m from : ℕ) → Differs old new m from → (t : ℕ) → block_of new.horizon t ≡ from → IsAtWork old new m t

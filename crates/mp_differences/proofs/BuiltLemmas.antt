@@ -1,5 +1,5 @@
 -- Stretches that are found one after the other.
-use Rattle.std.proofs.Common.{◌≡◌, ◌⊎◌, ℕ, ◌+◌, ◌%◌, ◌<◌, ◌≤◌, false, List, [], ◌∷◌, ◌++◌, length, Option, Some, None, is_some, IsSome, Result, Ok, Err, OnOk, refl, ap, sym, subst, ◌∙◌, arith, inl, inr}
+use Rattle.std.proofs.Common.{◌≡◌, ◌⊎◌, ℕ, ◌+◌, ◌%◌, ◌<◌, ◌≤◌, false, List, [], ◌∷◌, ◌++◌, length, Option, Some, None, is_some, IsSome, IfNone, IfSome, Result, Ok, Err, OnOk, refl, ap, sym, subst, ◌∙◌, arith, inl, inr}
 use Rattle.std.proofs.lemmas.Bool.{cases_lt, cases_eq, both_ways}
 use Rattle.std.proofs.lemmas.List.{length-append, get_or_append_left, get_or-append-add}
 use Rattle.mp_netlist.specs.Circuit.{Circuit, IsCircuit, module_at}
@@ -14,8 +14,8 @@ use Rattle.mp_model.proofs.SlotLemmas.{slot_within}
 use Rattle.mp_work.proofs.MultipleLemmas.{zero_rest}
 use Rattle.mp_work.proofs.EntryLemmas.{works_throughout}
 use Rattle.mp_work.proofs.WindowLemmas.{window_within, windows_apart}
-use Rattle.mp_differences.specs.Blocks.{IsIdleIn, IsStretchIn}
-use Rattle.mp_differences.specs.Built.{IsFound, AreFound}
+use Rattle.mp_differences.specs.Blocks.{IsIdleIn, IsStretchIn, GoesUpTo}
+use Rattle.mp_differences.specs.Built.{IsFound, AreFound, AreFoundBut}
 
 -- what is worked on ends after time 0 and up to the horizon
 pub entry_ends : (old new : Circuit) → IsCircuit new → (m from to : ℕ) → IsEntry old new m from to → (0 < to) × (to ≤ new.horizon)
@@ -277,3 +277,20 @@ found_none old new ok m ss none are =
 pub on_ok : {A E : Type 0} (r : Result A E) (P Q : Type 0) → (P → Q) → OnOk r P → OnOk r Q
 on_ok (Ok x) P Q then holds = then holds
 on_ok (Err e) P Q then holds = tt
+
+-- ---- stretches that go on
+
+pub found_with : (old new : Circuit) (m upto : ℕ) (ss : List Stretch) (s : Stretch) → upto ≤ new.horizon → AreFoundBut old new m upto ss (Some s) → AreFound old new m upto (ss ++ s ∷ [])
+found_with old new m upto ss s low found = found_more old new m found.0 upto ss s found.1 low found.3.is found.2
+
+-- one that goes on through a block
+pub found_through : (old new : Circuit) (m from to : ℕ) (ss : List Stretch) (begun : Option Stretch) (s : Stretch) → from ≤ to →
+    IfSome begun (λ o. (a : ℕ) → GoesUpTo old new m a from o → GoesUpTo old new m a to s) → IfNone begun (GoesUpTo old new m from to s) → AreFoundBut old new m from ss begun → AreFoundBut old new m to ss (Some s)
+found_through old new m from to ss None s le on begin found = (from, le, found, begin)
+found_through old new m from to ss (Some o) s le on begin found = (found.0, omega (arith, found.1, le), found.2, on found.0 found.3)
+
+-- what begins in a block, if anything does
+pub found_within : (old new : Circuit) (m from to : ℕ) (ss : List Stretch) (begun : Option Stretch) → from ≤ to → IfNone begun (IsIdleIn old new m from to) → IfSome begun (GoesUpTo old new m from to) →
+    AreFound old new m from ss → AreFoundBut old new m to ss begun
+found_within old new m from to ss None le none some found = found_idle old new m from to ss le none found
+found_within old new m from to ss (Some s) le none some found = (from, le, found, some)

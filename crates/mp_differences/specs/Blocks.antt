@@ -24,3 +24,8 @@ pub record IsStretchIn (old new : Circuit) (m from to : ℕ) (stretch : Stretch)
   pub within : (a b : ℕ) → IsPart new stretch a b → (from < b) × (b ≤ to)
   pub first : stretch.first_end ≤ to
   pub ends : EndsWithWindow new stretch
+
+-- and it ends there
+pub record GoesUpTo (old new : Circuit) (m from to : ℕ) (stretch : Stretch) : Type 0 where
+  pub is : IsStretchIn old new m from to stretch
+  pub last : stretch.last_end ≡ to

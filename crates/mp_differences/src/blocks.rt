@@ -1,5 +1,5 @@
 //! What a module works on in a block of time.
-ghost use Rattle.std.specs.Prelude.{◌≡◌, ◌≢◌, ◌↔◌, ◌<◌, Some, IsTrue, IfNone, IfSome};
+ghost use Rattle.std.specs.Prelude.{◌≡◌, ◌≢◌, ◌↔◌, ◌<◌, ℕ, Some, IsTrue, IfNone, IfSome};
 ghost use Rattle.mp_modules.specs.declared.memory.Memory.{Memory as State};
 ghost use Rattle.mp_records.specs.declared.module_record.ModuleRecord.{ModuleRecord as Part};
 ghost use Rattle.mp_evaluation.specs.Checkpoints.{IsBorder};
@@ -7,7 +7,7 @@ ghost use Rattle.mp_evaluation.specs.Outcomes.{checkpoint_of};
 ghost use Rattle.mp_work.specs.Revisions.{IsKept};
 ghost use Rattle.mp_work.specs.Work.{Differs, window_end, window_of};
 ghost use Rattle.mp_differences.specs.Changes.{AreRuns};
-ghost use Rattle.mp_differences.specs.Blocks.{IsBlock, IsIdleIn, IsStretchIn};
+ghost use Rattle.mp_differences.specs.Blocks.{IsBlock, IsIdleIn, GoesUpTo};
 
 use crate::change::Change;
 use crate::inputs::first_apart;
@@ -16,6 +16,13 @@ use mp_modules::Memory;
 use mp_netlist::{ModuleId, ModuleRecord, checkpoint_units};
 use mp_work::{Stretch, window_end};
 
+/// How many states of a module each run kept up to the last time that was looked at: near there the next ones are looked for.
+#[derive(Clone, Copy, Default)]
+pub(crate) struct Places {
+    old: usize,
+    new: usize,
+}
+
 /// A block of time, from its begin to before its end.
 #[derive(Clone, Copy)]
 pub(crate) struct Block {
@@ -23,8 +30,31 @@ pub(crate) struct Block {
     pub to: u32,
 }
 
-/// The stretch in which a module that isn't touched works in a block, if it does.
-pub(crate) fn stretch_in(
+/// The stretch in which a module works that isn't touched, from a block on before which its states differ. The one that goes on up to the block, if
+/// any, goes on through it.
+pub(crate) fn stretch_through(
+    change: &Change<'_>,
+    id: ModuleId,
+    block: Block,
+    begun: Option<Stretch>,
+) -> Stretch
+    requires runs { AreRuns change.now }
+    requires block { IsBlock change.now.new.now.horizon block.from block.to }
+    requires differs { Differs change.now.old.now change.now.new.now id.0 block.from }
+    ensures on { IfSome begun (λ s. (a : ℕ) → GoesUpTo change.now.old.now change.now.new.now id.0 a block.from s → GoesUpTo change.now.old.now change.now.new.now id.0 a block.to result) }
+    ensures new { IfNone begun (GoesUpTo change.now.old.now change.now.new.now id.0 block.from block.to result) }
+{
+    match begun {
+        Some(stretch) => Stretch {
+            last_end: block.to,
+            ..stretch
+        },
+        None => stretch_from(change, id, block, block.from),
+    }
+}
+
+/// The stretch in which a module that isn't touched works in a block before which its states don't differ, if it does.
+pub(crate) fn stretch_within(
     change: &Change<'_>,
     id: ModuleId,
     found: &ModuleRecord,
@@ -33,12 +63,10 @@ pub(crate) fn stretch_in(
     requires runs { AreRuns change.now }
     requires kept { IsKept change.now.old.now change.now.new.now id.0 found.now }
     requires block { IsBlock change.now.new.now.horizon block.from block.to }
+    requires alike { Differs change.now.old.now change.now.new.now id.0 block.from → ⊥ }
     ensures none { IfNone result (IsIdleIn change.now.old.now change.now.new.now id.0 block.from block.to) }
-    ensures some { IfSome result (IsStretchIn change.now.old.now change.now.new.now id.0 block.from block.to) }
+    ensures some { IfSome result (GoesUpTo change.now.old.now change.now.new.now id.0 block.from block.to) }
 {
-    if differs(change, id, block.from) {
-        return Some(stretch_from(change, id, block, block.from));
-    }
     let time = first_apart(change, id, found, block.from, block.to)?;
     Some(stretch_from(change, id, block, window_of(change, time)))
 }
@@ -56,8 +84,8 @@ pub(crate) fn stretch_from(change: &Change<'_>, id: ModuleId, block: Block, star
     }
 }
 
-/// Whether the states of a module before a block aren't the same.
-fn differs(change: &Change<'_>, id: ModuleId, time: u32) -> bool
+/// Whether the states of a module before a block aren't the same. They are looked for near those before the block before.
+pub(crate) fn differs(change: &Change<'_>, id: ModuleId, time: u32, places: &mut Places) -> bool
     requires runs { AreRuns change.now }
     requires kept { (r : Part) × IsKept change.now.old.now change.now.new.now id.0 r }
     requires border { IsBorder change.now.new.now.horizon time }
@@ -66,8 +94,8 @@ fn differs(change: &Change<'_>, id: ModuleId, time: u32) -> bool
 {
     time > 0
         && is_other(
-            kept_state(change.old_run, id, time),
-            kept_state(change.new_run, id, time),
+            kept_state(change.old_run, id, time, &mut places.old),
+            kept_state(change.new_run, id, time, &mut places.new),
         )
 }
 
@@ -78,12 +106,16 @@ fn is_other(one: Memory, other: Memory) -> bool
     one != other
 }
 
-/// The state of a module that a run kept for a time, or a blank one.
-fn kept_state(run: &Run, id: ModuleId, time: u32) -> Memory
+/// The state of a module that a run kept for a time, or a blank one. How many it kept up to then is told for the next time.
+fn kept_state(run: &Run, id: ModuleId, time: u32, many: &mut usize) -> Memory
     ensures { (kept : State) → checkpoint_of run.now id.0 time ≡ Some kept → result ≡ kept }
 {
-    match run.checkpoint(id, time) {
-        Some(kept) => kept,
+    match run.checkpoints(id) {
+        Some(list) => {
+            let (memory, count) = list.kept_near(time, *many);
+            *many = count;
+            memory
+        }
         None => Memory::with_one_output(&[], 0),
     }
 }

@@ -1,13 +1,14 @@
 //! All work of a change, as stretches.
-ghost use Rattle.std.specs.Prelude.{◌+◌, IfOk, OnOk};
+ghost use Rattle.std.specs.Prelude.{◌+◌, ◌≤◌, ℕ, IfOk, OnOk};
+ghost use Rattle.mp_netlist.specs.Circuit.{Circuit};
 ghost use Rattle.mp_model.specs.Reach.{IsTouched};
 ghost use Rattle.mp_work.specs.Revisions.{IsKept};
 ghost use Rattle.mp_work.specs.Stretches.{AreStretches};
 ghost use Rattle.mp_differences.specs.Blocks.{IsStretchIn};
-ghost use Rattle.mp_differences.specs.Built.{AreFound};
+ghost use Rattle.mp_differences.specs.Built.{AreFound, AreFoundBut};
 ghost use Rattle.mp_differences.specs.Changes.{AreRuns};
 
-use crate::blocks::{Block, stretch_from, stretch_in};
+use crate::blocks::{Block, Places, differs, stretch_from, stretch_through, stretch_within};
 use crate::change::Change;
 use mp_depend::is_touched;
 use mp_netlist::{ModuleId, ModuleRecord, checkpoint_units};
@@ -52,7 +53,7 @@ fn whole_stretch(change: &Change<'_>, id: ModuleId) -> Stretch
     stretch_from(change, id, Block { from: 0, to }, 0)
 }
 
-/// Adds the stretches of a module that isn't touched, block by block.
+/// Adds the stretches of a module that isn't touched, block by block. A stretch that goes on is added at its end.
 fn add_blocks(
     change: &Change<'_>,
     id: ModuleId,
@@ -65,13 +66,29 @@ fn add_blocks(
     ensures { OnOk result (AreFound change.now.old.now change.now.new.now id.0 change.now.new.now.horizon all.new.items) }
 {
     let horizon = change.new.horizon();
+    let mut places = Places::default();
+    let mut begun = None;
     let mut from = 0;
     while from < horizon {
         let to = horizon.min(from + checkpoint_units(horizon));
-        if let Some(stretch) = stretch_in(change, id, found, Block { from, to }) {
-            all.push(stretch)?;
+        let block = Block { from, to };
+        if differs(change, id, from, &mut places) {
+            begun = Some(stretch_through(change, id, block, begun));
+        } else {
+            add_begun(all, begun)?;
+            begun = stretch_within(change, id, found, block);
         }
         from = to;
+    }
+    add_begun(all, begun)
+}
+
+/// Adds the stretch that went on so far, if any.
+fn add_begun(all: &mut Vec<Stretch>, begun: Option<Stretch>) -> Result<(), AllocError>
+    ensures { OnOk result ((old new : Circuit) (m upto : ℕ) → upto ≤ new.horizon → AreFoundBut old new m upto all.old.items begun → AreFound old new m upto all.new.items) }
+{
+    if let Some(stretch) = begun {
+        all.push(stretch)?;
     }
     Ok(())
 }
