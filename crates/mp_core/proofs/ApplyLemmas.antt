@@ -57,12 +57,12 @@ pub record IsApplied (s new : Simulator) (set others : List ℕ) (time : ℕ) : 
   pub added : AreAdded s.states.items new.states.items (entries_from s.fanout (next_slot s ++ set) ++ entries_from s.fanout others)
   pub adding : IsAdding new.states.items new.due.items []
   pub places : length new.states.items ≡ length s.states.items
-  pub waves : AreToggled s.waves.items new.waves.items (next_slot s ++ set) time
+  pub waves : AreToggled s.waves new.waves (next_slot s ++ set) time
 
 pub is_applied : (s new : Simulator) (set others wires : List ℕ) (time : ℕ) (mid : List AutomatonState) →
     wires ≡ next_slot s ++ set → new.wheel ≡ drop 1 s.wheel ++ [] ∷ [] → new.fanout ≡ s.fanout → new.levels.items ≡ s.levels.items → new.outputs ≡ s.outputs →
     AreAdded s.states.items mid (entries_from s.fanout wires) → AreAdded mid new.states.items (entries_from s.fanout others) →
-    IsAdding new.states.items new.due.items [] → length new.states.items ≡ length s.states.items → AreToggled s.waves.items new.waves.items wires time →
+    IsAdding new.states.items new.due.items [] → length new.states.items ≡ length s.states.items → AreToggled s.waves new.waves wires time →
     IsApplied s new set others time
 is_applied s new set others wires time mid same turned fanout levels outputs first then adding places waves = record {
   turned = turned;
@@ -73,17 +73,17 @@ is_applied s new set others wires time mid same turned fanout levels outputs fir
       (subst (λ ws. AreAdded s.states.items mid (entries_from s.fanout ws)) same first) then;
   adding = adding;
   places = places;
-  waves = subst (λ ws. AreToggled s.waves.items new.waves.items ws time) same waves;
+  waves = subst (λ ws. AreToggled s.waves new.waves ws time) same waves;
 }
 
 -- the wires that toggle have waves
-pub all_waved : (s : Simulator) (set : List ℕ) → IsSound s → All (λ w. w < length s.waves.items) set → All (λ w. w < length s.waves.items) (next_slot s ++ set)
+pub all_waved : (s : Simulator) (set : List ℕ) → IsSound s → All (λ w. w < length s.waves) set → All (λ w. w < length s.waves) (next_slot s ++ set)
 all_waved s set sound waved =
-    All-append (λ w. w < length s.waves.items) (next_slot s) set (all_below (length s.waves.items) (next_slot s) (λ w high. sound.waved w 0 high)) waved
+    All-append (λ w. w < length s.waves) (next_slot s) set (all_below (length s.waves) (next_slot s) (λ w high. sound.waved w 0 high)) waved
 
-pub all_rowed : (s : Simulator) (wires : List ℕ) → IsSound s → All (λ w. w < length s.waves.items) wires → All (λ w. w < length s.fanout) wires
+pub all_rowed : (s : Simulator) (wires : List ℕ) → IsSound s → All (λ w. w < length s.waves) wires → All (λ w. w < length s.fanout) wires
 all_rowed s wires sound waved k d within =
-    let low : slice_index_or wires k d < length s.waves.items = waved k d within in
+    let low : slice_index_or wires k d < length s.waves = waved k d within in
     let rows = sound.rows in
     omega arith
 
@@ -129,7 +129,7 @@ module _ (s new : Simulator) (set others : List ℕ) (time : ℕ) (sound : IsSou
   long_as : length new.wheel ≡ length s.wheel
   long_as = ap (length {A = List ℕ}) is.turned ∙ turned_length s.wheel sound.some
 
-  waved_as : length new.waves.items ≡ length s.waves.items
+  waved_as : length new.waves ≡ length s.waves
   waved_as = is.waves.placed
 
   numbered_now : (units : ℕ → UnitState) → AreNumbered s.states.items units → AreNumbered new.states.items (λ q. with_events (units q) (state_at new.states.items q))
@@ -152,7 +152,7 @@ module _ (s new : Simulator) (set others : List ℕ) (time : ℕ) (sound : IsSou
     eventful = λ x. subst (λ (rows : List (List FanoutEntry)). All (λ (l : FanoutEntry). 0 < l.event) (row_at rows x)) (sym is.fanout) (sound.eventful x);
     some = let some = sound.some in let a = long_as in omega arith;
     within = subst (λ (xs : List OutputPorts). All (HaveSlots (length new.wheel)) xs) (sym is.outputs) (subst (λ k. All (HaveSlots k) s.outputs) (sym long_as) sound.within);
-    driven = subst (λ (xs : List OutputPorts). All (AreBelow (length new.waves.items)) xs) (sym is.outputs) (subst (λ k. All (AreBelow k) s.outputs) (sym waved_as) sound.driven);
+    driven = subst (λ (xs : List OutputPorts). All (AreBelow (length new.waves)) xs) (sym is.outputs) (subst (λ k. All (AreBelow k) s.outputs) (sym waved_as) sound.driven);
     waved = λ w k high. ap (λ xs. listed w xs) (slot_is k) ∙ (let a = waved_as in sound.waved w (suc k) (omega arith));
   }
 
@@ -210,9 +210,9 @@ module _ (s new : Simulator) (set others : List ℕ) (time : ℕ) (sound : IsSou
 
     waves_now : HaveWaves n scope (t + 1) new
     waves_now w within traced =
-        let low : w < length s.waves.items = (let a = waved_as in omega arith) in
-        let wave = wave_at s.waves.items w in
-        let is_new : wave_at new.waves.items w ≡ cond (not (level n w t == level n w (t + 1))) (toggled_at wave (t + 1)) wave =
+        let low : w < length s.waves = (let a = waved_as in omega arith) in
+        let wave = wave_at s.waves w in
+        let is_new : wave_at new.waves w ≡ cond (not (level n w t == level n w (t + 1))) (toggled_at wave (t + 1)) wave =
         is.waves.each w
         ∙ ap (λ u. cond (listed w (next_slot s ++ set) == 0) wave (toggled_at wave u)) now
         ∙ ap (λ k. cond (k == 0) wave (toggled_at wave (t + 1))) (due.toggled w ∙ ap (λ b. bit (change_at n w (t + 1) && b)) traced ∙ kept (change_at n w (t + 1)))

@@ -33,14 +33,14 @@ pub record IsFired (s new : Simulator) : Type 0 where
   pub due : new.due.items ≡ []
   pub fanout : new.fanout ≡ s.fanout
   pub outputs : new.outputs ≡ s.outputs
-  pub waves : new.waves.items ≡ s.waves.items
+  pub waves : new.waves ≡ s.waves
 
 pub is_fired : (s new : Simulator) (due : List ℕ) → due ≡ s.due.items →
     ((state_of : ℕ → UnitState) → AreNumbered s.states.items state_of → HaveFired state_of due s.states.items new.states.items) →
     ((state_of : ℕ → UnitState) → AreNumbered s.states.items state_of → HaveFlipped state_of due s.levels.items new.levels.items) →
     ((state_of : ℕ → UnitState) → AreNumbered s.states.items state_of → new.wheel ≡ scheduled s.wheel (fired_by state_of s.outputs due)) →
     length new.wheel ≡ length s.wheel → length new.states.items ≡ length s.states.items → length new.levels.items ≡ length s.levels.items → new.due.items ≡ [] →
-    new.fanout ≡ s.fanout → new.outputs ≡ s.outputs → new.waves.items ≡ s.waves.items → IsFired s new
+    new.fanout ≡ s.fanout → new.outputs ≡ s.outputs → new.waves ≡ s.waves → IsFired s new
 is_fired s new due same_due states levels wheel units places leveled none fanout same waves = record {
   states = λ state_of numbered. subst (λ (xs : List ℕ). HaveFired state_of xs s.states.items new.states.items) same_due (states state_of numbered);
   levels = λ state_of numbered. subst (λ (xs : List ℕ). HaveFlipped state_of xs s.levels.items new.levels.items) same_due (levels state_of numbered);
@@ -157,7 +157,7 @@ module _ (s new : Simulator) (sound : IsSound s) (is : IsFired s new) where
     once = λ q. ap (λ xs. listed q xs) is.due ∙ sym (ap (λ k. cond (k == 0) 0 1) (quiet_now q));
   }
 
-  waved_when : (w k : ℕ) (low : Bool) → nat_lt k (length s.wheel) ≡ low → length s.waves.items ≤ w → listed w (slot_at new k) ≡ 0
+  waved_when : (w k : ℕ) (low : Bool) → nat_lt k (length s.wheel) ≡ low → length s.waves ≤ w → listed w (slot_at new k) ≡ 0
   waved_when w k true low high =
       let within : k < length s.wheel = grind (arith, nat_tests) in
       let entries = fired_by sound.units s.outputs s.due.items in
@@ -168,7 +168,7 @@ module _ (s new : Simulator) (sound : IsSound s) (is : IsFired s new) where
       ∙ sum_of_none (λ x. count_by (is_entry k w) (events_of (sound.units x) (ports_at s.outputs x))) s.due.items
       (λ j d inside_due.
       let x = slice_index_or s.due.items j d in
-      unscheduled k w (length s.waves.items) (ports_at s.outputs x) (reaction (sound.units x)).toggles
+      unscheduled k w (length s.waves) (ports_at s.outputs x) (reaction (sound.units x)).toggles
       (sound.driven x (record { first = no_port; second = no_port; third = no_port }) (due_led s sound j d inside_due)) high) in
       ap (λ (xs : List (List ℕ)). listed w (slice_index_or xs k [])) (is.wheel sound.units sound.numbered) ∙ omega arith
   waved_when w k false low high =
@@ -189,7 +189,7 @@ module _ (s new : Simulator) (sound : IsSound s) (is : IsFired s new) where
     eventful = λ x. subst (λ (rows : List (List FanoutEntry)). All (λ (l : FanoutEntry). 0 < l.event) (row_at rows x)) (sym is.fanout) (sound.eventful x);
     some = let some = sound.some in let a = is.units in omega arith;
     within = subst (λ (xs : List OutputPorts). All (HaveSlots (length new.wheel)) xs) (sym is.outputs) (subst (λ k. All (HaveSlots k) s.outputs) (sym is.units) sound.within);
-    driven = subst (λ (xs : List OutputPorts). All (AreBelow (length new.waves.items)) xs) (sym is.outputs)
+    driven = subst (λ (xs : List OutputPorts). All (AreBelow (length new.waves)) xs) (sym is.outputs)
         (subst (λ k. All (AreBelow k) s.outputs) (sym (ap (length {A = Waveform}) is.waves)) sound.driven);
     waved = λ w k high. waved_when w k (nat_lt k (length s.wheel)) refl (let a = ap (length {A = Waveform}) is.waves in omega arith);
   }

@@ -24,7 +24,7 @@ use Rattle.mp_core.proofs.SimulationLemmas.{all_changes_now}
 abbrev pub turned : Simulator → List (List ℕ) → Simulator
 turned s wheel = record s { wheel = wheel }
 
-none_toggle : (s : Simulator) (time : ℕ) → CanToggle s.waves.items [] time
+none_toggle : (s : Simulator) (time : ℕ) → CanToggle s.waves [] time
 none_toggle s time = record {
   once = λ w. omega arith;
   over = λ k d within. absurd (omega arith);
@@ -35,14 +35,14 @@ pub quiet_fit : (s : Simulator) (time : ℕ) → IsSound s → next_slot s ≡ [
 quiet_fit s time sound none = record {
   waved = λ k d within. absurd (omega arith);
   rowed = λ k d within. absurd (omega arith);
-  over = subst (λ (xs : List ℕ). CanToggle s.waves.items (xs ++ []) time) (sym none) (none_toggle s time);
+  over = subst (λ (xs : List ℕ). CanToggle s.waves (xs ++ []) time) (sym none) (none_toggle s time);
   adding = subst (λ (xs : List ℕ). IsAdding s.states.items s.due.items (entries_from s.fanout (xs ++ []) ++ entries_from s.fanout [])) (sym none) sound.events;
 }
 
 none_added : (s : Simulator) → AreAdded s.states.items s.states.items []
 none_added s = record { each = λ m. omega arith }
 
-none_toggled : (s : Simulator) (time : ℕ) → AreToggled s.waves.items s.waves.items [] time
+none_toggled : (s : Simulator) (time : ℕ) → AreToggled s.waves s.waves [] time
 none_toggled s time = record { placed = refl; each = λ w. refl }
 
 pub quiet_applied : (s : Simulator) (wheel : List (List ℕ)) (time : ℕ) → IsSound s → next_slot s ≡ [] → wheel ≡ drop 1 s.wheel ++ [] ∷ [] → IsApplied s (turned s wheel) [] [] time
@@ -54,7 +54,7 @@ quiet_applied s wheel time sound none is = record {
   added = subst (λ (xs : List ℕ). AreAdded s.states.items s.states.items (entries_from s.fanout (xs ++ []) ++ entries_from s.fanout [])) (sym none) (none_added s);
   adding = sound.events;
   places = refl;
-  waves = subst (λ (xs : List ℕ). AreToggled s.waves.items s.waves.items (xs ++ []) time) (sym none) (none_toggled s time);
+  waves = subst (λ (xs : List ℕ). AreToggled s.waves s.waves (xs ++ []) time) (sym none) (none_toggled s time);
 }
 
 pub quiet_sound : (s : Simulator) (wheel : List (List ℕ)) → IsSound s → next_slot s ≡ [] → wheel ≡ drop 1 s.wheel ++ [] ∷ [] → IsSound (turned s wheel)

@@ -30,7 +30,7 @@ IsFrom wires port = (x : ℕ) → port.wire ≡ Some x → wires ≤ x
 pub record IsSoundRun (s : Simulation) : Type 0 where
   pub simulator : IsSound s.simulator
   pub copies : AreSoundCopies (length s.simulator.fanout) s.copies
-  pub behind : All (IsFrom (length s.simulator.waves.items)) s.copies.next.items
+  pub behind : All (IsFrom (length s.simulator.waves)) s.copies.next.items
 
 -- nothing changes in the next unit that isn't set from outside
 pub record IsQuiet (s : Simulation) : Type 0 where
@@ -57,7 +57,7 @@ pub record HasHeard (n : Circuit) (scope : Scope) (before : ℕ → Option ℕ) 
 -- before a unit what changes in it can be applied
 abbrev pub CanGoOn : Type 0
 CanGoOn = (n : Circuit) → IsCircuit n → (scope : Scope) (before : ℕ → Option ℕ) (t : ℕ) (s : Simulation) (set : List ℕ) → IsSoundRun s → IsRunning n scope before t s →
-    IsWhole n scope before t → AreSet n scope set (t + 1) → All (λ w. w < length s.simulator.waves.items) set → CanApply s.simulator set (copy_slot s.copies 0) (t + 1)
+    IsWhole n scope before t → AreSet n scope set (t + 1) → All (λ w. w < length s.simulator.waves) set → CanApply s.simulator set (copy_slot s.copies 0) (t + 1)
 
 -- and then a unit is over as soon as the one before, where nothing is set in it
 abbrev pub StaysIdle : Type 0

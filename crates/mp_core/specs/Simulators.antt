@@ -32,20 +32,20 @@ pub record IsSound (s : Simulator) : Type 0 where
   pub events : IsAdding s.states.items s.due.items []
   pub levels : length s.levels.items ≡ length s.states.items
   pub outputs : length s.outputs ≡ length s.states.items
-  pub rows : length s.waves.items ≤ length s.fanout
+  pub rows : length s.waves ≤ length s.fanout
   pub placed : (x : ℕ) → All (λ (l : FanoutEntry). l.module < length s.states.items) (row_at s.fanout x)
   pub eventful : (x : ℕ) → All (λ (l : FanoutEntry). 0 < l.event) (row_at s.fanout x)
   pub some : 0 < length s.wheel
   pub within : All (HaveSlots (length s.wheel)) s.outputs
-  pub driven : All (AreBelow (length s.waves.items)) s.outputs
-  pub waved : (w k : ℕ) → length s.waves.items ≤ w → listed w (slot_at s k) ≡ 0
+  pub driven : All (AreBelow (length s.waves)) s.outputs
+  pub waved : (w k : ℕ) → length s.waves ≤ w → listed w (slot_at s k) ≡ 0
 
 -- at a time the wires of the next slot and further ones can toggle, and other numbers can be heard: each is there once, their waves are over
 -- before, and each input that reads them has had no event
 pub record CanApply (s : Simulator) (set others : List ℕ) (time : ℕ) : Type 0 where
-  pub waved : All (λ w. w < length s.waves.items) set
+  pub waved : All (λ w. w < length s.waves) set
   pub rowed : All (λ x. x < length s.fanout) others
-  pub over : CanToggle s.waves.items (next_slot s ++ set) time
+  pub over : CanToggle s.waves (next_slot s ++ set) time
   pub adding : IsAdding s.states.items s.due.items (entries_from s.fanout (next_slot s ++ set) ++ entries_from s.fanout others)
 
 -- where numbers are heard, no input of a place reads one of them but at the places that are due

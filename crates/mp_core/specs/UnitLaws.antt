@@ -9,5 +9,5 @@ use Rattle.mp_core.specs.Units.{IsBefore, AreDue}
 -- before a unit the wires and numbers that change in it can have their events, where they have waves and rows
 abbrev pub CanApplyWhenDue : Type 0
 CanApplyWhenDue = (n : Circuit) → IsCircuit n → (scope : Scope) (t : ℕ) (s : Simulator) (set others : List ℕ) → IsSound s → IsBefore n scope t s →
-    AreDue n scope t (next_slot s ++ set) others → All (λ w. w < length s.waves.items) set → All (λ x. x < length s.fanout) others →
+    AreDue n scope t (next_slot s ++ set) others → All (λ w. w < length s.waves) set → All (λ x. x < length s.fanout) others →
     CanApply s set others (t + 1)

@@ -48,7 +48,7 @@ pub record IsLaidOut (n : Circuit) (scope : Scope) (s : Simulator) : Type 0 wher
 
 -- waves that are made here have the changes of their wires up to t
 abbrev pub HaveWaves : Circuit → Scope → ℕ → Simulator → Type 0
-HaveWaves n scope t s = (w : ℕ) → w < length s.waves.items → scope.traces w ≡ true → IsTrace (level n w) t (wave_at s.waves.items w)
+HaveWaves n scope t s = (w : ℕ) → w < length s.waves → scope.traces w ≡ true → IsTrace (level n w) t (wave_at s.waves w)
 
 -- the slots after t have the changes that are known, each once, and no others
 abbrev pub HaveEvents : Circuit → Scope → ℕ → Simulator → Type 0

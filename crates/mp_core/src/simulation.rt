@@ -26,7 +26,7 @@ impl Simulation {
         ensures sound { OnOk result (IsSoundRun self.new) }
         ensures passed { OnOk result ((n : Circuit) (scope : Scope) (before : ℕ → Option ℕ) (t : ℕ) → IsCircuit n → time ≡ t + 1 → IsWhole n scope before t →
             AreSet n scope set.now (t + 1) → IsRunning n scope before t self.old → IsRunning n (with_answers scope (t + 2)) before (t + 1) self.new) }
-        ensures waves { OnOk result (length self.new.simulator.waves.items ≡ length self.old.simulator.waves.items) }
+        ensures waves { OnOk result (length self.new.simulator.waves ≡ length self.old.simulator.waves) }
     {
         if set.is_empty() && self.is_quiet() {
             self.skip_unit();
@@ -44,7 +44,7 @@ impl Simulation {
         ensures sound { OnOk result (IsSoundRun self.new) }
         ensures heard { OnOk result ((n : Circuit) (scope : Scope) (before : ℕ → Option ℕ) (t : ℕ) → IsCircuit n → time ≡ t + 1 → IsWhole n scope before t →
             AreSet n scope set.now (t + 1) → IsRunning n scope before t self.old → HasHeard n scope before t self.new) }
-        ensures waves { OnOk result (length self.new.simulator.waves.items ≡ length self.old.simulator.waves.items) }
+        ensures waves { OnOk result (length self.new.simulator.waves ≡ length self.old.simulator.waves) }
     {
         self.copies.begin_unit();
         self.simulator
@@ -62,7 +62,7 @@ impl Simulation {
         ensures sound { OnOk result (IsSoundRun self.new) }
         ensures fired { OnOk result ((n : Circuit) (scope : Scope) (before : ℕ → Option ℕ) (t : ℕ) → IsCircuit n → HasHeard n scope before t self.old →
             IsRunning n (with_answers scope (t + 2)) before (t + 1) self.new) }
-        ensures waves { OnOk result (length self.new.simulator.waves.items ≡ length self.old.simulator.waves.items) }
+        ensures waves { OnOk result (length self.new.simulator.waves ≡ length self.old.simulator.waves) }
     {
         self.simulator.fire()?;
         Ok(())
@@ -92,7 +92,7 @@ impl Simulation {
         ensures sound { IsSoundRun self.new }
         ensures passed { (n : Circuit) (scope : Scope) (before : ℕ → Option ℕ) (t : ℕ) → IsCircuit n → IsWhole n scope before t → AreSet n scope [] (t + 1) →
             IsRunning n scope before t self.old → IsRunning n (with_answers scope (t + 2)) before (t + 1) self.new }
-        ensures waves { length self.new.simulator.waves.items ≡ length self.old.simulator.waves.items }
+        ensures waves { length self.new.simulator.waves ≡ length self.old.simulator.waves }
     {
         self.simulator.wheel.skip();
         self.copies.wheel.skip();

@@ -3,10 +3,10 @@ ghost use Rattle.std.specs.Prelude.{◌≡◌};
 
 use mp_automata::{AutomatonState, PortLevels, TransitionTable};
 use mp_events::{
-    EventSlot, EventWheel, Fanout, OutputTable, add_fanout_events, fire_modules, toggle_wires,
+    EventSlot, EventWheel, Fanout, OutputTable, WaveTable, add_fanout_events, fire_modules,
+    toggle_wires,
 };
 use mp_modules::Memory;
-use mp_wave::ToggleWave;
 use std::alloc::AllocError;
 
 /// The modules of width 1 of a netlist, so far as they stand in one: each has a place, with its state, the levels at its ports, and its outputs. The
@@ -21,7 +21,7 @@ pub struct Simulator {
     pub states: Vec<AutomatonState>,
     pub levels: Vec<PortLevels>,
     pub due: Vec<u32>,
-    pub waves: Vec<ToggleWave>,
+    pub waves: WaveTable,
     pub wheel: EventWheel,
     pub present: EventSlot,
 }
@@ -49,7 +49,7 @@ impl Simulator {
         ensures present { OnOk result (self.new.present ≡ next_slot self.old ++ set.now) }
         ensures units { OnOk result (length self.new.wheel ≡ length self.old.wheel) }
         ensures places { OnOk result (length self.new.states.items ≡ length self.old.states.items) }
-        ensures waves { OnOk result (length self.new.waves.items ≡ length self.old.waves.items) }
+        ensures waves { OnOk result (length self.new.waves ≡ length self.old.waves) }
     {
         self.wheel.turn(&mut self.present);
         self.present.extend_from_slice(set)?;
@@ -75,7 +75,7 @@ impl Simulator {
         ensures outputs { OnOk result (self.new.outputs ≡ self.old.outputs) }
         ensures units { OnOk result (length self.new.wheel ≡ length self.old.wheel) }
         ensures places { OnOk result (length self.new.states.items ≡ length self.old.states.items) }
-        ensures waves { OnOk result (self.new.waves.items ≡ self.old.waves.items) }
+        ensures waves { OnOk result (self.new.waves ≡ self.old.waves) }
     {
         fire_modules(
             &self.table,

@@ -7,3 +7,5 @@ pub mod FanoutLemmas
 pub mod OutputTableLemmas
 pub mod WheelLemmas
 pub mod EmptyLemmas
+pub mod LateToggleLemmas
+pub mod WaveTableLemmas

@@ -1,10 +1,10 @@
 -- Wires of width 1 toggle, one after the other.
-use Rattle.std.proofs.Common.{◌≡◌, ◌≢◌, ℕ, suc, ◌+◌, ◌<◌, ◌≤◌, Bool, true, false, cond, List, [], ◌∷◌, ◌++◌, length, take, drop, refl, sym, ap, ◌∙◌, arith, eq-eqb, get_or-set_same, get_or-set_other, subst}
-use Rattle.std.specs.Prelude.{◌==◌, slice_set, slice_index_or}
+use Rattle.std.proofs.Common.{◌≡◌, ℕ, suc, ◌+◌, ◌<◌, ◌≤◌, Bool, true, false, cond, List, [], ◌∷◌, ◌++◌, length, take, drop, refl, sym, ap, ◌∙◌, arith, eq-eqb, subst}
+use Rattle.std.specs.Prelude.{◌==◌, slice_index_or}
 use Rattle.std.proofs.Math.Seq.{drop-cons}
-use Rattle.std.proofs.lemmas.Bool.{eqb-true, eqb-false}
+use Rattle.std.proofs.lemmas.Bool.{eqb-true}
 use Rattle.std.proofs.lemmas.Grind.{flat_map-append}
-use Rattle.std.proofs.lemmas.List.{take_more, length-set}
+use Rattle.std.proofs.lemmas.List.{take_more}
 use Rattle.std.proofs.lemmas.List.Sums.{sum_by_more, sum_by_more_le}
 use Rattle.mp_automata.specs.declared.automaton_state.AutomatonState.{AutomatonState}
 use Rattle.mp_automata.specs.Codes.{bit}
@@ -72,34 +72,29 @@ all_added rows ws i states now new within before then =
     ∙ ap (λ xs. entries_from rows (take i ws) ++ xs) (append_nil row) in
     subst (λ xs. AreAdded states new xs) (sym is) (added_both (entries_from rows (take i ws)) row before then)
 
-toggled_one : (waves now : List Waveform) (ws : List ℕ) (i time v : ℕ) (t : Bool) → i < length ws → CanToggle waves ws time → AreToggled waves now (take i ws) time →
-    slice_index_or ws i 0 < length now → (slice_index_or ws i 0 == v) ≡ t →
-    wave_at (slice_set now (slice_index_or ws i 0) (toggled_at (wave_at now (slice_index_or ws i 0)) time)) v ≡
-    cond (listed v (take (i + 1) ws) == 0) (wave_at waves v) (toggled_at (wave_at waves v) time)
-toggled_one waves now ws i time v true within over are placed is =
+toggled_one : (waves now new : List Waveform) (ws : List ℕ) (i time v : ℕ) (t : Bool) → i < length ws → CanToggle waves ws time → AreToggled waves now (take i ws) time →
+    (slice_index_or ws i 0 == v) ≡ t → wave_at new v ≡ cond (0 + cond t 1 0 == 0) (wave_at now v) (toggled_at (wave_at now v) time) →
+    wave_at new v ≡ cond (listed v (take (i + 1) ws) == 0) (wave_at waves v) (toggled_at (wave_at waves v) time)
+toggled_one waves now new ws i time v true within over are is then =
     let w = slice_index_or ws i 0 in
-    let same : w ≡ v = eqb-true w v is in
     let none = fresh ws i within over.once in
     let more = listed_next ws i w within in
     let own : bit (w == w) ≡ 1 = ap bit (eq-eqb w w refl) in
     let one : listed w (take (i + 1) ws) ≡ 1 = omega arith in
-    subst (λ k. wave_at (slice_set now w (toggled_at (wave_at now w) time)) k ≡ cond (listed k (take (i + 1) ws) == 0) (wave_at waves k) (toggled_at (wave_at waves k) time)) same
-    (get_or-set_same now w (toggled_at (wave_at now w) time) (record { initial = 0; changes = [] }) placed
-    ∙ ap (λ k. toggled_at k time) (same_yet waves now ws i time within over are)
-    ∙ sym (ap (λ n. cond (n == 0) (wave_at waves w) (toggled_at (wave_at waves w) time)) one))
-toggled_one waves now ws i time v false within over are placed is =
+    subst (λ k. wave_at now k ≡ wave_at waves k → wave_at new k ≡ toggled_at (wave_at now k) time → wave_at new k ≡ cond (listed k (take (i + 1) ws) == 0) (wave_at waves k) (toggled_at (wave_at waves k) time))
+    (eqb-true w v is)
+    (λ same toggled. toggled ∙ ap (λ k. toggled_at k time) same ∙ sym (ap (λ n. cond (n == 0) (wave_at waves w) (toggled_at (wave_at waves w) time)) one))
+    (subst (λ k. wave_at now k ≡ wave_at waves k) (eqb-true w v is) (same_yet waves now ws i time within over are)) then
+toggled_one waves now new ws i time v false within over are is then =
     let w = slice_index_or ws i 0 in
-    let other : v ≢ w = λ e. eqb-false w v is (sym e) in
     let more = listed_next ws i v within in
     let none : bit (w == v) ≡ 0 = ap bit is in
     let as_before : listed v (take (i + 1) ws) ≡ listed v (take i ws) = omega arith in
-    get_or-set_other now w v (toggled_at (wave_at now w) time) (record { initial = 0; changes = [] }) other
-    ∙ are.each v
-    ∙ sym (ap (λ n. cond (n == 0) (wave_at waves v) (toggled_at (wave_at waves v) time)) as_before)
+    then ∙ are.each v ∙ sym (ap (λ n. cond (n == 0) (wave_at waves v) (toggled_at (wave_at waves v) time)) as_before)
 
 pub toggled_next : (waves now new : List Waveform) (ws : List ℕ) (i time : ℕ) → i < length ws → CanToggle waves ws time → AreToggled waves now (take i ws) time →
-    slice_index_or ws i 0 < length now → new ≡ slice_set now (slice_index_or ws i 0) (toggled_at (wave_at now (slice_index_or ws i 0)) time) → AreToggled waves new (take (i + 1) ws) time
-toggled_next waves now new ws i time within over are placed is = record {
-  placed = ap length is ∙ length-set now _ _ ∙ are.placed;
-  each = λ v. ap (λ xs. wave_at xs v) is ∙ toggled_one waves now ws i time v (slice_index_or ws i 0 == v) within over are placed refl;
+    AreToggled now new (slice_index_or ws i 0 ∷ []) time → AreToggled waves new (take (i + 1) ws) time
+toggled_next waves now new ws i time within over are then = record {
+  placed = then.placed ∙ are.placed;
+  each = λ v. toggled_one waves now new ws i time v (slice_index_or ws i 0 == v) within over are refl (then.each v);
 }

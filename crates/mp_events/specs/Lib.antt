@@ -6,3 +6,4 @@ pub mod OutputTables
 pub mod Firing
 pub mod LevelFlips
 pub mod Fanouts
+pub mod WaveTables

@@ -60,10 +60,10 @@ module _ (n : Circuit) (ok : IsCircuit n) (active on : ℕ → Bool) (numbering 
   pub same_fanout : new.bits.simulator.fanout ≡ s.bits.simulator.fanout
   same_fanout = ap (λ (x : Simulator). x.fanout) made.bits.simulator
 
-  wire_past : (w : ℕ) → length s.bits.simulator.waves.items ≤ w → is_bit_wire n w ≡ false
+  wire_past : (w : ℕ) → length s.bits.simulator.waves ≤ w → is_bit_wire n w ≡ false
   wire_past w past = ap (λ b. b && not (is_data n w)) (le-ltb w (length n.wires) (let same = shown.bits.wires in omega (arith, past, same)))
 
-  none_waved : (w k : ℕ) → length s.bits.simulator.waves.items ≤ w → listed w (slice_index_or new.bits.simulator.wheel k []) ≡ 0
+  none_waved : (w k : ℕ) → length s.bits.simulator.waves ≤ w → listed w (slice_index_or new.bits.simulator.wheel k []) ≡ 0
   none_waved w k past = elim (cases_lt k (length s.bits.simulator.wheel)) as (λ _. listed w (slice_index_or new.bits.simulator.wheel k []) ≡ 0) [
     | inl within ↦ made.bits.events w k within ∙ by (is_port_of m (driver n w))
     | inr beyond ↦ ap (listed w) (get_or_past new.bits.simulator.wheel k [] (let same = made.bits.units in omega (arith, beyond, same)))
@@ -108,8 +108,8 @@ module _ (n : Circuit) (ok : IsCircuit n) (active on : ℕ → Bool) (numbering 
     simulator = subst IsSound (sym made.bits.simulator) sound_mid;
     copies = subst (λ (rows : List (List FanoutEntry)). AreSoundCopies (length rows) new.bits.copies) (sym same_fanout)
         (subst (λ (c : DelayedCopies). AreSoundCopies numbers c) (sym made.copies) shown.bits.sound.copies);
-    behind = subst (λ (x : Simulator). All (IsFrom (length x.waves.items)) new.bits.copies.next.items) (sym made.bits.simulator)
-        (subst (λ (c : DelayedCopies). All (IsFrom (length s.bits.simulator.waves.items)) c.next.items) (sym made.copies) shown.bits.sound.behind);
+    behind = subst (λ (x : Simulator). All (IsFrom (length x.waves)) new.bits.copies.next.items) (sym made.bits.simulator)
+        (subst (λ (c : DelayedCopies). All (IsFrom (length s.bits.simulator.waves)) c.next.items) (sym made.copies) shown.bits.sound.behind);
   }
 
   -- ---- modules and wires of width 1
@@ -182,11 +182,11 @@ module _ (n : Circuit) (ok : IsCircuit n) (active on : ℕ → Bool) (numbering 
   bits_made = record {
     sound = sound_run;
     places = made.bits.states ∙ shown.bits.places;
-    wires = ap (λ (x : Simulator). length x.waves.items) made.bits.simulator ∙ shown.bits.wires;
+    wires = ap (λ (x : Simulator). length x.waves) made.bits.simulator ∙ shown.bits.wires;
     idle = ap (λ (x : Simulator). x.due.items) made.bits.simulator ∙ shown.bits.idle;
     seats = seat_made;
     asleep = asleep_made;
-    traces = λ w narrow. subst (λ (x : Simulator). IsTrace (shown_level n on w) t (wave_at x.waves.items w)) (sym made.bits.simulator) (shown.bits.traces w narrow);
+    traces = λ w narrow. subst (λ (x : Simulator). IsTrace (shown_level n on w) t (wave_at x.waves w)) (sym made.bits.simulator) (shown.bits.traces w narrow);
     room = room_made;
     events = event_made;
     copies = copy_kept;

@@ -53,7 +53,7 @@ module _ (n : Circuit) (ok : IsCircuit n) (active on : ℕ → Bool) (numbering 
   same_fanout : new.bits.simulator.fanout ≡ s.bits.simulator.fanout
   same_fanout = ap (λ (x : Simulator). x.fanout) left.simulator
 
-  none_waved : (w k : ℕ) → length s.bits.simulator.waves.items ≤ w → listed w (slice_index_or new.bits.simulator.wheel k []) ≡ 0
+  none_waved : (w k : ℕ) → length s.bits.simulator.waves ≤ w → listed w (slice_index_or new.bits.simulator.wheel k []) ≡ 0
   none_waved w k past = elim (cases_lt k (length s.bits.simulator.wheel)) as (λ _. listed w (slice_index_or new.bits.simulator.wheel k []) ≡ 0) [
     | inl within ↦ left.events w k within ∙ by (is_port_in leaving (driver n w))
     | inr beyond ↦ ap (listed w) (get_or_past new.bits.simulator.wheel k [] (let same = left.units in omega (arith, beyond, same)))
@@ -108,8 +108,8 @@ module _ (n : Circuit) (ok : IsCircuit n) (active on : ℕ → Bool) (numbering 
     simulator = subst IsSound (sym left.simulator) sound_mid;
     copies = subst (λ (rows : List (List FanoutEntry)). AreSoundCopies (length rows) new.bits.copies) (sym same_fanout)
         (subst (λ (c : DelayedCopies). AreSoundCopies numbers c) (sym left.copies) shown.bits.sound.copies);
-    behind = subst (λ (x : Simulator). All (IsFrom (length x.waves.items)) new.bits.copies.next.items) (sym left.simulator)
-        (subst (λ (c : DelayedCopies). All (IsFrom (length s.bits.simulator.waves.items)) c.next.items) (sym left.copies) shown.bits.sound.behind);
+    behind = subst (λ (x : Simulator). All (IsFrom (length x.waves)) new.bits.copies.next.items) (sym left.simulator)
+        (subst (λ (c : DelayedCopies). All (IsFrom (length s.bits.simulator.waves)) c.next.items) (sym left.copies) shown.bits.sound.behind);
   }
 
   -- ---- modules and wires of width 1
@@ -148,11 +148,11 @@ module _ (n : Circuit) (ok : IsCircuit n) (active on : ℕ → Bool) (numbering 
   bits_left = record {
     sound = sound_run;
     places = left.states ∙ shown.bits.places;
-    wires = ap (λ (x : Simulator). length x.waves.items) left.simulator ∙ shown.bits.wires;
+    wires = ap (λ (x : Simulator). length x.waves) left.simulator ∙ shown.bits.wires;
     idle = ap (λ (x : Simulator). x.due.items) left.simulator ∙ shown.bits.idle;
     seats = seat_kept;
     asleep = asleep_left;
-    traces = λ w narrow. subst (λ (x : Simulator). IsTrace (shown_level n on w) t (wave_at x.waves.items w)) (sym left.simulator) (shown.bits.traces w narrow);
+    traces = λ w narrow. subst (λ (x : Simulator). IsTrace (shown_level n on w) t (wave_at x.waves w)) (sym left.simulator) (shown.bits.traces w narrow);
     room = λ w p k r drives awake at.
         let same = left.units in let enough = shown.bits.room w p k r drives (other_is n active leaving k.0 awake).awake at in omega (arith, same, enough);
     events = event_left;

@@ -158,7 +158,7 @@ module _ (n : Circuit) (ok : IsCircuit n) (active on : ℕ → Bool) (ports : Ar
   }
 
   -- ---- wires of width 1
-  wires_long : length s.bits.simulator.waves.items ≡ length n.wires
+  wires_long : length s.bits.simulator.waves ≡ length n.wires
   wires_long = is.waves ∙ length_on n active on 0 n.wires
 
   level_bit : (w u : ℕ) → is_bit_wire n w ≡ true → level (excerpt n active on) w u ≤ 1
@@ -166,9 +166,9 @@ module _ (n : Circuit) (ok : IsCircuit n) (active on : ℕ → Bool) (ports : Ar
       let bits = late_bit (excerpt n active on) seen_ok (w, 0) u (wide_there w ∙ (bit_parts n w narrow).1) in
       subst (λ v. v ≤ 1) (own_level (excerpt n active on) w u) bits
 
-  trace_shown : (w : ℕ) → is_bit_wire n w ≡ true → IsTrace (shown_level n on w) t (wave_at s.bits.simulator.waves.items w)
+  trace_shown : (w : ℕ) → is_bit_wire n w ≡ true → IsTrace (shown_level n on w) t (wave_at s.bits.simulator.waves w)
   trace_shown w narrow =
-      same_trace (level (excerpt n active on) w) (shown_level n on w) t (wave_at s.bits.simulator.waves.items w) (λ u within. level_there n ok active on ports t low w u within)
+      same_trace (level (excerpt n active on) w) (shown_level n on w) t (wave_at s.bits.simulator.waves w) (λ u within. level_there n ok active on ports t low w u within)
       (λ u. level_bit w u narrow) (stands.waves w (let inside = (bit_parts n w narrow).0 in let same = wires_long in omega (arith, inside, same)) (traces w ∙ narrow))
 
   known_at : (w : ℕ) (m : ModuleId) (p : ℕ) → driver (excerpt n active on) w ≡ Port m p → is.scope.known m.0 ≡ t + 1

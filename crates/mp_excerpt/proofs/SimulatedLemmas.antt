@@ -112,7 +112,7 @@ module _ (n : Circuit) (ok : IsCircuit n) (active on : ℕ → Bool) (ports : Ar
   -- ---- wires of width 1
   have_waves : HaveWaves (excerpt n active on) (scope_of n active numbering t) t s.bits.simulator
   have_waves w within narrow =
-      same_trace (shown_level n on w) (level (excerpt n active on) w) t (wave_at s.bits.simulator.waves.items w) (λ u before. sym (level_there n ok active on ports t low w u before))
+      same_trace (shown_level n on w) (level (excerpt n active on) w) t (wave_at s.bits.simulator.waves w) (λ u before. sym (level_there n ok active on ports t low w u before))
       (λ u. shown_bit n ok on w u (bit_parts n w narrow).1) (shown.bits.traces w narrow)
 
   have_events : HaveEvents (excerpt n active on) (scope_of n active numbering t) t s.bits.simulator

@@ -67,9 +67,9 @@ module _ (n : Circuit) (ok : IsCircuit n) where
         let now : u ≡ 0 = omega (arith, before) in
         subst (λ k. shown_level n on w k ≡ shown_level n other w k) (sym now) (first_shown on w ∙ sym (first_shown other w))
 
-    trace_first : (w : ℕ) → is_bit_wire n w ≡ true → IsTrace (shown_level n other w) 0 (wave_at s.bits.simulator.waves.items w)
+    trace_first : (w : ℕ) → is_bit_wire n w ≡ true → IsTrace (shown_level n other w) 0 (wave_at s.bits.simulator.waves w)
     trace_first w narrow =
-        same_trace (shown_level n on w) (shown_level n other w) 0 (wave_at s.bits.simulator.waves.items w) (first_level_same w) (λ u. shown_bit n ok on w u (bit_parts n w narrow).1)
+        same_trace (shown_level n on w) (shown_level n other w) 0 (wave_at s.bits.simulator.waves w) (first_level_same w) (λ u. shown_bit n ok on w u (bit_parts n w narrow).1)
         (shown.bits.traces w narrow)
 
     copy_first : (x k : ℕ) → k < length s.bits.copies.wheel → IsCopyShown n other numbering 0 s.bits.copies x k

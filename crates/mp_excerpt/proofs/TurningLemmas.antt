@@ -129,7 +129,7 @@ module _ (n : Circuit) (ok : IsCircuit n) (active on : ℕ → Bool) (ports : Ar
     simulator = subst IsSound (sym turned.simulator) sound_mid;
     copies = subst (λ (rows : List (List FanoutEntry)). AreSoundCopies (length rows) new.bits.copies) (sym same_fanout) sound_copies;
     behind = subst (λ k. All (IsFrom k) new.bits.copies.next.items) (sym turned.traces)
-        (subst (λ (xs : List OutputPort). All (IsFrom (length s.bits.simulator.waves.items)) xs) (sym turned.next) shown.bits.sound.behind);
+        (subst (λ (xs : List OutputPort). All (IsFrom (length s.bits.simulator.waves)) xs) (sym turned.next) shown.bits.sound.behind);
   }
 
   -- ---- modules and wires of width 1
@@ -138,15 +138,15 @@ module _ (n : Circuit) (ok : IsCircuit n) (active on : ℕ → Bool) (ports : Ar
       let seat = shown.bits.seats m r at place in
       subst (λ (x : Simulator). IsSeatShown n numbering t m r x) (sym turned.simulator) (record { reads = seat.reads; numbers = seat.numbers; drives = seat.drives; word = seat.word; levels = seat.levels })
 
-  trace_turned : (v : ℕ) → is_bit_wire n v ≡ true → IsTrace (shown_level n (with_wire on w) v) t (wave_at new.bits.simulator.waves.items v)
-  trace_turned v narrow = elim (cases_Bool (v == w)) as (λ _. IsTrace (shown_level n (with_wire on w) v) t (wave_at new.bits.simulator.waves.items v)) [
+  trace_turned : (v : ℕ) → is_bit_wire n v ≡ true → IsTrace (shown_level n (with_wire on w) v) t (wave_at new.bits.simulator.waves v)
+  trace_turned v narrow = elim (cases_Bool (v == w)) as (λ _. IsTrace (shown_level n (with_wire on w) v) t (wave_at new.bits.simulator.waves v)) [
     | inl here ↦
         let same : v ≡ w = eqb-true v w here in
-        trace_as (level n v) (shown_level n (with_wire on w) v) t (wave_at new.bits.simulator.waves.items v) (λ u. level_here v u here)
-        (subst (λ k. IsTrace (level n k) t (wave_at new.bits.simulator.waves.items k)) (sym same) (turned.trace (subst (λ k. is_bit_wire n k ≡ true) same narrow)))
+        trace_as (level n v) (shown_level n (with_wire on w) v) t (wave_at new.bits.simulator.waves v) (λ u. level_here v u here)
+        (subst (λ k. IsTrace (level n k) t (wave_at new.bits.simulator.waves k)) (sym same) (turned.trace (subst (λ k. is_bit_wire n k ≡ true) same narrow)))
     | inr other ↦
         subst (λ (wave : Waveform). IsTrace (shown_level n (with_wire on w) v) t wave) (sym (turned.other_traces v other))
-        (trace_as (shown_level n on v) (shown_level n (with_wire on w) v) t (wave_at s.bits.simulator.waves.items v) (λ u. level_else v u other) (shown.bits.traces v narrow))
+        (trace_as (shown_level n on v) (shown_level n (with_wire on w) v) t (wave_at s.bits.simulator.waves v) (λ u. level_else v u other) (shown.bits.traces v narrow))
   ]
 
   event_kept : (v k : ℕ) → k < length new.bits.simulator.wheel → IsEventShown n active t new.bits.simulator v k

@@ -46,7 +46,7 @@ pub record IsBitModuleActivated (n : Circuit) (numbering : Numbering) (m t : ℕ
   pub outputs : length new.bits.simulator.outputs ≡ length s.bits.simulator.outputs
   pub units : length new.bits.simulator.wheel ≡ length s.bits.simulator.wheel
   pub slots : All (HaveSlots (length s.bits.simulator.wheel)) new.bits.simulator.outputs
-  pub driven : All (AreBelow (length s.bits.simulator.waves.items)) new.bits.simulator.outputs
+  pub driven : All (AreBelow (length s.bits.simulator.waves)) new.bits.simulator.outputs
   pub seat : (module_width n r == 1) ≡ true → IsSeatShown n numbering t m r new.bits.simulator
   pub sleeps : (module_width n r == 1) ≡ false → IsAsleep (state_at new.bits.simulator.states.items m)
   pub other_states : (q : ℕ) → (q == m) ≡ false → state_at new.bits.simulator.states.items q ≡ state_at s.bits.simulator.states.items q

@@ -55,11 +55,11 @@ pub record IsAsleep (word : ℕ) : Type 0 where
 pub record AreBitsShown (n : Circuit) (active on : ℕ → Bool) (numbering : Numbering) (t : ℕ) (s : NetlistSimulation) : Type 0 where
   pub sound : IsSoundRun s.bits
   pub places : length s.bits.simulator.states.items ≡ length n.modules
-  pub wires : length s.bits.simulator.waves.items ≡ length n.wires
+  pub wires : length s.bits.simulator.waves ≡ length n.wires
   pub idle : s.bits.simulator.due.items ≡ []
   pub seats : (m : ℕ) (r : ModuleRecord) → module_at n m ≡ Some r → place_of n active m ≡ Some m → IsSeatShown n numbering t m r s.bits.simulator
   pub asleep : (q : ℕ) → q < length n.modules → place_of n active q ≡ None → IsAsleep (state_at s.bits.simulator.states.items q)
-  pub traces : (w : ℕ) → is_bit_wire n w ≡ true → IsTrace (shown_level n on w) t (wave_at s.bits.simulator.waves.items w)
+  pub traces : (w : ℕ) → is_bit_wire n w ≡ true → IsTrace (shown_level n on w) t (wave_at s.bits.simulator.waves w)
   pub room : (w p : ℕ) (m : ModuleId) (r : ModuleRecord) → driver n w ≡ Port m p → active m.0 ≡ true → module_at n m.0 ≡ Some r → delay_of r p ≤ length s.bits.simulator.wheel
   pub events : (w k : ℕ) → k < length s.bits.simulator.wheel → IsEventShown n active t s.bits.simulator w k
   pub copies : (x k : ℕ) → k < length s.bits.copies.wheel → IsCopyShown n on numbering t s.bits.copies x k

@@ -48,9 +48,9 @@ IsChangeTurned n numbering w t s new x k =
 -- else is as it was
 pub record IsTurnedOn (n : Circuit) (numbering : Numbering) (w t : ℕ) (s new : NetlistSimulation) : Type 0 where
   pub simulator : new.bits.simulator ≡ record (s.bits.simulator) { waves = new.bits.simulator.waves }
-  pub traces : length new.bits.simulator.waves.items ≡ length s.bits.simulator.waves.items
-  pub trace : is_bit_wire n w ≡ true → IsTrace (level n w) t (wave_at new.bits.simulator.waves.items w)
-  pub other_traces : (v : ℕ) → (v == w) ≡ false → wave_at new.bits.simulator.waves.items v ≡ wave_at s.bits.simulator.waves.items v
+  pub traces : length new.bits.simulator.waves ≡ length s.bits.simulator.waves
+  pub trace : is_bit_wire n w ≡ true → IsTrace (level n w) t (wave_at new.bits.simulator.waves w)
+  pub other_traces : (v : ℕ) → (v == w) ≡ false → wave_at new.bits.simulator.waves v ≡ wave_at s.bits.simulator.waves v
   pub next : new.bits.copies.next.items ≡ s.bits.copies.next.items
   pub copy_units : length new.bits.copies.wheel ≡ length s.bits.copies.wheel
   pub copies : (x k : ℕ) → k < length s.bits.copies.wheel → IsCopyTurned n numbering w t s new x k

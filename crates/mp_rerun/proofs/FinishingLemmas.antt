@@ -76,19 +76,19 @@ abbrev pub wave_so_far : Circuit → ℕ → ℕ → Option WireRecord → Optio
 wave_so_far n t w slot = option_map (λ (r : WireRecord). wave_upto (level n w) t) slot
 
 pub shown_is : (n : Circuit) → IsCircuit n → (active on : ℕ → Bool) (numbering : Numbering) (t : ℕ) (s : NetlistSimulation) → Shows n active on numbering t s → (w : ℕ) → w < length n.wires → on w ≡ true →
-    wave_for (wire_at n w) (Some (wave_at s.bits.simulator.waves.items w)) (Some (building_at s.wires.waves.items w)) ≡ wave_so_far n t w (wire_at n w)
+    wave_for (wire_at n w) (Some (wave_at s.bits.simulator.waves w)) (Some (building_at s.wires.waves.items w)) ≡ wave_so_far n t w (wire_at n w)
 shown_is n ok active on numbering t s shows w low lit = by_slot (wire_at n w) refl
   where
     shown_same : wave_upto (shown_level n on w) t ≡ wave_upto (level n w) t
     shown_same = ap (λ b. wave_upto (λ u. cond b (level n w u) (initial_of (wire_at n w))) t) lit
 
     by_slot : (slot : Option WireRecord) → wire_at n w ≡ slot →
-        wave_for slot (Some (wave_at s.bits.simulator.waves.items w)) (Some (building_at s.wires.waves.items w)) ≡ wave_so_far n t w slot
+        wave_for slot (Some (wave_at s.bits.simulator.waves w)) (Some (building_at s.wires.waves.items w)) ≡ wave_so_far n t w slot
     by_slot None at = refl
     by_slot (Some r) at = by_width (r.width == 1) refl
       where
         by_width : (b : Bool) → (r.width == 1) ≡ b →
-            cond b (Some (wave_at s.bits.simulator.waves.items w)) (Some (building_at s.wires.waves.items w).wave) ≡ Some (wave_upto (level n w) t)
+            cond b (Some (wave_at s.bits.simulator.waves w)) (Some (building_at s.wires.waves.items w).wave) ≡ Some (wave_upto (level n w) t)
         by_width true one =
             let none : is_data n w ≡ false = ap has_data at ∙ ap not one in
             let traced : is_bit_wire n w ≡ true = ap (λ b. b && not (is_data n w)) (lt-ltb w (length n.wires) low) ∙ ap not none in
@@ -195,7 +195,7 @@ module _ (old new : Circuit) (old_ok : IsCircuit old) (ok : IsCircuit new) (revi
 
   -- the wave in the simulation
   abbrev wave_there : ℕ → Option Waveform
-  wave_there w = wave_for (wire_at new w) (Some (wave_at s.simulation.bits.simulator.waves.items w)) (Some (building_at s.simulation.wires.waves.items w))
+  wave_there w = wave_for (wire_at new w) (Some (wave_at s.simulation.bits.simulator.waves w)) (Some (building_at s.simulation.wires.waves.items w))
 
   there : (w : ℕ) → w < length new.wires → 0 < until_of s w → wave_there w ≡ wave_so_far new t w (wire_at new w)
   there w low own = shown_is new ok (active_of s) (on_of s) numbering t s.simulation is.shows w low (is.followed.lit w own)

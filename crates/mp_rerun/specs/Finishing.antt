@@ -38,10 +38,10 @@ old_from until end = if until == 0 then 0 else max until end
 -- with that of the old run, if it does
 pub record HaveWaves (new : Circuit) (run : Outcome) (sources : List WireSource) (end : ℕ) (s : NetlistSimulation) : Type 0 where
   pub places : length sources ≡ length new.wires
-  pub toggles : length s.bits.simulator.waves.items ≡ length new.wires
+  pub toggles : length s.bits.simulator.waves ≡ length new.wires
   pub built : length s.wires.waves.items ≡ length new.wires
   pub old : (w : ℕ) → until_in sources w ≡ 0 → IsSome (wire_at new w) → wave_of run w ≡ slot_wave new w (wire_at new w)
   pub shown : (w : ℕ) → w < length new.wires → new.horizon ≤ old_from (until_in sources w) end →
-      wave_for (wire_at new w) (Some (wave_at s.bits.simulator.waves.items w)) (Some (building_at s.wires.waves.items w)) ≡ slot_wave new w (wire_at new w)
+      wave_for (wire_at new w) (Some (wave_at s.bits.simulator.waves w)) (Some (building_at s.wires.waves.items w)) ≡ slot_wave new w (wire_at new w)
   pub spliced : (w : ℕ) → w < length new.wires → 0 < old_from (until_in sources w) end → old_from (until_in sources w) end < new.horizon → IsSome (wire_at new w) →
-      IsSplicedAt new run w (old_from (until_in sources w) end) (wave_for (wire_at new w) (Some (wave_at s.bits.simulator.waves.items w)) (Some (building_at s.wires.waves.items w)))
+      IsSplicedAt new run w (old_from (until_in sources w) end) (wave_for (wire_at new w) (Some (wave_at s.bits.simulator.waves w)) (Some (building_at s.wires.waves.items w)))

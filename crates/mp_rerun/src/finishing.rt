@@ -151,7 +151,7 @@ fn all_waves(
     let Simulation { simulator, .. } = bits;
     let Simulator { waves, .. } = simulator;
     let DataWires { waves: built, .. } = wires;
-    let mut toggles = waves.into_iter();
+    let mut toggles = waves.into_waves()?.into_iter();
     let mut levels = built.into_iter();
     let mut found = Vec::new(alloc);
     for w in 0..change.new.wire_slots() {

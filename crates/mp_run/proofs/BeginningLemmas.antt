@@ -225,13 +225,13 @@ module _ (n all : Circuit) (ok : IsCircuit n) (all_ok : IsCircuit all) (of_all :
       let no_data = false_when (is_data n w) (and_parts (nat_lt w (length n.wires)) (not (is_data n w)) is).1 in
       late_bit n ok (w, 1) 0 no_data
 
-  first_waves_are : (w : ℕ) → w < length s.simulator.waves.items → is_bit_wire n w ≡ true → wave_at s.simulator.waves.items w ≡ wave_upto (level n w) 0
+  first_waves_are : (w : ℕ) → w < length s.simulator.waves → is_bit_wire n w ≡ true → wave_at s.simulator.waves w ≡ wave_upto (level n w) 0
   first_waves_are w within is =
       ap (λ (xs : List Waveform). wave_at xs w) are.bits.waves
       ∙ get_or-map first_wave n.wires w None (record { initial = 0; changes = [] }) (let long = waves_long n all ok all_ok of_all plan s are in omega arith)
       ∙ ap (λ (k : ℕ). let v : Waveform = record { initial = k; changes = [] } in v) (bit_is (initial_of (wire_at n w)) (initial_bit w is) ∙ sym (first_level n ok w))
 
-  first_trace : (w : ℕ) → w < length s.simulator.waves.items → is_bit_wire n w ≡ true → IsTrace (level n w) 0 (wave_at s.simulator.waves.items w)
+  first_trace : (w : ℕ) → w < length s.simulator.waves → is_bit_wire n w ≡ true → IsTrace (level n w) 0 (wave_at s.simulator.waves w)
   first_trace w within is = record {
     times = ap (λ (v : Waveform). map time_of v.changes) (first_waves_are w within is);
     whole = λ low. first_waves_are w within is;

@@ -46,7 +46,7 @@ quiet_unit n m (Some r) = by (is_bit_module n r)
     by false = refl
 
 module _ (n all : Circuit) (ok : IsCircuit n) (all_ok : IsCircuit all) (of_all : IsPartOf n all) (plan : Layout) (s : Simulation) (are : AreBegunBits n all plan s) where
-  pub waves_long : length s.simulator.waves.items ≡ length n.wires
+  pub waves_long : length s.simulator.waves ≡ length n.wires
   waves_long = ap (length {A = Waveform}) are.bits.waves ∙ length-map n.wires first_wave
 
   pub wired : AreWired (length n.wires) (length n.modules) (reading_below all (length all.modules)) are.laid.wired.inputs plan.wired.wiring
@@ -146,6 +146,6 @@ module _ (n all : Circuit) (ok : IsCircuit n) (all_ok : IsCircuit all) (of_all :
   sound_run = record {
     simulator = sound_simulator;
     copies = sound_copies;
-    behind = kept_from (is_bit n) plan.wired.wiring.wires.items plan.wired.wiring.next.items s.copies.next.items are.bits.next (length s.simulator.waves.items)
+    behind = kept_from (is_bit n) plan.wired.wiring.wires.items plan.wired.wiring.next.items s.copies.next.items are.bits.next (length s.simulator.waves)
         (subst (λ k. All (IsFrom k) plan.wired.wiring.next.items) (sym waves_long) links_behind);
   }

@@ -38,15 +38,15 @@ bit_level n ok w none u = subst (λ k. k ≤ 1) (own_level n w u) (late_bit n ok
 
 module _ (n : Circuit) (ok : IsCircuit n) (s : NetlistSimulation) (is : IsSimulated n (n.horizon - 1) s) where
   by_slot : (w : ℕ) → w < length n.wires → (slot : Option WireRecord) → wire_at n w ≡ slot →
-      wave_for slot (Some (wave_at s.bits.simulator.waves.items w)) (Some (building_at s.wires.waves.items w)) ≡ slot_wave n w slot
+      wave_for slot (Some (wave_at s.bits.simulator.waves w)) (Some (building_at s.wires.waves.items w)) ≡ slot_wave n w slot
   by_slot w low None at = refl
   by_slot w low (Some r) at = by_width (r.width == 1) refl
     where
       by_width : (b : Bool) → (r.width == 1) ≡ b →
-          cond b (Some (wave_at s.bits.simulator.waves.items w)) (Some (building_at s.wires.waves.items w).wave) ≡ Some (wave_upto (level n w) (n.horizon - 1))
+          cond b (Some (wave_at s.bits.simulator.waves w)) (Some (building_at s.wires.waves.items w).wave) ≡ Some (wave_upto (level n w) (n.horizon - 1))
       by_width true one =
           let long = is.waves in
-          let within : w < length s.bits.simulator.waves.items = omega arith in
+          let within : w < length s.bits.simulator.waves = omega arith in
           let test : nat_lt w (length n.wires) ≡ true = grind (arith, nat_tests) in
           let none : is_data n w ≡ false = ap has_data at ∙ ap not one in
           let traced : is_bit_wire n w ≡ true = ap (λ b. b && not (is_data n w)) test ∙ ap not none in
@@ -55,9 +55,9 @@ module _ (n : Circuit) (ok : IsCircuit n) (s : NetlistSimulation) (is : IsSimula
           let has : is_data n w ≡ true = ap has_data at ∙ ap not other in
           ap (λ (v : Waveform). Some v) (is.wires.waves w has)
 
-  pub one_wave : (w : ℕ) (toggles : Option Waveform) (built : Option Building) → w < length n.wires → toggles ≡ Some (wave_at s.bits.simulator.waves.items w) →
+  pub one_wave : (w : ℕ) (toggles : Option Waveform) (built : Option Building) → w < length n.wires → toggles ≡ Some (wave_at s.bits.simulator.waves w) →
       built ≡ Some (building_at s.wires.waves.items w) → wave_for (wire_at n w) toggles built ≡ slot_wave n w (wire_at n w)
   one_wave w toggles built low toggles_are built_is =
       ap (λ (t : Option Waveform). wave_for (wire_at n w) t built) toggles_are
-      ∙ ap (λ (b : Option Building). wave_for (wire_at n w) (Some (wave_at s.bits.simulator.waves.items w)) b) built_is
+      ∙ ap (λ (b : Option Building). wave_for (wire_at n w) (Some (wave_at s.bits.simulator.waves w)) b) built_is
       ∙ by_slot w low (wire_at n w) refl

@@ -35,13 +35,13 @@ none_of false s b none = refl
 
 module _ (n : Circuit) (ok : IsCircuit n) (t : ℕ) (s : Simulation) (set : List ℕ) (is : IsEvaluated n t s) (are_set : AreSet n is.scope set (t + 1)) where
   -- no stimulus drives what is no wire
-  none_past : (w : ℕ) → length s.simulator.waves.items ≤ w → listed w set ≡ 0
+  none_past : (w : ℕ) → length s.simulator.waves ≤ w → listed w set ≡ 0
   none_past w past =
       let long = is.waves in
       are_set w ∙ none_of (change_at n w (t + 1)) (is_stimulus (driver n w)) (is.scope.traces w) (ap is_stimulus (leaves_no_driver n ok w (get_or_past n.wires w None (omega arith))))
 
-  waved : All (λ w. w < length s.simulator.waves.items) set
-  waved = all_below (length s.simulator.waves.items) set none_past
+  waved : All (λ w. w < length s.simulator.waves) set
+  waved = all_below (length s.simulator.waves) set none_past
 
   pub fit : CanApply s.simulator set (copy_slot s.copies 0) (t + 1)
   fit = can_go_on n ok is.scope is.before t s set is.sound is.running is.whole are_set waved
@@ -65,7 +65,7 @@ module _ (n : Circuit) (ok : IsCircuit n) (t : ℕ) (s : Simulation) (set : List
       known_before m None at some = cc
       known_before m (Some q) at some = is.running.simulator.stands.answered m q at
 
-  pub passed : (new : Simulation) → IsSoundRun new → length new.simulator.waves.items ≡ length s.simulator.waves.items →
+  pub passed : (new : Simulation) → IsSoundRun new → length new.simulator.waves ≡ length s.simulator.waves →
       ((scope : Scope) (before : ℕ → Option ℕ) → IsWhole n scope before t → AreSet n scope set (t + 1) → IsRunning n scope before t s → IsRunning n (with_answers scope (t + 2)) before (t + 1) new) →
       IsEvaluated n (t + 1) new
   passed new sound long run = record {
@@ -100,16 +100,16 @@ one_item (Some v) some = refl
 
 -- the next wave is that of its wire
 pub one_wave : (n : Circuit) (s : Simulation) (w : ℕ) (left rest : List Waveform) (item : Option Waveform) → IsEvaluated n (n.horizon - 1) s → ((u : ℕ) → level n w u ≤ 1) → w < length n.wires →
-    left ≡ drop w s.simulator.waves.items → left ≡ option_to_list item ++ rest → IsSome item →
-    (wave_in (wire_at n w) item ≡ slot_wave n w (wire_at n w)) × (rest ≡ drop (w + 1) s.simulator.waves.items)
+    left ≡ drop w s.simulator.waves → left ≡ option_to_list item ++ rest → IsSome item →
+    (wave_in (wire_at n w) item ≡ slot_wave n w (wire_at n w)) × (rest ≡ drop (w + 1) s.simulator.waves)
 one_wave n s w left rest item is bits low left_is taken some =
     let long = is.waves in
-    let within : w < length s.simulator.waves.items = omega arith in
+    let within : w < length s.simulator.waves = omega arith in
     let test : nat_lt w (length n.wires) ≡ true = grind (arith, nat_tests) in
-    let wave = wave_at s.simulator.waves.items w in
-    let first = first_of item (wave_at s.simulator.waves.items w) rest (drop (w + 1) s.simulator.waves.items) some
-    (sym (drop_more s.simulator.waves.items w (record { initial = 0; changes = [] }) within) ∙ sym left_is ∙ taken) in
-    (ap (wave_in (wire_at n w)) first.0 ∙ wave_of_slot n w (wave_at s.simulator.waves.items w) (wire_at n w) ((is.running.simulator.stands.waves w within (is.traces w ∙ test)).whole bits), first.1)
+    let wave = wave_at s.simulator.waves w in
+    let first = first_of item (wave_at s.simulator.waves w) rest (drop (w + 1) s.simulator.waves) some
+    (sym (drop_more s.simulator.waves w (record { initial = 0; changes = [] }) within) ∙ sym left_is ∙ taken) in
+    (ap (wave_in (wire_at n w)) first.0 ∙ wave_of_slot n w (wave_at s.simulator.waves w) (wire_at n w) ((is.running.simulator.stands.waves w within (is.traces w ∙ test)).whole bits), first.1)
 
 -- one more wave is that of its wire
 pub waves_more : (n : Circuit) (w : ℕ) (found new : List (Option Waveform)) (wave : Option Waveform) → length found ≡ w → new ≡ found ++ wave ∷ [] → wave ≡ slot_wave n w (wire_at n w) →

@@ -30,7 +30,7 @@ pub record AreFirstBits (n all : Circuit) (wiring : Wiring) (d : Delays) (s : Si
   pub levels : AreFirstLevels n (length n.modules) s.simulator.levels.items
   pub outputs : s.simulator.outputs ≡ map ports_of all.modules
   pub fanout : s.simulator.fanout ≡ wiring.rows.items
-  pub waves : s.simulator.waves.items ≡ map first_wave n.wires
+  pub waves : s.simulator.waves ≡ map first_wave n.wires
   pub due : s.simulator.due.items ≡ []
   pub units : length s.simulator.wheel ≡ d.outputs
   pub next : AreCopiesOf (is_bit n) wiring.wires.items wiring.next.items s.copies.next.items

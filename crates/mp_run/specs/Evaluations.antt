@@ -17,4 +17,4 @@ pub record IsEvaluated (n : Circuit) (t : ℕ) (s : Simulation) : Type 0 where
   pub own : (w u : ℕ) → scope.owns w u ≡ scope.traces w
   pub placed : (m : ℕ) (r : ModuleRecord) → module_at n m ≡ Some r → is_some (scope.place m) ≡ true
   pub traces : (w : ℕ) → scope.traces w ≡ nat_lt w (length n.wires)
-  pub waves : length s.simulator.waves.items ≡ length n.wires
+  pub waves : length s.simulator.waves ≡ length n.wires

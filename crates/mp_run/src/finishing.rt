@@ -26,7 +26,7 @@ pub fn found_waves(
     let Simulation { simulator, .. } = bits;
     let Simulator { waves, .. } = simulator;
     let DataWires { waves: built, .. } = wires;
-    let mut toggles = waves.into_iter();
+    let mut toggles = waves.into_waves()?.into_iter();
     let mut levels = built.into_iter();
     let mut found = Vec::new(alloc);
     for w in 0..netlist.wire_slots() {

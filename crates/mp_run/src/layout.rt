@@ -11,7 +11,7 @@ use crate::wiring::{WiredInputs, Wiring, wiring_of};
 use mp_automata::TransitionTable;
 use mp_core::{DelayedCopies, Simulation, Simulator};
 use mp_data::{LevelSlot, LevelWheel};
-use mp_events::{EventSlot, EventWheel, Fanout, OutputPorts, OutputTable};
+use mp_events::{EventSlot, EventWheel, Fanout, OutputPorts, OutputTable, WaveTable};
 use mp_regions::Region;
 use mp_units::{DataWires, NetlistSimulation};
 use std::alloc::{AllocError, Global};
@@ -104,7 +104,7 @@ impl Layout {
             states,
             levels,
             due: Vec::new(alloc),
-            waves: first_waves(alloc, netlist)?,
+            waves: WaveTable::from_waves(alloc, first_waves(alloc, netlist)?)?,
             wheel,
             present: EventSlot::new(alloc),
         };

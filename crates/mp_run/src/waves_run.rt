@@ -75,9 +75,9 @@ impl WavesRun {
     /// How often wires have changed so far.
     pub fn count_changes(&self) -> usize {
         match &self.simulation {
-            AnySimulation::Narrow(simulation) => count_toggles(&simulation.simulator.waves),
+            AnySimulation::Narrow(simulation) => simulation.simulator.waves.count_toggles(),
             AnySimulation::Wide(simulation) => {
-                let toggles = count_toggles(&simulation.bits.simulator.waves);
+                let toggles = simulation.bits.simulator.waves.count_toggles();
                 toggles.saturating_add(count_levels(&simulation.wires.waves))
             }
         }
@@ -183,15 +183,6 @@ fn is_seen_idle(simulation: &Simulation, time: u32) -> bool
     time.is_multiple_of(LOOK_UNITS) && simulation.is_idle()
 }
 
-/// How often these waves toggle.
-fn count_toggles(waves: &[ToggleWave]) -> usize {
-    let mut count = 0usize;
-    for wave in waves {
-        count = count.saturating_add(wave.times().len());
-    }
-    count
-}
-
 /// How many changes these waves have so far.
 fn count_levels(waves: &[WaveBuilder]) -> usize {
     let mut count = 0usize;
@@ -212,7 +203,7 @@ fn bit_waves(
     requires over { IsEvaluated netlist.now (netlist.now.horizon - 1) simulation }
     ensures { IfOk result (λ waves. AreWavesOf netlist.now waves.items) }
 {
-    let mut rest = waves_in(simulation).into_iter();
+    let mut rest = waves_in(simulation)?.into_iter();
     let mut found = Vec::new(alloc);
     for w in 0..netlist.wire_slots() {
         found.push(wave_of(netlist, WireId(w), rest.next()))?;
@@ -221,12 +212,12 @@ fn bit_waves(
 }
 
 /// The waves of a simulation, of which nothing else is kept.
-fn waves_in(simulation: Simulation) -> Vec<ToggleWave>
-    ensures { result.items ≡ simulation.simulator.waves.items }
+fn waves_in(simulation: Simulation) -> Result<Vec<ToggleWave>, AllocError>
+    ensures { IfOk result (λ waves. waves.items ≡ simulation.simulator.waves) }
 {
     let Simulation { simulator, .. } = simulation;
     let Simulator { waves, .. } = simulator;
-    waves
+    waves.into_waves()
 }
 
 /// The wave, where its wire stands.

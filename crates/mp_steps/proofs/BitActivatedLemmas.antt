@@ -126,7 +126,7 @@ module _ (n : Circuit) (ok : IsCircuit n) (active on : ℕ → Bool) (numbering 
     outputs = ap (length {A = OutputPorts}) same_outputs;
     units = ahead.units ∙ ap (length {A = List ℕ}) mid_wheel;
     slots = subst (λ (xs : List OutputPorts). All (HaveSlots (length s.bits.simulator.wheel)) xs) (sym same_outputs) shown.bits.sound.simulator.within;
-    driven = subst (λ (xs : List OutputPorts). All (AreBelow (length s.bits.simulator.waves.items)) xs) (sym same_outputs) shown.bits.sound.simulator.driven;
+    driven = subst (λ (xs : List OutputPorts). All (AreBelow (length s.bits.simulator.waves)) xs) (sym same_outputs) shown.bits.sound.simulator.driven;
     seat = λ is. seat_shown;
     sleeps = λ wide. let no : ⊥ = (let never = sym narrow ∙ wide in cc) in absurd no;
     other_states = λ q other. ap (λ (xs : List AutomatonState). state_at xs q) states_are ∙ ap (λ (x : AutomatonState). x.0) (get_or-set_other s.bits.simulator.states.items m q own_state (record { 0 = 0 }) (is_other q other));

@@ -131,7 +131,7 @@ module _ (n : Circuit) (ok : IsCircuit n) (active on : ℕ → Bool) (numbering 
     outputs = ap (length {A = OutputPorts}) same_outputs;
     units = units_are;
     slots = subst (λ (xs : List OutputPorts). All (HaveSlots (length s.bits.simulator.wheel)) xs) (sym same_outputs) shown.bits.sound.simulator.within;
-    driven = subst (λ (xs : List OutputPorts). All (AreBelow (length s.bits.simulator.waves.items)) xs) (sym same_outputs) shown.bits.sound.simulator.driven;
+    driven = subst (λ (xs : List OutputPorts). All (AreBelow (length s.bits.simulator.waves)) xs) (sym same_outputs) shown.bits.sound.simulator.driven;
     seat = λ narrow. let no : ⊥ = (let never = sym narrow ∙ wide in cc) in absurd no;
     sleeps = λ is. sleeps;
     other_states = λ q other. ap (λ x. state_at x.items q) same_states;

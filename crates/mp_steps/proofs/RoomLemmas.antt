@@ -15,7 +15,7 @@ use Rattle.mp_steps.proofs.ChainLemmas.{HasSameRoom}
 
 pub places_same : (wide : Bool) (w value : ℕ) (s new : NetlistSimulation) → HasSetLevel w value s new → wave_places wide new ≡ wave_places wide s
 places_same true w value s new set = ap (λ (v : DataWires). length v.waves.items) set.wires
-places_same false w value s new set = ap (λ (b : Simulation). length b.simulator.waves.items) set.bits
+places_same false w value s new set = ap (λ (b : Simulation). length b.simulator.waves) set.bits
 
 pub can_turn_copies : (wide : Bool) (w now : ℕ) (s new : NetlistSimulation) → HasSameRoom wide s new → CanTurnCopies wide w now s → CanTurnCopies wide w now new
 can_turn_copies wide w now s new same can = record {

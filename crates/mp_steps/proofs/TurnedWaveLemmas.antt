@@ -27,11 +27,11 @@ module _ (given : Turning) where
   kept_is : kept ≡ wave_upto (level n w) now
   kept_is = kept_upto (level n w) now wave form agree
 
-  pub waves_are : new.bits.simulator.waves.items ≡ cond wide s.bits.simulator.waves.items (slice_set s.bits.simulator.waves.items w kept)
+  pub waves_are : new.bits.simulator.waves ≡ cond wide s.bits.simulator.waves (slice_set s.bits.simulator.waves w kept)
   waves_are =
-      ap (λ (x : Simulator). x.waves.items) (simulator_two given)
+      ap (λ (x : Simulator). x.waves) (simulator_two given)
       ∙ then.traces
-      ∙ ap (λ (b : Simulation). cond wide b.simulator.waves.items (slice_set b.simulator.waves.items w kept)) first.bits
+      ∙ ap (λ (b : Simulation). cond wide b.simulator.waves (slice_set b.simulator.waves w kept)) first.bits
 
   pub built_are : new.wires.waves.items ≡ cond wide (slice_set s.wires.waves.items w (record { wave = kept; next = now + 1 })) s.wires.waves.items
   built_are =
@@ -40,14 +40,14 @@ module _ (given : Turning) where
       ∙ ap (λ (v : DataWires). cond wide (slice_set v.waves.items w (record { wave = kept; next = now + 1 })) v.waves.items) first.wires
 
   abbrev waves_by : Bool → List Waveform
-  waves_by v = cond v s.bits.simulator.waves.items (slice_set s.bits.simulator.waves.items w kept)
+  waves_by v = cond v s.bits.simulator.waves (slice_set s.bits.simulator.waves w kept)
 
   abbrev built_by : Bool → List Building
   built_by v = cond v (slice_set s.wires.waves.items w (record { wave = kept; next = now + 1 })) s.wires.waves.items
 
-  pub traces_long : (v : Bool) → length (waves_by v) ≡ length s.bits.simulator.waves.items
+  pub traces_long : (v : Bool) → length (waves_by v) ≡ length s.bits.simulator.waves
   traces_long true = refl
-  traces_long false = length-set s.bits.simulator.waves.items w kept
+  traces_long false = length-set s.bits.simulator.waves w kept
 
   pub built_long : (v : Bool) → length (built_by v) ≡ length s.wires.waves.items
   built_long true = length-set s.wires.waves.items w (record { wave = kept; next = now + 1 })
@@ -56,12 +56,12 @@ module _ (given : Turning) where
   pub trace_by : (v : Bool) → wide ≡ v → is_bit_wire n w ≡ true → IsTrace (level n w) now (wave_at (waves_by v) w)
   trace_by true is narrow = absurd (both_ways (is_data n w) (bit_parts n w narrow).1 (kind ∙ is))
   trace_by false is narrow =
-      let here = get_or-set_same s.bits.simulator.waves.items w kept (record { initial = 0; changes = [] }) (let same = shown.bits.wires in let low = stands in omega (arith, same, low)) in
+      let here = get_or-set_same s.bits.simulator.waves w kept (record { initial = 0; changes = [] }) (let same = shown.bits.wires in let low = stands in omega (arith, same, low)) in
       subst (IsTrace (level n w) now) (sym (here ∙ kept_is)) (trace_upto (level n w) now)
 
-  pub other_trace : (v : Bool) (u : ℕ) → (u == w) ≡ false → wave_at (waves_by v) u ≡ wave_at s.bits.simulator.waves.items u
+  pub other_trace : (v : Bool) (u : ℕ) → (u == w) ≡ false → wave_at (waves_by v) u ≡ wave_at s.bits.simulator.waves u
   other_trace true u other = refl
-  other_trace false u other = get_or-set_other s.bits.simulator.waves.items w u kept (record { initial = 0; changes = [] }) (eqb-false u w other)
+  other_trace false u other = get_or-set_other s.bits.simulator.waves w u kept (record { initial = 0; changes = [] }) (eqb-false u w other)
 
   built_here : building_at (built_by true) w ≡ record { wave = kept; next = now + 1 }
   built_here = get_or-set_same s.wires.waves.items w (record { wave = kept; next = now + 1 }) no_building (let same = shown.wires.wires in let low = stands in omega (arith, same, low))

@@ -12,7 +12,7 @@ use Rattle.mp_steps.specs.Chains.{CanTurnCopies}
 
 -- how many wires have waves where those of this kind have theirs
 abbrev pub wave_places : Bool → NetlistSimulation → ℕ
-wave_places with_data s = if with_data then length s.wires.waves.items else length s.bits.simulator.waves.items
+wave_places with_data s = if with_data then length s.wires.waves.items else length s.bits.simulator.waves
 
 -- the wire and its copies have places, and the wave of a wire of width 1 has no other levels than 0 and 1
 pub record CanTurnOn (with_data : Bool) (wave : Waveform) (w now : ℕ) (s : NetlistSimulation) : Type 0 where
@@ -35,7 +35,7 @@ pub record HasSetLevel (w value : ℕ) (s new : NetlistSimulation) : Type 0 wher
 -- the wire has this wave, which goes on at a time; all else is as it was
 pub record HasSetWave (with_data : Bool) (wave : Waveform) (w upto : ℕ) (s new : NetlistSimulation) : Type 0 where
   pub bits : new.bits ≡ record (s.bits) { simulator = record (s.bits.simulator) { waves = new.bits.simulator.waves } }
-  pub traces : new.bits.simulator.waves.items ≡ (if with_data then s.bits.simulator.waves.items else slice_set s.bits.simulator.waves.items w wave)
+  pub traces : new.bits.simulator.waves ≡ (if with_data then s.bits.simulator.waves else slice_set s.bits.simulator.waves w wave)
   pub wires : new.wires ≡ record (s.wires) { waves = new.wires.waves }
   pub waves : new.wires.waves.items ≡ (if with_data then slice_set s.wires.waves.items w (record { wave = wave; next = upto }) else s.wires.waves.items)
   pub modules : new.modules ≡ s.modules

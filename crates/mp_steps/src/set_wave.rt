@@ -58,12 +58,12 @@ fn set_toggle_wave(
     upto: u32,
 ) -> Result<(), AllocError>
     requires some { 0 < upto }
-    requires place { wire.number < length simulation.old.bits.simulator.waves.items }
+    requires place { wire.number < length simulation.old.bits.simulator.waves }
     requires low { (u : ℕ) → level_of wire.wave.now u ≤ 1 }
     ensures { OnOk result (HasSetWave false (kept_before upto wire.entry.wave.now) wire.entry.number upto simulation.old simulation.new) }
 {
-    let alloc = *simulation.bits.simulator.waves.allocator();
+    let alloc = *simulation.wires.waves.allocator();
     let toggles = ToggleWave::from_prefix(alloc, wire.wave, upto)?;
-    simulation.bits.simulator.waves[wire.number as usize] = toggles;
+    simulation.bits.simulator.waves.set(wire.number, toggles)?;
     Ok(())
 }

@@ -59,7 +59,7 @@ pub record IsAnswered (s : NetlistSimulation) (set : List ℕ) (changes : List L
   pub fanout : mid.fanout ≡ s.bits.simulator.fanout
   pub units : length mid.wheel ≡ length s.bits.simulator.wheel
   pub places : length mid.states.items ≡ length s.bits.simulator.states.items
-  pub bit_waves : length mid.waves.items ≡ length s.bits.simulator.waves.items
+  pub bit_waves : length mid.waves ≡ length s.bits.simulator.waves
   pub levels_are : levels ≡ changed (toggled (toggled s.wires.levels.items (next_slot s.bits.simulator ++ set)) (copy_slot s.bits.copies 0)) (present_of s changes)
   pub events_are : events ≡ events_scheduled mid.wheel (fired_by levels s.modules.places.items s.modules.modules.items mid.due.items)
   pub events_units : length events ≡ length mid.wheel
@@ -72,7 +72,7 @@ number_when next y x false is wire =
 
 -- the wheel of a simulator is another, in which no wire without a wave is
 pub sound_with : (s : Simulator) (wheel : List (List ℕ)) → IsSound s → length wheel ≡ length s.wheel →
-    ((w k : ℕ) → length s.waves.items ≤ w → listed w (slice_index_or wheel k []) ≡ 0) → IsSound (with_wheel s wheel)
+    ((w k : ℕ) → length s.waves ≤ w → listed w (slice_index_or wheel k []) ≡ 0) → IsSound (with_wheel s wheel)
 sound_with s wheel sound units none = record {
   units = sound.units;
   numbered = sound.numbered;
@@ -134,7 +134,7 @@ module _ (n : Circuit) (ok : IsCircuit n) (t : ℕ) (s : NetlistSimulation) (is 
       (positive m.0 r q at, low)
 
   -- a wire without a wave isn't in the wheel
-  past_when : (w k : ℕ) (low : Bool) → nat_lt k (length mid.wheel) ≡ low → length mid.waves.items ≤ w → listed w (slice_index_or events k []) ≡ 0
+  past_when : (w k : ℕ) (low : Bool) → nat_lt k (length mid.wheel) ≡ low → length mid.waves ≤ w → listed w (slice_index_or events k []) ≡ 0
   past_when w k true low past =
       let within : k < length mid.wheel = grind (arith, nat_tests) in
       let none =

@@ -64,7 +64,7 @@ pub record IsFired (now new : NetlistSimulation) (events : List (List ℕ)) : Ty
   pub fired : (n : Circuit) (scope : Scope) (t : ℕ) → IsCircuit n → IsDuring n scope t (with_wheel now.bits.simulator events) → IsBefore n (with_answers scope (t + 2)) (t + 1) new.bits.simulator
   pub sound : IsSound new.bits.simulator
   pub fanout : new.bits.simulator.fanout ≡ now.bits.simulator.fanout
-  pub bit_waves : new.bits.simulator.waves.items ≡ now.bits.simulator.waves.items
+  pub bit_waves : new.bits.simulator.waves ≡ now.bits.simulator.waves
   pub units : length new.bits.simulator.wheel ≡ length events
   pub seats : length new.bits.simulator.states.items ≡ length now.bits.simulator.states.items
 

@@ -212,9 +212,9 @@ module _ (n : Circuit) (ok : IsCircuit n) (t : ℕ) (s : NetlistSimulation) (is 
       ∙ ap (λ b. bit (change_at n w (t + 1) && is_stimulus (driver n w) && b)) (is.traces w ∙ ap (λ b. b && not (is_data n w)) low)
       ∙ no_part (change_at n w (t + 1)) (is_stimulus (driver n w))
 
-  pub waved : All (λ w. w < length s.bits.simulator.waves.items) set
+  pub waved : All (λ w. w < length s.bits.simulator.waves) set
   waved =
-      all_below (length s.bits.simulator.waves.items) set (λ w high. not_past w (nat_lt w (length n.wires)) refl (let same = is.waves in omega arith))
+      all_below (length s.bits.simulator.waves) set (λ w high. not_past w (nat_lt w (length n.wires)) refl (let same = is.waves in omega arith))
 
   pub rowed : All (λ x. x < length s.bits.simulator.fanout) (copy_slot s.bits.copies 0 ++ map number_of_change (data_slot s.wires.wheel 0 ++ levels))
   rowed =

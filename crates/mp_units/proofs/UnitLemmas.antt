@@ -59,7 +59,7 @@ pub record IsPassed (s new : NetlistSimulation) (set : List ℕ) (changes : List
   pub fired : (n : Circuit) (scope : Scope) (t : ℕ) → IsCircuit n → IsDuring n scope t (with_wheel mid events) → IsBefore n (with_answers scope (t + 2)) (t + 1) new.bits.simulator
   pub sound_new : IsSound new.bits.simulator
   pub fanout_new : new.bits.simulator.fanout ≡ mid.fanout
-  pub waves_new : new.bits.simulator.waves.items ≡ mid.waves.items
+  pub waves_new : new.bits.simulator.waves ≡ mid.waves
   pub units_new : length new.bits.simulator.wheel ≡ length events
   pub places_new : length new.bits.simulator.states.items ≡ length mid.states.items
 
@@ -190,7 +190,7 @@ module _ (n : Circuit) (ok : IsCircuit n) (t : ℕ) (s : NetlistSimulation) (is 
         simulator = p.sound_new;
         copies = copies_sound s.bits.copies new.bits.copies (length s.bits.simulator.fanout) (length new.bits.simulator.fanout) c p.copies_next p.copies_units
             (p.copies_low (length s.bits.simulator.fanout) c.below (low_turned (length s.bits.simulator.fanout) s.bits.copies.wheel c.numbered)) same_count;
-        behind = behind_kept s.bits.copies.next.items new.bits.copies.next.items (length s.bits.simulator.waves.items) (length new.bits.simulator.waves.items) is.sound.behind p.copies_next
+        behind = behind_kept s.bits.copies.next.items new.bits.copies.next.items (length s.bits.simulator.waves) (length new.bits.simulator.waves) is.sound.behind p.copies_next
             (ap (length {A = Waveform}) p.waves_new ∙ h.bit_waves);
       }
 

@@ -34,7 +34,7 @@ pub record IsSimulated (n : Circuit) (t : ℕ) (s : NetlistSimulation) : Type 0 
   pub known : (m : ℕ) (r : ModuleRecord) → module_at n m ≡ Some r → scope.known m ≡ t + 1
   pub places : length s.bits.simulator.states.items ≡ length n.modules
   pub seats : (m : ℕ) (r : ModuleRecord) → module_at n m ≡ Some r → scope.place m ≡ (if module_width n r == 1 then Some m else None)
-  pub waves : length s.bits.simulator.waves.items ≡ length n.wires
+  pub waves : length s.bits.simulator.waves ≡ length n.wires
   pub split : AreSplit n scope before data_before (length s.bits.simulator.fanout)
   pub wires : AreDataWires n scope.source data_before (length s.bits.simulator.fanout) t s.wires
   pub modules : AreDataModules n scope (length s.bits.simulator.fanout) (length s.bits.simulator.states.items) (length s.bits.simulator.wheel) (length s.wires.wheel) t s.modules

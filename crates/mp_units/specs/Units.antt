@@ -31,7 +31,7 @@ pub record HaveToggled (s new : NetlistSimulation) (set : List ℕ) (changes : L
   pub fanout : new.bits.simulator.fanout ≡ s.bits.simulator.fanout
   pub units : length new.bits.simulator.wheel ≡ length s.bits.simulator.wheel
   pub places : length new.bits.simulator.states.items ≡ length s.bits.simulator.states.items
-  pub waves : length new.bits.simulator.waves.items ≡ length s.bits.simulator.waves.items
+  pub waves : length new.bits.simulator.waves ≡ length s.bits.simulator.waves
 
 -- the next copies of what has changed are scheduled
 pub record HaveAdvanced (s new : NetlistSimulation) (set : List ℕ) : Type 0 where

@@ -34,11 +34,11 @@ wave_in-requires-clause-shown c long =
     let some_levels : 0 < into_iter_len c.loop-w.levels = omega arith in
     let toggles_some : IsSome c.next-toggled.result = c.next-toggled.ensures.variant.1 some_toggles in
     let levels_some : IsSome c.next-level.result = c.next-level.ensures.variant.1 some_levels in
-    let toggle = next_item c.next-toggled.result (into_iter_items c.next-toggled.new.self) s.bits.simulator.waves.items w (record { initial = 0; changes = [] }) toggles_some (omega arith) (sym before.toggles ∙ c.next-toggled.ensures.items) in
+    let toggle = next_item c.next-toggled.result (into_iter_items c.next-toggled.new.self) s.bits.simulator.waves w (record { initial = 0; changes = [] }) toggles_some (omega arith) (sym before.toggles ∙ c.next-toggled.ensures.items) in
     let level = next_item c.next-level.result (into_iter_items c.next-level.new.self) s.wires.waves.items w no_building levels_some (omega arith) (sym before.levels ∙ c.next-level.ensures.items) in
-    let there : wave_for (wire_at n w) c.next-toggled.result c.next-level.result ≡ wave_for (wire_at n w) (Some (wave_at s.bits.simulator.waves.items w)) (Some (building_at s.wires.waves.items w)) =
+    let there : wave_for (wire_at n w) c.next-toggled.result c.next-level.result ≡ wave_for (wire_at n w) (Some (wave_at s.bits.simulator.waves w)) (Some (building_at s.wires.waves.items w)) =
     ap (λ (t : Option Waveform). wave_for (wire_at n w) t c.next-level.result) toggle.0
-    ∙ ap (λ (b : Option Building). wave_for (wire_at n w) (Some (wave_at s.bits.simulator.waves.items w)) b) level.0 in
+    ∙ ap (λ (b : Option Building). wave_for (wire_at n w) (Some (wave_at s.bits.simulator.waves w)) b) level.0 in
     there ∙ c.requires.waves.shown w low (subst (λ k. n.horizon ≤ k) c.old_from-from.ensures long)
 
 pub wave_in-requires-clause-spliced : goal.wave_in-requires-clause-spliced
@@ -56,16 +56,16 @@ wave_in-requires-clause-spliced c later early stands =
     let some_levels : 0 < into_iter_len c.loop-w.levels = omega arith in
     let toggles_some : IsSome c.next-toggled.result = c.next-toggled.ensures.variant.1 some_toggles in
     let levels_some : IsSome c.next-level.result = c.next-level.ensures.variant.1 some_levels in
-    let toggle = next_item c.next-toggled.result (into_iter_items c.next-toggled.new.self) s.bits.simulator.waves.items w (record { initial = 0; changes = [] }) toggles_some (omega arith) (sym before.toggles ∙ c.next-toggled.ensures.items) in
+    let toggle = next_item c.next-toggled.result (into_iter_items c.next-toggled.new.self) s.bits.simulator.waves w (record { initial = 0; changes = [] }) toggles_some (omega arith) (sym before.toggles ∙ c.next-toggled.ensures.items) in
     let level = next_item c.next-level.result (into_iter_items c.next-level.new.self) s.wires.waves.items w no_building levels_some (omega arith) (sym before.levels ∙ c.next-level.ensures.items) in
-    let there : wave_for (wire_at n w) c.next-toggled.result c.next-level.result ≡ wave_for (wire_at n w) (Some (wave_at s.bits.simulator.waves.items w)) (Some (building_at s.wires.waves.items w)) =
+    let there : wave_for (wire_at n w) c.next-toggled.result c.next-level.result ≡ wave_for (wire_at n w) (Some (wave_at s.bits.simulator.waves w)) (Some (building_at s.wires.waves.items w)) =
     ap (λ (t : Option Waveform). wave_for (wire_at n w) t c.next-level.result) toggle.0
-    ∙ ap (λ (b : Option Building). wave_for (wire_at n w) (Some (wave_at s.bits.simulator.waves.items w)) b) level.0 in
+    ∙ ap (λ (b : Option Building). wave_for (wire_at n w) (Some (wave_at s.bits.simulator.waves w)) b) level.0 in
     let run = c.args.change.now.run.now in
     let e = c.old_from-from.ensures in
     let is = c.requires.waves.spliced w low (subst (λ k. 0 < k) e later) (subst (λ k. k < n.horizon) e early) stands in
     subst (λ (o : Option Waveform). IsSplicedAt n run w c.old_from-from.result o) (sym there)
-    (subst (λ k. IsSplicedAt n run w k (wave_for (wire_at n w) (Some (wave_at s.bits.simulator.waves.items w)) (Some (building_at s.wires.waves.items w)))) (sym e) is)
+    (subst (λ k. IsSplicedAt n run w k (wave_for (wire_at n w) (Some (wave_at s.bits.simulator.waves w)) (Some (building_at s.wires.waves.items w)))) (sym e) is)
 
 pub loop-w-preserved : goal.loop-w-preserved
 loop-w-preserved c =
@@ -86,7 +86,7 @@ loop-w-preserved c =
     let one_level = one_item c.next-level.result levels_some in
     let less_toggles = c.next-toggled.ensures.len in
     let less_levels = c.next-level.ensures.len in
-    let toggle = next_item c.next-toggled.result (into_iter_items c.next-toggled.new.self) s.bits.simulator.waves.items w (record { initial = 0; changes = [] }) toggles_some (omega arith) (sym before.toggles ∙ c.next-toggled.ensures.items) in
+    let toggle = next_item c.next-toggled.result (into_iter_items c.next-toggled.new.self) s.bits.simulator.waves w (record { initial = 0; changes = [] }) toggles_some (omega arith) (sym before.toggles ∙ c.next-toggled.ensures.items) in
     let level = next_item c.next-level.result (into_iter_items c.next-level.new.self) s.wires.waves.items w no_building levels_some (omega arith) (sym before.levels ∙ c.next-level.ensures.items) in
     record {
       toggles = toggle.1;

@@ -9,7 +9,7 @@ use Rattle.mp_rerun.proofs.finishing.all_waves.Given as goal
 -- the waves so far are those of their wires, and the others are left
 abbrev pub invariant-loop-w : goal.invariant-loop-w
 invariant-loop-w l = record {
-  toggles : into_iter_items l.toggles ≡ drop l.w l.fn.simulation.bits.simulator.waves.items;
+  toggles : into_iter_items l.toggles ≡ drop l.w l.fn.simulation.bits.simulator.waves;
   toggles_left : into_iter_len l.toggles + l.w ≡ length l.change.new.now.wires;
   levels : into_iter_items l.levels ≡ drop l.w l.fn.simulation.wires.waves.items;
   levels_left : into_iter_len l.levels + l.w ≡ length l.change.new.now.wires;

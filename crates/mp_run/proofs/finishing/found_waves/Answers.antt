@@ -26,7 +26,7 @@ loop-w-preserved c =
     let one_level = one_item c.next-level.result levels_some in
     let less_toggles = c.next-toggled.ensures.len in
     let less_levels = c.next-level.ensures.len in
-    let toggle = next_item c.next-toggled.result (into_iter_items c.next-toggled.new.self) s.bits.simulator.waves.items w (record { initial = 0; changes = [] }) toggles_some (omega arith) (sym before.toggles ∙ c.next-toggled.ensures.items) in
+    let toggle = next_item c.next-toggled.result (into_iter_items c.next-toggled.new.self) s.bits.simulator.waves w (record { initial = 0; changes = [] }) toggles_some (omega arith) (sym before.toggles ∙ c.next-toggled.ensures.items) in
     let level = next_item c.next-level.result (into_iter_items c.next-level.new.self) s.wires.waves.items w no_building levels_some (omega arith) (sym before.levels ∙ c.next-level.ensures.items) in
     record {
       toggles = toggle.1;

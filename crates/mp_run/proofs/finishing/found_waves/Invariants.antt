@@ -8,7 +8,7 @@ use Rattle.mp_run.proofs.finishing.found_waves.Given as goal
 -- the waves so far are those of their wires
 abbrev pub invariant-loop-w : goal.invariant-loop-w
 invariant-loop-w l = record {
-  toggles : into_iter_items l.toggles ≡ drop l.w l.fn.simulation.bits.simulator.waves.items;
+  toggles : into_iter_items l.toggles ≡ drop l.w l.fn.simulation.bits.simulator.waves;
   toggles_left : into_iter_len l.toggles + l.w ≡ length l.netlist.wires;
   levels : into_iter_items l.levels ≡ drop l.w l.fn.simulation.wires.waves.items;
   levels_left : into_iter_len l.levels + l.w ≡ length l.netlist.wires;

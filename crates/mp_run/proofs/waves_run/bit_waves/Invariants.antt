@@ -8,7 +8,7 @@ use Rattle.mp_run.proofs.waves_run.bit_waves.Given as goal
 -- the waves so far are those of their wires
 abbrev pub invariant-loop-w : goal.invariant-loop-w
 invariant-loop-w l = record {
-  left : into_iter_items l.rest ≡ drop l.w l.fn.simulation.simulator.waves.items;
+  left : into_iter_items l.rest ≡ drop l.w l.fn.simulation.simulator.waves;
   long : into_iter_len l.rest + l.w ≡ length l.netlist.wires;
   count : length l.found.items ≡ l.w;
   each : (k : ℕ) → k < l.w → slot_at l.found.items k ≡ slot_wave l.netlist k (wire_at l.netlist k);

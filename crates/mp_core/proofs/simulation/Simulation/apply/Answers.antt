@@ -1,4 +1,4 @@
-use Rattle.std.proofs.Common.{◌≡◌, ℕ, ◌+◌, ◌<◌, ◌++◌, ◌∙◌, List, All, length, vec_len, rules, sym, ap, subst}
+use Rattle.std.proofs.Common.{◌≡◌, ℕ, ◌+◌, ◌<◌, ◌++◌, ◌∙◌, List, All, length, sym, ap, subst}
 use Rattle.mp_events.specs.declared.output_port.OutputPort.{OutputPort}
 use Rattle.mp_core.specs.Simulators.{next_slot, IsBelow}
 use Rattle.mp_core.specs.Units.{AreDue}
@@ -28,9 +28,7 @@ advance-requires-clause-below c =
 
 pub advance-requires-clause-behind : goal.advance-requires-clause-behind
 advance-requires-clause-behind c =
-    let waves = c.apply_events.new.self.waves in
-    let long : vec_len waves ≡ length waves.items = search rules in
-    behind_kept c.args.self.now.copies.next.items _ _ _ c.requires.sound.behind c.begin_unit.ensures.same (c.len.ensures ∙ long ∙ c.in_ok-apply_events.ensures.waves)
+    behind_kept c.args.self.now.copies.next.items _ _ _ c.requires.sound.behind c.begin_unit.ensures.same (c.len.ensures ∙ c.in_ok-apply_events.ensures.waves)
 
 pub returns-clause-sound : goal.returns-clause-sound
 returns-clause-sound c =

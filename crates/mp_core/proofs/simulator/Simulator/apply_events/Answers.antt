@@ -12,7 +12,7 @@ toggle_wires-requires-clause-waves c =
     let s = c.args.self.now in
     let set = c.args.set.now in
     let same : c.as_slice.result.now ≡ next_slot s ++ set = c.as_slice.ensures ∙ c.in_ok-extend_from_slice.ensures ∙ ap (λ (xs : List ℕ). xs ++ set) c.turn.ensures.present in
-    subst (λ ws. All (λ w. w < length s.waves.items) ws) (sym same) (all_waved s set c.requires.sound c.requires.fit.waved)
+    subst (λ ws. All (λ w. w < length s.waves) ws) (sym same) (all_waved s set c.requires.sound c.requires.fit.waved)
 
 pub toggle_wires-requires-clause-rows : goal.toggle_wires-requires-clause-rows
 toggle_wires-requires-clause-rows c =
@@ -27,7 +27,7 @@ toggle_wires-requires-clause-over c =
     let s = c.args.self.now in
     let set = c.args.set.now in
     let same : c.as_slice.result.now ≡ next_slot s ++ set = c.as_slice.ensures ∙ c.in_ok-extend_from_slice.ensures ∙ ap (λ (xs : List ℕ). xs ++ set) c.turn.ensures.present in
-    subst (λ ws. CanToggle s.waves.items ws c.args.time) (sym same) c.requires.fit.over
+    subst (λ ws. CanToggle s.waves ws c.args.time) (sym same) c.requires.fit.over
 
 pub toggle_wires-requires-clause-adding : goal.toggle_wires-requires-clause-adding
 toggle_wires-requires-clause-adding c =

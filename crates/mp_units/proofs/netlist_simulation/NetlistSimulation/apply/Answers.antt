@@ -1,4 +1,4 @@
-use Rattle.std.proofs.Common.{◌≡◌, ◌==◌, ℕ, ◌+◌, ◌≤◌, ◌++◌, ◌∷◌, ◌∙◌, [], true, List, All, length, vec_len, rules, map, refl, sym, ap, subst, arith}
+use Rattle.std.proofs.Common.{◌≡◌, ◌==◌, ℕ, ◌+◌, ◌≤◌, ◌++◌, ◌∷◌, ◌∙◌, [], true, List, All, length, map, refl, sym, ap, subst, arith}
 use Rattle.std.proofs.lemmas.Bool.{eqb-true}
 use Rattle.mp_events.specs.declared.output_port.OutputPort.{OutputPort}
 use Rattle.mp_events.specs.Firing.{HasSlot}
@@ -83,9 +83,7 @@ advance-requires-clause-below c =
 
 pub advance-requires-clause-behind : goal.advance-requires-clause-behind
 advance-requires-clause-behind c =
-    let waves = c.apply_events.new.self.waves in
-    let long : vec_len waves ≡ length waves.items = search rules in
-    behind_kept c.args.self.now.bits.copies.next.items _ _ _ c.requires.fit.is.sound.behind c.begin_unit.ensures.same (c.len.ensures ∙ long ∙ c.in_ok-apply_events.ensures.waves)
+    behind_kept c.args.self.now.bits.copies.next.items _ _ _ c.requires.fit.is.sound.behind c.begin_unit.ensures.same (c.len.ensures ∙ c.in_ok-apply_events.ensures.waves)
 
 pub advance-requires-2-clause-present : goal.advance-requires-2-clause-present
 advance-requires-2-clause-present c =
