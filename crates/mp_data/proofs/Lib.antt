@@ -2,3 +2,4 @@ mod WheelLemmas
 mod LevelLemmas
 pub mod PartLemmas
 mod FiringLemmas
+mod NoDataLemmas

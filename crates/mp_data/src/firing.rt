@@ -90,6 +90,9 @@ pub fn fire_data_modules(
     ensures units { OnOk result (length events.new ≡ length events.old) }
     ensures slots { OnOk result (length changes.new ≡ length changes.old) }
 {
+    if modules.is_empty() {
+        return Ok(());
+    }
     for place in due {
         fire_number(places[*place as usize], modules, levels, events, changes)?;
     }

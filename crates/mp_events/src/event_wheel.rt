@@ -89,6 +89,10 @@ impl EventWheel {
         ensures turned { self.new ≡ drop 1 self.old ++ [] ∷ [] }
     {
         present.clear();
+        if self.is_quiet() {
+            self.skip();
+            return;
+        }
         swap(&mut self.slots[self.next], present);
         self.next = place_after(self.next, 1, self.slots.len());
     }

@@ -1,10 +1,11 @@
 -- A simulation in which nothing is known to change.
-use Rattle.std.proofs.Common.{ℕ, ◌+◌, List, [], refl, sym, ap, subst}
+use Rattle.std.proofs.Common.{◌≡◌, ℕ, ◌+◌, List, [], refl, sym, ap, subst}
 use Rattle.mp_netlist.specs.Circuit.{Circuit, IsCircuit}
 use Rattle.mp_events.specs.Firing.{scheduled as events_scheduled}
 use Rattle.mp_events.proofs.EmptyLemmas.{empty_turned, empty_next}
 use Rattle.mp_core.proofs.FiredLemmas.{fired as bits_fired}
 use Rattle.mp_core.proofs.QuietLemmas.{none_fired}
+use Rattle.mp_core.specs.Simulators.{IsSound}
 use Rattle.mp_data.specs.LevelWheels.{scheduled}
 use Rattle.mp_data.specs.DataFiring.{HaveStepped, fired_by, changed_by}
 use Rattle.mp_units.specs.declared.netlist_simulation.NetlistSimulation.{NetlistSimulation}
@@ -22,27 +23,29 @@ none_stepped levels s = record {
 }
 
 -- no module is due, so none fires
-rests : (n : Circuit) → IsCircuit n → (t : ℕ) (s : NetlistSimulation) → IsSimulated n t s → IsFired s s s.bits.simulator.wheel
-rests n ok t s is =
-    let due = is.running.simulator.due in
-    record {
-      entered = sym (ap (λ (xs : List ℕ). events_scheduled s.bits.simulator.wheel (fired_by s.wires.levels.items s.modules.places.items s.modules.modules.items xs)) due);
-      entered_units = refl;
-      changes = sym (ap (λ (xs : List ℕ). scheduled s.wires.wheel (changed_by s.wires.levels.items s.modules.places.items s.modules.modules.items xs)) due);
-      changes_units = refl;
-      stepped = subst (λ (xs : List ℕ). HaveStepped s.wires.levels.items s.modules.places.items xs s.modules.modules.items s.modules.modules.items) (sym due) (none_stepped s.wires.levels.items s);
-      places = refl;
-      copies = refl;
-      levels = refl;
-      waves = refl;
-      next = refl;
-      fired = λ n scope t ok during. bits_fired s.bits.simulator s.bits.simulator is.sound.simulator (none_fired s.bits.simulator due) n ok scope t during;
-      sound = is.sound.simulator;
-      fanout = refl;
-      bit_waves = refl;
-      units = refl;
-      seats = refl;
-    }
+none_fires : (s : NetlistSimulation) → s.bits.simulator.due.items ≡ [] → IsSound s.bits.simulator → IsFired s s s.bits.simulator.wheel
+none_fires s due sound = record {
+  entered = sym (ap (λ (xs : List ℕ). events_scheduled s.bits.simulator.wheel (fired_by s.wires.levels.items s.modules.places.items s.modules.modules.items xs)) due);
+  entered_units = refl;
+  changes = sym (ap (λ (xs : List ℕ). scheduled s.wires.wheel (changed_by s.wires.levels.items s.modules.places.items s.modules.modules.items xs)) due);
+  changes_units = refl;
+  stepped = subst (λ (xs : List ℕ). HaveStepped s.wires.levels.items s.modules.places.items xs s.modules.modules.items s.modules.modules.items) (sym due) (none_stepped s.wires.levels.items s);
+  places = refl;
+  copies = refl;
+  levels = refl;
+  waves = refl;
+  next = refl;
+  fired = λ n scope t ok during. bits_fired s.bits.simulator s.bits.simulator sound (none_fired s.bits.simulator due) n ok scope t during;
+  sound = sound;
+  fanout = refl;
+  bit_waves = refl;
+  units = refl;
+  seats = refl;
+}
+
+-- where what changes in a unit has been applied, and no module is due, the unit is over
+pub none_due : (n : Circuit) → IsCircuit n → (t : ℕ) (s : NetlistSimulation) → IsApplied n t s → s.bits.simulator.due.items ≡ [] → IsSimulated n (t + 1) s
+none_due n ok t s applied due = fired n ok t s applied s s.bits.simulator.wheel (none_fires s due applied.applied.toggled.sound)
 
 -- a unit in which nothing is set is over as soon as the one before
 pub rests_on : (n : Circuit) → IsCircuit n → (t : ℕ) (s : NetlistSimulation) → IsAtRest s → IsSimulated n t s → AreStimuli n [] [] (t + 1) → IsSimulated n (t + 1) s
@@ -50,7 +53,7 @@ rests_on n ok t s rest is sets =
     let events = s.bits.simulator.wheel in
     let copies = s.bits.copies.wheel in
     let changes = s.wires.wheel in
-    let applied : IsApplied n t s = record {
+    none_due n ok t s (record {
       before = s;
       is = is;
       set = [];
@@ -59,5 +62,4 @@ rests_on n ok t s rest is sets =
       applied = quiet_unit s is.sound (empty_next events rest.bits.wires) (empty_next copies rest.bits.copies) (empty_next changes rest.changes) (t + 1)
           events (sym (empty_turned events is.sound.simulator.some rest.bits.wires))
           copies (sym (empty_turned copies is.sound.copies.some rest.bits.copies)) changes (sym (empty_turned changes is.wires.some rest.changes)) is.wires.some;
-    } in
-    fired n ok t s applied s events (rests n ok t s is)
+    }) is.running.simulator.due

@@ -46,7 +46,7 @@ impl DataWires {
         self.wheel.turn(&mut self.present);
         self.present.extend_from_slice(set)?;
         self.heard.clear();
-        self.heard.extend_from_slice(late)?;
+        list_all(&mut self.heard, late)?;
         list_numbers(&mut self.heard, self.present.as_slice())
     }
 
@@ -86,6 +86,18 @@ impl DataWires {
             self.present.as_slice(),
         )
     }
+}
+
+/// Lists these numbers. Mostly there are none.
+#[inline(always)]
+fn list_all(heard: &mut Vec<u32>, numbers: &[u32]) -> Result<(), AllocError>
+    ensures { OnOk result (heard.new.items ≡ heard.old.items ++ numbers.now) }
+{
+    if numbers.is_empty() {
+        return Ok(());
+    }
+    heard.extend_from_slice(numbers)?;
+    Ok(())
 }
 
 /// Lists the numbers of changes.

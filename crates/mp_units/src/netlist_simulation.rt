@@ -47,6 +47,7 @@ impl NetlistSimulation {
 
     /// Applies what changes in the next unit, in which these wires of width 1 toggle and these with data change from outside. Modules whose
     /// inputs change are due.
+    #[inline(always)]
     pub fn apply(
         &mut self,
         set: &[u32],
@@ -63,22 +64,7 @@ impl NetlistSimulation {
             self.skip_unit();
             return Ok(());
         }
-        self.bits.copies.begin_unit();
-        self.wires
-            .begin_unit(self.bits.copies.present.as_slice(), levels)?;
-        self.bits
-            .simulator
-            .apply_events(set, self.wires.heard.as_slice(), time)?;
-        self.wires.apply(
-            self.bits.simulator.present.as_slice(),
-            self.bits.copies.present.as_slice(),
-            time,
-        )?;
-        self.bits.copies.advance(
-            self.bits.simulator.present.as_slice(),
-            self.bits.simulator.waves.len(),
-        )?;
-        self.wires.advance()?;
+        self.apply_changes(set, levels, time)?;
         Ok(())
     }
 
@@ -91,20 +77,16 @@ impl NetlistSimulation {
     }
 
     /// The modules that are due fire, and the unit is over.
+    #[inline(always)]
     pub fn fire(&mut self) -> Result<(), AllocError>
         requires { CanFire self.old }
         ensures fired { OnOk result ((n : Circuit) (t : ℕ) → IsCircuit n → IsApplied n t self.old → IsSimulated n (t + 1) self.new) }
         ensures numbers { OnOk result (HasKeptNumbers self.old self.new) }
     {
-        fire_data_modules(
-            self.modules.places.as_slice(),
-            &mut self.modules.modules,
-            self.wires.levels.as_slice(),
-            &mut self.bits.simulator.wheel,
-            &mut self.wires.wheel,
-            self.bits.simulator.due.as_slice(),
-        )?;
-        self.bits.simulator.fire()?;
+        if self.bits.simulator.due.is_empty() {
+            return Ok(());
+        }
+        self.fire_due()?;
         Ok(())
     }
 
@@ -156,15 +138,66 @@ impl NetlistSimulation {
 
     /// Goes through one unit in which nothing changes.
     #[inline(always)]
-    fn skip_unit(&mut self)
+    pub fn skip_unit(&mut self)
         requires bits { IsSoundRun self.old.bits }
         requires wheel { 0 < length self.old.wires.wheel }
         requires still { IsStill self.old }
         ensures applied { (n : Circuit) (t : ℕ) → IsCircuit n → IsSimulated n t self.old → AreStimuli n [] [] (t + 1) → IsApplied n t self.new }
+        ensures passed { (n : Circuit) (t : ℕ) → IsCircuit n → IsSimulated n t self.old → AreStimuli n [] [] (t + 1) → IsSimulated n (t + 1) self.new }
         ensures numbers { HasKeptNumbers self.old self.new }
     {
         self.bits.simulator.wheel.skip();
         self.bits.copies.wheel.skip();
         self.wires.wheel.skip();
+    }
+
+    /// Applies what changes in the next unit, if anything does.
+    fn apply_changes(
+        &mut self,
+        set: &[u32],
+        levels: &[LevelChange],
+        time: u32,
+    ) -> Result<(), AllocError>
+        requires fit { CanPass set.now levels.now time self.old }
+        requires low { time < 2 ^ 32 - 1 }
+        ensures applied { OnOk result ((n : Circuit) (t : ℕ) → IsCircuit n → time ≡ t + 1 → IsSimulated n t self.old → AreStimuli n set.now levels.now time →
+            IsApplied n t self.new) }
+        ensures numbers { OnOk result (HasKeptNumbers self.old self.new) }
+    {
+        self.bits.copies.begin_unit();
+        self.wires
+            .begin_unit(self.bits.copies.present.as_slice(), levels)?;
+        self.bits
+            .simulator
+            .apply_events(set, self.wires.heard.as_slice(), time)?;
+        self.wires.apply(
+            self.bits.simulator.present.as_slice(),
+            self.bits.copies.present.as_slice(),
+            time,
+        )?;
+        self.bits.copies.advance(
+            self.bits.simulator.present.as_slice(),
+            self.bits.simulator.waves.len(),
+        )?;
+        self.wires.advance()?;
+        Ok(())
+    }
+
+    /// The modules that are due fire, if any are, and the unit is over.
+    fn fire_due(&mut self) -> Result<(), AllocError>
+        requires { CanFire self.old }
+        ensures fired { OnOk result ((n : Circuit) (t : ℕ) → IsCircuit n → IsApplied n t self.old → IsSimulated n (t + 1) self.new) }
+        ensures numbers { OnOk result (HasKeptNumbers self.old self.new) }
+    {
+        fire_data_modules(
+            self.modules.places.as_slice(),
+            &mut self.modules.modules,
+            self.wires.levels.as_slice(),
+            &mut self.bits.simulator.wheel,
+            &mut self.wires.wheel,
+            self.bits.simulator.due.as_slice(),
+        )?;
+        self.bits.simulator.fire()?;
+        Ok(())
     }
 }

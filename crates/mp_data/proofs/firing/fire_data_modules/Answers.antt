@@ -1,7 +1,26 @@
-use Rattle.std.proofs.Common.{◌∙◌, All, length, sym, subst}
+use Rattle.std.proofs.Common.{◌≡◌, ◌∙◌, ℕ, List, All, length, sym, ap, subst}
+use Rattle.std.proofs.lemmas.Bool.{eqb-true}
+use Rattle.mp_events.specs.Firing.{scheduled}
+use Rattle.mp_data.specs.declared.level_change.LevelChange.{LevelChange}
 use Rattle.mp_data.specs.DataModules.{CanFire}
+use Rattle.mp_data.specs.LevelWheels.{scheduled as levels_scheduled}
 use Rattle.mp_data.proofs.FiringLemmas.{can_fire, stepped_next, wheel_next, changes_next}
+use Rattle.mp_data.proofs.NoDataLemmas.{no_events, no_changes}
 use Rattle.mp_data.proofs.firing.fire_data_modules.Goals as goal
+
+pub returns-then-is_empty-clause-events : goal.returns-then-is_empty-clause-events
+returns-then-is_empty-clause-events c =
+    let v = c.args.modules.now in
+    let modules = v.items in
+    let none : length modules ≡ 0 = sym v.ok.0 ∙ eqb-true v.len 0 (sym c.if-is_empty.ensures) in
+    ap (λ (xs : List (ℕ × ℕ)). scheduled c.args.events.now xs) (sym (no_events c.args.levels.now c.args.places.now modules c.requires.placed none c.args.due.now))
+
+pub returns-then-is_empty-clause-changes : goal.returns-then-is_empty-clause-changes
+returns-then-is_empty-clause-changes c =
+    let v = c.args.modules.now in
+    let modules = v.items in
+    let none : length modules ≡ 0 = sym v.ok.0 ∙ eqb-true v.len 0 (sym c.if-is_empty.ensures) in
+    ap (λ (xs : List (ℕ × LevelChange)). levels_scheduled c.args.changes.now xs) (sym (no_changes c.args.levels.now c.args.places.now modules c.requires.placed none c.args.due.now))
 
 pub fire_number-requires-clause-fit : goal.fire_number-requires-clause-fit
 fire_number-requires-clause-fit c =

@@ -1,24 +1,39 @@
-use Rattle.std.proofs.Common.{ℕ, ◌+◌, ◌∙◌, [], List, length, refl, ap}
+use Rattle.std.proofs.Common.{◌≡◌, ℕ, ◌+◌, ◌∙◌, drop, ◌++◌, ◌∷◌, [], List, length, refl, ap}
+use Rattle.mp_netlist.specs.Circuit.{Circuit}
 use Rattle.mp_events.specs.declared.fanout_entry.FanoutEntry.{FanoutEntry}
 use Rattle.mp_events.specs.declared.output_port.OutputPort.{OutputPort}
 use Rattle.mp_core.proofs.TurnLemmas.{turned_length}
 use Rattle.mp_data.specs.declared.level_change.LevelChange.{LevelChange}
 use Rattle.mp_units.proofs.LevelWheelLemmas.{turned_length as changes_turned}
-use Rattle.mp_units.proofs.QuietLemmas.{quiet_unit}
+use Rattle.mp_units.specs.declared.netlist_simulation.NetlistSimulation.{NetlistSimulation}
+use Rattle.mp_units.specs.NetlistSimulations.{IsSimulated, AreStimuli, IsStill}
+use Rattle.mp_units.specs.Units.{IsApplied}
+use Rattle.mp_units.proofs.QuietLemmas.{skipped, quiet_unit}
+use Rattle.mp_units.proofs.RestingLemmas.{none_due}
 use Rattle.mp_units.proofs.netlist_simulation.NetlistSimulation.skip_unit.Goals as goal
+
+-- nothing is all that changes, and it has been applied
+is_applied : (s : NetlistSimulation) → IsStill s → (events copies : List (List ℕ)) (changes : List (List LevelChange)) → events ≡ drop 1 s.bits.simulator.wheel ++ [] ∷ [] →
+    copies ≡ drop 1 s.bits.copies.wheel ++ [] ∷ [] → changes ≡ drop 1 s.wires.wheel ++ [] ∷ [] → (n : Circuit) (t : ℕ) → IsSimulated n t s → AreStimuli n [] [] (t + 1) →
+    IsApplied n t (skipped s events copies changes)
+is_applied s still events copies changes turns copies_turn changes_turn n t is sets = record {
+  before = s;
+  is = is;
+  set = [];
+  changes = [];
+  stimuli = sets;
+  applied = quiet_unit s is.sound still.wires still.copies still.changes (t + 1) events turns copies copies_turn changes changes_turn is.wires.some;
+}
 
 pub returns-clause-applied : goal.returns-clause-applied
 returns-clause-applied c n t ok is sets =
+    is_applied c.args.self.now c.requires.still c.skip.new.self c.skip-2.new.self c.skip-3.new.self c.skip.ensures c.skip-2.ensures c.skip-3.ensures n t is sets
+
+pub returns-clause-passed : goal.returns-clause-passed
+returns-clause-passed c n t ok is sets =
     let s = c.args.self.now in
-    let still = c.requires.still in
-    record {
-      before = s;
-      is = is;
-      set = [];
-      changes = [];
-      stimuli = sets;
-      applied = quiet_unit s is.sound still.wires still.copies still.changes (t + 1) c.skip.new.self c.skip.ensures c.skip-2.new.self c.skip-2.ensures c.skip-3.new.self c.skip-3.ensures is.wires.some;
-    }
+    none_due n ok t (skipped s c.skip.new.self c.skip-2.new.self c.skip-3.new.self)
+    (is_applied s c.requires.still c.skip.new.self c.skip-2.new.self c.skip-3.new.self c.skip.ensures c.skip-2.ensures c.skip-3.ensures n t is sets) is.running.simulator.due
 
 pub returns-clause-numbers : goal.returns-clause-numbers
 returns-clause-numbers c =
