@@ -66,6 +66,10 @@ seen_at c x = slice_index_or c.seen.items x 0
 abbrev pub is_tracked : Comparison → ℕ → ℕ → Bool
 is_tracked c x time = nat_lt 0 (asleep_at c x) && may_differ (source_at c (wire_of c.numbers x)) (delay_of c.numbers x) time
 
+-- none of these numbers is tracked at a time
+abbrev pub AreUntracked : Comparison → ℕ → List ℕ → Type 0
+AreUntracked c time xs = All (λ x. is_tracked c x time ≡ false) xs
+
 -- a number is that of a wire which follows its old wave from some time on
 abbrev pub is_following : Comparison → ℕ → Bool
 is_following c x = (x == wire_of c.numbers x) && is_to_follow (source_at c (wire_of c.numbers x))

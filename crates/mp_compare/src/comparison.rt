@@ -23,8 +23,8 @@ pub struct Comparison {
 }
 
 impl Comparison {
-    ghost use Rattle.std.specs.Prelude.{◌≡◌, ◌<◌, ◌^◌, ◌-◌, length};
-    ghost use Rattle.mp_compare.specs.Comparing.{IsShaped, asleep_at, source_at, is_tracked};
+    ghost use Rattle.std.specs.Prelude.{◌≡◌, ◌<◌, ◌^◌, ◌-◌, length, IsTrue};
+    ghost use Rattle.mp_compare.specs.Comparing.{IsShaped, AreNumbers, AreUntracked, asleep_at, source_at, is_tracked};
 
     /// How many inputs of modules that sleep read a number.
     #[inline(always)]
@@ -55,5 +55,21 @@ impl Comparison {
         let x = number as usize;
         self.asleep[x] > 0
             && self.sources[self.numbers.wires[x] as usize].may_differ(self.numbers.delays[x], time)
+    }
+
+    /// Whether none of these numbers is tracked at a time.
+    #[inline(always)]
+    pub fn tracks_none(&self, numbers: &[u32], time: u32) -> bool
+        requires shape { IsShaped self.now }
+        requires within { AreNumbers self.now.numbers numbers.now }
+        requires time { time < 2 ^ 32 - 1 }
+        ensures { IsTrue result → AreUntracked self.now time numbers.now }
+    {
+        for number in numbers {
+            if self.is_tracked(*number, time) {
+                return false;
+            }
+        }
+        true
     }
 }

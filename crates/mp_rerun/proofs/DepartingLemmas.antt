@@ -73,16 +73,40 @@ pub late_told : (f : ℕ → ℕ → ℕ) (w d u : ℕ) (r : ℕ × ℕ) → r �
 late_told f w d u r told = ap (λ (q : ℕ × ℕ). f q.0 (u - q.1)) (sym told)
 
 module _ (n : Circuit) (ok : IsCircuit n) (active on : ℕ → Bool) (numbering : Numbering) (t : ℕ) (s : NetlistSimulation) (shows : Shows n active on numbering t s)
-    (c : Comparison) (count : length c.numbers.wires.items ≡ length s.bits.simulator.fanout)
-    (told : (x : ℕ) → x < length c.numbers.wires.items → numbering.source x ≡ (wire_of c.numbers x, delay_of c.numbers x))
-    (anew tail : ℕ → ℕ → Bool) (stimuli left : List StimulusChange) (first : AreToCome n anew t stimuli) (second : AreToCome n tail t left)
-    (coming : NewChanges) (are : AreComing (t + 1) stimuli left s coming) where
+    (c : Comparison) (count : length c.numbers.wires.items ≡ length s.bits.simulator.fanout) where
+  -- ---- what is known ahead is of numbers
   wires_within : length n.wires ≤ length c.numbers.wires.items
   wires_within =
       let a = shows.bits.wires in
       let b = shows.bits.sound.simulator.rows in
       omega (arith, a, b, count)
 
+  pub low_wire : (w : ℕ) → change_at n w (t + 1) ≡ true → w < length c.numbers.wires.items
+  low_wire w changes = let stands = (changes_stand n ok w (t + 1) changes).low in let within = wires_within in omega (arith, stands, within)
+
+  low_in_wires : (x : ℕ) → 0 < listed x (slot_at s.bits.simulator 0) → x < length c.numbers.wires.items
+  low_in_wires x some =
+      let both = bit_true ((change_at n x (t + 1) && is_bit_wire n x) && nat_lt 0 (shown_delay n active (driver n x)))
+      (subst (λ k. 0 < k) (wires_ahead n ok active on numbering t s shows x) some) in
+      low_wire x (and_parts (change_at n x (t + 1)) (is_bit_wire n x) (and_parts (change_at n x (t + 1) && is_bit_wire n x) (nat_lt 0 (shown_delay n active (driver n x))) both).0).0
+
+  pub low_in_copies : (x : ℕ) → 0 < listed x (copy_slot s.bits.copies 0) → x < length c.numbers.wires.items
+  low_in_copies x some = elim (cases_lt x (length s.bits.simulator.fanout)) as (λ _. x < length c.numbers.wires.items) [
+    | inl low ↦ omega (arith, low, count)
+    | inr past ↦ let none = shows.bits.sound.copies.numbered x 0 past in let no : ⊥ = omega (arith, none, some) in absurd no
+  ]
+
+  pub wires_are_numbers : AreNumbers c.numbers (slot_at s.bits.simulator 0)
+  wires_are_numbers = all_listed (λ x. x < length c.numbers.wires.items) (slot_at s.bits.simulator 0) low_in_wires
+
+  pub copies_are_numbers : AreNumbers c.numbers (copy_slot s.bits.copies 0)
+  copies_are_numbers = all_listed (λ x. x < length c.numbers.wires.items) (copy_slot s.bits.copies 0) low_in_copies
+
+module _ (n : Circuit) (ok : IsCircuit n) (active on : ℕ → Bool) (numbering : Numbering) (t : ℕ) (s : NetlistSimulation) (shows : Shows n active on numbering t s)
+    (c : Comparison) (count : length c.numbers.wires.items ≡ length s.bits.simulator.fanout)
+    (told : (x : ℕ) → x < length c.numbers.wires.items → numbering.source x ≡ (wire_of c.numbers x, delay_of c.numbers x))
+    (anew tail : ℕ → ℕ → Bool) (stimuli left : List StimulusChange) (first : AreToCome n anew t stimuli) (second : AreToCome n tail t left)
+    (coming : NewChanges) (are : AreComing (t + 1) stimuli left s coming) where
   -- ---- the numbers that are listed
   pub bits_sum : (x : ℕ) →
       listed x (bits_of coming)
@@ -104,28 +128,13 @@ module _ (n : Circuit) (ok : IsCircuit n) (active on : ℕ → Bool) (numbering 
       omega arith
 
   -- ---- all are numbers
-  pub low_wire : (w : ℕ) → change_at n w (t + 1) ≡ true → w < length c.numbers.wires.items
-  low_wire w changes = let stands = (changes_stand n ok w (t + 1) changes).low in let within = wires_within in omega (arith, stands, within)
-
-  low_in_wires : (x : ℕ) → 0 < listed x (slot_at s.bits.simulator 0) → x < length c.numbers.wires.items
-  low_in_wires x some =
-      let both = bit_true ((change_at n x (t + 1) && is_bit_wire n x) && nat_lt 0 (shown_delay n active (driver n x)))
-      (subst (λ k. 0 < k) (wires_ahead n ok active on numbering t s shows x) some) in
-      low_wire x (and_parts (change_at n x (t + 1)) (is_bit_wire n x) (and_parts (change_at n x (t + 1) && is_bit_wire n x) (nat_lt 0 (shown_delay n active (driver n x))) both).0).0
-
-  pub low_in_copies : (x : ℕ) → 0 < listed x (copy_slot s.bits.copies 0) → x < length c.numbers.wires.items
-  low_in_copies x some = elim (cases_lt x (length s.bits.simulator.fanout)) as (λ _. x < length c.numbers.wires.items) [
-    | inl low ↦ omega (arith, low, count)
-    | inr past ↦ let none = shows.bits.sound.copies.numbered x 0 past in let no : ⊥ = omega (arith, none, some) in absurd no
-  ]
-
   low_in_bits : (comes : ℕ → ℕ → Bool) (ss : List StimulusChange) → AreToCome n comes t ss → (x : ℕ) → 0 < listed x (bits_at (t + 1) ss) → x < length c.numbers.wires.items
   low_in_bits comes ss to x some =
-      low_wire x (narrow_change (is_data n x) (change_at n x (t + 1)) (comes x (t + 1)) (subst (λ k. 0 < k) (bits_to_come n comes t ss to x) some)).1
+      low_wire n ok active on numbering t s shows c count x (narrow_change (is_data n x) (change_at n x (t + 1)) (comes x (t + 1)) (subst (λ k. 0 < k) (bits_to_come n comes t ss to x) some)).1
 
   low_in_levels : (comes : ℕ → ℕ → Bool) (ss : List StimulusChange) → AreToCome n comes t ss → (x : ℕ) → 0 < changes_of x (levels_at (t + 1) ss) → x < length c.numbers.wires.items
   low_in_levels comes ss to x some =
-      low_wire x (wide_change (is_data n x) (change_at n x (t + 1)) (comes x (t + 1)) (subst (λ k. 0 < k) (levels_to_come n comes t ss to x) some)).1
+      low_wire n ok active on numbering t s shows c count x (wide_change (is_data n x) (change_at n x (t + 1)) (comes x (t + 1)) (subst (λ k. 0 < k) (levels_to_come n comes t ss to x) some)).1
 
   all_in_bits : (comes : ℕ → ℕ → Bool) (ss : List StimulusChange) → AreToCome n comes t ss → AreNumbers c.numbers (bits_at (t + 1) ss)
   all_in_bits comes ss to = all_listed (λ x. x < length c.numbers.wires.items) (bits_at (t + 1) ss) (low_in_bits comes ss to)
@@ -138,8 +147,8 @@ module _ (n : Circuit) (ok : IsCircuit n) (active on : ℕ → Bool) (numbering 
 
   pub all_within : AreWithin c.numbers coming
   all_within = record {
-    wires = subst (AreNumbers c.numbers) (sym are.wires) (all_listed (λ x. x < length c.numbers.wires.items) (slot_at s.bits.simulator 0) low_in_wires);
-    copies = subst (AreNumbers c.numbers) (sym are.copies) (all_listed (λ x. x < length c.numbers.wires.items) (copy_slot s.bits.copies 0) low_in_copies);
+    wires = subst (AreNumbers c.numbers) (sym are.wires) (wires_are_numbers n ok active on numbering t s shows c count);
+    copies = subst (AreNumbers c.numbers) (sym are.copies) (copies_are_numbers n ok active on numbering t s shows c count);
     set = subst (AreNumbers c.numbers) (sym are.set)
         (All-append (λ x. x < length c.numbers.wires.items) (bits_at (t + 1) stimuli) (bits_at (t + 1) left) (all_in_bits anew stimuli first) (all_in_bits tail left second));
     levels = subst (AreOfNumbers c.numbers) (sym are.levels) low_change;

@@ -7,6 +7,8 @@ use Rattle.mp_model.specs.Waves.{level}
 use Rattle.mp_automata.specs.Codes.{bit}
 use Rattle.mp_events.specs.Adding.{listed}
 use Rattle.mp_calendar.specs.Calendars.{never}
+use Rattle.mp_core.specs.Simulators.{slot_at}
+use Rattle.mp_core.specs.Simulations.{copy_slot}
 use Rattle.mp_evaluation.specs.Outcomes.{Outcome}
 use Rattle.mp_run.specs.Stimuli.{left_of}
 use Rattle.mp_work.specs.Revisions.{IsRevision}
@@ -14,7 +16,7 @@ use Rattle.mp_agreement.specs.Reading.{late as late_at, AreAlike, SleepersReadAl
 use Rattle.mp_agreement.specs.Sources.{WiresAgree}
 use Rattle.mp_excerpt.specs.Numberings.{Numbering}
 use Rattle.mp_compare.specs.declared.new_changes.NewChanges.{NewChanges}
-use Rattle.mp_compare.specs.Comparing.{departs as departs_by, asleep_at, AreWithin, AreNewChanges, HaveLowBits, AgreeFrom, AgreeAsleep}
+use Rattle.mp_compare.specs.Comparing.{departs as departs_by, asleep_at, AreNumbers, AreWithin, AreNewChanges, HaveLowBits, AgreeFrom, AgreeAsleep}
 use Rattle.mp_rerun.specs.declared.rerun.Rerun.{Rerun}
 use Rattle.mp_rerun.specs.Following.{is_tail, is_set_anew}
 use Rattle.mp_rerun.specs.Joining.{HasLooked, AreDeparting}
@@ -22,7 +24,7 @@ use Rattle.mp_rerun.specs.Reruns.{IsRerunBy, active_of, on_of, until_of}
 use Rattle.mp_rerun.proofs.SplitLemmas.{splits}
 use Rattle.mp_rerun.proofs.HearingLemmas.{at_listed, reader_found}
 use Rattle.mp_rerun.proofs.NumberLemmas.{asleep_within}
-use Rattle.mp_rerun.proofs.DepartingLemmas.{AreComing, all_within, are_new}
+use Rattle.mp_rerun.proofs.DepartingLemmas.{AreComing, wires_are_numbers, copies_are_numbers, all_within, are_new}
 use Rattle.mp_rerun.proofs.NarrowLemmas.{low_bits}
 
 -- no time is too late
@@ -31,6 +33,12 @@ below_never n ok time low = let most = horizon_within n ok in omega arith
 
 module _ (old n : Circuit) (old_ok : IsCircuit old) (ok : IsCircuit n) (revised : IsRevision old n) (run : Outcome) (numbering : Numbering) (since : ℕ → ℕ) (t : ℕ) (s : Rerun)
     (is : IsRerunBy old n run numbering since t s) where
+  pub wires_ahead_are : AreNumbers s.comparison.numbers (slot_at s.simulation.bits.simulator 0)
+  wires_ahead_are = wires_are_numbers n ok (active_of s) (on_of s) numbering t s.simulation is.shows s.comparison is.followed.numbered.count
+
+  pub copies_ahead_are : AreNumbers s.comparison.numbers (copy_slot s.simulation.bits.copies 0)
+  copies_ahead_are = copies_are_numbers n ok (active_of s) (on_of s) numbering t s.simulation is.shows s.comparison is.followed.numbered.count
+
   module _ (coming : NewChanges) (are : AreComing (t + 1) (left_of s.stimuli) (left_of s.tails) s.simulation coming) where
     pub coming_within : AreWithin s.comparison.numbers coming
     coming_within =

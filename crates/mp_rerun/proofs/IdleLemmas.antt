@@ -1,10 +1,13 @@
--- What holds after a unit in which nothing happens.
+-- What holds after a unit in which nothing is set, and no module joins.
 use Rattle.std.proofs.Common.{◌≡◌, ℕ, ◌+◌, ◌<◌, List, [], sym, ap, subst, ◌∙◌, arith}
 use Rattle.mp_netlist.specs.Circuit.{Circuit, IsCircuit}
 use Rattle.mp_model.specs.Waves.{level}
 use Rattle.mp_calendar.specs.declared.calendar.Calendar.{Calendar}
 use Rattle.mp_calendar.specs.Calendars.{never, IsCalendar, ComesUp}
+use Rattle.mp_core.specs.Simulators.{slot_at}
+use Rattle.mp_core.specs.Simulations.{copy_slot}
 use Rattle.mp_data.specs.declared.level_change.LevelChange.{LevelChange}
+use Rattle.mp_units.specs.NetlistSimulations.{IsStill}
 use Rattle.mp_evaluation.specs.Outcomes.{Outcome}
 use Rattle.mp_evaluation.specs.Runs.{IsRun}
 use Rattle.mp_run.specs.Stimuli.{left_of}
@@ -18,26 +21,35 @@ use Rattle.mp_compare.specs.Comparing.{HasCursors, IsComplete, IsOldRun}
 use Rattle.mp_compare.proofs.OldRunLemmas.{runs_are_old}
 use Rattle.mp_compare.proofs.QuietLemmas.{none_due, cursors_on, complete_on}
 use Rattle.mp_rerun.specs.declared.rerun.Rerun.{Rerun}
-use Rattle.mp_rerun.specs.Idle.{IsQuiet}
+use Rattle.mp_rerun.specs.Idle.{IsUnset, IsQuiet}
 use Rattle.mp_rerun.specs.Joining.{NoneIsApart, HasSet}
 use Rattle.mp_rerun.specs.Reruns.{IsFollowed, IsRerunBy, active_of, on_of}
 use Rattle.mp_rerun.proofs.FindingLemmas.{below_never}
 use Rattle.mp_rerun.proofs.PassingLemmas.{followed_on}
-use Rattle.mp_rerun.proofs.QuietLemmas.{NothingComes, none_after, none_apart, none_outside}
+use Rattle.mp_rerun.proofs.QuietLemmas.{NothingIsHeard, none_tracked, none_after, none_apart, none_outside}
 
--- where it is quiet nothing comes
-pub nothing_comes : (t : ℕ) (s : Rerun) → ComesUp → t + 1 < never → IsCalendar t [] s.comparison.calendar → IsQuiet (t + 1) s → NothingComes (t + 1) s
-nothing_comes t s up low calendar quiet = record {
-  wires = quiet.still.wires;
-  copies = quiet.still.copies;
-  changes = quiet.still.changes;
-  stimuli = quiet.stimuli;
-  tails = quiet.tails;
-  calendar = none_due t s.comparison up calendar low quiet.calendar;
+-- where it is quiet nothing is heard
+pub nothing_heard : (t : ℕ) (s : Rerun) → ComesUp → t + 1 < never → IsCalendar t [] s.comparison.calendar → IsQuiet (t + 1) s → NothingIsHeard (t + 1) s
+nothing_heard t s up low calendar quiet = record {
+  wires = quiet.wires;
+  copies = quiet.copies;
+  levels = quiet.levels;
+  stimuli = quiet.unset.stimuli;
+  tails = quiet.unset.tails;
+  calendar = none_due t s.comparison up calendar low quiet.unset.calendar;
+}
+
+-- and where nothing changes it is quiet
+pub still_quiet : (time : ℕ) (s : Rerun) → IsUnset time s → IsStill s.simulation → IsQuiet time s
+still_quiet time s unset still = record {
+  unset = unset;
+  levels = still.changes;
+  wires = none_tracked s.comparison time (slot_at s.simulation.bits.simulator 0) still.wires;
+  copies = none_tracked s.comparison time (copy_slot s.simulation.bits.copies 0) still.copies;
 }
 
 module _ (old n : Circuit) (old_ok : IsCircuit old) (ok : IsCircuit n) (revised : IsRevision old n) (run : Outcome) (is_run : IsRun old run) (numbering : Numbering) (since : ℕ → ℕ) (t : ℕ)
-    (below : t + 1 < n.horizon) (s : Rerun) (is : IsRerunBy old n run numbering since t s) (nothing : NothingComes (t + 1) s) where
+    (below : t + 1 < n.horizon) (s : Rerun) (is : IsRerunBy old n run numbering since t s) (nothing : NothingIsHeard (t + 1) s) where
   low : t + 1 < never
   low = below_never n ok (t + 1) below
 

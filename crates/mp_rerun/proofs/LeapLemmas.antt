@@ -5,6 +5,8 @@ use Rattle.std.proofs.lemmas.Bool.{ne_eqb}
 use Rattle.mp_records.specs.declared.ids.ModuleId.{ModuleId}
 use Rattle.mp_netlist.specs.Circuit.{Circuit, IsCircuit, module_at}
 use Rattle.mp_calendar.specs.Calendars.{never, time_of, IsCalendar}
+use Rattle.mp_core.specs.Simulators.{slot_at}
+use Rattle.mp_core.specs.Simulations.{copy_slot}
 use Rattle.mp_events.proofs.EmptyLemmas.{empty_next}
 use Rattle.mp_units.specs.NetlistSimulations.{IsAtRest}
 use Rattle.mp_units.proofs.RestingLemmas.{rests_on}
@@ -29,7 +31,7 @@ use Rattle.mp_rerun.specs.declared.rerun.Rerun.{Rerun}
 use Rattle.mp_rerun.specs.Idle.{is_due}
 use Rattle.mp_rerun.specs.Reruns.{IsRerunBy, active_of, on_of}
 use Rattle.mp_rerun.proofs.FindingLemmas.{below_never}
-use Rattle.mp_rerun.proofs.QuietLemmas.{NothingComes}
+use Rattle.mp_rerun.proofs.QuietLemmas.{NothingIsHeard, none_tracked}
 use Rattle.mp_rerun.proofs.IdleLemmas.{quiet_outside, quiet_followed}
 use Rattle.mp_rerun.proofs.StandingLemmas.{standing}
 
@@ -64,11 +66,11 @@ pub from_earlier : (t later : ℕ) (ss : List StimulusChange) → t ≤ later �
 from_earlier t later [] low from = tt
 from_earlier t later (s ∷ ss) low from = let first = from.0 in (omega (arith, first, low), from.1)
 
-leap_comes : (u time : ℕ) (s : Rerun) → u < time → u < never → CanLeap time s → NothingComes u s
-leap_comes u time s early low can = record {
-  wires = empty_next s.simulation.bits.simulator.wheel can.rest.bits.wires;
-  copies = empty_next s.simulation.bits.copies.wheel can.rest.bits.copies;
-  changes = empty_next s.simulation.wires.wheel can.rest.changes;
+leap_heard : (u time : ℕ) (s : Rerun) → u < time → u < never → CanLeap time s → NothingIsHeard u s
+leap_heard u time s early low can = record {
+  wires = none_tracked s.comparison u (slot_at s.simulation.bits.simulator 0) (empty_next s.simulation.bits.simulator.wheel can.rest.bits.wires);
+  copies = none_tracked s.comparison u (copy_slot s.simulation.bits.copies 0) (empty_next s.simulation.bits.copies.wheel can.rest.bits.copies);
+  levels = empty_next s.simulation.wires.wheel can.rest.changes;
   stimuli = none_due_before u time (left_of s.stimuli) early can.stimuli;
   tails = none_due_before u time (left_of s.tails) early can.tails;
   calendar = later_due (time - 1) u s.comparison (omega (arith, early)) low can.times;
@@ -90,7 +92,7 @@ module _ (old n : Circuit) (old_ok : IsCircuit old) (ok : IsCircuit n) (revised 
   one_unit : (t : ℕ) → t + 1 < time → IsRerunBy old n run numbering since t s → IsRerunBy old n run numbering since (t + 1) s
   one_unit t early is =
       let below : t + 1 < n.horizon = omega (arith, early, within) in
-      let nothing = leap_comes (t + 1) time s early (below_never n ok (t + 1) below) can in
+      let nothing = leap_heard (t + 1) time s early (below_never n ok (t + 1) below) can in
       let ports = is.followed.ports in
       let circuit = laws.excerpts n ok (active_of s) (on_of s) ports in
       let sim = laws.simulates n ok (active_of s) (on_of s) ports numbering t s.simulation (omega (arith, below)) is.shows in

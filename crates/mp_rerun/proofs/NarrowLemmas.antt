@@ -45,7 +45,7 @@ module _ (n : Circuit) (ok : IsCircuit n) (active on : ℕ → Bool) (numbering 
       let stands = changes_stand n ok x (t + 1) changes in
       let is = bit_is n x stands.low narrow in
       let own : (numbering.source x).0 ≡ x = ap (λ (r : ℕ × ℕ). r.0) (shows.numbers.wires x is) in
-      (low_wire n ok active on numbering t s shows c count told anew tail stimuli left first second coming are x changes, bit_wire_source n numbering s shows.numbers x is, subst (Stands n) (sym own) stands)
+      (low_wire n ok active on numbering t s shows c count x changes, bit_wire_source n numbering s shows.numbers x is, subst (Stands n) (sym own) stands)
 
   narrow_in_wires : (x : ℕ) → 0 < listed x (slot_at s.bits.simulator 0) → IsNarrow x
   narrow_in_wires x some =
@@ -76,7 +76,7 @@ module _ (n : Circuit) (ok : IsCircuit n) (active on : ℕ → Bool) (numbering 
           let low = ltb-true 0 0 none in let no : ⊥ = omega (arith, low) in absurd no
       by (Some y) at =
           let change = (and_parts (shown_change n on (numbering.source x) (t + 1)) (nat_lt 0 (later_by s.bits.copies.next.items (numbering.before x))) all).0 in (
-            low_in_copies n ok active on numbering t s shows c count told anew tail stimuli left first second coming are x some,
+            low_in_copies n ok active on numbering t s shows c count x some,
             shows.numbers.bit_copies x y at,
             late_stands (numbering.source x) (and_parts (on (numbering.source x).0) (late_change n (numbering.source x) (t + 1)) change).1,
           )

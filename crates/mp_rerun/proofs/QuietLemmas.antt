@@ -1,7 +1,7 @@
--- A unit in which nothing is known ahead, nothing is due, and no number comes up.
-use Rattle.std.proofs.Common.{◌≡◌, ℕ, ◌+◌, ◌-◌, ◌<◌, Bool, true, false, not, cond, nat_lt, List, [], ◌∷◌, ◌++◌, All, Some, length, refl, sym, ap, subst, ◌∙◌, arith}
+-- A unit in which no number that is tracked is known to change, nothing is due, and no number comes up.
+use Rattle.std.proofs.Common.{◌≡◌, ℕ, ◌+◌, ◌-◌, ◌<◌, Bool, true, false, not, cond, nat_lt, List, [], ◌∷◌, ◌++◌, All, Some, length, refl, sym, ap, subst, ◌∙◌, arith, inl, inr}
 use Rattle.std.specs.Prelude.{◌&&◌, ◌==◌}
-use Rattle.std.proofs.lemmas.Bool.{and_parts, ltb-true, eqb-true}
+use Rattle.std.proofs.lemmas.Bool.{cases_lt, both_ways, and_parts, ltb-true, eqb-true}
 use Rattle.std.proofs.lemmas.List.Elements.{All-map}
 use Rattle.mp_records.specs.declared.module_record.ModuleRecord.{ModuleRecord}
 use Rattle.mp_netlist.specs.Circuit.{Circuit, IsCircuit, module_at}
@@ -24,7 +24,8 @@ use Rattle.mp_agreement.specs.Reading.{late as late_at, AreAlike, QuietWhereAlik
 use Rattle.mp_agreement.specs.Sources.{SleepersDriveAlike, WiresAgree}
 use Rattle.mp_excerpt.specs.Numberings.{Numbering}
 use Rattle.mp_excerpt.specs.Setting.{is_outside, AreSetOutside}
-use Rattle.mp_compare.specs.Comparing.{wire_of, delay_of, late, source_at, asleep_at, is_tracked, may_differ, IsOldRun}
+use Rattle.mp_compare.specs.declared.comparison.Comparison.{Comparison}
+use Rattle.mp_compare.specs.Comparing.{wire_of, delay_of, late, source_at, asleep_at, is_tracked, AreUntracked, may_differ, IsOldRun}
 use Rattle.mp_compare.specs.Passing.{is_set}
 use Rattle.mp_compare.proofs.CursorLemmas.{is_number}
 use Rattle.mp_compare.proofs.QuietLemmas.{NoneIsDue, none_departs, none_set}
@@ -56,14 +57,27 @@ no_levels : (u : ℕ) (ss : List StimulusChange) → is_due u ss ≡ false → l
 no_levels u [] e = refl
 no_levels u (s ∷ ss) e = ap (λ b. cond b (levels_of s ++ levels_at u ss) []) e
 
--- nothing comes in the unit of a time, the next one
-pub record NothingComes (u : ℕ) (s : Rerun) : Type 0 where
-  pub wires : slot_at s.simulation.bits.simulator 0 ≡ []
-  pub copies : copy_slot s.simulation.bits.copies 0 ≡ []
-  pub changes : data_slot s.simulation.wires.wheel 0 ≡ []
+-- nothing is heard in the unit of a time, the next one: no number that is tracked is known to change, nothing is set anew, and no number has an
+-- old change
+pub record NothingIsHeard (u : ℕ) (s : Rerun) : Type 0 where
+  pub wires : AreUntracked s.comparison u (slot_at s.simulation.bits.simulator 0)
+  pub copies : AreUntracked s.comparison u (copy_slot s.simulation.bits.copies 0)
+  pub levels : data_slot s.simulation.wires.wheel 0 ≡ []
   pub stimuli : is_due u (left_of s.stimuli) ≡ false
   pub tails : is_due u (left_of s.tails) ≡ false
   pub calendar : NoneIsDue u s.comparison
+
+-- none of no numbers is tracked
+pub none_tracked : (c : Comparison) (u : ℕ) (xs : List ℕ) → xs ≡ [] → AreUntracked c u xs
+none_tracked c u xs none = subst (AreUntracked c u) (sym none) (λ k d low. let no : ⊥ = omega (arith, low) in absurd no)
+
+-- a number that is tracked isn't among those that aren't
+untracked : (c : Comparison) (u : ℕ) (xs : List ℕ) (x : ℕ) → AreUntracked c u xs → is_tracked c x u ≡ true → listed x xs ≡ 0
+untracked c u xs x none tracked = elim (cases_lt 0 (listed x xs)) as (λ _. listed x xs ≡ 0) [
+  | inl some ↦ absurd (both_ways (is_tracked c x u)
+      (at_listed (λ (q : ℕ × ℕ). is_tracked c q.0 u ≡ false) (λ y. (y, 0)) xs x (All-map (λ (q : ℕ × ℕ). is_tracked c q.0 u ≡ false) (λ y. (y, 0)) xs none) some) tracked)
+  | inr not_some ↦ omega arith
+]
 
 -- ---- tests
 
@@ -84,7 +98,7 @@ set_by_none true false o none = refl
 set_by_none false is o none = refl
 
 module _ (old n : Circuit) (old_ok : IsCircuit old) (ok : IsCircuit n) (revised : IsRevision old n) (run : Outcome) (numbering : Numbering) (since : ℕ → ℕ) (t : ℕ) (s : Rerun)
-    (is : IsRerunBy old n run numbering since t s) (nothing : NothingComes (t + 1) s) where
+    (is : IsRerunBy old n run numbering since t s) (nothing : NothingIsHeard (t + 1) s) where
   -- ---- no number that is tracked changes
   stays : (x : ℕ) → is_tracked s.comparison x (t + 1) ≡ true → late (level n) s.comparison.numbers x t ≡ late (level n) s.comparison.numbers x (t + 1)
   stays x tracked =
@@ -106,11 +120,11 @@ module _ (old n : Circuit) (old_ok : IsCircuit old) (ok : IsCircuit n) (revised 
       let none : d ≡ 0 = ap (λ (r : ℕ × ℕ). r.1) (sym told ∙ own) in
       subst (IsSplit n (active_of s) (is_set_anew n (until_of s)) (is_tail n (active_of s) (until_of s)) (t + 1)) wire
       (splits n ok old (active_of s) since (until_of s) is.followed.sources w (t + 1) some (omega (arith, early, none)))) in
-      let a = ap (listed x) nothing.wires in
-      let b = ap (listed x) nothing.copies in
+      let a = untracked c (t + 1) (slot_at s.simulation.bits.simulator 0) x nothing.wires tracked in
+      let b = untracked c (t + 1) (copy_slot s.simulation.bits.copies 0) x nothing.copies tracked in
       let e = ap (listed x) (no_bits (t + 1) (left_of s.stimuli) nothing.stimuli) in
       let f = ap (listed x) (no_bits (t + 1) (left_of s.tails) nothing.tails) in
-      let g = ap (changes_of x) nothing.changes in
+      let g = ap (changes_of x) nothing.levels in
       let h = ap (changes_of x) (no_levels (t + 1) (left_of s.stimuli) nothing.stimuli) in
       let i = ap (changes_of x) (no_levels (t + 1) (left_of s.tails) nothing.tails) in
       let rests : bit (late_change n (numbering.source x) (t + 1)) ≡ 0 = omega (arith, comes, a, b, e, f, g, h, i) in

@@ -155,9 +155,9 @@ module _ (old new : Circuit) (ok : IsCircuit new) (run : Outcome) (time latest :
           (passes (excerpt new (active_of set) (on_of set)) (time - 1) (excerpt_is new ok (active_of set) (on_of set) after.ports) (omega (arith, some)) simulated
           (sets_are_stimuli new ok (active_of set) (on_of set) after.ports bits levels time below outside))
 
--- ---- nothing happens
+-- ---- nothing is set, and no module joins
 
--- when a unit is over in which nothing happens
+-- when such a unit is over
 pub quiet_over : (old new : Circuit) (run : Outcome) (from time : ℕ) (s set : Rerun) → 0 < time → IsInWindow old new run from (time - 1) s → HasSet s set → time < s.window_end → (simulation : NetlistSimulation)
     → IsRerunAt old new run (block_of new.horizon from) time (record set { simulation = simulation }) → IsInWindow old new run from time (record set { simulation = simulation })
 quiet_over old new run from time s set some is sets low simulation over = record {

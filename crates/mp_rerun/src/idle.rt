@@ -1,4 +1,4 @@
-//! Units in which nothing happens are passed over.
+//! Units in which nothing is set and no module joins, and windows in which nothing happens.
 ghost use Rattle.std.specs.Prelude.{◌≡◌, ℕ, ◌<◌, ◌≤◌, drop};
 ghost use Rattle.mp_netlist.specs.Circuit.{IsCircuit};
 ghost use Rattle.mp_netlist.specs.Delays.{least_delay};
@@ -22,30 +22,85 @@ const LOOK_UNITS: u32 = 1024;
 impl Rerun {
     ghost use Rattle.std.specs.Prelude.{◌≡◌, ◌≢◌, ℕ, ◌+◌, ◌-◌, ◌<◌, ◌≤◌, [], IsTrue};
     ghost use Rattle.mp_calendar.specs.Calendars.{never, time_of, IsCalendar};
+    ghost use Rattle.mp_core.specs.Simulators.{slot_at};
+    ghost use Rattle.mp_core.specs.Simulations.{copy_slot};
+    ghost use Rattle.mp_compare.specs.Comparing.{AreUntracked};
     ghost use Rattle.mp_run.specs.Stimuli.{left_of, AreFrom};
-    ghost use Rattle.mp_units.specs.NetlistSimulations.{IsAtRest};
+    ghost use Rattle.mp_units.specs.DataWheels.{data_slot};
+    ghost use Rattle.mp_units.specs.NetlistSimulations.{IsStill, IsAtRest};
     ghost use Rattle.mp_excerpt.specs.Numberings.{Numbering};
     ghost use Rattle.mp_excerpt.specs.Setting.{AreSetOutside};
-    ghost use Rattle.mp_rerun.specs.Idle.{IsQuiet};
+    ghost use Rattle.mp_rerun.specs.Idle.{IsUnset, IsQuiet};
     ghost use Rattle.mp_rerun.specs.Joining.{NoneIsApart, HasSet};
     ghost use Rattle.mp_rerun.specs.Reruns.{IsChange, IsRerunAt, IsRerunBy, IsFollowed, active_of, on_of};
     ghost use Rattle.mp_rerun.specs.Windows.{IsAtWindow};
     ghost use Rattle.mp_work.specs.Work.{block_of, window_of};
 
-    /// Whether nothing happens in the unit of a time: nothing is known ahead of it, no number comes up, and nothing is set anew.
+    /// Whether nothing changes in the unit of a time: nothing is set in it, and nothing is known ahead of it.
+    #[inline(always)]
+    pub(crate) fn is_still(&self, change: &Change<'_>, time: u32) -> bool
+        requires some { 0 < time }
+        requires is { (latest : ℕ) × IsRerunAt change.now.old.now change.now.new.now change.now.run.now latest (time - 1) self.now }
+        ensures unset { IsTrue result → IsUnset time self.now }
+        ensures still { IsTrue result → IsStill self.now.simulation }
+    {
+        self.simulation.is_still() && self.is_unset(change, time)
+    }
+
+    /// Whether nothing is set in the unit of a time, and no module that sleeps hears of what changes in it.
     #[inline(always)]
     pub(crate) fn is_quiet(&self, change: &Change<'_>, time: u32) -> bool
+        requires change { IsChange change.now }
         requires some { 0 < time }
+        requires below { time < change.now.new.now.horizon }
         requires is { (latest : ℕ) × IsRerunAt change.now.old.now change.now.new.now change.now.run.now latest (time - 1) self.now }
         ensures { IsTrue result → IsQuiet time self.now }
     {
-        self.simulation.is_still()
-            && self.comparison.calendar.is_quiet()
+        self.is_unset(change, time) && self.hears_nothing(change, time)
+    }
+
+    /// Whether in the unit of a time no number with data is known to change, and of those of width 1 none that is tracked.
+    #[inline(always)]
+    fn hears_nothing(&self, change: &Change<'_>, time: u32) -> bool
+        requires change { IsChange change.now }
+        requires some { 0 < time }
+        requires below { time < change.now.new.now.horizon }
+        requires is { (latest : ℕ) × IsRerunAt change.now.old.now change.now.new.now change.now.run.now latest (time - 1) self.now }
+        ensures levels { IsTrue result → data_slot self.now.simulation.wires.wheel 0 ≡ [] }
+        ensures wires { IsTrue result → AreUntracked self.now.comparison time (slot_at self.now.simulation.bits.simulator 0) }
+        ensures copies { IsTrue result → AreUntracked self.now.comparison time (copy_slot self.now.simulation.bits.copies 0) }
+    {
+        self.simulation.wires.wheel.is_quiet() && self.tracks_none(change, time)
+    }
+
+    /// Whether in the unit of a time no number of width 1 that is tracked is known to change.
+    #[inline(always)]
+    fn tracks_none(&self, change: &Change<'_>, time: u32) -> bool
+        requires change { IsChange change.now }
+        requires some { 0 < time }
+        requires below { time < change.now.new.now.horizon }
+        requires is { (latest : ℕ) × IsRerunAt change.now.old.now change.now.new.now change.now.run.now latest (time - 1) self.now }
+        ensures wires { IsTrue result → AreUntracked self.now.comparison time (slot_at self.now.simulation.bits.simulator 0) }
+        ensures copies { IsTrue result → AreUntracked self.now.comparison time (copy_slot self.now.simulation.bits.copies 0) }
+    {
+        let wires = self.simulation.toggles_ahead(0);
+        let copies = self.simulation.bits.copies.wheel.slot(0);
+        self.comparison.tracks_none(wires, time) && self.comparison.tracks_none(copies, time)
+    }
+
+    /// Whether nothing is set in the unit of a time: no number comes up, and nothing is set anew.
+    #[inline(always)]
+    fn is_unset(&self, change: &Change<'_>, time: u32) -> bool
+        requires some { 0 < time }
+        requires is { (latest : ℕ) × IsRerunAt change.now.old.now change.now.new.now change.now.run.now latest (time - 1) self.now }
+        ensures { IsTrue result → IsUnset time self.now }
+    {
+        self.comparison.calendar.is_quiet()
             && !is_due(self.stimuli.list.as_slice(), self.stimuli.place, time)
             && !is_due(self.tails.list.as_slice(), self.tails.place, time)
     }
 
-    /// The unit of a time begins, in which nothing happens.
+    /// The unit of a time begins, in which nothing is set, and no module joins.
     #[inline(always)]
     pub(crate) fn set_nothing(&mut self, change: &Change<'_>, time: u32)
         requires change { IsChange change.now }
@@ -58,6 +113,8 @@ impl Rerun {
         ensures followed { (numbering : Numbering) (since : ℕ → ℕ) → IsRerunBy change.now.old.now change.now.new.now change.now.run.now numbering since (time - 1) self.old →
             IsFollowed change.now.old.now change.now.new.now change.now.run.now numbering since time self.new }
         ensures set { AreSetOutside change.now.new.now (active_of self.new) (on_of self.new) self.new.set.bits.items self.new.set.levels.items time }
+        ensures bits { self.new.set.bits.items ≡ [] }
+        ensures levels { self.new.set.levels.items ≡ [] }
     {
         comes_up();
         wires_agree();

@@ -37,16 +37,7 @@ pub fn redo<R: Threads + Wait + Sync, G: Gate + Sync>(
     ensures run { IfOk result (λ both. IsRun new.now both.0) }
     ensures work { IfOk result (λ both. IsWork old.now new.now both.1) }
 {
-    // Their contracts tell that the netlists are well formed.
-    let _old_horizon = old.horizon();
-    let _new_horizon = new.horizon();
-    let least = new.least_delay();
-    let change = Change {
-        old,
-        run,
-        new,
-        least,
-    };
+    let change = change_between(old, run, new);
     let means = Means {
         rt,
         alloc,
@@ -75,16 +66,7 @@ pub fn redo_stretches<R: Threads + Wait + Sync, G: Gate + Sync>(
     ensures run { IfOk result (λ found. IfSome found (λ both. IsRun new.now both.0)) }
     ensures stretches { IfOk result (λ found. IfSome found (λ both. AreStretches old.now new.now both.1.items)) }
 {
-    // Their contracts tell that the netlists are well formed.
-    let _old_horizon = old.horizon();
-    let _new_horizon = new.horizon();
-    let least = new.least_delay();
-    let change = Change {
-        old,
-        run,
-        new,
-        least,
-    };
+    let change = change_between(old, run, new);
     let means = Means {
         rt,
         alloc,
@@ -115,5 +97,25 @@ fn run_again<R: Threads + Wait + Sync, G: Gate + Sync>(
             Ok(Some(both))
         }
         None => Ok(None),
+    }
+}
+
+/// The change of a netlist, of which this is the run, to a new one.
+fn change_between<'a>(old: &'a Netlist, run: &'a Run, new: &'a Netlist) -> Change<'a>
+    requires revision { IsRevision old.now new.now }
+    requires run { IsRun old.now run.now }
+    ensures is { IsChange result }
+    ensures old { result.old.now ≡ old.now }
+    ensures new { result.new.now ≡ new.now }
+{
+    // Their contracts tell that the netlists are well formed.
+    let _old_horizon = old.horizon();
+    let _new_horizon = new.horizon();
+    let least = new.least_delay();
+    Change {
+        old,
+        run,
+        new,
+        least,
     }
 }

@@ -10,10 +10,10 @@ use std::sync::Wait;
 use std::thread::Threads;
 
 impl Rerun {
-    ghost use Rattle.std.specs.Prelude.{◌≡◌, ℕ, ◌+◌, ◌-◌, ◌<◌, ◌^◌, OnOk};
+    ghost use Rattle.std.specs.Prelude.{◌≡◌, ℕ, ◌+◌, ◌-◌, ◌<◌, ◌≤◌, ◌^◌, OnOk};
     ghost use Rattle.mp_netlist.specs.Circuit.{Circuit, IsCircuit};
-    ghost use Rattle.mp_units.specs.NetlistSimulations.{IsSimulated, AreStimuli, CanPass, HasKeptNumbers};
-    ghost use Rattle.mp_rerun.specs.Idle.{IsQuiet};
+    ghost use Rattle.mp_units.specs.NetlistSimulations.{IsSimulated, IsStill, AreStimuli, CanPass, HasKeptNumbers};
+    ghost use Rattle.mp_rerun.specs.Idle.{IsUnset, IsQuiet};
     ghost use Rattle.mp_rerun.specs.Reruns.{IsChange};
     ghost use Rattle.mp_rerun.specs.Windows.{IsUnderWay};
 
@@ -44,7 +44,44 @@ impl Rerun {
         Ok(())
     }
 
-    /// Goes through the unit of a time in which nothing happens.
+    /// Goes through the units from a time on in which nothing changes, as far as the present window goes, and gives the time of the next unit.
+    pub(crate) fn pass_still(&mut self, change: &Change<'_>, from: u32) -> u32
+        requires change { IsChange change.now }
+        requires some { 0 < from }
+        requires within { from < self.old.window_end }
+        requires before { IsUnderWay change.now.old.now change.now.new.now change.now.run.now (from - 1) self.old }
+        ensures later { from ≤ result }
+        ensures end { self.new.window_end ≡ self.old.window_end }
+        ensures within { result ≤ self.new.window_end }
+        ensures after { IsUnderWay change.now.old.now change.now.new.now change.now.run.now (result - 1) self.new }
+    {
+        let end = self.window_end;
+        let mut time = from;
+        while time < end && self.is_still(change, time) {
+            self.skip_unit(change, time);
+            time += 1;
+        }
+        time
+    }
+
+    /// Goes through the unit of a time in which nothing changes.
+    #[inline(always)]
+    fn skip_unit(&mut self, change: &Change<'_>, time: u32)
+        requires change { IsChange change.now }
+        requires some { 0 < time }
+        requires below { time < change.now.new.now.horizon }
+        requires within { time < self.old.window_end }
+        requires unset { IsUnset time self.old }
+        requires still { IsStill self.old.simulation }
+        requires before { IsUnderWay change.now.old.now change.now.new.now change.now.run.now (time - 1) self.old }
+        ensures end { self.new.window_end ≡ self.old.window_end }
+        ensures after { IsUnderWay change.now.old.now change.now.new.now change.now.run.now time self.new }
+    {
+        self.set_nothing(change, time);
+        self.simulation.skip_unit();
+    }
+
+    /// Goes through the unit of a time in which nothing is set, and no module joins.
     fn pass_quiet(&mut self, change: &Change<'_>, time: u32) -> Result<(), AllocError>
         requires change { IsChange change.now }
         requires some { 0 < time }

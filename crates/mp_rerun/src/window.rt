@@ -35,13 +35,16 @@ impl Rerun {
         let horizon = change.new.horizon();
         let mut time = 1;
         while time < horizon {
-            if !is_patient && self.reaches_much(change, time) {
+            if !is_patient && time == self.window_end && self.reaches_much(change, time) {
                 return Ok(None);
             }
             match self.look_ahead(means.rt, means.gate, change, time)? {
                 Ahead::Next(next) => {
-                    self.pass_unit(means, change, next)?;
-                    time = next + 1;
+                    time = self.pass_still(change, next);
+                    if time < self.window_end {
+                        self.pass_unit(means, change, time)?;
+                        time += 1;
+                    }
                 }
                 Ahead::Over(end) => return Ok(Some(end)),
             }

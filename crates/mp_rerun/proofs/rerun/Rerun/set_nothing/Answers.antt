@@ -6,7 +6,7 @@ use Rattle.mp_rerun.specs.Joining.{NoneIsApart}
 use Rattle.mp_rerun.specs.Reruns.{IsFollowed, active_of, on_of}
 use Rattle.mp_rerun.proofs.FindingLemmas.{below_never}
 use Rattle.mp_rerun.proofs.PassingLemmas.{set_there}
-use Rattle.mp_rerun.proofs.IdleLemmas.{nothing_comes, quiet_apart, quiet_outside, quiet_followed}
+use Rattle.mp_rerun.proofs.IdleLemmas.{nothing_heard, quiet_apart, quiet_outside, quiet_followed}
 use Rattle.mp_rerun.proofs.rerun.Rerun.set_nothing.Goals as goal
 
 pub skip-requires-clause-is : goal.skip-requires-clause-is
@@ -24,7 +24,7 @@ returns-clause-none c =
     let some = c.requires.some in
     let next : t + 1 ≡ time = omega (arith, some) in
     let early = subst (λ u. u < new.horizon) (sym next) c.requires.below in
-    let nothing = nothing_comes t s c.comes_up.ensures (below_never new change.form (t + 1) early) at.is.followed.cursors.calendar (subst (λ u. IsQuiet u s) (sym next) c.requires.quiet) in
+    let nothing = nothing_heard t s c.comes_up.ensures (below_never new change.form (t + 1) early) at.is.followed.cursors.calendar (subst (λ u. IsQuiet u s) (sym next) c.requires.quiet) in
     subst (NoneIsApart old new (active_of s)) next
     (quiet_apart old new change.old_form change.form change.revision c.args.change.now.run.now change.run at.numbering at.since t early s at.is nothing
     c.wires_agree.ensures.wires c.readers_agree.ensures.sleepers c.readers_agree.ensures.quiet)
@@ -41,7 +41,7 @@ returns-clause-followed c numbering since is =
     let some = c.requires.some in
     let next : t + 1 ≡ time = omega (arith, some) in
     let early = subst (λ u. u < new.horizon) (sym next) c.requires.below in
-    let nothing = nothing_comes t s c.comes_up.ensures (below_never new change.form (t + 1) early) is.followed.cursors.calendar (subst (λ u. IsQuiet u s) (sym next) c.requires.quiet) in
+    let nothing = nothing_heard t s c.comes_up.ensures (below_never new change.form (t + 1) early) is.followed.cursors.calendar (subst (λ u. IsQuiet u s) (sym next) c.requires.quiet) in
     let after : Rerun = record s { comparison = record (s.comparison) { calendar = c.skip.new.self }; set = record { bits = c.clear.new.self; levels = c.clear-2.new.self } } in
     subst (λ u. IsFollowed old new run numbering since u after) next
     (quiet_followed old new change.old_form change.form change.revision run change.run numbering since t early s is nothing
@@ -60,7 +60,7 @@ returns-clause-set c =
     let some = c.requires.some in
     let next : t + 1 ≡ time = omega (arith, some) in
     let early = subst (λ u. u < new.horizon) (sym next) c.requires.below in
-    let nothing = nothing_comes t s c.comes_up.ensures (below_never new change.form (t + 1) early) at.is.followed.cursors.calendar (subst (λ u. IsQuiet u s) (sym next) c.requires.quiet) in
+    let nothing = nothing_heard t s c.comes_up.ensures (below_never new change.form (t + 1) early) at.is.followed.cursors.calendar (subst (λ u. IsQuiet u s) (sym next) c.requires.quiet) in
     let after : Rerun = record s { comparison = record (s.comparison) { calendar = c.skip.new.self }; set = record { bits = c.clear.new.self; levels = c.clear-2.new.self } } in
     set_there new time s after refl
     (subst (AreSetOutside new (active_of s) (on_of s) c.clear.new.self.items c.clear-2.new.self.items) next
