@@ -18,7 +18,6 @@ mod joining_states;
 mod last_wave;
 mod means;
 mod old_state;
-mod reach;
 mod redoing;
 mod rerun;
 mod resting;
@@ -33,4 +32,4 @@ mod turning_on;
 mod unit;
 mod window;
 
-pub use redoing::{redo, redo_stretches};
+pub use redoing::redo;

@@ -13,31 +13,25 @@ use std::sync::Wait;
 use std::thread::Threads;
 
 impl Rerun {
-    ghost use Rattle.std.specs.Prelude.{◌≡◌, ◌-◌, ◌<◌, ◌≤◌, true, IsSome, IfOk, IfSome, OnOk};
+    ghost use Rattle.std.specs.Prelude.{◌≡◌, ◌-◌, ◌<◌, ◌≤◌, IfOk, OnOk};
     ghost use Rattle.mp_rerun.specs.Reruns.{IsChange};
     ghost use Rattle.mp_rerun.specs.Settling.{HasEnded, IsAhead};
     ghost use Rattle.mp_rerun.specs.Windows.{IsUnderWay, IsAtWindow};
     ghost use Rattle.mp_work.specs.Work.{block_of, window_of};
 
-    /// Goes through the units up to an end, which it returns: the horizon, or a time from which on the rest is that of the old run. Nothing, where
-    /// it isn't to be patient, and the change reaches too much.
+    /// Goes through the units up to an end, which it returns: the horizon, or a time from which on the rest is that of the old run.
     pub(crate) fn pass_all<R: Threads + Wait + Sync, G: Gate + Sync>(
         &mut self,
         means: &Means<'_, R, G>,
         change: &Change<'_>,
-        is_patient: bool,
-    ) -> Result<Option<u32>, AllocError>
+    ) -> Result<u32, AllocError>
         requires change { IsChange change.now }
         requires before { IsUnderWay change.now.old.now change.now.new.now change.now.run.now 0 self.old }
-        ensures ended { IfOk result (λ found. IfSome found (λ end. HasEnded change.now.old.now change.now.new.now change.now.run.now end self.new)) }
-        ensures patient { is_patient ≡ true → IfOk result (λ found. IsSome found) }
+        ensures { IfOk result (λ end. HasEnded change.now.old.now change.now.new.now change.now.run.now end self.new) }
     {
         let horizon = change.new.horizon();
         let mut time = 1;
         while time < horizon {
-            if !is_patient && time == self.window_end && self.reaches_much(change, time) {
-                return Ok(None);
-            }
             match self.look_ahead(means.rt, means.gate, change, time)? {
                 Ahead::Next(next) => {
                     time = self.pass_still(change, next);
@@ -46,11 +40,11 @@ impl Rerun {
                         time += 1;
                     }
                 }
-                Ahead::Over(end) => return Ok(Some(end)),
+                Ahead::Over(end) => return Ok(end),
             }
         }
         self.end_window(change, horizon)?;
-        Ok(Some(horizon))
+        Ok(horizon)
     }
 
     /// What follows the units before a time. Where a window ends there, the next one begins: then, or, where nothing happens for a while, at a

@@ -94,7 +94,8 @@ fn redone<G: Watch + Sync>(
     requires run { IsRun old.now run.now }
     ensures { IfOk result (λ found. IsRun new.now found) }
 {
-    let (found, work) = redo(rt, alloc, old, run, new, trial.crew, trial.gate)?;
+    let (found, stretches) = redo(rt, alloc, old, run, new, trial.crew, trial.gate)?;
+    let work = Work::of_change(old, new, stretches);
     let known = has_waves(trial.row, &found) && trial.gate.is_content(&work);
     drop(work);
     assert!(rt; known);

@@ -20,12 +20,12 @@ loop-time-preserved g c =
       before = over.after;
     }
 
-pub loop-time-preserved-then-time-self-2 : goal.loop-time-preserved-then-time-self-2
-loop-time-preserved-then-time-self-2 g c =
+pub loop-time-preserved-then-time-self : goal.loop-time-preserved-then-time-self
+loop-time-preserved-then-time-self g c =
     let change = c.args.change.now in
     let time = c.pass_still-time.result in
     let ends = c.pass_still-time.ensures.after.is.window.ends in
-    let low = c.if-time-self-2.true in
+    let low = c.if-time-self.true in
     let same : time ≡ time + 1 - 1 = omega arith in
     record {
       some = omega arith;
