@@ -1,5 +1,7 @@
-//! What tests make netlists of, and what they compare waves with.
+//! What tests make netlists of, what they compare waves with, and a gate that counts.
 #![tactic(auto)]
 
+pub mod branches;
 pub mod making;
+pub mod tally;
 pub mod waves;

@@ -12,7 +12,6 @@ mod reached;
 mod redoing;
 mod redone;
 mod together;
-mod versions;
 mod whole_run;
 
 pub use redoing::redo;

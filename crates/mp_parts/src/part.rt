@@ -4,8 +4,8 @@ use crate::change::Change;
 use crate::part_netlist::part_netlist;
 use crate::part_run::part_run;
 use crate::redone::Redone;
-use crate::versions::Versions;
 use mp_phase::{Crew, Gate};
+use mp_rerun::redo;
 use std::alloc::{AllocError, Global};
 use std::sync::Wait;
 use std::thread::Threads;
@@ -40,12 +40,7 @@ impl<'a> Part<'a> {
         let Ok(crew) = Crew::new(1, 1) else {
             unreachable!()
         };
-        let versions = Versions {
-            old: &old,
-            run: &before,
-            new: &new,
-        };
-        let redone = versions.redo(rt, alloc, &crew, gate)?;
-        Ok(redone)
+        let (run, stretches) = redo(rt, alloc, &old, &before, &new, &crew, gate)?;
+        Ok(Redone { run, stretches })
     }
 }

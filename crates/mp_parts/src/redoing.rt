@@ -11,7 +11,6 @@ use crate::change::Change;
 use crate::partition::partition_of;
 use crate::redone::Redone;
 use crate::together::redo_together;
-use crate::versions::Versions;
 use crate::whole_run::whole_run;
 use mp_evaluation::Run;
 use mp_netlist::Netlist;
@@ -23,9 +22,8 @@ use std::thread::Threads;
 
 /// The run of a netlist that was made of another, by the run of that one; and what of it was evaluated. Where the change reaches many
 /// modules at once, and both netlists fall into the same parts that no wire connects, each part is evaluated again on a thread of its own.
-/// Else the calling thread does all. Where the change reaches most of the netlist early, and for longer than a block, all of it is evaluated by
-/// the threads of the crew. A module passes the gate for each entry of the work, and for what else is evaluated. Where memory runs out, the
-/// old run stays.
+/// Else the calling thread does all, but for the modules that begin to work in the same unit, which the threads of the crew share. A module
+/// passes the gate for each entry of the work. Where memory runs out, the old run stays.
 pub fn redo<R: Threads + Wait + Sync, G: Gate + Sync>(
     rt: &R,
     alloc: Global,
@@ -44,8 +42,8 @@ pub fn redo<R: Threads + Wait + Sync, G: Gate + Sync>(
     let _old_horizon = old.horizon();
     let _new_horizon = new.horizon();
     let Some(partition) = partition_of(alloc, old, new, crew)? else {
-        let redone = Versions { old, run, new }.redo(rt, alloc, crew, gate)?;
-        return Ok((redone.run, Work::of_change(old, new, redone.stretches)));
+        let (run, stretches) = mp_rerun::redo(rt, alloc, old, run, new, crew, gate)?;
+        return Ok((run, Work::of_change(old, new, stretches)));
     };
     let partition = &partition;
     let change = Change {

@@ -2,4 +2,10 @@
 #![tactic(auto)]
 
 #[cfg(test)]
+mod changing;
+#[cfg(test)]
 mod meeting;
+#[cfg(test)]
+mod passing;
+#[cfg(test)]
+mod resuming;

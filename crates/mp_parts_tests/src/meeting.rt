@@ -1,16 +1,15 @@
 //! The modules of two parts work at the same time.
-ghost use Rattle.std.specs.Prelude.{IfOk};
 ghost use Rattle.mp_evaluation.specs.Runs.{IsRun};
 ghost use Rattle.mp_work.specs.Revisions.{IsRevision};
 
+use super::changing::changed;
 use mp_engine::{Crew, Gate, OpenGate, evaluate_here};
 use mp_evaluation::Run;
 use mp_modules::Kind;
-use mp_netlist::{Edit, ModuleId, Netlist, WireId};
+use mp_netlist::{ModuleId, Netlist, WireId};
 use mp_part_tests::making::{Change, Part, Plan, Signal};
 use mp_part_tests::waves::has_changes;
 use mp_parts::redo;
-use mp_work::laws::edits_revise;
 use std::alloc::Global;
 use std::process::Abort;
 use std::sync::Wait;
@@ -72,26 +71,6 @@ static RISE: Change<'static> = Change::Signal(Signal {
     changes: &[(2, 1)],
 });
 
-/// The netlist after an edit.
-fn after_edit(old: &Netlist, edit: &Edit) -> Result<Netlist, Fail>
-    ensures { IfOk result (λ new. IsRevision old.now new) }
-{
-    edits_revise();
-    let mut new = old.copy()?;
-    new.apply(edit)?;
-    Ok(new)
-}
-
-/// The netlist after the wire has been set to rise.
-fn risen(alloc: Global, old: &Netlist) -> Result<Netlist, Fail>
-    ensures { IfOk result (λ new. IsRevision old.now new) }
-{
-    let edit = RISE.edit(alloc)?;
-    let new = after_edit(old, &edit);
-    drop(edit);
-    new
-}
-
 fn rises(run: &Run, wire: u32) -> bool {
     match run.wave(WireId(wire)) {
         Some(wave) => has_changes(wave, &[(5, 1)]),
@@ -131,7 +110,7 @@ fn assert_meeting(
     old: &Netlist,
 ) -> Result<(), Fail> {
     let run = evaluate_here(rt, alloc, old, &OpenGate)?;
-    let new = risen(alloc, old)?;
+    let new = changed(alloc, old, &RISE)?;
     let shown = assert_redone(rt, alloc, old, &run, &new);
     drop(run);
     drop(new);

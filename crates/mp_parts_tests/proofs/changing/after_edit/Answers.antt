@@ -1,7 +1,7 @@
 use Rattle.std.proofs.Common.{◌≡◌, subst, rules}
 use Rattle.mp_netlist.specs.Circuit.{Circuit}
 use Rattle.mp_work.specs.Revisions.{IsRevision}
-use Rattle.mp_parts_tests.proofs.meeting.after_edit.Goals as goal
+use Rattle.mp_parts_tests.proofs.changing.after_edit.Goals as goal
 
 pub returns : goal.returns
 returns c =

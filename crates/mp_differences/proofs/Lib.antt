@@ -1,5 +1,0 @@
-pub mod WaveLemmas
-pub mod InputLemmas
-pub mod ApartLemmas
-pub mod BlockLemmas
-pub mod BuiltLemmas

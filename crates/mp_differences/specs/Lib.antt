@@ -1,4 +1,0 @@
-pub mod Changes
-pub mod Partings
-pub mod Blocks
-pub mod Built
