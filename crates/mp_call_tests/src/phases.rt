@@ -1,11 +1,12 @@
 //! A phase in which memory is wanting, and the one behind it.
+use mp_netlist::ModuleId;
 use mp_phase::{Crew, Gate, Hands, OpenGate, Plan, Work};
 use std::alloc::{AllocError, Global};
 use std::sync::Wait;
 use std::test::Fail;
 use std::thread::Threads;
 
-/// A number that is to be doubled. There is no memory for 13.
+/// A number that is to be doubled. It passes the gate as the module of that number. There is no memory for 13.
 #[derive(Drop)]
 struct Number {
     value: u32,
@@ -16,7 +17,10 @@ impl Work for Number {
 
     ghost gives = { λ number done. Unit {0} };
 
-    fn work<R: Wait, G: Gate>(self, _rt: &R, _alloc: Global, _gate: &G) -> Result<u32, AllocError> {
+    ghost enters = { λ number m from to. Unit {0} };
+
+    fn work<R: Wait, G: Gate>(self, rt: &R, _alloc: Global, gate: &G) -> Result<u32, AllocError> {
+        gate.enter(rt, ModuleId(self.value), 0, 1);
         if self.value == 13 {
             return Err(AllocError);
         }
@@ -32,11 +36,15 @@ struct Doubling {
 }
 
 impl Plan for Doubling {
+    ghost use Rattle.mp_phase.specs.Allowed.{IsOpen};
+
     type Task = Number;
 
     type Outcome = (bool, Result<Vec<u32>, AllocError>);
 
     ghost ends_in = { λ plan outcome. Unit {0} };
+
+    ghost needs = { λ plan may. IsOpen may };
 
     fn carry_out<R: Wait, G: Gate>(
         self,

@@ -19,15 +19,15 @@ module _ {T : Type 0} where
   asked_by Spent = None
 
   -- the tasks that were asked for and aren't answered
-  abbrev pub asked_of : Now T → Side T → Option (List T)
-  asked_of Free side = None
-  asked_of Out side = asked_by side
-  asked_of (Here tasks) side = Some tasks.items
+  abbrev pub asked_of : {S : Type 0} → (S → List T) → Now S → Side T → Option (List T)
+  asked_of tasks Free side = None
+  asked_of tasks Out side = asked_by side
+  asked_of tasks (Here leave) side = Some (tasks leave)
 
-  abbrev pub IsLine : Now T → Side T → Type 0
+  abbrev pub IsLine : {S : Type 0} → Now S → Side T → Type 0
   IsLine Free side = side ≡ Idle
   IsLine Out side = (tasks : List T) × (side ≡ Asks tasks)
-  IsLine (Here tasks) side = side ≡ Idle
+  IsLine (Here leave) side = side ≡ Idle
 
   -- the tasks of a line
   abbrev pub tasks_of : Option (List T) → List T

@@ -3,7 +3,6 @@
 use crate::bad_count::BadCount;
 use crate::gate::Gate;
 use crate::hands::Hands;
-use crate::line::Line;
 use crate::one_phase::OnePhase;
 use crate::plan::Plan;
 use crate::work::Work;
@@ -22,6 +21,7 @@ pub struct Crew {
 
 impl Crew {
     ghost use Rattle.std.specs.Prelude.{◌≡◌, ◌<◌, ◌≤◌, IfOk, IfErr};
+    ghost use Rattle.mp_phase.specs.Allowed.{AreAllowed};
     ghost use Rattle.mp_phase.specs.Phase.{AreDone};
 
     /// A crew of so many threads, which shares out tasks that weigh at least `least` together. `BadCount` where there isn't 1 to 16 of
@@ -63,6 +63,7 @@ impl Crew {
     where
         P::Task: Send,
         <P::Task as Work>::Done: Send,
+        requires allowed { P.needs plan (G.may gate.now) }
         ensures { IfOk result (λ outcome. P.ends_in plan outcome) }
     {
         let count = self.count;
@@ -72,14 +73,14 @@ impl Crew {
             thread::scope_env(),
             rt,
             |scope| -> Result<P::Outcome, AllocError>
+                requires allowed { P.needs plan (G.may gate.now) }
                 ensures { IfOk result (λ outcome. P.ends_in plan outcome) }
             {
                 let mut hands = Hands::none(alloc, gate, least);
                 for place in 1..count {
-                    let (line, jobs) = Line::new(alloc)?;
+                    let jobs = hands.add()?;
                     let looks = if (place as usize) < lookers { LOOKS } else { 0 };
-                    let _ = scope.spawn(move || work(rt, alloc, gate, &jobs, looks));
-                    hands.add(line)?;
+                    let _ = scope.spawn(move || work(rt, alloc, &jobs, looks));
                 }
                 let outcome = plan.carry_out(rt, &mut hands);
                 drop(hands);
@@ -99,6 +100,7 @@ impl Crew {
     ) -> Result<Vec<T::Done>, AllocError>
     where
         T::Done: Send,
+        requires allowed { AreAllowed T.enters (G.may gate.now) tasks.items }
         ensures { IfOk result (λ dones. AreDone T.gives tasks.items dones.items) }
     {
         self.hold(rt, alloc, gate, OnePhase { tasks })?

@@ -6,7 +6,9 @@ ghost use Rattle.crossbeam_channel.specs.Ends.{sends_on, receives_on};
 ghost use Rattle.mp_phase.specs.declared.side.Side.TheVariants.{Idle, Asks};
 ghost use Rattle.mp_phase.specs.Told.{IsAnswerTo, Taken};
 
+use crate::gate::Gate;
 use crate::job::Job;
+use crate::leave::Leave;
 use crate::told::{Answer, Answers, Replier, Takes, Token, ask, take_back};
 use crate::work::Work;
 use crate::worker::LOOKS;
@@ -16,8 +18,8 @@ use std::thread;
 
 /// The collector's ends of the two channels. It keeps a sender of answers, so that these never look closed.
 #[derive(Drop)]
-pub struct Ends<T: Work> {
-    pub jobs: Sender<Job<T>>,
+pub struct Ends<'a, T: Work, G: Gate> {
+    pub jobs: Sender<Job<'a, T, G>>,
     pub to: Replier<T>,
     pub answers: Answers<T>,
     pub token: Token<T>,
@@ -26,32 +28,36 @@ pub struct Ends<T: Work> {
 }
 
 /// Asks for the tasks. They come back where they can't be sent.
-pub fn send<T: Work, R: Wait>(rt: &R, ends: &mut Ends<T>, tasks: Vec<T>) -> Result<(), Vec<T>>
+pub fn send<'a, T: Work, R: Wait, G: Gate>(
+    rt: &R,
+    ends: &mut Ends<'a, T, G>,
+    leave: Leave<'a, T, G>,
+) -> Result<(), Leave<'a, T, G>>
     requires idle { view ends.old.token ≡ Idle }
-    ensures ok { OnOk result (view ends.new.token ≡ Asks tasks.items) }
-    ensures err { IfErr result (λ back. (view ends.new.token ≡ Idle) × (back.items ≡ tasks.items)) }
+    ensures ok { OnOk result (view ends.new.token ≡ Asks leave.entry.tasks.items) }
+    ensures err { IfErr result (λ back. (view ends.new.token ≡ Idle) × (back.tasks.items ≡ leave.entry.tasks.items)) }
 {
     let Ok(to) = ends.to.try_clone() else {
-        return Err(tasks);
+        return Err(leave);
     };
-    let token = ask(&ends.to, &mut ends.token, tasks.as_slice());
-    let job = Job { tasks, to, token };
+    let token = ask(&ends.to, &mut ends.token, leave.tasks.as_slice());
+    let job = Job { leave, to, token };
     match ends.jobs.send(rt, job) {
         Ok(()) => Ok(()),
         Err(refused) => {
             let Job {
-                tasks,
+                leave,
                 to: _,
                 token,
             } = refused.into_inner();
-            take_back(&ends.to, &mut ends.token, token, tasks.as_slice());
-            Err(tasks)
+            take_back(&ends.to, &mut ends.token, token, leave.tasks.as_slice());
+            Err(leave)
         }
     }
 }
 
 /// The answer, if it comes soon.
-fn look<T: Work, R: Wait>(rt: &R, ends: &mut Ends<T>) -> Option<Answer<T::Done>>
+fn look<T: Work, R: Wait, G: Gate>(rt: &R, ends: &mut Ends<'_, T, G>) -> Option<Answer<T::Done>>
     requires asks { (o : List T) × (view ends.old.token ≡ Asks o) }
     ensures some { IfSome result (λ x. Taken T.gives (view ends.old.token) x (view ends.new.token)) }
     ensures none { IfNone result (view ends.new.token ≡ view ends.old.token) }
@@ -67,7 +73,7 @@ fn look<T: Work, R: Wait>(rt: &R, ends: &mut Ends<T>) -> Option<Answer<T::Done>>
 }
 
 /// Sleeps until the answer comes.
-fn wait<T: Work, R: Wait>(rt: &R, ends: &mut Ends<T>) -> Answer<T::Done>
+fn wait<T: Work, R: Wait, G: Gate>(rt: &R, ends: &mut Ends<'_, T, G>) -> Answer<T::Done>
     requires asks { (o : List T) × (view ends.old.token ≡ Asks o) }
     ensures { Taken T.gives (view ends.old.token) result (view ends.new.token) }
 {
@@ -80,7 +86,7 @@ fn wait<T: Work, R: Wait>(rt: &R, ends: &mut Ends<T>) -> Answer<T::Done>
 }
 
 /// The answer to what was asked.
-pub fn receive<T: Work, R: Wait>(rt: &R, ends: &mut Ends<T>) -> Answer<T::Done>
+pub fn receive<T: Work, R: Wait, G: Gate>(rt: &R, ends: &mut Ends<'_, T, G>) -> Answer<T::Done>
     requires asks { (o : List T) × (view ends.old.token ≡ Asks o) }
     ensures { Taken T.gives (view ends.old.token) result (view ends.new.token) }
 {

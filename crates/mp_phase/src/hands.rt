@@ -3,29 +3,34 @@
 ghost use Rattle.mp_phase.specs.Lines.{AreFree};
 
 use crate::gate::Gate;
+use crate::job::Job;
 use crate::line::Line;
 use crate::phase::phase;
 use crate::share::run_here;
 use crate::work::Work;
+use crossbeam_channel::Receiver;
 use std::alloc::{AllocError, Global};
 use std::sync::Wait;
 
 /// The workers of a crew while it is held.
 #[derive(Drop)]
-pub struct Hands<'a, T: Work, G> {
+pub struct Hands<'a, T: Work, G: Gate> {
     gate: &'a G,
     alloc: Global,
-    lines: Vec<Line<T>>,
+    lines: Vec<Line<'a, T, G>>,
     least: u32,
     ghost free: { AreFree lines.items },
 }
 
 impl<'a, T: Work, G: Gate> Hands<'a, T, G> {
-    ghost use Rattle.std.specs.Prelude.{◌≡◌, None, IfOk};
+    ghost use Rattle.std.specs.Prelude.{◌≡◌, IfOk, OnOk};
+    ghost use Rattle.mp_phase.specs.Allowed.{AreAllowed};
     ghost use Rattle.mp_phase.specs.Phase.{AreDone};
 
     /// No workers.
-    pub(crate) fn none(alloc: Global, gate: &'a G, least: u32) -> Hands<'a, T, G> {
+    pub(crate) fn none(alloc: Global, gate: &'a G, least: u32) -> Hands<'a, T, G>
+        ensures { result.gate ≡ gate.entry }
+    {
         Hands {
             gate,
             alloc,
@@ -34,19 +39,22 @@ impl<'a, T: Work, G: Gate> Hands<'a, T, G> {
         }
     }
 
-    /// One more worker.
-    pub(crate) fn add(&mut self, line: Line<T>) -> Result<(), AllocError>
-        requires { line ≡ None }
+    /// One more worker, which is to do these jobs.
+    pub(crate) fn add(&mut self) -> Result<Receiver<Job<'a, T, G>>, AllocError>
+        ensures { OnOk result (self.new.gate ≡ self.old.gate) }
     {
+        let (line, jobs) = Line::new(self.alloc)?;
         self.lines.push(line)?;
-        Ok(())
+        Ok(jobs)
     }
 
     /// Does the tasks, each worker and the calling thread a share of them, and gives what is made of each, in their order. Tasks that
     /// weigh less than the crew's `least` are all done on the calling thread. Where memory is refused, no share is begun that isn't
     /// out yet, and those that are out are waited for.
     pub fn run<R: Wait>(&mut self, rt: &R, tasks: Vec<T>) -> Result<Vec<T::Done>, AllocError>
-        ensures { IfOk result (λ dones. AreDone T.gives tasks.items dones.items) }
+        requires allowed { AreAllowed T.enters (G.may self.old.gate.now) tasks.items }
+        ensures done { IfOk result (λ dones. AreDone T.gives tasks.items dones.items) }
+        ensures gate { self.new.gate ≡ self.old.gate }
     {
         let gate = self.gate;
         let alloc = self.alloc;

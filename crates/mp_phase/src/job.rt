@@ -5,15 +5,17 @@ ghost use Rattle.crossbeam_channel.specs.Claims.{view, IsSeatAt};
 ghost use Rattle.crossbeam_channel.specs.Ends.{sends_on};
 ghost use Rattle.mp_phase.specs.declared.side.Side.TheVariants.{Owes};
 
+use crate::gate::Gate;
+use crate::leave::Leave;
 use crate::told::{Replier, Token};
 use crate::work::Work;
 
 /// Tasks, with what it takes to answer them.
 #[derive(Drop)]
-pub struct Job<T: Work> {
-    pub tasks: Vec<T>,
+pub struct Job<'a, T: Work, G: Gate> {
+    pub leave: Leave<'a, T, G>,
     pub to: Replier<T>,
     pub token: Token<T>,
     pub ghost seat: { IsSeatAt (sends_on to) token },
-    pub ghost owed: { view token ≡ Owes tasks.items },
+    pub ghost owed: { view token ≡ Owes leave.tasks.items },
 }

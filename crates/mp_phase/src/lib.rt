@@ -3,11 +3,11 @@
 
 mod bad_count;
 mod crew;
-mod done;
 mod ends;
 mod gate;
 mod hands;
 mod job;
+mod leave;
 mod line;
 mod now;
 mod one_phase;
@@ -16,19 +16,16 @@ mod phase;
 mod plan;
 mod share;
 mod side;
-mod task;
 mod told;
 mod work;
 mod worker;
 
 pub use bad_count::BadCount;
 pub use crew::{Crew, lookers};
-pub use done::Done;
 pub use gate::Gate;
 pub use hands::Hands;
 pub use open_gate::OpenGate;
 pub use plan::Plan;
 pub use share::run_here;
-pub use task::Task;
 pub use work::Work;
 pub use worker::LOOKS;

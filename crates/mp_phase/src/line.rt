@@ -3,6 +3,7 @@
 use crate::ends::{Ends, receive, send};
 use crate::gate::Gate;
 use crate::job::Job;
+use crate::leave::Leave;
 use crate::now::Now;
 use crate::share::run_here;
 use crate::side::Side;
@@ -16,29 +17,29 @@ use std::sync::Wait;
 
 /// A line to a worker. Contracts see it as the tasks that it was asked for and didn't answer.
 #[derive(Drop)]
-pub struct Line<T: Work> {
-    ends: Ends<T>,
-    now: Now<T>,
+pub struct Line<'a, T: Work, G: Gate> {
+    ends: Ends<'a, T, G>,
+    now: Now<Leave<'a, T, G>>,
 }
 
-impl<T: Work> Model for Line<T> {
+impl<'a, T: Work, G: Gate> Model for Line<'a, T, G> {
     ghost use Rattle.std.specs.Prelude.{Option, List};
     ghost use Rattle.mp_phase.specs.Lines.{asked_of, side_of, IsLine};
 
     ghost Value = { Option (List T) };
 
-    ghost view = { λ l. asked_of l.now (side_of l.ends.token) };
+    ghost view = { λ l. asked_of (λ leave. leave.tasks.items) l.now (side_of l.ends.token) };
 
     ghost invariant = { λ l. IsLine l.now (side_of l.ends.token) };
 }
 
-impl<T: Work> Line<T> {
+impl<'a, T: Work, G: Gate> Line<'a, T, G> {
     ghost use Rattle.std.specs.Prelude.{◌≡◌, Some, None, IfOk};
     ghost use Rattle.mp_phase.specs.Phase.{AreDone};
     ghost use Rattle.mp_phase.specs.Lines.{tasks_of};
 
     /// A line, and the jobs that its worker is to do.
-    pub fn new(alloc: Global) -> Result<(Line<T>, Receiver<Job<T>>), AllocError>
+    pub fn new(alloc: Global) -> Result<(Line<'a, T, G>, Receiver<Job<'a, T, G>>), AllocError>
         ensures { IfOk result (λ r. r.0 ≡ None) }
     {
         let (jobs, work) = bounded(alloc, 1)?;
@@ -61,26 +62,25 @@ impl<T: Work> Line<T> {
     }
 
     /// Asks for the tasks. Where they can't be sent, and where there are none, they are done with the answer.
-    pub fn ask<R: Wait>(&mut self, rt: &R, tasks: Vec<T>)
+    pub fn ask<R: Wait>(&mut self, rt: &R, leave: Leave<'a, T, G>)
         requires free { self.old ≡ None }
-        ensures { self.new ≡ Some tasks.items }
+        ensures { self.new ≡ Some leave.entry.tasks.items }
     {
-        if tasks.is_empty() {
-            self.now = Now::Here(tasks);
+        if leave.tasks.is_empty() {
+            self.now = Now::Here(leave);
             return;
         }
-        self.now = match send(rt, &mut self.ends, tasks) {
+        self.now = match send(rt, &mut self.ends, leave) {
             Ok(()) => Now::Out,
             Err(back) => Now::Here(back),
         };
     }
 
     /// What was made of what was asked. Tasks that couldn't be sent are begun here, but not where memory was refused before.
-    pub fn answer<R: Wait, G: Gate>(
+    pub fn answer<R: Wait>(
         &mut self,
         rt: &R,
         alloc: Global,
-        gate: &G,
         refused: bool,
     ) -> Result<Vec<T::Done>, AllocError>
         ensures done { IfOk result (λ dones. AreDone T.gives (tasks_of self.old) dones.items) }
@@ -89,7 +89,7 @@ impl<T: Work> Line<T> {
         match mem::replace(&mut self.now, Now::Free) {
             Now::Free => Ok(Vec::new(alloc)),
             Now::Here(_) if refused => Err(AllocError),
-            Now::Here(tasks) => run_here(rt, alloc, gate, tasks),
+            Now::Here(Leave { gate, tasks }) => run_here(rt, alloc, gate, tasks),
             Now::Out => receive(rt, &mut self.ends),
         }
     }

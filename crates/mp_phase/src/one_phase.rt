@@ -1,6 +1,7 @@
 //! One list of tasks by workers of its own.
 
 ghost use Rattle.std.specs.Prelude.{IfOk};
+ghost use Rattle.mp_phase.specs.Allowed.{AreAllowed};
 ghost use Rattle.mp_phase.specs.Phase.{AreDone};
 
 use crate::gate::Gate;
@@ -22,6 +23,8 @@ impl<T: Work> Plan for OnePhase<T> {
     type Outcome = Result<Vec<T::Done>, AllocError>;
 
     ghost ends_in = { λ plan outcome. IfOk outcome (λ dones. AreDone T.gives plan.tasks.items dones.items) };
+
+    ghost needs = { λ plan may. AreAllowed T.enters may plan.tasks.items };
 
     fn carry_out<R: Wait, G: Gate>(
         self,

@@ -1,10 +1,12 @@
 //! One list of tasks, shared out over the lines to workers and the calling thread.
 
 ghost use Rattle.std.specs.Prelude.{◌≡◌, ◌++◌, List, IfOk};
+ghost use Rattle.mp_phase.specs.Allowed.{AreAllowed};
 ghost use Rattle.mp_phase.specs.Lines.{AreFree, all_asked};
 ghost use Rattle.mp_phase.specs.Told.{IsAnswerTo};
 
 use crate::gate::Gate;
+use crate::leave::Leave;
 use crate::line::Line;
 use crate::share::run_here;
 use crate::told::Answer;
@@ -14,13 +16,16 @@ use std::sync::Wait;
 
 /// Asks each line for its share of the tasks, the last line for the last tasks, and gives the first share back. The shares differ by
 /// one task at most.
-fn ask_all<T: Work, R: Wait>(
+fn ask_all<'a, T: Work, R: Wait, G: Gate>(
     rt: &R,
-    lines: &mut [Line<T>],
+    gate: &'a G,
+    lines: &mut [Line<'a, T, G>],
     tasks: Vec<T>,
 ) -> Result<Vec<T>, AllocError>
-    requires { AreFree lines.old }
-    ensures { IfOk result (λ own. own.items ++ all_asked lines.new ≡ tasks.items) }
+    requires free { AreFree lines.old }
+    requires allowed { AreAllowed T.enters (G.may gate.now) tasks.items }
+    ensures asked { IfOk result (λ own. own.items ++ all_asked lines.new ≡ tasks.items) }
+    ensures allowed { IfOk result (λ own. AreAllowed T.enters (G.may gate.now) own.items) }
 {
     let mut rest = tasks;
     let mut place = lines.len();
@@ -28,7 +33,7 @@ fn ask_all<T: Work, R: Wait>(
         let share = rest.len() / (place + 1);
         place -= 1;
         let part = rest.split_off(rest.len() - share)?;
-        lines[place].ask(rt, part);
+        lines[place].ask(rt, Leave { gate, tasks: part });
     }
     Ok(rest)
 }
@@ -47,8 +52,7 @@ fn join<T: Work>(all: Answer<T::Done>, more: Answer<T::Done>) -> Answer<T::Done>
 fn answer_all<T: Work, R: Wait, G: Gate>(
     rt: &R,
     alloc: Global,
-    gate: &G,
-    lines: &mut [Line<T>],
+    lines: &mut [Line<'_, T, G>],
     own: Answer<T::Done>,
 ) -> Answer<T::Done>
     ensures done { (tasks : List T) → IsAnswerTo T.gives tasks own → IsAnswerTo T.gives (tasks ++ all_asked lines.old) result }
@@ -56,7 +60,7 @@ fn answer_all<T: Work, R: Wait, G: Gate>(
 {
     let mut all = own;
     for place in 0..lines.len() {
-        let more = lines[place].answer(rt, alloc, gate, all.is_err());
+        let more = lines[place].answer(rt, alloc, all.is_err());
         all = join::<T>(all, more);
     }
     all
@@ -64,24 +68,25 @@ fn answer_all<T: Work, R: Wait, G: Gate>(
 
 /// Does the tasks, each line and the calling thread a share of them. After want of memory no further share is begun, and those that
 /// are out are waited for.
-pub fn phase<T: Work, R: Wait, G: Gate>(
+pub fn phase<'a, T: Work, R: Wait, G: Gate>(
     rt: &R,
     alloc: Global,
-    gate: &G,
-    lines: &mut [Line<T>],
+    gate: &'a G,
+    lines: &mut [Line<'a, T, G>],
     tasks: Vec<T>,
 ) -> Answer<T::Done>
-    requires { AreFree lines.old }
+    requires free { AreFree lines.old }
+    requires allowed { AreAllowed T.enters (G.may gate.now) tasks.items }
     ensures done { IsAnswerTo T.gives tasks.items result }
     ensures free { AreFree lines.new }
 {
-    match ask_all(rt, lines, tasks) {
+    match ask_all(rt, gate, lines, tasks) {
         Ok(own) => {
             let own = run_here(rt, alloc, gate, own);
-            answer_all(rt, alloc, gate, lines, own)
+            answer_all(rt, alloc, lines, own)
         }
         Err(refused) => {
-            let _ = answer_all(rt, alloc, gate, lines, Err(refused));
+            let _ = answer_all(rt, alloc, lines, Err(refused));
             Err(AllocError)
         }
     }

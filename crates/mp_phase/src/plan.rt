@@ -7,6 +7,8 @@ use std::sync::Wait;
 
 /// What is done while a crew is held.
 pub trait Plan: Drop {
+    ghost use Rattle.std.specs.Prelude.{ℕ, Bool};
+
     /// What the crew is given to do.
     type Task: Work;
 
@@ -16,11 +18,15 @@ pub trait Plan: Drop {
     /// This may come of the plan.
     ghost ends_in: { Self → Self.Outcome → Type 0 };
 
+    /// The plan may be carried out where these may enter.
+    ghost needs: { Self → (ℕ → ℕ → ℕ → Bool) → Type 0 };
+
     /// Carries the plan out.
     fn carry_out<R: Wait, G: Gate>(
         self,
         rt: &R,
         hands: &mut Hands<'_, Self::Task, G>,
     ) -> Self::Outcome
+        requires allowed { needs self (G.may hands.old.gate.now) }
         ensures { ends_in self result };
 }

@@ -1,6 +1,7 @@
 //! A share of a list of tasks, on one thread.
 
 ghost use Rattle.std.specs.Prelude.{IfOk};
+ghost use Rattle.mp_phase.specs.Allowed.{AreAllowed};
 ghost use Rattle.mp_phase.specs.Phase.{AreDone};
 
 use crate::gate::Gate;
@@ -16,6 +17,7 @@ pub fn run_here<T: Work, R: Wait, G: Gate>(
     gate: &G,
     tasks: Vec<T>,
 ) -> Result<Vec<T::Done>, AllocError>
+    requires allowed { AreAllowed T.enters (G.may gate.now) tasks.items }
     ensures { IfOk result (λ dones. AreDone T.gives tasks.items dones.items) }
 {
     let mut dones = Vec::with_capacity(alloc, tasks.len())?;

@@ -1,6 +1,7 @@
 //! What a crew can be given to do.
 
 ghost use Rattle.std.specs.Prelude.{IfOk};
+ghost use Rattle.mp_phase.specs.Allowed.{IsAllowed};
 
 use crate::gate::Gate;
 use std::alloc::{AllocError, Global};
@@ -8,11 +9,16 @@ use std::sync::Wait;
 
 /// A task that any thread may do.
 pub trait Work: Drop {
+    ghost use Rattle.std.specs.Prelude.{ℕ};
+
     /// What is made of a task.
     type Done: Drop;
 
     /// The work makes this of the task.
     ghost gives: { Self → Self.Done → Type 0 };
+
+    /// The task lets the module of a number enter, for the units from one time to before another.
+    ghost enters: { Self → ℕ → ℕ → ℕ → Type 0 };
 
     /// How much work it is, in modules.
     fn weight(&self) -> usize {
@@ -26,5 +32,6 @@ pub trait Work: Drop {
         alloc: Global,
         gate: &G,
     ) -> Result<Self::Done, AllocError>
+        requires allowed { IsAllowed (enters self) (G.may gate.now) }
         ensures { IfOk result (λ done. gives self done) };
 }

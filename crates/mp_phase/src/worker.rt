@@ -2,6 +2,7 @@
 
 use crate::gate::Gate;
 use crate::job::Job;
+use crate::leave::Leave;
 use crate::share::run_here;
 use crate::told::Replies;
 use crate::work::Work;
@@ -11,12 +12,13 @@ use std::sync::Wait;
 use std::thread;
 
 /// Does a job and answers it. False where nobody takes the answer.
-fn answer<T: Work, R: Wait, G: Gate>(rt: &R, alloc: Global, gate: &G, job: Job<T>) -> bool {
+fn answer<T: Work, R: Wait, G: Gate>(rt: &R, alloc: Global, job: Job<'_, T, G>) -> bool {
     let Job {
-        tasks,
+        leave,
         to,
         mut token,
     } = job;
+    let Leave { gate, tasks } = leave;
     let dones = run_here(rt, alloc, gate, tasks);
     to.send_as::<Replies, R>(rt, &mut token, dones).is_ok()
 }
@@ -25,7 +27,11 @@ fn answer<T: Work, R: Wait, G: Gate>(rt: &R, alloc: Global, gate: &G, job: Job<T
 pub const LOOKS: u32 = 500;
 
 /// The next job, and nothing where there are no more. It is looked for so often before the thread sleeps.
-fn next<T: Work, R: Wait>(rt: &R, jobs: &Receiver<Job<T>>, looks: u32) -> Option<Job<T>> {
+fn next<'a, T: Work, R: Wait, G: Gate>(
+    rt: &R,
+    jobs: &Receiver<Job<'a, T, G>>,
+    looks: u32,
+) -> Option<Job<'a, T, G>> {
     for _ in 0..looks {
         match jobs.try_recv(rt) {
             Ok(job) => return Some(job),
@@ -40,15 +46,14 @@ fn next<T: Work, R: Wait>(rt: &R, jobs: &Receiver<Job<T>>, looks: u32) -> Option
 pub fn work<T: Work, R: Wait, G: Gate>(
     rt: &R,
     alloc: Global,
-    gate: &G,
-    jobs: &Receiver<Job<T>>,
+    jobs: &Receiver<Job<'_, T, G>>,
     looks: u32,
 ) {
     for _ in rt.forever() {
         let Some(job) = next(rt, jobs, looks) else {
             break;
         };
-        if !answer(rt, alloc, gate, job) {
+        if !answer(rt, alloc, job) {
             break;
         }
     }

@@ -107,6 +107,10 @@ struct Counting<'a> {
 }
 
 impl Gate for Counting<'_> {
+    ghost use Rattle.std.specs.Prelude.{true};
+
+    ghost may = { λ gate m from to. true };
+
     fn enter<R: Wait>(&self, _rt: &R, module: ModuleId, from: u32, to: u32) {
         let first = from == 0 && to == 52;
         let later = from >= 52 && to.checked_sub(from) == Some(2);

@@ -22,6 +22,10 @@ pub(super) struct CountingGate {
 }
 
 impl Gate for CountingGate {
+    ghost use Rattle.std.specs.Prelude.{true};
+
+    ghost may = { λ gate m from to. true };
+
     fn enter<R: Wait>(&self, _rt: &R, module: ModuleId, from: u32, to: u32) {
         let entry = WorkEntry { module, from, to };
         for passage in self.passages.iter() {

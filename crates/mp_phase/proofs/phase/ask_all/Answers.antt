@@ -1,5 +1,7 @@
 use Rattle.std.proofs.Common.{◌≡◌, ◌+◌, ◌-◌, ◌<◌, ◌++◌, length, drop, arith, ◌∙◌, subst, ℕ}
 use Rattle.std.proofs.lemmas.List.{get_or-set_other, length-set}
+use Rattle.std.proofs.lemmas.List.Elements.{All-take}
+use Rattle.mp_phase.specs.Allowed.{IsAllowed}
 use Rattle.mp_phase.specs.Lines.{all_asked}
 use Rattle.mp_phase.proofs.LineLemmas.{one_asked}
 use Rattle.mp_phase.proofs.phase.ask_all.Goals as goal
@@ -15,5 +17,6 @@ loop-place-preserved g c =
     record {
       within = omega (arith, length-set lines p c.ask.new.self);
       asked = one_asked p _ lines c.ask.new.self tasks rest c.split_off.new.self.items c.in_ok-part.part.items within c.ask.ensures c.in_ok-part.ensures.items c.in_ok-part.ensures.tail (subst (λ (n : ℕ). rest ++ all_asked (drop n lines) ≡ tasks) next c.loop-place.invariant.asked);
+      allowed = rw c.in_ok-part.ensures.items (All-take (λ task. IsAllowed (g.T.Work.enters task) (g.G.Gate.may c.args.gate.now)) _ rest c.loop-place.invariant.allowed);
       free = λ k d below. get_or-set_other lines p k c.ask.new.self d (λ e. omega arith) ∙ c.loop-place.invariant.free k d (omega arith);
     }
