@@ -26,6 +26,10 @@ pub fn counts(alloc: Global, modules: u32, horizon: u32) -> Result<Vec<AtomicU64
 }
 
 impl Gate for Tally<'_> {
+    ghost use Rattle.std.specs.Prelude.{true};
+
+    ghost may = { λ gate m from to. true };
+
     fn enter<R: Wait>(&self, _rt: &R, module: ModuleId, from: u32, to: u32) {
         let entry = WorkEntry { module, from, to };
         if let Some(count) = self.counts.get(self.place_of(&entry)) {

@@ -5,3 +5,4 @@ pub mod DelayLemmas
 pub mod OldPartLemmas
 pub mod WholeLemmas
 pub mod JoinLemmas
+pub mod AllowedLemmas

@@ -18,18 +18,22 @@ pub(crate) struct Part<'a> {
 }
 
 impl<'a> Part<'a> {
-    ghost use Rattle.std.specs.Prelude.{IfOk};
+    ghost use Rattle.std.specs.Prelude.{◌<◌, IfOk};
+    ghost use Rattle.mp_phase.specs.Allowed.{IsAllowed};
+    ghost use Rattle.mp_work.specs.Work.{IsEntry};
     ghost use Rattle.mp_parts.specs.Changes.{IsChange};
     ghost use Rattle.mp_parts.specs.Redone.{IsRedone};
 
-    /// What the change makes of the part, on one thread.
+    /// What the change makes of the part, on one thread. Only modules that the change reaches enter the gate.
     pub(crate) fn redo<R: Threads + Wait + Sync, G: Gate + Sync>(
         self,
         rt: &R,
         alloc: Global,
         gate: &G,
     ) -> Result<Redone, AllocError>
-        requires { IsChange self.change }
+        requires change { IsChange self.change }
+        requires part { self.number < self.change.partition.now.division.parts }
+        requires allowed { IsAllowed (IsEntry self.change.old.now self.change.new.now) (G.may gate.now) }
         ensures { IfOk result (IsRedone self.entry.change self.entry.number) }
     {
         let Part { change, number } = self;

@@ -3,7 +3,8 @@ ghost use Rattle.std.specs.Prelude.{IfOk};
 ghost use Rattle.mp_evaluation.specs.Runs.{IsRun};
 ghost use Rattle.mp_work.specs.Revisions.{IsRevision};
 ghost use Rattle.mp_work.specs.Stretches.{AreStretches};
-ghost use Rattle.mp_work.specs.Work.{IsWork};
+ghost use Rattle.mp_work.specs.Work.{IsEntry, IsWork};
+ghost use Rattle.mp_phase.specs.Allowed.{IsAllowed};
 ghost use Rattle.mp_parts.specs.Changes.{IsChange};
 ghost use Rattle.mp_parts.specs.Redone.{AreRedone};
 
@@ -35,6 +36,7 @@ pub fn redo<R: Threads + Wait + Sync, G: Gate + Sync>(
 ) -> Result<(Run, Work), AllocError>
     requires revision { IsRevision old.now new.now }
     requires run { IsRun old.now run.now }
+    requires allowed { IsAllowed (IsEntry old.now new.now) (G.may gate.now) }
     ensures run { IfOk result (λ both. IsRun new.now both.0) }
     ensures work { IfOk result (λ both. IsWork old.now new.now both.1) }
 {
@@ -62,7 +64,8 @@ fn redo_parts<R: Threads + Wait + Sync, G: Gate + Sync>(
     change: Change<'_>,
     gate: &G,
 ) -> Result<(Run, Work), AllocError>
-    requires { IsChange change }
+    requires change { IsChange change }
+    requires allowed { IsAllowed (IsEntry change.old.now change.new.now) (G.may gate.now) }
     ensures run { IfOk result (λ both. IsRun change.entry.new.now both.0) }
     ensures work { IfOk result (λ both. IsWork change.entry.old.now change.entry.new.now both.1) }
 {

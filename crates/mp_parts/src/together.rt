@@ -1,6 +1,8 @@
 //! Parts of a netlist that has changed, each on a thread of its own.
 ghost use Rattle.std.specs.Prelude.{◌≡◌, ◌<◌, ◌^◌, Ok, IfOk};
+ghost use Rattle.mp_phase.specs.Allowed.{IsAllowed};
 ghost use Rattle.mp_phase.specs.Phase.{AreDone};
+ghost use Rattle.mp_work.specs.Work.{IsEntry};
 ghost use Rattle.mp_parts.specs.Changes.{IsChange};
 ghost use Rattle.mp_parts.specs.Redone.{AreRedone, IsRedone};
 
@@ -20,7 +22,8 @@ pub(crate) fn redo_together<R: Threads + Wait + Sync, G: Gate + Sync>(
     change: Change<'_>,
     gate: &G,
 ) -> Result<Vec<Redone>, AllocError>
-    requires { IsChange change }
+    requires change { IsChange change }
+    requires allowed { IsAllowed (IsEntry change.old.now change.new.now) (G.may gate.now) }
     ensures { IfOk result (λ parts. AreRedone change.entry parts.items) }
 {
     let parts = change.partition.division.parts as usize;
@@ -30,7 +33,9 @@ pub(crate) fn redo_together<R: Threads + Wait + Sync, G: Gate + Sync>(
         parts,
         &|number: usize| -> Result<Redone, AllocError>
             requires change { IsChange change }
+            requires part { number < change.partition.now.division.parts }
             requires low { number < 2 ^ 32 }
+            requires allowed { IsAllowed (IsEntry change.old.now change.new.now) (G.may gate.now) }
             ensures { IfOk result (IsRedone change.entry number) }
         {
             let part = Part {

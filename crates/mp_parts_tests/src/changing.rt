@@ -19,11 +19,7 @@ fn after_edit(old: &Netlist, edit: &Edit) -> Result<Netlist, Fail>
 }
 
 /// The netlist with the change.
-pub(super) fn changed(
-    alloc: Global,
-    old: &Netlist,
-    change: &Change<'_>,
-) -> Result<Netlist, Fail>
+pub(super) fn changed(alloc: Global, old: &Netlist, change: &Change<'_>) -> Result<Netlist, Fail>
     ensures { IfOk result (λ new. IsRevision old.now new) }
 {
     let edit = change.edit(alloc)?;

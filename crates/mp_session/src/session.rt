@@ -15,9 +15,9 @@ use std::marker::Model;
 use std::sync::{Arc, Wait};
 use std::thread::Threads;
 
-/// A netlist and the edits that were accepted on it: its present version with its run, a crew, and the gate that modules pass. The first run
-/// is computed on the threads of the crew. An edit's run is computed from the run before it, by the crew where it reaches much in parts that no
-/// wire connects.
+/// A netlist and the edits that were accepted on it: its present version with its run, a crew, and the gate that modules pass, which any module
+/// may enter. The first run is computed on the threads of the crew. An edit's run is computed from the run before it, by the crew where it
+/// reaches much in parts that no wire connects.
 #[derive(Drop)]
 pub struct Session<G: Gate> {
     alloc: Global,
@@ -36,11 +36,14 @@ impl<G: Gate> Model for Session<G> {
 
     ghost use Rattle.mp_evaluation.specs.Runs.{IsRun};
     ghost use Rattle.mp_version.specs.Stories.{present};
+    ghost use Rattle.mp_phase.specs.Allowed.{IsOpen};
     ghost use Rattle.mp_session.specs.LastWork.{IsLastWork};
 
     ghost view = { λ session. record { story = arc_value session.version; last_work = session.last_work } };
 
-    ghost invariant = { λ session. IsRun (present (arc_value session.version)) session.run × IsLastWork (arc_value session.version) session.last_work };
+    ghost invariant = { λ session. IsRun (present (arc_value session.version)) session.run
+        × IsLastWork (arc_value session.version) session.last_work
+        × IsOpen (G.may session.gate) };
 }
 
 impl<G: Gate> Session<G> {
@@ -51,6 +54,7 @@ impl<G: Gate> Session<G> {
     ghost use Rattle.mp_version.specs.Limits.{max_edits};
     ghost use Rattle.mp_version.specs.Stories.{present, judged, one_more};
     ghost use Rattle.mp_work.specs.Work.{IsWork};
+    ghost use Rattle.mp_phase.specs.Allowed.{IsOpen};
     ghost use Rattle.mp_session.specs.LastWork.{IsLastWork};
     ghost use Rattle.mp_session.specs.Sessions.{opened};
 
@@ -64,6 +68,7 @@ impl<G: Gate> Session<G> {
     ) -> Result<Self, AllocError>
     where
         G: Sync,
+        requires open { IsOpen (G.may gate) }
         ensures { IfOk result (λ session. session ≡ opened netlist.now) }
     {
         let run = evaluate(rt, alloc, netlist, &crew, &gate)?;

@@ -1,7 +1,11 @@
-//! A session of a chain of buffers.
+//! Sessions of small netlists.
+ghost use Rattle.mp_phase.specs.Allowed.{IsOpen};
+
 use mp_modules::Kind;
 use mp_netlist::{ModuleId, Netlist, WireId};
+use mp_part_tests::branches::{BRANCHES, HALF, MODULES, MOST, ONE};
 use mp_part_tests::making::{Change, Part, Plan, Signal};
+use mp_part_tests::tally::{Tally, counts};
 use mp_part_tests::waves::has_changes;
 use mp_phase::{Crew, Gate};
 use mp_session::Session;
@@ -9,7 +13,6 @@ use mp_version::Version;
 use mp_work::{Work, WorkEntries, WorkEntry};
 use std::alloc::{AllocError, Global};
 use std::sync::Wait;
-use std::sync::atomic::{AtomicU64, Ordering};
 use std::test::Fail;
 use std::thread::Threads;
 
@@ -20,7 +23,9 @@ fn opened<G: Gate + Sync>(
     netlist: Netlist,
     crew: Crew,
     gate: G,
-) -> Result<Session<G>, AllocError> {
+) -> Result<Session<G>, AllocError>
+    requires { IsOpen (G.may gate) }
+{
     let session = Session::open(rt, alloc, &netlist, crew, gate);
     drop(netlist);
     session
@@ -99,30 +104,6 @@ fn is_version(version: &Version, number: u32, wire: u32, changes: &[(u32, u64)])
     }
 }
 
-/// Counts the windows that the first module of the chain works in when its input changes at 50, and all others.
-#[derive(Clone, Copy, Drop)]
-struct Counting<'a> {
-    expected: &'a AtomicU64,
-    others: &'a AtomicU64,
-}
-
-impl Gate for Counting<'_> {
-    ghost use Rattle.std.specs.Prelude.{true};
-
-    ghost may = { λ gate m from to. true };
-
-    fn enter<R: Wait>(&self, _rt: &R, module: ModuleId, from: u32, to: u32) {
-        let first = from == 0 && to == 52;
-        let later = from >= 52 && to.checked_sub(from) == Some(2);
-        let count = if module == ModuleId(0) && (first || later) {
-            self.expected
-        } else {
-            self.others
-        };
-        count.fetch_add(1, Ordering::SeqCst);
-    }
-}
-
 /// A buffer of 4 units from a to y, and two of 2 units in a row from c over z to v.
 static CHAIN: Plan<'static> = Plan {
     horizon: 100,
@@ -158,27 +139,25 @@ static RISE: Change<'static> = Change::Signal(Signal {
     changes: &[(50, 1)],
 });
 
-/// What an edit leads to: in how many windows modules pass the gate, the work, and the version of this number.
+/// What an edit leads to: the work, in which so many modules are, and the version of this number.
 #[derive(Drop)]
 struct Effect<'a> {
-    windows: u64,
     pieces: &'a [Piece],
+    modules: u32,
     number: u32,
 }
 
-/// Whether the first buffer's input, set to rise at 50, has just this effect.
+/// Whether the first buffer's input, set to rise at 50, has just this effect, and a module passes the gate once for each entry of the work.
 fn rises(
     rt: &(impl Threads + Wait + Sync),
     alloc: Global,
-    session: &mut Session<Counting<'_>>,
-    gate: Counting<'_>,
+    session: &mut Session<Tally<'_>>,
+    tally: Tally<'_>,
     effect: &Effect<'_>,
 ) -> bool {
-    gate.expected.store(0, Ordering::SeqCst);
-    gate.others.store(0, Ordering::SeqCst);
+    tally.clear();
     takes(rt, alloc, session, &RISE)
-        && gate.expected.load(Ordering::SeqCst) == effect.windows
-        && gate.others.load(Ordering::SeqCst) == 0
+        && tally.last_passed(session.last_work()) == Some(effect.modules)
         && has_entries(session.last_work(), effect.pieces)
         && is_version(session.version(), effect.number, 2, &[(54, 1)])
 }
@@ -187,34 +166,61 @@ fn rises(
 fn rises_twice(
     rt: &(impl Threads + Wait + Sync),
     alloc: Global,
-    session: &mut Session<Counting<'_>>,
-    gate: Counting<'_>,
+    session: &mut Session<Tally<'_>>,
+    tally: Tally<'_>,
 ) -> bool {
     let first = Effect {
-        windows: 25,
         pieces: &[Piece(0, 52, 52), Piece(52, 100, 2)],
+        modules: 1,
         number: 1,
     };
     let second = Effect {
-        windows: 0,
         pieces: &[],
+        modules: 0,
         number: 2,
     };
-    rises(rt, alloc, session, gate, &first) && rises(rt, alloc, session, gate, &second)
+    rises(rt, alloc, session, tally, &first) && rises(rt, alloc, session, tally, &second)
 }
 
 #[test]
 fn incremental_chain(rt: HostRuntime) -> Result<(), Fail> {
     let alloc = rt.alloc();
-    let (expected, others) = (AtomicU64::new(0), AtomicU64::new(0));
-    let gate = Counting {
-        expected: &expected,
-        others: &others,
-    };
+    let counts = counts(alloc, 3, 100)?;
+    let tally = Tally::new(100, counts.as_slice());
     let crew = Crew::new(2, 64)?;
     let netlist = CHAIN.netlist(alloc).ok_or("no netlist")?;
-    let mut session = opened(&rt, alloc, netlist, crew, gate)?;
-    let shown = rises_twice(&rt, alloc, &mut session, gate);
+    let mut session = opened(&rt, alloc, netlist, crew, tally)?;
+    let shown = rises_twice(&rt, alloc, &mut session, tally);
+    drop(session);
+    assert!(rt; shown);
+    Ok(())
+}
+
+/// Whether so many modules work after the change, and pass the gate for just the work's entries.
+fn passes(
+    rt: &(impl Threads + Wait + Sync),
+    alloc: Global,
+    session: &mut Session<Tally<'_>>,
+    tally: Tally<'_>,
+    change: &Change<'_>,
+    modules: u32,
+) -> bool {
+    tally.clear();
+    takes(rt, alloc, session, change) && tally.last_passed(session.last_work()) == Some(modules)
+}
+
+/// The changes reach one module of the five, two of them, and four; where two are reached at once, part by part.
+#[test]
+fn each_entry_is_passed(rt: HostRuntime) -> Result<(), Fail> {
+    let alloc = rt.alloc();
+    let counts = counts(alloc, MODULES, 8)?;
+    let tally = Tally::new(8, counts.as_slice());
+    let crew = Crew::new(2, 2)?;
+    let netlist = BRANCHES.netlist(alloc).ok_or("no netlist")?;
+    let mut session = opened(&rt, alloc, netlist, crew, tally)?;
+    let shown = passes(&rt, alloc, &mut session, tally, &ONE, 1)
+        && passes(&rt, alloc, &mut session, tally, &HALF, 2)
+        && passes(&rt, alloc, &mut session, tally, &MOST, 4);
     drop(session);
     assert!(rt; shown);
     Ok(())

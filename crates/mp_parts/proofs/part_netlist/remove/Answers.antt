@@ -15,5 +15,5 @@ returns-in-Ok c =
 pub unreachable-requires : goal.unreachable-requires
 unreachable-requires c =
     let no : ⊥ = removal_is_made c.args.netlist.now c.args.id.0 c.in-Some.found.now c.in_ok-module.module c.in-Err.field-0 c.horizon-horizon.ensures.form (sym c.in-Some.ensures.value)
-        c.in_ok-module.ensures.cases c.in-Err.ensures.refused c.in-Err.ensures.memory in
+    c.in_ok-module.ensures.cases c.in-Err.ensures.refused c.in-Err.ensures.memory in
     absurd no

@@ -3,17 +3,11 @@ use Rattle.std.specs.Prelude.{IfSome}
 use Rattle.mp_parts.specs.Partitions.{IsPartition}
 use Rattle.mp_parts.proofs.redoing.redo.Goals as goal
 
-pub redo_parts-requires : goal.redo_parts-requires
-redo_parts-requires g c = (
-  c.type_bounds.sync-R,
-  (
-    c.type_bounds.sync-G,
-    record {
-      old = c.horizon-old_horizon.ensures.form;
-      new = c.horizon-new_horizon.ensures.form;
-      revision = c.requires.revision;
-      run = c.requires.run;
-      partition = subst (λ o. IfSome o (IsPartition c.args.old.now c.args.new.now)) c.in-Some.is c.in_ok-partition.ensures;
-    },
-  ),
-)
+pub redo_parts-requires-clause-change : goal.redo_parts-requires-clause-change
+redo_parts-requires-clause-change g c = λ asked lives. record {
+  old = c.horizon-old_horizon.ensures.form;
+  new = c.horizon-new_horizon.ensures.form;
+  revision = c.requires.revision;
+  run = c.requires.run;
+  partition = subst (λ o. IfSome o (IsPartition c.args.old.now c.args.new.now)) c.in-Some.is c.in_ok-partition.ensures;
+}
