@@ -9,7 +9,7 @@ import reference
 from circuit import Refused
 from reader import Fault
 
-# how many bytes a text may have, and with `format 3`
+# how many bytes a text may have, and with `format 4`
 SHORT, LONG = 4_194_304, 1_073_741_824
 MOST_EDITS = 4096
 
@@ -45,8 +45,8 @@ def sections(text):
 def longest(text):
     """How many bytes a text may have that begins so."""
     words = next((words for words in map(reader.words_of, reader.lines_of(text[: SHORT + 1])) if words), [])
-    is_third = len(words) == 2 and words[0] == "format" and re.fullmatch("0{0,19}3", words[1])
-    return LONG if is_third else SHORT
+    is_fourth = len(words) == 2 and words[0] == "format" and re.fullmatch("0{0,19}4", words[1])
+    return LONG if is_fourth else SHORT
 
 
 def opened(text):

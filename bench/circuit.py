@@ -11,7 +11,7 @@ NAMES = dict(
     )
 )
 GREATEST = 65535
-# how many wires, modules and bundles there may be, and with `format 3`
+# how many wires, modules and bundles there may be, and with `format 4`
 LIMITS = {False: (8192, 4096, 1024), True: (2_097_152, 1_048_576, 262_144)}
 
 

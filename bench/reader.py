@@ -159,7 +159,7 @@ def edited(circuit, made):
 
 
 # the greatest horizon of each form of a text
-HORIZONS = {1: 65536, 2: 1_048_576, 3: 1_073_741_824}
+HORIZONS = {1: 65536, 2: 1_048_576, 4: 1_073_741_824}
 
 
 def statement(circuit, words, is_first, greatest):
@@ -180,7 +180,7 @@ def statement(circuit, words, is_first, greatest):
         want(10, found in HORIZONS)
         return None, HORIZONS[found]
     want(4, 1 <= found <= greatest)
-    return Circuit(found, greatest == HORIZONS[3]), greatest
+    return Circuit(found, greatest == HORIZONS[4]), greatest
 
 
 def netlist(text):

@@ -137,13 +137,13 @@ pub(crate) const TABLE_FULL: Entry = Entry {
     text: "
   meaning:
     8,192 wires, 4,096 modules or 1,024 bundles were added already, removed
-      ones counted; with `format 3` 2,097,152, 1,048,576 or 262,144
+      ones counted; with `format 4` 2,097,152, 1,048,576 or 262,144
   example, in a shell:
     (echo horizon 20; seq -f 'wire w%g 1 0' 8193) | mpwb waves
   answer:
     mpwb: line 8194: 7 Refused: 17 TableFull
   remedy:
-    Put `format 3` first. Or, where many things were removed, begin anew with the
+    Put `format 4` first. Or, where many things were removed, begin anew with the
     netlist that `text` writes: what was removed no longer counts there.
 ",
 };

@@ -68,7 +68,7 @@ pub(crate) const BAD_NUMBER: Entry = Entry {
     a word that should be a number, `OUT/DELAY` or `T=V` and isn't; an input
       with a `/` that isn't `IN/E`
     in a netlist: a horizon that isn't 1 to 65,536, or with `format 2` 1 to
-      1,048,576, or with `format 3` 1 to 1,073,741,824
+      1,048,576, or with `format 4` 1 to 1,073,741,824
     in a script: the steps of `why` aren't 1 to 1,048,576
     in a script: the number of `edits` is 0, or above the one that the next
       accepted edit will have
@@ -136,14 +136,14 @@ pub(crate) const TOO_LONG: Entry = Entry {
     text: "
   meaning:
     in a netlist: line 0: the text is longer than 4,194,304 bytes, or with
-      `format 3` than 1,073,741,824
+      `format 4` than 1,073,741,824
     in a script: of `mpwb play FILE`, a line of more than 65,536 bytes
   example, in a shell:
     yes '#' | head -c 4194305 | mpwb waves
   answer:
     mpwb: line 0: 8 TooLong
   remedy:
-    Shorten the text, or put `format 3` first: comments and blanks count too. A
+    Shorten the text, or put `format 4` first: comments and blanks count too. A
     script behind a netlist counts as well, and one for `mpwb play FILE` doesn't.
 ",
 };
@@ -170,14 +170,14 @@ pub(crate) const BAD_FORMAT: Entry = Entry {
   meaning:
     in a netlist: a `format` that isn't on the first line with words, whatever
       its words
-    in a netlist: the number of a `format` isn't 1, 2 or 3
+    in a netlist: the number of a `format` isn't 1, 2 or 4
   example, read by `mpwb waves`:
-    format 4
+    format 3
   answer:
     mpwb: line 1: 10 BadFormat
   remedy:
     Leave the statement away, or put it first: `format 2` lets the horizon be
-    above 65,536, `format 3` lets the netlist be larger too, and without it the
+    above 65,536, `format 4` lets the netlist be larger too, and without it the
     text is of `format 1`.
 ",
 };

@@ -18,7 +18,7 @@ use Rattle.mp_text.specs.declared.text_code.TextCode.{TextCode}
 use Rattle.mp_text.specs.declared.text_code.TextCode.TheVariants.{Line, NoHorizon, Refused}
 use Rattle.mp_text.specs.declared.text_error.TextError.{TextError}
 use Rattle.mp_text.specs.declared.text_format.TextFormat.{TextFormat}
-use Rattle.mp_text.specs.declared.text_format.TextFormat.TheVariants.{First, Second, Third}
+use Rattle.mp_text.specs.declared.text_format.TextFormat.TheVariants.{First, Second, Fourth}
 use Rattle.mp_text.specs.declared.text_state.TextState.{TextState}
 use Rattle.mp_text.specs.declared.text_state.TextState.TheVariants.{Fresh, Formatted, Open}
 use Rattle.mp_text.specs.Formats.{format_of, max_horizon_of, netlist_format}
@@ -155,7 +155,7 @@ unfolding after_line after_statement statement_of words_of spelled_number number
 opens_at_one Fresh is = refl
 opens_at_one (Formatted First) is = refl
 opens_at_one (Formatted Second) is = refl
-opens_at_one (Formatted Third) is = refl
+opens_at_one (Formatted Fourth) is = refl
 opens_at_one (Open net) is = absurd is
 
 -- where a line leads whose bytes are allowed
@@ -219,7 +219,7 @@ module _ (next : TextState) (is : IsUnopened next) where
   fresh_by lines later (Change edit) leads = cc
   fresh_by lines later (Format (Ok number)) leads = by (format_of number) refl leads
     where
-      by : (r : Result TextFormat TextCode) → format_of number ≡ r → (formatted r >>= λ mid. led mid lines) ≡ Ok next → format_at next ≡ (if number == 3 then Large else Standard)
+      by : (r : Result TextFormat TextCode) → format_of number ≡ r → (formatted r >>= λ mid. led mid lines) ≡ Ok next → format_at next ≡ (if number == 4 then Large else Standard)
       by (Ok form) e leads = stays_formed lines form leads ∙ format_numbered number form e
       by (Err code) e leads = cc
 

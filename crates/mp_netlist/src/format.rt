@@ -5,7 +5,7 @@
 pub enum Format {
     /// As texts of formats 1 and 2.
     Standard,
-    /// As texts of format 3.
+    /// As texts of format 4.
     Large,
 }
 

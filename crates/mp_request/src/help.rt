@@ -62,7 +62,7 @@ Reads a netlist, a statement a line:
   bundle NAME REQ ACK DATA SETUP
 
 H is 1 to 65536, or 1 to 1048576 behind a first line `format 2`. Behind a first
-line `format 3` it is 1 to 1073741824, there may be 2097152 wires and 1048576
+line `format 4` it is 1 to 1073741824, there may be 2097152 wires and 1048576
 modules, where else there may be 8192 and 4096, and all that is read may have
 1073741824 bytes, where else it may have 4194304. WIDTH is 1 to 64. DELAY is 1 to
 65535, and SETUP 0 to 65535. An input that hears of its wire E units later is

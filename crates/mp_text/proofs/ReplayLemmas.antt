@@ -33,7 +33,7 @@ abbrev Opens : NetlistFormat → List Statement → Circuit → Type 0
 Opens f ss c = (h : ℕ) × ((filter_map horizon_of ss ≡ h ∷ []) × (replay_singles (empty_circuit f h) (filter_map edit_of ss) ≡ Ok c))
 
 -- the format of a text of the form of a number
-pub format_numbered : (number : ℕ) (form : TextFormat) → format_of number ≡ Ok form → netlist_format form ≡ (if number == 3 then Large else Standard)
+pub format_numbered : (number : ℕ) (form : TextFormat) → format_of number ≡ Ok form → netlist_format form ≡ (if number == 4 then Large else Standard)
 format_numbered number form is = grind (arith, nat_tests, eqb-true)
 
 module _ (k : ℕ) (c : Circuit) (ss : List Statement) (go : TextState → Result Circuit TextError)
@@ -41,7 +41,7 @@ module _ (k : ℕ) (c : Circuit) (ss : List Statement) (go : TextState → Resul
   on_begun : (f : NetlistFormat) (h : ℕ) (allowed : Bool) → next_line k go (cond allowed (Ok (Open (empty_circuit f h))) (Err (Line BadNumber))) ≡ Ok c → Opens f (Start (Ok h) ∷ ss) c
   on_begun f h allowed same = grind (arith, nat_tests)
 
-  on_format : (number : ℕ) (r : Result TextFormat TextCode) → format_of number ≡ r → next_line k go (formatted r) ≡ Ok c → Opens (if number == 3 then Large else Standard) (Format (Ok number) ∷ ss) c
+  on_format : (number : ℕ) (r : Result TextFormat TextCode) → format_of number ≡ r → next_line k go (formatted r) ≡ Ok c → Opens (if number == 4 then Large else Standard) (Format (Ok number) ∷ ss) c
   on_format number r is h = grind (arith, nat_tests, format_numbered)
 
   opens_formatted : (format : TextFormat) (s : Statement) → next_line k go (after_statement (Formatted format) s) ≡ Ok c → Opens (netlist_format format) (s ∷ ss) c

@@ -1,5 +1,5 @@
 -- The text of a netlist is read as the edits of its records.
-use Rattle.mp_text.proofs.Names.{◌^◌, ◌<◌, ◌≡◌, ◌+◌, ◌≤◌, ◌∷◌, ◌++◌, ℕ, List, [], length, All, Ok, Bool, true, false, cond, decimal, refl, sym, ap, subst, ◌∙◌, arith, codes, nat_le, nat_tests, flat_map, append-nil, All-cons, All-nil, SingleEdit, Circuit, IsCircuit, empty_circuit, HasNames, lines_of, wire_edits, module_edits, stimulus_edits, bundle_edits, edits_by_name, IsReadAs, IsReadAsWritten, IsPlain, IsPlain-decimal, max_first_horizon, Start, Second, TextState, Fresh, Formatted, Open, after_statement, after_lines, next_line, written, written_line, format_line, horizon_line, wire_line, module_line, stimulus_line, bundle_line, statement_of, Standard, Large, horizon_limit, horizon_within, netlist_format, max_horizon_of, text_limit, TextFormat, Third}
+use Rattle.mp_text.proofs.Names.{◌^◌, ◌<◌, ◌≡◌, ◌+◌, ◌≤◌, ◌∷◌, ◌++◌, ℕ, List, [], length, All, Ok, Bool, true, false, cond, decimal, refl, sym, ap, subst, ◌∙◌, arith, codes, nat_le, nat_tests, flat_map, append-nil, All-cons, All-nil, SingleEdit, Circuit, IsCircuit, empty_circuit, HasNames, lines_of, wire_edits, module_edits, stimulus_edits, bundle_edits, edits_by_name, IsReadAs, IsReadAsWritten, IsPlain, IsPlain-decimal, max_first_horizon, Start, Second, TextState, Fresh, Formatted, Open, after_statement, after_lines, next_line, written, written_line, format_line, horizon_line, wire_line, module_line, stimulus_line, bundle_line, statement_of, Standard, Large, horizon_limit, horizon_within, netlist_format, max_horizon_of, text_limit, TextFormat, Fourth}
 use Rattle.mp_netlist.specs.declared.format.Format.{Format as NetlistFormat}
 use Rattle.mp_text.proofs.WrittenLineLemmas.{lines_of-written}
 use Rattle.mp_words.specs.Numbers.{spelled_number, number_from}
@@ -33,9 +33,9 @@ second_formed : after_statement Fresh (statement_of (codes "format" ∷ codes "2
 unfolding after_statement statement_of spelled_number number_from
 second_formed = refl
 
-third_formed : after_statement Fresh (statement_of (codes "format" ∷ codes "3" ∷ [])) ≡ Ok (Formatted Third)
+fourth_formed : after_statement Fresh (statement_of (codes "format" ∷ codes "4" ∷ [])) ≡ Ok (Formatted Fourth)
 unfolding after_statement statement_of spelled_number number_from
-third_formed = refl
+fourth_formed = refl
 
 module _ (n : Circuit) (circuit : IsCircuit n) (named : HasNames n) where
   -- the lines of the records
@@ -86,7 +86,7 @@ module _ (n : Circuit) (circuit : IsCircuit n) (named : HasNames n) where
 
       by : (f : NetlistFormat) → n.format ≡ f → Begins (format_line f n.horizon) rest
       by Standard is = standard is (nat_le n.horizon max_first_horizon) refl
-      by Large is = begins_formed (codes "3") rest Third (record { some = omega arith; plain = refl }) third_formed is (subst (λ f. n.horizon ≤ horizon_limit f) is circuit.horizon_high)
+      by Large is = begins_formed (codes "4") rest Fourth (record { some = omega arith; plain = refl }) fourth_formed is (subst (λ f. n.horizon ≤ horizon_limit f) is circuit.horizon_high)
 
 pub read_as_written : IsReadAsWritten
 unfolding written

@@ -1,5 +1,5 @@
 -- Facts about texts as a whole.
-use Rattle.mp_text.proofs.Names.{◌≡◌, ◌+◌, ◌<◌, ◌≤◌, ◌∷◌, rest_falls, ℕ, List, [], length, Result, Ok, Err, IfErr, refl, sym, ap, subst, arith, before_first, after_first, nat_tests, Circuit, TextError, TextCode, TooLong, TextState, Fresh, Formatted, Open, lines_of-cons, is_line_feed, lines_of, text_at, after_lines, after_line, next_line, finished, last_line, GivesText, IsReachedIn, text_limit, ◌≢◌, ◌&&◌, ◌==◌, false, None, cond, Some, take, max_text, max_short_text, number_word, first_words, is_three, states_third, ne_eqb, words_of, take-take, eq-eqb, codes, slice_get}
+use Rattle.mp_text.proofs.Names.{◌≡◌, ◌+◌, ◌<◌, ◌≤◌, ◌∷◌, rest_falls, ℕ, List, [], length, Result, Ok, Err, IfErr, refl, sym, ap, subst, arith, before_first, after_first, nat_tests, Circuit, TextError, TextCode, TooLong, TextState, Fresh, Formatted, Open, lines_of-cons, is_line_feed, lines_of, text_at, after_lines, after_line, next_line, finished, last_line, GivesText, IsReachedIn, text_limit, ◌≢◌, ◌&&◌, ◌==◌, false, None, cond, Some, take, max_text, max_short_text, number_word, first_words, is_four, states_fourth, ne_eqb, words_of, take-take, eq-eqb, codes, slice_get}
 use Rattle.std.specs.Str.{bytes_eq}
 
 -- a text that is not too long is its lines
@@ -82,14 +82,14 @@ no_words [] none = refl
 no_words (b ∷ bs) none = grind arith
 
 -- two words are looked at
-pub third_of : (words : List (List ℕ)) (word number : List ℕ) → slice_get words 0 ≡ Some word → slice_get words 1 ≡ Some number
-    → (length words == 2 && bytes_eq word (codes "format") && is_three (number_word number)) ≡ states_third words
-third_of words word number first second = grind (arith, nat_tests, ne_eqb)
+pub fourth_of : (words : List (List ℕ)) (word number : List ℕ) → slice_get words 0 ≡ Some word → slice_get words 1 ≡ Some number
+    → (length words == 2 && bytes_eq word (codes "format") && is_four (number_word number)) ≡ states_fourth words
+fourth_of words word number first second = grind (arith, nat_tests, ne_eqb)
 
-pub not_third : (words : List (List ℕ)) → slice_get words 1 ≡ None → states_third words ≡ false
-not_third words none = grind (arith, nat_tests)
+pub not_fourth : (words : List (List ℕ)) → slice_get words 1 ≡ None → states_fourth words ≡ false
+not_fourth words none = grind (arith, nat_tests)
 
-pub no_third : (words : List (List ℕ)) → slice_get words 0 ≡ None → states_third words ≡ false
-no_third words none = grind (arith, nat_tests)
+pub no_fourth : (words : List (List ℕ)) → slice_get words 0 ≡ None → states_fourth words ≡ false
+no_fourth words none = grind (arith, nat_tests)
 
-pub ruleset third_steps = (third_of, not_third, no_third)
+pub ruleset fourth_steps = (fourth_of, not_fourth, no_fourth)

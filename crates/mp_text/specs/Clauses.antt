@@ -11,7 +11,7 @@ pub use Rattle.mp_text.specs.Questions.{chain_question, question_word, stated_qu
 pub use Rattle.mp_text.specs.RoundTrips.{IsReadAs, IsReadAsWritten, SameRecords, added_bundle, added_module, bundle_by_name, bundle_edits, edit_for, edits_by_name, input_by_name, module_by_name, module_edits, output_by_name, set_edits, standing, stimulus_edits, wire_edits}
 pub use Rattle.mp_text.specs.ScriptLines.{batch_line, line_at, line_word, question_line, single_line, stated_line}
 pub use Rattle.mp_text.specs.SingleEdits.{port_change, removal, single_edit, single_word}
-pub use Rattle.mp_text.specs.Sizes.{first_words, is_three, states_third, text_limit}
+pub use Rattle.mp_text.specs.Sizes.{first_words, is_four, states_fourth, text_limit}
 pub use Rattle.mp_records.specs.declared.single_edit.SingleEdit.TheVariants.{AddModule}
 pub use Rattle.mp_text.specs.Statements.{Blank, Change, Format, Start, Statement, Unknown, edit_word, is_mark, module_edit, parts_edit, stated_edit, stated_number, statement_of}
 pub use Rattle.mp_text.specs.Texts.{GivesText, IsReached, IsReachedIn, after_line, after_lines, after_statement, begun, finished, formatted, in_text, last_line, next_line, text_at, told}

@@ -1,7 +1,7 @@
 -- The forms of a text.
 use Rattle.std.specs.Prelude.{◌==◌, if◌then◌else◌}
 use Rattle.mp_netlist.specs.declared.format.Format.{Format as NetlistFormat}
-use Rattle.mp_text.specs.Names.{Standard, Large, horizon_limit, ℕ, Result, Ok, Err, TextCode, BadFormat, TextFormat, First, Second, Third}
+use Rattle.mp_text.specs.Names.{Standard, Large, horizon_limit, ℕ, Result, Ok, Err, TextCode, BadFormat, TextFormat, First, Second, Fourth}
 use Rattle.mp_text.specs.Limits.{max_first_horizon}
 
 -- the form of that number
@@ -9,17 +9,17 @@ abbrev pub format_of : ℕ → Result TextFormat TextCode
 format_of number =
     if number == 1 then Ok First
     else (if number == 2 then Ok Second
-    else (if number == 3 then Ok Third
+    else (if number == 4 then Ok Fourth
     else Err BadFormat))
 
 -- the format of the netlist of a text of that form
 abbrev pub netlist_format : TextFormat → NetlistFormat
 netlist_format First = Standard
 netlist_format Second = Standard
-netlist_format Third = Large
+netlist_format Fourth = Large
 
 -- the longest horizon that a text of that form may state
 abbrev pub max_horizon_of : TextFormat → ℕ
 max_horizon_of First = max_first_horizon
 max_horizon_of Second = horizon_limit Standard
-max_horizon_of Third = horizon_limit Large
+max_horizon_of Fourth = horizon_limit Large

@@ -22,7 +22,7 @@ statements lines = map (λ line. statement_of (words_of line)) lines
 abbrev pub format_by : List Statement → NetlistFormat
 format_by [] = Standard
 format_by (Blank ∷ later) = format_by later
-format_by (Format (Ok number) ∷ later) = if number == 3 then Large else Standard
+format_by (Format (Ok number) ∷ later) = if number == 4 then Large else Standard
 format_by (other ∷ later) = Standard
 
 -- the lines state one horizon, and the netlist is the replay of their edits on the empty netlist of this horizon and of their format

@@ -48,6 +48,6 @@ pub use Rattle.mp_text.specs.declared.text_code.TextCode.{TextCode}
 pub use Rattle.mp_text.specs.declared.text_code.TextCode.TheVariants.{BadFormat, Line, NoHorizon, Refused, SecondHorizon, TooLong}
 pub use Rattle.mp_text.specs.declared.text_error.TextError.{TextError}
 pub use Rattle.mp_text.specs.declared.text_format.TextFormat.{TextFormat}
-pub use Rattle.mp_text.specs.declared.text_format.TextFormat.TheVariants.{First, Second, Third}
+pub use Rattle.mp_text.specs.declared.text_format.TextFormat.TheVariants.{First, Second, Fourth}
 pub use Rattle.mp_text.specs.declared.text_state.TextState.{TextState}
 pub use Rattle.mp_text.specs.declared.text_state.TextState.TheVariants.{Formatted, Fresh, Open}

@@ -8,16 +8,16 @@ abbrev pub first_words : List (List ℕ) → List (List ℕ)
 first_words [] = []
 first_words (line ∷ lines) = if length (words_of line) == 0 then first_words lines else words_of line
 
-abbrev pub is_three : Result ℕ LineError → Bool
-is_three (Ok number) = number == 3
-is_three (Err error) = false
+abbrev pub is_four : Result ℕ LineError → Bool
+is_four (Ok number) = number == 4
+is_four (Err error) = false
 
--- the words say that a text has the third form
-abbrev pub states_third : List (List ℕ) → Bool
-states_third (word ∷ number ∷ []) = bytes_eq word (codes "format") && is_three (number_word number)
-states_third _ = false
+-- the words say that a text has the form 4
+abbrev pub states_fourth : List (List ℕ) → Bool
+states_fourth (word ∷ number ∷ []) = bytes_eq word (codes "format") && is_four (number_word number)
+states_fourth _ = false
 
 -- how many bytes a text may have, by the form that its first line with words states, so far as this is among the bytes that a text of the
 -- first form may have and one more
 unfoldable pub text_limit : List ℕ → ℕ
-text_limit text = if states_third (first_words (lines_of (take (max_short_text + 1) text))) then max_text else max_short_text
+text_limit text = if states_fourth (first_words (lines_of (take (max_short_text + 1) text))) then max_text else max_short_text

@@ -12,9 +12,9 @@ spaced words = flat_map (λ word. 32 ∷ word) words
 abbrev pub written_line : List ℕ → List (List ℕ) → List ℕ
 written_line first words = first ++ (spaced words ++ (10 ∷ []))
 
--- the line of the form: the third that of a large netlist, the second one that a long horizon needs
+-- the line of the form: 4 is that of a large netlist, and 2 one that a long horizon needs
 abbrev pub format_line : NetlistFormat → ℕ → List ℕ
-format_line Large horizon = written_line (codes "format") (codes "3" ∷ [])
+format_line Large horizon = written_line (codes "format") (codes "4" ∷ [])
 format_line Standard horizon = if nat_le horizon max_first_horizon then [] else written_line (codes "format") (codes "2" ∷ [])
 
 abbrev pub horizon_line : ℕ → List ℕ

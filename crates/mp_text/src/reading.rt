@@ -21,7 +21,7 @@ use std::alloc::Global;
 /// `horizon` (`SecondHorizon`) or another statement before it (`NoHorizon`); the number or shape of
 /// the words (`WordCount`); a kind that is none (`UnknownStatement`); a word that is not the number
 /// or pair that it should be, or a horizon not 1 to 65,536, or with `format 2` not 1 to 1,048,576, or
-/// with `format 3` not 1 to 1,073,741,824 (`BadNumber`); a `format` that is not 1, 2 or 3 (`BadFormat`); an edit that is refused (`Refused`).
+/// with `format 4` not 1 to 1,073,741,824 (`BadNumber`); a `format` that is not 1, 2 or 4 (`BadFormat`); an edit that is refused (`Refused`).
 /// `TooLong` with line 0 is a text longer than its format allows, and `NoHorizon` with the number of lines one without a horizon.
 /// `OutOfMemory` comes with the line at which memory was wanting, none behind the first that fails.
 #[tactic(auto, using(crate::proofs::TextLemmas::text_over, crate::proofs::TextLemmas::text_within))]

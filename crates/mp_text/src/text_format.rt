@@ -15,8 +15,8 @@ pub enum TextFormat {
     First,
     /// `format 2`: at most 1,048,576 units.
     Second,
-    /// `format 3`: at most 1,073,741,824 units, and larger netlists.
-    Third,
+    /// `format 4`: at most 1,073,741,824 units, and larger netlists.
+    Fourth,
 }
 
 impl TextFormat {
@@ -27,7 +27,7 @@ impl TextFormat {
         match number {
             1 => Ok(TextFormat::First),
             2 => Ok(TextFormat::Second),
-            3 => Ok(TextFormat::Third),
+            4 => Ok(TextFormat::Fourth),
             _ => Err(TextCode::BadFormat),
         }
     }
@@ -38,7 +38,7 @@ impl TextFormat {
     {
         match self {
             TextFormat::First => MAX_FIRST_HORIZON,
-            TextFormat::Second | TextFormat::Third => self.netlist().max_horizon(),
+            TextFormat::Second | TextFormat::Fourth => self.netlist().max_horizon(),
         }
     }
 
@@ -48,7 +48,7 @@ impl TextFormat {
     {
         match self {
             TextFormat::First | TextFormat::Second => Format::Standard,
-            TextFormat::Third => Format::Large,
+            TextFormat::Fourth => Format::Large,
         }
     }
 }

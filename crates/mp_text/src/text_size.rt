@@ -1,23 +1,23 @@
 //! How long a text may be.
 ghost use Rattle.std.specs.Prelude.{◌≡◌, ◌≤◌, ◌+◌};
-ghost use Rattle.mp_text.specs.Clauses.{take, lines_of, words_of, max_text, max_short_text, first_words, states_third, text_limit};
+ghost use Rattle.mp_text.specs.Clauses.{take, lines_of, words_of, max_text, max_short_text, first_words, states_fourth, text_limit};
 
 use mp_words::{first_line, number_word, word_at, word_count};
 
 /// How many bytes a text of format 1 or 2 may have.
 pub const MAX_SHORT_TEXT: usize = 4_194_304;
 
-/// How many bytes a text of format 3 may have.
+/// How many bytes a text of format 4 may have.
 const MAX_TEXT: usize = 1_073_741_824;
 
-/// How many bytes a text may have: those of format 3 where its first line with words states that, and begins among the bytes that another
+/// How many bytes a text may have: those of format 4 where its first line with words states that, and begins among the bytes that another
 /// text may have and one more.
 #[tactic(auto, unfolding(crate::specs::Sizes::text_limit))]
 pub fn text_limit(text: &[u8]) -> usize
     ensures value { result ≡ text_limit text.now }
     ensures most { result ≤ max_text }
 {
-    if begins_third(front_of(text)) {
+    if begins_fourth(front_of(text)) {
         MAX_TEXT
     } else {
         MAX_SHORT_TEXT
@@ -32,32 +32,32 @@ fn front_of(text: &[u8]) -> &[u8]
     &text[..(MAX_SHORT_TEXT + 1).min(text.len())]
 }
 
-/// Whether the first line with words says that a text has the third form.
+/// Whether the first line with words says that a text has the form 4.
 #[tactic(auto, using(crate::proofs::TextLemmas::first_worded, crate::proofs::TextLemmas::first_blank, crate::proofs::TextLemmas::no_words))]
-fn begins_third(text: &[u8]) -> bool
-    ensures { result ≡ states_third (first_words (lines_of text.now)) }
+fn begins_fourth(text: &[u8]) -> bool
+    ensures { result ≡ states_fourth (first_words (lines_of text.now)) }
 {
     let mut rest = text;
     while !rest.is_empty() {
         let (line, others) = first_line(rest);
         if word_count(line) != 0 {
-            return states_third(line);
+            return states_fourth(line);
         }
         rest = others;
     }
     false
 }
 
-/// Whether the words of a line say that a text has the third form.
-#[tactic(auto, using(crate::proofs::TextLemmas::third_steps))]
-fn states_third(line: &[u8]) -> bool
-    ensures { result ≡ states_third (words_of line.now) }
+/// Whether the words of a line say that a text has the form 4.
+#[tactic(auto, using(crate::proofs::TextLemmas::fourth_steps))]
+fn states_fourth(line: &[u8]) -> bool
+    ensures { result ≡ states_fourth (words_of line.now) }
 {
     match (word_at(line, 0), word_at(line, 1)) {
         (Some(word), Some(number)) => {
             let formed = word == b"format".as_slice();
-            let third = matches!(number_word(number), Ok(3));
-            (word_count(line) == 2) & formed & third
+            let fourth = matches!(number_word(number), Ok(4));
+            (word_count(line) == 2) & formed & fourth
         }
         _ => false,
     }

@@ -8,7 +8,7 @@ use mp_netlist::{Format, Netlist};
 use mp_streams::{Failed, Out, Sink, Text, WriteSink};
 use std::alloc::{AllocError, Global};
 
-/// The text of a netlist: `format 3` where that is its format, or `format 2` where its horizon is over 65,536, its horizon, then its wires, modules, stimuli (by wire) and bundles, each
+/// The text of a netlist: `format 4` where that is its format, or `format 2` where its horizon is over 65,536, its horizon, then its wires, modules, stimuli (by wire) and bundles, each
 /// by number and only those that stand, with single spaces, and a line feed after each line. Numbers
 /// have no leading zeros, and every output has its delay. Where the text is not longer than its format allows,
 /// it is read as a netlist with the same records, if perhaps under other numbers.
@@ -58,7 +58,7 @@ fn format_text(format: Format, horizon: u32) -> &'static str
     ensures { result.now ≡ format_line format horizon }
 {
     match format {
-        Format::Large => "format 3\n",
+        Format::Large => "format 4\n",
         Format::Standard if u64::from(horizon) > MAX_FIRST_HORIZON => "format 2\n",
         Format::Standard => "",
     }

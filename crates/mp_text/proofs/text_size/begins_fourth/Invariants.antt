@@ -1,5 +1,5 @@
 use Rattle.mp_text.proofs.Names.{◌≡◌, length, lines_of, first_words}
-use Rattle.mp_text.proofs.text_size.begins_third.Given as goal
+use Rattle.mp_text.proofs.text_size.begins_fourth.Given as goal
 
 -- the lines that are left have the same first words
 abbrev pub invariant-loop-rest : goal.invariant-loop-rest
