@@ -1,5 +1,5 @@
 pub mod LimitLemmas
-pub mod ChainLemmas
+pub mod IndexLemmas
 pub mod TableLemmas
 pub mod DriverLemmas
 pub mod DrivenLemmas

@@ -1,5 +1,5 @@
 -- The look-up of a name among slots, and what each change of a slot does to the names and to their table.
-use Rattle.std.proofs.Common.{◌≡◌, ℕ, zero, suc, ◌+◌, ◌-◌, ◌<◌, ◌≤◌, ◌↔◌, Bool, true, false, cond, List, [], ◌∷◌, ◌++◌, length, get_or, Option, None, Some, option_map, MatchOption, IfSome, is_some, is_none, unwrap_or, ◌⊎◌, inl, inr, refl, sym, ap, subst, ◌∙◌, arith, true≢false, length-append}
+use Rattle.std.proofs.Common.{◌≡◌, ℕ, zero, suc, ◌+◌, ◌-◌, ◌^◌, ◌<◌, ◌≤◌, ◌↔◌, Bool, true, false, cond, List, [], ◌∷◌, ◌++◌, length, get_or, Option, None, Some, option_map, MatchOption, is_some, is_none, unwrap_or, ◌⊎◌, inl, inr, refl, sym, ap, subst, ◌∙◌, arith, true≢false, length-append}
 use Rattle.std.proofs.Math.ListN.{set, length-set}
 use Rattle.std.specs.List.{position_from}
 use Rattle.std.specs.Str.{bytes_eq}
@@ -9,8 +9,7 @@ use Rattle.std.proofs.lemmas.Slice.Eq.{bytes_eq-Decides}
 use Rattle.std.proofs.lemmas.Bool.{cases_lt, cases_eq}
 use Rattle.mp_records.specs.Names.{is_name}
 use Rattle.mp_netlist.specs.Slots.{has_name, number_named}
-use Rattle.mp_netlist.specs.Indexes.{hash_of, hash_at, IsFrom, IsLast}
-use Rattle.mp_netlist.specs.Tables.{IsTable}
+use Rattle.mp_netlist.specs.Tables.{standing_number, HadName, IsTable}
 
 module _ {X : Type 0} (p : X → Bool) (d : X) (none : p d ≡ false) where
   -- what the first place that passes is, or that none passes
@@ -107,59 +106,61 @@ module _ {R : Type 0} (name_of : R → List ℕ) where
   unfolding number_named
   named_has slots name number = place_passes (has_name name_of name) None refl slots number
 
-  -- the thing that has a name is the one that a look-up finds, where no other has it
-  pub named_by : (slots : List (Option R)) (name : List ℕ) (number : ℕ) → ((i j : ℕ) → has_name name_of name (get_or slots i None) ≡ true → has_name name_of name (get_or slots j None) ≡ true → i ≡ j)
-      → has_name name_of name (get_or slots number None) ≡ true → Some number ≡ number_named name_of slots name
+  -- where nothing among the slots has the name a look-up finds none
+  pub named_nowhere : (slots : List (Option R)) (name : List ℕ) → ((i : ℕ) → i < length slots → has_name name_of name (get_or slots i None) ≡ false)
+      → None ≡ number_named name_of slots name
   unfolding number_named
-  named_by slots name number apart has =
-      search_from_lookup (has_name name_of name) None refl slots (Some number)
-      (λ i. ((λ is. let same : number ≡ i = cc in subst (λ k. has_name name_of name (get_or slots k None) ≡ true) same has), (λ other. ap Some (apart number i has other))))
-
-  -- where no thing has the name a look-up finds none
-  pub named_by_none : (slots : List (Option R)) (name : List ℕ) → ((i : ℕ) → has_name name_of name (get_or slots i None) ≡ true → ⊥) → None ≡ number_named name_of slots name
-  unfolding number_named
-  named_by_none slots name none =
-      search_from_lookup (has_name name_of name) None refl slots None (λ i. ((λ is. cc), (λ has. absurd (none i has))))
-
-  -- what was found last has the hash of the name, and nothing behind it has the name
-  pub record IsSought (slots : List (Option R)) (hashes : List ℕ) (name : List ℕ) (found : Option ℕ) : Type 0 where
-    pub has : IfSome found (λ number. (number < length hashes) × (hash_at hashes number ≡ hash_of name))
-    pub last : (number : ℕ) → has_name name_of name (get_or slots number None) ≡ true → IsFrom number found
-
-  -- what has a name stands within the slots
-  named_within : (slots : List (Option R)) (name : List ℕ) (number : ℕ) → has_name name_of name (get_or slots number None) ≡ true → number < length slots
-  named_within slots name number has = by (cases_lt number (length slots))
+  named_nowhere slots name none = search_from_lookup (has_name name_of name) None refl slots None (λ i. ((λ is. cc), (λ has. by i has (cases_lt i (length slots)))))
     where
-      by : (number < length slots) ⊎ (length slots ≤ number) → number < length slots
-      by (inl here) = here
-      by (inr past) = nobody name _ (get_or_past slots number None past) has
+      by : (i : ℕ) → has_name name_of name (get_or slots i None) ≡ true → (i < length slots) ⊎ (length slots ≤ i) → None ≡ Some i
+      by i has (inl within) = absurd (true≢false (sym has ∙ none i within))
+      by i has (inr past) = nobody name _ (get_or_past slots i None past) has
 
-  module _ (slots : List (Option R)) (hashes : List ℕ) (table : IsTable name_of slots hashes) (name : List ℕ) where
-    sought_has : (bound hash : ℕ) (found : Option ℕ) → bound ≤ length hashes → hash ≡ hash_of name → IsLast hashes hash bound found
-        → IfSome found (λ number. (number < length hashes) × (hash_at hashes number ≡ hash_of name))
-    sought_has bound hash None few same is = tt
-    sought_has bound hash (Some number) few same is = (omega (arith, is.has.0, few), is.has.1 ∙ same)
+  -- what has a name stands
+  has_stands : (name : List ℕ) (slot : Option R) → has_name name_of name slot ≡ true → is_some slot ≡ true
+  has_stands name None has = absurd (true≢false (sym has))
+  has_stands name (Some thing) has = refl
 
-    pub sought_first : (found : Option ℕ) → IsLast hashes (hash_of name) (length hashes) found → IsSought slots hashes name found
-    sought_first found is = record {
-      has = sought_has (length hashes) (hash_of name) found (omega arith) refl is;
-      last = λ k has. is.last k (let here = named_within slots name k has in omega (arith, here, table.entered)) (table.hashed name k has);
-    }
+  -- with its slot a look-up finds just the thing that has the name
+  standing_has : (slots : List (Option R)) (look : List ℕ → Option ℕ) → IsTable name_of slots look → (name : List ℕ) (i : ℕ)
+      → (standing_number slots (look name) ≡ Some i) ↔ (has_name name_of name (get_or slots i None) ≡ true)
+  standing_has slots look table name i = by (look name) refl
+    where
+      at : (k : ℕ) (b : Bool) → look name ≡ Some k → is_some (get_or slots k None) ≡ b → (cond b (Some k) None ≡ Some i) ↔ (has_name name_of name (get_or slots i None) ≡ true)
+      at k true is stands = (
+        λ h. let same : k ≡ i = cc in subst (λ j. has_name name_of name (get_or slots j None) ≡ true) same ((table.found name k is).1 stands),
+        λ h. sym is ∙ table.finds name i h,
+      )
+      at k false is gone = (
+        λ h. cc,
+        λ h.
+            let other = table.finds name i h in
+            let same : i ≡ k = cc in
+            absurd (true≢false (sym (has_stands name (get_or slots i None) h) ∙ ap (λ j. is_some (get_or slots j None)) same ∙ gone)),
+      )
 
-    pub sought_next : (number : ℕ) (found : Option ℕ) → IsSought slots hashes name (Some number) → has_name name_of name (get_or slots number None) ≡ false
-        → IsLast hashes (hash_at hashes number) number found → IsSought slots hashes name found
-    sought_next number found sought other is = record {
-      has = sought_has number (hash_at hashes number) found (omega (arith, sought.has.0)) sought.has.1 is;
-      last = λ k has.
-          let unequal : k ≡ number → ⊥ = λ same. true≢false (sym (subst (λ j. has_name name_of name (get_or slots j None) ≡ true) same has) ∙ other) in
-          is.last k (omega (arith, sought.last k has, unequal)) (table.hashed name k has ∙ sym sought.has.1);
-    }
+      by : (found : Option ℕ) → look name ≡ found → (standing_number slots found ≡ Some i) ↔ (has_name name_of name (get_or slots i None) ≡ true)
+      by None is = (λ h. cc, λ h. let other = table.finds name i h in cc)
+      by (Some k) is = at k (is_some (get_or slots k None)) is refl
 
-    pub sought_found : (number : ℕ) → has_name name_of name (get_or slots number None) ≡ true → Some number ≡ number_named name_of slots name
-    sought_found number has = named_by slots name number (λ i j first second. table.apart name i j first second) has
+  -- with the slots the table answers the look-up of the definition
+  module _ (slots : List (Option R)) (look : List ℕ → Option ℕ) (table : IsTable name_of slots look) (name : List ℕ) where
+    looked_up : standing_number slots (look name) ≡ number_named name_of slots name
+    unfolding number_named
+    looked_up = search_from_lookup (has_name name_of name) None refl slots (standing_number slots (look name)) (standing_has slots look table name)
 
-    pub sought_nowhere : IsSought slots hashes name None → None ≡ number_named name_of slots name
-    sought_nowhere sought = named_by_none slots name (λ k has. sought.last k has)
+    pub number_stands : (k : ℕ) → look name ≡ Some k → is_some (get_or slots k None) ≡ true → Some k ≡ number_named name_of slots name
+    number_stands k is stands = sym (ap (standing_number slots) is ∙ ap (λ b. cond b (Some k) None) stands) ∙ looked_up
+
+    pub number_gone : (k : ℕ) → look name ≡ Some k → is_some (get_or slots k None) ≡ false → None ≡ number_named name_of slots name
+    number_gone k is gone = sym (ap (standing_number slots) is ∙ ap (λ b. cond b (Some k) None) gone) ∙ looked_up
+
+    pub number_unknown : look name ≡ None → None ≡ number_named name_of slots name
+    number_unknown is = sym (ap (standing_number slots) is) ∙ looked_up
+
+    -- the thing that has the name is the one that a look-up finds
+    pub number_having : (k : ℕ) → has_name name_of name (get_or slots k None) ≡ true → Some k ≡ number_named name_of slots name
+    number_having k has = number_stands k (table.finds name k has) (has_stands name (get_or slots k None) has)
 
   -- what is known of a thing that a name finds
   pub record IsNamed (slots : List (Option R)) (name : List ℕ) : Type 0 where
@@ -186,6 +187,14 @@ module _ {R : Type 0} (name_of : R → List ℕ) where
       by None found = absurd (true≢false (sym is ∙ ap is_some found))
       by (Some k) found = named_at slots name k (get_or slots k None) found refl
 
+  -- a table with the same look-ups
+  pub IsTable-copy : (slots : List (Option R)) (look new : List ℕ → Option ℕ) → ((q : List ℕ) → new q ≡ look q) → IsTable name_of slots look → IsTable name_of slots new
+  IsTable-copy slots look new is table = record {
+    few = table.few;
+    finds = λ q number has. is q ∙ table.finds q number has;
+    found = λ q number at. table.found q number (sym (is q) ∙ at);
+  }
+
   -- where a look-up finds nothing no thing has the name
   pub named_none : (slots : List (Option R)) (name : List ℕ) → is_none (number_named name_of slots name) ≡ true → (i : ℕ) → has_name name_of name (get_or slots i None) ≡ false
   unfolding number_named
@@ -195,61 +204,72 @@ module _ {R : Type 0} (name_of : R → List ℕ) where
       by None none first = first i
       by (Some k) none first = cc
 
-  -- a thing of a new name goes last, with the hash of its name
-  module _ (slots : List (Option R)) (thing : R) (hashes : List ℕ) (free : is_none (number_named name_of slots (name_of thing)) ≡ true) (table : IsTable name_of slots hashes) where
-    abbrev pushed : List (Option R)
-    pushed = slots ++ Some thing ∷ []
+  -- a thing of a new name goes last, and the table gets the name
+  module _ (name : List ℕ) (slots : List (Option R)) (thing : R) (look : List ℕ → Option ℕ) (same : name_of thing ≡ name)
+      (free : is_none (number_named name_of slots name) ≡ true) (table : IsTable name_of slots look) where
+    finds-push : (q : List ℕ) (number : ℕ) (b : Bool) → bytes_eq name q ≡ b → PushedAt slots (Some thing) number
+        → has_name name_of q (get_or (slots ++ Some thing ∷ []) number None) ≡ true → cond b (Some (length slots)) (look q) ≡ Some number
+    finds-push q number true e (inl w) has =
+        let had = subst (λ n. has_name name_of n (get_or slots number None) ≡ true) (sym (same_name name q e)) (sym (ap (has_name name_of q) w.1) ∙ has) in
+        absurd (true≢false (sym had ∙ named_none slots name free number))
+    finds-push q number true e (inr (inl w)) has = ap Some (sym w.0)
+    finds-push q number false e (inl w) has = table.finds q number (sym (ap (has_name name_of q) w.1) ∙ has)
+    finds-push q number false e (inr (inl w)) has =
+        let is : q ≡ name_of thing = same_name q (name_of thing) (sym (ap (has_name name_of q) w.1) ∙ has) in
+        absurd (true≢false (sym (equal_name name q (sym (is ∙ same))) ∙ e))
+    finds-push q number b e (inr (inr w)) has = nobody q _ w.1 has
 
-    -- what has a name now had it before, or is the new thing
-    abbrev HasNow : List ℕ → ℕ → Type 0
-    HasNow q number = ((number < length slots) × (has_name name_of q (get_or slots number None) ≡ true)) ⊎ ((number ≡ length slots) × (q ≡ name_of thing))
+    found-push : (q : List ℕ) (number : ℕ) (b : Bool) → bytes_eq name q ≡ b → cond b (Some (length slots)) (look q) ≡ Some number
+        → HadName name_of (slots ++ Some thing ∷ []) q number
+    found-push q number true e is =
+        let last : length slots ≡ number = cc in (
+          rw length-append (omega arith),
+          λ stands. ap (has_name name_of q) (get_or_push slots (Some thing) None number last) ∙ equal_name q (name_of thing) (sym (same ∙ same_name name q e)),
+        )
+    found-push q number false e is =
+        let was = table.found q number is in
+        let here = get_or_append_left slots (Some thing ∷ []) None number was.0 in (
+          rw length-append (omega (arith, was.0)),
+          λ stands. ap (has_name name_of q) here ∙ was.1 (sym (ap is_some here) ∙ stands),
+        )
 
-    has_now : (q : List ℕ) (number : ℕ) → has_name name_of q (get_or pushed number None) ≡ true → HasNow q number
-    has_now q number has = by (pushed_at slots (Some thing) number)
-      where
-        by : PushedAt slots (Some thing) number → HasNow q number
-        by (inl old) = inl (old.0, sym (ap (has_name name_of q) old.1) ∙ has)
-        by (inr (inl new)) = inr (new.0, same_name q (name_of thing) (sym (ap (has_name name_of q) new.1) ∙ has))
-        by (inr (inr none)) = nobody q _ none.1 has
-
-    -- the new thing's name is not that of one before
-    new_name : {A : Type 0} (q : List ℕ) (number : ℕ) → has_name name_of q (get_or slots number None) ≡ true → q ≡ name_of thing → A
-    new_name q number has is =
-        absurd (true≢false (sym (subst (λ n. has_name name_of n (get_or slots number None) ≡ true) is has) ∙ named_none slots (name_of thing) free number))
-
-    hashed_now : (q : List ℕ) (number : ℕ) → HasNow q number → hash_at (hashes ++ hash_of (name_of thing) ∷ []) number ≡ hash_of q
-    hashed_now q number (inl old) =
-        get_or_append_left hashes (hash_of (name_of thing) ∷ []) 0 number (omega (arith, table.entered, old.0)) ∙ table.hashed q number old.1
-    hashed_now q number (inr new) = get_or_push hashes (hash_of (name_of thing)) 0 number (table.entered ∙ sym new.0) ∙ ap hash_of (sym new.1)
-
-    apart_now : (q : List ℕ) (i j : ℕ) → HasNow q i → HasNow q j → i ≡ j
-    apart_now q i j (inl a) (inl b) = table.apart q i j a.1 b.1
-    apart_now q i j (inl a) (inr b) = new_name q i a.1 b.1
-    apart_now q i j (inr a) (inl b) = new_name q j b.1 a.1
-    apart_now q i j (inr a) (inr b) = a.0 ∙ sym b.0
-
-    pub IsTable-push : IsTable name_of (slots ++ Some thing ∷ []) (hashes ++ hash_of (name_of thing) ∷ [])
-    IsTable-push = record {
-      entered = length-append hashes (hash_of (name_of thing) ∷ []) ∙ ap (λ k. k + 1) table.entered ∙ sym (length-append slots (Some thing ∷ []));
-      hashed = λ q number has. hashed_now q number (has_now q number has);
-      apart = λ q i j first second. apart_now q i j (has_now q i first) (has_now q j second);
+    pub IsTable-push : (new : List ℕ → Option ℕ) → length slots < 2 ^ 32 → ((q : List ℕ) → new q ≡ cond (bytes_eq name q) (Some (length slots)) (look q))
+        → IsTable name_of (slots ++ Some thing ∷ []) new
+    IsTable-push new room is = record {
+      few = rw length-append (omega arith);
+      finds = λ q number has. is q ∙ finds-push q number (bytes_eq name q) refl (pushed_at slots (Some thing) number) has;
+      found = λ q number at. found-push q number (bytes_eq name q) refl (sym (is q) ∙ at);
     }
 
   -- a thing goes, or is written over by one of its name
-  module _ (slots : List (Option R)) (hashes : List ℕ) (i : ℕ) (slot : Option R) (within : i < length slots)
-      (kept : (q : List ℕ) → has_name name_of q slot ≡ true → has_name name_of q (get_or slots i None) ≡ true) (table : IsTable name_of slots hashes) where
-    had_name : (q : List ℕ) (number : ℕ) → has_name name_of q (get_or (set slots i slot) number None) ≡ true → has_name name_of q (get_or slots number None) ≡ true
-    had_name q number has = by (rewritten_at slots i slot within number)
-      where
-        by : RewrittenAt slots i slot number → has_name name_of q (get_or slots number None) ≡ true
-        by (inl new) = subst (λ k. has_name name_of q (get_or slots k None) ≡ true) (sym new.0) (kept q (sym (ap (has_name name_of q) new.1) ∙ has))
-        by (inr old) = sym (ap (has_name name_of q) old.1) ∙ has
+  module _ (slots : List (Option R)) (look : List ℕ → Option ℕ) (i : ℕ) (slot : Option R) (within : i < length slots)
+      (kept : (q : List ℕ) → has_name name_of q slot ≡ true → has_name name_of q (get_or slots i None) ≡ true) (table : IsTable name_of slots look) where
+    finds-rewrite : (q : List ℕ) (number : ℕ) → RewrittenAt slots i slot number → has_name name_of q (get_or (set slots i slot) number None) ≡ true → look q ≡ Some number
+    finds-rewrite q number (inl w) has =
+        table.finds q number (subst (λ k. has_name name_of q (get_or slots k None) ≡ true) (sym w.0) (kept q (sym (ap (has_name name_of q) w.1) ∙ has)))
+    finds-rewrite q number (inr w) has = table.finds q number (sym (ap (has_name name_of q) w.1) ∙ has)
 
-    pub IsTable-rewrite : IsTable name_of (set slots i slot) hashes
+    still_has : (q : List ℕ) (s : Option R) → slot ≡ s → (is_some (get_or slots i None) ≡ true → has_name name_of q (get_or slots i None) ≡ true)
+        → is_some s ≡ true → has_name name_of q s ≡ true
+    still_has q None is was stands = absurd (true≢false (sym stands))
+    still_has q (Some s) is was stands =
+        let own = kept (name_of s) (ap (has_name name_of (name_of s)) is ∙ equal_name (name_of s) (name_of s) refl) in
+        equal_name q (name_of s) (one_name q (name_of s) (get_or slots i None) (was (has_stands (name_of s) (get_or slots i None) own)) own)
+
+    found-rewrite : (q : List ℕ) (number : ℕ) → RewrittenAt slots i slot number → look q ≡ Some number → HadName name_of (set slots i slot) q number
+    found-rewrite q number (inl w) is =
+        let was = table.found q number is in
+        let there = subst (λ k. is_some (get_or slots k None) ≡ true → has_name name_of q (get_or slots k None) ≡ true) w.0 was.1 in
+        (rw length-set was.0, λ stands. ap (has_name name_of q) w.1 ∙ still_has q slot refl there (sym (ap is_some w.1) ∙ stands))
+    found-rewrite q number (inr w) is =
+        let was = table.found q number is in
+        (rw length-set was.0, λ stands. ap (has_name name_of q) w.1 ∙ was.1 (sym (ap is_some w.1) ∙ stands))
+
+    pub IsTable-rewrite : IsTable name_of (set slots i slot) look
     IsTable-rewrite = record {
-      entered = table.entered ∙ sym (length-set slots i slot);
-      hashed = λ q number has. table.hashed q number (had_name q number has);
-      apart = λ q j k first second. table.apart q j k (had_name q j first) (had_name q k second);
+      few = rw length-set table.few;
+      finds = λ q number has. finds-rewrite q number (rewritten_at slots i slot within number) has;
+      found = λ q number is. found-rewrite q number (rewritten_at slots i slot within number) is;
     }
 
   -- each thing that stands has a name

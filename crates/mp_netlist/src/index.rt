@@ -1,116 +1,90 @@
-//! Numbers by the hashes of names.
-ghost use Rattle.std.specs.Prelude.{◌≡◌, ◌<◌, ◌^◌, ◌++◌, ◌∷◌, [], IfOk, OnOk, OnErr, length};
+//! Numbers by name.
+ghost use Rattle.std.specs.Prelude.{◌≡◌, List, ℕ, cond, None, Some, IfOk, OnOk, OnErr};
+ghost use Rattle.std.specs.Str.{bytes_eq};
 ghost use Rattle.std.specs.Arc.{arc_value};
-ghost use Rattle.mp_netlist.specs.Indexes.{hash_of};
+ghost use Rattle.indexmap.specs.IndexMap.{get};
 
-use crate::chains::Chains;
+use indexmap::IndexMap;
+use mp_records::Name;
 use std::alloc::{AllocError, Global};
-use std::marker::Model;
 use std::sync::Arc;
 
-/// What a hash is multiplied by before each byte: its bits are mixed, so that names apart have places apart. Names that differ in their last
-/// bytes alone have places that are near.
-const FACTOR: u32 = 2_246_822_507;
-
-/// The hashes of the names of numbers from 0 on. Copies share them until one of them gets another. Contracts see the hashes.
+/// Numbers by name. Copies share them until one of them gets another name.
 #[derive(Drop)]
 pub struct Index {
-    chains: Option<Arc<Chains, Global>>,
-}
-
-impl Model for Index {
-    ghost use Rattle.std.specs.Prelude.{List, ℕ, [], unwrap_or, option_map};
-    ghost use Rattle.std.specs.Arc.{arc_value};
-
-    ghost Value = { List ℕ };
-
-    ghost view = { λ index. unwrap_or (option_map arc_value index.chains) [] };
+    numbers: Option<Arc<IndexMap<Name, u32>, Global>>,
 }
 
 impl Index {
-    ghost use Rattle.std.specs.Prelude.{◌≡◌, ◌<◌, ◌^◌, ◌++◌, ◌∷◌, [], OnOk, OnErr, IfOk, length};
-    ghost use Rattle.mp_netlist.specs.Indexes.{hash_at, IsLast};
+    ghost use Rattle.std.specs.Prelude.{◌≡◌, List, ℕ, cond, None, Some, OnOk, OnErr, IfOk};
+    ghost use Rattle.std.specs.Str.{bytes_eq};
+    ghost use Rattle.mp_netlist.specs.Indexes.{number_in};
 
-    /// Without a number.
+    /// Without a name.
     pub fn new() -> Index
-        ensures { result ≡ [] }
+        ensures { (name : List ℕ) → number_in result name ≡ None }
     {
-        Index { chains: None }
+        Index { numbers: None }
     }
 
-    /// The last number whose name has this hash.
-    pub fn last(&self, hash: u32) -> Option<u32>
-        ensures { IsLast self.now hash (length self.now) result }
+    /// The number of this name.
+    pub fn get(&self, name: &Name) -> Option<u32>
+        ensures { result ≡ number_in self.now name.now }
     {
-        match &self.chains {
-            Some(shared) => shared.last(hash),
+        match &self.numbers {
+            Some(shared) => shared.get(name).copied(),
             None => None,
         }
     }
 
-    /// The last number before this one whose name has the same hash.
-    pub fn before(&self, number: u32) -> Option<u32>
-        requires { number < length self.now }
-        ensures { IsLast self.now (hash_at self.now number) number result }
+    /// Sets the number of this name. On an error each name keeps its number.
+    pub fn insert(&mut self, alloc: Global, name: &Name, number: u32) -> Result<(), AllocError>
+        ensures ok { OnOk result ((other : List ℕ) → number_in self.new other ≡ cond (bytes_eq name.now other) (Some number) (number_in self.old other)) }
+        ensures err { OnErr result ((other : List ℕ) → number_in self.new other ≡ number_in self.old other) }
     {
-        match &self.chains {
-            Some(shared) => shared.before(number),
-            None => None,
-        }
-    }
-
-    /// Adds the next number, whose name has this hash.
-    pub fn push(&mut self, alloc: Global, hash: u32) -> Result<(), AllocError>
-        requires { length self.old < 2 ^ 32 }
-        ensures ok { OnOk result (self.new ≡ self.old ++ hash ∷ []) }
-        ensures err { OnErr result (self.new ≡ self.old) }
-    {
-        match &mut self.chains {
-            Some(shared) => push_shared(shared, hash)?,
-            None => self.chains = Some(first(alloc, hash)?),
+        let key = name.clone()?;
+        match &mut self.numbers {
+            Some(shared) => insert_shared(shared, key, number)?,
+            None => self.numbers = Some(first(alloc, key, number)?),
         }
         Ok(())
     }
 
     /// The same once more.
     pub fn copy(&self) -> Result<Index, AllocError>
-        ensures { IfOk result (λ copy. copy ≡ self.now) }
+        ensures { IfOk result (λ copy. (name : List ℕ) → number_in copy name ≡ number_in self.now name) }
     {
-        match &self.chains {
+        match &self.numbers {
             Some(shared) => Ok(Index {
-                chains: Some(Arc::try_clone(shared)?),
+                numbers: Some(Arc::try_clone(shared)?),
             }),
-            None => Ok(Index { chains: None }),
+            None => Ok(Index { numbers: None }),
         }
     }
 }
 
-/// Adds the next number, in a copy where others look there too.
-fn push_shared(shared: &mut Arc<Chains, Global>, hash: u32) -> Result<(), AllocError>
-    requires { length (arc_value shared.old) < 2 ^ 32 }
-    ensures ok { OnOk result (arc_value shared.new ≡ arc_value shared.old ++ hash ∷ []) }
-    ensures err { OnErr result (arc_value shared.new ≡ arc_value shared.old) }
+/// Sets the number of a name, in a copy where others look there too.
+fn insert_shared(
+    shared: &mut Arc<IndexMap<Name, u32>, Global>,
+    name: Name,
+    number: u32,
+) -> Result<(), AllocError>
+    ensures ok { OnOk result ((other : List ℕ) → get bytes_eq (arc_value shared.new) other ≡ cond (bytes_eq name other) (Some number) (get bytes_eq (arc_value shared.old) other)) }
+    ensures err { OnErr result ((other : List ℕ) → get bytes_eq (arc_value shared.new) other ≡ get bytes_eq (arc_value shared.old) other) }
 {
-    Arc::make_mut(shared)?.push(hash)
+    Arc::make_mut(shared)?.insert(name, number)?;
+    Ok(())
 }
 
-/// The chains of one number.
-fn first(alloc: Global, hash: u32) -> Result<Arc<Chains, Global>, AllocError>
-    ensures { IfOk result (λ shared. arc_value shared ≡ hash ∷ []) }
+/// The number of one name.
+fn first(
+    alloc: Global,
+    name: Name,
+    number: u32,
+) -> Result<Arc<IndexMap<Name, u32>, Global>, AllocError>
+    ensures { IfOk result (λ shared. (other : List ℕ) → get bytes_eq (arc_value shared) other ≡ cond (bytes_eq name other) (Some number) None) }
 {
-    let mut chains = Chains::new(alloc);
-    chains.push(hash)?;
-    Ok(Arc::new(alloc, chains)?)
-}
-
-/// The hash of a name.
-#[tactic(auto, unfolding(crate::specs::Indexes::hash_of))]
-pub fn hash_of(name: &str) -> u32
-    ensures { result ≡ hash_of name.now }
-{
-    let mut hash: u32 = 0;
-    for byte in name.as_bytes() {
-        hash = hash.wrapping_mul(FACTOR).wrapping_add(u32::from(*byte));
-    }
-    hash
+    let mut numbers = IndexMap::new(alloc);
+    numbers.insert(name, number)?;
+    Ok(Arc::new(alloc, numbers)?)
 }

@@ -1,7 +1,6 @@
 //! Netlists of event modules, and the edits that change them.
 #![tactic(auto)]
 
-mod chains;
 mod checkpoint;
 mod driver;
 mod format;

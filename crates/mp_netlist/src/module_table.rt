@@ -5,7 +5,7 @@ ghost use Rattle.mp_netlist.specs.Drivers.{port_from};
 ghost use Rattle.mp_netlist.specs.DrivenWires.{may_be_driven};
 
 use crate::table::{Change, Table};
-use mp_records::{ModuleRecord, Output, WireId};
+use mp_records::{ModuleRecord, Name, Output, WireId};
 use std::alloc::{AllocError, Global};
 use std::marker::Model;
 
@@ -55,10 +55,17 @@ impl ModuleTable {
     }
 
     /// The number of the module that has this name.
-    pub fn number_named(&self, name: &str) -> Option<u32>
+    pub fn number_named(&self, name: &Name) -> Option<u32>
         ensures { result ≡ number_named (λ (r : Record). r.name) self.now name.now }
     {
         self.table.number_named(name)
+    }
+
+    /// The number of the module whose name is this text.
+    pub fn number_spelled(&self, text: &str) -> Option<u32>
+        ensures { result ≡ number_named (λ (r : Record). r.name) self.now text.now }
+    {
+        self.table.number_spelled(text)
     }
 
     /// Whether a module drives this wire, or did so once: if not, none is its driver.

@@ -146,7 +146,7 @@ impl Netlist {
     pub fn wire_named(&self, name: &str) -> Option<WireId>
         ensures { option_map (λ id. id.0) result ≡ wire_named self.now name.now }
     {
-        match self.wires.number_named(name) {
+        match self.wires.number_spelled(name) {
             Some(number) => Some(WireId(number)),
             None => None,
         }
@@ -156,7 +156,7 @@ impl Netlist {
     pub fn module_named(&self, name: &str) -> Option<ModuleId>
         ensures { option_map (λ id. id.0) result ≡ module_named self.now name.now }
     {
-        match self.modules.number_named(name) {
+        match self.modules.number_spelled(name) {
             Some(number) => Some(ModuleId(number)),
             None => None,
         }
@@ -166,7 +166,7 @@ impl Netlist {
     pub fn bundle_named(&self, name: &str) -> Option<BundleId>
         ensures { option_map (λ id. id.0) result ≡ bundle_named self.now name.now }
     {
-        match self.bundles.number_named(name) {
+        match self.bundles.number_spelled(name) {
             Some(number) => Some(BundleId(number)),
             None => None,
         }

@@ -1,8 +1,8 @@
 //! Things by number and by name.
-ghost use Rattle.std.specs.Prelude.{◌≡◌, ◌<◌, List, ℕ, None, option_map, slice_index_or, slice_set, vec_len};
+ghost use Rattle.std.specs.Prelude.{◌≡◌, ◌<◌, List, ℕ, None, is_some, option_map, slice_index_or, slice_set, vec_len};
 ghost use Rattle.mp_netlist.specs.Slots.{slot_at, has_name};
 
-use crate::index::{Index, hash_of};
+use crate::index::Index;
 use mp_records::Name;
 use std::alloc::{AllocError, Global};
 use std::marker::Model;
@@ -29,7 +29,8 @@ pub trait Change<R: Named>: Drop {
     ghost keeps_name: { (change : Self) (thing : R) → R.name_of (changed change thing) ≡ R.name_of thing };
 }
 
-/// Things by number, from 0 in order of adding, and by name. The hash of a thing that went stays in the index, and its slot stays empty.
+/// Things by number, from 0 in order of adding, and by name. The number of a thing that went may stay in the index, since its slot stays
+/// empty.
 #[derive(Drop)]
 pub struct Table<R: Named> {
     slots: Vec<Option<R>>,
@@ -38,13 +39,14 @@ pub struct Table<R: Named> {
 
 impl<R: Named> Model for Table<R> {
     ghost use Rattle.std.specs.Prelude.{List, Option};
+    ghost use Rattle.mp_netlist.specs.Indexes.{number_in};
     ghost use Rattle.mp_netlist.specs.Tables.{IsTable};
 
     ghost Value = { List (Option R) };
 
     ghost view = { λ table. table.slots.items };
 
-    ghost invariant = { λ table. IsTable R.name_of table.slots.items table.index };
+    ghost invariant = { λ table. IsTable R.name_of table.slots.items (number_in table.index) };
 }
 
 impl<R: Named> Table<R> {
@@ -73,32 +75,52 @@ impl<R: Named> Table<R> {
     }
 
     /// The number of the thing that has this name.
-    pub fn number_named(&self, name: &str) -> Option<u32>
+    pub fn number_named(&self, name: &Name) -> Option<u32>
         ensures { result ≡ number_named R.name_of self.now name.now }
     {
-        let mut found = self.index.last(hash_of(name));
-        while let Some(number) = found {
-            if has_name(self.slots.as_slice(), number, name) {
-                return Some(number);
-            }
-            found = self.index.before(number);
+        match self.index.get(name) {
+            Some(number) if stands(self.slots.as_slice(), number) => Some(number),
+            _ => None,
         }
-        None
     }
 
     /// The same, where the thing is looked for at a number and at the next one first: found there it costs less.
-    pub fn number_near(&self, name: &str, near: u32) -> Option<u32>
+    pub fn number_near(&self, name: &Name, near: u32) -> Option<u32>
         ensures { result ≡ number_named R.name_of self.now name.now }
     {
         let slots = self.slots.as_slice();
-        if has_name(slots, near, name) {
+        let text = name.as_str();
+        if has_name(slots, near, text) {
             return Some(near);
         }
         let next = near.wrapping_add(1);
-        if has_name(slots, next, name) {
+        if has_name(slots, next, text) {
             return Some(next);
         }
         self.number_named(name)
+    }
+
+    /// The number of the thing whose name is this text. Where memory for a long text is wanting, each thing is looked at.
+    pub fn number_spelled(&self, text: &str) -> Option<u32>
+        ensures { result ≡ number_named R.name_of self.now text.now }
+    {
+        match Name::new(self.allocator(), text) {
+            Ok(name) => self.number_named(&name),
+            Err(_) => self.number_sought(text),
+        }
+    }
+
+    /// The same, found by a look at each thing.
+    fn number_sought(&self, text: &str) -> Option<u32>
+        ensures { result ≡ number_named R.name_of self.now text.now }
+    {
+        let slots = self.slots.as_slice();
+        for number in 0..slots.len() {
+            if has_name(slots, number as u32, text) {
+                return Some(number as u32);
+            }
+        }
+        None
     }
 
     /// Adds a thing of a new name, with the next number.
@@ -108,10 +130,10 @@ impl<R: Named> Table<R> {
         ensures ok { OnOk result (self.new ≡ self.old ++ Some added ∷ []) }
         ensures err { OnErr result (self.new ≡ self.old) }
     {
+        let number = self.slots.len() as u32;
         let alloc = *self.slots.allocator();
-        let hash = hash_of(added.name().as_str());
         self.slots.reserve(1)?;
-        self.index.push(alloc, hash)?;
+        self.index.insert(alloc, added.name(), number)?;
         self.slots.push(Some(added)).unwrap();
         Ok(())
     }
@@ -171,6 +193,16 @@ fn has_name<R: Named>(slots: &[Option<R>], number: u32, name: &str) -> bool
     match slots.get(number as usize) {
         Some(Some(thing)) => name == thing.name().as_str(),
         _ => false,
+    }
+}
+
+/// Whether something stands in the slot of this number.
+fn stands<T>(slots: &[Option<T>], number: u32) -> bool
+    ensures { result ≡ is_some (slice_index_or slots.now number None) }
+{
+    match slots.get(number as usize) {
+        Some(slot) => slot.is_some(),
+        None => false,
     }
 }
 

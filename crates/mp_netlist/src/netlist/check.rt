@@ -71,7 +71,7 @@ impl Netlist {
         if !name.is_valid() {
             return Err(EditError::BadName);
         }
-        if self.wire_named(name.as_str()).is_some() {
+        if self.find_wire(name).is_some() {
             return Err(EditError::NameTaken);
         }
         if width < 1 || width > 64 {
@@ -89,7 +89,7 @@ impl Netlist {
     fn check_wire_removal(&self, name: &Name) -> Result<(), EditError>
         ensures { result_err result ≡ wire_removal_refusal self.now name.now }
     {
-        let Some(id) = self.wire_named(name.as_str()) else {
+        let Some(id) = self.find_wire(name) else {
             return Err(EditError::NoSuchWire);
         };
         if self.is_used(id) {
@@ -107,7 +107,7 @@ impl Netlist {
         if !new.name.is_valid() {
             return Err(EditError::BadName);
         }
-        if self.module_named(new.name.as_str()).is_some() {
+        if self.find_module(&new.name).is_some() {
             return Err(EditError::NameTaken);
         }
         if !has_ports(new.kind, &new.inputs, &new.outputs) {
@@ -138,7 +138,7 @@ impl Netlist {
     fn check_module_removal(&self, name: &Name) -> Result<(), EditError>
         ensures { result_err result ≡ module_removal_refusal self.now name.now }
     {
-        if self.module_named(name.as_str()).is_none() {
+        if self.find_module(name).is_none() {
             return Err(EditError::NoSuchModule);
         }
         Ok(())
@@ -183,13 +183,13 @@ impl Netlist {
     fn check_input(&self, name: &Name, port: u64, wire: &Name) -> Result<(), EditError>
         ensures { result_err result ≡ input_refusal self.now name.now port wire.now }
     {
-        let Some(id) = self.module_named(name.as_str()) else {
+        let Some(id) = self.find_module(name) else {
             return Err(EditError::NoSuchModule);
         };
         if port >= self.input_ports(id) {
             return Err(EditError::BadPort);
         }
-        let Some(read) = self.wire_named(wire.as_str()) else {
+        let Some(read) = self.find_wire(wire) else {
             return Err(EditError::NoSuchWire);
         };
         if self.wire_width(read) != self.input_width(id, port) {
@@ -206,7 +206,7 @@ impl Netlist {
     ) -> Result<(), EditError>
         ensures { result_err result ≡ output_refusal self.now name.now port wire.now }
     {
-        let Some(id) = self.module_named(name.as_str()) else {
+        let Some(id) = self.find_module(name) else {
             return Err(EditError::NoSuchModule);
         };
         if port >= self.output_ports(id) {
@@ -215,7 +215,7 @@ impl Netlist {
         let Some(wire) = wire else {
             return Ok(());
         };
-        let Some(driven) = self.wire_named(wire.get().as_str()) else {
+        let Some(driven) = self.find_wire(wire.get()) else {
             return Err(EditError::NoSuchWire);
         };
         if self.wire_width(driven) != self.output_width(id, port) {
@@ -230,7 +230,7 @@ impl Netlist {
     fn check_input_delay(&self, name: &Name, port: u64, delay: u64) -> Result<(), EditError>
         ensures { result_err result ≡ input_delay_refusal self.now name.now port delay }
     {
-        let Some(id) = self.module_named(name.as_str()) else {
+        let Some(id) = self.find_module(name) else {
             return Err(EditError::NoSuchModule);
         };
         if port >= self.input_ports(id) {
@@ -245,7 +245,7 @@ impl Netlist {
     fn check_delay(&self, name: &Name, port: u64, delay: u64) -> Result<(), EditError>
         ensures { result_err result ≡ delay_refusal self.now name.now port delay }
     {
-        let Some(id) = self.module_named(name.as_str()) else {
+        let Some(id) = self.find_module(name) else {
             return Err(EditError::NoSuchModule);
         };
         if port >= self.output_ports(id) {
@@ -260,7 +260,7 @@ impl Netlist {
     fn check_stimulus(&self, wire: &Name, changes: &Changes) -> Result<(), EditError>
         ensures { result_err result ≡ stimulus_refusal self.now wire.now changes.now }
     {
-        let Some(id) = self.wire_named(wire.as_str()) else {
+        let Some(id) = self.find_wire(wire) else {
             return Err(EditError::NoSuchWire);
         };
         if let Driver::Port(_, _) = self.driver_of(id) {
@@ -276,7 +276,7 @@ impl Netlist {
     fn check_clearing(&self, wire: &Name) -> Result<(), EditError>
         ensures { result_err result ≡ clearing_refusal self.now wire.now }
     {
-        let Some(id) = self.wire_named(wire.as_str()) else {
+        let Some(id) = self.find_wire(wire) else {
             return Err(EditError::NoSuchWire);
         };
         if !self.has_stimulus(id) {

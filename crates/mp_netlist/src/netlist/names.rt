@@ -1,18 +1,48 @@
-//! The modules and bundles that an edit names, and the ports of such a module.
+//! The wires, modules and bundles that an edit names, and the ports of such a module.
 
 use crate::netlist::Netlist;
-use mp_records::{BundleId, ModuleId, Name};
+use mp_records::{BundleId, ModuleId, Name, WireId};
 
 impl Netlist {
-    ghost use Rattle.std.specs.Prelude.{◌≡◌};
-    ghost use Rattle.mp_netlist.specs.Circuit.{module_at};
+    ghost use Rattle.std.specs.Prelude.{◌≡◌, option_map};
+    ghost use Rattle.mp_netlist.specs.Circuit.{module_at, wire_named, module_named, bundle_named};
     ghost use Rattle.mp_netlist.specs.Edits.{module_id, bundle_stands, bundle_id, input_ports, output_ports, input_width_of, output_width_of};
+
+    /// The number of the wire that has the name.
+    pub(crate) fn find_wire(&self, name: &Name) -> Option<WireId>
+        ensures { option_map (λ id. id.0) result ≡ wire_named self.now name.now }
+    {
+        match self.wires.number_named(name) {
+            Some(number) => Some(WireId(number)),
+            None => None,
+        }
+    }
+
+    /// The number of the module that has the name.
+    pub(crate) fn find_module(&self, name: &Name) -> Option<ModuleId>
+        ensures { option_map (λ id. id.0) result ≡ module_named self.now name.now }
+    {
+        match self.modules.number_named(name) {
+            Some(number) => Some(ModuleId(number)),
+            None => None,
+        }
+    }
+
+    /// The number of the bundle that has the name.
+    pub(crate) fn find_bundle(&self, name: &Name) -> Option<BundleId>
+        ensures { option_map (λ id. id.0) result ≡ bundle_named self.now name.now }
+    {
+        match self.bundles.number_named(name) {
+            Some(number) => Some(BundleId(number)),
+            None => None,
+        }
+    }
 
     /// The number of the module that has the name, 0 where none has.
     pub(crate) fn module_id(&self, name: &Name) -> ModuleId
         ensures { result ≡ module_id self.now name.now }
     {
-        match self.module_named(name.as_str()) {
+        match self.find_module(name) {
             Some(id) => id,
             None => ModuleId(0),
         }
@@ -22,14 +52,14 @@ impl Netlist {
     pub(crate) fn bundle_stands(&self, name: &Name) -> bool
         ensures { result ≡ bundle_stands self.now name.now }
     {
-        self.bundle_named(name.as_str()).is_some()
+        self.find_bundle(name).is_some()
     }
 
     /// The number of the bundle that has the name, 0 where none has.
     pub(crate) fn bundle_id(&self, name: &Name) -> BundleId
         ensures { result ≡ bundle_id self.now name.now }
     {
-        match self.bundle_named(name.as_str()) {
+        match self.find_bundle(name) {
             Some(id) => id,
             None => BundleId(0),
         }

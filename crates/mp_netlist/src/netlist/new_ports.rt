@@ -79,7 +79,7 @@ impl Netlist {
         ensures stand { is_some result ≡ stands self.now name.now }
         ensures wire { IfSome result (λ wire. wire ≡ wire_id self.now name.now) }
     {
-        match self.wires.number_near(name.as_str(), near.0) {
+        match self.wires.number_near(name, near.0) {
             Some(number) => Some(WireId(number)),
             None => None,
         }

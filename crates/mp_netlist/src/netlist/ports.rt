@@ -19,14 +19,14 @@ impl Netlist {
     pub(crate) fn stands(&self, name: &Name) -> bool
         ensures { result ≡ stands self.now name.now }
     {
-        self.wire_named(name.as_str()).is_some()
+        self.find_wire(name).is_some()
     }
 
     /// The number of the wire that has the name, 0 where none has.
     pub(crate) fn id_of(&self, name: &Name) -> WireId
         ensures { result ≡ wire_id self.now name.now }
     {
-        match self.wire_named(name.as_str()) {
+        match self.find_wire(name) {
             Some(id) => id,
             None => WireId(0),
         }
@@ -46,7 +46,7 @@ impl Netlist {
     pub(crate) fn width_of(&self, name: &Name) -> u32
         ensures { result ≡ width_named self.now name.now }
     {
-        match self.wire_named(name.as_str()) {
+        match self.find_wire(name) {
             Some(id) => self.wire_width(id),
             None => 0,
         }

@@ -1,4 +1,7 @@
-use Rattle.std.proofs.Common.{◌≡◌, Some, None, refl, ap, ◌∙◌}
+use Rattle.std.proofs.Common.{◌≡◌, Some, None, refl, ap, subst, sym, ◌∙◌}
+use Rattle.mp_netlist.specs.Indexes.{number_in}
+use Rattle.mp_netlist.specs.Tables.{IsTable}
+use Rattle.mp_netlist.proofs.TableLemmas.{IsTable-copy}
 use Rattle.mp_netlist.proofs.table.Table.copy.Goals as goal
 
 pub invariant_of-result : goal.invariant_of-result
@@ -10,4 +13,5 @@ invariant_of-result g c =
       | None ↦ elim [ None ↦ λ h. refl | Some y ↦ λ h. absurd h ]
       | Some x ↦ elim [ None ↦ λ h. absurd h | Some y ↦ λ h. ap Some (g.met.R.Named.clones_equal x y h) ]
     ]) ∙ c.as_slice.ensures.value in
-    rw (items, c.in_ok-copy.ensures) c.self.invariant
+    subst (λ slots. IsTable name_of slots (number_in c.in_ok-copy.field-0)) (sym items)
+    (IsTable-copy name_of old.slots.items (number_in old.index) (number_in c.in_ok-copy.field-0) c.in_ok-copy.ensures c.self.invariant)

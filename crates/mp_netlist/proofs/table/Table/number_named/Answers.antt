@@ -1,36 +1,24 @@
-use Rattle.std.proofs.Common.{◌≡◌, ◌<◌, true, false, get_or, None, length, rules, subst}
-use Rattle.mp_netlist.specs.Slots.{has_name}
-use Rattle.mp_netlist.specs.Indexes.{hash_of, IsLast}
-use Rattle.mp_netlist.proofs.TableLemmas.{IsSought, sought_first, sought_next, sought_found, sought_nowhere}
+use Rattle.std.proofs.Common.{◌≡◌, true, false, None, Some, is_some, get_or, rules}
+use Rattle.mp_netlist.specs.Indexes.{number_in}
+use Rattle.mp_netlist.proofs.TableLemmas.{number_stands, number_gone, number_unknown}
 use Rattle.mp_netlist.proofs.table.Table.number_named.Goals as goal
 
-pub loop-found-init : goal.loop-found-init
-loop-found-init g c =
+pub returns-in-Some : goal.returns-in-Some
+returns-in-Some g c =
     let table = c.self.inside in
-    let first = subst (λ hash. IsLast table.index hash (length table.index) c.last-found.result) c.hash_of.ensures c.last-found.ensures in
-    sought_first g.R.Named.name_of table.slots.items table.index c.self.invariant c.args.name.now c.last-found.result first
+    let at : number_in table.index c.args.name.now ≡ Some c.in-Some.number = search rules in
+    let stands : is_some (get_or table.slots.items c.in-Some.number None) ≡ true = search rules in
+    rw (← c.self.view_is) (number_stands g.R.Named.name_of table.slots.items (number_in table.index) c.self.invariant c.args.name.now c.in-Some.number at stands)
 
-pub before-found-requires : goal.before-found-requires
-before-found-requires g c =
+pub returns-in_default : goal.returns-in_default
+returns-in_default g c =
     let table = c.self.inside in
-    let sought = subst (IsSought g.R.Named.name_of table.slots.items table.index c.args.name.now) c.in-Some.is c.loop-found.invariant in
-    sought.has.0
+    let at : number_in table.index c.args.name.now ≡ Some c.in-Some.number = search rules in
+    let gone : is_some (get_or table.slots.items c.in-Some.number None) ≡ false = search rules in
+    rw (← c.self.view_is) (number_gone g.R.Named.name_of table.slots.items (number_in table.index) c.self.invariant c.args.name.now c.in-Some.number at gone)
 
-pub loop-found-preserved : goal.loop-found-preserved
-loop-found-preserved g c =
+pub returns-in_default-2 : goal.returns-in_default-2
+returns-in_default-2 g c =
     let table = c.self.inside in
-    let sought = subst (IsSought g.R.Named.name_of table.slots.items table.index c.args.name.now) c.in-Some.is c.loop-found.invariant in
-    let other : has_name g.R.Named.name_of c.args.name.now (get_or table.slots.items c.in-Some.number None) ≡ false = search rules in
-    sought_next g.R.Named.name_of table.slots.items table.index c.self.invariant c.args.name.now c.in-Some.number c.before-found.result sought other c.before-found.ensures
-
-pub returns-then-has_name : goal.returns-then-has_name
-returns-then-has_name g c =
-    let table = c.self.inside in
-    let has : has_name g.R.Named.name_of c.args.name.now (get_or table.slots.items c.in-Some.number None) ≡ true = search rules in
-    rw (← c.self.view_is) (sought_found g.R.Named.name_of table.slots.items table.index c.self.invariant c.args.name.now c.in-Some.number has)
-
-pub returns : goal.returns
-returns g c =
-    let table = c.self.inside in
-    let sought = subst (IsSought g.R.Named.name_of table.slots.items table.index c.args.name.now) c.in_default.is c.loop-found.invariant in
-    rw (← c.self.view_is) (sought_nowhere g.R.Named.name_of table.slots.items table.index c.self.invariant c.args.name.now sought)
+    let none : number_in table.index c.args.name.now ≡ None = search rules in
+    rw (← c.self.view_is) (number_unknown g.R.Named.name_of table.slots.items (number_in table.index) c.self.invariant c.args.name.now none)
