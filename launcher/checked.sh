@@ -1,0 +1,62 @@
+# shellcheck shell=bash
+# The program that is checked at run time. `rt try` makes it in a folder of TMPDIR, runs it and removes it. So rt is told to run it on a named pipe:
+# there it waits until it is taken from its folder.
+
+status_of_check=70 # that of a run in which a check fails
+
+tell_checked() {
+    echo "mpwb: this program is checked at run time and not proved; ./mpwb build proves and builds it, in about an hour" >&2
+}
+
+take_program() {
+    until find_program >"$room/netlist"; do sleep 0.1; done
+}
+
+find_program() {
+    local found
+    found=$(find "$room/tmp" -type f -name program -perm -u=x -print -quit)
+    [ -n "$found" ] && { ln "$found" "$room/program" || cp "$found" "$room/program"; } 2>/dev/null
+}
+
+# runs rt try with these words, on what `in` of the room has
+try_words() {
+    local status=0
+    (cd "$top/crates/mpwb" && exec setsid rt try "$@") <"$room/in" >"$room/out" 2>"$room/log" &
+    gate=$!
+    wait "$gate" || status=$?
+    gate=""
+    return "$status"
+}
+
+make_checked() {
+    begin_work
+    echo "mpwb: a program that isn't proved is made first, in two minutes or so" >&2
+    mkdir "$room/tmp"
+    mkfifo "$room/netlist"
+    : >"$room/in"
+    take_program &
+    taker=$!
+    TMPDIR=$room/tmp try_words -- waves "$room/netlist" || true
+    kill "$taker" 2>/dev/null || true
+    wait "$taker" 2>/dev/null || true
+    taker=""
+    # (where it can't be kept, it serves this run alone)
+    if [ -x "$room/program" ]; then { mkdir -p "$folder" && put_program "$room/program" "$checked"; } 2>/dev/null || true; fi
+}
+
+# the program has the input, the output and the terminal of the script, and ends with it
+run_checked() {
+    local status=0 ends_with_script=()
+    tell_checked
+    if setpriv --pdeathsig TERM true 2>/dev/null; then ends_with_script=(setpriv --pdeathsig TERM); fi
+    trap - INT TERM HUP
+    export ASAN_OPTIONS="abort_on_error=0:exitcode=$status_of_check:allocator_may_return_null=1"
+    "${ends_with_script[@]}" "$1" "${@:2}" || status=$?
+    case $status in
+    "$status_of_check" | 13[2-69])
+        echo "mpwb: a check failed at run time: the program is at fault, and what it answered isn't complete" >&2
+        exit 70
+        ;;
+    esac
+    exit "$status"
+}
