@@ -30,5 +30,5 @@ end_group() {
 
 # puts a program in its place, which may be that of one that runs; it is as old as what it was made from
 put_program() {
-    cp "$1" "$2.$$" && touch -r "$room/began" "$2.$$" && mv "$2.$$" "$2"
+    cp "$1" "$2.$$" && chmod a+rx "$2.$$" && touch -r "$room/began" "$2.$$" && mv "$2.$$" "$2"
 }
