@@ -8,6 +8,7 @@ pub mod CountLemmas
 pub mod DecidedLemmas
 pub mod DepartingLemmas
 pub mod DueLemmas
+pub mod EnteringLemmas
 pub mod FallLemmas
 pub mod FallingLemmas
 pub mod FindingLemmas

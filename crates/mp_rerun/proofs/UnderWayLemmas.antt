@@ -28,7 +28,7 @@ use Rattle.mp_rerun.specs.Following.{AreTails, AreSetAnew}
 use Rattle.mp_rerun.specs.Seats.{AreSeats}
 use Rattle.mp_rerun.specs.Reruns.{active_of, on_of, until_of, IsFollowed, IsRerunAt}
 use Rattle.mp_rerun.specs.Starting.{IsFirst}
-use Rattle.mp_rerun.specs.Windows.{AreTouched, IsUnderWay}
+use Rattle.mp_rerun.specs.Windows.{AreTouched, IsBegun}
 use Rattle.mp_rerun.proofs.FirstReaderLemmas.{counted, wire_read}
 use Rattle.mp_rerun.proofs.FirstSourceLemmas.{sources, lit, ports_on, no_tails}
 use Rattle.mp_rerun.proofs.BeginningLemmas.{asleep, at_work}
@@ -130,9 +130,11 @@ module _ (by_ports : ReadsAreListed) (old new : Circuit) (old_ok : IsCircuit old
   nobody : (m : ℕ) → Contains s.activity.joined.items (record { 0 = m }) → ⊥
   nobody m has = let low = has.1 in let none = ap (length {A = ModuleId}) made.joined in omega (arith, low, none)
 
-  pub under_way : IsUnderWay old new run 0 s
-  under_way = record {
-    from = 0;
+  at_first : AreAtWork old new (block_of new.horizon 0) 0 (active_of s)
+  at_first = subst (λ c. AreAtWork old new c 0 (active_of s)) (sym block) (at_work old new s.activity.active.items made.touched)
+
+  pub begun : IsBegun old new run s
+  begun = record {
     is = record {
       is = rerun (block_of new.horizon 0);
       unseen = made.unseen;
@@ -141,7 +143,7 @@ module _ (by_ports : ReadsAreListed) (old new : Circuit) (old_ok : IsCircuit old
       begun = omega arith;
       within = (window_within new new_ok 0 s.window_end first_window).1;
       live = active_of s;
-      work = subst (λ c. AreAtWork old new c 0 (active_of s)) (sym block) (at_work old new s.activity.active.items made.touched);
+      work = at_first;
       history = subst (λ c. IsHistory old new run (λ m. c) 0 (active_of s) s.history) (sym block) made.history;
       joined = record {
         stand = λ m has. let no = nobody m has in absurd no;
@@ -151,4 +153,5 @@ module _ (by_ports : ReadsAreListed) (old new : Circuit) (old_ok : IsCircuit old
       };
       apart = λ m has. let no = nobody m has in absurd no;
     };
+    work = at_first;
   }

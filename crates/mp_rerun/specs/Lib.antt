@@ -7,6 +7,7 @@ pub mod Hearing
 pub mod Joining
 pub mod Joins
 pub mod Tasks
+pub mod Entering
 pub mod Resting
 pub mod Idle
 pub mod Waking

@@ -39,6 +39,11 @@ pub record IsUnderWay (old new : Circuit) (run : Outcome) (t : ℕ) (s : Rerun) 
   pub from : ℕ
   pub is : IsInWindow old new run from t s
 
+-- the unit 0 is over, in the first window, in which just the active modules are at work
+pub record IsBegun (old new : Circuit) (run : Outcome) (s : Rerun) : Type 0 where
+  pub is : IsInWindow old new run 0 0 s
+  pub work : AreAtWork old new (block_of new.horizon 0) 0 (active_of s)
+
 -- a window begins behind the unit t: all that have joined are kept in the history
 pub record IsAtWindow (old new : Circuit) (run : Outcome) (c t : ℕ) (s : Rerun) : Type 0 where
   pub is : IsRerunAt old new run c t s

@@ -19,8 +19,11 @@ impl Rerun {
     ghost use Rattle.std.specs.List.{Contains};
     ghost use Rattle.mp_netlist.specs.Circuit.{module_at};
     ghost use Rattle.mp_evaluation.specs.Checkpoints.{state_before};
+    ghost use Rattle.mp_phase.specs.Allowed.{IsAllowed};
+    ghost use Rattle.mp_work.specs.Work.{block_of, IsEntry};
     ghost use Rattle.mp_history.specs.Live.{HaveBecomeLive};
     ghost use Rattle.mp_excerpt.specs.Numberings.{Numbering};
+    ghost use Rattle.mp_rerun.specs.Entering.{AllWork};
     ghost use Rattle.mp_rerun.specs.Joining.{HaveJoined};
     ghost use Rattle.mp_rerun.specs.Reruns.{IsChange, IsRerunBy, IsRerunAt, active_of};
     ghost use Rattle.mp_rerun.specs.Returning.{HasReturned, IsToldAwake};
@@ -34,12 +37,14 @@ impl Rerun {
         change: &Change<'_>,
         time: u32,
     ) -> Result<(), AllocError>
+        requires allowed { IsAllowed (IsEntry change.now.old.now change.now.new.now) (G.may means.now.gate.now) }
         requires change { IsChange change.now }
         requires some { 0 < time }
         requires below { time < change.now.new.now.horizon }
         requires is { (latest : ℕ) × IsRerunAt change.now.old.now change.now.new.now change.now.run.now latest (time - 1) self.old }
         requires stand { (m : ℕ) → Contains self.old.activity.joining.items (record { 0 = m }) → IsSome (module_at change.now.new.now m) }
         requires asleep { (m : ℕ) → Contains self.old.activity.joining.items (record { 0 = m }) → active_of self.old m ≡ false }
+        requires work { AllWork change.now.old.now change.now.new.now (block_of change.now.new.now.horizon time) self.old.window_end self.old.activity.joining.items }
         ensures is { OnOk result ((latest : ℕ) → IsRerunAt change.now.old.now change.now.new.now change.now.run.now latest (time - 1) self.old →
             IsRerunAt change.now.old.now change.now.new.now change.now.run.now latest (time - 1) self.new) }
         ensures woken { OnOk result (HaveWoken self.old self.new) }
@@ -59,12 +64,14 @@ impl Rerun {
         change: &Change<'_>,
         time: u32,
     ) -> Result<(), AllocError>
+        requires allowed { IsAllowed (IsEntry change.now.old.now change.now.new.now) (G.may means.now.gate.now) }
         requires change { IsChange change.now }
         requires some { 0 < time }
         requires below { time < change.now.new.now.horizon }
         requires is { (latest : ℕ) × IsRerunAt change.now.old.now change.now.new.now change.now.run.now latest (time - 1) self.old }
         requires stand { (m : ℕ) → Contains self.old.activity.joining.items (record { 0 = m }) → IsSome (module_at change.now.new.now m) }
         requires asleep { (m : ℕ) → Contains self.old.activity.joining.items (record { 0 = m }) → active_of self.old m ≡ false }
+        requires work { AllWork change.now.old.now change.now.new.now (block_of change.now.new.now.horizon time) self.old.window_end self.old.activity.joining.items }
         ensures is { OnOk result ((latest : ℕ) → IsRerunAt change.now.old.now change.now.new.now change.now.run.now latest (time - 1) self.old →
             IsRerunAt change.now.old.now change.now.new.now change.now.run.now latest (time - 1) self.new) }
         ensures woken { OnOk result (HaveWoken self.old self.new) }
@@ -91,12 +98,14 @@ impl Rerun {
         found: &ModuleRecord,
         time: u32,
     ) -> Result<(), AllocError>
+        requires allowed { IsAllowed (IsEntry change.now.old.now change.now.new.now) (G.may means.now.gate.now) }
         requires change { IsChange change.now }
         requires some { 0 < time }
         requires below { time < change.now.new.now.horizon }
         requires stands { module_at change.now.new.now id.0 ≡ Some found.now }
         requires asleep { active_of self.old id.0 ≡ false }
         requires is { (latest : ℕ) × IsRerunAt change.now.old.now change.now.new.now change.now.run.now latest (time - 1) self.old }
+        requires works { IsEntry change.now.old.now change.now.new.now id.0 (block_of change.now.new.now.horizon time) self.old.window_end }
         ensures is { OnOk result ((latest : ℕ) → IsRerunAt change.now.old.now change.now.new.now change.now.run.now latest (time - 1) self.old →
             IsRerunAt change.now.old.now change.now.new.now change.now.run.now latest (time - 1) self.new) }
         ensures woken { OnOk result (HasWoken id.0 self.old self.new) }
@@ -115,12 +124,14 @@ impl Rerun {
         change: &Change<'_>,
         time: u32,
     ) -> Result<(), AllocError>
+        requires allowed { IsAllowed (IsEntry change.now.old.now change.now.new.now) (G.may means.now.gate.now) }
         requires change { IsChange change.now }
         requires some { 0 < time }
         requires below { time < change.now.new.now.horizon }
         requires is { (latest : ℕ) × IsRerunAt change.now.old.now change.now.new.now change.now.run.now latest (time - 1) self.old }
         requires stand { (m : ℕ) → Contains self.old.activity.joining.items (record { 0 = m }) → IsSome (module_at change.now.new.now m) }
         requires asleep { (m : ℕ) → Contains self.old.activity.joining.items (record { 0 = m }) → active_of self.old m ≡ false }
+        requires work { AllWork change.now.old.now change.now.new.now (block_of change.now.new.now.horizon time) self.old.window_end self.old.activity.joining.items }
         ensures is { OnOk result ((latest : ℕ) → IsRerunAt change.now.old.now change.now.new.now change.now.run.now latest (time - 1) self.old →
             IsRerunAt change.now.old.now change.now.new.now change.now.run.now latest (time - 1) self.new) }
         ensures woken { OnOk result (HaveWoken self.old self.new) }

@@ -111,7 +111,7 @@ impl Rerun {
     }
 
     /// Whether a module stands and is active.
-    fn is_at_work(&self, change: &Change<'_>, id: ModuleId) -> bool
+    pub(crate) fn is_at_work(&self, change: &Change<'_>, id: ModuleId) -> bool
         ensures { IsTrue result ↔ (IsSome (module_at change.now.new.now id.0) × (active_of self.now id.0 ≡ true)) }
     {
         match (

@@ -28,11 +28,13 @@ pub(crate) struct Join {
 
 impl Work for Join {
     ghost use Rattle.mp_response.specs.Pieces.{levels_at};
-    ghost use Rattle.mp_rerun.specs.Joins.{ComesTo};
+    ghost use Rattle.mp_rerun.specs.Joins.{ComesTo, IsOnly};
 
     type Done = Memory;
 
     ghost gives = { λ join memory. ComesTo join.part (levels_at join.inputs.items) join.memory join.from join.to memory };
+
+    ghost enters = { λ join. IsOnly join.«module».0 join.from join.window_end };
 
     fn work<R: Wait, G: Gate>(self, rt: &R, alloc: Global, gate: &G) -> Result<Memory, AllocError> {
         gate.enter(rt, self.module, self.from, self.window_end);

@@ -15,8 +15,10 @@ use std::thread::Threads;
 
 impl Rerun {
     ghost use Rattle.std.specs.Prelude.{◌≡◌, ◌<◌, IfOk};
+    ghost use Rattle.mp_phase.specs.Allowed.{IsAllowed};
     ghost use Rattle.mp_phase.specs.Phase.{AreDone};
-    ghost use Rattle.mp_work.specs.Work.{block_of};
+    ghost use Rattle.mp_work.specs.Work.{block_of, IsEntry};
+    ghost use Rattle.mp_rerun.specs.Entering.{AllWork};
     ghost use Rattle.mp_rerun.specs.Reruns.{IsChange};
     ghost use Rattle.mp_rerun.specs.Tasks.{AreKept, IsOldState};
 
@@ -29,9 +31,11 @@ impl Rerun {
         change: &Change<'_>,
         time: u32,
     ) -> Result<Vec<Memory>, AllocError>
+        requires allowed { IsAllowed (IsEntry change.now.old.now change.now.new.now) (G.may means.now.gate.now) }
         requires change { IsChange change.now }
         requires kept { AreKept change.now.old.now change.now.new.now self.now.activity.joining.items }
         requires below { time < change.now.new.now.horizon }
+        requires work { AllWork change.now.old.now change.now.new.now (block_of change.now.new.now.horizon time) self.now.window_end self.now.activity.joining.items }
         ensures { IfOk result (λ states. AreDone (IsOldState change.now.old.now time) self.now.activity.joining.items states.items) }
     {
         if block_of(change.new.horizon(), time) == time {
@@ -49,9 +53,11 @@ impl Rerun {
         change: &Change<'_>,
         time: u32,
     ) -> Result<Vec<Memory>, AllocError>
+        requires allowed { IsAllowed (IsEntry change.now.old.now change.now.new.now) (G.may means.now.gate.now) }
         requires change { IsChange change.now }
         requires kept { AreKept change.now.old.now change.now.new.now self.now.activity.joining.items }
         requires below { time < change.now.new.now.horizon }
+        requires work { AllWork change.now.old.now change.now.new.now (block_of change.now.new.now.horizon time) self.now.window_end self.now.activity.joining.items }
         requires begins { block_of change.now.new.now.horizon time ≡ time }
         ensures { IfOk result (λ states. AreDone (IsOldState change.now.old.now time) self.now.activity.joining.items states.items) }
     {

@@ -1,9 +1,11 @@
 //! What has changed with a netlist is evaluated again.
 ghost use Rattle.std.specs.Prelude.{◌≡◌, IfOk};
 ghost use Rattle.mp_evaluation.specs.Runs.{IsRun};
+ghost use Rattle.mp_phase.specs.Allowed.{IsAllowed};
 ghost use Rattle.mp_rerun.specs.Reruns.{IsChange};
 ghost use Rattle.mp_work.specs.Revisions.{IsRevision};
 ghost use Rattle.mp_work.specs.Stretches.{AreStretches};
+ghost use Rattle.mp_work.specs.Work.{IsEntry};
 
 use crate::change::Change;
 use crate::means::Means;
@@ -31,6 +33,7 @@ pub fn redo<R: Threads + Wait + Sync, G: Gate + Sync>(
     crew: &Crew,
     gate: &G,
 ) -> Result<(Run, Vec<Stretch>), AllocError>
+    requires allowed { IsAllowed (IsEntry old.now new.now) (G.may gate.now) }
     requires revision { IsRevision old.now new.now }
     requires run { IsRun old.now run.now }
     ensures run { IfOk result (λ both. IsRun new.now both.0) }
@@ -51,14 +54,13 @@ fn run_again<R: Threads + Wait + Sync, G: Gate + Sync>(
     means: &Means<'_, R, G>,
     change: &Change<'_>,
 ) -> Result<(Run, Vec<Stretch>), AllocError>
-    requires { IsChange change.now }
+    requires allowed { IsAllowed (IsEntry change.now.old.now change.now.new.now) (G.may means.now.gate.now) }
+    requires change { IsChange change.now }
     ensures run { IfOk result (λ both. IsRun change.now.new.now both.0) }
     ensures stretches { IfOk result (λ both. AreStretches change.now.old.now change.now.new.now both.1.items) }
 {
     let mut rerun = Rerun::begin(means.alloc, change)?;
-    for id in rerun.history.live() {
-        means.gate.enter(means.rt, *id, 0, rerun.window_end);
-    }
+    rerun.enter_window(means.rt, means.gate, change, 0);
     let end = rerun.pass_all(means, change)?;
     let both = rerun.finish(means.alloc, change, end)?;
     Ok(both)

@@ -21,12 +21,12 @@ use std::alloc::{AllocError, Global};
 impl Rerun {
     ghost use Rattle.std.specs.Prelude.{IfOk};
     ghost use Rattle.mp_rerun.specs.Reruns.{IsChange};
-    ghost use Rattle.mp_rerun.specs.Windows.{IsUnderWay};
+    ghost use Rattle.mp_rerun.specs.Windows.{IsBegun};
 
     /// The re-evaluation of a change after time 0: touched modules are active, and all others sleep.
     pub(crate) fn begin(alloc: Global, change: &Change<'_>) -> Result<Rerun, AllocError>
         requires { IsChange change.now }
-        ensures { IfOk result (λ s. IsUnderWay change.now.old.now change.now.new.now change.now.run.now 0 s) }
+        ensures { IfOk result (IsBegun change.now.old.now change.now.new.now change.now.run.now) }
     {
         reads_are_listed();
         let new = change.new;

@@ -1,8 +1,10 @@
 //! Tasks of modules that become active within a block.
 ghost use Rattle.std.specs.Prelude.{◌≡◌, ◌<◌, IfOk};
+ghost use Rattle.mp_phase.specs.Allowed.{AreAllowed};
 ghost use Rattle.mp_phase.specs.Phase.{AreDone};
 ghost use Rattle.mp_work.specs.Revisions.{IsKept};
-ghost use Rattle.mp_work.specs.Work.{block_of};
+ghost use Rattle.mp_work.specs.Work.{block_of, IsEntry};
+ghost use Rattle.mp_rerun.specs.Entering.{AllWork, AllTasksWork, Enters};
 ghost use Rattle.mp_rerun.specs.Reruns.{IsChange};
 ghost use Rattle.mp_rerun.specs.Tasks.{AreKept, IsDone, IsTaskOf};
 ghost use Rattle.mp_records.specs.declared.module_record.ModuleRecord.{ModuleRecord as Part};
@@ -33,7 +35,9 @@ fn task_of(
     requires kept { (r : Part) × IsKept change.now.old.now change.now.new.now id.0 r }
     requires below { time < change.now.new.now.horizon }
     requires within { block_of change.now.new.now.horizon time < time }
-    ensures { IfOk result (λ join. IsTaskOf change.now.old.now time id join) }
+    requires works { IsEntry change.now.old.now change.now.new.now id.0 (block_of change.now.new.now.horizon time) window_end }
+    ensures is { IfOk result (λ join. IsTaskOf change.now.old.now time id join) }
+    ensures works { IfOk result (λ join. IsEntry change.now.old.now change.now.new.now join.«module».0 join.from join.window_end) }
 {
     let Some(found) = change.new.module(id) else {
         unreachable!()
@@ -63,7 +67,9 @@ pub(crate) fn tasks_of(
     requires kept { AreKept change.now.old.now change.now.new.now joining.now }
     requires below { time < change.now.new.now.horizon }
     requires within { block_of change.now.new.now.horizon time < time }
-    ensures { IfOk result (λ tasks. AreDone (IsTaskOf change.now.old.now time) joining.now tasks.items) }
+    requires work { AllWork change.now.old.now change.now.new.now (block_of change.now.new.now.horizon time) window_end joining.now }
+    ensures are { IfOk result (λ tasks. AreDone (IsTaskOf change.now.old.now time) joining.now tasks.items) }
+    ensures work { IfOk result (λ tasks. AllTasksWork change.now.old.now change.now.new.now tasks.items) }
 {
     let mut tasks = Vec::with_capacity(alloc, joining.len())?;
     for id in joining {
@@ -77,6 +83,7 @@ pub(crate) fn states_by<R: Threads + Wait + Sync, G: Gate + Sync>(
     means: &Means<'_, R, G>,
     tasks: Vec<Join>,
 ) -> Result<Vec<Memory>, AllocError>
+    requires allowed { AreAllowed Enters (G.may means.now.gate.now) tasks.items }
     ensures { IfOk result (λ states. AreDone IsDone tasks.items states.items) }
 {
     if tasks.len() < means.crew.least() as usize {

@@ -12,10 +12,12 @@ use std::thread::Threads;
 impl Rerun {
     ghost use Rattle.std.specs.Prelude.{◌≡◌, ℕ, ◌+◌, ◌-◌, ◌<◌, ◌≤◌, ◌^◌, OnOk};
     ghost use Rattle.mp_netlist.specs.Circuit.{Circuit, IsCircuit};
+    ghost use Rattle.mp_phase.specs.Allowed.{IsAllowed};
     ghost use Rattle.mp_units.specs.NetlistSimulations.{IsSimulated, IsStill, AreStimuli, CanPass, HasKeptNumbers};
     ghost use Rattle.mp_rerun.specs.Idle.{IsUnset, IsQuiet};
     ghost use Rattle.mp_rerun.specs.Reruns.{IsChange};
     ghost use Rattle.mp_rerun.specs.Windows.{IsUnderWay};
+    ghost use Rattle.mp_work.specs.Work.{IsEntry};
 
     /// Goes through the unit of a time, which lies in the present window: modules become active that hear something else than in the old run,
     /// wires change that no active module drives, and active modules answer.
@@ -25,6 +27,7 @@ impl Rerun {
         change: &Change<'_>,
         time: u32,
     ) -> Result<(), AllocError>
+        requires allowed { IsAllowed (IsEntry change.now.old.now change.now.new.now) (G.may means.now.gate.now) }
         requires change { IsChange change.now }
         requires some { 0 < time }
         requires below { time < change.now.new.now.horizon }

@@ -14,10 +14,12 @@ use std::thread::Threads;
 
 impl Rerun {
     ghost use Rattle.std.specs.Prelude.{◌≡◌, ◌-◌, ◌<◌, ◌≤◌, IfOk, OnOk};
-    ghost use Rattle.mp_rerun.specs.Reruns.{IsChange};
+    ghost use Rattle.mp_history.specs.Live.{AreAtWork};
+    ghost use Rattle.mp_phase.specs.Allowed.{IsAllowed};
+    ghost use Rattle.mp_rerun.specs.Reruns.{IsChange, active_of};
     ghost use Rattle.mp_rerun.specs.Settling.{HasEnded, IsAhead};
     ghost use Rattle.mp_rerun.specs.Windows.{IsUnderWay, IsAtWindow};
-    ghost use Rattle.mp_work.specs.Work.{block_of, window_of};
+    ghost use Rattle.mp_work.specs.Work.{block_of, window_of, IsEntry, IsWindow};
 
     /// Goes through the units up to an end, which it returns: the horizon, or a time from which on the rest is that of the old run.
     pub(crate) fn pass_all<R: Threads + Wait + Sync, G: Gate + Sync>(
@@ -25,6 +27,7 @@ impl Rerun {
         means: &Means<'_, R, G>,
         change: &Change<'_>,
     ) -> Result<u32, AllocError>
+        requires allowed { IsAllowed (IsEntry change.now.old.now change.now.new.now) (G.may means.now.gate.now) }
         requires change { IsChange change.now }
         requires before { IsUnderWay change.now.old.now change.now.new.now change.now.run.now 0 self.old }
         ensures { IfOk result (λ end. HasEnded change.now.old.now change.now.new.now change.now.run.now end self.new) }
@@ -56,6 +59,7 @@ impl Rerun {
         change: &Change<'_>,
         time: u32,
     ) -> Result<Ahead, AllocError>
+        requires allowed { IsAllowed (IsEntry change.now.old.now change.now.new.now) (G.may gate.now) }
         requires change { IsChange change.now }
         requires some { 0 < time }
         requires below { time < change.now.new.now.horizon }
@@ -106,6 +110,7 @@ impl Rerun {
         change: &Change<'_>,
         time: u32,
     ) -> Result<(), AllocError>
+        requires allowed { IsAllowed (IsEntry change.now.old.now change.now.new.now) (G.may gate.now) }
         requires change { IsChange change.now }
         requires some { 0 < time }
         requires below { time < change.now.new.now.horizon }
@@ -114,13 +119,42 @@ impl Rerun {
         ensures end { OnOk result (time < self.new.window_end) }
         ensures after { OnOk result (IsUnderWay change.now.old.now change.now.new.now change.now.run.now (time - 1) self.new) }
     {
+        self.begin_block(change, time)?;
+        self.window_end = window_end(change.least, change.new.horizon(), time);
+        self.enter_window(rt, gate, change, time);
+        Ok(())
+    }
+
+    /// Where a block begins at a time, its border is crossed.
+    fn begin_block(&mut self, change: &Change<'_>, time: u32) -> Result<(), AllocError>
+        requires change { IsChange change.now }
+        requires some { 0 < time }
+        requires below { time < change.now.new.now.horizon }
+        requires before { IsAtWindow change.now.old.now change.now.new.now change.now.run.now (block_of change.now.new.now.horizon (time - 1)) (time - 1) self.old }
+        ensures { OnOk result (IsAtWindow change.now.old.now change.now.new.now change.now.run.now (block_of change.now.new.now.horizon time) (time - 1) self.new) }
+    {
         if time.is_multiple_of(checkpoint_units(change.new.horizon())) {
             self.cross_border(change, time)?;
         }
-        self.window_end = window_end(change.least, change.new.horizon(), time);
-        for id in self.history.live() {
-            gate.enter(rt, *id, time, self.window_end);
-        }
         Ok(())
+    }
+
+    /// The active modules, which are at work before a window that begins at a time, pass the gate for it.
+    pub(crate) fn enter_window<R: Wait, G: Gate>(
+        &self,
+        rt: &R,
+        gate: &G,
+        change: &Change<'_>,
+        time: u32,
+    )
+        requires allowed { IsAllowed (IsEntry change.now.old.now change.now.new.now) (G.may gate.now) }
+        requires window { IsWindow change.now.new.now time self.now.window_end }
+        requires work { AreAtWork change.now.old.now change.now.new.now (block_of change.now.new.now.horizon time) time (active_of self.now) }
+    {
+        for id in self.history.live() {
+            if self.is_at_work(change, *id) {
+                gate.enter(rt, *id, time, self.window_end);
+            }
+        }
     }
 }

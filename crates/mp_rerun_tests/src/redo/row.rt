@@ -1,6 +1,7 @@
 //! A netlist, a change of it, and what is known of its re-evaluation.
 ghost use Rattle.std.specs.Prelude.{IfOk};
 ghost use Rattle.mp_evaluation.specs.Runs.{IsRun};
+ghost use Rattle.mp_phase.specs.Allowed.{IsOpen};
 ghost use Rattle.mp_work.specs.Revisions.{IsRevision};
 
 use super::counting_gate::CountingGate;
@@ -92,6 +93,7 @@ fn redone<G: Watch + Sync>(
 ) -> Result<Run, Fail>
     requires revision { IsRevision old.now new.now }
     requires run { IsRun old.now run.now }
+    requires open { IsOpen (G.may trial.now.gate.now) }
     ensures { IfOk result (λ found. IsRun new.now found) }
 {
     let (found, stretches) = redo(rt, alloc, old, run, new, trial.crew, trial.gate)?;
@@ -128,7 +130,8 @@ pub(super) fn changed_run<G: Watch + Sync>(
     run: &Run,
     trial: &Trial<'_, G>,
 ) -> Result<(Netlist, Run), Fail>
-    requires { IsRun old.now run.now }
+    requires run { IsRun old.now run.now }
+    requires open { IsOpen (G.may trial.now.gate.now) }
     ensures { IfOk result (λ both. IsRun both.0 both.1) }
 {
     let new = changed(alloc, old, trial.row)?;

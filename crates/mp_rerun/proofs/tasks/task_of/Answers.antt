@@ -6,7 +6,7 @@ use Rattle.mp_model.proofs.BuiltLemmas.{width_of_module}
 use Rattle.mp_evaluation.specs.Checkpoints.{state_before}
 use Rattle.mp_response.specs.Pieces.{levels_at}
 use Rattle.mp_work.specs.Revisions.{IsKept}
-use Rattle.mp_work.specs.Work.{block_of}
+use Rattle.mp_work.specs.Work.{block_of, IsEntry}
 use Rattle.mp_work.proofs.StayLemmas.{built_same}
 use Rattle.mp_compare.specs.Comparing.{old_wave}
 use Rattle.mp_rerun.proofs.OldStateLemmas.{block_state, answered_state}
@@ -15,8 +15,16 @@ use Rattle.mp_rerun.proofs.tasks.task_of.Goals as goal
 pub built-requires-clause-width : goal.built-requires-clause-width
 built-requires-clause-width c = width_of_module c.args.change.now.new.now c.requires.change.form c.in-Some.found.now c.in-Some.ensures.form
 
-pub returns : goal.returns
-returns c = λ memory done r at.
+pub returns-clause-works : goal.returns-clause-works
+returns-clause-works c =
+    let change = c.args.change.now in
+    let new = change.new.now in
+    let time = c.args.time in
+    let here : c.block_of-block.result ≡ block_of new.horizon time = c.block_of-block.ensures ∙ ap (λ h. block_of h time) c.horizon.ensures.value in
+    subst (λ b. IsEntry change.old.now new c.args.id.0 b c.args.window_end) (sym here) c.requires.works
+
+pub returns-clause-is : goal.returns-clause-is
+returns-clause-is c = λ memory done r at.
     let change = c.args.change.now in
     let old = change.old.now in
     let new = change.new.now in

@@ -1,8 +1,12 @@
 use Rattle.std.proofs.Common.{take}
 use Rattle.mp_phase.specs.Phase.{AreDone}
+use Rattle.mp_rerun.specs.Entering.{AllTasksWork}
 use Rattle.mp_rerun.specs.Tasks.{IsTaskOf}
 use Rattle.mp_rerun.proofs.tasks.tasks_of.Given as goal
 
 -- a task for each so far
 abbrev pub invariant-loop-id : goal.invariant-loop-id
-invariant-loop-id l = AreDone (IsTaskOf l.change.old.now l.time) (take l.id-index l.joining) l.tasks.items
+invariant-loop-id l = record {
+  are : AreDone (IsTaskOf l.change.old.now l.time) (take l.id-index l.joining) l.tasks.items;
+  work : AllTasksWork l.change.old.now l.change.new.now l.tasks.items;
+}

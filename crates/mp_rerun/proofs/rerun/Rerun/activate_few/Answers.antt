@@ -1,10 +1,11 @@
-use Rattle.std.proofs.Common.{rules, ◌≡◌, ◌+◌, ◌-◌, ◌<◌, ◌≤◌, true, false, List, Option, Some, None, IsSome, length, slice_index_or, ap, sym, subst, ◌∙◌, arith}
+use Rattle.std.proofs.Common.{rules, ◌≡◌, ℕ, ◌+◌, ◌-◌, ◌<◌, ◌≤◌, true, false, List, Option, Some, None, IsSome, length, slice_index_or, ap, sym, subst, ◌∙◌, arith}
 use Rattle.std.specs.List.{Contains}
 use Rattle.std.proofs.lemmas.List.{get_or_default}
 use Rattle.mp_records.specs.declared.ids.ModuleId.{ModuleId}
 use Rattle.mp_records.specs.declared.module_record.ModuleRecord.{ModuleRecord}
 use Rattle.mp_netlist.specs.Circuit.{module_at}
 use Rattle.mp_model.proofs.SlotLemmas.{slot_within}
+use Rattle.mp_work.specs.Work.{block_of, IsEntry}
 use Rattle.mp_rerun.specs.declared.rerun.Rerun.{Rerun}
 use Rattle.mp_rerun.specs.Reruns.{active_of, IsRerunAt}
 use Rattle.mp_rerun.proofs.WakingLemmas.{HaveWokenUpTo, passed_over, one_woken, have_become, have_joined}
@@ -37,6 +38,22 @@ activate_one-requires-clause-asleep g c =
 
 pub activate_one-requires-clause-is : goal.activate_one-requires-clause-is
 activate_one-requires-clause-is g c = (c.requires.is.0, c.loop-place.invariant.is c.requires.is.0 c.requires.is.1)
+
+pub activate_one-requires-clause-works : goal.activate_one-requires-clause-works
+activate_one-requires-clause-works g c =
+    let old = c.args.change.now.old.now in
+    let new = c.args.change.now.new.now in
+    let s = c.args.self.now in
+    let joining = s.activity.joining.items in
+    let k = c.loop-place.place in
+    let l = c.loop-place.self in
+    let so = c.loop-place.invariant.so in
+    let id = c.index-id.result.now in
+    let low : k < length joining = search rules in
+    let same : l.activity.joining.items ≡ joining = ap (λ (x : Rerun). x.activity.joining.items) so.woken.kept in
+    let is : slice_index_or joining k id ≡ id = sym (c.index-id.ensures ∙ ap (λ (xs : List ModuleId). slice_index_or xs k id) same) in
+    let end : l.window_end ≡ s.window_end = ap (λ (x : Rerun). x.window_end) so.woken.kept in
+    subst (λ (e : ℕ). IsEntry old new id.0 (block_of new.horizon c.args.time) e) (sym end) (c.requires.work id.0 (k, low, is))
 
 pub loop-place-preserved : goal.loop-place-preserved
 loop-place-preserved g c =

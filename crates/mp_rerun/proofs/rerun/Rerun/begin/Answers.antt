@@ -11,7 +11,7 @@ use Rattle.mp_rerun.specs.Following.{AreSetAnew}
 use Rattle.mp_rerun.specs.Starting.{IsFirstRun}
 use Rattle.mp_rerun.specs.Windows.{AreTouched}
 use Rattle.mp_rerun.proofs.BeginningLemmas.{old_states, set_anew}
-use Rattle.mp_rerun.proofs.UnderWayLemmas.{under_way}
+use Rattle.mp_rerun.proofs.UnderWayLemmas.{begun}
 use Rattle.mp_rerun.proofs.rerun.Rerun.begin.Goals as goal
 
 pub returns : goal.returns
@@ -39,7 +39,7 @@ returns c =
     let is : IsFirstRun old new run active first =
     subst (λ (ms : List Bool). IsFirstRun old new run ms first) (c.as_slice-2.ensures.value ∙ sym c.in_ok-activity.ensures.active) c.in_ok-first.ensures in
     let states = old_states old new active touched c.requires.old_form c.requires.form c.requires.revision run c.requires.run in
-    under_way c.reads_are_listed.ensures old new c.requires.old_form c.requires.form c.requires.revision run c.requires.run is.wired s
+    begun c.reads_are_listed.ensures old new c.requires.old_form c.requires.form c.requires.revision run c.requires.run is.wired s
     (record {
       touched = touched;
       same = c.in_ok-activity.ensures.touched ∙ sym c.in_ok-activity.ensures.active;

@@ -2,11 +2,22 @@ use Rattle.std.proofs.Common.{rules, ◌≡◌, ◌<◌, ◌≤◌, List, length
 use Rattle.std.proofs.lemmas.List.{get_or_default, take_all}
 use Rattle.mp_records.specs.declared.ids.ModuleId.{ModuleId}
 use Rattle.mp_phase.specs.Phase.{AreDone}
-use Rattle.mp_work.specs.Work.{block_of}
+use Rattle.mp_work.specs.Work.{block_of, IsEntry}
 use Rattle.mp_rerun.specs.Tasks.{IsOldState}
 use Rattle.mp_rerun.proofs.OldStateLemmas.{block_state}
 use Rattle.mp_rerun.proofs.TaskLemmas.{done_next}
 use Rattle.mp_rerun.proofs.rerun.Rerun.kept_states.Goals as goal
+
+pub enter-requires : goal.enter-requires
+enter-requires g c =
+    let change = c.args.change.now in
+    let joining = c.args.self.now.activity.joining.items in
+    let k = c.loop-place.place in
+    let id = c.index-id.result.now in
+    let low : k < length joining = search rules in
+    let end = c.args.self.now.window_end in
+    c.requires.allowed id.0 c.args.time end
+    (subst (λ b. IsEntry change.old.now change.new.now id.0 b end) c.requires.begins (c.requires.work id.0 (k, low, sym c.index-id.ensures)))
 
 pub loop-place-preserved : goal.loop-place-preserved
 loop-place-preserved g c =

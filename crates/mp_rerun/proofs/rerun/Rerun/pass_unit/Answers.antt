@@ -4,6 +4,8 @@ use Rattle.mp_compare.specs.Comparing.{AreUnseen}
 use Rattle.mp_work.specs.Work.{block_of}
 use Rattle.mp_rerun.specs.declared.rerun.Rerun.{Rerun}
 use Rattle.mp_rerun.specs.Windows.{IsInWindow}
+use Rattle.mp_rerun.specs.Entering.{AllWork}
+use Rattle.mp_rerun.proofs.EnteringLemmas.{joining_work}
 use Rattle.mp_rerun.proofs.UnitLemmas.{same_active, none_apart, unit_over, can_pass, unit_shown}
 use Rattle.mp_rerun.proofs.rerun.Rerun.pass_unit.Goals as goal
 
@@ -34,6 +36,18 @@ activate_all-requires-clause-stand g c κs within = c.in_ok-find_joining.ensures
 
 pub activate_all-requires-clause-asleep : goal.activate_all-requires-clause-asleep
 activate_all-requires-clause-asleep g c κs within = λ m has. same_active c.args.self.now c.find_joining.new.self c.in_ok-find_joining.ensures.looked m ∙ c.in_ok-find_joining.ensures.joining.asleep m has
+
+pub activate_all-requires-clause-work : goal.activate_all-requires-clause-work
+activate_all-requires-clause-work g c κs within =
+    let change = c.args.change.now in
+    let new = change.new.now in
+    let s = c.args.self.now in
+    let looked = c.find_joining.new.self in
+    let before = c.requires.before in
+    let found = c.in_ok-find_joining.ensures in
+    let same : looked.window_end ≡ s.window_end = ap (λ (x : Rerun). x.window_end) found.looked in
+    subst (λ (end : ℕ). AllWork change.old.now new (block_of new.horizon c.args.time) end looked.activity.joining.items) (sym same)
+    (joining_work change.old.now new c.requires.change.form change.run.now before.from c.args.time s c.requires.some before.is c.requires.within looked.activity.joining.items found.joining)
 
 pub set_wires-requires-clause-is : goal.set_wires-requires-clause-is
 set_wires-requires-clause-is g c =
