@@ -28,6 +28,8 @@ impl<'a> Work for Part<'a> {
 
     ghost gives = { λ part run. IsPartRun part.region part.keeps run };
 
+    ghost enters = { λ part m from to. Unit {0} };
+
     fn weight(&self) -> usize {
         self.size
     }

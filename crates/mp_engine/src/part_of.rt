@@ -36,6 +36,7 @@ impl<'a> Promise<Result<PartRun, AllocError>> for PartOf<'a> {
 
 impl<'a> PartOf<'a> {
     ghost use Rattle.std.specs.Prelude.{IfOk};
+    ghost use Rattle.mp_phase.specs.Allowed.{IsOpen};
     ghost use Rattle.mp_engine.specs.PartsOf.{IsMailOf, IsRunOf};
 
     /// Its run up to the horizon, window by window. What it hears of others comes by its lines.
@@ -46,7 +47,8 @@ impl<'a> PartOf<'a> {
         gate: &G,
         mail: Mail<J>,
     ) -> Result<PartRun, AllocError>
-        requires { IsMailOf J.netlist J.wires J.heards self mail }
+        requires open { IsOpen (G.may gate.now) }
+        requires mail { IsMailOf J.netlist J.wires J.heards self mail }
         ensures { IfOk result (IsRunOf self.entry) }
     {
         let PartOf {

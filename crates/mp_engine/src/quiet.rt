@@ -1,6 +1,7 @@
 //! A netlist in which little happens.
 ghost use Rattle.std.specs.Prelude.{IfOk, IfSome, OnOk};
 ghost use Rattle.mp_evaluation.specs.Runs.{IsRun};
+ghost use Rattle.mp_phase.specs.Allowed.{IsOpen};
 ghost use Rattle.mp_engine.specs.Looks.{IsLookedAt};
 
 use crate::evaluation::{run_of, run_to_end};
@@ -30,6 +31,7 @@ pub(crate) fn run_quiet<R: Wait, G: Gate>(
     delay: u32,
     least: u32,
 ) -> Result<Option<Run>, AllocError>
+    requires open { IsOpen (G.may gate.now) }
     ensures { IfOk result (λ found. IfSome found (IsRun netlist.now)) }
 {
     let horizon = netlist.horizon();
@@ -57,7 +59,8 @@ fn look_at<R: Wait, G: Gate>(
     looks: &mut Looks,
     pace: Pace,
 ) -> Result<(), AllocError>
-    requires { IsLookedAt region.now looks.old.to run.old }
+    requires open { IsOpen (G.may gate.now) }
+    requires before { IsLookedAt region.now looks.old.to run.old }
     ensures { OnOk result (IsLookedAt region.now looks.new.to run.new) }
 {
     let horizon = region.horizon();

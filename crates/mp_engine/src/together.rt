@@ -1,6 +1,7 @@
 //! Parts of a netlist that hear of each other, each on a thread of its own.
 ghost use Rattle.std.specs.Prelude.{◌≡◌, ◌+◌, IfOk, IfSome, length, map};
 ghost use Rattle.mp_regions.specs.Divisions.{IsCrossing, IsDivision};
+ghost use Rattle.mp_phase.specs.Allowed.{IsOpen};
 ghost use Rattle.mp_engine.specs.PartsOf.{AreOthers, ArePartRuns, AreRunsOf, GiveRuns, IsFirst, IsMailOf, IsRunOf};
 
 use crate::part_of::{Divided, PartOf};
@@ -20,6 +21,7 @@ pub(crate) fn run_together<R: Threads + Wait + Sync, G: Gate + Sync>(
     gate: &G,
     divided: Divided<'_>,
 ) -> Result<Option<Vec<PartRun>>, AllocError>
+    requires open { IsOpen (G.may gate.now) }
     requires division { IsDivision divided.netlist.now divided.division.now.homes.items divided.division.now.wires.items divided.division.now.heard.items divided.division.now.parts }
     requires crossing { IsCrossing divided.netlist.now divided.division.now.heard.items divided.division.now.delay }
     ensures { IfOk result (λ found. IfSome found (λ runs. AreRunsOf divided.entry runs.items)) }
@@ -34,6 +36,7 @@ fn run_apart<J: Subject + Send + Sync, R: Threads + Wait + Sync, G: Gate + Sync>
     gate: &G,
     divided: Divided<'_>,
 ) -> Result<Option<Vec<PartRun>>, AllocError>
+    requires open { IsOpen (G.may gate.now) }
     requires division { IsDivision divided.netlist.now divided.division.now.homes.items divided.division.now.wires.items divided.division.now.heard.items divided.division.now.parts }
     requires crossing { IsCrossing divided.netlist.now divided.division.now.heard.items divided.division.now.delay }
     requires netlist { divided.netlist.now ≡ J.netlist }
@@ -57,6 +60,7 @@ fn run_apart<J: Subject + Send + Sync, R: Threads + Wait + Sync, G: Gate + Sync>
         thread::scope_env(),
         rt,
         move |scope| -> Result<Option<Vec<PartRun>>, AllocError>
+            requires open { IsOpen (G.may gate.now) }
             requires lines { lines ≡ first.division.now.parts }
             requires first { IsFirst J.netlist J.wires J.heards first }
             ensures { IfOk result (λ found. IfSome found (λ runs. ArePartRuns first.entry runs.items)) }
@@ -91,6 +95,7 @@ fn start_others<
     first: PartOf<'s>,
     lines: &mut Lines<J>,
 ) -> Result<Option<Vec<Other<'s>>>, AllocError>
+    requires open { IsOpen (G.may gate.now) }
     requires lines { lines.old ≡ first.division.now.parts }
     requires first { IsFirst J.netlist J.wires J.heards first }
     ensures lines { IfOk result (λ found. IfSome found (λ others. lines.new ≡ 1)) }
@@ -106,7 +111,8 @@ fn start_others<
         };
         let it = PartOf { part, ..first };
         let run = move || -> Result<PartRun, AllocError>
-            requires { IsMailOf J.netlist J.wires J.heards it mail }
+            requires open { IsOpen (G.may gate.now) }
+            requires mail { IsMailOf J.netlist J.wires J.heards it mail }
             ensures { IfOk result (IsRunOf it.entry) }
         { it.run(rt, alloc, gate, mail) };
         match scope.spawn_with(it, run) {

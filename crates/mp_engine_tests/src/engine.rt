@@ -1,4 +1,6 @@
 //! Small netlists whose waves and states were worked out by hand.
+ghost use Rattle.mp_phase.specs.Allowed.{IsOpen};
+
 use mp_engine::{Crew, Gate, OpenGate, evaluate};
 use mp_evaluation::Run;
 use mp_modules::Kind;
@@ -119,6 +121,10 @@ impl Meeting {
 }
 
 impl Gate for Meeting {
+    ghost use Rattle.std.specs.Prelude.{true};
+
+    ghost may = { λ gate m from to. true };
+
     fn enter<R: Wait>(&self, _rt: &R, _module: ModuleId, from: u32, _to: u32) {
         if from != self.time {
             return;
@@ -140,7 +146,9 @@ fn assert_loops<R: Abort + Threads + Wait + Sync, G: Gate + Sync>(
     netlist: &Netlist,
     count: u32,
     gate: &G,
-) -> Result<(), Fail> {
+) -> Result<(), Fail>
+    requires open { IsOpen (G.may gate.now) }
+{
     let crew = Crew::new(count, 1)?;
     let run = evaluate(rt, alloc, netlist, &crew, gate)?;
     assert_loop(rt, &run, 0);

@@ -41,6 +41,7 @@ impl RegionRun {
     ghost use Rattle.mp_regions.specs.Regions.{HasStimuli};
     ghost use Rattle.mp_merging.specs.PartRuns.{IsPartRun};
     ghost use Rattle.mp_region_runs.specs.StateHistories.{HasHistory, IsHistory};
+    ghost use Rattle.mp_phase.specs.Allowed.{IsOpen};
     ghost use Rattle.mp_region_runs.specs.RegionRuns.{AreTidings, IsUnderWay, CanRun, AreUnset, IsBeforeAll};
 
     /// The run after time 0, at which each module passes the gate. Nothing is heard yet. It is told whether states are to be kept.
@@ -52,7 +53,8 @@ impl RegionRun {
         gate: &G,
         keeps: bool,
     ) -> Result<RegionRun, AllocError>
-        requires { IsCircuit netlist.now }
+        requires open { IsOpen (G.may gate.now) }
+        requires form { IsCircuit netlist.now }
         ensures { IfOk result (λ run. (heard : List Bool) (until : ℕ) → HasStimuli netlist.now region.now heard → AreUnset netlist.now heard → IsBeforeAll heard until →
             IsUnderWay region.now keeps (is_marked heard) 0 until run) }
     {
@@ -84,6 +86,7 @@ impl RegionRun {
         from: u32,
         to: u32,
     ) -> Result<usize, AllocError>
+        requires open { IsOpen (G.may gate.now) }
         requires later { 0 < from }
         requires some { from ≤ to }
         requires within { to ≤ region.now.horizon }
@@ -106,6 +109,7 @@ impl RegionRun {
         gate: &G,
         time: u32,
     ) -> Result<usize, AllocError>
+        requires open { IsOpen (G.may gate.now) }
         requires later { 0 < time }
         requires low { time < region.now.horizon }
         requires before { CanRun region.now (time - 1) (time + 1) self.old }

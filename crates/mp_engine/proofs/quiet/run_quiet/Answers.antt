@@ -8,8 +8,8 @@ use Rattle.mp_region_runs.proofs.RegionRunLemmas.{none_marked}
 use Rattle.mp_engine.specs.Looks.{IsLookedAt}
 use Rattle.mp_engine.proofs.quiet.run_quiet.Goals as goal
 
-pub look_at-requires : goal.look_at-requires
-look_at-requires g c =
+pub look_at-requires-clause-before : goal.look_at-requires-clause-before
+look_at-requires-clause-before g c =
     let n = c.args.netlist.now in
     let r = c.whole-region.result in
     let stimuli : HasStimuli n r [] = subst (λ (r : Circuit). HasStimuli n r []) (whole_is n ∙ sym c.whole-region.ensures) (has_stimuli n [] 0 []) in

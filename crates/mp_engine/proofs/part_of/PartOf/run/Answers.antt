@@ -22,7 +22,7 @@ new-region-requires g c m p w drives home =
     let division = c.args.self.division.now in
     let part = c.args.self.part in
     ap (λ (marks : List Bool). is_marked marks w) (c.heard_by-heard.ensures ∙ ap (λ (hs : List (List Bool)). heard_by hs part) c.as_slice.ensures.value)
-    ∙ divided_apart c.args.self.netlist.now division.homes.items division.wires.items division.heard.items division.parts part c.requires.0.division m p w drives
+    ∙ divided_apart c.args.self.netlist.now division.homes.items division.wires.items division.heard.items division.parts part c.requires.mail.0.division m p w drives
     (ap (λ (hs : List ℕ). home_of hs m) (sym c.as_slice-2.ensures.value) ∙ home)
 
 pub loop-from-init : goal.loop-from-init
@@ -41,7 +41,7 @@ loop-from-init g c =
       within = low;
       horizon = c.horizon-horizon.ensures.value;
       span = refl;
-      under_way = c.in_ok-run.ensures heard 1 (subst (λ (r : Circuit). HasStimuli n r heard) (sym here) (has_stimuli n homes part heard)) (λ w marked. (c.requires.0.division.heard part w marked).unset) (λ w marked. omega arith);
+      under_way = c.in_ok-run.ensures heard 1 (subst (λ (r : Circuit). HasStimuli n r heard) (sym here) (has_stimuli n homes part heard)) (λ w marked. (c.requires.mail.0.division.heard part w marked).unset) (λ w marked. omega arith);
     }
 
 pub tell-requires-clause-knows : goal.tell-requires-clause-knows
@@ -62,8 +62,8 @@ tell-requires-clause-knows g c =
     let last = c.min-until.ensures in
     let sum = c.saturating_add.ensures in
     let high = c.horizon-horizon.type_inv in
-    let about = c.requires.0 in
-    renamed about.netlist about.wires_are about.heards_are (sym c.requires.1) (λ m ws hs p. KnowsAhead m ws hs p (record { from = c.loop-from.from; until = c.min-until.result }) c.loop-from.run.simulation) (record {
+    let about = c.requires.mail.0 in
+    renamed about.netlist about.wires_are about.heards_are (sym c.requires.mail.1) (λ m ws hs p. KnowsAhead m ws hs p (record { from = c.loop-from.from; until = c.min-until.result }) c.loop-from.run.simulation) (record {
       homes = homes;
       parts = c.args.self.division.now.parts;
       form = c.horizon-horizon.ensures.form;
@@ -98,9 +98,9 @@ run_units-requires-clause-before g c =
     let later = before.later in
     let horizon = before.horizon in
     let next : c.loop-from.from ≡ c.loop-from.from - 1 + 1 = omega (arith, later) in
-    let about = c.requires.0 in
-    let once = renamed (sym about.netlist) (sym about.wires_are) (sym about.heards_are) c.requires.1 (λ m ws hs p. IsToldOnce m ws (heard_by hs p) bys) c.args.mail.once in
-    let told = renamed (sym about.netlist) (sym about.wires_are) (sym about.heards_are) c.requires.1 (λ m ws hs p. AreTold m ws (heard_by hs p) bys (record { from = from; until = until }) changes) c.in_ok-hear.ensures in
+    let about = c.requires.mail.0 in
+    let once = renamed (sym about.netlist) (sym about.wires_are) (sym about.heards_are) c.requires.mail.1 (λ m ws hs p. IsToldOnce m ws (heard_by hs p) bys) c.args.mail.once in
+    let told = renamed (sym about.netlist) (sym about.wires_are) (sym about.heards_are) c.requires.mail.1 (λ m ws hs p. AreTold m ws (heard_by hs p) bys (record { from = from; until = until }) changes) c.in_ok-hear.ensures in
     let told_next = subst (λ k. AreTold n wires (heard_by heards part) bys (record { from = k; until = until }) changes) next told in
     let low = c.min-until.ensures in
     let tidings = tidings_are n c.horizon-horizon.ensures.form homes wires heards c.args.self.division.now.parts about.division part bys (from - 1) until changes (omega (arith, low, horizon)) once told_next in
@@ -128,9 +128,9 @@ loop-from-preserved g c =
     let later = before.later in
     let horizon = before.horizon in
     let next : c.loop-from.from ≡ c.loop-from.from - 1 + 1 = omega (arith, later) in
-    let about = c.requires.0 in
-    let once = renamed (sym about.netlist) (sym about.wires_are) (sym about.heards_are) c.requires.1 (λ m ws hs p. IsToldOnce m ws (heard_by hs p) bys) c.args.mail.once in
-    let told = renamed (sym about.netlist) (sym about.wires_are) (sym about.heards_are) c.requires.1 (λ m ws hs p. AreTold m ws (heard_by hs p) bys (record { from = from; until = until }) changes) c.in_ok-hear.ensures in
+    let about = c.requires.mail.0 in
+    let once = renamed (sym about.netlist) (sym about.wires_are) (sym about.heards_are) c.requires.mail.1 (λ m ws hs p. IsToldOnce m ws (heard_by hs p) bys) c.args.mail.once in
+    let told = renamed (sym about.netlist) (sym about.wires_are) (sym about.heards_are) c.requires.mail.1 (λ m ws hs p. AreTold m ws (heard_by hs p) bys (record { from = from; until = until }) changes) c.in_ok-hear.ensures in
     let told_next = subst (λ k. AreTold n wires (heard_by heards part) bys (record { from = k; until = until }) changes) next told in
     let low = c.min-until.ensures in
     let tidings = tidings_are n c.horizon-horizon.ensures.form homes wires heards c.args.self.division.now.parts about.division part bys (from - 1) until changes (omega (arith, low, horizon)) once told_next in
@@ -154,7 +154,7 @@ loop-from-smaller g c =
     let low = c.min-until.ensures in
     let sum = c.saturating_add.ensures in
     let high = c.horizon-horizon.type_inv in
-    let delay = c.requires.0.crossing.some in
+    let delay = c.requires.mail.0.crossing.some in
     omega (arith, span, some, low, sum, high, delay)
 
 pub finish-requires-clause-simulated : goal.finish-requires-clause-simulated
