@@ -1,12 +1,12 @@
 //! A netlist that is divided, and a part of it as a thread of its own runs it.
 
-use mp_letters::{Mail, Subject, Window};
+use mp_letters::{GivenUp, Mail, Subject, Window};
 use mp_merging::PartRun;
 use mp_netlist::Netlist;
 use mp_phase::Gate;
 use mp_region_runs::RegionRun;
 use mp_regions::{Division, Region, heard_by};
-use std::alloc::{AllocError, Global};
+use std::alloc::Global;
 use std::sync::Wait;
 use std::thread::Promise;
 
@@ -27,7 +27,7 @@ pub(crate) struct PartOf<'a> {
     pub keeps: bool,
 }
 
-impl<'a> Promise<Result<PartRun, AllocError>> for PartOf<'a> {
+impl<'a> Promise<Result<PartRun, GivenUp>> for PartOf<'a> {
     ghost use Rattle.std.specs.Prelude.{IfOk};
     ghost use Rattle.mp_engine.specs.PartsOf.{IsRunOf};
 
@@ -46,7 +46,7 @@ impl<'a> PartOf<'a> {
         alloc: Global,
         gate: &G,
         mail: Mail<J>,
-    ) -> Result<PartRun, AllocError>
+    ) -> Result<PartRun, GivenUp>
         requires open { IsOpen (G.may gate.now) }
         requires mail { IsMailOf J.netlist J.wires J.heards self mail }
         ensures { IfOk result (IsRunOf self.entry) }
@@ -71,6 +71,6 @@ impl<'a> PartOf<'a> {
             run.run_units(rt, &region, gate, from, until)?;
             from = until;
         }
-        run.finish(alloc, &region)
+        Ok(run.finish(alloc, &region)?)
     }
 }

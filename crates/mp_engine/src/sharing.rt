@@ -17,7 +17,7 @@ use std::sync::Wait;
 use std::thread::Threads;
 
 /// The wave of each wire of a netlist that is divided, up to its horizon, made by the crew's threads, each for a part of the netlist. Nothing, where a
-/// thread can't be started.
+/// thread can't be started, or a part gave up though memory was refused to none.
 pub fn share_waves<R: Threads + Wait + Sync>(
     rt: &R,
     alloc: Global,
@@ -41,7 +41,7 @@ pub fn share_waves<R: Threads + Wait + Sync>(
     }
 }
 
-/// What the parts of a netlist give. Nothing, where a thread can't be started.
+/// What the parts of a netlist give. Nothing, where a thread can't be started, or a part gave up though memory was refused to none.
 fn part_runs<R: Threads + Wait + Sync>(
     rt: &R,
     alloc: Global,

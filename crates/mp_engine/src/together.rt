@@ -1,11 +1,12 @@
 //! Parts of a netlist that hear of each other, each on a thread of its own.
-ghost use Rattle.std.specs.Prelude.{◌≡◌, ◌+◌, IfOk, IfSome, length, map};
+ghost use Rattle.std.specs.Prelude.{◌≡◌, ◌+◌, None, IfOk, IfSome, IsErr, length, map};
 ghost use Rattle.mp_regions.specs.Divisions.{IsCrossing, IsDivision};
+ghost use Rattle.mp_letters.specs.declared.given_up.GivenUp.TheVariants.{NoMemory};
 ghost use Rattle.mp_phase.specs.Allowed.{IsOpen};
 ghost use Rattle.mp_engine.specs.PartsOf.{AreOthers, ArePartRuns, AreRunsOf, GiveRuns, IsFirst, IsMailOf, IsRunOf};
 
 use crate::part_of::{Divided, PartOf};
-use mp_letters::{Lines, Subject};
+use mp_letters::{GivenUp, Lines, Subject};
 use mp_merging::PartRun;
 use mp_phase::{Gate, lookers};
 use std::alloc::{AllocError, Global};
@@ -14,7 +15,7 @@ use std::sync::Wait;
 use std::thread;
 use std::thread::{PromisedHandle, Scope, Threads};
 
-/// What the parts give, each run on a thread of its own. Nothing, where a thread can't be started.
+/// What the parts give, each run on a thread of its own. Nothing, where a thread can't be started, or a part gave up though memory was refused to none.
 pub(crate) fn run_together<R: Threads + Wait + Sync, G: Gate + Sync>(
     rt: &R,
     alloc: Global,
@@ -71,14 +72,16 @@ fn run_apart<J: Subject + Send + Sync, R: Threads + Wait + Sync, G: Gate + Sync>
             let Some(mail) = lines.take_last(alloc) else {
                 return Ok(None);
             };
-            let run = first.run(rt, alloc, gate, mail)?;
-            Ok(Some(join_others(rt, alloc, run, others)?))
+            match first.run(rt, alloc, gate, mail) {
+                Ok(run) => join_others(rt, alloc, run, others),
+                Err(cause) => give_up(rt, cause, others),
+            }
         },
     )
 }
 
 /// The thread of a part.
-type Other<'a> = PromisedHandle<Result<PartRun, AllocError>, PartOf<'a>>;
+type Other<'a> = PromisedHandle<Result<PartRun, GivenUp>, PartOf<'a>>;
 
 /// Starts the threads of all parts but the first, from the last down. Nothing, where one can't be started.
 fn start_others<
@@ -110,7 +113,7 @@ fn start_others<
             return Ok(None);
         };
         let it = PartOf { part, ..first };
-        let run = move || -> Result<PartRun, AllocError>
+        let run = move || -> Result<PartRun, GivenUp>
             requires open { IsOpen (G.may gate.now) }
             requires mail { IsMailOf J.netlist J.wires J.heards it mail }
             ensures { IfOk result (IsRunOf it.entry) }
@@ -123,20 +126,52 @@ fn start_others<
     Ok(Some(others))
 }
 
-/// The first part's run with those of the others, whose threads stand from the last part down.
+/// The first part's run with those of the others, whose threads stand from the last part down. Nothing, where one of them gave up and memory was
+/// refused to none.
 fn join_others<R: Threads>(
     rt: &R,
     alloc: Global,
     first: PartRun,
     others: Vec<Other<'_>>,
-) -> Result<Vec<PartRun>, AllocError>
-    ensures { IfOk result (λ runs. GiveRuns first (map (λ other. other.promise) others.entry.items) runs.items) }
+) -> Result<Option<Vec<PartRun>>, AllocError>
+    ensures { IfOk result (λ found. IfSome found (λ runs. GiveRuns first (map (λ other. other.promise) others.entry.items) runs.items)) }
 {
     let mut others = others;
     let mut runs = Vec::new(alloc);
     runs.push(first)?;
     while let Some(other) = others.pop() {
-        runs.push(other.join(rt)?)?;
+        match other.join(rt) {
+            Ok(run) => runs.push(run)?,
+            Err(cause) => return give_up(rt, cause, others),
+        }
     }
-    Ok(runs)
+    Ok(Some(runs))
+}
+
+/// What comes of it that a part gave up, once these others have ended: want of memory, where it was refused to one of them. Else nothing.
+fn give_up<R: Threads>(
+    rt: &R,
+    cause: GivenUp,
+    others: Vec<Other<'_>>,
+) -> Result<Option<Vec<PartRun>>, AllocError>
+    ensures none { IfOk result (λ found. found ≡ None) }
+    ensures refused { cause ≡ NoMemory → IsErr result }
+{
+    let is_refused = has_refused(rt, others);
+    if is_refused || cause == GivenUp::NoMemory {
+        Err(AllocError)
+    } else {
+        Ok(None)
+    }
+}
+
+/// Whether memory was refused to one of these, once all have ended.
+fn has_refused<R: Threads>(rt: &R, others: Vec<Other<'_>>) -> bool {
+    let mut is_refused = false;
+    for other in others {
+        if let Err(GivenUp::NoMemory) = other.join(rt) {
+            is_refused = true;
+        }
+    }
+    is_refused
 }

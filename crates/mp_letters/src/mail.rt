@@ -4,12 +4,13 @@ ghost use Rattle.mp_regions.specs.Divisions.{heard_by};
 ghost use Rattle.mp_letters.specs.Letters.{IsToldOnce};
 ghost use Rattle.mp_letters.specs.Lines.{parts_of};
 
+use crate::given_up::GivenUp;
 use crate::letter::{Heading, Letter, Subject, Window};
-use crossbeam_channel::{Receiver, Sender, TryRecvError};
+use crossbeam_channel::{Receiver, SendError, Sender, TryRecvError};
 use mp_regions::{Division, heard_by};
 use mp_run::StimulusChange;
 use mp_units::NetlistSimulation;
-use std::alloc::{AllocError, Global};
+use std::alloc::Global;
 use std::sync::Wait;
 use std::thread;
 
@@ -52,7 +53,7 @@ impl<J: Subject> Mail<J> {
         division: &Division,
         simulation: &NetlistSimulation,
         window: Window,
-    ) -> Result<(), AllocError>
+    ) -> Result<(), GivenUp>
         requires heards { division.now.heard.items ≡ J.heards }
         requires knows { KnowsAhead J.netlist J.wires J.heards self.now.part window simulation.now }
     {
@@ -64,9 +65,7 @@ impl<J: Subject> Mail<J> {
             };
             let heard = heard_by(division.heard.as_slice(), line.to);
             let letter = Letter::of(alloc, simulation, heard, heading)?;
-            if line.letters.send(rt, letter).is_err() {
-                return Err(AllocError);
-            }
+            send(rt, &line.letters, letter)?;
         }
         Ok(())
     }
@@ -77,7 +76,7 @@ impl<J: Subject> Mail<J> {
         rt: &R,
         alloc: Global,
         window: Window,
-    ) -> Result<Vec<StimulusChange>, AllocError>
+    ) -> Result<Vec<StimulusChange>, GivenUp>
         ensures { IfOk result (λ changes. AreTold J.netlist J.wires (heard_by J.heards self.now.part) (parts_of self.now.from.items) window changes.items) }
     {
         let mut changes = Vec::new(alloc);
@@ -94,13 +93,26 @@ impl<J: Subject> Mail<J> {
     }
 }
 
+/// Sends a letter, once there is room.
+fn send<J: Subject, R: Wait>(
+    rt: &R,
+    line: &Sender<Letter<J>>,
+    letter: Letter<J>,
+) -> Result<(), GivenUp> {
+    match line.send(rt, letter) {
+        Ok(()) => Ok(()),
+        Err(SendError::Disconnected(_)) => Err(GivenUp::LineClosed),
+        Err(SendError::OutOfMemory(_)) => Err(GivenUp::NoMemory),
+    }
+}
+
 /// The letter with this heading. Others are thrown away.
 fn letter_for<J: Subject, R: Wait>(
     rt: &R,
     line: &Receiver<Letter<J>>,
     looks: u32,
     heading: Heading,
-) -> Result<Letter<J>, AllocError>
+) -> Result<Letter<J>, GivenUp>
     ensures { IfOk result (λ letter. letter.heading ≡ heading) }
 {
     for _ in rt.forever() {
@@ -112,21 +124,21 @@ fn letter_for<J: Subject, R: Wait>(
     unreachable!()
 }
 
-/// The next letter. It is looked for so often before the thread sleeps. Where none comes any more, memory was refused elsewhere.
+/// The next letter. It is looked for so often before the thread sleeps. Where none comes any more, the other part gave up.
 fn next<J: Subject, R: Wait>(
     rt: &R,
     line: &Receiver<Letter<J>>,
     looks: u32,
-) -> Result<Letter<J>, AllocError> {
+) -> Result<Letter<J>, GivenUp> {
     for _ in 0..looks {
         match line.try_recv(rt) {
             Ok(letter) => return Ok(letter),
-            Err(TryRecvError::Disconnected) => return Err(AllocError),
+            Err(TryRecvError::Disconnected) => return Err(GivenUp::LineClosed),
             Err(TryRecvError::Empty) => thread::yield_now(),
         }
     }
     match line.recv(rt) {
         Ok(letter) => Ok(letter),
-        Err(_) => Err(AllocError),
+        Err(_) => Err(GivenUp::LineClosed),
     }
 }
