@@ -14,6 +14,7 @@ use std::sync::Wait;
 use std::thread::Threads;
 
 /// The wave of each wire of a netlist up to its horizon. Where much happens early, the crew's threads make them, each for a part of the netlist.
+/// Where the memory for that is refused, the calling thread makes them.
 pub fn find_waves<R: Threads + Wait + Sync>(
     rt: &R,
     alloc: Global,
@@ -31,9 +32,11 @@ pub fn find_waves<R: Threads + Wait + Sync>(
         return finished(alloc, netlist, run, looks.to);
     };
     drop(run);
-    match share_waves(rt, alloc, netlist, crew, &division)? {
-        Some(waves) => Ok(waves),
-        None => find_here(alloc, netlist),
+    let shared = share_waves(rt, alloc, netlist, crew, &division);
+    drop(division);
+    match shared {
+        Ok(Some(waves)) => Ok(waves),
+        Ok(None) | Err(_) => find_here(alloc, netlist),
     }
 }
 
