@@ -10,6 +10,7 @@ pub enum GivenUp {
 }
 
 impl From<AllocError> for GivenUp {
+    ghost use Rattle.std.specs.Prelude.{◌≡◌};
     ghost use Rattle.mp_letters.specs.declared.given_up.GivenUp.TheVariants.{NoMemory};
 
     ghost from_gives = { λ _ cause. cause ≡ NoMemory };
