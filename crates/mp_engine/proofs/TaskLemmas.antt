@@ -1,5 +1,5 @@
 -- What tasks of parts give.
-use Rattle.std.proofs.Common.{ℕ, Bool, List, [], ◌∷◌, slice_index_or, Result, Ok, Err, IfOk, subst, ◌∙◌, arith}
+use Rattle.std.proofs.Common.{ℕ, Bool, List, [], ◌∷◌, slice_index_or, Option, Some, None, IfSome, Result, Ok, Err, IfOk, subst, ◌∙◌, arith}
 use Rattle.mp_netlist.specs.Circuit.{Circuit}
 use Rattle.mp_regions.specs.Regions.{region}
 use Rattle.mp_phase.specs.Phase.{AreDone}
@@ -12,6 +12,10 @@ use Rattle.mp_engine.specs.Parts.{AreParts}
 pub if_ok : {T E : Type 0} (r : Result T E) (P Q : T → Type 0) → ((x : T) → P x → Q x) → IfOk r P → IfOk r Q
 if_ok (Ok value) P Q f holds = f value holds
 if_ok (Err error) P Q f holds = tt
+
+pub if_some : {T : Type 0} (o : Option T) (P Q : T → Type 0) → ((x : T) → P x → Q x) → IfSome o P → IfSome o Q
+if_some (Some value) P Q f holds = f value holds
+if_some None P Q f holds = tt
 
 -- the tasks of all parts give what all parts give
 pub runs_are : (n : Circuit) (homes : List ℕ) (parts : ℕ) (keeps : Bool) (tasks : List Part) (runs : List PartRun) → AreParts n homes parts keeps tasks → AreDone (λ (part : Part) (run : PartRun). IsPartRun part.region part.keeps run) tasks runs → AreRuns n homes [] parts keeps runs

@@ -10,8 +10,8 @@ loop-other-init g c n division keeps count first others =
 
 pub loop-other-preserved : goal.loop-other-preserved
 loop-other-preserved g c n division keeps count first others =
-    one_joined n division keeps (map (λ other. other.promise) c.loop-other.others.items) (map (λ other. other.promise) c.pop.new.self.items) c.loop-other.runs.items c.push-in-Some.new.self.items c.in-Some.other.promise c.in_ok-join.field-0
-    (ap (map (λ other. other.promise)) c.in-Some.ensures.items ∙ map_push (λ other. other.promise) c.pop.new.self.items c.in-Some.other) c.in_ok-push-2.ensures.items c.in_ok-join.ensures
+    one_joined n division keeps (map (λ other. other.promise) c.loop-other.others.items) (map (λ other. other.promise) c.pop.new.self.items) c.loop-other.runs.items c.push-in-Ok.new.self.items c.in-Some.other.promise c.in-Ok.run'
+    (ap (map (λ other. other.promise)) c.in-Some.ensures.items ∙ map_push (λ other. other.promise) c.pop.new.self.items c.in-Some.other) c.in_ok-push-in-Ok.ensures.items c.in-Ok.ensures
     (c.loop-other.invariant n division keeps count first others)
 
 pub returns : goal.returns
