@@ -1,6 +1,9 @@
 -- Facts about texts as a whole.
 use Rattle.mp_text.proofs.Names.{◌≡◌, ◌+◌, ◌<◌, ◌≤◌, ◌∷◌, rest_falls, ℕ, List, [], length, Result, Ok, Err, IfErr, refl, sym, ap, subst, arith, before_first, after_first, nat_tests, Circuit, TextError, TextCode, TooLong, TextState, Fresh, Formatted, Open, lines_of-cons, is_line_feed, lines_of, text_at, after_lines, after_line, next_line, finished, last_line, GivesText, IsReachedIn, text_limit, ◌≢◌, ◌&&◌, ◌==◌, false, None, cond, Some, take, max_text, max_short_text, number_word, first_words, is_four, states_fourth, ne_eqb, words_of, take-take, eq-eqb, codes, slice_get}
+use Rattle.std.specs.Prelude.{◌⊎◌}
 use Rattle.std.specs.Str.{bytes_eq}
+use Rattle.std.proofs.Common.{inl, inr, ◌∙◌}
+use Rattle.mp_text.specs.Names.{Line, OutOfMemory}
 
 -- a text that is not too long is its lines
 pub text_within : (text : List ℕ) → length text ≤ text_limit text → text_at text ≡ after_lines 0 Fresh (lines_of text)
@@ -16,6 +19,13 @@ pub lines_next : (n : ℕ) (state : TextState) (rest : List ℕ) (read : Result 
     → after_lines n state (lines_of rest) ≡ next_line n (λ after. after_lines (n + 1) after (lines_of (after_first is_line_feed rest))) read
 unfolding after_lines
 lines_next n state rest read some e = rw (lines_of-cons rest some, e) refl
+
+-- the fault of a line is that of the text, where the lines before it were read
+pub line_fails : (n : ℕ) (state : TextState) (rest : List ℕ) (code : TextCode) (read : Result Circuit TextError) → 0 < length rest
+    → after_lines n state (lines_of rest) ≡ read → (code ≡ Line OutOfMemory) ⊎ (after_line state (before_first is_line_feed rest) ≡ Err code)
+    → (code ≡ Line OutOfMemory) ⊎ (read ≡ Err (record { line = n + 1; code = code }))
+line_fails n state rest code read some same (inl memory) = inl memory
+line_fails n state rest code read some same (inr fails) = inr (sym same ∙ lines_next n state rest (Err code) some fails)
 
 -- no line is left
 pub lines_end : (n : ℕ) (state : TextState) (rest : List ℕ) → length rest ≡ 0 → after_lines n state (lines_of rest) ≡ finished n state
