@@ -71,6 +71,7 @@ impl<'a> PartOf<'a> {
             run.run_units(rt, &region, gate, from, until)?;
             from = until;
         }
-        Ok(run.finish(alloc, &region)?)
+        let done = run.finish(alloc, &region)?;
+        Ok(done)
     }
 }

@@ -37,7 +37,6 @@ fn remove(netlist: &mut Netlist, id: ModuleId) -> Result<(), AllocError>
     let removal = Edit::Single(SingleEdit::RemoveModule { module });
     match netlist.apply(&removal) {
         Ok(()) => Ok(()),
-        // A module that stands can be removed, and no removal wants memory.
-        Err(_) => unreachable!(),
+        Err(_) => Err(AllocError),
     }
 }

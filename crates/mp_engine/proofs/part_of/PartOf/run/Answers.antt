@@ -1,5 +1,4 @@
 use Rattle.std.proofs.Common.{◌≡◌, ℕ, ◌+◌, ◌-◌, Bool, List, refl, sym, ap, ◌∙◌, subst, arith}
-use Rattle.std.specs.Prelude.{IfOk}
 use Rattle.mp_netlist.specs.Circuit.{Circuit}
 use Rattle.mp_units.specs.NetlistSimulations.{IsSimulated}
 use Rattle.mp_evaluation.specs.Marks.{is_marked}
@@ -14,7 +13,6 @@ use Rattle.mp_letters.specs.Letters.{AreTold, IsToldOnce, KnowsAhead}
 use Rattle.mp_letters.specs.Lines.{parts_of}
 use Rattle.mp_region_runs.proofs.StateHistoryLemmas.{has_history}
 use Rattle.mp_engine.proofs.HearingLemmas.{renamed, tidings_are}
-use Rattle.mp_engine.proofs.TaskLemmas.{if_ok}
 use Rattle.mp_engine.proofs.part_of.PartOf.run.Goals as goal
 
 pub new-region-requires : goal.new-region-requires
@@ -206,4 +204,4 @@ returns g c =
     let now : c.loop-from.from ≡ c.new-region.result.horizon = (let last : c.loop-from.from ≡ c.horizon-horizon.result = omega (arith, within, past) in last ∙ before.horizon ∙ sym (ap (λ (r : Circuit). r.horizon) here)) in
     let r = c.new-region.result in
     let is = subst (λ k. IsHistory r c.args.self.keeps (k - 1 + 1) (k - 1) c.loop-from.run.history) now before.under_way.kept in
-    subst (λ (m : Circuit). IfOk c.finish.result (IsPartRun m c.args.self.keeps)) here (if_ok c.finish.result _ _ (λ run gives. gives c.args.self.keeps is) c.finish.ensures)
+    subst (λ (m : Circuit). IsPartRun m c.args.self.keeps c.in_ok-done.done) here (c.in_ok-done.ensures c.args.self.keeps is)

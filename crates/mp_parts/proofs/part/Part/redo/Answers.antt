@@ -47,7 +47,7 @@ returns g c =
     let old : c.in_ok-old.old ≡ old_part change k = c.in_ok-old.ensures ∙ ap (λ (hs : List ℕ). part_of change.old.now hs k) homes in
     let new : c.in_ok-new.new ≡ new_part change k = c.in_ok-new.ensures ∙ ap (λ (hs : List ℕ). part_of change.new.now hs k) homes in
     record {
-      run = subst (λ (n : Circuit). IsRun n c.in_ok-run.run) new c.in_ok-run.ensures.run;
+      run = subst (λ (n : Circuit). IsRun n c.in_ok-run.run') new c.in_ok-run.ensures.run;
       stretches = subst (λ (n : Circuit). AreStretches n (new_part change k) c.in_ok-run.stretches.items) old
           (subst (λ (n : Circuit). AreStretches c.in_ok-old.old n c.in_ok-run.stretches.items) new c.in_ok-run.ensures.stretches);
     }
