@@ -3,5 +3,5 @@
 
 pub mod branches;
 pub mod making;
-pub mod tally;
+pub mod passage_counter;
 pub mod waves;

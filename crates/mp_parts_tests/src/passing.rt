@@ -8,7 +8,7 @@ use mp_evaluation::Run;
 use mp_netlist::Netlist;
 use mp_part_tests::branches::{BRANCHES, HALF, MODULES, MOST, ONE, SOON};
 use mp_part_tests::making::Change;
-use mp_part_tests::tally::{Tally, counts};
+use mp_part_tests::passage_counter::{PassageCounter, counts};
 use mp_parts::redo;
 use std::alloc::Global;
 use std::process::Abort;
@@ -24,7 +24,7 @@ struct Reach<'a>(&'a Change<'a>, u32);
 #[derive(Drop)]
 struct Trial<'a> {
     crew: &'a Crew,
-    tally: Tally<'a>,
+    counter: PassageCounter<'a>,
     modules: u32,
 }
 
@@ -40,8 +40,8 @@ fn assert_passed(
     requires revision { IsRevision old.now new.now }
     requires run { IsRun old.now run.now }
 {
-    let (found, work) = redo(rt, alloc, old, run, new, trial.crew, &trial.tally)?;
-    let count = trial.tally.last_passed(&work);
+    let (found, work) = redo(rt, alloc, old, run, new, trial.crew, &trial.counter)?;
+    let count = trial.counter.last_passed(&work);
     drop(work);
     drop(found);
     assert!(rt; count == Some(trial.modules));
@@ -54,7 +54,7 @@ fn assert_each(
     alloc: Global,
     old: &Netlist,
     crew: &Crew,
-    tally: Tally<'_>,
+    counter: PassageCounter<'_>,
     reaches: &[Reach<'_>],
 ) -> Result<(), Fail> {
     let run = evaluate_here(rt, alloc, old, &OpenGate)?;
@@ -62,7 +62,7 @@ fn assert_each(
         let new = changed(alloc, old, change)?;
         let trial = Trial {
             crew,
-            tally,
+            counter,
             modules: *modules,
         };
         assert_passed(rt, alloc, old, &run, &new, &trial)?;
@@ -82,8 +82,8 @@ fn assert_exact(
     let mut plan = BRANCHES;
     plan.horizon = u64::from(horizon);
     let old = plan.netlist(alloc).ok_or("no netlist")?;
-    let tally = Tally::new(horizon, counts.as_slice());
-    assert_each(rt, alloc, &old, crew, tally, reaches)
+    let counter = PassageCounter::new(horizon, counts.as_slice());
+    assert_each(rt, alloc, &old, crew, counter, reaches)
 }
 
 /// The changes reach one module of the five, two of them, and four.

@@ -5,7 +5,7 @@ use mp_modules::Kind;
 use mp_netlist::{ModuleId, Netlist, WireId};
 use mp_part_tests::branches::{BRANCHES, HALF, MODULES, MOST, ONE};
 use mp_part_tests::making::{Change, Part, Plan, Signal};
-use mp_part_tests::tally::{Tally, counts};
+use mp_part_tests::passage_counter::{PassageCounter, counts};
 use mp_part_tests::waves::has_changes;
 use mp_phase::{Crew, Gate};
 use mp_session::Session;
@@ -151,13 +151,13 @@ struct Effect<'a> {
 fn rises(
     rt: &(impl Threads + Wait + Sync),
     alloc: Global,
-    session: &mut Session<Tally<'_>>,
-    tally: Tally<'_>,
+    session: &mut Session<PassageCounter<'_>>,
+    counter: PassageCounter<'_>,
     effect: &Effect<'_>,
 ) -> bool {
-    tally.clear();
+    counter.clear();
     takes(rt, alloc, session, &RISE)
-        && tally.last_passed(session.last_work()) == Some(effect.modules)
+        && counter.last_passed(session.last_work()) == Some(effect.modules)
         && has_entries(session.last_work(), effect.pieces)
         && is_version(session.version(), effect.number, 2, &[(54, 1)])
 }
@@ -166,8 +166,8 @@ fn rises(
 fn rises_twice(
     rt: &(impl Threads + Wait + Sync),
     alloc: Global,
-    session: &mut Session<Tally<'_>>,
-    tally: Tally<'_>,
+    session: &mut Session<PassageCounter<'_>>,
+    counter: PassageCounter<'_>,
 ) -> bool {
     let first = Effect {
         pieces: &[Piece(0, 52, 52), Piece(52, 100, 2)],
@@ -179,18 +179,18 @@ fn rises_twice(
         modules: 0,
         number: 2,
     };
-    rises(rt, alloc, session, tally, &first) && rises(rt, alloc, session, tally, &second)
+    rises(rt, alloc, session, counter, &first) && rises(rt, alloc, session, counter, &second)
 }
 
 #[test]
 fn incremental_chain(rt: HostRuntime) -> Result<(), Fail> {
     let alloc = rt.alloc();
     let counts = counts(alloc, 3, 100)?;
-    let tally = Tally::new(100, counts.as_slice());
+    let counter = PassageCounter::new(100, counts.as_slice());
     let crew = Crew::new(2, 64)?;
     let netlist = CHAIN.netlist(alloc).ok_or("no netlist")?;
-    let mut session = opened(&rt, alloc, netlist, crew, tally)?;
-    let shown = rises_twice(&rt, alloc, &mut session, tally);
+    let mut session = opened(&rt, alloc, netlist, crew, counter)?;
+    let shown = rises_twice(&rt, alloc, &mut session, counter);
     drop(session);
     assert!(rt; shown);
     Ok(())
@@ -200,13 +200,13 @@ fn incremental_chain(rt: HostRuntime) -> Result<(), Fail> {
 fn passes(
     rt: &(impl Threads + Wait + Sync),
     alloc: Global,
-    session: &mut Session<Tally<'_>>,
-    tally: Tally<'_>,
+    session: &mut Session<PassageCounter<'_>>,
+    counter: PassageCounter<'_>,
     change: &Change<'_>,
     modules: u32,
 ) -> bool {
-    tally.clear();
-    takes(rt, alloc, session, change) && tally.last_passed(session.last_work()) == Some(modules)
+    counter.clear();
+    takes(rt, alloc, session, change) && counter.last_passed(session.last_work()) == Some(modules)
 }
 
 /// The changes reach one module of the five, two of them, and four; where two are reached at once, part by part.
@@ -214,13 +214,13 @@ fn passes(
 fn each_entry_is_passed(rt: HostRuntime) -> Result<(), Fail> {
     let alloc = rt.alloc();
     let counts = counts(alloc, MODULES, 8)?;
-    let tally = Tally::new(8, counts.as_slice());
+    let counter = PassageCounter::new(8, counts.as_slice());
     let crew = Crew::new(2, 2)?;
     let netlist = BRANCHES.netlist(alloc).ok_or("no netlist")?;
-    let mut session = opened(&rt, alloc, netlist, crew, tally)?;
-    let shown = passes(&rt, alloc, &mut session, tally, &ONE, 1)
-        && passes(&rt, alloc, &mut session, tally, &HALF, 2)
-        && passes(&rt, alloc, &mut session, tally, &MOST, 4);
+    let mut session = opened(&rt, alloc, netlist, crew, counter)?;
+    let shown = passes(&rt, alloc, &mut session, counter, &ONE, 1)
+        && passes(&rt, alloc, &mut session, counter, &HALF, 2)
+        && passes(&rt, alloc, &mut session, counter, &MOST, 4);
     drop(session);
     assert!(rt; shown);
     Ok(())

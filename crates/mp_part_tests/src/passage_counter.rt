@@ -9,12 +9,12 @@ use std::sync::atomic::{AtomicU64, Ordering};
 /// A gate for small netlists: of each module and each span of time it counts how often the module passes for the span. The first count is that
 /// of all other passages.
 #[derive(Clone, Copy, Drop)]
-pub struct Tally<'a> {
+pub struct PassageCounter<'a> {
     horizon: u32,
     counts: &'a [AtomicU64],
 }
 
-/// The counts of a tally for a netlist of so many modules that runs up to a horizon.
+/// The counts of a passage counter for a netlist of so many modules that runs up to a horizon.
 pub fn counts(alloc: Global, modules: u32, horizon: u32) -> Result<Vec<AtomicU64>, AllocError> {
     let side = u64::from(horizon) + 1;
     let many = u64::from(modules).saturating_mul(side).saturating_mul(side);
@@ -25,7 +25,7 @@ pub fn counts(alloc: Global, modules: u32, horizon: u32) -> Result<Vec<AtomicU64
     Ok(counts)
 }
 
-impl Gate for Tally<'_> {
+impl Gate for PassageCounter<'_> {
     ghost use Rattle.std.specs.Prelude.{true};
 
     ghost may = { λ gate m from to. true };
@@ -38,10 +38,10 @@ impl Gate for Tally<'_> {
     }
 }
 
-impl<'a> Tally<'a> {
-    /// A tally up to a horizon, in these counts.
+impl<'a> PassageCounter<'a> {
+    /// A counter up to a horizon, in these counts.
     pub fn new(horizon: u32, counts: &'a [AtomicU64]) -> Self {
-        Tally { horizon, counts }
+        PassageCounter { horizon, counts }
     }
 
     /// All counts begin anew.
