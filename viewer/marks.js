@@ -1,0 +1,100 @@
+"use strict";
+// What a painter draws over and beside the waves: names, times, cursors, and the arrows of causes.
+
+Object.assign(Painter.prototype, {
+  label(row, y) {
+    const { ink, view, colour } = this;
+    this.box(0, y, view.labels, ROW, row === view.row || view.pointed.has(row.wire) ? colour.chosen : colour.ground);
+    const level = view.levelAtCursor(row);
+    const room = Math.floor((view.labels - LEFT) / this.letter) - 2 - Math.max(view.letters, level.length);
+    ink.fillStyle = row.wire === undefined ? colour.other : colour.ink;
+    ink.fillText(row.name.length > room ? `${row.name.slice(0, Math.max(room - 1, 3))}…` : row.name, LEFT, y + ROW / 2);
+    ink.fillStyle = colour.dim;
+    ink.fillText(level, view.labels - (level.length + 1) * this.letter, y + ROW / 2);
+  },
+
+  /** The times, the places of findings, and above them which part of all times is seen. */
+  head() {
+    const { ink, view, colour } = this;
+    this.box(view.labels, 0, view.width, HEAD, colour.ground);
+    ink.fillStyle = colour.dim;
+    for (const time of this.ticks()) this.tickText(time);
+    this.eachDot(this.placeTimes, (x) => this.flaw(x, x, HEAD - 6), (x, end) => this.flaw(x, end, HEAD - 6));
+    const part = (view.width - view.labels) / view.horizon;
+    this.box(view.labels, 4, view.width, 8, colour.line);
+    this.box(view.labels + view.from * part, 4, Math.max(3, ((view.width - view.labels) / view.scale) * part), 8, colour.busy);
+    this.flag(view.cursor, colour.cursor);
+    if (view.mark !== null) this.flag(view.mark, colour.mark);
+  },
+
+  /** A time, where no time of a cursor stands. */
+  tickText(time) {
+    const { view } = this;
+    const room = 8 * this.letter;
+    const isCovered = [view.cursor, view.mark].some((other) => other !== null && Math.abs(view.x(other) - view.x(time)) < room);
+    if (!isCovered) this.ink.fillText(String(time), view.x(time) + 3, HEAD - 16);
+  },
+
+  /** The time of a cursor. */
+  flag(time, colour) {
+    const { ink, view } = this;
+    const text = String(time);
+    this.box(view.x(time), HEAD - 25, (text.length + 1) * this.letter, 18, colour);
+    ink.fillStyle = this.colour.ground;
+    ink.fillText(text, view.x(time) + this.letter / 2, HEAD - 16);
+  },
+
+  cursors() {
+    const { ink, view, colour } = this;
+    const line = (time, stroke) => {
+      ink.beginPath();
+      ink.moveTo(this.crisp(view.x(time)), HEAD);
+      ink.lineTo(this.crisp(view.x(time)), view.height);
+      this.stroke(stroke);
+    };
+    if (view.mark !== null) {
+      ink.globalAlpha = 0.1;
+      this.box(view.x(view.cursor), HEAD, (view.mark - view.cursor) * view.scale, view.height, colour.mark);
+      ink.globalAlpha = 1;
+      line(view.mark, colour.mark);
+    }
+    line(view.cursor, colour.cursor);
+  },
+
+  /** The arrows of the chain of causes, and of what its last change leads to. */
+  arrows() {
+    const { view, causes, colour } = this;
+    if (!view.chain) return;
+    view.chain.reach(view.from);
+    const { ages, steps } = view.chain;
+    const [last] = steps;
+    for (let next = Math.max(0, firstFrom(ages, -view.time(view.width)) - 1); next < steps.length && ages[next] <= -view.from; ) {
+      const step = steps[next];
+      for (const event of step.events.slice(1)) this.arrow(event, step, colour.dim);
+      if (step.events.length) this.arrow(step.events[0], step, colour.cause);
+      next = firstFrom(ages, LEAST_STEP / view.scale - causes.time(step), next + 1);
+    }
+    for (const effect of view.effects) this.arrow(last, effect, colour.effect);
+  },
+
+  /** An arrow from one change to another, if the rows of both are there. */
+  arrow(from, to, colour) {
+    const { ink, view, causes } = this;
+    const places = [from, to].map(({ wire }) => view.placesOfWires.get(wire));
+    if (places.includes(undefined)) return;
+    const [x, end] = [from, to].map((change) => view.x(causes.time(change)));
+    const [y, height] = places.map((place) => view.y(place) + ROW / 2);
+    if (Math.max(y, height) < HEAD || Math.min(y, height) > view.height || x > view.width) return;
+    const bend = Math.max(8, (end - x) / 2);
+    ink.beginPath();
+    ink.moveTo(x, y);
+    ink.bezierCurveTo(x + bend, y, end - bend, height, end - 5, height);
+    this.stroke(colour);
+    ink.fillStyle = colour;
+    ink.beginPath();
+    ink.moveTo(end, height);
+    ink.lineTo(end - 7, height - 3.5);
+    ink.lineTo(end - 7, height + 3.5);
+    ink.fill();
+  },
+});

@@ -1,0 +1,178 @@
+"use strict";
+// The page: what is typed, clicked and dropped on it, and the lists beside the picture.
+
+const MOST_LINES = 200; // as many lines of a list stand there at first
+const MOST_STEPS = 20; // as many steps of a chain
+const NEAR = 5; // a click so many pixels from a change means the change
+
+const element = (id) => document.getElementById(id);
+const written = (id) => element(id).textContent;
+
+/** Fills a list with a button for each item, the first ones of them. */
+function fill(list, items, act, most = MOST_LINES) {
+  const lines = items.slice(0, most).map((item) => line(item.line, () => act(item)));
+  if (items.length > most) {
+    lines.push(line(`${items.length - most} more`, () => fill(list, items, act, most + 5 * MOST_LINES)));
+    lines.at(-1).className = "more";
+  }
+  list.replaceChildren(...lines);
+}
+
+function line(text, act) {
+  const button = Object.assign(document.createElement("button"), { textContent: text, onclick: act });
+  const item = document.createElement("li");
+  item.append(button);
+  return item;
+}
+
+class Page {
+  constructor() {
+    const netlist = new Netlist(written("netlist-text"));
+    const waves = readWaves(written("waves-text"));
+    const places = written("places-text").split("\n").filter(Boolean).map((text) => readPlace(text, netlist));
+    this.causes = new Causes(netlist, waves);
+    this.view = new View(netlist, waves);
+    this.painter = new Painter(element("picture"), this.view, places, this.causes);
+    this.found = 0; // the place of the row that the search found last
+    document.querySelector("h1").textContent = document.title;
+    element("places").querySelector("h2").textContent = `${places.length ? "Found" : "Nothing found"} by ${element("places-text").title}`;
+    fill(element("places").querySelector("ul"), places, (place) => this.goTo(place));
+  }
+
+  /** Draws the picture before the screen is next shown. */
+  show() {
+    if (this.isWaiting) return;
+    this.isWaiting = true;
+    requestAnimationFrame(() => {
+      this.isWaiting = false;
+      this.painter.draw();
+      this.tell();
+    });
+  }
+
+  resize() {
+    this.painter.resize();
+    this.show();
+  }
+
+  /** Tells the times of the cursors, and the level of the chosen wire. */
+  tell() {
+    const { view } = this;
+    const level = view.row ? `${view.row.name} = ${view.levelAtCursor(view.row)}` : "";
+    const second = view.mark === null ? "" : `second ${view.mark} · difference ${view.mark - view.cursor}`;
+    element("readout").textContent = [`time ${view.cursor}`, level, second].filter(Boolean).join(" · ");
+  }
+
+  /** Takes a row and a time: the cursor goes there, and the causes of the level are found. */
+  choose(row, time) {
+    const { view, causes } = this;
+    Object.assign(view, { row, cursor: time, pointed: new Set(), chain: null, effects: [] });
+    if (row && row.wire !== undefined) {
+      view.chain = new Chain(causes, row.wire, time);
+      view.chain.count(1);
+      if (view.chain.steps.length) view.effects = causes.effects(view.chain.steps[0]);
+    }
+    this.listCauses();
+    this.show();
+  }
+
+  listCauses(most = MOST_STEPS) {
+    const { view, causes } = this;
+    const section = element("why");
+    section.hidden = !view.chain;
+    if (!view.chain) return;
+    view.chain.count(most + 1);
+    const steps = view.chain.steps.slice(0, most);
+    const lines = steps.map((step) => line(`${causes.said(step)} < ${causes.saidCause(step)}`, () => this.goToChange(step)));
+    if (!steps.length) lines.push(line(causes.why(view.row.wire, view.cursor, 1)[0], () => {}));
+    if (view.chain.steps.length > most) lines.push(line("further back", () => this.listCauses(most + MOST_LINES)));
+    if (view.chain.steps.length > most) lines.at(-1).className = "more";
+    section.querySelector("ol").replaceChildren(...lines);
+    const effects = view.effects.map((effect) => ({ ...effect, line: `${causes.said(effect)} by ${effect.module.name} ${effect.module.kind}/${effect.delay}` }));
+    section.querySelectorAll("h2")[1].textContent = effects.length ? "What it causes" : "It causes nothing";
+    fill(section.querySelector("ul"), effects, (effect) => this.goToChange(effect));
+  }
+
+  /** Shows a row, also one that is hidden, at a time. */
+  lead(row, time) {
+    const { view } = this;
+    if (!view.places.has(row)) view.setRows([...view.rows, row]);
+    view.reveal(time, view.places.get(row));
+  }
+
+  /** Goes to a change of the chain that is drawn, which stays. */
+  goToChange(change) {
+    const { view, causes } = this;
+    this.lead(view.all[change.wire], causes.time(change));
+    Object.assign(view, { row: view.all[change.wire], cursor: causes.time(change) });
+    this.show();
+  }
+
+  /** Goes to the place of a finding, a note or a difference. */
+  goTo({ time, wires, row }) {
+    const { view } = this;
+    const rows = row ? [row] : wires.map((wire) => view.all[wire]);
+    for (const other of rows.toReversed()) this.lead(other, time);
+    this.choose(rows.find((other) => other.wave.changeAt(time) >= 0) ?? rows[0], time);
+    view.pointed = new Set(wires);
+  }
+
+  /** The time that a click at a place means: that of a change which is near, or the unit there. */
+  timeAt(row, x) {
+    const { view } = this;
+    const next = row ? firstFrom(row.wave.times, view.time(x)) : 0;
+    const near = row ? [next - 1, next].map((change) => row.wave.times[change]).filter((time) => Math.abs(view.x(time) - x) <= NEAR) : [];
+    const distance = (time) => Math.abs(view.x(time) - x);
+    return near.length ? near.reduce((one, two) => (distance(two) < distance(one) ? two : one)) : view.unit(x);
+  }
+
+  /** Goes to the next row whose name has what is searched for. */
+  search(step) {
+    const { rows } = this.view;
+    const matches = this.matches();
+    const next = [...rows.keys()].map((place) => (this.found + step * place + rows.length * (step < 0 ? 1 : 0) + rows.length) % rows.length);
+    const place = next.find((at) => matches(rows[at]));
+    element("search").setCustomValidity(place === undefined ? "No wire has this in its name" : "");
+    if (place === undefined) return;
+    this.found = place;
+    this.view.reveal(this.view.cursor, place);
+    this.choose(rows[place], this.view.cursor);
+  }
+
+  matches() {
+    const text = element("search").value.toLowerCase();
+    return (row) => row.name.toLowerCase().includes(text);
+  }
+
+  setRows(rows) {
+    this.view.setRows(rows);
+    this.show();
+  }
+
+  hexOrDecimal() {
+    this.view.isHex = !this.view.isHex;
+    element("hex").setAttribute("aria-pressed", this.view.isHex);
+    this.resize();
+  }
+
+  lightOrDark(isDark) {
+    document.documentElement.classList.toggle("dark", isDark);
+    element("ground").textContent = isDark ? "Light" : "Dark";
+    this.resize();
+  }
+
+  /** Compares with a file of waves. */
+  async compare(file) {
+    const section = element("differences");
+    section.hidden = false;
+    section.querySelector("h2").textContent = `Compared with ${file.name}`;
+    try {
+      const { rows, told } = compared(this.view.all, readWaves(wavesIn(await file.text())));
+      this.setRows(rows);
+      const lines = told.length ? told : [{ line: "no difference", time: 0, row: rows[0] }];
+      fill(section.querySelector("ul"), lines, (place) => this.goTo(place));
+    } catch (fault) {
+      fill(section.querySelector("ul"), [{ line: `This isn't a file of waves: ${fault.message}` }], () => {});
+    }
+  }
+}

@@ -1,0 +1,229 @@
+"use strict";
+// Draws a view on a canvas. Only the rows and times that are seen are looked at, and changes that share a dot of the screen are drawn as one.
+
+const FONT = '12px ui-monospace, "DejaVu Sans Mono", Menlo, Consolas, monospace';
+const COLOURS = ["ground", "ink", "dim", "line", "chosen", "wave", "word", "busy", "cursor", "mark", "fault", "cause", "effect", "other", "differs"];
+const EDGE = 6; // from the top of a row to its high level, and from its low level to the bottom
+const LEAST_STEP = 3; // arrows of steps that end nearer to each other than this are left out
+
+class Painter {
+  constructor(canvas, view, places, causes) {
+    Object.assign(this, { canvas, view, causes });
+    this.ink = canvas.getContext("2d", { alpha: false });
+    this.placeTimes = Int32Array.from(places, (place) => place.time).sort();
+    this.marks = new Map();
+    for (const place of places) for (const wire of place.wires) this.addMark(wire, place.time);
+    for (const times of this.marks.values()) times.sort((a, b) => a - b);
+  }
+
+  addMark(wire, time) {
+    if (!this.marks.has(wire)) this.marks.set(wire, []);
+    this.marks.get(wire).push(time);
+  }
+
+  /** Takes the colours of the page, and the size of the canvas. */
+  resize() {
+    const style = getComputedStyle(document.documentElement);
+    this.colour = Object.fromEntries(COLOURS.map((name) => [name, style.getPropertyValue(`--${name}`).trim()]));
+    this.dots = window.devicePixelRatio || 1;
+    const { clientWidth, clientHeight } = this.canvas;
+    this.canvas.width = Math.round(clientWidth * this.dots);
+    this.canvas.height = Math.round(clientHeight * this.dots);
+    this.ink.font = FONT;
+    this.letter = this.ink.measureText("0").width;
+    const { all } = this.view;
+    const names = all.reduce((most, row) => Math.max(most, row.name.length), 4);
+    const labels = LEFT + (names + this.view.letters + 4) * this.letter;
+    this.view.resize(clientWidth, clientHeight, Math.ceil(Math.min(labels, clientWidth * 0.4)));
+  }
+
+  draw() {
+    const { ink, view, colour } = this;
+    ink.setTransform(this.dots, 0, 0, this.dots, 0, 0);
+    Object.assign(ink, { font: FONT, textBaseline: "middle", lineWidth: Math.round(this.dots * 1.25) / this.dots });
+    this.box(0, 0, view.width, view.height, colour.ground);
+    this.clipped(view.labels, HEAD, () => {
+      this.grid();
+      this.eachRow((row, y) => this.row(row, y));
+      this.cursors();
+      this.arrows();
+    });
+    this.clipped(0, HEAD, () => this.eachRow((row, y) => this.label(row, y)));
+    this.clipped(view.labels, 0, () => this.head());
+  }
+
+  /** Draws nothing left of `left` and above `top`. */
+  clipped(left, top, draw) {
+    this.ink.save();
+    this.ink.beginPath();
+    this.ink.rect(left, top, this.view.width, this.view.height);
+    this.ink.clip();
+    draw();
+    this.ink.restore();
+  }
+
+  box(x, y, width, height, colour) {
+    this.ink.fillStyle = colour;
+    this.ink.fillRect(x, y, width, height);
+  }
+
+  /** The middle of the dot that a place lies in, so that lines are sharp. */
+  crisp(place) {
+    return (Math.floor(place * this.dots) + 0.5) / this.dots;
+  }
+
+  stroke(colour) {
+    this.ink.strokeStyle = colour;
+    this.ink.stroke();
+  }
+
+  eachRow(draw) {
+    const { view } = this;
+    const end = Math.min(view.rows.length, Math.ceil((view.top + view.height - HEAD) / ROW));
+    for (let place = Math.floor(view.top / ROW); place < end; place++) draw(view.rows[place], view.y(place));
+  }
+
+  /** Goes through those of some rising times that are seen. One that has a dot for itself is given to `one`, with its place and its number; a run of
+   * dots with more of them to `many`, with its ends and the number of the last. */
+  eachDot(times, one, many) {
+    const { view, dots } = this;
+    const end = firstFrom(times, view.time(view.width));
+    const dot = (number) => Math.floor(view.x(times[number]) * dots);
+    const behind = (number, at) => firstFrom(times, view.time((at + 1) / dots), number + 1);
+    for (let next = firstFrom(times, view.from); next < end; ) {
+      const begin = dot(next);
+      let stop = begin;
+      let after = next;
+      while (after < end && dot(after) === stop) {
+        const beyond = behind(after, stop);
+        if (beyond === after + 1) break;
+        after = beyond;
+        stop++;
+      }
+      if (stop > begin) many(begin / dots, stop / dots, after - 1);
+      else one(view.x(times[next]), after++);
+      next = after;
+    }
+  }
+
+  /** The times at which lines stand: steps of 1, 2 or 5 times a power of ten. */
+  *ticks() {
+    const { view } = this;
+    const least = Math.max(1, 76 / view.scale);
+    const power = 10 ** Math.floor(Math.log10(least));
+    const step = Math.ceil([1, 2, 5, 10].find((times) => times * power >= least) * power);
+    for (let time = Math.ceil(view.from / step) * step; view.x(time) < view.width; time += step) yield time;
+  }
+
+  grid() {
+    const { view, ink } = this;
+    ink.beginPath();
+    for (const time of this.ticks()) {
+      const x = this.crisp(view.x(time));
+      ink.moveTo(x, HEAD);
+      ink.lineTo(x, view.height);
+    }
+    this.stroke(this.colour.line);
+  }
+
+  row(row, y) {
+    const { view, colour } = this;
+    if (row === view.row || view.pointed.has(row.wire)) this.box(view.labels, y, view.width, ROW, colour.chosen);
+    if (row.differs) this.shade(row.differs, y);
+    if (row.isNarrow) this.bit(row, y);
+    else this.word(row, y);
+    const marks = this.marks.get(row.wire);
+    if (marks) this.eachDot(marks, (x) => this.flaw(x, x, y), (x, end) => this.flaw(x, end, y));
+  }
+
+  /** Marks findings between two places at the top of a row. */
+  flaw(x, end, y) {
+    const { ink, colour } = this;
+    ink.fillStyle = colour.fault;
+    ink.beginPath();
+    ink.moveTo(x - 4, y);
+    ink.lineTo(end + 4, y);
+    ink.lineTo(end, y + 6);
+    ink.lineTo(x, y + 6);
+    ink.fill();
+  }
+
+  /** Marks where a wave differs, by the times at which that begins and ends in turn. */
+  shade(times, y) {
+    const { view } = this;
+    let begin = firstFrom(times, view.from) % 2 ? view.labels : null;
+    const fill = (from, end) => this.box(from, y, Math.max(end - from, 1), ROW, this.colour.differs);
+    const turn = (x, number) => {
+      if (begin !== null) fill(begin, x);
+      begin = number % 2 ? null : x;
+    };
+    this.eachDot(times, turn, (x, end, last) => {
+      turn(end, last);
+      fill(x, end);
+    });
+    if (begin !== null) fill(begin, view.width);
+  }
+
+  bit({ wave, wire }, y) {
+    const { ink, view, colour } = this;
+    const heightOf = (change) => this.crisp(wave.isHigh(change) ? y + EDGE : y + ROW - EDGE);
+    let height = heightOf(firstFrom(wave.times, view.from) - 1);
+    ink.beginPath();
+    ink.moveTo(view.labels, height);
+    const one = (x, change) => {
+      ink.lineTo(this.crisp(x), height);
+      height = heightOf(change);
+      ink.lineTo(this.crisp(x), height);
+    };
+    this.eachDot(wave.times, one, (x, end, last) => {
+      ink.lineTo(x, height);
+      this.box(x, y + EDGE, end - x, ROW - 2 * EDGE, colour.busy);
+      height = heightOf(last);
+      ink.moveTo(end, height);
+    });
+    ink.lineTo(view.width, height);
+    this.stroke(wire === undefined ? colour.other : colour.wave);
+  }
+
+  word(row, y) {
+    const { ink, view, colour } = this;
+    const texts = [];
+    let begin = view.labels - EDGE;
+    let change = firstFrom(row.wave.times, view.from) - 1;
+    const cellTo = (end) => {
+      this.cell(begin, end, y);
+      texts.push([Math.max(begin, view.labels), end, change]);
+    };
+    ink.beginPath();
+    const one = (x, next) => {
+      cellTo(x);
+      [begin, change] = [x, next];
+    };
+    this.eachDot(row.wave.times, one, (x, end, last) => {
+      cellTo(x);
+      this.box(x, y + EDGE, end - x, ROW - 2 * EDGE, colour.busy);
+      [begin, change] = [end, last];
+    });
+    cellTo(view.width + EDGE);
+    this.stroke(row.wire === undefined ? colour.other : colour.word);
+    ink.fillStyle = colour.ink;
+    for (const [x, end, of] of texts) if (end - x > this.letter + 8) this.level(x + 5, end - 3, view.level(row, of), y);
+  }
+
+  /** The lines of a level between two changes. */
+  cell(begin, end, y) {
+    const { ink } = this;
+    const slope = Math.min(3, (end - begin) / 2);
+    for (const side of [this.crisp(y + EDGE), this.crisp(y + ROW - EDGE)]) {
+      ink.moveTo(begin, y + ROW / 2);
+      ink.lineTo(begin + slope, side);
+      ink.lineTo(end - slope, side);
+      ink.lineTo(end, y + ROW / 2);
+    }
+  }
+
+  /** A level, if it has room. */
+  level(x, end, text, y) {
+    if (text.length * this.letter <= Math.min(end, this.view.width) - x) this.ink.fillText(text, x, y + ROW / 2);
+  }
+}
