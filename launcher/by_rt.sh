@@ -4,15 +4,6 @@
 
 seconds_of_a_run=60 # what such a run may take
 
-takes_a_value() {
-    case $1 in --help | --version | --ascii | --svg | -- | --*=*) return 1 ;; --*) return 0 ;; *) return 1 ;; esac
-}
-
-# how many words stand before FILE
-words_before_file() {
-    case $1 in why | path) echo 2 ;; waits) echo 1 ;; *) echo 0 ;; esac
-}
-
 read_words() {
     local word before=$1 others
     words=("$1")

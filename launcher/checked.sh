@@ -4,7 +4,10 @@
 
 status_of_check=70 # that of a run in which a check fails
 
+is_told="" # whether an earlier run has told it
+
 tell_checked() {
+    if [ -n "$is_told" ]; then return; fi
     echo "mpwb: this program is checked at run time and not proved; ./mpwb build proves and builds it, in about an hour" >&2
 }
 

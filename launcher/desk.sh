@@ -1,17 +1,6 @@
 # shellcheck shell=bash
 # A live desk. Each seat has two named pipes: lines go to the desk by one, and answers come by the other.
 
-# the value of an option, nothing where it isn't given
-value_of() {
-    local option=$1 before="" value="" word
-    for word in "${@:2}"; do
-        if [ "$before" = "$option" ]; then value=$word; fi
-        if [[ $word == "$option"=* ]]; then value=${word#*=}; fi
-        before=$word
-    done
-    echo "$value"
-}
-
 # the pipes of so many designers or viewers; the program tells of a number that is out of its range
 make_pipes() {
     local seat=$1 count=$2 most=$3 number end

@@ -4,9 +4,11 @@
 tell_words() {
     cat <<'EOF'
 
-The script ./mpwb has two more commands, and --help of each says more:
+The script ./mpwb has four more commands, and --help of each says more:
   build    Proves and builds the program
+  install  Installs the program, the script, a man page and completions of shells
   join     Joins a terminal to a seat of a live desk
+  page     Writes a page that shows the waves of a netlist
 EOF
 }
 
@@ -44,5 +46,54 @@ Exit status:
   0  the seat was left, or the desk ended
   2  the command line was refused
   3  the seat has no pipes
+EOF
+}
+
+tell_page() {
+    cat <<'EOF'
+Writes a page that shows the waves of a netlist in a browser.
+
+Usage: ./mpwb page [FILE] > page.html
+
+Reads a netlist from FILE, or from standard input if FILE is `-` or isn't given.
+Writes one HTML file, which needs nothing else: the netlist, its waves and what
+`check` finds stand in it as the program writes them. The page zooms and scrolls
+the waves, shows all levels at a cursor, finds wires, leads to what was found, and
+shows what caused a change and what the change causes. It tells its keys. A file
+that `waves` or `page` wrote can be dropped on it, to compare the two.
+
+Exit status:
+  0   the page was written
+  1   the netlist has a fault
+  2   the command line was refused
+  3   a read or a write failed
+  4   memory ran out
+  70  there is no program, or it is at fault
+EOF
+}
+
+tell_install() {
+    cat <<'EOF'
+Installs the program, the script, a man page and completions of shells.
+
+Usage: ./mpwb install [PREFIX]
+
+PREFIX is a folder, /usr/local if it isn't given. The program has to be built, by
+`./mpwb build`. These are put there, in place of older ones:
+
+  PREFIX/lib/nesthrim      the program and the script, with its parts
+  PREFIX/bin/mpwb          a link to the script
+  PREFIX/share/man/man1/mpwb.1
+  PREFIX/share/bash-completion/completions/mpwb
+  PREFIX/share/zsh/site-functions/_mpwb
+  PREFIX/share/fish/vendor_completions.d/mpwb.fish
+
+To uninstall it, remove these.
+
+Exit status:
+  0   all is installed
+  2   the command line was refused
+  3   a file can't be written
+  70  the program isn't built
 EOF
 }

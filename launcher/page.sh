@@ -1,0 +1,51 @@
+# shellcheck shell=bash
+# ./mpwb page. The page is the viewer, and in it what the program writes of a netlist, just as it was written.
+
+viewer=$top/viewer
+scripts=(waves causes compare view painter marks page input) # those of the viewer, each behind those that it uses
+
+# between two answers stands that to a line which isn't read: no line of an answer is the same
+divider=---
+divided="unread 2 UnknownStatement"
+
+start_page() {
+    local file=${1--} name list=check
+    if [ $# -gt 1 ] || [[ $file == -?* ]]; then refuse "./mpwb page [FILE] > page.html"; fi
+    read_crates
+    begin_work
+    name=$(basename -- "$file")
+    if [ "$file" = - ]; then
+        file=$room/netlist name="standard input"
+        if ! cat >"$file" 2>/dev/null; then fail_device read; fi
+    fi
+    (run --help) >"$room/help" </dev/null || exit
+    is_told=yes
+    if ! grep -q '^  check ' "$room/help"; then list=report; fi
+    (printf '%s\n' text "$divider" waves "$divider" "$list" | run play "$file") >"$room/answers" || exit
+    write_page "$name" "$list" 2>/dev/null || fail_device write
+}
+
+fail_device() {
+    echo "mpwb: $1 failed" >&2
+    exit 3
+}
+
+write_page() {
+    local script
+    printf '<!DOCTYPE html>\n<html lang="en">\n<meta charset="utf-8">\n<meta name="viewport" content="width=device-width">\n' &&
+        printf '<title>%s</title>\n<style>\n' "$(sed 's/&/\&amp;/g; s/</\&lt;/g' <<<"$1")" &&
+        cat "$viewer/style.css" && echo '</style>' && cat "$viewer/page.html" && write_answers "$2" || return 1
+    for script in "${scripts[@]}"; do
+        echo '<script>' && cat "$viewer/$script.js" && echo '</script>' || return 1
+    done
+}
+
+# the answers, each in an element of its own
+write_answers() {
+    awk -v divided="$divided" -v list="$1" '
+        function begin(id) { printf "<script type=\"text/plain\" id=\"%s-text\" title=\"%s\">", id, id == "places" ? list : id }
+        BEGIN { split("netlist waves places", ids); begin(ids[++part]) }
+        $0 == divided { print "</script>"; begin(ids[++part]); next }
+        { print }
+        END { print "</script>" }' "$room/answers"
+}

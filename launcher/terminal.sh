@@ -1,0 +1,73 @@
+# shellcheck shell=bash
+# `show` at a terminal is given as many columns as have room there, and --ascii where the locale isn't UTF-8.
+
+least_columns=10 # also in a terminal that is narrower
+most_columns=10000
+most_looked_at=4194304 # of so many bytes of a netlist the names are looked at
+
+show() {
+    local width words=()
+    exec 4>&1
+    width=$(terminal_width)
+    exec 4>&-
+    if [ -z "$width" ] || is_given --svg "$@" || is_given --help "$@" || is_given -h "$@"; then run show "$@"; fi
+    if ! is_utf8 && ! is_given --ascii "$@"; then words=(--ascii); fi
+    if is_given --columns "$@"; then run show "${words[@]}" "$@"; fi
+    fit "$width" "${words[@]}" "$@"
+}
+
+# the width of the terminal that 4 is, nothing where it is none
+terminal_width() {
+    if [ -t 4 ]; then stty size <&4 2>/dev/null | awk '$2 > 0 { print $2 }'; fi
+}
+
+is_utf8() {
+    local locale=${LC_ALL:-${LC_CTYPE:-${LANG-}}}
+    [[ ${locale,,} =~ utf-?8 ]]
+}
+
+# Shows the picture in a width. How wide it is for a number of columns depends on its names, which the netlist has, and on what is found, which the
+# picture alone tells. So where it is too wide, it is drawn once more.
+fit() {
+    local width=$1 columns over input=/dev/null file
+    shift
+    file=$(file_of show "$@")
+    begin_work
+    if [ -z "$file" ] || [ "$file" = - ]; then
+        input=$room/netlist file=$room/netlist
+        cat >"$input" 2>/dev/null || fail_device read
+    fi
+    columns=$((width - 2 - $(longest_name "$file" "$@")))
+    while :; do
+        columns=$((columns < least_columns ? least_columns : columns > most_columns ? most_columns : columns))
+        (run show --columns "$columns" "$@") <"$input" >"$room/picture" || exit
+        over=$(($(picture_width) - width))
+        if [ "$over" -le 0 ] || [ "$columns" = "$least_columns" ]; then break; fi
+        columns=$((columns - over))
+        is_told=yes
+    done
+    cat "$room/picture" || fail_device write
+}
+
+# how wide the times and the first wire of the picture are (other bytes than the first one of a character don't count)
+picture_width() {
+    LC_ALL=C awk '
+        NR > 2 { exit }
+        { gsub(/[\200-\277]/, ""); if (length($0) > most) most = length($0) }
+        END { print most + 0 }' "$room/picture"
+}
+
+# the length of the longest name among the wires that are shown
+longest_name() {
+    local file=$1 word before="" most=0
+    shift
+    for word in "$@"; do
+        if [ "$before" != --wire ] && [[ $word != --wire=* ]]; then before=$word && continue; fi
+        word=${word#--wire=} before=""
+        most=$((${#word} > most ? ${#word} : most))
+    done
+    if [ "$most" = 0 ]; then
+        most=$(head -c "$most_looked_at" -- "$file" 2>/dev/null | awk '$1 == "wire" && length($2) > most { most = length($2) } END { print most + 0 }')
+    fi
+    echo "$most"
+}

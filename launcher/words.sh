@@ -1,0 +1,44 @@
+# shellcheck shell=bash
+# The words of a command line of the program.
+
+takes_a_value() {
+    case $1 in --help | --version | --ascii | --svg | --hex | -- | --*=*) return 1 ;; --*) return 0 ;; *) return 1 ;; esac
+}
+
+# how many words stand before FILE
+words_before_file() {
+    case $1 in why | path) echo 2 ;; waits) echo 1 ;; *) echo 0 ;; esac
+}
+
+# whether an option is among words
+is_given() {
+    local option=$1 word
+    for word in "${@:2}"; do
+        case $word in "$option" | "$option"=*) return 0 ;; --) return 1 ;; esac
+    done
+    return 1
+}
+
+# the value of an option, nothing where it isn't given
+value_of() {
+    local option=$1 before="" value="" word
+    for word in "${@:2}"; do
+        if [ "$before" = "$option" ]; then value=$word; fi
+        if [[ $word == "$option"=* ]]; then value=${word#*=}; fi
+        before=$word
+    done
+    echo "$value"
+}
+
+# FILE of a command that reads a netlist, nothing where it isn't given
+file_of() {
+    local word before="" others
+    others=$(words_before_file "$1")
+    for word in "${@:2}"; do
+        if [[ $word == - || $word != -* ]] && ! takes_a_value "$before"; then
+            if [ "$others" = 0 ]; then echo "$word"; fi
+            others=$((others - 1))
+        fi
+        before=$word
+    done
+}
