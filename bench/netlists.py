@@ -64,6 +64,24 @@ def data_pipeline(stages, horizon):
     return "\n".join(lines) + "\n"
 
 
+def fifo(stages, horizon):
+    """A pipeline of registers of 32 bits. Behind each register 1 is added to the data, the request goes on behind a matched delay, and both are a
+    bundle. A register in front holds what it takes of a counter from each request to its acknowledge."""
+    acks = [f"q{i}" for i in range(1, stages + 1)] + ["ack"]
+    lines = [f"horizon {horizon}", "wire take 1 0", "wire n 32 0"]
+    for i in range(stages + 1):
+        lines += [f"wire r{i} 1 0", f"wire d{i} 32 {i}", f"wire {acks[i]} 1 0"] + ([f"wire x{i} 32 {i - 1}"] if i else [])
+    lines += ["module source NOT : q1 > take/3", "module count ADDC 3 : n > n/7", "module hold REG 0 : n take q1 > d0/1 - -"]
+    lines += ["module match0 BUF : take > r0/3", f"module sink BUF : r{stages} > ack/4", "bundle b0 r0 q1 d0 1"]
+    for i in range(1, stages + 1):
+        lines.append(f"module c{i} C 0 0 1 : r{i - 1} {acks[i]} > q{i}/2")
+        lines.append(f"module g{i} REG {i - 1} : d{i - 1} q{i} {acks[i]} > x{i}/1 - -")
+        lines.append(f"module a{i} ADDC 1 : x{i} > d{i}/2")
+        lines.append(f"module match{i} BUF : q{i} > r{i}/5")
+        lines.append(f"bundle b{i} r{i} {acks[i]} d{i} 1")
+    return "\n".join(lines) + "\n"
+
+
 def arbiter_tree(levels, horizon):
     """Oscillators as clients of a tree of arbiters: what a node grants is a request of the node above it."""
     lines, modules = [], 0
