@@ -3,7 +3,7 @@
 
 /** The text of waves in a file that `waves` or `page` wrote. */
 function wavesIn(file) {
-  const page = /<script type="text\/plain" id="waves-text">([^<]*)<\/script>/.exec(file);
+  const page = /<script type="text\/plain" id="waves-text"[^>]*>([^<]*)<\/script>/.exec(file);
   return (page ? page[1] : file).replace(/\r/g, "").trimStart();
 }
 

@@ -15,6 +15,7 @@ function middle() {
 }
 
 function chooseRow(step) {
+  if (!view.rows.length) return;
   const place = Math.max(0, Math.min((view.places.get(view.row) ?? -step) + step, view.rows.length - 1));
   view.reveal(view.cursor, place);
   page.choose(view.rows[place], view.cursor);
@@ -23,6 +24,7 @@ function chooseRow(step) {
 /** Moves the cursor to the next or the previous change of the chosen wire. */
 function chooseChange(step) {
   const row = view.row ?? view.rows[0];
+  if (!row) return;
   const last = row.wave.lastUpTo(view.cursor);
   const change = step > 0 ? last + 1 : row.wave.times[last] === view.cursor ? last - 1 : last;
   const time = change < 0 ? 0 : row.wave.times[change];
@@ -185,7 +187,18 @@ for (const name of ["dragenter", "dragover", "dragleave", "drop"]) {
 }
 element("file").addEventListener("change", (event) => page.compare(event.target.files[0]));
 
+/** Draws anew where the screen has more or fewer dots a pixel from now on. */
+function watchDots() {
+  const dots = matchMedia(`(resolution: ${devicePixelRatio}dppx)`);
+  const changed = () => {
+    page.resize();
+    watchDots();
+  };
+  dots.addEventListener("change", changed, { once: true });
+}
+
 new ResizeObserver(() => page.resize()).observe(picture);
+watchDots();
 const ground = matchMedia("(prefers-color-scheme: dark)");
 ground.addEventListener("change", () => page.lightOrDark(ground.matches));
 page.lightOrDark(ground.matches);

@@ -19,7 +19,7 @@ Object.assign(Painter.prototype, {
     this.box(view.labels, 0, view.width, HEAD, colour.ground);
     ink.fillStyle = colour.dim;
     for (const time of this.ticks()) this.tickText(time);
-    this.eachDot(this.placeTimes, (x) => this.flaw(x, x, HEAD - 6), (x, end) => this.flaw(x, end, HEAD - 6));
+    this.eachGrain(this.placeTimes, (x) => this.flaw(x, x, HEAD - 6), (x, end) => this.flaw(x, end, HEAD - 6));
     const part = (view.width - view.labels) / view.horizon;
     this.box(view.labels, 4, view.width, 8, colour.line);
     this.box(view.labels + view.from * part, 4, Math.max(3, ((view.width - view.labels) / view.scale) * part), 8, colour.busy);
@@ -29,36 +29,34 @@ Object.assign(Painter.prototype, {
 
   /** A time, where no time of a cursor stands. */
   tickText(time) {
-    const { view } = this;
-    const room = 8 * this.letter;
-    const isCovered = [view.cursor, view.mark].some((other) => other !== null && Math.abs(view.x(other) - view.x(time)) < room);
-    if (!isCovered) this.ink.fillText(String(time), view.x(time) + 3, HEAD - 16);
+    const { view, letter } = this;
+    const x = view.x(time) + 3;
+    const end = x + String(time).length * letter;
+    const isOver = (other) => other !== null && view.x(other) < end && this.flagEnd(other) > x;
+    if (![view.cursor, view.mark].some(isOver)) this.ink.fillText(String(time), x, HEAD - 16);
+  },
+
+  flagEnd(time) {
+    return this.view.x(time) + (String(time).length + 1) * this.letter;
   },
 
   /** The time of a cursor. */
   flag(time, colour) {
     const { ink, view } = this;
-    const text = String(time);
-    this.box(view.x(time), HEAD - 25, (text.length + 1) * this.letter, 18, colour);
+    this.box(view.x(time), HEAD - 25, this.flagEnd(time) - view.x(time), 18, colour);
     ink.fillStyle = this.colour.ground;
-    ink.fillText(text, view.x(time) + this.letter / 2, HEAD - 16);
+    ink.fillText(String(time), view.x(time) + this.letter / 2, HEAD - 16);
   },
 
   cursors() {
     const { ink, view, colour } = this;
-    const line = (time, stroke) => {
-      ink.beginPath();
-      ink.moveTo(this.crisp(view.x(time)), HEAD);
-      ink.lineTo(this.crisp(view.x(time)), view.height);
-      this.stroke(stroke);
-    };
     if (view.mark !== null) {
       ink.globalAlpha = 0.1;
       this.box(view.x(view.cursor), HEAD, (view.mark - view.cursor) * view.scale, view.height, colour.mark);
       ink.globalAlpha = 1;
-      line(view.mark, colour.mark);
+      this.upright(view.mark, colour.mark);
     }
-    line(view.cursor, colour.cursor);
+    this.upright(view.cursor, colour.cursor);
   },
 
   /** The arrows of the chain of causes, and of what its last change leads to. */

@@ -60,7 +60,8 @@ class Page {
     const { view } = this;
     const level = view.row ? `${view.row.name} = ${view.levelAtCursor(view.row)}` : "";
     const second = view.mark === null ? "" : `second ${view.mark} · difference ${view.mark - view.cursor}`;
-    element("readout").textContent = [`time ${view.cursor}`, level, second].filter(Boolean).join(" · ");
+    const told = [`time ${view.cursor}`, level, second].filter(Boolean).join(" · ");
+    if (element("readout").textContent !== told) element("readout").textContent = told;
   }
 
   /** Takes a row and a time: the cursor goes there, and the causes of the level are found. */
@@ -89,7 +90,7 @@ class Page {
     if (view.chain.steps.length > most) lines.at(-1).className = "more";
     section.querySelector("ol").replaceChildren(...lines);
     const effects = view.effects.map((effect) => ({ ...effect, line: `${causes.said(effect)} by ${effect.module.name} ${effect.module.kind}/${effect.delay}` }));
-    section.querySelectorAll("h2")[1].textContent = effects.length ? "What it causes" : "It causes nothing";
+    section.querySelectorAll("h2")[1].textContent = effects.length ? "What it causes" : "No change answers it";
     fill(section.querySelector("ul"), effects, (effect) => this.goToChange(effect));
   }
 
@@ -112,7 +113,7 @@ class Page {
   goTo({ time, wires, row }) {
     const { view } = this;
     const rows = row ? [row] : wires.map((wire) => view.all[wire]);
-    for (const other of rows.toReversed()) this.lead(other, time);
+    for (const other of [...rows].reverse()) this.lead(other, time);
     this.choose(rows.find((other) => other.wave.changeAt(time) >= 0) ?? rows[0], time);
     view.pointed = new Set(wires);
   }
@@ -165,14 +166,17 @@ class Page {
   async compare(file) {
     const section = element("differences");
     section.hidden = false;
+    this.isComparing = true;
     section.querySelector("h2").textContent = `Compared with ${file.name}`;
     try {
       const { rows, told } = compared(this.view.all, readWaves(wavesIn(await file.text())));
-      this.setRows(rows);
-      const lines = told.length ? told : [{ line: "no difference", time: 0, row: rows[0] }];
-      fill(section.querySelector("ul"), lines, (place) => this.goTo(place));
+      this.view.setRows(rows);
+      this.resize();
+      if (told.length) fill(section.querySelector("ul"), told, (place) => this.goTo(place));
+      else fill(section.querySelector("ul"), [{ line: "no difference" }], () => {});
     } catch (fault) {
       fill(section.querySelector("ul"), [{ line: `This isn't a file of waves: ${fault.message}` }], () => {});
     }
+    this.isComparing = false;
   }
 }

@@ -1,9 +1,12 @@
 "use strict";
-// Draws a view on a canvas. Only the rows and times that are seen are looked at, and changes that share a dot of the screen are drawn as one.
+// Draws a view on a canvas. Only the rows and times that are seen are looked at, and changes that share a few pixels are drawn as one.
 
 const FONT = '12px ui-monospace, "DejaVu Sans Mono", Menlo, Consolas, monospace';
 const COLOURS = ["ground", "ink", "dim", "line", "chosen", "wave", "word", "busy", "cursor", "mark", "fault", "cause", "effect", "other", "differs"];
 const EDGE = 6; // from the top of a row to its high level, and from its low level to the bottom
+const GRAIN = 3; // in so many pixels more than one change is too much to be seen
+const LEAST_CELL = 10; // between changes that are nearer than this, lines stand upright and don't cross
+const SLOPE = 3; // half the width of a crossing
 const LEAST_STEP = 3; // arrows of steps that end nearer to each other than this are left out
 
 class Painter {
@@ -31,8 +34,7 @@ class Painter {
     this.canvas.height = Math.round(clientHeight * this.dots);
     this.ink.font = FONT;
     this.letter = this.ink.measureText("0").width;
-    const { all } = this.view;
-    const names = all.reduce((most, row) => Math.max(most, row.name.length), 4);
+    const names = this.view.rows.reduce((most, row) => Math.max(most, row.name.length), 4);
     const labels = LEFT + (names + this.view.letters + 4) * this.letter;
     this.view.resize(clientWidth, clientHeight, Math.ceil(Math.min(labels, clientWidth * 0.4)));
   }
@@ -40,7 +42,8 @@ class Painter {
   draw() {
     const { ink, view, colour } = this;
     ink.setTransform(this.dots, 0, 0, this.dots, 0, 0);
-    Object.assign(ink, { font: FONT, textBaseline: "middle", lineWidth: Math.round(this.dots * 1.25) / this.dots });
+    this.thick = Math.max(1, Math.round(this.dots * 1.25)) / this.dots;
+    Object.assign(ink, { font: FONT, textBaseline: "middle", lineWidth: this.thick });
     this.box(0, 0, view.width, view.height, colour.ground);
     this.clipped(view.labels, HEAD, () => {
       this.grid();
@@ -67,9 +70,14 @@ class Painter {
     this.ink.fillRect(x, y, width, height);
   }
 
-  /** The middle of the dot that a place lies in, so that lines are sharp. */
-  crisp(place) {
-    return (Math.floor(place * this.dots) + 0.5) / this.dots;
+  /** Where the dot begins that a place lies in, so that lines are sharp. */
+  edge(place) {
+    return Math.floor(place * this.dots) / this.dots;
+  }
+
+  /** An upright line from the head of the picture down. */
+  upright(time, colour) {
+    this.box(this.edge(this.view.x(time)), HEAD, this.thick, this.view.height, colour);
   }
 
   stroke(colour) {
@@ -83,24 +91,24 @@ class Painter {
     for (let place = Math.floor(view.top / ROW); place < end; place++) draw(view.rows[place], view.y(place));
   }
 
-  /** Goes through those of some rising times that are seen. One that has a dot for itself is given to `one`, with its place and its number; a run of
-   * dots with more of them to `many`, with its ends and the number of the last. */
-  eachDot(times, one, many) {
-    const { view, dots } = this;
+  /** Goes through those of some rising times that are seen. One that has a grain for itself is given to `one`, with its place and its number; a run of
+   * grains with more of them to `many`, with its ends and the number of the last. Grains stay where they are in time when the picture moves. */
+  eachGrain(times, one, many) {
+    const { view } = this;
+    const unit = GRAIN / view.scale;
     const end = firstFrom(times, view.time(view.width));
-    const dot = (number) => Math.floor(view.x(times[number]) * dots);
-    const behind = (number, at) => firstFrom(times, view.time((at + 1) / dots), number + 1);
+    const grain = (number) => Math.floor(times[number] / unit);
     for (let next = firstFrom(times, view.from); next < end; ) {
-      const begin = dot(next);
+      const begin = grain(next);
       let stop = begin;
       let after = next;
-      while (after < end && dot(after) === stop) {
-        const beyond = behind(after, stop);
+      while (after < end && grain(after) === stop) {
+        const beyond = Math.max(after + 1, firstFrom(times, (stop + 1) * unit, after + 1));
         if (beyond === after + 1) break;
         after = beyond;
         stop++;
       }
-      if (stop > begin) many(begin / dots, stop / dots, after - 1);
+      if (stop > begin) many(this.edge(view.x(begin * unit)), this.edge(view.x(stop * unit)), after - 1);
       else one(view.x(times[next]), after++);
       next = after;
     }
@@ -116,14 +124,7 @@ class Painter {
   }
 
   grid() {
-    const { view, ink } = this;
-    ink.beginPath();
-    for (const time of this.ticks()) {
-      const x = this.crisp(view.x(time));
-      ink.moveTo(x, HEAD);
-      ink.lineTo(x, view.height);
-    }
-    this.stroke(this.colour.line);
+    for (const time of this.ticks()) this.upright(time, this.colour.line);
   }
 
   row(row, y) {
@@ -133,7 +134,7 @@ class Painter {
     if (row.isNarrow) this.bit(row, y);
     else this.word(row, y);
     const marks = this.marks.get(row.wire);
-    if (marks) this.eachDot(marks, (x) => this.flaw(x, x, y), (x, end) => this.flaw(x, end, y));
+    if (marks) this.eachGrain(marks, (x) => this.flaw(x, x, y), (x, end) => this.flaw(x, end, y));
   }
 
   /** Marks findings between two places at the top of a row. */
@@ -157,68 +158,79 @@ class Painter {
       if (begin !== null) fill(begin, x);
       begin = number % 2 ? null : x;
     };
-    this.eachDot(times, turn, (x, end, last) => {
+    this.eachGrain(times, turn, (x, end, last) => {
       turn(end, last);
       fill(x, end);
     });
     if (begin !== null) fill(begin, view.width);
   }
 
+  /** The waves are drawn of boxes, as far as they can, since these are painted much faster than lines. */
   bit({ wave, wire }, y) {
-    const { ink, view, colour } = this;
-    const heightOf = (change) => this.crisp(wave.isHigh(change) ? y + EDGE : y + ROW - EDGE);
-    let height = heightOf(firstFrom(wave.times, view.from) - 1);
-    ink.beginPath();
-    ink.moveTo(view.labels, height);
-    const one = (x, change) => {
-      ink.lineTo(this.crisp(x), height);
-      height = heightOf(change);
-      ink.lineTo(this.crisp(x), height);
+    const { ink, view, colour, thick } = this;
+    const heightOf = (change) => (wave.isHigh(change) ? y + EDGE : y + ROW - EDGE - thick);
+    let [begin, height] = [view.labels, heightOf(firstFrom(wave.times, view.from) - 1)];
+    const bands = [];
+    const lineTo = (x) => ink.fillRect(begin, height, x - begin, thick);
+    ink.fillStyle = wire === undefined ? colour.other : colour.wave;
+    const one = (place, change) => {
+      const x = this.edge(place);
+      lineTo(x);
+      ink.fillRect(x, y + EDGE, thick, ROW - 2 * EDGE);
+      [begin, height] = [x, heightOf(change)];
     };
-    this.eachDot(wave.times, one, (x, end, last) => {
-      ink.lineTo(x, height);
-      this.box(x, y + EDGE, end - x, ROW - 2 * EDGE, colour.busy);
-      height = heightOf(last);
-      ink.moveTo(end, height);
+    this.eachGrain(wave.times, one, (x, end, last) => {
+      lineTo(x);
+      bands.push([x, end]);
+      [begin, height] = [end, heightOf(last)];
     });
-    ink.lineTo(view.width, height);
-    this.stroke(wire === undefined ? colour.other : colour.wave);
+    lineTo(view.width);
+    this.bands(bands, y);
+  }
+
+  /** Where a wave changes too often to be drawn. */
+  bands(bands, y) {
+    for (const [x, end] of bands) this.box(x, y + EDGE, end - x, ROW - 2 * EDGE, this.colour.busy);
   }
 
   word(row, y) {
     const { ink, view, colour } = this;
-    const texts = [];
+    const cells = [];
+    const bands = [];
     let begin = view.labels - EDGE;
     let change = firstFrom(row.wave.times, view.from) - 1;
-    const cellTo = (end) => {
-      this.cell(begin, end, y);
-      texts.push([Math.max(begin, view.labels), end, change]);
-    };
-    ink.beginPath();
+    const cellTo = (end) => cells.push([begin, end, change]);
     const one = (x, next) => {
-      cellTo(x);
-      [begin, change] = [x, next];
+      cellTo(this.edge(x));
+      [begin, change] = [this.edge(x), next];
     };
-    this.eachDot(row.wave.times, one, (x, end, last) => {
+    this.eachGrain(row.wave.times, one, (x, end, last) => {
       cellTo(x);
-      this.box(x, y + EDGE, end - x, ROW - 2 * EDGE, colour.busy);
+      bands.push([x, end]);
       [begin, change] = [end, last];
     });
     cellTo(view.width + EDGE);
-    this.stroke(row.wire === undefined ? colour.other : colour.word);
+    ink.fillStyle = row.wire === undefined ? colour.other : colour.word;
+    ink.beginPath();
+    for (const [x, end] of cells) this.cell(x, end, y);
+    this.stroke(ink.fillStyle);
+    this.bands(bands, y);
     ink.fillStyle = colour.ink;
-    for (const [x, end, of] of texts) if (end - x > this.letter + 8) this.level(x + 5, end - 3, view.level(row, of), y);
+    for (const [x, end, of] of cells) if (end - x > this.letter + 8) this.level(Math.max(x, view.labels) + 5, end - 3, view.level(row, of), y);
   }
 
   /** The lines of a level between two changes. */
   cell(begin, end, y) {
-    const { ink } = this;
-    const slope = Math.min(3, (end - begin) / 2);
-    for (const side of [this.crisp(y + EDGE), this.crisp(y + ROW - EDGE)]) {
-      ink.moveTo(begin, y + ROW / 2);
-      ink.lineTo(begin + slope, side);
-      ink.lineTo(end - slope, side);
-      ink.lineTo(end, y + ROW / 2);
+    const { ink, thick } = this;
+    const slope = end - begin < LEAST_CELL ? 0 : SLOPE;
+    const [top, bottom] = [y + EDGE, y + ROW - EDGE - thick];
+    ink.fillRect(begin + slope, top, end - begin - 2 * slope, thick);
+    ink.fillRect(begin + slope, bottom, end - begin - 2 * slope, thick);
+    if (!slope) return ink.fillRect(begin, top, thick, bottom - top);
+    for (const [x, inner] of [[begin, begin + slope], [end, end - slope]]) {
+      ink.moveTo(inner, top + thick / 2);
+      ink.lineTo(x, y + ROW / 2);
+      ink.lineTo(inner, bottom + thick / 2);
     }
   }
 

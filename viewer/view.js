@@ -64,7 +64,7 @@ class View {
 
   /** The least scale, at which all units are seen. */
   get least() {
-    return (this.width - this.labels) / this.horizon;
+    return Math.max(this.width - this.labels, 1) / this.horizon;
   }
 
   x(time) {
@@ -116,9 +116,10 @@ class View {
     this.look(this.from + pixels / this.scale);
   }
 
+  /** Moves the rows up, by whole pixels, so that lines stay sharp. */
   scroll(pixels) {
     const most = this.rows.length * ROW - (this.height - HEAD);
-    this.top = Math.max(0, Math.min(this.top + pixels, most));
+    this.top = Math.round(Math.max(0, Math.min(this.top + pixels, most)));
   }
 
   /** Moves the picture so that a time and a row are seen. */
