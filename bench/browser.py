@@ -9,7 +9,7 @@ import tempfile
 import time
 
 WORDS = ["--headless", "--no-sandbox", "--disable-gpu", "--hide-scrollbars", "--no-first-run", "--remote-debugging-pipe"]
-SECONDS = 120
+SHOWN = "new Promise((done) => requestAnimationFrame(() => requestAnimationFrame(() => done(1))))"  # until the page was drawn twice
 
 
 class Fault(Exception):
@@ -82,6 +82,19 @@ class Browser:
                     raise Fault(f"{method}: {message['error']}")
                 return message["result"]
 
+    def processor(self):
+        """The seconds of the processor that all processes of the browser took."""
+        used = 0
+        for pid in filter(str.isdigit, os.listdir("/proc")):
+            try:
+                with open(f"/proc/{pid}/stat", encoding="utf-8") as file:
+                    fields = file.read().rpartition(")")[2].split()
+            except OSError:
+                continue
+            if int(fields[3]) == self.run.pid:
+                used += int(fields[11]) + int(fields[12])
+        return used / os.sysconf("SC_CLK_TCK")
+
     def open(self, path):
         """Opens a file, and returns the seconds until its load was done."""
         self.events.clear()
@@ -100,7 +113,7 @@ class Browser:
 
     def shown(self):
         """Waits until the page was drawn twice."""
-        self.value("new Promise((done) => requestAnimationFrame(() => requestAnimationFrame(() => done(1))))")
+        self.value(SHOWN)
 
     def screen(self, width, height, dots=1, ground="light"):
         """Sets the size of the page, the dots of a pixel, and light or dark."""
