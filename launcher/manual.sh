@@ -3,17 +3,22 @@
 
 write_man_page() {
     local command about
-    printf '.TH MPWB 1 "" Nesthrim\n.SH NAME\nmpwb \\- a workbench for micropipelines\n.SH SYNOPSIS\n.B mpwb\nCOMMAND\n[OPTIONS]\n[FILE]\n.SH DESCRIPTION\n'
+    printf '.TH MPWB 1 "" Nesthrim\n.SH NAME\nmpwb \\- a workbench for micropipelines\n'
+    printf '.SH SYNOPSIS\n.B mpwb\nCOMMAND\n[OPTIONS]\n[FILE]\n.SH DESCRIPTION\n'
     sed -n 1p "$1/all" | in_roff text
     printf '.SH COMMANDS\n'
     while read -r command about; do
-        printf '.SS %s\n' "$(sed -n 's/^Usage: \(\.\/\)\{0,1\}//p' "$1/$command" 2>/dev/null | sed 's/-/\\-/g; s/.*/"&"/; q' | grep . || echo "\"mpwb $command\"")"
+        printf '.SS "%s"\n' "$(usage_in "$1" "$command" | sed 's/-/\\-/g')"
         if [ "$command" = help ]; then echo "$about"; else in_roff text <"$1/$command"; fi
     done <"$1/commands"
     printf '.SH "KINDS OF MODULE"\n'
     sed -n '/^Kinds of module/,/^$/p' "$1/waves" | in_roff list
     printf '.SH "EXIT STATUS"\n'
     sed -n '/^Exit status, and/,$p' "$1/waves" | in_roff list
+}
+
+usage_in() {
+    if [ "$2" = help ]; then echo "mpwb help [COMMAND]"; else sed -n 's/^Usage: \(\.\/\)\{0,1\}//p' "$1/$2"; fi
 }
 
 # Help as the text of a man page: paragraphs are filled, and lines with blanks in front stay as they are. As a `text` it has a list of arguments and

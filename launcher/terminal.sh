@@ -32,6 +32,7 @@ fit() {
     local width=$1 columns over input=/dev/null file
     shift
     file=$(file_of show "$@")
+    if [ -n "$file" ] && [ "$file" != - ] && [ ! -f "$file" ]; then run show "$@"; fi # (a pipe can't be read twice)
     begin_work
     if [ -z "$file" ] || [ "$file" = - ]; then
         input=$room/netlist file=$room/netlist
@@ -67,7 +68,8 @@ longest_name() {
         most=$((${#word} > most ? ${#word} : most))
     done
     if [ "$most" = 0 ]; then
-        most=$(head -c "$most_looked_at" -- "$file" 2>/dev/null | awk '$1 == "wire" && length($2) > most { most = length($2) } END { print most + 0 }')
+        most=$(head -c "$most_looked_at" -- "$file" 2>/dev/null |
+            awk '$1 == "wire" && length($2) > most { most = length($2) } END { print most + 0 }')
     fi
     echo "$most"
 }

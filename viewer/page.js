@@ -89,7 +89,8 @@ class Page {
     if (view.chain.steps.length > most) lines.push(line("further back", () => this.listCauses(most + MOST_LINES)));
     if (view.chain.steps.length > most) lines.at(-1).className = "more";
     section.querySelector("ol").replaceChildren(...lines);
-    const effects = view.effects.map((effect) => ({ ...effect, line: `${causes.said(effect)} by ${effect.module.name} ${effect.module.kind}/${effect.delay}` }));
+    const saidEffect = (effect) => `${causes.said(effect)} by ${effect.module.name} ${effect.module.kind}/${effect.delay}`;
+    const effects = view.effects.map((effect) => ({ ...effect, line: saidEffect(effect) }));
     section.querySelectorAll("h2")[1].textContent = effects.length ? "What it causes" : "No change answers it";
     fill(section.querySelector("ul"), effects, (effect) => this.goToChange(effect));
   }
