@@ -174,7 +174,7 @@ class Netlist {
 
 /** What a line of `check` or `report` speaks of: its time, and its wires by number. */
 function readPlace(line, netlist) {
-  const words = line.split(/[ ,]+/);
+  const words = line.split(" ");
   const time = Number(/ at (\d+)$/.exec(line)?.[1] ?? (isDigit(line.charCodeAt(0)) ? words[0] : 0));
   if (words[0] === "note") return { line, time, wires: [netlist.wireNumbers.get(words[2])] };
   if (words[1] === "bundle") return { line, time, wires: netlist.bundles.get(words[2]) };
@@ -182,5 +182,6 @@ function readPlace(line, netlist) {
     const { inputs, outputs } = netlist.modules[netlist.moduleNumbers.get(words[2])];
     return { line, time, wires: [...inputs, ...outputs].map((port) => port.wire).filter((wire) => wire >= 0) };
   }
-  return { line, time, wires: words.map((word, at) => netlist.wireNumbers.get(words[at - 1] === "for" ? word : "")).filter((wire) => wire >= 0) };
+  const waited = [...line.matchAll(/ waits for (\w+)/g)]; // those of a deadlock
+  return { line, time, wires: waited.map((found) => netlist.wireNumbers.get(found[1])) };
 }
