@@ -128,12 +128,12 @@ class Page {
     return near.length ? near.reduce((one, two) => (distance(two) < distance(one) ? two : one)) : view.unit(x);
   }
 
-  /** Goes to the next row whose name has what is searched for. */
+  /** Goes to the next row whose name has what is searched for, or with the step -1 to the one before; behind the last comes the first. */
   search(step) {
     const { rows } = this.view;
     const matches = this.matches();
-    const next = [...rows.keys()].map((place) => (this.found + step * place + rows.length * (step < 0 ? 1 : 0) + rows.length) % rows.length);
-    const place = next.find((at) => matches(rows[at]));
+    const found = [...rows.keys()].filter((place) => matches(rows[place]));
+    const place = step > 0 ? (found.find((at) => at > this.found) ?? found[0]) : (found.findLast((at) => at < this.found) ?? found.at(-1));
     element("search").setCustomValidity(place === undefined ? "No wire has this in its name" : "");
     if (place === undefined) return;
     this.found = place;
