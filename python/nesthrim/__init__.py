@@ -1,0 +1,53 @@
+"""Netlists of micropipelines, made and asked by a program.
+
+    from nesthrim import Netlist
+
+    n = Netlist(horizon=200)
+    r, ack = n.wire("r"), n.wire("ack")
+    stages = n.pipeline("s", 4, req=r, ack=ack)
+    n.events(r, 1, 4)
+    n.buf("sink", stages[-1].q, out=ack, delay=3)
+    print(n.show())
+
+All answers are those of the program `mpwb`, which is found as `find_program` says.
+"""
+
+from .answers.causes import Event, PathPart, Step, Wait
+from .answers.measure import BundleMeasure, Measure, WireMeasure
+from .answers.picture import Picture
+from .answers.report import Check, Deadlock, Finding, Late, Note, Report
+from .answers.waves import Wave, Waves
+from .answers.work import MadeEdit, Outcome, Work
+from .builder import Part
+from .circuits import FifoStage
+from .errors import (
+    AnswerError,
+    BrokenPipe,
+    Closed,
+    Fault,
+    NesthrimError,
+    NoSeat,
+    OutOfMemory,
+    ProgramFailed,
+    ProgramMissing,
+    Refused,
+    UnknownName,
+    Unread,
+)
+from .netlist import Netlist
+from .program import Program, find_program
+from .questions import END
+from .seat import Desk, Seat
+from .session import Session
+from .sweep import sweep
+from .variants import Variant
+from .wires import Bundle, Module, Port, Stimulus, Wire
+
+__version__ = "0.1.0"
+
+__all__ = [
+    "END", "AnswerError", "BrokenPipe", "Bundle", "BundleMeasure", "Check", "Closed", "Deadlock", "Desk", "Event", "Fault", "FifoStage",
+    "Finding", "Late", "MadeEdit", "Measure", "Module", "NesthrimError", "Netlist", "NoSeat", "Note", "OutOfMemory", "Outcome", "Part",
+    "PathPart", "Picture", "Port", "Program", "ProgramFailed", "ProgramMissing", "Refused", "Report", "Seat", "Session", "Step", "Stimulus",
+    "UnknownName", "Unread", "Variant", "Wait", "Wave", "Waves", "Wire", "WireMeasure", "Work", "find_program", "sweep",
+]  # fmt: skip

@@ -1,0 +1,1 @@
+"""Answers of the program as objects."""

@@ -1,0 +1,98 @@
+"""Events of wires, the gaps between them, and margins of bundles."""
+
+from __future__ import annotations
+
+import re
+from dataclasses import dataclass
+from typing import Mapping, NamedTuple, Optional
+
+from ..errors import AnswerError
+from ..names import find
+from .reading import NAME, number
+
+# all lines at once: a sweep reads many of these answers
+_WIRE = re.compile(rf"^wire ({NAME}) (\d+)(?: (\d+) (\d+)(?: (\d+) (\d+))?)?$", re.MULTILINE)
+_BUNDLE = re.compile(rf"^bundle ({NAME}) (\d+)(?: setup (\d+))?(?: response (\d+) (\d+))?(?: late (\d+))?$", re.MULTILINE)
+
+
+def _joined(*words: object) -> str:
+    return " ".join(str(word) for word in words if word is not None)
+
+
+class WireMeasure(NamedTuple):
+    """The changes of a wire in a range of times: how many, the first and the last, the least and the greatest gap between two.
+
+    What isn't there, as the gap of one change, is `None`.
+    """
+
+    name: str
+    events: int
+    first: Optional[int] = None
+    last: Optional[int] = None
+    least: Optional[int] = None
+    most: Optional[int] = None
+
+    def __str__(self) -> str:
+        return _joined("wire", self.name, self.events, self.first, self.last, self.least, self.most)
+
+    @property
+    def period(self) -> Optional[float]:
+        """The mean gap between two changes, `None` if there are fewer than two."""
+        if self.first is None or self.last is None or self.events < 2:
+            return None
+        return (self.last - self.first) / (self.events - 1)
+
+
+class BundleMeasure(NamedTuple):
+    """The requests of a bundle in a range of times.
+
+    - `requests`: how many;
+    - `setup`: the least time from a change of the data to the next request;
+    - `least_response`, `most_response`: the least and the greatest time from a request to its acknowledge;
+    - `late`: the most units by which data come behind their request.
+
+    What isn't there is `None`.
+    """
+
+    name: str
+    requests: int
+    setup: Optional[int] = None
+    least_response: Optional[int] = None
+    most_response: Optional[int] = None
+    late: Optional[int] = None
+
+    def __str__(self) -> str:
+        setup = [] if self.setup is None else ["setup", self.setup]
+        response = [] if self.least_response is None else ["response", self.least_response, self.most_response]
+        late = [] if self.late is None else ["late", self.late]
+        return _joined("bundle", self.name, self.requests, *setup, *response, *late)
+
+
+@dataclass(frozen=True)
+class Measure:
+    """The measures of all wires and of all bundles, by name."""
+
+    wires: Mapping[str, WireMeasure]
+    bundles: Mapping[str, BundleMeasure]
+
+    def __str__(self) -> str:
+        """The lines that `mpwb measure` writes."""
+        return "".join(f"{line}\n" for line in (*self.wires.values(), *self.bundles.values()))
+
+    def wire(self, name: str) -> WireMeasure:
+        """The measures of a wire. `UnknownName` if there is none of this name."""
+        return find(self.wires, name, "wire")
+
+    def bundle(self, name: str) -> BundleMeasure:
+        """The measures of a bundle. `UnknownName` if there is none of this name."""
+        return find(self.bundles, name, "bundle")
+
+
+def read_measure(text: str, question: str) -> Measure:
+    """What `measure` writes."""
+    wires = {name: WireMeasure(name, *map(number, figures)) for name, *figures in _WIRE.findall(text)}
+    bundles = {name: BundleMeasure(name, *map(number, figures)) for name, *figures in _BUNDLE.findall(text)}
+    if text.count("\n") != len(wires) + len(bundles):
+        strange = (line for line in text.splitlines() if not (_WIRE.match(line) or _BUNDLE.match(line)))
+        raise AnswerError(question, next(strange, text))
+    return Measure(wires, bundles)

@@ -1,0 +1,155 @@
+"""What breaks a rule, and what `check` finds beside that."""
+
+from __future__ import annotations
+
+import re
+from dataclasses import dataclass
+from typing import Iterator, List, Sequence, Tuple, Union, overload
+
+from ..errors import AnswerError
+from .reading import NAME, match
+
+_FINDING = re.compile(rf"(\d+) (module|bundle) ({NAME}) ([a-z-]+)")
+_LATE = re.compile(rf"(\d+) bundle ({NAME}) late (\d+)")
+_DEADLOCK = re.compile(r"(\d+) deadlock (.+)")
+_WAIT = re.compile(rf"({NAME}) waits for ({NAME})")
+_NOTE = re.compile(rf"note wire ({NAME}) (.+)")
+
+
+@dataclass(frozen=True)
+class Finding:
+    """At a time, a module or a bundle (`sort`) meets something that a well-behaved circuit avoids: `code`, as "setup"."""
+
+    time: int
+    sort: str
+    name: str
+    code: str
+
+    def __str__(self) -> str:
+        return f"{self.time} {self.sort} {self.name} {self.code}"
+
+
+@dataclass(frozen=True)
+class Late:
+    """The data of a bundle change at `time`, `by` units after a request that they belong to."""
+
+    time: int
+    name: str
+    by: int
+
+    def __str__(self) -> str:
+        return f"{self.time} bundle {self.name} late {self.by}"
+
+
+@dataclass(frozen=True)
+class Deadlock:
+    """From the time `since` on modules wait for each other for ever: each pair is a module and the wire that it waits for."""
+
+    since: int
+    waits: Tuple[Tuple[str, str], ...]
+
+    def __str__(self) -> str:
+        return f"{self.since} deadlock " + ", ".join(f"{module} waits for {wire}" for module, wire in self.waits)
+
+
+@dataclass(frozen=True)
+class Note:
+    """Something about a wire that is worth a look, and no fault."""
+
+    wire: str
+    text: str
+
+    def __str__(self) -> str:
+        return f"note wire {self.wire} {self.text}"
+
+
+class Report(Sequence[Finding]):
+    """The findings of a netlist, in the program's order."""
+
+    def __init__(self, findings: Sequence[Finding]) -> None:
+        self._findings = tuple(findings)
+
+    @overload
+    def __getitem__(self, at: int) -> Finding: ...
+
+    @overload
+    def __getitem__(self, at: slice) -> Tuple[Finding, ...]: ...
+
+    def __getitem__(self, at: Union[int, slice]) -> Union[Finding, Tuple[Finding, ...]]:
+        return self._findings[at]
+
+    def __iter__(self) -> Iterator[Finding]:
+        return iter(self._findings)
+
+    def __len__(self) -> int:
+        return len(self._findings)
+
+    def __eq__(self, other: object) -> bool:
+        return isinstance(other, Report) and self._findings == other._findings
+
+    def __hash__(self) -> int:
+        return hash(self._findings)
+
+    def __str__(self) -> str:
+        """The lines that `mpwb report` writes."""
+        return "".join(f"{finding}\n" for finding in self._findings)
+
+    def __repr__(self) -> str:
+        return f"<report of {len(self)} findings>"
+
+
+@dataclass(frozen=True)
+class Check:
+    """Whether a netlist works: what is found in it, data that are late, modules that wait for each other for ever, and notes."""
+
+    findings: Report
+    late: Tuple[Late, ...]
+    deadlocks: Tuple[Deadlock, ...]
+    notes: Tuple[Note, ...]
+
+    @property
+    def ok(self) -> bool:
+        """Whether there is nothing but notes."""
+        return not (self.findings or self.late or self.deadlocks)
+
+    def __str__(self) -> str:
+        """The lines that `mpwb check` writes."""
+        return str(self.findings) + "".join(f"{line}\n" for line in (*self.late, *self.deadlocks, *self.notes))
+
+
+def _read_finding(line: str, question: str) -> Finding:
+    found = match(_FINDING, line, question)
+    return Finding(int(found[1]), found[2], found[3], found[4])
+
+
+def read_report(text: str, question: str) -> Report:
+    """What `report` writes."""
+    return Report([_read_finding(line, question) for line in text.splitlines()])
+
+
+def _read_deadlock(since: str, waits: str, line: str) -> Deadlock:
+    pairs: List[Tuple[str, str]] = []
+    for wait in waits.split(", "):
+        found = _WAIT.fullmatch(wait)
+        if found is None:
+            raise AnswerError("check", line)
+        pairs.append((found[1], found[2]))
+    return Deadlock(int(since), tuple(pairs))
+
+
+def read_check(text: str, question: str) -> Check:
+    """What `check` writes."""
+    findings: List[Finding] = []
+    late: List[Late] = []
+    deadlocks: List[Deadlock] = []
+    notes: List[Note] = []
+    for line in text.splitlines():
+        if found := _LATE.fullmatch(line):
+            late.append(Late(int(found[1]), found[2], int(found[3])))
+        elif found := _DEADLOCK.fullmatch(line):
+            deadlocks.append(_read_deadlock(found[1], found[2], line))
+        elif found := _NOTE.fullmatch(line):
+            notes.append(Note(found[1], found[2]))
+        else:
+            findings.append(_read_finding(line, question))
+    return Check(Report(findings), tuple(late), tuple(deadlocks), tuple(notes))

@@ -1,0 +1,138 @@
+"""Lines to a program that answers each of them, and what it answers."""
+
+from __future__ import annotations
+
+import os
+import re
+import select
+import subprocess
+import threading
+import time
+import weakref
+from typing import Optional
+
+from .errors import Closed, Unread
+
+# Two questions behind each line. Their answers end the answer to the line: no answer has a line of the one, followed by one of the other, and
+# then goes on. No wire has the name that the first one asks for.
+_QUESTIONS = b"\nwave .\nversion\n"
+_END = re.compile(rb"(?:\A|\n)(refused 3 NoSuchWire\nversion \d+\n)\Z")
+_LONGEST_END = 64
+
+_open: "weakref.WeakSet[Channel]" = weakref.WeakSet()
+
+
+class Ended(Exception):
+    """The other end has gone away."""
+
+
+class Silent(Exception):
+    """The other end doesn't answer in time."""
+
+
+class Channel:
+    """A way to write lines, by the file descriptor `to`, and to read answers, by `back`. Each answer comes within `seconds`, if they are given.
+
+    Threads may share it: one line is answered after the other.
+    """
+
+    def __init__(self, to: int, back: int, seconds: Optional[float] = None) -> None:
+        self._to: Optional[int] = to
+        self._back: Optional[int] = back
+        self._seconds = seconds
+        self._poll = select.poll()
+        self._poll.register(back, select.POLLIN)
+        self._lock = threading.Lock()
+        _open.add(self)
+
+    @classmethod
+    def of(cls, process: subprocess.Popen[bytes]) -> Channel:
+        """The channel to a program with pipes for its input and its output, which are the channel's then."""
+        assert process.stdin is not None and process.stdout is not None
+        channel = cls(os.dup(process.stdin.fileno()), os.dup(process.stdout.fileno()))
+        process.stdin.close()
+        process.stdout.close()
+        return channel
+
+    @property
+    def is_open(self) -> bool:
+        """Whether lines can be asked."""
+        return self._to is not None
+
+    def ask(self, line: str) -> str:
+        """The answer to a line. `Ended` where the other end goes away before it, `Silent` where it takes too long; the channel is closed then."""
+        if "\n" in line:
+            raise Unread(1, "NotAscii", statement=line, meaning="a line has no line feed in it: ask one line after the other")
+        with self._lock:
+            if self._to is None:
+                raise Closed("this was closed before: open another session, or take the seat again")
+            try:
+                self._write(self._to, line.encode("utf-8", "surrogateescape") + _QUESTIONS)
+                return self._read().decode("utf-8", "replace")
+            except BaseException:
+                # (what comes still would be taken for the answer to the next line)
+                self._close()
+                raise
+
+    def _write(self, to: int, text: bytes) -> None:
+        rest = memoryview(text)
+        try:
+            while rest:
+                rest = rest[os.write(to, rest) :]
+        except BrokenPipeError as error:
+            raise Ended from error
+
+    def _read(self) -> bytes:
+        answer = bytearray()
+        until = None if self._seconds is None else time.monotonic() + self._seconds
+        while True:
+            answer += self.take(until)
+            end = _END.search(answer, max(0, len(answer) - _LONGEST_END))
+            if end:
+                return bytes(answer[: end.start(1)])
+
+    def take(self, until: Optional[float] = None) -> bytes:
+        """Some bytes of what is answered. `Ended` where there are no more."""
+        assert self._back is not None
+        while True:
+            left = None if until is None else max(0.0, until - time.monotonic()) * 1000
+            if not self._poll.poll(left):
+                raise Silent
+            try:
+                more = os.read(self._back, 65_536)
+            except BlockingIOError:
+                continue
+            if not more:
+                raise Ended
+            return more
+
+    def end_input(self) -> None:
+        """Says that no more lines come. What is answered still can be taken."""
+        if self._to is not None:
+            os.close(self._to)
+            self._to = None
+
+    def close(self) -> None:
+        """Closes both ends, once an answer that somebody waits for has come."""
+        with self._lock:
+            self._close()
+
+    def _close(self) -> None:
+        self.end_input()
+        if self._back is not None:
+            os.close(self._back)
+            self._back = None
+        _open.discard(self)
+
+    def __del__(self) -> None:
+        self._close()
+
+
+def _leave_to_parent() -> None:
+    """In a process that was forked: the channels are the parent's, and this process doesn't keep them open."""
+    for channel in list(_open):
+        channel._lock = threading.Lock()
+        channel._close()
+
+
+os.register_at_fork(after_in_child=_leave_to_parent)

@@ -1,0 +1,186 @@
+"""The questions that a netlist, a session, a seat or a variant answers."""
+
+from __future__ import annotations
+
+import os
+from abc import ABC, abstractmethod
+from typing import Any, Callable, Dict, Iterable, Optional, Sequence, Tuple, Union
+
+from .answers.causes import PathPart, Step, Wait, read_path, read_waits, read_why
+from .answers.measure import Measure, read_measure
+from .answers.picture import Picture
+from .answers.report import Check, Report, read_check, read_report
+from .answers.waves import Wave, Waves, read_wave, read_waves
+from .answers.work import MadeEdit, Work, read_edits, read_version, read_work
+from .names import plain_name
+from .wires import Wire
+
+# a time behind all horizons: the program reads it as the last one, and as the horizon where it ends a range
+END = 2**64 - 1
+
+Path = Union[str, "os.PathLike[str]"]
+AnyWire = Union[str, Wire]
+
+
+# the first words of edits
+_EDITS = {"wire", "module", "stim", "bundle", "remove", "input", "output", "indelay", "delay", "clear", "batch"}
+
+
+def _question(line: str) -> Sequence[str]:
+    """The words of a question."""
+    words = line.split()
+    if not words or words[0] in _EDITS:
+        raise ValueError(f"{line!r} is no question: `edited` makes edits for a while, and a `Session` takes them")
+    return words
+
+
+def _text(text: str, question: str) -> str:
+    return text
+
+
+def _one_wave(text: str, question: str) -> Wave:
+    return read_wave(text.rstrip("\n"), question)
+
+
+# how the answer to the question of each first word is read
+READERS: Dict[str, Callable[[str, str], Any]] = {
+    "wave": _one_wave,
+    "waves": read_waves,
+    "report": read_report,
+    "check": read_check,
+    "measure": read_measure,
+    "why": read_why,
+    "path": read_path,
+    "waits": read_waits,
+    "work": read_work,
+    "edits": read_edits,
+    "version": read_version,
+}
+
+
+def wire_name(wire: AnyWire) -> str:
+    """The name of a wire that is given by its name or as an object."""
+    return wire.name if isinstance(wire, Wire) else plain_name(wire)
+
+
+def write_file(path: Optional[Path], text: str) -> None:
+    """Writes a text to a file, if one is named."""
+    if path is not None:
+        with open(path, "w", encoding="utf-8", newline="\n") as file:
+            file.write(text)
+
+
+class Questions(ABC):
+    """What can be asked. Times are in units from 0; one at or above the horizon is the last one, and the horizon where it ends a range.
+
+    `UnknownName` (3 NoSuchWire) where a wire that is asked for doesn't stand; other faults of the netlist as the program tells them;
+    `AnswerError` where the answer can't be understood.
+    """
+
+    @abstractmethod
+    def _ask(self, words: Sequence[str]) -> str:
+        """What the program writes for the words of a question."""
+
+    @abstractmethod
+    def _draw(self, words: Sequence[str]) -> str:
+        """What the program's command `show` writes with these words behind it."""
+
+    def ask(self, line: str) -> str:
+        """The answer to a question as it stands in a script, as "measure 0 100", as the program writes it."""
+        return self._ask(_question(line))
+
+    def answer(self, line: str) -> Any:
+        """The same as an object: that of the method of this name."""
+        return self._answer(_question(line))
+
+    def _answer(self, words: Sequence[str]) -> Any:
+        text = self._ask(words)
+        return READERS.get(words[0] if words else "", _text)(text, " ".join(words))
+
+    def waves(self) -> Waves:
+        """The waves of all wires."""
+        waves: Waves = self._answer(["waves"])
+        return waves
+
+    def wave(self, wire: AnyWire) -> Wave:
+        """The wave of one wire."""
+        wave: Wave = self._answer(["wave", wire_name(wire)])
+        return wave
+
+    def report(self) -> Report:
+        """What breaks a rule of a module or a bundle."""
+        report: Report = self._answer(["report"])
+        return report
+
+    def check(self) -> Check:
+        """Whether it works: the report, data that are late, modules that wait for each other for ever, and notes."""
+        check: Check = self._answer(["check"])
+        return check
+
+    def measure(self, start: int = 0, end: int = END) -> Measure:
+        """Events of wires, the gaps between them and margins of bundles, at the times from `start` to before `end`."""
+        measure: Measure = self._answer(["measure", str(start), str(end)])
+        return measure
+
+    def why(self, wire: AnyWire, time: int = END, steps: int = 20) -> Tuple[Step, ...]:
+        """The chain of causes of the wire's level at a time, the last change first, in so many steps at most."""
+        why: Tuple[Step, ...] = self._answer(["why", wire_name(wire), str(time), str(steps)])
+        return why
+
+    def path(self, wire: AnyWire, time: int = END) -> Tuple[PathPart, ...]:
+        """Where the time of this chain went: the modules that set the pace, the slowest first."""
+        path: Tuple[PathPart, ...] = self._answer(["path", wire_name(wire), str(time)])
+        return path
+
+    def waits(self, time: int = END) -> Tuple[Wait, ...]:
+        """Which modules and bundles wait at a time."""
+        waits: Tuple[Wait, ...] = self._answer(["waits", str(time)])
+        return waits
+
+    def show(self, start: int = 0, end: int = END, wires: Iterable[AnyWire] = ()) -> str:
+        """The timing diagram of a range, of these wires or of all, as text."""
+        return self._ask(["show", str(start), str(end), *map(wire_name, wires)])
+
+    def svg(self, start: int = 0, end: int = END, wires: Iterable[AnyWire] = (), columns: int = 72) -> Picture:
+        """The timing diagram as an SVG picture, which a notebook shows."""
+        chosen = [f"--wire={wire_name(wire)}" for wire in wires]
+        return Picture(self._draw(["--svg", f"--from={start}", f"--to={end}", f"--columns={columns}", *chosen]))
+
+    def graph(self) -> str:
+        """The netlist as a graph for `dot`."""
+        return self._ask(["graph"])
+
+    def text(self) -> str:
+        """The netlist's text, as the program writes it."""
+        return self._ask(["text"])
+
+    def dump(self, path: Optional[Path] = None) -> str:
+        """The waves as a value change dump, written to a file if `path` is given."""
+        text = self._ask(["dump"])
+        write_file(path, text)
+        return text
+
+    def verilog(self, path: Optional[Path] = None) -> str:
+        """The netlist as a Verilog file, written to a file if `path` is given."""
+        text = self._ask(["verilog"])
+        write_file(path, text)
+        return text
+
+
+class EditQuestions(Questions):
+    """What can be asked about edits, beside all else."""
+
+    def version(self) -> int:
+        """How many edits were accepted."""
+        version: int = self._answer(["version"])
+        return version
+
+    def edits(self, start: int = 1) -> Tuple[MadeEdit, ...]:
+        """The accepted edits from this number on, each as the line of a script that makes it."""
+        edits: Tuple[MadeEdit, ...] = self._answer(["edits", str(start)])
+        return edits
+
+    def work(self) -> Tuple[Work, ...]:
+        """What was evaluated again for the last edit that was accepted. A seat refuses this (23 NoWork)."""
+        work: Tuple[Work, ...] = self._answer(["work"])
+        return work

@@ -1,0 +1,73 @@
+"""A netlist that is edited, line by line."""
+
+from __future__ import annotations
+
+import subprocess
+import weakref
+from typing import TYPE_CHECKING, Optional, Sequence, Union
+
+from .channel import Channel
+from .errors import BrokenPipe, NesthrimError
+from .faults import Origin, fault_of
+from .program import Complaints, Output, Program, find_program
+from .talk import Talk
+
+if TYPE_CHECKING:
+    from .netlist import Netlist
+
+_SECONDS = 5.0
+
+
+class Session(Talk):
+    """A run of `mpwb play FILE`, which answers edits and questions until it is closed, or its `with` ends.
+
+    `netlist` is a netlist or a text of one. `Refused` or `Unread`, with the line, if the program doesn't take it.
+    """
+
+    def __init__(self, netlist: Union[Netlist, str], program: Optional[Program] = None) -> None:
+        self.program: Program = program or getattr(netlist, "program", None) or find_program()
+        self._text = str(netlist)
+        self._netlist = None if isinstance(netlist, str) else netlist
+        self._process = self.program.start_on(["play"], self._text, stdin=subprocess.PIPE)
+        self._complaints = Complaints(self._process)
+        super().__init__(Channel.of(self._process))
+        self._end = weakref.finalize(self, _end_run, self._channel, self._process, self._complaints)
+        # (a netlist that isn't taken ends the program before the first answer)
+        self.version()
+
+    def _origin(self, line: int) -> Optional[Origin]:
+        if self._netlist is not None:
+            return self._netlist.origin(line)
+        lines = self._text.split("\n")
+        return Origin(lines[line - 1], None) if 0 < line <= len(lines) else None
+
+    def _gone(self) -> NesthrimError:
+        status, said = self._complaints.end()
+        if status <= 0:
+            return BrokenPipe("the program has gone away before it answered; open another session", status, said)
+        return fault_of(Output(status, "", said), self.program, self._text, self._origin)
+
+    def _draw(self, words: Sequence[str]) -> str:
+        text = self.text()
+        output = self.program.run(["show", *words], text)
+        if output.status != 0:
+            raise fault_of(output, self.program, text, lambda line: None)
+        return output.written
+
+    def close(self) -> None:
+        self._end()
+
+    def __repr__(self) -> str:
+        return f"<session of {self.program.path}, {'open' if self._channel.is_open else 'closed'}>"
+
+
+def _end_run(channel: Channel, process: subprocess.Popen[bytes], complaints: Complaints) -> None:
+    if not channel.is_open:
+        return
+    channel.close()
+    try:
+        process.wait(_SECONDS)
+    except subprocess.TimeoutExpired:
+        # (all that was asked was answered, so nothing is lost)
+        process.kill()
+    complaints.end()
