@@ -7,7 +7,7 @@ from __future__ import annotations
 
 from abc import abstractmethod
 from dataclasses import dataclass
-from typing import TYPE_CHECKING, List, Sequence, Union
+from typing import TYPE_CHECKING, List, Optional, Sequence, Union
 
 from .kinds import Kinds
 from .wires import Port, Wire, whole
@@ -106,20 +106,20 @@ class Circuits(Kinds):
         part.c("", part["r"], ~ack, out="q", delay=delay)
         return part
 
-    def fork(self, name: str, req: Wire, acks: Sequence[Wire], delay: int = 2) -> Part:
-        """A stage whose events go to several branches: its output, the wire `q`, is the request of each. It takes the next request once all
-        branches have acknowledged the last one. C-elements `name.t2`, `name.t3` .. bring the acknowledges together."""
+    def fork(self, name: str, req: Wire, acks: Sequence[Wire], delay: int = 2, out: Optional[Wire] = None) -> Part:
+        """A stage whose events go to several branches: it drives `out`, or else a new wire `q`, and that is the request of each branch.
+
+        It takes the next request once all branches have acknowledged the last one; C-elements `name.t2`, `name.t3` .. bring `acks` together.
+        """
         part = self.part(name)
-        q = part.wire("q")
-        part.c("", req, ~_rendezvous(part, acks, delay), out=q, delay=delay)
+        part.c("", req, ~_rendezvous(part, acks, delay), out=out or part.wire("q"), delay=delay)
         return part
 
-    def join(self, name: str, reqs: Sequence[Wire], ack: Wire, delay: int = 2) -> Part:
-        """A stage that takes one event from each of several branches, and makes one of them: on its output, the wire `q`, which acknowledges
-        each branch too. C-elements `name.t2`, `name.t3` .. bring the requests together."""
+    def join(self, name: str, reqs: Sequence[Wire], ack: Wire, delay: int = 2, out: Optional[Wire] = None) -> Part:
+        """A stage that takes one event from each of several branches, and makes one of them: it drives `out`, or else a new wire `q`, which
+        acknowledges each branch too. C-elements `name.t2`, `name.t3` .. bring `reqs` together."""
         part = self.part(name)
-        q = part.wire("q")
-        part.c("", _rendezvous(part, reqs, delay), ~ack, out=q, delay=delay)
+        part.c("", _rendezvous(part, reqs, delay), ~ack, out=out or part.wire("q"), delay=delay)
         return part
 
 

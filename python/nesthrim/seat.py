@@ -8,7 +8,7 @@ import subprocess
 import time
 from typing import TYPE_CHECKING, Dict, List, Optional, Sequence, Union
 
-from .channel import Channel, Ended
+from .channel import Channel, Ended, Silent
 from .errors import AnswerError, BrokenPipe, NesthrimError, NoSeat
 from .faults import fault_of
 from .program import Complaints, Output, Program, find_program
@@ -37,6 +37,8 @@ class Seat(Talk):
             os.close(to)
             raise NoSeat(f"{path}.out can't be opened: {error.strerror}") from error
         super().__init__(Channel(to, back, seconds))
+        # (the desk knows that the seat is taken once it answers)
+        self.version()
 
     def _gone(self) -> NesthrimError:
         self._channel.close()
@@ -53,7 +55,7 @@ class Seat(Talk):
         try:
             while True:
                 self._channel.take(time.monotonic() + 5.0)
-        except Exception:
+        except (Ended, Silent):
             self._channel.close()
 
     def __repr__(self) -> str:

@@ -4,7 +4,7 @@ from __future__ import annotations
 
 import re
 from dataclasses import dataclass
-from typing import Mapping, NamedTuple, Optional
+from typing import Callable, Iterable, Iterator, Mapping, NamedTuple, Optional, Sequence, TypeVar
 
 from ..errors import AnswerError
 from ..names import find
@@ -68,9 +68,31 @@ class BundleMeasure(NamedTuple):
         return _joined("bundle", self.name, self.requests, *setup, *response, *late)
 
 
+M = TypeVar("M", WireMeasure, BundleMeasure)
+
+
+class Measures(Mapping[str, M]):
+    """Measures by name. Each is made when it is asked for, since a sweep has many and looks at few."""
+
+    def __init__(self, found: Iterable[Sequence[str]], sort: str, kind: Callable[..., M]) -> None:
+        self._found = {each[0]: each for each in found}
+        self._sort = sort
+        self._kind: Callable[..., M] = kind
+
+    def __getitem__(self, name: str) -> M:
+        plain, *figures = find(self._found, name, self._sort)
+        return self._kind(plain, *map(number, figures))
+
+    def __iter__(self) -> Iterator[str]:
+        return iter(self._found)
+
+    def __len__(self) -> int:
+        return len(self._found)
+
+
 @dataclass(frozen=True)
 class Measure:
-    """The measures of all wires and of all bundles, by name."""
+    """The measures of all wires and of all bundles, by name. `UnknownName` for a name that none of them has."""
 
     wires: Mapping[str, WireMeasure]
     bundles: Mapping[str, BundleMeasure]
@@ -80,18 +102,18 @@ class Measure:
         return "".join(f"{line}\n" for line in (*self.wires.values(), *self.bundles.values()))
 
     def wire(self, name: str) -> WireMeasure:
-        """The measures of a wire. `UnknownName` if there is none of this name."""
-        return find(self.wires, name, "wire")
+        """The measures of a wire."""
+        return self.wires[name]
 
     def bundle(self, name: str) -> BundleMeasure:
-        """The measures of a bundle. `UnknownName` if there is none of this name."""
-        return find(self.bundles, name, "bundle")
+        """The measures of a bundle."""
+        return self.bundles[name]
 
 
 def read_measure(text: str, question: str) -> Measure:
     """What `measure` writes."""
-    wires = {name: WireMeasure(name, *map(number, figures)) for name, *figures in _WIRE.findall(text)}
-    bundles = {name: BundleMeasure(name, *map(number, figures)) for name, *figures in _BUNDLE.findall(text)}
+    wires = Measures(_WIRE.findall(text), "wire", WireMeasure)
+    bundles = Measures(_BUNDLE.findall(text), "bundle", BundleMeasure)
     if text.count("\n") != len(wires) + len(bundles):
         strange = (line for line in text.splitlines() if not (_WIRE.match(line) or _BUNDLE.match(line)))
         raise AnswerError(question, next(strange, text))

@@ -1,0 +1,97 @@
+"""A live desk and its seats."""
+
+from __future__ import annotations
+
+import os
+import tempfile
+import threading
+import time
+
+from nesthrim import BrokenPipe, Closed, Desk, NoSeat, ProgramFailed, Refused, Seat, UnknownName, Unread
+from tests.support import Case
+from tests.test_sessions import two_stages
+
+
+class Seats(Case):
+    def setUp(self) -> None:
+        room = tempfile.TemporaryDirectory()
+        self.addCleanup(room.cleanup)
+        self.folder = os.path.join(room.name, "meeting")
+
+    def test_designers_and_a_viewer(self) -> None:
+        with Desk(two_stages(), self.folder, designers=2, viewers=1) as desk:
+            with desk.seat("designer-1") as one, Seat(self.folder, "designer-2") as other, desk.seat("viewer-1") as viewer:
+                self.assertEqual({"designer-1": True, "designer-2": True, "viewer-1": True}, desk.seats())
+                self.assertEqual("q2 0 5=1 12=0", str(viewer.wave("q2")))
+                self.assertEqual(1, one.edit("delay c1 0 4"))
+                self.assertEqual(2, other.batch("delay c2 0 6", "stim ack 16=1"))
+                self.assertEqual(["1 delay c1 0 4", "2 batch delay c2 0 6 ; stim ack 16=1"], [str(edit) for edit in viewer.edits()])
+                self.assertEqual(one.waves(), viewer.waves())
+                self.assertEqual(other.text(), desk.text())
+                self.assertIn("<svg", viewer.svg().text)
+                self.assertEqual(str(viewer.netlist()), one.text())
+                fault = self.fault(Refused, lambda: other.edit("wire q1 1 0"))
+                self.assertEqual((1, "NameTaken"), (fault.code, fault.name))
+                fault = self.fault(Refused, lambda: viewer.edit("delay c1 0 9"))
+                self.assertEqual((22, "NotADesigner"), (fault.code, fault.name))
+                self.assertEqual((23, "NoWork"), (lambda found: (found.code, found.name))(self.fault(Refused, one.work)))
+                self.fault(UnknownName, lambda: viewer.wave("none"))
+                self.fault(Unread, lambda: viewer.ask("flip"))
+                waves = str(viewer.waves())
+            # (questions, and what a seat asks of its own, count for nothing)
+            self.assertEqual(f"designer 1 accepted 1 refused 0\ndesigner 2 accepted 1 refused 1\nviewer 1 saw 2\n{waves}", desk.end())
+        self.fault(Closed, one.waves)
+
+    def test_a_seat_is_left_and_taken_again(self) -> None:
+        with Desk(two_stages(), self.folder, designers=1, viewers=0) as desk:
+            for number in (1, 2, 3):
+                with desk.seat("designer-1") as seat:
+                    self.assertEqual(number, seat.edit(f"delay c1 0 {number}"))
+
+    def test_threads_at_their_seats(self) -> None:
+        with Desk(two_stages(), self.folder, designers=2, viewers=2) as desk:
+
+            def sit(name: str) -> None:
+                with desk.seat(name) as seat:
+                    for number in range(1, 21):
+                        if name.startswith("designer"):
+                            seat.edit(f"delay c{name[-1]} 0 {number}")
+                        self.assertLessEqual(len(seat.edits()), 40)
+
+            threads = [threading.Thread(target=sit, args=(name,)) for name in desk.names]
+            for thread in threads:
+                thread.start()
+            for thread in threads:
+                thread.join()
+            self.assertEqual(40, desk.version())
+
+    def test_nobody_serves_a_seat(self) -> None:
+        fault = self.fault(NoSeat, lambda: Seat(self.folder, "designer-1"))
+        self.assertIn("there is no seat", str(fault))
+        os.makedirs(self.folder)
+        os.mkfifo(os.path.join(self.folder, "designer-1.in"))
+        begin = time.monotonic()
+        fault = self.fault(NoSeat, lambda: Seat(self.folder, "designer-1", seconds=0.05))
+        self.assertIn("start the desk by ./mpwb desk FILE --at FOLDER", str(fault))
+        self.assertLess(time.monotonic() - begin, 10)
+
+    def test_a_desk_that_goes_away(self) -> None:
+        desk = Desk(two_stages(), self.folder)
+        seat = desk.seat("viewer-1")
+        self.assertEqual(0, seat.version())
+        desk._process.kill()
+        self.assertIn("the desk has left the seat viewer-1", str(self.fault(BrokenPipe, seat.waves)))
+        self.fault(Closed, seat.waves)
+        self.fault(BrokenPipe, desk.version)
+        self.assertEqual("", desk.end())
+
+    def test_a_desk_that_does_not_begin(self) -> None:
+        self.assertEqual(3, self.fault(Refused, lambda: Desk("horizon 5\nmodule b BUF : x > -\n", self.folder)).code)
+        fault = self.fault(ProgramFailed, lambda: Desk(two_stages(), self.folder, designers=9))
+        self.assertIn("bad count", str(fault))
+        pipe = os.path.join(self.folder, "designer-1.in")
+        os.remove(pipe)
+        open(pipe, "w").close()
+        fault = self.fault(ProgramFailed, lambda: Desk(two_stages(), self.folder))
+        self.assertEqual(3, fault.status)
+        self.assertIn(f"can't open {pipe}", str(fault))
