@@ -11,12 +11,12 @@ import time
 import weakref
 from typing import Optional
 
-from .errors import Closed, Unread
+from .errors import AnswerError, Closed, Unread
 
 # Two questions behind each line. Their answers end the answer to the line: no answer has a line of the one, followed by one of the other, and
 # then goes on. No wire has the name that the first one asks for.
 _QUESTIONS = b"\nwave .\nversion\n"
-_END = re.compile(rb"(?:\A|\n)(refused 3 NoSuchWire\nversion \d+\n)\Z")
+_END = re.compile(rb"(?:\A|\n)(refused 3 NoSuchWire\n(version \d+|unread \d+ \w+)\n)\Z")
 _LONGEST_END = 64
 
 _open: "weakref.WeakSet[Channel]" = weakref.WeakSet()
@@ -88,6 +88,8 @@ class Channel:
         while True:
             answer += self.take(until)
             end = _END.search(answer, max(0, len(answer) - _LONGEST_END))
+            if end and end[2].startswith(b"unread"):
+                raise AnswerError("version", end[2].decode())
             if end:
                 return bytes(answer[: end.start(1)])
 

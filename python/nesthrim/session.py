@@ -62,9 +62,9 @@ class Session(Talk):
 
 
 def _end_run(channel: Channel, process: subprocess.Popen[bytes], complaints: Complaints) -> None:
-    if not channel.is_open:
-        return
     channel.close()
+    if process.returncode is not None:
+        return
     try:
         process.wait(_SECONDS)
     except subprocess.TimeoutExpired:

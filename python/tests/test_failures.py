@@ -47,6 +47,10 @@ class StandIns(Case):
         fault = self.fault(AnswerError, lambda: Session(self.netlist(play)).report())
         self.assertEqual("what", fault.line)
 
+    def test_a_program_without_a_question_that_is_needed(self) -> None:
+        play = "while read -r line; do case $line in 'wave .') echo refused 3 NoSuchWire ;; *) echo unread 2 UnknownStatement ;; esac; done"
+        self.assertEqual("unread 2 UnknownStatement", self.fault(AnswerError, lambda: Session(self.netlist(play))).line)
+
     def test_a_program_that_ends_otherwise(self) -> None:
         cases = [
             ("echo 'mpwb: out of memory' >&2; exit 4", OutOfMemory, 4, "MPWB_MEMORY"),

@@ -6,9 +6,10 @@ import gc
 import os
 import random
 import threading
+import time
 from typing import List
 
-from nesthrim import BrokenPipe, Closed, FifoStage, Netlist, Refused, Session, UnknownName, Unread, Work
+from nesthrim import BrokenPipe, Closed, FifoStage, Netlist, NoSeat, Refused, Session, UnknownName, Unread, Work
 from nesthrim.undo import Undo, parts_of
 from tests.support import Case, example
 from tests.test_netlist import ALL_KINDS
@@ -119,6 +120,34 @@ class Sessions(Case):
         del session
         gc.collect()
         self.assertEqual(0, process.wait(10))
+
+
+    def test_a_process_that_is_forked_does_not_hold_the_session(self) -> None:
+        session = Session(two_stages())
+        child = os.fork()
+        if child == 0:
+            # (the child goes on for a while, and has the parent's session closed)
+            time.sleep(20)
+            os._exit(0)
+        try:
+            self.assertEqual(0, session.version())
+            session.close()
+            self.assertEqual(0, session._process.returncode)
+        finally:
+            os.kill(child, 9)
+            os.waitpid(child, 0)
+
+    def test_an_answer_that_is_interrupted(self) -> None:
+        session = Session(two_stages())
+        session._channel._seconds = 0.0  # (whatever ends the wait: what comes still isn't the answer to the next line)
+        for _ in range(100):
+            try:
+                session.waves()
+            except NoSeat:
+                break
+        self.fault(Closed, session.waves)
+        session.close()
+        self.assertIn(session._process.returncode, (0, 3))  # (3: what it writes is read by nobody)
 
 
 class Variants(Case):
