@@ -5,11 +5,12 @@ from __future__ import annotations
 import gc
 import os
 import random
+import signal
 import threading
 import time
 from typing import List
 
-from nesthrim import BrokenPipe, Closed, FifoStage, Netlist, NoSeat, Refused, Session, UnknownName, Unread, Work
+from nesthrim import BrokenPipe, Closed, FifoStage, Netlist, Refused, Session, UnknownName, Unread, Work
 from nesthrim.undo import Undo, parts_of
 from tests.support import Case, example
 from tests.test_netlist import ALL_KINDS
@@ -138,16 +139,16 @@ class Sessions(Case):
             os.waitpid(child, 0)
 
     def test_an_answer_that_is_interrupted(self) -> None:
+        """What comes later isn't taken for the answer to the next line: the session is closed."""
         session = Session(two_stages())
-        session._channel._seconds = 0.0  # (whatever ends the wait: what comes still isn't the answer to the next line)
-        for _ in range(100):
-            try:
-                session.waves()
-            except NoSeat:
-                break
+        os.kill(session._process.pid, signal.SIGSTOP)
+        self.addCleanup(signal.signal, signal.SIGALRM, signal.signal(signal.SIGALRM, signal.default_int_handler))
+        signal.setitimer(signal.ITIMER_REAL, 0.1)
+        self.fault(KeyboardInterrupt, session.waves)
+        os.kill(session._process.pid, signal.SIGCONT)
         self.fault(Closed, session.waves)
         session.close()
-        self.assertIn(session._process.returncode, (0, 3))  # (3: what it writes is read by nobody)
+        self.assertIn(session._process.returncode, (0, 3))  # (3: nobody reads what it writes)
 
 
 class Variants(Case):
