@@ -13,8 +13,8 @@ from typing import Optional
 
 from .errors import AnswerError, Closed, Unread
 
-# Two questions behind each line. Their answers end the answer to the line: no answer has a line of the one, followed by one of the other, and
-# then goes on. No wire has the name that the first one asks for.
+# Two questions follow each line, and their two answers end the answer to the line. No wire has the name `.`. Within an answer the first of these
+# two lines is never followed by the second one.
 _QUESTIONS = b"\nwave .\nversion\n"
 _END = re.compile(rb"(?:\A|\n)(refused 3 NoSuchWire\n(version \d+|unread \d+ \w+)\n)\Z")
 _LONGEST_END = 64
@@ -60,7 +60,7 @@ class Channel:
         return self._to is not None
 
     def ask(self, line: str) -> str:
-        """The answer to a line. `Ended` where the other end goes away before it, `Silent` where it takes too long; the channel is closed then."""
+        """The answer to a line. `Ended` if the other end goes away before it, `Silent` if it takes too long; the channel is closed then."""
         if "\n" in line:
             raise Unread(1, "NotAscii", statement=line, meaning="a line has no line feed in it: ask one line after the other")
         with self._lock:
@@ -94,7 +94,7 @@ class Channel:
                 return bytes(answer[: end.start(1)])
 
     def take(self, until: Optional[float] = None) -> bytes:
-        """Some bytes of what is answered. `Ended` where there are no more."""
+        """Some bytes of what is answered. `Ended` if there are no more."""
         assert self._back is not None
         while True:
             left = None if until is None else max(0.0, until - time.monotonic()) * 1000

@@ -76,7 +76,7 @@ class Circuits(Kinds):
     def ring(self, name: str, stages: int, tokens: int = 1, delay: Delays = 2) -> List[Part]:
         """A ring of C-elements in which events run round: `tokens` of them, which the stages from the first one on hold at the start.
 
-        An odd number of them needs an inversion in the ring: it stands between the last stage and the first one.
+        An odd number of them needs an inversion in the ring, which is put between the last stage and the first one.
         """
         if not 0 <= tokens <= stages:
             raise ValueError(f"a ring of {stages} stages holds 0 to {stages} tokens, and not {tokens}")

@@ -69,8 +69,8 @@ class Fault(NesthrimError):
 
     - `code`, `name`: the program's, as 3 and "NoSuchWire"; `mpwb explain NAME` tells what it means;
     - `statement`: the line at fault, if it is known;
-    - `line`: its number in the netlist's text, from 1, if it stands in one; 0 is the text as a whole;
-    - `word`: the word at fault, "" at the end of the line where a word is missing, `None` if the program doesn't tell it;
+    - `line`: its number in the netlist's text, from 1, if it is in one; 0 is the text as a whole;
+    - `word`: the word at fault, "" if a word is missing at the end of the line, `None` if the program doesn't tell it;
     - `meaning`: what the program says of it beside the word, else "";
     - `place`, `reason`: of a batch (21 InBatch), the place of the edit that is refused, from 1, and the fault of this edit alone;
     - `made_at`: the file and the line of the Python program that made the statement, if a method of this package did.

@@ -24,7 +24,7 @@ _MARKED = re.compile(r"^ *\d+ \| (?P<line>.*)\n *\| (?P<blank> *)(?P<mark>\^+) *
 
 
 def fault_of(output: Output, program: Program, text: str, origin: Callable[[int], Optional[Origin]]) -> NesthrimError:
-    """The exception for a run that gave no answer. `origin` gives of the number of a line of the text where it comes from."""
+    """The exception for a run that gave no answer. `origin` tells where the line of a number comes from."""
     no_wire = _NO_WIRE.search(output.said)
     if no_wire:
         return UnknownName(3, "NoSuchWire", word=no_wire[1], meaning="no wire of the netlist has this name")

@@ -5,6 +5,7 @@ from __future__ import annotations
 from abc import ABC, abstractmethod
 from typing import Optional, Sequence, Tuple
 
+from .errors import Unread
 from .wires import End, Module, Port, port_of, whole
 
 
@@ -36,7 +37,9 @@ class Kinds(ABC):
         return port.wire, delay if port.delay is None else port.delay
 
     def module(self, name: str, kind: str, ins: Sequence[End], outs: Sequence[Optional[End]], params: Sequence[int] = (), delay: int = 1) -> Module:
-        """A module of any kind, by its ports and parameters in the order of the kind."""
+        """A module of any kind, by its ports and parameters in the order of the kind. `Unread` (2 UnknownStatement) if the kind isn't a word."""
+        if not (kind.isascii() and kind.isalnum()):
+            raise Unread(2, "UnknownStatement", word=kind, meaning="a kind is a word, as BUF; `mpwb explain` lists them")
         ports = [self._port(end) for end in ins]
         inverted = [port.wire for port in ports if port.bubble]
         if inverted:
@@ -58,7 +61,7 @@ class Kinds(ABC):
         return self.module(name, "XOR", [a, b], [out], delay=delay)
 
     def c(self, name: str, a: End, b: End, *, out: Optional[End] = None, delay: int = 1, init: int = 0) -> Module:
-        """Changes its output to the level of both inputs where they agree. `init` is its first output."""
+        """Changes its output to the level of both inputs when they agree. `init` is its first output."""
         ports = [self._port(end) for end in (a, b)]
         plain = [Port(port.wire, port.delay) for port in ports]
         return self.module(name, "C", plain, [out], [init, *(port.bubble for port in ports)], delay)

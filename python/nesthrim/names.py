@@ -25,7 +25,7 @@ def plain_name(name: str) -> str:
 
 
 def asked_name(name: str) -> str:
-    """A name to ask for, which stands or doesn't: any word, with `_` for dots."""
+    """A name to ask for, with `_` for dots. Nothing may have it."""
     if not isinstance(name, str):
         raise TypeError(f"a name is a str, and not {name!r}")
     return name.replace(".", "_")

@@ -23,7 +23,7 @@ _PACKAGE = os.path.dirname(os.path.abspath(__file__)) + os.sep
 # what a text without `format`, and one with `format 2`, has at most
 _SHORT, _LONG, _WIRES, _MODULES, _BUNDLES, _BYTES = 65_536, 1_048_576, 8_192, 4_096, 1_024, 4_194_304
 
-# the status of `check` where a line isn't a note
+# the status of `check` if it finds more than notes
 _FOUND = 5
 
 
@@ -132,7 +132,7 @@ class Netlist(Builder, Questions):
         return f"<netlist of {len(self._wires)} wires, {len(self._modules)} modules and {len(self._bundles)} bundles>"
 
     def origin(self, line: int) -> Optional[Origin]:
-        """Where a line of the text, counted from 1, comes from; `None` where no method made it."""
+        """Where a line of the text, counted from 1, comes from; `None` if no method made it."""
         before = len(str(self).split("horizon", 1)[0].splitlines()) + 1
         place = line - before - 1
         things = list(self._things())
@@ -196,7 +196,7 @@ class Netlist(Builder, Questions):
         return self._run(["show", *words])
 
     def show(self, start: int = 0, end: int = END, wires: Iterable[AnyWire] = (), columns: int = 72, ascii: bool = False) -> str:
-        """The timing diagram of a range, of these wires or of all, as text of at most so many columns."""
+        """The timing diagram of a range, of these wires or of all, as text of at most `columns` columns."""
         chosen = [f"--wire={wire_name(wire)}" for wire in wires]
         return self._draw([f"--from={start}", f"--to={end}", f"--columns={columns}", *chosen, *(["--ascii"] if ascii else [])])
 

@@ -20,7 +20,7 @@ _noticed: Set[str] = set()
 
 
 def find_program() -> Program:
-    """The program that answers: that of MPWB; else `mpwb` of the checkout in which this package stands, of the present folder, or of PATH.
+    """The program that answers: that of MPWB, or else `mpwb` of the checkout that this package is in, of the current folder, or of PATH.
 
     `ProgramMissing` if there is none.
     """

@@ -15,7 +15,7 @@ from .answers.work import MadeEdit, Work, read_edits, read_version, read_work
 from .names import plain_name
 from .wires import Wire
 
-# a time behind all horizons: the program reads it as the last one, and as the horizon where it ends a range
+# a time above all horizons: the program reads it as the last time, and at the end of a range as the horizon
 END = 2**64 - 1
 
 Path = Union[str, "os.PathLike[str]"]
@@ -71,10 +71,10 @@ def write_file(path: Optional[Path], text: str) -> None:
 
 
 class Questions(ABC):
-    """What can be asked. Times are in units from 0; one at or above the horizon is the last one, and the horizon where it ends a range.
+    """What can be asked. Times are in units from 0. A time at or above the horizon is read as the last one, and as the horizon if it ends a range.
 
-    `UnknownName` (3 NoSuchWire) where a wire that is asked for doesn't stand; other faults of the netlist as the program tells them;
-    `AnswerError` where the answer can't be understood.
+    Each question raises `UnknownName` (3 NoSuchWire) if there is no wire of a name, another `Refused` or `Unread` if the program doesn't take
+    the netlist, and `AnswerError` if the answer can't be understood.
     """
 
     @abstractmethod
@@ -86,11 +86,11 @@ class Questions(ABC):
         """What the program's command `show` writes with these words behind it."""
 
     def ask(self, line: str) -> str:
-        """The answer to a question as it stands in a script, as "measure 0 100", as the program writes it."""
+        """The answer to a line of a script that asks, as "measure 0 100": the text that the program writes. `ValueError` for an edit."""
         return self._ask(_question(line))
 
     def answer(self, line: str) -> Any:
-        """The same as an object: that of the method of this name."""
+        """The answer to a line of a script that asks, as the object that the method of this name returns."""
         return self._answer(_question(line))
 
     def _answer(self, words: Sequence[str]) -> Any:
@@ -123,7 +123,7 @@ class Questions(ABC):
         return measure
 
     def why(self, wire: AnyWire, time: int = END, steps: int = 20) -> Tuple[Step, ...]:
-        """The chain of causes of the wire's level at a time, the last change first, in so many steps at most."""
+        """The chain of causes of the wire's level at a time, the last change first, of at most `steps` steps."""
         why: Tuple[Step, ...] = self._answer(["why", wire_name(wire), str(time), str(steps)])
         return why
 

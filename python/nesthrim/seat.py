@@ -22,7 +22,7 @@ if TYPE_CHECKING:
 class Seat(Talk):
     """Somebody at a seat of a live desk, as "designer-1" or "viewer-2", that was started by `mpwb desk FILE --at FOLDER`.
 
-    A designer edits and asks; a viewer asks, and edits are refused (22 NotADesigner). `NoSeat` where nobody serves the seat within `seconds`,
+    A designer edits and asks; a viewer asks, and edits are refused (22 NotADesigner). `NoSeat` if nobody serves the seat within `seconds`,
     or a line isn't answered within them. One seat is for one at a time: two who write at it may mix their lines.
     """
 
@@ -88,7 +88,7 @@ def _opened_to_write(path: str, seconds: float) -> int:
 
 
 class Desk(Talk):
-    """A live desk over a netlist: a run of `mpwb desk FILE --at FOLDER`, with its pipes in a folder that is made where it isn't there.
+    """A live desk over a netlist: a run of `mpwb desk FILE --at FOLDER`, with its pipes in a folder, which is made if it isn't there.
 
     The desk answers questions itself, as at a viewer's seat.
     """

@@ -12,7 +12,7 @@ from .variants import Variant, Workspace
 Edits = Union[str, Sequence[str]]
 Question = Union[str, Callable[[Variant], Any]]
 
-# an executor is given so many chunks, so that fast workers take more of them than slow ones
+# how many chunks an executor is given: more than it has workers, so that fast ones take more of them
 _CHUNKS = 64
 
 
@@ -25,7 +25,8 @@ def sweep(
     variants are asked in one session. Else chunks of `chunk` variants go through `executor`, any `concurrent.futures.Executor`, and each chunk
     is asked in a session of its own; a function has to be one that the executor can send to its workers.
 
-    `Refused` or `Unread` for the first variant that isn't taken; with `keep_faults` the exception stands in place of its answer.
+    `Refused` or `Unread` for the first variant that isn't taken; with `keep_faults` the exception is in the list instead of its answer. A fault
+    of the netlist itself is raised in any case.
     """
     variants = [(each,) if isinstance(each, str) else tuple(each) for each in edits]
     if executor is None:
@@ -56,6 +57,6 @@ def _answer(workspace: Workspace, edits: Tuple[str, ...], question: Question, ke
         with workspace.variant(edits) as variant:
             return variant.answer(question) if isinstance(question, str) else question(variant)
     except Fault as fault:
-        if not keep_faults:
+        if fault.line is not None or not keep_faults:
             raise
         return fault

@@ -74,7 +74,7 @@ class Talk(EditQuestions):
         return self._channel.is_open
 
     def ask(self, line: str) -> str:
-        """The answer to any line of a script, as the program writes it. `Refused` or `Unread` where it says so."""
+        """The answer to any line of a script, as the program writes it. `Refused` or `Unread` if it says so."""
         answer = self._say(line)
         fault = _fault_in(answer, line)
         if fault is not None:

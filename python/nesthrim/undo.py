@@ -54,7 +54,7 @@ class Undo:
         return f"clear {key[1]}" if before is None else " ".join([*key, *before])
 
     def _at_first(self, key: Tuple[str, ...]) -> Values:
-        """What the netlist has where an edit sets something."""
+        """What the netlist itself has for a key."""
         if key[0] == "stim":
             stimulus = self._netlist.known_stimuli.get(key[1])
             return None if stimulus is None else tuple(f"{time}={level}" for time, level in stimulus.values)

@@ -3,13 +3,15 @@
 from __future__ import annotations
 
 import os
+import pickle
 import subprocess
 import sys
 import tempfile
 import unittest
 from typing import Any, Callable, List, Optional, Tuple
 
-from nesthrim import AnswerError, BrokenPipe, Netlist, OutOfMemory, Program, ProgramFailed, ProgramMissing, Session, find_program
+from nesthrim import AnswerError, BrokenPipe, Netlist, NoSeat, OutOfMemory, Program, ProgramFailed, ProgramMissing, Refused, Session
+from nesthrim import UnknownName, Unread, find_program
 from nesthrim.errors import Fault
 from tests.support import TOP, Case, commands
 from tests.test_sessions import two_stages
@@ -133,6 +135,24 @@ class Memory(Case):
             n.program = Program(bounded)
             self.assertEqual(4, self.fault(OutOfMemory, n.waves).status)
             self.fault(OutOfMemory, lambda: Session(n))
+
+
+class Exceptions(Case):
+    def test_each_goes_to_another_process(self) -> None:
+        faults = [
+            Refused(21, "InBatch", statement="batch a ; b", place=2, reason=Refused(8, "BadDelay"), made_at=("f.py", 3)),
+            Unread(3, "WordCount", line=4, word="", meaning="a word is missing"),
+            UnknownName(3, "NoSuchWire", word="q"),
+            AnswerError("waves", "what"),
+            OutOfMemory("it ran out", 4, "mpwb: out of memory"),
+            BrokenPipe("it has gone"),
+            NoSeat("nobody"),
+        ]
+        for fault in faults:
+            again = pickle.loads(pickle.dumps(fault))
+            self.assertEqual((type(fault), str(fault)), (type(again), str(again)))
+        self.assertIn("at the end of the line", str(faults[1]))
+        self.assertIn("at 'q'", str(faults[2]))
 
 
 class Commands(Case):

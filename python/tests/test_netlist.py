@@ -216,6 +216,7 @@ class Mistakes(Case):
         n = Netlist(30)
         n.module("m", "FLIP", [n.wire("a")], [None])
         self.assertEqual((2, "UnknownStatement", 3), _code(self.fault(Unread, n.waves)))
+        self.assertEqual(2, self.fault(Unread, lambda: n.module("k", "BUF : a > -\nwire", ["a"], [None])).code)
 
     def test_a_text_that_is_not_read_is_told_with_its_line(self) -> None:
         fault = self.fault(Unread, lambda: Netlist.read("horizon 5\n\nflip a\n"))

@@ -89,7 +89,7 @@ class Sweeps(Case):
             fault = self.fault(Refused, lambda: sweep(n, ["batch delay f1 0 3 ; delay f9 0 1"], "report", processes))
             self.assertEqual((21, 2, 4), (fault.code, fault.place, fault.reason.code))
             n.buf("wrong", "nothing")
-            fault = self.fault(Refused, lambda: sweep(n, EDITS, "report", processes))
+            fault = self.fault(Refused, lambda: sweep(n, EDITS, "report", processes, keep_faults=True))
             self.assertEqual((3, __file__), (fault.code, fault.made_at[0]))
 
     def test_a_worker_that_ends(self) -> None:

@@ -16,7 +16,7 @@ def match(pattern: Pattern[str], line: str, question: str) -> Match[str]:
 
 
 def number(text: str) -> Any:
-    """A number, `None` where it is missing."""
+    """A number, or `None` for the empty text."""
     return int(text) if text else None
 
 
