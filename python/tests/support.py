@@ -4,6 +4,7 @@ from __future__ import annotations
 
 import functools
 import os
+import re
 import unittest
 from typing import Any, Callable, FrozenSet, Iterator, TypeVar
 
@@ -21,9 +22,18 @@ def commands() -> FrozenSet[str]:
     return find_program().commands()
 
 
-def needs(command: str) -> Callable[[T], T]:
-    """Marks tests of a command: they run once `mpwb --help` lists it."""
-    return unittest.skipUnless(command in commands(), f"the program has no command {command} yet")  # type: ignore[return-value]
+@functools.lru_cache(maxsize=None)
+def has(command: str, word: str = "") -> bool:
+    """Whether `mpwb --help` lists a command, and `mpwb COMMAND --help` has a word, if one is given."""
+    if command not in commands():
+        return False
+    return not word or re.search(rf"\b{word}\b", find_program().run([command, "--help"]).written) is not None
+
+
+def needs(command: str, word: str = "") -> Callable[[T], T]:
+    """Marks tests of a command, or of what its help tells by a word: they run once the program says that it has that."""
+    what = f"`mpwb {command} --help` has no word {word!r} yet" if word else f"the program has no command {command} yet"
+    return unittest.skipUnless(has(command, word), what)  # type: ignore[return-value]
 
 
 def example(name: str) -> str:

@@ -187,24 +187,32 @@ class Checks(Case):
         check = Netlist.read(LATE).check()
         self.assertEqual((Late(22, "b", 4), Late(62, "b", 4)), check.late)
         self.assertFalse(check.ok)
-        self.assertEqual(4, Netlist.read(LATE).measure().bundle("b").late)
         stopped = Netlist.read(example("stopped-pipeline.net")).check()
         self.assertEqual((Deadlock(0, (("c3", "q4"), ("c4", "q3"))),), stopped.deadlocks)
         self.assertEqual((Note("r", "is declared 0 and becomes 1 at 1"),), stopped.notes)
         self.assertTrue(Netlist.read(example("oscillator.net")).check().ok)
         self.assertEqual(2, len(Netlist.read(example("late-data.net")).check().findings))
 
+    @needs("measure", "late")
+    def test_the_program_measures_how_late_data_are(self) -> None:
+        self.assertEqual(4, Netlist.read(LATE).measure().bundle("b").late)
+        self.assertIsNone(Netlist.read(LATE.replace("d/12", "d/4")).measure().bundle("b").late)
+
     @needs("check")
     def test_what_the_program_checks_is_read_whole(self) -> None:
         for text in [LATE, ALL_KINDS, *map(example, examples())]:
+            self.assertEqual(raw(text, "check"), str(Netlist.read(text).check()))
+
+    @needs("play", "check")
+    def test_the_program_checks_in_a_session(self) -> None:
+        for text in [LATE, ALL_KINDS, *map(example, examples())]:
             n = Netlist.read(text)
-            self.assertEqual(raw(text, "check"), str(n.check()))
             with Session(n) as session:
                 self.assertEqual(n.check(), session.check())
             with n.edited() as variant:
                 self.assertEqual(n.check(), variant.check())
 
-    @needs("check")
+    @needs("check", "word")
     def test_a_fault_tells_the_word(self) -> None:
         n = Netlist(30)
         n.wire("request")
@@ -220,8 +228,12 @@ class Checks(Case):
         text = n.verilog()
         self.assertEqual(raw(str(n), "verilog"), text)
         self.assertIn("endmodule", text)
+
+    @needs("play", "verilog")
+    def test_the_program_writes_verilog_in_a_session(self) -> None:
+        n = Netlist.read(example("register-pipeline.net"))
         with Session(n) as session:
-            self.assertEqual(text, session.verilog())
+            self.assertEqual(n.verilog(), session.verilog())
 
 
 if __name__ == "__main__":

@@ -13,7 +13,7 @@ from typing import Any, Callable, List, Optional, Tuple
 from nesthrim import AnswerError, BrokenPipe, Netlist, NoSeat, OutOfMemory, Program, ProgramFailed, ProgramMissing, Refused, Session
 from nesthrim import UnknownName, Unread, find_program
 from nesthrim.errors import Fault
-from tests.support import TOP, Case, commands
+from tests.support import TOP, Case, commands, has
 from tests.test_sessions import two_stages
 
 # a program that is another one: what it writes and says, and how it ends
@@ -52,6 +52,20 @@ class StandIns(Case):
     def test_a_program_without_a_question_that_is_needed(self) -> None:
         play = "while read -r line; do case $line in 'wave .') echo refused 3 NoSuchWire ;; *) echo unread 2 UnknownStatement ;; esac; done"
         self.assertEqual("unread 2 UnknownStatement", self.fault(AnswerError, lambda: Session(self.netlist(play))).line)
+
+    def test_the_word_that_check_marks(self) -> None:
+        marked = [
+            ("   7 | module b BUF : reqest > y/1\n     |                ^^^^^^\n     no such wire; did you mean `request`?", "reqest", "`request`"),
+            ("  12 | wire b 1\n     |         ^\n     too few words", "", "too few words"),
+            ("   7 | flip a\n     | ^^^^", "flip", ""),
+        ]
+        for lines, word, meaning in marked:
+            fault = "mpwb: line 7: 7 Refused: 3 NoSuchWire"
+            n = self.netlist(f"echo '{fault}' >&2\nif [ $1 = check ]; then echo '{lines}' >&2; fi\nexit 1")
+            for call in (n.waves, lambda: Session(n)):
+                found = self.fault(Refused, call)
+                self.assertEqual((3, 7, word), (found.code, found.line, found.word))
+                self.assertIn(meaning, found.meaning)
 
     def test_a_program_that_ends_otherwise(self) -> None:
         cases = [
@@ -164,6 +178,7 @@ class Commands(Case):
         for command, ask in asks:
             if command not in commands():
                 self.assertEqual(2, self.fault(ProgramFailed, lambda: ask(two_stages())).status)
+            if not has("play", command):
                 with Session(two_stages()) as session:
                     self.assertEqual(2, self.fault(Fault, lambda: session.ask(command)).code)
 
