@@ -59,14 +59,14 @@ class Circuits(Kinds):
 
         A stage `f3` of a FIFO `f` is a C-element `f3`, a register `f3.reg`, logic `f3.logic` if it has any, and a delay `f3.match`. It takes
         data with a request and acknowledges by the wire `f3.cd`; it hands on its data `f3.d` with the request `f3.r`, which are the bundle
-        `f3`. The register drives `f3.q`, and without logic `f3.d` itself.
+        `f3`. The register drives `f3.q`, and without logic `f3.d` itself. Nothing changes in it before the first request or change of data.
         """
         parts = _parts(self, name, stages)
         made = [stage] * stages if isinstance(stage, FifoStage) else list(stage)
         _want_each(len(made), stages)
+        level = data.level
         for part, own in zip(parts, made):
-            part.wires("cap", "cd", "pd", "r")
-            part.wires(*(["q", "d"] if own.logic else ["d"]), width=data.width)
+            level = _fifo_wires(part, own, data.width, level)
         acks = [*(part["cd"] for part in parts[1:]), ack]
         for part, own, after in zip(parts, made, acks):
             data = _fifo_stage(part, own, req, after, data)
@@ -139,6 +139,16 @@ def _parts(builder: Circuits, name: str, stages: int) -> List[Part]:
     if whole(stages) < 1:
         raise ValueError(f"there are 1 or more stages, and not {stages}")
     return [builder.part(f"{name}{number}") for number in range(1, stages + 1)]
+
+
+def _fifo_wires(part: Part, own: FifoStage, width: int, level: int) -> int:
+    """Adds the wires of a stage, at the levels that they keep until the first request; that of the data that it hands on."""
+    part.wires("cap", "cd", "pd", "r")
+    if own.logic:
+        part.wire("q", width, level)
+        level = (level + own.add) % 2**width
+    part.wire("d", width, level)
+    return level
 
 
 def _fifo_stage(part: Part, own: FifoStage, req: Wire, ack: Wire, data: Wire) -> Wire:
