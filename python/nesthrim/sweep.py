@@ -28,10 +28,12 @@ def sweep(
     `Refused` or `Unread` for the first variant that isn't taken; with `keep_faults` the exception is in the list instead of its answer. A fault
     of the netlist itself is raised in any case.
     """
+    if isinstance(edits, str):
+        raise TypeError(f"edits are a list that has the edits of each variant, and not one line: [{edits!r}]")
     variants = [(each,) if isinstance(each, str) else tuple(each) for each in edits]
     if executor is None:
         return _answer_chunk(netlist, variants, question, keep_faults)
-    size = chunk or max(1, -(-len(variants) // _CHUNKS))
+    size = max(1, -(-len(variants) // _CHUNKS)) if chunk is None else chunk
     if size < 1:
         raise ValueError(f"a chunk has 1 variant or more, and not {size}")
     chunks = [variants[at : at + size] for at in range(0, len(variants), size)]

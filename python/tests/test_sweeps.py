@@ -49,6 +49,8 @@ class Sweeps(Case):
             alone = Netlist.read(str(n).replace("> f2_r/6", f"> f2_r/{delay}"))
             self.assertEqual(alone.measure().bundle("f2").setup, setup)
         self.assertEqual([], sweep(n, [], "report"))
+        self.fault(TypeError, lambda: sweep(n, EDITS[0], "report"))
+        self.fault(ValueError, lambda: sweep(n, EDITS, "report", ThreadPoolExecutor(1), chunk=0))
 
     def test_a_variant_has_as_many_edits_as_one_likes(self) -> None:
         n = fifo(3, 120)
