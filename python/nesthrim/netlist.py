@@ -3,6 +3,7 @@
 from __future__ import annotations
 
 import os
+import re
 import sys
 from contextlib import contextmanager
 from typing import Any, Dict, Iterable, Iterator, List, Mapping, Optional, Sequence, Tuple
@@ -224,16 +225,21 @@ class Netlist(Builder, Questions):
         return {**self.__dict__, "_idle": []}
 
 
+# questions that a command answers as they are, with their numbers
+_SAME = re.compile(r"waves|report|check|dump|graph|verilog|waits \d+|path \w+ \d+", re.ASCII)
+_MEASURE = re.compile(r"measure (\d+) (\d+)", re.ASCII)
+_WHY = re.compile(r"why (\w+) (\d+) (\d+)", re.ASCII)
+
+
 def _command(words: Sequence[str]) -> Optional[List[str]]:
     """The command line that answers a question, if there is one for it."""
-    if len(words) == 1 and words[0] in ("waves", "report", "check", "dump", "graph", "verilog"):
+    question = " ".join(words)
+    if _SAME.fullmatch(question):
         return list(words)
-    if (len(words), words[0] if words else "") in ((3, "path"), (2, "waits")):
-        return list(words)
-    if len(words) == 3 and words[0] == "measure":
-        return ["measure", f"--from={words[1]}", f"--to={words[2]}"]
-    if len(words) == 4 and words[0] == "why":
-        return [*words[:3], f"--steps={words[3]}"]
+    if found := _MEASURE.fullmatch(question):
+        return ["measure", f"--from={found[1]}", f"--to={found[2]}"]
+    if found := _WHY.fullmatch(question):
+        return ["why", found[1], found[2], f"--steps={found[3]}"]
     return None
 
 

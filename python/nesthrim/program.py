@@ -148,6 +148,8 @@ def failure(status: int, said: str) -> ProgramFailed:
         return OutOfMemory("the program ran out of memory; MPWB_MEMORY says how many MiB it may take", status, said)
     if status < 0:
         return ProgramFailed("the program was ended by a signal", status, said)
+    if status == 1 and "bad count" in said:
+        return ProgramFailed("a number is out of its range, as --columns of `show` and --steps of `why`: `mpwb COMMAND --help` tells it", status, said)
     if status == 70:
         return ProgramFailed("the script ./mpwb has no program to run, and says what to do", status, said)
     if status == 2:

@@ -8,7 +8,7 @@ import unittest
 import xml.etree.ElementTree
 from typing import Any, Callable, List, Tuple
 
-from nesthrim import END, AnswerError, BundleMeasure, Event, Finding, Netlist, PathPart, Session, Step, Wait, WireMeasure
+from nesthrim import END, AnswerError, BundleMeasure, Event, Finding, Netlist, PathPart, ProgramFailed, Session, Step, Unread, Wait, WireMeasure
 from nesthrim.answers.causes import read_path, read_waits, read_why
 from nesthrim.answers.measure import read_measure
 from nesthrim.answers.report import Check, Deadlock, Late, Note, Report, read_check, read_report
@@ -117,6 +117,14 @@ class WhatIsRead(Case):
                 write(path)
                 with open(path, encoding="utf-8", newline="") as file:
                     self.assertEqual(text, file.read())
+
+    def test_numbers_that_are_out_of_range(self) -> None:
+        n = Netlist.read(example("ring.net"))
+        for ask in (lambda: n.measure(-1), lambda: n.waits(-1), lambda: n.ask("measure 0 x"), lambda: n.ask("why q1 x")):
+            self.assertEqual(4, self.fault(Unread, ask).code)
+        self.assertEqual(3, self.fault(Unread, lambda: n.ask("measure 0")).code)
+        for count in (lambda: n.why("q1", steps=0), lambda: n.show(columns=0), lambda: n.svg(columns=10_001)):
+            self.assertIn("out of its range", str(self.fault(ProgramFailed, count)))
 
     def test_times_behind_the_horizon(self) -> None:
         n = Netlist.read(example("ring.net"))
