@@ -10,7 +10,7 @@ import sys
 import tempfile
 import threading
 from dataclasses import dataclass
-from typing import IO, Any, FrozenSet, List, Optional, Sequence, Set
+from typing import IO, Any, FrozenSet, List, Sequence, Set
 
 from .errors import OutOfMemory, ProgramFailed, ProgramMissing
 

@@ -53,8 +53,9 @@ class Workspace:
 
     def __init__(self, netlist: Netlist) -> None:
         self._netlist = netlist
-        self._revision = netlist.revision
         self._session: Optional[Session] = None
+        # that of the netlist of the session
+        self._revision = netlist.revision
         # what takes back the edits of the last variant
         self._undo: List[str] = []
 
@@ -70,15 +71,16 @@ class Workspace:
             self._leave(session, undo)
 
     def _begin(self, edits: Sequence[str]) -> Tuple[Session, Undo]:
-        if self._revision != self._netlist.revision:
-            self.close()
-            self._revision = self._netlist.revision
         session = self._session
+        if session is not None and not (session.is_open and self._revision == self._netlist.revision):
+            self.close()
+            session = None
         if session is not None:
             undo = self._begin_in(session, edits)
             if undo is not None:
                 return session, undo
             self.close()
+        self._revision = self._netlist.revision
         session = self._session = Session(self._netlist)
         undo = Undo(self._netlist)
         self._make(session, undo, edits)

@@ -193,6 +193,22 @@ class Variants(Case):
             with n.edited() as variant:
                 self.assertEqual(str(n), variant.text())
 
+    def test_a_program_that_goes_away_between_two_variants(self) -> None:
+        n = two_stages()
+        with n.edited("delay c1 0 5"):
+            pass
+        session = n._idle[0]._session
+        assert session is not None
+        os.kill(session._process.pid, 9)
+        self.fault(BrokenPipe, lambda: n.edited("delay c1 0 6").__enter__())
+        with n.edited("delay c1 0 6") as variant:
+            self.assertIn("> q1/6", variant.text())
+        with self.assertRaises(BrokenPipe), n.edited("delay c1 0 7") as variant:
+            os.kill(variant._open()._process.pid, 9)
+            variant.waves()
+        with n.edited() as variant:
+            self.assertEqual(str(n), variant.text())
+
     def test_a_question_is_no_edit(self) -> None:
         n = two_stages()
         with n.edited() as variant:
