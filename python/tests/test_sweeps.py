@@ -4,9 +4,9 @@ from __future__ import annotations
 
 import operator
 import os
-from concurrent.futures import ProcessPoolExecutor, ThreadPoolExecutor
+from concurrent.futures import Future, ProcessPoolExecutor, ThreadPoolExecutor
 from concurrent.futures.process import BrokenProcessPool
-from typing import List, Union
+from typing import Any, Callable, List, Union
 
 from nesthrim import Measure, Netlist, Refused, Session, Unread, Variant, Wave, sweep
 from tests.support import Case
@@ -26,10 +26,31 @@ def processor_seconds() -> float:
     return taken.user + taken.system + taken.children_user + taken.children_system
 
 
+def divide_by_zero(variant: Variant) -> object:
+    return len(variant.edits) / 0
+
+
 def end_worker(variant: Variant) -> None:
     """What ends a worker in the midst of its work."""
     if variant.edits[0].endswith(" 20"):
         os._exit(1)
+
+
+class Losing(ThreadPoolExecutor):
+    """An executor that loses what was submitted, as often as is said, and then no more."""
+
+    def __init__(self, count: int) -> None:
+        super().__init__(2)
+        self.left = count
+
+    def submit(self, call: Callable[..., Any], /, *words: Any, **named: Any) -> "Future[Any]":
+        task = super().submit(call, *words, **named)
+        if self.left:
+            self.left -= 1
+            lost: "Future[Any]" = Future()
+            lost.set_exception(OSError("lost"))
+            return lost
+        return task
 
 
 class Sweeps(Case):
@@ -100,6 +121,21 @@ class Sweeps(Case):
             self.fault(BrokenProcessPool, lambda: sweep(n, EDITS, end_worker, processes, chunk=5))
         with ProcessPoolExecutor(2) as processes:
             self.assertEqual(len(EDITS), len(sweep(n, EDITS, "report", processes)))
+
+    def test_what_an_executor_loses_is_asked_again(self) -> None:
+        n = fifo(3, 120)
+        wanted = sweep(n, EDITS, "wave f3_r")
+        for count in (1, 3, 8):
+            with Losing(count) as executor:
+                self.assertEqual(wanted, sweep(n, EDITS, "wave f3_r", executor, chunk=5))
+        with Losing(1000) as executor:
+            self.assertEqual("lost", str(self.fault(OSError, lambda: sweep(n, EDITS, "report", executor))))
+
+    def test_what_a_question_raises_tells_where(self) -> None:
+        n = fifo(3, 120)
+        with ProcessPoolExecutor(1) as processes:
+            fault = self.fault(ZeroDivisionError, lambda: sweep(n, EDITS, divide_by_zero, processes))
+        self.assertIn("divide_by_zero", str(fault.__cause__))
 
     def test_two_hundred_delays_take_less_than_a_second(self) -> None:
         n = fifo(64, 500)
