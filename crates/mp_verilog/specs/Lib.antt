@@ -1,0 +1,9 @@
+pub mod Names
+pub mod Ports
+pub mod EventModules
+pub mod DataModules
+pub mod Kinds
+pub mod Lists
+pub mod Declarations
+pub mod Instances
+pub mod Verilog
