@@ -1,6 +1,6 @@
 -- What questions are answered.
 use Rattle.std.specs.Prelude.{◌+◌, ◌-◌, ◌∷◌, ◌++◌, ◌&&◌, if◌then◌else◌}
-use Rattle.mp_answers.specs.Names.{decimal, Edit, NoSuchWire, Circuit, wire_at, wire_named, Unicode, missing_at, usual_columns, ℕ, Bool, List, [], length, Option, Some, None, nat_le, codes, wave, report_text, waits, measure, dump, BadNumber, Question, Wave, Waves, Text, Report, Dump, Work, Show, Why, Path, Waits, Measure, Graph, Version, Edits, written, graph, picture_text, why_of, path_of, slot_line, waves_text}
+use Rattle.mp_answers.specs.Names.{decimal, Edit, NoSuchWire, Circuit, wire_at, wire_named, Unicode, missing_at, usual_columns, ℕ, Bool, List, [], length, Option, Some, None, nat_le, codes, wave, report_text, waits, measure, dump, BadNumber, Question, Wave, Waves, Text, Report, Dump, Work, Show, Why, Path, Waits, Measure, Graph, Verilog, Version, Edits, written, graph, verilog, picture_text, why_of, path_of, slot_line, waves_text}
 use Rattle.mp_views.specs.declared.drawing.Drawing.TheVariants as drawings
 use Rattle.mp_answers.specs.WorkLines.{work_text}
 use Rattle.mp_answers.specs.EditAnswers.{edits_from}
@@ -43,5 +43,6 @@ answer_text kept (Measure from to) = measure kept.netlist from to
 answer_text kept (Why wire time steps) = asked_text (missing_at kept.netlist (wire ∷ [])) (why_of kept.netlist wire time steps)
 answer_text kept (Path wire time) = asked_text (missing_at kept.netlist (wire ∷ [])) (path_of kept.netlist wire time)
 answer_text kept Graph = graph kept.netlist
+answer_text kept Verilog = verilog kept.netlist
 answer_text kept Version = version_text (length kept.edits)
 answer_text kept (Edits from) = edits_text kept.edits from

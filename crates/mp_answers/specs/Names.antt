@@ -15,10 +15,11 @@ pub use Rattle.mp_report.specs.Lines.{report_text}
 pub use Rattle.mp_streams.specs.Outgoing.{Writes}
 pub use Rattle.mp_text.specs.Written.{written}
 pub use Rattle.mp_text.specs.declared.question.Question.{Question}
-pub use Rattle.mp_text.specs.declared.question.Question.TheVariants.{Dump, Edits, Graph, Measure, Path, Report, Show, Text, Version, Waits, Wave, Waves, Why, Work}
+pub use Rattle.mp_text.specs.declared.question.Question.TheVariants.{Dump, Edits, Graph, Measure, Path, Report, Show, Text, Verilog, Version, Waits, Wave, Waves, Why, Work}
 pub use Rattle.mp_timing.specs.Measures.{measure}
 pub use Rattle.mp_timing.specs.Waits.{waits}
 pub use Rattle.mp_vcd.specs.Dumps.{dump}
+pub use Rattle.mp_verilog.specs.Verilog.{verilog}
 pub use Rattle.mp_version.specs.Stories.{Story, present}
 pub use Rattle.mp_views.specs.AskedWires.{missing_at}
 pub use Rattle.mp_views.specs.Chains.{path_of, why_of}

@@ -18,7 +18,7 @@ use mp_timing::TimeRange;
 use mp_version::Version;
 use mp_views::{
     AskedPicture, Drawing, DumpText, GraphText, MeasureLines, PathLines, PictureText, ReportLines,
-    USUAL_COLUMNS, View, WaitLines, WaveLines, WhyLines, put_wave_line,
+    USUAL_COLUMNS, VerilogText, View, WaitLines, WaveLines, WhyLines, put_wave_line,
 };
 use std::alloc::Global;
 use std::thread::Threads;
@@ -41,6 +41,7 @@ pub fn put_answer<R: Threads + Sync, T: Sink>(
         Question::Dump => put_view(rt, alloc, out, of, &DumpText),
         Question::Work => put_work_lines(out, of.netlist(), of.work),
         Question::Graph => put_view(rt, alloc, out, of, &GraphText),
+        Question::Verilog => put_view(rt, alloc, out, of, &VerilogText),
         Question::Version => Ok(("version ", of.version.number(), "\n").put_to(out)?),
         Question::Edits { from } => Ok(put_edits_from(out, of.version, *from)?),
         Question::Show { from, to, wires } => {

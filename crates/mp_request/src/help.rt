@@ -193,6 +193,25 @@ Reads a netlist, as `waves` does.
 Writes a text for `dot`: a node for each module, each wire that is set from
 outside and each bundle, and an edge for each wire that a module reads.";
 
+/// What `verilog` does.
+pub(crate) const VERILOG: &str = "Writes a netlist as Verilog, with a test bench";
+
+/// What `verilog` reads and writes.
+pub(crate) const VERILOG_LONG: &str = "\
+Writes a netlist as Verilog, with a test bench.
+
+Reads a netlist, as `waves` does.
+
+Writes a file of Verilog-2005: a module for each kind that occurs, the netlist
+as a module `netlist`, and a module `bench`, which sets what the stimuli set and
+dumps the levels of all wires below the horizon into waves.vcd. So
+
+  mpwb verilog FILE > netlist.v
+  iverilog -g2005 -o netlist.vvp netlist.v
+  vvp netlist.vvp
+
+makes the waves once more, by another simulator. Bundles stand as comments.";
+
 /// What `play` does.
 pub(crate) const PLAY: &str = "Edits a netlist by a script, and answers its questions";
 
@@ -225,6 +244,7 @@ and questions:
   waits TIME
   measure FROM TO
   graph
+  verilog
   version                                   how many edits were accepted
   edits FROM                                these from number FROM on, from 1
 

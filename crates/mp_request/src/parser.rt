@@ -4,13 +4,13 @@ use crate::command_form::CommandForm;
 use crate::help::{
     ABOUT, DESK, DESK_LONG, DUMP, DUMP_LONG, EXPLAIN, EXPLAIN_LONG, GRAPH, GRAPH_LONG, MEASURE,
     MEASURE_LONG, PATH, PATH_LONG, PLAY, PLAY_LONG, REPORT, REPORT_LONG, SHOW, SHOW_LONG, STATUS,
-    WAITS, WAITS_LONG, WAVES, WAVES_LONG, WHY, WHY_LONG,
+    VERILOG, VERILOG_LONG, WAITS, WAITS_LONG, WAVES, WAVES_LONG, WHY, WHY_LONG,
 };
 use clap::Command as Parser;
 use std::alloc::{AllocError, Global};
 
 /// The commands that read a netlist, in the order in which help lists them.
-static COMMANDS: [CommandForm; 11] = [
+static COMMANDS: [CommandForm; 12] = [
     CommandForm {
         name: "waves",
         about: WAVES,
@@ -68,6 +68,12 @@ static COMMANDS: [CommandForm; 11] = [
         name: "graph",
         about: GRAPH,
         long_about: GRAPH_LONG,
+        arguments: &[Arguments::Input],
+    },
+    CommandForm {
+        name: "verilog",
+        about: VERILOG,
+        long_about: VERILOG_LONG,
         arguments: &[Arguments::Input],
     },
     CommandForm {

@@ -106,6 +106,7 @@ fn command_of<'a>(
             to: to(found),
         },
         "graph" => Command::Graph,
+        "verilog" => Command::Verilog,
         "play" => Command::Play,
         "desk" => desk_command(found),
         _ => return Ok(None),

@@ -35,6 +35,8 @@ pub enum Command<'a> {
     },
     /// Write a netlist's text as a graph.
     Graph,
+    /// Write a netlist's text as Verilog.
+    Verilog,
     /// Edit a netlist by a script, and answer its questions.
     Play,
     /// Have designers edit a netlist at the same time, while viewers read.

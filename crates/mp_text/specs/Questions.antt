@@ -1,6 +1,6 @@
 -- What a script asks for.
 use Rattle.std.specs.Prelude.{◌&&◌, ◌∷◌, if◌then◌else◌}
-use Rattle.mp_text.specs.Names.{bytes_eq, LineError, WordCount, BadNumber, ◌>>=◌, number_word, ℕ, List, [], Option, Some, None, Result, Ok, Err, nat_le, codes, QuestionWord, Wave, Waves, Text, Report, Dump, Work, Show, Why, Path, Waits, Measure, Graph, Version, Edits}
+use Rattle.mp_text.specs.Names.{bytes_eq, LineError, WordCount, BadNumber, ◌>>=◌, number_word, ℕ, List, [], Option, Some, None, Result, Ok, Err, nat_le, codes, QuestionWord, Wave, Waves, Text, Report, Dump, Work, Show, Why, Path, Waits, Measure, Graph, Verilog, Version, Edits}
 use Rattle.mp_text.specs.declared.question.Question.{Question}
 use Rattle.mp_text.specs.declared.question.Question.TheVariants as questions
 use Rattle.mp_text.specs.Limits.{max_steps, usual_steps}
@@ -33,9 +33,10 @@ question_word word =
     else (if bytes_eq word (codes "waits") then Some Waits
     else (if bytes_eq word (codes "measure") then Some Measure
     else (if bytes_eq word (codes "graph") then Some Graph
+    else (if bytes_eq word (codes "verilog") then Some Verilog
     else (if bytes_eq word (codes "version") then Some Version
     else (if bytes_eq word (codes "edits") then Some Edits
-    else None)))))))))))))
+    else None))))))))))))))
 
 -- the question of that word and the words behind it
 abbrev pub stated_question : QuestionWord → List (List ℕ) → Result Question LineError
@@ -62,6 +63,7 @@ stated_question Measure (from ∷ to ∷ []) = do
   t ← number_word to
   Ok (questions.Measure f t)
 stated_question Graph [] = Ok questions.Graph
+stated_question Verilog [] = Ok questions.Verilog
 stated_question Version [] = Ok questions.Version
 stated_question Edits (from ∷ []) = do
   f ← number_word from

@@ -45,6 +45,8 @@ pub enum Question {
     },
     /// The netlist as a graph.
     Graph,
+    /// The netlist as Verilog.
+    Verilog,
     /// How many edits were accepted.
     Version,
     /// The accepted edits from this place on, the first being 1.

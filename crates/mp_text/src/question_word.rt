@@ -27,6 +27,8 @@ pub enum QuestionWord {
     Measure,
     /// `graph`
     Graph,
+    /// `verilog`
+    Verilog,
     /// `version`
     Version,
     /// `edits`
@@ -54,6 +56,7 @@ impl QuestionWord {
             _ if word == b"waits".as_slice() => Some(QuestionWord::Waits),
             _ if word == b"measure".as_slice() => Some(QuestionWord::Measure),
             _ if word == b"graph".as_slice() => Some(QuestionWord::Graph),
+            _ if word == b"verilog".as_slice() => Some(QuestionWord::Verilog),
             _ if word == b"version".as_slice() => Some(QuestionWord::Version),
             _ if word == b"edits".as_slice() => Some(QuestionWord::Edits),
             _ => None,

@@ -55,6 +55,7 @@ pub fn stated_question(
             to: number_word(to)?,
         }),
         (QuestionWord::Graph, []) => Ok(Question::Graph),
+        (QuestionWord::Verilog, []) => Ok(Question::Verilog),
         (QuestionWord::Version, []) => Ok(Question::Version),
         (QuestionWord::Edits, [from]) => Ok(Question::Edits {
             from: number_word(from)?,

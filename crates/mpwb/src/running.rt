@@ -9,7 +9,7 @@ use mp_request::{Command, PictureWords, Request};
 use mp_streams::{Out, Sink, Source, WriteSink};
 use mp_views::{
     AskedPicture, Charset, Drawing, DumpText, GraphText, MeasureLines, PathLines, PictureText,
-    ReportLines, TimeRange, View, WaitLines, WaveLines, WhyLines,
+    ReportLines, TimeRange, VerilogText, View, WaitLines, WaveLines, WhyLines,
 };
 use std::alloc::{AllocError, Global};
 use std::io;
@@ -51,6 +51,7 @@ fn run_named<R: Threads + Wait + Sync + AllocGlobal, S: Source, T: Sink>(
         Command::Report => run_view(rt, source, out, options, Some(ReportLines)),
         Command::Dump => run_view(rt, source, out, options, Some(DumpText)),
         Command::Graph => run_view(rt, source, out, options, Some(GraphText)),
+        Command::Verilog => run_view(rt, source, out, options, Some(VerilogText)),
         Command::Show(words) => run_view(rt, source, out, options, picture(names, words)),
         Command::Waits { time } => {
             run_view(rt, source, out, options, Some(WaitLines { time: *time }))
