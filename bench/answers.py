@@ -6,6 +6,7 @@ import formats
 import pictures
 import reader
 import reference
+import verilog as verilog_texts
 from circuit import Refused
 from reader import Fault
 
@@ -82,6 +83,10 @@ def graph(text):
     return of_netlist(text, "graph")
 
 
+def verilog(text):
+    return of_netlist(text, "verilog")
+
+
 class Keeper:
     """A netlist that is edited, and the work of the last edit that was accepted."""
 
@@ -107,6 +112,8 @@ class Keeper:
             return self.shown(*question[1:3], question[3:] or None)
         if question[0] == "graph":
             return pictures.graph(self.circuit)
+        if question[0] == "verilog":
+            return verilog_texts.text(self.circuit)
         if question[0] == "text":
             return formats.text(self.circuit)
         if question[0] == "report":
