@@ -5,19 +5,29 @@ import reference
 UNICODE = "▁▔╱╲▒═╳"
 ASCII = "_-/\\#=X"
 
-SHAPES = {"C": "circle", "REG": "box", "BUF": "triangle", "NOT": "triangle"}
+SHAPES = {"C": "circle", "XOR": "diamond"}
+SHAPES |= dict.fromkeys(["BUF", "NOT"], "triangle orientation=270 margin=0")
 SHAPES |= dict.fromkeys(["ADDC", "XORC", "SUM", "BIT"], "ellipse")
-SHAPES |= dict.fromkeys(["XOR", "TOGGLE", "SELECT", "CALL", "ARBITER"], "diamond")
+SHAPES |= dict.fromkeys(["REG", "TOGGLE", "SELECT", "CALL", "ARBITER"], "record")
+
+
+ROUND = [digit * 10**power for power in range(10) for digit in (1, 2, 5)]
 
 
 class Columns:
-    """A range of units below a horizon, in at most so many columns of the fewest units each."""
+    """A range of units below a horizon, in at most so many columns of the least round number of units, which begin at multiples of it."""
 
     def __init__(self, horizon, begin, end, most):
-        self.begin = min(begin, horizon - 1)
-        self.end = max(min(end, horizon), self.begin + 1)
-        self.units = next(units for units in range(1, self.end + 1) if units * most >= self.end - self.begin)
+        begin = min(begin, horizon - 1)
+        self.end = max(min(end, horizon), begin + 1)
+        self.units = next(units for units in ROUND if units * most >= self.end - begin // units * units)
+        self.begin = begin // self.units * self.units
         self.begins = list(range(self.begin, self.end, self.units))
+
+    def times(self):
+        """The columns at which a time stands: each tenth, or each twentieth where two times would touch."""
+        tenth = range(0, len(self.begins), 10)
+        return tenth[::2] if any(len(str(self.begins[column])) >= 10 for column in tenth[:-1]) else tenth
 
     def spans(self):
         return [range(begin, min(begin + self.units, self.end)) for begin in self.begins]
@@ -46,7 +56,8 @@ def wide(cells, marks):
 
 
 def ruler(columns):
-    return "".join(f"{begin:<10}" for begin in columns.begins[::10]).rstrip()
+    times = columns.times()
+    return "".join(f"{columns.begins[column]:<{times.step}}" for column in times).rstrip()
 
 
 def picture(netlist, levels, found, columns, wires, marks):
@@ -167,8 +178,8 @@ STYLE = f"<style>{LIGHT}@media (prefers-color-scheme:dark){{{DARK}}}</style>".re
 
 
 def axis(columns, left, bottom):
-    """The times of each tenth column, each over an upright line."""
-    ticks = [(left + PITCH * column, begin) for column, begin in enumerate(columns.begins)][::10]
+    """The times, each over an upright line."""
+    ticks = [(left + PITCH * column, columns.begins[column]) for column in columns.times()]
     marks = "".join(f'<path d="M{x} 20V{bottom}"/><text x="{x}" y="14">{begin}</text>' for x, begin in ticks)
     return f'<g class="axis">{marks}</g>\n'
 
@@ -198,8 +209,8 @@ def svg(netlist, begin=0, end=None, most=72, names=None):
     labels = [netlist.wires[wire][0] for wire in wires] + [name[sort](number) for sort, number in places]
     left = PITCH * (max(map(len, labels), default=0) + 2)
     count, rows = len(columns.begins), len(wires) + len(places)
-    last = (count - 1) // 10
-    width = max(left + PITCH * count, left + 10 * PITCH * last + PITCH * len(str(columns.begins[10 * last]))) + 8
+    last = columns.times()[-1]
+    width = max(left + PITCH * count, left + PITCH * (last + len(str(columns.begins[last])))) + 8
     height = 28 * rows + 28
     head = f'<svg xmlns="http://www.w3.org/2000/svg" width="{width}" height="{height}" viewBox="0 0 {width} {height}"'
     data = {"from": columns.begin, "to": columns.end, "units": columns.units, "columns": count, "left": left, "pitch": PITCH}
@@ -214,23 +225,52 @@ def svg(netlist, begin=0, end=None, most=72, names=None):
     return text + "</svg>\n"
 
 
+CELLS = {
+    "TOGGLE": ("a", "dot blank"),
+    "SELECT": ("a diamond", "true false"),
+    "CALL": ("r1 r2 d", "r d1 d2"),
+    "ARBITER": ("r1 r2 d1 d2", "g1 g2"),
+    "REG": ("d c p", "q cd pd"),
+}
+
+
+def module_node(name, kind, params):
+    """A module with its kind and its parameters, and with its ports where those of its kind differ."""
+    label = f"{name}\\n{' '.join([kind, *map(str, params)])}"
+    if kind in CELLS:
+        ins, outs = ("|".join(f"<{side}{port}>{of}" for port, of in enumerate(ports.split())) for side, ports in zip("io", CELLS[kind]))
+        label = f"{{{{{ins}}}|{label}|{{{outs}}}}}"
+    return f'  "module {name}" [label="{label}" shape={SHAPES[kind]}];'
+
+
 def graph(netlist):
     """What `graph` writes."""
     name = lambda wire: netlist.wires[wire][0]
-    node = lambda sort, of, label, more: f'  "{sort} {of}" [label="{label}" {more}];'
     modules = [(number, *found) for number, found in enumerate(netlist.modules) if found]
-    lines = ["digraph netlist {"]
-    for number, kind, params, _, _ in modules:
-        of = netlist.module_names[number]
-        lines.append(node("module", of, f"{of}\\n{' '.join([kind, *map(str, params)])}", f"shape={SHAPES[kind]}"))
-    driver = {wire: (number, delay) for number, *_, outputs in modules for wire, delay in outputs if wire is not None}
-    reads = [(wire, number, delay) for number, _, _, inputs, _ in modules for wire, delay in inputs]
-    lines += [node("wire", name(wire), name(wire), "shape=plaintext") for wire in sorted({read[0] for read in reads} - set(driver))]
-    for wire, number, delay in sorted(reads, key=lambda read: read[0]):
-        label = name(wire) + (f"/{delay}" if delay else "")
-        tail = f"module {netlist.module_names[driver[wire][0]]}" if wire in driver else f"wire {name(wire)}"
-        more = f' taillabel="{driver[wire][1]}"' if wire in driver else ""
-        lines.append(f'  "{tail}" -> "module {netlist.module_names[number]}" [label="{label}"{more}];')
-    for of, request, acknowledge, payload, _ in filter(None, netlist.bundles):
-        lines.append(node("bundle", of, f"{of}\\n{name(request)} {name(acknowledge)} {name(payload)}", "shape=box style=dashed"))
+    lines = [
+        "digraph netlist {",
+        "  rankdir=LR;",
+        "  node [fontname=Helvetica fontsize=12 margin=0.05 height=0.3];",
+        "  edge [fontname=Helvetica fontsize=10 arrowsize=0.7];",
+    ]
+    lines += [module_node(netlist.module_names[number], kind, params) for number, kind, params, _, _ in modules]
+    driver = {wire: (number, port, delay) for number, *_, outputs in modules for port, (wire, delay) in enumerate(outputs) if wire is not None}
+    reads = [(wire, number, port, delay) for number, _, _, inputs, _ in modules for port, (wire, delay) in enumerate(inputs)]
+    end = lambda number, side, port, at: f'"module {netlist.module_names[number]}"' + (f":{side}{port}:{at}" if netlist.modules[number][0] in CELLS else "")
+    tail = lambda wire: end(driver[wire][0], "o", driver[wire][1], "e") if wire in driver else f'"wire {name(wire)}"'
+    for wire in (number for number, found in enumerate(netlist.wires) if found):
+        if wire not in driver or not any(read[0] == wire for read in reads):
+            lines.append(f'  "wire {name(wire)}" [label="{name(wire)}" shape=plaintext];')
+            if wire in driver:
+                lines.append(f'  {tail(wire)} -> "wire {name(wire)}" [label="/{driver[wire][2]}"];')
+    for wire, number, port, delay in sorted(reads, key=lambda read: read[0]):
+        label = (f"{name(wire)}/{driver[wire][2]}" if wire in driver else "") + (f"+{delay}" if delay else "")
+        kind, params = netlist.modules[number][:2]
+        bubble = " arrowhead=odot" if kind == "C" and params[port + 1] else ""
+        lines.append(f'  {tail(wire)} -> {end(number, "i", port, "w")} [label="{label}"{bubble}];')
+    for of, request, acknowledge, payload, setup in filter(None, netlist.bundles):
+        label = f"{of}\\nsetup {setup}|<r>{name(request)}|<a>{name(acknowledge)}|<d>{name(payload)}"
+        lines.append(f'  "bundle {of}" [label="{label}" shape=record style=dashed];')
+        for wire, cell in (request, "r"), (acknowledge, "a"), (payload, "d"):
+            lines.append(f'  {tail(wire)} -> "bundle {of}":{cell}:w [style=dashed color=gray50 arrowhead=none];')
     return "".join(f"{line}\n" for line in [*lines, "}"])

@@ -1,4 +1,5 @@
 pub mod SameColumnLemmas
+pub mod RoundLemmas
 pub mod ColumnLemmas
 pub mod CellLemmas
 pub mod EventLemmas

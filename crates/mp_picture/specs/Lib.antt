@@ -1,4 +1,5 @@
 pub mod Columns
+pub mod RoundNumbers
 pub mod ColumnRanges
 pub mod Cells
 pub mod CellLaws

@@ -1,5 +1,5 @@
 -- The rows of a picture as text.
-use Rattle.std.specs.Prelude.{ℕ, ◌-◌, ◌*◌, ◌/◌, ◌==◌, nat_le, Bool, true, false, List, [], ◌∷◌, ◌++◌, length, drop, if◌then◌else◌}
+use Rattle.std.specs.Prelude.{ℕ, ◌-◌, ◌*◌, ◌/◌, ◌==◌, nat_le, nat_lt, ◌&&◌, Bool, true, false, List, [], ◌∷◌, ◌++◌, length, drop, if◌then◌else◌}
 use Rattle.std.specs.List.{flat_map, prefix_len, repeat, range_with_len}
 use Rattle.std.specs.Fmt.{decimal}
 use Rattle.mp_records.specs.declared.wire_record.WireRecord.{WireRecord}
@@ -19,19 +19,27 @@ padded width text = text ++ repeat (width - length text) (32 ∷ [])
 
 -- ---- times
 
--- a time stands at each tenth column: the number of the last one
+-- of the times at each tenth column the last but one has ten digits, and would touch the last
+abbrev pub touches : Columns → Bool
+touches c = nat_lt 0 ((count c - 1) / 10) && nat_le 1000000000 (begin c (10 * ((count c - 1) / 10 - 1)))
+
+-- a time stands at each tenth column, or at each twentieth where two would touch
+abbrev pub tick_step : Columns → ℕ
+tick_step c = if touches c then 20 else 10
+
+-- the number of the last one
 abbrev pub last_tick : Columns → ℕ
-last_tick c = (count c - 1) / 10
+last_tick c = (count c - 1) / tick_step c
 
--- the time at which a tenth column begins
+-- the time at which such a column begins
 abbrev pub tick : Columns → ℕ → List ℕ
-tick c i = decimal (begin c (10 * i))
+tick c i = decimal (begin c (tick_step c * i))
 
--- blanks in place of a name, and the times, each filled to ten columns but the last
+-- blanks in place of a name, and the times, each filled up to the next but the last
 abbrev pub ruler : Layout → List ℕ
 ruler layout =
     let c = layout.columns in
-    repeat layout.margin (32 ∷ []) ++ (flat_map (λ i. padded 10 (tick c i)) (range_with_len 0 (last_tick c)) ++ (tick c (last_tick c) ++ (10 ∷ [])))
+    repeat layout.margin (32 ∷ []) ++ (flat_map (λ i. padded (tick_step c) (tick c i)) (range_with_len 0 (last_tick c)) ++ (tick c (last_tick c) ++ (10 ∷ [])))
 
 -- ---- wires of width 1
 

@@ -1,6 +1,8 @@
 //! A range of units that is cut into columns.
 ghost use Rattle.std.specs.Prelude.{◌<◌};
 
+use crate::round::units_of;
+
 /// The units from one on to before another, cut into columns of so many units each; the last may have fewer.
 #[derive(Clone, Copy, Debug)]
 pub struct Columns {
@@ -15,25 +17,32 @@ pub struct Columns {
 }
 
 impl Columns {
-    ghost use Rattle.std.specs.Prelude.{◌≡◌, ℕ, ◌-◌, ◌*◌, ◌<◌, ◌≤◌};
+    ghost use Rattle.std.specs.Prelude.{◌≡◌, ℕ, ◌-◌, ◌*◌, ◌<◌, ◌≤◌, IsTrue};
+    ghost use Rattle.mp_netlist.specs.Limits.{max_horizon};
     ghost use Rattle.mp_picture.specs.Columns.{count, begin, end, column_of, range_from, range_to};
     ghost use Rattle.mp_picture.specs.ColumnRanges.{columns_in};
+    ghost use Rattle.mp_picture.specs.RoundNumbers.{is_round, rounded_down};
 
-    /// The range below a horizon, in at most so many columns of the fewest units each. A time at or above the horizon is read as its
-    /// last unit, or as the horizon itself where it ends the range; an empty range is read as its first unit.
+    /// The range below a horizon, in at most so many columns of as many units each: the least round number (1, 2 or 5 times a power of
+    /// ten) with which they reach over the range. A column begins at a multiple of it, and so does the first: where FROM isn't one, the
+    /// range begins at the multiple before. A time at or above the horizon is read as its last unit, or as the horizon itself where it
+    /// ends the range; an empty range is read as its first unit.
     pub fn new(horizon: u32, from: u32, to: u32, most: u32) -> Columns
         requires horizon { 0 < horizon }
+        requires low { horizon ≤ max_horizon }
         requires some { 0 < most }
-        ensures from { result.from ≡ range_from horizon from }
+        ensures round { IsTrue (is_round result.units) }
+        ensures from { result.from ≡ rounded_down result.units (range_from horizon from) }
         ensures to { result.to ≡ range_to horizon from to }
         ensures within { result.to ≤ horizon }
         ensures enough { result.to - result.from ≤ result.units * most }
         ensures value { result ≡ columns_in horizon from to most }
-        ensures fewest { (k : ℕ) → result.to - result.from ≤ k * most → result.units ≤ k }
+        ensures fewest { (k : ℕ) → IsTrue (is_round k) → result.to - rounded_down k (range_from horizon from) ≤ k * most → result.units ≤ k }
     {
         let from = from.min(horizon - 1);
         let to = to.min(horizon).max(from + 1);
-        let units = (to - from).div_ceil(most);
+        let units = units_of(from, to, most);
+        let from = from - from % units;
         Columns { from, to, units }
     }
 

@@ -14,6 +14,7 @@ mod mark;
 mod nodes;
 mod picture;
 mod repeated;
+mod round;
 mod row;
 mod ruler;
 
@@ -26,3 +27,4 @@ pub use margin::margin_of;
 pub use mark::Charset;
 pub use picture::Picture;
 pub use row::{is_still, still_count};
+pub use ruler::{last_tick, tick_step};

@@ -111,7 +111,8 @@ Writes a timing diagram of a netlist.
 Reads a netlist, as `waves` does.
 
 Writes a line of times, then a line for each wire, a character a column. Each
-column has as many units of time, as few as the columns allow. A wire of width 1
+column has as many units of time: the least round number that the columns allow,
+1, 2 or 5 times a power of ten, at whose multiples they begin. A wire of width 1
 is low or high, rises or falls in a column of several units with one change, or
 changes more often in it; in a column of one unit it has its level. A wider wire
 is crossed where it changes, and its level stands behind that where it fits.

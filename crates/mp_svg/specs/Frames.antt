@@ -1,7 +1,7 @@
 -- Where the columns and the times of an SVG stand.
 use Rattle.std.specs.Prelude.{ℕ, ◌+◌, ◌*◌, length, max}
 use Rattle.mp_picture.specs.Columns.{count}
-use Rattle.mp_picture.specs.Rows.{last_tick, tick}
+use Rattle.mp_picture.specs.Rows.{last_tick, tick, tick_step}
 use Rattle.mp_svg.specs.declared.frame.Frame.{Frame}
 use Rattle.mp_svg.specs.declared.lane.Lane.{Lane}
 
@@ -13,13 +13,13 @@ lane frame row = record { left = frame.left; row = row; units = frame.columns.un
 abbrev pub column_x : Frame → ℕ → ℕ
 column_x frame j = frame.left + 8 * j
 
--- at how many columns a time stands: at each tenth
+-- at how many columns a time stands: at each tenth, or at each twentieth where two would touch
 abbrev pub tick_count : Frame → ℕ
 tick_count frame = last_tick frame.columns + 1
 
 -- where the last time ends, each digit as wide as a column
 abbrev pub last_end : Frame → ℕ
-last_end frame = column_x frame (10 * last_tick frame.columns) + 8 * length (tick frame.columns (last_tick frame.columns))
+last_end frame = column_x frame (tick_step frame.columns * last_tick frame.columns) + 8 * length (tick frame.columns (last_tick frame.columns))
 
 -- up to the end of the columns, or of the last time where that is further, and a column more
 abbrev pub width : Frame → ℕ

@@ -3,6 +3,7 @@ use Rattle.std.specs.Prelude.{ℕ, ◌+◌, ◌-◌, ◌*◌, List, [], ◌∷�
 use Rattle.std.specs.List.{flat_map, range_with_len}
 use Rattle.std.specs.Fmt.{decimal}
 use Rattle.mp_picture.specs.Columns.{count, begin}
+use Rattle.mp_picture.specs.Rows.{tick_step}
 use Rattle.mp_svg.specs.declared.frame.Frame.{Frame}
 use Rattle.mp_svg.specs.Elements.{attribute, number, text_from}
 use Rattle.mp_svg.specs.Frames.{column_x, tick_count, width}
@@ -35,11 +36,12 @@ root frame rows =
     ++ (view (width frame) (height rows)
     ++ (range frame ++ (codes ">" ++ (10 ∷ [])))))))
 
--- the time of a tenth column over an upright line
+-- a time over an upright line
 abbrev pub tick_mark : Frame → ℕ → ℕ → List ℕ
 tick_mark frame rows i =
-    let x = column_x frame (10 * i) in
-    codes "<path d=" ++ (34 ∷ (move_to x 20 ++ (upright_to (height rows - 8) ++ (path_end ++ text_from x 14 (decimal (begin frame.columns (10 * i)))))))
+    let column = tick_step frame.columns * i in
+    let x = column_x frame column in
+    codes "<path d=" ++ (34 ∷ (move_to x 20 ++ (upright_to (height rows - 8) ++ (path_end ++ text_from x 14 (decimal (begin frame.columns column))))))
 
 abbrev pub ticks : Frame → ℕ → List ℕ
 ticks frame rows = flat_map (tick_mark frame rows) (range_with_len 0 (tick_count frame))

@@ -1,10 +1,7 @@
 //! Where the columns of an SVG stand.
 use crate::lane::Lane;
 use itoa::Buffer;
-use mp_picture::Columns;
-
-/// A time stands at each so many columns.
-const TICK: u32 = 10;
+use mp_picture::{Columns, last_tick, tick_step};
 
 /// The columns of an SVG, from a point on.
 #[derive(Clone, Copy, Debug)]
@@ -16,7 +13,7 @@ pub(crate) struct Frame {
 impl Frame {
     ghost use Rattle.std.specs.Prelude.{◌≡◌, ◌<◌, ◌≤◌, ◌*◌, length};
     ghost use Rattle.mp_picture.specs.Columns.{count};
-    ghost use Rattle.mp_picture.specs.Rows.{tick, last_tick};
+    ghost use Rattle.mp_picture.specs.Rows.{tick_step};
     ghost use Rattle.mp_svg.specs.Frames.{column_x, lane, tick_count, width};
 
     /// Where a column begins.
@@ -41,18 +38,17 @@ impl Frame {
     pub(crate) fn tick_count(self) -> u32
         ensures value { result ≡ tick_count self }
         ensures some { 0 < result }
-        ensures few { 10 * (last_tick self.columns) < count self.columns }
     {
-        (self.columns.count() - 1) / TICK + 1
+        last_tick(self.columns) + 1
     }
 
     /// The column at which a time stands.
     pub(crate) fn tick_column(self, number: u32) -> u32
         requires { number < tick_count self }
-        ensures value { result ≡ 10 * number }
+        ensures value { result ≡ tick_step self.columns * number }
         ensures within { result < count self.columns }
     {
-        TICK * number
+        tick_step(self.columns) * number
     }
 
     /// How wide the SVG is: up to the end of the columns, or of the last time where that is further, and a column more.
