@@ -7,5 +7,6 @@ pub mod Marks
 pub mod Rows
 pub mod Found
 pub mod Diagrams
+pub mod GraphPorts
 pub mod Graphs
 pub mod GraphSections

@@ -1,11 +1,12 @@
 //! A netlist as a graph in the language of Graphviz.
 ghost use Rattle.std.specs.Prelude.{◌≡◌, IfOk};
 ghost use Rattle.mp_streams.specs.WriteErrors.{Writes};
-ghost use Rattle.mp_picture.specs.Graphs.{wire_node, wire_edges, is_source};
+ghost use Rattle.mp_picture.specs.Graphs.{wire_lines, wire_edges, is_inner};
 ghost use Rattle.mp_picture.specs.GraphSections.{slot_count, section_line, section_text, graph};
 
-use crate::edges::put_edges;
-use crate::nodes::{put_bundle_node, put_module_node, put_source, wire_name};
+use crate::bundle_lines::put_bundle_lines;
+use crate::edges::{put_edges, put_own_lines};
+use crate::nodes::put_module_node;
 use mp_netlist::{Driver, Netlist, WireId};
 use mp_streams::{Out, Sink, WriteError};
 use std::alloc::AllocError;
@@ -19,14 +20,21 @@ pub enum GraphSection {
     Bundles,
 }
 
-/// Writes a netlist as a graph, for `dot`: a node for each module, each wire that no port drives and a module reads, and each bundle, and
-/// an edge for each read. `WriteFailed` comes with a fault of the sink: then some of what was held and of the graph, from the front, is
+/// What a graph begins with: it goes from left to right.
+const HEAD: &str = "digraph netlist {
+  rankdir=LR;
+  node [fontname=Helvetica fontsize=12 margin=0.05 height=0.3];
+  edge [fontname=Helvetica fontsize=10 arrowsize=0.7];
+";
+
+/// Writes a netlist as a graph, for `dot`: a node for each module, each wire that no port drives or no module reads, and each bundle, an
+/// edge for each read, and a dashed line to each bundle from each of its wires. `WriteFailed` comes with a fault of the sink: then some of what was held and of the graph, from the front, is
 /// with the sink, and nothing is held. `OutOfMemory` comes where memory is wanting: then a part of the graph, from its front, is written.
 /// It takes memory for the reads of one wire.
 pub fn put_graph<S: Sink>(out: &mut Out<S>, netlist: &Netlist) -> Result<(), WriteError>
     ensures { Writes result out.old out.new (graph netlist.now) }
 {
-    out.put_text("digraph netlist {\n")?;
+    out.put_text(HEAD)?;
     put_section(out, netlist, GraphSection::Modules)?;
     put_section(out, netlist, GraphSection::Wires)?;
     put_section(out, netlist, GraphSection::Reads)?;
@@ -71,34 +79,34 @@ fn put_slot<S: Sink>(
 {
     match section {
         GraphSection::Modules => Ok(put_module_node(out, netlist, number)?),
-        GraphSection::Wires => put_wire_node(out, netlist, WireId(number)),
+        GraphSection::Wires => put_wire_lines(out, netlist, WireId(number)),
         GraphSection::Reads => put_wire_edges(out, netlist, WireId(number)),
-        GraphSection::Bundles => Ok(put_bundle_node(out, netlist, number)?),
+        GraphSection::Bundles => Ok(put_bundle_lines(out, netlist, number)?),
     }
 }
 
-/// Writes the line of a wire's node where no port drives the wire and a module reads it, and else nothing.
-fn put_wire_node<S: Sink>(
+/// Writes the lines of a wire that no port drives or no module reads, and for any other nothing.
+fn put_wire_lines<S: Sink>(
     out: &mut Out<S>,
     netlist: &Netlist,
     wire: WireId,
 ) -> Result<(), WriteError>
-    ensures { Writes result out.old out.new (wire_node netlist.now wire.0) }
+    ensures { Writes result out.old out.new (wire_lines netlist.now wire.0) }
 {
-    if !is_source(netlist, wire)? {
+    if netlist.wire(wire).is_none() || is_inner(netlist, wire)? {
         return Ok(());
     }
-    put_source(out, wire_name(netlist, wire))?;
+    put_own_lines(out, netlist, wire, netlist.driver_of(wire))?;
     Ok(())
 }
 
-/// Whether no port drives the wire and a module reads it.
-fn is_source(netlist: &Netlist, wire: WireId) -> Result<bool, AllocError>
-    ensures { IfOk result (λ source. source ≡ is_source netlist.now wire.0) }
+/// Whether a port drives the wire and a module reads it.
+fn is_inner(netlist: &Netlist, wire: WireId) -> Result<bool, AllocError>
+    ensures { IfOk result (λ inner. inner ≡ is_inner netlist.now wire.0) }
 {
-    if let Driver::Port(..) = netlist.driver_of(wire) {
+    let Driver::Port(..) = netlist.driver_of(wire) else {
         return Ok(false);
-    }
+    };
     let readers = netlist.readers_of(wire)?;
     Ok(!readers.is_empty())
 }

@@ -1,9 +1,11 @@
 //! Pictures of waves: a range of units in columns, what a wire does in each, and the rows that are drawn of it.
 #![tactic(auto)]
 
+mod bundle_lines;
 mod cell;
 mod columns;
 mod diagram;
+mod edge_port;
 mod edges;
 mod found;
 mod graph;

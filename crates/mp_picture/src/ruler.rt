@@ -59,7 +59,11 @@ pub fn tick_step(columns: Columns) -> u32
     ensures value { result ≡ tick_step columns }
     ensures some { 0 < result }
 {
-    if touches(columns) { 2 * DISTANCE } else { DISTANCE }
+    if touches(columns) {
+        2 * DISTANCE
+    } else {
+        DISTANCE
+    }
 }
 
 /// The number of the last time.

@@ -3,7 +3,7 @@ use Rattle.mp_netlist.specs.Circuit.{Circuit}
 use Rattle.mp_streams.proofs.OutLemmas.{puts_as, puts_then, puts_sooner}
 use Rattle.mp_streams.specs.declared.write_error.WriteError.TheVariants.{WriteFailed}
 use Rattle.mp_picture.specs.declared.graph.GraphSection.TheVariants.{Modules, Wires, Reads, Bundles}
-use Rattle.mp_picture.specs.GraphSections.{section_text, graph}
+use Rattle.mp_picture.specs.GraphSections.{section_text, head, graph}
 use Rattle.mp_picture.proofs.PutLemmas.{puts_ok}
 use Rattle.mp_picture.proofs.graph.put_graph.Goals as goal
 
@@ -23,24 +23,24 @@ abbrev from_modules : Circuit → List ℕ
 from_modules n = section_text n Modules ++ from_wires n
 
 pub returns-in_err-put_text : goal.returns-in_err-put_text
-unfolding graph
+unfolding graph head
 returns-in_err-put_text g c = puts_as _ WriteFailed c.from_residual.ensures.1 refl (puts_sooner (from_modules c.args.netlist.now) c.in_err-put_text.ensures)
 
 pub returns-in_err-put_section : goal.returns-in_err-put_section
-unfolding graph
+unfolding graph head
 returns-in_err-put_section g c =
     puts_then c.in_ok-put_text.ensures
     (puts_as _ c.in_err-put_section.field-0.0 c.from_residual-in_err-put_section.ensures.1 refl (puts_sooner (from_wires c.args.netlist.now) c.in_err-put_section.ensures))
 
 pub returns-in_err-put_section-2 : goal.returns-in_err-put_section-2
-unfolding graph
+unfolding graph head
 returns-in_err-put_section-2 g c =
     puts_then c.in_ok-put_text.ensures
     (puts_then c.in_ok-put_section.ensures
     (puts_as _ c.in_err-put_section-2.field-0.0 c.from_residual-in_err-put_section-2.ensures.1 refl (puts_sooner (from_reads c.args.netlist.now) c.in_err-put_section-2.ensures)))
 
 pub returns-in_err-put_section-3 : goal.returns-in_err-put_section-3
-unfolding graph
+unfolding graph head
 returns-in_err-put_section-3 g c =
     puts_then c.in_ok-put_text.ensures
     (puts_then c.in_ok-put_section.ensures
@@ -48,7 +48,7 @@ returns-in_err-put_section-3 g c =
     (puts_as _ c.in_err-put_section-3.field-0.0 c.from_residual-in_err-put_section-3.ensures.1 refl (puts_sooner (from_bundles c.args.netlist.now) c.in_err-put_section-3.ensures))))
 
 pub returns-in_err-put_section-4 : goal.returns-in_err-put_section-4
-unfolding graph
+unfolding graph head
 returns-in_err-put_section-4 g c =
     puts_then c.in_ok-put_text.ensures
     (puts_then c.in_ok-put_section.ensures
@@ -57,7 +57,7 @@ returns-in_err-put_section-4 g c =
     (puts_as _ c.in_err-put_section-4.field-0.0 c.from_residual-in_err-put_section-4.ensures.1 refl (puts_sooner last c.in_err-put_section-4.ensures)))))
 
 pub returns-in_err-put_text-2 : goal.returns-in_err-put_text-2
-unfolding graph
+unfolding graph head
 returns-in_err-put_text-2 g c =
     puts_then c.in_ok-put_text.ensures
     (puts_then c.in_ok-put_section.ensures
@@ -67,7 +67,7 @@ returns-in_err-put_text-2 g c =
     (puts_as _ WriteFailed c.from_residual-in_err-put_text-2.ensures.1 refl c.in_err-put_text-2.ensures)))))
 
 pub returns : goal.returns
-unfolding graph
+unfolding graph head
 returns g c =
     puts_then c.in_ok-put_text.ensures
     (puts_then c.in_ok-put_section.ensures
