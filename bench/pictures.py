@@ -1,5 +1,7 @@
 """The pictures of a netlist's waves, and the netlist as a graph, computed once more in Python. Netlists are as in `reference.py`; the
 modules' names are `module_names`."""
+import html
+
 import reference
 
 UNICODE = "▁▔╱╲▒═╳"
@@ -92,13 +94,17 @@ def show(netlist, begin=0, end=None, most=72, names=None, marks=UNICODE):
 
 PITCH = 8
 
+# what may be found, by number
+CODES = """merge-collision withdrawn select-unstable call-overlap done-without-call repeat-request done-without-grant capture-while-held
+pass-while-open data-at-capture data-while-busy setup request-while-busy ack-while-idle""".split()
+
 
 class Lane:
     """Where the row of a wire stands in an SVG, by number from 0, with its columns from a point on."""
 
     def __init__(self, left, row, units):
         self.left, self.units = left, units
-        self.top, self.base, self.bottom = (28 * row + height for height in (24, 36, 40))
+        self.top, self.middle, self.base, self.bottom = (28 * row + height for height in (40, 48, 52, 56))
 
     def x(self, column):
         return self.left + PITCH * column
@@ -119,12 +125,18 @@ def bit_path(lane, cells):
 
 
 def word_path(lane, cells):
-    """The path of a wider wire: two lines or a cross a column."""
+    """The path of a wider wire. In columns of several units it has two lines or a cross a column; in those of one unit the middle of a cross
+    is at the begin of its column."""
     path = ""
     for column, (count, _) in enumerate(cells):
         x, end = lane.x(column), lane.x(column + 1)
         for begin, over in ((lane.top, lane.bottom), (lane.bottom, lane.top)):
-            path += f"M{x} {begin}" + (f"L{end} {over}" if count else f"H{end}")
+            if lane.units > 1:
+                path += f"M{x} {begin}" + (f"L{end} {over}" if count else f"H{end}")
+                continue
+            crossed = column + 1 < len(cells) and cells[column + 1][0]
+            path += f"M{x} {lane.middle}L{x + 3} {begin}" if count else f"M{x} {begin}"
+            path += f"L{end - 3} {begin}L{end} {lane.middle}" if crossed else f"H{end}"
     return path
 
 
@@ -137,8 +149,9 @@ def values(lane, cells):
     starts = [column for column, (count, _) in enumerate(cells) if count or not column]
     for start, end in zip(starts, [*starts[1:], len(cells)]):
         count, level = cells[start]
-        behind = start + bool(count)
-        text = f'<text x="{lane.x(behind)}" y="{lane.base}">{level}</text>' if len(str(level)) <= end - behind else ""
+        x = lane.x(start) if not count else lane.x(start) + 4 if lane.units == 1 else lane.x(start + 1)
+        room = end - start - bool(count or (lane.units == 1 and end < len(cells)))
+        text = f'<text x="{x}" y="{lane.base}">{level}</text>' if len(str(level)) <= room else ""
         frame = rectangle(lane, start, end - start)
         yield f'<g class="value" data-column="{start}" data-level="{level}"><title>{level}</title>{frame}{text}</g>'
 
@@ -163,7 +176,9 @@ text{font:13px Menlo,Consolas,'DejaVu Sans Mono',monospace;fill:#1f2328}
 .band{fill:#0969da;fill-opacity:.4}
 .value rect{fill:none;pointer-events:all}
 .value text{paint-order:stroke;stroke:#fff;stroke-width:3}
-.finding path{fill:#cf222e}"""
+.finding path{fill:#cf222e}
+.leads path{fill:none;stroke:#cf222e;stroke-opacity:.5}
+.word text{fill:#cf222e;paint-order:stroke;stroke:#fff;stroke-width:3}"""
 
 DARK = """svg{background:#0d1117}
 text{fill:#f0f6fc}
@@ -172,31 +187,44 @@ text{fill:#f0f6fc}
 .level{stroke:#4493f8}
 .band{fill:#4493f8}
 .value text{stroke:#0d1117}
-.finding path{fill:#f85149}"""
+.finding path{fill:#f85149}
+.leads path{stroke:#f85149}
+.word text{fill:#f85149;stroke:#0d1117}"""
 
 STYLE = f"<style>{LIGHT}@media (prefers-color-scheme:dark){{{DARK}}}</style>".replace("\n", "") + "\n"
 
 
-def axis(columns, left, bottom):
-    """The times, each over an upright line."""
+def axis(columns, left, bottom, title):
+    """The title, and below it the times, each over an upright line."""
     ticks = [(left + PITCH * column, columns.begins[column]) for column in columns.times()]
-    marks = "".join(f'<path d="M{x} 20V{bottom}"/><text x="{x}" y="14">{begin}</text>' for x, begin in ticks)
-    return f'<g class="axis">{marks}</g>\n'
+    marks = "".join(f'<path d="M{x} 36V{bottom}"/><text x="{x}" y="30">{begin}</text>' for x, begin in ticks)
+    shown = "".join(" " if letter < " " else letter for letter in html.escape(title, quote=False))
+    return f'<g class="axis"><text x="{left}" y="14">{shown}</text>{marks}</g>\n'
 
 
-def place_group(row, sort, number, name):
-    """The row of a module or a bundle."""
-    return f'<g class="place" id="{sort}-{number}"><title>{name}</title><text x="8" y="{28 * row + 36}">{name}</text></g>\n'
+def place_group(left, row, place, code, name, last):
+    """The row of a code that is found at a module or a bundle, with its word behind the last mark."""
+    y = 28 * row + 52
+    word = f'<g class="word"><text x="{left + PITCH * last + 12}" y="{y}">{code}</text></g>'
+    return f'<g class="place" id="{place[0]}-{place[1]}-{code}"><title>{name}</title><text x="8" y="{y}">{name}</text>{word}</g>\n'
 
 
 def finding_group(left, row, column, line):
-    """A mark in the row of its place, with the report's line."""
-    x, y = left + PITCH * column, 28 * row + 32
+    """A mark in its row, with the report's line."""
+    x, y = left + PITCH * column, 28 * row + 48
     mark = f'<path d="M{x} {y}L{x + 4} {y - 6}L{x + 8} {y}L{x + 4} {y + 6}Z"/>'
     return f'<g class="finding" data-column="{column}"><title>{line}</title>{mark}</g>\n'
 
 
-def svg(netlist, begin=0, end=None, most=72, names=None):
+def lead(netlist, wires, place, x, row):
+    """The lines from a mark up to the wires of its place."""
+    found = [wire for wire, _ in netlist.modules[place[1]][2]] if place[0] == "module" else netlist.bundles[place[1]][1:4]
+    heights = [28 * wires.index(wire) + 48 for wire in found if wire in wires]
+    path = "".join(f"M{x} {28 * row + 48}V{y}M{x - 3} {y}H{x + 3}" for y in heights)
+    return f'<path d="{path}"/>'
+
+
+def svg(netlist, begin=0, end=None, most=72, names=None, title="time in units"):
     """What `show --svg` writes."""
     levels, _, at_modules = reference.evaluated(netlist)
     columns = Columns(netlist.horizon, begin, netlist.horizon if end is None else end, min(most, 1200))
@@ -207,21 +235,28 @@ def svg(netlist, begin=0, end=None, most=72, names=None):
     places = list(dict.fromkeys(one[1:3] for one in found))
     places = [place for sort in ("module", "bundle") for place in places if place[0] == sort]
     labels = [netlist.wires[wire][0] for wire in wires] + [name[sort](number) for sort, number in places]
-    left = PITCH * (max(map(len, labels), default=0) + 2)
-    count, rows = len(columns.begins), len(wires) + len(places)
-    last = columns.times()[-1]
-    width = max(left + PITCH * count, left + PITCH * (last + len(str(columns.begins[last])))) + 8
-    height = 28 * rows + 28
+    left = PITCH * min(34, max(map(len, labels), default=0) + 2)
+    column_of = lambda time: (time - columns.begin) // columns.units
+    lines = [(place, code) for place in places for code in CODES if any(one[1:] == (*place, code) for one in found)]
+    last = {line: max(column_of(one[0]) for one in found if one[1:] == (*line[0], line[1])) for line in lines}
+    count, rows = len(columns.begins), len(wires) + len(lines)
+    time = columns.times()[-1]
+    ends = [left + PITCH * count, left + PITCH * (time + len(str(columns.begins[time]))), left + PITCH * len(title)]
+    width = max(ends + [left + PITCH * (last[line] + 1) + 4 + PITCH * len(line[1]) for line in lines]) + 8
+    height = 28 * rows + 44
     head = f'<svg xmlns="http://www.w3.org/2000/svg" width="{width}" height="{height}" viewBox="0 0 {width} {height}"'
     data = {"from": columns.begin, "to": columns.end, "units": columns.units, "columns": count, "left": left, "pitch": PITCH}
-    text = head + "".join(f' data-{key}="{value}"' for key, value in data.items()) + ">\n" + STYLE + axis(columns, left, height - 8)
+    text = head + "".join(f' data-{key}="{value}"' for key, value in data.items()) + ">\n" + STYLE + axis(columns, left, height - 8, title)
+    row_of = lambda one: len(wires) + lines.index((one[1:3], one[3]))
+    x_of = lambda one: left + PITCH * column_of(one[0]) + (0 if columns.units == 1 else 4)
+    text += '<g class="leads">' + "".join(lead(netlist, wires, one[1:3], x_of(one), row_of(one)) for one in found) + "</g>\n"
     for row, wire in enumerate(wires):
         text += wire_group(Lane(left, row, columns.units), wire, *netlist.wires[wire][:2], columns.cells(levels[wire]))
-    for row, (sort, number) in enumerate(places, len(wires)):
-        text += place_group(row, sort, number, name[sort](number))
-    for time, sort, number, code in found:
-        row = len(wires) + places.index((sort, number))
-        text += finding_group(left, row, (time - columns.begin) // columns.units, f"{time} {sort} {name[sort](number)} {code}")
+    for row, (place, code) in enumerate(lines, len(wires)):
+        text += place_group(left, row, place, code, name[place[0]](place[1]), last[place, code])
+    for one in found:
+        time, sort, number, code = one
+        text += finding_group(left, row_of(one), column_of(time), f"{time} {sort} {name[sort](number)} {code}")
     return text + "</svg>\n"
 
 

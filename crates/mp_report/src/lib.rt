@@ -9,5 +9,5 @@ mod places;
 mod reporting;
 mod watch;
 
-pub use lines::put_report;
+pub use lines::{FindingText, put_report};
 pub use reporting::report;

@@ -1,9 +1,9 @@
 //! The lines of a report.
 ghost use Rattle.mp_streams.specs.Outgoing.{Writes};
-ghost use Rattle.mp_report.specs.Lines.{placed_line, finding_line, finding_lines};
+ghost use Rattle.std.specs.Prelude.{◌++◌};
+ghost use Rattle.mp_report.specs.Lines.{placed_text, finding_lines};
 
 use mp_model::{Finding, Place};
-use mp_modules::FindingCode;
 use mp_netlist::Netlist;
 use mp_streams::{Failed, Out, Sink, Text};
 
@@ -18,41 +18,56 @@ pub fn put_report<S: Sink>(
     ensures { Writes result out.old out.new (finding_lines netlist.now findings.now) }
 {
     for finding in findings {
-        put_finding(out, netlist, finding)?;
+        let (finding, end) = (*finding, "\n");
+        FindingText {
+            netlist,
+            finding,
+            end,
+        }
+        .put_to(out)?;
     }
     Ok(())
 }
 
-/// Writes the line of a finding.
-fn put_finding<S: Sink>(
-    out: &mut Out<S>,
-    netlist: &Netlist,
-    finding: &Finding,
-) -> Result<(), Failed>
-    ensures { Writes result out.old out.new (finding_line netlist.now finding.now) }
-{
-    let (time, code) = (finding.time, finding.code);
-    match finding.place {
-        Place::Module(id) => match netlist.module(id) {
-            Some(found) => put_line(out, time, " module ", found.name.as_str(), code),
-            None => Ok(()),
-        },
-        Place::Bundle(id) => match netlist.bundle(id) {
-            Some(found) => put_line(out, time, " bundle ", found.name.as_str(), code),
-            None => Ok(()),
-        },
+/// What is told of a finding, `TIME module NAME CODE` or `TIME bundle NAME CODE`, with the word of the code, and what ends it. A finding
+/// at what doesn't stand has no text.
+#[derive(Clone, Copy)]
+pub struct FindingText<'a> {
+    pub netlist: &'a Netlist,
+    pub finding: Finding,
+    pub end: &'static str,
+}
+
+impl<'a> Text for FindingText<'a> {
+    ghost use Rattle.mp_report.specs.Lines.{finding_text};
+
+    ghost text = { λ told. finding_text told.netlist.now told.finding told.end.now };
+
+    fn put_to<S: Sink>(&self, out: &mut Out<S>) -> Result<(), Failed> {
+        let end = self.end;
+        match self.finding.place {
+            Place::Module(id) => match self.netlist.module(id) {
+                Some(found) => put_placed(out, self.finding, " module ", found.name.as_str(), end),
+                None => Ok(()),
+            },
+            Place::Bundle(id) => match self.netlist.bundle(id) {
+                Some(found) => put_placed(out, self.finding, " bundle ", found.name.as_str(), end),
+                None => Ok(()),
+            },
+        }
     }
 }
 
-/// Writes a line of a time, the kind of a place between spaces, its name and the word of a code.
-fn put_line<S: Sink>(
+/// Writes the time of a finding, the kind of its place between spaces, the place's name, the word of the code and what ends it.
+fn put_placed<S: Sink>(
     out: &mut Out<S>,
-    time: u32,
+    finding: Finding,
     kind: &str,
     name: &str,
-    code: FindingCode,
+    end: &str,
 ) -> Result<(), Failed>
-    ensures { Writes result out.old out.new (placed_line time kind.now name.now code) }
+    ensures { Writes result out.old out.new (placed_text finding.time kind.now name.now finding.code ++ end.now) }
 {
-    (time, kind, (name, " ", code.word(), "\n")).put_to(out)
+    let (time, word) = (finding.time, finding.code.word());
+    ((time, kind, (name, " ", word)), end).put_to(out)
 }

@@ -26,6 +26,8 @@ pub(crate) enum Takes {
     NumberWith(&'static str),
     /// An option with a word, which goes with another argument alone.
     WordWith(&'static str),
+    /// An option with a word.
+    OptionalWord,
     /// An option with a time.
     Time,
     /// An option with a word, which may be given several times.
@@ -44,6 +46,7 @@ impl ArgumentForm {
             Takes::Number(default) => self.number(alloc, default),
             Takes::NumberWith(other) => self.count(alloc).requires_arg(other),
             Takes::WordWith(other) => self.valued(alloc).requires_arg(other),
+            Takes::OptionalWord => Ok(self.valued(alloc)),
             Takes::Time => self.time(alloc),
             Takes::Words => self.words(alloc),
             Takes::Nothing => self.flag(alloc),

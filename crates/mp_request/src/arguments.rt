@@ -74,7 +74,7 @@ static RANGE: [ArgumentForm; 2] = [
     },
 ];
 
-static DRAWING: [ArgumentForm; 4] = [
+static DRAWING: [ArgumentForm; 5] = [
     ArgumentForm {
         name: "columns",
         value: "N",
@@ -98,6 +98,12 @@ static DRAWING: [ArgumentForm; 4] = [
         value: "",
         help: "Write an SVG file, of at most 1200 columns",
         takes: Takes::Nothing,
+    },
+    ArgumentForm {
+        name: "unit",
+        value: "TEXT",
+        help: "What stands above the times of an SVG file; `time in units` where none is given",
+        takes: Takes::OptionalWord,
     },
 ];
 

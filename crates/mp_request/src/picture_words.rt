@@ -15,4 +15,6 @@ pub struct PictureWords<'a> {
     pub ascii: bool,
     /// Whether an SVG file is written.
     pub svg: bool,
+    /// What stands above the times of an SVG file, `time in units` where nothing is given.
+    pub unit: &'a str,
 }

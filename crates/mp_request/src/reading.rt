@@ -135,6 +135,7 @@ fn picture_words<'a>(
         columns: found.get_one::<u32>("columns").unwrap_or(72),
         ascii: found.get_flag("ascii"),
         svg: found.get_flag("svg"),
+        unit: found.get_str("unit").unwrap_or("time in units"),
     })
 }
 

@@ -1,3 +1,4 @@
+pub mod WordLemmas
 pub mod RowLemmas
 pub mod ColumnLemmas
 pub mod TextLemmas

@@ -1,5 +1,5 @@
 -- The path and the values of a wider wire tell what is shown of its cells.
-use Rattle.std.proofs.Common.{◌≡◌, ℕ, ◌+◌, ◌-◌, ◌*◌, ◌<◌, ◌≤◌, ◌^◌, ◌==◌, Bool, true, false, cond, List, [], ◌∷◌, ◌++◌, codes, map, length, drop, zero, suc, refl, sym, ap, ◌∙◌, append_assoc, append-nil, inl, inr, zero-add, arith}
+use Rattle.std.proofs.Common.{◌≡◌, ◌≢◌, ℕ, ◌+◌, ◌-◌, ◌*◌, ◌<◌, ◌≤◌, ◌^◌, ◌==◌, Bool, true, false, cond, List, [], ◌∷◌, ◌++◌, codes, map, length, drop, zero, suc, refl, sym, ap, ◌∙◌, append_assoc, append-nil, inl, inr, zero-add, arith}
 use Rattle.std.specs.List.{flat_map, prefix_len, range_with_len}
 use Rattle.std.specs.Fmt.{decimal}
 use Rattle.std.proofs.lemmas.Bool.{cases_Bool, cases_eq}
@@ -7,23 +7,23 @@ use Rattle.std.proofs.lemmas.List.{append_cancel_left, same_lists, length-map, g
 use Rattle.std.proofs.lemmas.List.Sums.{prefix_len-drop_yes, prefix_len-drop_no, prefix_len-drop_all}
 use Rattle.mp_picture.specs.declared.cell.Cell.{Cell}
 use Rattle.mp_picture.specs.declared.cell.Events.TheVariants.{None}
-use Rattle.mp_picture.specs.Columns.{count}
+use Rattle.mp_picture.specs.Columns.{count as columns}
 use Rattle.mp_picture.specs.Cells.{cells}
 use Rattle.mp_picture.specs.Rows.{is_still}
 use Rattle.mp_svg.specs.declared.lane.Lane.{Lane}
-use Rattle.mp_svg.specs.Lanes.{x_of, top, bottom, base}
+use Rattle.mp_svg.specs.Lanes.{x_of, top, bottom, middle, base}
 use Rattle.mp_svg.specs.Elements.{attribute, title, rectangle}
-use Rattle.mp_svg.specs.Columns.{move_to, line_to, across_to, word_path, fitting_text, value_group, still_behind, cell_at}
+use Rattle.mp_svg.specs.Columns.{move_to, line_to, across_to, wide_path, line_start, line_end, word_line, word_path, fitting_text, value_x, first_room, value_group, still_behind, cell_at}
 use Rattle.mp_svg.specs.ColumnLaws.{WordsTell}
 use Rattle.mp_svg.specs.RowLaws.{shown, WordRowTells}
-use Rattle.mp_svg.proofs.TextLemmas.{other_head, same_number}
+use Rattle.mp_svg.proofs.TextLemmas.{NoDigit, other_head, same_number}
 use Rattle.mp_svg.proofs.ColumnLemmas.{length-cells, level_fits, level_stays}
 
 -- ---- the path
 
 module _ (lane : Lane) where
   -- behind the same first command a line is flat or aslant
-  flat_or_aslant : (j : ℕ) (xs ys : List ℕ) → word_path lane j true ++ xs ≡ word_path lane j false ++ ys → ⊥
+  flat_or_aslant : (j : ℕ) (xs ys : List ℕ) → wide_path lane j true ++ xs ≡ wide_path lane j false ++ ys → ⊥
   flat_or_aslant j xs ys same =
       let x = x_of lane j in
       let end = x_of lane (j + 1) in
@@ -34,23 +34,84 @@ module _ (lane : Lane) where
       let rest : flat ++ xs ≡ aslant ++ ys = append_cancel_left first _ _ (sym (append_assoc first flat xs) ∙ same ∙ append_assoc first aslant ys) in
       other_head 72 76 _ _ (omega arith) rest
 
-  same_word : (s t : Bool) (j : ℕ) (xs ys : List ℕ) → word_path lane j s ++ xs ≡ word_path lane j t ++ ys → (s ≡ t) × (xs ≡ ys)
-  same_word true true j xs ys same = (refl, append_cancel_left (word_path lane j true) xs ys same)
-  same_word false false j xs ys same = (refl, append_cancel_left (word_path lane j false) xs ys same)
-  same_word true false j xs ys same = absurd (flat_or_aslant j xs ys same)
-  same_word false true j xs ys same = absurd (flat_or_aslant j ys xs (sym same))
+  same_wide : (s t : Bool) (j : ℕ) (xs ys : List ℕ) → wide_path lane j s ++ xs ≡ wide_path lane j t ++ ys → (s ≡ t) × (xs ≡ ys)
+  same_wide true true j xs ys same = (refl, append_cancel_left (wide_path lane j true) xs ys same)
+  same_wide false false j xs ys same = (refl, append_cancel_left (wide_path lane j false) xs ys same)
+  same_wide true false j xs ys same = absurd (flat_or_aslant j xs ys same)
+  same_wide false true j xs ys same = absurd (flat_or_aslant j ys xs (sym same))
+
+  -- the end of a line tells whether the next column has a cross
+  same_end : (j y : ℕ) (e f : Bool) (xs ys : List ℕ) → line_end lane j y e ++ xs ≡ line_end lane j y f ++ ys → xs ≡ ys
+  same_end j y true true xs ys same = append_cancel_left (line_end lane j y true) xs ys same
+  same_end j y false false xs ys same = append_cancel_left (line_end lane j y false) xs ys same
+  same_end j y true false xs ys same = absurd (other_head 72 76 _ _ (omega arith) same)
+  same_end j y false true xs ys same = absurd (other_head 76 72 _ _ (omega arith) same)
+
+  bare_end : (j y : ℕ) (e : Bool) (xs : List ℕ) → NoDigit (line_end lane j y e ++ xs)
+  bare_end j y true xs = inl (omega arith)
+  bare_end j y false xs = inl (omega arith)
+
+  abbrev before_height : ℕ → List ℕ
+  before_height j = 77 ∷ (decimal (x_of lane j) ++ (32 ∷ []))
+
+  at_height : (j y : ℕ) (xs : List ℕ) → move_to (x_of lane j) y ++ xs ≡ before_height j ++ (decimal y ++ xs)
+  at_height j y xs = simp append_assoc refl
+
+  -- a line begins at its height, or at the middle of a cross
+  flat_or_crossed : (j y : ℕ) (xs ys : List ℕ) → y < 2 ^ 64 → middle lane < 2 ^ 64 → y ≢ middle lane → NoDigit xs
+      → line_start lane j y true ++ xs ≡ line_start lane j y false ++ ys → ⊥
+  flat_or_crossed j y xs ys low short apart bare same =
+      let cross = line_to (x_of lane j + 3) y in
+      let regrouped = append_assoc (move_to (x_of lane j) (middle lane)) cross ys ∙ at_height j (middle lane) (cross ++ ys) in
+      let numbers : decimal y ++ xs ≡ decimal (middle lane) ++ (cross ++ ys) = append_cancel_left (before_height j) _ _ (sym (at_height j y xs) ∙ same ∙ regrouped) in
+      apart ((same_number y (middle lane) xs (cross ++ ys) low short bare (inl (omega arith)) numbers).0)
+
+  same_start : (j y : ℕ) (s t : Bool) (xs ys : List ℕ) → y < 2 ^ 64 → middle lane < 2 ^ 64 → y ≢ middle lane → NoDigit xs → NoDigit ys
+      → line_start lane j y s ++ xs ≡ line_start lane j y t ++ ys → (s ≡ t) × (xs ≡ ys)
+  same_start j y true true xs ys low short apart bare none same = (refl, append_cancel_left (line_start lane j y true) xs ys same)
+  same_start j y false false xs ys low short apart bare none same = (refl, append_cancel_left (line_start lane j y false) xs ys same)
+  same_start j y true false xs ys low short apart bare none same = absurd (flat_or_crossed j y xs ys low short apart bare same)
+  same_start j y false true xs ys low short apart bare none same = absurd (flat_or_crossed j y ys xs low short apart none (sym same))
+
+  same_line : (j y : ℕ) (s e t f : Bool) (xs ys : List ℕ) → y < 2 ^ 64 → middle lane < 2 ^ 64 → y ≢ middle lane
+      → word_line lane j y s e ++ xs ≡ word_line lane j y t f ++ ys → (s ≡ t) × (xs ≡ ys)
+  same_line j y s e t f xs ys low short apart same =
+      let grouped = sym (append_assoc (line_start lane j y s) (line_end lane j y e) xs) ∙ same ∙ append_assoc (line_start lane j y t) (line_end lane j y f) ys in
+      let parts = same_start j y s t (line_end lane j y e ++ xs) (line_end lane j y f ++ ys) low short apart (bare_end j y e xs) (bare_end j y f ys) grouped in
+      (parts.0, same_end j y e f xs ys parts.1)
+
+  same_lines : (j : ℕ) (s e t f : Bool) (xs ys : List ℕ) → lane.row < 2 ^ 32
+      → (word_line lane j (top lane) s e ++ word_line lane j (bottom lane) s e) ++ xs ≡ (word_line lane j (top lane) t f ++ word_line lane j (bottom lane) t f) ++ ys
+      → (s ≡ t) × (xs ≡ ys)
+  same_lines j s e t f xs ys small same =
+      let one = word_line lane j (bottom lane) s e in
+      let two = word_line lane j (bottom lane) t f in
+      let grouped = sym (append_assoc (word_line lane j (top lane) s e) one xs) ∙ same ∙ append_assoc (word_line lane j (top lane) t f) two ys in
+      let short : middle lane < 2 ^ 64 = omega (arith, small) in
+      let above = same_line j (top lane) s e t f (one ++ xs) (two ++ ys) (omega (arith, small)) short (omega arith) grouped in
+      (above.0, (same_line j (bottom lane) s e t f xs ys (omega (arith, small)) short (omega arith) above.1).1)
+
+  abbrev form : ℕ → Bool → Bool → Bool → List ℕ
+  form j one q g = cond one (word_line lane j (top lane) q g ++ word_line lane j (bottom lane) q g) (wide_path lane j q)
+
+  same_word : (s e t f : Bool) (j : ℕ) (xs ys : List ℕ) → lane.row < 2 ^ 32 → word_path lane j s e ++ xs ≡ word_path lane j t f ++ ys → (s ≡ t) × (xs ≡ ys)
+  same_word s e t f j xs ys small same = by (lane.units == 1) same
+    where
+      by : (one : Bool) → form j one s e ++ xs ≡ form j one t f ++ ys → (s ≡ t) × (xs ≡ ys)
+      by true same = same_lines j s e t f xs ys small same
+      by false same = same_wide s t j xs ys same
 
   abbrev path : (ℕ → Bool) → ℕ → List ℕ
-  path s j = word_path lane j (s j)
+  path s j = word_path lane j (s j) (s (j + 1))
 
   -- the path tells which columns have no event
-  same_words : (s t : ℕ → Bool) (m k : ℕ) → flat_map (path s) (range_with_len k m) ≡ flat_map (path t) (range_with_len k m) → (j : ℕ) → k ≤ j → j < k + m → s j ≡ t j
-  same_words s t zero k same j low high = absurd (omega (arith, low, high))
-  same_words s t (suc m) k same j low high =
-      let parts = same_word (s k) (t k) k (flat_map (path s) (range_with_len (k + 1) m)) (flat_map (path t) (range_with_len (k + 1) m)) same in
+  same_words : (s t : ℕ → Bool) (m k : ℕ) → lane.row < 2 ^ 32 → flat_map (path s) (range_with_len k m) ≡ flat_map (path t) (range_with_len k m) → (j : ℕ) → k ≤ j → j < k + m → s j ≡ t j
+  same_words s t zero k small same j low high = absurd (omega (arith, low, high))
+  same_words s t (suc m) k small same j low high =
+      let parts = same_word (s k) (s (k + 1)) (t k) (t (k + 1)) k (flat_map (path s) (range_with_len (k + 1) m)) (flat_map (path t) (range_with_len (k + 1) m)) small same in
       elim (cases_eq j k) as (λ _. s j ≡ t j) [
         | inl here ↦ ap s here ∙ parts.0 ∙ ap t (sym here)
-        | inr there ↦ same_words s t m (k + 1) parts.1 j (omega (arith, low, there)) (omega (arith, high))
+        | inr there ↦ same_words s t m (k + 1) small parts.1 j (omega (arith, low, there)) (omega (arith, high))
       ]
 
   -- ---- values
@@ -81,36 +142,37 @@ module _ (lane : Lane) where
       let is : v ≡ w = parts.0 in
       (is, append_cancel_left two xs ys (ap (λ (v : ℕ). group_rest j x room later v ++ xs) (sym is) ∙ behind))
 
-  -- the value of a column by the columns behind it, by whether it has no event, and by its level
-  abbrev entry : ℕ → Bool → ℕ → ℕ → List ℕ
-  entry later s j level =
-      cond s (cond (j == 0) (value_group lane j (x_of lane j) (later + 1) later level) []) (value_group lane j (x_of lane (j + 1)) later later level)
+  -- the value of a column by the columns behind it, by the room of the first one, by whether it has no event, and by its level
+  abbrev entry : ℕ → ℕ → Bool → ℕ → ℕ → List ℕ
+  entry later room s j level =
+      cond s (cond (j == 0) (value_group lane j (x_of lane j) room later level) []) (value_group lane j (value_x lane j) later later level)
 
-  same_entry : (later j v w : ℕ) (s first : Bool) (xs ys : List ℕ) → v < 2 ^ 64 → w < 2 ^ 64 → (s ≡ true → first ≡ false → v ≡ w)
-      → cond s (cond first (value_group lane j (x_of lane j) (later + 1) later v) []) (value_group lane j (x_of lane (j + 1)) later later v) ++ xs
-      ≡ cond s (cond first (value_group lane j (x_of lane j) (later + 1) later w) []) (value_group lane j (x_of lane (j + 1)) later later w) ++ ys
+  same_entry : (later room j v w : ℕ) (s first : Bool) (xs ys : List ℕ) → v < 2 ^ 64 → w < 2 ^ 64 → (s ≡ true → first ≡ false → v ≡ w)
+      → cond s (cond first (value_group lane j (x_of lane j) room later v) []) (value_group lane j (value_x lane j) later later v) ++ xs
+      ≡ cond s (cond first (value_group lane j (x_of lane j) room later w) []) (value_group lane j (value_x lane j) later later w) ++ ys
       → (v ≡ w) × (xs ≡ ys)
-  same_entry later j v w false first xs ys low short known same = same_group j (x_of lane (j + 1)) later later v w xs ys low short same
-  same_entry later j v w true true xs ys low short known same = same_group j (x_of lane j) (later + 1) later v w xs ys low short same
-  same_entry later j v w true false xs ys low short known same = (known refl refl, same)
+  same_entry later room j v w false first xs ys low short known same = same_group j (value_x lane j) later later v w xs ys low short same
+  same_entry later room j v w true true xs ys low short known same = same_group j (x_of lane j) room later v w xs ys low short same
+  same_entry later room j v w true false xs ys low short known same = (known refl refl, same)
 
-  abbrev values : (ℕ → ℕ) → (ℕ → Bool) → (ℕ → ℕ) → ℕ → List ℕ
-  values later s level j = entry (later j) (s j) j (level j)
+  abbrev values : ℕ → (ℕ → ℕ) → (ℕ → Bool) → (ℕ → ℕ) → ℕ → List ℕ
+  values count later s level j = entry (later j) (first_room lane (later j) count) (s j) j (level j)
 
-  module _ (later other : ℕ → ℕ) (s t : ℕ → Bool) (a b : ℕ → ℕ) (most : ℕ)
+  module _ (count : ℕ) (later other : ℕ → ℕ) (s t : ℕ → Bool) (a b : ℕ → ℕ) (most : ℕ)
       (low : (j : ℕ) → j < most → a j < 2 ^ 64) (short : (j : ℕ) → j < most → b j < 2 ^ 64)
       (stays : (j : ℕ) → j + 1 < most → s (j + 1) ≡ true → a (j + 1) ≡ a j) (keeps : (j : ℕ) → j + 1 < most → t (j + 1) ≡ true → b (j + 1) ≡ b j)
       (still : (j : ℕ) → j < most → s j ≡ t j) (behind : (j : ℕ) → j < most → later j ≡ other j) where
     same_values : (m k : ℕ) → k + m ≡ most → ((s k ≡ true) → (k == 0) ≡ false → k < most → a k ≡ b k)
-        → flat_map (values later s a) (range_with_len k m) ≡ flat_map (values other t b) (range_with_len k m) → (j : ℕ) → k ≤ j → j < most → a j ≡ b j
+        → flat_map (values count later s a) (range_with_len k m) ≡ flat_map (values count other t b) (range_with_len k m) → (j : ℕ) → k ≤ j → j < most → a j ≡ b j
     same_values zero k all known same j from to = absurd (omega (arith, all, from, to))
     same_values (suc m) k all known same j from to =
         let inside : k < most = omega (arith, all) in
-        let xs = flat_map (values later s a) (range_with_len (k + 1) m) in
-        let ys = flat_map (values other t b) (range_with_len (k + 1) m) in
-        let alike : values other t b k ≡ entry (later k) (s k) k (b k) =
-        ap (λ (n : ℕ). entry n (t k) k (b k)) (sym (behind k inside)) ∙ ap (λ (q : Bool). entry (later k) q k (b k)) (sym (still k inside)) in
-        let parts = same_entry (later k) k (a k) (b k) (s k) (k == 0) xs ys (low k inside) (short k inside) (λ quiet far. known quiet far inside) (same ∙ ap (λ (l : List ℕ). l ++ ys) alike) in
+        let xs = flat_map (values count later s a) (range_with_len (k + 1) m) in
+        let ys = flat_map (values count other t b) (range_with_len (k + 1) m) in
+        let room = first_room lane (later k) count in
+        let alike : values count other t b k ≡ entry (later k) room (s k) k (b k) =
+        ap (λ (n : ℕ). entry n (first_room lane n count) (t k) k (b k)) (sym (behind k inside)) ∙ ap (λ (q : Bool). entry (later k) room q k (b k)) (sym (still k inside)) in
+        let parts = same_entry (later k) room k (a k) (b k) (s k) (k == 0) xs ys (low k inside) (short k inside) (λ quiet far. known quiet far inside) (same ∙ ap (λ (l : List ℕ). l ++ ys) alike) in
         elim (cases_eq j k) as (λ _. a j ≡ b j) [
           | inl here ↦ ap a here ∙ parts.0 ∙ ap b (sym here)
           | inr there ↦
@@ -160,10 +222,10 @@ no_event : (x : Cell) → is_still x ≡ true → x.events ≡ None
 no_event x still = grind (arith, still)
 
 pub word_row_tells : WordRowTells
-word_row_tells lane c f g low short by_path by_values =
+word_row_tells lane c f g small low short by_path by_values =
     let xs = cells f c in
     let ys = cells g c in
-    let n = count c in
+    let n = columns c in
     let long = length-cells f c in
     let wide = length-cells g c in
     let s = λ (j : ℕ). is_still (cell_at xs j) in
@@ -172,17 +234,19 @@ word_row_tells lane c f g low short by_path by_values =
     let b = λ (j : ℕ). (cell_at ys j).level in
     let words : flat_map (path lane s) (range_with_len 0 n) ≡ flat_map (path lane t) (range_with_len 0 n) =
     ap (λ (k : ℕ). flat_map (path lane s) (range_with_len 0 k)) (sym long) ∙ by_path ∙ ap (λ (k : ℕ). flat_map (path lane t) (range_with_len 0 k)) wide in
-    let still = λ (j : ℕ) (below : j < n). same_words lane s t n 0 words j (omega arith) (omega (arith, below)) in
-    let texts : flat_map (values lane (still_behind xs) s a) (range_with_len 0 n) ≡ flat_map (values lane (still_behind ys) t b) (range_with_len 0 n) =
-    ap (λ (k : ℕ). flat_map (values lane (still_behind xs) s a) (range_with_len 0 k)) (sym long) ∙ by_values
-    ∙ ap (λ (k : ℕ). flat_map (values lane (still_behind ys) t b) (range_with_len 0 k)) wide in
-    let level = same_values lane (still_behind xs) (still_behind ys) s t a b n (level_fits f c (2 ^ 64) low) (level_fits g c (2 ^ 64) short)
+    let still = λ (j : ℕ) (below : j < n). same_words lane s t n 0 small words j (omega arith) (omega (arith, below)) in
+    let count = length xs in
+    let texts : flat_map (values lane count (still_behind xs) s a) (range_with_len 0 n) ≡ flat_map (values lane count (still_behind ys) t b) (range_with_len 0 n) =
+    ap (λ (k : ℕ). flat_map (values lane count (still_behind xs) s a) (range_with_len 0 k)) (sym long) ∙ by_values
+    ∙ ap (λ (k : ℕ). flat_map (values lane k (still_behind ys) t b) (range_with_len 0 k)) wide
+    ∙ ap (λ (k : ℕ). flat_map (values lane k (still_behind ys) t b) (range_with_len 0 n)) (sym long) in
+    let level = same_values lane count (still_behind xs) (still_behind ys) s t a b n (level_fits f c (2 ^ 64) low) (level_fits g c (2 ^ 64) short)
     (λ j below quiet. level_stays f c j below (no_event (cell_at xs (j + 1)) quiet)) (λ j below quiet. level_stays g c j below (no_event (cell_at ys (j + 1)) quiet))
     still (same_behind xs ys n long wide still) n 0 (zero-add n) (λ quiet far below. absurd (false_zero far)) texts in
     same_shown xs ys n long wide still (λ j below. level j (omega arith) below)
 
 pub words_tell : WordsTell
-words_tell lane j s t same =
-    let one = word_path lane j s in
-    let two = word_path lane j t in
-    (same_word lane s t j [] [] (append-nil one ∙ same ∙ sym (append-nil two))).0
+words_tell lane j s t e f small same =
+    let one = word_path lane j s e in
+    let two = word_path lane j t f in
+    (same_word lane s e t f j [] [] small (append-nil one ∙ same ∙ sym (append-nil two))).0

@@ -10,6 +10,6 @@ abbrev pub BitsTell : Type 0
 BitsTell = (lane : Lane) (j : ℕ) (first second : Events) (one other : ℕ) → lane.row < 2 ^ 32 → bit_path lane j first one ≡ bit_path lane j second other
     → (first ≡ second) × (first ≢ None → (one == 0) ≡ (other == 0))
 
--- two cells of a wider wire with the same path are both quiet or both not
+-- two cells of a wider wire with the same path are both quiet or both not, whatever the next ones are
 abbrev pub WordsTell : Type 0
-WordsTell = (lane : Lane) (j : ℕ) (first second : Bool) → word_path lane j first ≡ word_path lane j second → first ≡ second
+WordsTell = (lane : Lane) (j : ℕ) (first second next other : Bool) → lane.row < 2 ^ 32 → word_path lane j first next ≡ word_path lane j second other → first ≡ second

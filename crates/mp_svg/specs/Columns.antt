@@ -1,5 +1,5 @@
 -- What is drawn of a wire in a column.
-use Rattle.std.specs.Prelude.{ℕ, ◌+◌, ◌*◌, ◌==◌, nat_le, Bool, true, false, List, [], ◌∷◌, ◌++◌, length, drop, get_or, codes, if◌then◌else◌}
+use Rattle.std.specs.Prelude.{ℕ, ◌+◌, ◌*◌, ◌==◌, nat_le, nat_lt, ◌&&◌, Bool, true, false, List, [], ◌∷◌, ◌++◌, length, drop, get_or, codes, if◌then◌else◌}
 use Rattle.std.specs.List.{flat_map, prefix_len, range_with_len}
 use Rattle.std.specs.Fmt.{decimal}
 use Rattle.mp_picture.specs.declared.cell.Cell.{Cell}
@@ -9,7 +9,7 @@ use Rattle.mp_picture.specs.Rows.{is_still}
 use Rattle.mp_svg.specs.declared.lane.Lane.{Lane}
 use Rattle.mp_svg.specs.declared.drawing.Drawing.{Drawing}
 use Rattle.mp_svg.specs.declared.drawing.Drawing.TheVariants.{Bands, Bits, Values, Words}
-use Rattle.mp_svg.specs.Lanes.{x_of, top, bottom, base, y_of}
+use Rattle.mp_svg.specs.Lanes.{x_of, top, bottom, middle, base, y_of}
 use Rattle.mp_svg.specs.Elements.{attribute, number, title, text_from, rectangle}
 
 -- ---- the commands of a path
@@ -43,14 +43,31 @@ band lane j More = rectangle (codes "<rect" ++ attribute (codes "class") (codes 
 
 -- ---- wider wires
 
--- two lines without an event, and a cross with one or more
-abbrev pub word_path : Lane → ℕ → Bool → List ℕ
-word_path lane j true =
+-- in columns of several units two lines without an event, and a cross with one or more
+abbrev pub wide_path : Lane → ℕ → Bool → List ℕ
+wide_path lane j true =
     move_to (x_of lane j) (top lane)
     ++ (across_to (x_of lane (j + 1)) ++ (move_to (x_of lane j) (bottom lane) ++ across_to (x_of lane (j + 1))))
-word_path lane j false =
+wide_path lane j false =
     move_to (x_of lane j) (top lane)
     ++ (line_to (x_of lane (j + 1)) (bottom lane) ++ (move_to (x_of lane j) (bottom lane) ++ line_to (x_of lane (j + 1)) (top lane)))
+
+-- in columns of one unit the middle of a cross is at the time of its event: a line comes from there, and goes to that of the next column
+abbrev pub line_start : Lane → ℕ → ℕ → Bool → List ℕ
+line_start lane j y true = move_to (x_of lane j) y
+line_start lane j y false = move_to (x_of lane j) (middle lane) ++ line_to (x_of lane j + 3) y
+
+abbrev pub line_end : Lane → ℕ → ℕ → Bool → List ℕ
+line_end lane j y true = across_to (x_of lane (j + 1))
+line_end lane j y false = line_to (x_of lane j + 5) y ++ line_to (x_of lane (j + 1)) (middle lane)
+
+abbrev pub word_line : Lane → ℕ → ℕ → Bool → Bool → List ℕ
+word_line lane j y still next = line_start lane j y still ++ line_end lane j y next
+
+-- by whether a column has no event, and the next one none
+abbrev pub word_path : Lane → ℕ → Bool → Bool → List ℕ
+word_path lane j still next =
+    if lane.units == 1 then word_line lane j (top lane) still next ++ word_line lane j (bottom lane) still next else wide_path lane j still
 
 -- a level from a point on, where it fits into so many columns
 abbrev pub fitting_text : ℕ → ℕ → ℕ → ℕ → List ℕ
@@ -72,12 +89,20 @@ value_group lane j x room later level =
 abbrev pub still_behind : List Cell → ℕ → ℕ
 still_behind cells j = prefix_len is_still (drop (j + 1) cells)
 
+-- where a level stands behind the cross of a column
+abbrev pub value_x : Lane → ℕ → ℕ
+value_x lane j = if lane.units == 1 then x_of lane j + 4 else x_of lane (j + 1)
+
+-- how many digits the level of the first column may have where so many columns behind it have no event: a cross begins before its time
+abbrev pub first_room : Lane → ℕ → ℕ → ℕ
+first_room lane later count = if lane.units == 1 && nat_lt (later + 1) count then later else later + 1
+
 -- the first column has a value, and each with an event, where the level stands behind the cross
 abbrev pub value : Lane → List Cell → ℕ → Cell → List ℕ
 value lane cells j cell =
     if is_still cell
-    then (if j == 0 then value_group lane j (x_of lane j) (still_behind cells j + 1) (still_behind cells j) cell.level else [])
-    else value_group lane j (x_of lane (j + 1)) (still_behind cells j) (still_behind cells j) cell.level
+    then (if j == 0 then value_group lane j (x_of lane j) (first_room lane (still_behind cells j) (length cells)) (still_behind cells j) cell.level else [])
+    else value_group lane j (value_x lane j) (still_behind cells j) (still_behind cells j) cell.level
 
 -- ---- a column
 
@@ -88,7 +113,7 @@ abbrev pub column_text : Lane → List Cell → Drawing → ℕ → List ℕ
 column_text lane cells Bands j = band lane j (cell_at cells j).events
 column_text lane cells Bits j = bit_path lane j (cell_at cells j).events (cell_at cells j).level
 column_text lane cells Values j = value lane cells j (cell_at cells j)
-column_text lane cells Words j = word_path lane j (is_still (cell_at cells j))
+column_text lane cells Words j = word_path lane j (is_still (cell_at cells j)) (is_still (cell_at cells (j + 1)))
 
 -- column by column
 abbrev pub drawn : Lane → List Cell → Drawing → List ℕ

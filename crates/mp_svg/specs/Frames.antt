@@ -21,6 +21,6 @@ tick_count frame = last_tick frame.columns + 1
 abbrev pub last_end : Frame → ℕ
 last_end frame = column_x frame (tick_step frame.columns * last_tick frame.columns) + 8 * length (tick frame.columns (last_tick frame.columns))
 
--- up to the end of the columns, or of the last time where that is further, and a column more
-abbrev pub width : Frame → ℕ
-width frame = max (column_x frame (count frame.columns)) (last_end frame) + 8
+-- where the columns end, or the last time where that is further
+abbrev pub end : Frame → ℕ
+end frame = max (column_x frame (count frame.columns)) (last_end frame)

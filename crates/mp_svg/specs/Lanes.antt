@@ -8,15 +8,19 @@ x_of lane j = lane.left + 8 * j
 
 -- the height of level 1
 abbrev pub top : Lane → ℕ
-top lane = 28 * lane.row + 24
+top lane = 28 * lane.row + 40
 
 -- the height of level 0
 abbrev pub bottom : Lane → ℕ
-bottom lane = 28 * lane.row + 40
+bottom lane = 28 * lane.row + 56
+
+-- halfway between them
+abbrev pub middle : Lane → ℕ
+middle lane = 28 * lane.row + 48
 
 -- the line that names and values stand on
 abbrev pub base : Lane → ℕ
-base lane = 28 * lane.row + 36
+base lane = 28 * lane.row + 52
 
 -- the height of a level of a wire of width 1
 abbrev pub y_of : Lane → ℕ → ℕ

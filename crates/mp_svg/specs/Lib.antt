@@ -5,6 +5,7 @@ pub mod WireGroups
 pub mod Frames
 pub mod Styles
 pub mod Heads
+pub mod MarkRows
 pub mod FoundGroups
 pub mod Svg
 pub mod ColumnLaws

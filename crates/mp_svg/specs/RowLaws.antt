@@ -28,6 +28,6 @@ shown cell = (is_still cell, cell.level)
 
 -- the path and the values of a wider wire tell what is shown of its cells
 abbrev pub WordRowTells : Type 0
-WordRowTells = (lane : Lane) (c : Columns) (f g : ℕ → ℕ) → AreBelow (2 ^ 64) c f → AreBelow (2 ^ 64) c g
+WordRowTells = (lane : Lane) (c : Columns) (f g : ℕ → ℕ) → lane.row < 2 ^ 32 → AreBelow (2 ^ 64) c f → AreBelow (2 ^ 64) c g
     → drawn lane (cells f c) Words ≡ drawn lane (cells g c) Words → drawn lane (cells f c) Values ≡ drawn lane (cells g c) Values
     → map shown (cells f c) ≡ map shown (cells g c)

@@ -12,7 +12,9 @@ light =
     ++ (codes ".band{fill:#0969da;fill-opacity:.4}"
     ++ (codes ".value rect{fill:none;pointer-events:all}"
     ++ (codes ".value text{paint-order:stroke;stroke:#fff;stroke-width:3}"
-    ++ codes ".finding path{fill:#cf222e}")))))))
+    ++ (codes ".finding path{fill:#cf222e}"
+    ++ (codes ".leads path{fill:none;stroke:#cf222e;stroke-opacity:.5}"
+    ++ codes ".word text{fill:#cf222e;paint-order:stroke;stroke:#fff;stroke-width:3}")))))))))
 
 -- on dark ground
 abbrev pub dark : List ℕ
@@ -24,7 +26,9 @@ dark =
     ++ (codes ".level{stroke:#4493f8}"
     ++ (codes ".band{fill:#4493f8}"
     ++ (codes ".value text{stroke:#0d1117}"
-    ++ codes ".finding path{fill:#f85149}"))))))
+    ++ (codes ".finding path{fill:#f85149}"
+    ++ (codes ".leads path{stroke:#f85149}"
+    ++ codes ".word text{fill:#f85149;stroke:#0d1117}"))))))))
 
 unfoldable pub style : List ℕ
 style = codes "<style>" ++ (light ++ (codes "@media (prefers-color-scheme:dark){" ++ (dark ++ (codes "}</style>" ++ (10 ∷ [])))))

@@ -1,7 +1,8 @@
 //! A wire, column by column.
-ghost use Rattle.std.specs.Prelude.{◌≡◌, ◌<◌, ◌^◌, length};
+ghost use Rattle.std.specs.Prelude.{◌≡◌, ◌<◌, ◌^◌, ◌++◌, length};
 ghost use Rattle.mp_streams.specs.Outgoing.{Writes};
-ghost use Rattle.mp_svg.specs.Columns.{band, bit_path, word_path};
+ghost use Rattle.mp_svg.specs.Lanes.{top, bottom};
+ghost use Rattle.mp_svg.specs.Columns.{band, bit_path, word_path, wide_path, word_line, line_start, line_end};
 
 use crate::drawing::Drawing;
 use crate::elements::Rectangle;
@@ -34,9 +35,10 @@ impl<'a> Text for Drawn<'a> {
 }
 
 impl<'a> Drawn<'a> {
-    ghost use Rattle.std.specs.Prelude.{◌≡◌, ◌<◌, length};
+    ghost use Rattle.std.specs.Prelude.{◌≡◌, ◌+◌, ◌<◌, length};
     ghost use Rattle.mp_streams.specs.Outgoing.{Writes};
-    ghost use Rattle.mp_svg.specs.Columns.{still_behind, value, column_text};
+    ghost use Rattle.mp_picture.specs.Rows.{is_still};
+    ghost use Rattle.mp_svg.specs.Columns.{cell_at, still_behind, value, column_text};
 
     fn put_column<S: Sink>(&self, out: &mut Out<S>, column: u32) -> Result<(), Failed>
         requires { column < length self.now.cells.now }
@@ -47,7 +49,10 @@ impl<'a> Drawn<'a> {
             Drawing::Bands => put_band(out, self.lane, column, cell.events),
             Drawing::Bits => put_bit(out, self.lane, column, cell),
             Drawing::Values => self.put_value(out, column, cell),
-            Drawing::Words => put_word(out, self.lane, column, is_still(cell)),
+            Drawing::Words => {
+                let (still, next) = (is_still(cell), self.is_next_still(column));
+                put_word(out, self.lane, column, still, next)
+            }
         }
     }
 
@@ -59,7 +64,7 @@ impl<'a> Drawn<'a> {
         let (lane, level) = (self.lane, cell.level);
         let later = self.still_behind(column);
         if !is_still(cell) {
-            let (x, room) = (lane.end(column), u64::from(later));
+            let (x, room) = (lane.value_x(column), u64::from(later));
             return ValueGroup {
                 lane,
                 column,
@@ -73,7 +78,8 @@ impl<'a> Drawn<'a> {
         if column > 0 {
             return Ok(());
         }
-        let (x, room) = (lane.begin(column), u64::from(later) + 1);
+        let room = lane.first_room(later, self.cells.len() as u32);
+        let x = lane.begin(column);
         ValueGroup {
             lane,
             column,
@@ -83,6 +89,16 @@ impl<'a> Drawn<'a> {
             level,
         }
         .put_to(out)
+    }
+
+    /// Whether the column behind one has no event, or there is none.
+    fn is_next_still(&self, column: u32) -> bool
+        ensures { result ≡ is_still (cell_at self.now.cells.now (column + 1)) }
+    {
+        match self.cells.get(column as usize + 1) {
+            Some(cell) => is_still(*cell),
+            None => true,
+        }
     }
 
     /// How many columns behind one have no event, up to the next that has.
@@ -129,9 +145,39 @@ fn put_bit<S: Sink>(out: &mut Out<S>, lane: Lane, column: u32, cell: Cell) -> Re
     }
 }
 
-/// Writes the path of a wider wire in a column, with no event or with one or more.
-fn put_word<S: Sink>(out: &mut Out<S>, lane: Lane, column: u32, still: bool) -> Result<(), Failed>
-    ensures { Writes result out.old out.new (word_path lane column still) }
+/// Writes the path of a wider wire in a column, by whether it has no event there, and none in the next column.
+fn put_word<S: Sink>(
+    out: &mut Out<S>,
+    lane: Lane,
+    column: u32,
+    still: bool,
+    next: bool,
+) -> Result<(), Failed>
+    ensures { Writes result out.old out.new (word_path lane column still next) }
+{
+    if lane.units == 1 {
+        put_lines(out, lane, column, (still, next))
+    } else {
+        put_wide(out, lane, column, still)
+    }
+}
+
+/// Writes the two lines of a column of one unit.
+fn put_lines<S: Sink>(
+    out: &mut Out<S>,
+    lane: Lane,
+    column: u32,
+    ends: (bool, bool),
+) -> Result<(), Failed>
+    ensures { Writes result out.old out.new (word_line lane column (top lane) ends.0 ends.1 ++ word_line lane column (bottom lane) ends.0 ends.1) }
+{
+    put_line(out, lane, column, lane.top(), ends)?;
+    put_line(out, lane, column, lane.bottom(), ends)
+}
+
+/// Writes the two lines or the cross of a column of several units.
+fn put_wide<S: Sink>(out: &mut Out<S>, lane: Lane, column: u32, still: bool) -> Result<(), Failed>
+    ensures { Writes result out.old out.new (wide_path lane column still) }
 {
     let (x, end) = (lane.begin(column), lane.end(column));
     let (top, bottom) = (lane.top(), lane.bottom());
@@ -141,5 +187,56 @@ fn put_word<S: Sink>(out: &mut Out<S>, lane: Lane, column: u32, still: bool) -> 
         (above, ("H", end), below, ("H", end)).put_to(out)
     } else {
         (above, ("L", end, " ", bottom), below, ("L", end, " ", top)).put_to(out)
+    }
+}
+
+/// Writes a line at a height in a column of one unit, by whether that column has no event, and the next none: from the middle of the
+/// column's cross, if it has one, to that of the next.
+fn put_line<S: Sink>(
+    out: &mut Out<S>,
+    lane: Lane,
+    column: u32,
+    y: u64,
+    ends: (bool, bool),
+) -> Result<(), Failed>
+    ensures { Writes result out.old out.new (word_line lane column y ends.0 ends.1) }
+{
+    put_line_start(out, lane, column, y, ends.0)?;
+    put_line_end(out, lane, column, y, ends.1)
+}
+
+fn put_line_start<S: Sink>(
+    out: &mut Out<S>,
+    lane: Lane,
+    column: u32,
+    y: u64,
+    still: bool,
+) -> Result<(), Failed>
+    ensures { Writes result out.old out.new (line_start lane column y still) }
+{
+    let x = lane.begin(column);
+    if still {
+        ("M", x, " ", y).put_to(out)
+    } else {
+        let cross = ("M", x, " ", lane.middle());
+        (cross, ("L", x + 3, " ", y)).put_to(out)
+    }
+}
+
+fn put_line_end<S: Sink>(
+    out: &mut Out<S>,
+    lane: Lane,
+    column: u32,
+    y: u64,
+    next: bool,
+) -> Result<(), Failed>
+    ensures { Writes result out.old out.new (line_end lane column y next) }
+{
+    let end = lane.end(column);
+    if next {
+        ("H", end).put_to(out)
+    } else {
+        let line = ("L", lane.begin(column) + 5, " ", y);
+        (line, ("L", end, " ", lane.middle())).put_to(out)
     }
 }

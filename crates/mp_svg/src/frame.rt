@@ -11,10 +11,10 @@ pub(crate) struct Frame {
 }
 
 impl Frame {
-    ghost use Rattle.std.specs.Prelude.{◌≡◌, ◌<◌, ◌≤◌, ◌*◌, length};
+    ghost use Rattle.std.specs.Prelude.{◌≡◌, ◌<◌, ◌≤◌, ◌*◌, ◌^◌, length};
     ghost use Rattle.mp_picture.specs.Columns.{count};
     ghost use Rattle.mp_picture.specs.Rows.{tick_step};
-    ghost use Rattle.mp_svg.specs.Frames.{column_x, lane, tick_count, width};
+    ghost use Rattle.mp_svg.specs.Frames.{column_x, lane, tick_count, end};
 
     /// Where a column begins.
     pub(crate) fn x(self, column: u32) -> u64
@@ -51,14 +51,15 @@ impl Frame {
         tick_step(self.columns) * number
     }
 
-    /// How wide the SVG is: up to the end of the columns, or of the last time where that is further, and a column more.
-    pub(crate) fn width(self) -> u64
-        ensures { result ≡ width self }
+    /// Where the columns end, or the last time where that is further.
+    pub(crate) fn end(self) -> u64
+        ensures value { result ≡ end self }
+        ensures low { result < 2 ^ 63 }
     {
         let last = self.tick_column(self.tick_count() - 1);
         let mut digits = Buffer::new();
         let time = digits.format(self.columns.begin(last));
         let reach = self.x(last) + 8 * time.len() as u64;
-        self.x(self.columns.count()).max(reach) + 8
+        self.x(self.columns.count()).max(reach)
     }
 }

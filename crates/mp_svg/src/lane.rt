@@ -10,7 +10,8 @@ pub struct Lane {
 
 impl Lane {
     ghost use Rattle.std.specs.Prelude.{◌≡◌, ◌+◌};
-    ghost use Rattle.mp_svg.specs.Lanes.{x_of, top, bottom, base, y_of};
+    ghost use Rattle.mp_svg.specs.Lanes.{x_of, top, bottom, middle, base, y_of};
+    ghost use Rattle.mp_svg.specs.Columns.{value_x, first_room};
 
     /// Where a column begins.
     pub(crate) fn begin(self, column: u32) -> u64
@@ -30,21 +31,58 @@ impl Lane {
     pub(crate) fn top(self) -> u64
         ensures { result ≡ top self }
     {
-        28 * u64::from(self.row) + 24
+        28 * u64::from(self.row) + 40
+    }
+
+    /// A height below that of level 1.
+    pub(crate) fn below_top(self, more: u32) -> u64
+        ensures { result ≡ top self + more }
+    {
+        28 * u64::from(self.row) + 40 + u64::from(more)
     }
 
     /// The height of level 0.
     pub(crate) fn bottom(self) -> u64
         ensures { result ≡ bottom self }
     {
-        28 * u64::from(self.row) + 40
+        28 * u64::from(self.row) + 56
+    }
+
+    /// Halfway between them.
+    pub(crate) fn middle(self) -> u64
+        ensures { result ≡ middle self }
+    {
+        28 * u64::from(self.row) + 48
     }
 
     /// The line that names and values stand on.
     pub(crate) fn base(self) -> u64
         ensures { result ≡ base self }
     {
-        28 * u64::from(self.row) + 36
+        28 * u64::from(self.row) + 52
+    }
+
+    /// Where the level of a wider wire stands behind the cross of a column.
+    pub(crate) fn value_x(self, column: u32) -> u64
+        ensures { result ≡ value_x self column }
+    {
+        if self.units == 1 {
+            self.begin(column) + 4
+        } else {
+            self.end(column)
+        }
+    }
+
+    /// How many digits the level of the first column may have, of so many columns, where so many behind it have no event.
+    pub(crate) fn first_room(self, later: u32, count: u32) -> u64
+        ensures { result ≡ first_room self later count }
+    {
+        let room = u64::from(later) + 1;
+        if self.units == 1 && room < u64::from(count) {
+            u64::from(later)
+        } else {
+            room
+        }
     }
 
     /// The height of a level of a wire of width 1.

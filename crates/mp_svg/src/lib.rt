@@ -9,6 +9,8 @@ mod frame;
 mod head;
 mod lane;
 pub mod laws;
+mod leads;
+mod mark_rows;
 mod style;
 mod svg;
 mod value_group;

@@ -15,6 +15,8 @@ text{font:13px Menlo,Consolas,'DejaVu Sans Mono',monospace;fill:#1f2328}\
 .value rect{fill:none;pointer-events:all}\
 .value text{paint-order:stroke;stroke:#fff;stroke-width:3}\
 .finding path{fill:#cf222e}\
+.leads path{fill:none;stroke:#cf222e;stroke-opacity:.5}\
+.word text{fill:#cf222e;paint-order:stroke;stroke:#fff;stroke-width:3}\
 @media (prefers-color-scheme:dark){\
 svg{background:#0d1117}\
 text{fill:#f0f6fc}\
@@ -24,6 +26,8 @@ text{fill:#f0f6fc}\
 .band{fill:#4493f8}\
 .value text{stroke:#0d1117}\
 .finding path{fill:#f85149}\
+.leads path{stroke:#f85149}\
+.word text{fill:#f85149;stroke:#0d1117}\
 }</style>\n";
 
 #[tactic(auto, unfolding(crate::specs::Styles::style))]

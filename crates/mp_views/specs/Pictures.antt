@@ -13,12 +13,12 @@ use Rattle.mp_views.specs.AskedWires.{wires_of}
 -- an SVG has 1,200 columns at most, however many are asked for
 abbrev pub columns_drawn : Drawing → ℕ → ℕ
 columns_drawn (Text charset) asked = asked
-columns_drawn Svg asked = min asked most_columns
+columns_drawn (Svg title) asked = min asked most_columns
 
 -- wires over columns, drawn so
 abbrev pub drawn : Circuit → Columns → List WireId → Drawing → List ℕ
 drawn n columns wires (Text charset) = diagram n columns charset wires
-drawn n columns wires Svg = svg n columns wires
+drawn n columns wires (Svg title) = svg n columns wires title.now
 
 -- the picture of the wires of these names, or of all, from one time on to before another, in at most so many columns
 abbrev pub picture_text : Circuit → List (List ℕ) → ℕ → ℕ → ℕ → Drawing → List ℕ

@@ -5,26 +5,26 @@ use mp_picture::Charset;
 use mp_svg::MOST_COLUMNS;
 
 /// How a picture is drawn.
-#[derive(Clone, Copy, Debug, PartialEq, Eq)]
-pub enum Drawing {
+#[derive(Clone, Copy)]
+pub enum Drawing<'a> {
     /// As text, in these characters.
     Text(Charset),
-    /// As an SVG file, which has 1,200 columns at most.
-    Svg,
+    /// As an SVG file, which has 1,200 columns at most, with this title above the times.
+    Svg(&'a str),
 }
 
-impl Drawing {
+impl<'a> Drawing<'a> {
     ghost use Rattle.mp_views.specs.Pictures.{columns_drawn};
 
     /// How many columns a picture that is drawn so has at most, where so many are asked for.
     pub(crate) fn columns(self, asked: u32) -> u32
         requires { 0 < asked }
-        ensures value { result ≡ columns_drawn self asked }
+        ensures value { result ≡ columns_drawn self.entry asked }
         ensures some { 0 < result }
     {
         match self {
             Drawing::Text(_) => asked,
-            Drawing::Svg => asked.min(MOST_COLUMNS),
+            Drawing::Svg(_) => asked.min(MOST_COLUMNS),
         }
     }
 }

@@ -20,7 +20,7 @@ use std::thread::Threads;
 #[derive(Clone, Copy)]
 pub struct PictureText<'a> {
     pub asked: AskedPicture<'a>,
-    pub drawing: Drawing,
+    pub drawing: Drawing<'a>,
 }
 
 impl<'a> View for PictureText<'a> {
@@ -50,14 +50,14 @@ impl<'a> View for PictureText<'a> {
         };
         match self.drawing {
             Drawing::Text(charset) => put_diagram(alloc, out, &picture, charset),
-            Drawing::Svg => put_svg(alloc, out, &picture),
+            Drawing::Svg(title) => put_svg(alloc, out, &picture, title),
         }
     }
 }
 
 /// The columns of a picture that is asked for of a netlist, drawn in some way.
-fn columns_of(netlist: &Netlist, asked: &AskedPicture<'_>, drawing: Drawing) -> Columns
-    ensures value { result ≡ columns_in netlist.now.horizon asked.now.from asked.now.to (columns_drawn drawing asked.now.columns) }
+fn columns_of(netlist: &Netlist, asked: &AskedPicture<'_>, drawing: Drawing<'_>) -> Columns
+    ensures value { result ≡ columns_in netlist.now.horizon asked.now.from asked.now.to (columns_drawn drawing.entry asked.now.columns) }
     ensures within { result.to ≤ netlist.now.horizon }
 {
     let horizon = netlist.horizon();

@@ -116,10 +116,10 @@ fn names_of(alloc: Global, words: &[&str]) -> Result<Vec<Name>, AllocError> {
 }
 
 /// The picture of the wires of these names that the words ask for, where its number of columns is one.
-fn picture<'a>(names: &'a [Name], words: &PictureWords<'_>) -> Option<PictureText<'a>> {
+fn picture<'a>(names: &'a [Name], words: &PictureWords<'a>) -> Option<PictureText<'a>> {
     let asked = AskedPicture::new(names, words.from, words.to, words.columns)?;
     let drawing = match (words.svg, words.ascii) {
-        (true, _) => Drawing::Svg,
+        (true, _) => Drawing::Svg(words.unit),
         (false, true) => Drawing::Text(Charset::Ascii),
         (false, false) => Drawing::Text(Charset::Unicode),
     };

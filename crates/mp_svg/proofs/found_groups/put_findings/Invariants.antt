@@ -10,4 +10,4 @@ use Rattle.mp_svg.proofs.found_groups.put_findings.Given as goal
 abbrev pub invariant-loop-finding : goal.invariant-loop-finding
 invariant-loop-finding g l =
     Writes {T = Unit {0}} (Ok tt) l.fn.out l.out
-    (flat_map (λ (f : Finding). finding_group l.netlist l.frame (lane l.frame (l.first + row_among l.places f.place)) f) (take l.finding-index l.found))
+    (flat_map (λ (f : Finding). finding_group l.netlist l.frame (lane l.frame (l.first + row_among l.rows f)) f) (take l.finding-index l.found))

@@ -1,4 +1,4 @@
-use Rattle.std.proofs.Common.{◌≡◌, ℕ, List, Err, refl, ap, ◌∙◌}
+use Rattle.std.proofs.Common.{◌≡◌, ℕ, List, Err, refl, sym, ap, ◌∙◌}
 use Rattle.mp_records.specs.declared.ids.WireId.{WireId}
 use Rattle.mp_netlist.specs.Circuit.{Circuit}
 use Rattle.mp_model.specs.declared.finding.Place.{Place}
@@ -9,21 +9,47 @@ use Rattle.mp_streams.specs.declared.write_error.WriteError.TheVariants.{OutOfMe
 use Rattle.mp_picture.specs.declared.columns.Columns.{Columns}
 use Rattle.mp_picture.specs.Diagrams.{margin}
 use Rattle.mp_picture.specs.Found.{place_rows, within}
+use Rattle.mp_svg.specs.declared.mark_rows.MarkRow.{MarkRow}
+use Rattle.mp_svg.specs.MarkRows.{mark_rows}
 use Rattle.mp_svg.specs.Svg.{left, sheet, svg}
 use Rattle.mp_svg.proofs.svg.put_svg.Goals as goal
 
--- the SVG by what was found, and where
-svg_is : (n : Circuit) (columns : Columns) (wires : List WireId) (found : List Finding) (places : List Place) (m : ℕ)
-    → found ≡ within columns (findings n) → places ≡ place_rows found → m ≡ margin n wires places
-    → svg n columns wires ≡ sheet n (record { left = left m; columns = columns }) wires places found
-unfolding svg
-svg_is n columns wires found places m is_found is_places is_margin = rw (is_margin, is_places, is_found) refl
+module _ (n : Circuit) (columns : Columns) (wires : List WireId) (title : List ℕ) where
+  -- the SVG by what was found, and where
+  made : List Finding → List Place → List MarkRow → ℕ → List ℕ
+  made found places rows m = sheet n (record { left = left m; columns = columns }) title wires rows found
 
-pub returns-in_err-found : goal.returns-in_err-found
-returns-in_err-found g c = puts_unmade _ OutOfMemory _ _ c.from_residual.ensures.1 refl
+  whole : svg n columns wires title
+      ≡ made (within columns (findings n)) (place_rows (within columns (findings n))) (mark_rows columns (place_rows (within columns (findings n))) (within columns (findings n)))
+      (margin n wires (place_rows (within columns (findings n))))
+  unfolding svg made
+  whole = refl
 
-pub returns-in_err-places : goal.returns-in_err-places
-returns-in_err-places g c = puts_unmade _ OutOfMemory _ _ c.from_residual-in_err-places.ensures.1 refl
+  parts : (found : List Finding) (places : List Place) (rows : List MarkRow) (m : ℕ)
+      → made found places rows m ≡ sheet n (record { left = left m; columns = columns }) title wires rows found
+  unfolding made
+  parts found places rows m = refl
+
+  svg_is : (found : List Finding) (places : List Place) (rows : List MarkRow) (m : ℕ)
+      → found ≡ within columns (findings n) → places ≡ place_rows found → rows ≡ mark_rows columns places found → m ≡ margin n wires places
+      → svg n columns wires title ≡ sheet n (record { left = left m; columns = columns }) title wires rows found
+  svg_is found places rows m is_found is_places is_rows is_margin =
+      whole
+      ∙ sym
+      (ap (λ (k : ℕ). made found places rows k) is_margin
+      ∙ ap (λ (r : List MarkRow). made found places r (margin n wires places)) is_rows
+      ∙ ap (λ (p : List Place). made found p (mark_rows columns p found) (margin n wires p)) is_places
+      ∙ ap (λ (f : List Finding). made f (place_rows f) (mark_rows columns (place_rows f) f) (margin n wires (place_rows f))) is_found)
+      ∙ parts found places rows m
+
+pub returns-in_err-found_list : goal.returns-in_err-found_list
+returns-in_err-found_list g c = puts_unmade _ OutOfMemory _ _ c.from_residual.ensures.1 refl
+
+pub returns-in_err-place_list : goal.returns-in_err-place_list
+returns-in_err-place_list g c = puts_unmade _ OutOfMemory _ _ c.from_residual-in_err-place_list.ensures.1 refl
+
+pub returns-in_err-row_list : goal.returns-in_err-row_list
+returns-in_err-row_list g c = puts_unmade _ OutOfMemory _ _ c.from_residual-in_err-row_list.ensures.1 refl
 
 pub returns-then-not-are_few : goal.returns-then-not-are_few
 returns-then-not-are_few g c = puts_unmade (Err OutOfMemory) OutOfMemory _ _ refl refl
@@ -33,9 +59,13 @@ returns g c =
     let n = c.args.picture.now.netlist.now in
     let cs = c.args.picture.now.columns in
     let ws = c.args.picture.now.wires.now in
-    let fs = c.in_ok-found.found.items in
-    let ps = c.in_ok-places.places.items in
+    let fs = c.as_slice-found.result.now in
+    let ps = c.as_slice-places.result.now in
+    let rs = c.as_slice-rows.result.now in
     let m = c.margin_of-margin.result in
-    let is = svg_is n cs ws fs ps m (c.in_ok-found.ensures.found ∙ ap (within cs) c.requires.findings) (c.in_ok-places.ensures ∙ ap place_rows c.as_slice.ensures.value)
-    (c.margin_of-margin.ensures ∙ ap (margin n ws) c.as_slice-2.ensures.value) in
-    rw is (rw (c.min.ensures, c.as_slice-4.ensures.value, c.as_slice-5.ensures.value) at c.put_sheet.ensures)
+    let is = svg_is n cs ws c.args.title.now fs ps rs m
+    (c.as_slice-found.ensures.value ∙ c.in_ok-found_list.ensures.found ∙ ap (within cs) c.requires.findings)
+    (c.as_slice-places.ensures.value ∙ c.in_ok-place_list.ensures)
+    (c.as_slice-rows.ensures.value ∙ c.in_ok-row_list.ensures)
+    c.margin_of-margin.ensures in
+    rw is (rw c.min.ensures at c.put_sheet.ensures)

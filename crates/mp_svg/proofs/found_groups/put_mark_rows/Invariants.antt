@@ -1,13 +1,13 @@
 use Rattle.std.proofs.Common.{Ok, ℕ, take}
 use Rattle.std.specs.List.{flat_map, enumerate_from}
 use Rattle.mp_streams.specs.Outgoing.{Writes}
-use Rattle.mp_model.specs.declared.finding.Place.{Place}
+use Rattle.mp_svg.specs.declared.mark_rows.MarkRow.{MarkRow}
 use Rattle.mp_svg.specs.Frames.{lane}
-use Rattle.mp_svg.specs.FoundGroups.{place_group}
-use Rattle.mp_svg.proofs.found_groups.put_places.Given as goal
+use Rattle.mp_svg.specs.FoundGroups.{mark_group}
+use Rattle.mp_svg.proofs.found_groups.put_mark_rows.Given as goal
 
 -- the rows so far are written
 abbrev pub invariant-loop-index : goal.invariant-loop-index
 invariant-loop-index g l =
     Writes {T = Unit {0}} (Ok tt) l.fn.out l.out
-    (flat_map (λ (row : ℕ × Place). place_group l.netlist (lane l.frame row.0) row.1) (take l.index (enumerate_from l.first l.places)))
+    (flat_map (λ (row : ℕ × MarkRow). mark_group l.netlist (lane l.frame row.0) row.1) (take l.index (enumerate_from l.first l.rows)))
