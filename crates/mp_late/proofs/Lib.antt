@@ -1,0 +1,5 @@
+pub mod SourceLemmas
+pub mod LastLemmas
+pub mod SearchLemmas
+pub mod BundleLemmas
+pub mod MergeLemmas

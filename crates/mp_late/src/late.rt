@@ -1,0 +1,12 @@
+//! Data that are late.
+use mp_netlist::BundleId;
+
+/// A change of a bundle's data that is late behind a request.
+#[derive(Clone, Copy, Debug, PartialEq, Eq)]
+pub struct Late {
+    /// When the data change, in units from 0.
+    pub time: u32,
+    pub bundle: BundleId,
+    /// How long after the request, in units.
+    pub units: u32,
+}
