@@ -4,9 +4,8 @@
 ghost use Rattle.std.specs.Prelude.{◌<◌};
 
 use anyhow::{Context, Result, bail, ensure};
-use mp_modules::{CoreModule, EventModule, Rendezvous};
+use mp_modules::{AnyModule, CoreModule, EventModule, Rendezvous};
 use mp_response::{InPiece, cut, respond};
-use mp_storage::AnyModule;
 use mp_wave::{Wave, WaveBuilder};
 use std::alloc::{AllocError, Global};
 use std::env;

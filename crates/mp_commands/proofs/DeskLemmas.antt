@@ -3,13 +3,13 @@ use Rattle.std.specs.Prelude.{◌≡◌, ◌+◌, ◌<◌, ◌∷◌, ◌++◌}
 use Rattle.mp_commands.proofs.Names.{ℕ, true, false, List, [], length, drop, slice_index_or, Result, Ok, Err, IsErr, IsOk, refl, sym, ap, subst, ◌∙◌, length-map, drop_more, Failed, Left, left_as, left_then, left_failed, writes_failed, Circuit, replay, lines_of, parts_of, later_parts, are_divided, lines_of_each, Story, present, blocks_of, met_text, IsDeskText, run_fault_of, lines_from, Outgoing}
 use Rattle.std.specs.Borrow.{Bor}
 use Rattle.mp_streams.specs.Outgoing.{Writes}
-use Rattle.mp_words.proofs.DivisionLemmas.{parts_of-split, parts_of-one}
-use Rattle.mp_meeting.specs.declared.tally.Tally.{Tally}
-use Rattle.mp_meeting.specs.declared.meeting_fault.MeetingFault.{MeetingFault}
-use Rattle.mp_meeting.specs.declared.meeting_fault.MeetingFault.TheVariants.{OutOfMemory, NoPlace}
-use Rattle.mp_meeting.specs.Meetings.{IsMeeting}
-use Rattle.mp_command_runs.specs.declared.run_fault.RunFault.{RunFault}
-use Rattle.mp_command_runs.specs.Runs.{Refuses}
+use Rattle.mp_text.proofs.lemmas.lexing.DivisionLemmas.{parts_of-split, parts_of-one}
+use Rattle.mp_desk.specs.declared.meeting.tally.Tally.{Tally}
+use Rattle.mp_desk.specs.declared.meeting.meeting_fault.MeetingFault.{MeetingFault}
+use Rattle.mp_desk.specs.declared.meeting.meeting_fault.MeetingFault.TheVariants.{OutOfMemory, NoPlace}
+use Rattle.mp_desk.specs.meeting.Meetings.{IsMeeting}
+use Rattle.mp_commands.specs.declared.command_runs.run_fault.RunFault.{RunFault}
+use Rattle.mp_commands.specs.command_runs.Runs.{Refuses}
 
 -- ---- lines, place by place
 

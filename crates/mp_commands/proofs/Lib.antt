@@ -3,3 +3,4 @@ mod ReplyLemmas
 mod PlayLemmas
 mod MadeAgainLemmas
 mod DeskLemmas
+pub mod lemmas

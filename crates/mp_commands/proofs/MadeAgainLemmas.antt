@@ -4,8 +4,8 @@ use Rattle.mp_commands.proofs.Names.{ℕ, true, false, List, [], append_assoc, l
 use Rattle.std.proofs.lemmas.Bool.Decides.{nat_tests}
 use Rattle.mp_netlist.specs.Laws.{EditsKeepNetlists}
 use Rattle.mp_version.specs.Limits.{max_edits}
-use Rattle.mp_edit_lines.specs.EditLines.{edit_lines}
-use Rattle.mp_edit_lines.specs.ReadBack.{AreLinesOfEdits}
+use Rattle.mp_text.specs.edit_lines.EditLines.{edit_lines}
+use Rattle.mp_text.specs.edit_lines.ReadBack.{AreLinesOfEdits}
 use Rattle.mp_commands.specs.MadeAgain.{LeadTo, IsMadeAgain}
 
 -- the lines of these edits

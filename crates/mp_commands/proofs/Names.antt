@@ -2,8 +2,8 @@
 pub use Rattle.std.proofs.Common.{Bool, Err, IsErr, IsErrAnd, IsOk, List, Ok, Result, [], ap, append-nil, append_assoc, arith, drop, false, if◌then◌else◌, inl, inr, length, length-append, map, nat_lt, refl, rules, slice_index_or, subst, sym, true, true≢false, vec_len, ℕ, ◌&&◌, ◌++◌, ◌+◌, ◌<◌, ◌∙◌, ◌∷◌, ◌≡◌, ◌≤◌, ◌⊎◌}
 pub use Rattle.std.proofs.lemmas.List.{drop_all, drop_more, length-map}
 pub use Rattle.std.proofs.lemmas.Result.{err_from_is_err_and}
-pub use Rattle.mp_command_runs.proofs.RunLemmas.{refused, refused_unseated, wrote, wrote_part}
-pub use Rattle.mp_command_runs.specs.declared.run_fault.RunFault.TheVariants.{OutOfMemory}
+pub use Rattle.mp_commands.proofs.lemmas.command_runs.RunLemmas.{refused, refused_unseated, wrote, wrote_part}
+pub use Rattle.mp_commands.specs.declared.command_runs.run_fault.RunFault.TheVariants.{OutOfMemory}
 pub use Rattle.mp_commands.specs.Desks.{IsDeskText, blocks_of, met_text, viewer_line}
 pub use Rattle.mp_commands.specs.Keepers.{IsKeptAfter, IsOneMore, judged, opened}
 pub use Rattle.mp_commands.specs.MeetingFaults.{run_fault_of}
@@ -13,4 +13,4 @@ pub use Rattle.mp_streams.proofs.LeftLemmas.{Left, left_as, left_failed, left_no
 pub use Rattle.mp_streams.proofs.OutLemmas.{puts_as, puts_none, puts_ok, puts_sooner, puts_then, puts_unmade, writes_failed}
 pub use Rattle.mp_streams.specs.WriteErrors.{Writes}
 pub use Rattle.mp_streams.specs.declared.write_error.WriteError.TheVariants.{WriteFailed}
-unfoldable pub use Rattle.mp_words.specs.Lines.{lines_of}
+unfoldable pub use Rattle.mp_text.specs.lexing.Lines.{lines_of}

@@ -3,12 +3,12 @@ use Rattle.std.specs.Prelude.{◌≡◌, ◌⊎◌, ◌&&◌, ◌∷◌, if◌th
 use Rattle.mp_commands.proofs.Names.{inl, inr, ℕ, Bool, true, false, List, [], length, Result, Ok, Err, IsErrAnd, refl, sym, ap, subst, ◌∙◌, true≢false, length-append, Edit, EditError, Circuit, after_each, is_batch, may_want, RefusedBy, LineError, Line, Change, Ask, line_at, Outgoing, Writes, Failed, WriteError, puts_unmade, counted_edit, Kept, judged, IsOneMore, IsKeptAfter, IsNext, IsKeptNext, outcome, edit_text, PutsEdit, PutsReply}
 use Rattle.mp_records.specs.declared.edit.Edit.TheVariants.{Single, Batch}
 use Rattle.mp_records.specs.declared.edit_error.EditError.TheVariants as edits
-use Rattle.mp_words.specs.declared.line_error.LineError.TheVariants.{OutOfMemory}
+use Rattle.mp_text.specs.declared.lexing.line_error.LineError.TheVariants.{OutOfMemory}
 use Rattle.mp_text.specs.declared.question.Question.{Question}
 use Rattle.mp_streams.specs.Outgoing as outs
 use Rattle.mp_streams.specs.declared.write_error.WriteError.TheVariants as writes
-use Rattle.mp_answers.specs.Answers.{answer_text}
-use Rattle.mp_answers.specs.ShortReplies.{accepted_text, refused_text, unread_text}
+use Rattle.mp_commands.specs.answers.Answers.{answer_text}
+use Rattle.mp_commands.specs.answers.ShortReplies.{accepted_text, refused_text, unread_text}
 
 -- ---- what becomes of an edit
 

@@ -7,3 +7,7 @@ pub mod ScriptOpenings
 pub mod MadeAgain
 pub mod MeetingFaults
 pub mod Desks
+pub mod views
+pub mod answers
+pub mod command_runs
+pub mod live

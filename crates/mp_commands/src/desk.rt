@@ -6,7 +6,7 @@ ghost use Rattle.mp_commands.specs.Desks.{IsDeskText, blocks_of, has_valid_desk}
 use crate::meeting_faults::fault_of_meeting;
 use crate::met_lines::put_met;
 use crate::sessions::Sessions;
-use mp_command_runs::{Command, Options, RunFault, opened};
+use crate::command_runs::{Command, Options, RunFault, opened};
 use mp_desk::DeskSize;
 use mp_phase::Crew;
 use mp_streams::{Out, Sink};

@@ -2,7 +2,7 @@
 ghost use Rattle.std.specs.Prelude.{◌≡◌};
 
 use crate::sessions::Sessions;
-use mp_answers::Snapshot;
+use crate::answers::Snapshot;
 use mp_netlist::{Edit, EditError, Netlist};
 use mp_phase::Crew;
 use mp_version::EditSession;

@@ -1,7 +1,7 @@
 //! What scripts come to.
 ghost use Rattle.mp_commands.specs.MadeAgain.{IsMadeAgain};
 
-use mp_edit_lines::laws::lines_say_accepted_edits;
+use mp_text::edit_lines::laws::lines_say_accepted_edits;
 use mp_netlist::laws::edits_keep_netlists;
 
 /// A script of the lines of a session's accepted edits makes the session again: the netlist and the edits.

@@ -1,9 +1,16 @@
-//! The commands whose input edits a netlist: scripts, which are answered at once or line by line, and meetings of designers.
+//! The commands and the questions, which share their texts.
+//!
+//! `views` has the texts over a netlist and its waves, each a `View`. `answers` answers the questions of scripts and seats. `command_runs` runs a command
+//! that writes a view. The files at the top play scripts and hold meetings, and `live` has what lines need that are answered as they come. Begin
+//! with `views/view.rt` and `player.rt`.
 #![tactic(auto)]
 
+mod answers;
+mod command_runs;
 mod desk;
 mod keeper;
 pub mod laws;
+mod live;
 mod meeting_faults;
 mod met_lines;
 mod play;
@@ -11,9 +18,13 @@ mod player;
 mod replies;
 mod script_opening;
 mod sessions;
+mod views;
 
+pub use answers::{Snapshot, put_accepted, put_answer, put_coded, put_refused, put_too_long, put_unread};
+pub use command_runs::{Command, Options, RunFault, Viewed, exit_status, fault_line, opened, read_opening, run_command};
 pub use desk::Desk;
 pub use keeper::Keeper;
+pub use live::{Prompted, SeatScribe, fault_of_talk};
 pub use meeting_faults::fault_of_meeting;
 pub use met_lines::put_met;
 pub use play::Play;
@@ -21,3 +32,4 @@ pub use player::Player;
 pub use replies::put_reply;
 pub use script_opening::open_keeper;
 pub use sessions::Sessions;
+pub use views::{AskedPicture, Charset, Drawing, DumpText, Evaluated, GraphText, MAX_COLUMNS, MeasureLines, PathLines, PictureText, ReportLines, TimeRange, USUAL_COLUMNS, VerilogText, View, WaitLines, WaveLines, WhyLines, put_wave_line, put_wave_lines};

@@ -2,8 +2,8 @@
 ghost use Rattle.std.specs.Prelude.{◌≡◌};
 ghost use Rattle.mp_commands.specs.MeetingFaults.{run_fault_of};
 
-use mp_command_runs::RunFault;
-use mp_meeting::MeetingFault;
+use crate::command_runs::RunFault;
+use mp_desk::MeetingFault;
 
 /// The fault of a run whose meeting ended with this one.
 pub fn fault_of_meeting(fault: MeetingFault) -> RunFault

@@ -7,7 +7,7 @@ ghost use Rattle.mp_commands.specs.Plays.{AreReplies, PutsReplies};
 use crate::keeper::Keeper;
 use crate::replies::put_reply;
 use crate::sessions::Sessions;
-use mp_command_runs::{Command, Options, RunFault, opened};
+use crate::command_runs::{Command, Options, RunFault, opened};
 use mp_streams::{Out, Sink, WriteError};
 use mp_text::{divided, first_line};
 use std::alloc::Global;

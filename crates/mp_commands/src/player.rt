@@ -2,10 +2,10 @@
 use crate::keeper::Keeper;
 use crate::replies::put_reply;
 use crate::sessions::Sessions;
-use mp_answers::put_too_long;
-use mp_lines::LineReader;
+use crate::answers::put_too_long;
+use mp_text::LineReader;
 use mp_streams::{Out, Sink, Source, WriteError};
-use mp_talk::{Answerer, TalkFault, converse};
+use mp_seats::{Answerer, TalkFault, converse};
 use std::alloc::Global;
 use std::marker::Model;
 use std::sync::Wait;
@@ -29,8 +29,8 @@ impl<P: Sessions> Model for Player<P> {
 
 impl<P: Sessions> Player<P> {
     ghost use Rattle.std.specs.Prelude.{◌≡◌, []};
-    ghost use Rattle.mp_talk.specs.Conversations.{Conversed};
-    ghost use Rattle.mp_talk.specs.TalkFaults.{counted_reads};
+    ghost use Rattle.mp_seats.specs.talk.Conversations.{Conversed};
+    ghost use Rattle.mp_seats.specs.talk.TalkFaults.{counted_reads};
     ghost use Rattle.mp_commands.specs.LineAnswers.{IsAnswer};
 
     /// Who edits what is kept.

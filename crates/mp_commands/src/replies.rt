@@ -5,7 +5,7 @@ ghost use Rattle.mp_commands.specs.Replies.{PutsReply, PutsEdit};
 
 use crate::keeper::Keeper;
 use crate::sessions::Sessions;
-use mp_answers::{put_accepted, put_answer, put_refused, put_unread};
+use crate::answers::{put_accepted, put_answer, put_refused, put_unread};
 use mp_netlist::Edit;
 use mp_streams::{Failed, Out, Sink, WriteError};
 use mp_text::{Line, LineError, read_line};

@@ -1,12 +1,12 @@
 //! The netlist that a script edits, from an input of its own.
 ghost use Rattle.std.specs.Prelude.{◌≡◌, IfOk, IfErr};
-ghost use Rattle.mp_command_runs.specs.RunFaults.{counted_reads};
-ghost use Rattle.mp_command_runs.specs.Runs.{TakesInput};
+ghost use Rattle.mp_commands.specs.command_runs.RunFaults.{counted_reads};
+ghost use Rattle.mp_commands.specs.command_runs.Runs.{TakesInput};
 ghost use Rattle.mp_commands.specs.ScriptOpenings.{OpensAs, StaysShut};
 
 use crate::keeper::Keeper;
 use crate::sessions::Sessions;
-use mp_command_runs::{Options, RunFault, read_opening};
+use crate::command_runs::{Options, RunFault, read_opening};
 use mp_streams::Source;
 use std::alloc::Global;
 use std::sync::Wait;

@@ -1,15 +1,14 @@
 //! How a command gets a session, and edits it.
 ghost use Rattle.std.specs.Prelude.{◌≡◌, List, [], Ok, IfOk, IfErr, OnOk, OnErr, length, vec_len};
 ghost use Rattle.std.specs.Thread.{IsSync};
-ghost use Rattle.mp_work.specs.declared.work_entry.WorkEntry.{WorkEntry};
+ghost use Rattle.mp_depend.specs.declared.work.work_entry.WorkEntry.{WorkEntry};
 ghost use Rattle.mp_commands.specs.Names.{RefusedBy, lines_of_each, opening, one_more, present, judged, IsWork, IsMeeting};
 
-use mp_desk::DeskSize;
-use mp_meeting::{MeetingFault, Met};
+use mp_desk::{DeskSize, MeetingFault, Met};
 use mp_netlist::{Edit, EditError, Netlist};
 use mp_phase::Crew;
 use mp_version::EditSession;
-use mp_work::Work;
+use mp_depend::Work;
 use std::alloc::{AllocError, Global};
 use std::sync::Wait;
 use std::thread::Threads;

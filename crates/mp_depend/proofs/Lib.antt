@@ -1,3 +1,4 @@
 pub mod TouchLemmas
 pub mod DriverLemmas
 pub mod SetAlikeLemmas
+pub mod lemmas

@@ -1,3 +1,5 @@
 pub mod Touched
 pub mod Drivers
 pub mod SetAlike
+pub mod work
+pub mod history

@@ -1,10 +1,17 @@
-//! What depends on an edit: which modules it touches, what drives each wire, and on which wires the same is set as before.
+//! What an edit touches, and what has to be evaluated again for it.
+//!
+//! The files at the top find the modules that an edit touches, what drives each wire, and where the stimuli differ. `work` has the work of an edit as
+//! definitions, laws and data (`Work`). `recording` keeps what a re-evaluation leaves on its way: checkpoints and spans of work.
 #![tactic(auto)]
 
 mod drivers;
+mod history;
 mod set_alike;
 mod touch;
+pub mod work;
 
 pub use drivers::drivers_of;
+pub use history::{Finished, History, old_state};
 pub use set_alike::is_set_alike;
 pub use touch::{is_touched, touched};
+pub use work::{Stretch, Work, WorkEntries, WorkEntry, block_of, window_end};

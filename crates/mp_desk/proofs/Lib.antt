@@ -6,3 +6,4 @@ pub mod ShowingLemmas
 pub mod RunLemmas
 pub mod RefusalLemmas
 pub mod StaffLemmas
+pub mod lemmas

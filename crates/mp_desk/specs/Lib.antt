@@ -4,3 +4,4 @@ pub mod Knowing
 pub mod DeskSizes
 pub mod Holders
 pub mod Worlds
+pub mod meeting

@@ -1,4 +1,7 @@
-//! A desk, where designers submit edits of one session and viewers read its versions without waiting.
+//! A desk: designers submit edits of one session, and viewers read its versions without waiting.
+//!
+//! `Desk` has the session, its history and the published version. `meeting` runs designers with blocks of lines, and viewers, at one desk on threads of
+//! their own.
 #![tactic(auto)]
 
 mod authors;
@@ -14,6 +17,7 @@ mod desk_state;
 pub mod laws;
 mod log_prefix;
 mod log_writer;
+mod meeting;
 mod name;
 mod notice;
 mod parting;
@@ -32,6 +36,7 @@ pub use desk::Desk;
 pub use desk_parts::DeskParts;
 pub use desk_refused::{DeskCause, DeskRefused};
 pub use desk_size::{BadDeskSize, DeskSize, MAX_DESIGNERS, MAX_VIEWERS};
+pub use meeting::{MeetingFault, Met, Sitting, Tally, adjourn, meet, start_all};
 pub use name::DeskName;
 pub use notice::Notice;
 pub use pass::ReadError;

@@ -7,22 +7,22 @@ use Rattle.mp_netlist.specs.Circuit.{Circuit, IsCircuit, Drives, wire_at, stimul
 use Rattle.mp_netlist.specs.Drivers.{driver, stimulus_driver}
 use Rattle.mp_netlist.proofs.DriverLemmas.{driven_by}
 use Rattle.mp_model.specs.Waves.{level}
-use Rattle.mp_automata.specs.Codes.{bit}
-use Rattle.mp_events.specs.Adding.{listed}
-use Rattle.mp_core.specs.Changes.{change_at}
-use Rattle.mp_core.specs.WholeRuns.{is_stimulus}
-use Rattle.mp_core.proofs.WholeLemmas.{undriven}
-use Rattle.mp_units.specs.DataLevels.{is_data}
-use Rattle.mp_run.specs.declared.stimuli.StimulusChange.{StimulusChange}
-use Rattle.mp_evaluation.specs.Marks.{is_marked}
-use Rattle.mp_regions.specs.Regions.{home_of, region}
-use Rattle.mp_regions.specs.Divisions.{heard_by, IsDivision}
-use Rattle.mp_regions.proofs.DivisionLemmas.{divided_apart, divided_closed}
-use Rattle.mp_regions.proofs.PartLemmas.{heard_driver, region_level}
-use Rattle.mp_regions.proofs.RegionLemmas.{has_stimuli}
-use Rattle.mp_letters.specs.Letters.{AreTold, IsToldOnce}
-use Rattle.mp_region_runs.specs.RegionRuns.{AreTidings, is_set}
-use Rattle.mp_region_runs.proofs.OwnStimuliLemmas.{by_width}
+use Rattle.mp_kernel.specs.automata.Codes.{bit}
+use Rattle.mp_kernel.specs.events.Adding.{listed}
+use Rattle.mp_simulation.specs.bits.Changes.{change_at}
+use Rattle.mp_simulation.specs.bits.WholeRuns.{is_stimulus}
+use Rattle.mp_simulation.proofs.lemmas.bits.WholeLemmas.{undriven}
+use Rattle.mp_simulation.specs.units.DataLevels.{is_data}
+use Rattle.mp_simulation.specs.declared.run.stimuli.StimulusChange.{StimulusChange}
+use Rattle.mp_partition.specs.runs.Marks.{is_marked}
+use Rattle.mp_partition.specs.regions.Regions.{home_of, region}
+use Rattle.mp_partition.specs.regions.Divisions.{heard_by, IsDivision}
+use Rattle.mp_partition.proofs.lemmas.regions.DivisionLemmas.{divided_apart, divided_closed}
+use Rattle.mp_partition.proofs.lemmas.regions.PartLemmas.{heard_driver, region_level}
+use Rattle.mp_partition.proofs.lemmas.regions.RegionLemmas.{has_stimuli}
+use Rattle.mp_engine.specs.letters.Letters.{AreTold, IsToldOnce}
+use Rattle.mp_engine.specs.region_runs.RegionRuns.{AreTidings, is_set}
+use Rattle.mp_engine.proofs.lemmas.region_runs.OwnStimuliLemmas.{by_width}
 
 none_heard : (a b c : Bool) (l : ℕ) → c ≡ false → cond (a && c) l 0 ≡ bit (b && c)
 none_heard true true c l is = ap (λ x. cond x l 0) is ∙ sym (ap bit is)

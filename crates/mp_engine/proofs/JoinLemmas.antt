@@ -3,11 +3,11 @@ use Rattle.std.proofs.Common.{◌≡◌, ℕ, ◌+◌, ◌<◌, Bool, List, [], 
 use Rattle.std.proofs.lemmas.Bool.{cases_lt}
 use Rattle.std.proofs.lemmas.List.{get_or_push, get_or_append_left, length_push}
 use Rattle.mp_netlist.specs.Circuit.{Circuit}
-use Rattle.mp_regions.specs.declared.division.Division.{Division}
-use Rattle.mp_regions.specs.Regions.{region}
-use Rattle.mp_regions.specs.Divisions.{heard_by}
-use Rattle.mp_merging.specs.declared.part_run.PartRun.{PartRun}
-use Rattle.mp_merging.specs.PartRuns.{IsPartRun, AreRuns}
+use Rattle.mp_partition.specs.declared.regions.division.Division.{Division}
+use Rattle.mp_partition.specs.regions.Regions.{region}
+use Rattle.mp_partition.specs.regions.Divisions.{heard_by}
+use Rattle.mp_partition.specs.declared.merging.part_run.PartRun.{PartRun}
+use Rattle.mp_partition.specs.merging.PartRuns.{IsPartRun, AreRuns}
 use Rattle.mp_engine.specs.declared.part_of.PartOf.{PartOf}
 use Rattle.mp_engine.specs.PartsOf.{AreOthers, IsOther, IsRunOf}
 

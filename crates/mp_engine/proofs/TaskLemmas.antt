@@ -1,11 +1,11 @@
 -- What tasks of parts give.
 use Rattle.std.proofs.Common.{ℕ, Bool, List, [], ◌∷◌, slice_index_or, Option, Some, None, IfSome, Result, Ok, Err, IfOk, subst, ◌∙◌, arith}
 use Rattle.mp_netlist.specs.Circuit.{Circuit}
-use Rattle.mp_regions.specs.Regions.{region}
+use Rattle.mp_partition.specs.regions.Regions.{region}
 use Rattle.mp_phase.specs.Phase.{AreDone}
 use Rattle.mp_phase.proofs.PhaseLemmas.{are_done-length, are_done-at}
-use Rattle.mp_merging.specs.declared.part_run.PartRun.{PartRun}
-use Rattle.mp_merging.specs.PartRuns.{IsPartRun, AreRuns}
+use Rattle.mp_partition.specs.declared.merging.part_run.PartRun.{PartRun}
+use Rattle.mp_partition.specs.merging.PartRuns.{IsPartRun, AreRuns}
 use Rattle.mp_engine.specs.declared.part.Part.{Part}
 use Rattle.mp_engine.specs.Parts.{AreParts}
 

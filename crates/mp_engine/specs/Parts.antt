@@ -1,7 +1,7 @@
 -- The parts of a divided netlist as tasks.
 use Rattle.std.specs.Prelude.{◌≡◌, ℕ, ◌<◌, Bool, List, [], length, slice_index_or}
 use Rattle.mp_netlist.specs.Circuit.{Circuit}
-use Rattle.mp_regions.specs.Regions.{region}
+use Rattle.mp_partition.specs.regions.Regions.{region}
 use Rattle.mp_engine.specs.declared.part.Part.{Part}
 
 -- a task for each part, which hears of nothing, and whether it keeps states

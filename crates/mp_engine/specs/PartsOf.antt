@@ -1,13 +1,13 @@
 -- The parts of a netlist that is divided, each on a thread of its own.
 use Rattle.std.specs.Prelude.{◌≡◌, ℕ, ◌+◌, ◌<◌, Bool, List, length, slice_index_or}
 use Rattle.mp_netlist.specs.Circuit.{Circuit}
-use Rattle.mp_regions.specs.declared.division.Division.{Division}
-use Rattle.mp_regions.specs.Regions.{region}
-use Rattle.mp_regions.specs.Divisions.{heard_by, IsCrossing, IsDivision}
-use Rattle.mp_merging.specs.declared.part_run.PartRun.{PartRun}
-use Rattle.mp_merging.specs.PartRuns.{IsPartRun, AreRuns}
-use Rattle.mp_letters.specs.declared.letter.Subject.{Ghosts}
-use Rattle.mp_letters.specs.declared.mail.Mail.{Mail}
+use Rattle.mp_partition.specs.declared.regions.division.Division.{Division}
+use Rattle.mp_partition.specs.regions.Regions.{region}
+use Rattle.mp_partition.specs.regions.Divisions.{heard_by, IsCrossing, IsDivision}
+use Rattle.mp_partition.specs.declared.merging.part_run.PartRun.{PartRun}
+use Rattle.mp_partition.specs.merging.PartRuns.{IsPartRun, AreRuns}
+use Rattle.mp_engine.specs.declared.letters.letter.Subject.{Ghosts}
+use Rattle.mp_engine.specs.declared.letters.mail.Mail.{Mail}
 use Rattle.mp_engine.specs.declared.part_of.PartOf.{PartOf}
 use Rattle.mp_engine.specs.declared.part_of.Divided.{Divided}
 

@@ -1,13 +1,12 @@
 //! A part of a netlist as a task.
 
 ghost use Rattle.std.specs.Prelude.{[]};
-ghost use Rattle.mp_regions.specs.Regions.{HasStimuli};
+ghost use Rattle.mp_partition.specs.regions.Regions.{HasStimuli};
 
 use crate::evaluation::run_region;
-use mp_merging::PartRun;
+use mp_partition::{PartRun, Region};
 use mp_netlist::Netlist;
 use mp_phase::{Gate, Work};
-use mp_regions::Region;
 use std::alloc::{AllocError, Global};
 use std::sync::Wait;
 
@@ -22,7 +21,7 @@ pub(crate) struct Part<'a> {
 }
 
 impl<'a> Work for Part<'a> {
-    ghost use Rattle.mp_merging.specs.PartRuns.{IsPartRun};
+    ghost use Rattle.mp_partition.specs.merging.PartRuns.{IsPartRun};
 
     type Done = PartRun;
 

@@ -1,11 +1,10 @@
 //! A netlist that is divided, and a part of it as a thread of its own runs it.
 
-use mp_letters::{GivenUp, Mail, Subject, Window};
-use mp_merging::PartRun;
+use crate::letters::{GivenUp, Mail, Subject, Window};
+use mp_partition::{Division, PartRun, Region, heard_by};
 use mp_netlist::Netlist;
 use mp_phase::Gate;
-use mp_region_runs::RegionRun;
-use mp_regions::{Division, Region, heard_by};
+use crate::region_runs::RegionRun;
 use std::alloc::Global;
 use std::sync::Wait;
 use std::thread::Promise;

@@ -1,16 +1,15 @@
 //! A netlist in which little happens.
 ghost use Rattle.std.specs.Prelude.{IfOk, IfSome, OnOk};
-ghost use Rattle.mp_evaluation.specs.Runs.{IsRun};
+ghost use Rattle.mp_partition.specs.runs.Runs.{IsRun};
 ghost use Rattle.mp_phase.specs.Allowed.{IsOpen};
 ghost use Rattle.mp_engine.specs.Looks.{IsLookedAt};
 
 use crate::evaluation::{run_of, run_to_end};
 use crate::looking::{Looks, Pace, Plan};
-use mp_evaluation::Run;
+use mp_partition::{Region, Run};
 use mp_netlist::Netlist;
 use mp_phase::Gate;
-use mp_region_runs::RegionRun;
-use mp_regions::Region;
+use crate::region_runs::RegionRun;
 use std::alloc::{AllocError, Global};
 use std::sync::Wait;
 

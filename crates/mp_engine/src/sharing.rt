@@ -1,17 +1,16 @@
 //! The waves of a netlist, by several threads.
 ghost use Rattle.std.specs.Prelude.{IfOk, IfSome};
 ghost use Rattle.mp_model.specs.Waves.{AreWavesOf};
-ghost use Rattle.mp_regions.specs.Divisions.{IsCrossing, IsDivision};
+ghost use Rattle.mp_partition.specs.regions.Divisions.{IsCrossing, IsDivision};
 ghost use Rattle.mp_engine.specs.PartsOf.{AreRunsOf};
 
 use crate::evaluation::run_parts;
 use crate::part_of::Divided;
 use crate::together::run_together;
-use mp_merging::{PartRun, merged_waves};
+use mp_partition::{Division, PartRun, merged_waves};
 use mp_model::Waves;
 use mp_netlist::Netlist;
 use mp_phase::{Crew, OpenGate};
-use mp_regions::Division;
 use std::alloc::{AllocError, Global};
 use std::sync::Wait;
 use std::thread::Threads;

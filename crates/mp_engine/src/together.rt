@@ -1,13 +1,13 @@
 //! Parts of a netlist that hear of each other, each on a thread of its own.
 ghost use Rattle.std.specs.Prelude.{◌≡◌, ◌+◌, None, IfOk, IfSome, IsErr, length, map};
-ghost use Rattle.mp_regions.specs.Divisions.{IsCrossing, IsDivision};
-ghost use Rattle.mp_letters.specs.declared.given_up.GivenUp.TheVariants.{NoMemory};
+ghost use Rattle.mp_partition.specs.regions.Divisions.{IsCrossing, IsDivision};
+ghost use Rattle.mp_engine.specs.declared.letters.given_up.GivenUp.TheVariants.{NoMemory};
 ghost use Rattle.mp_phase.specs.Allowed.{IsOpen};
 ghost use Rattle.mp_engine.specs.PartsOf.{AreOthers, ArePartRuns, AreRunsOf, GiveRuns, IsFirst, IsMailOf, IsRunOf};
 
 use crate::part_of::{Divided, PartOf};
-use mp_letters::{GivenUp, Lines, Subject};
-use mp_merging::PartRun;
+use crate::letters::{GivenUp, Lines, Subject};
+use mp_partition::PartRun;
 use mp_phase::{Gate, lookers};
 use std::alloc::{AllocError, Global};
 use std::marker::Brand;

@@ -7,7 +7,7 @@ use Rattle.mp_modules.specs.declared.finding_code.FindingCode.{FindingCode}
 use Rattle.mp_modules.specs.declared.finding_code.FindingCode.TheVariants as found
 use Rattle.mp_records.specs.declared.edit_error.EditError.{EditError}
 use Rattle.mp_records.specs.declared.edit_error.EditError.TheVariants as edits
-use Rattle.mp_words.specs.declared.line_error.LineError.TheVariants as lines
+use Rattle.mp_text.specs.declared.lexing.line_error.LineError.TheVariants as lines
 use Rattle.mp_text.specs.declared.text_code.TextCode.{TextCode}
 use Rattle.mp_text.specs.declared.text_code.TextCode.TheVariants as texts
 use Rattle.mp_explain.specs.declared.seat_code.SeatCode.{SeatCode}

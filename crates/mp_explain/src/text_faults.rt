@@ -2,8 +2,7 @@
 use crate::entry::Entry;
 use crate::subject::Subject;
 use mp_records::EditError;
-use mp_text::TextCode;
-use mp_words::LineError;
+use mp_text::{LineError, TextCode};
 
 pub(crate) const NOT_ASCII: Entry = Entry {
     subject: Subject::Text(TextCode::Line(LineError::NotAscii)),

@@ -9,7 +9,7 @@ use Rattle.mp_records.specs.declared.ids.BundleId.{BundleId}
 use Rattle.mp_records.specs.declared.bundle_record.BundleRecord.{BundleRecord}
 use Rattle.mp_netlist.specs.Circuit.{Circuit, bundle_at}
 use Rattle.mp_model.specs.Waves.{level}
-use Rattle.mp_causes.specs.Changes.{last_event}
+use Rattle.mp_questions.specs.causes.Changes.{last_event}
 use Rattle.mp_late.specs.Lateness.{late_by, late_units, late_in, late_at, units_behind}
 use Rattle.mp_late.specs.Searching.{late_then, late_over}
 use Rattle.mp_late.specs.declared.late.Late.{Late}

@@ -10,10 +10,10 @@ use Rattle.mp_records.specs.declared.ports.Input.{Input}
 use Rattle.mp_netlist.specs.Slots.{slot_at}
 use Rattle.mp_netlist.specs.Circuit.{Circuit, IsCircuit}
 use Rattle.mp_model.specs.Waves.{level, wave, AreWavesOf}
-use Rattle.mp_causes.specs.declared.wire_change.WireChange.{WireChange}
-use Rattle.mp_causes.specs.Changes.{change_at, last_event, last_change}
-use Rattle.mp_causes.specs.Causes.{hears, event_at}
-use Rattle.mp_causes.proofs.EventLemmas.{last_of, last_event_is, no_last, no_wave, wave_is, hears_is, event_later}
+use Rattle.mp_questions.specs.declared.causes.wire_change.WireChange.{WireChange}
+use Rattle.mp_questions.specs.causes.Changes.{change_at, last_event, last_change}
+use Rattle.mp_questions.specs.causes.Causes.{hears, event_at}
+use Rattle.mp_questions.proofs.lemmas.causes.EventLemmas.{last_of, last_event_is, no_last, no_wave, wave_is, hears_is, event_later}
 use Rattle.mp_late.specs.Sources.{has_memory}
 use Rattle.mp_late.specs.Searching.{from_on, source_at}
 use Rattle.mp_late.proofs.SourceLemmas.{with_memory, without_memory}

@@ -15,9 +15,9 @@ use Rattle.mp_records.specs.declared.ids.WireId.{WireId}
 use Rattle.mp_records.specs.declared.ports.Input.{Input}
 use Rattle.mp_netlist.specs.Circuit.{Circuit, IsCircuit}
 use Rattle.mp_model.specs.Waves.{level}
-use Rattle.mp_causes.specs.declared.wire_change.WireChange.{WireChange}
-use Rattle.mp_causes.specs.Changes.{change_at, last_event, last_change}
-use Rattle.mp_causes.specs.Causes.{DrivingPort, Cause, Outside, Start, Events, driving_port, hears, event_at, events_at, cause_by, cause_of}
+use Rattle.mp_questions.specs.declared.causes.wire_change.WireChange.{WireChange}
+use Rattle.mp_questions.specs.causes.Changes.{change_at, last_event, last_change}
+use Rattle.mp_questions.specs.causes.Causes.{DrivingPort, Cause, Outside, Start, Events, driving_port, hears, event_at, events_at, cause_by, cause_of}
 use Rattle.mp_late.specs.Sources.{has_memory, sources, sources_by}
 use Rattle.mp_late.specs.Lateness.{is_outside, is_excuse, is_excused}
 use Rattle.mp_late.specs.Searching.{wire_numbers, key, change_by, any_excused, source_at, from_on, with_key}

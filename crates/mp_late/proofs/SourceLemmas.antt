@@ -9,12 +9,12 @@ use Rattle.mp_modules.specs.Histories.{has_event}
 use Rattle.mp_records.specs.declared.ports.Input.{Input}
 use Rattle.mp_netlist.specs.Circuit.{Circuit, IsCircuit}
 use Rattle.mp_model.specs.Waves.{level}
-use Rattle.mp_causes.specs.declared.wire_change.WireChange.{WireChange}
-use Rattle.mp_causes.specs.declared.input_event.InputEvent.{InputEvent}
-use Rattle.mp_causes.specs.Changes.{change_at, last_change}
-use Rattle.mp_causes.specs.Causes.{DrivingPort, Cause, Outside, Start, Events, driving_port, hears, event_at, events_at, cause_by, cause_of}
-use Rattle.mp_causes.proofs.EventLemmas.{event_later, hears_is}
-use Rattle.mp_causes.proofs.ChainLemmas.{port_delay, last_change_is}
+use Rattle.mp_questions.specs.declared.causes.wire_change.WireChange.{WireChange}
+use Rattle.mp_questions.specs.declared.causes.input_event.InputEvent.{InputEvent}
+use Rattle.mp_questions.specs.causes.Changes.{change_at, last_change}
+use Rattle.mp_questions.specs.causes.Causes.{DrivingPort, Cause, Outside, Start, Events, driving_port, hears, event_at, events_at, cause_by, cause_of}
+use Rattle.mp_questions.proofs.lemmas.causes.EventLemmas.{event_later, hears_is}
+use Rattle.mp_questions.proofs.lemmas.causes.ChainLemmas.{port_delay, last_change_is}
 use Rattle.mp_late.specs.Sources.{has_memory, sources_by, sources, leading, leads}
 use Rattle.mp_late.specs.Lateness.{is_outside, is_excuse, is_excused}
 use Rattle.mp_late.specs.Searching.{source_at}

@@ -5,9 +5,9 @@ use Rattle.mp_modules.specs.Histories.{has_event}
 use Rattle.mp_records.specs.declared.bundle_record.BundleRecord.{BundleRecord}
 use Rattle.mp_netlist.specs.Circuit.{Circuit, bundle_at}
 use Rattle.mp_model.specs.Waves.{level}
-use Rattle.mp_causes.specs.declared.wire_change.WireChange.{WireChange}
-use Rattle.mp_causes.specs.Changes.{change_at, last_event}
-use Rattle.mp_causes.specs.Causes.{Cause, Outside, Start, Events, cause_of}
+use Rattle.mp_questions.specs.declared.causes.wire_change.WireChange.{WireChange}
+use Rattle.mp_questions.specs.causes.Changes.{change_at, last_event}
+use Rattle.mp_questions.specs.causes.Causes.{Cause, Outside, Start, Events, cause_of}
 use Rattle.mp_late.specs.Sources.{leads}
 use Rattle.mp_late.specs.declared.late.Late.{Late}
 

@@ -9,10 +9,10 @@ use Rattle.mp_records.specs.declared.ids.BundleId.{BundleId}
 use Rattle.mp_records.specs.declared.bundle_record.BundleRecord.{BundleRecord}
 use Rattle.mp_netlist.specs.Circuit.{Circuit}
 use Rattle.mp_model.specs.Waves.{level}
-use Rattle.mp_causes.specs.declared.wire_change.WireChange.{WireChange}
-use Rattle.mp_causes.specs.declared.input_event.InputEvent.{InputEvent}
-use Rattle.mp_causes.specs.Changes.{change_at, last_change, last_event}
-use Rattle.mp_causes.specs.Causes.{hears, event_at}
+use Rattle.mp_questions.specs.declared.causes.wire_change.WireChange.{WireChange}
+use Rattle.mp_questions.specs.declared.causes.input_event.InputEvent.{InputEvent}
+use Rattle.mp_questions.specs.causes.Changes.{change_at, last_change, last_event}
+use Rattle.mp_questions.specs.causes.Causes.{hears, event_at}
 use Rattle.mp_late.specs.Sources.{has_memory}
 use Rattle.mp_late.specs.Lateness.{is_excused, late_at, late_by, units_behind}
 use Rattle.mp_late.specs.declared.late.Late.{Late}

@@ -4,9 +4,9 @@ use Rattle.std.specs.List.{flat_map, filter_map}
 use Rattle.mp_modules.specs.declared.kind.Kind.{Kind}
 use Rattle.mp_modules.specs.declared.kind.Kind.TheVariants as kinds
 use Rattle.mp_netlist.specs.Circuit.{Circuit}
-use Rattle.mp_causes.specs.declared.wire_change.WireChange.{WireChange}
-use Rattle.mp_causes.specs.Changes.{last_change}
-use Rattle.mp_causes.specs.Causes.{Cause, Outside, Start, Events, cause_of}
+use Rattle.mp_questions.specs.declared.causes.wire_change.WireChange.{WireChange}
+use Rattle.mp_questions.specs.causes.Changes.{last_change}
+use Rattle.mp_questions.specs.causes.Causes.{Cause, Outside, Start, Events, cause_of}
 
 -- what a module of this kind does depends on what its inputs did before
 abbrev pub has_memory : Kind → Bool

@@ -5,7 +5,7 @@ ghost use Rattle.mp_records.specs.declared.ids.BundleId.{BundleId as Id};
 ghost use Rattle.mp_netlist.specs.Circuit.{IsBundle, IsCircuit, bundle_at};
 ghost use Rattle.mp_model.specs.Waves.{level};
 ghost use Rattle.mp_wave.specs.WaveChanges.{changes_in};
-ghost use Rattle.mp_causes.specs.Changes.{last_event};
+ghost use Rattle.mp_questions.specs.causes.Changes.{last_event};
 ghost use Rattle.mp_late.specs.Lateness.{all_late, units_behind};
 ghost use Rattle.mp_late.specs.Searching.{bundle_numbers, late_over, late_then};
 

@@ -20,7 +20,7 @@ impl<'a> Driven<'a> {
     ghost use Rattle.std.specs.Prelude.{◌≡◌, ◌<◌};
     ghost use Rattle.mp_netlist.specs.Circuit.{IsCircuit};
     ghost use Rattle.mp_netlist.specs.Drivers.{driver};
-    ghost use Rattle.mp_causes.specs.Changes.{last_event};
+    ghost use Rattle.mp_questions.specs.causes.Changes.{last_event};
     ghost use Rattle.mp_model.specs.Waves.{level};
     ghost use Rattle.mp_late.specs.Searching.{from_on};
 

@@ -32,8 +32,8 @@ impl<'a> Search<'a> {
     ghost use Rattle.std.specs.Prelude.{◌≡◌, ◌<◌, ◌≤◌, ◌+◌, ◌*◌, ◌||◌, ℕ, All, IfOk, OnOk, Some, option_map};
     ghost use Rattle.std.specs.List.{list_any};
     ghost use Rattle.mp_netlist.specs.Circuit.{IsCircuit};
-    ghost use Rattle.mp_causes.specs.Changes.{change_at};
-    ghost use Rattle.mp_causes.specs.Causes.{cause_by};
+    ghost use Rattle.mp_questions.specs.causes.Changes.{change_at};
+    ghost use Rattle.mp_questions.specs.causes.Causes.{cause_by};
     ghost use Rattle.mp_records.specs.declared.ids.ModuleId.{ModuleId as Id};
     ghost use Rattle.mp_late.specs.Sources.{sources_by};
     ghost use Rattle.mp_late.specs.Lateness.{is_excused};

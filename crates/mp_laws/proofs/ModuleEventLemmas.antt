@@ -20,9 +20,9 @@ use Rattle.mp_modules.specs.Memories.{input_levels, output_of}
 use Rattle.mp_modules.specs.Merge.{merged}
 use Rattle.mp_modules.specs.Tables as tables
 use Rattle.mp_modules.specs.Tables.{rendezvous, first_output}
-use Rattle.mp_storage.specs.declared.any_module.AnyModule.{AnyModule}
-use Rattle.mp_storage.specs.declared.any_module.AnyModule.TheVariants.{Core}
-use Rattle.mp_storage.specs.AnyModules.{any_part_of, settle, step, found}
+use Rattle.mp_modules.specs.declared.storage.any_module.AnyModule.{AnyModule}
+use Rattle.mp_modules.specs.declared.storage.any_module.AnyModule.TheVariants.{Core}
+use Rattle.mp_modules.specs.storage.AnyModules.{any_part_of, settle, step, found}
 use Rattle.mp_records.specs.declared.module_record.ModuleRecord.{ModuleRecord}
 use Rattle.mp_records.specs.Inputs.{no_input}
 use Rattle.mp_netlist.specs.Circuit.{Circuit, IsCircuit, module_at, module_width}

@@ -9,11 +9,11 @@ use Rattle.mp_netlist.specs.declared.format.Format.{Format as NetlistFormat}
 use Rattle.mp_netlist.specs.declared.format.Format.TheVariants.{Standard, Large}
 use Rattle.mp_netlist.specs.Circuit.{Circuit, empty_circuit}
 use Rattle.mp_netlist.specs.Edits.{after_single}
-use Rattle.mp_words.specs.declared.line_error.LineError.TheVariants.{NotAscii, BadNumber}
-use Rattle.mp_words.specs.Lines.{is_allowed, lines_of}
-use Rattle.mp_words.specs.Numbers.{spelled_number, number_from}
-use Rattle.mp_words.specs.Reads.{◌>>=◌}
-use Rattle.mp_words.specs.Words.{words_of}
+use Rattle.mp_text.specs.declared.lexing.line_error.LineError.TheVariants.{NotAscii, BadNumber}
+use Rattle.mp_text.specs.lexing.Lines.{is_allowed, lines_of}
+use Rattle.mp_text.specs.lexing.Numbers.{spelled_number, number_from}
+use Rattle.mp_text.specs.lexing.Reads.{◌>>=◌}
+use Rattle.mp_text.specs.lexing.Words.{words_of}
 use Rattle.mp_text.specs.declared.text_code.TextCode.{TextCode}
 use Rattle.mp_text.specs.declared.text_code.TextCode.TheVariants.{Line, NoHorizon, Refused}
 use Rattle.mp_text.specs.declared.text_error.TextError.{TextError}

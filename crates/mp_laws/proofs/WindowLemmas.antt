@@ -4,7 +4,7 @@ use Rattle.std.specs.Prelude.{IsSome, if◌then◌else◌}
 use Rattle.std.proofs.lemmas.Bool.{cases_lt, cases_eq, lt-ltb, le-ltb, eq-eqb, ne_eqb}
 use Rattle.mp_modules.specs.declared.memory.Memory.{Memory}
 use Rattle.mp_modules.specs.Memories.{output_of}
-use Rattle.mp_storage.specs.AnyModules.{step}
+use Rattle.mp_modules.specs.storage.AnyModules.{step}
 use Rattle.mp_records.specs.declared.ids.ModuleId.{ModuleId}
 use Rattle.mp_records.specs.declared.ports.Input.{Input}
 use Rattle.mp_records.specs.declared.module_record.ModuleRecord.{ModuleRecord}
@@ -22,7 +22,7 @@ use Rattle.mp_model.specs.Waves.{level, state}
 use Rattle.mp_model.proofs.BehaviourLemmas.{satisfies}
 use Rattle.mp_model.proofs.EvaluationLemmas.{port_level_is}
 use Rattle.mp_response.specs.Span.{state_after, next_state}
-use Rattle.mp_evaluation.specs.Checkpoints.{state_before}
+use Rattle.mp_partition.specs.runs.Checkpoints.{state_before}
 use Rattle.mp_laws.specs.Windows.{Answer, World, IsWindow, Move, state_in_window, answer_of, answered_by, memory_in, output_in, next_level, next_window, after_move, after_moves, IsAllowed, AreAllowed, first_level_of, start_of, first_window, AnyOrder}
 use Rattle.mp_laws.specs.Windows.Move.{AnswerOf, NextTo}
 

@@ -1,7 +1,7 @@
 -- When a text is refused, by its lines alone.
 use Rattle.std.specs.Prelude.{◌≡◌, ◌⊎◌, ℕ, ◌+◌, ◌≤◌, List, [], ◌∷◌, ◌++◌, length, Ok, Err, codes}
 use Rattle.mp_netlist.specs.Circuit.{Circuit, empty_circuit}
-use Rattle.mp_words.specs.Lines.{lines_of}
+use Rattle.mp_text.specs.lexing.Lines.{lines_of}
 use Rattle.mp_text.specs.declared.text_code.TextCode.TheVariants.{NoHorizon}
 use Rattle.mp_text.specs.declared.text_error.TextError.{TextError}
 use Rattle.mp_text.specs.Laws.{statements, format_by}

@@ -2,7 +2,7 @@
 use Rattle.std.specs.Prelude.{◌≡◌, ℕ, ◌+◌, ◌-◌, ◌<◌, ◌≤◌, List, [], ◌∷◌, Option, Some, None, IsSome, nat_lt, ◌==◌, if◌then◌else◌}
 use Rattle.mp_modules.specs.declared.memory.Memory.{Memory}
 use Rattle.mp_modules.specs.Memories.{blank, output_of}
-use Rattle.mp_storage.specs.AnyModules.{start}
+use Rattle.mp_modules.specs.storage.AnyModules.{start}
 use Rattle.mp_records.specs.declared.module_record.ModuleRecord.{ModuleRecord}
 use Rattle.mp_netlist.specs.declared.driver.Driver.{Driver}
 use Rattle.mp_netlist.specs.declared.driver.Driver.TheVariants.{Nothing, Stimulus, Port}
@@ -13,7 +13,7 @@ use Rattle.mp_model.specs.Levels.{built, initial_of, inputs_by, stimulus_level}
 use Rattle.mp_model.specs.Evaluations.{delay_in}
 use Rattle.mp_model.specs.Waves.{level}
 use Rattle.mp_response.specs.Span.{state_after}
-use Rattle.mp_evaluation.specs.Checkpoints.{state_before}
+use Rattle.mp_partition.specs.runs.Checkpoints.{state_before}
 
 -- what a module does in a window: its state at the end, and the levels of its outputs before their delays at each time
 pub record Answer : Type 0 where

@@ -3,7 +3,7 @@ use Rattle.std.proofs.Common.{◌≡◌, ℕ, ◌+◌, ◌-◌, ◌<◌, ◌≤�
 use Rattle.std.proofs.lemmas.Bool.Decides.{nat_tests}
 use Rattle.std.proofs.lemmas.Bool.{cases_lt}
 use Rattle.mp_modules.specs.declared.memory.Memory.{Memory}
-use Rattle.mp_storage.specs.AnyModules.{settle, step}
+use Rattle.mp_modules.specs.storage.AnyModules.{settle, step}
 use Rattle.mp_modules.specs.Memories.{blank}
 use Rattle.mp_records.specs.declared.module_record.ModuleRecord.{ModuleRecord}
 use Rattle.mp_records.specs.declared.ports.Input.{Input}

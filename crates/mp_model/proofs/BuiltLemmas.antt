@@ -8,7 +8,7 @@ use Rattle.mp_records.specs.declared.module_record.ModuleRecord.{ModuleRecord}
 use Rattle.mp_records.specs.Inputs.{no_input}
 use Rattle.mp_netlist.specs.Circuit.{Circuit, IsCircuit, IsModule, wire_at, width_of, module_width}
 use Rattle.mp_modules.proofs.KindLemmas.{some_input}
-use Rattle.mp_storage.specs.AnyModules.{is_width_of}
+use Rattle.mp_modules.specs.storage.AnyModules.{is_width_of}
 
 -- a wire that stands has a width
 wire_width : (n : Circuit) → IsCircuit n → (w : ℕ) → IsSome (wire_at n w) → (1 ≤ width_of (wire_at n w)) × (width_of (wire_at n w) ≤ 64)

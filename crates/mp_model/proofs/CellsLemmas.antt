@@ -5,7 +5,7 @@ use Rattle.std.proofs.lemmas.Bool.Decides.{nat_tests}
 use Rattle.std.proofs.lemmas.List.{get_or-set_same, get_or-set_other, length-map}
 use Rattle.std.proofs.Math.ListN.{length-set}
 use Rattle.mp_modules.specs.declared.memory.Memory.{Memory}
-use Rattle.mp_storage.specs.AnyModules.{settle, step}
+use Rattle.mp_modules.specs.storage.AnyModules.{settle, step}
 use Rattle.mp_records.specs.declared.module_record.ModuleRecord.{ModuleRecord}
 use Rattle.mp_netlist.specs.Slots.{slot_at}
 use Rattle.mp_netlist.specs.Circuit.{Circuit, IsCircuit, module_at}

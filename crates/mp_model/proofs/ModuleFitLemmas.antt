@@ -20,11 +20,11 @@ use Rattle.mp_modules.specs.Select.{select_step, chosen}
 use Rattle.mp_modules.specs.Call.{returned, ended, called, before_calls, after_first_call, call_step}
 use Rattle.mp_modules.specs.Arbiter.{is_owner_done, released, granted, promoted, made_wait, requested, is_engaged, before_requests, after_first_request, arbiter_step}
 use Rattle.mp_modules.specs.Tables.{rendezvous}
-use Rattle.mp_storage.specs.Reg.{is_open}
-use Rattle.mp_storage.specs.Widths.{modulus}
-use Rattle.mp_storage.specs.declared.any_module.AnyModule.{AnyModule}
-use Rattle.mp_storage.specs.declared.any_module.AnyModule.TheVariants as parts
-use Rattle.mp_storage.specs.AnyModules.{any_part_of, start, settle, step}
+use Rattle.mp_modules.specs.storage.Reg.{is_open}
+use Rattle.mp_modules.specs.storage.Widths.{modulus}
+use Rattle.mp_modules.specs.declared.storage.any_module.AnyModule.{AnyModule}
+use Rattle.mp_modules.specs.declared.storage.any_module.AnyModule.TheVariants as parts
+use Rattle.mp_modules.specs.storage.AnyModules.{any_part_of, start, settle, step}
 
 -- ---- outputs of one bit
 

@@ -5,8 +5,8 @@ use Rattle.std.proofs.lemmas.Bool.{cases_eq, cases_lt}
 use Rattle.mp_wave.specs.Waveform.{level_of, last_time}
 use Rattle.mp_modules.specs.declared.memory.Memory.{Memory}
 use Rattle.mp_modules.specs.Memories.{output_of}
-use Rattle.mp_storage.specs.AnyModules.{step}
-use Rattle.mp_storage.specs.QuietAny.{settled_stays, stepped_stays}
+use Rattle.mp_modules.specs.storage.AnyModules.{step}
+use Rattle.mp_modules.specs.storage.QuietAny.{settled_stays, stepped_stays}
 use Rattle.mp_records.specs.declared.ports.Input.{Input}
 use Rattle.mp_records.specs.declared.module_record.ModuleRecord.{ModuleRecord}
 use Rattle.mp_records.specs.Outputs.{delay_of}

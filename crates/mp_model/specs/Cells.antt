@@ -1,7 +1,7 @@
 -- One module while time passes.
 use Rattle.std.specs.Prelude.{ℕ, List, ◌==◌, if◌then◌else◌}
 use Rattle.mp_modules.specs.declared.memory.Memory.{Memory}
-use Rattle.mp_storage.specs.AnyModules.{settle, step}
+use Rattle.mp_modules.specs.storage.AnyModules.{settle, step}
 use Rattle.mp_model.specs.declared.cell.Cell.{Cell}
 
 -- the state at a time, from the one before

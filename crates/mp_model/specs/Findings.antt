@@ -5,7 +5,7 @@ use Rattle.mp_modules.specs.declared.finding_code.FindingCode.{FindingCode}
 use Rattle.mp_modules.specs.declared.finding_code.FindingCode.TheVariants.{DataWhileBusy, Setup, RequestWhileBusy, AckWhileIdle}
 use Rattle.mp_modules.specs.Findings.{has_code, by_number}
 use Rattle.mp_modules.specs.Histories.{has_event}
-use Rattle.mp_storage.specs.AnyModules.{found}
+use Rattle.mp_modules.specs.storage.AnyModules.{found}
 use Rattle.mp_records.specs.declared.ids.WireId.{WireId}
 use Rattle.mp_records.specs.declared.module_record.ModuleRecord.{ModuleRecord}
 use Rattle.mp_records.specs.declared.bundle_record.BundleRecord.{BundleRecord}

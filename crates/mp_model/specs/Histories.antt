@@ -2,7 +2,7 @@
 use Rattle.std.specs.Prelude.{ℕ, ◌+◌, ◌-◌, List, [], ◌∷◌, ◌++◌, Option, Some, None, slice_index_or, ◌==◌, if◌then◌else◌, zero, suc}
 use Rattle.mp_modules.specs.declared.memory.Memory.{Memory}
 use Rattle.mp_modules.specs.Memories.{blank}
-use Rattle.mp_storage.specs.AnyModules.{settle, step}
+use Rattle.mp_modules.specs.storage.AnyModules.{settle, step}
 use Rattle.mp_records.specs.declared.module_record.ModuleRecord.{ModuleRecord}
 use Rattle.mp_netlist.specs.Circuit.{Circuit}
 use Rattle.mp_model.specs.Levels.{level_by, inputs_by, built}

@@ -3,8 +3,8 @@ use Rattle.std.specs.Prelude.{◌≡◌, ℕ, ◌+◌, ◌-◌, List, map, Optio
 use Rattle.mp_wave.specs.Waveform.{level_from}
 use Rattle.mp_modules.specs.declared.memory.Memory.{Memory}
 use Rattle.mp_modules.specs.Memories.{output_of}
-use Rattle.mp_storage.specs.declared.any_module.AnyModule.{AnyModule}
-use Rattle.mp_storage.specs.AnyModules.{any_part_of, settle, step}
+use Rattle.mp_modules.specs.declared.storage.any_module.AnyModule.{AnyModule}
+use Rattle.mp_modules.specs.storage.AnyModules.{any_part_of, settle, step}
 use Rattle.mp_records.specs.declared.wire_record.WireRecord.{WireRecord}
 use Rattle.mp_records.specs.declared.module_record.ModuleRecord.{ModuleRecord}
 use Rattle.mp_records.specs.declared.ports.Input.{Input}

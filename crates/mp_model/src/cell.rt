@@ -1,8 +1,7 @@
 //! One module while time passes.
 ghost use Rattle.std.specs.Prelude.{◌≡◌};
 
-use mp_modules::{EventModule, Memory};
-use mp_storage::AnyModule;
+use mp_modules::{AnyModule, EventModule, Memory};
 
 /// A module and its present state.
 #[derive(Clone, Copy)]

@@ -6,7 +6,7 @@ ghost use Rattle.mp_records.specs.declared.ports.Input.{Input as Port};
 ghost use Rattle.mp_netlist.specs.Slots.{slot_at};
 ghost use Rattle.mp_netlist.specs.Circuit.{IsCircuit, module_width, module_at};
 ghost use Rattle.mp_modules.specs.Kinds.{are_params};
-ghost use Rattle.mp_storage.specs.AnyModules.{is_width_of};
+ghost use Rattle.mp_modules.specs.storage.AnyModules.{is_width_of};
 ghost use Rattle.mp_model.specs.Levels.{built};
 ghost use Rattle.mp_model.specs.Tracks.{Progress, first_progress, advanced, expecting};
 ghost use Rattle.mp_model.specs.Evaluations.{AreTracks, AreCells, delivered, present_at, event_at, change_at, is_late, ArePrompt, with_expected, with_answer, memory_at, IsOpenAt, first_cell};
@@ -15,9 +15,8 @@ ghost use Rattle.mp_model.specs.Waves.{state, waves};
 
 use crate::cell::Cell;
 use crate::track::Track;
-use mp_modules::{EventModule, MOST_INPUTS, Memory};
+use mp_modules::{AnyModule, EventModule, MOST_INPUTS, Memory};
 use mp_netlist::{Input, ModuleId, ModuleRecord, Netlist, WireId};
-use mp_storage::AnyModule;
 use mp_wave::Wave;
 use std::alloc::{AllocError, Global};
 

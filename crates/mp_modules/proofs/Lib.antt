@@ -9,3 +9,4 @@ pub mod CallRuns
 pub mod ArbiterUnits
 pub mod ArbiterRuns
 pub mod KindLemmas
+pub mod lemmas

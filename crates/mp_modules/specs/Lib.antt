@@ -16,3 +16,4 @@ pub mod QuietModules
 pub mod Histories
 pub mod EventLaws
 pub mod Laws
+pub mod storage

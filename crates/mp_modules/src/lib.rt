@@ -1,4 +1,7 @@
-//! Event modules: their kinds, what each kind holds, and how an input level changes it.
+//! The kinds of event module: what each kind holds, how an input event changes it, and which rules its environment can break.
+//!
+//! `CoreModule` has the kinds without data, a file for each kind with more than a table of answers. The folder `storage` has the kinds that hold
+//! data or compute on it, and `AnyModule`, which is any kind at all. Begin with `kind.rt` and `event_module.rt`.
 #![tactic(auto)]
 
 mod arbiter;
@@ -14,6 +17,7 @@ mod memory;
 mod merge;
 mod rendezvous;
 mod select;
+pub mod storage;
 mod toggle;
 
 pub use core_module::CoreModule;
@@ -24,3 +28,4 @@ pub use kind::Kind;
 pub use level::fits_width;
 pub use memory::{Client, MOST_INPUTS, MOST_OUTPUTS, Memory, Waiting, level_at};
 pub use rendezvous::Rendezvous;
+pub use storage::{AnyModule, Computed, Reg};

@@ -8,3 +8,4 @@ pub mod FoundLemmas
 pub mod WaveLemmas
 pub mod MarginLemmas
 pub mod PutLemmas
+pub mod lemmas

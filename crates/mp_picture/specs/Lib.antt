@@ -10,3 +10,4 @@ pub mod Diagrams
 pub mod GraphPorts
 pub mod Graphs
 pub mod GraphSections
+pub mod svg

@@ -1,4 +1,7 @@
-//! Pictures of waves: a range of units in columns, what a wire does in each, and the rows that are drawn of it.
+//! Pictures: timing diagrams as text and as SVG, and a netlist as a graph.
+//!
+//! The files at the top cut a range of times into columns and draw the rows of a diagram or the nodes of a graph. `svg` draws a diagram as SVG.
+//! Begin with `diagram.rt`.
 #![tactic(auto)]
 
 mod bundle_lines;
@@ -19,6 +22,7 @@ mod repeated;
 mod round;
 mod row;
 mod ruler;
+pub mod svg;
 
 pub use cell::{Cell, Events, cells};
 pub use columns::Columns;
@@ -30,3 +34,4 @@ pub use mark::Charset;
 pub use picture::Picture;
 pub use row::{is_still, still_count};
 pub use ruler::{last_tick, tick_step};
+pub use svg::{Lane, MOST_COLUMNS, put_svg, put_wire_group};

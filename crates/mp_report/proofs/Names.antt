@@ -10,7 +10,7 @@ pub use Rattle.mp_report.specs.Names.{Ahead, AllZip, AreChanges, AreWavesOf, Bun
 unfoldable pub use Rattle.mp_report.specs.Places.{found_over}
 unfoldable pub use Rattle.mp_response.specs.Span.{findings_of}
 pub use Rattle.mp_response.specs.declared.in_piece.InPiece.{InPiece}
-pub use Rattle.mp_storage.specs.AnyModules.{start}
-unfoldable pub use Rattle.mp_storage.specs.AnyModules.{any_part_of, found}
+pub use Rattle.mp_modules.specs.storage.AnyModules.{start}
+unfoldable pub use Rattle.mp_modules.specs.storage.AnyModules.{any_part_of, found}
 pub use Rattle.mp_wave.proofs.ChangesLemmas.{AreChanges-changes_after, form_of_wave, last_time-changes_after, level_from-changes_after, levels_of_wave}
 pub use Rattle.mp_report.specs.Clauses.{AreAhead, IsAhead, codes_at, finding_at, found_by_place}

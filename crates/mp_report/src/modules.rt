@@ -1,7 +1,7 @@
 //! What is found at a module.
 ghost use Rattle.std.specs.Prelude.{◌≡◌, ◌-◌, ◌<◌};
 ghost use Rattle.mp_report.specs.Clauses.{ℕ, true, List, IsSome, IfOk, All, map, vec_len, length, IsWaveform, level_of, Memory, no_findings, wire_at, input_by, AreWavesOf, level, module_place, levels_at, piece_level, found_over};
-ghost use Rattle.mp_storage.specs.AnyModules.{any_part_of, found};
+ghost use Rattle.mp_modules.specs.storage.AnyModules.{any_part_of, found};
 ghost use Rattle.mp_records.specs.declared.ports.Input.{Input as Port};
 
 use mp_model::{Waves, built};
@@ -37,7 +37,7 @@ pub(crate) fn found_at_module(
 }
 
 /// Whether no module of the kind ever finds anything, so that none need be looked at.
-#[tactic(auto, unfolding(mp_storage::specs::AnyModules::any_part_of, mp_storage::specs::AnyModules::found))]
+#[tactic(auto, unfolding(mp_modules::specs::storage::AnyModules::any_part_of, mp_modules::specs::storage::AnyModules::found))]
 fn finds_nothing(kind: Kind) -> bool
     ensures { result ≡ true → (params : List ℕ) (width : ℕ) (memory : Memory) (x : List ℕ) → found (any_part_of kind params width) memory x ≡ no_findings }
 {

@@ -3,7 +3,7 @@ use Rattle.std.proofs.Common.{◌≡◌, ℕ, ◌+◌, ◌-◌, ◌<◌, ◌≤�
 use Rattle.mp_modules.specs.Memories.{output_of}
 use Rattle.mp_modules.specs.declared.finding_code.FindingCode.{FindingCode}
 use Rattle.mp_modules.specs.declared.memory.Memory.{Memory}
-use Rattle.mp_storage.specs.declared.any_module.AnyModule.{AnyModule}
+use Rattle.mp_modules.specs.declared.storage.any_module.AnyModule.{AnyModule}
 use Rattle.mp_response.specs.Span.{next_state, found_at, state_after, findings_of, findings_in, extended, output_changes, port_changes}
 use Rattle.mp_response.specs.Joins.{JoinsSpans, DependsInside, IsOneSpan}
 use Rattle.mp_response.specs.declared.piece.Piece.{Piece}

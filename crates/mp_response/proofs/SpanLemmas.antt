@@ -7,9 +7,9 @@ use Rattle.mp_modules.specs.Memories.{output_of}
 use Rattle.mp_modules.specs.declared.finding_code.FindingCode.{FindingCode}
 use Rattle.mp_modules.specs.declared.finding_set.FindingSet.{FindingSet}
 use Rattle.mp_modules.specs.declared.memory.Memory.{Memory}
-use Rattle.mp_storage.specs.AnyModules.{kind_of, settle, step, found}
-use Rattle.mp_storage.specs.QuietAny.{settled_stays, stepped_stays, settled_quiet, stepped_quiet}
-use Rattle.mp_storage.specs.declared.any_module.AnyModule.{AnyModule}
+use Rattle.mp_modules.specs.storage.AnyModules.{kind_of, settle, step, found}
+use Rattle.mp_modules.specs.storage.QuietAny.{settled_stays, stepped_stays, settled_quiet, stepped_quiet}
+use Rattle.mp_modules.specs.declared.storage.any_module.AnyModule.{AnyModule}
 use Rattle.mp_response.specs.declared.piece.Piece.{Piece}
 use Rattle.mp_response.specs.Span.{next_state, found_at, state_after, findings_of, findings_in, extended, output_changes, port_changes, IsSpan, IsUnitMore}
 

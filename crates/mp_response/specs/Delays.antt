@@ -3,8 +3,8 @@ use Rattle.std.specs.Prelude.{◌≡◌, ℕ, ◌+◌, ◌-◌, ◌<◌, ◌≤�
 use Rattle.std.specs.List.{flat_map, range_with_len}
 use Rattle.mp_wave.specs.Waveform.{level_from}
 use Rattle.mp_modules.specs.declared.memory.Memory.{Memory}
-use Rattle.mp_storage.specs.AnyModules.{start}
-use Rattle.mp_storage.specs.declared.any_module.AnyModule.{AnyModule}
+use Rattle.mp_modules.specs.storage.AnyModules.{start}
+use Rattle.mp_modules.specs.declared.storage.any_module.AnyModule.{AnyModule}
 use Rattle.mp_records.specs.Outputs.{delay_of}
 use Rattle.mp_records.specs.declared.module_record.ModuleRecord.{ModuleRecord}
 use Rattle.mp_netlist.specs.Circuit.{Circuit, IsCircuit, Drives, module_at}

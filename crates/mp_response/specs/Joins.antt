@@ -1,7 +1,7 @@
 -- Spans end to end, and what they depend on.
 use Rattle.std.specs.Prelude.{◌≡◌, ℕ, ◌<◌, ◌≤◌, List, [], ◌++◌, length, slice_index_or}
 use Rattle.mp_modules.specs.declared.memory.Memory.{Memory}
-use Rattle.mp_storage.specs.declared.any_module.AnyModule.{AnyModule}
+use Rattle.mp_modules.specs.declared.storage.any_module.AnyModule.{AnyModule}
 use Rattle.mp_response.specs.declared.piece.Piece.{Piece}
 use Rattle.mp_response.specs.Span.{IsSpan}
 

@@ -7,8 +7,8 @@ use Rattle.mp_modules.specs.Memories.{output_of}
 use Rattle.mp_modules.specs.declared.finding_code.FindingCode.{FindingCode}
 use Rattle.mp_modules.specs.declared.finding_set.FindingSet.{FindingSet}
 use Rattle.mp_modules.specs.declared.memory.Memory.{Memory}
-use Rattle.mp_storage.specs.AnyModules.{kind_of, settle, step, found}
-use Rattle.mp_storage.specs.declared.any_module.AnyModule.{AnyModule}
+use Rattle.mp_modules.specs.storage.AnyModules.{kind_of, settle, step, found}
+use Rattle.mp_modules.specs.declared.storage.any_module.AnyModule.{AnyModule}
 use Rattle.mp_response.specs.declared.piece.Piece.{Piece}
 
 -- the state after a unit: a settle at time 0, and else a step

@@ -2,8 +2,7 @@
 
 use crate::findings::Findings;
 use crate::outputs::Outputs;
-use mp_modules::{EventModule, FindingSet, MOST_OUTPUTS, Memory};
-use mp_storage::AnyModule;
+use mp_modules::{AnyModule, EventModule, FindingSet, MOST_OUTPUTS, Memory};
 use std::alloc::{AllocError, Global};
 
 /// The last state of a module in a span of time, the changes of its outputs in it before their delays, with the level at time 0 as

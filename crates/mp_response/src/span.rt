@@ -10,8 +10,7 @@ use crate::changes::Changes;
 use crate::cursors::Cursors;
 use crate::in_piece::InPiece;
 use crate::piece::Piece;
-use mp_modules::{MOST_INPUTS, Memory};
-use mp_storage::AnyModule;
+use mp_modules::{AnyModule, MOST_INPUTS, Memory};
 use mp_wave::{Wave, WaveChanges};
 use std::alloc::{AllocError, Global};
 

@@ -1,3 +1,4 @@
 mod MarkLemmas
 mod StepLemmas
 mod SeatLemmas
+pub mod lemmas

@@ -1,15 +1,15 @@
 -- A seat's lines, one after the other.
 use Rattle.std.proofs.Common.{◌≡◌, inl, inr, ℕ, ◌+◌, Bool, List, [], ◌∷◌, ◌++◌, length, map, Option, Some, Result, slice_get, refl, sym, ap, subst, ◌∙◌, length-append, arith}
 use mathlib.Core.List.{IsPrefix}
-use Rattle.mp_lines.specs.Given.{given}
-use Rattle.mp_lines.specs.Incoming.{Incoming}
+use Rattle.mp_text.specs.lines.Given.{given}
+use Rattle.mp_text.specs.lines.Incoming.{Incoming}
 use Rattle.mp_streams.specs.Outgoing.{Outgoing}
 use Rattle.mp_version.specs.Stories.{Story, one_more}
 use Rattle.mp_desk.specs.Extending.{Extends}
 use Rattle.mp_desk.proofs.PrefixLemmas.{prefix_self, prefix_trans, extends_self, extends_trans, extends_one_more}
-use Rattle.mp_talk.specs.declared.talk_fault.TalkFault.{TalkFault}
-use Rattle.mp_talk.specs.Answers.{AreAnswers}
-use Rattle.mp_talk.specs.Conversations.{Conversed}
+use Rattle.mp_seats.specs.declared.talk.talk_fault.TalkFault.{TalkFault}
+use Rattle.mp_seats.specs.talk.Answers.{AreAnswers}
+use Rattle.mp_seats.specs.talk.Conversations.{Conversed}
 use Rattle.mp_seats.specs.Replies.{Writing, IsReplyAt}
 use Rattle.mp_seats.specs.Marks.{AcceptedAt, AnsweredAt, Rise, places_of, AreSigned}
 use Rattle.mp_seats.specs.Steps.{Seated, IsAcceptedLine, IsAnsweredLine, IsStep}

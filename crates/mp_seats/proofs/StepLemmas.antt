@@ -8,13 +8,13 @@ use Rattle.mp_streams.specs.WriteErrors.{Writes}
 use Rattle.mp_streams.specs.declared.write_error.WriteError.{WriteError}
 use Rattle.mp_text.specs.declared.question.Question.{Question}
 use Rattle.mp_text.specs.declared.script_line.Line.TheVariants.{Empty, Change, Ask}
-use Rattle.mp_words.specs.declared.line_error.LineError.{LineError}
+use Rattle.mp_text.specs.declared.lexing.line_error.LineError.{LineError}
 use Rattle.mp_text.specs.ScriptLines.{line_at}
 use Rattle.mp_version.specs.Stories.{Story}
 use Rattle.mp_desk.specs.Extending.{Extends}
 use Rattle.mp_desk.specs.Holders.{RefusedAfter}
 use Rattle.mp_desk.proofs.PrefixLemmas.{extends_self}
-use Rattle.mp_talk.specs.Answers.{PutsAnswer}
+use Rattle.mp_seats.specs.talk.Answers.{PutsAnswer}
 use Rattle.mp_seats.specs.declared.refusal.Refusal.TheVariants as refusals
 use Rattle.mp_seats.specs.declared.reply.Reply.TheVariants as replies
 use Rattle.mp_seats.specs.Replies.{Writing, IsEditLine, IsRefusal, IsReplyAt, IsReadReply}

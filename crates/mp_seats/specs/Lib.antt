@@ -2,3 +2,5 @@ pub mod Marks
 pub mod Replies
 pub mod Steps
 pub mod Seats
+pub mod talk
+pub mod hosting

@@ -4,13 +4,13 @@ use Rattle.std.specs.Io.KnownBytes.{Consumes}
 use mathlib.Core.List.{IsPrefix}
 use Rattle.mp_records.specs.declared.edit.Edit.{Edit}
 use Rattle.mp_streams.specs.Outgoing.{Outgoing}
-use Rattle.mp_words.specs.Lines.{lines_of}
-use Rattle.mp_lines.specs.Given.{given}
-use Rattle.mp_lines.specs.Incoming.{Incoming}
+use Rattle.mp_text.specs.lexing.Lines.{lines_of}
+use Rattle.mp_text.specs.lines.Given.{given}
+use Rattle.mp_text.specs.lines.Incoming.{Incoming}
 use Rattle.mp_version.specs.Stories.{Story}
 use Rattle.mp_desk.specs.Extending.{Extends}
-use Rattle.mp_talk.specs.declared.talk_fault.TalkFault.{TalkFault}
-use Rattle.mp_talk.specs.Conversations.{Closes}
+use Rattle.mp_seats.specs.declared.talk.talk_fault.TalkFault.{TalkFault}
+use Rattle.mp_seats.specs.talk.Conversations.{Closes}
 use Rattle.mp_seats.specs.declared.reply.Reply.TheVariants.{Accepted}
 use Rattle.mp_seats.specs.Marks.{Mark, AcceptedAt, AnsweredAt, up_to, Rise, accepted_of, places_of, AreSigned}
 use Rattle.mp_seats.specs.Replies.{Writing, IsEditLine, IsReplyAt}

@@ -5,11 +5,10 @@ use crate::guest::Guest;
 use crate::refusal::Refusal;
 use crate::reply::Reply;
 use crate::scribe::Scribe;
-use mp_lines::LineReader;
+use mp_text::{Line, LineError, LineReader, Question, read_line};
 use mp_netlist::{Edit, EditError};
 use mp_streams::{Out, Sink, Source, WriteError};
-use mp_talk::{Answerer, TalkFault, converse};
-use mp_text::{Line, LineError, Question, read_line};
+use crate::talk::{Answerer, TalkFault, converse};
 use std::alloc::Global;
 use std::marker::Model;
 use std::sync::Wait;
@@ -35,8 +34,8 @@ impl<B: Scribe, G: Guest> Seat<B, G> {
     ghost use Rattle.std.specs.Prelude.{◌≡◌, Some, []};
     ghost use Rattle.mp_desk.specs.Extending.{Extends};
     ghost use Rattle.mp_streams.specs.WriteErrors.{Writes};
-    ghost use Rattle.mp_talk.specs.Answers.{PutsAnswer};
-    ghost use Rattle.mp_talk.specs.TalkFaults.{counted_reads};
+    ghost use Rattle.mp_seats.specs.talk.Answers.{PutsAnswer};
+    ghost use Rattle.mp_seats.specs.talk.TalkFaults.{counted_reads};
     ghost use Rattle.mp_seats.specs.Steps.{with_seen, IsStep, PutsEdit};
     ghost use Rattle.mp_seats.specs.Seats.{IsVisit};
 

@@ -2,11 +2,11 @@
 ghost use Rattle.std.specs.Prelude.{◌≡◌, IsTrue, ◌↔◌};
 
 use crate::session::Session;
-use mp_evaluation::Run;
+use mp_partition::Run;
 use mp_netlist::Edit;
 use mp_phase::Gate;
 use mp_version::Version;
-use mp_work::Work;
+use mp_depend::Work;
 use std::alloc::Global;
 use std::marker::Model;
 use std::sync::Arc;
@@ -26,8 +26,8 @@ impl Model for Prepared {
     ghost use Rattle.std.specs.Prelude.{◌≡◌};
     ghost use Rattle.std.specs.Arc.{arc_value};
     ghost use Rattle.mp_version.specs.Stories.{present, one_more};
-    ghost use Rattle.mp_evaluation.specs.Runs.{IsRun};
-    ghost use Rattle.mp_work.specs.Work.{IsWork};
+    ghost use Rattle.mp_partition.specs.runs.Runs.{IsRun};
+    ghost use Rattle.mp_depend.specs.work.Work.{IsWork};
     ghost use Rattle.mp_version.specs.Steps.{Step};
 
     ghost Value = { Step };

@@ -3,13 +3,13 @@ ghost use Rattle.std.specs.Prelude.{◌≡◌, IfOk};
 
 use crate::prepared::Prepared;
 use mp_engine::evaluate;
-use mp_evaluation::Run;
+use mp_partition::Run;
 use mp_netlist::{Edit, EditError, Netlist};
-use mp_parts::redo;
+use mp_redo::redo;
 use mp_phase::{Crew, Gate};
 use mp_version::{MAX_EDITS, Version};
-use mp_work::Work;
-use mp_work::laws::edits_revise;
+use mp_depend::Work;
+use mp_depend::work::laws::edits_revise;
 use std::alloc::{AllocError, Global};
 use std::marker::Model;
 use std::sync::{Arc, Wait};
@@ -34,7 +34,7 @@ impl<G: Gate> Model for Session<G> {
 
     ghost Value = { Standing };
 
-    ghost use Rattle.mp_evaluation.specs.Runs.{IsRun};
+    ghost use Rattle.mp_partition.specs.runs.Runs.{IsRun};
     ghost use Rattle.mp_version.specs.Stories.{present};
     ghost use Rattle.mp_phase.specs.Allowed.{IsOpen};
     ghost use Rattle.mp_session.specs.LastWork.{IsLastWork};
@@ -50,10 +50,10 @@ impl<G: Gate> Session<G> {
     ghost use Rattle.std.specs.Prelude.{◌≡◌, ◌<◌, ◌≤◌, Ok, IfOk, IfErr, OnOk, OnErr, length};
     ghost use Rattle.std.specs.Arc.{arc_value};
     ghost use Rattle.mp_netlist.specs.Edits.{RefusedBy, after};
-    ghost use Rattle.mp_evaluation.specs.Runs.{IsRun};
+    ghost use Rattle.mp_partition.specs.runs.Runs.{IsRun};
     ghost use Rattle.mp_version.specs.Limits.{max_edits};
     ghost use Rattle.mp_version.specs.Stories.{present, judged, one_more};
-    ghost use Rattle.mp_work.specs.Work.{IsWork};
+    ghost use Rattle.mp_depend.specs.work.Work.{IsWork};
     ghost use Rattle.mp_phase.specs.Allowed.{IsOpen};
     ghost use Rattle.mp_session.specs.LastWork.{IsLastWork};
     ghost use Rattle.mp_session.specs.Sessions.{opened};
@@ -287,7 +287,7 @@ impl<G: Gate> Session<G> {
 }
 
 ghost use Rattle.std.specs.Arc.{arc_value};
-ghost use Rattle.mp_evaluation.specs.Runs.{IsRun};
+ghost use Rattle.mp_partition.specs.runs.Runs.{IsRun};
 ghost use Rattle.mp_version.specs.Stories.{opening};
 
 /// The version of a netlist before the first edit, with the waves of its run.

@@ -19,3 +19,4 @@ pub mod SameRecordLemmas
 mod PartLemmas
 mod LineStartLemmas
 mod GivenLemmas
+pub mod lemmas

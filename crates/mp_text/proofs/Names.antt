@@ -31,13 +31,13 @@ unfoldable pub use Rattle.mp_text.specs.Sizes.{text_limit}
 unfoldable pub use Rattle.mp_text.specs.Statements.{statement_of}
 unfoldable pub use Rattle.mp_text.specs.Texts.{after_line, after_lines, after_statement, text_at}
 unfoldable pub use Rattle.mp_text.specs.Written.{written}
-pub use Rattle.mp_words.proofs.DividedLemmas.{after_first-append, before_first-append, first_none, position-append}
-pub use Rattle.mp_words.proofs.LineLemmas.{lines_of-cons, rest_falls}
-pub use Rattle.mp_words.proofs.PlainLemmas.{All-passing, IsPlain, IsPlain-append, IsPlain-decimal, IsPlain-name, is_plain_byte, list_all-passing, plain_allowed, plain_no_gap, plain_no_hash}
-pub use Rattle.mp_words.proofs.ReadBackLemmas.{change_back, each_back, input_back, late_input_back, no_wire_back, number_back, wire_back}
-pub use Rattle.mp_words.proofs.WordLemmas.{All-slice_split, All-unmap, rest_ascii, texts_behind}
-pub use Rattle.mp_words.proofs.WordListLemmas.{each_end, each_err, each_ok, texts-after_first, texts-before_first}
-unfoldable pub use Rattle.mp_words.specs.Lines.{lines_of}
-unfoldable pub use Rattle.mp_words.specs.WordLists.{each_word}
-unfoldable pub use Rattle.mp_words.specs.Words.{words_of}
+pub use Rattle.mp_text.proofs.lemmas.lexing.DividedLemmas.{after_first-append, before_first-append, first_none, position-append}
+pub use Rattle.mp_text.proofs.lemmas.lexing.LineLemmas.{lines_of-cons, rest_falls}
+pub use Rattle.mp_text.proofs.lemmas.lexing.PlainLemmas.{All-passing, IsPlain, IsPlain-append, IsPlain-decimal, IsPlain-name, is_plain_byte, list_all-passing, plain_allowed, plain_no_gap, plain_no_hash}
+pub use Rattle.mp_text.proofs.lemmas.lexing.ReadBackLemmas.{change_back, each_back, input_back, late_input_back, no_wire_back, number_back, wire_back}
+pub use Rattle.mp_text.proofs.lemmas.lexing.WordLemmas.{All-slice_split, All-unmap, rest_ascii, texts_behind}
+pub use Rattle.mp_text.proofs.lemmas.lexing.WordListLemmas.{each_end, each_err, each_ok, texts-after_first, texts-before_first}
+unfoldable pub use Rattle.mp_text.specs.lexing.Lines.{lines_of}
+unfoldable pub use Rattle.mp_text.specs.lexing.WordLists.{each_word}
+unfoldable pub use Rattle.mp_text.specs.lexing.Words.{words_of}
 pub use Rattle.mp_text.specs.Clauses.{Change, Format, GivesText, HasForm, IsReachedIn, IsReadAs, IsReadAsWritten, SameRecords, Start, Statement, added_bundle, added_module, bundle_by_name, bundle_edits, bundle_line, delay_text, each_part, edit_for, edits_by_name, finished, first_words, format_line, format_of, formatted, horizon_line, in_text, input_by_name, input_text, is_begun, is_mark, is_four, last_line, line_word, max_first_horizon, max_horizon_of, max_short_text, max_text, module_by_name, module_edit, module_edits, module_line, name_in, netlist_format, next_line, output_by_name, output_name, output_text, part_edit, part_texts, question_takes, set_edits, single_takes, spaced, standing, stated_edit, stated_line, statement_takes, states_fourth, stimulus_edits, stimulus_line, stimulus_words, takes, wire_edits, wire_line, wire_name, written_line}

@@ -2,7 +2,7 @@
 use Rattle.mp_text.proofs.Names.{◌^◌, ◌<◌, ◌≡◌, ◌+◌, ◌≤◌, ◌∷◌, ◌++◌, ℕ, List, [], length, All, Ok, Bool, true, false, cond, decimal, refl, sym, ap, subst, ◌∙◌, arith, codes, nat_le, nat_tests, flat_map, append-nil, All-cons, All-nil, SingleEdit, Circuit, IsCircuit, empty_circuit, HasNames, lines_of, wire_edits, module_edits, stimulus_edits, bundle_edits, edits_by_name, IsReadAs, IsReadAsWritten, IsPlain, IsPlain-decimal, max_first_horizon, Start, Second, TextState, Fresh, Formatted, Open, after_statement, after_lines, next_line, written, written_line, format_line, horizon_line, wire_line, module_line, stimulus_line, bundle_line, statement_of, Standard, Large, horizon_limit, horizon_within, netlist_format, max_horizon_of, text_limit, TextFormat, Fourth}
 use Rattle.mp_netlist.specs.declared.format.Format.{Format as NetlistFormat}
 use Rattle.mp_text.proofs.WrittenLineLemmas.{lines_of-written}
-use Rattle.mp_words.specs.Numbers.{spelled_number, number_from}
+use Rattle.mp_text.specs.lexing.Numbers.{spelled_number, number_from}
 use Rattle.mp_text.proofs.StatementBackLemmas.{horizon_stated}
 use Rattle.mp_text.proofs.TextBackLemmas.{Leads, leads_nowhere, leads_slots, line_stated}
 use Rattle.mp_text.proofs.RecordBackLemmas.{wire_leads, stimulus_leads, bundle_leads}

@@ -2,7 +2,7 @@
 use Rattle.mp_text.proofs.Names.{length-map, ◌≡◌, ◌^◌, ◌<◌, ◌==◌, ◌∷◌, ◌++◌, ℕ, true, false, List, [], length, map, All, Ok, decimal, refl, ap, ◌∙◌, arith, codes, list_all, nat_tests, map-id, All-map, All-weaker, Kind, word_of, InputName, OutputName, AddWire, AddModule, AddBundle, SetStimulus, number_word, change_word, input_word, output_word, pair_text, and_parts, number_back, each_back, is_name, is_mark, Start, Change, statement_of, before_first-append, after_first-append, NewModule, NewBundle}
 use Rattle.std.specs.Char.{is_ascii_digit}
 use Rattle.mp_modules.proofs.WordLemmas.{by_word}
-use Rattle.mp_words.proofs.DecimalLemmas.{decimal_digits}
+use Rattle.mp_text.proofs.lemmas.lexing.DecimalLemmas.{decimal_digits}
 
 pub horizon_stated : (h : ℕ) → h < 2 ^ 64 → statement_of (codes "horizon" ∷ decimal h ∷ []) ≡ Start (Ok h)
 unfolding statement_of

@@ -1,7 +1,7 @@
 -- A line that is written is read as its words.
 use Rattle.mp_text.proofs.Names.{◌≡◌, ◌+◌, ◌<◌, ◌==◌, ◌∷◌, ◌++◌, ℕ, true, false, suc, List, [], append_assoc, length, filter, All, Ok, refl, ap, arith, position_or_len, list_all, nat_tests, append-nil, All-head, All-tail, All-cons, All-nil, list_all-append, spaced, written_line, IsPlain, is_plain_byte, plain_allowed, plain_no_gap, plain_no_hash, All-passing, list_all-passing, lines_of, is_line_feed, is_allowed, line_words, words_of, statement_part, is_word, is_gap}
 use Rattle.std.proofs.lemmas.List.Splits.{slice_split_at, slice_split_none}
-use Rattle.mp_words.proofs.LineLemmas.{lines_of-line as lines_of-ended}
+use Rattle.mp_text.proofs.lemmas.lexing.LineLemmas.{lines_of-line as lines_of-ended}
 
 no_hash : (w : List ℕ) → IsPlain w → All (λ b. (b == 35) ≡ false) w
 no_hash w plain = All-passing is_plain_byte (λ b. (b == 35) ≡ false) plain_no_hash w plain.plain

@@ -15,3 +15,6 @@ pub mod Written
 pub mod Sections
 pub mod RoundTrips
 pub mod Clauses
+pub mod lexing
+pub mod lines
+pub mod edit_lines

@@ -26,14 +26,14 @@ pub use Rattle.mp_records.specs.declared.single_edit.SingleEdit.{SingleEdit}
 pub use Rattle.mp_records.specs.declared.single_edit.SingleEdit.TheVariants.{AddBundle, AddModule, AddWire, ClearStimulus, RemoveBundle, RemoveModule, RemoveWire, RewireInput, RewireOutput, SetDelay, SetInputDelay, SetStimulus}
 pub use Rattle.mp_records.specs.declared.wire_record.WireRecord.{WireRecord}
 pub use Rattle.mp_streams.specs.Outgoing.{Writes}
-pub use Rattle.mp_words.specs.LineErrors.{line_name_of, line_number_of}
-pub use Rattle.mp_words.specs.Lines.{is_allowed, is_line_feed, line_words, lines_of}
-pub use Rattle.mp_words.specs.Reads.{Gives, with_front, ◌>>=◌}
-pub use Rattle.mp_words.specs.WaveLines.{changes_text, pair_text}
-pub use Rattle.mp_words.specs.WordLists.{change_word, each_word, input_word, number_word, output_word, wire_or_none}
-pub use Rattle.mp_words.specs.Words.{AreAscii, is_gap, is_word, statement_part, texts, words_of}
-pub use Rattle.mp_words.specs.declared.line_error.LineError.{LineError}
-pub use Rattle.mp_words.specs.declared.line_error.LineError.TheVariants.{BadNumber, NotAscii, OutOfMemory, UnknownStatement, WordCount}
+pub use Rattle.mp_text.specs.lexing.LineErrors.{line_name_of, line_number_of}
+pub use Rattle.mp_text.specs.lexing.Lines.{is_allowed, is_line_feed, line_words, lines_of}
+pub use Rattle.mp_text.specs.lexing.Reads.{Gives, with_front, ◌>>=◌}
+pub use Rattle.mp_text.specs.lexing.WaveLines.{changes_text, pair_text}
+pub use Rattle.mp_text.specs.lexing.WordLists.{change_word, each_word, input_word, number_word, output_word, wire_or_none}
+pub use Rattle.mp_text.specs.lexing.Words.{AreAscii, is_gap, is_word, statement_part, texts, words_of}
+pub use Rattle.mp_text.specs.declared.lexing.line_error.LineError.{LineError}
+pub use Rattle.mp_text.specs.declared.lexing.line_error.LineError.TheVariants.{BadNumber, NotAscii, OutOfMemory, UnknownStatement, WordCount}
 pub use Rattle.mp_text.specs.declared.edit_word.EditWord.{EditWord}
 pub use Rattle.mp_text.specs.declared.edit_word.EditWord.TheVariants.{Bundle, Module, Stimulus, Wire}
 pub use Rattle.mp_text.specs.declared.line_word.LineWord.{LineWord}

@@ -6,7 +6,7 @@ use crate::script_edit::single_edit;
 use crate::single_word::SingleWord;
 use crate::stated_edit::is_mark;
 use mp_netlist::{Batch, SingleEdit};
-use mp_words::LineError;
+use crate::lexing::LineError;
 use std::alloc::{AllocError, Global};
 
 /// The batch of the words behind `batch`.
@@ -42,7 +42,7 @@ fn each_part(alloc: Global, parts: &[&[&[u8]]]) -> Result<Batch, LineError>
 }
 
 /// The edit of one thing that a part's words say.
-#[tactic(auto, using(mp_words::proofs::WordLemmas::rest_ascii))]
+#[tactic(auto, using(crate::proofs::lemmas::lexing::WordLemmas::rest_ascii))]
 fn part_edit(alloc: Global, words: &[&[u8]]) -> Result<SingleEdit, LineError>
     requires { AreAscii words.now }
     ensures { Gives OutOfMemory (λ edit. edit) result (part_edit (texts words.now)) }

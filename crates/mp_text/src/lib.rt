@@ -1,10 +1,16 @@
-//! The texts of netlists, and the lines of scripts.
+//! The texts of netlists and the lines of scripts, read and written.
+//!
+//! `lexing` has the words, numbers and lines of any text, `lines` reads a source line by line, and `edit_lines` writes edits as lines of a script.
+//! The files at the top have the statements of a netlist and the lines of a script. Begin with `reading.rt` and `script_line.rt`.
 #![tactic(auto)]
 
 mod batch_line;
+pub mod edit_lines;
 mod edit_word;
 pub mod laws;
+mod lexing;
 mod line_word;
+mod lines;
 mod port_texts;
 mod question;
 mod question_word;
@@ -27,7 +33,9 @@ mod wire_names;
 mod writing;
 mod written_lines;
 
-pub use mp_words::{LineError, divided, first_line, parts};
+pub use edit_lines::EditText;
+pub use lexing::{Changes, LineError, ShortChanges, Toggles, Worded, divided, each_word, first_line, first_word, is_plain, name_of, number_word, parts, read_line_words, wire_or_none, word_at, word_count, words};
+pub use lines::{LINE_BYTES, LineReader, TooLong};
 pub use question::Question;
 pub use reading::{read_lines, read_netlist};
 pub use script_line::Line;

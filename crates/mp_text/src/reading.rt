@@ -8,7 +8,7 @@ use crate::text_error::TextError;
 use crate::text_size::text_limit;
 use crate::text_state::TextState;
 use mp_netlist::Netlist;
-use mp_words::first_line;
+use crate::lexing::first_line;
 use std::alloc::Global;
 
 /// The netlist of a text of `horizon`, `wire`, `module`, `stim` and `bundle` statements, one a

@@ -5,7 +5,7 @@ ghost use Rattle.mp_text.specs.Clauses.{IfOk, IsAscii, OutOfMemory, Gives, wire_
 use crate::single_word::SingleWord;
 use crate::stated_edit::stated_edit;
 use mp_netlist::{Boxed, Name, SingleEdit};
-use mp_words::{LineError, name_of, number_word, wire_or_none};
+use crate::lexing::{LineError, name_of, number_word, wire_or_none};
 use std::alloc::{AllocError, Global};
 
 /// The edit of a first word and the words behind it.

@@ -4,10 +4,8 @@ ghost use Rattle.mp_text.specs.Clauses.{IsAscii, IfOk, IfSome, length, position,
 
 use crate::edit_word::EditWord;
 use mp_modules::Kind;
-use mp_netlist::{
-    Boxed, Changes, InputNames, Name, NewBundle, NewModule, OutputNames, Params, SingleEdit,
-};
-use mp_words::{LineError, each_word, name_of, number_word};
+use mp_netlist::{Boxed, Changes, InputNames, Name, NewBundle, NewModule, OutputNames, Params, SingleEdit};
+use crate::lexing::{LineError, each_word, name_of, number_word};
 use std::alloc::{AllocError, Global};
 
 /// The edit of a first word and the words behind it.

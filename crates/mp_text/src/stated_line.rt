@@ -8,7 +8,7 @@ use crate::script_edit::single_edit;
 use crate::script_line::Line;
 use crate::stated_question::stated_question;
 use mp_netlist::Edit;
-use mp_words::{LineError, first_word, is_plain, word_count, words};
+use crate::lexing::{LineError, first_word, is_plain, word_count, words};
 use std::alloc::Global;
 
 /// What a line of a script says, which is given without its line feed: an edit, as in a netlist's

@@ -5,7 +5,7 @@ ghost use Rattle.mp_text.specs.Clauses.{IfOk, IsAscii, OutOfMemory, Gives, texts
 use crate::question::Question;
 use crate::question_word::QuestionWord;
 use crate::wire_names::WireNames;
-use mp_words::{LineError, name_of, number_word};
+use crate::lexing::{LineError, name_of, number_word};
 use std::alloc::{AllocError, Global};
 
 /// How many steps of a chain may be asked for.

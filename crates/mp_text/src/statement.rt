@@ -1,5 +1,5 @@
 //! What a line makes of a netlist.
-#![tactic(auto, using(mp_words::proofs::WordLemmas::rest_ascii), unfolding(crate::specs::Texts::after_line, crate::specs::Statements::statement_of, crate::specs::Texts::after_statement))]
+#![tactic(auto, using(crate::proofs::lemmas::lexing::WordLemmas::rest_ascii), unfolding(crate::specs::Texts::after_line, crate::specs::Statements::statement_of, crate::specs::Texts::after_statement))]
 
 ghost use Rattle.std.specs.Prelude.{◌≡◌};
 ghost use Rattle.mp_text.specs.Clauses.{OutOfMemory, max_horizon, Gives, texts, AreAscii, Line, Refused, Open, stated_number, stated_edit, Format, Start, Change, statement_of, begun, after_statement, after_line, told};
@@ -10,7 +10,7 @@ use crate::text_code::TextCode;
 use crate::text_format::TextFormat;
 use crate::text_state::TextState;
 use mp_netlist::{Edit, EditError, Netlist, NewError};
-use mp_words::{LineError, number_word, read_line_words};
+use crate::lexing::{LineError, number_word, read_line_words};
 use std::alloc::Global;
 
 /// Makes of the text so far what a line says, whose words are read in place of those of the line

@@ -3,7 +3,7 @@ ghost use Rattle.std.specs.Prelude.{◌≡◌};
 ghost use Rattle.mp_text.specs.Clauses.{Line};
 
 use mp_netlist::EditError;
-use mp_words::LineError;
+use crate::lexing::LineError;
 use thiserror::Error;
 
 /// What is wrong with a line of a netlist's text.

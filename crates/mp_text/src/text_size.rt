@@ -2,7 +2,7 @@
 ghost use Rattle.std.specs.Prelude.{◌≡◌, ◌≤◌, ◌+◌};
 ghost use Rattle.mp_text.specs.Clauses.{take, lines_of, words_of, max_text, max_short_text, first_words, states_fourth, text_limit};
 
-use mp_words::{first_line, number_word, word_at, word_count};
+use crate::lexing::{first_line, number_word, word_at, word_count};
 
 /// How many bytes a text of format 1 or 2 may have.
 pub const MAX_SHORT_TEXT: usize = 4_194_304;

@@ -6,7 +6,7 @@ use crate::port_texts::{Ports, wire_word};
 use crate::spaced::Spaced;
 use mp_netlist::{BundleRecord, ModuleRecord, Netlist, WireRecord};
 use mp_streams::{Failed, Out, Sink, Text};
-use mp_words::Changes;
+use crate::lexing::Changes;
 
 /// Writes the line of a wire.
 #[tactic(auto, using(crate::proofs::WriteLemmas::put_line_steps))]

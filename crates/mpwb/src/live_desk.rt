@@ -1,14 +1,11 @@
 //! A desk that serves designers and viewers at named pipes.
 ghost use Rattle.std.specs.Prelude.{◌≡◌, ◌<◌, ◌≤◌, [], IfSome};
 
-use mp_command_runs::{Options, RunFault, read_opening};
-use mp_commands::{fault_of_meeting, put_met};
-use mp_hosting::{HostFault, Places};
-use mp_lines::LineReader;
-use mp_live::{SeatScribe, fault_of_talk};
+use mp_commands::{Options, RunFault, SeatScribe, fault_of_meeting, fault_of_talk, put_met, read_opening};
+use mp_seats::{HostFault, Pipes, Places};
+use mp_text::LineReader;
 use mp_netlist::Netlist;
 use mp_phase::{Crew, OpenGate};
-use mp_pipes::Pipes;
 use mp_session::Session;
 use mp_streams::{Out, ReadSource, Sink, Source, WriteSink};
 use std::io;

@@ -2,10 +2,8 @@
 ghost use Rattle.std.specs.Prelude.{◌≡◌, []};
 
 use crate::open_sessions::OpenSessions;
-use mp_command_runs::{Options, RunFault};
-use mp_commands::{Player, open_keeper};
-use mp_lines::LineReader;
-use mp_live::{Prompted, fault_of_talk};
+use mp_commands::{Options, Player, Prompted, RunFault, fault_of_talk, open_keeper};
+use mp_text::LineReader;
 use mp_streams::{Out, ReadSource, Source, WriteSink};
 use std::io;
 use std::rt::Runtime;

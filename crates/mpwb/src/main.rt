@@ -13,7 +13,7 @@ use crate::live_desk::run_live_desk;
 use crate::live_play::run_live_play;
 use crate::running::run_on;
 use crate::telling::{fault_of_telling, tell_fault};
-use mp_command_runs::{Options, RunFault, exit_status};
+use mp_commands::{Options, RunFault, exit_status};
 use mp_request::{Asked, Command, Request, read_words, tell};
 use mp_streams::{ReadSource, Source};
 use std::env;

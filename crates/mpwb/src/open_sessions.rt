@@ -1,11 +1,10 @@
 //! The sessions of this program.
 use mp_commands::Sessions;
-use mp_desk::DeskSize;
-use mp_meeting::{MeetingFault, Met, meet};
+use mp_desk::{DeskSize, MeetingFault, Met, meet};
 use mp_netlist::{Edit, EditError, Netlist};
 use mp_phase::{Crew, OpenGate};
 use mp_session::Session;
-use mp_work::Work;
+use mp_depend::Work;
 use std::alloc::{AllocError, Global};
 use std::sync::Wait;
 use std::thread::Threads;

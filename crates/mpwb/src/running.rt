@@ -2,15 +2,10 @@
 ghost use Rattle.std.specs.Prelude.{◌≡◌, []};
 
 use crate::open_sessions::OpenSessions;
-use mp_command_runs::{Options, RunFault, Viewed, run_command};
-use mp_commands::{Desk, Play};
+use mp_commands::{AskedPicture, Charset, Desk, Drawing, DumpText, GraphText, MeasureLines, Options, PathLines, PictureText, Play, ReportLines, RunFault, TimeRange, VerilogText, View, Viewed, WaitLines, WaveLines, WhyLines, run_command};
 use mp_netlist::Name;
 use mp_request::{Command, PictureWords, Request};
 use mp_streams::{Out, Sink, Source, WriteSink};
-use mp_views::{
-    AskedPicture, Charset, Drawing, DumpText, GraphText, MeasureLines, PathLines, PictureText,
-    ReportLines, TimeRange, VerilogText, View, WaitLines, WaveLines, WhyLines,
-};
 use std::alloc::{AllocError, Global};
 use std::io;
 use std::sync::Wait;

@@ -1,5 +1,5 @@
 //! What is told on standard error.
-use mp_command_runs::{RunFault, fault_line};
+use mp_commands::{RunFault, fault_line};
 use mp_request::TellError;
 use std::str;
 

@@ -1,6 +1,6 @@
 use Rattle.std.specs.Prelude.{◌≡◌}
 use Rattle.mp_commands.proofs.Names.{rules, puts_then, puts_sooner, writes_failed, present, viewer_line, lines_from}
-use Rattle.mp_views.specs.Outputs.{waves_text}
+use Rattle.mp_commands.specs.views.Outputs.{waves_text}
 use Rattle.mp_commands.proofs.met_lines.put_met.Goals as goal
 
 pub returns-in_err-put_lines-clause-written : goal.returns-in_err-put_lines-clause-written

@@ -1,6 +1,6 @@
 use Rattle.mp_commands.proofs.Names.{err_from_is_err_and, OutOfMemory}
-use Rattle.mp_command_runs.specs.OptionLimits.{has_valid_crew}
-use Rattle.mp_command_runs.proofs.InputLemmas.{shut_unread}
+use Rattle.mp_commands.specs.command_runs.OptionLimits.{has_valid_crew}
+use Rattle.mp_commands.proofs.lemmas.command_runs.InputLemmas.{shut_unread}
 use Rattle.mp_commands.proofs.script_opening.open_keeper.Goals as goal
 
 pub returns-in_err-new-clause-refused : goal.returns-in_err-new-clause-refused

@@ -1,7 +1,7 @@
 use Rattle.std.proofs.Common.{[], sym, subst}
 use Rattle.mp_netlist.specs.Circuit.{Circuit}
-use Rattle.mp_regions.specs.Regions.{HasStimuli}
-use Rattle.mp_regions.proofs.RegionLemmas.{has_stimuli, whole_is}
+use Rattle.mp_partition.specs.regions.Regions.{HasStimuli}
+use Rattle.mp_partition.proofs.lemmas.regions.RegionLemmas.{has_stimuli, whole_is}
 use Rattle.mp_engine.proofs.evaluation.evaluate_here.Goals as goal
 
 pub run_region-requires-clause-stimuli : goal.run_region-requires-clause-stimuli

@@ -1,7 +1,7 @@
 use Rattle.std.proofs.Common.{[], sym, subst}
 use Rattle.mp_netlist.specs.Circuit.{Circuit}
-use Rattle.mp_regions.specs.Regions.{HasStimuli}
-use Rattle.mp_regions.proofs.RegionLemmas.{has_stimuli}
+use Rattle.mp_partition.specs.regions.Regions.{HasStimuli}
+use Rattle.mp_partition.proofs.lemmas.regions.RegionLemmas.{has_stimuli}
 use Rattle.mp_engine.proofs.evaluation.parts_of.Goals as goal
 
 pub invariant_of-push : goal.invariant_of-push

@@ -1,6 +1,6 @@
 use Rattle.std.proofs.Common.{◌≡◌, ℕ, ◌<◌, [], length, slice_index_or}
 use Rattle.mp_engine.specs.declared.part.Part.{Part}
-use Rattle.mp_regions.specs.Regions.{region}
+use Rattle.mp_partition.specs.regions.Regions.{region}
 use Rattle.mp_engine.proofs.evaluation.parts_of.Given as goal
 
 -- those so far

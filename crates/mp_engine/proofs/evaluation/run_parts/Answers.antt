@@ -1,5 +1,5 @@
 use Rattle.std.proofs.Common.{List, Bool, sym, subst}
-use Rattle.mp_merging.specs.PartRuns.{AreRuns}
+use Rattle.mp_partition.specs.merging.PartRuns.{AreRuns}
 use Rattle.mp_engine.proofs.TaskLemmas.{if_ok, runs_are}
 use Rattle.mp_engine.proofs.evaluation.run_parts.Goals as goal
 

@@ -1,6 +1,6 @@
 use Rattle.std.proofs.Common.{[]}
-use Rattle.mp_evaluation.specs.Marks.{is_marked}
-use Rattle.mp_region_runs.proofs.RegionRunLemmas.{none_marked}
+use Rattle.mp_partition.specs.runs.Marks.{is_marked}
+use Rattle.mp_engine.proofs.lemmas.region_runs.RegionRunLemmas.{none_marked}
 use Rattle.mp_engine.proofs.TaskLemmas.{if_ok}
 use Rattle.mp_engine.proofs.evaluation.run_region.Goals as goal
 

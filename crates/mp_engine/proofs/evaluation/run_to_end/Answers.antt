@@ -1,8 +1,8 @@
 use Rattle.std.proofs.Common.{◌+◌, ◌-◌, [], subst, arith}
-use Rattle.mp_evaluation.specs.Marks.{is_marked}
-use Rattle.mp_region_runs.specs.RegionRuns.{IsUnderWay}
-use Rattle.mp_region_runs.proofs.RegionRunLemmas.{can_less}
-use Rattle.mp_region_runs.proofs.StateHistoryLemmas.{has_history}
+use Rattle.mp_partition.specs.runs.Marks.{is_marked}
+use Rattle.mp_engine.specs.region_runs.RegionRuns.{IsUnderWay}
+use Rattle.mp_engine.proofs.lemmas.region_runs.RegionRunLemmas.{can_less}
+use Rattle.mp_engine.proofs.lemmas.region_runs.StateHistoryLemmas.{has_history}
 use Rattle.mp_engine.proofs.TaskLemmas.{if_ok}
 use Rattle.mp_engine.proofs.evaluation.run_to_end.Goals as goal
 

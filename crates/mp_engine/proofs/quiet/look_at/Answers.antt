@@ -1,6 +1,6 @@
 use Rattle.std.proofs.Common.{◌≤◌, ◌-◌, [], true, sym, subst, arith}
-use Rattle.mp_evaluation.specs.Marks.{is_marked}
-use Rattle.mp_region_runs.proofs.RegionRunLemmas.{can_less}
+use Rattle.mp_partition.specs.runs.Marks.{is_marked}
+use Rattle.mp_engine.proofs.lemmas.region_runs.RegionRunLemmas.{can_less}
 use Rattle.mp_engine.specs.Looks.{IsLookedAt}
 use Rattle.mp_engine.proofs.quiet.look_at.Goals as goal
 

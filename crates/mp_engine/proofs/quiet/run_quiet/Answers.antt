@@ -1,10 +1,10 @@
 use Rattle.std.proofs.Common.{◌≡◌, [], true, ap, sym, subst, ◌∙◌, arith}
 use Rattle.mp_netlist.specs.Circuit.{Circuit}
-use Rattle.mp_evaluation.specs.Marks.{is_marked}
-use Rattle.mp_regions.specs.Regions.{HasStimuli}
-use Rattle.mp_regions.proofs.RegionLemmas.{has_stimuli, whole_is}
-use Rattle.mp_merging.specs.PartRuns.{IsPartRun}
-use Rattle.mp_region_runs.proofs.RegionRunLemmas.{none_marked}
+use Rattle.mp_partition.specs.runs.Marks.{is_marked}
+use Rattle.mp_partition.specs.regions.Regions.{HasStimuli}
+use Rattle.mp_partition.proofs.lemmas.regions.RegionLemmas.{has_stimuli, whole_is}
+use Rattle.mp_partition.specs.merging.PartRuns.{IsPartRun}
+use Rattle.mp_engine.proofs.lemmas.region_runs.RegionRunLemmas.{none_marked}
 use Rattle.mp_engine.specs.Looks.{IsLookedAt}
 use Rattle.mp_engine.proofs.quiet.run_quiet.Goals as goal
 

@@ -1,6 +1,6 @@
 use Rattle.std.proofs.Common.{◌++◌, [], ◌∷◌, List, map, sym, ap, ◌∙◌}
 use Rattle.std.proofs.lemmas.List.{map_push, length-map}
-use Rattle.mp_merging.specs.declared.part_run.PartRun.{PartRun}
+use Rattle.mp_partition.specs.declared.merging.part_run.PartRun.{PartRun}
 use Rattle.mp_engine.proofs.JoinLemmas.{first_joined, one_joined, all_joined}
 use Rattle.mp_engine.proofs.together.join_others.Goals as goal
 

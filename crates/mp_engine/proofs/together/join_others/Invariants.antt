@@ -1,9 +1,9 @@
 use Rattle.std.proofs.Common.{◌≡◌, ◌+◌, Bool, length, map}
 use Rattle.mp_netlist.specs.Circuit.{Circuit}
-use Rattle.mp_regions.specs.declared.division.Division.{Division}
-use Rattle.mp_regions.specs.Regions.{region}
-use Rattle.mp_regions.specs.Divisions.{heard_by}
-use Rattle.mp_merging.specs.PartRuns.{IsPartRun}
+use Rattle.mp_partition.specs.declared.regions.division.Division.{Division}
+use Rattle.mp_partition.specs.regions.Regions.{region}
+use Rattle.mp_partition.specs.regions.Divisions.{heard_by}
+use Rattle.mp_partition.specs.merging.PartRuns.{IsPartRun}
 use Rattle.mp_engine.specs.PartsOf.{AreOthers}
 use Rattle.mp_engine.proofs.JoinLemmas.{AreJoined}
 use Rattle.mp_engine.proofs.together.join_others.Given as goal

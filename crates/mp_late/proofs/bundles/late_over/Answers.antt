@@ -2,7 +2,7 @@ use Rattle.std.proofs.Common.{◌≡◌, ◌-◌, ◌<◌, ℕ, List, All, IfOk,
 use Rattle.std.specs.List.{filter_map}
 use Rattle.mp_wave.specs.Waveform.{Waveform}
 use Rattle.mp_model.specs.Waves.{level}
-use Rattle.mp_causes.proofs.EventLemmas.{wave_is}
+use Rattle.mp_questions.proofs.lemmas.causes.EventLemmas.{wave_is}
 use Rattle.mp_late.specs.declared.late.Late.{Late}
 use Rattle.mp_late.specs.Searching.{late_then}
 use Rattle.mp_late.proofs.BundleLemmas.{changes_low, late_over_is, none_over, times}

@@ -1,7 +1,7 @@
 use Rattle.std.proofs.Common.{◌≡◌, ◌-◌, Some, sym, ap, ◌∙◌, arith}
 use Rattle.mp_model.specs.Waves.{level}
-use Rattle.mp_causes.specs.Changes.{last_event}
-use Rattle.mp_causes.proofs.EventLemmas.{last_event_is}
+use Rattle.mp_questions.specs.causes.Changes.{last_event}
+use Rattle.mp_questions.proofs.lemmas.causes.EventLemmas.{last_event_is}
 use Rattle.mp_late.specs.Lateness.{units_behind}
 use Rattle.mp_late.specs.Searching.{from_on}
 use Rattle.mp_late.proofs.LastLemmas.{from_one}

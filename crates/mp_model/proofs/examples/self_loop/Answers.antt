@@ -1,5 +1,5 @@
 use Rattle.std.proofs.Common.{refl}
-use Rattle.mp_storage.specs.AnyModules.{any_part_of, settle, step}
+use Rattle.mp_modules.specs.storage.AnyModules.{any_part_of, settle, step}
 use Rattle.mp_netlist.specs.Drivers.{driver}
 use Rattle.mp_model.specs.Histories.{history}
 use Rattle.mp_model.specs.Waves.{level}

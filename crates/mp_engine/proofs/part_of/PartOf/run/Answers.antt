@@ -1,17 +1,17 @@
 use Rattle.std.proofs.Common.{◌≡◌, ℕ, ◌+◌, ◌-◌, Bool, List, refl, sym, ap, ◌∙◌, subst, arith}
 use Rattle.mp_netlist.specs.Circuit.{Circuit}
-use Rattle.mp_units.specs.NetlistSimulations.{IsSimulated}
-use Rattle.mp_evaluation.specs.Marks.{is_marked}
-use Rattle.mp_regions.specs.Regions.{home_of, region, HasStimuli}
-use Rattle.mp_regions.specs.Divisions.{heard_by}
-use Rattle.mp_regions.proofs.DivisionLemmas.{divided_apart}
-use Rattle.mp_regions.proofs.RegionLemmas.{has_stimuli}
-use Rattle.mp_merging.specs.PartRuns.{IsPartRun}
-use Rattle.mp_region_runs.specs.StateHistories.{IsHistory}
-use Rattle.mp_region_runs.specs.RegionRuns.{AreTidings, IsUnderWay}
-use Rattle.mp_letters.specs.Letters.{AreTold, IsToldOnce, KnowsAhead}
-use Rattle.mp_letters.specs.Lines.{parts_of}
-use Rattle.mp_region_runs.proofs.StateHistoryLemmas.{has_history}
+use Rattle.mp_simulation.specs.units.NetlistSimulations.{IsSimulated}
+use Rattle.mp_partition.specs.runs.Marks.{is_marked}
+use Rattle.mp_partition.specs.regions.Regions.{home_of, region, HasStimuli}
+use Rattle.mp_partition.specs.regions.Divisions.{heard_by}
+use Rattle.mp_partition.proofs.lemmas.regions.DivisionLemmas.{divided_apart}
+use Rattle.mp_partition.proofs.lemmas.regions.RegionLemmas.{has_stimuli}
+use Rattle.mp_partition.specs.merging.PartRuns.{IsPartRun}
+use Rattle.mp_engine.specs.region_runs.StateHistories.{IsHistory}
+use Rattle.mp_engine.specs.region_runs.RegionRuns.{AreTidings, IsUnderWay}
+use Rattle.mp_engine.specs.letters.Letters.{AreTold, IsToldOnce, KnowsAhead}
+use Rattle.mp_engine.specs.letters.Lines.{parts_of}
+use Rattle.mp_engine.proofs.lemmas.region_runs.StateHistoryLemmas.{has_history}
 use Rattle.mp_engine.proofs.HearingLemmas.{renamed, tidings_are}
 use Rattle.mp_engine.proofs.part_of.PartOf.run.Goals as goal
 

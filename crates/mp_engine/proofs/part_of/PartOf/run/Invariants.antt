@@ -1,7 +1,7 @@
 use Rattle.std.proofs.Common.{◌≡◌, ◌-◌, ◌<◌, ◌≤◌}
-use Rattle.mp_evaluation.specs.Marks.{is_marked}
-use Rattle.mp_region_runs.specs.RegionRuns.{IsUnderWay}
-use Rattle.mp_regions.specs.Divisions.{heard_by}
+use Rattle.mp_partition.specs.runs.Marks.{is_marked}
+use Rattle.mp_engine.specs.region_runs.RegionRuns.{IsUnderWay}
+use Rattle.mp_partition.specs.regions.Divisions.{heard_by}
 use Rattle.mp_engine.proofs.part_of.PartOf.run.Given as goal
 
 -- the windows before are over

@@ -1,6 +1,6 @@
 use Rattle.std.proofs.Common.{◌≡◌, ◌+◌, ◌-◌, Some, None, sym, ap, ◌∙◌}
 use Rattle.mp_wave.specs.Waveform.{between}
-use Rattle.mp_causes.proofs.EventLemmas.{last_of}
+use Rattle.mp_questions.proofs.lemmas.causes.EventLemmas.{last_of}
 use Rattle.mp_late.proofs.LastLemmas.{last_found, no_found}
 use Rattle.mp_late.proofs.driven.Driven.last_between.Goals as goal
 

@@ -1,8 +1,8 @@
 use Rattle.std.proofs.Common.{◌≡◌, ◌==◌, ◌&&◌, ◌||◌, ℕ, Bool, false, Some, option_map, refl, sym, ap, ◌∙◌}
 use Rattle.std.specs.List.{list_any}
 use Rattle.std.proofs.lemmas.Bool.{eq-eqb, ne_eqb}
-use Rattle.mp_causes.specs.Changes.{change_at}
-use Rattle.mp_causes.specs.Causes.{DrivingPort, cause_by, driving_port, port_at, port_by}
+use Rattle.mp_questions.specs.causes.Changes.{change_at}
+use Rattle.mp_questions.specs.causes.Causes.{DrivingPort, cause_by, driving_port, port_at, port_by}
 use Rattle.mp_late.specs.Sources.{sources_by}
 use Rattle.mp_late.specs.Lateness.{is_excused}
 use Rattle.mp_late.specs.Searching.{any_excused}

@@ -1,6 +1,6 @@
 use Rattle.std.proofs.Common.{◌≡◌, ◌<◌, ◌≤◌, ◌||◌, ◌/◌, ◌%◌, ◌++◌, ℕ, List, [], ◌∷◌, All, sym, ap, subst, ◌∙◌, arith}
 use Rattle.mp_records.specs.declared.ids.WireId.{WireId}
-use Rattle.mp_causes.specs.Changes.{change_at}
+use Rattle.mp_questions.specs.causes.Changes.{change_at}
 use Rattle.mp_late.specs.declared.driven.Driven.{Driven}
 use Rattle.mp_late.specs.Lateness.{is_excused}
 use Rattle.mp_late.specs.Searching.{key, wire_numbers, change_by, any_excused}

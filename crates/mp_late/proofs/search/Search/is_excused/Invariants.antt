@@ -1,5 +1,5 @@
 use Rattle.std.proofs.Common.{◌≡◌, ◌<◌, All}
-use Rattle.mp_causes.specs.Changes.{change_at}
+use Rattle.mp_questions.specs.causes.Changes.{change_at}
 use Rattle.mp_late.specs.Lateness.{is_excused}
 use Rattle.mp_late.specs.Searching.{key, any_excused}
 use Rattle.mp_late.proofs.SearchLemmas.{above}

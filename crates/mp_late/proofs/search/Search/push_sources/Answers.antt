@@ -4,8 +4,8 @@ use Rattle.std.proofs.lemmas.Bool.{ne_eqb}
 use Rattle.std.proofs.lemmas.List.{get_or_default, take_all}
 use Rattle.mp_records.specs.declared.ports.Input.{Input}
 use Rattle.mp_netlist.specs.Circuit.{IsCircuit}
-use Rattle.mp_causes.specs.declared.wire_change.WireChange.{WireChange}
-use Rattle.mp_causes.specs.Causes.{DrivingPort}
+use Rattle.mp_questions.specs.declared.causes.wire_change.WireChange.{WireChange}
+use Rattle.mp_questions.specs.causes.Causes.{DrivingPort}
 use Rattle.mp_late.specs.declared.driven.Driven.{Driven}
 use Rattle.mp_late.specs.Lateness.{is_excused}
 use Rattle.mp_late.specs.Searching.{any_excused, from_on, source_at}

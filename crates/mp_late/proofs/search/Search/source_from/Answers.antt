@@ -1,6 +1,6 @@
 use Rattle.std.proofs.Common.{◌≡◌, ◌-◌, max, sym, ap, ◌∙◌}
 use Rattle.mp_model.specs.Waves.{level}
-use Rattle.mp_causes.specs.Changes.{last_event}
+use Rattle.mp_questions.specs.causes.Changes.{last_event}
 use Rattle.mp_late.specs.Searching.{from_on}
 use Rattle.mp_late.proofs.LastLemmas.{source_with_memory, source_without}
 use Rattle.mp_late.proofs.search.Search.source_from.Goals as goal

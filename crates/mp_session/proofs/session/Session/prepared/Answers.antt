@@ -1,6 +1,6 @@
 use Rattle.std.proofs.Common.{◌≡◌, sym, subst, rules}
 use Rattle.mp_netlist.specs.Circuit.{Circuit}
-use Rattle.mp_work.specs.Revisions.{IsRevision}
+use Rattle.mp_depend.specs.work.Revisions.{IsRevision}
 use Rattle.mp_version.specs.Stories.{present}
 use Rattle.mp_session.proofs.session.Session.prepared.Goals as goal
 

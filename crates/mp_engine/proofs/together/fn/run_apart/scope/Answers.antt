@@ -1,9 +1,9 @@
 use Rattle.std.proofs.Common.{◌≡◌, ◌+◌, length, map, ap, ◌∙◌, subst}
 use Rattle.std.specs.Prelude.{IfSome}
 use Rattle.std.proofs.lemmas.List.{length-map}
-use Rattle.mp_regions.specs.Regions.{region}
-use Rattle.mp_regions.specs.Divisions.{heard_by}
-use Rattle.mp_merging.specs.PartRuns.{IsPartRun}
+use Rattle.mp_partition.specs.regions.Regions.{region}
+use Rattle.mp_partition.specs.regions.Divisions.{heard_by}
+use Rattle.mp_partition.specs.merging.PartRuns.{IsPartRun}
 use Rattle.mp_engine.specs.PartsOf.{AreOthers}
 use Rattle.mp_engine.proofs.TaskLemmas.{if_ok, if_some}
 use Rattle.mp_engine.proofs.together.fn.run_apart.scope.Goals as goal

@@ -1,0 +1,5 @@
+pub mod SleepingLemmas
+pub mod SourceLemmas
+pub mod ReadingLemmas
+pub mod RecordLemmas
+pub mod RestingLemmas

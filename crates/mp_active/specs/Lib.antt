@@ -1,0 +1,4 @@
+pub mod excerpt
+pub mod agreement
+pub mod compare
+pub mod steps

@@ -1,0 +1,13 @@
+//! A change of a netlist.
+
+use mp_partition::Run;
+use mp_netlist::Netlist;
+
+/// A netlist with its run, and the netlist that has become of it, with its least delay.
+#[derive(Clone, Copy)]
+pub struct Change<'a> {
+    pub old: &'a Netlist,
+    pub run: &'a Run,
+    pub new: &'a Netlist,
+    pub least: u32,
+}

@@ -1,0 +1,16 @@
+//! The run of a netlist is an old one, and what inputs read is counted by port.
+
+ghost use Rattle.mp_active.specs.compare.OldRuns.{RunsAreOld, RunsHaveWaves, RunsEnd};
+ghost use Rattle.mp_active.specs.compare.Reading.{ReadsAreListed};
+
+/// The run of a netlist has its levels up to the horizon: waves all of whose changes come before that.
+pub fn runs_are_old()
+    ensures levels { RunsAreOld }
+    ensures waves { RunsHaveWaves }
+    ensures end { RunsEnd }
+{}
+
+/// The ports of a module, of which some may be open, read a number as often as it is among those that its inputs read.
+pub fn reads_are_listed()
+    ensures { ReadsAreListed }
+{}

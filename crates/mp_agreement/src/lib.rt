@@ -1,4 +1,0 @@
-//! What an old run and a new one have in common between two units, where some modules are evaluated again and the others sleep.
-#![tactic(auto)]
-
-pub mod laws;

@@ -1,5 +1,0 @@
-use Rattle.mp_apart.proofs.PartLemmas.{parts_are_circuits, parts_have_drivers, others_are_undriven}
-use Rattle.mp_apart.proofs.laws.parts_are_circuits.Goals as goal
-
-pub returns : goal.returns
-returns c = record { circuits = parts_are_circuits; drivers = parts_have_drivers; undriven = others_are_undriven }

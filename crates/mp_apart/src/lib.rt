@@ -1,5 +1,0 @@
-//! Netlists in parts that no wire connects.
-#![tactic(auto)]
-
-pub mod joining;
-pub mod laws;

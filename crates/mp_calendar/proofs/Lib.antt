@@ -1,2 +1,0 @@
-pub mod CalendarLemmas
-mod SlackLemmas

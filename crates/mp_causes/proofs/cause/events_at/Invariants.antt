@@ -1,7 +1,0 @@
-use Rattle.std.proofs.Common.{◌≡◌, take}
-use Rattle.mp_causes.specs.Causes.{events_at}
-use Rattle.mp_causes.proofs.cause.events_at.Given as goal
-
--- what the inputs so far hear
-abbrev pub invariant-loop-input : goal.invariant-loop-input
-invariant-loop-input l = l.events.items ≡ events_at l.levels.netlist.now l.time (take l.input-index l.inputs)

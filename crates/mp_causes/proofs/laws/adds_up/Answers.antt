@@ -1,5 +1,0 @@
-use Rattle.mp_causes.proofs.ShareLemmas.{adds_up}
-use Rattle.mp_causes.proofs.laws.adds_up.Goals as goal
-
-pub returns : goal.returns
-returns c = adds_up

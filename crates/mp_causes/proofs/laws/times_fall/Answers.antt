@@ -1,5 +1,0 @@
-use Rattle.mp_causes.proofs.ChainLemmas.{times_fall}
-use Rattle.mp_causes.proofs.laws.times_fall.Goals as goal
-
-pub returns : goal.returns
-returns c = times_fall

@@ -1,4 +1,0 @@
-mod Names
-pub mod InputLemmas
-pub mod RunLemmas
-mod ViewLemmas

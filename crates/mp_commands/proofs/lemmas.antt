@@ -1,0 +1,3 @@
+pub mod views
+pub mod answers
+pub mod command_runs

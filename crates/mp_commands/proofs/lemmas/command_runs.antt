@@ -1,0 +1,4 @@
+pub mod Names
+pub mod InputLemmas
+pub mod RunLemmas
+pub mod ViewLemmas

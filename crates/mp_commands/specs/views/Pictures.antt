@@ -1,0 +1,25 @@
+-- The pictures that commands write and questions ask for.
+use Rattle.std.specs.Prelude.{ℕ, List, min}
+use Rattle.mp_records.specs.declared.ids.WireId.{WireId}
+use Rattle.mp_netlist.specs.Circuit.{Circuit}
+use Rattle.mp_picture.specs.declared.columns.Columns.{Columns}
+use Rattle.mp_picture.specs.ColumnRanges.{columns_in}
+use Rattle.mp_picture.specs.Diagrams.{diagram}
+use Rattle.mp_picture.specs.svg.Svg.{most_columns, svg}
+use Rattle.mp_commands.specs.declared.views.drawing.Drawing.{Drawing}
+use Rattle.mp_commands.specs.declared.views.drawing.Drawing.TheVariants.{Text, Svg}
+use Rattle.mp_commands.specs.views.AskedWires.{wires_of}
+
+-- an SVG has 1,200 columns at most, however many are asked for
+abbrev pub columns_drawn : Drawing → ℕ → ℕ
+columns_drawn (Text charset) asked = asked
+columns_drawn (Svg title) asked = min asked most_columns
+
+-- wires over columns, drawn so
+abbrev pub drawn : Circuit → Columns → List WireId → Drawing → List ℕ
+drawn n columns wires (Text charset) = diagram n columns charset wires
+drawn n columns wires (Svg title) = svg n columns wires title.now
+
+-- the picture of the wires of these names, or of all, from one time on to before another, in at most so many columns
+abbrev pub picture_text : Circuit → List (List ℕ) → ℕ → ℕ → ℕ → Drawing → List ℕ
+picture_text n names from to asked drawing = drawn n (columns_in n.horizon from to (columns_drawn drawing asked)) (wires_of n names) drawing

@@ -1,0 +1,124 @@
+//! The answers to questions.
+ghost use Rattle.std.specs.Prelude.{◌≡◌};
+ghost use Rattle.std.specs.Thread.{IsSync};
+ghost use Rattle.mp_commands.specs.answers.Names.{wire_named, Writes, Unicode, missing_at, usual_columns};
+ghost use Rattle.mp_streams.specs.WriteErrors.{Writes as WritesAll};
+ghost use Rattle.mp_commands.specs.declared.views.drawing.Drawing.TheVariants.{Text};
+ghost use Rattle.mp_commands.specs.answers.Answers.{asked_text, wire_text, version_text, edits_text, answer_text};
+
+use crate::answers::edit_answers::put_edits;
+use crate::answers::short_replies::{put_refused, put_unread};
+use crate::answers::snapshot::Snapshot;
+use crate::answers::work_lines::put_work_lines;
+use mp_netlist::{EditError, Name};
+use mp_picture::Charset;
+use mp_streams::{Failed, Out, Sink, Text, WriteError};
+use mp_text::{LineError, Question, WireNames, put_netlist};
+use mp_questions::TimeRange;
+use mp_version::Version;
+use crate::views::{AskedPicture, Drawing, DumpText, GraphText, MeasureLines, PathLines, PictureText, ReportLines, USUAL_COLUMNS, VerilogText, View, WaitLines, WaveLines, WhyLines, put_wave_line};
+use std::alloc::Global;
+use std::thread::Threads;
+
+/// Writes the answer to a question, as it is made: so no answer takes memory for its length.
+pub fn put_answer<R: Threads + Sync, T: Sink>(
+    rt: &R,
+    alloc: Global,
+    out: &mut Out<T>,
+    of: &Snapshot<'_>,
+    question: &Question,
+) -> Result<(), WriteError>
+    ensures { WritesAll result out.old out.new (answer_text of.now question.now) }
+{
+    match question {
+        Question::Wave(name) => Ok(put_wire(out, of, name)?),
+        Question::Waves => put_view(rt, alloc, out, of, &WaveLines),
+        Question::Text => Ok(put_netlist(out, of.netlist())?),
+        Question::Report => put_view(rt, alloc, out, of, &ReportLines),
+        Question::Dump => put_view(rt, alloc, out, of, &DumpText),
+        Question::Work => put_work_lines(out, of.netlist(), of.work),
+        Question::Graph => put_view(rt, alloc, out, of, &GraphText),
+        Question::Verilog => put_view(rt, alloc, out, of, &VerilogText),
+        Question::Version => Ok(("version ", of.version.number(), "\n").put_to(out)?),
+        Question::Edits { from } => Ok(put_edits_from(out, of.version, *from)?),
+        Question::Show { from, to, wires } => {
+            put_view(rt, alloc, out, of, &shown(*from, *to, wires))
+        }
+        Question::Waits { time } => put_view(rt, alloc, out, of, &WaitLines { time: *time }),
+        Question::Measure { from, to } => {
+            let range = TimeRange {
+                from: *from,
+                to: *to,
+            };
+            put_view(rt, alloc, out, of, &MeasureLines { range })
+        }
+        Question::Why { wire, time, steps } => {
+            put_view(rt, alloc, out, of, &why(wire, *time, *steps))
+        }
+        Question::Path { wire, time } => {
+            put_view(rt, alloc, out, of, &PathLines { wire, time: *time })
+        }
+    }
+}
+
+/// The picture that a script asks for.
+fn shown(from: u64, to: u64, wires: &WireNames) -> PictureText<'_>
+    ensures wires { result.asked.wires.now ≡ wires.now }
+    ensures range { (result.asked.from ≡ from) × (result.asked.to ≡ to) }
+    ensures usual { (result.asked.columns ≡ usual_columns) × (result.drawing ≡ Text Unicode) }
+{
+    PictureText {
+        asked: AskedPicture {
+            wires: wires.as_slice(),
+            from,
+            to,
+            columns: USUAL_COLUMNS,
+        },
+        drawing: Drawing::Text(Charset::Unicode),
+    }
+}
+
+/// The chain of causes that a script asks for.
+fn why(wire: &Name, time: u64, steps: u32) -> WhyLines<'_>
+    ensures wire { result.wire.now ≡ wire.now }
+    ensures numbers { (result.time ≡ time) × (result.steps ≡ steps) }
+{
+    WhyLines { wire, time, steps }
+}
+
+/// Writes a view, or that a wire of it doesn't stand.
+fn put_view<R: Threads + Sync, T: Sink, V: View>(
+    rt: &R,
+    alloc: Global,
+    out: &mut Out<T>,
+    of: &Snapshot<'_>,
+    view: &V,
+) -> Result<(), WriteError>
+    requires shared { IsSync R.row }
+    ensures { WritesAll result out.old out.new (asked_text (missing_at of.now.netlist (V.wires view.now)) (V.text view.now of.now.netlist)) }
+{
+    match view.missing(of.netlist()) {
+        None => view.put(rt, alloc, out, &of.evaluated()),
+        Some(_) => Ok(put_refused(out, EditError::NoSuchWire)?),
+    }
+}
+
+/// Writes the line of the wire that has the name.
+fn put_wire<T: Sink>(out: &mut Out<T>, of: &Snapshot<'_>, name: &Name) -> Result<(), Failed>
+    ensures { Writes result out.old out.new (wire_text of.now.netlist (wire_named of.now.netlist name.now)) }
+{
+    match of.netlist().wire_named(name.as_str()) {
+        Some(id) => put_wave_line(out, &of.evaluated(), id),
+        None => put_refused(out, EditError::NoSuchWire),
+    }
+}
+
+/// Writes the accepted edits from a number on, or that this is no number of an edit.
+fn put_edits_from<T: Sink>(out: &mut Out<T>, version: &Version, from: u64) -> Result<(), Failed>
+    ensures { Writes result out.old out.new (edits_text version.now.edits from) }
+{
+    if from < 1 || from > u64::from(version.number()) + 1 {
+        return put_unread(out, LineError::BadNumber);
+    }
+    put_edits(out, version.edits(), (from - 1) as u32)
+}

@@ -1,0 +1,14 @@
+//! How a command is run: what it reads, with which options, and how it ends; and the command that writes a view.
+
+mod command;
+mod input;
+mod opening;
+mod options;
+mod run_fault;
+mod viewed;
+
+pub use command::{Command, run_command};
+pub use opening::{opened, read_opening};
+pub use options::Options;
+pub use run_fault::{RunFault, exit_status, fault_line};
+pub use viewed::Viewed;

@@ -1,0 +1,59 @@
+//! The netlist that an input opens with.
+ghost use Rattle.std.specs.Prelude.{◌≡◌, ◌≤◌};
+ghost use Rattle.mp_commands.specs.command_runs.Clauses.{length, false, is_some, Some, Ok, IfOk, IfErr, lines_of, max_input, opening_with, StaysShutWith, opening_of, counted_reads, HasInput, Refuses, TakesInput};
+
+use crate::command_runs::input::read_input;
+use crate::command_runs::run_fault::RunFault;
+use mp_netlist::Netlist;
+use mp_streams::Source;
+use mp_text::read_lines;
+use std::alloc::Global;
+
+/// Reads the text of a netlist, all that the source has. `ReadFailed` comes with a fault of the source; then `Text` where the input is too long
+/// or the text is not read, `BadCount` where there is no crew, and `OutOfMemory` where memory is wanting.
+pub fn read_opening<S: Source, C: Drop>(
+    alloc: Global,
+    source: &mut S,
+    crew: Option<C>,
+) -> Result<(Netlist, C), RunFault>
+    ensures opened { IfOk result (λ both. HasInput (S.left source.old) (λ input. opening_with (is_some crew) input ≡ Ok both.0)) }
+    ensures crew { IfOk result (λ both. crew ≡ Some both.1) }
+    ensures refused { IfErr result (StaysShutWith (S.left source.old) (is_some crew)) }
+    ensures taken { TakesInput (S.left source.old) (S.left source.new) }
+    ensures read_faults { S.fault_count source.new ≡ counted_reads result (S.fault_count source.old) }
+{
+    let input = read_input(alloc, source)?;
+    opened_input(alloc, input, crew)
+}
+
+/// The netlist of a text, with a crew for it. Where there is none `BadCount` comes, after the faults of the text.
+pub fn opened<C: Drop>(
+    alloc: Global,
+    text: &[u8],
+    crew: Option<C>,
+) -> Result<(Netlist, C), RunFault>
+    requires { length text.now ≤ max_input }
+    ensures netlist { IfOk result (λ both. opening_of (lines_of text.now) (is_some crew) ≡ Ok both.0) }
+    ensures crew { IfOk result (λ both. crew ≡ Some both.1) }
+    ensures refused { IfErr result (Refuses false (opening_of (lines_of text.now) (is_some crew))) }
+{
+    let netlist = read_lines(alloc, text)?;
+    match crew {
+        Some(crew) => Ok((netlist, crew)),
+        None => Err(RunFault::BadCount),
+    }
+}
+
+/// The netlist of an input, with a crew for it, as `opened`. The input is let go, since a run wants the memory that it has.
+pub(crate) fn opened_input<C: Drop>(
+    alloc: Global,
+    input: Vec<u8>,
+    crew: Option<C>,
+) -> Result<(Netlist, C), RunFault>
+    requires { length input.items ≤ max_input }
+    ensures netlist { IfOk result (λ both. opening_of (lines_of input.items) (is_some crew) ≡ Ok both.0) }
+    ensures crew { IfOk result (λ both. crew ≡ Some both.1) }
+    ensures refused { IfErr result (Refuses false (opening_of (lines_of input.items) (is_some crew))) }
+{
+    opened(alloc, input.as_slice(), crew)
+}

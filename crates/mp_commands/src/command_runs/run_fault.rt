@@ -1,0 +1,151 @@
+//! Why a run ends early.
+ghost use Rattle.std.specs.Prelude.{◌≡◌, ◌++◌};
+ghost use Rattle.mp_commands.specs.command_runs.Clauses.{[], IfOk, map, slice_index_or, WriteFailed, OutOfMemory, status_of, line_of, text_line, wire_fault_line, numbered, fault_of_text, fault_of_take, fault_of_write};
+
+use mp_netlist::EditError;
+use mp_streams::{Failed, TakeError, WriteError};
+use mp_text::{LineError, TextCode, TextError};
+use std::alloc::{AllocError, Global};
+use thiserror::Error;
+
+/// Why a run ends early.
+#[derive(Clone, Copy, Debug, PartialEq, Eq, Error)]
+pub enum RunFault {
+    /// The netlist's text is not read.
+    #[error("{0}")]
+    Text(TextError),
+    /// A number of workers or of tasks is out of its limits.
+    #[error("bad count")]
+    BadCount,
+    /// A read of the input failed.
+    #[error("read failed")]
+    ReadFailed,
+    /// A write of the output failed.
+    #[error("write failed")]
+    WriteFailed,
+    /// Memory was wanting.
+    #[error("out of memory")]
+    OutOfMemory,
+    /// A designer or a viewer found no place at a desk.
+    #[error("no place")]
+    NoPlace,
+    /// Of the wires that are asked for, the one at this place is the first that doesn't stand.
+    #[error("no such wire")]
+    NoSuchWire(usize),
+}
+
+/// Want of memory in a text is told as that of a run.
+impl From<TextError> for RunFault {
+    ghost from_gives = { λ error fault. fault ≡ fault_of_text error };
+
+    fn from(error: TextError) -> RunFault {
+        match error.code {
+            TextCode::Line(LineError::OutOfMemory) => RunFault::OutOfMemory,
+            _ => RunFault::Text(error),
+        }
+    }
+}
+
+impl From<TakeError> for RunFault {
+    ghost from_gives = { λ error fault. fault ≡ fault_of_take error };
+
+    fn from(error: TakeError) -> RunFault {
+        match error {
+            TakeError::Failed => RunFault::ReadFailed,
+            TakeError::OutOfMemory => RunFault::OutOfMemory,
+        }
+    }
+}
+
+impl From<WriteError> for RunFault {
+    ghost from_gives = { λ error fault. fault ≡ fault_of_write error };
+
+    fn from(error: WriteError) -> RunFault {
+        match error {
+            WriteError::WriteFailed => RunFault::WriteFailed,
+            WriteError::OutOfMemory => RunFault::OutOfMemory,
+        }
+    }
+}
+
+impl From<Failed> for RunFault {
+    ghost from_gives = { λ _ fault. fault ≡ WriteFailed };
+
+    fn from(_failed: Failed) -> RunFault {
+        RunFault::WriteFailed
+    }
+}
+
+impl From<AllocError> for RunFault {
+    ghost from_gives = { λ _ fault. fault ≡ OutOfMemory };
+
+    fn from(_error: AllocError) -> RunFault {
+        RunFault::OutOfMemory
+    }
+}
+
+/// The status with which the program ends: 1 for what was asked of it, 3 for a device, 4 for want
+/// of memory or of a place.
+pub fn exit_status(fault: &RunFault) -> u8
+    ensures { result ≡ status_of fault.now }
+{
+    match fault {
+        RunFault::Text(_) | RunFault::BadCount | RunFault::NoSuchWire(_) => 1,
+        RunFault::ReadFailed | RunFault::WriteFailed => 3,
+        RunFault::OutOfMemory | RunFault::NoPlace => 4,
+    }
+}
+
+/// The line that tells of the fault, without its line feed. The wires are those that were asked for, as they were given.
+pub fn fault_line(alloc: Global, fault: &RunFault, wires: &[&str]) -> Result<Vec<u8>, AllocError>
+    ensures { IfOk result (λ line. line.items ≡ line_of fault.now (map (λ wire. wire.now) wires.now)) }
+{
+    match fault {
+        RunFault::Text(error) => text_line(alloc, error.line, error.code),
+        RunFault::BadCount => Vec::from_slice(alloc, b"mpwb: bad count"),
+        RunFault::ReadFailed => Vec::from_slice(alloc, b"mpwb: read failed"),
+        RunFault::WriteFailed => Vec::from_slice(alloc, b"mpwb: write failed"),
+        RunFault::OutOfMemory => Vec::from_slice(alloc, b"mpwb: out of memory"),
+        RunFault::NoPlace => Vec::from_slice(alloc, b"mpwb: no place"),
+        RunFault::NoSuchWire(place) => wire_line(alloc, wire_at(wires, *place)),
+    }
+}
+
+/// The wire at this place, and no text where there is none.
+fn wire_at<'a>(wires: &[&'a str], place: usize) -> &'a str
+    ensures { result.now ≡ slice_index_or (map (λ wire. wire.now) wires.now) place [] }
+{
+    wires.get(place).copied().unwrap_or("")
+}
+
+fn wire_line(alloc: Global, wire: &str) -> Result<Vec<u8>, AllocError>
+    ensures { IfOk result (λ text. text.items ≡ wire_fault_line wire.now) }
+{
+    let mut text = Vec::from_slice(alloc, b"mpwb: no such wire: ")?;
+    text.extend_from_slice(wire.as_bytes())?;
+    Ok(text)
+}
+
+fn text_line(alloc: Global, line: u32, code: TextCode) -> Result<Vec<u8>, AllocError>
+    ensures { IfOk result (λ text. text.items ≡ text_line line code) }
+{
+    let front = format!(in alloc; "mpwb: line {line}: ")?;
+    let mut text = front.into_bytes();
+    push_numbered(&mut text, code.number(), code.name())?;
+    if let TextCode::Refused(cause) = code {
+        text.extend_from_slice(b": ")?;
+        let number = cause.number();
+        push_numbered(&mut text, number, EditError::name_of(number).unwrap_or(""))?;
+    }
+    Ok(text)
+}
+
+/// Puts the number, a space and the name behind the text.
+fn push_numbered(text: &mut Vec<u8>, number: u32, name: &str) -> Result<(), AllocError>
+    ensures { IfOk result (λ _. text.new.items ≡ text.old.items ++ numbered number name.now) }
+{
+    let digits = number.to_string(*text.allocator())?;
+    text.extend_from_slice(digits.as_bytes())?;
+    text.push(b' ')?;
+    text.extend_from_slice(name.as_bytes())
+}

@@ -1,0 +1,91 @@
+//! The command that writes a view.
+ghost use Rattle.std.specs.Prelude.{◌≡◌, ◌&&◌};
+ghost use Rattle.mp_commands.specs.command_runs.Clauses.{false, is_some, Some, Ok, IfSome, IsSomeAnd, IsSync, Ran, lines_of, has_valid_crew, opening_of, viewed_opening, with_wires};
+
+use crate::command_runs::command::Command;
+use crate::command_runs::opening::opened_input;
+use crate::command_runs::options::Options;
+use crate::command_runs::run_fault::RunFault;
+use mp_netlist::Netlist;
+use mp_phase::Crew;
+use mp_engine::find_waves;
+use mp_streams::{Out, Sink};
+use crate::views::{Evaluated, View};
+use std::alloc::{AllocError, Global};
+use std::mem::forget;
+use std::sync::Wait;
+use std::thread::Threads;
+
+/// The command that writes a view of the netlist whose text its input is. There is no view where a number that it was given is out of its
+/// range: then `BadCount` comes, after the faults of the text. A wire of the view that doesn't stand comes last, as `NoSuchWire` with its
+/// place among the wires of the view; then nothing is written.
+#[derive(Drop)]
+pub struct Viewed<V> {
+    pub view: Option<V>,
+}
+
+impl<V: View> Viewed<V> {
+    /// The view with the crew of the options, where there are both.
+    fn crewed(&self, options: &Options) -> Option<(&V, Crew)>
+        ensures both { is_some result ≡ (has_valid_crew options.now && is_some self.now.view) }
+        ensures view { IfSome result (λ both. self.now.view ≡ Some both.0.now) }
+    {
+        match &self.view {
+            Some(view) => Some((view, options.crew()?)),
+            None => None,
+        }
+    }
+}
+
+impl<V: View> Command for Viewed<V> {
+    ghost opening = { λ command input options. viewed_opening V.wires command.view (opening_of (lines_of input) (has_valid_crew options && is_some command.view)) };
+
+    ghost IsText = { λ command _ _ n text. IsSomeAnd command.view (λ view. text ≡ V.text view n) };
+
+    ghost seats = { false };
+
+    fn answer<R: Threads + Wait + Sync, T: Sink>(
+        &self,
+        rt: &R,
+        alloc: Global,
+        out: &mut Out<T>,
+        input: Vec<u8>,
+        options: &Options,
+    ) -> Result<(), RunFault> {
+        let (netlist, (view, crew)) = opened_input(alloc, input, self.crewed(options))?;
+        match answer_of(rt, alloc, out, &netlist, view, crew) {
+            Ok(()) => {
+                // the run is over: all memory goes back to the system at once
+                forget(netlist);
+                Ok(())
+            }
+            Err(fault) => Err(fault),
+        }
+    }
+}
+
+/// Writes a view of a netlist.
+fn answer_of<V: View, R: Threads + Wait + Sync, T: Sink>(
+    rt: &R,
+    alloc: Global,
+    out: &mut Out<T>,
+    netlist: &Netlist,
+    view: &V,
+    crew: Crew,
+) -> Result<(), RunFault>
+    requires { IsSync R.row }
+    ensures { Ran false result (with_wires (V.wires view.now) (Ok netlist.now)) (λ n text. text ≡ V.text view.now n) out.old out.new }
+{
+    if let Some(place) = view.missing(netlist) {
+        return Err(RunFault::NoSuchWire(place));
+    }
+    let waves = find_waves(rt, alloc, netlist, &crew)?;
+    let of = Evaluated {
+        netlist,
+        waves: &waves,
+        crew,
+    };
+    let put = view.put(rt, alloc, out, &of);
+    forget(waves);
+    Ok(put?)
+}

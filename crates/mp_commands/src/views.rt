@@ -1,0 +1,34 @@
+//! Texts over a netlist and its waves, which commands write and questions ask for.
+
+mod asked_picture;
+mod asked_wires;
+mod drawing;
+mod dump_text;
+mod evaluated;
+mod graph_text;
+mod measure_lines;
+mod path_lines;
+mod picture_text;
+mod report_lines;
+mod verilog_text;
+mod view;
+mod wait_lines;
+mod wave_lines;
+mod why_lines;
+
+pub use asked_picture::{AskedPicture, MAX_COLUMNS, USUAL_COLUMNS};
+pub use drawing::Drawing;
+pub use dump_text::DumpText;
+pub use evaluated::Evaluated;
+pub use graph_text::GraphText;
+pub use measure_lines::MeasureLines;
+pub use mp_picture::Charset;
+pub use mp_questions::TimeRange;
+pub use path_lines::PathLines;
+pub use picture_text::PictureText;
+pub use report_lines::ReportLines;
+pub use verilog_text::VerilogText;
+pub use view::View;
+pub use wait_lines::WaitLines;
+pub use wave_lines::{WaveLines, put_wave_line, put_wave_lines};
+pub use why_lines::WhyLines;

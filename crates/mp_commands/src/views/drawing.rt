@@ -1,0 +1,29 @@
+//! How a picture is drawn.
+ghost use Rattle.std.specs.Prelude.{◌≡◌, ◌<◌};
+
+use mp_picture::{Charset, MOST_COLUMNS};
+
+/// How a picture is drawn.
+#[derive(Clone, Copy)]
+pub enum Drawing<'a> {
+    /// As text, in these characters.
+    Text(Charset),
+    /// As an SVG file, which has 1,200 columns at most, with this title above the times.
+    Svg(&'a str),
+}
+
+impl<'a> Drawing<'a> {
+    ghost use Rattle.mp_commands.specs.views.Pictures.{columns_drawn};
+
+    /// How many columns a picture that is drawn so has at most, where so many are asked for.
+    pub(crate) fn columns(self, asked: u32) -> u32
+        requires { 0 < asked }
+        ensures value { result ≡ columns_drawn self.entry asked }
+        ensures some { 0 < result }
+    {
+        match self {
+            Drawing::Text(_) => asked,
+            Drawing::Svg(_) => asked.min(MOST_COLUMNS),
+        }
+    }
+}

@@ -1,0 +1,72 @@
+//! The picture of a netlist's waves.
+ghost use Rattle.std.specs.Prelude.{◌≡◌, ◌≤◌, ◌^◌, ◌-◌, min};
+ghost use Rattle.mp_picture.specs.ColumnRanges.{columns_in};
+ghost use Rattle.mp_commands.specs.views.Pictures.{columns_drawn, picture_text};
+
+use crate::views::asked_picture::AskedPicture;
+use crate::views::asked_wires::{missing_at, wires_of};
+use crate::views::drawing::Drawing;
+use crate::views::evaluated::Evaluated;
+use crate::views::view::View;
+use mp_netlist::Netlist;
+use mp_picture::{Columns, Picture, put_diagram, put_svg};
+use mp_report::report;
+use mp_streams::{Out, Sink, WriteError};
+use std::alloc::Global;
+use std::thread::Threads;
+
+/// A picture that is asked for, drawn in some way.
+#[derive(Clone, Copy)]
+pub struct PictureText<'a> {
+    pub asked: AskedPicture<'a>,
+    pub drawing: Drawing<'a>,
+}
+
+impl<'a> View for PictureText<'a> {
+    ghost text = { λ view n. picture_text n view.asked.wires.now view.asked.from view.asked.to view.asked.columns view.drawing };
+
+    ghost wires = { λ view. view.asked.wires.now };
+
+    fn missing(&self, netlist: &Netlist) -> Option<usize> {
+        missing_at(netlist, self.asked.wires)
+    }
+
+    fn put<R: Threads + Sync, T: Sink>(
+        &self,
+        rt: &R,
+        alloc: Global,
+        out: &mut Out<T>,
+        of: &Evaluated<'_>,
+    ) -> Result<(), WriteError> {
+        let findings = report(rt, alloc, of.netlist, of.waves, of.threads())?;
+        let wires = wires_of(alloc, of.netlist, self.asked.wires)?;
+        let picture = Picture {
+            netlist: of.netlist,
+            waves: of.waves,
+            findings: findings.as_slice(),
+            wires: wires.as_slice(),
+            columns: columns_of(of.netlist, &self.asked, self.drawing),
+        };
+        match self.drawing {
+            Drawing::Text(charset) => put_diagram(alloc, out, &picture, charset),
+            Drawing::Svg(title) => put_svg(alloc, out, &picture, title),
+        }
+    }
+}
+
+/// The columns of a picture that is asked for of a netlist, drawn in some way.
+fn columns_of(netlist: &Netlist, asked: &AskedPicture<'_>, drawing: Drawing<'_>) -> Columns
+    ensures value { result ≡ columns_in netlist.now.horizon asked.now.from asked.now.to (columns_drawn drawing.entry asked.now.columns) }
+    ensures within { result.to ≤ netlist.now.horizon }
+{
+    let horizon = netlist.horizon();
+    let most = drawing.columns(asked.columns);
+    Columns::new(horizon, clipped(asked.from), clipped(asked.to), most)
+}
+
+/// A time, or the greatest of 32 bits, which is above each horizon.
+fn clipped(time: u64) -> u32
+    ensures { result ≡ min time (2 ^ 32 - 1) }
+{
+    u32::try_from(time).unwrap_or(u32::MAX)
+}

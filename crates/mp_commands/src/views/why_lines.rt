@@ -1,0 +1,65 @@
+//! Why a wire has its level at a time.
+ghost use Rattle.std.specs.Prelude.{[], ◌∷◌};
+ghost use Rattle.mp_commands.specs.views.Chains.{why_of};
+
+use crate::views::asked_wires::missing_wire;
+use crate::views::evaluated::Evaluated;
+use crate::views::view::View;
+use mp_questions::{Moment, put_why};
+use mp_netlist::{Name, Netlist};
+use mp_streams::{Out, Sink, WriteError};
+use mp_text::MAX_STEPS;
+use std::alloc::Global;
+use std::thread::Threads;
+
+/// The chain of causes of the level that the wire of this name has at a time, in so many steps at most.
+#[derive(Clone, Copy)]
+pub struct WhyLines<'a> {
+    pub wire: &'a Name,
+    pub time: u64,
+    pub steps: u32,
+}
+
+impl<'a> WhyLines<'a> {
+    ghost use Rattle.std.specs.Prelude.{◌≡◌, ◌&&◌, nat_le, is_some, IfSome};
+    ghost use Rattle.mp_text.specs.Limits.{max_steps};
+
+    /// This chain, where there may be 1 to `MAX_STEPS` steps.
+    pub fn new(wire: &'a Name, time: u64, steps: u32) -> Option<WhyLines<'a>>
+        ensures valid { is_some result ≡ (nat_le 1 steps && nat_le steps max_steps) }
+        ensures wire { IfSome result (λ lines. lines.wire.now ≡ wire.now) }
+        ensures numbers { IfSome result (λ lines. (lines.time ≡ time) × (lines.steps ≡ steps)) }
+    {
+        if steps == 0 || steps > MAX_STEPS {
+            return None;
+        }
+        Some(WhyLines { wire, time, steps })
+    }
+}
+
+impl<'a> View for WhyLines<'a> {
+    ghost text = { λ view n. why_of n view.wire.now view.time view.steps };
+
+    ghost wires = { λ view. view.wire.now ∷ [] };
+
+    fn missing(&self, netlist: &Netlist) -> Option<usize> {
+        missing_wire(netlist, self.wire)
+    }
+
+    fn put<R: Threads + Sync, T: Sink>(
+        &self,
+        _rt: &R,
+        alloc: Global,
+        out: &mut Out<T>,
+        of: &Evaluated<'_>,
+    ) -> Result<(), WriteError> {
+        let Some(wire) = of.netlist.wire_named(self.wire.as_str()) else {
+            return Ok(());
+        };
+        let moment = Moment {
+            wire,
+            time: self.time,
+        };
+        put_why(alloc, out, of.netlist, of.waves, moment, self.steps)
+    }
+}

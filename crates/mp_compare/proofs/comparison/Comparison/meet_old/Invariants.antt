@@ -1,7 +1,0 @@
-use Rattle.std.proofs.Common.{◌≡◌, length, take}
-use Rattle.mp_calendar.specs.Calendars.{coming}
-use Rattle.mp_compare.proofs.ComingLemmas.{HasMetSome}
-use Rattle.mp_compare.proofs.comparison.Comparison.meet_old.Given as goal
-
-abbrev pub invariant-loop-place : goal.invariant-loop-place
-invariant-loop-place l = record { met : HasMetSome l.time (take l.place (coming l.fn.self.calendar)) l.fn.self l.self; end : l.place-end ≡ length (coming l.fn.self.calendar) }

@@ -1,5 +1,0 @@
-use Rattle.mp_core.proofs.BeginningLemmas.{first_are_known, no_copies_at_first}
-use Rattle.mp_core.proofs.laws.begins_with_first_changes.Goals as goal
-
-pub returns : goal.returns
-returns c = record { events = first_are_known; copies = no_copies_at_first }

@@ -1,5 +1,0 @@
-mod WheelLemmas
-mod LevelLemmas
-pub mod PartLemmas
-mod FiringLemmas
-mod NoDataLemmas

@@ -1,9 +1,0 @@
-//! Laws of modules with data.
-
-ghost use Rattle.mp_data.specs.declared.data_part.DataPart.{DataPart};
-ghost use Rattle.mp_data.specs.DataParts.{IsToldByOutputs};
-
-/// The state of a module with data is told by its outputs and the levels at its inputs.
-pub fn outputs_tell_states()
-    ensures { (part : DataPart) → IsToldByOutputs part }
-{}

@@ -1,0 +1,2 @@
+pub mod work
+pub mod history

@@ -1,0 +1,76 @@
+-- A designer at work on a block of lines.
+use Rattle.std.specs.Prelude.{◌≡◌, ◌⊎◌, ℕ, ◌+◌, ◌<◌, slice_index_or, Bool, false, List, [], ◌∷◌, ◌++◌, length, Option, Some, None, Result, Ok, Err}
+use Rattle.std.specs.Borrow.{Bor}
+use mathlib.Core.List.{IsPrefix}
+use Rattle.mp_text.specs.lexing.Lines.{lines_of}
+use Rattle.mp_records.specs.declared.edit.Edit.{Edit}
+use Rattle.mp_records.specs.declared.edit_error.EditError.{EditError}
+use Rattle.mp_text.specs.declared.lexing.line_error.LineError.{LineError}
+use Rattle.mp_text.specs.declared.script_line.Line.{Line}
+use Rattle.mp_text.specs.declared.script_line.Line.TheVariants.{Empty, Change}
+use Rattle.mp_version.specs.Stories.{Story, one_more, judged}
+use Rattle.mp_desk.specs.Extending.{Extends}
+use Rattle.mp_desk.specs.Holders.{Working}
+use Rattle.mp_desk.specs.meeting.Fates.{Fate, said, AreFates, Rise, AreAmong, accepted_of, refused_of}
+
+-- the version seen last, how many lines were accepted and refused, the number that the last notice tells of (0 where there is
+-- none), whether memory was wanting, the designer's number, and the authors of all edits up to the last one that was accepted
+pub record Sitting : Type 0 where
+  pub seen : Story
+  pub accepted : ℕ
+  pub refused : ℕ
+  pub told : ℕ
+  pub wanting : Bool
+  pub number : ℕ
+  pub signed : List ℕ
+
+-- the number that a notice tells of
+abbrev pub told_of : Option Story → ℕ
+told_of None = 0
+told_of (Some story) = length story.edits
+
+-- a designer who has just come
+abbrev pub begun : Working → Sitting
+begun me = record { seen = me.seen; accepted = 0; refused = 0; told = 0; wanting = false; number = me.number; signed = me.signed }
+
+-- this was seen, and nothing else changed
+abbrev pub with_seen : Sitting → Story → Sitting
+with_seen old seen = record old { seen = seen }
+
+-- the edit was accepted after this story by these authors
+abbrev pub with_edit : Sitting → Story → List ℕ → Edit → Sitting
+with_edit old before authors edit =
+    record old { seen = one_more before edit; accepted = old.accepted + 1; told = length before.edits + 1; signed = authors ++ old.number ∷ [] }
+
+-- a line was refused, and this seen
+abbrev pub with_refusal : Sitting → Story → Sitting
+with_refusal old seen = record old { seen = seen; refused = old.refused + 1 }
+
+abbrev pub IsAccepted : Sitting → Sitting → Edit → Type 0
+IsAccepted old new edit =
+    (before : Story) × Extends before old.seen × (authors : List ℕ) × IsPrefix old.signed authors × (length authors ≡ length before.edits) × (new ≡ with_edit old before authors edit)
+
+abbrev pub IsRefused : Sitting → Sitting → Edit → Type 0
+IsRefused old new edit = (seen : Story) × Extends seen old.seen × (error : EditError) × (judged seen edit ≡ Err error) × (new ≡ with_refusal old seen)
+
+-- the step of a line that was read so
+abbrev pub Takes : Sitting → Sitting → Result Line LineError → Type 0
+Takes old new (Ok Empty) = new ≡ old
+Takes old new (Ok (Change edit)) = IsAccepted old new edit ⊎ IsRefused old new edit
+Takes old new read = new ≡ with_refusal old old.seen
+
+-- all lines were submitted: these are their fates in each story that extends the one seen
+pub record HasWorked (start : Story) (lines : List (List ℕ)) (sitting : Sitting) : Type 0 where
+  pub fates : List Fate
+  pub extends : Extends sitting.seen start
+  pub judged : (now : Story) → Extends now sitting.seen → AreFates now (said lines) fates
+  pub rise : (now : Story) → Extends now sitting.seen → Rise (length start.edits) (length now.edits) fates
+  pub accepted : sitting.accepted ≡ accepted_of fates
+  pub refused : sitting.refused ≡ refused_of fates
+  pub among : AreAmong sitting.told fates
+
+-- each designer whose memory sufficed has worked through the block
+abbrev pub WorkedEach : List (Bor (List ℕ)) → List Sitting → List Sitting → Type 0
+WorkedEach blocks old new =
+    (k : ℕ) (s : Sitting) (b : Bor (List ℕ)) → k < length old → (slice_index_or new k s).wanting ≡ false
+    → HasWorked (slice_index_or old k s).seen (lines_of (slice_index_or blocks k b).now) (slice_index_or new k s)

@@ -1,0 +1,137 @@
+//! A meeting from its beginning to its end.
+ghost use Rattle.std.specs.Prelude.{◌≡◌, ◌+◌, ◌<◌, vec_len, length, All, IfOk, IfErr};
+ghost use Rattle.mp_netlist.specs.Circuit.{Circuit};
+ghost use Rattle.mp_text.specs.lexing.Divisions.{lines_of_each};
+ghost use Rattle.mp_version.specs.Stories.{opening};
+ghost use Rattle.mp_desk.specs.Extending.{Extends};
+ghost use Rattle.mp_desk.specs.Holders.{AreFresh};
+ghost use Rattle.mp_desk.specs.meeting.Meetings.{IsMeeting};
+ghost use Rattle.mp_desk.specs.meeting.Seats.{HasAdjourned};
+ghost use Rattle.mp_desk.specs.declared.meeting.meeting_fault.MeetingFault.TheVariants.{OutOfMemory};
+
+use crate::meeting::meeting_fault::MeetingFault;
+use crate::meeting::race::race;
+use crate::meeting::reading::last_reads;
+use crate::meeting::seats::{finish_all, start_all};
+use crate::meeting::sitting::Sitting;
+use crate::meeting::tally::Tally;
+use crate::{Desk, DeskName, DeskParts, DeskSize, Staffed, Viewer};
+use mp_version::EditSession;
+use std::alloc::{AllocError, Global};
+use std::marker::Brand;
+use std::sync::Wait;
+use std::thread::Threads;
+
+/// What a meeting leads to.
+#[derive(Drop)]
+pub struct Met<S: EditSession> {
+    /// The session after all accepted edits.
+    pub session: S,
+    /// How the lines of each designer fared.
+    pub tallies: Vec<Tally>,
+    /// The number of the version that each viewer read last.
+    pub numbers: Vec<u32>,
+}
+
+/// Has a designer for each block submit its lines, and viewers read 100 times, all on threads of their own; a part whose thread can't be
+/// started is done on the calling thread. Then each viewer learns of each designer's last edit, and reads once more. `OutOfMemory` where
+/// memory is wanting for any of them, and `NoPlace` where there is memory, but no place for a viewer or designer.
+pub fn meet<S: EditSession + Send, R: Threads + Wait + Sync>(
+    rt: &R,
+    alloc: Global,
+    session: S,
+    blocks: &[&[u8]],
+    size: DeskSize,
+) -> Result<Met<S>, MeetingFault>
+where
+    S::Prepared: Send,
+    requires fresh { S.story session ≡ opening (S.story session).base }
+    requires designers { size.designers ≡ length blocks.now }
+    ensures met { IfOk result (λ met. IsMeeting (S.story session).base (lines_of_each blocks.now) (S.story met.session) met.tallies.items met.numbers.items) }
+    ensures viewers { IfOk result (λ met. vec_len met.numbers ≡ size.viewers) }
+{
+    match DeskParts::new(rt, alloc, session, size) {
+        Ok(parts) => at_desk::<S, Brand, _>(rt, alloc, parts, blocks),
+        Err(refused) => Err(MeetingFault::from(refused.cause)),
+    }
+}
+
+/// The meeting at the desk that these parts make. It is refused for want of memory alone.
+fn at_desk<
+    S: EditSession + Send,
+    L: DeskName + Send + Sync,
+    R: Threads + Wait + Sync + Send + Copy,
+>(rt: R, alloc: Global, parts: DeskParts<S, R>, blocks: &[&[u8]]) -> Result<Met<S>, MeetingFault>
+where
+    S::Prepared: Send,
+    requires history { parts.book ≡ L.history }
+    requires ledger { parts.ledger ≡ L.name }
+    requires shares { parts.designers + 1 ≡ L.parts }
+    requires opening { length (S.story parts.session).edits ≡ L.opening }
+    requires fresh { S.story parts.session ≡ opening (S.story parts.session).base }
+    requires some { 0 < length blocks.now }
+    requires blocks { parts.designers ≡ length blocks.now }
+    ensures met { IfOk result (λ met. IsMeeting (S.story parts.session).base (lines_of_each blocks.now) (S.story met.session) met.tallies.items met.numbers.items) }
+    ensures viewers { IfOk result (λ met. vec_len met.numbers ≡ parts.viewers) }
+    ensures wanting { IfErr result (λ fault. fault ≡ OutOfMemory) }
+{
+    match Desk::<S, L, R>::open(parts) {
+        Ok(staffed) => Ok(run_at(&rt, alloc, staffed, blocks)?),
+        Err(refused) => Err(MeetingFault::from(refused.cause)),
+    }
+}
+
+/// The meeting at this desk.
+fn run_at<S: EditSession + Send, L: DeskName + Send + Sync, R: Threads + Wait + Sync + Send + Drop>(
+    rt: &R,
+    alloc: Global,
+    staffed: Staffed<S, L, R>,
+    blocks: &[&[u8]],
+) -> Result<Met<S>, AllocError>
+where
+    S::Prepared: Send,
+    requires count { vec_len staffed.designers ≡ length blocks.now }
+    requires some { 0 < length blocks.now }
+    requires all { staffed.desk.designers ≡ vec_len staffed.designers }
+    requires fresh { All (λ d. d.accepted ≡ 0) staffed.designers.items }
+    requires opening { staffed.desk.opening ≡ 0 }
+    ensures met { IfOk result (λ met. (base : Circuit) → AreFresh (opening base) staffed.designers.items → IsMeeting base (lines_of_each blocks.now) (S.story met.session) met.tallies.items met.numbers.items) }
+    ensures viewers { IfOk result (λ met. vec_len met.numbers ≡ vec_len staffed.viewers) }
+{
+    let Staffed {
+        desk,
+        designers,
+        viewers,
+    } = staffed;
+    let sittings = start_all(alloc, designers)?;
+    let (sittings, viewers) = race(rt, alloc, &desk, blocks, sittings, viewers);
+    Ok(adjourn(rt, alloc, desk, sittings, viewers)?)
+}
+
+/// Ends a meeting: each viewer learns of each designer's last edit and reads once more, and the desk is closed. The error comes where memory
+/// is wanting, or was for one of the designers.
+pub fn adjourn<S: EditSession + Send, L: DeskName + Send + Sync, R: Threads + Wait + Sync + Drop>(
+    rt: &R,
+    alloc: Global,
+    desk: Desk<S, L, R>,
+    sittings: Vec<Sitting<L>>,
+    viewers: Vec<Viewer<L>>,
+) -> Result<Met<S>, AllocError>
+where
+    S::Prepared: Send,
+    requires all { desk.designers ≡ vec_len sittings }
+    ensures adjourned { IfOk result (λ met. HasAdjourned desk.opening sittings.items (vec_len viewers) (S.story met.session) met.tallies.items met.numbers.items) }
+    ensures looked { IfOk result (λ met. All (λ v. Extends (S.story met.session) v.last) viewers.items) }
+{
+    let mut viewers = viewers;
+    let numbers = last_reads(rt, alloc, sittings.as_slice(), viewers.as_mut_slice())?;
+    let (designers, tallies) = finish_all(alloc, sittings)?;
+    match desk.close(rt, designers, viewers.as_mut_slice()) {
+        Ok(session) => Ok(Met {
+            session,
+            tallies,
+            numbers,
+        }),
+        Err(_) => unreachable!(),
+    }
+}

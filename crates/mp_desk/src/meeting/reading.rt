@@ -1,0 +1,72 @@
+//! What viewers do.
+ghost use Rattle.std.specs.Prelude.{◌≡◌, ◌<◌, ◌≤◌, ℕ, length, vec_len, slice_index, slice_index_or, All, IfOk};
+ghost use Rattle.mp_desk.specs.Extending.{Extends};
+
+use crate::meeting::sitting::Sitting;
+use crate::{DeskName, ReadError, Viewer};
+use std::alloc::{AllocError, Global};
+use std::sync::Wait;
+
+/// How often a viewer reads while designers work.
+const READS: u32 = 100;
+
+/// Reads again and again. A refused read counts as one.
+pub(crate) fn read_often<L: DeskName>(viewer: &mut Viewer<L>) {
+    for _i in 0..READS {
+        let _ = viewer.read();
+    }
+}
+
+/// What each viewer reads after it learnt of all that the designers were told: the numbers of these versions.
+pub(crate) fn last_reads<L: DeskName, R: Wait>(
+    rt: &R,
+    alloc: Global,
+    sittings: &[Sitting<L>],
+    viewers: &mut [Viewer<L>],
+) -> Result<Vec<u32>, AllocError>
+    ensures count { IfOk result (λ numbers. vec_len numbers ≡ length viewers.new) }
+    ensures last { IfOk result (λ numbers. (k : ℕ) (v : _) → k < length viewers.new → slice_index numbers.items k ≡ length (slice_index_or viewers.new k v).last.edits) }
+    ensures told { IfOk result (λ numbers. All (λ n. All (λ s. s.told ≤ n) sittings.now) numbers.items) }
+    ensures later { IfOk result (λ numbers. (k : ℕ) (v : _) → k < length viewers.new → Extends (slice_index_or viewers.new k v).last (slice_index_or viewers.old k v).last) }
+    ensures all { length viewers.new ≡ length viewers.old }
+{
+    let mut numbers = Vec::new(alloc);
+    for place in 0..viewers.len() {
+        let number = last_read(rt, sittings, &mut viewers[place])?;
+        numbers.push(number)?;
+    }
+    Ok(numbers)
+}
+
+/// What the viewer reads after it learnt of all that the designers were told.
+fn last_read<L: DeskName, R: Wait>(
+    rt: &R,
+    sittings: &[Sitting<L>],
+    viewer: &mut Viewer<L>,
+) -> Result<u32, AllocError>
+    ensures last { IfOk result (λ n. n ≡ length viewer.new.last.edits) }
+    ensures told { IfOk result (λ n. All (λ s. s.told ≤ n) sittings.now) }
+    ensures later { IfOk result (λ n. Extends viewer.new.last viewer.old.last) }
+{
+    for place in 0..sittings.len() {
+        sittings[place].tell(viewer);
+    }
+    read_open(rt, viewer)
+}
+
+/// Reads until the desk is open.
+#[tactic(auto, using(crate::proofs::lemmas::meeting::FateLemmas::longer))]
+fn read_open<L: DeskName, R: Wait>(rt: &R, viewer: &mut Viewer<L>) -> Result<u32, AllocError>
+    ensures last { IfOk result (λ n. n ≡ length viewer.new.last.edits) }
+    ensures learnt { IfOk result (λ n. length viewer.old.learnt.edits ≤ n) }
+    ensures later { IfOk result (λ n. Extends viewer.new.last viewer.old.last) }
+{
+    for _ in rt.forever() {
+        match viewer.read() {
+            Ok(version) => return Ok(version.number()),
+            Err(ReadError::Closed) => {}
+            Err(ReadError::OutOfMemory) => return Err(AllocError),
+        }
+    }
+    unreachable!()
+}

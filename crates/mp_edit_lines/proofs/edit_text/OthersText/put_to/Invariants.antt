@@ -1,9 +1,0 @@
-use Rattle.std.proofs.Common.{Ok, take}
-use Rattle.std.specs.List.{flat_map}
-use Rattle.mp_streams.specs.Outgoing.{Writes}
-use Rattle.mp_edit_lines.specs.EditLines.{behind_text}
-use Rattle.mp_edit_lines.proofs.edit_text.OthersText.put_to.Given as goal
-
--- the edits so far are written
-abbrev pub invariant-loop-edit : goal.invariant-loop-edit
-invariant-loop-edit g l = Writes {T = Unit {0}} (Ok tt) l.fn.out l.out (flat_map behind_text (take l.edit-index l.self.edits.now))

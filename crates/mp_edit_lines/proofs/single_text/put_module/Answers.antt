@@ -1,7 +1,0 @@
-use Rattle.mp_edit_lines.proofs.PieceLemmas.{module_pieces}
-use Rattle.mp_edit_lines.proofs.single_text.put_module.Goals as goal
-
-pub returns : goal.returns
-returns g c =
-    let written = rw (c.as_slice.ensures, c.as_slice-2.ensures, c.as_slice-3.ensures, c.as_str.ensures, c.word.ensures) at c.put_to.ensures in
-    rw (module_pieces c.args.new.now) written

@@ -1,0 +1,2 @@
+pub mod region_runs
+pub mod letters

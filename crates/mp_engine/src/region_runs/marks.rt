@@ -1,0 +1,17 @@
+//! Marks by number.
+ghost use Rattle.std.specs.Prelude.{◌≡◌, ℕ, false, length, IfOk};
+ghost use Rattle.mp_partition.specs.runs.Marks.{is_marked};
+
+use std::alloc::{AllocError, Global};
+
+/// So many places, of which none is marked.
+pub(crate) fn no_marks(alloc: Global, count: u32) -> Result<Vec<bool>, AllocError>
+    ensures places { IfOk result (λ marks. length marks.items ≡ count) }
+    ensures none { IfOk result (λ marks. (m : ℕ) → is_marked marks.items m ≡ false) }
+{
+    let mut marks = Vec::new(alloc);
+    for _place in 0..count {
+        marks.push(false)?;
+    }
+    Ok(marks)
+}

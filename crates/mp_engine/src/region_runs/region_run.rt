@@ -1,0 +1,288 @@
+//! The run of a part of a netlist on one thread.
+ghost use Rattle.std.specs.Prelude.{◌≡◌, ◌+◌, ◌-◌, ◌<◌, Bool, IfOk, OnOk, length, map, option_map};
+ghost use Rattle.std.specs.Arc.{arc_value};
+ghost use Rattle.mp_netlist.specs.Circuit.{IsCircuit, module_at};
+ghost use Rattle.mp_records.specs.declared.module_record.ModuleRecord.{ModuleRecord as Part};
+ghost use Rattle.mp_simulation.specs.units.NetlistSimulations.{IsSimulated};
+ghost use Rattle.mp_partition.specs.runs.Outcomes.{AreSlots};
+ghost use Rattle.mp_partition.specs.runs.Runs.{end_memory};
+ghost use Rattle.mp_model.specs.Waves.{AreWavesOf};
+ghost use Rattle.mp_engine.specs.region_runs.StateHistories.{kept_of, HasHistory, HasMarked, IsHistory};
+
+use crate::region_runs::gate::pass_gate;
+use crate::region_runs::state_history::StateHistory;
+use mp_partition::{Checkpoints, PartRun, Region};
+use mp_model::Waves;
+use mp_modules::Memory;
+use mp_netlist::{ModuleId, Netlist};
+use mp_phase::Gate;
+use mp_simulation::{HeardChanges, NetlistSimulation, Stimuli, StimulusChange, begin, found_waves};
+use std::alloc::{AllocError, Global};
+use std::sync::{Arc, Wait};
+
+/// The run of a part of a netlist, unit by unit: its simulation, what is set from outside later, and the states that are kept on the way, where
+/// any are.
+#[derive(Drop)]
+pub struct RegionRun {
+    pub simulation: NetlistSimulation,
+    stimuli: Stimuli,
+    heard: HeardChanges,
+    history: Option<StateHistory>,
+}
+
+impl RegionRun {
+    ghost use Rattle.std.specs.Prelude.{◌≡◌, ℕ, ◌+◌, ◌-◌, ◌<◌, ◌≤◌, Bool, List, IfOk, OnOk};
+    ghost use Rattle.mp_netlist.specs.Circuit.{Circuit, IsCircuit};
+    ghost use Rattle.mp_simulation.specs.units.NetlistSimulations.{IsSimulated};
+    ghost use Rattle.mp_partition.specs.runs.Marks.{is_marked};
+    ghost use Rattle.mp_partition.specs.regions.Regions.{HasStimuli};
+    ghost use Rattle.mp_partition.specs.merging.PartRuns.{IsPartRun};
+    ghost use Rattle.mp_engine.specs.region_runs.StateHistories.{HasHistory, IsHistory};
+    ghost use Rattle.mp_phase.specs.Allowed.{IsOpen};
+    ghost use Rattle.mp_engine.specs.region_runs.RegionRuns.{AreTidings, IsUnderWay, CanRun, AreUnset, IsBeforeAll};
+
+    /// The run after time 0, at which each module passes the gate. Nothing is heard yet. It is told whether states are to be kept.
+    pub fn begin<R: Wait, G: Gate>(
+        rt: &R,
+        alloc: Global,
+        netlist: &Netlist,
+        region: &Region<'_>,
+        gate: &G,
+        keeps: bool,
+    ) -> Result<RegionRun, AllocError>
+        requires open { IsOpen (G.may gate.now) }
+        requires form { IsCircuit netlist.now }
+        ensures { IfOk result (λ run. (heard : List Bool) (until : ℕ) → HasStimuli netlist.now region.now heard → AreUnset netlist.now heard → IsBeforeAll heard until →
+            IsUnderWay region.now keeps (is_marked heard) 0 until run) }
+    {
+        let _horizon = region.horizon();
+        let modules = all_modules(alloc, region)?;
+        pass_gate(rt, gate, modules.as_slice(), 0);
+        Ok(RegionRun {
+            simulation: begin(alloc, region)?,
+            stimuli: Stimuli::of(alloc, netlist)?,
+            heard: HeardChanges::of(Vec::new(alloc)),
+            history: first_history(alloc, region, keeps)?,
+        })
+    }
+
+    /// All that is heard before a time, in place of what was heard before, which is over.
+    pub fn hear(&mut self, changes: Vec<StimulusChange>)
+        ensures { (n : Circuit) (keeps : Bool) (is_heard : ℕ → Bool) (t until : ℕ) → IsUnderWay n keeps is_heard t (t + 1) self.old → AreTidings n is_heard t until changes.items →
+            IsUnderWay n keeps is_heard t until self.new }
+    {
+        self.heard = HeardChanges::of(changes);
+    }
+
+    /// Runs the units from a time to before another, before which all is known that is heard, and gives how often modules fired.
+    pub fn run_units<R: Wait, G: Gate>(
+        &mut self,
+        rt: &R,
+        region: &Region<'_>,
+        gate: &G,
+        from: u32,
+        to: u32,
+    ) -> Result<usize, AllocError>
+        requires open { IsOpen (G.may gate.now) }
+        requires later { 0 < from }
+        requires some { from ≤ to }
+        requires within { to ≤ region.now.horizon }
+        requires before { CanRun region.now (from - 1) to self.old }
+        ensures { OnOk result ((keeps : Bool) (is_heard : ℕ → Bool) (until : ℕ) → to ≤ until → IsUnderWay region.now keeps is_heard (from - 1) until self.old →
+            IsUnderWay region.now keeps is_heard (to - 1) until self.new) }
+    {
+        let mut fired = 0usize;
+        for time in from..to {
+            fired = fired.saturating_add(self.run_unit(rt, region, gate, time)?);
+        }
+        Ok(fired)
+    }
+
+    /// Runs a unit, and gives how many modules fired. Each passes the gate before.
+    fn run_unit<R: Wait, G: Gate>(
+        &mut self,
+        rt: &R,
+        region: &Region<'_>,
+        gate: &G,
+        time: u32,
+    ) -> Result<usize, AllocError>
+        requires open { IsOpen (G.may gate.now) }
+        requires later { 0 < time }
+        requires low { time < region.now.horizon }
+        requires before { CanRun region.now (time - 1) (time + 1) self.old }
+        ensures { OnOk result ((keeps : Bool) (is_heard : ℕ → Bool) (until : ℕ) → time < until → IsUnderWay region.now keeps is_heard (time - 1) until self.old →
+            IsUnderWay region.now keeps is_heard time until self.new) }
+    {
+        let _horizon = region.horizon();
+        pass_history(&mut self.history, region, &self.simulation, time)?;
+        self.stimuli.advance(time)?;
+        self.stimuli.hear(&mut self.heard, time)?;
+        self.simulation
+            .apply(self.stimuli.bits(), self.stimuli.levels(), time)?;
+        let due = self.simulation.due();
+        let fired = due.len();
+        mark_fired(&mut self.history, due)?;
+        pass_gate(rt, gate, due, time);
+        self.simulation.fire()?;
+        Ok(fired)
+    }
+
+    /// What a run gives whose units are all over. Where no states were kept, none are among it.
+    pub fn finish(self, alloc: Global, region: &Region<'_>) -> Result<PartRun, AllocError>
+        requires simulated { IsSimulated region.now (region.now.horizon - 1) self.simulation }
+        requires kept { HasHistory region.now (region.now.horizon - 1 + 1) (region.now.horizon - 1) self.history }
+        ensures { IfOk result (λ run. (keeps : Bool) → IsHistory region.now keeps (region.now.horizon - 1 + 1) (region.now.horizon - 1) self.history → IsPartRun region.now keeps run) }
+    {
+        let _horizon = region.horizon();
+        let RegionRun {
+            simulation,
+            history,
+            ..
+        } = self;
+        let Some(history) = history else {
+            return Ok(PartRun {
+                waves: all_waves(alloc, region, simulation)?,
+                ends: Vec::new(alloc),
+                kept: Vec::new(alloc),
+            });
+        };
+        let StateHistory { kept, .. } = history;
+        let ends = end_memories(alloc, region, &simulation)?;
+        let kept = shared_checkpoints(alloc, region, kept)?;
+        let waves = all_waves(alloc, region, simulation)?;
+        Ok(PartRun { waves, ends, kept })
+    }
+}
+
+/// What states are kept from time 0 on, where any are to be.
+fn first_history(
+    alloc: Global,
+    region: &Region<'_>,
+    keeps: bool,
+) -> Result<Option<StateHistory>, AllocError>
+    requires { IsCircuit region.now }
+    ensures { IfOk result (λ history. IsHistory region.now keeps 1 0 history) }
+{
+    if keeps {
+        Ok(Some(StateHistory::new(alloc, region)?))
+    } else {
+        Ok(None)
+    }
+}
+
+/// Goes on to the unit of a time with the states that are kept, where any are.
+#[inline(always)]
+fn pass_history(
+    history: &mut Option<StateHistory>,
+    region: &Region<'_>,
+    simulation: &NetlistSimulation,
+    time: u32,
+) -> Result<(), AllocError>
+    requires form { IsCircuit region.now }
+    requires later { 0 < time }
+    requires simulated { IsSimulated region.now (time - 1) simulation.now }
+    requires before { HasHistory region.now time (time - 1) history.old }
+    ensures { OnOk result ((keeps : Bool) → IsHistory region.now keeps time (time - 1) history.old → IsHistory region.now keeps (time + 1) (time - 1) history.new) }
+{
+    if let Some(kept) = history {
+        kept.pass(region, simulation, time)?;
+    }
+    Ok(())
+}
+
+/// These modules, by number, are to fire: they are marked where states are kept.
+#[inline(always)]
+fn mark_fired(history: &mut Option<StateHistory>, numbers: &[u32]) -> Result<(), AllocError>
+    ensures { OnOk result (HasMarked numbers.now history.old history.new) }
+{
+    if let Some(kept) = history {
+        kept.mark(numbers)?;
+    }
+    Ok(())
+}
+
+/// The waves of a run whose units are all over.
+fn all_waves(
+    alloc: Global,
+    region: &Region<'_>,
+    simulation: NetlistSimulation,
+) -> Result<Waves, AllocError>
+    requires form { IsCircuit region.now }
+    requires over { IsSimulated region.now (region.now.horizon - 1) simulation }
+    ensures { IfOk result (λ waves. AreWavesOf region.now waves) }
+{
+    let waves = Waves::of_all(alloc, found_waves(alloc, region, simulation)?)?;
+    Ok(waves)
+}
+
+/// The modules that stand, by number.
+fn all_modules(alloc: Global, netlist: &Region<'_>) -> Result<Vec<u32>, AllocError> {
+    let mut modules = Vec::new(alloc);
+    for m in 0..netlist.module_slots() {
+        if netlist.module(ModuleId(m)).is_some() {
+            modules.push(m)?;
+        }
+    }
+    Ok(modules)
+}
+
+/// The states of the modules that stand, after the last unit.
+fn end_memories(
+    alloc: Global,
+    netlist: &Region<'_>,
+    simulation: &NetlistSimulation,
+) -> Result<Vec<Option<Memory>>, AllocError>
+    requires form { IsCircuit netlist.now }
+    requires over { IsSimulated netlist.now (netlist.now.horizon - 1) simulation.now }
+    ensures { IfOk result (λ ends. AreSlots (length netlist.now.modules) (end_memory netlist.now) ends.items) }
+{
+    let mut ends = Vec::new(alloc);
+    for m in 0..netlist.module_slots() {
+        ends.push(end_memory(netlist, simulation, m))?;
+    }
+    Ok(ends)
+}
+
+fn end_memory(netlist: &Region<'_>, simulation: &NetlistSimulation, m: u32) -> Option<Memory>
+    requires form { IsCircuit netlist.now }
+    requires low { m < length netlist.now.modules }
+    requires over { IsSimulated netlist.now (netlist.now.horizon - 1) simulation.now }
+    ensures { result ≡ end_memory netlist.now m }
+{
+    match netlist.module(ModuleId(m)) {
+        Some(_) => Some(simulation.memory(m)),
+        None => None,
+    }
+}
+
+/// What was kept of the modules that stand, to be shared.
+fn shared_checkpoints(
+    alloc: Global,
+    netlist: &Region<'_>,
+    kept: Vec<Checkpoints>,
+) -> Result<Vec<Option<Arc<Checkpoints, Global>>>, AllocError>
+    requires { length kept.items ≡ length netlist.now.modules }
+    ensures { IfOk result (λ found. AreSlots (length netlist.now.modules) (λ m. option_map (λ (r : Part). kept_of kept.items m) (module_at netlist.now m)) (map (option_map arc_value) found.items)) }
+{
+    let mut left = kept;
+    let mut found = Vec::new(alloc);
+    for m in 0..netlist.module_slots() {
+        let checkpoints = std::mem::replace(&mut left[m as usize], Checkpoints::new(alloc));
+        found.push(shared(alloc, netlist, ModuleId(m), checkpoints)?)?;
+    }
+    Ok(found)
+}
+
+fn shared(
+    alloc: Global,
+    netlist: &Region<'_>,
+    id: ModuleId,
+    checkpoints: Checkpoints,
+) -> Result<Option<Arc<Checkpoints, Global>>, AllocError>
+    ensures { IfOk result (λ found. option_map arc_value found ≡ option_map (λ (r : Part). checkpoints) (module_at netlist.now id.0)) }
+{
+    match netlist.module(id) {
+        Some(_) => Ok(Some(Arc::new(alloc, checkpoints)?)),
+        None => Ok(None),
+    }
+}

@@ -1,0 +1,60 @@
+//! The waves of a netlist.
+ghost use Rattle.std.specs.Prelude.{IfOk};
+ghost use Rattle.mp_model.specs.Waves.{AreWavesOf};
+ghost use Rattle.mp_simulation.specs.run.WavesRuns.{IsWavesRun};
+
+use crate::simulate::busy::{busy_division, can_pay, first_looks};
+use crate::share_waves;
+use mp_model::Waves;
+use mp_netlist::Netlist;
+use mp_phase::Crew;
+use mp_simulation::WavesRun;
+use std::alloc::{AllocError, Global};
+use std::sync::Wait;
+use std::thread::Threads;
+
+/// The wave of each wire of a netlist up to its horizon. Where much happens early, the crew's threads make them, each for a part of the netlist.
+/// Where the memory for that is refused, the calling thread makes them.
+pub fn find_waves<R: Threads + Wait + Sync>(
+    rt: &R,
+    alloc: Global,
+    netlist: &Netlist,
+    crew: &Crew,
+) -> Result<Waves, AllocError>
+    ensures { IfOk result (AreWavesOf netlist.now) }
+{
+    if !can_pay(netlist, crew) {
+        return find_here(alloc, netlist);
+    }
+    let mut run = WavesRun::begin(alloc, netlist)?;
+    let mut looks = first_looks();
+    let Some(division) = busy_division(alloc, netlist, crew, &mut run, &mut looks)? else {
+        return finished(alloc, netlist, run, looks.to);
+    };
+    drop(run);
+    let shared = share_waves(rt, alloc, netlist, crew, &division);
+    drop(division);
+    match shared {
+        Ok(Some(waves)) => Ok(waves),
+        Ok(None) | Err(_) => find_here(alloc, netlist),
+    }
+}
+
+/// The same on the calling thread.
+fn find_here(alloc: Global, netlist: &Netlist) -> Result<Waves, AllocError>
+    ensures { IfOk result (AreWavesOf netlist.now) }
+{
+    let run = WavesRun::begin(alloc, netlist)?;
+    finished(alloc, netlist, run, 1)
+}
+
+/// The waves that a run gives, of which the units before a time are over.
+fn finished(alloc: Global, netlist: &Netlist, run: WavesRun, from: u32) -> Result<Waves, AllocError>
+    requires { IsWavesRun netlist.now from run }
+    ensures { IfOk result (AreWavesOf netlist.now) }
+{
+    let horizon = netlist.horizon();
+    let mut run = run;
+    run.run_units(netlist, from, horizon)?;
+    Ok(Waves::in_place(run.finish(alloc, netlist)?))
+}

@@ -1,6 +1,0 @@
-use Rattle.std.proofs.lemmas.Result.{on_ok_weaker}
-use Rattle.mp_evaluation.proofs.KeepLemmas.{keeps_from}
-use Rattle.mp_evaluation.proofs.checkpoints.Checkpoints.keep.Goals as goal
-
-pub returns : goal.returns
-returns c = on_ok_weaker c.push.result (λ e. rw e (keeps_from c.args.self.now c.args.time c.args.memory c.requires)) c.push.ensures

@@ -1,6 +1,0 @@
-use Rattle.mp_events.proofs.WaveTableLemmas.{ArePutBefore}
-use Rattle.mp_events.proofs.wave_table.put_shares.Given as goal
-
--- the toggles of the shares before are in their waves
-abbrev pub invariant-loop-share : goal.invariant-loop-share
-invariant-loop-share l = ArePutBefore l.fn.late l.late l.fn.waves.items l.waves.items l.share

@@ -1,6 +1,0 @@
-use Rattle.std.proofs.Common.{subst, sym}
-use Rattle.mp_events.specs.WaveTables.{AreAllLate}
-use Rattle.mp_events.proofs.wave_table.settle.Goals as goal
-
-pub put_shares-put-requires : goal.put_shares-put-requires
-put_shares-put-requires c = subst (λ l. AreAllLate c.args.waves.now.items l) (sym c.deref_mut.ensures.value) c.requires

@@ -1,5 +1,0 @@
-use Rattle.mp_excerpt.proofs.RenumberingLemmas.{numbers_stay, units_show}
-use Rattle.mp_excerpt.proofs.laws.numbers_stay.Goals as goal
-
-pub returns : goal.returns
-returns c = record { stay = numbers_stay; units = units_show }

@@ -1,5 +1,0 @@
-use Rattle.mp_excerpt.proofs.StartingLemmas.{starts_show, starts_are_simulated, regions_are_excerpts}
-use Rattle.mp_excerpt.proofs.laws.starts.Goals as goal
-
-pub returns : goal.returns
-returns c = record { show = starts_show; simulated = starts_are_simulated; regions = regions_are_excerpts }

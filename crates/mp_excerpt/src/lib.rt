@@ -1,4 +1,0 @@
-//! Excerpts of a netlist, in which some of its modules and wires go on and all others rest.
-#![tactic(auto)]
-
-pub mod laws;

@@ -1,0 +1,2 @@
+pub mod vcd
+pub mod verilog

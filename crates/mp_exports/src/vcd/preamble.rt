@@ -1,0 +1,86 @@
+//! What a dump says before the changes.
+ghost use Rattle.mp_exports.specs.vcd.Clauses.{flat_map, Writes, wire_at, AreWavesOf, standing, preamble, part_line, slot_text};
+
+use crate::vcd::lines::put_declaration;
+use crate::vcd::value_lines::ValueLine;
+use mp_model::Waves;
+use mp_netlist::{Netlist, WireId};
+use mp_streams::{Failed, Out, Sink, Text};
+
+const OPENING: &str = "$timescale 1 ns $end\n$scope module top $end\n";
+
+const BLOCK_START: &str = "$upscope $end\n$enddefinitions $end\n#0\n$dumpvars\n";
+
+const BLOCK_END: &str = "$end\n";
+
+/// What is told of each wire before its changes.
+#[derive(Clone, Copy)]
+pub(crate) enum Part {
+    Declarations,
+    FirstLevels,
+}
+
+/// Writes the declarations, and the level of each wire at time 0.
+pub fn put_preamble<S: Sink>(
+    out: &mut Out<S>,
+    netlist: &Netlist,
+    waves: &Waves,
+) -> Result<(), Failed>
+    requires { AreWavesOf netlist.now waves.now }
+    ensures { Writes result out.old out.new (preamble netlist.now) }
+{
+    let declarations = WireLines {
+        netlist,
+        waves,
+        part: Part::Declarations,
+    };
+    let levels = WireLines {
+        netlist,
+        waves,
+        part: Part::FirstLevels,
+    };
+    (OPENING, (declarations, (BLOCK_START, (levels, BLOCK_END)))).put_to(out)
+}
+
+/// The lines of a part for each wire that stands, by number.
+#[derive(Clone, Copy)]
+struct WireLines<'a> {
+    netlist: &'a Netlist,
+    waves: &'a Waves,
+    part: Part,
+    ghost of_netlist: { AreWavesOf netlist.now waves.now },
+}
+
+impl<'a> Text for WireLines<'a> {
+    ghost text = { λ lines. flat_map (part_line lines.netlist.now lines.part) (standing lines.netlist.now) };
+
+    #[tactic(auto, using(crate::proofs::lemmas::vcd::StandingLemmas::put_wires_steps))]
+    fn put_to<S: Sink>(&self, out: &mut Out<S>) -> Result<(), Failed> {
+        for number in 0..self.netlist.wire_slots() {
+            self.put_part(out, WireId(number))?;
+        }
+        Ok(())
+    }
+}
+
+impl<'a> WireLines<'a> {
+    /// Writes the line of a wire, where the wire stands.
+    fn put_part<S: Sink>(&self, out: &mut Out<S>, id: WireId) -> Result<(), Failed>
+        ensures { Writes result out.old out.new (slot_text (part_line self.now.netlist.now self.now.part) id.0 (wire_at self.now.netlist.now id.0)) }
+    {
+        let Some(wire) = self.netlist.wire(id) else {
+            return Ok(());
+        };
+        let Some(wave) = self.waves.of(id) else {
+            return Ok(());
+        };
+        match self.part {
+            Part::Declarations => put_declaration(out, id, wire),
+            Part::FirstLevels => out.put_piece(&ValueLine {
+                width: wire.width,
+                wire: id.0,
+                level: wave.initial(),
+            }),
+        }
+    }
+}

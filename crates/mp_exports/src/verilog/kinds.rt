@@ -1,0 +1,131 @@
+//! The modules of the kinds that a netlist has.
+ghost use Rattle.std.specs.Prelude.{◌≡◌};
+ghost use Rattle.std.specs.List.{flat_map, list_any};
+ghost use Rattle.mp_streams.specs.Outgoing.{Writes};
+ghost use Rattle.mp_netlist.specs.Circuit.{module_at};
+ghost use Rattle.mp_exports.specs.verilog.Kinds.{all_kinds, is_of_kind, kind_section, kind_text, module_word};
+
+use crate::verilog::data_modules::{addc_text, bit_text, reg_text, sum_text, xorc_text};
+use crate::verilog::event_modules::{arbiter_text, buf_text, c_text, call_text, not_text, select_text, toggle_text, xor_text};
+use mp_modules::Kind;
+use mp_netlist::{ModuleId, Netlist};
+use mp_streams::{Failed, Out, Sink, Text};
+
+/// What the module of a kind is called.
+pub(crate) fn module_word(kind: Kind) -> &'static str
+    ensures { result.now ≡ module_word kind }
+{
+    match kind {
+        Kind::Buf => "mp_buf",
+        Kind::Not => "mp_not",
+        Kind::Xor => "mp_xor",
+        Kind::C => "mp_c",
+        Kind::Toggle => "mp_toggle",
+        Kind::Select => "mp_select",
+        Kind::Call => "mp_call",
+        Kind::Arbiter => "mp_arbiter",
+        Kind::Reg => "mp_reg",
+        Kind::AddC => "mp_addc",
+        Kind::XorC => "mp_xorc",
+        Kind::Sum => "mp_sum",
+        Kind::Bit => "mp_bit",
+    }
+}
+
+/// The modules of the kinds of which a module stands.
+#[derive(Clone, Copy)]
+pub(crate) struct KindModules<'a> {
+    pub(crate) netlist: &'a Netlist,
+}
+
+impl<'a> Text for KindModules<'a> {
+    ghost use Rattle.mp_exports.specs.verilog.Kinds.{kinds_text};
+
+    ghost text = { λ modules. kinds_text modules.netlist.now };
+
+    #[tactic(auto, unfolding(crate::specs::verilog::Kinds::kinds_text))]
+    fn put_to<S: Sink>(&self, out: &mut Out<S>) -> Result<(), Failed> {
+        put_kinds(out, self.netlist, all_kinds())
+    }
+}
+
+/// Writes the modules of those of the kinds of which a module stands.
+fn put_kinds<S: Sink>(out: &mut Out<S>, netlist: &Netlist, kinds: &[Kind]) -> Result<(), Failed>
+    ensures { Writes result out.old out.new (flat_map (kind_section netlist.now) kinds.now) }
+{
+    for &kind in kinds {
+        put_kind(out, netlist, kind)?;
+    }
+    Ok(())
+}
+
+fn all_kinds() -> &'static [Kind]
+    ensures { result.now ≡ all_kinds }
+{
+    &[
+        Kind::Buf,
+        Kind::Not,
+        Kind::Xor,
+        Kind::C,
+        Kind::Toggle,
+        Kind::Select,
+        Kind::Call,
+        Kind::Arbiter,
+        Kind::Reg,
+        Kind::AddC,
+        Kind::XorC,
+        Kind::Sum,
+        Kind::Bit,
+    ]
+}
+
+/// Writes the module of a kind, where one of the netlist's modules has it.
+fn put_kind<S: Sink>(out: &mut Out<S>, netlist: &Netlist, kind: Kind) -> Result<(), Failed>
+    ensures { Writes result out.old out.new (kind_section netlist.now kind) }
+{
+    if !occurs(netlist, kind) {
+        return Ok(());
+    }
+    out.put_text(kind_text(kind))
+}
+
+/// Whether a module of this kind stands.
+fn occurs(netlist: &Netlist, kind: Kind) -> bool
+    ensures { result ≡ list_any (is_of_kind kind) netlist.now.modules }
+{
+    for number in 0..netlist.module_slots() {
+        if is_of_kind(netlist, ModuleId(number), kind) {
+            return true;
+        }
+    }
+    false
+}
+
+fn is_of_kind(netlist: &Netlist, id: ModuleId, kind: Kind) -> bool
+    ensures { result ≡ is_of_kind kind (module_at netlist.now id.0) }
+{
+    match netlist.module(id) {
+        Some(found) => found.kind.word() == kind.word(),
+        None => false,
+    }
+}
+
+fn kind_text(kind: Kind) -> &'static str
+    ensures { result.now ≡ kind_text kind }
+{
+    match kind {
+        Kind::Buf => buf_text(),
+        Kind::Not => not_text(),
+        Kind::Xor => xor_text(),
+        Kind::C => c_text(),
+        Kind::Toggle => toggle_text(),
+        Kind::Select => select_text(),
+        Kind::Call => call_text(),
+        Kind::Arbiter => arbiter_text(),
+        Kind::Reg => reg_text(),
+        Kind::AddC => addc_text(),
+        Kind::XorC => xorc_text(),
+        Kind::Sum => sum_text(),
+        Kind::Bit => bit_text(),
+    }
+}

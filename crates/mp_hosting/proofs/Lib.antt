@@ -1,9 +1,0 @@
-mod AgreementLemmas
-mod EndingLemmas
-mod GuestLemmas
-mod OwnLemmas
-mod PeopleLemmas
-mod StayLemmas
-mod TellingLemmas
-mod ClaimLemmas
-mod SeatClaims

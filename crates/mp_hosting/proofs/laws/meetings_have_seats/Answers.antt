@@ -1,8 +1,0 @@
-use Rattle.mp_hosting.proofs.AgreementLemmas as agreement
-use Rattle.mp_hosting.proofs.laws.meetings_have_seats.Goals as goal
-
-pub returns-clause-blocks : goal.returns-clause-blocks
-returns-clause-blocks c = agreement.blocks_are_seats
-
-pub returns-clause-numbers : goal.returns-clause-numbers
-returns-clause-numbers c = agreement.numbers_are_seats

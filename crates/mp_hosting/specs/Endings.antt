@@ -1,7 +1,0 @@
--- How what somebody writes at a seat ends.
-use Rattle.std.specs.Prelude.{◌≡◌, ◌⊎◌, ◌<◌, true}
-use Rattle.mp_lines.specs.Incoming.{Incoming}
-
--- the source told its end, or failed
-abbrev pub HasEnded : Incoming → Type 0
-HasEnded lines = (lines.ended ≡ true) ⊎ (0 < lines.faults)

@@ -1,0 +1,64 @@
+-- Levels of one bit.
+use Rattle.std.proofs.Common.{◌≡◌, ℕ, ◌+◌, ◌-◌, ◌≤◌, ◌/◌, ◌%◌, ◌^◌, Bool, true, false, not, cond, refl, ne_eqb, ap, arith}
+use Rattle.std.specs.Prelude.{◌==◌, bit_xor}
+use Rattle.mp_modules.specs.Quiet.{unchanged}
+use Rattle.mp_kernel.specs.automata.Reactions.{differ}
+use Rattle.mp_kernel.specs.automata.Codes.{bit}
+
+-- a bit is one of two numbers
+bits : (a : ℕ) (one : Bool) → (a == 1) ≡ one → a ≤ 1 → a ≡ bit one
+bits a true is low = grind arith
+bits a false is low = grind arith
+
+-- a bit's inverse differs from it, and it doesn't differ from itself
+pub turned_differs : (t : Bool) (a : ℕ) → not (a == cond t (1 - a) a) ≡ t
+turned_differs true a = ap not (ne_eqb a (1 - a) (λ same. omega arith))
+turned_differs false a = unchanged a
+
+pub turned_again : (t : Bool) (a : ℕ) → a ≤ 1 → 1 - cond t (1 - a) a ≡ cond (not t) (1 - a) a
+turned_again true a low = omega arith
+turned_again false a low = refl
+
+pub inverted : (a b : ℕ) → a ≤ 1 → b ≤ 1 → not (1 - a == 1 - b) ≡ not (a == b)
+inverted a b ha hb = grind arith
+
+pub merges : (a b c d : ℕ) → a ≤ 1 → b ≤ 1 → c ≤ 1 → d ≤ 1 →
+    not (cond (a == b) 0 1 == cond (c == d) 0 1) ≡ differ (not (a == c)) (not (b == d))
+merges a b c d ha hb hc hd = grind arith
+
+pub adds : (a b k : ℕ) → a ≤ 1 → b ≤ 1 → not ((a + k) % 2 == (b + k) % 2) ≡ not (a == b)
+adds a b k ha hb = grind arith
+
+pub sums : (a b c d : ℕ) → a ≤ 1 → b ≤ 1 → c ≤ 1 → d ≤ 1 →
+    not ((a + b) % 2 == (c + d) % 2) ≡ differ (not (a == c)) (not (b == d))
+sums a b c d ha hb hc hd = grind arith
+
+pub moved : (a b c : ℕ) → a ≤ 1 → b ≤ 1 → c ≤ 1 → differ (not (a == c)) (not (a == b)) ≡ not (b == c)
+moved a b c ha hb hc = grind arith
+
+pub both_moved : (a b c d : ℕ) → a ≤ 1 → b ≤ 1 → c ≤ 1 → d ≤ 1 →
+    differ (not (a == b)) (differ (not (a == c)) (not (b == d))) ≡ not (c == d)
+both_moved a b c d ha hb hc hd = grind arith
+
+pub moved_one : (a b : ℕ) → a ≤ 1 → b ≤ 1 → differ (a == 1) (not (a == b)) ≡ (b == 1)
+moved_one a b ha hb = grind arith
+
+masked_bits : (p q r : Bool) → not (bit_xor (bit q) (bit p) == bit_xor (bit r) (bit p)) ≡ not (bit q == bit r)
+masked_bits true true true = refl
+masked_bits true true false = refl
+masked_bits true false true = refl
+masked_bits true false false = refl
+masked_bits false true true = refl
+masked_bits false true false = refl
+masked_bits false false true = refl
+masked_bits false false false = refl
+
+at_bits : (mask a b : ℕ) (p q r : Bool) → mask ≡ bit p → a ≡ bit q → b ≡ bit r → not (bit_xor a mask == bit_xor b mask) ≡ not (a == b)
+at_bits mask a b p q r is_p is_q is_r = rw (is_p, is_q, is_r) (masked_bits p q r)
+
+pub masks : (mask a b : ℕ) → mask ≤ 1 → a ≤ 1 → b ≤ 1 → not (bit_xor a mask == bit_xor b mask) ≡ not (a == b)
+masks mask a b hm ha hb =
+    at_bits mask a b (mask == 1) (a == 1) (b == 1) (bits mask _ refl hm) (bits a _ refl ha) (bits b _ refl hb)
+
+pub kept_bits : (a b : ℕ) → a ≤ 1 → b ≤ 1 → not (a / 2 ^ 0 % 2 == b / 2 ^ 0 % 2) ≡ not (a == b)
+kept_bits a b ha hb = grind arith

@@ -1,0 +1,5 @@
+pub mod WheelLemmas
+pub mod LevelLemmas
+pub mod PartLemmas
+pub mod FiringLemmas
+pub mod NoDataLemmas

@@ -1,0 +1,58 @@
+-- What modules with data do, by their outputs alone.
+use Rattle.std.specs.Prelude.{◌≡◌, ℕ, List, [], ◌∷◌, slice_index}
+use Rattle.mp_modules.specs.declared.core_module.CoreModule.TheVariants as core
+use Rattle.mp_modules.specs.declared.memory.Memory.{Memory}
+use Rattle.mp_modules.specs.Memories.{output_of, with_outputs}
+use Rattle.mp_modules.specs.declared.storage.any_module.AnyModule.{AnyModule}
+use Rattle.mp_modules.specs.declared.storage.any_module.AnyModule.TheVariants as parts
+use Rattle.mp_modules.specs.declared.storage.computed.Computed.{Computed}
+use Rattle.mp_modules.specs.declared.storage.computed.Computed.TheVariants as computed
+use Rattle.mp_modules.specs.storage.AnyModules.{settle, step}
+use Rattle.mp_modules.specs.storage.Computed.{output}
+use Rattle.mp_modules.specs.storage.Reg.{latched}
+use Rattle.mp_kernel.specs.declared.datapath.output_levels.OutputLevels.{OutputLevels}
+use Rattle.mp_kernel.specs.declared.datapath.data_part.DataPart.{DataPart}
+use Rattle.mp_kernel.specs.declared.datapath.data_part.DataPart.TheVariants.{Buf, Reg, AddC, XorC, Sum, Bit}
+
+abbrev pub computed_part : Computed → DataPart
+computed_part (computed.AddC addend width) = AddC width addend
+computed_part (computed.XorC mask) = XorC mask
+computed_part (computed.Sum width) = Sum width
+computed_part (computed.Bit place) = Bit place
+
+-- what a module does that has data
+abbrev pub data_part : AnyModule → DataPart
+data_part (parts.Core part) = Buf
+data_part (parts.Reg part) = Reg part.initial
+data_part (parts.Computed part) = computed_part part
+
+-- the module that does so
+abbrev pub any_part : DataPart → AnyModule
+any_part Buf = parts.Core core.Buf
+any_part (Reg initial) = parts.Reg (record { initial = initial })
+any_part (AddC width addend) = parts.Computed (computed.AddC addend width)
+any_part (XorC mask) = parts.Computed (computed.XorC mask)
+any_part (Sum width) = parts.Computed (computed.Sum width)
+any_part (Bit place) = parts.Computed (computed.Bit place)
+
+-- the outputs in a state
+abbrev pub outputs_in : Memory → OutputLevels
+outputs_in memory = record { first = output_of memory 0; second = output_of memory 1; third = output_of memory 2 }
+
+-- the state with these outputs, and these levels at the inputs
+abbrev pub memory_with : OutputLevels → List ℕ → Memory
+memory_with outputs x = with_outputs x (outputs.first ∷ outputs.second ∷ outputs.third ∷ [])
+
+-- the state that a module with data settles in, or goes on to, is told by its outputs and the levels at its inputs
+pub record IsToldByOutputs (part : DataPart) : Type 0 where
+  pub settled : (x : List ℕ) → settle (any_part part) x ≡ memory_with (outputs_in (settle (any_part part) x)) x
+  pub stepped : (memory : Memory) (x : List ℕ) → step (any_part part) memory x ≡ memory_with (outputs_in (step (any_part part) memory x)) x
+
+-- the outputs after these, with these levels at the inputs: a module that isn't a register has one
+abbrev pub next_outputs : DataPart → OutputLevels → List ℕ → OutputLevels
+next_outputs Buf before x = record before { first = slice_index x 0 }
+next_outputs (Reg initial) before x = record { first = latched before.first x; second = slice_index x 1; third = slice_index x 2 }
+next_outputs (AddC width addend) before x = record before { first = output (computed.AddC addend width) x }
+next_outputs (XorC mask) before x = record before { first = output (computed.XorC mask) x }
+next_outputs (Sum width) before x = record before { first = output (computed.Sum width) x }
+next_outputs (Bit place) before x = record before { first = output (computed.Bit place) x }

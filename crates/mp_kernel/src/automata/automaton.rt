@@ -1,0 +1,143 @@
+//! How modules of width 1 answer events.
+ghost use Rattle.std.specs.Prelude.{◌≡◌};
+ghost use Rattle.mp_kernel.specs.automata.Automata.{core_automaton, computed_automaton, automaton_of};
+
+use crate::automata::client_rules::{grant, serve};
+use crate::automata::events::Events;
+use crate::automata::phase::Phase;
+use crate::automata::reaction::Reaction;
+use crate::automata::rules::{alternate, choose, differ, hold, join};
+use mp_modules::{AnyModule, Computed, CoreModule};
+
+/// How many automata there are.
+pub(crate) const AUTOMATA: u16 = 9;
+
+/// How a module of width 1 answers events. Kinds that answer alike are one automaton.
+#[derive(Clone, Copy, Debug, PartialEq, Eq)]
+pub enum Automaton {
+    /// Each event of the one input is one of the output: BUF and NOT, and ADDC, XORC and BIT at width 1.
+    Follow,
+    /// An event of one of two inputs alone is one of the output: XOR, and SUM at width 1.
+    Merge,
+    /// C.
+    Join,
+    /// TOGGLE.
+    Alternate,
+    /// SELECT.
+    Choose,
+    /// CALL.
+    Serve,
+    /// ARBITER.
+    Grant,
+    /// REG at width 1.
+    Hold,
+    /// A module that isn't active: it keeps its phase and has no event at an output.
+    Sleep,
+}
+
+impl Automaton {
+    ghost use Rattle.std.specs.Prelude.{◌≡◌, ◌<◌};
+    ghost use Rattle.mp_kernel.specs.declared.automata.automaton.Automaton.{Automaton as AnyAutomaton};
+    ghost use Rattle.mp_kernel.specs.automata.Automata.{automaton_of};
+    ghost use Rattle.mp_kernel.specs.automata.Phases.{clients_in};
+    ghost use Rattle.mp_kernel.specs.automata.Codes.{automaton_code};
+    ghost use Rattle.mp_kernel.specs.automata.Reactions.{react};
+
+    /// The automaton of an active module whose ports all have width 1.
+    pub fn of(part: &AnyModule) -> Automaton
+        ensures { result ≡ automaton_of part.now }
+    {
+        match part {
+            AnyModule::Core(part) => core_automaton(*part),
+            AnyModule::Reg(_) => Automaton::Hold,
+            AnyModule::Computed(part) => computed_automaton(*part),
+        }
+    }
+
+    #[tactic(auto, unfolding(crate::specs::automata::Reactions::react))]
+    /// The phase after a unit with these events, and the outputs that toggle in it.
+    pub fn react(self, phase: Phase, events: Events) -> Reaction
+        ensures { result ≡ react self phase events }
+    {
+        let quiet = Reaction::quiet(phase);
+        match self {
+            Automaton::Follow => quiet.toggle_first_if(events.first),
+            Automaton::Merge => quiet.toggle_first_if(differ(events.first, events.second)),
+            Automaton::Join => join(phase, events),
+            Automaton::Alternate => alternate(phase.waiting.first, events.first),
+            Automaton::Choose => choose(differ(phase.waiting.first, events.second), events.first),
+            Automaton::Serve => serve(events, quiet),
+            Automaton::Grant => grant(events, quiet),
+            Automaton::Hold => hold(phase, events),
+            Automaton::Sleep => quiet,
+        }
+    }
+
+    /// Whom a module serves in a phase, and who waits: nobody, if it serves no clients.
+    pub(crate) fn clients(self, phase: Phase) -> Phase
+        ensures { result ≡ clients_in self phase }
+    {
+        match self {
+            Automaton::Serve | Automaton::Grant => phase,
+            _ => Phase::unserved(false, false),
+        }
+    }
+
+    /// The automaton's number, from 0.
+    pub(crate) fn code(self) -> u16
+        ensures value { result ≡ automaton_code self }
+        ensures low { result < 9 }
+    {
+        match self {
+            Automaton::Follow => 0,
+            Automaton::Merge => 1,
+            Automaton::Join => 2,
+            Automaton::Alternate => 3,
+            Automaton::Choose => 4,
+            Automaton::Serve => 5,
+            Automaton::Grant => 6,
+            Automaton::Hold => 7,
+            Automaton::Sleep => 8,
+        }
+    }
+
+    /// The automaton of a number.
+    pub(crate) fn from_code(code: u16) -> Automaton
+        ensures { (a : AnyAutomaton) → code ≡ automaton_code a → result ≡ a }
+    {
+        match code {
+            0 => Automaton::Follow,
+            1 => Automaton::Merge,
+            2 => Automaton::Join,
+            3 => Automaton::Alternate,
+            4 => Automaton::Choose,
+            5 => Automaton::Serve,
+            6 => Automaton::Grant,
+            7 => Automaton::Hold,
+            _ => Automaton::Sleep,
+        }
+    }
+}
+
+fn core_automaton(part: CoreModule) -> Automaton
+    ensures { result ≡ core_automaton part }
+{
+    match part {
+        CoreModule::Buf | CoreModule::Not => Automaton::Follow,
+        CoreModule::Xor => Automaton::Merge,
+        CoreModule::C(_) => Automaton::Join,
+        CoreModule::Toggle => Automaton::Alternate,
+        CoreModule::Select => Automaton::Choose,
+        CoreModule::Call => Automaton::Serve,
+        CoreModule::Arbiter => Automaton::Grant,
+    }
+}
+
+fn computed_automaton(part: Computed) -> Automaton
+    ensures { result ≡ computed_automaton part }
+{
+    match part {
+        Computed::Sum { .. } => Automaton::Merge,
+        _ => Automaton::Follow,
+    }
+}

@@ -1,0 +1,67 @@
+//! The rules of C, TOGGLE, SELECT and REG.
+ghost use Rattle.std.specs.Prelude.{◌≡◌};
+ghost use Rattle.mp_kernel.specs.automata.Reactions.{differ, join, alternate, choose, hold};
+
+use crate::automata::events::Events;
+use crate::automata::phase::Phase;
+use crate::automata::reaction::Reaction;
+
+/// Whether one of the two holds, and the other doesn't.
+pub(crate) fn differ(one: bool, other: bool) -> bool
+    ensures { result ≡ differ one other }
+{
+    if one { !other } else { other }
+}
+
+/// The output of a C toggles where both inputs wait then.
+pub(crate) fn join(phase: Phase, events: Events) -> Reaction
+    ensures { result ≡ join phase events }
+{
+    let first = differ(phase.waiting.first, events.first);
+    let second = differ(phase.waiting.second, events.second);
+    if first && second {
+        Reaction::quiet(Phase::unserved(false, false)).toggle_first()
+    } else {
+        Reaction::quiet(Phase::unserved(first, second))
+    }
+}
+
+/// An event of a TOGGLE goes to its two outputs in turn.
+pub(crate) fn alternate(is_second_next: bool, event: bool) -> Reaction
+    ensures { result ≡ alternate is_second_next event }
+{
+    let quiet = Reaction::quiet(Phase::unserved(differ(is_second_next, event), false));
+    if !event {
+        quiet
+    } else if is_second_next {
+        quiet.toggle_second()
+    } else {
+        quiet.toggle_first()
+    }
+}
+
+/// An event of a SELECT goes to its first output where the second input is 1, and else to its second.
+pub(crate) fn choose(is_first_chosen: bool, event: bool) -> Reaction
+    ensures { result ≡ choose is_first_chosen event }
+{
+    let quiet = Reaction::quiet(Phase::unserved(is_first_chosen, false));
+    if !event {
+        quiet
+    } else if is_first_chosen {
+        quiet.toggle_first()
+    } else {
+        quiet.toggle_second()
+    }
+}
+
+/// A REG that doesn't hold its data then passes on those that differ from what it held. Its two controls come out after it.
+pub(crate) fn hold(phase: Phase, events: Events) -> Reaction
+    ensures { result ≡ hold phase events }
+{
+    let is_held = differ(phase.waiting.first, differ(events.second, events.third));
+    let differs = differ(phase.waiting.second, events.first);
+    Reaction::quiet(Phase::unserved(is_held, is_held && differs))
+        .toggle_first_if(!is_held && differs)
+        .toggle_second_if(events.second)
+        .toggle_third_if(events.third)
+}

@@ -1,0 +1,111 @@
+//! A module with data.
+ghost use Rattle.std.specs.Prelude.{◌≡◌, ℕ, ◌<◌, Some, length};
+ghost use Rattle.mp_kernel.specs.datapath.Levels.{level_at};
+
+use crate::datapath::data_part::DataPart;
+use crate::datapath::data_ports::DataPorts;
+use crate::datapath::output_levels::OutputLevels;
+use mp_modules::{Computed, MOST_INPUTS, Memory};
+
+/// A module with data: what it does, the levels of its outputs, the numbers that its inputs read, and what it drives. The rest of its state
+/// is the levels of those numbers.
+#[derive(Clone, Copy, Debug)]
+pub struct DataModule {
+    pub part: DataPart,
+    pub outputs: OutputLevels,
+    pub inputs: [Option<u32>; MOST_INPUTS],
+    pub ports: DataPorts,
+}
+
+impl DataModule {
+    ghost use Rattle.std.specs.Prelude.{◌≡◌, ℕ, ◌<◌, length};
+    ghost use Rattle.mp_kernel.specs.datapath.Levels.{level_at};
+    ghost use Rattle.mp_kernel.specs.datapath.DataModules.{ReadsBelow, input_of, stepped, memory_of};
+
+    /// Goes on to the next unit, in which numbers have these levels. It reads the inputs that a module of its kind has, and writes the outputs.
+    #[inline(always)]
+    pub(crate) fn step(&mut self, levels: &[u64])
+        requires { ReadsBelow (length levels.now) self.old }
+        ensures { self.new ≡ stepped levels.now self.old }
+    {
+        let level = self.input_level(levels, 0);
+        match self.part {
+            DataPart::Buf => self.outputs.first = level,
+            DataPart::Reg { .. } => {
+                let capture = self.input_level(levels, 1);
+                let pass = self.input_level(levels, 2);
+                self.outputs.first = latched(self.outputs.first, [level, capture, pass]);
+                self.outputs.second = capture;
+                self.outputs.third = pass;
+            }
+            DataPart::AddC { width, addend } => {
+                self.outputs.first = Computed::AddC { addend, width }.output(&[level]);
+            }
+            DataPart::XorC { mask } => {
+                self.outputs.first = Computed::XorC { mask }.output(&[level]);
+            }
+            DataPart::Sum { width } => {
+                let other = self.input_level(levels, 1);
+                self.outputs.first = Computed::Sum { width }.output(&[level, other]);
+            }
+            DataPart::Bit { place } => {
+                self.outputs.first = Computed::Bit { place }.output(&[level]);
+            }
+        }
+    }
+
+    /// The module's state, where numbers have these levels.
+    pub fn memory(&self, levels: &[u64]) -> Memory
+        requires { ReadsBelow (length levels.now) self.now }
+        ensures { result ≡ memory_of levels.now self.now }
+    {
+        let inputs = [
+            self.input_level(levels, 0),
+            self.input_level(levels, 1),
+            self.input_level(levels, 2),
+            self.input_level(levels, 3),
+        ];
+        let OutputLevels {
+            first,
+            second,
+            third,
+        } = self.outputs;
+        Memory::with_outputs(&inputs, [first, second, third])
+    }
+
+    /// The level at an input, 0 where it reads no number.
+    #[inline(always)]
+    fn input_level(&self, levels: &[u64], port: usize) -> u64
+        requires port { port < 4 }
+        requires reads { ReadsBelow (length levels.now) self.now }
+        ensures { result ≡ level_at levels.now (input_of self.now port) }
+    {
+        level_of(levels, self.inputs[port])
+    }
+}
+
+/// The level of a number, 0 where there is none.
+#[inline(always)]
+fn level_of(levels: &[u64], number: Option<u32>) -> u64
+    requires { (x : ℕ) → number ≡ Some x → x < length levels.now }
+    ensures { result ≡ level_at levels.now number }
+{
+    match number {
+        Some(number) => levels[number as usize],
+        None => 0,
+    }
+}
+
+ghost use Rattle.mp_modules.specs.storage.Reg.{latched};
+
+/// What a register gives that held a level, by the levels of its data, its capture and its pass.
+#[inline(always)]
+fn latched(held: u64, levels: [u64; 3]) -> u64
+    ensures { result ≡ latched held levels }
+{
+    if levels[1] == levels[2] {
+        levels[0]
+    } else {
+        held
+    }
+}

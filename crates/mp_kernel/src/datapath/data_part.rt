@@ -1,0 +1,45 @@
+//! What a module with data does.
+ghost use Rattle.std.specs.Prelude.{◌≡◌};
+ghost use Rattle.mp_kernel.specs.datapath.DataParts.{computed_part};
+
+use mp_modules::{AnyModule, Computed};
+
+/// What a module with data does. It takes less room than an `AnyModule`, which may have no data.
+#[derive(Clone, Copy, Debug)]
+pub enum DataPart {
+    Buf,
+    Reg { initial: u64 },
+    AddC { width: u32, addend: u64 },
+    XorC { mask: u64 },
+    Sum { width: u32 },
+    Bit { place: u64 },
+}
+
+impl DataPart {
+    ghost use Rattle.std.specs.Prelude.{◌≡◌};
+    ghost use Rattle.mp_kernel.specs.datapath.DataParts.{data_part};
+
+    /// What a module does that has data.
+    pub fn of(part: &AnyModule) -> DataPart
+        ensures { result ≡ data_part part.now }
+    {
+        match *part {
+            AnyModule::Core(_) => DataPart::Buf,
+            AnyModule::Reg(reg) => DataPart::Reg {
+                initial: reg.initial,
+            },
+            AnyModule::Computed(computed) => computed_part(computed),
+        }
+    }
+}
+
+fn computed_part(part: Computed) -> DataPart
+    ensures { result ≡ computed_part part }
+{
+    match part {
+        Computed::AddC { addend, width } => DataPart::AddC { width, addend },
+        Computed::XorC { mask } => DataPart::XorC { mask },
+        Computed::Sum { width } => DataPart::Sum { width },
+        Computed::Bit { place } => DataPart::Bit { place },
+    }
+}

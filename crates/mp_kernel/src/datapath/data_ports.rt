@@ -1,0 +1,10 @@
+//! The outputs of a module with data.
+
+use crate::events::{OutputPort, OutputPorts};
+
+/// The outputs of a module with data: the one for data, and those of width 1. Where an output isn't of that sort, the port drives no wire.
+#[derive(Clone, Copy, Debug)]
+pub struct DataPorts {
+    pub level: OutputPort,
+    pub bits: OutputPorts,
+}

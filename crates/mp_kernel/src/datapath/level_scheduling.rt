@@ -1,0 +1,50 @@
+//! Levels are scheduled.
+ghost use Rattle.std.specs.Prelude.{◌≡◌, ◌<◌, OnOk, All, length};
+ghost use Rattle.mp_kernel.specs.events.Firing.{HasSlot};
+ghost use Rattle.mp_kernel.specs.datapath.LevelWheels.{scheduled, entry_if, copied_from};
+
+use crate::datapath::level_change::LevelChange;
+use crate::datapath::level_wheel::LevelWheel;
+use crate::events::OutputPort;
+use std::alloc::AllocError;
+
+/// Where an output for data changes, its wire has the level after the delay.
+#[inline(always)]
+pub fn schedule_level_if(
+    changes: bool,
+    port: OutputPort,
+    level: u64,
+    wheel: &mut LevelWheel,
+) -> Result<(), AllocError>
+    requires { HasSlot (length wheel.old) port }
+    ensures scheduled { OnOk result (wheel.new ≡ scheduled wheel.old (entry_if changes port level)) }
+    ensures places { OnOk result (length wheel.new ≡ length wheel.old) }
+{
+    match port.wire {
+        Some(wire) if changes => wheel.schedule(
+            port.delay as usize,
+            LevelChange {
+                number: wire,
+                level,
+            },
+        ),
+        _ => Ok(()),
+    }
+}
+
+/// After these numbers have changed: the next delayed copy of each, if any, has the level the delay later.
+pub fn schedule_level_copies(
+    copies: &[OutputPort],
+    wheel: &mut LevelWheel,
+    changes: &[LevelChange],
+) -> Result<(), AllocError>
+    requires copies { All (λ c. c.number < length copies.now) changes.now }
+    requires within { All (HasSlot (length wheel.old)) copies.now }
+    ensures scheduled { OnOk result (wheel.new ≡ scheduled wheel.old (copied_from copies.now changes.now)) }
+    ensures places { OnOk result (length wheel.new ≡ length wheel.old) }
+{
+    for change in changes {
+        schedule_level_if(true, copies[change.number as usize], change.level, wheel)?;
+    }
+    Ok(())
+}

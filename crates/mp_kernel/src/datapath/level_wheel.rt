@@ -1,0 +1,147 @@
+//! The level wheel.
+
+ghost use Rattle.std.specs.Prelude.{◌≡◌, ◌+◌, ◌-◌, ◌<◌, ◌≤◌, nat_lt, if◌then◌else◌};
+ghost use Rattle.std.specs.List.{list_all};
+ghost use Rattle.mp_kernel.specs.events.EventWheels.{is_empty};
+
+use crate::datapath::level_change::LevelChange;
+use crate::datapath::level_slot::LevelSlot;
+use std::alloc::{AllocError, Global};
+use std::marker::Model;
+use std::mem::swap;
+
+/// A level wheel: a slot for each of the next units, the next first, with the levels that wires with data get in it so far as this is known. The slots lie in
+/// a circle, and `next` is the place of the next unit's.
+#[derive(Drop)]
+pub struct LevelWheel {
+    slots: Vec<LevelSlot>,
+    next: usize,
+}
+
+impl Model for LevelWheel {
+    ghost use Rattle.std.specs.Prelude.{List, ◌-◌, ◌≤◌, length};
+    ghost use Rattle.mp_kernel.specs.declared.datapath.level_change.LevelChange.{LevelChange};
+    ghost use Rattle.mp_kernel.specs.datapath.LevelWheels.{turned_by};
+
+    ghost Value = { List (List LevelChange) };
+
+    ghost view = { λ wheel. turned_by wheel.next wheel.slots.items };
+
+    ghost invariant = { λ wheel. wheel.next ≤ length wheel.slots.items - 1 };
+}
+
+impl LevelWheel {
+    ghost use Rattle.std.specs.Prelude.{◌≡◌, ◌↔◌, ℕ, ◌-◌, ◌<◌, ◌≤◌, ◌++◌, ◌∷◌, [], drop, length, IsTrue, IfOk, OnOk, slice_index_or, slice_set};
+    ghost use Rattle.mp_kernel.specs.events.EventWheels.{AreEmpty};
+    ghost use Rattle.mp_kernel.specs.datapath.LevelWheels.{with_entry};
+
+    /// A wheel of so many units, in which nothing changes.
+    pub fn new(alloc: Global, units: usize) -> Result<LevelWheel, AllocError>
+        ensures places { IfOk result (λ wheel. length wheel ≡ units) }
+        ensures empty { IfOk result (λ wheel. (k : ℕ) → slice_index_or wheel k [] ≡ []) }
+    {
+        let mut slots = Vec::with_capacity(alloc, units)?;
+        for _unit in 0..units {
+            slots.push(LevelSlot::new(alloc))?;
+        }
+        Ok(LevelWheel { slots, next: 0 })
+    }
+
+    /// Whether nothing changes in the next unit, so far as this is known.
+    #[inline(always)]
+    pub fn is_quiet(&self) -> bool
+        requires { 0 < length self.now }
+        ensures { IsTrue result ↔ slice_index_or self.now 0 [] ≡ [] }
+    {
+        self.slots[self.next].is_empty()
+    }
+
+    /// Whether nothing changes in any unit to come, so far as this is known.
+    pub fn is_idle(&self) -> bool
+        ensures { IsTrue result ↔ AreEmpty self.now }
+    {
+        are_empty(self.slots.as_slice())
+    }
+
+    /// The changes that come so many units after the next one, so far as this is known.
+    pub fn slot(&self, units: usize) -> &[LevelChange]
+        ensures { result.now ≡ slice_index_or self.now units [] }
+    {
+        if units >= self.slots.len() {
+            return &[];
+        }
+        let place = place_after(self.next, units, self.slots.len());
+        self.slots[place].as_slice()
+    }
+
+    /// The slot of so many units after the next one changes places with another.
+    pub fn swap_slot(&mut self, units: usize, other: &mut LevelSlot)
+        requires { units < length self.old }
+        ensures wheel { self.new ≡ slice_set self.old units other.old }
+        ensures other { other.new ≡ slice_index_or self.old units [] }
+    {
+        let place = place_after(self.next, units, self.slots.len());
+        swap(&mut self.slots[place], other);
+    }
+
+    /// The next unit begins: its slot becomes the present one, and the one that was present before is emptied and becomes that of the last unit.
+    #[inline(always)]
+    pub fn turn(&mut self, present: &mut LevelSlot)
+        requires { 0 < length self.old }
+        ensures present { present.new ≡ slice_index_or self.old 0 [] }
+        ensures turned { self.new ≡ drop 1 self.old ++ [] ∷ [] }
+    {
+        present.clear();
+        if self.is_quiet() {
+            self.skip();
+            return;
+        }
+        swap(&mut self.slots[self.next], present);
+        self.next = place_after(self.next, 1, self.slots.len());
+    }
+
+    /// The next unit begins, in which nothing changes.
+    #[inline(always)]
+    pub fn skip(&mut self)
+        requires some { 0 < length self.old }
+        requires quiet { slice_index_or self.old 0 [] ≡ [] }
+        ensures { self.new ≡ drop 1 self.old ++ [] ∷ [] }
+    {
+        self.next = place_after(self.next, 1, self.slots.len());
+    }
+
+    /// The change comes the delay, in units, after the present unit.
+    #[inline(always)]
+    pub fn schedule(&mut self, delay: usize, change: LevelChange) -> Result<(), AllocError>
+        requires some { 0 < delay }
+        requires within { delay ≤ length self.old }
+        ensures { OnOk result (self.new ≡ with_entry self.old (delay - 1) change) }
+    {
+        let place = place_after(self.next, delay - 1, self.slots.len());
+        self.slots[place].push(change)?;
+        Ok(())
+    }
+}
+
+/// Whether nothing is in any of the slots.
+fn are_empty(slots: &[LevelSlot]) -> bool
+    ensures { result ≡ list_all is_empty slots.now }
+{
+    slots.iter().all(|slot| slot.as_slice().is_empty())
+}
+
+/// The place so many after another, in a circle of so many places.
+#[inline(always)]
+fn place_after(place: usize, steps: usize, places: usize) -> usize
+    requires place { place < places }
+    requires steps { steps ≤ places }
+    ensures within { result < places }
+    ensures value { result ≡ (if nat_lt steps (places - place) then place + steps else steps - (places - place)) }
+{
+    let left = places - place;
+    if steps < left {
+        place + steps
+    } else {
+        steps - left
+    }
+}

@@ -1,0 +1,116 @@
+//! Who reads each wire.
+ghost use Rattle.std.specs.Prelude.{◌≡◌, ◌-◌, ◌≤◌, take, drop, length};
+ghost use Rattle.mp_kernel.specs.events.Fanouts.{head_of, listed_of};
+
+use crate::events::fanout_entry::FanoutEntry;
+use crate::events::fanout_row::FanoutRow;
+use std::alloc::{AllocError, Global};
+use std::marker::Model;
+
+/// For each wire the inputs of modules of width 1 that read it. Most wires have one reader, which stands in `heads`. The others' readers stand
+/// in one list, one wire's after the other's: the places tell where each wire's begin, and where the last ones end. Such a wire's head has no
+/// event.
+#[derive(Drop)]
+pub struct Fanout {
+    heads: Vec<FanoutEntry>,
+    places: Vec<usize>,
+    list: Vec<FanoutEntry>,
+}
+
+impl Model for Fanout {
+    ghost use Rattle.std.specs.Prelude.{◌≡◌, ◌+◌, List, length};
+    ghost use Rattle.mp_kernel.specs.declared.events.fanout_entry.FanoutEntry.{FanoutEntry};
+    ghost use Rattle.mp_kernel.specs.events.Fanouts.{rows_by, rows_of, ArePlaces};
+
+    ghost Value = { List (List FanoutEntry) };
+
+    ghost view = { λ fanout. rows_by fanout.heads.items (rows_of fanout.places.items fanout.list.items) };
+
+    ghost invariant = { λ fanout. (length fanout.heads.items + 1 ≡ length fanout.places.items) × ArePlaces fanout.places.items (length fanout.list.items) };
+}
+
+impl Fanout {
+    ghost use Rattle.std.specs.Prelude.{◌≡◌, ◌<◌, length, IfOk};
+    ghost use Rattle.mp_kernel.specs.events.Toggling.{row_at};
+
+    /// The fanout whose rows these are, by the numbers of the wires.
+    pub fn from_rows(alloc: Global, rows: &[FanoutRow]) -> Result<Fanout, AllocError>
+        ensures { IfOk result (λ fanout. fanout ≡ rows.now) }
+    {
+        let mut heads = Vec::with_capacity(alloc, rows.len())?;
+        let mut places = Vec::with_capacity(alloc, rows.len())?;
+        let mut list = Vec::new(alloc);
+        places.push(0)?;
+        for row in rows {
+            heads.push(head_of(row.as_slice()))?;
+            list.extend_from_slice(listed_of(row.as_slice()))?;
+            places.push(list.len())?;
+        }
+        Ok(Fanout {
+            heads,
+            places,
+            list,
+        })
+    }
+
+    /// How many of these wires have one reader. All their heads are in a cache after that.
+    #[inline(always)]
+    pub(crate) fn count_read_once(&self, wires: &[u32]) -> usize {
+        let mut count = 0usize;
+        for wire in wires {
+            if let Some(head) = self.heads.get(*wire as usize) {
+                if head.event != 0 {
+                    count += 1;
+                }
+            }
+        }
+        count
+    }
+
+    /// The inputs that read a wire.
+    #[inline(always)]
+    pub fn of(&self, wire: u32) -> &[FanoutEntry]
+        requires { wire < length self.now }
+        ensures { result.now ≡ row_at self.now wire }
+    {
+        let w = wire as usize;
+        let heads = self.heads.as_slice();
+        if heads[w].event != 0 {
+            return part(heads, w, w + 1);
+        }
+        let places = self.places.as_slice();
+        part(self.list.as_slice(), places[w], places[w + 1])
+    }
+}
+
+#[inline(always)]
+fn part(list: &[FanoutEntry], from: usize, to: usize) -> &[FanoutEntry]
+    requires rise { from ≤ to }
+    requires within { to ≤ length list.now }
+    ensures { result.now ≡ take (to - from) (drop from list.now) }
+{
+    &list[from..to]
+}
+
+/// The only input of a row, and else one without an event.
+fn head_of(row: &[FanoutEntry]) -> FanoutEntry
+    ensures { result ≡ head_of row.now }
+{
+    match row {
+        [only] => *only,
+        _ => FanoutEntry {
+            module: 0,
+            event: 0,
+        },
+    }
+}
+
+/// What of a row has to be listed: nothing where its head tells of it.
+fn listed_of(row: &[FanoutEntry]) -> &[FanoutEntry]
+    ensures { result.now ≡ listed_of row.now }
+{
+    match row {
+        [only] if only.event != 0 => &[],
+        _ => row,
+    }
+}

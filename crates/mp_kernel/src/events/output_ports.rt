@@ -1,0 +1,11 @@
+//! The outputs of a module of width 1.
+
+use crate::events::output_port::OutputPort;
+
+/// The outputs of a module of width 1. Where it has fewer, the others drive no wire.
+#[derive(Clone, Copy, Debug)]
+pub struct OutputPorts {
+    pub first: OutputPort,
+    pub second: OutputPort,
+    pub third: OutputPort,
+}

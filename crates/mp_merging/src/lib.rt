@@ -1,8 +1,0 @@
-//! What parts of a netlist give, and what the netlist gives by that.
-#![tactic(auto)]
-
-mod merging;
-mod part_run;
-
-pub use merging::{merged, merged_waves};
-pub use part_run::PartRun;

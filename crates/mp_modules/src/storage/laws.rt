@@ -1,0 +1,21 @@
+//! What the definitions come to.
+
+ghost use Rattle.mp_modules.specs.storage.AnyModules.{KeepsKind};
+ghost use Rattle.mp_modules.specs.storage.RegLaws.{ChangesWhileOpen, FollowsWhileOpen};
+ghost use Rattle.mp_modules.specs.storage.Sums.{Adds};
+
+/// A module that is made of a kind has that kind.
+pub fn keeps_kind()
+    ensures { KeepsKind }
+{}
+
+/// The data output of a REG changes only in a unit in which it is open, its capture and its pass being equal, and is its data input then.
+pub fn register_changes_while_open()
+    ensures changes { ChangesWhileOpen }
+    ensures follows { FollowsWhileOpen }
+{}
+
+/// ADDC and SUM add modulo two to the power of their width.
+pub fn adds()
+    ensures { Adds }
+{}

@@ -1,0 +1,3 @@
+pub mod runs
+pub mod regions
+pub mod merging

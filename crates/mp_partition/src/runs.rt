@@ -1,0 +1,11 @@
+//! What an evaluation of a netlist gives: waves, and states of modules.
+
+mod bit_memory;
+mod checkpoint;
+mod checkpoints;
+mod run;
+mod state_list;
+
+pub use checkpoint::Checkpoint;
+pub use checkpoints::Checkpoints;
+pub use run::Run;

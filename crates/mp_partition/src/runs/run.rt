@@ -1,0 +1,116 @@
+//! What an evaluation gives.
+ghost use Rattle.std.specs.Prelude.{◌≡◌};
+
+use crate::runs::checkpoints::Checkpoints;
+use mp_model::Waves;
+use mp_modules::Memory;
+use mp_netlist::{ModuleId, WireId, checkpoint_units};
+use mp_wave::Wave;
+use std::alloc::{AllocError, Global};
+use std::marker::Model;
+use std::sync::Arc;
+
+/// The wave of each wire of a netlist up to its horizon, and states of its modules: the last ones, and those at checkpoints.
+#[derive(Drop)]
+pub struct Run {
+    horizon: u32,
+    waves: Waves,
+    ends: Vec<Option<Memory>>,
+    kept: Vec<Option<Arc<Checkpoints, Global>>>,
+}
+
+impl Model for Run {
+    ghost use Rattle.std.specs.Prelude.{map, option_map};
+    ghost use Rattle.std.specs.Arc.{arc_value};
+    ghost use Rattle.mp_partition.specs.runs.Outcomes.{Outcome};
+
+    ghost Value = { Outcome };
+
+    ghost view = { λ run. record { horizon = run.horizon; waves = run.waves; ends = run.ends.items; kept = map (option_map arc_value) run.kept.items } };
+}
+
+impl Run {
+    ghost use Rattle.std.specs.Prelude.{◌≡◌, map, option_map, IfOk};
+    ghost use Rattle.std.specs.Option.{option_copied};
+    ghost use Rattle.std.specs.Arc.{arc_value};
+    ghost use Rattle.mp_netlist.specs.Slots.{slot_at};
+    ghost use Rattle.mp_partition.specs.runs.Outcomes.{Outcome, wave_of, end_of, checkpoint_of};
+
+    /// The run up to a horizon with these waves, last states and states at checkpoints.
+    pub fn new(
+        horizon: u32,
+        waves: Waves,
+        ends: Vec<Option<Memory>>,
+        kept: Vec<Option<Arc<Checkpoints, Global>>>,
+    ) -> Self
+        ensures { result ≡ record { horizon = horizon; waves = waves; ends = ends.items; kept = map (option_map arc_value) kept.items } }
+    {
+        Run {
+            horizon,
+            waves,
+            ends,
+            kept,
+        }
+    }
+
+    /// The wave of a wire that stands.
+    pub fn wave(&self, wire: WireId) -> Option<&Wave>
+        ensures { option_copied result ≡ wave_of self.now wire.0 }
+    {
+        self.waves.of(wire)
+    }
+
+    /// The wave of each wire that stands.
+    pub fn waves(&self) -> &Waves
+        ensures { result.now ≡ self.now.waves }
+    {
+        &self.waves
+    }
+
+    /// The state of a module that stands, after the last unit.
+    pub fn end_memory(&self, id: ModuleId) -> Option<Memory>
+        ensures { result ≡ end_of self.now id.0 }
+    {
+        match self.ends.get(id.0 as usize) {
+            Some(Some(memory)) => Some(*memory),
+            _ => None,
+        }
+    }
+
+    /// The states of a module that the run kept.
+    pub fn checkpoints(&self, id: ModuleId) -> Option<&Checkpoints>
+        ensures { option_copied result ≡ slot_at self.now.kept id.0 }
+    {
+        match self.kept.get(id.0 as usize) {
+            Some(Some(kept)) => Some(kept),
+            _ => None,
+        }
+    }
+
+    /// The states of a module that the run kept, shared and not copied.
+    pub fn shared_checkpoints(
+        &self,
+        id: ModuleId,
+    ) -> Result<Option<Arc<Checkpoints, Global>>, AllocError>
+        ensures { IfOk result (λ kept. option_map arc_value kept ≡ slot_at self.now.kept id.0) }
+    {
+        match self.kept.get(id.0 as usize) {
+            Some(Some(kept)) => Ok(Some(Arc::try_clone(kept)?)),
+            _ => Ok(None),
+        }
+    }
+
+    /// The state of a module that stands, before the unit of a checkpoint: a multiple of `checkpoint_units` below the horizon. The state
+    /// before time 0 is that in which the module starts. Nothing for any other time.
+    pub fn checkpoint(&self, id: ModuleId, time: u32) -> Option<Memory>
+        ensures { result ≡ checkpoint_of self.now id.0 time }
+    {
+        if time >= self.horizon || !time.is_multiple_of(checkpoint_units(self.horizon)) {
+            return None;
+        }
+        match self.kept.get(id.0 as usize) {
+            Some(Some(kept)) => Some(kept.kept_at(time)),
+            _ => None,
+        }
+    }
+}

@@ -1,0 +1,20 @@
+//! Timing diagrams as SVG.
+
+mod drawing;
+mod drawn;
+mod elements;
+mod found_groups;
+mod frame;
+mod head;
+mod lane;
+pub mod laws;
+mod leads;
+mod mark_rows;
+mod style;
+mod svg;
+mod value_group;
+mod wire_group;
+
+pub use lane::Lane;
+pub use svg::{MOST_COLUMNS, put_svg};
+pub use wire_group::put_wire_group;

@@ -1,0 +1,65 @@
+//! Where the columns of an SVG stand.
+use crate::svg::lane::Lane;
+use itoa::Buffer;
+use crate::{Columns, last_tick, tick_step};
+
+/// The columns of an SVG, from a point on.
+#[derive(Clone, Copy, Debug)]
+pub(crate) struct Frame {
+    pub(crate) left: u32,
+    pub(crate) columns: Columns,
+}
+
+impl Frame {
+    ghost use Rattle.std.specs.Prelude.{◌≡◌, ◌<◌, ◌≤◌, ◌*◌, ◌^◌, length};
+    ghost use Rattle.mp_picture.specs.Columns.{count};
+    ghost use Rattle.mp_picture.specs.Rows.{tick_step};
+    ghost use Rattle.mp_picture.specs.svg.Frames.{column_x, lane, tick_count, end};
+
+    /// Where a column begins.
+    pub(crate) fn x(self, column: u32) -> u64
+        ensures { result ≡ column_x self column }
+    {
+        u64::from(self.left) + 8 * u64::from(column)
+    }
+
+    /// A row by number, from 0.
+    pub(crate) fn lane(self, row: u32) -> Lane
+        ensures { result ≡ lane self row }
+    {
+        Lane {
+            left: self.left,
+            row,
+            units: self.columns.units,
+        }
+    }
+
+    /// At how many columns a time stands.
+    pub(crate) fn tick_count(self) -> u32
+        ensures value { result ≡ tick_count self }
+        ensures some { 0 < result }
+    {
+        last_tick(self.columns) + 1
+    }
+
+    /// The column at which a time stands.
+    pub(crate) fn tick_column(self, number: u32) -> u32
+        requires { number < tick_count self }
+        ensures value { result ≡ tick_step self.columns * number }
+        ensures within { result < count self.columns }
+    {
+        tick_step(self.columns) * number
+    }
+
+    /// Where the columns end, or the last time where that is further.
+    pub(crate) fn end(self) -> u64
+        ensures value { result ≡ end self }
+        ensures low { result < 2 ^ 63 }
+    {
+        let last = self.tick_column(self.tick_count() - 1);
+        let mut digits = Buffer::new();
+        let time = digits.format(self.columns.begin(last));
+        let reach = self.x(last) + 8 * time.len() as u64;
+        self.x(self.columns.count()).max(reach)
+    }
+}

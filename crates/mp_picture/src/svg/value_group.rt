@@ -1,0 +1,68 @@
+//! The values of a wider wire.
+use crate::svg::elements::{Label, Rectangle};
+use crate::svg::lane::Lane;
+use itoa::Buffer;
+use mp_streams::{Failed, Out, Sink, Text};
+
+/// A level from a point on, where it fits into so many columns.
+#[derive(Clone, Copy)]
+struct Fitting {
+    x: u64,
+    y: u64,
+    room: u64,
+    level: u64,
+}
+
+impl Text for Fitting {
+    ghost use Rattle.mp_picture.specs.svg.Columns.{fitting_text};
+
+    ghost text = { λ value. fitting_text value.x value.y value.room value.level };
+
+    fn put_to<S: Sink>(&self, out: &mut Out<S>) -> Result<(), Failed> {
+        let mut buffer = Buffer::new();
+        let text = buffer.format(self.level);
+        if text.len() as u64 > self.room {
+            return Ok(());
+        }
+        let (x, y) = (self.x, self.y);
+        Label { x, y, text }.put_to(out)
+    }
+}
+
+/// The value of a column with so many behind it that have no event: a frame over them, and the level from a point on, where it fits into
+/// its room.
+#[derive(Clone, Copy)]
+pub(crate) struct ValueGroup {
+    pub(crate) lane: Lane,
+    pub(crate) column: u32,
+    pub(crate) x: u64,
+    pub(crate) room: u64,
+    pub(crate) later: u32,
+    pub(crate) level: u64,
+}
+
+impl Text for ValueGroup {
+    ghost use Rattle.mp_picture.specs.svg.Columns.{value_group};
+
+    ghost text = { λ value. value_group value.lane value.column value.x value.room value.later value.level };
+
+    fn put_to<S: Sink>(&self, out: &mut Out<S>) -> Result<(), Failed> {
+        let column = (" data-column=\"", self.column, "\"");
+        let level = (" data-level=\"", self.level, "\"");
+        let title = ("<title>", self.level, "</title>");
+        let frame = Rectangle {
+            start: "<rect",
+            x: self.lane.begin(self.column),
+            y: self.lane.top(),
+            width: 8 * (u64::from(self.later) + 1),
+        };
+        let value = Fitting {
+            x: self.x,
+            y: self.lane.base(),
+            room: self.room,
+            level: self.level,
+        };
+        let start = ("<g class=\"value\"", column, level, ">");
+        (start, title, frame, (value, "</g>")).put_to(out)
+    }
+}

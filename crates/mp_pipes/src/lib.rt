@@ -1,9 +1,0 @@
-//! The seats of a desk at named pipes.
-#![tactic(auto)]
-
-mod pipe_door;
-mod pipe_exit;
-mod pipe_paths;
-mod pipes;
-
-pub use pipes::Pipes;

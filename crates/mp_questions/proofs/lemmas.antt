@@ -1,0 +1,2 @@
+pub mod timing
+pub mod causes

@@ -1,0 +1,18 @@
+//! Causes of levels: which changes led to a wire's level, and which modules the time of that passed in.
+
+mod cause;
+mod driving_port;
+mod input_event;
+pub mod laws;
+mod levels;
+mod module_share;
+mod moment;
+mod path;
+mod shares;
+mod tracer;
+mod why;
+mod wire_change;
+
+pub use moment::Moment;
+pub use path::put_path;
+pub use why::put_why;

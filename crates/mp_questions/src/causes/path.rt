@@ -1,0 +1,70 @@
+//! Where the time of a chain of causes went.
+ghost use Rattle.std.specs.Prelude.{◌≡◌};
+ghost use Rattle.std.specs.List.{flat_map};
+ghost use Rattle.mp_streams.specs.Outgoing.{Writes as WritesTo};
+ghost use Rattle.mp_streams.specs.WriteErrors.{Writes};
+ghost use Rattle.mp_model.specs.Waves.{AreWavesOf};
+ghost use Rattle.mp_questions.specs.causes.Paths.{path_text, share_line};
+
+use crate::causes::levels::Levels;
+use crate::causes::module_share::ModuleShare;
+use crate::causes::moment::Moment;
+use crate::causes::shares::{by_units, shares};
+use crate::causes::tracer::Tracer;
+use mp_model::Waves;
+use mp_netlist::Netlist;
+use mp_streams::{Failed, Out, Sink, Text, WriteError};
+use std::alloc::Global;
+
+/// Writes where the time went that led to a wire's level at a time: for each module of the whole chain of causes a line
+/// `MODULE UNITS STEPS`, how many units passed in it and in how many steps, the most units first, and of equal ones the lesser number
+/// first. Nothing is written for a wire that didn't change, or where none stands.
+///
+/// `WriteFailed` comes with a fault of the sink: then some of what was held and of the text, from the front, is with the sink, and nothing
+/// is held. `OutOfMemory` comes where memory is wanting: then nothing is written. It takes memory for the drivers of wires and for two
+/// numbers of each module. A step of the chain takes searches in the waves of one module's inputs.
+pub fn put_path<S: Sink>(
+    alloc: Global,
+    out: &mut Out<S>,
+    netlist: &Netlist,
+    waves: &Waves,
+    moment: Moment,
+) -> Result<(), WriteError>
+    requires { AreWavesOf netlist.now waves.now }
+    ensures { Writes result out.old out.new (path_text netlist.now moment) }
+{
+    let levels = Levels::new(netlist, waves);
+    let Some(last) = levels.last_change(moment) else {
+        return Ok(());
+    };
+    let mut tracer = Tracer::new(alloc, levels)?;
+    let shares = by_units(shares(alloc, &mut tracer, last)?);
+    put_shares(out, netlist, shares.as_slice())?;
+    Ok(())
+}
+
+/// Writes a line for each share.
+fn put_shares<S: Sink>(
+    out: &mut Out<S>,
+    netlist: &Netlist,
+    shares: &[ModuleShare],
+) -> Result<(), Failed>
+    ensures { WritesTo result out.old out.new (flat_map (share_line netlist.now) shares.now) }
+{
+    for &share in shares {
+        put_share(out, netlist, share)?;
+    }
+    Ok(())
+}
+
+fn put_share<S: Sink>(out: &mut Out<S>, netlist: &Netlist, share: ModuleShare) -> Result<(), Failed>
+    ensures { WritesTo result out.old out.new (share_line netlist.now share) }
+{
+    match netlist.module(share.id) {
+        Some(part) => {
+            let (name, units, steps) = (part.name.as_str(), share.units, share.steps);
+            (name, " ", units, (" ", steps, "\n")).put_to(out)
+        }
+        None => Ok(()),
+    }
+}

@@ -1,0 +1,112 @@
+//! The shares of all modules of a chain of causes.
+ghost use Rattle.std.specs.Prelude.{◌≡◌, ◌≢◌, ◌<◌, ℕ, true, Some, IfOk, filter, length, slice_index_or, option_map};
+ghost use Rattle.mp_netlist.specs.Circuit.{IsCircuit};
+ghost use Rattle.mp_questions.specs.causes.Causes.{port_seen};
+ghost use Rattle.mp_questions.specs.causes.Chains.{chain_from};
+ghost use Rattle.mp_questions.specs.causes.Shares.{shares, has_steps, by_units, is_port_of, time_of};
+ghost use Rattle.mp_questions.specs.causes.Noting.{AreByNumber, HasRoom, IsNone, noted, with_step};
+ghost use Rattle.mp_questions.specs.declared.causes.module_share.ModuleShare.{ModuleShare as Share};
+
+use crate::causes::driving_port::DrivingPort;
+use crate::causes::module_share::ModuleShare;
+use crate::causes::tracer::Tracer;
+use crate::causes::wire_change::WireChange;
+use mp_netlist::{ModuleId, Netlist};
+use std::alloc::{AllocError, Global};
+use std::cmp::Reverse;
+
+/// The share of each module, by number, in the chain of a change.
+pub(crate) fn shares(
+    alloc: Global,
+    tracer: &mut Tracer<'_>,
+    last: WireChange,
+) -> Result<Vec<ModuleShare>, AllocError>
+    requires form { IsCircuit tracer.old.levels.netlist.now }
+    requires from { 0 < last.time }
+    requires within { last.time < tracer.old.levels.netlist.now.horizon }
+    ensures value { IfOk result (λ found. found.items ≡ shares tracer.old.levels.netlist.now (chain_from tracer.old.levels.netlist.now last.time (Some last))) }
+    ensures order { IfOk result (λ found. AreByNumber 0 found.items) }
+{
+    let mut shares = no_shares(alloc, tracer.levels.netlist)?;
+    let mut next = Some(last);
+    while let Some(change) = next {
+        let cause = tracer.cause_of(change);
+        next = cause.followed();
+        let units = change.time - time_of(next);
+        note(&mut shares, cause.port(), units);
+    }
+    Ok(shares)
+}
+
+/// No share of any module.
+fn no_shares(alloc: Global, netlist: &Netlist) -> Result<Vec<ModuleShare>, AllocError>
+    ensures places { IfOk result (λ found. length found.items ≡ length netlist.now.modules) }
+    ensures each { IfOk result (λ found. (m : ℕ) (d : Share) → m < length netlist.now.modules → IsNone m (slice_index_or found.items m d)) }
+{
+    let mut shares = Vec::with_capacity(alloc, netlist.module_slots() as usize)?;
+    for number in 0..netlist.module_slots() {
+        shares.push(ModuleShare {
+            id: ModuleId(number),
+            units: 0,
+            steps: 0,
+        })?;
+    }
+    Ok(shares)
+}
+
+/// The time of a change, 0 where there is none.
+fn time_of(change: Option<WireChange>) -> u32
+    ensures { result ≡ time_of change }
+{
+    match change {
+        Some(found) => found.time,
+        None => 0,
+    }
+}
+
+/// Adds a step of so many units to the share of the module that it comes from, if it comes from one.
+fn note(shares: &mut Vec<ModuleShare>, port: Option<DrivingPort<'_>>, units: u32)
+    requires room { (m : ℕ) (d : Share) → m < length shares.old.items → is_port_of m (option_map port_seen port) ≡ true → HasRoom units (slice_index_or shares.old.items m d) }
+    ensures places { length shares.new.items ≡ length shares.old.items }
+    ensures each { (m : ℕ) (d : Share) → m < length shares.old.items → slice_index_or shares.new.items m d ≡ noted (is_port_of m (option_map port_seen port.entry)) units (slice_index_or shares.old.items m d) }
+{
+    if let Some(found) = port {
+        add(shares, found.id, units);
+    }
+}
+
+/// Adds a step of so many units to the share of a module.
+fn add(shares: &mut Vec<ModuleShare>, id: ModuleId, units: u32)
+    requires room { (d : Share) → id.0 < length shares.old.items → HasRoom units (slice_index_or shares.old.items id.0 d) }
+    ensures places { length shares.new.items ≡ length shares.old.items }
+    ensures here { (d : Share) → id.0 < length shares.old.items → slice_index_or shares.new.items id.0 d ≡ with_step units (slice_index_or shares.old.items id.0 d) }
+    ensures others { (m : ℕ) (d : Share) → m ≢ id.0 → slice_index_or shares.new.items m d ≡ slice_index_or shares.old.items m d }
+{
+    let place = id.0 as usize;
+    if place < shares.len() {
+        shares[place] = with_step(shares[place], units);
+    }
+}
+
+/// A share with a step of so many units more.
+fn with_step(share: ModuleShare, units: u32) -> ModuleShare
+    requires { HasRoom units share }
+    ensures { result ≡ with_step units share }
+{
+    ModuleShare {
+        id: share.id,
+        units: share.units + units,
+        steps: share.steps + 1,
+    }
+}
+
+/// The shares that have a step, the most units first, and of equal ones the lesser number.
+pub(crate) fn by_units(shares: Vec<ModuleShare>) -> Vec<ModuleShare>
+    requires { AreByNumber 0 shares.items }
+    ensures { result.items ≡ by_units (filter has_steps shares.items) }
+{
+    let mut found = shares;
+    found.retain(|share| share.steps > 0);
+    found.sort_unstable_by_key(|share| (Reverse(share.units), share.id.0));
+    found
+}

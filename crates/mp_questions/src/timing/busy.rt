@@ -1,0 +1,66 @@
+//! Which bundles wait at a time.
+ghost use Rattle.std.specs.Prelude.{◌≡◌, length, IsSome};
+ghost use Rattle.std.specs.List.{flat_map, range_with_len};
+ghost use Rattle.mp_streams.specs.Outgoing.{Writes};
+ghost use Rattle.mp_netlist.specs.Circuit.{IsBundle, wire_at};
+ghost use Rattle.mp_model.specs.Waves.{level};
+ghost use Rattle.mp_questions.specs.timing.Hearing.{Hears};
+ghost use Rattle.mp_questions.specs.timing.Waits.{bundle_wait, busy_wait};
+
+use crate::timing::heard::Heard;
+use crate::timing::lines::{put_since, wire_name};
+use crate::timing::moment::Moment;
+use mp_netlist::{BundleId, BundleRecord, WireId};
+use mp_streams::{Failed, Out, Sink};
+
+/// Writes the lines of the bundles.
+pub(crate) fn put_bundles<S: Sink>(out: &mut Out<S>, at: &Moment<'_>) -> Result<(), Failed>
+    ensures { Writes result out.old out.new (flat_map (bundle_wait at.now.netlist.now at.now.time) (range_with_len 0 (length at.now.netlist.now.bundles))) }
+{
+    for number in 0..at.netlist.bundle_slots() {
+        put_bundle(out, at, BundleId(number))?;
+    }
+    Ok(())
+}
+
+/// Writes the line of a bundle, and nothing where none stands.
+fn put_bundle<S: Sink>(out: &mut Out<S>, at: &Moment<'_>, id: BundleId) -> Result<(), Failed>
+    ensures { Writes result out.old out.new (bundle_wait at.now.netlist.now at.now.time id.0) }
+{
+    match at.netlist.bundle(id) {
+        Some(bundle) => put_busy(out, at, bundle),
+        None => Ok(()),
+    }
+}
+
+/// Writes that a bundle waits for its acknowledge, where it is busy.
+fn put_busy<S: Sink>(out: &mut Out<S>, at: &Moment<'_>, bundle: &BundleRecord) -> Result<(), Failed>
+    requires { IsBundle at.now.netlist.now bundle.now }
+    ensures { Writes result out.old out.new (busy_wait at.now.netlist.now bundle.now at.now.time) }
+{
+    let request = prompt(at, bundle.request);
+    let acknowledge = prompt(at, bundle.acknowledge);
+    if request.level_at(at.time) == acknowledge.level_at(at.time) {
+        return Ok(());
+    }
+    let name = bundle.name.as_str();
+    let what = wire_name(at.netlist, bundle.acknowledge);
+    put_since(
+        out,
+        name,
+        " bundle waits for ",
+        &what,
+        request.since(at.time),
+    )
+}
+
+/// What is heard of a wire that stands without a delay.
+fn prompt<'a>(at: &Moment<'a>, wire: WireId) -> Heard<'a>
+    requires { IsSome (wire_at at.now.netlist.now wire.0) }
+    ensures { Hears (level at.now.netlist.now wire.0) at.now.netlist.now.horizon result }
+{
+    Heard {
+        wave: at.wave_of(wire),
+        delay: 0,
+    }
+}

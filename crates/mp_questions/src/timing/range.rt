@@ -1,0 +1,48 @@
+//! A range of times.
+
+/// The times from one on to before another, as they are asked for. A netlist reads a time at or above its horizon as its last unit, or as
+/// the horizon where it ends the range. There are none where the first is then not below the end.
+#[derive(Clone, Copy, Debug, PartialEq, Eq)]
+pub struct TimeRange {
+    /// The first time.
+    pub from: u64,
+    /// The end, which isn't in the range.
+    pub to: u64,
+}
+
+impl TimeRange {
+    ghost use Rattle.std.specs.Prelude.{◌≡◌, ◌<◌, ◌≤◌};
+    ghost use Rattle.mp_questions.specs.timing.Ranges.{read_time, read_end};
+
+    /// The range as a netlist with this horizon reads it.
+    pub(crate) fn read(self, horizon: u32) -> Units
+        requires { 0 < horizon }
+        ensures from { result.from ≡ read_time horizon self.from }
+        ensures to { result.to ≡ read_end horizon self.to }
+        ensures within { result.to ≤ horizon }
+    {
+        Units {
+            from: read_time(horizon, self.from),
+            to: self.to.min(u64::from(horizon)) as u32,
+        }
+    }
+}
+
+/// The units from one on to before another, below a horizon.
+#[derive(Clone, Copy)]
+pub(crate) struct Units {
+    pub(crate) from: u32,
+    pub(crate) to: u32,
+}
+
+ghost use Rattle.std.specs.Prelude.{◌≡◌, ◌<◌};
+ghost use Rattle.mp_questions.specs.timing.Ranges.{read_time};
+
+/// A time as a netlist with this horizon reads it.
+pub(crate) fn read_time(horizon: u32, time: u64) -> u32
+    requires { 0 < horizon }
+    ensures value { result ≡ read_time horizon time }
+    ensures within { result < horizon }
+{
+    time.min(u64::from(horizon - 1)) as u32
+}

@@ -1,0 +1,66 @@
+-- Who enters a gate works then.
+use Rattle.std.proofs.Common.{◌≡◌, ℕ, ◌+◌, ◌-◌, ◌<◌, ◌≤◌, Bool, true, false, List, IsSome, refl, sym, subst, ◌∙◌, arith, inl, inr}
+use Rattle.std.specs.List.{Contains}
+use Rattle.std.proofs.lemmas.Bool.{cases_Bool, both_ways}
+use Rattle.std.proofs.lemmas.List.Elements.{All-weaker}
+use Rattle.mp_records.specs.declared.ids.ModuleId.{ModuleId}
+use Rattle.mp_netlist.specs.Circuit.{Circuit, IsCircuit, module_at}
+use Rattle.mp_netlist.specs.Limits.{checkpoint_units}
+use Rattle.mp_partition.specs.runs.Outcomes.{Outcome}
+use Rattle.mp_phase.specs.Allowed.{IsAllowed, AreAllowed}
+use Rattle.mp_depend.specs.work.Work.{block_of, window_end, IsWindow, IsEntry}
+use Rattle.mp_depend.proofs.lemmas.work.WindowLemmas.{window_within, in_block}
+use Rattle.mp_depend.specs.history.Live.{AreAtWork}
+use Rattle.mp_redo.specs.declared.rerun.join.Join.{Join}
+use Rattle.mp_redo.specs.declared.rerun.rerun.Rerun.{Rerun}
+use Rattle.mp_redo.specs.rerun.Entering.{AllWork, AllTasksWork, Enters}
+use Rattle.mp_redo.specs.rerun.Joining.{AreJoining}
+use Rattle.mp_redo.specs.rerun.Reruns.{active_of}
+use Rattle.mp_redo.specs.rerun.Windows.{IsInWindow}
+
+-- who is at work before a window works in it
+pub window_work : (old new : Circuit) (live : ℕ → Bool) (time end m : ℕ) → IsWindow new time end → AreAtWork old new (block_of new.horizon time) time live → IsSome (module_at new m) → live m ≡ true
+    → IsEntry old new m time end
+window_work old new live time end m window are stands on = record { start = time; window = window; works = inl (are.works m stands on, refl) }
+
+-- who joins in a unit of a window, and wasn't active in it before, works from the block's begin to the window's end
+pub joining_work : (old new : Circuit) → IsCircuit new → (run : Outcome) (from time : ℕ) (s : Rerun) → 0 < time → IsInWindow old new run from (time - 1) s → time < s.window_end → (joining : List ModuleId)
+    → AreJoining old new (active_of s) time joining → AllWork old new (block_of new.horizon time) s.window_end joining
+joining_work old new ok run from time s some is below joining joins m has = record {
+  start = from;
+  window = is.window;
+  works = inr (
+    is.work.rests m (joins.stand m has) slept,
+    (time, first, below, joins.apart m has),
+    in_block new.horizon from time (omega (arith, low, first)) (omega (arith, below, high)),
+  );
+}
+  where
+    within : (block_of new.horizon from ≤ from) × (from < s.window_end) × (s.window_end ≤ block_of new.horizon from + checkpoint_units new.horizon)
+    within = window_within new ok from s.window_end is.window
+
+    low : block_of new.horizon from ≤ from
+    low = within.0
+
+    high : s.window_end ≤ block_of new.horizon from + checkpoint_units new.horizon
+    high = within.2
+
+    first : from ≤ time
+    first = let begun = is.begun in omega (arith, begun, some)
+
+    slept : is.live m ≡ false
+    slept = elim (cases_Bool (is.live m)) as (λ _. is.live m ≡ false) [
+      | inl on ↦ let no : ⊥ = both_ways (active_of s m) (joins.asleep m has) (is.joined.stay m on) in absurd no
+      | inr off ↦ off
+    ]
+
+-- a task whose module works may let it enter where that may
+task_allowed : (old new : Circuit) (may : ℕ → ℕ → ℕ → Bool) → IsAllowed (IsEntry old new) may → (task : Join) → IsEntry old new task.«module».0 task.from task.window_end → IsAllowed (Enters task) may
+task_allowed old new may allowed task works m from to enters =
+    subst (λ k. may k from to ≡ true) (sym enters.0)
+    (subst (λ k. may task.«module».0 k to ≡ true) (sym enters.1)
+    (subst (λ k. may task.«module».0 task.from k ≡ true) (sym enters.2) (allowed task.«module».0 task.from task.window_end works)))
+
+pub tasks_allowed : (old new : Circuit) (may : ℕ → ℕ → ℕ → Bool) → IsAllowed (IsEntry old new) may → (tasks : List Join) → AllTasksWork old new tasks → AreAllowed Enters may tasks
+tasks_allowed old new may allowed tasks all =
+    All-weaker (λ (task : Join). IsEntry old new task.«module».0 task.from task.window_end) (λ (task : Join). IsAllowed (Enters task) may) (task_allowed old new may allowed) tasks all

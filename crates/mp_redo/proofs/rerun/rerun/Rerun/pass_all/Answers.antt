@@ -1,0 +1,34 @@
+use Rattle.std.proofs.Common.{◌≡◌, ℕ, ◌+◌, ◌-◌, subst, arith}
+use Rattle.mp_redo.specs.declared.rerun.ahead.Ahead.{Ahead}
+use Rattle.mp_redo.specs.rerun.Settling.{IsAhead}
+use Rattle.mp_redo.specs.rerun.Windows.{IsUnderWay}
+use Rattle.mp_redo.proofs.rerun.rerun.Rerun.pass_all.Goals as goal
+
+pub loop-time-preserved : goal.loop-time-preserved
+loop-time-preserved g c =
+    let change = c.args.change.now in
+    let ahead = subst (λ (a : Ahead). IsAhead change.old.now change.new.now change.run.now c.loop-time.time c.look_ahead.new.self a) c.in-Next.is c.in_ok-next.ensures in
+    let first = ahead.0 in
+    let before = c.loop-time.invariant.some in
+    let over = c.pass_still-time.ensures in
+    let later = over.later in
+    let within = over.within in
+    let ends = over.after.is.window.ends in
+    record {
+      some = omega (arith, first, before, later);
+      most = omega (arith, within, ends);
+      before = over.after;
+    }
+
+pub loop-time-preserved-then-time-self : goal.loop-time-preserved-then-time-self
+loop-time-preserved-then-time-self g c =
+    let change = c.args.change.now in
+    let time = c.pass_still-time.result in
+    let ends = c.pass_still-time.ensures.after.is.window.ends in
+    let low = c.if-time-self.true in
+    let same : time ≡ time + 1 - 1 = omega arith in
+    record {
+      some = omega arith;
+      most = omega (arith, low, ends);
+      before = subst (λ (t : ℕ). IsUnderWay change.old.now change.new.now change.run.now t c.pass_unit.new.self) same c.in_ok-pass_unit-in-Next.ensures.after;
+    }

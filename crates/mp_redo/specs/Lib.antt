@@ -1,0 +1,3 @@
+pub mod apart
+pub mod rerun
+pub mod parts

@@ -1,0 +1,4 @@
+//! Netlists in parts that no wire connects.
+
+pub mod joining;
+pub mod laws;

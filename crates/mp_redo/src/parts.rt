@@ -1,0 +1,16 @@
+//! A change of a netlist is evaluated again part by part, where the netlist falls into groups of modules that no wire connects.
+
+mod change;
+mod driven;
+mod least;
+mod part;
+mod part_netlist;
+mod part_run;
+mod partition;
+mod reached;
+mod redoing;
+mod redone;
+mod together;
+mod whole_run;
+
+pub use redoing::redo;

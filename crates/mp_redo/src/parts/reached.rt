@@ -1,0 +1,96 @@
+//! Which modules a change reaches at once.
+
+use mp_depend::touched;
+use mp_netlist::{Input, ModuleId, Netlist, Stimulus, WireId};
+use mp_partition::{Division, home_of};
+use std::alloc::{AllocError, Global};
+
+/// The modules that a change touches, and those that read a wire on which it sets something else. One that is both may come twice.
+pub(crate) fn first_reached(
+    alloc: Global,
+    old: &Netlist,
+    new: &Netlist,
+) -> Result<Vec<ModuleId>, AllocError> {
+    let mut reached = touched(alloc, old, new)?;
+    let set = set_otherwise(alloc, old, new)?;
+    if set.is_empty() {
+        return Ok(reached);
+    }
+    for m in 0..new.module_slots() {
+        if reads(new, ModuleId(m), set.as_slice()) {
+            reached.push(ModuleId(m))?;
+        }
+    }
+    Ok(reached)
+}
+
+/// A mark for each wire on which something else is set. No marks where there is none.
+fn set_otherwise(alloc: Global, old: &Netlist, new: &Netlist) -> Result<Vec<bool>, AllocError> {
+    let mut marks = Vec::new(alloc);
+    let mut any = false;
+    for w in 0..new.wire_slots() {
+        let set = is_set_otherwise(old, new, WireId(w));
+        marks.push(set)?;
+        any = any || set;
+    }
+    if !any {
+        marks.clear();
+    }
+    Ok(marks)
+}
+
+fn is_set_otherwise(old: &Netlist, new: &Netlist, wire: WireId) -> bool {
+    !is_same(stimulus_of(old, wire), stimulus_of(new, wire))
+}
+
+fn stimulus_of(netlist: &Netlist, wire: WireId) -> Option<&Stimulus> {
+    match netlist.wire(wire) {
+        Some(found) => found.stimulus.as_ref(),
+        None => None,
+    }
+}
+
+fn is_same(one: Option<&Stimulus>, other: Option<&Stimulus>) -> bool {
+    match (one, other) {
+        (None, None) => true,
+        (Some(one), Some(other)) => one.as_slice() == other.as_slice(),
+        _ => false,
+    }
+}
+
+/// Whether a module reads a wire that is marked.
+fn reads(netlist: &Netlist, id: ModuleId, marks: &[bool]) -> bool {
+    match netlist.module(id) {
+        Some(found) => any_marked(found.inputs.as_slice(), marks),
+        None => false,
+    }
+}
+
+fn any_marked(inputs: &[Input], marks: &[bool]) -> bool {
+    for input in inputs {
+        if let Some(true) = marks.get(input.wire.0 as usize) {
+            return true;
+        }
+    }
+    false
+}
+
+/// Whether at most three quarters of these modules are at home in one part.
+pub(crate) fn are_spread(
+    alloc: Global,
+    reached: &[ModuleId],
+    division: &Division,
+) -> Result<bool, AllocError> {
+    let mut counts = vec![in alloc; 0usize; division.parts as usize]?;
+    for id in reached {
+        let home = home_of(division.homes.as_slice(), id.0);
+        if let Some(count) = counts.get_mut(home as usize) {
+            *count = count.saturating_add(1);
+        }
+    }
+    let mut most = 0usize;
+    for count in counts.as_slice() {
+        most = most.max(*count);
+    }
+    Ok(most.saturating_mul(4) <= reached.len().saturating_mul(3))
+}

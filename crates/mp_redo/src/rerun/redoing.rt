@@ -1,0 +1,87 @@
+//! What has changed with a netlist is evaluated again.
+ghost use Rattle.std.specs.Prelude.{◌≡◌, IfOk};
+ghost use Rattle.mp_partition.specs.runs.Runs.{IsRun};
+ghost use Rattle.mp_phase.specs.Allowed.{IsAllowed};
+ghost use Rattle.mp_redo.specs.rerun.Reruns.{IsChange};
+ghost use Rattle.mp_depend.specs.work.Revisions.{IsRevision};
+ghost use Rattle.mp_depend.specs.work.Stretches.{AreStretches};
+ghost use Rattle.mp_depend.specs.work.Work.{IsEntry};
+
+use crate::rerun::change::Change;
+use crate::rerun::means::Means;
+use crate::rerun::rerun::Rerun;
+use mp_partition::Run;
+use mp_netlist::Netlist;
+use mp_phase::{Crew, Gate};
+use mp_depend::Stretch;
+use std::alloc::{AllocError, Global};
+use std::sync::Wait;
+use std::thread::Threads;
+
+/// The run of a netlist that was made of another, by the run of that one; and the stretches of the work, in no order. One simulation of the new
+/// netlist has just the active modules: those that the change touches from time 0 on, and any other from the unit on in which one of its inputs
+/// first differs from the old run. At the border of a block an untouched module whose state is that of the old run again becomes inactive. A
+/// module passes the gate for each entry of the work. Modules that become active in the same unit answer once more from their block's begin up to
+/// it on the threads of the crew, where they are as many as it shares out. The calling thread does all else. Where memory runs out, the old
+/// run stays.
+pub fn redo<R: Threads + Wait + Sync, G: Gate + Sync>(
+    rt: &R,
+    alloc: Global,
+    old: &Netlist,
+    run: &Run,
+    new: &Netlist,
+    crew: &Crew,
+    gate: &G,
+) -> Result<(Run, Vec<Stretch>), AllocError>
+    requires allowed { IsAllowed (IsEntry old.now new.now) (G.may gate.now) }
+    requires revision { IsRevision old.now new.now }
+    requires run { IsRun old.now run.now }
+    ensures run { IfOk result (λ both. IsRun new.now both.0) }
+    ensures stretches { IfOk result (λ both. AreStretches old.now new.now both.1.items) }
+{
+    let change = change_between(old, run, new);
+    let means = Means {
+        rt,
+        alloc,
+        crew,
+        gate,
+    };
+    run_again(&means, &change)
+}
+
+/// The same.
+fn run_again<R: Threads + Wait + Sync, G: Gate + Sync>(
+    means: &Means<'_, R, G>,
+    change: &Change<'_>,
+) -> Result<(Run, Vec<Stretch>), AllocError>
+    requires allowed { IsAllowed (IsEntry change.now.old.now change.now.new.now) (G.may means.now.gate.now) }
+    requires change { IsChange change.now }
+    ensures run { IfOk result (λ both. IsRun change.now.new.now both.0) }
+    ensures stretches { IfOk result (λ both. AreStretches change.now.old.now change.now.new.now both.1.items) }
+{
+    let mut rerun = Rerun::begin(means.alloc, change)?;
+    rerun.enter_window(means.rt, means.gate, change, 0);
+    let end = rerun.pass_all(means, change)?;
+    let both = rerun.finish(means.alloc, change, end)?;
+    Ok(both)
+}
+
+/// The change of a netlist, of which this is the run, to a new one.
+fn change_between<'a>(old: &'a Netlist, run: &'a Run, new: &'a Netlist) -> Change<'a>
+    requires revision { IsRevision old.now new.now }
+    requires run { IsRun old.now run.now }
+    ensures is { IsChange result }
+    ensures old { result.old.now ≡ old.now }
+    ensures new { result.new.now ≡ new.now }
+{
+    // Their contracts tell that the netlists are well formed.
+    let _old_horizon = old.horizon();
+    let _new_horizon = new.horizon();
+    let least = new.least_delay();
+    Change {
+        old,
+        run,
+        new,
+        least,
+    }
+}

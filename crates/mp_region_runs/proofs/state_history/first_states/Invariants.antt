@@ -1,6 +1,0 @@
-use Rattle.mp_region_runs.specs.StateHistories.{AreFirst}
-use Rattle.mp_region_runs.proofs.state_history.first_states.Given as goal
-
--- those so far
-abbrev pub invariant-loop-m : goal.invariant-loop-m
-invariant-loop-m l = AreFirst l.netlist l.m l.kept.items

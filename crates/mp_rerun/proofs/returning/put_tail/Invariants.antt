@@ -1,6 +1,0 @@
-use Rattle.std.proofs.Common.{drop}
-use Rattle.mp_rerun.proofs.PutLemmas.{ArePutUpTo}
-use Rattle.mp_rerun.proofs.returning.put_tail.Given as goal
-
-abbrev pub invariant-loop-place : goal.invariant-loop-place
-invariant-loop-place l = ArePutUpTo l.wire.has_data l.wire.number l.now (drop l.from l.list) (drop l.place l.list) l.fn.others.items l.fn.simulation l.simulation l.others.items

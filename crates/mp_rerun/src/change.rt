@@ -1,3 +1,0 @@
-//! A change of a netlist, as it is compared.
-
-pub(crate) use mp_compare::Change;

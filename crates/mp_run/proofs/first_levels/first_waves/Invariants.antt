@@ -1,7 +1,0 @@
-use Rattle.std.proofs.Common.{◌≡◌, map, take}
-use Rattle.mp_run.specs.FirstLevels.{first_wave}
-use Rattle.mp_run.proofs.first_levels.first_waves.Given as goal
-
--- those so far
-abbrev pub invariant-loop-w : goal.invariant-loop-w
-invariant-loop-w l = l.waves.items ≡ map first_wave (take l.w l.netlist.wires)

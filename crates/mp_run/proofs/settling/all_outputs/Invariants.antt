@@ -1,7 +1,0 @@
-use Rattle.std.proofs.Common.{◌≡◌, map, take}
-use Rattle.mp_run.specs.Settling.{ports_of}
-use Rattle.mp_run.proofs.settling.all_outputs.Given as goal
-
--- those so far
-abbrev pub invariant-loop-m : goal.invariant-loop-m
-invariant-loop-m l = l.ports.items ≡ map ports_of (take l.m l.netlist.modules)

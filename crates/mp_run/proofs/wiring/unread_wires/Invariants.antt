@@ -1,6 +1,0 @@
-use Rattle.mp_run.specs.Wirings.{AreUnread}
-use Rattle.mp_run.proofs.wiring.unread_wires.Given as goal
-
--- the wires so far
-abbrev pub invariant-loop-wire : goal.invariant-loop-wire
-invariant-loop-wire l = AreUnread l.wire l.wiring

@@ -1,0 +1,2 @@
+pub mod talk
+pub mod hosting

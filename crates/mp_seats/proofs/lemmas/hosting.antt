@@ -1,0 +1,9 @@
+pub mod AgreementLemmas
+pub mod EndingLemmas
+pub mod GuestLemmas
+pub mod OwnLemmas
+pub mod PeopleLemmas
+pub mod StayLemmas
+pub mod TellingLemmas
+pub mod ClaimLemmas
+pub mod SeatClaims

@@ -1,0 +1,121 @@
+-- What those who come to a seat claim in the story, and what all seats do.
+use Rattle.std.proofs.Common.{◌≡◌, ℕ, ◌+◌, ◌≤◌, Bool, true, List, [], ◌∷◌, ◌++◌, length, map, Option, sym, ap, subst, inl, inr, length-append, arith}
+use mathlib.Core.List.{IsPrefix}
+use Rattle.mp_version.specs.Stories.{Story}
+use Rattle.mp_desk.specs.Holders.{ExtendsEach, accepted_by, BeginWithEach, IsSigned}
+use Rattle.mp_desk.proofs.PrefixLemmas.{prefix_self, prefix_trans, extends_self, extends_length}
+use Rattle.mp_desk.specs.meeting.Sittings.{Sitting}
+use Rattle.mp_desk.specs.meeting.Seats.{working}
+use Rattle.mp_seats.specs.Marks.{Mark, AcceptedAt, AnsweredAt, Rise, accepted_of, places_of, AreSigned}
+use Rattle.mp_seats.specs.Replies.{Writing}
+use Rattle.mp_seats.specs.Steps.{Seated}
+use Rattle.mp_seats.specs.hosting.Guests.{sitter, just_come}
+use Rattle.mp_seats.specs.hosting.Claims.{AreClaimed}
+use Rattle.mp_seats.specs.hosting.Stays.{IsStay, AreStays, AreAttended, claims_of_stay, claims_of_stays, claims}
+use Rattle.mp_seats.proofs.lemmas.hosting.ClaimLemmas.{AreRising, rising_sooner, rising_later, rising_append, signed_append, AreClaims, count_claims, all_claimed}
+
+marks_rise : (seen last : ℕ) (marks : List Mark) → Rise seen last marks → AreRising seen last (places_of marks)
+marks_rise seen last [] rise = rise
+marks_rise seen last (AcceptedAt k ∷ marks) rise = (rise.0, marks_rise (k + 1) last marks rise.1)
+marks_rise seen last (AnsweredAt k ∷ marks) rise = rising_sooner seen k last (places_of marks) rise.0 (marks_rise k last marks rise.1)
+
+marks_counted : (marks : List Mark) → accepted_of marks ≡ length (places_of marks)
+marks_counted [] = omega arith
+marks_counted (AcceptedAt k ∷ marks) = let rest = marks_counted marks in omega (arith, rest)
+marks_counted (AnsweredAt k ∷ marks) = marks_counted marks
+
+module _ (T : Type 0) {D : Type 0} (Comes : D → D → Option (List ℕ) → Option (List ℕ) → Type 0) (Leaves : D → D → Option (List ℕ) → Type 0) (TurnsAway : D → D → Type 0) (w : Writing) (edits : Bool) where
+  -- ---- somebody who came
+
+  stay_number : (seat last : Seated) (before after : D) → IsStay T Comes Leaves TurnsAway w edits seat last before after → last.number ≡ seat.number
+  stay_number seat last before after (inl left) = left.served.visit.seat.number
+  stay_number seat last before after (inr turned) = ap (λ (s : Seated). s.number) turned.same
+
+  stay_begins : (seat last : Seated) (before after : D) → IsStay T Comes Leaves TurnsAway w edits seat last before after → IsPrefix seat.signed last.signed
+  stay_begins seat last before after (inl left) = left.served.visit.seat.begins
+  stay_begins seat last before after (inr turned) = subst (λ (s : Seated). IsPrefix seat.signed s.signed) (sym turned.same) (prefix_self seat.signed)
+
+  stay_rises : (seat last : Seated) (before after : D) (stay : IsStay T Comes Leaves TurnsAway w edits seat last before after)
+      → AreRising (length seat.seen.edits) (length last.seen.edits) (claims_of_stay T Comes Leaves TurnsAway w edits seat last before after stay)
+  stay_rises seat last before after (inl left) =
+      let at = left.served.visit.seat in marks_rise (length seat.seen.edits) (length last.seen.edits) at.marks (at.rise last.seen (extends_self last.seen))
+  stay_rises seat last before after (inr turned) = let same = ap (λ (s : Seated). length s.seen.edits) turned.same in omega (arith, same)
+
+  stay_signed : (authors : List ℕ) (seat last : Seated) (before after : D) (stay : IsStay T Comes Leaves TurnsAway w edits seat last before after) → IsPrefix last.signed authors
+      → AreSigned seat.number authors (claims_of_stay T Comes Leaves TurnsAway w edits seat last before after stay)
+  stay_signed authors seat last before after (inl left) more = left.served.visit.seat.signed authors more
+  stay_signed authors seat last before after (inr turned) more = tt
+
+  stay_counts : (seat last : Seated) (before after : D) (stay : IsStay T Comes Leaves TurnsAway w edits seat last before after)
+      → last.accepted ≡ seat.accepted + length (claims_of_stay T Comes Leaves TurnsAway w edits seat last before after stay)
+  stay_counts seat last before after (inl left) =
+      let at = left.served.visit.seat in let accepted = at.accepted in let counted = marks_counted at.marks in omega (arith, accepted, counted)
+  stay_counts seat last before after (inr turned) = let same = ap (λ (s : Seated). s.accepted) turned.same in omega (arith, same)
+
+  -- ---- all who came
+
+  stays_begin : (seat : Seated) (door : D) (stays : List (Seated × D)) (last : Seated) (end : D) → AreStays T Comes Leaves TurnsAway w edits seat door stays last end
+      → IsPrefix seat.signed last.signed
+  stays_begin seat door [] last end are = subst (λ (s : Seated). IsPrefix seat.signed s.signed) (sym are.0) (prefix_self seat.signed)
+  stays_begin seat door (next ∷ others) last end are =
+      prefix_trans seat.signed next.0.signed last.signed (stay_begins seat next.0 door next.1 are.0) (stays_begin next.0 next.1 others last end are.1)
+
+  stays_rise : (seat : Seated) (door : D) (stays : List (Seated × D)) (last : Seated) (end : D) (are : AreStays T Comes Leaves TurnsAway w edits seat door stays last end)
+      → AreRising (length seat.seen.edits) (length last.seen.edits) (claims_of_stays T Comes Leaves TurnsAway w edits seat door stays last end are)
+  stays_rise seat door [] last end are = let same = ap (λ (s : Seated). length s.seen.edits) are.0 in omega (arith, same)
+  stays_rise seat door (next ∷ others) last end are =
+      rising_append (length seat.seen.edits) (length next.0.seen.edits) (length last.seen.edits) (claims_of_stay T Comes Leaves TurnsAway w edits seat next.0 door next.1 are.0)
+      (claims_of_stays T Comes Leaves TurnsAway w edits next.0 next.1 others last end are.1) (stay_rises seat next.0 door next.1 are.0) (stays_rise next.0 next.1 others last end are.1)
+
+  stays_signed : (authors : List ℕ) (seat : Seated) (door : D) (stays : List (Seated × D)) (last : Seated) (end : D)
+      (are : AreStays T Comes Leaves TurnsAway w edits seat door stays last end) → IsPrefix last.signed authors
+      → AreSigned seat.number authors (claims_of_stays T Comes Leaves TurnsAway w edits seat door stays last end are)
+  stays_signed authors seat door [] last end are more = tt
+  stays_signed authors seat door (next ∷ others) last end are more =
+      let rest = claims_of_stays T Comes Leaves TurnsAway w edits next.0 next.1 others last end are.1 in
+      signed_append seat.number authors (claims_of_stay T Comes Leaves TurnsAway w edits seat next.0 door next.1 are.0) rest
+      (stay_signed authors seat next.0 door next.1 are.0 (prefix_trans next.0.signed last.signed authors (stays_begin next.0 next.1 others last end are.1) more))
+      (subst (λ (author : ℕ). AreSigned author authors rest) (stay_number seat next.0 door next.1 are.0) (stays_signed authors next.0 next.1 others last end are.1 more))
+
+  stays_count : (seat : Seated) (door : D) (stays : List (Seated × D)) (last : Seated) (end : D) (are : AreStays T Comes Leaves TurnsAway w edits seat door stays last end)
+      → last.accepted ≡ seat.accepted + length (claims_of_stays T Comes Leaves TurnsAway w edits seat door stays last end are)
+  stays_count seat door [] last end are = let same = ap (λ (s : Seated). s.accepted) are.0 in omega (arith, same)
+  stays_count seat door (next ∷ others) last end are =
+      let first = stay_counts seat next.0 door next.1 are.0 in
+      let rest = stays_count next.0 next.1 others last end are.1 in
+      omega
+      (arith, first, rest, length-append (claims_of_stay T Comes Leaves TurnsAway w edits seat next.0 door next.1 are.0) (claims_of_stays T Comes Leaves TurnsAway w edits next.0 next.1 others last end are.1))
+
+-- ---- all seats of designers
+
+module _ (T : Type 0) {D : Type 0} (Comes : D → D → Option (List ℕ) → Option (List ℕ) → Type 0) (Leaves : D → D → Option (List ℕ) → Type 0) (TurnsAway : D → D → Type 0) (w : Writing) (first now : Story) where
+  seats_claim : (authors : List ℕ) (number : ℕ) (doors : List D) (ss : List Sitting)
+      (are : AreAttended T Comes Leaves TurnsAway w true (λ n. just_come n first) number doors (map sitter ss)) → ExtendsEach now (map working ss) → BeginWithEach authors (map working ss)
+      → AreClaims authors (length first.edits) (length now.edits) number (claims T Comes Leaves TurnsAway w true (λ n. just_come n first) number doors (map sitter ss) are)
+  seats_claim authors number [] [] are extends begin = tt
+  seats_claim authors number [] (s ∷ ss) are extends begin = absurd are
+  seats_claim authors number (door ∷ doors) [] are extends begin = absurd are
+  seats_claim authors number (door ∷ doors) (s ∷ ss) are extends begin = (
+    rising_later (length first.edits) (length s.seen.edits) (length now.edits) (claims_of_stays T Comes Leaves TurnsAway w true (just_come number first) door are.0.1.stays (sitter s) are.0.0 are.0.1.are)
+        (extends_length now s.seen extends.0) (stays_rise T Comes Leaves TurnsAway w true (just_come number first) door are.0.1.stays (sitter s) are.0.0 are.0.1.are),
+    stays_signed T Comes Leaves TurnsAway w true authors (just_come number first) door are.0.1.stays (sitter s) are.0.0 are.0.1.are begin.0,
+    seats_claim authors (number + 1) doors ss are.1 extends.1 begin.1,
+  )
+
+  seats_count : (number : ℕ) (doors : List D) (ss : List Sitting) (are : AreAttended T Comes Leaves TurnsAway w true (λ n. just_come n first) number doors (map sitter ss))
+      → accepted_by (map working ss) ≡ count_claims (claims T Comes Leaves TurnsAway w true (λ n. just_come n first) number doors (map sitter ss) are)
+  seats_count number [] [] are = omega arith
+  seats_count number [] (s ∷ ss) are = absurd are
+  seats_count number (door ∷ doors) [] are = absurd are
+  seats_count number (door ∷ doors) (s ∷ ss) are =
+      let here = stays_count T Comes Leaves TurnsAway w true (just_come number first) door are.0.1.stays (sitter s) are.0.0 are.0.1.are in
+      let rest = seats_count (number + 1) doors ss are.1 in
+      omega (arith, here, rest)
+
+  -- each edit behind those of the first story has its place by one line of one seat
+  pub claimed_once : (doors : List D) (ss : List Sitting) (are : AreAttended T Comes Leaves TurnsAway w true (λ n. just_come n first) 1 doors (map sitter ss)) → ExtendsEach now (map working ss)
+      → IsSigned now (map working ss) → length now.edits ≡ length first.edits + accepted_by (map working ss)
+      → AreClaimed (length first.edits) (length now.edits) (claims T Comes Leaves TurnsAway w true (λ n. just_come n first) 1 doors (map sitter ss) are)
+  claimed_once doors ss are extends signed counted =
+      all_claimed signed.0 (length first.edits) (length now.edits) (claims T Comes Leaves TurnsAway w true (λ n. just_come n first) 1 doors (map sitter ss) are)
+      (seats_claim signed.0 1 doors ss are extends signed.2) (let all = seats_count 1 doors ss are in omega (arith, counted, all))

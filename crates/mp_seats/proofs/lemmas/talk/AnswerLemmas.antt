@@ -1,0 +1,46 @@
+-- Answers in turn.
+use Rattle.std.proofs.Common.{◌≡◌, ℕ, List, [], ◌∷◌, ◌++◌, append_assoc, Option, Result, Ok, Err, refl, sym, ap, subst, ◌∙◌}
+use Rattle.std.proofs.lemmas.List.{append-nil}
+use Rattle.mp_streams.specs.Outgoing.{Outgoing}
+use Rattle.mp_streams.specs.Outgoing as outs
+use Rattle.mp_streams.specs.declared.failed.Failed.{Failed}
+use Rattle.mp_streams.specs.declared.write_error.WriteError.{WriteError}
+use Rattle.mp_streams.specs.declared.write_error.WriteError.TheVariants as writes
+use Rattle.mp_streams.proofs.FlushLemmas.{passed_on, not_passed_on}
+use Rattle.mp_seats.specs.talk.Answers.{Answering, AreAnswers, PutsAnswer}
+
+module _ {S K : Type 0} (Answers : Answering K) where
+  -- an answer that is passed on
+  module _ (r : Result (Unit {0}) WriteError) (old now : K) (line : Option (List ℕ)) (a b c : Outgoing S) (puts : PutsAnswer Answers r old now line a b) where
+    pub answered : outs.Writes {T = Unit {0}} (Ok tt) b c [] → c.held ≡ [] → PutsAnswer Answers r old now line a c
+    answered second none = (puts.0, puts.1, passed_on a b c puts.0 r puts.2 second none)
+
+    pub unanswered : {error : Failed} → outs.Writes {T = Unit {0}} (Err error) b c [] → PutsAnswer Answers (Err writes.WriteFailed) old now line a c
+    unanswered {error = error} second = (puts.0, puts.1, not_passed_on a b c puts.0 r puts.2 second)
+
+module _ {K : Type 0} (Answers : Answering K) where
+  pub no_answers : (first : K) → AreAnswers Answers first [] first []
+  unfolding AreAnswers
+  no_answers first = (refl, refl)
+
+  -- one more answer
+  pub one_more : (line : Option (List ℕ)) (first here next : K) (lines : List (Option (List ℕ))) (text piece : List ℕ) → AreAnswers Answers first lines here text → Answers here line next piece
+      → AreAnswers Answers first (lines ++ line ∷ []) next (text ++ piece)
+  unfolding AreAnswers
+  one_more line first here next [] text piece are after = (
+    next,
+    piece,
+    [],
+    subst (λ k. Answers k line next piece) are.0 after,
+    (refl, refl),
+    ap (λ l. l ++ piece) are.1 ∙ sym (append-nil piece),
+  )
+  one_more line first here next (line' ∷ lines) text piece are after =
+      let (second, front, later, by, rest, is) = are in (
+        second,
+        front,
+        later ++ piece,
+        by,
+        one_more line second here next lines later piece rest after,
+        ap (λ l. l ++ piece) is ∙ append_assoc front later piece,
+      )

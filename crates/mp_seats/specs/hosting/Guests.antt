@@ -1,0 +1,27 @@
+-- Designers and viewers as those who sit at seats.
+use Rattle.std.specs.Prelude.{◌≡◌, ℕ, ◌+◌, ◌<◌, List, [], length, slice_index_or}
+use Rattle.mp_version.specs.Stories.{Story}
+use Rattle.mp_desk.specs.Chronicles.{unsigned}
+use Rattle.mp_desk.specs.Holders.{Seeing}
+use Rattle.mp_desk.specs.meeting.Sittings.{Sitting}
+use Rattle.mp_seats.specs.Steps.{Seated}
+
+-- a designer at a seat
+abbrev pub sitter : Sitting → Seated
+sitter s = record { seen = s.seen; accepted = s.accepted; number = s.number; signed = s.signed }
+
+-- a viewer at a seat, of whom no edit is accepted
+abbrev pub looker : Seeing → Seated
+looker v = record { seen = v.last; accepted = 0; number = 0; signed = [] }
+
+-- the designer of this number, who has just come to a seat, and sees this story
+abbrev pub just_come : ℕ → Story → Seated
+just_come number story = record { seen = story; accepted = 0; number = number; signed = unsigned story }
+
+-- a viewer who has just come to a seat, and sees this story
+abbrev pub just_looking : Story → Seated
+just_looking story = record { seen = story; accepted = 0; number = 0; signed = [] }
+
+-- designers who have just come, numbered from 1
+abbrev pub HaveCome : Story → List Sitting → Type 0
+HaveCome story sittings = (k : ℕ) (s : Sitting) → k < length sittings → sitter (slice_index_or sittings k s) ≡ just_come (k + 1) story

@@ -1,0 +1,22 @@
+//! That an input has ended.
+ghost use Rattle.mp_seats.specs.hosting.Endings.{HasEnded};
+
+use mp_text::LineReader;
+use mp_streams::Source;
+
+/// Shows that what somebody wrote at a seat was read to its end, or can't be read any more, and that the input is closed. It is made of such an
+/// input alone.
+#[derive(Drop)]
+pub struct Ended {
+    closed: (),
+}
+
+impl Ended {
+    /// Closes an input that is at its end or has failed.
+    pub(crate) fn of<I: Source + Drop>(lines: LineReader<I>) -> Ended
+        requires { HasEnded lines }
+    {
+        drop(lines);
+        Ended { closed: () }
+    }
+}

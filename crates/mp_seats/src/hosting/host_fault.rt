@@ -1,0 +1,55 @@
+//! Why a desk that was served ends without its lines.
+ghost use Rattle.std.specs.Prelude.{◌≡◌};
+ghost use Rattle.mp_desk.specs.declared.meeting.meeting_fault.MeetingFault.TheVariants.{OutOfMemory};
+ghost use Rattle.mp_seats.specs.declared.hosting.host_fault.HostFault.TheVariants as faults;
+
+use mp_desk::MeetingFault;
+use crate::talk::TalkFault;
+use std::alloc::{AllocError, AllocFailed};
+use thiserror::Error;
+
+/// Why a desk that was served ends early.
+#[derive(Clone, Copy, Debug, PartialEq, Eq, Error)]
+pub enum HostFault {
+    /// The doors aren't those of 1 to 8 designers and of at most 31 viewers.
+    #[error("a desk has doors for 1 to 8 designers and for at most 31 viewers")]
+    BadSize,
+    /// There was no meeting.
+    #[error("{0}")]
+    Meeting(MeetingFault),
+    /// The lines of whoever runs the desk ended with a fault.
+    #[error("{0}")]
+    Talk(TalkFault),
+}
+
+impl From<MeetingFault> for HostFault {
+    ghost from_gives = { λ error fault. fault ≡ faults.Meeting error };
+
+    fn from(error: MeetingFault) -> HostFault {
+        HostFault::Meeting(error)
+    }
+}
+
+impl From<TalkFault> for HostFault {
+    ghost from_gives = { λ error fault. fault ≡ faults.Talk error };
+
+    fn from(error: TalkFault) -> HostFault {
+        HostFault::Talk(error)
+    }
+}
+
+impl From<AllocError> for HostFault {
+    ghost from_gives = { λ _ fault. fault ≡ faults.Meeting OutOfMemory };
+
+    fn from(_error: AllocError) -> HostFault {
+        HostFault::Meeting(MeetingFault::OutOfMemory)
+    }
+}
+
+impl<T: Drop> From<AllocFailed<T>> for HostFault {
+    ghost from_gives = { λ _ fault. fault ≡ faults.Meeting OutOfMemory };
+
+    fn from(_error: AllocFailed<T>) -> HostFault {
+        HostFault::Meeting(MeetingFault::OutOfMemory)
+    }
+}

@@ -1,0 +1,164 @@
+//! A desk at which designers and viewers come and go, from its beginning to its end.
+ghost use Rattle.std.specs.Prelude.{◌≡◌, ◌+◌, ◌<◌, Ok, [], length, vec_len, All, IfOk, IfErr};
+ghost use Rattle.mp_version.specs.Stories.{Story};
+ghost use Rattle.mp_desk.specs.Holders.{fresh_viewer, AreFresh};
+ghost use Rattle.mp_seats.specs.hosting.OwnSeats.{HasTalked, EndsFor};
+ghost use Rattle.mp_seats.specs.hosting.Hostings.{IsHosted};
+
+use crate::hosting::door::{Door, Exit};
+use crate::hosting::hall::Hall;
+use crate::hosting::host_fault::HostFault;
+use crate::hosting::people::People;
+use crate::hosting::service::serve;
+use mp_desk::{BadDeskSize, Desk, DeskName, DeskParts, DeskSize, MeetingFault, Met, Staffed, adjourn, start_all};
+use mp_text::LineReader;
+use crate::Scribe;
+use mp_streams::{Out, Sink, Source};
+use mp_version::EditSession;
+use std::alloc::Global;
+use std::marker::Brand;
+use std::sync::Wait;
+use std::thread::Threads;
+
+/// Serves all who come to the doors of a desk, each seat on a thread of its own, and answers the lines of whoever runs it meanwhile. It ends where
+/// these lines end and all seats are left. Where no thread can be started for a seat, that seat stays free.
+///
+/// `BadSize` comes where there are not doors for 1 to 8 designers and for at most 31 viewers. `OutOfMemory` comes where memory is wanting, and
+/// `NoPlace` where there is no place for a viewer or designer. The lines of whoever runs the desk may end with a fault: it is told once all
+/// seats are left.
+pub fn host<
+    S: EditSession + Send,
+    R: Threads + Wait + Sync + Send + Copy,
+    D: Door + Send,
+    X: Exit,
+    B: Scribe + Copy + Send + Sync,
+    I: Source,
+    T: Sink,
+>(
+    rt: R,
+    alloc: Global,
+    session: S,
+    hall: Hall<D, X, B>,
+    lines: &mut LineReader<I>,
+    out: &mut Out<T>,
+) -> Result<Met<S>, HostFault>
+where
+    S::Prepared: Send,
+    D::Input: Send,
+    D::Output: Send,
+    requires held { out.old.held ≡ [] }
+    ensures hosted { IfOk result (λ met. IsHosted D.Output D.Comes D.Leaves D.TurnsAway (record { answer = B.answer_text; reply = B.reply_text }) (S.story session) (S.story met.session) hall.designers.items hall.viewers.items met.tallies.items met.numbers.items) }
+    ensures talked { IfOk result (λ met. HasTalked (record { answer = B.answer_text; reply = B.reply_text }) (Ok tt) (S.story session) (X.names hall.exit) lines.old lines.new out.old out.new) }
+    ensures fault { IfErr result (λ fault. EndsFor (record { answer = B.answer_text; reply = B.reply_text }) fault (S.story session) (X.names hall.exit) lines.old lines.new out.old out.new) }
+    ensures flushed { out.new.held ≡ [] }
+{
+    let Ok(size) = size_of(hall.designers.as_slice(), hall.viewers.as_slice()) else {
+        return Err(HostFault::BadSize);
+    };
+    match DeskParts::new(rt, alloc, session, size) {
+        Ok(parts) => {
+            host_parts::<S, Brand, _, D, X, B, I, T>(rt, alloc, parts, hall, lines, out)
+        }
+        Err(refused) => Err(HostFault::from(MeetingFault::from(refused.cause))),
+    }
+}
+
+/// A place for each door, and one for whoever runs the desk.
+fn size_of<D: Door>(designers: &[D], viewers: &[D]) -> Result<DeskSize, BadDeskSize>
+    ensures { IfOk result (λ size. (size.designers ≡ length designers.now) × (size.viewers ≡ length viewers.now + 1)) }
+{
+    DeskSize::new(designers.len(), viewers.len().saturating_add(1))
+}
+
+/// The desk that these parts make.
+fn host_parts<
+    S: EditSession + Send,
+    L: DeskName + Send + Sync,
+    R: Threads + Wait + Sync + Send + Copy,
+    D: Door + Send,
+    X: Exit,
+    B: Scribe + Copy + Send + Sync,
+    I: Source,
+    T: Sink,
+>(
+    rt: R,
+    alloc: Global,
+    parts: DeskParts<S, R>,
+    hall: Hall<D, X, B>,
+    lines: &mut LineReader<I>,
+    out: &mut Out<T>,
+) -> Result<Met<S>, HostFault>
+where
+    S::Prepared: Send,
+    D::Input: Send,
+    D::Output: Send,
+    requires history { parts.book ≡ L.history }
+    requires ledger { parts.ledger ≡ L.name }
+    requires shares { parts.designers + 1 ≡ L.parts }
+    requires opening { length (S.story parts.session).edits ≡ L.opening }
+    requires designers { parts.designers ≡ vec_len hall.designers }
+    requires some { 0 < vec_len hall.designers }
+    requires viewers { parts.viewers ≡ vec_len hall.viewers + 1 }
+    requires held { out.old.held ≡ [] }
+    ensures hosted { IfOk result (λ met. IsHosted D.Output D.Comes D.Leaves D.TurnsAway (record { answer = B.answer_text; reply = B.reply_text }) (S.story parts.session) (S.story met.session) hall.designers.items hall.viewers.items met.tallies.items met.numbers.items) }
+    ensures talked { IfOk result (λ met. HasTalked (record { answer = B.answer_text; reply = B.reply_text }) (Ok tt) (S.story parts.session) (X.names hall.exit) lines.old lines.new out.old out.new) }
+    ensures fault { IfErr result (λ fault. EndsFor (record { answer = B.answer_text; reply = B.reply_text }) fault (S.story parts.session) (X.names hall.exit) lines.old lines.new out.old out.new) }
+    ensures flushed { out.new.held ≡ [] }
+{
+    match Desk::<S, L, R>::open(parts) {
+        Ok(staffed) => host_staffed(&rt, alloc, staffed, hall, lines, out),
+        Err(refused) => Err(HostFault::from(MeetingFault::from(refused.cause))),
+    }
+}
+
+/// The desk with those who sit at it. The last viewer sits at the seat of whoever runs the desk.
+fn host_staffed<
+    S: EditSession + Send,
+    L: DeskName + Send + Sync,
+    R: Threads + Wait + Sync + Send + Drop,
+    D: Door + Send,
+    X: Exit,
+    B: Scribe + Copy + Send + Sync,
+    I: Source,
+    T: Sink,
+>(
+    rt: &R,
+    alloc: Global,
+    staffed: Staffed<S, L, R>,
+    hall: Hall<D, X, B>,
+    lines: &mut LineReader<I>,
+    out: &mut Out<T>,
+) -> Result<Met<S>, HostFault>
+where
+    S::Prepared: Send,
+    D::Input: Send,
+    D::Output: Send,
+    requires all { staffed.desk.designers ≡ vec_len staffed.designers }
+    requires fresh { All (λ d. d.accepted ≡ 0) staffed.designers.items }
+    requires designers { vec_len staffed.designers ≡ vec_len hall.designers }
+    requires some { 0 < vec_len hall.designers }
+    requires viewers { vec_len staffed.viewers ≡ vec_len hall.viewers + 1 }
+    requires held { out.old.held ≡ [] }
+    ensures hosted { IfOk result (λ met. (start : Story) → AreFresh start staffed.designers.items → All (λ v. v ≡ fresh_viewer start) staffed.viewers.items → staffed.desk.opening ≡ length start.edits → IsHosted D.Output D.Comes D.Leaves D.TurnsAway (record { answer = B.answer_text; reply = B.reply_text }) start (S.story met.session) hall.designers.items hall.viewers.items met.tallies.items met.numbers.items) }
+    ensures talked { IfOk result (λ met. (start : Story) → All (λ v. v ≡ fresh_viewer start) staffed.viewers.items → HasTalked (record { answer = B.answer_text; reply = B.reply_text }) (Ok tt) start (X.names hall.exit) lines.old lines.new out.old out.new) }
+    ensures fault { IfErr result (λ fault. (start : Story) → All (λ v. v ≡ fresh_viewer start) staffed.viewers.items → EndsFor (record { answer = B.answer_text; reply = B.reply_text }) fault start (X.names hall.exit) lines.old lines.new out.old out.new) }
+    ensures flushed { out.new.held ≡ [] }
+{
+    let Staffed {
+        desk,
+        designers,
+        mut viewers,
+    } = staffed;
+    let Some(own) = viewers.pop() else {
+        unreachable!()
+    };
+    let sittings = start_all(alloc, designers)?;
+    let people = People {
+        desk: &desk,
+        sittings,
+        viewers,
+        own,
+    };
+    let (sittings, viewers) = serve(rt, alloc, people, hall, lines, out)?;
+    Ok(adjourn(rt, alloc, desk, sittings, viewers)?)
+}

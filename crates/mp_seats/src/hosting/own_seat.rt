@@ -1,0 +1,81 @@
+//! The seat of whoever runs the desk.
+ghost use Rattle.std.specs.Prelude.{◌≡◌, ◌∷◌, [], IsTrue, codes};
+ghost use Rattle.std.specs.Option.{option_copied};
+ghost use Rattle.mp_text.specs.lexing.Words.{words_of};
+ghost use Rattle.mp_seats.specs.hosting.OwnSeats.{IsSeatsLine};
+
+use crate::hosting::door::Exit;
+use crate::hosting::serves::Ends;
+use crate::hosting::telling::put_places;
+use crate::{Guest, Scribe, Seat};
+use mp_streams::{Out, Sink, WriteError};
+use crate::talk::Answerer;
+use mp_text::{first_word, word_count};
+use std::marker::Model;
+use std::sync::Wait;
+use std::thread::Threads;
+
+/// A seat at which the line `seats` is answered by a line for each seat of the desk, and any other line as at a seat; and how all others learn that
+/// the desk ends. A contract sees the seat, and the names of the desk's seats.
+#[derive(Drop)]
+pub(crate) struct OwnSeat<B: Scribe, G: Guest, X: Exit> {
+    pub seat: Seat<B, G>,
+    pub exit: X,
+}
+
+impl<B: Scribe, G: Guest, X: Exit> Model for OwnSeat<B, G, X> {
+    ghost use Rattle.mp_seats.specs.hosting.OwnSeats.{Owner};
+
+    ghost Value = { Owner };
+
+    ghost view = { λ own. record { seated = own.seat; names = X.names own.exit } };
+}
+
+impl<B: Scribe, G: Guest, X: Exit> Answerer for OwnSeat<B, G, X> {
+    ghost use Rattle.mp_seats.specs.hosting.OwnSeats.{IsOwnStep};
+
+    ghost Answers = { IsOwnStep (record { answer = B.answer_text; reply = B.reply_text }) G.edits };
+
+    fn put_answer<R: Threads + Wait + Sync, T: Sink>(
+        &mut self,
+        rt: &R,
+        line: Option<&[u8]>,
+        out: &mut Out<T>,
+    ) -> Result<(), WriteError> {
+        if asks_for_seats(line) {
+            return put_places(out, self.exit.places());
+        }
+        self.seat.put_answer(rt, line, out)
+    }
+}
+
+impl<B: Scribe, G: Guest, X: Exit> Ends for OwnSeat<B, G, X> {
+    type Held = X::Held;
+
+    fn end(&self) -> X::Held {
+        self.exit.places().end();
+        self.exit.open_all()
+    }
+}
+
+/// Whether the line has the one word `seats`.
+fn asks_for_seats(line: Option<&[u8]>) -> bool
+    ensures { IsTrue result → IsSeatsLine (option_copied line.entry) }
+{
+    match line {
+        Some(line) => is_seats_line(line),
+        None => false,
+    }
+}
+
+fn is_seats_line(line: &[u8]) -> bool
+    ensures { IsTrue result → words_of line.now ≡ codes "seats" ∷ [] }
+{
+    let Some(word) = first_word(line) else {
+        return false;
+    };
+    if word_count(line) != 1 {
+        return false;
+    }
+    word == b"seats".as_slice()
+}

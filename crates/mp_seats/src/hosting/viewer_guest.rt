@@ -1,0 +1,47 @@
+//! A viewer at a seat.
+use crate::hosting::rises::Rises;
+use mp_desk::{DeskName, Viewer};
+use mp_netlist::Edit;
+use crate::{Guest, Refusal};
+use mp_version::Version;
+use std::alloc::AllocError;
+use std::sync::{Arc, Wait};
+use std::thread::Threads;
+
+/// A viewer, who makes no edits.
+#[derive(Drop)]
+pub(crate) struct ViewerGuest<L: DeskName> {
+    pub viewer: Viewer<L>,
+}
+
+impl<L: DeskName> Guest for ViewerGuest<L> {
+    ghost use Rattle.std.specs.Prelude.{false};
+    ghost use Rattle.mp_seats.specs.hosting.Guests.{looker};
+
+    ghost seated = { λ guest. looker guest.viewer };
+
+    ghost edits = { false };
+
+    fn submit<R: Threads + Wait + Sync>(&mut self, _rt: &R, _edit: &Edit) -> Result<u32, Refusal> {
+        Err(Refusal::NotADesigner)
+    }
+
+    fn read(&mut self) -> Result<Arc<Version>, AllocError> {
+        self.viewer.read().map_err(|_| AllocError)
+    }
+
+    fn refuse(&mut self) {}
+}
+
+impl<L: DeskName> Rises for ViewerGuest<L> {
+    ghost use Rattle.mp_seats.specs.hosting.Guests.{looker};
+
+    type Person = Viewer<L>;
+
+    ghost seated_as = { looker };
+
+    fn rise(self) -> Viewer<L> {
+        let ViewerGuest { viewer } = self;
+        viewer
+    }
+}

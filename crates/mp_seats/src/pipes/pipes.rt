@@ -1,0 +1,135 @@
+//! The named pipes of a desk's seats.
+ghost use Rattle.std.specs.Prelude.{◌≡◌, ◌++◌, Ok, [], IfOk, IfErr};
+ghost use Rattle.mp_seats.specs.hosting.OwnSeats.{HasTalked, EndsFor};
+
+use crate::pipes::pipe_door::PipeDoor;
+use crate::pipes::pipe_exit::PipeExit;
+use crate::pipes::pipe_paths::PipePaths;
+use crate::hosting::{Hall, HostFault, Place, Places, host};
+use mp_text::LineReader;
+use mp_desk::Met;
+use crate::Scribe;
+use mp_streams::{Out, Sink, Source};
+use mp_version::EditSession;
+use std::alloc::{AllocError, Global};
+use std::sync::Wait;
+use std::thread::Threads;
+
+/// The named pipes of all seats of a desk, in one folder: in `designer-1.in` is written what the first designer asks, and in `designer-1.out`
+/// what is answered; so for each designer, and for each viewer from `viewer-1.in` on.
+#[derive(Drop)]
+pub struct Pipes<'a> {
+    pub(crate) files: &'a HostRuntime,
+    pub(crate) places: &'a Places,
+    pub(crate) designers: Vec<PipePaths>,
+    pub(crate) viewers: Vec<PipePaths>,
+}
+
+impl<'a> Pipes<'a> {
+    /// The pipes of these seats in a folder. They needn't be there.
+    pub fn new(
+        files: &'a HostRuntime,
+        folder: &str,
+        places: &'a Places,
+    ) -> Result<Pipes<'a>, AllocError> {
+        let designers = paths_of(files.alloc(), folder, places.designers())?;
+        let viewers = paths_of(files.alloc(), folder, places.viewers())?;
+        Ok(Pipes {
+            files,
+            places,
+            designers,
+            viewers,
+        })
+    }
+
+    /// The first path at which there is no named pipe.
+    pub fn missing(&self) -> Option<&str> {
+        match first_missing(self.files, self.designers.as_slice()) {
+            Some(path) => Some(path),
+            None => first_missing(self.files, self.viewers.as_slice()),
+        }
+    }
+
+    /// Serves those who come to the pipes on a session, and answers the lines of whoever runs the desk meanwhile, as `host` does. The scribe
+    /// writes all replies. Whoever comes once these lines have ended is answered nothing, and sees the end when the desk ends.
+    pub fn host<
+        S: EditSession + Send,
+        R: Threads + Wait + Sync,
+        B: Scribe + Copy + Send + Sync,
+        I: Source,
+        T: Sink,
+    >(
+        &self,
+        rt: &R,
+        session: S,
+        scribe: B,
+        lines: &mut LineReader<I>,
+        out: &mut Out<T>,
+    ) -> Result<Met<S>, HostFault>
+    where
+        S::Prepared: Send,
+        requires { out.old.held ≡ [] }
+        ensures talked { IfOk result (λ met. HasTalked (record { answer = B.answer_text; reply = B.reply_text }) (Ok tt) (S.story session) (self.now.places.now.designers ++ self.now.places.now.viewers) lines.old lines.new out.old out.new) }
+        ensures fault { IfErr result (λ fault. EndsFor (record { answer = B.answer_text; reply = B.reply_text }) fault (S.story session) (self.now.places.now.designers ++ self.now.places.now.viewers) lines.old lines.new out.old out.new) }
+        ensures flushed { out.new.held ≡ [] }
+    {
+        let hall = self.hall(scribe)?;
+        let met = host(rt, self.files.alloc(), session, hall, lines, out);
+        PipeExit { pipes: self }.let_go();
+        met
+    }
+
+    /// The pipes as doors, and how replies are written.
+    fn hall<B: Scribe + Copy>(
+        &self,
+        scribe: B,
+    ) -> Result<Hall<PipeDoor<'_>, PipeExit<'_>, B>, AllocError>
+        ensures { IfOk result (λ hall. hall.exit.pipes.now ≡ self.now) }
+    {
+        let designers = self.doors(self.designers.as_slice(), self.places.designers())?;
+        let viewers = self.doors(self.viewers.as_slice(), self.places.viewers())?;
+        Ok(Hall {
+            designers,
+            viewers,
+            exit: PipeExit { pipes: self },
+            scribe,
+        })
+    }
+
+    /// A door for each of some seats.
+    fn doors<'b>(
+        &'b self,
+        paths: &'b [PipePaths],
+        seats: &'b [Place],
+    ) -> Result<Vec<PipeDoor<'b>>, AllocError> {
+        let mut doors = Vec::with_capacity(self.files.alloc(), seats.len())?;
+        for (paths, seat) in paths.iter().zip(seats) {
+            doors.push(PipeDoor {
+                files: self.files,
+                paths,
+                seat,
+                places: self.places,
+            })?;
+        }
+        Ok(doors)
+    }
+}
+
+/// The pipes of some seats in a folder.
+fn paths_of(alloc: Global, folder: &str, seats: &[Place]) -> Result<Vec<PipePaths>, AllocError> {
+    let mut paths = Vec::with_capacity(alloc, seats.len())?;
+    for seat in seats {
+        paths.push(PipePaths::new(alloc, folder, seat.name())?)?;
+    }
+    Ok(paths)
+}
+
+/// The first of some paths at which there is no named pipe.
+fn first_missing<'a>(files: &HostRuntime, paths: &'a [PipePaths]) -> Option<&'a str> {
+    for pair in paths {
+        if let Some(path) = pair.missing(files) {
+            return Some(path);
+        }
+    }
+    None
+}

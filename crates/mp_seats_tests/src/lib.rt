@@ -1,9 +1,0 @@
-//! Tests of seats, by what their crate exports. They are a crate of their own since a crate with tests is proved twice.
-#![tactic(auto)]
-
-#[cfg(test)]
-mod onlooker;
-#[cfg(test)]
-mod talks;
-#[cfg(test)]
-mod words;

@@ -1,5 +1,0 @@
-//! Tests of sessions, by what their crate exports. They are a crate of their own since a crate with tests is proved twice.
-#![tactic(auto)]
-
-#[cfg(test)]
-mod session;

@@ -1,6 +1,0 @@
-use Rattle.mp_run.specs.WavesRuns.{IsWavesRun}
-use Rattle.mp_simulate.proofs.busy.look_at.Given as goal
-
--- the units before the last look are over
-abbrev pub invariant-loop-look : goal.invariant-loop-look
-invariant-loop-look l = IsWavesRun l.netlist l.looks.to l.run

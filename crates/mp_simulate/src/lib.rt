@@ -1,7 +1,0 @@
-//! The waves of a netlist, by the quickest way that finds them.
-#![tactic(auto)]
-
-mod busy;
-mod finding;
-
-pub use finding::find_waves;

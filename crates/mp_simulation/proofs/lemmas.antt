@@ -1,0 +1,3 @@
+pub mod bits
+pub mod units
+pub mod run

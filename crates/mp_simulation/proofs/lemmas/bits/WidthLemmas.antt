@@ -1,0 +1,269 @@
+-- The states of modules of width 1 in a netlist.
+use Rattle.std.proofs.Common.{◌≡◌, ℕ, zero, suc, ◌+◌, ◌-◌, ◌^◌, ◌<◌, ◌≤◌, Bool, true, false, cond, ◌&&◌, List, [], ◌∷◌, length, map, slice_index, nat_lt, Some, refl, sym, ◌∙◌, arith, subst}
+use Rattle.std.specs.Prelude.{◌==◌, slice_index_or}
+use Rattle.std.specs.List.{list_all}
+use Rattle.std.proofs.lemmas.Bool.{and_parts, ltb-true}
+use Rattle.std.proofs.lemmas.List.{length-set}
+use Rattle.mp_modules.specs.declared.kind.Kind.{Kind}
+use Rattle.mp_modules.specs.declared.kind.Kind.TheVariants as kinds
+use Rattle.mp_modules.specs.declared.core_module.CoreModule.{CoreModule}
+use Rattle.mp_modules.specs.declared.core_module.CoreModule.TheVariants as core
+use Rattle.mp_modules.specs.declared.memory.Memory.{Memory}
+use Rattle.mp_modules.specs.declared.memory.Client.{Client}
+use Rattle.mp_modules.specs.declared.memory.Client.TheVariants.{Nobody, First, Second}
+use Rattle.mp_modules.specs.Kinds.{input_width, output_width, wide_inputs, wide_outputs, param_count, param_bound, are_params}
+use Rattle.mp_modules.specs.Memories.{input_levels, output_of, is_event, flipped, seen}
+use Rattle.mp_modules.specs.Clients.{is_free}
+use Rattle.mp_modules.specs.Toggle.{toggle_step, turn}
+use Rattle.mp_modules.specs.Select.{select_step, chosen}
+use Rattle.mp_modules.specs.Call.{returned, ended, called, before_calls, after_first_call, call_step}
+use Rattle.mp_modules.specs.Arbiter.{is_owner_done, released, granted, promoted, made_wait, requested, is_engaged, before_requests, after_first_request, arbiter_step}
+use Rattle.mp_modules.specs.Tables as tables
+use Rattle.mp_modules.specs.declared.storage.computed.Computed.{Computed}
+use Rattle.mp_modules.specs.declared.storage.computed.Computed.TheVariants as computed
+use Rattle.mp_modules.specs.storage.Computed as parts_computed
+use Rattle.mp_modules.specs.declared.storage.any_module.AnyModule.{AnyModule}
+use Rattle.mp_modules.specs.declared.storage.any_module.AnyModule.TheVariants as parts
+use Rattle.mp_modules.specs.storage.AnyModules.{any_part_of, start, step}
+use Rattle.mp_records.specs.declared.module_record.ModuleRecord.{ModuleRecord}
+use Rattle.mp_records.specs.declared.ports.Input.{Input}
+use Rattle.mp_netlist.specs.Circuit.{Circuit, IsCircuit, wire_at, width_of, module_at, module_width}
+use Rattle.mp_model.specs.Levels.{built, input_by, inputs_by}
+use Rattle.mp_model.specs.Waves.{level, state}
+use Rattle.mp_model.proofs.BehaviourLemmas.{satisfies}
+use Rattle.mp_model.proofs.InputLemmas.{input_is}
+use Rattle.mp_model.proofs.LevelFitLemmas.{level_fits}
+use Rattle.mp_model.proofs.ModuleFitLemmas.{InputsFit, OutputsFit, step_fits, settle_fits}
+use Rattle.mp_kernel.specs.automata.BitModules.{AreBits, IsOfBits, IsBitState}
+use Rattle.mp_simulation.specs.bits.Widths.{HasBits, HaveBits}
+use Rattle.mp_simulation.proofs.lemmas.bits.StayLemmas.{settle_steps, states_stay}
+use Rattle.mp_simulation.proofs.lemmas.bits.PortEventLemmas.{held}
+use Rattle.mp_simulation.proofs.lemmas.bits.ClientLemmas.{clients_at}
+
+-- ---- three outputs
+
+abbrev HasThree : Memory → Type 0
+HasThree memory = length memory.outputs ≡ 3
+
+three_cond : (test : Bool) (a b : Memory) → HasThree a → HasThree b → HasThree (cond test a b)
+three_cond true a b first second = first
+three_cond false a b first second = second
+
+three_flipped : (port : ℕ) (memory : Memory) → HasThree memory → HasThree (flipped port memory)
+three_flipped port memory three = length-set memory.outputs port (1 - slice_index memory.outputs port) ∙ three
+
+three_toggle : (memory : Memory) (x : List ℕ) → HasThree memory → HasThree (toggle_step memory x)
+three_toggle memory x three = three_cond (is_event memory x 0) (flipped (turn memory) memory) memory (three_flipped (turn memory) memory three) three
+
+three_select : (memory : Memory) (x : List ℕ) → HasThree memory → HasThree (select_step memory x)
+three_select memory x three = three_cond (is_event memory x 0) (flipped (chosen x) memory) memory (three_flipped (chosen x) memory three) three
+
+three_returned : (client : Client) (memory : Memory) → HasThree memory → HasThree (returned client memory)
+three_returned Nobody memory three = three
+three_returned First memory three = three_flipped 1 memory three
+three_returned Second memory three = three_flipped 2 memory three
+
+three_ended : (event : Bool) (memory : Memory) → HasThree memory → HasThree (ended event memory)
+three_ended event memory three = three_cond event (returned memory.served memory) memory (three_returned memory.served memory three) three
+
+three_called : (client : Client) (event : Bool) (memory : Memory) → HasThree memory → HasThree (called client event memory)
+three_called client event memory three = three_cond (event && is_free memory.served) (record (flipped 0 memory) { served = client }) memory (three_flipped 0 memory three) three
+
+three_call : (memory : Memory) (x : List ℕ) → HasThree memory → HasThree (call_step memory x)
+three_call memory x three =
+    three_called Second (is_event memory x 1) (after_first_call memory x)
+    (three_called First (is_event memory x 0) (before_calls memory x) (three_ended (is_event memory x 2) memory three))
+
+three_released : (first second : Bool) (memory : Memory) → HasThree memory → HasThree (released first second memory)
+three_released first second memory three = three_cond (is_owner_done memory.served first second) (record memory { served = Nobody }) memory three three
+
+three_granted : (client : Client) (memory : Memory) → HasThree memory → HasThree (granted client memory)
+three_granted Nobody memory three = three
+three_granted First memory three = three_flipped 0 memory three
+three_granted Second memory three = three_flipped 1 memory three
+
+three_promoted : (memory : Memory) → HasThree memory → HasThree (promoted memory)
+three_promoted memory three =
+    three_cond (is_free memory.served) (cond memory.waiting.first (granted First memory) (cond memory.waiting.second (granted Second memory) memory)) memory
+    (three_cond memory.waiting.first (granted First memory) (cond memory.waiting.second (granted Second memory) memory) (three_granted First memory three)
+    (three_cond memory.waiting.second (granted Second memory) memory (three_granted Second memory three) three))
+    three
+
+three_requested : (client : Client) (event : Bool) (memory : Memory) → HasThree memory → HasThree (requested client event memory)
+three_requested client false memory three = three
+three_requested client true memory three =
+    three_cond (is_engaged client memory) memory (cond (is_free memory.served) (granted client memory) (made_wait client memory)) three
+    (three_cond (is_free memory.served) (granted client memory) (made_wait client memory) (three_granted client memory three) three)
+
+three_arbiter : (memory : Memory) (x : List ℕ) → HasThree memory → HasThree (arbiter_step memory x)
+three_arbiter memory x three =
+    three_requested Second (is_event memory x 1) (after_first_request memory x)
+    (three_requested First (is_event memory x 0) (before_requests memory x)
+    (three_promoted (released (is_event memory x 2) (is_event memory x 3) memory) (three_released (is_event memory x 2) (is_event memory x 3) memory three)))
+
+three_core : (part : CoreModule) (memory : Memory) (x : List ℕ) → HasThree memory → HasThree (tables.step part memory x)
+three_core core.Buf memory x three = refl
+three_core core.Not memory x three = refl
+three_core core.Xor memory x three = refl
+three_core (core.C c) memory x three = refl
+three_core core.Toggle memory x three = three_toggle memory x three
+three_core core.Select memory x three = three_select memory x three
+three_core core.Call memory x three = three_call memory x three
+three_core core.Arbiter memory x three = three_arbiter memory x three
+
+three_computed : (part : Computed) (memory : Memory) (x : List ℕ) → HasThree (parts_computed.step part memory x)
+three_computed (computed.AddC addend width) memory x = refl
+three_computed (computed.XorC mask) memory x = refl
+three_computed (computed.Sum width) memory x = refl
+three_computed (computed.Bit place) memory x = refl
+
+three_step : (part : AnyModule) (memory : Memory) (x : List ℕ) → HasThree memory → HasThree (step part memory x)
+unfolding step
+three_step (parts.Core part) memory x three = three_core part memory x three
+three_step (parts.Reg part) memory x three = refl
+three_step (parts.Computed part) memory x three = three_computed part memory x
+
+three_core_start : (part : CoreModule) → HasThree (tables.start part)
+three_core_start core.Buf = refl
+three_core_start core.Not = refl
+three_core_start core.Xor = refl
+three_core_start (core.C c) = refl
+three_core_start core.Toggle = refl
+three_core_start core.Select = refl
+three_core_start core.Call = refl
+three_core_start core.Arbiter = refl
+
+three_start : (part : AnyModule) → HasThree (start part)
+unfolding start
+three_start (parts.Core part) = three_core_start part
+three_start (parts.Reg part) = refl
+three_start (parts.Computed part) = refl
+
+shape_of : (xs : List ℕ) → length xs ≡ 3 → xs ≡ slice_index xs 0 ∷ slice_index xs 1 ∷ slice_index xs 2 ∷ []
+shape_of [] long = absurd (omega arith)
+shape_of (a ∷ []) long = absurd (omega arith)
+shape_of (a ∷ b ∷ []) long = absurd (omega arith)
+shape_of (a ∷ b ∷ c ∷ []) long = refl
+shape_of (a ∷ b ∷ c ∷ d ∷ xs) long = absurd (omega arith)
+
+-- ---- ports of width 1
+
+one_if : (test : Bool) (width : ℕ) → width ≡ 1 → cond test width 1 ≡ 1
+one_if true width one = one
+one_if false width one = refl
+
+one_wide : (kind : Kind) (width p : ℕ) → width ≡ 1 → input_width kind width p ≡ 1
+one_wide kind width p one = one_if (nat_lt p (wide_inputs kind)) width one
+
+one_out : (kind : Kind) (width p : ℕ) → width ≡ 1 → output_width kind width p ≡ 1
+one_out kind width p one = one_if (nat_lt p (wide_outputs kind)) width one
+
+below_two : (v width : ℕ) → width ≡ 1 → v < 2 ^ width → v ≤ 1
+below_two v width one low = let now : v < 2 = subst (λ k. v < 2 ^ k) one low in omega arith
+
+from_two : (v width : ℕ) → width ≡ 1 → v ≤ 1 → v < 2 ^ width
+from_two v width one low = subst (λ k. v < 2 ^ k) (sym one) (let now : v < 2 = omega arith in now)
+
+each_bit : (f : Input → ℕ) (inputs : List Input) → ((p : ℕ) (i : Input) → p < length inputs → f (slice_index_or inputs p i) ≤ 1) → AreBits (map f inputs)
+each_bit f [] low p = omega arith
+each_bit f (i ∷ inputs) low zero = low 0 i (omega arith)
+each_bit f (i ∷ inputs) low (suc p) = each_bit f inputs (λ q j within. low (suc q) j (omega (arith, within))) p
+
+four_bits : (x : List ℕ) → AreBits x → AreBits (input_levels x)
+four_bits x bits zero = bits 0
+four_bits x bits (suc zero) = bits 1
+four_bits x bits (suc (suc zero)) = bits 2
+four_bits x bits (suc (suc (suc zero))) = bits 3
+four_bits x bits (suc (suc (suc (suc p)))) = omega arith
+
+first_below : (bound : ℕ) (params : List ℕ) → 0 < bound → list_all (λ param. nat_lt param bound) params ≡ true → slice_index params 0 < bound
+first_below bound [] some all = some
+first_below bound (param ∷ params) some all = ltb-true param bound (and_parts (nat_lt param bound) (list_all (λ param. nat_lt param bound) params) all).0
+
+param_low : (kind : Kind) (width : ℕ) (params : List ℕ) → 0 < param_bound kind width → are_params kind width params ≡ true → slice_index params 0 < param_bound kind width
+unfolding are_params
+param_low kind width params some valid =
+    first_below (param_bound kind width) params some (and_parts (length params == param_count kind) (list_all (λ param. nat_lt param (param_bound kind width)) params) valid).1
+
+-- a module of width 1 has ports of width 1
+kind_bits : (kind : Kind) (params : List ℕ) (width : ℕ) → width ≡ 1 → are_params kind width params ≡ true → IsOfBits (any_part_of kind params width)
+unfolding any_part_of
+kind_bits kinds.Buf params width one valid = tt
+kind_bits kinds.Not params width one valid = tt
+kind_bits kinds.Xor params width one valid = tt
+kind_bits kinds.C params width one valid = tt
+kind_bits kinds.Toggle params width one valid = tt
+kind_bits kinds.Select params width one valid = tt
+kind_bits kinds.Call params width one valid = tt
+kind_bits kinds.Arbiter params width one valid = tt
+kind_bits kinds.Reg params width one valid = tt
+kind_bits kinds.AddC params width one valid = one
+kind_bits kinds.XorC params width one valid =
+    below_two (slice_index params 0) width one (param_low kinds.XorC width params (from_two 0 width one (omega arith)) valid)
+kind_bits kinds.Sum params width one valid = one
+kind_bits kinds.Bit params width one valid =
+    let some : 0 < width = omega arith in
+    let low : slice_index params 0 < width = param_low kinds.Bit width params some valid in
+    omega arith
+
+-- ---- in a netlist
+
+module _ (n : Circuit) (ok : IsCircuit n) (m : ℕ) (r : ModuleRecord) (at : module_at n m ≡ Some r) (one : module_width n r ≡ 1) where
+  inputs_are : (t : ℕ) → AreBits (inputs_by n (level n) r t)
+  inputs_are t =
+      each_bit (λ i. input_by n (level n) i t) r.inputs
+      (λ p i within.
+      let here = slice_index_or r.inputs p i in
+      let has = (ok.modules_ok m r at).reads p i within in
+      let low = level_fits n ok here.wire.0 (t - here.delay) in
+      let is = input_is n ok here t in
+      let bit_low = below_two (level n here.wire.0 (t - here.delay)) (width_of (wire_at n here.wire.0)) (has.1 ∙ one_wide r.kind (module_width n r) p one) low in
+      omega arith)
+
+  fit : (t : ℕ) → InputsFit r.kind (module_width n r) (inputs_by n (level n) r t)
+  fit t p = from_two (slice_index (inputs_by n (level n) r t) p) (input_width r.kind (module_width n r) p) (one_wide r.kind (module_width n r) p one) (inputs_are t p)
+
+  narrow : module_width n r ≤ 64
+  narrow = omega arith
+
+  outputs_fit : (t : ℕ) → OutputsFit r.kind (module_width n r) (state n m t)
+  outputs_fit zero =
+      subst (OutputsFit r.kind (module_width n r)) (sym ((satisfies n ok).settled m r at))
+      (settle_fits (module_width n r) r.params narrow r.kind (inputs_by n (level n) r 0) (ok.modules_ok m r at).params (fit 0))
+  outputs_fit (suc t) =
+      let e : t + 1 ≡ suc t = omega arith in
+      subst (λ k. OutputsFit r.kind (module_width n r) (state n m k)) e
+      (subst (OutputsFit r.kind (module_width n r)) (sym ((satisfies n ok).stepped m t r at))
+      (step_fits (module_width n r) r.params narrow r.kind (state n m t) (inputs_by n (level n) r (t + 1)) (ok.modules_ok m r at).params (fit (t + 1)) (outputs_fit t)))
+
+  outputs_are : (t : ℕ) → AreBits (state n m t).outputs
+  outputs_are t zero = below_two (output_of (state n m t) 0) (output_width r.kind (module_width n r) 0) (one_out r.kind (module_width n r) 0 one) (outputs_fit t).first
+  outputs_are t (suc p) = let low = (outputs_fit t).others p in omega arith
+
+  three_at : (t : ℕ) → HasThree (state n m t)
+  three_at zero =
+      let x = inputs_by n (level n) r 0 in
+      subst HasThree (sym ((satisfies n ok).settled m r at ∙ settle_steps (built n r) x)) (three_step (built n r) (seen x (start (built n r))) x (three_start (built n r)))
+  three_at (suc t) =
+      let e : t + 1 ≡ suc t = omega arith in
+      subst (λ k. HasThree (state n m k)) e
+      (subst HasThree (sym ((satisfies n ok).stepped m t r at)) (three_step (built n r) (state n m t) (inputs_by n (level n) r (t + 1)) (three_at t)))
+
+  bits_at : (t : ℕ) → IsBitState (built n r) (state n m t)
+  bits_at t = record {
+    inputs = subst (λ (xs : List ℕ). AreBits xs) (sym (held n ok m t r at)) (four_bits (inputs_by n (level n) r t) (inputs_are t));
+    outputs = outputs_are t;
+    shape = shape_of (state n m t).outputs (three_at t);
+    clients = clients_at n ok m t r at;
+    stays = states_stay n ok m t r at;
+  }
+
+  bits : HasBits n m r
+  bits = record {
+    of_bits = kind_bits r.kind r.params (module_width n r) one (ok.modules_ok m r at).params;
+    inputs = inputs_are;
+    states = bits_at;
+  }
+
+pub have_bits : HaveBits
+have_bits n ok m r at one = bits n ok m r at one

@@ -1,0 +1,67 @@
+-- Levels and widths where each wire has width 1.
+use Rattle.std.proofs.Common.{◌≡◌, ℕ, ◌^◌, ◌<◌, ◌≤◌, Bool, true, false, not, cond, nat_lt, Option, Some, None, IsSome, length, refl, sym, ap, ◌∙◌, arith, subst}
+use Rattle.std.specs.Prelude.{◌&&◌}
+use Rattle.std.proofs.lemmas.Bool.{eqb-true, eq-eqb, false≢true}
+use Rattle.std.proofs.lemmas.Option.{none-some, same_Some}
+use Rattle.mp_modules.specs.Kinds.{has_width}
+use Rattle.mp_modules.proofs.KindLemmas.{some_input}
+use Rattle.mp_records.specs.declared.wire_record.WireRecord.{WireRecord}
+use Rattle.mp_records.specs.declared.module_record.ModuleRecord.{ModuleRecord}
+use Rattle.mp_records.specs.Inputs.{no_input, input_at}
+use Rattle.mp_netlist.specs.Circuit.{Circuit, IsCircuit, wire_at, width_of, module_at, module_width}
+use Rattle.mp_model.specs.Waves.{level}
+use Rattle.mp_model.proofs.LevelFitLemmas.{level_fits}
+use Rattle.mp_model.proofs.SlotLemmas.{slot_within}
+use Rattle.mp_simulation.specs.units.DataLevels.{has_data, is_bit_wire}
+use Rattle.mp_simulation.specs.run.Narrow.{IsNarrow, has_one_bit}
+
+low_by : (n : Circuit) → IsNarrow n → (w v : ℕ) (slot : Option WireRecord) → wire_at n w ≡ slot → v < 2 ^ width_of slot → v ≤ 1
+low_by n narrow w v None at low = let e : v < 1 = low in omega arith
+low_by n narrow w v (Some r) at low = let e : v < 2 = subst (λ k. v < 2 ^ k) (narrow w r at) low in omega arith
+
+-- a level is a bit
+pub bit_level : (n : Circuit) → IsCircuit n → IsNarrow n → (w t : ℕ) → level n w t ≤ 1
+bit_level n ok narrow w t = low_by n narrow w (level n w t) (wire_at n w) refl (level_fits n ok w t)
+
+one_wide : (n : Circuit) → IsNarrow n → (w : ℕ) (slot : Option WireRecord) → wire_at n w ≡ slot → IsSome slot → width_of slot ≡ 1
+one_wide n narrow w None at some = cc
+one_wide n narrow w (Some r) at some = narrow w r at
+
+by_kind : (b : Bool) (k : ℕ) → k ≡ 1 → cond b k 1 ≡ 1
+by_kind true k one = one
+by_kind false k one = refl
+
+-- each module has width 1
+pub one_bit_module : (n : Circuit) → IsCircuit n → IsNarrow n → (m : ℕ) (r : ModuleRecord) → module_at n m ≡ Some r → module_width n r ≡ 1
+one_bit_module n ok narrow m r at =
+    let is = ok.modules_ok m r at in
+    let some : 0 < length r.inputs = let a = is.inputs in let b = some_input r.kind in omega arith in
+    let has = is.reads 0 no_input some in
+    by_kind (has_width r.kind) (width_of (wire_at n (input_at r 0).wire.0)) (one_wide n narrow (input_at r 0).wire.0 (wire_at n (input_at r 0).wire.0) refl has.0)
+
+-- what the test of each wire says
+narrow_by : (slot : Option WireRecord) (r : WireRecord) → has_one_bit slot ≡ true → slot ≡ Some r → r.width ≡ 1
+narrow_by None r test is = absurd (none-some r is)
+narrow_by (Some v) r test is = subst (λ (x : WireRecord). x.width ≡ 1) (same_Some v r is) (eqb-true v.width 1 test)
+
+pub narrow_all : (n : Circuit) → ((k : ℕ) → k < length n.wires → has_one_bit (wire_at n k) ≡ true) → IsNarrow n
+narrow_all n tests w r at = narrow_by (wire_at n w) r (tests w (slot_within n.wires w r at)) at
+
+bit_by : (n : Circuit) → IsNarrow n → (w : ℕ) (slot : Option WireRecord) → wire_at n w ≡ slot → has_one_bit slot ≡ true
+bit_by n narrow w None at = refl
+bit_by n narrow w (Some r) at = eq-eqb r.width 1 (narrow w r at)
+
+pub not_narrow : (n : Circuit) (w : ℕ) → has_one_bit (wire_at n w) ≡ false → IsNarrow n → ⊥
+not_narrow n w test narrow = let other = bit_by n narrow w (wire_at n w) refl in false≢true (sym test ∙ other)
+
+no_data : (n : Circuit) → IsNarrow n → (w : ℕ) (slot : Option WireRecord) → wire_at n w ≡ slot → has_data slot ≡ false
+no_data n narrow w None at = refl
+no_data n narrow w (Some r) at = ap not (eq-eqb r.width 1 (narrow w r at))
+
+and_true : (b : Bool) → (b && true) ≡ b
+and_true true = refl
+and_true false = refl
+
+-- all wires have width 1
+pub all_bits : (n : Circuit) → IsNarrow n → (w : ℕ) → is_bit_wire n w ≡ nat_lt w (length n.wires)
+all_bits n narrow w = ap (λ b. nat_lt w (length n.wires) && not b) (no_data n narrow w (wire_at n w) refl) ∙ and_true (nat_lt w (length n.wires))

@@ -1,8 +1,0 @@
-use Rattle.mp_steps.proofs.BackLemmas.{puts_back, puts_levels_back}
-use Rattle.mp_steps.proofs.laws.puts_back.Goals as goal
-
-pub returns-clause-toggles : goal.returns-clause-toggles
-returns-clause-toggles c = puts_back
-
-pub returns-clause-levels : goal.returns-clause-levels
-returns-clause-levels c = puts_levels_back

@@ -1,4 +1,0 @@
-use Rattle.mp_svg.proofs.head.put_root.Goals as goal
-
-pub returns : goal.returns
-returns g c = rw (c.height-high.ensures, c.count.ensures.value) at c.put_to.ensures

@@ -1,0 +1,4 @@
+//! Tests of desks, by what their crate exports. They are a crate of their own since a crate with tests is proved twice.
+
+#[cfg(test)]
+mod desk;

@@ -1,0 +1,4 @@
+//! Tests of evaluation, by what its crate exports. They are a crate of their own since a crate with tests is proved twice.
+
+#[cfg(test)]
+mod engine;

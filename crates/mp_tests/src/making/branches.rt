@@ -1,0 +1,78 @@
+//! A netlist in which a change of what is set reaches one module, half of all, or nearly all.
+use crate::making::making::{Change, Part, Plan, Signal};
+use mp_modules::Kind;
+
+/// How many modules the netlist has.
+pub const MODULES: u32 = 5;
+
+/// Two buffers that read one wire, each with a buffer behind it, and one that reads another wire. The netlist falls into three groups of
+/// modules that no wire connects.
+pub const BRANCHES: Plan<'static> = Plan {
+    horizon: 8,
+    wires: &["a", "c", "y1", "y2", "y3", "z1", "z2"],
+    parts: &[
+        Part {
+            name: "b1",
+            kind: Kind::Buf,
+            params: &[],
+            inputs: &[("a", 0)],
+            outputs: &[("y1", 2)],
+        },
+        Part {
+            name: "b2",
+            kind: Kind::Buf,
+            params: &[],
+            inputs: &[("a", 0)],
+            outputs: &[("y2", 2)],
+        },
+        Part {
+            name: "b3",
+            kind: Kind::Buf,
+            params: &[],
+            inputs: &[("c", 0)],
+            outputs: &[("y3", 2)],
+        },
+        Part {
+            name: "b4",
+            kind: Kind::Buf,
+            params: &[],
+            inputs: &[("y1", 0)],
+            outputs: &[("z1", 2)],
+        },
+        Part {
+            name: "b5",
+            kind: Kind::Buf,
+            params: &[],
+            inputs: &[("y2", 0)],
+            outputs: &[("z2", 2)],
+        },
+    ],
+    signals: &[Signal {
+        wire: "a",
+        changes: &[(1, 1)],
+    }],
+};
+
+/// The first two buffers hear another change so late that the netlist ends before the buffers behind them hear of it.
+pub static HALF: Change<'static> = Change::Signal(Signal {
+    wire: "a",
+    changes: &[(1, 1), (7, 0)],
+});
+
+/// The same, where the netlist runs for 4 units.
+pub static SOON: Change<'static> = Change::Signal(Signal {
+    wire: "a",
+    changes: &[(1, 1), (3, 0)],
+});
+
+/// The third buffer alone hears a change.
+pub static ONE: Change<'static> = Change::Signal(Signal {
+    wire: "c",
+    changes: &[(1, 1)],
+});
+
+/// All but the third buffer hear the change later.
+pub static MOST: Change<'static> = Change::Signal(Signal {
+    wire: "a",
+    changes: &[(2, 1)],
+});

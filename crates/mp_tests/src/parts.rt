@@ -1,0 +1,10 @@
+//! Tests of re-evaluation part by part, by what its crate exports. They are a crate of their own since a crate with tests is proved twice.
+
+#[cfg(test)]
+mod changing;
+#[cfg(test)]
+mod meeting;
+#[cfg(test)]
+mod passing;
+#[cfg(test)]
+mod resuming;

@@ -1,0 +1,29 @@
+//! Netlists with a change.
+ghost use Rattle.std.specs.Prelude.{IfOk};
+ghost use Rattle.mp_depend.specs.work.Revisions.{IsRevision};
+
+use mp_netlist::{Edit, Netlist};
+use crate::making::making::Change;
+use mp_depend::work::laws::edits_revise;
+use std::alloc::Global;
+use std::test::Fail;
+
+/// The netlist after an edit.
+fn after_edit(old: &Netlist, edit: &Edit) -> Result<Netlist, Fail>
+    ensures { IfOk result (λ new. IsRevision old.now new) }
+{
+    edits_revise();
+    let mut new = old.copy()?;
+    new.apply(edit)?;
+    Ok(new)
+}
+
+/// The netlist with the change.
+pub(super) fn changed(alloc: Global, old: &Netlist, change: &Change<'_>) -> Result<Netlist, Fail>
+    ensures { IfOk result (λ new. IsRevision old.now new) }
+{
+    let edit = change.edit(alloc)?;
+    let new = after_edit(old, &edit);
+    drop(edit);
+    new
+}

@@ -1,0 +1,3 @@
+pub mod lexing
+pub mod lines
+pub mod edit_lines

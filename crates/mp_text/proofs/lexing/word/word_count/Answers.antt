@@ -1,0 +1,10 @@
+use Rattle.mp_text.proofs.lemmas.lexing.Names.{refl, ◌∙◌, rules, tests, YieldsList-from_slice_split, count_from_yields_List, YieldsList-from_filter, words_of, is_gap, is_word, statement_part}
+use Rattle.mp_text.proofs.lexing.word.word_count.Goals as goal
+
+pub returns : goal.returns
+unfolding words_of
+returns c =
+    count_from_yields_List c.filter.result _ c.count.ensures.ran
+    (YieldsList-from_filter _ is_word
+    (YieldsList-from_slice_split _ is_gap (statement_part c.args.line.now) (rw c.filter.ensures.source (c.split.ensures.rest ∙ c.before_comment.ensures)) (rw c.filter.ensures.source c.split.ensures.done) refl (λ x b q k. search (rules, tests)))
+    c.filter.ensures.closure (λ x b q k. search (rules, tests)))

@@ -1,0 +1,86 @@
+//! Decimal numbers, and pairs that hold them.
+#![tactic(auto, unfolding(crate::specs::lexing::Numbers::spelled_number, crate::specs::lexing::Numbers::time_and_value, crate::specs::lexing::Numbers::parts_at_equals, crate::specs::lexing::Numbers::name_and_number, crate::specs::lexing::Numbers::parts_at_slash))]
+
+ghost use Rattle.std.specs.Prelude.{◌≡◌, ◌+◌};
+ghost use Rattle.mp_text.specs.lexing.Clauses.{not, length, option_map, IfSome, IsAscii, suffix_len, number_from, spelled_number, parts_at_equals, time_and_value, is_slash, parts_at_slash, name_and_number};
+
+use crate::lexing::word::place_of;
+
+/// How many digits a number may have.
+const MAX_DIGITS: usize = 20;
+
+/// The number that 1 to 20 decimal digits spell, where it is below 2^64.
+pub fn number(word: &[u8]) -> Option<u64>
+    ensures { result ≡ spelled_number word.now }
+{
+    if word.is_empty() || word.len() > MAX_DIGITS {
+        return None;
+    }
+    digits(word)
+}
+
+#[tactic(auto, using(crate::proofs::lemmas::lexing::DecimalLemmas::digit_steps))]
+fn digits(word: &[u8]) -> Option<u64>
+    ensures { result ≡ number_from 0 word.now }
+{
+    let mut value: u64 = 0;
+    for byte in word {
+        if !byte.is_ascii_digit() {
+            return None;
+        }
+        let digit = u64::from(*byte - b'0');
+        value = value.checked_mul(10)?.checked_add(digit)?;
+    }
+    Some(value)
+}
+
+/// A time and a value, as in `5=1`.
+pub fn time_and_value(word: &[u8]) -> Option<(u64, u64)>
+    ensures { result ≡ time_and_value word.now }
+{
+    let (front, back) = at_equals(word)?;
+    let time = number(front)?;
+    let value = number(back)?;
+    Some((time, value))
+}
+
+/// What stands before and behind the first `=`.
+fn at_equals(word: &[u8]) -> Option<(&[u8], &[u8])>
+    ensures { option_map (λ parts. (parts.0.now, parts.1.now)) result ≡ parts_at_equals word.now }
+{
+    let at = place_of(b'=', word)?;
+    Some((&word[..at], &word[at + 1..]))
+}
+
+/// A name and a number, as in `y/3`.
+pub fn name_and_number(word: &[u8]) -> Option<(&[u8], u64)>
+    ensures pair { option_map (λ pair. (pair.0.now, pair.1)) result ≡ name_and_number word.now }
+    ensures ascii { IsAscii word.now → IfSome result (λ pair. IsAscii pair.0.now) }
+{
+    let (name, back) = at_slash(word)?;
+    let number = number(back)?;
+    Some((name, number))
+}
+
+/// What stands before and behind the last `/`, where there is something before it.
+fn at_slash(word: &[u8]) -> Option<(&[u8], &[u8])>
+    ensures parts { option_map (λ parts. (parts.0.now, parts.1.now)) result ≡ parts_at_slash word.now }
+    ensures ascii { IsAscii word.now → IfSome result (λ parts. IsAscii parts.0.now) }
+{
+    let from = behind_slash(word);
+    if from < 2 {
+        return None;
+    }
+    Some((&word[..from - 1], &word[from..]))
+}
+
+/// Where the bytes behind the last `/` begin: 0 where there is no `/`.
+fn behind_slash(word: &[u8]) -> usize
+    ensures { result + suffix_len (λ byte. not (is_slash byte)) word.now ≡ length word.now }
+{
+    let mut from = word.len();
+    while from > 0 && word[from - 1] != b'/' {
+        from -= 1;
+    }
+    from
+}

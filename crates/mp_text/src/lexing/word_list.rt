@@ -1,0 +1,123 @@
+//! What each of several words says.
+#![tactic(auto, unfolding(crate::specs::lexing::WordLists::input_word, crate::specs::lexing::WordLists::output_word))]
+
+ghost use Rattle.std.specs.Prelude.{◌≡◌};
+ghost use Rattle.mp_text.specs.lexing.Clauses.{ℕ, List, Result, All, IfOk, IsAscii, LineError, OutOfMemory, Gives, texts, list_any, is_slash, number_word, change_word, input_word, wire_or_none, output_word, each_word};
+
+use crate::lexing::line_error::LineError;
+use crate::lexing::number::{name_and_number, number, time_and_value};
+use crate::lexing::word::name_of;
+use mp_records::{InputName, Name, OutputName};
+use std::alloc::{AllocError, Global};
+
+/// The number below 2^64 that a word of 1 to 20 digits spells, and `BadNumber` for any other word.
+pub fn number_word(word: &[u8]) -> Result<u64, LineError>
+    ensures { result ≡ number_word word.now }
+{
+    number(word).ok_or(LineError::BadNumber)
+}
+
+/// What one word says.
+pub trait Worded: Drop {
+    /// Of which words it may be read: of all, where an impl doesn't say otherwise.
+    ghost may_read: { List ℕ → Type 0 } = { λ _. Unit {0} };
+
+    /// What a word says, or why it says nothing.
+    ghost read: { List ℕ → Result Self LineError };
+
+    /// What the word says. `OutOfMemory` comes where memory is wanting.
+    fn from_word(alloc: Global, word: &[u8]) -> Result<Self, LineError>
+        requires { may_read word.now }
+        ensures { Gives OutOfMemory (λ item. item) result (read word.now) };
+}
+
+/// A number, as in `12`.
+impl Worded for u64 {
+    ghost read = { number_word };
+
+    fn from_word(_alloc: Global, word: &[u8]) -> Result<Self, LineError> {
+        number_word(word)
+    }
+}
+
+/// A pair of a time and a value, as in `5=1`.
+impl Worded for (u64, u64) {
+    ghost read = { change_word };
+
+    fn from_word(_alloc: Global, word: &[u8]) -> Result<Self, LineError> {
+        time_and_value(word).ok_or(LineError::BadNumber)
+    }
+}
+
+/// An input, as in `a`, or with its delay, as in `a/4`.
+impl Worded for InputName {
+    ghost may_read = { IsAscii };
+
+    ghost read = { input_word };
+
+    fn from_word(alloc: Global, word: &[u8]) -> Result<Self, LineError> {
+        if !has_slash(word) {
+            return Ok(InputName {
+                wire: name_of(alloc, word)?,
+                delay: 0,
+            });
+        }
+        let (name, delay) = name_and_number(word).ok_or(LineError::BadNumber)?;
+        Ok(InputName {
+            wire: name_of(alloc, name)?,
+            delay,
+        })
+    }
+}
+
+fn has_slash(word: &[u8]) -> bool
+    ensures { result ≡ list_any is_slash word.now }
+{
+    word.iter().any(|byte| *byte == b'/')
+}
+
+/// The wire that is named, where `-` names none. The error comes where memory is wanting.
+pub fn wire_or_none(alloc: Global, name: &[u8]) -> Result<Option<Name>, AllocError>
+    requires { IsAscii name.now }
+    ensures { IfOk result (λ wire. wire ≡ wire_or_none name.now) }
+{
+    if name == b"-".as_slice() {
+        return Ok(None);
+    }
+    Ok(Some(name_of(alloc, name)?))
+}
+
+/// An output with its delay, as in `y/3`, or `-` for one without a wire.
+impl Worded for OutputName {
+    ghost may_read = { IsAscii };
+
+    ghost read = { output_word };
+
+    fn from_word(alloc: Global, word: &[u8]) -> Result<Self, LineError> {
+        if word == b"-".as_slice() {
+            return Ok(OutputName {
+                wire: None,
+                delay: 1,
+            });
+        }
+        let (name, delay) = name_and_number(word).ok_or(LineError::BadNumber)?;
+        Ok(OutputName {
+            wire: wire_or_none(alloc, name)?,
+            delay,
+        })
+    }
+}
+
+/// What each of the words says, in order; or why the first that says nothing doesn't. `OutOfMemory` comes where memory is wanting.
+#[tactic(auto, using(crate::proofs::lemmas::lexing::WordListLemmas::each_steps))]
+pub fn each_word<W: Worded>(alloc: Global, words: &[&[u8]]) -> Result<Vec<W>, LineError>
+    requires { All (λ word. W.may_read word.now) words.now }
+    ensures { Gives OutOfMemory (λ items. items.items) result (each_word W.read (texts words.now)) }
+{
+    let mut items = Vec::with_capacity(alloc, words.len())?;
+    for word in words {
+        let item = W::from_word(alloc, word)?;
+        items.push(item)?;
+    }
+    Ok(items)
+}

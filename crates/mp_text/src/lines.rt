@@ -1,0 +1,10 @@
+//! A source read line by line.
+
+mod chunk;
+mod line_reader;
+mod line_room;
+mod reading;
+mod too_long;
+
+pub use line_reader::LineReader;
+pub use too_long::{LINE_BYTES, TooLong};

@@ -1,0 +1,76 @@
+//! A source read line by line.
+ghost use Rattle.std.specs.Prelude.{◌≡◌, [], true, false, Some, None, IfOk, MatchResult};
+ghost use Rattle.std.specs.Io.KnownBytes.{IsAtEnd};
+ghost use Rattle.mp_streams.specs.StreamFaults.{counted};
+ghost use Rattle.mp_text.specs.lines.Incoming.{ReadsLine, StaysIfHeld};
+
+use crate::lines::chunk::Chunk;
+use crate::lines::line_room::LineRoom;
+use crate::lines::reading::read_on;
+use crate::lines::too_long::TooLong;
+use mp_streams::{Failed, Source};
+use std::alloc::{AllocError, Global};
+use std::marker::Model;
+use std::sync::Wait;
+
+/// A source that is read line by line. It takes its memory when it is made, and no more. The source is asked for bytes only while no whole
+/// line is held, so that a line can be answered before the next one is written.
+#[derive(Drop)]
+pub struct LineReader<S: Source> {
+    source: S,
+    chunk: Chunk,
+    line: LineRoom,
+}
+
+impl<S: Source> Model for LineReader<S> {
+    ghost use Rattle.std.specs.Prelude.{◌≡◌, true};
+    ghost use Rattle.std.specs.Io.KnownBytes.{IsAtEnd};
+    ghost use Rattle.mp_text.specs.lines.Incoming.{Incoming, incoming};
+
+    ghost Value = { Incoming };
+
+    ghost view = { λ reader. incoming (S.left reader.source) (S.fault_count reader.source) reader.chunk reader.line };
+
+    ghost invariant = { λ reader. reader.chunk.is_last ≡ true → IsAtEnd (S.left reader.source) };
+}
+
+impl<S: Source> LineReader<S> {
+    /// The source, of which nothing was read, with an empty line. The error comes where memory is wanting.
+    pub fn new(alloc: Global, source: S) -> Result<LineReader<S>, AllocError>
+    where
+        S: Drop,
+        ensures left { IfOk result (λ reader. reader.left ≡ S.left source) }
+        ensures held { IfOk result (λ reader. reader.held ≡ []) }
+        ensures ended { IfOk result (λ reader. reader.ended ≡ false) }
+        ensures line { IfOk result (λ reader. reader.line ≡ Some []) }
+        ensures faults { IfOk result (λ reader. reader.faults ≡ S.fault_count source) }
+    {
+        let chunk = Chunk::new(alloc)?;
+        let line = LineRoom::new(alloc)?;
+        Ok(LineReader {
+            source,
+            chunk,
+            line,
+        })
+    }
+
+    /// Reads the next line, and returns whether there is one. A line ends at a line feed, which isn't part of it, and the last one may end
+    /// without. A line of more than 65,536 bytes is passed over to its end. `Failed` comes with a fault of the source: then what was taken of
+    /// the line is lost, and nothing is held. It waits for as long as the source gives no line feed and no end. Once the source told its end,
+    /// it isn't asked again.
+    pub fn read<R: Wait>(&mut self, rt: &R) -> Result<bool, Failed>
+        ensures read { ReadsLine result self.old self.new }
+        ensures held_first { StaysIfHeld self.old self.new }
+        ensures end { self.new.ended ≡ true → IsAtEnd self.new.left }
+        ensures faults { self.new.faults ≡ counted result self.old.faults }
+    {
+        read_on(rt, &mut self.source, &mut self.chunk, &mut self.line)
+    }
+
+    /// The line that was read last. `TooLong` comes where it has more than 65,536 bytes.
+    pub fn line(&self) -> Result<&[u8], TooLong>
+        ensures { MatchResult result (λ line. self.now.line ≡ Some line.now) (λ _. self.now.line ≡ None) }
+    {
+        self.line.bytes()
+    }
+}

@@ -1,5 +1,0 @@
-use Rattle.mp_vcd.proofs.Names.{◌-◌, arith, ltb-true, get_or_default}
-use Rattle.mp_vcd.proofs.parts.is_over.Goals as goal
-
-pub returns-else-place-eq0 : goal.returns-else-place-eq0
-returns-else-place-eq0 c = λ early k d low high. grind (arith, ltb-true, get_or_default, (c.requires.sorted k (c.args.place - 1) d (omega arith) (omega arith)))

@@ -1,4 +1,0 @@
-use Rattle.mp_verilog.proofs.instances.ValuesText.put_to.Goals as goal
-
-pub returns : goal.returns
-returns g c = rw (c.output_count.ensures, c.param_count.ensures) at c.put_to.ensures

@@ -1,8 +1,0 @@
-use Rattle.std.proofs.Common.{◌≡◌, false, take}
-use Rattle.std.specs.List.{list_any}
-use Rattle.mp_verilog.specs.Kinds.{is_of_kind}
-use Rattle.mp_verilog.proofs.kinds.occurs.Given as goal
-
--- none of the modules so far is of the kind
-abbrev pub invariant-loop-number : goal.invariant-loop-number
-invariant-loop-number l = list_any (is_of_kind l.kind) (take l.number l.netlist.modules) ≡ false

@@ -1,7 +1,0 @@
-use Rattle.std.proofs.Common.{◌≡◌}
-use Rattle.mp_views.specs.AskedWires.{all_wires}
-use Rattle.mp_views.proofs.asked_wires.all_wires.Given as goal
-
--- the wires of the slots so far
-abbrev pub invariant-loop-number : goal.invariant-loop-number
-invariant-loop-number l = l.wires.items ≡ all_wires l.number

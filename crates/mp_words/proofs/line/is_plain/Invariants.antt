@@ -1,6 +1,0 @@
-use Rattle.mp_words.proofs.Names.{◌≡◌, take, list_all, is_allowed}
-use Rattle.mp_words.proofs.line.is_plain.Given as goal
-
--- the bytes so far are told
-abbrev pub invariant-loop-byte : goal.invariant-loop-byte
-invariant-loop-byte l = l.plain ≡ list_all is_allowed (take l.byte-index l.line)

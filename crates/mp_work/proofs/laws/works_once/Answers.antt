@@ -1,5 +1,0 @@
-use Rattle.mp_work.proofs.EntryLemmas.{works_throughout, works_once}
-use Rattle.mp_work.proofs.laws.works_once.Goals as goal
-
-pub returns : goal.returns
-returns c = record { throughout = works_throughout; once = works_once }
